@@ -1,22 +1,16 @@
 // What a line says, where its kind is built.
 ghost use Rattle.std.specs.Prelude.{◌≡◌};
 ghost use Rattle.vx_script.specs.Parsed.{IsParsed};
-ghost use Rattle.vx_yard.specs.Lines.{is_built, is_fail_prot, is_unlogged, script_line};
+ghost use Rattle.vx_yard.specs.Lines.{is_built, is_fail_prot, script_line};
 
 use std::alloc::Global;
 use vx_model::Prot;
-use vx_script::{LineErr, ScriptLine, VolumeLog, VolumeMap, parse};
+use vx_script::{LineErr, ScriptLine, parse};
 
 fn is_fail(prot: &Prot) -> bool
     ensures { result ≡ is_fail_prot prot.now }
 {
     matches!(prot, Prot::Fail)
-}
-
-fn is_unlogged(log: &VolumeLog, map: &VolumeMap) -> bool
-    ensures { result ≡ is_unlogged log.now map.now }
-{
-    matches!(log, VolumeLog::NoLog) && matches!(map, VolumeMap::NoMap)
 }
 
 fn is_built(line: &ScriptLine) -> bool
@@ -32,6 +26,7 @@ fn is_built(line: &ScriptLine) -> bool
         | ScriptLine::GroupInit { .. }
         | ScriptLine::GroupDeport { .. }
         | ScriptLine::GroupImport { .. }
+        | ScriptLine::Volume { .. }
         | ScriptLine::PlexDetach { .. }
         | ScriptLine::PlexAttach { .. }
         | ScriptLine::Write { .. }
@@ -49,7 +44,6 @@ fn is_built(line: &ScriptLine) -> bool
         | ScriptLine::Wait { .. }
         | ScriptLine::Deliver { .. }
         | ScriptLine::Settle { .. } => true,
-        ScriptLine::Volume { log, map, .. } => is_unlogged(log, map),
         ScriptLine::Link { prot, .. } => is_fail(prot),
         ScriptLine::Set { prot, .. } => is_fail(prot),
         _ => false,

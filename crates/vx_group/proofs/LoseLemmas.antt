@@ -1,16 +1,17 @@
 -- Plexes that calls take out of use, in one call and in two in a row.
-use Rattle.std.proofs.Common.{◌≡◌, ◌⊎◌, inl, inr, ℕ, ◌≤◌, Bool, true, false, IsTrue, refl, sym, ◌∙◌, subst}
+use Rattle.std.proofs.Common.{◌≡◌, ◌⊎◌, inl, inr, ℕ, ◌≤◌, Bool, true, false, IsTrue, refl, ap, sym, ◌∙◌, subst, arith}
 use Rattle.std.proofs.lemmas.Bool.{cases_eq}
 use Rattle.vx_disk.specs.Blocks.{bit_at}
 use Rattle.vx_disk.specs.Shelf.{Meaning}
 use Rattle.vx_config.specs.declared.config.Config.{Config}
 use Rattle.vx_copies.specs.Commits.{Grown, MoreFailed}
-use Rattle.vx_volume.specs.Plexes.{active, uses}
+use Rattle.vx_layout.specs.Places.{plex_at}
+use Rattle.vx_volume.specs.Plexes.{active, active_or, uses, uses_or}
 use Rattle.vx_volume.specs.Volumes.{PlexBlamed}
 use Rattle.vx_kept.specs.States.{staled}
-use Rattle.vx_kept.specs.Keeping.{SameShape}
+use Rattle.vx_kept.specs.Keeping.{SameShape, frame_at}
 use Rattle.vx_kept.proofs.Chosen.{active_volumes, frames_volumes}
-use Rattle.vx_group.specs.Loses.{LosesPlexes, SameParts}
+use Rattle.vx_group.specs.Loses.{LosesAlong, LosesPlexes, SameParts}
 use Rattle.vx_group.specs.Settled.{SameBut}
 use Rattle.vx_group.proofs.FailingLemmas.{no_failing, then_failing}
 use Rattle.vx_group.proofs.UsesLemmas.{blamed_before, blamed_by, blamed_later, uses_staled, uses_volumes}
@@ -32,6 +33,18 @@ loses_none c d m m' volumes more parts = record { parts = parts; frames = frames
 
 pub loses_same : (c : Config) (m m' : Meaning) → LosesPlexes c c m m'
 loses_same c m m' = loses_none c c m m' refl (no_failing m m' c.disks c.disks refl) (none_parts c)
+
+-- where each plex is as it was, and flags of logs changed alone
+pub loses_plexes : (c d : Config) (m m' : Meaning) → ((v : ℕ) → frame_at d v ≡ frame_at c v) → ((v p : ℕ) → plex_at d v p ≡ plex_at c v p) → MoreFailed m m' c.disks d.disks → SameParts c d → LosesPlexes c d m m'
+unfolding active uses
+loses_plexes c d m m' frames plexes more parts = record {
+  parts = parts;
+  frames = frames;
+  lies = λ v p u. ap (uses_or u) (plexes v p);
+  on = λ v p is. inl (sym (ap active_or (plexes v p)) ∙ is);
+  plexes = λ v p is. inl (ap active_or (plexes v p) ∙ is);
+  disks = more;
+}
 
 pub staled_lies : (v set : ℕ) (c d : Config) → d.volumes ≡ (staled v set c 8).volumes → (w p u : ℕ) → uses d w p u ≡ uses c w p u
 staled_lies v set c d volumes w p u = uses_volumes (staled v set c 8) d volumes w p u ∙ uses_staled v set c 8 w p u
@@ -77,6 +90,21 @@ module _ (m0 m1 m2 : Meaning) (one : (u : ℕ) → m0.faults u ≤ m1.faults u) 
       by : (w p : ℕ) → IsTrue (active c w p) → w ≡ v → (b : Bool) → bit_at set p ≡ b → IsTrue (active d w p) ⊎ PlexBlamed c w p m0 m2
       by w p is same true bit = inr (subst (λ (y : ℕ). PlexBlamed c y p m0 m2) (sym same) (blamed_before c v p m0 m1 m2 two (blamed p bit)))
       by w p is same false bit = inl (others w p (λ at on. let clash : false ≡ true = sym bit ∙ on in cc) ∙ is)
+
+-- ---- calls in a row, of which no count of a unit falls
+
+pub then_along : (c d e : Config) (m0 m1 m2 : Meaning) → LosesAlong c d m0 m1 → LosesAlong d e m1 m2 → LosesAlong c e m0 m2
+then_along c d e m0 m1 m2 one two = record {
+  loses = then_loses m0 m1 m2 one.rises two.rises c d e one.loses two.loses;
+  rises = λ u. let first = one.rises u in let second = two.rises u in omega (arith, first, second);
+}
+
+-- the configuration is as it was
+pub along_same : (c : Config) (m m' : Meaning) → ((u : ℕ) → m.faults u ≤ m'.faults u) → LosesAlong c c m m'
+along_same c m m' rises = record { loses = loses_same c m m'; rises = rises }
+
+pub along_none : (c : Config) (m : Meaning) → LosesAlong c c m m
+along_none c m = along_same c m m (λ u. omega arith)
 
 -- counted from an earlier moment
 pub loses_later : (c d : Config) (m0 m1 m2 : Meaning) → ((u : ℕ) → m0.faults u ≤ m1.faults u) → ((u : ℕ) → m1.faults u ≤ m2.faults u) → LosesPlexes c d m1 m2 → LosesPlexes c d m0 m2

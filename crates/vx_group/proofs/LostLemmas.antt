@@ -23,7 +23,7 @@ use Rattle.vx_kept.proofs.LosingLemmas.{active_same, loses, lost_plexes}
 use Rattle.vx_kept.proofs.RunLemmas.{logs_volumes}
 use Rattle.vx_layout.specs.Places.{plex_at, plex_in}
 use Rattle.vx_maplog.specs.Logs.{log_of}
-use Rattle.vx_volume.specs.Plexes.{active}
+use Rattle.vx_volume.specs.Plexes.{active, active_or}
 use Rattle.vx_group.specs.Blames.{Blames}
 use Rattle.vx_group.specs.GivesUp.{KeepsVolumes}
 use Rattle.vx_group.specs.Moves.{Narrows}
@@ -74,6 +74,11 @@ module _ (v : ℕ) (log : VolumeLog) (c d : Config) (volumes : d.volumes ≡ (lo
 
 pub left_plexes : (c d : Config) → d.volumes ≡ c.volumes → (w p : ℕ) → plex_at d w p ≡ plex_at c w p
 left_plexes c d volumes w p = ap (λ (vs : List VolumeEntry). plex_in (slice_get vs w) p) volumes
+
+-- plexes that are as they were are ACTIVE as they were
+pub active_plexes : (c d : Config) → ((w p : ℕ) → plex_at d w p ≡ plex_at c w p) → (w p : ℕ) → active d w p ≡ active c w p
+unfolding active
+active_plexes c d same w p = ap active_or (same w p)
 
 pub later_keeps : {T : Type 0} (b c d : Config) → c.volumes ≡ b.volumes → (r : Result T ShelfError) → KeepsVolumes c d r → KeepsVolumes b d r
 later_keeps b c d volumes (Ok x) keeps = tt

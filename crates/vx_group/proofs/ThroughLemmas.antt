@@ -14,7 +14,8 @@ use Rattle.vx_copies.specs.Commits.{MoreFailed}
 use Rattle.vx_copies.specs.Marks.{failed_at}
 use Rattle.vx_copies.proofs.OneTry.{held_or}
 use Rattle.vx_fmr.specs.Missed.{Missed}
-use Rattle.vx_volume.specs.Plexes.{SomeActive, active, uses}
+use Rattle.vx_layout.specs.Places.{plex_at}
+use Rattle.vx_volume.specs.Plexes.{SomeActive, active, active_or, uses}
 use Rattle.vx_volume.specs.Volumes.{PlexBlamed}
 use Rattle.vx_kept.specs.Commits.{Member}
 use Rattle.vx_kept.specs.Keeping.{Acts, SameShape, Sees, frame_at}
@@ -297,6 +298,14 @@ module _ (c0 mid c2 new : GroupCore) (x : Inner) (m m1 m2 : Meaning) (stands : G
         (subst (λ (ds : List DiskEntry). MoreFailed m1 m2 mid.inner.config.disks ds) (sym (ap (λ (i : Inner). i.config.disks) new_wide))
         (subst (λ (ds : List DiskEntry). MoreFailed m1 m2 ds c2.inner.config.disks) (ap (λ (i : Inner). i.config.disks) x_is) loses.disks));
   }
+
+-- plexes stay as they are where none is held back
+pub through_still : (c0 mid c2 new : GroupCore) (x : Inner) (o : Option Held) → c0.held ≡ None → mid ≡ c0 → o ≡ mid.held → x ≡ wide mid → HeldAgain o c2 new → ((w p : ℕ) → plex_at c2.inner.config w p ≡ plex_at x.config w p)
+    → (w p : ℕ) → active new.inner.config w p ≡ active c0.inner.config w p
+unfolding active
+through_still c0 mid c2 new x None none same held x_is again plexes w p =
+    ap (λ (k : GroupCore). active k.inner.config w p) again ∙ ap active_or (plexes w p) ∙ ap (λ (i : Inner). active i.config w p) (x_is ∙ wide_none mid (sym held)) ∙ ap (λ (k : GroupCore). active k.inner.config w p) same
+through_still c0 mid c2 new x (Some h) none same held x_is again plexes w p = absurd (let clash : Some h ≡ None = held ∙ ap (λ (k : GroupCore). k.held) same ∙ none in cc)
 
 -- ---- an attach behind it
 

@@ -1,5 +1,5 @@
 -- A log that is trusted again, over the core of a group.
-use Rattle.std.proofs.Common.{◌≡◌, ◌⊎◌, inl, inr, ℕ, zero, suc, ◌<◌, true, false, IsTrue, Option, Some, None, List, [], ◌∷◌, length, refl, ap, sym, ◌∙◌, subst, arith}
+use Rattle.std.proofs.Common.{◌≡◌, ◌⊎◌, inl, inr, ℕ, zero, suc, ◌<◌, ◌≤◌, true, false, IsTrue, Option, Some, None, List, [], ◌∷◌, length, refl, ap, sym, ◌∙◌, subst, arith}
 use Rattle.std.specs.Prelude.{slice_get}
 use Rattle.std.proofs.lemmas.Bool.{and_from, and_parts, cases_eq}
 use Rattle.vx_disk.specs.Shelf.{Goes, Image, Lawful, Meaning, Nothing}
@@ -11,6 +11,7 @@ use Rattle.vx_config.specs.declared.entry.LogEntry.{LogEntry}
 use Rattle.vx_config.specs.declared.entry.VolumeEntry.{VolumeEntry}
 use Rattle.vx_config.specs.declared.entry.VolumeLog.{VolumeLog}
 use Rattle.vx_config.specs.declared.entry.VolumeLog.TheVariants.{Drl, Fmr}
+use Rattle.vx_copies.specs.Commits.{MoreFailed}
 use Rattle.vx_copies.specs.Bodies.{fits_units}
 use Rattle.vx_layout.specs.Places.{plex_at}
 use Rattle.vx_maplog.specs.Logs.{log_of, log_or}
@@ -18,22 +19,25 @@ use Rattle.vx_volume.specs.Plexes.{Inside, active, active_or}
 use Rattle.vx_kept.specs.Choice.{live, live_or}
 use Rattle.vx_kept.specs.Commits.{Member}
 use Rattle.vx_kept.specs.Groups.{ImportedImage, OnSome, OutsideVolumes, group_meaning}
-use Rattle.vx_kept.specs.Keeping.{AllOn, Kept, Kin, SameShape}
+use Rattle.vx_kept.specs.Keeping.{AllOn, Kept, Kin, SameShape, frame_at}
 use Rattle.vx_kept.specs.LogRuns.{log_trusted, trusted_or}
 use Rattle.vx_kept.specs.Losses.{SamePlexes}
 use Rattle.vx_kept.specs.PlexActs.{PlexActs}
-use Rattle.vx_kept.proofs.Chosen.{active_volumes, alike_shape, extends_shape}
+use Rattle.vx_kept.proofs.Chosen.{active_volumes, alike_shape, extends_shape, frames_volumes}
 use Rattle.vx_kept.proofs.LosingLemmas.{loses, lost_plexes}
 use Rattle.vx_kept.proofs.PlexActing.{both_PlexActs, wider_Acts}
 use Rattle.vx_disk.specs.Moves.{Anything}
 use Rattle.vx_kept.proofs.StateLemmas.{get_same, map_one, same_shape, then_shape}
 use Rattle.vx_kept.proofs.Steps.{same_Acts}
 use Rattle.vx_group.specs.Holding.{with_config}
+use Rattle.vx_group.specs.Loses.{LosesPlexes, SameParts}
 use Rattle.vx_group.specs.Moves.{Narrows}
 use Rattle.vx_group.specs.Stands.{InnerStands, inner_meaning, volume_faults}
 use Rattle.vx_group.specs.declared.inner.Inner.{Inner}
 use Rattle.vx_group.proofs.ActsLemmas.{narrow_PlexActs}
 use Rattle.vx_group.proofs.CallLemmas.{narrows_Goes}
+use Rattle.vx_group.proofs.LoseLemmas.{loses_none, loses_plexes, then_loses}
+use Rattle.vx_group.proofs.LostLemmas.{left_plexes}
 use Rattle.vx_group.proofs.Standing.{can_of, kept_of, made, tidy_of}
 
 -- ---- a log that is trusted, and then lost
@@ -270,3 +274,12 @@ still_PlexActs v log c m = record {
   shape = trusting_shape v log c;
   on = λ w q is. trusting_active v log c w q ∙ is;
 }
+
+-- ---- what it leaves of plexes and disks
+
+pub trusted_loses : (v : ℕ) (log : VolumeLog) (c b lost_by d : Config) (m m1 m2 : Meaning) → ((u : ℕ) → m.faults u ≤ m1.faults u) → ((u : ℕ) → m1.faults u ≤ m2.faults u) → b.volumes ≡ c.volumes → MoreFailed m m1 c.disks b.disks → SameParts c b
+    → lost_by ≡ lost v log false b → d.volumes ≡ lost_by.volumes → MoreFailed m1 m2 lost_by.disks d.disks → SameParts lost_by d → LosesPlexes c d m m2
+trusted_loses v log c b told d m m1 m2 one two first failing parts is last failed same =
+    then_loses m m1 m2 one two c b d (loses_none c b m m1 first failing parts)
+    (loses_plexes b d m1 m2 (λ w. frames_volumes d told last w ∙ ap (λ (x : Config). frame_at x w) is ∙ sym ((trusting_shape v log b).frames w)) (λ w p. left_plexes told d last w p ∙ ap (λ (x : Config). plex_at x w p) is ∙ trusting_plexes v log b w p)
+    (subst (λ (x : Config). MoreFailed m1 m2 x.disks d.disks) is failed) (record { site = same.site ∙ ap (λ (x : Config). x.site) is; rvg = same.rvg ∙ ap (λ (x : Config). x.rvg) is; count = same.count ∙ ap (λ (x : Config). length x.disks) is }))

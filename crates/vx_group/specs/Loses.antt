@@ -1,5 +1,5 @@
 -- Plexes that a call takes out of use, and disks that it comes to hold as failed.
-use Rattle.std.specs.Prelude.{◌≡◌, ◌⊎◌, ℕ, IsTrue, length}
+use Rattle.std.specs.Prelude.{◌≡◌, ◌⊎◌, ℕ, ◌≤◌, IsTrue, length}
 use Rattle.vx_disk.specs.Shelf.{Meaning}
 use Rattle.vx_config.specs.declared.config.Config.{Config}
 use Rattle.vx_copies.specs.Commits.{MoreFailed}
@@ -27,3 +27,8 @@ pub record LosesPlexes (c d : Config) (old new : Meaning) : Type 0 where
   pub on : (v p : ℕ) → IsTrue (active d v p) → IsTrue (active c v p) ⊎ AnyBlamed c v old new
   pub plexes : (v p : ℕ) → IsTrue (active c v p) → IsTrue (active d v p) ⊎ PlexBlamed c v p old new
   pub disks : MoreFailed old new c.disks d.disks
+
+-- the same, and no count of a unit fell: calls in a row
+pub record LosesAlong (c d : Config) (old new : Meaning) : Type 0 where
+  pub loses : LosesPlexes c d old new
+  pub rises : (u : ℕ) → old.faults u ≤ new.faults u

@@ -24,8 +24,8 @@ use vx_volume::{is_active, plex_count};
 // So many serials are left at least where a call of its own may commit.
 const MARGIN: u64 = 65_536;
 
-// Why a plex may not be detached.
-fn refuse(config: &Config, vol: u32, plex: u32) -> Option<No>
+/// Why a plex may not be detached.
+pub fn refuse_det(config: &Config, vol: u32, plex: u32) -> Option<No>
     ensures { result ≡ det_refusal config.now vol plex }
 {
     if config.volumes.as_slice().len() <= vol as usize {
@@ -76,7 +76,7 @@ pub fn det_in<S: Shelf>(
     ensures agreed { IfErr result (λ e. core.old.inner.committed ≡ true → core.new.inner.agreed ≡ true) }
     ensures cause { det_refusal core.old.inner.config vol plex ≡ None → DetStops (S.meaning shelf.old) (S.meaning shelf.new) result }
 {
-    if let Some(no) = refuse(&core.inner.config, vol, plex) {
+    if let Some(no) = refuse_det(&core.inner.config, vol, plex) {
         return Err(Stop::No(no));
     }
     if !is_active(&core.inner.config, vol, plex) {

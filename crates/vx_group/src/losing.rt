@@ -5,6 +5,7 @@ ghost use Rattle.vx_config.specs.declared.entry.VolumeLog.{VolumeLog as VolumeLo
 ghost use Rattle.vx_copies.specs.Commits.{MoreFailed};
 ghost use Rattle.vx_group.specs.Blames.{Blames};
 ghost use Rattle.vx_group.specs.GivesUp.{KeepsVolumes, NoCommit};
+ghost use Rattle.vx_group.specs.Loses.{SameParts};
 ghost use Rattle.vx_group.specs.Moves.{Narrows};
 ghost use Rattle.vx_group.specs.Stands.{InnerStands};
 ghost use Rattle.vx_kept.specs.Commits.{IsCommitted};
@@ -37,6 +38,7 @@ fn lose_settled<S: Shelf>(
     ensures others { (w : ℕ) (k : VolumeLogValue) → (w ≡ vol → k ≡ log → ⊥) → log_of core.new.config w k ≡ log_of core.old.config w k }
     ensures settled { OnOk result (core.new.unsettled ≡ false) }
     ensures failing { MoreFailed (S.meaning shelf.old) (S.meaning shelf.new) core.old.config.disks core.new.config.disks }
+    ensures parts { SameParts core.old.config core.new.config }
     ensures keeps { KeepsVolumes core.old.config core.new.config result }
     ensures missed { IfErr result (λ e. NoCommit core.new (S.meaning shelf.new)) }
     ensures trust { OnOk result (core.old.committed ≡ true → core.new.committed ≡ true) }
@@ -86,6 +88,7 @@ pub fn lose_log<S: Shelf>(
     ensures others { (w : ℕ) (k : VolumeLogValue) → (w ≡ vol → k ≡ log → ⊥) → log_of core.new.config w k ≡ log_of core.old.config w k }
     ensures settled { OnOk result (core.new.unsettled ≡ false) }
     ensures failing { MoreFailed (S.meaning shelf.old) (S.meaning shelf.new) core.old.config.disks core.new.config.disks }
+    ensures parts { SameParts core.old.config core.new.config }
     ensures keeps { KeepsVolumes core.old.config core.new.config result }
     ensures missed { IfErr result (λ e. NoCommit core.new (S.meaning shelf.new)) }
     ensures trust { OnOk result (core.old.committed ≡ true → core.new.committed ≡ true) }

@@ -1,12 +1,15 @@
 // A log of a volume that a group loses, in a call on that volume.
-ghost use Rattle.std.specs.Prelude.{◌≡◌, ◌+◌, ◌<◌, ◌≤◌, false, true, IfErr, IfOk, OnOk};
+ghost use Rattle.std.specs.Prelude.{◌≡◌, ◌+◌, ◌<◌, ◌≤◌, ℕ, false, true, IfErr, IfOk, None, OnOk};
 ghost use Rattle.vx_config.specs.Table.{greatest};
 ghost use Rattle.vx_disk.specs.Causes.{Cause};
 ghost use Rattle.vx_disk.specs.Shelf.{Goes, Nothing};
 ghost use Rattle.vx_group.specs.Holding.{GroupStands, wide};
+ghost use Rattle.vx_group.specs.Loses.{LosesPlexes};
 ghost use Rattle.vx_group.specs.Stands.{InnerStands, inner_meaning};
 ghost use Rattle.vx_kept.specs.LogRuns.{log_trusted};
 ghost use Rattle.vx_kept.specs.PlexActs.{PlexActs};
+ghost use Rattle.vx_layout.specs.Places.{plex_at};
+ghost use Rattle.vx_volume.specs.Plexes.{active};
 
 use crate::counting::give_up;
 use crate::group_core::GroupCore;
@@ -30,6 +33,8 @@ fn lose_in<S: Shelf>(
     ensures stands { InnerStands core.new (S.meaning shelf.new) }
     ensures goes { Goes Nothing (inner_meaning core.old (S.meaning shelf.old)) (inner_meaning core.new (S.meaning shelf.new)) }
     ensures acts { PlexActs Nothing core.old.config core.new.config (S.meaning shelf.old) (S.meaning shelf.new) }
+    ensures loses { LosesPlexes core.old.config core.new.config (S.meaning shelf.old) (S.meaning shelf.new) }
+    ensures plexes { (w p : ℕ) → plex_at core.new.config w p ≡ plex_at core.old.config w p }
     ensures lost { IfOk result (λ done. done ≡ true → log_trusted core.new.config vol log ≡ false) }
     ensures full { IfOk result (λ done. done ≡ false → greatest ≤ core.old.config.serial) }
     ensures trust { OnOk result (core.old.committed ≡ true → core.new.committed ≡ true) }
@@ -66,6 +71,8 @@ pub fn lose_group<S: Shelf>(
     ensures stands { GroupStands core.new (S.meaning shelf.new) }
     ensures goes { Goes Nothing (inner_meaning (wide core.old) (S.meaning shelf.old)) (inner_meaning (wide core.new) (S.meaning shelf.new)) }
     ensures acts { PlexActs Nothing (wide core.old).config (wide core.new).config (S.meaning shelf.old) (S.meaning shelf.new) }
+    ensures loses { LosesPlexes core.old.inner.config core.new.inner.config (S.meaning shelf.old) (S.meaning shelf.new) }
+    ensures still { core.old.held ≡ None → (w p : ℕ) → active core.new.inner.config w p ≡ active core.old.inner.config w p }
     ensures lost { IfOk result (λ done. done ≡ true → log_trusted (wide core.new).config vol log ≡ false) }
     ensures full { IfOk result (λ done. done ≡ false → greatest ≤ core.old.inner.config.serial + 9) }
     ensures trust { OnOk result (core.old.inner.committed ≡ true → core.new.inner.committed ≡ true) }

@@ -1,5 +1,5 @@
 // A log of a volume that was lost, and is trusted again by one commit.
-ghost use Rattle.std.specs.Prelude.{◌≡◌, ◌<◌, ◌≤◌, false, true, IfErr, IfOk, IsTrue, None, OnOk};
+ghost use Rattle.std.specs.Prelude.{◌≡◌, ◌+◌, ◌<◌, ◌≤◌, ℕ, false, true, IfErr, IfOk, IsTrue, None, OnOk};
 ghost use Rattle.vx_config.specs.Changes.{lost as lost_is};
 ghost use Rattle.vx_config.specs.Checks.{is_sound};
 ghost use Rattle.vx_config.specs.Configs.{CanSpell};
@@ -7,9 +7,12 @@ ghost use Rattle.vx_config.specs.Table.{greatest};
 ghost use Rattle.vx_disk.specs.Shelf.{Goes, Nothing};
 ghost use Rattle.vx_group.specs.Blames.{Blames};
 ghost use Rattle.vx_group.specs.Holding.{GroupStands, wide};
+ghost use Rattle.vx_group.specs.Loses.{LosesPlexes};
 ghost use Rattle.vx_group.specs.Stands.{InnerStands, inner_meaning};
 ghost use Rattle.vx_kept.specs.Commits.{IsCommitted};
 ghost use Rattle.vx_kept.specs.PlexActs.{PlexActs};
+ghost use Rattle.vx_layout.specs.Places.{plex_at};
+ghost use Rattle.vx_volume.specs.Plexes.{active};
 
 use crate::detaching::detach;
 use crate::group_core::GroupCore;
@@ -42,6 +45,11 @@ fn trust_log<S: Shelf>(
     ensures stands { InnerStands core.new (S.meaning shelf.new) }
     ensures goes { Goes Nothing (inner_meaning core.old (S.meaning shelf.old)) (inner_meaning core.new (S.meaning shelf.new)) }
     ensures acts { PlexActs Nothing (lost_is vol log false core.old.config) core.new.config (S.meaning shelf.old) (S.meaning shelf.new) }
+    ensures loses { LosesPlexes core.old.config core.new.config (S.meaning shelf.old) (S.meaning shelf.new) }
+    ensures plexes { (w p : ℕ) → plex_at core.new.config w p ≡ plex_at core.old.config w p }
+    ensures few { OnOk result (core.new.config.serial ≤ core.old.config.serial + 9) }
+    ensures faults { core.new.faults ≡ core.old.faults }
+    ensures unsure { core.new.unsure ≡ core.old.unsure }
     ensures volumes { OnOk result (core.new.config.volumes ≡ (lost_is vol log false core.old.config).volumes) }
     ensures trust { OnOk result (core.old.committed ≡ true → core.new.committed ≡ true) }
     ensures agreed { IfErr result (λ e. core.old.committed ≡ true → core.new.agreed ≡ true) }
@@ -52,6 +60,8 @@ fn trust_log<S: Shelf>(
         Ok(()) => {}
         Err(error) => return Err(error),
     }
+    // Read for their bound.
+    let _disks = core.config.disks.as_slice();
     trust(&mut core.config, vol, log);
     detach(shelf, core, 0, Failed { set: 0, disk: 0 })
 }
@@ -73,6 +83,11 @@ pub fn trust_group<S: Shelf>(
     ensures none { core.new.held ≡ None }
     ensures goes { Goes Nothing (inner_meaning (wide core.old) (S.meaning shelf.old)) (inner_meaning (wide core.new) (S.meaning shelf.new)) }
     ensures acts { PlexActs Nothing (lost_is vol log false (wide core.old).config) (wide core.new).config (S.meaning shelf.old) (S.meaning shelf.new) }
+    ensures loses { LosesPlexes core.old.inner.config core.new.inner.config (S.meaning shelf.old) (S.meaning shelf.new) }
+    ensures still { (w p : ℕ) → active core.new.inner.config w p ≡ active core.old.inner.config w p }
+    ensures few { OnOk result (core.new.inner.config.serial ≤ core.old.inner.config.serial + 9) }
+    ensures faults { core.new.inner.faults ≡ core.old.inner.faults }
+    ensures unsure { core.new.inner.unsure ≡ core.old.inner.unsure }
     ensures volumes { IfOk result (λ done. done ≡ true → core.new.inner.config.volumes ≡ (lost_is vol log false core.old.inner.config).volumes) }
     ensures committed { IfOk result (λ done. done ≡ true → IsCommitted core.new.inner.config (S.meaning shelf.new)) }
     ensures full { IfOk result (λ done. done ≡ false → greatest ≤ core.old.inner.config.serial) }

@@ -1,6 +1,6 @@
 -- The line that attaches a plex.
-use Rattle.std.proofs.Common.{◌≡◌, ◌∙◌, ◌⊎◌, ◌<◌, ℕ, Bool, true, false, List, ap, sym, subst, refl, arith}
-use Rattle.std.specs.Prelude.{Option, Some, None, slice_get, Result, Ok, Err, IsTrue}
+use Rattle.std.proofs.Common.{◌≡◌, ◌∙◌, ◌⊎◌, ◌<◌, ◌≤◌, ℕ, Bool, true, false, List, ap, sym, subst, refl, arith}
+use Rattle.std.specs.Prelude.{Option, Some, None, is_some, slice_get, Result, Ok, Err, IsTrue}
 use Rattle.vx_model.specs.declared.errors.OutOfMemory.{OutOfMemory}
 use Rattle.vx_model.specs.declared.errors.Stop.{Stop}
 use Rattle.vx_model.specs.declared.errors.Stop.TheVariants.{No as StopsBy, OutOfMemory as MemoryStop}
@@ -11,6 +11,8 @@ use Rattle.std.specs.Int.{div_ceil}
 use Rattle.vx_config.specs.Checks.{blocks_of}
 use Rattle.vx_model.specs.declared.limits.TheConstants.{REGION}
 use Rattle.vx_config.specs.declared.config.Config.{Config}
+use Rattle.vx_config.specs.declared.entry.VolumeEntry.{VolumeEntry}
+use Rattle.vx_config.specs.declared.entry.VolumeLog.TheVariants.{Fmr}
 use Rattle.vx_history.specs.Doubts.{Doubted}
 use Rattle.vx_history.specs.Groups.{GroupNode, NoteSettles, NoteUnsettles}
 use Rattle.vx_history.specs.World.{Node}
@@ -18,7 +20,9 @@ use Rattle.vx_volume.specs.Plexes.{active}
 use Rattle.vx_group.specs.Attaches.{copied_regions}
 use Rattle.vx_order.specs.declared.facts.VolumeFacts.{VolumeFacts}
 use Rattle.vx_script.specs.declared.line.ScriptLine.TheVariants.{PlexAttach}
+use Rattle.vx_maplog.specs.Logs.{log_of, log_or}
 use Rattle.vx_grouped.specs.ConfigMoves.{AttDone, AttFails}
+use Rattle.vx_grouped.specs.Copied.{CopiesRegions}
 use Rattle.vx_grouped.specs.GroupNotes.{NotesConfig}
 use Rattle.vx_grouped.specs.GroupSites.{UpNoted}
 use Rattle.vx_grouped.specs.SiteEnds.{AttCalled, RegionsOf, is_plex_on, refuses_att}
@@ -32,7 +36,7 @@ use Rattle.vx_volume.specs.Plexes.{uses}
 use Rattle.vx_events.specs.GroupConfigs.{ConfigLosesBut, lies_on_disk}
 use Rattle.vx_events.specs.GroupLines.{plain_number}
 use Rattle.vx_events.specs.GroupNotes.{note_at}
-use Rattle.vx_events.specs.GroupReplies.{AttachCopies, volume_regions}
+use Rattle.vx_events.specs.GroupReplies.{AttachCopies, entry_maps, volume_maps, volume_regions}
 use Rattle.vx_events.specs.GroupViews.{noted_table, volumes_of}
 use Rattle.vx_events.specs.StepsOver.{fact_of_group}
 use Rattle.vx_events.specs.declared.said.Said.{Said}
@@ -48,8 +52,16 @@ use Rattle.vx_group_lines.proofs.GroupPlex.{att_wants, on_state, state_on}
 use Rattle.vx_group_lines.specs.Noting.{IsNotedRefusal, reply_noted}
 
 -- the regions of a volume, by its note
-regions_by : (note : GroupNode) (c : Config) (v k : ℕ) → NotesConfig note c → k ≡ copied_regions c v → k ≡ volume_regions note v
-regions_by note c v k noted is = is ∙ ap (λ (o : Option Config). div_ceil (blocks_of (volumes_of o) v) REGION) (sym (notes_config note c noted))
+regions_by : (note : GroupNode) (c : Config) (v : ℕ) → NotesConfig note c → copied_regions c v ≡ volume_regions note v
+regions_by note c v noted = ap (λ (o : Option Config). div_ceil (blocks_of (volumes_of o) v) REGION) (sym (notes_config note c noted))
+
+-- and whether it keeps a map of missed regions
+entry_map : (o : Option VolumeEntry) → is_some (log_or Fmr o) ≡ entry_maps o
+entry_map None = refl
+entry_map (Some volume) = refl
+
+maps_by : (note : GroupNode) (c : Config) (v : ℕ) → NotesConfig note c → is_some (log_of c v Fmr) ≡ volume_maps note v
+maps_by note c v noted = entry_map (slice_get c.volumes v) ∙ ap (λ (o : Option Config). entry_maps (slice_get (volumes_of o) v)) (sym (notes_config note c noted))
 
 module _ {R : Type 0} {g : Ghosts R} where
   -- how many regions are copied
@@ -67,13 +79,14 @@ module _ {R : Type 0} {g : Ghosts R} where
         all = λ off _. absurd (off (state_on note group.core.inner.config v plex noted on));
       }
       by_on false on noted =
-          let is : k ≡ volume_regions note v = regions_by note group.core.inner.config v k noted (all on) in
+          let it : CopiesRegions group.core.inner.config v k = all on in
+          let same : copied_regions group.core.inner.config v ≡ volume_regions note v = regions_by note group.core.inner.config v noted in
           record {
             count = k;
             says = refl;
-            few = omega (arith, is);
+            few = subst (λ (x : ℕ). k ≤ x) same it.few;
             none = λ takes. absurd (let e : false ≡ true = sym on ∙ on_state note group.core.inner.config v plex noted takes in cc);
-            all = λ _ _. is;
+            all = λ _ off. it.all (maps_by note group.core.inner.config v noted ∙ off) ∙ same;
           }
   att_copies n note (SiteAway idle) v plex k it none all = absurd it
   att_copies n note (SiteDown idle) v plex k it none all = absurd it

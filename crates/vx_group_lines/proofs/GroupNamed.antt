@@ -96,7 +96,7 @@ module _ {R : Type 0} {g : Ghosts R} where
   few_plexes : (n : Node) (note : GroupNode) (e : GroupSite R g) (v plex : ℕ) (found : VolumeFacts) → UpNoted n note e → slice_get (noted_table note) v ≡ Some found → plex < found.plexes → plex ≤ 8
   few_plexes n note (SiteUp group) v plex found it at below =
       let has : HasPlex group.core.inner.config v plex = has_plex_at note group.core.inner.config v plex found (record { is = it.at.lies.config; spells = it.spells }) at below in
-      omega (arith, has.plex, count_few group.core.inner.config (narrow_sound group.core (shade_meaning g.meaning group.shelf) group.stands) v)
+      omega (arith, has.plex, count_few group.core.inner.config (narrow_sound group.core (shade_meaning g.meaning group.shelf) group.stands.group) v)
   few_plexes n note (SiteAway idle) v plex found it at below = absurd it
   few_plexes n note (SiteDown idle) v plex found it at below = absurd it
   few_plexes n note (Marked rack) v plex found it at below = absurd it

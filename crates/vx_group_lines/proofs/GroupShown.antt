@@ -77,7 +77,7 @@ view_noted n note c is up =
 
 module _ {R : Type 0} {g : Ghosts R} where
   small_site : (s : GroupSite R g) (c : Config) → site_config s ≡ Some c → FitsViews c
-  small_site (Up laid) c is = subst (λ (x : Config). FitsViews x) (some_same is) (fits_views laid.core (shade_meaning g.meaning laid.shelf) laid.stands)
+  small_site (Up laid) c is = subst (λ (x : Config). FitsViews x) (some_same is) (fits_views laid.core (shade_meaning g.meaning laid.shelf) laid.stands.group)
   small_site (Deported idle) c is = absurd (cc)
   small_site (Down idle) c is = absurd (cc)
   small_site (Marked rack) c is = absurd (cc)

@@ -63,8 +63,8 @@ module _ (c d : GroupCore) (m m' : Meaning) (one : GroupStands c m) (two : Group
   both_on = record { was = narrow_on c m one; now = narrow_on d m' two; sound = narrow_sound c m one; count = first_count }
 
   -- a call in which disks may have failed
-  pub moves_by : SameParts c.inner.config d.inner.config → SameShape d.inner.config c.inner.config → MoreFailed m m' c.inner.config.disks d.inner.config.disks → CoreMoves none_again c.inner.config d.inner.config m m'
-  moves_by parts shape failing = core_moves c.inner.config d.inner.config m m' parts shape.frames failing both_on
+  pub moves_by : SameParts c.inner.config d.inner.config → ((v : ℕ) → frame_at d.inner.config v ≡ frame_at c.inner.config v) → MoreFailed m m' c.inner.config.disks d.inner.config.disks → CoreMoves none_again c.inner.config d.inner.config m m'
+  moves_by parts frames failing = core_moves c.inner.config d.inner.config m m' parts frames failing both_on
 
   -- one in which disks may be held as good again
   module _ (units : m'.units ≡ m.units) (size : (u : ℕ) → m'.size u ≡ m.size u) where

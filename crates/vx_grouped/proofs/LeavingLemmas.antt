@@ -123,7 +123,7 @@ module _ {R : Type 0} {g : Ghosts R} (n : Node) (note : GroupNode) (group : Laid
     deported_of : (it : DeportedBy (wide group.core).config group.core.inner (laid_disks group) (idle_disks idle)) → IsDeportedAt (record n { state = IsDeported }) (note_deported it.config group.core.inner note) group.core.inner.config it.config (idle_disks idle)
         → (IsTrue (idle_disks idle).down → ⊥) → SiteDeported n note (Up group) (Deported idle) (Ok tt)
     deported_of it at still =
-        let spells = newest_spells n note group.core (laid_disks group) (idle_disks idle) up.at.lies group.stands (racks group.shelf).counts (racks idle.rack).counts it up.spells in (
+        let spells = newest_spells n note group.core (laid_disks group) (idle_disks idle) up.at.lies group.stands.group (racks group.shelf).counts (racks idle.rack).counts it up.spells in (
           note_deported it.config group.core.inner note,
           deport_settles it.config group.core.inner note up.at.lies.committed,
           away_with n note (note_deported it.config group.core.inner note) idle.agreed (idle_below idle).tells group.core.inner.config it.config (idle_disks idle) up.noted
@@ -135,14 +135,14 @@ module _ {R : Type 0} {g : Ghosts R} (n : Node) (note : GroupNode) (group : Laid
             has = tt;
             noted = record { is = up.at.lies.config; spells = up.spells };
             noted_now = record { is = refl; spells = spells };
-            change = cleans n note group.core (laid_disks group) (idle_disks idle) up.at.lies group.stands (racks group.shelf).counts (racks idle.rack).counts it;
+            change = cleans n note group.core (laid_disks group) (idle_disks idle) up.at.lies group.stands.group (racks group.shelf).counts (racks idle.rack).counts it;
           },
           (it.config, record { is = refl; spells = spells }, record { finds = it.finds }),
         )
 
     pub deported_done : (group.core.inner.committed ≡ true → CanImport (idle_disks idle)) → DeportedBy (wide group.core).config group.core.inner (laid_disks group) (idle_disks idle) → (IsTrue (idle_disks idle).down → ⊥)
         → SiteDeported n note (Up group) (Deported idle) (Ok tt)
-    deported_done can it still = deported_of it (deported_at n note group.core (laid_disks group) (idle_disks idle) up.at.lies group.stands it can) still
+    deported_done can it still = deported_of it (deported_at n note group.core (laid_disks group) (idle_disks idle) up.at.lies group.stands.group it can) still
 
   -- the same of the disks that were handed out
   pub deported_from : (idle : Idle R g) (rack : Shade R) → idle.rack ≡ rack → idle.agreed ≡ group.core.inner.committed → CalledSince (laid_disks group) (shade_meaning g.meaning rack) → TellsLess (laid_below group) (g.meaning (rack_of rack)) → (group.core.inner.committed ≡ true → CanImport (shade_meaning g.meaning rack))

@@ -4,12 +4,15 @@ pub mod AwayLemmas
 pub mod BeginLemmas
 pub mod CalledLemmas
 pub mod CarryLemmas
+pub mod CopiedLemmas
 pub mod DeportedLemmas
 pub mod ImportFactLemmas
+pub mod GivenUpLemmas
 pub mod KeepLemmas
 pub mod KeepingLemmas
 pub mod LeavingLemmas
 pub mod NoteLemmas
+pub mod OpenedLemmas
 pub mod NotedLemmas
 pub mod PlainLemmas
 pub mod ReadLemmas
@@ -21,6 +24,7 @@ pub mod SiteCarry
 pub mod SiteKeepLemmas
 pub mod SiteLemmas
 pub mod SiteReturnLemmas
+pub mod TellLemmas
 pub mod WriteLemmas
 pub mod WroteLemmas
 pub mod StateChangeLemmas

@@ -41,6 +41,6 @@ pub record BackMoves (c d : GroupCore) (old new : Meaning) : Type 0 where
   pub on : BothOn c.inner.config d.inner.config old.units
 
 -- a deport: its plexes stopped cleanly; or the group is given back
-abbrev pub DeportMoves : {S G : Type 0} → GroupCore → Meaning → (S → Meaning) → (G → GroupCore) → (G → S) → Result S (G × Stop) → Type 0
-DeportMoves c old meaning core shelf (Ok s) = DeportedBy (wide c).config c.inner old (meaning s)
-DeportMoves c old meaning core shelf (Err (g, stop)) = BackMoves c (core g) old (meaning (shelf g))
+abbrev pub DeportMoves : {S G : Type 0} → GroupCore → Meaning → (S → Meaning) → (G → GroupCore) → (G → Meaning) → Result S (G × Stop) → Type 0
+DeportMoves c old meaning core back (Ok s) = DeportedBy (wide c).config c.inner old (meaning s)
+DeportMoves c old meaning core back (Err (g, stop)) = BackMoves c (core g) old (back g)

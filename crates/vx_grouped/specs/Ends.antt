@@ -35,6 +35,6 @@ CallLeaves n note core m (Err (Refused other)) = IsGroupAt n note core m
 CallLeaves n note core m (Err OutOfMemory) = ⊥
 
 -- A deport: done, the disks are by themselves; refused, the group is given back, and each volume has what it had.
-abbrev pub DeportLeaves : {S G : Type 0} → Node → GroupNode → GroupCore → (S → Meaning) → (G → GroupCore) → (G → S) → Result S (G × Stop) → Type 0
-DeportLeaves n note c meaning core shelf (Ok s) = (x : Config) × IsDeportedAt (record n { state = Deported }) (note_deported x c.inner note) c.inner.config x (meaning s)
-DeportLeaves n note c meaning core shelf (Err (g, stop)) = CallLeaves {T = Unit {0}} n note (core g) (meaning (shelf g)) (Err stop)
+abbrev pub DeportLeaves : {S G : Type 0} → Node → GroupNode → GroupCore → (S → Meaning) → (G → GroupCore) → (G → Meaning) → Result S (G × Stop) → Type 0
+DeportLeaves n note c meaning core back (Ok s) = (x : Config) × IsDeportedAt (record n { state = Deported }) (note_deported x c.inner note) c.inner.config x (meaning s)
+DeportLeaves n note c meaning core back (Err (g, stop)) = CallLeaves {T = Unit {0}} n note (core g) (back g) (Err stop)

@@ -2,6 +2,7 @@ pub mod Added
 pub mod Away
 pub mod Begins
 pub mod ConfigMoves
+pub mod Copied
 pub mod CoreMoves
 pub mod Ends
 pub mod Finds

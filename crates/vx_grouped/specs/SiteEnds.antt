@@ -19,11 +19,12 @@ use Rattle.vx_history.specs.World.{Node}
 use Rattle.vx_config.specs.Table.{greatest}
 use Rattle.vx_config.specs.declared.config.Config.{Config}
 use Rattle.vx_volume.specs.Plexes.{active}
-use Rattle.vx_group.specs.Attaches.{att_refusal, copied_regions}
+use Rattle.vx_group.specs.Attaches.{att_refusal}
 use Rattle.vx_group.specs.Dets.{det_refusal}
 use Rattle.vx_untold.specs.Shades.{shade_meaning}
 use Rattle.vx_watched.specs.Traces.{TellsLess}
 use Rattle.vx_grouped.specs.Away.{AllHave}
+use Rattle.vx_grouped.specs.Copied.{CopiesRegions}
 use Rattle.vx_grouped.specs.ConfigMoves.{AttDone, AttFails, CleansPlexes, DetDone, DetFails, LosesSome}
 use Rattle.vx_grouped.specs.GroupNotes.{NotesConfig}
 use Rattle.vx_grouped.specs.GroupSites.{AwayNoted, CutNoted, DownNoted, GroupSiteStands, UpNoted, deported_with, site_below, site_config, site_disks, with_note}
@@ -127,7 +128,7 @@ module _ {R : Type 0} {g : Ghosts R} where
 
   -- as many regions as are copied to a plex of the volume
   abbrev pub RegionsOf : GroupSite R g → ℕ → ℕ → Type 0
-  RegionsOf (Up group) vol count = count ≡ copied_regions group.core.inner.config vol
+  RegionsOf (Up group) vol count = CopiesRegions group.core.inner.config vol count
   RegionsOf other vol count = ⊥
 
   -- a plex that is detached: refused by the first test that holds

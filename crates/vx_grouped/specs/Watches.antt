@@ -11,7 +11,7 @@ use Rattle.vx_history.specs.Groups.{GroupNode}
 use Rattle.vx_history.specs.World.{Node}
 use Rattle.vx_config.specs.Table.{greatest}
 use Rattle.vx_volume.specs.Plexes.{active, uses}
-use Rattle.vx_group.specs.Attaches.{IsAttached, att_refusal, copied_regions}
+use Rattle.vx_group.specs.Attaches.{IsAttached, att_refusal}
 use Rattle.vx_group.specs.Dets.{DetStops, det_refusal}
 use Rattle.vx_group.specs.Holding.{wide}
 use Rattle.vx_group.specs.Loses.{LosesPlexes}
@@ -20,6 +20,7 @@ use Rattle.vx_group.specs.declared.group_core.GroupCore.{GroupCore}
 use Rattle.vx_watched.specs.Since.{CalledSince}
 use Rattle.vx_watched.specs.Traces.{TellsLess}
 use Rattle.vx_grouped.specs.ConfigMoves.{none_again}
+use Rattle.vx_grouped.specs.Copied.{CopiesRegions}
 use Rattle.vx_grouped.specs.CoreMoves.{BothOn, CoreMoves}
 use Rattle.vx_grouped.specs.Ends.{CallLeaves, WriteLeaves, plain_write}
 use Rattle.vx_grouped.specs.GroupNotes.{IsGroupAt}
@@ -56,7 +57,7 @@ pub record PlexDets (vol plex : ℕ) (c : GroupCore) (m : Meaning) (d : GroupCor
 pub record PlexAtts (vol plex : ℕ) (c : GroupCore) (m : Meaning) (d : GroupCore) (m' : Meaning) (r : Result ℕ Stop) : Type 0 where
   pub refused : (no : No) → att_refusal c.inner.config vol plex ≡ Some no → r ≡ Err (Refused no)
   pub already : att_refusal c.inner.config vol plex ≡ None → IsTrue (active c.inner.config vol plex) → r ≡ Ok 0
-  pub count : active c.inner.config vol plex ≡ false → IfOk r (λ n. n ≡ copied_regions c.inner.config vol)
+  pub count : active c.inner.config vol plex ≡ false → IfOk r (CopiesRegions c.inner.config vol)
   pub attached : active c.inner.config vol plex ≡ false → OnOk r (IsAttached vol plex d.inner.config m')
   pub leaves : (n : Node) (note : GroupNode) → IsGroupAt n note c m → CallLeaves n note d m' r
   pub others : (w p : ℕ) → (w ≡ vol → p ≡ plex → ⊥) → active d.inner.config w p ≡ active c.inner.config w p
@@ -66,9 +67,9 @@ pub record PlexAtts (vol plex : ℕ) (c : GroupCore) (m : Meaning) (d : GroupCor
   pub moves : CoreMoves (uses c.inner.config vol plex) c.inner.config d.inner.config m m'
 
 -- what is known of the disks of a group that was deported, or that is given back
-abbrev pub DeportSince : {S G : Type 0} → Meaning → (S → Meaning) → (G → S) → Result S (G × Stop) → Type 0
-DeportSince old meaning shelf (Ok s) = CalledSince old (meaning s)
-DeportSince old meaning shelf (Err (g, stop)) = CalledSince old (meaning (shelf g))
+abbrev pub DeportSince : {S G : Type 0} → Meaning → (S → Meaning) → (G → Meaning) → Result S (G × Stop) → Type 0
+DeportSince old meaning back (Ok s) = CalledSince old (meaning s)
+DeportSince old meaning back (Err (g, stop)) = CalledSince old (back g)
 
 -- and of its rack, which tells no more than it did
 abbrev pub DeportShows : {S G : Type 0} → Meaning → (S → Meaning) → (G → Meaning) → Result S (G × Stop) → Type 0
@@ -76,6 +77,6 @@ DeportShows old below back (Ok s) = TellsLess old (below s)
 DeportShows old below back (Err (g, stop)) = TellsLess old (back g)
 
 -- a deport is refused for want of serials, or for a device
-abbrev pub DeportRefuses : {S G : Type 0} → Meaning → (S → Meaning) → (G → S) → Result S (G × Stop) → Type 0
-DeportRefuses old meaning shelf (Ok s) = Unit {0}
-DeportRefuses old meaning shelf (Err (g, stop)) = (stop ≡ Refused (Limit Numbers greatest)) ⊎ DetStops {T = Unit {0}} old (meaning (shelf g)) (Err stop)
+abbrev pub DeportRefuses : {S G : Type 0} → Meaning → (G → Meaning) → Result S (G × Stop) → Type 0
+DeportRefuses old back (Ok s) = Unit {0}
+DeportRefuses old back (Err (g, stop)) = (stop ≡ Refused (Limit Numbers greatest)) ⊎ DetStops {T = Unit {0}} old (back g) (Err stop)

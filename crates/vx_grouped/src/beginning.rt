@@ -12,13 +12,17 @@ use crate::{GroupSite, Laid};
 use std::alloc::Global;
 use std::marker::Brand;
 use vx_disk::Rack;
-use vx_group::Group;
+use vx_loggroup::{LoggedGroup, Opened};
 use vx_model::limits::MOST_DISKS;
 use vx_model::{No, Stop};
 use vx_untold::Shade;
 use vx_watched::{Begun, Watched};
 
-fn create_from<B: Begun, R: Rack>(alloc: Global, rack: R, site: u32) -> Result<Group<R>, (R, Stop)>
+fn create_from<B: Begun, R: Rack>(
+    alloc: Global,
+    rack: R,
+    site: u32,
+) -> Result<LoggedGroup<R>, (R, Stop)>
     requires some { 0 < (R.meaning rack).units }
     requires few { (R.meaning rack).units ≤ MOST_DISKS }
     requires since { CalledSince B.first (R.meaning rack) }
@@ -27,19 +31,19 @@ fn create_from<B: Begun, R: Rack>(alloc: Global, rack: R, site: u32) -> Result<G
     ensures since { CreateSince B.first (λ s. R.meaning s) (λ g. g.shelf) result }
 {
     let watched = Watched::<R, B>::over(rack);
-    let made = Group::create(alloc, watched, site);
+    let made = LoggedGroup::create(alloc, watched, site);
     match made {
         Ok(group) => {
-            let (watched, core) = group.apart();
+            let (watched, rest) = group.apart();
             let rack = watched.into_shelf();
-            Ok(Group::together(rack, core))
+            Ok(LoggedGroup::together(rack, rest))
         }
         Err((watched, stop)) => Err((watched.into_shelf(), stop)),
     }
 }
 
 // A group without volumes, made of the disks of a rack, whose calls it accounts for.
-fn create_watched<R: Rack>(alloc: Global, rack: R, site: u32) -> Result<Group<R>, (R, Stop)>
+fn create_watched<R: Rack>(alloc: Global, rack: R, site: u32) -> Result<LoggedGroup<R>, (R, Stop)>
     requires some { 0 < (R.meaning rack).units }
     requires few { (R.meaning rack).units ≤ MOST_DISKS }
     ensures made { IfOk result (λ g. IsNewGroup site g.core.inner (R.meaning g.shelf) × (g.core.held ≡ None)) }
@@ -50,14 +54,25 @@ fn create_watched<R: Rack>(alloc: Global, rack: R, site: u32) -> Result<Group<R>
 }
 
 // A group on disks of which the contents are told.
-fn brightened<R: Rack>(group: Group<R>) -> Laid<R>
+fn brightened<R: Rack>(group: LoggedGroup<R>) -> Laid<R>
     ensures core { result.core ≡ group.core }
     ensures shelf { result.shelf ≡ Shade.Bright group.shelf }
 {
-    let (rack, core) = group.apart();
+    let (rack, rest) = group.apart();
+    let Opened {
+        core,
+        logs,
+        alike,
+        fresh,
+        stopped,
+    } = rest;
     Laid {
         shelf: Shade::Bright(rack),
         core,
+        logs,
+        alike,
+        fresh,
+        stopped,
     }
 }
 

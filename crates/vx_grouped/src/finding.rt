@@ -1,5 +1,5 @@
 // A group that is found on disks of which it is not known what they hold.
-ghost use Rattle.std.specs.Prelude.{IfErr};
+ghost use Rattle.std.specs.Prelude.{◌≡◌, IfErr};
 ghost use Rattle.vx_config.specs.declared.config.Config.{Config as ConfigValue};
 ghost use Rattle.vx_group.specs.Imports.{ImportStops};
 ghost use Rattle.vx_history.specs.Groups.{GroupNode};
@@ -16,9 +16,34 @@ use crate::{GroupSite, Laid};
 use std::alloc::Global;
 use std::marker::Brand;
 use vx_disk::Rack;
+use vx_loggroup::{LoggedGroup, Opened};
+use vx_logimport::Rested;
 use vx_model::Stop;
 use vx_untold::{Shade, Untold};
 use vx_watched::{Begun, Watched};
+
+// A group on disks of which nothing is told.
+fn dimmed<R: Rack>(group: LoggedGroup<Untold<R>>) -> Laid<R>
+    ensures core { result.core ≡ group.core }
+    ensures shelf { result.shelf ≡ Shade.Dark group.shelf.shelf }
+{
+    let (untold, rest) = group.apart();
+    let Opened {
+        core,
+        logs,
+        alike,
+        fresh,
+        stopped,
+    } = rest;
+    Laid {
+        shelf: Shade::Dark(untold.shelf),
+        core,
+        logs,
+        alike,
+        fresh,
+        stopped,
+    }
+}
 
 fn find_from<B: Begun, R: Rack>(alloc: Global, rack: R) -> Result<Laid<R>, (R, Stop)>
     requires since { CalledSince B.first (R.meaning rack) }
@@ -30,14 +55,11 @@ fn find_from<B: Begun, R: Rack>(alloc: Global, rack: R) -> Result<Laid<R>, (R, S
     let watched = Untold {
         shelf: Watched::<R, B>::over(rack),
     };
-    match import_group(alloc, watched) {
+    match import_group(alloc, watched, &Rested::none()) {
         Ok(group) => {
-            let (watched, core) = group.apart();
+            let (watched, rest) = group.apart();
             let rack = watched.shelf.into_shelf();
-            Ok(Laid {
-                shelf: Shade::Dark(rack),
-                core,
-            })
+            Ok(dimmed(LoggedGroup::together(Untold { shelf: rack }, rest)))
         }
         Err((watched, stop)) => Err((watched.shelf.into_shelf(), stop)),
     }

@@ -1,19 +1,25 @@
 // The disks of a group by themselves.
-ghost use Rattle.std.specs.Prelude.{◌≡◌, ◌≢◌, ◌<◌, ℕ, true};
+ghost use Rattle.std.specs.Prelude.{◌≡◌, ◌≢◌, ◌<◌, ℕ, Option, Some, true};
 ghost use Rattle.vx_grouped.specs.ImportFacts.{ImportFact};
+ghost use Rattle.vx_logimport.specs.Rests.{LogsTell};
+ghost use Rattle.vx_logimport.specs.declared.rested.Rested.{Rested as RestedValue};
 ghost use Rattle.vx_untold.specs.Shades.{shade_meaning};
 
 use crate::racking::fail_idle;
 use std::marker::Brand;
 use vx_disk::Rack;
+use vx_logimport::Rested;
 use vx_untold::Shade;
 
-/// Disks on which a group lay, and whether imports of them agree.
+/// Disks on which a group lay, whether imports of them agree, and which volumes are as a deport left them. None says that its logs were stopped, as no
+/// serial was left to commit that one is lost: then it is not imported again.
 #[derive(Drop)]
 pub struct Idle<R: Rack> {
     pub rack: Shade<R>,
     pub agreed: bool,
+    pub rested: Option<Rested>,
     pub ghost can: { agreed ≡ true → ImportFact (shade_meaning (λ s. R.meaning s) rack) },
+    pub ghost tells: { (r : RestedValue) → agreed ≡ true → rested ≡ Some r → LogsTell r (shade_meaning (λ s. R.meaning s) rack) },
 }
 
 impl<R: Rack> Idle<R> {
@@ -26,18 +32,25 @@ impl<R: Rack> Idle<R> {
     ghost use Rattle.vx_watched.specs.Traces.{TellsLess};
 
     /// Disks behind a crash or a deport.
-    pub fn of(rack: Shade<R>, agreed: bool) -> Idle<R>
+    pub fn of(rack: Shade<R>, agreed: bool, rested: Option<Rested>) -> Idle<R>
         requires can { agreed ≡ true → CanImport (shade_meaning (λ s. R.meaning s) rack) }
+        requires tells { (r : RestedValue) → agreed ≡ true → rested ≡ Some r → LogsTell r (shade_meaning (λ s. R.meaning s) rack) }
         ensures rack { result.rack ≡ rack }
         ensures agreed { result.agreed ≡ agreed }
+        ensures rested { result.rested ≡ rested }
     {
-        Idle { rack, agreed }
+        Idle {
+            rack,
+            agreed,
+            rested,
+        }
     }
 
     /// Makes each later call on a disk fail, or ends that. Nothing else changes.
     pub fn fail(self, disk: u32, on: bool) -> Idle<R>
         requires { disk < (shade_meaning (λ s. R.meaning s) self.rack).units }
         ensures agreed { result.agreed ≡ self.agreed }
+        ensures rested { result.rested ≡ self.rested }
         ensures alike { Alike (shade_meaning (λ s. R.meaning s) self.rack) (shade_meaning (λ s. R.meaning s) result.rack) }
         ensures down { (shade_meaning (λ s. R.meaning s) result.rack).down ≡ (shade_meaning (λ s. R.meaning s) self.rack).down }
         ensures armed { (shade_meaning (λ s. R.meaning s) result.rack).armed ≡ (shade_meaning (λ s. R.meaning s) self.rack).armed }
@@ -51,6 +64,7 @@ impl<R: Rack> Idle<R> {
     pub fn into_ready(self) -> Shade<R>
         ensures ready { result ≡ ready_of self.agreed self.rack }
         ensures can { CanImport (shade_meaning (λ s. R.meaning s) result) }
+        ensures tells { (r : RestedValue) → self.rested ≡ Some r → LogsTell r (shade_meaning (λ s. R.meaning s) result) }
     {
         if self.agreed {
             self.rack

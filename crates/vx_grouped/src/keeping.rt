@@ -12,7 +12,7 @@ ghost use Rattle.vx_history.specs.World.{Node};
 ghost use Rattle.vx_model.specs.Content.{block_of};
 
 use vx_disk::{Shelf, refusal};
-use vx_group::Group;
+use vx_loggroup::LoggedGroup;
 use vx_model::No;
 use vx_model::limits::{BLOCK, MOST_CALL_BLOCKS, MOST_CALL_BYTES};
 
@@ -46,7 +46,7 @@ fn compared(found: &[u8], bytes: &[u8]) -> [bool; MOST_CALL_BLOCKS as usize]
 ///
 /// Answers 7 only where the count of the disk that it names rose, and 6 only where the shelf is down; nothing else.
 pub fn kept_plain<S: Shelf>(
-    group: &mut Group<S>,
+    group: &mut LoggedGroup<S>,
     vol: u32,
     block: u64,
     bytes: &[u8],

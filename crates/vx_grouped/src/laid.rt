@@ -1,6 +1,7 @@
 // A group that is up on the disks of a site.
 ghost use Rattle.std.specs.Prelude.{◌≡◌, ◌≢◌, ◌<◌, ℕ, IsTrue, Some};
-ghost use Rattle.vx_group.specs.Holding.{GroupStands};
+ghost use Rattle.vx_loggroup.specs.Facts.{LoggedFact};
+ghost use Rattle.vx_loggroup.specs.Fresh.{FreshStands};
 ghost use Rattle.vx_untold.specs.Shades.{shade_meaning};
 
 use crate::Idle;
@@ -8,7 +9,10 @@ use crate::racking::{crash_laid, fail_laid, fuse_laid};
 use std::marker::Brand;
 use vx_config::{Config, encode_into, is_short};
 use vx_disk::{Rack, Shelf};
-use vx_group::{Group, GroupCore};
+use vx_group::GroupCore;
+use vx_loggroup::{LoggedGroup, Opened};
+use vx_logs::Logs;
+use vx_model::limits::MOST_VOLUMES;
 use vx_untold::Shade;
 
 // The most bytes of a configuration.
@@ -19,7 +23,16 @@ const MOST_BYTES: usize = 65024;
 pub struct Laid<R: Rack> {
     pub shelf: Shade<R>,
     pub core: GroupCore,
-    pub ghost stands: { GroupStands core (shade_meaning (λ s. R.meaning s) shelf) },
+    /// Of each volume its logs.
+    pub logs: Vec<Logs>,
+    /// Of each volume whether its plexes are alike.
+    pub alike: [bool; MOST_VOLUMES],
+    /// Of each volume whether its logs may begin.
+    pub fresh: [bool; MOST_VOLUMES],
+    /// Logs are stopped, as no serial is left to commit that one is lost.
+    pub stopped: bool,
+    pub ghost stands: { LoggedFact core logs.items alike stopped (shade_meaning (λ s. R.meaning s) shelf) },
+    pub ghost begins: { FreshStands core fresh (shade_meaning (λ s. R.meaning s) shelf) },
 }
 
 impl<R: Rack> Laid<R> {
@@ -41,20 +54,43 @@ impl<R: Rack> Laid<R> {
     ghost use Rattle.vx_watched.specs.Traces.{TellsLess};
 
     /// The parts of a group. It makes no device call.
-    pub fn of(group: Group<Shade<R>>) -> Laid<R>
+    pub fn of(group: LoggedGroup<Shade<R>>) -> Laid<R>
         ensures shelf { result.shelf ≡ group.shelf }
         ensures core { result.core ≡ group.core }
     {
-        let (shelf, core) = group.apart();
-        Laid { shelf, core }
+        let (shelf, rest) = group.apart();
+        let Opened {
+            core,
+            logs,
+            alike,
+            fresh,
+            stopped,
+        } = rest;
+        Laid {
+            shelf,
+            core,
+            logs,
+            alike,
+            fresh,
+            stopped,
+        }
     }
 
     /// The group. It makes no device call.
-    pub fn together(self) -> Group<Shade<R>>
+    pub fn together(self) -> LoggedGroup<Shade<R>>
         ensures shelf { result.shelf ≡ self.shelf }
         ensures core { result.core ≡ self.core }
     {
-        Group::together(self.shelf, self.core)
+        LoggedGroup::together(
+            self.shelf,
+            Opened {
+                core: self.core,
+                logs: self.logs,
+                alike: self.alike,
+                fresh: self.fresh,
+                stopped: self.stopped,
+            },
+        )
     }
 
     /// The configuration.

@@ -33,7 +33,7 @@ pub use idle::Idle;
 pub use importing::import_group;
 pub use keeping::kept_plain;
 pub use laid::Laid;
-pub use leaving::{crash_group, deport_group};
+pub use leaving::deport_group;
 pub use making::make_volume_of;
 pub use plain::{read_plain, write_plain};
 pub use plexes::{att_plex, det_plex};

@@ -12,8 +12,8 @@ ghost use Rattle.vx_model.specs.declared.no.No.{No as NoValue};
 
 use std::alloc::Global;
 use vx_disk::Shelf;
-use vx_group::Group;
 use vx_layout::Shape;
+use vx_loggroup::LoggedGroup;
 use vx_model::{Name, No, Stop};
 
 /// Makes a volume of a shape in a group that is up, and answers its number. It begins as zeros; each other volume has what it had. Disks that are
@@ -23,7 +23,7 @@ use vx_model::{Name, No, Stop};
 /// only where the shelf is then down. It takes memory.
 pub fn make_volume_of<S: Shelf>(
     alloc: Global,
-    group: &mut Group<S>,
+    group: &mut LoggedGroup<S>,
     name: &Name,
     want: &Shape,
 ) -> Result<u32, Stop>

@@ -14,7 +14,7 @@ ghost use Rattle.vx_history.specs.Groups.{GroupNode};
 ghost use Rattle.vx_history.specs.World.{Node};
 
 use vx_disk::{Shelf, refusal};
-use vx_group::Group;
+use vx_loggroup::LoggedGroup;
 use vx_model::No;
 
 /// Writes whole blocks to a volume of a group over a rack, and makes them durable.
@@ -22,7 +22,7 @@ use vx_model::No;
 /// Answers 7 only where the count of the disk that it names rose, and 6 only where the shelf is then down: each block of the write is then as it
 /// was or as it was to be. Nothing else is answered. Plexes may be detached, of which a disk failed.
 pub fn write_plain<S: Shelf>(
-    group: &mut Group<S>,
+    group: &mut LoggedGroup<S>,
     vol: u32,
     block: u64,
     bytes: &[u8],
@@ -50,7 +50,7 @@ pub fn write_plain<S: Shelf>(
 ///
 /// Answers 7 only where the count of the disk that it names rose, and 6 only where the shelf is down; nothing else.
 pub fn read_plain<S: Shelf>(
-    group: &mut Group<S>,
+    group: &mut LoggedGroup<S>,
     vol: u32,
     block: u64,
     into: &mut [u8],

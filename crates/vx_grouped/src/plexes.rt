@@ -1,30 +1,33 @@
 // Plexes of a group that are detached and attached.
 ghost use Rattle.std.specs.Prelude.{◌≡◌, Err, IfErr, IfOk, IsTrue, Ok, OnOk, Some, None, false, true, ℕ};
 ghost use Rattle.vx_disk.specs.Shelf.{Goes, Nothing};
-ghost use Rattle.vx_group.specs.Attaches.{IsAttached, att_refusal, copied_regions};
+ghost use Rattle.vx_group.specs.Attaches.{IsAttached, att_refusal, missed_regions};
 ghost use Rattle.vx_group.specs.Dets.{DetStops, det_refusal};
 ghost use Rattle.vx_group.specs.Holding.{wide};
 ghost use Rattle.vx_group.specs.Regains.{Regains};
 ghost use Rattle.vx_group.specs.Stands.{inner_meaning};
 ghost use Rattle.vx_grouped.specs.ConfigMoves.{none_again};
+ghost use Rattle.vx_grouped.specs.Copied.{CopiesRegions};
 ghost use Rattle.vx_grouped.specs.CoreMoves.{CoreMoves};
 ghost use Rattle.vx_grouped.specs.Ends.{CallLeaves};
 ghost use Rattle.vx_grouped.specs.GroupNotes.{IsGroupAt};
 ghost use Rattle.vx_history.specs.Groups.{GroupNode};
 ghost use Rattle.vx_history.specs.World.{Node};
+ghost use Rattle.vx_loggroup.specs.Attaching.{map_by};
 ghost use Rattle.vx_model.specs.declared.errors.Stop.TheVariants.{No as Refused};
 ghost use Rattle.vx_model.specs.declared.no.No.{No as NoValue};
 ghost use Rattle.vx_volume.specs.Plexes.{active, uses};
 
 use vx_disk::Shelf;
-use vx_group::Group;
+use vx_loggroup::LoggedGroup;
 use vx_model::{No, Stop};
 
-/// Detaches a plex of a group that is up. Each volume has what it had. Disks that are down behind it answer so.
+/// Detaches a plex of a group that is up, whose map begins then where the volume has one. Each volume has what it had. Disks that are down behind it
+/// answer so.
 ///
 /// Answers 1, 10 and 19 as the group does, and then nothing has changed; else 7 only where the count of the disk that it names rose, and 6 only
 /// where the shelf is then down.
-pub fn det_plex<S: Shelf>(group: &mut Group<S>, vol: u32, plex: u32) -> Result<(), Stop>
+pub fn det_plex<S: Shelf>(group: &mut LoggedGroup<S>, vol: u32, plex: u32) -> Result<(), Stop>
     requires up { IsTrue (S.meaning group.old.shelf).down → ⊥ }
     ensures refused { (no : NoValue) → det_refusal group.old.core.inner.config vol plex ≡ Some no → (result ≡ Err (Refused no)) × (group.new.core ≡ group.old.core) × (group.new.shelf ≡ group.old.shelf) }
     ensures leaves { (n : Node) (note : GroupNode) → IsGroupAt n note group.old.core (S.meaning group.old.shelf) → CallLeaves n note group.new.core (S.meaning group.new.shelf) result }
@@ -44,16 +47,17 @@ pub fn det_plex<S: Shelf>(group: &mut Group<S>, vol: u32, plex: u32) -> Result<(
     answer
 }
 
-/// Attaches a plex of a group that is up, and answers how many regions were copied. Each volume has what it had. Disks that are down behind it
-/// answer so.
+/// Attaches a plex of a group that is up, and answers how many regions were copied: those that the plex has missed by its map, or all of the volume
+/// where no map is in memory. Each volume has what it had. Disks that are down behind it answer so.
 ///
 /// Answers 1 and 19 as the group does, and then nothing has changed; else 7 only where the count of the disk that it names rose, and 6 only
 /// where the shelf is then down.
-pub fn att_plex<S: Shelf>(group: &mut Group<S>, vol: u32, plex: u32) -> Result<u64, Stop>
+pub fn att_plex<S: Shelf>(group: &mut LoggedGroup<S>, vol: u32, plex: u32) -> Result<u64, Stop>
     requires up { IsTrue (S.meaning group.old.shelf).down → ⊥ }
     ensures refused { (no : NoValue) → att_refusal group.old.core.inner.config vol plex ≡ Some no → (result ≡ Err (Refused no)) × (group.new.core ≡ group.old.core) × (group.new.shelf ≡ group.old.shelf) }
     ensures already { att_refusal group.old.core.inner.config vol plex ≡ None → IsTrue (active group.old.core.inner.config vol plex) → (result ≡ Ok 0) × (group.new.core ≡ group.old.core) × (group.new.shelf ≡ group.old.shelf) }
-    ensures count { active group.old.core.inner.config vol plex ≡ false → IfOk result (λ n. n ≡ copied_regions group.old.core.inner.config vol) }
+    ensures count { active group.old.core.inner.config vol plex ≡ false → IfOk result (λ n. n ≡ missed_regions group.old.core.inner.config vol plex (map_by group.old.logs.items group.old.core.inner.config group.old.stopped (S.meaning group.old.shelf).down vol plex)) }
+    ensures copies { active group.old.core.inner.config vol plex ≡ false → IfOk result (CopiesRegions group.old.core.inner.config vol) }
     ensures attached { active group.old.core.inner.config vol plex ≡ false → OnOk result (IsAttached vol plex group.new.core.inner.config (S.meaning group.new.shelf)) }
     ensures leaves { (n : Node) (note : GroupNode) → IsGroupAt n note group.old.core (S.meaning group.old.shelf) → CallLeaves n note group.new.core (S.meaning group.new.shelf) result }
     ensures goes { Goes Nothing (inner_meaning (wide group.old.core) (S.meaning group.old.shelf)) (inner_meaning (wide group.new.core) (S.meaning group.new.shelf)) }

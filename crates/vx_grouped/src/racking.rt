@@ -1,5 +1,5 @@
 // The calls on the rack of a group, or of its disks by themselves, with an account of what the rack inside tells.
-ghost use Rattle.std.specs.Prelude.{◌≡◌, ◌≢◌, ◌<◌, ℕ, Some};
+ghost use Rattle.std.specs.Prelude.{◌≡◌, ◌≢◌, ◌<◌, ℕ, Option, Some, false};
 ghost use Rattle.vx_disk.specs.Causes.{OnDisks, WithDisks};
 ghost use Rattle.vx_disk.specs.Disks.{Crashed, SameBlocks, Untouched};
 ghost use Rattle.vx_disk.specs.Racks.{Alike, Stopped};
@@ -9,6 +9,8 @@ ghost use Rattle.vx_grouped.specs.Away.{IsAwayAt};
 ghost use Rattle.vx_grouped.specs.GroupNotes.{GroupLies};
 ghost use Rattle.vx_history.specs.Groups.{GroupNode};
 ghost use Rattle.vx_history.specs.World.{Node};
+ghost use Rattle.vx_logimport.specs.declared.rested.Rested.{Rested as RestedValue};
+ghost use Rattle.vx_logimport.specs.Rests.{RestsNone};
 ghost use Rattle.vx_model.specs.declared.site.SiteState.TheVariants.{Down as DownState};
 ghost use Rattle.vx_untold.specs.Shades.{rack_of, shade_meaning};
 ghost use Rattle.vx_watched.specs.Traces.{TellsLess};
@@ -16,8 +18,19 @@ ghost use Rattle.vx_watched.specs.Traces.{TellsLess};
 use crate::tracing::{trace, traced, untrace, untraced};
 use crate::{Idle, Laid};
 use vx_disk::{Rack, Shelf};
-use vx_group::{Group, crash_in, fail_in, fuse_in};
+use vx_loggroup::{LoggedGroup, crash_whole, fail_whole, fuse_whole};
+use vx_logimport::Rested;
 use vx_watched::Begun;
+
+// Which volumes are as a deport left them, behind a crash: none; it is not known where logs were stopped.
+fn rested_of(stopped: bool) -> Option<Rested>
+    ensures none { (r : RestedValue) → result ≡ Some r → (stopped ≡ false) × RestsNone r }
+{
+    if stopped {
+        return None;
+    }
+    Some(Rested::none())
+}
 
 /// Makes each later call on a disk fail, with an account of what the rack inside tells.
 pub(crate) fn fail_laid<C: Begun, R: Rack>(laid: Laid<R>, disk: u32, on: bool) -> Laid<R>
@@ -31,9 +44,18 @@ pub(crate) fn fail_laid<C: Begun, R: Rack>(laid: Laid<R>, disk: u32, on: bool) -
     ensures volumes { Alike (inner_meaning (wide laid.core) (shade_meaning (λ s. R.meaning s) laid.shelf)) (inner_meaning (wide result.core) (shade_meaning (λ s. R.meaning s) result.shelf)) }
     ensures told { TellsLess C.first (R.meaning (rack_of result.shelf)) }
 {
-    let (mut shelf, core) = trace::<C, R>(laid).apart();
-    fail_in(&mut shelf, &core, disk, on);
-    untrace(Group::together(shelf, core))
+    let (mut shelf, rest) = trace::<C, R>(laid).apart();
+    fail_whole(
+        &mut shelf,
+        &rest.core,
+        &rest.logs,
+        &rest.alike,
+        &rest.fresh,
+        rest.stopped,
+        disk,
+        on,
+    );
+    untrace(LoggedGroup::together(shelf, rest))
 }
 
 /// Sets the fuse, with such an account.
@@ -46,9 +68,18 @@ pub(crate) fn fuse_laid<C: Begun, R: Rack>(laid: Laid<R>, calls: u64, pick: u64)
     ensures volumes { Alike (inner_meaning (wide laid.core) (shade_meaning (λ s. R.meaning s) laid.shelf)) (inner_meaning (wide result.core) (shade_meaning (λ s. R.meaning s) result.shelf)) }
     ensures told { TellsLess C.first (R.meaning (rack_of result.shelf)) }
 {
-    let (mut shelf, core) = trace::<C, R>(laid).apart();
-    fuse_in(&mut shelf, &core, calls, pick);
-    untrace(Group::together(shelf, core))
+    let (mut shelf, rest) = trace::<C, R>(laid).apart();
+    fuse_whole(
+        &mut shelf,
+        &rest.core,
+        &rest.logs,
+        &rest.alike,
+        &rest.fresh,
+        rest.stopped,
+        calls,
+        pick,
+    );
+    untrace(LoggedGroup::together(shelf, rest))
 }
 
 /// Crashes the disks, with such an account.
@@ -60,9 +91,20 @@ pub(crate) fn crash_laid<C: Begun, R: Rack>(laid: Laid<R>, pick: u64) -> Idle<R>
     ensures disks { OnDisks (shade_meaning (λ s. R.meaning s) laid.shelf).disks (shade_meaning (λ s. R.meaning s) result.rack).disks (Crashed (shade_meaning (λ s. R.meaning s) laid.shelf).size pick) }
     ensures told { TellsLess C.first (R.meaning (rack_of result.rack)) }
 {
-    let (mut shelf, core) = trace::<C, R>(laid).apart();
-    crash_in(&mut shelf, &core, pick);
-    Idle::of(untraced(shelf), core.inner.agreed)
+    let (mut shelf, rest) = trace::<C, R>(laid).apart();
+    crash_whole(
+        &mut shelf,
+        &rest.core,
+        &rest.logs,
+        &rest.alike,
+        rest.stopped,
+        pick,
+    );
+    Idle::of(
+        untraced(shelf),
+        rest.core.inner.agreed,
+        rested_of(rest.stopped),
+    )
 }
 
 /// Makes each later call on a disk fail, with an account of what the rack inside tells.
@@ -70,6 +112,7 @@ pub(crate) fn fail_idle<C: Begun, R: Rack>(idle: Idle<R>, disk: u32, on: bool) -
     requires disk { disk < (shade_meaning (λ s. R.meaning s) idle.rack).units }
     requires told { TellsLess C.first (R.meaning (rack_of idle.rack)) }
     ensures agreed { result.agreed ≡ idle.agreed }
+    ensures rested { result.rested ≡ idle.rested }
     ensures alike { Alike (shade_meaning (λ s. R.meaning s) idle.rack) (shade_meaning (λ s. R.meaning s) result.rack) }
     ensures down { (shade_meaning (λ s. R.meaning s) result.rack).down ≡ (shade_meaning (λ s. R.meaning s) idle.rack).down }
     ensures armed { (shade_meaning (λ s. R.meaning s) result.rack).armed ≡ (shade_meaning (λ s. R.meaning s) idle.rack).armed }
@@ -77,7 +120,8 @@ pub(crate) fn fail_idle<C: Begun, R: Rack>(idle: Idle<R>, disk: u32, on: bool) -
     ensures told { TellsLess C.first (R.meaning (rack_of result.rack)) }
 {
     let agreed = idle.agreed;
+    let rested = idle.rested;
     let mut inside = traced::<C, R>(idle.rack);
     inside.fail(disk, on);
-    Idle::of(untraced(inside), agreed)
+    Idle::of(untraced(inside), agreed, rested)
 }

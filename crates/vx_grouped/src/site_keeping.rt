@@ -17,31 +17,34 @@ use crate::{GroupSite, Laid};
 use std::marker::Brand;
 use std::mem;
 use vx_disk::Rack;
-use vx_group::Group;
+use vx_loggroup::LoggedGroup;
 use vx_model::No;
 use vx_model::limits::{MOST_CALL_BLOCKS, MOST_CALL_BYTES};
 use vx_untold::Shade;
 use vx_watched::{Begun, Traced, Watched};
 
 fn kept_from<B: Begun, R: Rack>(
-    group: Group<R>,
+    group: LoggedGroup<R>,
     vol: u32,
     block: u64,
     bytes: &[u8],
-) -> (Group<R>, Result<[bool; MOST_CALL_BLOCKS as usize], No>)
+) -> (
+    LoggedGroup<R>,
+    Result<[bool; MOST_CALL_BLOCKS as usize], No>,
+)
     requires fits { Fits (inner_meaning (wide group.core) (R.meaning group.shelf)) vol block (length bytes.now) }
     requires few { length bytes.now ≤ MOST_CALL_BYTES }
     requires since { CalledSince B.first (R.meaning group.shelf) }
     ensures works { PlainKeeps vol block bytes.now group.core (R.meaning group.shelf) result.0.core (R.meaning result.0.shelf) result.1 }
     ensures since { CalledSince B.first (R.meaning result.0.shelf) }
 {
-    let (rack, core) = group.apart();
+    let (rack, rest) = group.apart();
     let watched = Watched::<R, B>::over(rack);
-    let mut group = Group::together(watched, core);
+    let mut group = LoggedGroup::together(watched, rest);
     let answer = kept_plain(&mut group, vol, block, bytes);
-    let (watched, core) = group.apart();
+    let (watched, rest) = group.apart();
     let rack = watched.into_shelf();
-    (Group::together(rack, core), answer)
+    (LoggedGroup::together(rack, rest), answer)
 }
 
 // The same over the disks of a site, of which contents are told or not.

@@ -8,6 +8,7 @@ ghost use Rattle.vx_grouped.specs.GroupNotes.{IsGroupAt};
 ghost use Rattle.vx_grouped.specs.GroupSites.{GroupUp, UpNoted, site_below, site_disks};
 ghost use Rattle.vx_grouped.specs.SiteEnds.{SiteDeported};
 ghost use Rattle.vx_grouped.specs.Watches.{DeportRefuses, DeportShows, DeportSince};
+ghost use Rattle.vx_loggroup.specs.Opens.{DeportTells};
 ghost use Rattle.vx_untold.specs.Shades.{rack_of, shade_meaning};
 ghost use Rattle.vx_watched.specs.Since.{CalledSince};
 ghost use Rattle.vx_watched.specs.Traces.{TellsLess};
@@ -18,62 +19,70 @@ use crate::tracing::{trace, untrace, untraced};
 use crate::{GroupSite, Idle, Laid};
 use std::marker::Brand;
 use vx_disk::Rack;
-use vx_group::Group;
+use vx_loggroup::LoggedGroup;
+use vx_logimport::Rested;
 use vx_model::{No, Stop};
 use vx_untold::Shade;
 use vx_watched::{Begun, Traced, Watched};
 
-fn deport_from<B: Begun, R: Rack>(group: Group<R>) -> Result<R, (Group<R>, Stop)>
+fn deport_from<B: Begun, R: Rack>(
+    group: LoggedGroup<R>,
+) -> Result<(R, Option<Rested>), (LoggedGroup<R>, Stop)>
     requires up { IsTrue (R.meaning group.shelf).down → ⊥ }
     requires since { CalledSince B.first (R.meaning group.shelf) }
-    ensures leaves { (n : Node) (note : GroupNode) → IsGroupAt n note group.core (R.meaning group.shelf) → DeportLeaves n note group.core (λ s. R.meaning s) (λ g. g.core) (λ g. g.shelf) result }
-    ensures up { IfOk result (λ s. IsTrue (R.meaning s).down → ⊥) }
-    ensures can { DeportCan group.core (λ s. R.meaning s) result }
-    ensures moves { DeportMoves group.core (R.meaning group.shelf) (λ s. R.meaning s) (λ g. g.core) (λ g. g.shelf) result }
-    ensures refusals { DeportRefuses (R.meaning group.shelf) (λ s. R.meaning s) (λ g. g.shelf) result }
-    ensures since { DeportSince B.first (λ s. R.meaning s) (λ g. g.shelf) result }
+    ensures leaves { (n : Node) (note : GroupNode) → IsGroupAt n note group.core (R.meaning group.shelf) → DeportLeaves n note group.core (λ s. R.meaning s.0) (λ g. g.core) (λ g. R.meaning g.shelf) result }
+    ensures up { IfOk result (λ s. IsTrue (R.meaning s.0).down → ⊥) }
+    ensures can { DeportCan group.core (λ s. R.meaning s.0) result }
+    ensures tells { DeportTells (λ s. R.meaning s) result }
+    ensures moves { DeportMoves group.core (R.meaning group.shelf) (λ s. R.meaning s.0) (λ g. g.core) (λ g. R.meaning g.shelf) result }
+    ensures refusals { DeportRefuses (R.meaning group.shelf) (λ g. R.meaning g.shelf) result }
+    ensures since { DeportSince B.first (λ s. R.meaning s.0) (λ g. R.meaning g.shelf) result }
 {
-    let (rack, core) = group.apart();
+    let (rack, rest) = group.apart();
     let watched = Watched::<R, B>::over(rack);
-    let group = Group::together(watched, core);
+    let group = LoggedGroup::together(watched, rest);
     match deport_group(group) {
-        Ok(watched) => Ok(watched.into_shelf()),
+        Ok((watched, rested)) => Ok((watched.into_shelf(), rested)),
         Err((group, stop)) => {
-            let (watched, core) = group.apart();
+            let (watched, rest) = group.apart();
             let rack = watched.into_shelf();
-            Err((Group::together(rack, core), stop))
+            Err((LoggedGroup::together(rack, rest), stop))
         }
     }
 }
 
 // The same over the disks of a site, of which contents are told or not.
-fn deport_traced<C: Begun, R: Rack>(laid: Laid<R>) -> Result<Shade<R>, (Laid<R>, Stop)>
+fn deport_traced<C: Begun, R: Rack>(
+    laid: Laid<R>,
+) -> Result<(Shade<R>, Option<Rested>), (Laid<R>, Stop)>
     requires up { IsTrue (shade_meaning (λ s. R.meaning s) laid.shelf).down → ⊥ }
     requires told { TellsLess C.first (R.meaning (rack_of laid.shelf)) }
-    ensures leaves { (n : Node) (note : GroupNode) → IsGroupAt n note laid.core (shade_meaning (λ s. R.meaning s) laid.shelf) → DeportLeaves n note laid.core (λ s. shade_meaning (λ s. R.meaning s) s) (λ g. g.core) (λ g. g.shelf) result }
-    ensures up { IfOk result (λ s. IsTrue (shade_meaning (λ s. R.meaning s) s).down → ⊥) }
-    ensures can { DeportCan laid.core (λ s. shade_meaning (λ s. R.meaning s) s) result }
-    ensures moves { DeportMoves laid.core (shade_meaning (λ s. R.meaning s) laid.shelf) (λ s. shade_meaning (λ s. R.meaning s) s) (λ g. g.core) (λ g. g.shelf) result }
-    ensures refusals { DeportRefuses (shade_meaning (λ s. R.meaning s) laid.shelf) (λ s. shade_meaning (λ s. R.meaning s) s) (λ g. g.shelf) result }
-    ensures since { DeportSince (shade_meaning (λ s. R.meaning s) laid.shelf) (λ s. shade_meaning (λ s. R.meaning s) s) (λ g. g.shelf) result }
-    ensures told { DeportShows C.first (λ s. R.meaning (rack_of s)) (λ g. R.meaning (rack_of g.shelf)) result }
+    ensures leaves { (n : Node) (note : GroupNode) → IsGroupAt n note laid.core (shade_meaning (λ s. R.meaning s) laid.shelf) → DeportLeaves n note laid.core (λ s. shade_meaning (λ s. R.meaning s) s.0) (λ g. g.core) (λ g. shade_meaning (λ s. R.meaning s) g.shelf) result }
+    ensures up { IfOk result (λ s. IsTrue (shade_meaning (λ s. R.meaning s) s.0).down → ⊥) }
+    ensures can { DeportCan laid.core (λ s. shade_meaning (λ s. R.meaning s) s.0) result }
+    ensures tells { DeportTells (λ s. shade_meaning (λ s. R.meaning s) s) result }
+    ensures moves { DeportMoves laid.core (shade_meaning (λ s. R.meaning s) laid.shelf) (λ s. shade_meaning (λ s. R.meaning s) s.0) (λ g. g.core) (λ g. shade_meaning (λ s. R.meaning s) g.shelf) result }
+    ensures refusals { DeportRefuses (shade_meaning (λ s. R.meaning s) laid.shelf) (λ g. shade_meaning (λ s. R.meaning s) g.shelf) result }
+    ensures since { DeportSince (shade_meaning (λ s. R.meaning s) laid.shelf) (λ s. shade_meaning (λ s. R.meaning s) s.0) (λ g. shade_meaning (λ s. R.meaning s) g.shelf) result }
+    ensures told { DeportShows C.first (λ s. R.meaning (rack_of s.0)) (λ g. R.meaning (rack_of g.shelf)) result }
 {
     match deport_from::<Brand, Shade<Traced<R, C>>>(trace::<C, R>(laid)) {
-        Ok(rack) => Ok(untraced(rack)),
+        Ok((rack, rested)) => Ok((untraced(rack), rested)),
         Err((group, stop)) => Err((untrace(group), stop)),
     }
 }
 
 // Deports a group that is up, and hands its disks out. A refusal gives it back.
-fn deport_watched<R: Rack>(laid: Laid<R>) -> Result<Shade<R>, (Laid<R>, Stop)>
+fn deport_watched<R: Rack>(laid: Laid<R>) -> Result<(Shade<R>, Option<Rested>), (Laid<R>, Stop)>
     requires { IsTrue (shade_meaning (λ s. R.meaning s) laid.shelf).down → ⊥ }
-    ensures leaves { (n : Node) (note : GroupNode) → IsGroupAt n note laid.core (shade_meaning (λ s. R.meaning s) laid.shelf) → DeportLeaves n note laid.core (λ s. shade_meaning (λ s. R.meaning s) s) (λ g. g.core) (λ g. g.shelf) result }
-    ensures up { IfOk result (λ s. IsTrue (shade_meaning (λ s. R.meaning s) s).down → ⊥) }
-    ensures can { DeportCan laid.core (λ s. shade_meaning (λ s. R.meaning s) s) result }
-    ensures moves { DeportMoves laid.core (shade_meaning (λ s. R.meaning s) laid.shelf) (λ s. shade_meaning (λ s. R.meaning s) s) (λ g. g.core) (λ g. g.shelf) result }
-    ensures refusals { DeportRefuses (shade_meaning (λ s. R.meaning s) laid.shelf) (λ s. shade_meaning (λ s. R.meaning s) s) (λ g. g.shelf) result }
-    ensures since { DeportSince (shade_meaning (λ s. R.meaning s) laid.shelf) (λ s. shade_meaning (λ s. R.meaning s) s) (λ g. g.shelf) result }
-    ensures told { DeportShows (R.meaning (rack_of laid.shelf)) (λ s. R.meaning (rack_of s)) (λ g. R.meaning (rack_of g.shelf)) result }
+    ensures leaves { (n : Node) (note : GroupNode) → IsGroupAt n note laid.core (shade_meaning (λ s. R.meaning s) laid.shelf) → DeportLeaves n note laid.core (λ s. shade_meaning (λ s. R.meaning s) s.0) (λ g. g.core) (λ g. shade_meaning (λ s. R.meaning s) g.shelf) result }
+    ensures up { IfOk result (λ s. IsTrue (shade_meaning (λ s. R.meaning s) s.0).down → ⊥) }
+    ensures can { DeportCan laid.core (λ s. shade_meaning (λ s. R.meaning s) s.0) result }
+    ensures tells { DeportTells (λ s. shade_meaning (λ s. R.meaning s) s) result }
+    ensures moves { DeportMoves laid.core (shade_meaning (λ s. R.meaning s) laid.shelf) (λ s. shade_meaning (λ s. R.meaning s) s.0) (λ g. g.core) (λ g. shade_meaning (λ s. R.meaning s) g.shelf) result }
+    ensures refusals { DeportRefuses (shade_meaning (λ s. R.meaning s) laid.shelf) (λ g. shade_meaning (λ s. R.meaning s) g.shelf) result }
+    ensures since { DeportSince (shade_meaning (λ s. R.meaning s) laid.shelf) (λ s. shade_meaning (λ s. R.meaning s) s.0) (λ g. shade_meaning (λ s. R.meaning s) g.shelf) result }
+    ensures told { DeportShows (R.meaning (rack_of laid.shelf)) (λ s. R.meaning (rack_of s.0)) (λ g. R.meaning (rack_of g.shelf)) result }
 {
     deport_traced::<Brand, R>(laid)
 }
@@ -89,7 +98,7 @@ fn deport_site<R: Rack>(laid: Laid<R>) -> (GroupSite<R>, Result<(), Stop>)
     }
     let agreed = laid.core.inner.committed;
     match deport_watched(laid) {
-        Ok(rack) => (GroupSite::Deported(Idle::of(rack, agreed)), Ok(())),
+        Ok((rack, rested)) => (GroupSite::Deported(Idle::of(rack, agreed, rested)), Ok(())),
         Err((laid, stop)) => {
             if is_down_stop(&stop) {
                 return (GroupSite::Down(laid.crash(u64::MAX)), Err(stop));

@@ -19,18 +19,18 @@ use std::alloc::Global;
 use std::marker::Brand;
 use std::mem;
 use vx_disk::Rack;
-use vx_group::Group;
 use vx_layout::Shape;
+use vx_loggroup::LoggedGroup;
 use vx_model::{Name, No, Stop};
 use vx_untold::Shade;
 use vx_watched::{Begun, Traced, Watched};
 
 fn make_from<B: Begun, R: Rack>(
     alloc: Global,
-    group: Group<R>,
+    group: LoggedGroup<R>,
     name: &Name,
     want: &Shape,
-) -> (Group<R>, Result<u32, Stop>)
+) -> (LoggedGroup<R>, Result<u32, Stop>)
     requires up { IsTrue (R.meaning group.shelf).down → ⊥ }
     requires prefer { IfSome want.now.prefer (λ p. p < want.now.mirrors) }
     requires since { CalledSince B.first (R.meaning group.shelf) }
@@ -38,13 +38,13 @@ fn make_from<B: Begun, R: Rack>(
     ensures still { IsUnmoved result.1 ((result.0.core ≡ group.core) × (result.0.shelf ≡ group.shelf)) }
     ensures since { CalledSince B.first (R.meaning result.0.shelf) }
 {
-    let (rack, core) = group.apart();
+    let (rack, rest) = group.apart();
     let watched = Watched::<R, B>::over(rack);
-    let mut group = Group::together(watched, core);
+    let mut group = LoggedGroup::together(watched, rest);
     let answer = make_volume_of(alloc, &mut group, name, want);
-    let (watched, core) = group.apart();
+    let (watched, rest) = group.apart();
     let rack = watched.into_shelf();
-    (Group::together(rack, core), answer)
+    (LoggedGroup::together(rack, rest), answer)
 }
 
 // The same over the disks of a site, of which contents are told or not.

@@ -8,9 +8,14 @@ ghost use Rattle.vx_group.specs.Imports.{ImportStops};
 ghost use Rattle.vx_group.specs.Resumes.{CanImport, CanImportBehind};
 ghost use Rattle.vx_grouped.specs.Away.{AwayLies};
 ghost use Rattle.vx_grouped.specs.Begins.{CreateSince};
-ghost use Rattle.vx_grouped.specs.GroupSites.{AreStopped, AwayNoted, DownNoted, GroupAway, GroupDown, site_below, site_disks};
+ghost use Rattle.vx_grouped.specs.GroupSites.{AreStopped, AwayNoted, DownNoted, GroupAway, GroupDown, idle_below, idle_disks, site_below, site_disks};
 ghost use Rattle.vx_grouped.specs.Returns.{ImportLeaves};
 ghost use Rattle.vx_grouped.specs.SiteReturns.{ImportsFrom, RecoversFrom, ReturnSince, SiteImports, SiteRecovers, TellsNone, stops_early};
+ghost use Rattle.vx_config.specs.Table.{greatest};
+ghost use Rattle.vx_logimport.specs.Rests.{LogsTell};
+ghost use Rattle.vx_model.specs.declared.errors.Stop.TheVariants.{No as Refused};
+ghost use Rattle.vx_model.specs.declared.no.Counted.TheVariants.{Number as Numbers};
+ghost use Rattle.vx_model.specs.declared.no.No.TheVariants.{Limit};
 ghost use Rattle.vx_untold.specs.Shades.{rack_of, shade_meaning};
 ghost use Rattle.vx_watched.specs.Since.{CalledSince};
 ghost use Rattle.vx_watched.specs.Traces.{TellsLess};
@@ -23,13 +28,21 @@ use crate::{GroupSite, Idle, Laid};
 use std::alloc::Global;
 use std::marker::Brand;
 use vx_disk::{Rack, Shelf};
-use vx_group::{Group, fall, revive};
-use vx_model::{No, Stop};
+use vx_group::{fall, revive};
+use vx_loggroup::LoggedGroup;
+use vx_logimport::Rested;
+use vx_model::limits::MOST_NUMBER;
+use vx_model::{Counted, No, Stop};
 use vx_untold::Shade;
 use vx_watched::{Begun, Traced, Watched};
 
-fn import_from<B: Begun, R: Rack>(alloc: Global, rack: R) -> Result<Group<R>, (R, Stop)>
+fn import_from<B: Begun, R: Rack>(
+    alloc: Global,
+    rack: R,
+    rested: &Rested,
+) -> Result<LoggedGroup<R>, (R, Stop)>
     requires can { CanImport (R.meaning rack) }
+    requires tells { LogsTell rested.now (R.meaning rack) }
     requires since { CalledSince B.first (R.meaning rack) }
     ensures leaves { (n : Node) (note : GroupNode) (last : ConfigValue) → AwayLies n note last (R.meaning rack) → ImportLeaves n note last (R.meaning rack) (λ s. R.meaning s) (λ g. g.core) (λ g. g.shelf) result }
     ensures stops { IfErr result (λ e. ImportStops (R.meaning rack) (R.meaning e.0) e.1) }
@@ -38,12 +51,12 @@ fn import_from<B: Begun, R: Rack>(alloc: Global, rack: R) -> Result<Group<R>, (R
     ensures since { CreateSince B.first (λ s. R.meaning s) (λ g. g.shelf) result }
 {
     let watched = Watched::<R, B>::over(rack);
-    let came = import_group(alloc, watched);
+    let came = import_group(alloc, watched, rested);
     match came {
         Ok(group) => {
-            let (watched, core) = group.apart();
+            let (watched, rest) = group.apart();
             let rack = watched.into_shelf();
-            Ok(Group::together(rack, core))
+            Ok(LoggedGroup::together(rack, rest))
         }
         Err((watched, stop)) => Err((watched.into_shelf(), stop)),
     }
@@ -53,8 +66,10 @@ fn import_from<B: Begun, R: Rack>(alloc: Global, rack: R) -> Result<Group<R>, (R
 fn import_traced<C: Begun, R: Rack>(
     alloc: Global,
     rack: Shade<R>,
+    rested: &Rested,
 ) -> Result<Laid<R>, (Shade<R>, Stop)>
     requires can { CanImport (shade_meaning (λ s. R.meaning s) rack) }
+    requires tells { LogsTell rested.now (shade_meaning (λ s. R.meaning s) rack) }
     requires told { TellsLess C.first (R.meaning (rack_of rack)) }
     ensures leaves { (n : Node) (note : GroupNode) (last : ConfigValue) → AwayLies n note last (shade_meaning (λ s. R.meaning s) rack) → ImportLeaves n note last (shade_meaning (λ s. R.meaning s) rack) (λ s. shade_meaning (λ s. R.meaning s) s) (λ g. g.core) (λ g. g.shelf) result }
     ensures stops { IfErr result (λ e. ImportStops (shade_meaning (λ s. R.meaning s) rack) (shade_meaning (λ s. R.meaning s) e.0) e.1) }
@@ -63,7 +78,7 @@ fn import_traced<C: Begun, R: Rack>(
     ensures since { CreateSince (shade_meaning (λ s. R.meaning s) rack) (λ s. shade_meaning (λ s. R.meaning s) s) (λ g. g.shelf) result }
     ensures told { FoundTells C.first (λ s. R.meaning (rack_of s)) (λ g. R.meaning (rack_of g.shelf)) result }
 {
-    let came = import_from::<Brand, Shade<Traced<R, C>>>(alloc, traced::<C, R>(rack));
+    let came = import_from::<Brand, Shade<Traced<R, C>>>(alloc, traced::<C, R>(rack), rested);
     match came {
         Ok(group) => Ok(untrace(group)),
         Err((rack, stop)) => Err((untraced(rack), stop)),
@@ -71,8 +86,13 @@ fn import_traced<C: Begun, R: Rack>(
 }
 
 // Imports a group of the disks of a rack that is up, whose calls it accounts for.
-fn import_watched<R: Rack>(alloc: Global, rack: Shade<R>) -> Result<Laid<R>, (Shade<R>, Stop)>
-    requires { CanImport (shade_meaning (λ s. R.meaning s) rack) }
+fn import_watched<R: Rack>(
+    alloc: Global,
+    rack: Shade<R>,
+    rested: &Rested,
+) -> Result<Laid<R>, (Shade<R>, Stop)>
+    requires can { CanImport (shade_meaning (λ s. R.meaning s) rack) }
+    requires tells { LogsTell rested.now (shade_meaning (λ s. R.meaning s) rack) }
     ensures leaves { (n : Node) (note : GroupNode) (last : ConfigValue) → AwayLies n note last (shade_meaning (λ s. R.meaning s) rack) → ImportLeaves n note last (shade_meaning (λ s. R.meaning s) rack) (λ s. shade_meaning (λ s. R.meaning s) s) (λ g. g.core) (λ g. g.shelf) result }
     ensures stops { IfErr result (λ e. ImportStops (shade_meaning (λ s. R.meaning s) rack) (shade_meaning (λ s. R.meaning s) e.0) e.1) }
     ensures again { IfErr result (λ e. CanImportBehind (shade_meaning (λ s. R.meaning s) e.0)) }
@@ -80,7 +100,7 @@ fn import_watched<R: Rack>(alloc: Global, rack: Shade<R>) -> Result<Laid<R>, (Sh
     ensures since { CreateSince (shade_meaning (λ s. R.meaning s) rack) (λ s. shade_meaning (λ s. R.meaning s) s) (λ g. g.shelf) result }
     ensures told { FoundTells (R.meaning (rack_of rack)) (λ s. R.meaning (rack_of s)) (λ g. R.meaning (rack_of g.shelf)) result }
 {
-    import_traced::<Brand, R>(alloc, rack)
+    import_traced::<Brand, R>(alloc, rack, rested)
 }
 
 // Whether an import that was refused so had written nothing.
@@ -153,19 +173,24 @@ fn risen<R: Rack>(rack: Shade<R>) -> Shade<R>
 }
 
 // Imports the group of disks that crashed. Refused, they crash again.
-fn recover_site<R: Rack>(alloc: Global, rack: Shade<R>) -> (GroupSite<R>, Result<(), Stop>)
-    requires { CanImport (shade_meaning (λ s. R.meaning s) rack) }
+fn recover_site<R: Rack>(
+    alloc: Global,
+    rack: Shade<R>,
+    rested: Rested,
+) -> (GroupSite<R>, Result<(), Stop>)
+    requires can { CanImport (shade_meaning (λ s. R.meaning s) rack) }
+    requires tells { LogsTell rested (shade_meaning (λ s. R.meaning s) rack) }
     ensures recovered { (n : Node) (note : GroupNode) → GroupDown n note true (R.meaning (rack_of rack)).tells (shade_meaning (λ s. R.meaning s) rack) → RecoversFrom n note (shade_meaning (λ s. R.meaning s) rack) result.0 result.1 }
     ensures since { ReturnSince (shade_meaning (λ s. R.meaning s) rack) (site_disks result.0) }
     ensures told { TellsLess (R.meaning (rack_of rack)) (site_below result.0) }
 {
     if !rack.is_down() {
         return (
-            GroupSite::Down(Idle::of(rack, true)),
+            GroupSite::Down(Idle::of(rack, true, Some(rested))),
             Err(Stop::No(No::Role)),
         );
     }
-    match import_watched(alloc, risen(rack)) {
+    match import_watched(alloc, risen(rack), &rested) {
         Ok(laid) => {
             laid.spelled();
             (GroupSite::Up(laid), Ok(()))
@@ -173,7 +198,7 @@ fn recover_site<R: Rack>(alloc: Global, rack: Shade<R>) -> (GroupSite<R>, Result
         Err((rack, stop)) => {
             let early = is_early(&stop);
             (
-                GroupSite::Down(Idle::of(fallen(rack, early), true)),
+                GroupSite::Down(Idle::of(fallen(rack, early), true, Some(rested))),
                 Err(stop),
             )
         }
@@ -182,19 +207,24 @@ fn recover_site<R: Rack>(alloc: Global, rack: Shade<R>) -> (GroupSite<R>, Result
 
 // Imports a group that was deported. Refused, its disks are by themselves as they were; or they crashed and are up again, where it had begun to write;
 // or they are down, as the fuse ran out.
-fn import_site<R: Rack>(alloc: Global, rack: Shade<R>) -> (GroupSite<R>, Result<(), Stop>)
-    requires { CanImport (shade_meaning (λ s. R.meaning s) rack) }
+fn import_site<R: Rack>(
+    alloc: Global,
+    rack: Shade<R>,
+    rested: Rested,
+) -> (GroupSite<R>, Result<(), Stop>)
+    requires can { CanImport (shade_meaning (λ s. R.meaning s) rack) }
+    requires tells { LogsTell rested (shade_meaning (λ s. R.meaning s) rack) }
     ensures imported { (n : Node) (note : GroupNode) → GroupAway n note true (R.meaning (rack_of rack)).tells (shade_meaning (λ s. R.meaning s) rack) → ImportsFrom n note (shade_meaning (λ s. R.meaning s) rack) result.0 result.1 }
     ensures since { ReturnSince (shade_meaning (λ s. R.meaning s) rack) (site_disks result.0) }
     ensures told { TellsLess (R.meaning (rack_of rack)) (site_below result.0) }
 {
     if rack.is_down() {
         return (
-            GroupSite::Deported(Idle::of(rack, true)),
+            GroupSite::Deported(Idle::of(rack, true, Some(rested))),
             Err(Stop::No(No::Role)),
         );
     }
-    match import_watched(alloc, rack) {
+    match import_watched(alloc, rack, &rested) {
         Ok(laid) => {
             laid.spelled();
             (GroupSite::Up(laid), Ok(()))
@@ -202,14 +232,67 @@ fn import_site<R: Rack>(alloc: Global, rack: Shade<R>) -> (GroupSite<R>, Result<
         Err((rack, stop)) => {
             let early = is_early(&stop);
             if early && !rack.is_down() {
-                return (GroupSite::Deported(Idle::of(rack, true)), Err(stop));
+                return (
+                    GroupSite::Deported(Idle::of(rack, true, Some(rested))),
+                    Err(stop),
+                );
             }
             let rack = fallen(rack, early);
             if is_down_stop(&stop) {
-                return (GroupSite::Down(Idle::of(rack, true)), Err(stop));
+                return (
+                    GroupSite::Down(Idle::of(rack, true, Some(rested))),
+                    Err(stop),
+                );
             }
-            (GroupSite::Deported(Idle::of(risen(rack), true)), Err(stop))
+            (
+                GroupSite::Deported(Idle::of(risen(rack), true, Some(rested))),
+                Err(stop),
+            )
         }
+    }
+}
+
+// Disks that are imported no more, as no serial was left to commit that a log is lost: it is not known from then on what they hold.
+fn given_up<R: Rack>(idle: Idle<R>) -> Idle<R>
+    ensures rack { result.rack ≡ Shade.Dark (rack_of idle.rack) }
+    ensures agreed { result.agreed ≡ true }
+{
+    Idle::of(idle.rack.darkened(), true, None)
+}
+
+// The refusal of an import for want of serials.
+fn too_few() -> Stop
+    ensures { result ≡ Refused (Limit Numbers greatest) }
+{
+    Stop::No(No::Limit {
+        what: Counted::Number,
+        most: MOST_NUMBER,
+    })
+}
+
+// Imports the group of disks that crashed, unless its logs were stopped.
+fn recover_idle<R: Rack>(alloc: Global, idle: Idle<R>) -> (GroupSite<R>, Result<(), Stop>)
+    ensures recovered { (n : Node) (note : GroupNode) → DownNoted n note (GroupSite.Down idle) → SiteRecovers n note (GroupSite.Down idle) result.0 result.1 }
+    ensures since { ReturnSince (idle_disks idle) (site_disks result.0) }
+    ensures told { TellsLess (idle_below idle) (site_below result.0) }
+{
+    let rested = idle.rested;
+    match rested {
+        Some(rested) => recover_site(alloc, idle.into_ready(), rested),
+        None => (GroupSite::Down(given_up(idle)), Err(too_few())),
+    }
+}
+
+// The same of disks that were deported.
+fn import_idle<R: Rack>(alloc: Global, idle: Idle<R>) -> (GroupSite<R>, Result<(), Stop>)
+    ensures imported { (n : Node) (note : GroupNode) → AwayNoted n note (GroupSite.Deported idle) → SiteImports n note (GroupSite.Deported idle) result.0 result.1 }
+    ensures since { ReturnSince (idle_disks idle) (site_disks result.0) }
+    ensures told { TellsLess (idle_below idle) (site_below result.0) }
+{
+    let rested = idle.rested;
+    match rested {
+        Some(rested) => import_site(alloc, idle.into_ready(), rested),
+        None => (GroupSite::Deported(given_up(idle)), Err(too_few())),
     }
 }
 
@@ -225,8 +308,8 @@ impl<R: Rack> GroupSite<R> {
         ensures told { TellsLess (site_below self) (site_below result.0) }
     {
         match self {
-            GroupSite::Down(idle) => recover_site(alloc, idle.into_ready()),
-            GroupSite::Deported(idle) => import_site(alloc, idle.into_ready()),
+            GroupSite::Down(idle) => recover_idle(alloc, idle),
+            GroupSite::Deported(idle) => import_idle(alloc, idle),
             other => (other, Err(Stop::No(No::Role))),
         }
     }

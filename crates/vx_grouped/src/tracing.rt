@@ -6,7 +6,7 @@ ghost use Rattle.vx_watched.specs.Traces.{TellsLess};
 
 use crate::Laid;
 use vx_disk::Rack;
-use vx_group::Group;
+use vx_loggroup::LoggedGroup;
 use vx_untold::Shade;
 use vx_watched::{Begun, Traced};
 
@@ -33,21 +33,21 @@ pub(crate) fn untraced<C: Begun, R: Rack>(shade: Shade<Traced<R, C>>) -> Shade<R
 }
 
 /// The group over such disks. It makes no device call.
-pub(crate) fn trace<C: Begun, R: Rack>(laid: Laid<R>) -> Group<Shade<Traced<R, C>>>
+pub(crate) fn trace<C: Begun, R: Rack>(laid: Laid<R>) -> LoggedGroup<Shade<Traced<R, C>>>
     requires told { TellsLess C.first (R.meaning (rack_of laid.shelf)) }
     ensures core { result.core ≡ laid.core }
     ensures shelf { laid.shelf ≡ shade_over (λ t. t.rack) result.shelf }
 {
-    let (shelf, core) = laid.together().apart();
-    Group::together(traced(shelf), core)
+    let (shelf, rest) = laid.together().apart();
+    LoggedGroup::together(traced(shelf), rest)
 }
 
 /// And by its parts again, without that account. It makes no device call.
-pub(crate) fn untrace<C: Begun, R: Rack>(group: Group<Shade<Traced<R, C>>>) -> Laid<R>
+pub(crate) fn untrace<C: Begun, R: Rack>(group: LoggedGroup<Shade<Traced<R, C>>>) -> Laid<R>
     ensures core { result.core ≡ group.core }
     ensures shelf { result.shelf ≡ shade_over (λ t. t.rack) group.shelf }
     ensures told { TellsLess C.first (R.meaning (rack_of result.shelf)) }
 {
-    let (shelf, core) = group.apart();
-    Laid::of(Group::together(untraced(shelf), core))
+    let (shelf, rest) = group.apart();
+    Laid::of(LoggedGroup::together(untraced(shelf), rest))
 }

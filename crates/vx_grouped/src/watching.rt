@@ -14,29 +14,29 @@ use crate::plexes::{att_plex, det_plex};
 use crate::tracing::{trace, untrace};
 use std::marker::Brand;
 use vx_disk::Rack;
-use vx_group::Group;
+use vx_loggroup::LoggedGroup;
 use vx_model::{No, Stop};
 use vx_untold::Shade;
 use vx_watched::{Begun, Traced, Watched};
 
 fn write_from<B: Begun, R: Rack>(
-    group: Group<R>,
+    group: LoggedGroup<R>,
     vol: u32,
     block: u64,
     bytes: &[u8],
-) -> (Group<R>, Result<(), No>)
+) -> (LoggedGroup<R>, Result<(), No>)
     requires fits { Fits (inner_meaning (wide group.core) (R.meaning group.shelf)) vol block (length bytes.now) }
     requires since { CalledSince B.first (R.meaning group.shelf) }
     ensures works { PlainWrites vol block bytes.now group.core (R.meaning group.shelf) result.0.core (R.meaning result.0.shelf) result.1 }
     ensures since { CalledSince B.first (R.meaning result.0.shelf) }
 {
-    let (rack, core) = group.apart();
+    let (rack, rest) = group.apart();
     let watched = Watched::<R, B>::over(rack);
-    let mut group = Group::together(watched, core);
+    let mut group = LoggedGroup::together(watched, rest);
     let answer = write_plain(&mut group, vol, block, bytes);
-    let (watched, core) = group.apart();
+    let (watched, rest) = group.apart();
     let rack = watched.into_shelf();
-    (Group::together(rack, core), answer)
+    (LoggedGroup::together(rack, rest), answer)
 }
 
 // The same over the disks of a site, of which contents are told or not.
@@ -77,23 +77,23 @@ pub fn write_watched<R: Rack>(
 }
 
 fn read_from<B: Begun, R: Rack>(
-    group: Group<R>,
+    group: LoggedGroup<R>,
     vol: u32,
     block: u64,
     into: &mut [u8],
-) -> (Group<R>, Result<(), No>)
+) -> (LoggedGroup<R>, Result<(), No>)
     requires fits { Fits (inner_meaning (wide group.core) (R.meaning group.shelf)) vol block (length into.old) }
     requires since { CalledSince B.first (R.meaning group.shelf) }
     ensures works { PlainReads vol block into.new group.core (R.meaning group.shelf) result.0.core (R.meaning result.0.shelf) result.1 }
     ensures since { CalledSince B.first (R.meaning result.0.shelf) }
 {
-    let (rack, core) = group.apart();
+    let (rack, rest) = group.apart();
     let watched = Watched::<R, B>::over(rack);
-    let mut group = Group::together(watched, core);
+    let mut group = LoggedGroup::together(watched, rest);
     let answer = read_plain(&mut group, vol, block, into);
-    let (watched, core) = group.apart();
+    let (watched, rest) = group.apart();
     let rack = watched.into_shelf();
-    (Group::together(rack, core), answer)
+    (LoggedGroup::together(rack, rest), answer)
 }
 
 // The same over the disks of a site, of which contents are told or not.
@@ -133,19 +133,23 @@ pub fn read_watched<R: Rack>(
     read_traced::<Brand, R>(laid, vol, block, into)
 }
 
-fn det_from<B: Begun, R: Rack>(group: Group<R>, vol: u32, plex: u32) -> (Group<R>, Result<(), Stop>)
+fn det_from<B: Begun, R: Rack>(
+    group: LoggedGroup<R>,
+    vol: u32,
+    plex: u32,
+) -> (LoggedGroup<R>, Result<(), Stop>)
     requires up { IsTrue (R.meaning group.shelf).down → ⊥ }
     requires since { CalledSince B.first (R.meaning group.shelf) }
     ensures works { PlexDets vol plex group.core (R.meaning group.shelf) result.0.core (R.meaning result.0.shelf) result.1 }
     ensures since { CalledSince B.first (R.meaning result.0.shelf) }
 {
-    let (rack, core) = group.apart();
+    let (rack, rest) = group.apart();
     let watched = Watched::<R, B>::over(rack);
-    let mut group = Group::together(watched, core);
+    let mut group = LoggedGroup::together(watched, rest);
     let answer = det_plex(&mut group, vol, plex);
-    let (watched, core) = group.apart();
+    let (watched, rest) = group.apart();
     let rack = watched.into_shelf();
-    (Group::together(rack, core), answer)
+    (LoggedGroup::together(rack, rest), answer)
 }
 
 // The same over the disks of a site, of which contents are told or not.
@@ -171,22 +175,22 @@ pub fn det_watched<R: Rack>(laid: Laid<R>, vol: u32, plex: u32) -> (Laid<R>, Res
 }
 
 fn att_from<B: Begun, R: Rack>(
-    group: Group<R>,
+    group: LoggedGroup<R>,
     vol: u32,
     plex: u32,
-) -> (Group<R>, Result<u64, Stop>)
+) -> (LoggedGroup<R>, Result<u64, Stop>)
     requires up { IsTrue (R.meaning group.shelf).down → ⊥ }
     requires since { CalledSince B.first (R.meaning group.shelf) }
     ensures works { PlexAtts vol plex group.core (R.meaning group.shelf) result.0.core (R.meaning result.0.shelf) result.1 }
     ensures since { CalledSince B.first (R.meaning result.0.shelf) }
 {
-    let (rack, core) = group.apart();
+    let (rack, rest) = group.apart();
     let watched = Watched::<R, B>::over(rack);
-    let mut group = Group::together(watched, core);
+    let mut group = LoggedGroup::together(watched, rest);
     let answer = att_plex(&mut group, vol, plex);
-    let (watched, core) = group.apart();
+    let (watched, rest) = group.apart();
     let rack = watched.into_shelf();
-    (Group::together(rack, core), answer)
+    (LoggedGroup::together(rack, rest), answer)
 }
 
 // The same over the disks of a site, of which contents are told or not.

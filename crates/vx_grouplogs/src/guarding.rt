@@ -8,6 +8,7 @@ ghost use Rattle.vx_grouplogs.specs.Keeps.{KeepsGroup};
 ghost use Rattle.vx_grouplogs.specs.Marking.{HoldRegions, HoldsMany, MarksFewer, MarksOnly, NoMarks};
 ghost use Rattle.vx_grouplogs.specs.On.{VolumeOn};
 ghost use Rattle.vx_groupmaps.specs.Knowing.{MapsKnowBy, MapsNote, or_stale};
+ghost use Rattle.vx_groupmaps.specs.Missing.{HoldMissed};
 ghost use Rattle.vx_logs.specs.Dirtying.{DrlHolds};
 ghost use Rattle.vx_logs.specs.Held.{stale};
 ghost use Rattle.vx_logs.specs.Writes.{StaleStill, first_region, last_region};
@@ -45,6 +46,7 @@ pub fn guard_run<S: Shelf>(
     ensures on { VolumeOn config.now vol logs.new (S.meaning shelf.new) }
     ensures others { (w : ℕ) (l : LogsValue) → (w ≡ vol → ⊥) → VolumeOn config.now w l (S.meaning shelf.old) → VolumeOn config.now w l (S.meaning shelf.new) }
     ensures held { OnOk result (HoldRegions (first_region block) (last_region block count) logs.new) }
+    ensures missed { OnOk result (HoldMissed config.now vol (first_region block) (last_region block count) logs.new) }
     ensures up { OnOk result (IsTrue (S.meaning shelf.new).down → IsTrue (S.meaning shelf.old).down) }
     ensures down { IfErr result (λ no. IsTrue (S.meaning shelf.new).down) }
     ensures adds { MarksOnly (regions_in (blocks_of_is config.now.volumes vol)) (first_region block) (last_region block count) logs.old logs.new }

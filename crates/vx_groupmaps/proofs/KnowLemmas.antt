@@ -19,7 +19,7 @@ use Rattle.vx_logs.specs.declared.logs.Lost.{Lost}
 use Rattle.vx_volume.specs.Plexes.{Inside, active}
 use Rattle.vx_volume.proofs.PlaceLemmas.{has_of}
 use Rattle.vx_groupmaps.specs.Between.{ReadsOr}
-use Rattle.vx_groupmaps.specs.Knowing.{MapsKnowBy, MapsNote, NotesMore, PlexesKnow, or_stale}
+use Rattle.vx_groupmaps.specs.Knowing.{MapsKnowBy, MapsNote, NotesMore, PlexesKnow, or_stale, or_those}
 use Rattle.vx_groupmaps.specs.Missing.{or_spared}
 use Rattle.vx_groupmaps.proofs.BetweenLemmas.{above}
 use Rattle.vx_groupmaps.proofs.MapPlaces.{region_low}
@@ -101,55 +101,65 @@ is_among_of first last r is = let both = split_and (leb first r) (leb r last) is
 
 -- ---- marks
 
+-- of any plexes
 module _ (c : Config) (sound : is_sound c ≡ true) (v : ℕ) (some : 0 < blocks_in c.volumes v) (l : Logs) (fits : LogsFit c v l) (W : Values) (m m' : Meaning) (reads : ReadsOr W m m') (off : (p b : ℕ) (x : List ℕ) → HasBlock c v p b → W (place c v p b).0 (place c v p b).1 x → ⊥)
-    (first last : ℕ) (lost : Lost) (l' : Logs) (marked : MarkedLogs c v first last lost l l' m m') where
+    (those : ℕ → Bool) (first last : ℕ) (lost : Bool) (l' : Logs) (did : FmrEnds those false first last lost l.fmr l'.fmr m m') where
   -- a plex that there is has a map, with a bit for each region
   map_there : (f : Missed) → l.fmr ≡ Some f → (p b : ℕ) → HasBlock c v p b → p < f.plexes
   map_there f at p b has = let low = plex_below c v p b has in let many = (fits.fmr f at).plexes in omega (arith, low, many)
 
   -- what the maps know once regions are noted
-  pub noted_knows : (spare : ℕ → ℕ → Bool) → MapsKnowBy c v (or_stale c v first last spare) l m → MapsKnowBy c v spare l' m'
-  noted_knows spare know = record { so = λ g is up. by g up l.fmr l'.fmr refl is marked.fmr }
+  pub those_know : (spare : ℕ → ℕ → Bool) → MapsKnowBy c v (or_those those first last spare) l m → MapsKnowBy c v spare l' m'
+  those_know spare know = record { so = λ g is up. by g up l.fmr l'.fmr refl is did }
     where
-      by : (g : Missed) → (IsTrue m'.down → ⊥) → (o n : Option Missed) → l.fmr ≡ o → n ≡ Some g → FmrEnds (stale c v) false first last lost.fmr o n m m' → PlexesKnow c v (or_spared spare (has_missed g)) m'.reads
+      by : (g : Missed) → (IsTrue m'.down → ⊥) → (o n : Option Missed) → l.fmr ≡ o → n ≡ Some g → FmrEnds those false first last lost o n m m' → PlexesKnow c v (or_spared spare (has_missed g)) m'.reads
       by g up None None at is ends = absurd cc
       by g up None (Some h) at is ends = absurd ends
       by g up (Some f) None at is ends = absurd cc
       by g up (Some f) (Some h) at is ends =
           let same : h ≡ g = cc in
           subst (λ (x : Missed). PlexesKnow c v (or_spared spare (has_missed x)) m'.reads) same
-          (knows_stay c sound v W m m' reads up (or_spared (or_stale c v first last spare) (has_missed f)) (or_spared spare (has_missed h))
+          (knows_stay c sound v W m m' reads up (or_spared (or_those those first last spare) (has_missed f)) (or_spared spare (has_missed h))
           (λ p b has inside clear.
-          unnoted (stale c v p) (is_among first last (b / 64)) (has_missed f p (b / 64)) (has_missed h p (b / 64)) (spare p (b / 64))
+          unnoted (those p) (is_among first last (b / 64)) (has_missed f p (b / 64)) (has_missed h p (b / 64)) (spare p (b / 64))
           (ends.1.notes.each p (b / 64) (map_there f at p b has) (region_low c sound v some f (fits.fmr f at) b inside)) clear)
           off (know.so f at (λ down. up (reads.falls down))))
 
   -- which regions are noted then
-  pub noted_run : MapsNote (stale c v) first last l l'
-  noted_run = record { gone = λ none. by_none l.fmr l'.fmr none marked.fmr; each = λ f g at is. by f g l.fmr l'.fmr at is marked.fmr }
+  pub those_noted : MapsNote those first last l l'
+  those_noted = record { gone = λ none. by_none l.fmr l'.fmr none did; each = λ f g at is. by f g l.fmr l'.fmr at is did }
     where
-      by_none : (o n : Option Missed) → o ≡ None → FmrEnds (stale c v) false first last lost.fmr o n m m' → n ≡ None
+      by_none : (o n : Option Missed) → o ≡ None → FmrEnds those false first last lost o n m m' → n ≡ None
       by_none None None is ends = refl
       by_none None (Some g) is ends = absurd ends
       by_none (Some f) n is ends = absurd (let clash : Some f ≡ None = is in cc)
 
-      more : (e h : Missed) → FmrNoted (stale c v) false first last e h m m' → NotesMore (stale c v) first last e h
+      more : (e h : Missed) → FmrNoted those false first last e h m m' → NotesMore those first last e h
       more e h noted = record {
         shape = noted.same.shape;
-        stay = λ p r lt low on. noted_still (stale c v p) (is_among first last r) (has_missed e p r) (has_missed h p r) (noted.notes.each p r lt low) on;
-        only = λ p r lt low on. elim (noted_or (stale c v p) (is_among first last r) (has_missed e p r) (has_missed h p r) (noted.notes.each p r lt low) on) [
+        stay = λ p r lt low on. noted_still (those p) (is_among first last r) (has_missed e p r) (has_missed h p r) (noted.notes.each p r lt low) on;
+        only = λ p r lt low on. elim (noted_or (those p) (is_among first last r) (has_missed e p r) (has_missed h p r) (noted.notes.each p r lt low) on) [
           | inl was ↦ inl was
           | inr now ↦ (let both = is_among_of first last r now.1 in inr (now.0, both.0, both.1))
         ];
       }
 
-      by : (f g : Missed) (o n : Option Missed) → o ≡ Some f → n ≡ Some g → FmrEnds (stale c v) false first last lost.fmr o n m m' → NotesMore (stale c v) first last f g
+      by : (f g : Missed) (o n : Option Missed) → o ≡ Some f → n ≡ Some g → FmrEnds those false first last lost o n m m' → NotesMore those first last f g
       by f g None n at is ends = absurd cc
       by f g (Some e) None at is ends = absurd cc
       by f g (Some e) (Some h) at is ends =
           let old : e ≡ f = cc in
           let new : h ≡ g = cc in
-          subst (λ (x : Missed). NotesMore (stale c v) first last x g) old (subst (λ (y : Missed). NotesMore (stale c v) first last e y) new (more e h ends.1))
+          subst (λ (x : Missed). NotesMore those first last x g) old (subst (λ (y : Missed). NotesMore those first last e y) new (more e h ends.1))
+
+-- of those that are STALE
+module _ (c : Config) (sound : is_sound c ≡ true) (v : ℕ) (some : 0 < blocks_in c.volumes v) (l : Logs) (fits : LogsFit c v l) (W : Values) (m m' : Meaning) (reads : ReadsOr W m m') (off : (p b : ℕ) (x : List ℕ) → HasBlock c v p b → W (place c v p b).0 (place c v p b).1 x → ⊥)
+    (first last : ℕ) (lost : Lost) (l' : Logs) (marked : MarkedLogs c v first last lost l l' m m') where
+  pub noted_knows : (spare : ℕ → ℕ → Bool) → MapsKnowBy c v (or_stale c v first last spare) l m → MapsKnowBy c v spare l' m'
+  noted_knows spare know = those_know c sound v some l fits W m m' reads off (stale c v) first last lost.fmr l' marked.fmr spare know
+
+  pub noted_run : MapsNote (stale c v) first last l l'
+  noted_run = those_noted c sound v some l fits W m m' reads off (stale c v) first last lost.fmr l' marked.fmr
 
 -- ---- notes in a row
 

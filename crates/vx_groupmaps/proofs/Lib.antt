@@ -8,3 +8,4 @@ pub mod BetweenLemmas
 pub mod FlushLemmas
 pub mod FillLemmas
 pub mod KnowLemmas
+pub mod RefusedLemmas

@@ -24,6 +24,10 @@ pub record MapsKnowBy (c : Config) (v : ℕ) (spare : ℕ → ℕ → Bool) (l :
 abbrev pub MapsKnow : Config → ℕ → Logs → Meaning → Type 0
 MapsKnow c v l m = MapsKnowBy c v none_spared l m
 
+-- the regions of a run, of those plexes, and those that are spared
+abbrev pub or_those : (ℕ → Bool) → ℕ → ℕ → (ℕ → ℕ → Bool) → ℕ → ℕ → Bool
+or_those those first last spare p r = (those p && is_among first last r) || spare p r
+
 -- the regions of a run, of plexes that are STALE, and those that are spared
 abbrev pub or_stale : Config → ℕ → ℕ → ℕ → (ℕ → ℕ → Bool) → ℕ → ℕ → Bool
 or_stale c v first last spare p r = (stale c v p && is_among first last r) || spare p r

@@ -6,3 +6,4 @@ pub mod Between
 pub mod Flushing
 pub mod Filling
 pub mod Knowing
+pub mod Refusing

@@ -11,6 +11,7 @@ pub mod laws;
 mod loading;
 mod marking;
 mod readying;
+mod refusing;
 #[cfg(test)]
 mod tests;
 
@@ -20,3 +21,4 @@ pub use flushing::{flush_mapped, goes_by_map};
 pub use loading::{LoadedMaps, load_maps};
 pub use marking::mark_maps;
 pub use readying::ready_maps;
+pub use refusing::miss_run;

@@ -1,3 +1,4 @@
 pub mod StandLemmas
 pub mod TellLemmas
 pub mod MissLemmas
+pub mod RefuseLemmas

@@ -71,6 +71,19 @@ more_off c d v narrow p is = by (active (wide d).config v p) refl
     by false on = refl
     by true on = absurd (let clash : false ≡ true = sym (ap not (narrow.on v p on)) ∙ is in cc)
 
+-- more are spared
+pub know_wider : (c : Config) (v first last : ℕ) (spare : ℕ → ℕ → Bool) (l : Logs) (m : Meaning) → MapsKnowBy c v spare l m → MapsKnowBy c v (or_stale c v first last spare) l m
+know_wider c v first last spare l m know =
+    know_less c v spare (or_stale c v first last spare) l m (λ p k has clear. right (stale c v p && is_among first last (k / 64)) (spare p (k / 64)) clear) know
+  where
+    right : (a b : Bool) → a || b ≡ false → b ≡ false
+    right true b is = absurd (let clash : true ≡ false = is in cc)
+    right false b is = is
+
+-- those of a run, of each plex
+pub know_run : (core : GroupCore) (v first last : ℕ) (l : Logs) (m : Meaning) → Known core v l m → KnownBy core v (or_run first last none_spared) l m
+know_run core v first last l m know = know_less (wide core).config v none_spared (or_run first last none_spared) l m (λ p k has clear. refl) know
+
 -- ---- a write
 
 out_of : (block n b : ℕ) → is_among (first_region block) (last_region block n) (b / 64) ≡ false → InRun block n b → ⊥
@@ -111,6 +124,17 @@ module _ (c d : GroupCore) (v block : ℕ) (bytes : List ℕ) (m m' : Meaning) (
   know_out f is up p q b x y has on inside clear out at_p at_q =
       (know.so f is (λ down. up (acts.acts.falls down))).so p q b x y (has_back (wide c).config (wide d).config v (acts.shape.frames v) (acts.shape.blocks v) p b has) (acts.on v q on) (inside_same (wide d).config (wide c).config acts.shape v b inside) clear
       (old_read up p b x has out at_p) (old_read up q b y (has_of (wide d).config v q b on inside) out at_q)
+
+  -- whatever a write did, what any plex misses of it is spared
+  pub know_refused : KnownBy d v (or_run (first_region block) (last_region block n) none_spared) l m'
+  know_refused = record {
+    so = λ f is up. record {
+      so = λ p q b x y has on inside clear at_p at_q.
+          let one = split_or (is_among (first_region block) (last_region block n) (b / 64) || false) (has_missed f p (b / 64)) clear in
+          let two = split_or (is_among (first_region block) (last_region block n) (b / 64)) false one.0 in
+          know_out f is up p q b x y has on inside one.1 (out_of block n b two.0) at_p at_q;
+    };
+  }
 
   -- a write that was done: what plexes out of use miss of it is spared
   pub know_wrote : Wrote v block bytes (inner_meaning (wide c) m) (inner_meaning (wide d) m') → KnownBy d v (or_off (wide d).config v (first_region block) (last_region block n) none_spared) l m'

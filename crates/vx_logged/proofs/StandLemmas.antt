@@ -60,13 +60,13 @@ each_on c d m m' stands acts = record {
 
 -- calls in a row that detach plexes and lose logs alone
 pub narrowed_then : (c d e : GroupCore) → Narrowed c d → Narrowed d e → Narrowed c e
-narrowed_then c d e one two = record { less = λ w log is. one.less w log (two.less w log is); on = λ w p is. one.on w p (two.on w p is) }
+narrowed_then c d e one two = record { shape = then_shape (wide e).config (wide d).config (wide c).config two.shape one.shape; less = λ w log is. one.less w log (two.less w log is); on = λ w p is. one.on w p (two.on w p is) }
 
 pub narrowed_acts : (W : Values) (c d : GroupCore) (m m' : Meaning) → PlexActs W (wide c).config (wide d).config m m' → Narrowed c d
-narrowed_acts W c d m m' acts = record { less = acts.shape.trusted; on = acts.on }
+narrowed_acts W c d m m' acts = record { shape = acts.shape; less = acts.shape.trusted; on = acts.on }
 
 pub narrowed_same : (c : GroupCore) → Narrowed c c
-narrowed_same c = record { less = λ w log is. is; on = λ w p is. is }
+narrowed_same c = record { shape = same_shape (wide c).config; less = λ w log is. is; on = λ w p is. is }
 
 -- the configuration in memory has the places of that with the plex that is held back
 pub inner_wide : (c : GroupCore) (m : Meaning) → GroupStands c m → SameShape c.inner.config (wide c).config

@@ -9,6 +9,7 @@ use Rattle.vx_group.specs.declared.group_core.GroupCore.{GroupCore}
 use Rattle.vx_grouplogs.specs.Marking.{HoldRegions}
 use Rattle.vx_grouplogs.specs.On.{VolumeOn}
 use Rattle.vx_groupmaps.specs.Knowing.{MapsKnow, MapsKnowBy}
+use Rattle.vx_kept.specs.Keeping.{SameShape}
 use Rattle.vx_kept.specs.LogRuns.{log_trusted}
 use Rattle.vx_logs.specs.declared.logs.Logs.{Logs}
 use Rattle.vx_volume.specs.Plexes.{active}
@@ -39,8 +40,9 @@ pub record OthersOn (v : ℕ) (c d : GroupCore) (old new : Meaning) : Type 0 whe
 abbrev pub LogKept : GroupCore → ℕ → Logs → Type 0
 LogKept core v l = log_trusted (wide core).config v Drl ≡ true → l.drl ≡ None → ⊥
 
--- no log is trusted that was not, and no plex is ACTIVE that was not
+-- the same volumes at the same places; no log is trusted that was not, and no plex is ACTIVE that was not
 pub record Narrowed (c d : GroupCore) : Type 0 where
+  pub shape : SameShape (wide d).config (wide c).config
   pub less : (w : ℕ) (log : VolumeLog) → log_trusted (wide d).config w log ≡ true → log_trusted (wide c).config w log ≡ true
   pub on : (w p : ℕ) → IsTrue (active (wide d).config w p) → IsTrue (active (wide c).config w p)
 

@@ -3,13 +3,15 @@ ghost use Rattle.std.specs.Prelude.{◌≡◌, ◌+◌, ◌<◌, ◌≤◌, fals
 ghost use Rattle.vx_config.specs.Table.{greatest};
 ghost use Rattle.vx_disk.specs.Causes.{Cause};
 ghost use Rattle.vx_disk.specs.Shelf.{Goes, Nothing};
+ghost use Rattle.vx_group.specs.Creates.{SameUnits};
 ghost use Rattle.vx_group.specs.Holding.{GroupStands, wide};
+ghost use Rattle.vx_group.specs.Loses.{LosesAlong};
 ghost use Rattle.vx_group.specs.Stands.{inner_meaning};
 ghost use Rattle.vx_config.specs.Checks.{blocks_of as blocks_of_is};
 ghost use Rattle.vx_grouplogs.specs.Covering.{AllAlike};
 ghost use Rattle.vx_grouplogs.specs.Marking.{HoldsMany, MarksFewer, NoMarks};
 ghost use Rattle.vx_groupmaps.specs.Knowing.{MapsStay};
-ghost use Rattle.vx_logged.specs.Logged.{Known, LogOn, OthersOn};
+ghost use Rattle.vx_logged.specs.Logged.{Known, LogOn, Narrowed, OthersOn};
 ghost use Rattle.vx_model.specs.Sizes.{regions_of as regions_in};
 
 use crate::keeping::keep_log;
@@ -35,11 +37,14 @@ pub fn clear_group<S: Shelf>(
     requires alike { AllAlike (wide core.old).config vol (S.meaning shelf.old) }
     ensures stands { GroupStands core.new (S.meaning shelf.new) }
     ensures goes { Goes Nothing (inner_meaning (wide core.old) (S.meaning shelf.old)) (inner_meaning (wide core.new) (S.meaning shelf.new)) }
+    ensures loses { LosesAlong core.old.inner.config core.new.inner.config (S.meaning shelf.old) (S.meaning shelf.new) }
     ensures log { LogOn core.new vol logs.new (S.meaning shelf.new) }
     ensures others { OthersOn vol core.old core.new (S.meaning shelf.old) (S.meaning shelf.new) }
     ensures fewer { MarksFewer (regions_in (blocks_of_is (wide core.old).config.volumes vol)) logs.old logs.new }
     ensures maps { Known core.old vol logs.old (S.meaning shelf.old) → Known core.new vol logs.new (S.meaning shelf.new) }
     ensures stay { MapsStay logs.old logs.new }
+    ensures narrow { Narrowed core.old core.new }
+    ensures below { SameUnits (S.meaning shelf.old) (S.meaning shelf.new) }
     ensures off { IfOk result (λ done. done ≡ true → HoldsMany logs.old.drl → NoMarks (regions_in (blocks_of_is (wide core.old).config.volumes vol)) logs.new) }
     ensures full { IfOk result (λ done. done ≡ false → greatest ≤ core.old.inner.config.serial + 18) }
     ensures trust { OnOk result (core.old.inner.committed ≡ true → core.new.inner.committed ≡ true) }

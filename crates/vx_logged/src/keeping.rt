@@ -1,11 +1,15 @@
 // A log of a group that is in memory no more, and is committed as lost.
-ghost use Rattle.std.specs.Prelude.{◌≡◌, ◌+◌, ◌<◌, ◌≤◌, false, true, IfErr, IfOk, OnOk};
+ghost use Rattle.std.specs.Prelude.{◌≡◌, ◌+◌, ◌<◌, ◌≤◌, ℕ, None, false, true, IfErr, IfOk, OnOk};
 ghost use Rattle.vx_config.specs.Table.{greatest};
 ghost use Rattle.vx_disk.specs.Causes.{Cause};
 ghost use Rattle.vx_disk.specs.Shelf.{Goes, Nothing};
+ghost use Rattle.vx_group.specs.Creates.{SameUnits};
 ghost use Rattle.vx_group.specs.Holding.{GroupStands, wide};
+ghost use Rattle.vx_group.specs.Loses.{LosesAlong};
 ghost use Rattle.vx_group.specs.Stands.{inner_meaning};
 ghost use Rattle.vx_kept.specs.LogRuns.{log_trusted};
+ghost use Rattle.vx_volume.specs.Plexes.{active};
+ghost use Rattle.vx_logged.specs.Behind.{MapSaid};
 ghost use Rattle.vx_logged.specs.Logged.{EachOn, LogKept, MapKept, Narrowed};
 
 use vx_config::{Config, VolumeLog};
@@ -13,6 +17,7 @@ use vx_disk::{Shelf, ShelfError};
 use vx_group::{GroupCore, lose_group};
 use vx_logs::Logs;
 use vx_maplog::log_of;
+use vx_model::limits::MOST_NUMBER;
 
 // Whether a volume has a log that is not held as lost.
 #[tactic(auto, unfolding(vx_kept::specs::LogRuns::log_trusted))]
@@ -37,10 +42,14 @@ fn keep_one<S: Shelf>(
     requires there { vol < (inner_meaning (wide core.old) (S.meaning shelf.old)).units }
     ensures stands { GroupStands core.new (S.meaning shelf.new) }
     ensures goes { Goes Nothing (inner_meaning (wide core.old) (S.meaning shelf.old)) (inner_meaning (wide core.new) (S.meaning shelf.new)) }
+    ensures loses { LosesAlong core.old.inner.config core.new.inner.config (S.meaning shelf.old) (S.meaning shelf.new) }
     ensures logs { EachOn core.old core.new (S.meaning shelf.old) (S.meaning shelf.new) }
     ensures narrow { Narrowed core.old core.new }
+    ensures below { SameUnits (S.meaning shelf.old) (S.meaning shelf.new) }
+    ensures still { core.old.held ≡ None → (w p : ℕ) → active core.new.inner.config w p ≡ active core.old.inner.config w p }
     ensures kept { IfOk result (λ done. done ≡ true → log_trusted (wide core.new).config vol log ≡ true → has ≡ true) }
     ensures full { IfOk result (λ done. done ≡ false → greatest ≤ core.old.inner.config.serial + 9) }
+    ensures spent { IfOk result (λ done. done ≡ false → greatest ≤ core.new.inner.config.serial + 9) }
     ensures trust { OnOk result (core.old.inner.committed ≡ true → core.new.inner.committed ≡ true) }
     ensures agreed { IfErr result (λ e. core.old.inner.committed ≡ true → core.new.inner.agreed ≡ true) }
     ensures cause { Cause (inner_meaning (wide core.old) (S.meaning shelf.old)) (inner_meaning (wide core.new) (S.meaning shelf.new)) vol result }
@@ -53,6 +62,9 @@ fn keep_one<S: Shelf>(
     }
     if !is_trusted(&core.inner.config, vol, log) {
         return Ok(true);
+    }
+    if core.inner.config.serial >= MOST_NUMBER - 9 {
+        return Ok(false);
     }
     lose_group(shelf, core, vol, log)
 }
@@ -69,8 +81,10 @@ pub fn keep_log<S: Shelf>(
     requires there { vol < (inner_meaning (wide core.old) (S.meaning shelf.old)).units }
     ensures stands { GroupStands core.new (S.meaning shelf.new) }
     ensures goes { Goes Nothing (inner_meaning (wide core.old) (S.meaning shelf.old)) (inner_meaning (wide core.new) (S.meaning shelf.new)) }
+    ensures loses { LosesAlong core.old.inner.config core.new.inner.config (S.meaning shelf.old) (S.meaning shelf.new) }
     ensures logs { EachOn core.old core.new (S.meaning shelf.old) (S.meaning shelf.new) }
     ensures narrow { Narrowed core.old core.new }
+    ensures below { SameUnits (S.meaning shelf.old) (S.meaning shelf.new) }
     ensures kept { IfOk result (λ done. done ≡ true → LogKept core.new vol logs.now) }
     ensures full { IfOk result (λ done. done ≡ false → greatest ≤ core.old.inner.config.serial + 9) }
     ensures trust { OnOk result (core.old.inner.committed ≡ true → core.new.inner.committed ≡ true) }
@@ -91,9 +105,13 @@ pub fn keep_map<S: Shelf>(
     requires there { vol < (inner_meaning (wide core.old) (S.meaning shelf.old)).units }
     ensures stands { GroupStands core.new (S.meaning shelf.new) }
     ensures goes { Goes Nothing (inner_meaning (wide core.old) (S.meaning shelf.old)) (inner_meaning (wide core.new) (S.meaning shelf.new)) }
+    ensures loses { LosesAlong core.old.inner.config core.new.inner.config (S.meaning shelf.old) (S.meaning shelf.new) }
     ensures logs { EachOn core.old core.new (S.meaning shelf.old) (S.meaning shelf.new) }
     ensures narrow { Narrowed core.old core.new }
+    ensures below { SameUnits (S.meaning shelf.old) (S.meaning shelf.new) }
+    ensures still { core.old.held ≡ None → (w p : ℕ) → active core.new.inner.config w p ≡ active core.old.inner.config w p }
     ensures kept { IfOk result (λ done. done ≡ true → MapKept core.new vol logs.now) }
+    ensures spent { IfOk result (λ done. done ≡ false → greatest ≤ core.new.inner.config.serial + 9) }
     ensures trust { OnOk result (core.old.inner.committed ≡ true → core.new.inner.committed ≡ true) }
     ensures agreed { IfErr result (λ e. core.old.inner.committed ≡ true → core.new.inner.agreed ≡ true) }
     ensures cause { Cause (inner_meaning (wide core.old) (S.meaning shelf.old)) (inner_meaning (wide core.new) (S.meaning shelf.new)) vol result }
@@ -112,9 +130,12 @@ pub fn keep_logs<S: Shelf>(
     requires there { vol < (inner_meaning (wide core.old) (S.meaning shelf.old)).units }
     ensures stands { GroupStands core.new (S.meaning shelf.new) }
     ensures goes { Goes Nothing (inner_meaning (wide core.old) (S.meaning shelf.old)) (inner_meaning (wide core.new) (S.meaning shelf.new)) }
+    ensures loses { LosesAlong core.old.inner.config core.new.inner.config (S.meaning shelf.old) (S.meaning shelf.new) }
     ensures logs { EachOn core.old core.new (S.meaning shelf.old) (S.meaning shelf.new) }
     ensures narrow { Narrowed core.old core.new }
+    ensures below { SameUnits (S.meaning shelf.old) (S.meaning shelf.new) }
     ensures kept { IfOk result (λ done. done ≡ true → LogKept core.new vol logs.now) }
+    ensures said { IfOk result (λ done. done ≡ true → MapSaid core.new vol logs.now) }
     ensures full { IfOk result (λ done. done ≡ false → greatest ≤ core.old.inner.config.serial + 9) }
     ensures trust { OnOk result (core.old.inner.committed ≡ true → core.new.inner.committed ≡ true) }
     ensures agreed { IfErr result (λ e. core.old.inner.committed ≡ true → core.new.inner.agreed ≡ true) }

@@ -11,11 +11,14 @@ mod flushing;
 mod keeping;
 mod marking;
 mod readying;
+mod refusing;
 mod writing;
 
 pub use clearing::clear_group;
 pub use crashing::{crash_logged, revive_logged};
 pub use detaching::det_logged;
 pub use flushing::flush_cleared;
+pub use keeping::{keep_logs, keep_map};
 pub use marking::mark_group;
+pub use readying::ready_group;
 pub use writing::write_marked;

@@ -5,10 +5,13 @@ ghost use Rattle.vx_config.specs.Checks.{blocks_of as blocks_of_is};
 ghost use Rattle.vx_disk.specs.Causes.{Cause};
 ghost use Rattle.vx_disk.specs.Shelf.{Goes, Nothing};
 ghost use Rattle.vx_group.specs.Holding.{GroupStands, wide};
+ghost use Rattle.vx_group.specs.Loses.{LosesAlong};
 ghost use Rattle.vx_group.specs.Stands.{inner_meaning};
 ghost use Rattle.vx_grouplogs.specs.Marking.{MarksOnly};
 ghost use Rattle.vx_groupmaps.specs.Knowing.{MapsNote, or_off};
-ghost use Rattle.vx_logged.specs.Logged.{Known, KnownBy, LogOn, MayWrite, Narrowed, OthersOn, are_off};
+ghost use Rattle.vx_groupmaps.specs.Missing.{HoldMissed};
+ghost use Rattle.vx_logged.specs.Behind.{MapSaid};
+ghost use Rattle.vx_logged.specs.Logged.{KnownBy, LogOn, MayWrite, Narrowed, OthersOn, are_off};
 ghost use Rattle.vx_logs.specs.Writes.{first_region, last_region};
 ghost use Rattle.vx_model.specs.Sizes.{regions_of as regions_in};
 
@@ -37,13 +40,16 @@ pub fn mark_group<S: Shelf>(
     requires log { LogOn core.old vol logs.old (S.meaning shelf.old) }
     ensures stands { GroupStands core.new (S.meaning shelf.new) }
     ensures goes { Goes Nothing (inner_meaning (wide core.old) (S.meaning shelf.old)) (inner_meaning (wide core.new) (S.meaning shelf.new)) }
+    ensures loses { LosesAlong core.old.inner.config core.new.inner.config (S.meaning shelf.old) (S.meaning shelf.new) }
     ensures log { LogOn core.new vol logs.new (S.meaning shelf.new) }
     ensures others { OthersOn vol core.old core.new (S.meaning shelf.old) (S.meaning shelf.new) }
     ensures adds { MarksOnly (regions_in (blocks_of_is (wide core.old).config.volumes vol)) (first_region block) (last_region block count) logs.old logs.new }
     ensures narrow { Narrowed core.old core.new }
-    ensures maps { Known core.old vol logs.old (S.meaning shelf.old) → Known core.new vol logs.new (S.meaning shelf.new) }
+    ensures maps { (spare : ℕ → ℕ → Bool) → KnownBy core.old vol spare logs.old (S.meaning shelf.old) → KnownBy core.new vol spare logs.new (S.meaning shelf.new) }
     ensures knows { (spare : ℕ → ℕ → Bool) → KnownBy core.old vol (or_off (wide core.old).config vol (first_region block) (last_region block count) spare) logs.old (S.meaning shelf.old) → IfOk result (λ done. done ≡ true → KnownBy core.new vol spare logs.new (S.meaning shelf.new)) }
     ensures notes { MapsNote (are_off core.new vol) (first_region block) (last_region block count) logs.old logs.new }
+    ensures said { IfOk result (λ done. done ≡ true → MapSaid core.new vol logs.new) }
+    ensures missed { IfOk result (λ done. done ≡ true → HoldMissed (wide core.old).config vol (first_region block) (last_region block count) logs.new) }
     ensures may { IfOk result (λ done. done ≡ true → MayWrite core.new vol (first_region block) (last_region block count) logs.new) }
     ensures full { IfOk result (λ done. done ≡ false → greatest ≤ core.old.inner.config.serial + 18) }
     ensures trust { OnOk result (core.old.inner.committed ≡ true → core.new.inner.committed ≡ true) }

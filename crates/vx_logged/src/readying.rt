@@ -1,11 +1,14 @@
 // A group that is made ready for work on its logs.
-ghost use Rattle.std.specs.Prelude.{◌≡◌, ◌+◌, ◌<◌, ◌≤◌, false, true, IfErr, IfOk, None, OnOk};
+ghost use Rattle.std.specs.Prelude.{◌≡◌, ◌+◌, ◌<◌, ◌≤◌, ℕ, false, true, IfErr, IfOk, None, OnOk};
 ghost use Rattle.vx_config.specs.Table.{greatest};
 ghost use Rattle.vx_disk.specs.Causes.{Cause};
 ghost use Rattle.vx_disk.specs.Shelf.{Goes, Nothing};
+ghost use Rattle.vx_group.specs.Creates.{SameUnits};
 ghost use Rattle.vx_group.specs.Holding.{GroupStands, wide};
+ghost use Rattle.vx_group.specs.Loses.{LosesAlong};
 ghost use Rattle.vx_group.specs.Stands.{inner_meaning};
 ghost use Rattle.vx_logged.specs.Logged.{EachOn, Narrowed};
+ghost use Rattle.vx_volume.specs.Plexes.{active};
 
 use vx_disk::{Shelf, ShelfError};
 use vx_group::{GroupCore, give_up, release};
@@ -20,8 +23,11 @@ pub fn ready_group<S: Shelf>(
     requires there { vol < (inner_meaning (wide core.old) (S.meaning shelf.old)).units }
     ensures stands { GroupStands core.new (S.meaning shelf.new) }
     ensures goes { Goes Nothing (inner_meaning (wide core.old) (S.meaning shelf.old)) (inner_meaning (wide core.new) (S.meaning shelf.new)) }
+    ensures loses { LosesAlong core.old.inner.config core.new.inner.config (S.meaning shelf.old) (S.meaning shelf.new) }
     ensures logs { EachOn core.old core.new (S.meaning shelf.old) (S.meaning shelf.new) }
     ensures narrow { Narrowed core.old core.new }
+    ensures still { (w p : ℕ) → active core.new.inner.config w p ≡ active core.old.inner.config w p }
+    ensures below { SameUnits (S.meaning shelf.old) (S.meaning shelf.new) }
     ensures none { IfOk result (λ done. done ≡ true → core.new.held ≡ None) }
     ensures few { OnOk result (core.new.inner.config.serial ≤ core.old.inner.config.serial + 9) }
     ensures full { IfOk result (λ done. done ≡ false → greatest ≤ core.old.inner.config.serial) }

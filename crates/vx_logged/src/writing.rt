@@ -4,16 +4,19 @@ ghost use Rattle.vx_config.specs.Table.{greatest};
 ghost use Rattle.vx_disk.specs.Causes.{Cause};
 ghost use Rattle.vx_disk.specs.Shelf.{Fits, Goes, Written, Wrote};
 ghost use Rattle.vx_group.specs.Holding.{GroupStands, wide};
+ghost use Rattle.vx_group.specs.Loses.{LosesAlong};
 ghost use Rattle.vx_group.specs.Stands.{inner_meaning};
 ghost use Rattle.vx_config.specs.Checks.{blocks_of as blocks_of_is};
 ghost use Rattle.vx_grouplogs.specs.Marking.{MarksOnly};
 ghost use Rattle.vx_groupmaps.specs.Knowing.{MapsNote, or_off};
-ghost use Rattle.vx_groupmaps.specs.Missing.{none_spared};
+ghost use Rattle.vx_groupmaps.specs.Missing.{none_spared, or_run};
+ghost use Rattle.vx_logged.specs.Behind.{MarkedBefore, those_missing};
 ghost use Rattle.vx_logged.specs.Logged.{Known, KnownBy, LogOn, Narrowed, OthersOn, are_off};
 ghost use Rattle.vx_logs.specs.Writes.{first_region, last_region};
 ghost use Rattle.vx_model.specs.Sizes.{regions_of as regions_in};
 
 use crate::marking::mark_group;
+use crate::refusing::miss_refused;
 use vx_disk::{Shelf, ShelfError};
 use vx_group::{GroupCore, write_group};
 use vx_logs::Logs;
@@ -33,6 +36,7 @@ fn write_first<S: Shelf>(
     requires log { stopped.old ≡ false → LogOn core.old vol logs.old (S.meaning shelf.old) }
     ensures stands { GroupStands core.new (S.meaning shelf.new) }
     ensures goes { Goes (Written vol block bytes.now) (inner_meaning (wide core.old) (S.meaning shelf.old)) (inner_meaning (wide core.new) (S.meaning shelf.new)) }
+    ensures loses { LosesAlong core.old.inner.config core.new.inner.config (S.meaning shelf.old) (S.meaning shelf.new) }
     ensures ok { OnOk result (Wrote vol block bytes.now (inner_meaning (wide core.old) (S.meaning shelf.old)) (inner_meaning (wide core.new) (S.meaning shelf.new))) }
     ensures log { stopped.new ≡ false → LogOn core.new vol logs.new (S.meaning shelf.new) }
     ensures others { OthersOn vol core.old core.new (S.meaning shelf.old) (S.meaning shelf.new) }
@@ -40,6 +44,8 @@ fn write_first<S: Shelf>(
     ensures narrow { Narrowed core.old core.new }
     ensures written { stopped.new ≡ false → OnOk result (Known core.old vol logs.old (S.meaning shelf.old) → KnownBy core.new vol (or_off (wide core.new).config vol (first_region block) (last_region block (length bytes.now / 512)) none_spared) logs.new (S.meaning shelf.new)) }
     ensures notes { MapsNote (are_off core.new vol) (first_region block) (last_region block (length bytes.now / 512)) logs.old logs.new }
+    ensures missed { stopped.new ≡ false → Known core.old vol logs.old (S.meaning shelf.old) → KnownBy core.new vol (or_run (first_region block) (last_region block (length bytes.now / 512)) none_spared) logs.new (S.meaning shelf.new) }
+    ensures marked { stopped.new ≡ false → MarkedBefore (λ s. S.meaning s) vol block bytes.now (first_region block) (last_region block (length bytes.now / 512)) core.old core.new (S.meaning shelf.old) (S.meaning shelf.new) }
     ensures stays { stopped.old ≡ true → stopped.new ≡ true }
     ensures full { stopped.old ≡ false → stopped.new ≡ true → greatest ≤ core.old.inner.config.serial + 18 }
     ensures trust { OnOk result (core.old.inner.committed ≡ true → core.new.inner.committed ≡ true) }
@@ -63,8 +69,9 @@ fn write_first<S: Shelf>(
 /// write fails for it only where that commit is refused. Where no serial is left logs are stopped: the write is made without a mark, and of no
 /// log anything is promised from then on.
 ///
-/// Behind it the maps in memory have of each plex each region in which it may read another value than one that is ACTIVE, where they had; what
-/// they have besides what they had are regions of the write, of plexes that are not ACTIVE. Behind a refusal no map is in memory.
+/// Behind it the maps in memory have of each plex each region in which it may read another value than one that is ACTIVE, where they had, also
+/// where the write is refused; what they have besides what they had are regions of the write: behind an Ok of plexes that are not ACTIVE, and
+/// behind a refusal of any, as each may have missed any block of it.
 pub fn write_marked<S: Shelf>(
     shelf: &mut S,
     core: &mut GroupCore,
@@ -79,29 +86,30 @@ pub fn write_marked<S: Shelf>(
     requires log { stopped.old ≡ false → LogOn core.old vol logs.old (S.meaning shelf.old) }
     ensures stands { GroupStands core.new (S.meaning shelf.new) }
     ensures goes { Goes (Written vol block bytes.now) (inner_meaning (wide core.old) (S.meaning shelf.old)) (inner_meaning (wide core.new) (S.meaning shelf.new)) }
+    ensures loses { LosesAlong core.old.inner.config core.new.inner.config (S.meaning shelf.old) (S.meaning shelf.new) }
     ensures ok { OnOk result (Wrote vol block bytes.now (inner_meaning (wide core.old) (S.meaning shelf.old)) (inner_meaning (wide core.new) (S.meaning shelf.new))) }
     ensures log { stopped.new ≡ false → LogOn core.new vol logs.new (S.meaning shelf.new) }
     ensures others { OthersOn vol core.old core.new (S.meaning shelf.old) (S.meaning shelf.new) }
     ensures adds { MarksOnly (regions_in (blocks_of_is (wide core.old).config.volumes vol)) (first_region block) (last_region block (length bytes.now / 512)) logs.old logs.new }
     ensures maps { stopped.new ≡ false → Known core.old vol logs.old (S.meaning shelf.old) → Known core.new vol logs.new (S.meaning shelf.new) }
-    ensures notes { MapsNote (are_off core.new vol) (first_region block) (last_region block (length bytes.now / 512)) logs.old logs.new }
+    ensures notes { MapsNote (those_missing core.new vol result) (first_region block) (last_region block (length bytes.now / 512)) logs.old logs.new }
+    ensures marked { stopped.new ≡ false → MarkedBefore (λ s. S.meaning s) vol block bytes.now (first_region block) (last_region block (length bytes.now / 512)) core.old core.new (S.meaning shelf.old) (S.meaning shelf.new) }
     ensures stays { stopped.old ≡ true → stopped.new ≡ true }
     ensures full { stopped.old ≡ false → stopped.new ≡ true → greatest ≤ core.old.inner.config.serial + 18 }
     ensures trust { OnOk result (core.old.inner.committed ≡ true → core.new.inner.committed ≡ true) }
     ensures agreed { IfErr result (λ e. core.old.inner.committed ≡ true → core.new.inner.agreed ≡ true) }
     ensures cause { Cause (inner_meaning (wide core.old) (S.meaning shelf.old)) (inner_meaning (wide core.new) (S.meaning shelf.new)) vol result }
 {
+    let count = (bytes.len() / 512) as u64;
     match write_first(shelf, core, logs, stopped, vol, block, bytes) {
         Ok(()) => {}
         Err(error) => {
-            logs.fmr = None;
-            return Err(error);
+            return Err(miss_refused(shelf, core, logs, *stopped, vol, block, count, error));
         }
     }
     if *stopped {
         return Ok(());
     }
-    let count = (bytes.len() / 512) as u64;
     match mark_group(shelf, core, logs, vol, block, count) {
         Ok(done) => {
             if !done {
@@ -109,9 +117,6 @@ pub fn write_marked<S: Shelf>(
             }
             Ok(())
         }
-        Err(error) => {
-            logs.fmr = None;
-            Err(error)
-        }
+        Err(error) => Err(miss_refused(shelf, core, logs, false, vol, block, count, error)),
     }
 }

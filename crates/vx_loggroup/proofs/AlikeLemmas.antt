@@ -16,12 +16,13 @@ use Rattle.vx_group.specs.declared.group_core.Held.{Held}
 use Rattle.vx_group.proofs.HoldLemmas.{wide_shape}
 use Rattle.vx_grouplogs.specs.Marking.{MarksFewer, MarksOnly}
 use Rattle.vx_grouplogs.specs.On.{ReadsOne}
+use Rattle.vx_groupmaps.specs.Knowing.{MapsNote}
 use Rattle.vx_groupmaps.specs.Missing.{none_spared}
 use Rattle.vx_logged.specs.Logged.{EachOn, Known, LogOn, OthersOn}
 use Rattle.vx_logged.proofs.StandLemmas.{each_on, same_fewer, same_only}
 use Rattle.vx_logs.specs.declared.logs.Logs.{Logs}
 use Rattle.vx_loggroup.specs.LoggedVolumes.{LoggedStands, OthersStand, VolumeStands, is_alike}
-use Rattle.vx_loggroup.specs.Marks.{ClearsVolume, MarksVolume, region_count}
+use Rattle.vx_loggroup.specs.Marks.{ClearsVolume, MarksVolume, NotesMaps, region_count}
 use Rattle.vx_loggroup.proofs.SetLemmas.{set_each, set_here, set_other}
 
 module _ (W : Values) (c d : GroupCore) (m m' : Meaning) (goes : Goes W (inner_meaning (wide c) m) (inner_meaning (wide d) m')) where
@@ -146,6 +147,15 @@ marks_set c v first last ls l k is marks = record {
       let old : l ≡ x = same_item (slice_get ls v) l x is was in
       subst (MarksOnly (region_count c v) first last x) (set_here ls v k y now) (subst (λ (z : Logs). MarksOnly (region_count c v) first last z k) old marks);
   others = λ w apart. set_other ls v k w apart;
+}
+
+-- which regions of maps are noted then
+pub notes_set : (those : ℕ → Bool) (v first last : ℕ) (ls : List Logs) (l k : Logs) → slice_get ls v ≡ Some l → MapsNote those first last l k → NotesMaps those v first last ls (set ls v k)
+notes_set those v first last ls l k is notes = record {
+  here = λ x y f g was now at on.
+      let old : l ≡ x = same_item (slice_get ls v) l x is was in
+      let new : k ≡ y = set_here ls v k y now in
+      notes.each f g (ap (λ (z : Logs). z.fmr) old ∙ at) (ap (λ (z : Logs). z.fmr) new ∙ on);
 }
 
 pub clears_none : (c : Config) (v : ℕ) (ls : List Logs) → ClearsVolume c v ls ls

@@ -38,7 +38,7 @@ module _ (c : GroupCore) (m new : Meaning) (stands : GroupStands c m) (it : Depo
   abbrev at : Config
   at = at_serial it.config.serial it.behind.config
 
-  at_shape : SameShape at (wide c).config
+  pub at_shape : SameShape at (wide c).config
   at_shape = alike_shape at it.behind.config (wide c).config refl (then_shape it.behind.config c.inner.config (wide c).config it.quiesces.shape (inner_wide c m stands))
 
   at_acts : PlexActs Nothing (wide c).config at m new
@@ -49,7 +49,7 @@ module _ (c : GroupCore) (m new : Meaning) (stands : GroupStands c m) (it : Depo
   }
 
   module _ (v : ℕ) (l : Logs) (lt : v < length (wide c).config.volumes) (on : LogOn c v l m) where
-    on_at : VolumeOn at v l new
+    pub on_at : VolumeOn at v l new
     on_at = on_acts Nothing (wide c).config at (sound_of (wide c) m stands.stands) v l m new (fit_of (wide c) m stands.stands) at_acts (spares_none Nothing (wide c).config v l (λ u b x none. none)) on
 
     lt_at : v < length at.volumes
@@ -66,14 +66,6 @@ module _ (c : GroupCore) (m new : Meaning) (stands : GroupStands c m) (it : Depo
         by i x each is (inr rest) = rest_settled x v new rest
 
 module _ (c d : GroupCore) (ls : List Logs) (a : List Bool) (s : Bool) (m new : Meaning) (stands : LoggedStands c ls a s m) where
-  pub deport_tells : (r : Result (Unit {0}) Stop) → GroupCloses c d m new r → OnOk r ((v : ℕ) (l : Logs) → s ≡ false → slice_get ls v ≡ Some l → LogKept c v l ⊎ AtRest new → DisksTell v new)
-  deport_tells (Ok x) it = λ v l going is why.
-      let low = slice_get_within ls v l is in
-      let many = stands.many in
-      let shape = (inner_wide c m stands.group).volumes in
-      deport_told c m new stands.group it v l (omega (arith, low, many, shape)) ((stands.each v l is).on going) why
-  deport_tells (Err e) it = tt
-
   pub deport_stands : (r : Result (Unit {0}) Stop) → GroupCloses c d m new r → IfErr r (λ e. Goes Nothing (inner_meaning (wide c) m) (inner_meaning (wide d) new)) → IfErr r (λ e. LoggedStands d ls a s new)
   deport_stands (Ok x) it goes = tt
   deport_stands (Err e) it goes = all_whole c d ls a s m new stands it.stands goes (each_idle _ c d m new stands.group it.quiesces.shape goes it.quiesces.acts)

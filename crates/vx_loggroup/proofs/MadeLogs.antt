@@ -1,7 +1,8 @@
 -- What is kept of the volumes of a group with logs, behind a volume that is made, or not.
-use Rattle.std.proofs.Common.{◌≡◌, ◌∙◌, inl, inr, ℕ, zero, suc, ◌+◌, ◌<◌, Bool, true, false, IsTrue, Option, Some, None, List, [], ◌∷◌, ◌++◌, length, refl, sym, ap, subst, arith}
+use Rattle.std.proofs.Common.{◌≡◌, ◌⊎◌, ◌∙◌, inl, inr, ℕ, zero, suc, ◌+◌, ◌<◌, ◌≤◌, Bool, true, false, IsTrue, Option, Some, None, List, [], ◌∷◌, ◌++◌, length, refl, sym, ap, subst, arith}
 use Rattle.std.specs.Prelude.{Err, Ok, is_some, slice_get, take}
 use Rattle.vx_config.specs.Checks.{blocks_of as blocks_in, blocks_or_none}
+use Rattle.std.proofs.lemmas.Bool.{cases_eq, cases_lt}
 use Rattle.std.proofs.lemmas.Option.{slice_get_within}
 use Rattle.vx_config.specs.declared.config.Config.{Config}
 use Rattle.vx_config.specs.declared.entry.VolumeEntry.{VolumeEntry}
@@ -21,11 +22,12 @@ use Rattle.vx_maplog.specs.Logs.{log_or}
 use Rattle.vx_model.specs.declared.errors.Stop.{Stop}
 use Rattle.vx_model.specs.declared.errors.Stop.TheVariants.{No as Refused, OutOfMemory}
 use Rattle.vx_model.specs.declared.no.No.{No}
+use Rattle.vx_model.specs.declared.no.No.TheVariants as refusal
 use Rattle.vx_volume.specs.Plexes.{Inside}
 use Rattle.vx_volume.proofs.PlaceLemmas.{has_of}
 use Rattle.vx_group.specs.Calls.{GroupStays}
 use Rattle.vx_group.specs.Holding.{GroupStands, config_by, wide}
-use Rattle.vx_group.specs.Makes.{AreZero, MakeEnds, MakesBeside, ZerosOn, make_refusal}
+use Rattle.vx_group.specs.Makes.{AreZero, MakeEnds, MakesBeside, Unmoved, ZerosOn, make_refusal}
 use Rattle.vx_group.specs.Stands.{inner_meaning, volume_faults}
 use Rattle.vx_group.specs.declared.group_core.GroupCore.{GroupCore}
 use Rattle.vx_group.specs.declared.group_core.Held.{Held}
@@ -44,6 +46,7 @@ use Rattle.vx_grouplogs.proofs.LogShape.{has_back}
 use Rattle.vx_grouplogs.proofs.SeenLemmas.{KeepsVolume, logs_same, on_seen}
 use Rattle.vx_logged.proofs.StandLemmas.{inner_wide, wide_both}
 use Rattle.vx_logimport.proofs.ReadLemmas.{each_more}
+use Rattle.vx_loggroup.specs.Fresh.{FreshStands}
 use Rattle.vx_loggroup.specs.LoggedVolumes.{LoggedStands, VolumeStands, is_alike}
 use Rattle.vx_loggroup.proofs.AlikeLemmas.{all_whole}
 use Rattle.vx_loggroup.proofs.KnownLemmas.{know_seen, some_read}
@@ -130,6 +133,15 @@ by_volumes : (o : Option Held) (c d : Config) → d.volumes ≡ c.volumes → (c
 by_volumes None c d same = same
 by_volumes (Some h) c d same = active_at_volumes h.vol h.plex c d same
 
+pub none_goes : (c d : GroupCore) (m m' : Meaning) → GroupStays c d m m' → d.inner.config.volumes ≡ c.inner.config.volumes → Goes Nothing (inner_meaning (wide c) m) (inner_meaning (wide d) m')
+none_goes c d m m' stays volumes = then_nothing Nothing (inner_meaning (wide c) m) (group_meaning (config_by d.held c.inner.config) (volume_faults d.inner.faults) m') (inner_meaning (wide d) m') stays.goes last
+  where
+    by : (wide d).config.volumes ≡ (config_by d.held c.inner.config).volumes
+    by = by_volumes d.held c.inner.config d.inner.config volumes
+
+    last : Goes Nothing (group_meaning (config_by d.held c.inner.config) (volume_faults d.inner.faults) m') (inner_meaning (wide d) m')
+    last = places_Goes (config_by d.held c.inner.config) (wide d).config (volume_faults d.inner.faults) m' (alike_shape (config_by d.held c.inner.config) (wide d).config (wide d).config (sym by) (same_shape (wide d).config)) (active_volumes (wide d).config (config_by d.held c.inner.config) by)
+
 pub none_made : (c d : GroupCore) (ls : List Logs) (a : List Bool) (s : Bool) (m m' : Meaning) → LoggedStands c ls a s m → GroupStands d m' → GroupStays c d m m' → MakesBeside c.inner.config m m' → d.inner.config.volumes ≡ c.inner.config.volumes → LoggedStands d ls a s m'
 none_made c d ls a s m m' stands group stays beside volumes = all_whole c d ls a s m m' stands group goes (each_seen c d m m' stands.group shape goes (made_logs c m m' stands.group beside)
     (λ v spare l know. let both = wide_both c d m stands.group shape in made_know c (wide d).config m m' stands.group v (both.frames v) (both.blocks v) (both.place v) (some_read c d m m' both goes v) spare l beside know))
@@ -137,14 +149,8 @@ none_made c d ls a s m m' stands group stays beside volumes = all_whole c d ls a
     shape : SameShape d.inner.config c.inner.config
     shape = alike_shape d.inner.config c.inner.config c.inner.config volumes (same_shape c.inner.config)
 
-    by : (wide d).config.volumes ≡ (config_by d.held c.inner.config).volumes
-    by = by_volumes d.held c.inner.config d.inner.config volumes
-
-    last : Goes Nothing (group_meaning (config_by d.held c.inner.config) (volume_faults d.inner.faults) m') (inner_meaning (wide d) m')
-    last = places_Goes (config_by d.held c.inner.config) (wide d).config (volume_faults d.inner.faults) m' (alike_shape (config_by d.held c.inner.config) (wide d).config (wide d).config (sym by) (same_shape (wide d).config)) (active_volumes (wide d).config (config_by d.held c.inner.config) by)
-
     goes : Goes Nothing (inner_meaning (wide c) m) (inner_meaning (wide d) m')
-    goes = then_nothing Nothing (inner_meaning (wide c) m) (group_meaning (config_by d.held c.inner.config) (volume_faults d.inner.faults) m') (inner_meaning (wide d) m') stays.goes last
+    goes = none_goes c d m m' stays volumes
 
 -- ---- one was made
 
@@ -208,6 +214,10 @@ module _ (c d : GroupCore) (m m' : Meaning) (stands : GroupStands c m) (stays : 
       alike = λ is up. subst (λ (x : Config). ReadsOne x v m') (sym config_now) (record { one = λ b x y one two. (was.alike is (λ down. up (goes_front.falls down))).one b x y (reads_front b x up one) (reads_front b y up two) });
     }
 
+    -- a crash leaves one value of its blocks, where it left one
+    pub made_left : AllAlike (wide c).config v m → AllAlike (wide d).config v m'
+    made_left alike = subst (λ (x : Config). AllAlike x v m') (sym config_now) (record { one = λ b x y off one two. alike.one b x y refl (some_front b x one) (some_front b y two) })
+
   -- the new one
   module _ (v : ℕ) (zeros : AreZero d.inner.config v m') where
     pub made_alike : AllAlike (wide d).config v m'
@@ -249,7 +259,30 @@ one_made c d ls a a' s m m' volume stands group stays beside none volumes lost z
         let lt : w < length c.inner.config.volumes = omega (arith, low, many) in
         subst (λ (b : Bool). VolumeStands d w l b s m') (sym (others w (λ same. omega (arith, lt, same)))) (made_volume_stands c d m m' stands.group stays none w lt l (is_alike a w) s beside (stands.each w l is))
 
+-- what is known of the plexes of fresh volumes, of which this is one more
+pub fresh_made : (c d : GroupCore) (f f' : List Bool) (m m' : Meaning) (volume : VolumeEntry) → GroupStands c m → GroupStays c d m m' → d.held ≡ None → d.inner.config.volumes ≡ c.inner.config.volumes ++ (volume ∷ []) → AreZero d.inner.config (length c.inner.config.volumes) m'
+    → ((w : ℕ) → (w ≡ length c.inner.config.volumes → ⊥) → is_alike f' w ≡ is_alike f w) → FreshStands c f m → FreshStands d f' m'
+fresh_made c d f f' m m' volume stands stays none volumes zeros others fresh = record { each = λ v is. by v is (cases_eq v (length c.inner.config.volumes)) }
+  where
+    many : length (wide d).config.volumes ≡ length c.inner.config.volumes + 1
+    many = ap (λ (i : Inner). length i.config.volumes) (wide_none d none) ∙ ap length volumes ∙ long_one c.inner.config.volumes volume
+
+    left : (v : ℕ) → is_alike f v ≡ true → (v ≡ length c.inner.config.volumes → ⊥) → (v < length c.inner.config.volumes) ⊎ (length c.inner.config.volumes ≤ v) → AllAlike (wide d).config v m'
+    left v is apart (inl low) = made_left c d m m' stands stays none v low (fresh.each v is)
+    left v is apart (inr high) = record { one = λ b x y off one two. absurd (let low : v < length (wide d).config.volumes = one.inside.volume in omega (arith, low, many, high, apart)) }
+
+    by : (v : ℕ) → is_alike f' v ≡ true → (v ≡ length c.inner.config.volumes) ⊎ (v ≡ length c.inner.config.volumes → ⊥) → AllAlike (wide d).config v m'
+    by v is (inl same) = subst (λ (w : ℕ). AllAlike (wide d).config w m') (sym same) (made_alike c d m m' stands stays none (length c.inner.config.volumes) zeros)
+    by v is (inr apart) = left v (sym (others v apart) ∙ is) apart (cases_lt v (length c.inner.config.volumes))
+
 -- ---- answers
+
+-- where nothing changed, whatever is answered
+pub unmoved_by : (T : Type 0) (stop : Stop) (P : Type 0) → P → Unmoved {T = T} (Err stop) P
+unmoved_by T (Refused (refusal.Device disk)) P it = tt
+unmoved_by T (Refused refusal.Down) P it = tt
+unmoved_by T (Refused other) P it = it
+unmoved_by T OutOfMemory P it = it
 
 pub no_refusal : (o : Option No) → ((why : No) → o ≡ Some why → ⊥) → o ≡ None
 no_refusal None off = refl

@@ -2,5 +2,8 @@ pub mod LoggedVolumes
 pub mod Facts
 pub mod Marks
 pub mod Opens
-pub mod Made
 pub mod Attaching
+pub mod Detaching
+pub mod Taking
+pub mod Fresh
+pub mod Resting

@@ -1,7 +1,6 @@
 // The marks of the volumes of which an import made the plexes alike.
 ghost use Rattle.std.specs.Prelude.{◌≡◌, ◌<◌, ◌≤◌, ℕ, false, length, true, IfErr, IfOk, OnOk, Some, slice_get};
 ghost use Rattle.vx_disk.specs.Causes.{Cause};
-ghost use Rattle.vx_disk.specs.Shelf.{Goes, Nothing};
 ghost use Rattle.vx_group.specs.Blames.{StopsByDevice};
 ghost use Rattle.vx_group.specs.Holding.{wide};
 ghost use Rattle.vx_group.specs.Stands.{inner_meaning};
@@ -9,6 +8,7 @@ ghost use Rattle.vx_grouplogs.specs.Covering.{AllAlike};
 ghost use Rattle.vx_grouplogs.specs.Marking.{HoldsMany, NoMarks};
 ghost use Rattle.vx_loggroup.specs.LoggedVolumes.{LoggedStands, is_alike as is_alike_is};
 ghost use Rattle.vx_loggroup.specs.Marks.{ClearsVolume, MarksAreOff, region_count};
+ghost use Rattle.vx_loggroup.specs.Taking.{LogsSettle};
 ghost use Rattle.vx_logs.specs.declared.logs.Logs.{Logs as LogsValue};
 ghost use Rattle.vx_model.specs.declared.limits.TheConstants.{MOST_VOLUMES};
 
@@ -31,7 +31,7 @@ fn clear_one<S: Shelf>(
     requires there { vol < (inner_meaning (wide core.old) (S.meaning shelf.old)).units }
     requires same { is_alike_is alike.now vol ≡ true → AllAlike (wide core.old).config vol (S.meaning shelf.old) }
     ensures stands { LoggedStands core.new logs.new.items alike.now false (S.meaning shelf.new) }
-    ensures goes { Goes Nothing (inner_meaning (wide core.old) (S.meaning shelf.old)) (inner_meaning (wide core.new) (S.meaning shelf.new)) }
+    ensures settles { LogsSettle core.old core.new (S.meaning shelf.old) (S.meaning shelf.new) }
     ensures marks { ClearsVolume (wide core.old).config vol logs.old.items logs.new.items }
     ensures off { IfOk result (λ done. done ≡ true → is_alike_is alike.now vol ≡ true → (l k : LogsValue) → slice_get logs.old.items vol ≡ Some l → HoldsMany l.drl → slice_get logs.new.items vol ≡ Some k → NoMarks (region_count (wide core.old).config vol) k) }
     ensures trust { OnOk result (core.old.inner.committed ≡ true → core.new.inner.committed ≡ true) }
@@ -59,7 +59,7 @@ pub fn clear_all<S: Shelf>(
     requires same { (v : ℕ) → v < length logs.old.items → is_alike_is alike.now v ≡ true → AllAlike (wide core.old).config v (S.meaning shelf.old) }
     requires full { (v : ℕ) (l : LogsValue) → slice_get logs.old.items v ≡ Some l → HoldsMany l.drl }
     ensures stands { LoggedStands core.new logs.new.items alike.now false (S.meaning shelf.new) }
-    ensures goes { Goes Nothing (inner_meaning (wide core.old) (S.meaning shelf.old)) (inner_meaning (wide core.new) (S.meaning shelf.new)) }
+    ensures settles { LogsSettle core.old core.new (S.meaning shelf.old) (S.meaning shelf.new) }
     ensures off { IfOk result (λ done. done ≡ true → MarksAreOff (wide core.old).config alike.now (length logs.new.items) logs.new.items) }
     ensures trust { OnOk result (core.old.inner.committed ≡ true → core.new.inner.committed ≡ true) }
     ensures agreed { IfErr result (λ e. core.old.inner.committed ≡ true → core.new.inner.agreed ≡ true) }

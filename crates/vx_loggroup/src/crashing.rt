@@ -1,11 +1,14 @@
 // A crash of a group with logs.
 ghost use Rattle.std.specs.Prelude.{◌≡◌, ℕ, false, true};
+ghost use Rattle.vx_disk.specs.Causes.{OnDisks};
+ghost use Rattle.vx_disk.specs.Disks.{Crashed};
 ghost use Rattle.vx_disk.specs.Racks.{Stopped};
 ghost use Rattle.vx_group.specs.Holding.{wide};
 ghost use Rattle.vx_group.specs.Resumes.{CanImport};
-ghost use Rattle.vx_group.specs.Stands.{inner_meaning};
+ghost use Rattle.vx_group.specs.Stands.{InnerStands, inner_meaning};
 ghost use Rattle.vx_loggroup.specs.LoggedVolumes.{LoggedStands};
-ghost use Rattle.vx_logimport.specs.Covers.{DisksTell};
+ghost use Rattle.vx_logimport.specs.Rests.{LogsTell, RestsNone};
+ghost use Rattle.vx_logimport.specs.declared.rested.Rested.{Rested as RestedValue};
 
 use vx_disk::Rack;
 use vx_group::GroupCore;
@@ -25,9 +28,11 @@ pub fn crash_whole<R: Rack>(
 )
     requires stands { LoggedStands core.now logs.now.items alike.now stopped (R.meaning rack.old) }
     ensures fell { Stopped (R.meaning rack.old) (R.meaning rack.new) }
+    ensures disks { OnDisks (R.meaning rack.old).disks (R.meaning rack.new).disks (Crashed (R.meaning rack.old).size pick) }
+    ensures below { InnerStands (wide core.now) (R.meaning rack.new) }
     ensures volumes { Stopped (inner_meaning (wide core.now) (R.meaning rack.old)) (inner_meaning (wide core.now) (R.meaning rack.new)) }
     ensures can { core.now.inner.agreed ≡ true → CanImport (R.meaning rack.new) }
-    ensures tells { stopped ≡ false → (v : ℕ) → DisksTell v (R.meaning rack.new) }
+    ensures tells { stopped ≡ false → (r : RestedValue) → RestsNone r → LogsTell r (R.meaning rack.new) }
 {
     // What is kept of the volumes is gone with the group.
     let _kept = (logs.len(), alike.len(), stopped);

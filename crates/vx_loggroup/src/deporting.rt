@@ -1,44 +1,111 @@
 // A group with logs that is deported.
-ghost use Rattle.std.specs.Prelude.{◌≡◌, ◌⊎◌, ◌<◌, ◌≤◌, ◌-◌, ℕ, false, length, slice_get, true, Err, IfErr, OnOk, Some};
+ghost use Rattle.std.specs.Prelude.{◌≡◌, ◌<◌, ◌≤◌, ◌-◌, IfErr, IfOk, IsTrue, OnOk, Err, false, length, true};
 ghost use Rattle.vx_config.specs.Table.{greatest};
 ghost use Rattle.vx_disk.specs.Shelf.{Goes, Nothing};
 ghost use Rattle.vx_group.specs.Calls.{GroupCloses};
 ghost use Rattle.vx_group.specs.Dets.{DetStops, margin};
 ghost use Rattle.vx_group.specs.Holding.{wide};
-ghost use Rattle.vx_group.specs.Resumes.{AtRest};
 ghost use Rattle.vx_group.specs.Stands.{inner_meaning};
-ghost use Rattle.vx_logged.specs.Logged.{LogKept};
 ghost use Rattle.vx_loggroup.specs.LoggedVolumes.{LoggedStands};
-ghost use Rattle.vx_logimport.specs.Covers.{DisksTell};
-ghost use Rattle.vx_logs.specs.declared.logs.Logs.{Logs as LogsValue};
+ghost use Rattle.vx_loggroup.specs.Opens.{RestTells};
 ghost use Rattle.vx_model.specs.declared.errors.Stop.TheVariants.{No as Refused};
 ghost use Rattle.vx_model.specs.declared.no.Counted.TheVariants.{Number as Numbers};
 ghost use Rattle.vx_model.specs.declared.no.No.TheVariants.{Limit};
 
+use crate::resting::{are_kept, flush_disks, rest_all};
 use vx_disk::Shelf;
 use vx_group::{GroupCore, deport_in};
+use vx_logimport::Rested;
 use vx_logs::Logs;
-use vx_model::Stop;
-use vx_model::limits::MOST_VOLUMES;
+use vx_model::limits::{MOST_DISKS, MOST_NUMBER, MOST_VOLUMES};
+use vx_model::{No, Stop};
 
-/// Deports a group, as it is without logs. While logs are not stopped the disks tell behind it what an import by logs asks of each volume whose log
-/// is in memory or held as lost; of each other one they do where a crash leaves one value of each block.
+// So many serials are left at least where a group is deported.
+const MARGIN: u64 = 65_536;
+
+// Whether a deport flushes the disks first: logs go on, serials are left, and the disks are up.
+fn may_rest(stopped: bool, down: bool, serial: u64, disks: usize) -> bool
+    ensures going { result ≡ true → stopped ≡ false }
+    ensures up { result ≡ true → down ≡ false }
+    ensures near { result ≡ true → serial ≤ greatest - margin }
+    ensures few { result ≡ true → disks ≤ MOST_DISKS }
+{
+    if stopped {
+        return false;
+    }
+    if down {
+        return false;
+    }
+    if serial > MOST_NUMBER - MARGIN {
+        return false;
+    }
+    disks <= MOST_DISKS as usize
+}
+
+// Deports a group whose logs go on.
+fn deport_rested<S: Shelf>(
+    shelf: &mut S,
+    core: &mut GroupCore,
+    logs: &Vec<Logs>,
+    alike: &[bool; MOST_VOLUMES],
+) -> Result<Option<Rested>, Stop>
+    requires stands { LoggedStands core.old logs.now.items alike.now false (S.meaning shelf.old) }
+    requires up { IsTrue (S.meaning shelf.old).down → ⊥ }
+    requires near { core.old.inner.config.serial ≤ greatest - margin }
+    requires few { length core.old.inner.config.disks ≤ MOST_DISKS }
+    ensures stands { IfErr result (λ e. LoggedStands core.new logs.now.items alike.now false (S.meaning shelf.new)) }
+    ensures ends { GroupCloses core.old core.new (S.meaning shelf.old) (S.meaning shelf.new) result }
+    ensures up { OnOk result (IsTrue (S.meaning shelf.new).down → ⊥) }
+    ensures back { IfErr result (λ e. Goes Nothing (inner_meaning (wide core.old) (S.meaning shelf.old)) (inner_meaning (wide core.new) (S.meaning shelf.new))) }
+    ensures tells { IfOk result (λ r. RestTells r (S.meaning shelf.new)) }
+    ensures cause { DetStops (S.meaning shelf.old) (S.meaning shelf.new) result }
+{
+    let failed = match flush_disks(shelf, &core.inner.config) {
+        Ok(failed) => failed,
+        Err(_) => return Err(Stop::No(No::Down)),
+    };
+    let maps = rest_all(&core.inner.config, &mut core.inner.unsure, logs, &failed);
+    let kept = are_kept(&core.inner.config, logs);
+    match deport_in(shelf, core) {
+        Ok(()) => {}
+        Err(stop) => return Err(stop),
+    }
+    if !kept {
+        return Ok(None);
+    }
+    Ok(Some(Rested {
+        alike: *alike,
+        maps,
+    }))
+}
+
+/// Deports a group, as it is without logs. While logs are not stopped all disks are flushed first, so that of each plex, whatever its state, a crash
+/// leaves what it reads; a volume with maps in memory of which a disk fails in that is unsure, so that the next import makes its plexes alike and its maps are
+/// not used. It answers of which volumes the disks then tell what a clean stop left; none where logs are stopped, or a log is in memory no more and
+/// not held as lost.
 pub fn deport_whole<S: Shelf>(
     shelf: &mut S,
     core: &mut GroupCore,
     logs: &Vec<Logs>,
     alike: &[bool; MOST_VOLUMES],
     stopped: bool,
-) -> Result<(), Stop>
+) -> Result<Option<Rested>, Stop>
     requires stands { LoggedStands core.old logs.now.items alike.now stopped (S.meaning shelf.old) }
     ensures stands { IfErr result (λ e. LoggedStands core.new logs.now.items alike.now stopped (S.meaning shelf.new)) }
     ensures limit { greatest - margin < core.old.inner.config.serial → (result ≡ Err (Refused (Limit Numbers greatest))) × (core.new ≡ core.old) × (shelf.new ≡ shelf.old) }
     ensures ends { GroupCloses core.old core.new (S.meaning shelf.old) (S.meaning shelf.new) result }
+    ensures up { OnOk result (IsTrue (S.meaning shelf.new).down → ⊥) }
     ensures back { IfErr result (λ e. Goes Nothing (inner_meaning (wide core.old) (S.meaning shelf.old)) (inner_meaning (wide core.new) (S.meaning shelf.new))) }
-    ensures tells { OnOk result ((v : ℕ) (l : LogsValue) → stopped ≡ false → slice_get logs.now.items v ≡ Some l → LogKept core.old v l ⊎ AtRest (S.meaning shelf.new) → DisksTell v (S.meaning shelf.new)) }
+    ensures tells { IfOk result (λ r. RestTells r (S.meaning shelf.new)) }
     ensures cause { core.old.inner.config.serial ≤ greatest - margin → DetStops (S.meaning shelf.old) (S.meaning shelf.new) result }
 {
-    // What is kept of the volumes stays as it is.
-    let _kept = (logs.len(), alike.len(), stopped);
-    deport_in(shelf, core)
+    let down = shelf.is_down();
+    let disks = core.inner.config.disks.as_slice().len();
+    if may_rest(stopped, down, core.inner.config.serial, disks) {
+        return deport_rested(shelf, core, logs, alike);
+    }
+    match deport_in(shelf, core) {
+        Ok(()) => Ok(None),
+        Err(stop) => Err(stop),
+    }
 }

@@ -1,30 +1,37 @@
 // A group that keeps the dirty region logs of its volumes.
-ghost use Rattle.std.specs.Prelude.{◌≡◌, ◌⊎◌, ◌+◌, ◌-◌, ◌/◌, ◌<◌, ◌≤◌, ℕ, Err, IfErr, IfOk, IfSome, IsTrue, None, Ok, OnOk, Some, true, false, length};
+ghost use Rattle.std.specs.Prelude.{◌≡◌, ◌≢◌, ◌⊎◌, ◌-◌, ◌<◌, ◌≤◌, ℕ, Err, IfErr, IfOk, IfSome, IsTrue, List, None, Ok, OnOk, Some, true, false};
 ghost use Rattle.vx_config.specs.Table.{greatest};
 ghost use Rattle.vx_copyio.specs.Labelling.{HasSmall};
-ghost use Rattle.vx_disk.specs.Causes.{Calls, Cause, CountsOnly, Names, OnDisks, Works};
-ghost use Rattle.vx_disk.specs.Disks.{Untouched};
-ghost use Rattle.vx_disk.specs.Racks.{Stopped};
-ghost use Rattle.vx_disk.specs.Shelf.{DisksFlushed, DisksWrote, Fits, Flushed, Goes, Nothing, Read, Written, Wrote};
+ghost use Rattle.vx_disk.specs.Causes.{OnDisks, WithDisks};
+ghost use Rattle.vx_disk.specs.Disks.{Crashed, SameBlocks, Untouched};
+ghost use Rattle.vx_disk.specs.Racks.{Alike, Stopped};
+ghost use Rattle.vx_disk.specs.Shelf.{Goes, Nothing};
 ghost use Rattle.vx_group.specs.Attaches.{GroupAttachEnds, att_refusal, missed_regions};
-ghost use Rattle.vx_group.specs.Calls.{GivesBack, GroupAttaches, GroupCreated, GroupDeported, GroupNarrows, IsFull};
+ghost use Rattle.vx_group.specs.Calls.{GivesBack, GroupAttaches, GroupCreated, GroupDeported, GroupStays, ImportsAgain, IsFull, KeepsUnits};
 ghost use Rattle.vx_group.specs.Deports.{DeportStops, GroupCanImport};
+ghost use Rattle.vx_copies.specs.Commits.{MoreFailed};
+ghost use Rattle.vx_group.specs.Creates.{SameUnits};
+ghost use Rattle.vx_group.specs.Loses.{SameParts};
+ghost use Rattle.vx_kept.specs.Commits.{IsCommitted};
+ghost use Rattle.vx_kept.specs.Keeping.{frame_at};
+ghost use Rattle.vx_kept.specs.Trusts.{HasFailed};
 ghost use Rattle.vx_group.specs.Dets.{DetStops, det_refusal, margin};
 ghost use Rattle.vx_group.specs.Holding.{wide};
-ghost use Rattle.vx_group.specs.Laws.{group_lawful};
-ghost use Rattle.vx_group.specs.Makes.{make_refusal};
+ghost use Rattle.vx_group.specs.Makes.{MakeEnds, Unmoved, make_refusal};
 ghost use Rattle.vx_group.specs.Regains.{HoldsPlex, Regains};
 ghost use Rattle.vx_group.specs.Resumes.{CanImport};
 ghost use Rattle.vx_group.specs.Stands.{inner_meaning};
-ghost use Rattle.vx_loggroup.specs.Attaching.{map_by};
+ghost use Rattle.vx_loggroup.specs.Attaching.{fmr_at, map_by};
+ghost use Rattle.vx_loggroup.specs.Detaching.{MapIsEmpty, MapsBegin};
 ghost use Rattle.vx_loggroup.specs.Facts.{LoggedFact};
-ghost use Rattle.vx_loggroup.specs.LoggedVolumes.{LoggedStands};
-ghost use Rattle.vx_loggroup.specs.Made.{LoggedMakes};
-ghost use Rattle.vx_loggroup.specs.Marks.{ClearsVolume, MarksVolume};
+ghost use Rattle.vx_loggroup.specs.LoggedVolumes.{LoggedStands, is_alike};
+ghost use Rattle.vx_loggroup.specs.Fresh.{FreshStands, LogsFirst};
+ghost use Rattle.vx_loggroup.specs.Marks.{region_count};
 ghost use Rattle.vx_loggroup.specs.Opens.{DeportTells, LoggedImported};
-ghost use Rattle.vx_logimport.specs.Covers.{DisksTell};
-ghost use Rattle.vx_logs.specs.Writes.{first_region, last_region};
-ghost use Rattle.vx_model.specs.declared.errors.Stop.TheVariants.{No as Refused, OutOfMemory};
+ghost use Rattle.vx_logimport.specs.Rests.{LogsTell, RestsNone};
+ghost use Rattle.vx_logimport.specs.declared.rested.Rested.{Rested as RestedValue};
+ghost use Rattle.vx_logs.specs.declared.logs.Logs.{Logs as LogsValue};
+ghost use Rattle.vx_model.specs.declared.errors.Stop.TheVariants.{No as Refused};
 ghost use Rattle.vx_model.specs.declared.limits.TheConstants.{MOST_DISKS};
 ghost use Rattle.vx_model.specs.declared.no.No.{No as NoValue};
 ghost use Rattle.vx_model.specs.declared.no.No.TheVariants.{Size};
@@ -33,15 +40,16 @@ ghost use Rattle.vx_volume.specs.Plexes.{active};
 use crate::attaching::att_whole;
 use crate::crashing::crash_whole;
 use crate::deporting::deport_whole;
-use crate::keeping::{det_whole, read_whole};
-use crate::making::make_whole;
+use crate::detached::det_fresh;
+use crate::making::make_fresh;
 use crate::opening::{Opened, open_logged};
-use crate::whole::{flush_whole, write_whole};
+use crate::racking::{fail_whole, fuse_whole};
 use std::alloc::Global;
 use vx_config::Config;
-use vx_disk::{Rack, Shelf, ShelfError};
+use vx_disk::{Rack, Shelf};
 use vx_group::{GroupCore, start};
 use vx_layout::Shape;
+use vx_logimport::Rested;
 use vx_logs::Logs;
 use vx_model::limits::MOST_VOLUMES;
 use vx_model::{Name, Stop};
@@ -49,15 +57,18 @@ use vx_model::{Name, Stop};
 /// A group over a shelf, with the dirty region logs of its volumes. Its units are its volumes.
 #[derive(Drop)]
 pub struct LoggedGroup<S: Shelf> {
-    shelf: S,
-    core: GroupCore,
+    pub(crate) shelf: S,
+    pub(crate) core: GroupCore,
     /// Of each volume its logs.
-    logs: Vec<Logs>,
+    pub(crate) logs: Vec<Logs>,
     /// Of each volume whether its plexes are alike.
-    alike: [bool; MOST_VOLUMES],
+    pub(crate) alike: [bool; MOST_VOLUMES],
+    /// Of each volume whether its logs may begin yet: of each block of it a crash leaves one value.
+    pub(crate) fresh: [bool; MOST_VOLUMES],
     /// Logs are stopped, as no serial is left to commit that one is lost.
-    stopped: bool,
-    ghost stands: { LoggedFact core logs.items alike stopped (S.meaning shelf) },
+    pub(crate) stopped: bool,
+    pub(crate) ghost stands: { LoggedFact core logs.items alike stopped (S.meaning shelf) },
+    pub(crate) ghost begins: { FreshStands core fresh (S.meaning shelf) },
 }
 
 impl<S: Shelf> LoggedGroup<S> {
@@ -69,6 +80,7 @@ impl<S: Shelf> LoggedGroup<S> {
         requires some { 0 < (S.meaning shelf).units }
         requires few { (S.meaning shelf).units ≤ MOST_DISKS }
         ensures small { HasSmall (S.meaning shelf) → result ≡ Err (shelf, Refused Size) }
+        ensures same { KeepsUnits (S.meaning shelf) (λ s. S.meaning s) (λ g. g.shelf) result }
         ensures created { GroupCreated site (S.meaning shelf) (λ s. S.meaning s) (λ g. g.core) (λ g. g.shelf) result }
     {
         let mut shelf = shelf;
@@ -78,6 +90,7 @@ impl<S: Shelf> LoggedGroup<S> {
                 core: GroupCore { inner, held: None },
                 logs: Vec::new(alloc),
                 alike: [false; MOST_VOLUMES],
+                fresh: [false; MOST_VOLUMES],
                 stopped: false,
             }),
             Err(stop) => Err((shelf, stop)),
@@ -85,19 +98,23 @@ impl<S: Shelf> LoggedGroup<S> {
     }
 
     /// Imports a group. Of a volume that stopped uncleanly the regions alone are copied that its log has, and all of them where no log could
-    /// be read; then all marks are taken off its log. Each refusal is one of the import of a group; then the shelf is handed back.
-    pub fn import(alloc: Global, shelf: S) -> Result<LoggedGroup<S>, (S, Stop)>
+    /// be read. Where its plexes are alike then, and where the disks tell that a clean stop left them so, all marks are taken off its log. The log
+    /// of missed regions of one that stopped cleanly goes on. Each refusal is one of the import of a group; then the shelf is handed back.
+    pub fn import(alloc: Global, shelf: S, rested: &Rested) -> Result<LoggedGroup<S>, (S, Stop)>
         requires can { CanImport (S.meaning shelf) }
-        requires tells { (v : ℕ) → DisksTell v (S.meaning shelf) }
-        ensures imported { LoggedImported (λ s. S.meaning s) (S.meaning shelf) (λ g. g.core) (λ g. g.logs.items) (λ g. g.alike) (λ g. g.stopped) (λ g. g.shelf) result }
+        requires tells { LogsTell rested.now (S.meaning shelf) }
+        ensures same { KeepsUnits (S.meaning shelf) (λ s. S.meaning s) (λ g. g.shelf) result }
+        ensures imported { LoggedImported (λ s. S.meaning s) rested.now (S.meaning shelf) (λ g. g.core) (λ g. g.logs.items) (λ g. g.alike) (λ g. g.stopped) (λ g. g.shelf) result }
+        ensures again { ImportsAgain (λ s. S.meaning s) result }
     {
         let mut shelf = shelf;
-        match open_logged(alloc, &mut shelf) {
+        match open_logged(alloc, &mut shelf, rested) {
             Ok(opened) => {
                 let Opened {
                     core,
                     logs,
                     alike,
+                    fresh,
                     stopped,
                 } = opened;
                 Ok(LoggedGroup {
@@ -105,6 +122,7 @@ impl<S: Shelf> LoggedGroup<S> {
                     core,
                     logs,
                     alike,
+                    fresh,
                     stopped,
                 })
             }
@@ -126,45 +144,63 @@ impl<S: Shelf> LoggedGroup<S> {
         self.stopped
     }
 
-    /// Makes a volume, as a group does without logs, and answers its number. Where it has a dirty region log, this begins without marks, and a
-    /// commit of its own says then that it is trusted; where it cannot begin, it stays lost.
+    /// Makes a volume, as a group does without logs, and answers its number. Its logs begin in its first write, or where a plex of it is detached
+    /// before; till then they are held as lost.
     ///
-    /// Answers what the making of a volume of a group answers, and that memory ran out before any other refusal. It takes memory.
+    /// Answers what the making of a volume of a group answers. It takes memory.
     pub fn make_volume(&mut self, alloc: Global, name: &Name, want: &Shape) -> Result<u32, Stop>
         requires prefer { IfSome want.now.prefer (λ p. p < want.now.mirrors) }
-        ensures refused { (no : NoValue) → make_refusal self.old.core.inner.config name.now want.now ≡ Some no → ((result ≡ Err (Refused no)) ⊎ (result ≡ Err OutOfMemory)) × (self.new.core ≡ self.old.core) × (self.new.shelf ≡ self.old.shelf) }
-        ensures makes { make_refusal self.old.core.inner.config name.now want.now ≡ None → LoggedMakes (λ s. S.meaning s) name.now want.now self.old.core self.new.core self.new.logs.items (S.meaning self.old.shelf) (S.meaning self.new.shelf) result }
-        ensures agreed { self.old.core.inner.committed ≡ true → self.new.core.inner.agreed ≡ true }
+        ensures refused { (no : NoValue) → make_refusal self.old.core.inner.config name.now want.now ≡ Some no → (result ≡ Err (Refused no)) × (self.new.core ≡ self.old.core) × (self.new.shelf ≡ self.old.shelf) }
+        ensures stays { GroupStays self.old.core self.new.core (S.meaning self.old.shelf) (S.meaning self.new.shelf) }
+        ensures below { SameUnits (S.meaning self.old.shelf) (S.meaning self.new.shelf) }
+        ensures ends { make_refusal self.old.core.inner.config name.now want.now ≡ None → MakeEnds name.now want.now self.old.core.inner self.new.core.inner (S.meaning self.old.shelf) (S.meaning self.new.shelf) result }
+        ensures parts { SameParts self.old.core.inner.config self.new.core.inner.config }
+        ensures disks { MoreFailed (S.meaning self.old.shelf) (S.meaning self.new.shelf) self.old.core.inner.config.disks self.new.core.inner.config.disks }
+        ensures held { OnOk result (self.new.core.held ≡ None) }
+        ensures up { OnOk result (IsTrue (S.meaning self.new.shelf).down → ⊥) }
+        ensures newest { OnOk result (IsCommitted self.new.core.inner.config (S.meaning self.new.shelf)) }
+        ensures trust { OnOk result (self.old.core.inner.committed ≡ true → self.new.core.inner.committed ≡ true) }
+        ensures whole { OnOk result ((self.new.core.inner.committed ≡ true) ⊎ HasFailed self.new.core.inner.config.disks) }
+        ensures agreed { IfErr result (λ e. self.old.core.inner.committed ≡ true → self.new.core.inner.agreed ≡ true) }
+        ensures unmoved { Unmoved result ((self.new.core ≡ self.old.core) × (self.new.shelf ≡ self.old.shelf)) }
     {
-        make_whole(
+        make_fresh(
             alloc,
             &mut self.shelf,
             &mut self.core,
             &mut self.logs,
             &mut self.alike,
+            &mut self.fresh,
             self.stopped,
             name,
             want,
         )
     }
 
-    /// Detaches a plex, as a group does without logs.
+    /// Detaches a plex, as a group does without logs. Where no write of the volume failed since the import, the map of the plex begins then: it has
+    /// missed no region yet.
     pub fn det(&mut self, vol: u32, plex: u32) -> Result<(), Stop>
         ensures refused { (no : NoValue) → det_refusal self.old.core.inner.config vol plex ≡ Some no → (result ≡ Err (Refused no)) × (self.new.core ≡ self.old.core) × (self.new.shelf ≡ self.old.shelf) }
         ensures goes { Goes Nothing (inner_meaning (wide self.old.core) (S.meaning self.old.shelf)) (inner_meaning (wide self.new.core) (S.meaning self.new.shelf)) }
-        ensures narrows { GroupNarrows self.old.core self.new.core (S.meaning self.old.shelf) (S.meaning self.new.shelf) }
+        ensures parts { SameParts self.old.core.inner.config self.new.core.inner.config }
+        ensures disks { MoreFailed (S.meaning self.old.shelf) (S.meaning self.new.shelf) self.old.core.inner.config.disks self.new.core.inner.config.disks }
+        ensures frames { (v : ℕ) → frame_at self.new.core.inner.config v ≡ frame_at self.old.core.inner.config v }
+        ensures below { SameUnits (S.meaning self.old.shelf) (S.meaning self.new.shelf) }
+        ensures on { (v p : ℕ) → IsTrue (active self.new.core.inner.config v p) → IsTrue (active self.old.core.inner.config v p) }
+        ensures begins { OnOk result (self.old.stopped ≡ false → self.new.core.held ≡ None → is_alike self.old.alike vol ≡ true → IsTrue (active self.old.core.inner.config vol plex) → MapIsEmpty self.old.core.inner.config vol plex (fmr_at self.new.logs.items vol)) }
         ensures off { OnOk result (active self.new.core.inner.config vol plex ≡ false) }
         ensures others { (w p : ℕ) → (w ≡ vol → p ≡ plex → ⊥) → active self.new.core.inner.config w p ≡ active self.old.core.inner.config w p }
-        ensures logs { self.new.logs.items ≡ self.old.logs.items }
+        ensures maps { (ls : List LogsValue) × LogsFirst vol (region_count (wide self.old.core).config vol) self.old.logs.items ls × MapsBegin vol plex ls self.new.logs.items }
         ensures trust { OnOk result (self.old.core.inner.committed ≡ true → self.new.core.inner.committed ≡ true) }
         ensures agreed { IfErr result (λ e. self.old.core.inner.committed ≡ true → self.new.core.inner.agreed ≡ true) }
         ensures cause { det_refusal self.old.core.inner.config vol plex ≡ None → DetStops (S.meaning self.old.shelf) (S.meaning self.new.shelf) result }
     {
-        det_whole(
+        det_fresh(
             &mut self.shelf,
             &mut self.core,
-            &self.logs,
+            &mut self.logs,
             &self.alike,
+            &mut self.fresh,
             self.stopped,
             vol,
             plex,
@@ -197,33 +233,37 @@ impl<S: Shelf> LoggedGroup<S> {
         )
     }
 
-    /// Deports the group, as one without logs, and hands the shelf out, or gives the group back. What was handed out may be imported by its logs,
-    /// as far as these are in memory, or held as lost, or a crash leaves one value of each block.
-    pub fn deport(self) -> Result<S, (LoggedGroup<S>, Stop)>
-        ensures limit { greatest - margin < self.core.inner.config.serial → IsFull self.core self.shelf (λ g. g.core) (λ g. g.shelf) result }
-        ensures ends { GroupDeported self.core (S.meaning self.shelf) (λ s. S.meaning s) (λ g. g.core) (λ g. g.shelf) result }
-        ensures back { GivesBack self.core (S.meaning self.shelf) (λ s. S.meaning s) (λ g. g.core) (λ g. g.shelf) result }
-        ensures can { GroupCanImport self.core.inner (λ s. S.meaning s) result }
-        ensures tells { DeportTells self.core self.logs.items self.stopped (λ s. S.meaning s) result }
-        ensures cause { self.core.inner.config.serial ≤ greatest - margin → DeportStops (S.meaning self.shelf) (λ s. S.meaning s) (λ g. g.shelf) result }
+    /// Deports the group, as one without logs, and hands the shelf out, or gives the group back. All disks are flushed first; a volume with a log of
+    /// missed regions of which a disk fails in that is unsure. It answers of which volumes the disks tell what a clean stop left; then they may
+    /// be imported by their logs. It answers none where logs are stopped, or a log is in memory no more and not held as lost.
+    pub fn deport(self) -> Result<(S, Option<Rested>), (LoggedGroup<S>, Stop)>
+        ensures limit { greatest - margin < self.core.inner.config.serial → IsFull self.core (self.shelf, None) (λ g. g.core) (λ g. (g.shelf, None)) result }
+        ensures ends { GroupDeported self.core (S.meaning self.shelf) (λ s. S.meaning s.0) (λ g. g.core) (λ g. (g.shelf, None)) result }
+        ensures up { IfOk result (λ s. IsTrue (S.meaning s.0).down → ⊥) }
+        ensures back { GivesBack self.core (S.meaning self.shelf) (λ s. S.meaning s.0) (λ g. g.core) (λ g. (g.shelf, None)) result }
+        ensures can { GroupCanImport self.core.inner (λ s. S.meaning s.0) result }
+        ensures tells { DeportTells (λ s. S.meaning s) result }
+        ensures cause { self.core.inner.config.serial ≤ greatest - margin → DeportStops (S.meaning self.shelf) (λ s. S.meaning s.0) (λ g. (g.shelf, None)) result }
     {
         let LoggedGroup {
             shelf,
             core,
             logs,
             alike,
+            fresh,
             stopped,
         } = self;
         let mut shelf = shelf;
         let mut core = core;
         match deport_whole(&mut shelf, &mut core, &logs, &alike, stopped) {
-            Ok(()) => Ok(shelf),
+            Ok(rested) => Ok((shelf, rested)),
             Err(stop) => Err((
                 LoggedGroup {
                     shelf,
                     core,
                     logs,
                     alike,
+                    fresh,
                     stopped,
                 },
                 stop,
@@ -235,7 +275,12 @@ impl<S: Shelf> LoggedGroup<S> {
     pub fn apart(self) -> (S, Opened)
         ensures shelf { result.0 ≡ self.shelf }
         ensures core { result.1.core ≡ self.core }
+        ensures logs { result.1.logs ≡ self.logs }
+        ensures alike { result.1.alike ≡ self.alike }
+        ensures fresh { result.1.fresh ≡ self.fresh }
+        ensures stopped { result.1.stopped ≡ self.stopped }
         ensures stands { LoggedStands result.1.core result.1.logs.items result.1.alike result.1.stopped (S.meaning result.0) }
+        ensures begins { FreshStands result.1.core result.1.fresh (S.meaning result.0) }
     {
         (
             self.shelf,
@@ -243,6 +288,7 @@ impl<S: Shelf> LoggedGroup<S> {
                 core: self.core,
                 logs: self.logs,
                 alike: self.alike,
+                fresh: self.fresh,
                 stopped: self.stopped,
             },
         )
@@ -251,13 +297,19 @@ impl<S: Shelf> LoggedGroup<S> {
     /// Joins them again, where what the rest says stands on the shelf. It makes no device call and takes no memory.
     pub fn together(shelf: S, rest: Opened) -> LoggedGroup<S>
         requires stands { LoggedStands rest.core rest.logs.items rest.alike rest.stopped (S.meaning shelf) }
+        requires begins { FreshStands rest.core rest.fresh (S.meaning shelf) }
         ensures shelf { result.shelf ≡ shelf }
         ensures core { result.core ≡ rest.core }
+        ensures logs { result.logs ≡ rest.logs }
+        ensures alike { result.alike ≡ rest.alike }
+        ensures fresh { result.fresh ≡ rest.fresh }
+        ensures stopped { result.stopped ≡ rest.stopped }
     {
         let Opened {
             core,
             logs,
             alike,
+            fresh,
             stopped,
         } = rest;
         LoggedGroup {
@@ -265,6 +317,7 @@ impl<S: Shelf> LoggedGroup<S> {
             core,
             logs,
             alike,
+            fresh,
             stopped,
         }
     }
@@ -275,9 +328,10 @@ impl<R: Rack> LoggedGroup<R> {
     /// may be imported again by their logs once they are revived.
     pub fn crash(self, pick: u64) -> R
         ensures stopped { Stopped (R.meaning self.shelf) (R.meaning result) }
+        ensures disks { OnDisks (R.meaning self.shelf).disks (R.meaning result).disks (Crashed (R.meaning self.shelf).size pick) }
         ensures volumes { Stopped (inner_meaning (wide self.core) (R.meaning self.shelf)) (inner_meaning (wide self.core) (R.meaning result)) }
         ensures can { self.core.inner.agreed ≡ true → CanImport (R.meaning result) }
-        ensures tells { self.stopped ≡ false → (v : ℕ) → DisksTell v (R.meaning result) }
+        ensures tells { self.stopped ≡ false → (r : RestedValue) → RestsNone r → LogsTell r (R.meaning result) }
     {
         let mut rack = self.shelf;
         let core = self.core;
@@ -286,101 +340,50 @@ impl<R: Rack> LoggedGroup<R> {
         crash_whole(&mut rack, &core, &logs, &alike, self.stopped, pick);
         rack
     }
-}
 
-impl<S: Shelf> Shelf for LoggedGroup<S> {
-    ghost meaning = { λ g. inner_meaning (wide g.core) (S.meaning g.shelf) };
-
-    fn units(&self) -> u32 {
-        self.core.inner.config.volumes.as_slice().len() as u32
-    }
-
-    fn size(&self, unit: u32) -> u64 {
-        self.core.inner.config.volumes.as_slice()[unit as usize].blocks
-    }
-
-    /// Reads from one plex that is ACTIVE in the configuration. All logs are as they were.
-    fn read(&mut self, unit: u32, block: u64, into: &mut [u8]) -> Result<(), ShelfError>
-        requires { Fits (inner_meaning (wide self.old.core) (S.meaning self.old.shelf)) unit block (length into.old) }
-        ensures goes { Goes Nothing (inner_meaning (wide self.old.core) (S.meaning self.old.shelf)) (inner_meaning (wide self.new.core) (S.meaning self.new.shelf)) }
-        ensures ok { OnOk result (Read (inner_meaning (wide self.old.core) (S.meaning self.old.shelf)) unit block into.new) }
-        ensures down { (inner_meaning (wide self.new.core) (S.meaning self.new.shelf)).down ≡ (inner_meaning (wide self.old.core) (S.meaning self.old.shelf)).down }
-        ensures cause { Cause (inner_meaning (wide self.old.core) (S.meaning self.old.shelf)) (inner_meaning (wide self.new.core) (S.meaning self.new.shelf)) unit result }
-        ensures counts { CountsOnly unit result (inner_meaning (wide self.old.core) (S.meaning self.old.shelf)).faults (inner_meaning (wide self.new.core) (S.meaning self.new.shelf)).faults }
-        ensures names { Names (inner_meaning (wide self.old.core) (S.meaning self.old.shelf)).disks unit result }
-        ensures works { OnOk result (Works (inner_meaning (wide self.old.core) (S.meaning self.old.shelf)).disks unit) }
-        ensures disks { OnDisks (inner_meaning (wide self.old.core) (S.meaning self.old.shelf)).disks (inner_meaning (wide self.new.core) (S.meaning self.new.shelf)).disks Untouched }
-        ensures logs { self.new.logs.items ≡ self.old.logs.items }
+    /// Makes each later call on a disk fail, or ends that. The group stays as it is, and to its volumes nothing changes.
+    pub fn fail(&mut self, disk: u32, on: bool)
+        requires inside { disk < (R.meaning self.old.shelf).units }
+        ensures core { self.new.core ≡ self.old.core }
+        ensures goes { Goes Nothing (R.meaning self.old.shelf) (R.meaning self.new.shelf) }
+        ensures alike { Alike (R.meaning self.old.shelf) (R.meaning self.new.shelf) }
+        ensures down { (R.meaning self.new.shelf).down ≡ (R.meaning self.old.shelf).down }
+        ensures armed { (R.meaning self.new.shelf).armed ≡ (R.meaning self.old.shelf).armed }
+        ensures disks { WithDisks (R.meaning self.old.shelf).disks (R.meaning self.new.shelf).disks (λ o n. Untouched o n × (n.failing disk ≡ on) × ((u : ℕ) → u ≢ disk → n.failing u ≡ o.failing u)) }
+        ensures volumes { Alike (inner_meaning (wide self.old.core) (R.meaning self.old.shelf)) (inner_meaning (wide self.new.core) (R.meaning self.new.shelf)) }
+        ensures still { Goes Nothing (inner_meaning (wide self.old.core) (R.meaning self.old.shelf)) (inner_meaning (wide self.new.core) (R.meaning self.new.shelf)) }
     {
-        read_whole(
+        fail_whole(
             &mut self.shelf,
-            &mut self.core,
+            &self.core,
             &self.logs,
             &self.alike,
+            &self.fresh,
             self.stopped,
-            unit,
-            block,
-            into,
-        )
+            disk,
+            on,
+        );
     }
 
-    /// Writes to each plex that is ACTIVE. The regions of the run are durably marked first, and no others: a log of which the disk fails is lost by
-    /// a commit before a plex is written.
-    fn write(&mut self, unit: u32, block: u64, bytes: &[u8]) -> Result<(), ShelfError>
-        requires { Fits (inner_meaning (wide self.old.core) (S.meaning self.old.shelf)) unit block (length bytes.now) }
-        ensures goes { Goes (Written unit block bytes.now) (inner_meaning (wide self.old.core) (S.meaning self.old.shelf)) (inner_meaning (wide self.new.core) (S.meaning self.new.shelf)) }
-        ensures ok { OnOk result (Wrote unit block bytes.now (inner_meaning (wide self.old.core) (S.meaning self.old.shelf)) (inner_meaning (wide self.new.core) (S.meaning self.new.shelf))) }
-        ensures cause { Cause (inner_meaning (wide self.old.core) (S.meaning self.old.shelf)) (inner_meaning (wide self.new.core) (S.meaning self.new.shelf)) unit result }
-        ensures names { Names (inner_meaning (wide self.old.core) (S.meaning self.old.shelf)).disks unit result }
-        ensures works { OnOk result (Works (inner_meaning (wide self.old.core) (S.meaning self.old.shelf)).disks unit) }
-        ensures disks { OnDisks (inner_meaning (wide self.old.core) (S.meaning self.old.shelf)).disks (inner_meaning (wide self.new.core) (S.meaning self.new.shelf)).disks (λ o n. Calls (inner_meaning (wide self.old.core) (S.meaning self.old.shelf)) (DisksWrote unit block bytes.now) o n result) }
-        ensures marks { MarksVolume (wide self.old.core).config unit (first_region block) (last_region block (length bytes.now / 512)) self.old.logs.items self.new.logs.items }
-        ensures full { self.old.stopped ≡ false → self.new.stopped ≡ true → greatest ≤ self.old.core.inner.config.serial + 18 }
-        ensures trust { OnOk result (self.old.core.inner.committed ≡ true → self.new.core.inner.committed ≡ true) }
-        ensures agreed { IfErr result (λ e. self.old.core.inner.committed ≡ true → self.new.core.inner.agreed ≡ true) }
+    /// Lets that many writes and flushes of the disks pass; reads do not count. The next changes nothing and is a crash. The group stays as it is,
+    /// and to its volumes nothing changes.
+    pub fn fuse(&mut self, calls: u64, pick: u64)
+        ensures core { self.new.core ≡ self.old.core }
+        ensures alike { Alike (R.meaning self.old.shelf) (R.meaning self.new.shelf) }
+        ensures down { (R.meaning self.new.shelf).down ≡ (R.meaning self.old.shelf).down }
+        ensures armed { IsTrue (R.meaning self.new.shelf).armed }
+        ensures disks { OnDisks (R.meaning self.old.shelf).disks (R.meaning self.new.shelf).disks (λ o n. SameBlocks o n × (n.fuse ≡ Some (calls, pick))) }
+        ensures volumes { Alike (inner_meaning (wide self.old.core) (R.meaning self.old.shelf)) (inner_meaning (wide self.new.core) (R.meaning self.new.shelf)) }
     {
-        write_whole(
+        fuse_whole(
             &mut self.shelf,
-            &mut self.core,
-            &mut self.logs,
-            &mut self.alike,
-            &mut self.stopped,
-            unit,
-            block,
-            bytes,
-        )
-    }
-
-    /// Flushes each plex that is ACTIVE, and takes all marks off the log of the volume where more than 64 regions were marked since.
-    fn flush(&mut self, unit: u32) -> Result<(), ShelfError>
-        requires { unit < (inner_meaning (wide self.old.core) (S.meaning self.old.shelf)).units }
-        ensures goes { Goes Nothing (inner_meaning (wide self.old.core) (S.meaning self.old.shelf)) (inner_meaning (wide self.new.core) (S.meaning self.new.shelf)) }
-        ensures ok { OnOk result (Flushed unit (inner_meaning (wide self.old.core) (S.meaning self.old.shelf)) (inner_meaning (wide self.new.core) (S.meaning self.new.shelf))) }
-        ensures cause { Cause (inner_meaning (wide self.old.core) (S.meaning self.old.shelf)) (inner_meaning (wide self.new.core) (S.meaning self.new.shelf)) unit result }
-        ensures names { Names (inner_meaning (wide self.old.core) (S.meaning self.old.shelf)).disks unit result }
-        ensures works { OnOk result (Works (inner_meaning (wide self.old.core) (S.meaning self.old.shelf)).disks unit) }
-        ensures disks { OnDisks (inner_meaning (wide self.old.core) (S.meaning self.old.shelf)).disks (inner_meaning (wide self.new.core) (S.meaning self.new.shelf)).disks (λ o n. Calls (inner_meaning (wide self.old.core) (S.meaning self.old.shelf)) (DisksFlushed unit) o n result) }
-        ensures marks { ClearsVolume (wide self.old.core).config unit self.old.logs.items self.new.logs.items }
-        ensures trust { OnOk result (self.old.core.inner.committed ≡ true → self.new.core.inner.committed ≡ true) }
-        ensures agreed { IfErr result (λ e. self.old.core.inner.committed ≡ true → self.new.core.inner.agreed ≡ true) }
-    {
-        flush_whole(
-            &mut self.shelf,
-            &mut self.core,
-            &mut self.logs,
+            &self.core,
+            &self.logs,
             &self.alike,
+            &self.fresh,
             self.stopped,
-            unit,
-        )
+            calls,
+            pick,
+        );
     }
-
-    fn faults(&self, unit: u32) -> u64 {
-        self.core.inner.faults[unit as usize]
-    }
-
-    fn is_down(&self) -> bool {
-        self.shelf.is_down()
-    }
-
-    ghost lawful = { λ g. group_lawful (wide g.core) (S.meaning g.shelf) (S.lawful g.shelf) g.stands.group.stands };
 }

@@ -4,9 +4,11 @@ ghost use Rattle.vx_config.specs.Table.{greatest};
 ghost use Rattle.vx_disk.specs.Causes.{Cause};
 ghost use Rattle.vx_disk.specs.Shelf.{Fits, Flushed, Goes, Nothing, Written, Wrote};
 ghost use Rattle.vx_group.specs.Holding.{wide};
+ghost use Rattle.vx_group.specs.Loses.{LosesAlong};
 ghost use Rattle.vx_group.specs.Stands.{inner_meaning};
 ghost use Rattle.vx_loggroup.specs.LoggedVolumes.{LoggedStands};
-ghost use Rattle.vx_loggroup.specs.Marks.{ClearsVolume, MarksVolume};
+ghost use Rattle.vx_logged.specs.Behind.{MarkedBefore, none_missing, those_missing};
+ghost use Rattle.vx_loggroup.specs.Marks.{ClearsVolume, MarksVolume, NotesMaps};
 ghost use Rattle.vx_logs.specs.Writes.{first_region, last_region};
 ghost use Rattle.vx_model.specs.declared.limits.TheConstants.{MOST_VOLUMES};
 
@@ -33,8 +35,11 @@ pub fn write_whole<S: Shelf>(
     requires fits { Fits (inner_meaning (wide core.old) (S.meaning shelf.old)) vol block (length bytes.now) }
     ensures stands { LoggedStands core.new logs.new.items alike.new stopped.new (S.meaning shelf.new) }
     ensures goes { Goes (Written vol block bytes.now) (inner_meaning (wide core.old) (S.meaning shelf.old)) (inner_meaning (wide core.new) (S.meaning shelf.new)) }
+    ensures loses { LosesAlong core.old.inner.config core.new.inner.config (S.meaning shelf.old) (S.meaning shelf.new) }
     ensures ok { OnOk result (Wrote vol block bytes.now (inner_meaning (wide core.old) (S.meaning shelf.old)) (inner_meaning (wide core.new) (S.meaning shelf.new))) }
     ensures marks { MarksVolume (wide core.old).config vol (first_region block) (last_region block (length bytes.now / 512)) logs.old.items logs.new.items }
+    ensures notes { NotesMaps (those_missing core.new vol result) vol (first_region block) (last_region block (length bytes.now / 512)) logs.old.items logs.new.items }
+    ensures marked { stopped.new ≡ false → MarkedBefore (λ s. S.meaning s) vol block bytes.now (first_region block) (last_region block (length bytes.now / 512)) core.old core.new (S.meaning shelf.old) (S.meaning shelf.new) }
     ensures full { stopped.old ≡ false → stopped.new ≡ true → greatest ≤ core.old.inner.config.serial + 18 }
     ensures trust { OnOk result (core.old.inner.committed ≡ true → core.new.inner.committed ≡ true) }
     ensures agreed { IfErr result (λ e. core.old.inner.committed ≡ true → core.new.inner.agreed ≡ true) }
@@ -70,8 +75,10 @@ pub fn flush_whole<S: Shelf>(
     requires there { vol < (inner_meaning (wide core.old) (S.meaning shelf.old)).units }
     ensures stands { LoggedStands core.new logs.new.items alike.now stopped (S.meaning shelf.new) }
     ensures goes { Goes Nothing (inner_meaning (wide core.old) (S.meaning shelf.old)) (inner_meaning (wide core.new) (S.meaning shelf.new)) }
+    ensures loses { LosesAlong core.old.inner.config core.new.inner.config (S.meaning shelf.old) (S.meaning shelf.new) }
     ensures ok { OnOk result (Flushed vol (inner_meaning (wide core.old) (S.meaning shelf.old)) (inner_meaning (wide core.new) (S.meaning shelf.new))) }
     ensures marks { ClearsVolume (wide core.old).config vol logs.old.items logs.new.items }
+    ensures maps { NotesMaps none_missing vol 0 0 logs.old.items logs.new.items }
     ensures trust { OnOk result (core.old.inner.committed ≡ true → core.new.inner.committed ≡ true) }
     ensures agreed { IfErr result (λ e. core.old.inner.committed ≡ true → core.new.inner.agreed ≡ true) }
     ensures cause { Cause (inner_meaning (wide core.old) (S.meaning shelf.old)) (inner_meaning (wide core.new) (S.meaning shelf.new)) vol result }

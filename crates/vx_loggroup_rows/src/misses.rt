@@ -122,9 +122,11 @@ fn is_lost(config: &Config) -> Option<bool> {
 }
 
 #[test]
-fn maps_of_a_new_volume_are_trusted(rt: HostRuntime) -> Result<(), Fail> {
+fn maps_are_trusted_behind_the_first_detach(rt: HostRuntime) -> Result<(), Fail> {
     let alloc = rt.alloc();
-    let group = group_of(alloc, &[], &MAPPED)?;
+    let mut group = group_of(alloc, &[], &MAPPED)?;
+    assert_eq!(rt; is_lost(group.config()), Some(true));
+    assert!(rt; group.det(0, 1).is_ok());
     assert_eq!(rt; is_lost(group.config()), Some(false));
     Ok(())
 }
@@ -209,5 +211,87 @@ fn a_write_is_done_whichever_of_its_calls_fails(rt: HostRuntime) -> Result<(), F
     // Where the log of missed regions is lost all regions are copied.
     assert!(rt; some);
     assert!(rt; all);
+    Ok(())
+}
+
+#[test]
+fn a_detach_begins_the_map_anew(rt: HostRuntime) -> Result<(), Fail> {
+    let alloc = rt.alloc();
+    let mut group = group_of(alloc, &[], &MAPPED)?;
+    assert!(rt; group.det(0, 1).is_ok());
+    assert!(rt; put(&mut group, 10, 0xaa));
+    assert_eq!(rt; att(&mut group, 1), Some(1));
+    assert!(rt; group.det(0, 1).is_ok());
+    assert!(rt; put(&mut group, 70, 0xbb));
+    assert_eq!(rt; att(&mut group, 1), Some(1));
+    assert!(rt; group.det(0, 0).is_ok());
+    assert_eq!(rt; read(&mut group, 10), Some(0xaa));
+    assert_eq!(rt; read(&mut group, 70), Some(0xbb));
+    Ok(())
+}
+
+// Writes two blocks while the second plex is detached, as this call fails, and attaches the plex then. Answers how many regions were copied, where
+// the first write was refused and the second one done.
+fn refused(alloc: Global, call: u64) -> Result<Option<u64>, OutOfMemory> {
+    let mut group = group_of(alloc, &[call], &MAPPED)?;
+    if group.det(0, 1).is_err() || put(&mut group, 70, 0xbb) {
+        return Ok(None);
+    }
+    if !put(&mut group, 200, 0xcc) {
+        return Ok(None);
+    }
+    Ok(att(&mut group, 1))
+}
+
+#[test]
+fn a_refused_write_is_noted(rt: HostRuntime) -> Result<(), Fail> {
+    let alloc = rt.alloc();
+    let mut some = false;
+    for call in 80..160 {
+        match refused(alloc, call)? {
+            Some(copied) => {
+                some = true;
+                assert_eq!(rt; copied, 2);
+            }
+            None => {}
+        }
+    }
+    assert!(rt; some);
+    Ok(())
+}
+
+// The group behind a deport and an import.
+fn moved(alloc: Global, group: LoggedGroup<Disks>) -> Option<LoggedGroup<Disks>> {
+    match group.deport() {
+        Ok((shelf, rested)) => match rested {
+            Some(rested) => match LoggedGroup::import(alloc, shelf, &rested) {
+                Ok(group) => Some(group),
+                Err(_) => None,
+            },
+            None => None,
+        },
+        Err(_) => None,
+    }
+}
+
+#[test]
+fn an_attach_behind_a_deport_goes_by_the_map(rt: HostRuntime) -> Result<(), Fail> {
+    let alloc = rt.alloc();
+    let mut group = group_of(alloc, &[], &MAPPED)?;
+    assert!(rt; put(&mut group, 10, 0xaa));
+    assert!(rt; group.det(0, 1).is_ok());
+    assert!(rt; put(&mut group, 70, 0xbb));
+    match moved(alloc, group) {
+        Some(group) => {
+            let mut group = group;
+            assert_eq!(rt; read(&mut group, 70), Some(0xbb));
+            assert!(rt; group.det(0, 0).is_err());
+            assert_eq!(rt; att(&mut group, 1), Some(1));
+            assert!(rt; group.det(0, 0).is_ok());
+            assert_eq!(rt; read(&mut group, 10), Some(0xaa));
+            assert_eq!(rt; read(&mut group, 70), Some(0xbb));
+        }
+        None => assert!(rt; false),
+    }
     Ok(())
 }

@@ -6,6 +6,7 @@ use vx_disk::{MemShelf, Rack, Shelf};
 use vx_group_rows::Untold;
 use vx_layout::Shape;
 use vx_loggroup::LoggedGroup;
+use vx_logimport::Rested;
 use vx_model::{Name, OutOfMemory};
 
 type Disks = Untold<MemShelf>;
@@ -136,7 +137,7 @@ fn crashed(group: LoggedGroup<Disks>) -> (MemShelf, Option<Subdisk>) {
 
 // The group that an import gives.
 fn opened(alloc: Global, disks: MemShelf) -> Option<LoggedGroup<Disks>> {
-    match LoggedGroup::import(alloc, Untold { shelf: disks }) {
+    match LoggedGroup::import(alloc, Untold { shelf: disks }, &Rested::none()) {
         Ok(group) => Some(group),
         Err(_) => None,
     }
@@ -171,9 +172,11 @@ const KEPT: Option<u8> = Some(0xee);
 const COPIED: Option<u8> = Some(0);
 
 #[test]
-fn a_log_of_a_new_volume_is_trusted(rt: HostRuntime) -> Result<(), Fail> {
+fn a_log_is_trusted_behind_the_first_write(rt: HostRuntime) -> Result<(), Fail> {
     let alloc = rt.alloc();
-    let group = group_on(alloc, &[])?;
+    let mut group = group_on(alloc, &[])?;
+    assert_eq!(rt; is_lost(group.config()), Some(true));
+    assert!(rt; put(&mut group, 70, 0x11));
     assert_eq!(rt; is_lost(group.config()), Some(false));
     Ok(())
 }

@@ -17,6 +17,7 @@ use Rattle.vx_copyio.specs.Labelling.{AreLarge}
 use Rattle.vx_volume.specs.Plexes.{active}
 use Rattle.vx_volume.proofs.ReadRuns.{still}
 use Rattle.vx_kept.specs.Cleans.{is_unsure}
+use Rattle.vx_kept.specs.Groups.{group_meaning}
 use Rattle.vx_kept.specs.Keeping.{Acts}
 use Rattle.vx_kept.proofs.StateLemmas.{same_shape}
 use Rattle.vx_group.specs.Attaches.{AnyImage}
@@ -28,6 +29,7 @@ use Rattle.vx_group.specs.Stands.{inner_meaning, volume_faults}
 use Rattle.vx_group.specs.declared.inner.Inner.{Inner}
 use Rattle.vx_group.specs.declared.taking.Plan.{Plan}
 use Rattle.vx_group.proofs.ImportLemmas.{import_late, import_ok}
+use Rattle.vx_group.proofs.ResumeLemmas.{taken_Goes}
 use Rattle.vx_group.proofs.Standing.{fit_of, kept_of, low_Stands, sound_of}
 use Rattle.vx_grouplogs.specs.Covering.{OnLogs}
 use Rattle.vx_grouplogs.specs.Loading.{LoadIsRefused}
@@ -93,6 +95,10 @@ module _ (old m1 : Meaning) (plan : Plan) (taken : IsTaken old m1 plan) (law : L
       config = taken.config;
       opened = opened;
       taken = taken_new;
+      shape = fin.made.on.shape;
+      on = fin.made.on.on;
+      goes = still (group_meaning opened (λ v. 0) old) (inner_meaning plan.core m1) (inner_meaning d new)
+          (taken_Goes old m1 law law1 goes large can taken.config opened taken.up.readable taken.up.image taken.up.read taken.up.is taken.up.opens (λ is. taken.made.sound) (volume_faults plan.core.faults)) fin.made.on.goes;
       read = record { each = λ v l is. read_behind opened v l.drl old m2 new counts (read.each v l is) };
       only = only_stopped taken.config opened plan.stopped logs.items old m1 new unclean goes only;
       logs = record { many = let same : length d.config.volumes ≡ length opened.volumes = fin.made.on.shape.volumes in are.many ∙ sym same; plain = are.plain };

@@ -3,3 +3,5 @@ pub mod MarkLemmas
 pub mod RenewLemmas
 pub mod ImportedLemmas
 pub mod ToldLemmas
+pub mod TellLemmas
+pub mod RestLemmas

@@ -6,7 +6,7 @@ use Rattle.vx_bitmap.specs.Maps.{IsRead}
 use Rattle.vx_config.specs.Checks.{blocks_of}
 use Rattle.vx_config.specs.declared.config.Config.{Config}
 use Rattle.vx_config.specs.declared.entry.VolumeLog.TheVariants.{Drl}
-use Rattle.vx_disk.specs.Shelf.{Meaning}
+use Rattle.vx_disk.specs.Shelf.{Goes, Meaning, Nothing}
 use Rattle.vx_drl.specs.Dirty.{Dirty}
 use Rattle.vx_drl.specs.declared.marks.TheConstants.{MOST_HELD}
 use Rattle.vx_layout.specs.Places.{place}
@@ -15,11 +15,13 @@ use Rattle.vx_logs.specs.declared.logs.Logs.{Logs}
 use Rattle.vx_resync.specs.Picks.{marked_or}
 use Rattle.vx_volume.specs.Plexes.{Inside, active}
 use Rattle.vx_kept.specs.Cleans.{is_unsure}
-use Rattle.vx_kept.specs.Keeping.{Acts}
+use Rattle.vx_kept.specs.Groups.{group_meaning}
+use Rattle.vx_kept.specs.Keeping.{Acts, SameShape}
 use Rattle.vx_group.specs.Attaches.{AnyImage}
 use Rattle.vx_group.specs.Imports.{ImportStops, Resumed}
 use Rattle.vx_group.specs.Mends.{drl_at}
 use Rattle.vx_group.specs.Resumes.{TakenUp, stopped}
+use Rattle.vx_group.specs.Stands.{inner_meaning}
 use Rattle.vx_group.specs.declared.inner.Inner.{Inner}
 use Rattle.vx_grouplogs.specs.Covering.{AllAlike}
 use Rattle.vx_grouplogs.specs.Loading.{SomeRose, on_failed}
@@ -64,6 +66,9 @@ pub record ResumedBy (old : Meaning) (k : Marked) (new : Meaning) : Type 0 where
   pub config : Config
   pub opened : Config
   pub taken : TakenUp old new config opened
+  pub shape : SameShape k.core.config opened
+  pub on : (v p : ℕ) → IsTrue (active k.core.config v p) → IsTrue (active opened v p)
+  pub goes : Goes Nothing (group_meaning opened (λ v. 0) old) (inner_meaning k.core new)
   pub read : LogsRead opened k.logs.items old new
   pub only : Acts (OnStopped config opened k.logs.items) AnyImage old new
   pub logs : AreDirtyLogs (length k.core.config.volumes) k.logs.items

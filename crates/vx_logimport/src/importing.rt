@@ -1,5 +1,6 @@
 // A group that is imported by its logs.
 ghost use Rattle.std.specs.Prelude.{ℕ};
+ghost use Rattle.vx_group.specs.Creates.{SameUnits};
 ghost use Rattle.vx_group.specs.Resumes.{CanImport};
 ghost use Rattle.vx_logimport.specs.Covers.{DisksTell};
 ghost use Rattle.vx_logimport.specs.Marked.{MarkedEnds};
@@ -33,7 +34,8 @@ pub struct Marked {
 pub fn import_marked<S: Shelf>(alloc: Global, shelf: &mut S) -> Result<Marked, Stop>
     requires can { CanImport (S.meaning shelf.old) }
     requires tells { (v : ℕ) → DisksTell v (S.meaning shelf.old) }
-    ensures { MarkedEnds (S.meaning shelf.old) (S.meaning shelf.new) result }
+    ensures ends { MarkedEnds (S.meaning shelf.old) (S.meaning shelf.new) result }
+    ensures same { SameUnits (S.meaning shelf.old) (S.meaning shelf.new) }
 {
     if shelf.is_down() {
         return Err(Stop::No(No::Down));

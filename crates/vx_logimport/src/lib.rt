@@ -5,7 +5,9 @@
 mod crashing;
 mod importing;
 mod reading;
+mod rested;
 
 pub use crashing::{crash_told, revive_told};
 pub use importing::{Marked, import_marked};
 pub use reading::read_logs;
+pub use rested::Rested;

@@ -1,7 +1,7 @@
 // Disks that fail.
-use crate::answers::{answers, answers_with};
 use std::test::Fail;
 use vx_cli::Status;
+use vx_runs::{answers, answers_with};
 
 // The first call on the disks is the log's, on disk 0.
 #[test]

@@ -1,7 +1,7 @@
 // Lines that a fuse cuts.
-use crate::answers::answers;
 use std::test::Fail;
 use vx_cli::Status;
+use vx_runs::answers;
 
 // The second of the four calls of a write does not happen: of it nothing is left.
 #[test]

@@ -1,7 +1,7 @@
 // Sites whose disks are a group of mirrors, word for word.
-use crate::answers::answers;
 use std::test::Fail;
 use vx_cli::Status;
+use vx_runs::answers;
 
 // A plex is detached under a fuse, and its group comes back without it, once the disk of the other one works again.
 #[test]

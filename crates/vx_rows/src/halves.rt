@@ -1,7 +1,7 @@
 // Lines of links that a failing disk or a fuse ends: what they were doing stands behind a recovery, or does not.
-use crate::answers::answers;
 use std::test::Fail;
 use vx_cli::Status;
+use vx_runs::answers;
 
 // The second site came to the line of the first one, or did not. The first one has no link.
 #[test]

@@ -2,8 +2,6 @@
 #![tactic(auto)]
 
 #[cfg(test)]
-mod answers;
-#[cfg(test)]
 mod bytes;
 #[cfg(test)]
 mod disks;
@@ -25,7 +23,6 @@ mod links;
 mod loss;
 #[cfg(test)]
 mod outages;
-mod racks;
 #[cfg(test)]
 mod recovery;
 #[cfg(test)]
@@ -39,6 +36,6 @@ mod statuses;
 #[cfg(test)]
 mod unlinked;
 #[cfg(test)]
+mod words;
+#[cfg(test)]
 mod wrong;
-
-pub use racks::fresh_racks;

@@ -1,7 +1,7 @@
 // Where and how much a line may write.
-use crate::answers::answers;
 use std::test::Fail;
 use vx_cli::Status;
+use vx_runs::answers;
 
 #[test]
 fn a_write_past_the_end_is_refused(rt: HostRuntime) -> Result<(), Fail> {

@@ -1,5 +1,4 @@
 // A site crashes between any two lines of two writes over a link, or within one of them; then it recovers, and the pair is whole.
-use crate::answers::answers;
 use crate::replies::Replies;
 use crate::row::{CLOSING, LINES, MADE, Site, lines};
 use std::alloc::Global;
@@ -7,6 +6,7 @@ use std::str::from_utf8;
 use std::test::Fail;
 use vx_cli::Status;
 use vx_model::OutOfMemory;
+use vx_runs::answers;
 
 // The lines, with a crash of the site behind the first `place` of them.
 fn script_of_crash(

@@ -1,5 +1,4 @@
 // A site crashes between two packets, and the link is settled behind it.
-use crate::answers::answers;
 use std::alloc::Global;
 use std::process::Abort;
 use std::sync::Wait;
@@ -7,6 +6,7 @@ use std::test::Fail;
 use std::thread::Threads;
 use vx_cli::Status;
 use vx_model::OutOfMemory;
+use vx_runs::answers;
 
 const MADE: &[u8] =
     b"site a 3 64\nraw a\nsite b 3 64\nraw b\nlink a b synchronous=fail srlprot=fail\nconnect a b\nwrite a d1 0 1 11\nwait a 1\npump a b\n";

@@ -1,7 +1,7 @@
 // The lines of a status.
-use crate::answers::answers;
 use std::test::Fail;
 use vx_cli::Status;
+use vx_runs::answers;
 
 #[test]
 fn a_status_tells_of_the_set(rt: HostRuntime) -> Result<(), Fail> {

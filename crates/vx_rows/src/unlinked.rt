@@ -1,7 +1,7 @@
 // Lines on links between sites that have none.
-use crate::answers::answers;
 use std::test::Fail;
 use vx_cli::Status;
+use vx_runs::answers;
 
 #[test]
 fn a_link_that_is_not_there_is_unknown(rt: HostRuntime) -> Result<(), Fail> {

@@ -110,7 +110,7 @@ module _ {R : Type 0} {g : Ghosts R} (lawful : (r : R) → Lawful (g.meaning r))
   site_holds : (n : Node) (s : GroupSite R g) (note : GroupNode) → GroupSiteStands n s → (n.state ≡ IsBare → ⊥) → n.group ≡ Some note → HoldsGroup note (site_disks s)
   site_holds n (GroupUp laid) note (k, it) made noted =
       let m : Meaning = shade_meaning g.meaning laid.shelf in
-      subst (λ (x : GroupNode). HoldsGroup x m) (some_same (sym it.noted.is ∙ noted)) (up_holds n k laid.core m it.spells it.at.lies laid.stands (shade_lawful g.meaning lawful laid.shelf))
+      subst (λ (x : GroupNode). HoldsGroup x m) (some_same (sym it.noted.is ∙ noted)) (up_holds n k laid.core m it.spells it.at.lies laid.stands.group (shade_lawful g.meaning lawful laid.shelf))
   site_holds n (GroupAway idle) note (k, it) made noted =
       let m : Meaning = shade_meaning g.meaning idle.rack in
       subst (λ (x : GroupNode). HoldsGroup x m) (some_same (sym it.noted.is ∙ noted)) (away_holds n k it.newest it.last m it.spells it.away.config it.away.frames it.away.lies (shade_lawful g.meaning lawful idle.rack))

@@ -3,10 +3,6 @@ use Rattle.std.specs.Prelude.{ℕ, List, Bool, true, false, Option, Some, None, 
 use Rattle.vx_script.specs.Grammar.{line_of}
 use Rattle.vx_script.specs.declared.line.ScriptLine.{ScriptLine}
 use Rattle.vx_script.specs.declared.line.ScriptLine.TheVariants.{Site, Raw, Disk, Crash, Fuse, Recover, GroupInit, GroupDeport, GroupImport, Volume, PlexDetach, PlexAttach, Write, Put, Read, Show, Apply, Status, Link, Set, Connect, Cut, Pause, Resume, Pump, Tick, Wait, Deliver, Settle}
-use Rattle.vx_script.specs.declared.line.VolumeLog.{VolumeLog}
-use Rattle.vx_script.specs.declared.line.VolumeLog.TheVariants.{NoLog, Drl}
-use Rattle.vx_script.specs.declared.line.VolumeMap.{VolumeMap}
-use Rattle.vx_script.specs.declared.line.VolumeMap.TheVariants.{NoMap, Fmr}
 use Rattle.vx_model.specs.declared.link.Prot.{Prot}
 use Rattle.vx_model.specs.declared.link.Prot.TheVariants.{Fail}
 
@@ -15,13 +11,7 @@ abbrev pub is_fail_prot : Prot → Bool
 is_fail_prot Fail = true
 is_fail_prot _ = false
 
--- whether a volume has no logs
-abbrev pub is_unlogged : VolumeLog → VolumeMap → Bool
-is_unlogged NoLog NoMap = true
-is_unlogged _ _ = false
-
--- whether lines of this kind are built: those that make a link, or give it a setting, only where a full log fails writes, and those that make a
--- volume only where it has no logs
+-- whether lines of this kind are built: those that make a link, or give it a setting, only where a full log fails writes
 abbrev pub is_built : ScriptLine → Bool
 is_built (Site _ _ _) = true
 is_built (Raw _) = true
@@ -32,7 +22,7 @@ is_built (Recover _) = true
 is_built (GroupInit _) = true
 is_built (GroupDeport _) = true
 is_built (GroupImport _) = true
-is_built (Volume _ _ _ _ _ log map _) = is_unlogged log map
+is_built (Volume _ _ _ _ _ _ _ _) = true
 is_built (PlexDetach _ _ _) = true
 is_built (PlexAttach _ _ _) = true
 is_built (Write _ _ _ _ _) = true

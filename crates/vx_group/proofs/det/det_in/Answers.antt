@@ -20,32 +20,32 @@ pub returns-in-Err-clause-others : goal.returns-in-Err-clause-others
 returns-in-Err-clause-others g c = λ w p apart. released_active c.args.core.now c.release.new.core (g.S.Shelf.meaning c.args.shelf.now) (g.S.Shelf.meaning c.release.new.shelf) c.requires.stands c.release.ensures.narrows c.release.ensures.volumes w p
 
 pub detach_plex-requires-clause-stands : goal.detach_plex-requires-clause-stands
-detach_plex-requires-clause-stands g c = from_none c.release.new.core (g.S.Shelf.meaning c.release.new.shelf) (c.in-Ok.ensures.done (may_serial c.args.core.now.inner.config c.args.vol c.args.plex (sym c.refuse.ensures ∙ c.in_default.is))) c.release.ensures.stands
+detach_plex-requires-clause-stands g c = from_none c.release.new.core (g.S.Shelf.meaning c.release.new.shelf) (c.in-Ok.ensures.done (may_serial c.args.core.now.inner.config c.args.vol c.args.plex (sym c.refuse_det.ensures ∙ c.in_default.is))) c.release.ensures.stands
 
 pub detach_plex-requires-clause-is_on : goal.detach_plex-requires-clause-is_on
 detach_plex-requires-clause-is_on g c = released_active c.args.core.now c.release.new.core (g.S.Shelf.meaning c.args.shelf.now) (g.S.Shelf.meaning c.release.new.shelf) c.requires.stands c.release.ensures.narrows c.release.ensures.volumes c.args.vol c.args.plex ∙ sym c.is_active.ensures ∙ c.if-not-is_active.false
 
 pub detach_plex-requires-clause-other : goal.detach_plex-requires-clause-other
 detach_plex-requires-clause-other g c =
-    det_other c.args.core.now.inner.config c.release.new.core.inner.config c.args.vol c.args.plex c.release.ensures.volumes (sym c.refuse.ensures ∙ c.in_default.is) (sym c.is_active.ensures ∙ c.if-not-is_active.false)
+    det_other c.args.core.now.inner.config c.release.new.core.inner.config c.args.vol c.args.plex c.release.ensures.volumes (sym c.refuse_det.ensures ∙ c.in_default.is) (sym c.is_active.ensures ∙ c.if-not-is_active.false)
 
 pub detach_plex-requires-clause-more : goal.detach_plex-requires-clause-more
 detach_plex-requires-clause-more g c =
-    let le = c.in-Ok.ensures.few in let room = may_room c.args.core.now.inner.config c.args.vol c.args.plex (sym c.refuse.ensures ∙ c.in_default.is) in omega (arith, le, room)
+    let le = c.in-Ok.ensures.few in let room = may_room c.args.core.now.inner.config c.args.vol c.args.plex (sym c.refuse_det.ensures ∙ c.in_default.is) in omega (arith, le, room)
 
 pub returns-in-Ok-detach_plex-clause-stands : goal.returns-in-Ok-detach_plex-clause-stands
-returns-in-Ok-detach_plex-clause-stands g c = none_Stands (record { inner = c.detach_plex.new.core; held = c.release.new.core.held }) (g.S.Shelf.meaning c.detach_plex.new.shelf) (c.in-Ok.ensures.done (may_serial c.args.core.now.inner.config c.args.vol c.args.plex (sym c.refuse.ensures ∙ c.in_default.is))) c.detach_plex.ensures.stands
+returns-in-Ok-detach_plex-clause-stands g c = none_Stands (record { inner = c.detach_plex.new.core; held = c.release.new.core.held }) (g.S.Shelf.meaning c.detach_plex.new.shelf) (c.in-Ok.ensures.done (may_serial c.args.core.now.inner.config c.args.vol c.args.plex (sym c.refuse_det.ensures ∙ c.in_default.is))) c.detach_plex.ensures.stands
 
 pub returns-in-Ok-detach_plex-clause-goes : goal.returns-in-Ok-detach_plex-clause-goes
 returns-in-Ok-detach_plex-clause-goes g c =
-    through_goes c.args.core.now c.release.new.core (record { inner = c.detach_plex.new.core; held = c.release.new.core.held }) c.release.new.core.inner c.detach_plex.new.core (g.S.Shelf.meaning c.args.shelf.now) (g.S.Shelf.meaning c.release.new.shelf) (g.S.Shelf.meaning c.detach_plex.new.shelf) (sym (wide_none c.release.new.core (c.in-Ok.ensures.done (may_serial c.args.core.now.inner.config c.args.vol c.args.plex (sym c.refuse.ensures ∙ c.in_default.is))))) (wide_none (record { inner = c.detach_plex.new.core; held = c.release.new.core.held }) (c.in-Ok.ensures.done (may_serial c.args.core.now.inner.config c.args.vol c.args.plex (sym c.refuse.ensures ∙ c.in_default.is))))
+    through_goes c.args.core.now c.release.new.core (record { inner = c.detach_plex.new.core; held = c.release.new.core.held }) c.release.new.core.inner c.detach_plex.new.core (g.S.Shelf.meaning c.args.shelf.now) (g.S.Shelf.meaning c.release.new.shelf) (g.S.Shelf.meaning c.detach_plex.new.shelf) (sym (wide_none c.release.new.core (c.in-Ok.ensures.done (may_serial c.args.core.now.inner.config c.args.vol c.args.plex (sym c.refuse_det.ensures ∙ c.in_default.is))))) (wide_none (record { inner = c.detach_plex.new.core; held = c.release.new.core.held }) (c.in-Ok.ensures.done (may_serial c.args.core.now.inner.config c.args.vol c.args.plex (sym c.refuse_det.ensures ∙ c.in_default.is))))
     Nothing (released_goes c.args.core.now c.release.new.core (g.S.Shelf.meaning c.args.shelf.now) (g.S.Shelf.meaning c.release.new.shelf) c.requires.stands c.release.ensures.narrows c.release.ensures.volumes (g.met.S.Shelf.lawful c.release.new.shelf))
-    (narrows_Goes c.release.new.core.inner c.detach_plex.new.core (g.S.Shelf.meaning c.release.new.shelf) (g.S.Shelf.meaning c.detach_plex.new.shelf) (g.met.S.Shelf.lawful c.detach_plex.new.shelf) (from_none c.release.new.core (g.S.Shelf.meaning c.release.new.shelf) (c.in-Ok.ensures.done (may_serial c.args.core.now.inner.config c.args.vol c.args.plex (sym c.refuse.ensures ∙ c.in_default.is))) c.release.ensures.stands) c.detach_plex.ensures.narrows (volume_faults c.release.new.core.inner.faults) (volume_faults c.detach_plex.new.core.faults)
+    (narrows_Goes c.release.new.core.inner c.detach_plex.new.core (g.S.Shelf.meaning c.release.new.shelf) (g.S.Shelf.meaning c.detach_plex.new.shelf) (g.met.S.Shelf.lawful c.detach_plex.new.shelf) (from_none c.release.new.core (g.S.Shelf.meaning c.release.new.shelf) (c.in-Ok.ensures.done (may_serial c.args.core.now.inner.config c.args.vol c.args.plex (sym c.refuse_det.ensures ∙ c.in_default.is))) c.release.ensures.stands) c.detach_plex.ensures.narrows (volume_faults c.release.new.core.inner.faults) (volume_faults c.detach_plex.new.core.faults)
     (λ u. let same = ap (λ (f : List ℕ). volume_faults f u) c.detach_plex.ensures.narrows.faults in omega (arith, same)))
 
 pub returns-in-Ok-detach_plex-clause-narrows : goal.returns-in-Ok-detach_plex-clause-narrows
 returns-in-Ok-detach_plex-clause-narrows g c =
-    second_narrows (λ s. g.S.Shelf.meaning s) c.args.shelf.now c.release.new.shelf c.args.core.now c.release.new.core c.detach_plex.new.core (g.S.Shelf.meaning c.detach_plex.new.shelf) c.requires.stands c.release.ensures.narrows c.release.ensures.volumes c.release.ensures.none (c.in-Ok.ensures.done (may_serial c.args.core.now.inner.config c.args.vol c.args.plex (sym c.refuse.ensures ∙ c.in_default.is))) c.detach_plex.ensures.narrows
+    second_narrows (λ s. g.S.Shelf.meaning s) c.args.shelf.now c.release.new.shelf c.args.core.now c.release.new.core c.detach_plex.new.core (g.S.Shelf.meaning c.detach_plex.new.shelf) c.requires.stands c.release.ensures.narrows c.release.ensures.volumes c.release.ensures.none (c.in-Ok.ensures.done (may_serial c.args.core.now.inner.config c.args.vol c.args.plex (sym c.refuse_det.ensures ∙ c.in_default.is))) c.detach_plex.ensures.narrows
 
 pub returns-in-Ok-detach_plex-clause-others : goal.returns-in-Ok-detach_plex-clause-others
 returns-in-Ok-detach_plex-clause-others g c = λ w p apart. c.detach_plex.ensures.others w p apart ∙ released_active c.args.core.now c.release.new.core (g.S.Shelf.meaning c.args.shelf.now) (g.S.Shelf.meaning c.release.new.shelf) c.requires.stands c.release.ensures.narrows c.release.ensures.volumes w p
@@ -57,18 +57,18 @@ pub returns-in-Err-detach_plex-clause-parts : goal.returns-in-Err-detach_plex-cl
 returns-in-Err-detach_plex-clause-parts g c = both_parts c.args.core.now.inner c.release.new.core.inner c.detach_plex.new.core c.release.ensures.parts c.detach_plex.ensures.parts
 
 pub returns-in-Err-detach_plex-clause-stands : goal.returns-in-Err-detach_plex-clause-stands
-returns-in-Err-detach_plex-clause-stands g c = none_Stands (record { inner = c.detach_plex.new.core; held = c.release.new.core.held }) (g.S.Shelf.meaning c.detach_plex.new.shelf) (c.in-Ok.ensures.done (may_serial c.args.core.now.inner.config c.args.vol c.args.plex (sym c.refuse.ensures ∙ c.in_default.is))) c.detach_plex.ensures.stands
+returns-in-Err-detach_plex-clause-stands g c = none_Stands (record { inner = c.detach_plex.new.core; held = c.release.new.core.held }) (g.S.Shelf.meaning c.detach_plex.new.shelf) (c.in-Ok.ensures.done (may_serial c.args.core.now.inner.config c.args.vol c.args.plex (sym c.refuse_det.ensures ∙ c.in_default.is))) c.detach_plex.ensures.stands
 
 pub returns-in-Err-detach_plex-clause-goes : goal.returns-in-Err-detach_plex-clause-goes
 returns-in-Err-detach_plex-clause-goes g c =
-    through_goes c.args.core.now c.release.new.core (record { inner = c.detach_plex.new.core; held = c.release.new.core.held }) c.release.new.core.inner c.detach_plex.new.core (g.S.Shelf.meaning c.args.shelf.now) (g.S.Shelf.meaning c.release.new.shelf) (g.S.Shelf.meaning c.detach_plex.new.shelf) (sym (wide_none c.release.new.core (c.in-Ok.ensures.done (may_serial c.args.core.now.inner.config c.args.vol c.args.plex (sym c.refuse.ensures ∙ c.in_default.is))))) (wide_none (record { inner = c.detach_plex.new.core; held = c.release.new.core.held }) (c.in-Ok.ensures.done (may_serial c.args.core.now.inner.config c.args.vol c.args.plex (sym c.refuse.ensures ∙ c.in_default.is))))
+    through_goes c.args.core.now c.release.new.core (record { inner = c.detach_plex.new.core; held = c.release.new.core.held }) c.release.new.core.inner c.detach_plex.new.core (g.S.Shelf.meaning c.args.shelf.now) (g.S.Shelf.meaning c.release.new.shelf) (g.S.Shelf.meaning c.detach_plex.new.shelf) (sym (wide_none c.release.new.core (c.in-Ok.ensures.done (may_serial c.args.core.now.inner.config c.args.vol c.args.plex (sym c.refuse_det.ensures ∙ c.in_default.is))))) (wide_none (record { inner = c.detach_plex.new.core; held = c.release.new.core.held }) (c.in-Ok.ensures.done (may_serial c.args.core.now.inner.config c.args.vol c.args.plex (sym c.refuse_det.ensures ∙ c.in_default.is))))
     Nothing (released_goes c.args.core.now c.release.new.core (g.S.Shelf.meaning c.args.shelf.now) (g.S.Shelf.meaning c.release.new.shelf) c.requires.stands c.release.ensures.narrows c.release.ensures.volumes (g.met.S.Shelf.lawful c.release.new.shelf))
-    (narrows_Goes c.release.new.core.inner c.detach_plex.new.core (g.S.Shelf.meaning c.release.new.shelf) (g.S.Shelf.meaning c.detach_plex.new.shelf) (g.met.S.Shelf.lawful c.detach_plex.new.shelf) (from_none c.release.new.core (g.S.Shelf.meaning c.release.new.shelf) (c.in-Ok.ensures.done (may_serial c.args.core.now.inner.config c.args.vol c.args.plex (sym c.refuse.ensures ∙ c.in_default.is))) c.release.ensures.stands) c.detach_plex.ensures.narrows (volume_faults c.release.new.core.inner.faults) (volume_faults c.detach_plex.new.core.faults)
+    (narrows_Goes c.release.new.core.inner c.detach_plex.new.core (g.S.Shelf.meaning c.release.new.shelf) (g.S.Shelf.meaning c.detach_plex.new.shelf) (g.met.S.Shelf.lawful c.detach_plex.new.shelf) (from_none c.release.new.core (g.S.Shelf.meaning c.release.new.shelf) (c.in-Ok.ensures.done (may_serial c.args.core.now.inner.config c.args.vol c.args.plex (sym c.refuse_det.ensures ∙ c.in_default.is))) c.release.ensures.stands) c.detach_plex.ensures.narrows (volume_faults c.release.new.core.inner.faults) (volume_faults c.detach_plex.new.core.faults)
     (λ u. let same = ap (λ (f : List ℕ). volume_faults f u) c.detach_plex.ensures.narrows.faults in omega (arith, same)))
 
 pub returns-in-Err-detach_plex-clause-narrows : goal.returns-in-Err-detach_plex-clause-narrows
 returns-in-Err-detach_plex-clause-narrows g c =
-    second_narrows (λ s. g.S.Shelf.meaning s) c.args.shelf.now c.release.new.shelf c.args.core.now c.release.new.core c.detach_plex.new.core (g.S.Shelf.meaning c.detach_plex.new.shelf) c.requires.stands c.release.ensures.narrows c.release.ensures.volumes c.release.ensures.none (c.in-Ok.ensures.done (may_serial c.args.core.now.inner.config c.args.vol c.args.plex (sym c.refuse.ensures ∙ c.in_default.is))) c.detach_plex.ensures.narrows
+    second_narrows (λ s. g.S.Shelf.meaning s) c.args.shelf.now c.release.new.shelf c.args.core.now c.release.new.core c.detach_plex.new.core (g.S.Shelf.meaning c.detach_plex.new.shelf) c.requires.stands c.release.ensures.narrows c.release.ensures.volumes c.release.ensures.none (c.in-Ok.ensures.done (may_serial c.args.core.now.inner.config c.args.vol c.args.plex (sym c.refuse_det.ensures ∙ c.in_default.is))) c.detach_plex.ensures.narrows
 
 pub returns-in-Err-detach_plex-clause-others : goal.returns-in-Err-detach_plex-clause-others
 returns-in-Err-detach_plex-clause-others g c = λ w p apart. c.detach_plex.ensures.others w p apart ∙ released_active c.args.core.now c.release.new.core (g.S.Shelf.meaning c.args.shelf.now) (g.S.Shelf.meaning c.release.new.shelf) c.requires.stands c.release.ensures.narrows c.release.ensures.volumes w p

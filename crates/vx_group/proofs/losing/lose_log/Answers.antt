@@ -4,6 +4,7 @@ use Rattle.vx_kept.proofs.RunLemmas.{logs_volumes}
 use Rattle.vx_group.proofs.CallLemmas.{blames_later, both_Narrows}
 use Rattle.vx_group.proofs.FailingLemmas.{then_failing}
 use Rattle.vx_group.proofs.GiveLemmas.{keeps_volumes}
+use Rattle.vx_group.proofs.LoseLemmas.{but_parts, then_parts}
 use Rattle.vx_group.proofs.LostLemmas.{later_keeps, left_plexes}
 use Rattle.vx_group.proofs.TrustLemmas.{err_from, ok_from}
 use Rattle.vx_group.proofs.losing.lose_log.Goals as goal
@@ -60,3 +61,9 @@ returns-clause-keeps g c =
 pub returns-in-Err-clause-keeps : goal.returns-in-Err-clause-keeps
 returns-in-Err-clause-keeps g c =
     keeps_volumes c.args.core.now.config c.settle_headers.new.core.config c.in-Err.error c.settle_headers.ensures.volumes
+
+pub returns-in-Err-clause-parts : goal.returns-in-Err-clause-parts
+returns-in-Err-clause-parts g c = but_parts c.args.core.now.config c.settle_headers.new.core.config c.settle_headers.ensures.same
+
+pub returns-clause-parts : goal.returns-clause-parts
+returns-clause-parts g c = then_parts c.args.core.now.config c.settle_headers.new.core.config c.lose_settled.new.core.config (but_parts c.args.core.now.config c.settle_headers.new.core.config c.settle_headers.ensures.same) c.lose_settled.ensures.parts

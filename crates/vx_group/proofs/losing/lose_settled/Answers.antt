@@ -1,5 +1,5 @@
 -- The commit of a log that is lost.
-use Rattle.std.proofs.Common.{Err, refl, subst, sym, true}
+use Rattle.std.proofs.Common.{Err, ap, length, refl, subst, sym, true}
 use Rattle.vx_disk.specs.declared.shelf.ShelfError.{ShelfError}
 use Rattle.vx_config.specs.Changes.{lost}
 use Rattle.vx_kept.proofs.RunLemmas.{logs_volumes}
@@ -130,3 +130,15 @@ returns-else-is_down-2-clause-cause g c =
     subst (λ (e : ShelfError). Blames {T = Unit {0}} (g.S.Shelf.meaning c.args.shelf.now) (g.S.Shelf.meaning c.commit_lost.new.shelf) (Err e)) (sym c.fault_of.ensures)
     (stop_sure c.args.core.now.good (lost c.args.vol c.args.log true c.args.core.now.config) _ (g.S.Shelf.meaning c.args.shelf.now) (g.S.Shelf.meaning c.commit_lost.new.shelf) c.requires.stands.some
     (not_down c.is_down-in-Err.result (g.S.Shelf.meaning c.commit_lost.new.shelf).down c.is_down-in-Err.ensures c.if-is_down-2.false) c.in-Err.no 0 c.requires.more c.in-Err.ensures.ends.cause)
+
+pub returns-then-is_down-clause-parts : goal.returns-then-is_down-clause-parts
+returns-then-is_down-clause-parts g c = record { site = c.in-Ok.ensures.ends.grown.site; rvg = c.in-Ok.ensures.ends.grown.rvg; count = c.in-Ok.ensures.ends.grown.disks.count }
+
+pub returns-then-is_down-2-clause-parts : goal.returns-then-is_down-2-clause-parts
+returns-then-is_down-2-clause-parts g c = record { site = c.in-Err.ensures.ends.site; rvg = c.in-Err.ensures.ends.rvg; count = ap length c.in-Err.ensures.ends.disks }
+
+pub returns-else-is_down-clause-parts : goal.returns-else-is_down-clause-parts
+returns-else-is_down-clause-parts g c = record { site = c.in-Ok.ensures.ends.grown.site; rvg = c.in-Ok.ensures.ends.grown.rvg; count = c.in-Ok.ensures.ends.grown.disks.count }
+
+pub returns-else-is_down-2-clause-parts : goal.returns-else-is_down-2-clause-parts
+returns-else-is_down-2-clause-parts g c = record { site = c.in-Err.ensures.ends.site; rvg = c.in-Err.ensures.ends.rvg; count = ap length c.in-Err.ensures.ends.disks }

@@ -1,9 +1,10 @@
 -- A log that is lost, behind the commit that detaches the plex that is held back.
-use Rattle.std.proofs.Common.{◌∙◌, ◌≤◌, ℕ, Bool, List, ap, subst, arith}
+use Rattle.std.proofs.Common.{◌∙◌, ◌≤◌, ℕ, Bool, List, ap, refl, subst, arith}
 use Rattle.vx_config.specs.Table.{greatest}
 use Rattle.vx_config.specs.declared.config.Config.{Config}
 use Rattle.vx_disk.specs.Shelf.{Nothing}
 use Rattle.vx_kept.specs.LogRuns.{log_trusted}
+use Rattle.vx_kept.proofs.Chosen.{active_volumes}
 use Rattle.vx_kept.proofs.PlexActing.{none_PlexActs}
 use Rattle.vx_group.specs.Blames.{CountsRise}
 use Rattle.vx_group.specs.Holding.{wide}
@@ -11,8 +12,9 @@ use Rattle.vx_group.specs.Stands.{volume_faults}
 use Rattle.vx_group.specs.declared.inner.Inner.{Inner}
 use Rattle.vx_group.proofs.ActsLemmas.{narrow_PlexActs, through_PlexActs}
 use Rattle.vx_group.proofs.CallLemmas.{cause_by, counts_less, narrows_Goes, not_down}
+use Rattle.vx_group.proofs.LoseLemmas.{loses_none, loses_same}
 use Rattle.vx_group.proofs.LostLemmas.{error_to, if_ok_from}
-use Rattle.vx_group.proofs.ThroughLemmas.{new_Stands, new_wide, released_goes, through_cause, through_goes}
+use Rattle.vx_group.proofs.ThroughLemmas.{new_Stands, new_wide, released_goes, through_cause, through_goes, through_loses, through_still}
 use Rattle.vx_group.proofs.losing_group.lose_group.Goals as goal
 
 pub returns-in-Err-clause-goes : goal.returns-in-Err-clause-goes
@@ -61,3 +63,26 @@ returns-clause-full g c =
     let few = c.in-Ok.ensures.few in
     let here : greatest ≤ (wide c.release.new.core).config.serial = subst (λ (i : Inner). greatest ≤ i.config.serial) c.open_held-held.ensures.inner (full is) in
     omega (arith, few, here)) c.lose_in-result.ensures.full
+
+pub returns-then-is_down-clause-loses : goal.returns-then-is_down-clause-loses
+returns-then-is_down-clause-loses g c = loses_same c.args.core.now.inner.config (g.S.Shelf.meaning c.args.shelf.now) (g.S.Shelf.meaning c.args.shelf.now)
+
+pub returns-in-Err-clause-loses : goal.returns-in-Err-clause-loses
+returns-in-Err-clause-loses g c =
+    loses_none c.args.core.now.inner.config c.release.new.core.inner.config (g.S.Shelf.meaning c.args.shelf.now) (g.S.Shelf.meaning c.release.new.shelf) c.release.ensures.volumes c.release.ensures.failing c.release.ensures.parts
+
+pub returns-clause-loses : goal.returns-clause-loses
+returns-clause-loses g c =
+    through_loses c.args.core.now c.release.new.core (record { inner = c.lose_in-result.new.core; held = c.open_held-held.new.core.held }) c.close_held.new.core c.open_held-held.new.core.inner (g.S.Shelf.meaning c.args.shelf.now) (g.S.Shelf.meaning c.release.new.shelf) (g.S.Shelf.meaning c.lose_in-result.new.shelf) c.requires.stands c.release.ensures.stands c.release.ensures.narrows c.release.ensures.volumes c.open_held-held.result c.open_held-held.ensures.held c.open_held-held.ensures.inner c.open_held-held.ensures.none c.close_held.ensures
+    c.lose_in-result.ensures.acts.acts.faults c.release.ensures.failing c.release.ensures.parts c.lose_in-result.ensures.loses
+
+pub returns-then-is_down-clause-still : goal.returns-then-is_down-clause-still
+returns-then-is_down-clause-still g c = λ none w p. refl
+
+pub returns-in-Err-clause-still : goal.returns-in-Err-clause-still
+returns-in-Err-clause-still g c = λ none w p. active_volumes c.release.new.core.inner.config c.args.core.now.inner.config c.release.ensures.volumes w p
+
+pub returns-clause-still : goal.returns-clause-still
+returns-clause-still g c = λ none.
+    through_still c.args.core.now c.release.new.core (record { inner = c.lose_in-result.new.core; held = c.open_held-held.new.core.held }) c.close_held.new.core c.open_held-held.new.core.inner c.open_held-held.result none (c.release.ensures.none none).0 c.open_held-held.ensures.held c.open_held-held.ensures.inner c.close_held.ensures
+    c.lose_in-result.ensures.plexes

@@ -1,11 +1,12 @@
 -- A log that is lost in a call on its volume.
-use Rattle.std.proofs.Common.{ℕ, Bool, List, ap, subst, arith}
+use Rattle.std.proofs.Common.{ℕ, Bool, List, ap, refl, subst, arith}
 use Rattle.vx_disk.specs.Shelf.{Nothing}
 use Rattle.vx_group.specs.Blames.{CountsRise}
 use Rattle.vx_group.specs.Stands.{volume_faults}
 use Rattle.vx_kept.proofs.PlexActing.{none_PlexActs}
 use Rattle.vx_group.proofs.ActsLemmas.{narrow_PlexActs}
 use Rattle.vx_group.proofs.CallLemmas.{cause_by, counts_less, narrows_Goes, not_down}
+use Rattle.vx_group.proofs.LoseLemmas.{loses_plexes, loses_same}
 use Rattle.vx_group.proofs.LostLemmas.{error_to}
 use Rattle.vx_group.proofs.losing_group.lose_in.Goals as goal
 
@@ -44,3 +45,23 @@ returns-in-Err-clause-cause g c =
 pub returns-in-Ok-clause-lost : goal.returns-in-Ok-clause-lost
 returns-in-Ok-clause-lost g c =
     λ is. c.in-Ok.ensures.lost
+
+pub returns-then-is_down-clause-loses : goal.returns-then-is_down-clause-loses
+returns-then-is_down-clause-loses g c = loses_same c.args.core.now.config (g.S.Shelf.meaning c.args.shelf.now) (g.S.Shelf.meaning c.args.shelf.now)
+
+pub returns-then-core-ge-MOST_NUMBER-clause-loses : goal.returns-then-core-ge-MOST_NUMBER-clause-loses
+returns-then-core-ge-MOST_NUMBER-clause-loses g c = loses_same c.args.core.now.config (g.S.Shelf.meaning c.args.shelf.now) (g.S.Shelf.meaning c.args.shelf.now)
+
+pub returns-in-Ok-clause-loses : goal.returns-in-Ok-clause-loses
+returns-in-Ok-clause-loses g c =
+    loses_plexes c.args.core.now.config c.lose_log.new.core.config (g.S.Shelf.meaning c.args.shelf.now) (g.S.Shelf.meaning c.lose_log.new.shelf) c.lose_log.ensures.narrows.shape.frames c.lose_log.ensures.plexes c.lose_log.ensures.failing c.lose_log.ensures.parts
+
+pub returns-in-Err-clause-loses : goal.returns-in-Err-clause-loses
+returns-in-Err-clause-loses g c =
+    loses_plexes c.args.core.now.config c.lose_log.new.core.config (g.S.Shelf.meaning c.args.shelf.now) (g.S.Shelf.meaning c.lose_log.new.shelf) c.lose_log.ensures.narrows.shape.frames c.lose_log.ensures.plexes c.lose_log.ensures.failing c.lose_log.ensures.parts
+
+pub returns-then-is_down-clause-plexes : goal.returns-then-is_down-clause-plexes
+returns-then-is_down-clause-plexes g c = λ w p. refl
+
+pub returns-then-core-ge-MOST_NUMBER-clause-plexes : goal.returns-then-core-ge-MOST_NUMBER-clause-plexes
+returns-then-core-ge-MOST_NUMBER-clause-plexes g c = λ w p. refl

@@ -1,12 +1,14 @@
 -- `trust_group`: its clauses, over a group of which no plex is held back; what `trust_log` asks.
-use Rattle.std.proofs.Common.{false, sym, subst}
+use Rattle.std.proofs.Common.{false, refl, sym, subst}
 use Rattle.vx_config.specs.Changes.{lost}
 use Rattle.vx_disk.specs.Shelf.{Goes, Nothing}
 use Rattle.vx_kept.specs.PlexActs.{PlexActs}
+use Rattle.vx_group.proofs.LostLemmas.{active_plexes}
 use Rattle.vx_group.specs.Holding.{wide}
 use Rattle.vx_group.specs.Stands.{inner_meaning}
 use Rattle.vx_group.specs.declared.inner.Inner.{Inner}
 use Rattle.vx_group.proofs.HoldLemmas.{from_none, none_Stands, wide_none}
+use Rattle.vx_group.proofs.LoseLemmas.{loses_same}
 use Rattle.vx_group.proofs.MendLemmas.{same_Goes}
 use Rattle.vx_group.proofs.TrustingLemmas.{still_PlexActs}
 use Rattle.vx_group.proofs.trusting.trust_group.Goals as goal
@@ -54,3 +56,21 @@ pub returns-in-Err-clause-acts : goal.returns-in-Err-clause-acts
 returns-in-Err-clause-acts g c =
     subst (λ (i : Inner). PlexActs Nothing (lost c.args.vol c.args.log false i.config) (wide (record { inner = c.trust_log.new.core; held = c.args.core.now.held })).config (g.S.Shelf.meaning c.args.shelf.now) (g.S.Shelf.meaning c.trust_log.new.shelf)) (sym (wide_none c.args.core.now c.requires.none))
     (subst (λ (i : Inner). PlexActs Nothing (lost c.args.vol c.args.log false c.args.core.now.inner.config) i.config (g.S.Shelf.meaning c.args.shelf.now) (g.S.Shelf.meaning c.trust_log.new.shelf)) (sym (wide_none (record { inner = c.trust_log.new.core; held = c.args.core.now.held }) c.requires.none)) c.trust_log.ensures.acts)
+
+pub returns-then-is_down-clause-loses : goal.returns-then-is_down-clause-loses
+returns-then-is_down-clause-loses g c = loses_same c.args.core.now.inner.config (g.S.Shelf.meaning c.args.shelf.now) (g.S.Shelf.meaning c.args.shelf.now)
+
+pub returns-then-core-ge-MOST_NUMBER-clause-loses : goal.returns-then-core-ge-MOST_NUMBER-clause-loses
+returns-then-core-ge-MOST_NUMBER-clause-loses g c = loses_same c.args.core.now.inner.config (g.S.Shelf.meaning c.args.shelf.now) (g.S.Shelf.meaning c.args.shelf.now)
+
+pub returns-then-is_down-clause-still : goal.returns-then-is_down-clause-still
+returns-then-is_down-clause-still g c = λ w p. refl
+
+pub returns-then-core-ge-MOST_NUMBER-clause-still : goal.returns-then-core-ge-MOST_NUMBER-clause-still
+returns-then-core-ge-MOST_NUMBER-clause-still g c = λ w p. refl
+
+pub returns-in-Ok-clause-still : goal.returns-in-Ok-clause-still
+returns-in-Ok-clause-still g c = active_plexes c.args.core.now.inner.config c.trust_log.new.core.config c.trust_log.ensures.plexes
+
+pub returns-in-Err-clause-still : goal.returns-in-Err-clause-still
+returns-in-Err-clause-still g c = active_plexes c.args.core.now.inner.config c.trust_log.new.core.config c.trust_log.ensures.plexes

@@ -1,11 +1,16 @@
 -- `trust_log`: clauses goes and acts; what `detach` asks.
 use Rattle.vx_group.proofs.DetachLemmas.{zero_bit}
-use Rattle.std.proofs.Common.{ℕ, refl, arith, List, ap}
+use Rattle.std.proofs.Common.{◌∙◌, ℕ, length, refl, arith, List, ap}
+use Rattle.vx_config.specs.declared.config.Config.{Config}
+use Rattle.vx_layout.specs.Places.{plex_at}
 use Rattle.vx_group.specs.Stands.{volume_faults}
+use Rattle.vx_group.proofs.FailingLemmas.{few_nine}
+use Rattle.vx_group.proofs.LostLemmas.{left_plexes}
 use Rattle.vx_group.proofs.CallLemmas.{narrows_Goes}
 use Rattle.vx_group.specs.Holding.{with_config}
 use Rattle.vx_group.proofs.Standing.{some_active}
-use Rattle.vx_group.proofs.TrustingLemmas.{both_acts, both_goes, early_PlexActs, now_Stands}
+use Rattle.vx_group.proofs.LoseLemmas.{but_parts, loses_none}
+use Rattle.vx_group.proofs.TrustingLemmas.{both_acts, both_goes, early_PlexActs, now_Stands, trusted_loses, trusting_plexes}
 use Rattle.vx_group.proofs.trusting.trust_log.Goals as goal
 
 pub returns-in-Err-clause-goes : goal.returns-in-Err-clause-goes
@@ -37,3 +42,33 @@ returns-clause-acts g c =
     both_acts c.args.vol c.args.log c.args.core.now c.settle_headers.new.core c.trust.new.config c.detach.new.core (g.S.Shelf.meaning c.args.shelf.now) (g.S.Shelf.meaning c.settle_headers.new.shelf) (g.S.Shelf.meaning c.detach.new.shelf)
     (g.met.S.Shelf.lawful c.settle_headers.new.shelf) (g.met.S.Shelf.lawful c.detach.new.shelf) c.requires.stands c.settle_headers.ensures.narrows c.settle_headers.ensures.volumes
     c.trust.ensures.changed c.trust.ensures.sound c.settle_headers.ensures.stands c.detach.ensures.narrows
+
+pub returns-in-Err-clause-loses : goal.returns-in-Err-clause-loses
+returns-in-Err-clause-loses g c =
+    loses_none c.args.core.now.config c.settle_headers.new.core.config (g.S.Shelf.meaning c.args.shelf.now) (g.S.Shelf.meaning c.settle_headers.new.shelf) c.settle_headers.ensures.volumes c.settle_headers.ensures.failing
+    (but_parts c.args.core.now.config c.settle_headers.new.core.config c.settle_headers.ensures.same)
+
+pub returns-clause-loses : goal.returns-clause-loses
+returns-clause-loses g c =
+    trusted_loses c.args.vol c.args.log c.args.core.now.config c.settle_headers.new.core.config c.trust.new.config c.detach.new.core.config (g.S.Shelf.meaning c.args.shelf.now) (g.S.Shelf.meaning c.settle_headers.new.shelf) (g.S.Shelf.meaning c.detach.new.shelf)
+    c.settle_headers.ensures.narrows.acts.faults c.detach.ensures.narrows.acts.faults c.settle_headers.ensures.volumes c.settle_headers.ensures.failing (but_parts c.args.core.now.config c.settle_headers.new.core.config c.settle_headers.ensures.same)
+    c.trust.ensures.changed (c.detach.ensures.none refl) c.detach.ensures.failing c.detach.ensures.parts
+
+pub returns-clause-faults : goal.returns-clause-faults
+returns-clause-faults g c = c.detach.ensures.narrows.faults ∙ c.settle_headers.ensures.narrows.faults
+
+pub returns-clause-unsure : goal.returns-clause-unsure
+returns-clause-unsure g c = c.detach.ensures.narrows.unsure ∙ c.settle_headers.ensures.narrows.unsure
+
+pub returns-in-Err-clause-plexes : goal.returns-in-Err-clause-plexes
+returns-in-Err-clause-plexes g c = left_plexes c.args.core.now.config c.settle_headers.new.core.config c.settle_headers.ensures.volumes
+
+pub returns-clause-plexes : goal.returns-clause-plexes
+returns-clause-plexes g c = λ w p.
+    left_plexes c.trust.new.config c.detach.new.core.config (c.detach.ensures.none refl) w p ∙ ap (λ (x : Config). plex_at x w p) c.trust.ensures.changed ∙ trusting_plexes c.args.vol c.args.log c.settle_headers.new.core.config w p
+    ∙ left_plexes c.args.core.now.config c.settle_headers.new.core.config c.settle_headers.ensures.volumes w p
+
+pub returns-clause-few : goal.returns-clause-few
+returns-clause-few g c =
+    few_nine c.detach.result c.args.core.now.config.serial c.trust.new.config.serial c.detach.new.core.config.serial (length c.trust.new.config.disks) c.detach.ensures.few (ap (λ (x : Config). x.serial) c.trust.ensures.changed ∙ c.settle_headers.ensures.serial)
+    (let same = ap (λ (x : Config). length x.disks) c.trust.ensures.changed in let le = c.as_slice-disks.ensures.few in omega (arith, same, le))

@@ -17,7 +17,7 @@ returns-in-Ok-clause-kept g c = λ note it.
     let long : length c.read.new.into ≡ length bytes = auto ∙ length-take-le (length bytes) none (omega (arith, few, zeros)) in
     keeps_front note (g.S.Shelf.meaning c.args.group.now.shelf) c.args.vol c.args.block c.read.new.into c.args.bytes.now c.compared.result (drop (length bytes) none) long
     (reads_plain note (inner_meaning (wide c.args.group.now.core) (g.S.Shelf.meaning c.args.group.now.shelf)) (g.S.Shelf.meaning c.args.group.now.shelf) c.args.vol c.args.block c.args.bytes.now c.read.new.into long refl
-    (group_lawful (wide c.args.group.now.core) (g.S.Shelf.meaning c.args.group.now.shelf) (g.met.S.Shelf.lawful c.args.group.now.shelf) c.args.group.now.stands.stands) it c.requires.fits c.in-Ok.ensures.ok)
+    (group_lawful (wide c.args.group.now.core) (g.S.Shelf.meaning c.args.group.now.shelf) (g.met.S.Shelf.lawful c.args.group.now.shelf) c.args.group.now.stands.group.stands) it c.requires.fits c.in-Ok.ensures.ok)
     c.compared.ensures
 
 pub returns-in-Ok-clause-stays : goal.returns-in-Ok-clause-stays

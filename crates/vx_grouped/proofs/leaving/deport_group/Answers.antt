@@ -1,5 +1,5 @@
 -- A deport, as the site notes the group: its disks by themselves, or the group that is given back.
-use Rattle.std.proofs.Common.{◌∙◌, ◌-◌, ◌<◌, ◌≤◌, inl, sym}
+use Rattle.std.proofs.Common.{◌∙◌, ◌-◌, ◌<◌, ◌≤◌, None, ap, inl, sym}
 use Rattle.std.proofs.lemmas.Bool.{cases_lt}
 use Rattle.vx_config.specs.Table.{greatest}
 use Rattle.vx_group.specs.Dets.{margin}
@@ -11,11 +11,11 @@ use Rattle.vx_grouped.proofs.leaving.deport_group.Goals as goal
 
 pub returns-in-Ok-clause-leaves : goal.returns-in-Ok-clause-leaves
 returns-in-Ok-clause-leaves g c = λ n note at.
-    (c.in-Ok.ensures.ends.config, deported_at n note c.args.group.core (g.S.Shelf.meaning c.args.group.shelf) (g.S.Shelf.meaning c.in-Ok.rack) at.lies c.args.group.stands c.in-Ok.ensures.ends (λ is. c.in-Ok.ensures.can (inl is)))
+    (c.in-Ok.ensures.ends.config, deported_at n note c.args.group.core (g.S.Shelf.meaning c.args.group.shelf) (g.S.Shelf.meaning c.in-Ok.rack) at.lies c.args.group.stands.group c.in-Ok.ensures.ends (λ is. c.in-Ok.ensures.can (inl is)))
 
 pub returns-then-is_down-clause-limit : goal.returns-then-is_down-clause-limit
 returns-then-is_down-clause-limit g c = λ lt.
-    absurd (never_fell g.S.Shelf.meaning c.args.group.shelf c.in-Err.group.shelf (c.in-Err.ensures.limit lt).2 c.requires.up (sym c.is_down.ensures ∙ c.if-is_down.true))
+    absurd (never_fell g.S.Shelf.meaning c.args.group.shelf c.in-Err.group.shelf (ap (λ p. p.0) (c.in-Err.ensures.limit lt).2) c.requires.up (sym c.is_down.ensures ∙ c.if-is_down.true))
 
 pub returns-then-is_down-clause-leaves : goal.returns-then-is_down-clause-leaves
 returns-then-is_down-clause-leaves g c = λ n note at.
@@ -26,8 +26,8 @@ returns-else-is_down-clause-leaves g c = λ n note at.
     back_up n note c.args.group.core c.in-Err.group.core (g.S.Shelf.meaning c.args.group.shelf) (g.S.Shelf.meaning c.in-Err.group.shelf) at c.in-Err.ensures.ends c.in-Err.ensures.back c.in-Err.stop
     (greatest - margin < c.args.group.core.inner.config.serial) (c.args.group.core.inner.config.serial ≤ greatest - margin) (cases_lt (greatest - margin) c.args.group.core.inner.config.serial)
     (not_down c.is_down.result (g.S.Shelf.meaning c.in-Err.group.shelf).down c.is_down.ensures c.if-is_down.false)
-    (λ low. device_stops (g.S.Shelf.meaning c.args.group.shelf) g.S.Shelf.meaning (λ y. y.shelf) c.in-Err.group c.in-Err.stop (c.in-Err.ensures.cause low))
-    (λ lt. ((c.in-Err.ensures.limit lt).0, same_at g.S.Shelf.meaning n note c.args.group.core c.in-Err.group.core c.args.group.shelf c.in-Err.group.shelf (c.in-Err.ensures.limit lt).1 (c.in-Err.ensures.limit lt).2 at))
+    (λ low. device_stops (g.S.Shelf.meaning c.args.group.shelf) (λ s. g.S.Shelf.meaning s.0) (λ y. (y.shelf, None)) c.in-Err.group c.in-Err.stop (c.in-Err.ensures.cause low))
+    (λ lt. ((c.in-Err.ensures.limit lt).0, same_at g.S.Shelf.meaning n note c.args.group.core c.in-Err.group.core c.args.group.shelf c.in-Err.group.shelf (c.in-Err.ensures.limit lt).1 (ap (λ p. p.0) (c.in-Err.ensures.limit lt).2) at))
 
 pub returns-in-Ok-clause-can : goal.returns-in-Ok-clause-can
 returns-in-Ok-clause-can g c = λ is. c.in-Ok.ensures.can (inl is)
@@ -35,11 +35,11 @@ returns-in-Ok-clause-can g c = λ is. c.in-Ok.ensures.can (inl is)
 pub returns-then-is_down-clause-moves : goal.returns-then-is_down-clause-moves
 returns-then-is_down-clause-moves g c = record {
   loses = c.in-Err.ensures.ends.quiesces.loses;
-  on = both_on c.args.group.core c.in-Err.group.core (g.S.Shelf.meaning c.args.group.shelf) (g.S.Shelf.meaning c.in-Err.group.shelf) c.args.group.stands c.in-Err.group.stands;
+  on = both_on c.args.group.core c.in-Err.group.core (g.S.Shelf.meaning c.args.group.shelf) (g.S.Shelf.meaning c.in-Err.group.shelf) c.args.group.stands.group c.in-Err.group.stands.group;
 }
 
 pub returns-else-is_down-clause-moves : goal.returns-else-is_down-clause-moves
 returns-else-is_down-clause-moves g c = record {
   loses = c.in-Err.ensures.ends.quiesces.loses;
-  on = both_on c.args.group.core c.in-Err.group.core (g.S.Shelf.meaning c.args.group.shelf) (g.S.Shelf.meaning c.in-Err.group.shelf) c.args.group.stands c.in-Err.group.stands;
+  on = both_on c.args.group.core c.in-Err.group.core (g.S.Shelf.meaning c.args.group.shelf) (g.S.Shelf.meaning c.in-Err.group.shelf) c.args.group.stands.group c.in-Err.group.stands.group;
 }

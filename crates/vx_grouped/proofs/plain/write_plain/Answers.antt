@@ -10,7 +10,7 @@ use Rattle.vx_grouped.proofs.plain.write_plain.Goals as goal
 
 pub returns-in-Err-clause-leaves : goal.returns-in-Err-clause-leaves
 returns-in-Err-clause-leaves g c = λ n note at.
-    write_failed n note c.args.vol c.args.block c.args.bytes.now c.args.group.now.core c.write.new.self.core (g.S.Shelf.meaning c.args.group.now.shelf) (g.S.Shelf.meaning c.write.new.self.shelf) at c.args.group.now.stands c.write.new.self.stands
+    write_failed n note c.args.vol c.args.block c.args.bytes.now c.args.group.now.core c.write.new.self.core (g.S.Shelf.meaning c.args.group.now.shelf) (g.S.Shelf.meaning c.write.new.self.shelf) at c.args.group.now.stands.group c.write.new.self.stands.group
     c.write.ensures.loses (Unit {0}) (Unit {0}) c.in-Err.error c.refusal.result c.refusal.ensures c.write.ensures.goes (inner_meaning (wide c.args.group.now.core) (g.S.Shelf.meaning c.args.group.now.shelf)) c.in-Err.ensures.cause
 
 pub returns-in-Ok-flush-clause-loses : goal.returns-in-Ok-flush-clause-loses
@@ -29,17 +29,17 @@ pub returns-in-Ok-flush-clause-leaves : goal.returns-in-Ok-flush-clause-leaves
 returns-in-Ok-flush-clause-leaves g c = λ n note at.
     let is_rack = c.requires.rack in
     let lawful = g.met.S.Shelf.lawful in
-    write_done n note c.args.vol c.args.block c.args.bytes.now c.args.group.now.core c.flush.new.self.core (g.S.Shelf.meaning c.args.group.now.shelf) (g.S.Shelf.meaning c.flush.new.self.shelf) at c.args.group.now.stands c.flush.new.self.stands
+    write_done n note c.args.vol c.args.block c.args.bytes.now c.args.group.now.core c.flush.new.self.core (g.S.Shelf.meaning c.args.group.now.shelf) (g.S.Shelf.meaning c.flush.new.self.shelf) at c.args.group.now.stands.group c.flush.new.self.stands.group
     (both_lose (g.S.Shelf.meaning c.args.group.now.shelf) (g.S.Shelf.meaning c.write.new.self.shelf) (g.S.Shelf.meaning c.flush.new.self.shelf) (is_rack c.args.group.now.shelf) (is_rack c.write.new.self.shelf) (is_rack c.flush.new.self.shelf)
     c.write.ensures.goes.disk_faults c.flush.ensures.goes.disk_faults c.args.group.now.core.inner.config c.write.new.self.core.inner.config c.flush.new.self.core.inner.config c.write.ensures.loses c.flush.ensures.loses)
     (inner_meaning (wide c.write.new.self.core) (g.S.Shelf.meaning c.write.new.self.shelf))
-    (group_lawful (wide c.args.group.now.core) (g.S.Shelf.meaning c.args.group.now.shelf) (lawful c.args.group.now.shelf) c.args.group.now.stands.stands)
+    (group_lawful (wide c.args.group.now.core) (g.S.Shelf.meaning c.args.group.now.shelf) (lawful c.args.group.now.shelf) c.args.group.now.stands.group.stands)
     c.requires.fits c.write.ensures.goes c.in-Ok.ensures.ok c.flush.ensures.goes c.in-Ok-flush.ensures.ok c.in-Ok-flush.ensures.cause (λ is. c.in-Ok-flush.ensures.trust (c.in-Ok.ensures.trust is))
 
 pub returns-in-Err-flush-clause-leaves : goal.returns-in-Err-flush-clause-leaves
 returns-in-Err-flush-clause-leaves g c = λ n note at.
     let is_rack = c.requires.rack in
-    write_failed n note c.args.vol c.args.block c.args.bytes.now c.args.group.now.core c.flush.new.self.core (g.S.Shelf.meaning c.args.group.now.shelf) (g.S.Shelf.meaning c.flush.new.self.shelf) at c.args.group.now.stands c.flush.new.self.stands
+    write_failed n note c.args.vol c.args.block c.args.bytes.now c.args.group.now.core c.flush.new.self.core (g.S.Shelf.meaning c.args.group.now.shelf) (g.S.Shelf.meaning c.flush.new.self.shelf) at c.args.group.now.stands.group c.flush.new.self.stands.group
     (both_lose (g.S.Shelf.meaning c.args.group.now.shelf) (g.S.Shelf.meaning c.write.new.self.shelf) (g.S.Shelf.meaning c.flush.new.self.shelf) (is_rack c.args.group.now.shelf) (is_rack c.write.new.self.shelf) (is_rack c.flush.new.self.shelf)
     c.write.ensures.goes.disk_faults c.flush.ensures.goes.disk_faults c.args.group.now.core.inner.config c.write.new.self.core.inner.config c.flush.new.self.core.inner.config c.write.ensures.loses c.flush.ensures.loses)
     (Unit {0}) (Unit {0}) c.in-Err-flush.error c.refusal-in-Err-flush.result c.refusal-in-Err-flush.ensures
@@ -47,10 +47,10 @@ returns-in-Err-flush-clause-leaves g c = λ n note at.
     (inner_meaning (wide c.write.new.self.core) (g.S.Shelf.meaning c.write.new.self.shelf)) c.in-Err-flush.ensures.cause
 
 pub returns-in-Ok-flush-clause-on : goal.returns-in-Ok-flush-clause-on
-returns-in-Ok-flush-clause-on g c = both_on c.args.group.now.core c.flush.new.self.core (g.S.Shelf.meaning c.args.group.now.shelf) (g.S.Shelf.meaning c.flush.new.self.shelf) c.args.group.now.stands c.flush.new.self.stands
+returns-in-Ok-flush-clause-on g c = both_on c.args.group.now.core c.flush.new.self.core (g.S.Shelf.meaning c.args.group.now.shelf) (g.S.Shelf.meaning c.flush.new.self.shelf) c.args.group.now.stands.group c.flush.new.self.stands.group
 
 pub returns-in-Err-flush-clause-on : goal.returns-in-Err-flush-clause-on
-returns-in-Err-flush-clause-on g c = both_on c.args.group.now.core c.flush.new.self.core (g.S.Shelf.meaning c.args.group.now.shelf) (g.S.Shelf.meaning c.flush.new.self.shelf) c.args.group.now.stands c.flush.new.self.stands
+returns-in-Err-flush-clause-on g c = both_on c.args.group.now.core c.flush.new.self.core (g.S.Shelf.meaning c.args.group.now.shelf) (g.S.Shelf.meaning c.flush.new.self.shelf) c.args.group.now.stands.group c.flush.new.self.stands.group
 
 pub returns-in-Err-clause-on : goal.returns-in-Err-clause-on
-returns-in-Err-clause-on g c = both_on c.args.group.now.core c.write.new.self.core (g.S.Shelf.meaning c.args.group.now.shelf) (g.S.Shelf.meaning c.write.new.self.shelf) c.args.group.now.stands c.write.new.self.stands
+returns-in-Err-clause-on g c = both_on c.args.group.now.core c.write.new.self.core (g.S.Shelf.meaning c.args.group.now.shelf) (g.S.Shelf.meaning c.write.new.self.shelf) c.args.group.now.stands.group c.write.new.self.stands.group

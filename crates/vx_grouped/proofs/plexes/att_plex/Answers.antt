@@ -6,6 +6,7 @@ use Rattle.vx_config.specs.Table.{greatest}
 use Rattle.vx_group.specs.Attaches.{att_refusal}
 use Rattle.vx_group.specs.Dets.{margin}
 use Rattle.vx_group.proofs.CallLemmas.{not_down}
+use Rattle.vx_grouped.proofs.CopiedLemmas.{copies_by}
 use Rattle.vx_grouped.proofs.KeepLemmas.{att_not_down, attached_by, call_cut, call_leaves, never_fell, same_at}
 use Rattle.vx_grouped.proofs.BothLemmas.{regains_by, stays_by}
 use Rattle.vx_grouped.proofs.plexes.att_plex.Goals as goal
@@ -20,7 +21,7 @@ returns-then-is_down-clause-already g c = λ may on.
 
 pub returns-then-is_down-clause-leaves : goal.returns-then-is_down-clause-leaves
 returns-then-is_down-clause-leaves g c = λ n note at.
-    call_cut n note c.args.group.now.core c.att-answer.new.self.core (g.S.Shelf.meaning c.args.group.now.shelf) (g.S.Shelf.meaning c.att-answer.new.self.shelf) at c.att-answer.new.self.stands
+    call_cut n note c.args.group.now.core c.att-answer.new.self.core (g.S.Shelf.meaning c.args.group.now.shelf) (g.S.Shelf.meaning c.att-answer.new.self.shelf) at c.att-answer.new.self.stands.group
     c.att-answer.ensures.attaches.acts.units c.att-answer.ensures.attaches.acts.size c.att-answer.ensures.attaches.goes (sym c.is_down.ensures ∙ c.if-is_down.true)
 
 pub returns-then-is_down-clause-cause : goal.returns-then-is_down-clause-cause
@@ -31,7 +32,7 @@ returns-clause-attached g c = λ off. attached_by c.att-answer.result c.args.vol
 
 pub returns-clause-leaves : goal.returns-clause-leaves
 returns-clause-leaves g c = λ n note at.
-    call_leaves n note c.args.group.now.core c.att-answer.new.self.core (g.S.Shelf.meaning c.args.group.now.shelf) (g.S.Shelf.meaning c.att-answer.new.self.shelf) at c.att-answer.new.self.stands
+    call_leaves n note c.args.group.now.core c.att-answer.new.self.core (g.S.Shelf.meaning c.args.group.now.shelf) (g.S.Shelf.meaning c.att-answer.new.self.shelf) at c.att-answer.new.self.stands.group
     c.att-answer.ensures.attaches.acts.units c.att-answer.ensures.attaches.acts.size c.att-answer.ensures.attaches.goes
     c.att-answer.result (att_refusal c.args.group.now.core.inner.config c.args.vol c.args.plex) (not_down c.is_down.result (g.S.Shelf.meaning c.att-answer.new.self.shelf).down c.is_down.ensures c.if-is_down.false)
     c.att-answer.ensures.trust c.att-answer.ensures.cause
@@ -41,14 +42,18 @@ returns-clause-leaves g c = λ n note at.
 
 pub returns-then-is_down-clause-moves : goal.returns-then-is_down-clause-moves
 returns-then-is_down-clause-moves g c =
-    regains_by c.args.group.now.core c.att-answer.new.self.core (g.S.Shelf.meaning c.args.group.now.shelf) (g.S.Shelf.meaning c.att-answer.new.self.shelf) c.args.group.now.stands c.att-answer.new.self.stands
+    regains_by c.args.group.now.core c.att-answer.new.self.core (g.S.Shelf.meaning c.args.group.now.shelf) (g.S.Shelf.meaning c.att-answer.new.self.shelf) c.args.group.now.stands.group c.att-answer.new.self.stands.group
     c.att-answer.ensures.attaches.acts.units c.att-answer.ensures.attaches.acts.size c.args.vol c.args.plex c.att-answer.ensures.attaches.parts c.att-answer.ensures.attaches.shape c.att-answer.ensures.regains
 
 pub returns-clause-moves : goal.returns-clause-moves
 returns-clause-moves g c =
-    regains_by c.args.group.now.core c.att-answer.new.self.core (g.S.Shelf.meaning c.args.group.now.shelf) (g.S.Shelf.meaning c.att-answer.new.self.shelf) c.args.group.now.stands c.att-answer.new.self.stands
+    regains_by c.args.group.now.core c.att-answer.new.self.core (g.S.Shelf.meaning c.args.group.now.shelf) (g.S.Shelf.meaning c.att-answer.new.self.shelf) c.args.group.now.stands.group c.att-answer.new.self.stands.group
     c.att-answer.ensures.attaches.acts.units c.att-answer.ensures.attaches.acts.size c.args.vol c.args.plex c.att-answer.ensures.attaches.parts c.att-answer.ensures.attaches.shape c.att-answer.ensures.regains
 
 pub returns-clause-stays : goal.returns-clause-stays
 returns-clause-stays g c = λ on. stays_by c.att-answer.result (att_refusal c.args.group.now.core.inner.config c.args.vol c.args.plex) c.args.vol c.args.plex c.args.group.now.core c.att-answer.new.self.core (λ why is. (c.att-answer.ensures.refused why is).0)
     (λ none. (c.att-answer.ensures.already none on).1) on
+
+pub returns-clause-copies : goal.returns-clause-copies
+returns-clause-copies g c = λ off.
+    copies_by c.att-answer.result c.args.group.now.core c.args.group.now.logs.items c.args.group.now.alike c.args.group.now.stopped (g.S.Shelf.meaning c.args.group.now.shelf) c.args.group.now.stands c.args.vol c.args.plex (c.att-answer.ensures.count off)

@@ -16,20 +16,20 @@ returns-then-is_down-clause-refused g c = λ why is.
 
 pub returns-then-is_down-clause-leaves : goal.returns-then-is_down-clause-leaves
 returns-then-is_down-clause-leaves g c = λ n note at.
-    call_cut n note c.args.group.now.core c.det-answer.new.self.core (g.S.Shelf.meaning c.args.group.now.shelf) (g.S.Shelf.meaning c.det-answer.new.self.shelf) at c.det-answer.new.self.stands
-    c.det-answer.ensures.narrows.acts.units c.det-answer.ensures.narrows.acts.size c.det-answer.ensures.goes (sym c.is_down.ensures ∙ c.if-is_down.true)
+    call_cut n note c.args.group.now.core c.det-answer.new.self.core (g.S.Shelf.meaning c.args.group.now.shelf) (g.S.Shelf.meaning c.det-answer.new.self.shelf) at c.det-answer.new.self.stands.group
+    c.det-answer.ensures.below.units c.det-answer.ensures.below.size c.det-answer.ensures.goes (sym c.is_down.ensures ∙ c.if-is_down.true)
 
 pub returns-then-is_down-clause-agreed : goal.returns-then-is_down-clause-agreed
 returns-then-is_down-clause-agreed g c =
-    agreed_either c.det-answer.result c.args.group.now.core.inner.committed c.det-answer.new.self.core.inner.committed c.det-answer.new.self.core.inner.agreed c.det-answer.ensures.trust c.det-answer.new.self.stands.stands.trusts.both c.det-answer.ensures.agreed
+    agreed_either c.det-answer.result c.args.group.now.core.inner.committed c.det-answer.new.self.core.inner.committed c.det-answer.new.self.core.inner.agreed c.det-answer.ensures.trust c.det-answer.new.self.stands.group.stands.trusts.both c.det-answer.ensures.agreed
 
 pub returns-then-is_down-clause-cause : goal.returns-then-is_down-clause-cause
 returns-then-is_down-clause-cause g c = λ is. sym c.is_down.ensures ∙ c.if-is_down.true
 
 pub returns-clause-leaves : goal.returns-clause-leaves
 returns-clause-leaves g c = λ n note at.
-    call_leaves n note c.args.group.now.core c.det-answer.new.self.core (g.S.Shelf.meaning c.args.group.now.shelf) (g.S.Shelf.meaning c.det-answer.new.self.shelf) at c.det-answer.new.self.stands
-    c.det-answer.ensures.narrows.acts.units c.det-answer.ensures.narrows.acts.size c.det-answer.ensures.goes
+    call_leaves n note c.args.group.now.core c.det-answer.new.self.core (g.S.Shelf.meaning c.args.group.now.shelf) (g.S.Shelf.meaning c.det-answer.new.self.shelf) at c.det-answer.new.self.stands.group
+    c.det-answer.ensures.below.units c.det-answer.ensures.below.size c.det-answer.ensures.goes
     c.det-answer.result (det_refusal c.args.group.now.core.inner.config c.args.vol c.args.plex) (not_down c.is_down.result (g.S.Shelf.meaning c.det-answer.new.self.shelf).down c.is_down.ensures c.if-is_down.false)
     c.det-answer.ensures.trust c.det-answer.ensures.cause
     (λ why is. ((c.det-answer.ensures.refused why is).0, same_at g.S.Shelf.meaning n note c.args.group.now.core c.det-answer.new.self.core c.args.group.now.shelf c.det-answer.new.self.shelf (c.det-answer.ensures.refused why is).1 (c.det-answer.ensures.refused why is).2 at))
@@ -39,8 +39,8 @@ returns-clause-leaves g c = λ n note at.
 
 pub returns-then-is_down-clause-moves : goal.returns-then-is_down-clause-moves
 returns-then-is_down-clause-moves g c =
-    moves_by c.args.group.now.core c.det-answer.new.self.core (g.S.Shelf.meaning c.args.group.now.shelf) (g.S.Shelf.meaning c.det-answer.new.self.shelf) c.args.group.now.stands c.det-answer.new.self.stands c.det-answer.ensures.parts c.det-answer.ensures.narrows.shape c.det-answer.ensures.disks
+    moves_by c.args.group.now.core c.det-answer.new.self.core (g.S.Shelf.meaning c.args.group.now.shelf) (g.S.Shelf.meaning c.det-answer.new.self.shelf) c.args.group.now.stands.group c.det-answer.new.self.stands.group c.det-answer.ensures.parts c.det-answer.ensures.frames c.det-answer.ensures.disks
 
 pub returns-clause-moves : goal.returns-clause-moves
 returns-clause-moves g c =
-    moves_by c.args.group.now.core c.det-answer.new.self.core (g.S.Shelf.meaning c.args.group.now.shelf) (g.S.Shelf.meaning c.det-answer.new.self.shelf) c.args.group.now.stands c.det-answer.new.self.stands c.det-answer.ensures.parts c.det-answer.ensures.narrows.shape c.det-answer.ensures.disks
+    moves_by c.args.group.now.core c.det-answer.new.self.core (g.S.Shelf.meaning c.args.group.now.shelf) (g.S.Shelf.meaning c.det-answer.new.self.shelf) c.args.group.now.stands.group c.det-answer.new.self.stands.group c.det-answer.ensures.parts c.det-answer.ensures.frames c.det-answer.ensures.disks

@@ -6,6 +6,7 @@ use Rattle.vx_disk.specs.Disks.{Crashed}
 use Rattle.vx_disk.specs.Racks.{Stopped}
 use Rattle.vx_group.specs.Resumes.{CanImport}
 use Rattle.vx_group.specs.declared.group_core.GroupCore.{GroupCore}
+use Rattle.vx_logimport.specs.Rests.{LogsTell}
 use Rattle.vx_untold.specs.Shades.{rack_of, shade_meaning}
 use Rattle.vx_grouped.specs.Away.{IsAwayAt}
 use Rattle.vx_grouped.specs.GroupNotes.{GroupLies}
@@ -15,21 +16,26 @@ use Rattle.vx_grouped.proofs.racking.crash_laid.Goals as goal
 
 pub returns-clause-away : goal.returns-clause-away
 returns-clause-away g c = λ n note lies.
-    carried_in (λ x m y m'. GroupLies n note x m → IsAwayAt (record n { state = IsDown }) note x.inner.config m') c.args.laid.core c.apart-shelf.result.1 c.args.laid.core c.args.laid.core c.args.laid.shelf c.apart-shelf.result.0 c.of.result.rack c.crash_in.new.rack
+    carried_in (λ x m y m'. GroupLies n note x m → IsAwayAt (record n { state = IsDown }) note x.inner.config m') c.args.laid.core c.apart-shelf.result.1.core c.args.laid.core c.args.laid.core c.args.laid.shelf c.apart-shelf.result.0 c.of.result.rack c.crash_whole.new.rack
     (c.apart-shelf.ensures.core ∙ c.trace.ensures.core) (c.trace.ensures.shelf ∙ ap (λ s. off s) (sym c.apart-shelf.ensures.shelf)) refl (c.of.ensures.rack ∙ c.untraced.ensures.shade)
-    (λ it. crash_away n note c.apart-shelf.result.1 (shade_meaning (λ t. g.R.Shelf.meaning t.rack) c.apart-shelf.result.0) (shade_meaning (λ t. g.R.Shelf.meaning t.rack) c.crash_in.new.rack) it c.crash_in.ensures.stopped c.crash_in.ensures.stands c.crash_in.ensures.can) lies
+    (λ it. crash_away n note c.apart-shelf.result.1.core (shade_meaning (λ t. g.R.Shelf.meaning t.rack) c.apart-shelf.result.0) (shade_meaning (λ t. g.R.Shelf.meaning t.rack) c.crash_whole.new.rack) it c.crash_whole.ensures.fell c.crash_whole.ensures.below c.crash_whole.ensures.can) lies
 
 pub returns-clause-agreed : goal.returns-clause-agreed
 returns-clause-agreed g c = c.of.ensures.agreed ∙ ap (λ (x : GroupCore). x.inner.agreed) (c.apart-shelf.ensures.core ∙ c.trace.ensures.core)
 
 pub returns-clause-stopped : goal.returns-clause-stopped
-returns-clause-stopped g c = carried_both (λ m m'. Stopped m m') c.args.laid.shelf c.apart-shelf.result.0 c.of.result.rack c.crash_in.new.rack (c.trace.ensures.shelf ∙ ap (λ s. off s) (sym c.apart-shelf.ensures.shelf)) (c.of.ensures.rack ∙ c.untraced.ensures.shade) c.crash_in.ensures.stopped
+returns-clause-stopped g c = carried_both (λ m m'. Stopped m m') c.args.laid.shelf c.apart-shelf.result.0 c.of.result.rack c.crash_whole.new.rack (c.trace.ensures.shelf ∙ ap (λ s. off s) (sym c.apart-shelf.ensures.shelf)) (c.of.ensures.rack ∙ c.untraced.ensures.shade) c.crash_whole.ensures.fell
 
 pub returns-clause-disks : goal.returns-clause-disks
-returns-clause-disks g c = carried_both (λ m m'. OnDisks m.disks m'.disks (Crashed m.size c.args.pick)) c.args.laid.shelf c.apart-shelf.result.0 c.of.result.rack c.crash_in.new.rack (c.trace.ensures.shelf ∙ ap (λ s. off s) (sym c.apart-shelf.ensures.shelf)) (c.of.ensures.rack ∙ c.untraced.ensures.shade) c.crash_in.ensures.disks
+returns-clause-disks g c = carried_both (λ m m'. OnDisks m.disks m'.disks (Crashed m.size c.args.pick)) c.args.laid.shelf c.apart-shelf.result.0 c.of.result.rack c.crash_whole.new.rack (c.trace.ensures.shelf ∙ ap (λ s. off s) (sym c.apart-shelf.ensures.shelf)) (c.of.ensures.rack ∙ c.untraced.ensures.shade) c.crash_whole.ensures.disks
 
 pub returns-clause-told : goal.returns-clause-told
 returns-clause-told g c = λ told. c.untraced.ensures.told (subst (λ s. IsTrue (g.R.Shelf.meaning (rack_of s)).tells) c.of.ensures.rack told)
 
 pub of-requires-clause-can : goal.of-requires-clause-can
-of-requires-clause-can g c = λ κs within agreed. carried_off (λ m. CanImport m) c.untraced.result c.crash_in.new.rack c.untraced.ensures.shade (c.crash_in.ensures.can agreed)
+of-requires-clause-can g c = λ κs within agreed. carried_off (λ m. CanImport m) c.untraced.result c.crash_whole.new.rack c.untraced.ensures.shade (c.crash_whole.ensures.can agreed)
+
+pub of-requires-clause-tells : goal.of-requires-clause-tells
+of-requires-clause-tells g c = λ κs within r agreed is.
+    let it = c.rested_of.ensures r is in
+    carried_off (λ m. LogsTell r m) c.untraced.result c.crash_whole.new.rack c.untraced.ensures.shade (c.crash_whole.ensures.tells it.0 r it.1)

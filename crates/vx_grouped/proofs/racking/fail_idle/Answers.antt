@@ -8,6 +8,8 @@ use Rattle.vx_group.specs.Resumes.{CanImport}
 use Rattle.vx_group.proofs.FallenLemmas.{alike_can}
 use Rattle.vx_untold.specs.Shades.{rack_of, shade_meaning}
 use Rattle.vx_grouped.proofs.ImportFactLemmas.{fact_import}
+use Rattle.vx_logimport.specs.Rests.{LogsTell}
+use Rattle.vx_grouped.proofs.TellLemmas.{alike_tells}
 use Rattle.vx_grouped.proofs.TraceLemmas.{carried_both, carried_off, carried_on, off}
 use Rattle.vx_grouped.proofs.racking.fail_idle.Goals as goal
 
@@ -32,3 +34,7 @@ fail-requires g c = carried_on (λ m. c.args.disk < m.units) c.args.idle.rack c.
 pub of-requires-clause-can : goal.of-requires-clause-can
 of-requires-clause-can g c = λ κs within agreed.
     carried_both (λ m m'. CanImport m → CanImport m') c.args.idle.rack c.traced-inside.result c.untraced.result c.fail.new.self c.traced-inside.ensures c.untraced.ensures.shade (alike_can _ _ c.fail.ensures.alike) (fact_import (shade_meaning g.R.Shelf.meaning c.args.idle.rack) (c.args.idle.can agreed))
+
+pub of-requires-clause-tells : goal.of-requires-clause-tells
+of-requires-clause-tells g c = λ κs within r agreed is.
+    carried_both (λ m m'. LogsTell r m → LogsTell r m') c.args.idle.rack c.traced-inside.result c.untraced.result c.fail.new.self c.traced-inside.ensures c.untraced.ensures.shade (alike_tells r _ _ c.fail.ensures.alike) (c.args.idle.tells r agreed is)

@@ -13,21 +13,21 @@ pub returns-clause-core : goal.returns-clause-core
 returns-clause-core g c = c.untrace.ensures.core ∙ c.together.ensures.core ∙ c.apart-shelf.ensures.core ∙ c.trace.ensures.core
 
 pub returns-clause-alike : goal.returns-clause-alike
-returns-clause-alike g c = carried_both (λ m m'. Alike m m') c.args.laid.shelf c.apart-shelf.result.0 c.untrace.result.shelf c.fail_in.new.rack (c.trace.ensures.shelf ∙ ap (λ s. off s) (sym c.apart-shelf.ensures.shelf)) (c.untrace.ensures.shelf ∙ ap (λ s. off s) c.together.ensures.shelf) c.fail_in.ensures.alike
+returns-clause-alike g c = carried_both (λ m m'. Alike m m') c.args.laid.shelf c.apart-shelf.result.0 c.untrace.result.shelf c.fail_whole.new.rack (c.trace.ensures.shelf ∙ ap (λ s. off s) (sym c.apart-shelf.ensures.shelf)) (c.untrace.ensures.shelf ∙ ap (λ s. off s) c.together.ensures.shelf) c.fail_whole.ensures.alike
 
 pub returns-clause-down : goal.returns-clause-down
-returns-clause-down g c = carried_both (λ m m'. m'.down ≡ m.down) c.args.laid.shelf c.apart-shelf.result.0 c.untrace.result.shelf c.fail_in.new.rack (c.trace.ensures.shelf ∙ ap (λ s. off s) (sym c.apart-shelf.ensures.shelf)) (c.untrace.ensures.shelf ∙ ap (λ s. off s) c.together.ensures.shelf) c.fail_in.ensures.down
+returns-clause-down g c = carried_both (λ m m'. m'.down ≡ m.down) c.args.laid.shelf c.apart-shelf.result.0 c.untrace.result.shelf c.fail_whole.new.rack (c.trace.ensures.shelf ∙ ap (λ s. off s) (sym c.apart-shelf.ensures.shelf)) (c.untrace.ensures.shelf ∙ ap (λ s. off s) c.together.ensures.shelf) c.fail_whole.ensures.down
 
 pub returns-clause-armed : goal.returns-clause-armed
-returns-clause-armed g c = carried_both (λ m m'. m'.armed ≡ m.armed) c.args.laid.shelf c.apart-shelf.result.0 c.untrace.result.shelf c.fail_in.new.rack (c.trace.ensures.shelf ∙ ap (λ s. off s) (sym c.apart-shelf.ensures.shelf)) (c.untrace.ensures.shelf ∙ ap (λ s. off s) c.together.ensures.shelf) c.fail_in.ensures.armed
+returns-clause-armed g c = carried_both (λ m m'. m'.armed ≡ m.armed) c.args.laid.shelf c.apart-shelf.result.0 c.untrace.result.shelf c.fail_whole.new.rack (c.trace.ensures.shelf ∙ ap (λ s. off s) (sym c.apart-shelf.ensures.shelf)) (c.untrace.ensures.shelf ∙ ap (λ s. off s) c.together.ensures.shelf) c.fail_whole.ensures.armed
 
 pub returns-clause-disks : goal.returns-clause-disks
-returns-clause-disks g c = carried_both (λ m m'. WithDisks m.disks m'.disks (λ o n. Untouched o n × (n.failing c.args.disk ≡ c.args.on) × ((u : ℕ) → u ≢ c.args.disk → n.failing u ≡ o.failing u))) c.args.laid.shelf c.apart-shelf.result.0 c.untrace.result.shelf c.fail_in.new.rack (c.trace.ensures.shelf ∙ ap (λ s. off s) (sym c.apart-shelf.ensures.shelf)) (c.untrace.ensures.shelf ∙ ap (λ s. off s) c.together.ensures.shelf) c.fail_in.ensures.disks
+returns-clause-disks g c = carried_both (λ m m'. WithDisks m.disks m'.disks (λ o n. Untouched o n × (n.failing c.args.disk ≡ c.args.on) × ((u : ℕ) → u ≢ c.args.disk → n.failing u ≡ o.failing u))) c.args.laid.shelf c.apart-shelf.result.0 c.untrace.result.shelf c.fail_whole.new.rack (c.trace.ensures.shelf ∙ ap (λ s. off s) (sym c.apart-shelf.ensures.shelf)) (c.untrace.ensures.shelf ∙ ap (λ s. off s) c.together.ensures.shelf) c.fail_whole.ensures.disks
 
 pub returns-clause-volumes : goal.returns-clause-volumes
 returns-clause-volumes g c =
-    carried_in (λ x m y m'. Alike (inner_meaning (wide x) m) (inner_meaning (wide y) m')) c.args.laid.core c.apart-shelf.result.1 c.untrace.result.core c.apart-shelf.result.1 c.args.laid.shelf c.apart-shelf.result.0 c.untrace.result.shelf c.fail_in.new.rack
-    (c.apart-shelf.ensures.core ∙ c.trace.ensures.core) (c.trace.ensures.shelf ∙ ap (λ s. off s) (sym c.apart-shelf.ensures.shelf)) (c.untrace.ensures.core ∙ c.together.ensures.core) (c.untrace.ensures.shelf ∙ ap (λ s. off s) c.together.ensures.shelf) c.fail_in.ensures.volumes
+    carried_in (λ x m y m'. Alike (inner_meaning (wide x) m) (inner_meaning (wide y) m')) c.args.laid.core c.apart-shelf.result.1.core c.untrace.result.core c.apart-shelf.result.1.core c.args.laid.shelf c.apart-shelf.result.0 c.untrace.result.shelf c.fail_whole.new.rack
+    (c.apart-shelf.ensures.core ∙ c.trace.ensures.core) (c.trace.ensures.shelf ∙ ap (λ s. off s) (sym c.apart-shelf.ensures.shelf)) (c.untrace.ensures.core ∙ c.together.ensures.core) (c.untrace.ensures.shelf ∙ ap (λ s. off s) c.together.ensures.shelf) c.fail_whole.ensures.volumes
 
-pub fail_in-requires-clause-inside : goal.fail_in-requires-clause-inside
-fail_in-requires-clause-inside g c = λ κs within. carried_on (λ m. c.args.disk < m.units) c.args.laid.shelf c.apart-shelf.result.0 (c.trace.ensures.shelf ∙ ap (λ s. off s) (sym c.apart-shelf.ensures.shelf)) c.requires.disk
+pub fail_whole-requires-clause-inside : goal.fail_whole-requires-clause-inside
+fail_whole-requires-clause-inside g c = λ κs within. carried_on (λ m. c.args.disk < m.units) c.args.laid.shelf c.apart-shelf.result.0 (c.trace.ensures.shelf ∙ ap (λ s. off s) (sym c.apart-shelf.ensures.shelf)) c.requires.disk

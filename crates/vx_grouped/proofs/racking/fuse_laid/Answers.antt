@@ -13,15 +13,15 @@ pub returns-clause-core : goal.returns-clause-core
 returns-clause-core g c = c.untrace.ensures.core ∙ c.together.ensures.core ∙ c.apart-shelf.ensures.core ∙ c.trace.ensures.core
 
 pub returns-clause-alike : goal.returns-clause-alike
-returns-clause-alike g c = carried_both (λ m m'. Alike m m') c.args.laid.shelf c.apart-shelf.result.0 c.untrace.result.shelf c.fuse_in.new.rack (c.trace.ensures.shelf ∙ ap (λ s. off s) (sym c.apart-shelf.ensures.shelf)) (c.untrace.ensures.shelf ∙ ap (λ s. off s) c.together.ensures.shelf) c.fuse_in.ensures.alike
+returns-clause-alike g c = carried_both (λ m m'. Alike m m') c.args.laid.shelf c.apart-shelf.result.0 c.untrace.result.shelf c.fuse_whole.new.rack (c.trace.ensures.shelf ∙ ap (λ s. off s) (sym c.apart-shelf.ensures.shelf)) (c.untrace.ensures.shelf ∙ ap (λ s. off s) c.together.ensures.shelf) c.fuse_whole.ensures.alike
 
 pub returns-clause-down : goal.returns-clause-down
-returns-clause-down g c = carried_both (λ m m'. m'.down ≡ m.down) c.args.laid.shelf c.apart-shelf.result.0 c.untrace.result.shelf c.fuse_in.new.rack (c.trace.ensures.shelf ∙ ap (λ s. off s) (sym c.apart-shelf.ensures.shelf)) (c.untrace.ensures.shelf ∙ ap (λ s. off s) c.together.ensures.shelf) c.fuse_in.ensures.down
+returns-clause-down g c = carried_both (λ m m'. m'.down ≡ m.down) c.args.laid.shelf c.apart-shelf.result.0 c.untrace.result.shelf c.fuse_whole.new.rack (c.trace.ensures.shelf ∙ ap (λ s. off s) (sym c.apart-shelf.ensures.shelf)) (c.untrace.ensures.shelf ∙ ap (λ s. off s) c.together.ensures.shelf) c.fuse_whole.ensures.down
 
 pub returns-clause-disks : goal.returns-clause-disks
-returns-clause-disks g c = carried_both (λ m m'. OnDisks m.disks m'.disks (λ o n. SameBlocks o n × (n.fuse ≡ Some (c.args.calls, c.args.pick)))) c.args.laid.shelf c.apart-shelf.result.0 c.untrace.result.shelf c.fuse_in.new.rack (c.trace.ensures.shelf ∙ ap (λ s. off s) (sym c.apart-shelf.ensures.shelf)) (c.untrace.ensures.shelf ∙ ap (λ s. off s) c.together.ensures.shelf) c.fuse_in.ensures.disks
+returns-clause-disks g c = carried_both (λ m m'. OnDisks m.disks m'.disks (λ o n. SameBlocks o n × (n.fuse ≡ Some (c.args.calls, c.args.pick)))) c.args.laid.shelf c.apart-shelf.result.0 c.untrace.result.shelf c.fuse_whole.new.rack (c.trace.ensures.shelf ∙ ap (λ s. off s) (sym c.apart-shelf.ensures.shelf)) (c.untrace.ensures.shelf ∙ ap (λ s. off s) c.together.ensures.shelf) c.fuse_whole.ensures.disks
 
 pub returns-clause-volumes : goal.returns-clause-volumes
 returns-clause-volumes g c =
-    carried_in (λ x m y m'. Alike (inner_meaning (wide x) m) (inner_meaning (wide y) m')) c.args.laid.core c.apart-shelf.result.1 c.untrace.result.core c.apart-shelf.result.1 c.args.laid.shelf c.apart-shelf.result.0 c.untrace.result.shelf c.fuse_in.new.rack
-    (c.apart-shelf.ensures.core ∙ c.trace.ensures.core) (c.trace.ensures.shelf ∙ ap (λ s. off s) (sym c.apart-shelf.ensures.shelf)) (c.untrace.ensures.core ∙ c.together.ensures.core) (c.untrace.ensures.shelf ∙ ap (λ s. off s) c.together.ensures.shelf) c.fuse_in.ensures.volumes
+    carried_in (λ x m y m'. Alike (inner_meaning (wide x) m) (inner_meaning (wide y) m')) c.args.laid.core c.apart-shelf.result.1.core c.untrace.result.core c.apart-shelf.result.1.core c.args.laid.shelf c.apart-shelf.result.0 c.untrace.result.shelf c.fuse_whole.new.rack
+    (c.apart-shelf.ensures.core ∙ c.trace.ensures.core) (c.trace.ensures.shelf ∙ ap (λ s. off s) (sym c.apart-shelf.ensures.shelf)) (c.untrace.ensures.core ∙ c.together.ensures.core) (c.untrace.ensures.shelf ∙ ap (λ s. off s) c.together.ensures.shelf) c.fuse_whole.ensures.volumes

@@ -1,5 +1,5 @@
 -- A deport over disks with an account.
-use Rattle.std.proofs.Common.{◌≡◌, ◌∙◌, ◌-◌, true, inl, inr, refl}
+use Rattle.std.proofs.Common.{◌≡◌, ◌∙◌, ◌-◌, None, true, inl, inr, refl, subst, sym}
 use Rattle.std.proofs.lemmas.Bool.{cases_lt}
 use Rattle.std.specs.Prelude.{Err}
 use Rattle.vx_model.specs.declared.site.SiteState.TheVariants.{Deported as IsDeported}
@@ -9,6 +9,7 @@ use Rattle.vx_group.specs.Deports.{DeportedBy}
 use Rattle.vx_group.specs.Dets.{DetStops, margin}
 use Rattle.vx_group.specs.Holding.{wide}
 use Rattle.vx_group.specs.Resumes.{CanImport}
+use Rattle.vx_loggroup.specs.Opens.{RestTells}
 use Rattle.vx_grouped.specs.CoreMoves.{BackMoves}
 use Rattle.vx_grouped.specs.Away.{IsDeportedAt, note_deported}
 use Rattle.vx_grouped.specs.Ends.{CallLeaves}
@@ -38,7 +39,7 @@ returns-in-Err-clause-refusals g c = elim (cases_lt (greatest - margin) c.togeth
       c.args.group.core c.together-group.result.core c.together.result.core c.in-Err.group.core c.args.group.shelf c.together-group.result.shelf.shelf c.together.result.shelf c.in-Err.group.shelf.shelf
       (c.together-group.ensures.core ∙ c.apart-rack.ensures.core) (shelf_of _ _ c.together-group.ensures.shelf ∙ c.over-watched.ensures ∙ c.apart-rack.ensures.shelf)
       (c.together.ensures.core ∙ c.apart-watched.ensures.core) (c.together.ensures.shelf ∙ c.into_shelf-rack.ensures.shelf ∙ shelf_of _ _ c.apart-watched.ensures.shelf)
-      (device_stops (g.R.Shelf.meaning c.together-group.result.shelf.shelf) (λ w. g.R.Shelf.meaning w.shelf) (λ y. y.shelf) c.in-Err.group c.in-Err.stop (c.in-Err.ensures.cause le)))
+      (device_stops (g.R.Shelf.meaning c.together-group.result.shelf.shelf) (λ w. g.R.Shelf.meaning w.0.shelf) (λ y. (y.shelf, None)) c.in-Err.group c.in-Err.stop (c.in-Err.ensures.cause le)))
 ]
 
 pub returns-in-Ok-clause-can : goal.returns-in-Ok-clause-can
@@ -59,3 +60,6 @@ returns-in-Err-clause-moves g c =
     c.args.group.core c.together-group.result.core c.together.result.core c.in-Err.group.core c.args.group.shelf c.together-group.result.shelf.shelf c.together.result.shelf c.in-Err.group.shelf.shelf
     (c.together-group.ensures.core ∙ c.apart-rack.ensures.core) (shelf_of _ _ c.together-group.ensures.shelf ∙ c.over-watched.ensures ∙ c.apart-rack.ensures.shelf)
     (c.together.ensures.core ∙ c.apart-watched.ensures.core) (c.together.ensures.shelf ∙ c.into_shelf-rack.ensures.shelf ∙ shelf_of _ _ c.apart-watched.ensures.shelf) c.in-Err.ensures.moves
+
+pub returns-in-Ok-clause-tells : goal.returns-in-Ok-clause-tells
+returns-in-Ok-clause-tells g c = subst (λ t. RestTells c.in-Ok.rested (g.R.Shelf.meaning t)) (sym c.into_shelf.ensures.shelf) c.in-Ok.ensures.tells

@@ -5,6 +5,7 @@ use Rattle.vx_untold.specs.Shades.{rack_of, shade_meaning, shade_rack}
 use Rattle.vx_watched.specs.Since.{CalledSince}
 use Rattle.vx_watched.specs.Traces.{TellsLess}
 use Rattle.vx_watched.proofs.SinceLemmas.{since_stop}
+use Rattle.vx_grouped.proofs.GivenUpLemmas.{rest_tells}
 use Rattle.vx_grouped.proofs.LeavingLemmas.{deport_cut, deport_down, deport_up, deported_from}
 use Rattle.vx_grouped.proofs.site_leaving.deport_site.Goals as goal
 
@@ -40,3 +41,6 @@ returns-then-is_down_stop-clause-told g c = λ told. c.in-Err.ensures.told (c.cr
 
 pub returns-in-Ok-clause-told : goal.returns-in-Ok-clause-told
 returns-in-Ok-clause-told g c = subst (λ s. TellsLess (g.R.Shelf.meaning (rack_of c.args.laid.shelf)) (g.R.Shelf.meaning (rack_of s))) (sym c.of.ensures.rack) c.in-Ok.ensures.told
+
+pub of-requires-clause-tells : goal.of-requires-clause-tells
+of-requires-clause-tells g c = λ κs lives r agreed is. rest_tells c.in-Ok.rested (shade_meaning g.R.Shelf.meaning c.in-Ok.rack) c.in-Ok.ensures.tells r is

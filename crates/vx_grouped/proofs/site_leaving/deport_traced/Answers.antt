@@ -6,6 +6,7 @@ use Rattle.vx_config.specs.declared.config.Config.{Config}
 use Rattle.vx_group.specs.Deports.{DeportedBy}
 use Rattle.vx_group.specs.Holding.{wide}
 use Rattle.vx_group.specs.Resumes.{CanImport}
+use Rattle.vx_loggroup.specs.Opens.{RestTells}
 use Rattle.vx_watched.specs.Since.{CalledSince}
 use Rattle.vx_grouped.specs.Away.{IsDeportedAt, note_deported}
 use Rattle.vx_grouped.specs.CoreMoves.{BackMoves}
@@ -63,3 +64,6 @@ returns-in-Err-clause-told g c = c.untrace.ensures.told
 
 pub deport_from-requires-clause-up : goal.deport_from-requires-clause-up
 deport_from-requires-clause-up g c = carried_on (λ m. IsTrue m.down → ⊥) c.args.laid.shelf c.trace.result.shelf c.trace.ensures.shelf c.requires.up
+
+pub returns-in-Ok-clause-tells : goal.returns-in-Ok-clause-tells
+returns-in-Ok-clause-tells g c = carried_off (λ m. RestTells c.in-Ok.rested m) c.untraced.result c.in-Ok.rack c.untraced.ensures.shade c.in-Ok.ensures.tells

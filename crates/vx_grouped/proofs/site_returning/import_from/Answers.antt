@@ -2,6 +2,7 @@
 use Rattle.std.proofs.Common.{◌∙◌, IsTrue, refl, sym, subst}
 use Rattle.vx_group.specs.Imports.{ImportStops}
 use Rattle.vx_group.specs.Resumes.{CanImport, CanImportBehind}
+use Rattle.vx_logimport.specs.Rests.{LogsTell}
 use Rattle.vx_grouped.specs.Away.{AwayLies}
 use Rattle.vx_grouped.specs.Returns.{GroupReturns, ImportLeft}
 use Rattle.vx_grouped.proofs.CarryLemmas.{carried, carried_two, shelf_of}
@@ -20,14 +21,17 @@ returns-in-Err-clause-leaves g c = λ n note last lies.
 
 pub returns-in-Err-clause-stops : goal.returns-in-Err-clause-stops
 returns-in-Err-clause-stops g c =
-    carried_two (λ s t. ImportStops (g.R.Shelf.meaning s) (g.R.Shelf.meaning t) c.in-Err.stop) c.args.rack c.over-watched.result.shelf c.into_shelf.result c.in-Err.watched.shelf c.over-watched.ensures c.into_shelf.ensures.shelf c.in-Err.ensures.imported
+    carried_two (λ s t. ImportStops (g.R.Shelf.meaning s) (g.R.Shelf.meaning t) c.in-Err.stop) c.args.rack c.over-watched.result.shelf c.into_shelf.result c.in-Err.watched.shelf c.over-watched.ensures c.into_shelf.ensures.shelf c.in-Err.ensures.stops
 
 pub returns-in-Err-clause-again : goal.returns-in-Err-clause-again
 returns-in-Err-clause-again g c = carried_two (λ s t. CanImportBehind (g.R.Shelf.meaning t)) c.args.rack c.over-watched.result.shelf c.into_shelf.result c.in-Err.watched.shelf c.over-watched.ensures c.into_shelf.ensures.shelf c.in-Err.ensures.again
 
 pub import_group-came-requires : goal.import_group-came-requires
-import_group-came-requires g c = record { can = subst (λ s. CanImport (g.R.Shelf.meaning s)) (sym c.over-watched.ensures) c.requires.can }
+import_group-came-requires g c = record {
+  can = subst (λ s. CanImport (g.R.Shelf.meaning s)) (sym c.over-watched.ensures) c.requires.can;
+  tells = subst (λ s. LogsTell c.args.rested.now (g.R.Shelf.meaning s)) (sym c.over-watched.ensures) c.requires.tells;
+}
 
 pub returns-in-Ok-clause-up : goal.returns-in-Ok-clause-up
 returns-in-Ok-clause-up g c =
-    carried_two (λ s t. IsTrue (g.R.Shelf.meaning t).down → ⊥) c.args.rack c.args.rack c.together.result.shelf c.in-Ok.group.shelf.shelf refl (c.together.ensures.shelf ∙ c.into_shelf-rack.ensures.shelf ∙ shelf_of _ _ c.apart-watched.ensures.shelf) c.in-Ok.ensures.imported.0.up
+    carried_two (λ s t. IsTrue (g.R.Shelf.meaning t).down → ⊥) c.args.rack c.args.rack c.together.result.shelf c.in-Ok.group.shelf.shelf refl (c.together.ensures.shelf ∙ c.into_shelf-rack.ensures.shelf ∙ shelf_of _ _ c.apart-watched.ensures.shelf) c.in-Ok.ensures.up

@@ -4,6 +4,8 @@ use Rattle.vx_group.proofs.CallLemmas.{not_down}
 use Rattle.vx_untold.specs.Shades.{rack_of, shade_lawful, shade_meaning, shade_rack}
 use Rattle.vx_grouped.proofs.SinceReturns.{return_all, return_at, return_calls, return_none, return_then}
 use Rattle.vx_grouped.proofs.SiteReturnLemmas.{imported_down, imported_early, imported_late, imported_up, is_up, still_can}
+use Rattle.vx_grouped.proofs.GivenUpLemmas.{rested_tells}
+use Rattle.vx_grouped.proofs.TellLemmas.{alike_tells, early_tells, fallen_tells}
 use Rattle.vx_grouped.proofs.site_returning.import_site.Goals as goal
 
 pub returns-then-is_down-clause-since : goal.returns-then-is_down-clause-since
@@ -20,7 +22,7 @@ returns-in-Ok-clause-since g c = return_calls (shade_meaning g.R.Shelf.meaning c
 pub returns-then-not-is_down-clause-imported : goal.returns-then-not-is_down-clause-imported
 returns-then-not-is_down-clause-imported g c = λ n note away.
     let is_rack = (g.met.R.Rack g.world.𝓛 g.world.𝓜 g.world.𝓡 ((λ s x. x), (λ x. x), (λ x. x), λ x. x)).rack in
-    imported_early n note (shade_rack g.R.Shelf.meaning is_rack) (shade_lawful g.R.Shelf.meaning (g.met.R.Shelf g.world.𝓛 g.world.𝓜 g.world.𝓡 ((λ s x. x), (λ x. x), (λ x. x), λ x. x)).lawful) c.args.rack away c.in-Err.rack c.in-Err.stop c.in-Err.ensures.since c.in-Err.ensures.told c.in-Err.ensures.stops c.requires c.of-then-not-is_down.result c.of-then-not-is_down.ensures.rack c.of-then-not-is_down.ensures.agreed
+    imported_early n note (shade_rack g.R.Shelf.meaning is_rack) (shade_lawful g.R.Shelf.meaning (g.met.R.Shelf g.world.𝓛 g.world.𝓜 g.world.𝓡 ((λ s x. x), (λ x. x), (λ x. x), λ x. x)).lawful) c.args.rack away c.in-Err.rack c.in-Err.stop c.in-Err.ensures.since c.in-Err.ensures.told c.in-Err.ensures.stops c.requires.can c.of-then-not-is_down.result c.of-then-not-is_down.ensures.rack c.of-then-not-is_down.ensures.agreed
     (sym c.is_early-early.ensures ∙ c.if-early.true) (not_down c.is_down-then-early.result (shade_meaning g.R.Shelf.meaning c.in-Err.rack).down c.is_down-then-early.ensures c.if-not-is_down.true)
 
 pub returns-then-not-is_down-clause-since : goal.returns-then-not-is_down-clause-since
@@ -31,12 +33,12 @@ returns-then-not-is_down-clause-since g c =
 
 pub of-requires-then-not-is_down-clause-can : goal.of-requires-then-not-is_down-clause-can
 of-requires-then-not-is_down-clause-can g c = λ κs lives agreed.
-    still_can (shade_meaning g.R.Shelf.meaning c.args.rack) (shade_meaning g.R.Shelf.meaning c.in-Err.rack) c.in-Err.stop (sym c.is_early-early.ensures ∙ c.if-early.true) c.requires c.in-Err.ensures.stops
+    still_can (shade_meaning g.R.Shelf.meaning c.args.rack) (shade_meaning g.R.Shelf.meaning c.in-Err.rack) c.in-Err.stop (sym c.is_early-early.ensures ∙ c.if-early.true) c.requires.can c.in-Err.ensures.stops
 
 pub returns-then-is_down_stop-clause-imported : goal.returns-then-is_down_stop-clause-imported
 returns-then-is_down_stop-clause-imported g c = λ n note away.
     let is_rack = (g.met.R.Rack g.world.𝓛 g.world.𝓜 g.world.𝓡 ((λ s x. x), (λ x. x), (λ x. x), λ x. x)).rack in
-    imported_down n note (shade_rack g.R.Shelf.meaning is_rack) (shade_lawful g.R.Shelf.meaning (g.met.R.Shelf g.world.𝓛 g.world.𝓜 g.world.𝓡 ((λ s x. x), (λ x. x), (λ x. x), λ x. x)).lawful) c.args.rack away c.in-Err.rack c.in-Err.stop c.in-Err.ensures.since c.in-Err.ensures.told c.in-Err.ensures.stops c.requires
+    imported_down n note (shade_rack g.R.Shelf.meaning is_rack) (shade_lawful g.R.Shelf.meaning (g.met.R.Shelf g.world.𝓛 g.world.𝓜 g.world.𝓡 ((λ s x. x), (λ x. x), (λ x. x), λ x. x)).lawful) c.args.rack away c.in-Err.rack c.in-Err.stop c.in-Err.ensures.since c.in-Err.ensures.told c.in-Err.ensures.stops c.requires.can
     c.fallen-rack.result c.fallen-rack.ensures.told c.fallen-rack.ensures.fell c.fallen-rack.ensures.counts c.fallen-rack.ensures.since (λ early. c.fallen-rack.ensures.stopped (c.is_early-early.ensures ∙ early)) (λ late. c.fallen-rack.ensures.dark (c.is_early-early.ensures ∙ late))
     c.of-then-is_down_stop.result c.of-then-is_down_stop.ensures.rack c.of-then-is_down_stop.ensures.agreed (sym c.is_down_stop.ensures ∙ c.if-is_down_stop.true)
 
@@ -51,7 +53,7 @@ returns-then-is_down_stop-clause-since g c =
 pub returns-else-is_down_stop-clause-imported : goal.returns-else-is_down_stop-clause-imported
 returns-else-is_down_stop-clause-imported g c = λ n note away.
     let is_rack = (g.met.R.Rack g.world.𝓛 g.world.𝓜 g.world.𝓡 ((λ s x. x), (λ x. x), (λ x. x), λ x. x)).rack in
-    imported_late n note (shade_rack g.R.Shelf.meaning is_rack) (shade_lawful g.R.Shelf.meaning (g.met.R.Shelf g.world.𝓛 g.world.𝓜 g.world.𝓡 ((λ s x. x), (λ x. x), (λ x. x), λ x. x)).lawful) c.args.rack away c.in-Err.rack c.in-Err.stop c.in-Err.ensures.since c.in-Err.ensures.told c.in-Err.ensures.stops c.requires
+    imported_late n note (shade_rack g.R.Shelf.meaning is_rack) (shade_lawful g.R.Shelf.meaning (g.met.R.Shelf g.world.𝓛 g.world.𝓜 g.world.𝓡 ((λ s x. x), (λ x. x), (λ x. x), λ x. x)).lawful) c.args.rack away c.in-Err.rack c.in-Err.stop c.in-Err.ensures.since c.in-Err.ensures.told c.in-Err.ensures.stops c.requires.can
     c.fallen-rack.result c.fallen-rack.ensures.told c.fallen-rack.ensures.fell c.fallen-rack.ensures.counts c.fallen-rack.ensures.since (λ early. c.fallen-rack.ensures.stopped (c.is_early-early.ensures ∙ early)) (λ late. c.fallen-rack.ensures.dark (c.is_early-early.ensures ∙ late))
     c.of-in-Err.result c.risen.result c.of-in-Err.ensures.rack c.of-in-Err.ensures.agreed c.risen.ensures.told (sym c.is_down_stop.ensures ∙ c.if-is_down_stop.false) c.risen.ensures.alike c.risen.ensures.up c.risen.ensures.armed
 
@@ -76,3 +78,22 @@ returns-then-is_down_stop-clause-told g c = λ told. c.in-Err.ensures.told (c.fa
 
 pub returns-else-is_down_stop-clause-told : goal.returns-else-is_down_stop-clause-told
 returns-else-is_down_stop-clause-told g c = λ told. c.in-Err.ensures.told (c.fallen-rack.ensures.told (c.risen.ensures.told (subst (λ s. IsTrue (g.R.Shelf.meaning (rack_of s)).tells) c.of-in-Err.ensures.rack told)))
+
+pub of-requires-clause-tells : goal.of-requires-clause-tells
+of-requires-clause-tells g c = λ κs lives r agreed is. rested_tells r c.args.rested (shade_meaning g.R.Shelf.meaning c.args.rack) is c.requires.tells
+
+pub of-requires-then-not-is_down-clause-tells : goal.of-requires-then-not-is_down-clause-tells
+of-requires-then-not-is_down-clause-tells g c = λ κs lives r agreed is.
+    rested_tells r c.args.rested (shade_meaning g.R.Shelf.meaning c.in-Err.rack) is
+    (early_tells c.args.rested (shade_meaning g.R.Shelf.meaning c.args.rack) (shade_meaning g.R.Shelf.meaning c.in-Err.rack) c.in-Err.stop (sym c.is_early-early.ensures ∙ c.if-early.true) c.in-Err.ensures.stops c.requires.tells)
+
+pub of-requires-then-is_down_stop-clause-tells : goal.of-requires-then-is_down_stop-clause-tells
+of-requires-then-is_down_stop-clause-tells g c = λ κs lives r agreed is.
+    rested_tells r c.args.rested (shade_meaning g.R.Shelf.meaning c.fallen-rack.result) is
+    (fallen_tells c.args.rested (shade_meaning g.R.Shelf.meaning c.args.rack) (shade_meaning g.R.Shelf.meaning c.in-Err.rack) (shade_meaning g.R.Shelf.meaning c.fallen-rack.result) c.in-Err.stop c.is_early-early.result c.is_early-early.ensures c.requires.tells c.in-Err.ensures.stops c.fallen-rack.ensures.stopped c.fallen-rack.ensures.dark)
+
+pub of-requires-in-Err-clause-tells : goal.of-requires-in-Err-clause-tells
+of-requires-in-Err-clause-tells g c = λ κs lives r agreed is.
+    rested_tells r c.args.rested (shade_meaning g.R.Shelf.meaning c.risen.result) is
+    (alike_tells c.args.rested (shade_meaning g.R.Shelf.meaning c.fallen-rack.result) (shade_meaning g.R.Shelf.meaning c.risen.result) c.risen.ensures.alike
+    (fallen_tells c.args.rested (shade_meaning g.R.Shelf.meaning c.args.rack) (shade_meaning g.R.Shelf.meaning c.in-Err.rack) (shade_meaning g.R.Shelf.meaning c.fallen-rack.result) c.in-Err.stop c.is_early-early.result c.is_early-early.ensures c.requires.tells c.in-Err.ensures.stops c.fallen-rack.ensures.stopped c.fallen-rack.ensures.dark))

@@ -2,6 +2,7 @@
 use Rattle.std.proofs.Common.{IsTrue, refl}
 use Rattle.vx_group.specs.Imports.{ImportStops}
 use Rattle.vx_group.specs.Resumes.{CanImport, CanImportBehind}
+use Rattle.vx_logimport.specs.Rests.{LogsTell}
 use Rattle.vx_watched.specs.Since.{CalledSince}
 use Rattle.vx_grouped.specs.Away.{AwayLies}
 use Rattle.vx_grouped.specs.Returns.{GroupReturns, ImportLeft}
@@ -10,6 +11,9 @@ use Rattle.vx_grouped.proofs.site_returning.import_traced.Goals as goal
 
 pub import_from-came-requires-clause-can : goal.import_from-came-requires-clause-can
 import_from-came-requires-clause-can g c = carried_on (λ m. CanImport m) c.args.rack c.traced.result c.traced.ensures c.requires.can
+
+pub import_from-came-requires-clause-tells : goal.import_from-came-requires-clause-tells
+import_from-came-requires-clause-tells g c = carried_on (λ m. LogsTell c.args.rested.now m) c.args.rack c.traced.result c.traced.ensures c.requires.tells
 
 pub returns-in-Ok-clause-leaves : goal.returns-in-Ok-clause-leaves
 returns-in-Ok-clause-leaves g c = λ n note last lies.

@@ -3,6 +3,8 @@ use Rattle.std.proofs.Common.{IsTrue, subst, sym, ◌∙◌}
 use Rattle.vx_untold.specs.Shades.{rack_of, shade_lawful, shade_meaning, shade_rack}
 use Rattle.vx_grouped.proofs.SinceReturns.{return_all, return_at, return_calls, return_none, return_then}
 use Rattle.vx_grouped.proofs.SiteReturnLemmas.{is_up, recovered_not, recovered_up}
+use Rattle.vx_grouped.proofs.GivenUpLemmas.{rested_tells}
+use Rattle.vx_grouped.proofs.TellLemmas.{alike_tells, fallen_tells}
 use Rattle.vx_grouped.proofs.site_returning.recover_site.Goals as goal
 
 pub returns-in-Ok-clause-recovered : goal.returns-in-Ok-clause-recovered
@@ -18,7 +20,7 @@ returns-in-Err-clause-recovered g c = λ n note down.
     let racks = shade_rack g.R.Shelf.meaning is_rack in
     let laws = shade_lawful g.R.Shelf.meaning (g.met.R.Shelf g.world.𝓛 g.world.𝓜 g.world.𝓡 ((λ s x. x), (λ x. x), (λ x. x), λ x. x)).lawful in
     recovered_not n note racks laws c.args.rack c.risen.result down c.risen.ensures.told c.risen.ensures.alike c.risen.ensures.up c.risen.ensures.armed c.in-Err.rack c.of-in-Err.result c.fallen.result c.of-in-Err.ensures.rack c.of-in-Err.ensures.agreed c.in-Err.ensures.told c.fallen.ensures.told c.in-Err.stop c.in-Err.ensures.since c.in-Err.ensures.stops
-    (c.risen.ensures.can c.requires) c.fallen.ensures.fell c.fallen.ensures.counts c.fallen.ensures.since (λ early. c.fallen.ensures.stopped (c.is_early-early.ensures ∙ early)) (λ late. c.fallen.ensures.dark (c.is_early-early.ensures ∙ late))
+    (c.risen.ensures.can c.requires.can) c.fallen.ensures.fell c.fallen.ensures.counts c.fallen.ensures.since (λ early. c.fallen.ensures.stopped (c.is_early-early.ensures ∙ early)) (λ late. c.fallen.ensures.dark (c.is_early-early.ensures ∙ late))
 
 pub returns-in-Err-clause-since : goal.returns-in-Err-clause-since
 returns-in-Err-clause-since g c =
@@ -44,3 +46,18 @@ returns-in-Ok-clause-told g c = λ told. c.risen.ensures.told (c.in-Ok.ensures.t
 
 pub returns-then-not-is_down-clause-told : goal.returns-then-not-is_down-clause-told
 returns-then-not-is_down-clause-told g c = λ told. subst (λ s. IsTrue (g.R.Shelf.meaning (rack_of s)).tells) c.of.ensures.rack told
+
+pub of-requires-clause-tells : goal.of-requires-clause-tells
+of-requires-clause-tells g c = λ κs lives r agreed is. rested_tells r c.args.rested (shade_meaning g.R.Shelf.meaning c.args.rack) is c.requires.tells
+
+pub import_watched-requires-clause-can : goal.import_watched-requires-clause-can
+import_watched-requires-clause-can g c = c.risen.ensures.can c.requires.can
+
+pub import_watched-requires-clause-tells : goal.import_watched-requires-clause-tells
+import_watched-requires-clause-tells g c = alike_tells c.args.rested (shade_meaning g.R.Shelf.meaning c.args.rack) (shade_meaning g.R.Shelf.meaning c.risen.result) c.risen.ensures.alike c.requires.tells
+
+pub of-requires-in-Err-clause-tells : goal.of-requires-in-Err-clause-tells
+of-requires-in-Err-clause-tells g c = λ κs lives r agreed is.
+    rested_tells r c.args.rested (shade_meaning g.R.Shelf.meaning c.fallen.result) is
+    (fallen_tells c.args.rested (shade_meaning g.R.Shelf.meaning c.risen.result) (shade_meaning g.R.Shelf.meaning c.in-Err.rack) (shade_meaning g.R.Shelf.meaning c.fallen.result) c.in-Err.stop c.is_early-early.result c.is_early-early.ensures
+    (alike_tells c.args.rested (shade_meaning g.R.Shelf.meaning c.args.rack) (shade_meaning g.R.Shelf.meaning c.risen.result) c.risen.ensures.alike c.requires.tells) c.in-Err.ensures.stops c.fallen.ensures.stopped c.fallen.ensures.dark)

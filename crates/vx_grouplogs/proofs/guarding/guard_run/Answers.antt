@@ -5,6 +5,8 @@ use Rattle.vx_grouplogs.proofs.OnCalls.{mark_down, on_gone, on_others}
 use Rattle.vx_grouplogs.proofs.KnowActs.{know_none, logs_off_plex}
 use Rattle.vx_groupmaps.proofs.BetweenLemmas.{goes_reads}
 use Rattle.vx_groupmaps.proofs.KnowLemmas.{note_none, noted_knows, noted_run}
+use Rattle.vx_groupmaps.proofs.NotedLemmas.{noted_holds}
+use Rattle.std.specs.Prelude.{Ok}
 use Rattle.vx_grouplogs.specs.Covering.{OnLogs}
 use Rattle.vx_grouplogs.proofs.guarding.guard_run.Goals as goal
 
@@ -64,3 +66,8 @@ returns-in-Err-clause-knows g c = λ spare know. know_none c.args.config.now c.a
 
 pub returns-in-Err-clause-notes : goal.returns-in-Err-clause-notes
 returns-in-Err-clause-notes g c = note_none _ _ _ c.args.logs.now (record { drl = None; fmr = None }) refl
+
+pub returns-in-Ok-clause-missed : goal.returns-in-Ok-clause-missed
+returns-in-Ok-clause-missed g c =
+    noted_holds c.args.config.now c.requires.checked c.args.vol (omega (arith, c.requires.some, c.requires.within)) c.args.logs.now c.requires.on.fits (g.S.Shelf.meaning c.args.shelf.now) c.requires.disks (c.args.block / 64) ((c.args.block + c.args.count - 1) / 64)
+    c.mark_run.new.logs (g.S.Shelf.meaning c.mark_run.new.shelf) (omega (arith, c.requires.some, c.requires.within)) (Ok c.in-Ok.field-0) c.in-Ok.ensures.marks

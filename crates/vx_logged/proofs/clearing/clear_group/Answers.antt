@@ -12,7 +12,9 @@ use Rattle.vx_grouplogs.specs.Covering.{AllAlike}
 use Rattle.vx_grouplogs.specs.Marking.{MarksFewer, NoMarks}
 use Rattle.vx_groupmaps.specs.Missing.{none_spared}
 use Rattle.vx_groupmaps.proofs.KnowLemmas.{note_none, note_same}
-use Rattle.vx_logged.proofs.StandLemmas.{alike_goes, config_is, if_ok_any, inner_fit, inner_others, inner_sound, know_inner, know_wide, logs_Stands, logs_goes, no_regions, others_each, others_then, same_fewer, same_regions, to_inner, to_wide}
+use Rattle.vx_logged.proofs.StandLemmas.{alike_goes, config_is, if_ok_any, inner_fit, inner_others, inner_sound, know_inner, know_wide, logs_Stands, logs_goes, narrowed_then, no_regions, others_each, others_then, same_fewer, same_regions, to_inner, to_wide}
+use Rattle.vx_group.proofs.LoseLemmas.{along_same, then_along}
+use Rattle.vx_group.proofs.UnitLemmas.{goes_units, then_units}
 use Rattle.vx_logged.proofs.clearing.clear_group.Goals as goal
 
 pub clear_run-requires-clause-checked : goal.clear_run-requires-clause-checked
@@ -180,3 +182,54 @@ returns-clause-maps g c = λ know. c.keep_log.ensures.logs.maps c.args.vol none_
 
 pub returns-clause-stay : goal.returns-clause-stay
 returns-clause-stay g c = note_same _ _ _ c.args.logs.now c.clear_run.new.logs c.in-Ok-clear_run.ensures.same
+
+pub returns-in-Err-clause-loses : goal.returns-in-Err-clause-loses
+returns-in-Err-clause-loses g c = c.ready_group.ensures.loses
+
+pub returns-then-not-ready-clause-loses : goal.returns-then-not-ready-clause-loses
+returns-then-not-ready-clause-loses g c = c.ready_group.ensures.loses
+
+pub returns-then-blocks-eq0-clause-loses : goal.returns-then-blocks-eq0-clause-loses
+returns-then-blocks-eq0-clause-loses g c = c.ready_group.ensures.loses
+
+pub returns-in-Err-clear_run-clause-loses : goal.returns-in-Err-clear_run-clause-loses
+returns-in-Err-clear_run-clause-loses g c =
+    then_along c.args.core.now.inner.config c.ready_group.new.core.inner.config c.ready_group.new.core.inner.config (g.S.Shelf.meaning c.args.shelf.now) (g.S.Shelf.meaning c.ready_group.new.shelf) (g.S.Shelf.meaning c.clear_run.new.shelf) c.ready_group.ensures.loses (along_same c.ready_group.new.core.inner.config (g.S.Shelf.meaning c.ready_group.new.shelf) (g.S.Shelf.meaning c.clear_run.new.shelf) c.clear_run.ensures.goes.faults)
+
+pub returns-clause-loses : goal.returns-clause-loses
+returns-clause-loses g c =
+    then_along c.args.core.now.inner.config c.ready_group.new.core.inner.config c.keep_log.new.core.inner.config (g.S.Shelf.meaning c.args.shelf.now) (g.S.Shelf.meaning c.clear_run.new.shelf) (g.S.Shelf.meaning c.keep_log.new.shelf)
+    (then_along c.args.core.now.inner.config c.ready_group.new.core.inner.config c.ready_group.new.core.inner.config (g.S.Shelf.meaning c.args.shelf.now) (g.S.Shelf.meaning c.ready_group.new.shelf) (g.S.Shelf.meaning c.clear_run.new.shelf) c.ready_group.ensures.loses (along_same c.ready_group.new.core.inner.config (g.S.Shelf.meaning c.ready_group.new.shelf) (g.S.Shelf.meaning c.clear_run.new.shelf) c.clear_run.ensures.goes.faults)) c.keep_log.ensures.loses
+
+pub returns-in-Err-clause-below : goal.returns-in-Err-clause-below
+returns-in-Err-clause-below g c = c.ready_group.ensures.below
+
+pub returns-then-not-ready-clause-below : goal.returns-then-not-ready-clause-below
+returns-then-not-ready-clause-below g c = c.ready_group.ensures.below
+
+pub returns-then-blocks-eq0-clause-below : goal.returns-then-blocks-eq0-clause-below
+returns-then-blocks-eq0-clause-below g c = c.ready_group.ensures.below
+
+pub returns-in-Err-clear_run-clause-below : goal.returns-in-Err-clear_run-clause-below
+returns-in-Err-clear_run-clause-below g c =
+    then_units (g.S.Shelf.meaning c.args.shelf.now) (g.S.Shelf.meaning c.ready_group.new.shelf) (g.S.Shelf.meaning c.clear_run.new.shelf) c.ready_group.ensures.below (goes_units _ (g.S.Shelf.meaning c.ready_group.new.shelf) (g.S.Shelf.meaning c.clear_run.new.shelf) c.clear_run.ensures.goes)
+
+pub returns-clause-below : goal.returns-clause-below
+returns-clause-below g c =
+    then_units (g.S.Shelf.meaning c.args.shelf.now) (g.S.Shelf.meaning c.clear_run.new.shelf) (g.S.Shelf.meaning c.keep_log.new.shelf)
+    (then_units (g.S.Shelf.meaning c.args.shelf.now) (g.S.Shelf.meaning c.ready_group.new.shelf) (g.S.Shelf.meaning c.clear_run.new.shelf) c.ready_group.ensures.below (goes_units _ (g.S.Shelf.meaning c.ready_group.new.shelf) (g.S.Shelf.meaning c.clear_run.new.shelf) c.clear_run.ensures.goes)) c.keep_log.ensures.below
+
+pub returns-in-Err-clause-narrow : goal.returns-in-Err-clause-narrow
+returns-in-Err-clause-narrow g c = c.ready_group.ensures.narrow
+
+pub returns-then-not-ready-clause-narrow : goal.returns-then-not-ready-clause-narrow
+returns-then-not-ready-clause-narrow g c = c.ready_group.ensures.narrow
+
+pub returns-then-blocks-eq0-clause-narrow : goal.returns-then-blocks-eq0-clause-narrow
+returns-then-blocks-eq0-clause-narrow g c = c.ready_group.ensures.narrow
+
+pub returns-in-Err-clear_run-clause-narrow : goal.returns-in-Err-clear_run-clause-narrow
+returns-in-Err-clear_run-clause-narrow g c = c.ready_group.ensures.narrow
+
+pub returns-clause-narrow : goal.returns-clause-narrow
+returns-clause-narrow g c = narrowed_then c.args.core.now c.ready_group.new.core c.keep_log.new.core c.ready_group.ensures.narrow c.keep_log.ensures.narrow

@@ -10,6 +10,7 @@ use Rattle.vx_model.specs.Sizes.{regions_of as regions_in}
 use Rattle.vx_groupmaps.specs.Missing.{none_spared}
 use Rattle.vx_groupmaps.proofs.KnowLemmas.{note_same}
 use Rattle.vx_logged.proofs.StandLemmas.{cause_to, each_on, flushed_alike, flushed_then, others_each, others_then, same_fewer}
+use Rattle.vx_group.proofs.LoseLemmas.{then_along}
 use Rattle.vx_logged.proofs.flushing.flush_cleared.Goals as goal
 
 pub clear_group-requires-clause-there : goal.clear_group-requires-clause-there
@@ -114,3 +115,19 @@ returns-in-Ok-clear_group-clause-maps g c = λ know. c.clear_group.ensures.maps 
 
 pub returns-in-Err-clear_group-clause-maps : goal.returns-in-Err-clear_group-clause-maps
 returns-in-Err-clear_group-clause-maps g c = λ know. c.clear_group.ensures.maps ((each_on c.args.core.now c.flush_group.new.core (g.S.Shelf.meaning c.args.shelf.now) (g.S.Shelf.meaning c.flush_group.new.shelf) c.requires.stands c.flush_group.ensures.acts).maps c.args.vol none_spared c.args.logs.now know)
+
+pub returns-in-Err-clause-loses : goal.returns-in-Err-clause-loses
+returns-in-Err-clause-loses g c = record { loses = c.flush_group.ensures.loses; rises = c.flush_group.ensures.acts.acts.faults }
+
+pub returns-then-not-sure-clause-loses : goal.returns-then-not-sure-clause-loses
+returns-then-not-sure-clause-loses g c = record { loses = c.flush_group.ensures.loses; rises = c.flush_group.ensures.acts.acts.faults }
+
+pub returns-in-Ok-clear_group-clause-loses : goal.returns-in-Ok-clear_group-clause-loses
+returns-in-Ok-clear_group-clause-loses g c =
+    then_along c.args.core.now.inner.config c.flush_group.new.core.inner.config c.clear_group.new.core.inner.config (g.S.Shelf.meaning c.args.shelf.now) (g.S.Shelf.meaning c.flush_group.new.shelf) (g.S.Shelf.meaning c.clear_group.new.shelf)
+    (record { loses = c.flush_group.ensures.loses; rises = c.flush_group.ensures.acts.acts.faults }) c.clear_group.ensures.loses
+
+pub returns-in-Err-clear_group-clause-loses : goal.returns-in-Err-clear_group-clause-loses
+returns-in-Err-clear_group-clause-loses g c =
+    then_along c.args.core.now.inner.config c.flush_group.new.core.inner.config c.clear_group.new.core.inner.config (g.S.Shelf.meaning c.args.shelf.now) (g.S.Shelf.meaning c.flush_group.new.shelf) (g.S.Shelf.meaning c.clear_group.new.shelf)
+    (record { loses = c.flush_group.ensures.loses; rises = c.flush_group.ensures.acts.acts.faults }) c.clear_group.ensures.loses

@@ -1,12 +1,16 @@
 -- Both logs of a volume, each committed as lost where it is wanted.
 use Rattle.std.proofs.Common.{◌≡◌, Bool, true, false}
+use Rattle.std.specs.Prelude.{Err}
 use Rattle.vx_disk.specs.Shelf.{Nothing}
 use Rattle.vx_disk.proofs.Causing.{Cause_both}
 use Rattle.vx_disk.proofs.Runs.{then_nothing}
 use Rattle.vx_group.specs.Holding.{wide}
 use Rattle.vx_group.specs.Stands.{inner_meaning}
 use Rattle.vx_config.specs.declared.entry.VolumeLog.TheVariants.{Drl}
+use Rattle.vx_logged.proofs.RefuseLemmas.{map_said}
 use Rattle.vx_logged.proofs.StandLemmas.{each_then, narrowed_then}
+use Rattle.vx_group.proofs.LoseLemmas.{then_along}
+use Rattle.vx_group.proofs.UnitLemmas.{then_units}
 use Rattle.vx_logged.proofs.keeping.keep_logs.Goals as goal
 
 pub returns-in-Ok-keep_map-clause-goes : goal.returns-in-Ok-keep_map-clause-goes
@@ -29,3 +33,24 @@ returns-in-Err-keep_map-clause-logs g c = each_then c.args.core.now c.keep_log.n
 
 pub returns-in-Err-keep_map-clause-narrow : goal.returns-in-Err-keep_map-clause-narrow
 returns-in-Err-keep_map-clause-narrow g c = narrowed_then c.args.core.now c.keep_log.new.core c.keep_map.new.core c.keep_log.ensures.narrow c.keep_map.ensures.narrow
+
+pub returns-then-not-done-clause-said : goal.returns-then-not-done-clause-said
+returns-then-not-done-clause-said g c = λ is. absurd (let clash : false ≡ true = is in cc)
+
+pub returns-in-Ok-keep_map-clause-said : goal.returns-in-Ok-keep_map-clause-said
+returns-in-Ok-keep_map-clause-said g c = λ is. map_said c.keep_map.new.core c.args.vol c.args.logs.now c.in-Ok-keep_map.field-0 c.in-Ok-keep_map.ensures.kept c.in-Ok-keep_map.ensures.spent
+
+pub returns-in-Ok-keep_map-clause-loses : goal.returns-in-Ok-keep_map-clause-loses
+returns-in-Ok-keep_map-clause-loses g c = then_along c.args.core.now.inner.config c.keep_log.new.core.inner.config c.keep_map.new.core.inner.config (g.S.Shelf.meaning c.args.shelf.now) (g.S.Shelf.meaning c.keep_log.new.shelf) (g.S.Shelf.meaning c.keep_map.new.shelf) c.keep_log.ensures.loses c.keep_map.ensures.loses
+
+pub returns-in-Err-keep_map-clause-loses : goal.returns-in-Err-keep_map-clause-loses
+returns-in-Err-keep_map-clause-loses g c = then_along c.args.core.now.inner.config c.keep_log.new.core.inner.config c.keep_map.new.core.inner.config (g.S.Shelf.meaning c.args.shelf.now) (g.S.Shelf.meaning c.keep_log.new.shelf) (g.S.Shelf.meaning c.keep_map.new.shelf) c.keep_log.ensures.loses c.keep_map.ensures.loses
+
+pub returns-in-Err-keep_map-clause-cause : goal.returns-in-Err-keep_map-clause-cause
+returns-in-Err-keep_map-clause-cause g c = Cause_both {T = Bool} (inner_meaning (wide c.args.core.now) (g.S.Shelf.meaning c.args.shelf.now)) (inner_meaning (wide c.keep_log.new.core) (g.S.Shelf.meaning c.keep_log.new.shelf)) (inner_meaning (wide c.keep_map.new.core) (g.S.Shelf.meaning c.keep_map.new.shelf)) c.args.vol (Err c.in-Err-keep_map.error) c.in-Ok.ensures.cause c.keep_log.ensures.goes.faults c.keep_log.ensures.goes.disk_faults c.in-Err-keep_map.ensures.cause
+
+pub returns-in-Ok-keep_map-clause-below : goal.returns-in-Ok-keep_map-clause-below
+returns-in-Ok-keep_map-clause-below g c = then_units (g.S.Shelf.meaning c.args.shelf.now) (g.S.Shelf.meaning c.keep_log.new.shelf) (g.S.Shelf.meaning c.keep_map.new.shelf) c.keep_log.ensures.below c.keep_map.ensures.below
+
+pub returns-in-Err-keep_map-clause-below : goal.returns-in-Err-keep_map-clause-below
+returns-in-Err-keep_map-clause-below g c = then_units (g.S.Shelf.meaning c.args.shelf.now) (g.S.Shelf.meaning c.keep_log.new.shelf) (g.S.Shelf.meaning c.keep_map.new.shelf) c.keep_log.ensures.below c.keep_map.ensures.below

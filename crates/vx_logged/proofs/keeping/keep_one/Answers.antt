@@ -1,9 +1,12 @@
 -- A log that is committed as lost, where it is wanted.
-use Rattle.std.proofs.Common.{◌≡◌, ◌∙◌, Bool, true, false, sym}
+use Rattle.std.proofs.Common.{◌≡◌, ◌∙◌, Bool, true, false, refl, sym}
+use Rattle.vx_disk.specs.Shelf.{Nothing}
 use Rattle.vx_kept.specs.LogRuns.{log_trusted}
 use Rattle.vx_group.proofs.HoldLemmas.{wide_shape}
 use Rattle.vx_group.proofs.LostLemmas.{if_ok_from}
-use Rattle.vx_logged.proofs.StandLemmas.{each_on, each_same}
+use Rattle.vx_group.proofs.UnitLemmas.{acts_units, same_units}
+use Rattle.vx_logged.proofs.StandLemmas.{each_on, each_same, narrowed_acts, narrowed_same}
+use Rattle.vx_group.proofs.LoseLemmas.{along_none}
 use Rattle.vx_logged.proofs.keeping.keep_one.Goals as goal
 
 pub returns-then-is_down-clause-logs : goal.returns-then-is_down-clause-logs
@@ -34,13 +37,62 @@ returns-clause-kept g c =
     if_ok_from c.lose_group.result (λ (done : Bool) gone is told. absurd (let clash : false ≡ true = sym (gone is) ∙ told in cc)) c.lose_group.ensures.lost
 
 pub returns-then-is_down-clause-narrow : goal.returns-then-is_down-clause-narrow
-returns-then-is_down-clause-narrow g c = record { less = λ w log is. is; on = λ w p is. is }
+returns-then-is_down-clause-narrow g c = narrowed_same c.args.core.now
 
 pub returns-then-has-clause-narrow : goal.returns-then-has-clause-narrow
-returns-then-has-clause-narrow g c = record { less = λ w log is. is; on = λ w p is. is }
+returns-then-has-clause-narrow g c = narrowed_same c.args.core.now
 
 pub returns-then-not-is_trusted-clause-narrow : goal.returns-then-not-is_trusted-clause-narrow
-returns-then-not-is_trusted-clause-narrow g c = record { less = λ w log is. is; on = λ w p is. is }
+returns-then-not-is_trusted-clause-narrow g c = narrowed_same c.args.core.now
 
 pub returns-clause-narrow : goal.returns-clause-narrow
-returns-clause-narrow g c = record { less = λ w log is. c.lose_group.ensures.acts.shape.trusted w log is; on = λ w p is. c.lose_group.ensures.acts.on w p is }
+returns-clause-narrow g c = narrowed_acts Nothing c.args.core.now c.lose_group.new.core (g.S.Shelf.meaning c.args.shelf.now) (g.S.Shelf.meaning c.lose_group.new.shelf) c.lose_group.ensures.acts
+
+pub returns-then-core-clause-logs : goal.returns-then-core-clause-logs
+returns-then-core-clause-logs g c =
+    each_same c.args.core.now (g.S.Shelf.meaning c.args.shelf.now)
+
+pub returns-then-core-clause-narrow : goal.returns-then-core-clause-narrow
+returns-then-core-clause-narrow g c = narrowed_same c.args.core.now
+
+pub returns-then-is_down-clause-below : goal.returns-then-is_down-clause-below
+returns-then-is_down-clause-below g c = same_units (g.S.Shelf.meaning c.args.shelf.now)
+
+pub returns-then-is_down-clause-still : goal.returns-then-is_down-clause-still
+returns-then-is_down-clause-still g c = λ none w p. refl
+
+pub returns-then-has-clause-below : goal.returns-then-has-clause-below
+returns-then-has-clause-below g c = same_units (g.S.Shelf.meaning c.args.shelf.now)
+
+pub returns-then-has-clause-still : goal.returns-then-has-clause-still
+returns-then-has-clause-still g c = λ none w p. refl
+
+pub returns-then-not-is_trusted-clause-below : goal.returns-then-not-is_trusted-clause-below
+returns-then-not-is_trusted-clause-below g c = same_units (g.S.Shelf.meaning c.args.shelf.now)
+
+pub returns-then-not-is_trusted-clause-still : goal.returns-then-not-is_trusted-clause-still
+returns-then-not-is_trusted-clause-still g c = λ none w p. refl
+
+pub returns-then-core-clause-below : goal.returns-then-core-clause-below
+returns-then-core-clause-below g c = same_units (g.S.Shelf.meaning c.args.shelf.now)
+
+pub returns-then-core-clause-still : goal.returns-then-core-clause-still
+returns-then-core-clause-still g c = λ none w p. refl
+
+pub returns-clause-below : goal.returns-clause-below
+returns-clause-below g c = acts_units Nothing _ (g.S.Shelf.meaning c.args.shelf.now) (g.S.Shelf.meaning c.lose_group.new.shelf) c.lose_group.ensures.acts.acts
+
+pub returns-then-is_down-clause-loses : goal.returns-then-is_down-clause-loses
+returns-then-is_down-clause-loses g c = along_none c.args.core.now.inner.config (g.S.Shelf.meaning c.args.shelf.now)
+
+pub returns-then-has-clause-loses : goal.returns-then-has-clause-loses
+returns-then-has-clause-loses g c = along_none c.args.core.now.inner.config (g.S.Shelf.meaning c.args.shelf.now)
+
+pub returns-then-not-is_trusted-clause-loses : goal.returns-then-not-is_trusted-clause-loses
+returns-then-not-is_trusted-clause-loses g c = along_none c.args.core.now.inner.config (g.S.Shelf.meaning c.args.shelf.now)
+
+pub returns-clause-loses : goal.returns-clause-loses
+returns-clause-loses g c = record { loses = c.lose_group.ensures.loses; rises = c.lose_group.ensures.acts.acts.faults }
+
+pub returns-then-core-clause-loses : goal.returns-then-core-clause-loses
+returns-then-core-clause-loses g c = along_none c.args.core.now.inner.config (g.S.Shelf.meaning c.args.shelf.now)

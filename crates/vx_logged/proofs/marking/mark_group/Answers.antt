@@ -11,13 +11,14 @@ use Rattle.vx_grouplogs.specs.Marking.{MarksOnly}
 use Rattle.vx_logs.specs.Writes.{first_region, last_region}
 use Rattle.vx_group.proofs.LostLemmas.{if_ok_from}
 use Rattle.vx_group.proofs.TrustLemmas.{err_from, ok_from}
-use Rattle.vx_groupmaps.specs.Knowing.{or_off, or_stale}
-use Rattle.vx_groupmaps.specs.Missing.{none_spared}
-use Rattle.vx_groupmaps.proofs.KnowLemmas.{know_less, note_more, note_same}
+use Rattle.vx_groupmaps.specs.Knowing.{or_off}
+use Rattle.vx_groupmaps.proofs.KnowLemmas.{note_more, note_same}
 use Rattle.vx_logs.specs.Held.{stale}
 use Rattle.vx_logged.specs.Logged.{are_off}
-use Rattle.vx_logged.proofs.MissLemmas.{know_stale, stale_are_off}
+use Rattle.vx_logged.proofs.MissLemmas.{know_stale, know_wider, stale_are_off}
+use Rattle.vx_logged.proofs.RefuseLemmas.{hold_older}
 use Rattle.vx_logged.proofs.StandLemmas.{config_is, if_ok_any, inner_fit, inner_others, inner_sound, know_inner, know_wide, logs_Stands, logs_goes, narrowed_same, narrowed_then, others_each, others_then, same_only, same_regions, to_inner, to_wide}
+use Rattle.vx_group.proofs.LoseLemmas.{along_same, then_along}
 use Rattle.vx_logged.proofs.marking.mark_group.Goals as goal
 
 pub guard_run-requires-clause-checked : goal.guard_run-requires-clause-checked
@@ -153,20 +154,20 @@ pub returns-clause-narrow : goal.returns-clause-narrow
 returns-clause-narrow g c = narrowed_then c.args.core.now c.ready_group.new.core c.keep_logs.new.core c.ready_group.ensures.narrow c.keep_logs.ensures.narrow
 
 pub returns-in-Err-clause-maps : goal.returns-in-Err-clause-maps
-returns-in-Err-clause-maps g c = c.ready_group.ensures.logs.maps c.args.vol none_spared c.args.logs.now
+returns-in-Err-clause-maps g c = λ spare. c.ready_group.ensures.logs.maps c.args.vol spare c.args.logs.now
 
 pub returns-then-not-ready-clause-maps : goal.returns-then-not-ready-clause-maps
-returns-then-not-ready-clause-maps g c = c.ready_group.ensures.logs.maps c.args.vol none_spared c.args.logs.now
+returns-then-not-ready-clause-maps g c = λ spare. c.ready_group.ensures.logs.maps c.args.vol spare c.args.logs.now
 
 pub returns-in-Err-guard_run-clause-maps : goal.returns-in-Err-guard_run-clause-maps
-returns-in-Err-guard_run-clause-maps g c = λ know.
-    know_wide c.ready_group.new.core c.args.vol (g.S.Shelf.meaning c.ready_group.new.shelf) (g.S.Shelf.meaning c.guard_run.new.shelf) (c.in-Ok.ensures.none c.if-not-ready.false) c.ready_group.ensures.stands c.args.vol (none_spared) c.guard_run.new.logs
-    (c.guard_run.ensures.knows (none_spared) (know_less c.ready_group.new.core.inner.config c.args.vol none_spared (or_stale c.ready_group.new.core.inner.config c.args.vol (first_region c.args.block) (last_region c.args.block c.args.count) none_spared) c.args.logs.now (g.S.Shelf.meaning c.ready_group.new.shelf) (λ p k has clear. refl) (know_inner c.ready_group.new.core c.args.vol (g.S.Shelf.meaning c.ready_group.new.shelf) (g.S.Shelf.meaning c.ready_group.new.shelf) (c.in-Ok.ensures.none c.if-not-ready.false) c.ready_group.ensures.stands c.args.vol none_spared c.args.logs.now (c.ready_group.ensures.logs.maps c.args.vol none_spared c.args.logs.now know))))
+returns-in-Err-guard_run-clause-maps g c = λ spare know.
+    know_wide c.ready_group.new.core c.args.vol (g.S.Shelf.meaning c.ready_group.new.shelf) (g.S.Shelf.meaning c.guard_run.new.shelf) (c.in-Ok.ensures.none c.if-not-ready.false) c.ready_group.ensures.stands c.args.vol (spare) c.guard_run.new.logs
+    (c.guard_run.ensures.knows (spare) (know_wider c.ready_group.new.core.inner.config c.args.vol (first_region c.args.block) (last_region c.args.block c.args.count) spare c.args.logs.now (g.S.Shelf.meaning c.ready_group.new.shelf) (know_inner c.ready_group.new.core c.args.vol (g.S.Shelf.meaning c.ready_group.new.shelf) (g.S.Shelf.meaning c.ready_group.new.shelf) (c.in-Ok.ensures.none c.if-not-ready.false) c.ready_group.ensures.stands c.args.vol spare c.args.logs.now (c.ready_group.ensures.logs.maps c.args.vol spare c.args.logs.now know))))
 
 pub returns-clause-maps : goal.returns-clause-maps
-returns-clause-maps g c = λ know. c.keep_logs.ensures.logs.maps c.args.vol none_spared c.guard_run.new.logs
-    (know_wide c.ready_group.new.core c.args.vol (g.S.Shelf.meaning c.ready_group.new.shelf) (g.S.Shelf.meaning c.guard_run.new.shelf) (c.in-Ok.ensures.none c.if-not-ready.false) c.ready_group.ensures.stands c.args.vol (none_spared) c.guard_run.new.logs
-    (c.guard_run.ensures.knows (none_spared) (know_less c.ready_group.new.core.inner.config c.args.vol none_spared (or_stale c.ready_group.new.core.inner.config c.args.vol (first_region c.args.block) (last_region c.args.block c.args.count) none_spared) c.args.logs.now (g.S.Shelf.meaning c.ready_group.new.shelf) (λ p k has clear. refl) (know_inner c.ready_group.new.core c.args.vol (g.S.Shelf.meaning c.ready_group.new.shelf) (g.S.Shelf.meaning c.ready_group.new.shelf) (c.in-Ok.ensures.none c.if-not-ready.false) c.ready_group.ensures.stands c.args.vol none_spared c.args.logs.now (c.ready_group.ensures.logs.maps c.args.vol none_spared c.args.logs.now know)))))
+returns-clause-maps g c = λ spare know. c.keep_logs.ensures.logs.maps c.args.vol spare c.guard_run.new.logs
+    (know_wide c.ready_group.new.core c.args.vol (g.S.Shelf.meaning c.ready_group.new.shelf) (g.S.Shelf.meaning c.guard_run.new.shelf) (c.in-Ok.ensures.none c.if-not-ready.false) c.ready_group.ensures.stands c.args.vol (spare) c.guard_run.new.logs
+    (c.guard_run.ensures.knows (spare) (know_wider c.ready_group.new.core.inner.config c.args.vol (first_region c.args.block) (last_region c.args.block c.args.count) spare c.args.logs.now (g.S.Shelf.meaning c.ready_group.new.shelf) (know_inner c.ready_group.new.core c.args.vol (g.S.Shelf.meaning c.ready_group.new.shelf) (g.S.Shelf.meaning c.ready_group.new.shelf) (c.in-Ok.ensures.none c.if-not-ready.false) c.ready_group.ensures.stands c.args.vol spare c.args.logs.now (c.ready_group.ensures.logs.maps c.args.vol spare c.args.logs.now know)))))
 
 pub returns-then-not-ready-clause-knows : goal.returns-then-not-ready-clause-knows
 returns-then-not-ready-clause-knows g c = λ spare know is. absurd (let clash : false ≡ true = is in cc)
@@ -192,3 +193,32 @@ pub returns-clause-notes : goal.returns-clause-notes
 returns-clause-notes g c =
     note_more (stale c.ready_group.new.core.inner.config c.args.vol) (are_off c.keep_logs.new.core c.args.vol) (first_region c.args.block) (last_region c.args.block c.args.count) c.args.logs.now c.guard_run.new.logs
     (stale_are_off c.ready_group.new.core c.keep_logs.new.core c.args.vol (c.in-Ok.ensures.none c.if-not-ready.false) c.keep_logs.ensures.narrow) c.guard_run.ensures.notes
+
+pub returns-then-not-ready-clause-said : goal.returns-then-not-ready-clause-said
+returns-then-not-ready-clause-said g c = λ is. absurd (let clash : false ≡ true = is in cc)
+
+pub returns-then-not-ready-clause-missed : goal.returns-then-not-ready-clause-missed
+returns-then-not-ready-clause-missed g c = λ is. absurd (let clash : false ≡ true = is in cc)
+
+pub returns-clause-missed : goal.returns-clause-missed
+returns-clause-missed g c = if_ok_any c.keep_logs.result (λ (done : Bool) is.
+    hold_older c.args.core.now c.ready_group.new.core c.args.vol (first_region c.args.block) (last_region c.args.block c.args.count) c.guard_run.new.logs (g.S.Shelf.meaning c.ready_group.new.shelf) c.ready_group.ensures.stands c.ready_group.ensures.narrow (c.in-Ok.ensures.none c.if-not-ready.false)
+    (record { volume = c.requires.there; within = omega (arith, c.requires.some, c.requires.within) }) c.in-Ok-guard_run.ensures.missed)
+
+pub returns-in-Err-clause-loses : goal.returns-in-Err-clause-loses
+returns-in-Err-clause-loses g c = c.ready_group.ensures.loses
+
+pub returns-then-not-ready-clause-loses : goal.returns-then-not-ready-clause-loses
+returns-then-not-ready-clause-loses g c = c.ready_group.ensures.loses
+
+pub returns-in-Err-guard_run-clause-loses : goal.returns-in-Err-guard_run-clause-loses
+returns-in-Err-guard_run-clause-loses g c =
+    then_along c.args.core.now.inner.config c.ready_group.new.core.inner.config c.ready_group.new.core.inner.config (g.S.Shelf.meaning c.args.shelf.now) (g.S.Shelf.meaning c.ready_group.new.shelf) (g.S.Shelf.meaning c.guard_run.new.shelf) c.ready_group.ensures.loses (along_same c.ready_group.new.core.inner.config (g.S.Shelf.meaning c.ready_group.new.shelf) (g.S.Shelf.meaning c.guard_run.new.shelf) c.guard_run.ensures.goes.faults)
+
+pub returns-clause-loses : goal.returns-clause-loses
+returns-clause-loses g c =
+    then_along c.args.core.now.inner.config c.ready_group.new.core.inner.config c.keep_logs.new.core.inner.config (g.S.Shelf.meaning c.args.shelf.now) (g.S.Shelf.meaning c.guard_run.new.shelf) (g.S.Shelf.meaning c.keep_logs.new.shelf)
+    (then_along c.args.core.now.inner.config c.ready_group.new.core.inner.config c.ready_group.new.core.inner.config (g.S.Shelf.meaning c.args.shelf.now) (g.S.Shelf.meaning c.ready_group.new.shelf) (g.S.Shelf.meaning c.guard_run.new.shelf) c.ready_group.ensures.loses (along_same c.ready_group.new.core.inner.config (g.S.Shelf.meaning c.ready_group.new.shelf) (g.S.Shelf.meaning c.guard_run.new.shelf) c.guard_run.ensures.goes.faults)) c.keep_logs.ensures.loses
+
+pub returns-clause-said : goal.returns-clause-said
+returns-clause-said g c = c.keep_logs.ensures.said

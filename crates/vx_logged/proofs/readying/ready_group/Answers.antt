@@ -1,5 +1,5 @@
 -- A group that is made ready.
-use Rattle.std.proofs.Common.{ℕ, Bool, List, ap, subst, arith}
+use Rattle.std.proofs.Common.{ℕ, Bool, List, ap, refl, subst, arith}
 use Rattle.vx_disk.specs.Shelf.{Nothing}
 use Rattle.vx_group.specs.Blames.{CountsRise}
 use Rattle.vx_group.specs.Holding.{wide}
@@ -8,6 +8,9 @@ use Rattle.vx_group.proofs.ActsLemmas.{narrow_PlexActs}
 use Rattle.vx_group.proofs.CallLemmas.{cause_by, counts_less, narrows_Goes, not_down}
 use Rattle.vx_group.proofs.LostLemmas.{error_to}
 use Rattle.vx_logged.proofs.StandLemmas.{each_on, each_same, narrowed_acts, narrowed_same}
+use Rattle.vx_group.proofs.LoseLemmas.{along_none, loses_none}
+use Rattle.vx_group.proofs.UnitLemmas.{acts_units, same_units}
+use Rattle.vx_kept.proofs.Chosen.{active_volumes}
 use Rattle.vx_logged.proofs.readying.ready_group.Goals as goal
 
 pub returns-then-is_down-clause-logs : goal.returns-then-is_down-clause-logs
@@ -46,4 +49,31 @@ returns-in-Ok-clause-narrow g c =
 pub returns-in-Err-clause-narrow : goal.returns-in-Err-clause-narrow
 returns-in-Err-clause-narrow g c =
     let it = narrowed_acts Nothing c.args.core.now c.release.new.core (g.S.Shelf.meaning c.args.shelf.now) (g.S.Shelf.meaning c.release.new.shelf) (narrow_PlexActs Nothing (wide c.args.core.now) (wide c.release.new.core) (g.S.Shelf.meaning c.args.shelf.now) (g.S.Shelf.meaning c.release.new.shelf) c.release.ensures.narrows) in
-    record { less = it.less; on = it.on }
+    record { shape = it.shape; less = it.less; on = it.on }
+
+pub returns-then-is_down-clause-loses : goal.returns-then-is_down-clause-loses
+returns-then-is_down-clause-loses g c = along_none c.args.core.now.inner.config (g.S.Shelf.meaning c.args.shelf.now)
+
+pub returns-in-Ok-clause-loses : goal.returns-in-Ok-clause-loses
+returns-in-Ok-clause-loses g c = record { loses = loses_none c.args.core.now.inner.config c.release.new.core.inner.config (g.S.Shelf.meaning c.args.shelf.now) (g.S.Shelf.meaning c.release.new.shelf) c.release.ensures.volumes c.release.ensures.failing c.release.ensures.parts; rises = c.release.ensures.narrows.acts.faults }
+
+pub returns-in-Err-clause-loses : goal.returns-in-Err-clause-loses
+returns-in-Err-clause-loses g c = record { loses = loses_none c.args.core.now.inner.config c.release.new.core.inner.config (g.S.Shelf.meaning c.args.shelf.now) (g.S.Shelf.meaning c.release.new.shelf) c.release.ensures.volumes c.release.ensures.failing c.release.ensures.parts; rises = c.release.ensures.narrows.acts.faults }
+
+pub returns-then-is_down-clause-still : goal.returns-then-is_down-clause-still
+returns-then-is_down-clause-still g c = λ w p. refl
+
+pub returns-then-is_down-clause-below : goal.returns-then-is_down-clause-below
+returns-then-is_down-clause-below g c = same_units (g.S.Shelf.meaning c.args.shelf.now)
+
+pub returns-in-Ok-clause-still : goal.returns-in-Ok-clause-still
+returns-in-Ok-clause-still g c = active_volumes c.release.new.core.inner.config c.args.core.now.inner.config c.release.ensures.volumes
+
+pub returns-in-Ok-clause-below : goal.returns-in-Ok-clause-below
+returns-in-Ok-clause-below g c = acts_units Nothing _ (g.S.Shelf.meaning c.args.shelf.now) (g.S.Shelf.meaning c.release.new.shelf) c.release.ensures.narrows.acts
+
+pub returns-in-Err-clause-still : goal.returns-in-Err-clause-still
+returns-in-Err-clause-still g c = active_volumes c.release.new.core.inner.config c.args.core.now.inner.config c.release.ensures.volumes
+
+pub returns-in-Err-clause-below : goal.returns-in-Err-clause-below
+returns-in-Err-clause-below g c = acts_units Nothing _ (g.S.Shelf.meaning c.args.shelf.now) (g.S.Shelf.meaning c.release.new.shelf) c.release.ensures.narrows.acts

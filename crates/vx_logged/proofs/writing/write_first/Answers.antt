@@ -1,5 +1,5 @@
 -- A write that is marked first.
-use Rattle.std.proofs.Common.{◌≡◌, ◌∙◌, ◌/◌, true, false, length, refl, sym, arith}
+use Rattle.std.proofs.Common.{◌≡◌, ◌∙◌, inl, inr, ◌/◌, true, false, length, refl, sym, arith}
 use Rattle.vx_disk.specs.Shelf.{Written}
 use Rattle.vx_disk.proofs.Causing.{Cause_both}
 use Rattle.vx_disk.proofs.Runs.{none_written, nothing_then}
@@ -7,11 +7,13 @@ use Rattle.vx_group.specs.Holding.{wide}
 use Rattle.vx_group.specs.Stands.{inner_meaning}
 use Rattle.vx_group.proofs.CallLemmas.{nothing_Wrote}
 use Rattle.vx_group.proofs.TrustLemmas.{err_from, ok_from}
+use Rattle.vx_groupmaps.specs.Missing.{none_spared}
 use Rattle.vx_groupmaps.proofs.KnowLemmas.{note_more, note_same}
 use Rattle.vx_logs.specs.Writes.{first_region, last_region}
 use Rattle.vx_logged.specs.Logged.{are_off}
-use Rattle.vx_logged.proofs.MissLemmas.{know_wrote, more_off}
+use Rattle.vx_logged.proofs.MissLemmas.{know_refused, know_run, know_wrote, more_off}
 use Rattle.vx_logged.proofs.StandLemmas.{fits_later, narrowed_acts, narrowed_then, not_false, not_true, others_then, same_only, write_here, write_others}
+use Rattle.vx_group.proofs.LoseLemmas.{then_along}
 use Rattle.vx_logged.proofs.writing.write_first.Goals as goal
 
 pub mark_group-requires-clause-there : goal.mark_group-requires-clause-there
@@ -130,7 +132,7 @@ pub returns-clause-written : goal.returns-clause-written
 returns-clause-written g c = λ off. ok_from c.write_group-2.result (λ wrote know.
     know_wrote c.mark_group.new.core c.write_group-2.new.core c.args.vol c.args.block c.args.bytes.now (g.S.Shelf.meaning c.mark_group.new.shelf) (g.S.Shelf.meaning c.write_group-2.new.shelf) c.mark_group.ensures.stands
     (fits_later c.args.core.now c.mark_group.new.core c.args.vol c.args.block (length c.args.bytes.now) (g.S.Shelf.meaning c.args.shelf.now) (g.S.Shelf.meaning c.mark_group.new.shelf) c.mark_group.ensures.goes c.requires.fits) c.write_group-2.ensures.acts c.mark_group.new.logs
-    (c.mark_group.ensures.maps know) wrote) c.write_group-2.ensures.ok
+    (c.mark_group.ensures.maps none_spared know) wrote) c.write_group-2.ensures.ok
 
 pub returns-then-stopped-clause-notes : goal.returns-then-stopped-clause-notes
 returns-then-stopped-clause-notes g c = note_same _ _ _ c.args.logs.now c.args.logs.now refl
@@ -141,3 +143,44 @@ returns-in-Err-clause-notes g c = c.mark_group.ensures.notes
 pub returns-clause-notes : goal.returns-clause-notes
 returns-clause-notes g c = note_more (are_off c.mark_group.new.core c.args.vol) (are_off c.write_group-2.new.core c.args.vol) (first_region c.args.block) (last_region c.args.block (length c.args.bytes.now / 512)) c.args.logs.now c.mark_group.new.logs
     (more_off c.mark_group.new.core c.write_group-2.new.core c.args.vol (narrowed_acts _ c.mark_group.new.core c.write_group-2.new.core (g.S.Shelf.meaning c.mark_group.new.shelf) (g.S.Shelf.meaning c.write_group-2.new.shelf) c.write_group-2.ensures.acts)) c.mark_group.ensures.notes
+
+pub returns-then-stopped-clause-missed : goal.returns-then-stopped-clause-missed
+returns-then-stopped-clause-missed g c = λ off. absurd (let clash : true ≡ false = sym c.if-stopped.true ∙ off in cc)
+
+pub returns-then-stopped-clause-marked : goal.returns-then-stopped-clause-marked
+returns-then-stopped-clause-marked g c = λ off. absurd (let clash : true ≡ false = sym c.if-stopped.true ∙ off in cc)
+
+pub returns-in-Err-clause-missed : goal.returns-in-Err-clause-missed
+returns-in-Err-clause-missed g c = λ off know. know_run c.mark_group.new.core c.args.vol (first_region c.args.block) (last_region c.args.block (length c.args.bytes.now / 512)) c.mark_group.new.logs (g.S.Shelf.meaning c.mark_group.new.shelf) (c.mark_group.ensures.maps none_spared know)
+
+pub returns-in-Err-clause-marked : goal.returns-in-Err-clause-marked
+returns-in-Err-clause-marked g c = λ off. inl c.mark_group.ensures.goes
+
+pub returns-clause-missed : goal.returns-clause-missed
+returns-clause-missed g c = λ off know.
+    know_refused c.mark_group.new.core c.write_group-2.new.core c.args.vol c.args.block c.args.bytes.now (g.S.Shelf.meaning c.mark_group.new.shelf) (g.S.Shelf.meaning c.write_group-2.new.shelf) c.mark_group.ensures.stands
+    (fits_later c.args.core.now c.mark_group.new.core c.args.vol c.args.block (length c.args.bytes.now) (g.S.Shelf.meaning c.args.shelf.now) (g.S.Shelf.meaning c.mark_group.new.shelf) c.mark_group.ensures.goes c.requires.fits) c.write_group-2.ensures.acts c.mark_group.new.logs
+    (c.mark_group.ensures.maps none_spared know)
+
+pub returns-clause-marked : goal.returns-clause-marked
+returns-clause-marked g c = λ off.
+    let done = not_false c.in-Ok.done off in
+    inr (record {
+      moment = c.mark_group.new.shelf;
+      core = c.mark_group.new.core;
+      logs = c.mark_group.new.logs;
+      before = c.mark_group.ensures.goes;
+      marked = record { group = c.mark_group.ensures.stands; stands = c.mark_group.ensures.log.stands; dirty = c.in-Ok.ensures.may done; said = c.in-Ok.ensures.said done; missed = c.in-Ok.ensures.missed done };
+      behind = c.write_group-2.ensures.goes;
+    })
+
+pub returns-then-stopped-clause-loses : goal.returns-then-stopped-clause-loses
+returns-then-stopped-clause-loses g c = record { loses = c.write_group.ensures.loses; rises = c.write_group.ensures.acts.acts.faults }
+
+pub returns-in-Err-clause-loses : goal.returns-in-Err-clause-loses
+returns-in-Err-clause-loses g c = c.mark_group.ensures.loses
+
+pub returns-clause-loses : goal.returns-clause-loses
+returns-clause-loses g c =
+    then_along c.args.core.now.inner.config c.mark_group.new.core.inner.config c.write_group-2.new.core.inner.config (g.S.Shelf.meaning c.args.shelf.now) (g.S.Shelf.meaning c.mark_group.new.shelf) (g.S.Shelf.meaning c.write_group-2.new.shelf) c.mark_group.ensures.loses
+    (record { loses = c.write_group-2.ensures.loses; rises = c.write_group-2.ensures.acts.acts.faults })

@@ -1,30 +1,43 @@
--- `begin_both`: its clauses; what the calls ask.
-use Rattle.std.proofs.Common.{◌≡◌, ℕ, ◌<◌, ap, refl, subst, sym, arith}
-use Rattle.vx_disk.specs.Shelf.{Nothing}
-use Rattle.vx_disk.proofs.Runs.{then_nothing}
+-- `begin_both`: its clauses; what the second call asks.
+use Rattle.std.proofs.Common.{ap, arith}
+use Rattle.vx_config.specs.Checks.{blocks_of}
+use Rattle.vx_disk.proofs.Causing.{Cause_both}
 use Rattle.vx_group.specs.Holding.{wide}
 use Rattle.vx_group.specs.Stands.{inner_meaning}
-use Rattle.vx_grouplogs.proofs.KnowActs.{know_none}
-use Rattle.vx_groupmaps.specs.Missing.{none_spared}
-use Rattle.vx_logged.proofs.StandLemmas.{alike_goes, others_then}
-use Rattle.vx_loggroup.proofs.BegunLemmas.{blocks_later, off_same}
+use Rattle.vx_group.proofs.TrustLemmas.{err_from, ok_from}
+use Rattle.vx_model.specs.Sizes.{regions_of}
+use Rattle.vx_loggroup.specs.Marks.{region_count}
+use Rattle.vx_loggroup.proofs.BegunLemmas.{blocks_later}
+use Rattle.vx_loggroup.proofs.FreshLemmas.{begins_then, first_then}
 use Rattle.vx_loggroup.proofs.OpenLemmas.{alike_reads}
 use Rattle.vx_loggroup.proofs.beginning.begin_both.Goals as goal
 
-pub begin_map-requires-clause-some : goal.begin_map-requires-clause-some
-begin_map-requires-clause-some g c = blocks_later c.args.core.now c.begin_log.new.core c.args.vol (g.S.Shelf.meaning c.args.shelf.now) (g.S.Shelf.meaning c.begin_log.new.shelf) c.requires.none c.begin_log.ensures.none c.begin_log.ensures.goes c.requires.some
+pub begin_fmr-requires-clause-up : goal.begin_fmr-requires-clause-up
+begin_fmr-requires-clause-up g c = c.in-Ok.ensures.cause.after
 
-pub begin_map-requires-clause-one : goal.begin_map-requires-clause-one
-begin_map-requires-clause-one g c = λ up. alike_reads (wide c.begin_log.new.core).config c.args.vol (g.S.Shelf.meaning c.begin_log.new.shelf) (g.met.S.Shelf.lawful c.begin_log.new.shelf) (alike_goes c.args.core.now c.begin_log.new.core c.args.vol (g.S.Shelf.meaning c.args.shelf.now) (g.S.Shelf.meaning c.begin_log.new.shelf) c.begin_log.ensures.goes c.requires.alike)
+pub begin_fmr-requires-clause-there : goal.begin_fmr-requires-clause-there
+begin_fmr-requires-clause-there g c = let same = c.begin_drl.ensures.begins.goes.units in let there = c.requires.there in omega (arith, same, there)
 
-pub returns-then-begin_log-clause-goes : goal.returns-then-begin_log-clause-goes
-returns-then-begin_log-clause-goes g c = then_nothing Nothing (inner_meaning (wide c.args.core.now) (g.S.Shelf.meaning c.args.shelf.now)) (inner_meaning (wide c.begin_log.new.core) (g.S.Shelf.meaning c.begin_log.new.shelf)) (inner_meaning (wide c.begin_map.new.core) (g.S.Shelf.meaning c.begin_map.new.shelf)) c.begin_log.ensures.goes c.begin_map.ensures.goes
+pub begin_fmr-requires-clause-some : goal.begin_fmr-requires-clause-some
+begin_fmr-requires-clause-some g c = blocks_later c.args.core.now c.begin_drl.new.core c.args.vol (g.S.Shelf.meaning c.args.shelf.now) (g.S.Shelf.meaning c.begin_drl.new.shelf) c.requires.none c.begin_drl.ensures.none c.begin_drl.ensures.begins.goes c.requires.some
 
-pub returns-then-begin_log-clause-others : goal.returns-then-begin_log-clause-others
-returns-then-begin_log-clause-others g c = others_then c.args.vol c.args.core.now c.begin_log.new.core c.begin_map.new.core (g.S.Shelf.meaning c.args.shelf.now) (g.S.Shelf.meaning c.begin_log.new.shelf) (g.S.Shelf.meaning c.begin_map.new.shelf) c.begin_log.ensures.others c.begin_map.ensures.others
+pub begin_fmr-requires-clause-one : goal.begin_fmr-requires-clause-one
+begin_fmr-requires-clause-one g c = alike_reads (wide c.begin_drl.new.core).config c.args.vol (g.S.Shelf.meaning c.begin_drl.new.shelf) (g.met.S.Shelf.lawful c.begin_drl.new.shelf) c.begin_drl.ensures.alike
 
-pub returns-then-begin_log-clause-off : goal.returns-then-begin_log-clause-off
-returns-then-begin_log-clause-off g c = off_same _ c.begin_log.new.one c.begin_map.new.one c.begin_map.ensures.drl c.begin_log.ensures.off
+pub returns-clause-begins : goal.returns-clause-begins
+returns-clause-begins g c = begins_then c.args.vol c.args.core.now c.begin_drl.new.core c.begin_fmr.new.core (g.S.Shelf.meaning c.args.shelf.now) (g.S.Shelf.meaning c.begin_drl.new.shelf) (g.S.Shelf.meaning c.begin_fmr.new.shelf) c.begin_drl.ensures.begins c.begin_fmr.ensures.begins
 
-pub returns-else-begin_log-clause-maps : goal.returns-else-begin_log-clause-maps
-returns-else-begin_log-clause-maps g c = know_none (wide c.begin_log.new.core).config c.args.vol none_spared c.begin_log.new.one (g.S.Shelf.meaning c.begin_log.new.shelf) c.begin_log.ensures.plain
+pub returns-clause-first : goal.returns-clause-first
+returns-clause-first g c = first_then (region_count (wide c.args.core.now).config c.args.vol) (region_count (wide c.begin_drl.new.core).config c.args.vol) c.args.one.now c.begin_drl.new.one c.begin_fmr.new.one (ap regions_of (c.begin_drl.ensures.begins.goes.size c.args.vol)) c.begin_drl.ensures.first c.begin_fmr.ensures.first
+
+pub returns-clause-few : goal.returns-clause-few
+returns-clause-few g c = ok_from c.begin_fmr.result (λ few. let one = c.in-Ok.ensures.few in let two = few in omega (arith, one, two)) c.begin_fmr.ensures.few
+
+pub returns-clause-trust : goal.returns-clause-trust
+returns-clause-trust g c = ok_from c.begin_fmr.result (λ keeps is. keeps (c.in-Ok.ensures.trust is)) c.begin_fmr.ensures.trust
+
+pub returns-clause-agreed : goal.returns-clause-agreed
+returns-clause-agreed g c = err_from c.begin_fmr.result (λ keeps is. keeps (c.in-Ok.ensures.trust is)) c.begin_fmr.ensures.agreed
+
+pub returns-clause-cause : goal.returns-clause-cause
+returns-clause-cause g c = Cause_both (inner_meaning (wide c.args.core.now) (g.S.Shelf.meaning c.args.shelf.now)) (inner_meaning (wide c.begin_drl.new.core) (g.S.Shelf.meaning c.begin_drl.new.shelf)) (inner_meaning (wide c.begin_fmr.new.core) (g.S.Shelf.meaning c.begin_fmr.new.shelf)) c.args.vol c.begin_fmr.result c.in-Ok.ensures.cause c.begin_drl.ensures.begins.goes.faults c.begin_drl.ensures.begins.goes.disk_faults c.begin_fmr.ensures.cause

@@ -26,21 +26,24 @@ clear_one-requires-clause-same g c =
     let end = c.len-vol-end.ensures in let test = c.loop-vol-test.true in let long = c.loop-vol.invariant.long in
     next_same c.args.core.now c.args.logs.now.items c.args.alike.now (g.S.Shelf.meaning c.args.shelf.now) c.loop-vol.vol c.loop-vol.core c.loop-vol.logs.items (g.S.Shelf.meaning c.loop-vol.shelf) c.loop-vol.invariant c.requires.same (omega (arith, c.args.logs.now.ok, end, test))
 
-pub returns-in-Err-clause-goes : goal.returns-in-Err-clause-goes
-returns-in-Err-clause-goes g c = goes_on c.args.core.now c.args.logs.now.items c.args.alike.now (g.S.Shelf.meaning c.args.shelf.now) c.loop-vol.vol c.loop-vol.core c.loop-vol.logs.items (g.S.Shelf.meaning c.loop-vol.shelf) c.loop-vol.invariant c.clear_one.new.core c.clear_one.new.logs.items (g.S.Shelf.meaning c.clear_one.new.shelf) c.clear_one.ensures.stands c.clear_one.ensures.goes c.clear_one.ensures.marks
+pub returns-in-Err-clause-settles : goal.returns-in-Err-clause-settles
+returns-in-Err-clause-settles g c = goes_on c.args.core.now c.args.logs.now.items c.args.alike.now (g.S.Shelf.meaning c.args.shelf.now) c.loop-vol.vol c.loop-vol.core c.loop-vol.logs.items (g.S.Shelf.meaning c.loop-vol.shelf) c.loop-vol.invariant c.clear_one.new.core c.clear_one.new.logs.items (g.S.Shelf.meaning c.clear_one.new.shelf) c.clear_one.ensures.stands c.clear_one.ensures.settles c.clear_one.ensures.marks
 
 pub returns-in-Err-clause-cause : goal.returns-in-Err-clause-cause
 returns-in-Err-clause-cause g c = stops_by c.args.core.now c.args.logs.now.items c.args.alike.now (g.S.Shelf.meaning c.args.shelf.now) c.loop-vol.vol c.loop-vol.core c.loop-vol.logs.items (g.S.Shelf.meaning c.loop-vol.shelf) c.loop-vol.invariant Bool Bool (wide c.clear_one.new.core) (g.S.Shelf.meaning c.clear_one.new.shelf) c.loop-vol.vol c.in-Err.error c.in-Err.ensures.cause
 
-pub returns-then-not-done-clause-goes : goal.returns-then-not-done-clause-goes
-returns-then-not-done-clause-goes g c = goes_on c.args.core.now c.args.logs.now.items c.args.alike.now (g.S.Shelf.meaning c.args.shelf.now) c.loop-vol.vol c.loop-vol.core c.loop-vol.logs.items (g.S.Shelf.meaning c.loop-vol.shelf) c.loop-vol.invariant c.clear_one.new.core c.clear_one.new.logs.items (g.S.Shelf.meaning c.clear_one.new.shelf) c.clear_one.ensures.stands c.clear_one.ensures.goes c.clear_one.ensures.marks
+pub returns-then-not-done-clause-settles : goal.returns-then-not-done-clause-settles
+returns-then-not-done-clause-settles g c = goes_on c.args.core.now c.args.logs.now.items c.args.alike.now (g.S.Shelf.meaning c.args.shelf.now) c.loop-vol.vol c.loop-vol.core c.loop-vol.logs.items (g.S.Shelf.meaning c.loop-vol.shelf) c.loop-vol.invariant c.clear_one.new.core c.clear_one.new.logs.items (g.S.Shelf.meaning c.clear_one.new.shelf) c.clear_one.ensures.stands c.clear_one.ensures.settles c.clear_one.ensures.marks
 
 pub loop-vol-preserved : goal.loop-vol-preserved
 loop-vol-preserved g c =
-    one_cleared c.args.core.now c.args.logs.now.items c.args.alike.now (g.S.Shelf.meaning c.args.shelf.now) c.loop-vol.vol c.loop-vol.core c.loop-vol.logs.items (g.S.Shelf.meaning c.loop-vol.shelf) c.loop-vol.invariant c.clear_one.new.core c.clear_one.new.logs.items (g.S.Shelf.meaning c.clear_one.new.shelf) c.clear_one.ensures.stands c.clear_one.ensures.goes c.clear_one.ensures.marks
+    one_cleared c.args.core.now c.args.logs.now.items c.args.alike.now (g.S.Shelf.meaning c.args.shelf.now) c.loop-vol.vol c.loop-vol.core c.loop-vol.logs.items (g.S.Shelf.meaning c.loop-vol.shelf) c.loop-vol.invariant c.clear_one.new.core c.clear_one.new.logs.items (g.S.Shelf.meaning c.clear_one.new.shelf) c.clear_one.ensures.stands c.clear_one.ensures.settles c.clear_one.ensures.marks
     (c.in-Ok.ensures.off c.if-not-done.false) c.in-Ok.ensures.trust c.requires.full
 
 pub returns-clause-off : goal.returns-clause-off
 returns-clause-off g c = λ is.
     let end = c.len-vol-end.ensures in let test = c.loop-vol-test.false in let long = c.loop-vol.invariant.long in
     all_cleared c.args.core.now c.args.logs.now.items c.args.alike.now (g.S.Shelf.meaning c.args.shelf.now) c.loop-vol.vol c.loop-vol.core c.loop-vol.logs.items (g.S.Shelf.meaning c.loop-vol.shelf) c.loop-vol.invariant (omega (arith, c.args.logs.now.ok, end, test, long))
+
+pub returns-clause-settles : goal.returns-clause-settles
+returns-clause-settles g c = c.loop-vol.invariant.settles

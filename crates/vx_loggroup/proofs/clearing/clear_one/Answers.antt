@@ -10,6 +10,7 @@ use Rattle.vx_loggroup.specs.LoggedVolumes.{is_alike}
 use Rattle.vx_loggroup.specs.Marks.{region_count}
 use Rattle.vx_loggroup.proofs.AlikeLemmas.{clears_set, here_stands, index_low, same_item, set_stands}
 use Rattle.vx_loggroup.proofs.SetLemmas.{item_of, set_here}
+use Rattle.vx_loggroup.proofs.SettleLemmas.{settle_none}
 use Rattle.vx_loggroup.proofs.clearing.clear_one.Goals as goal
 
 pub index_mut-requires : goal.index_mut-requires
@@ -32,3 +33,12 @@ pub returns-clause-off : goal.returns-clause-off
 returns-clause-off g c = if_ok_from c.clear_group.result (λ (done : Bool) off is kept (l k : Logs) was many now.
     let old = same_item (slice_get c.args.logs.now.items c.args.vol) c.index_mut.result.now l (item_of c.args.logs.now.items c.args.vol c.index_mut.result.now c.index_mut.ensures.value (index_low c.args.core.now c.args.logs.now.items c.args.alike.now false (g.S.Shelf.meaning c.args.shelf.now) c.args.vol c.requires.stands c.requires.there)) was in
     subst (λ (z : Logs). NoMarks (region_count (wide c.args.core.now).config c.args.vol) z) (set_here c.args.logs.now.items c.args.vol c.clear_group.new.logs k now) (off is (subst (λ (z : Logs). HoldsMany z.drl) (sym old) many))) c.clear_group.ensures.off
+
+pub returns-then-is_down-clause-settles : goal.returns-then-is_down-clause-settles
+returns-then-is_down-clause-settles g c = settle_none c.args.core.now (g.S.Shelf.meaning c.args.shelf.now)
+
+pub returns-then-not-is_alike-clause-settles : goal.returns-then-not-is_alike-clause-settles
+returns-then-not-is_alike-clause-settles g c = settle_none c.args.core.now (g.S.Shelf.meaning c.args.shelf.now)
+
+pub returns-clause-settles : goal.returns-clause-settles
+returns-clause-settles g c = record { goes = c.clear_group.ensures.goes; narrow = c.clear_group.ensures.narrow; loses = c.clear_group.ensures.loses; below = c.clear_group.ensures.below }

@@ -1,12 +1,36 @@
--- `deport_whole`: clauses stands and tells; what `deport_in` asks.
-use Rattle.vx_loggroup.proofs.DeportedLogs.{deport_stands, deport_tells}
+-- `deport_whole`: its clauses; what the calls ask.
+use Rattle.std.proofs.Common.{◌∙◌, Bool, true, false, length, refl, sym, ap, subst, arith}
+use Rattle.std.specs.Prelude.{Err}
+use Rattle.vx_loggroup.specs.LoggedVolumes.{LoggedStands}
+use Rattle.vx_loggroup.proofs.AlikeLemmas.{stop_stands}
+use Rattle.vx_loggroup.proofs.DeportedLogs.{deport_stands}
+use Rattle.vx_group.proofs.CallLemmas.{not_down}
+use Rattle.vx_group.proofs.TrustLemmas.{err_from}
 use Rattle.vx_loggroup.proofs.deporting.deport_whole.Goals as goal
+
+pub deport_rested-requires-clause-stands : goal.deport_rested-requires-clause-stands
+deport_rested-requires-clause-stands g c = subst (λ (s : Bool). LoggedStands c.args.core.now c.args.logs.now.items c.args.alike.now s (g.S.Shelf.meaning c.args.shelf.now)) (c.may_rest.ensures.going c.if-may_rest.true) c.requires.stands
+
+pub deport_rested-requires-clause-up : goal.deport_rested-requires-clause-up
+deport_rested-requires-clause-up g c = not_down c.is_down-down.result (g.S.Shelf.meaning c.args.shelf.now).down c.is_down-down.ensures (c.may_rest.ensures.up c.if-may_rest.true)
+
+pub deport_rested-requires-clause-near : goal.deport_rested-requires-clause-near
+deport_rested-requires-clause-near g c = c.may_rest.ensures.near c.if-may_rest.true
+
+pub deport_rested-requires-clause-few : goal.deport_rested-requires-clause-few
+deport_rested-requires-clause-few g c = let few = c.may_rest.ensures.few c.if-may_rest.true in let long = c.len-disks.ensures in let same = ap length c.as_slice.ensures.disks in omega (arith, few, long, same)
+
+pub returns-then-may_rest-clause-stands : goal.returns-then-may_rest-clause-stands
+returns-then-may_rest-clause-stands g c = err_from c.deport_rested.result (λ stands. stop_stands c.deport_rested.new.core c.args.logs.now.items c.args.alike.now c.args.stopped (g.S.Shelf.meaning c.deport_rested.new.shelf) stands) c.deport_rested.ensures.stands
+
+pub returns-then-may_rest-clause-limit : goal.returns-then-may_rest-clause-limit
+returns-then-may_rest-clause-limit g c = λ full. absurd (let near = c.may_rest.ensures.near c.if-may_rest.true in omega (arith, full, near))
+
+pub returns-then-may_rest-clause-cause : goal.returns-then-may_rest-clause-cause
+returns-then-may_rest-clause-cause g c = λ near. c.deport_rested.ensures.cause
 
 pub deport_in-requires : goal.deport_in-requires
 deport_in-requires g c = record { stands = c.requires.stands.group }
 
-pub returns-clause-stands : goal.returns-clause-stands
-returns-clause-stands g c = deport_stands c.args.core.now c.deport_in.new.core c.args.logs.now.items c.args.alike.now c.args.stopped (g.S.Shelf.meaning c.args.shelf.now) (g.S.Shelf.meaning c.deport_in.new.shelf) c.requires.stands c.deport_in.result c.deport_in.ensures.ends c.deport_in.ensures.back
-
-pub returns-clause-tells : goal.returns-clause-tells
-returns-clause-tells g c = deport_tells c.args.core.now c.deport_in.new.core c.args.logs.now.items c.args.alike.now c.args.stopped (g.S.Shelf.meaning c.args.shelf.now) (g.S.Shelf.meaning c.deport_in.new.shelf) c.requires.stands c.deport_in.result c.deport_in.ensures.ends
+pub returns-in-Err-clause-stands : goal.returns-in-Err-clause-stands
+returns-in-Err-clause-stands g c = deport_stands c.args.core.now c.deport_in.new.core c.args.logs.now.items c.args.alike.now c.args.stopped (g.S.Shelf.meaning c.args.shelf.now) (g.S.Shelf.meaning c.deport_in.new.shelf) c.requires.stands (Err c.in-Err.stop) c.in-Err.ensures.ends c.in-Err.ensures.back

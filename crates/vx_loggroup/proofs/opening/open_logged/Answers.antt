@@ -1,44 +1,48 @@
--- `open_logged`: its result; what `clear_all` asks.
-use Rattle.std.proofs.Common.{Bool, inl, inr, refl}
-use Rattle.std.specs.Prelude.{not}
-use Rattle.vx_logged.proofs.StandLemmas.{not_false}
-use Rattle.vx_loggroup.proofs.AlikeLemmas.{stop_stands}
-use Rattle.vx_loggroup.proofs.OpenLemmas.{failed_by, opened_full, opened_same, opened_stands}
+-- `open_logged`: its result; what the calls ask.
+use Rattle.std.proofs.Common.{None, arith}
+use Rattle.vx_group.proofs.UnitLemmas.{goes_units, then_units}
+use Rattle.vx_loggroup.proofs.OpenLemmas.{opened_maps, opened_stands, opens_by, settled_below, taken_full, taken_same}
 use Rattle.vx_loggroup.proofs.opening.open_logged.Goals as goal
 
-pub clear_all-requires-clause-stands : goal.clear_all-requires-clause-stands
-clear_all-requires-clause-stands g c = opened_stands (g.S.Shelf.meaning c.args.shelf.now) (g.S.Shelf.meaning c.import_marked.new.shelf) c.in-Ok.marked (g.met.S.Shelf.lawful c.import_marked.new.shelf) c.in-Ok.ensures
+pub import_marked-requires-clause-tells : goal.import_marked-requires-clause-tells
+import_marked-requires-clause-tells g c = c.requires.tells.drl
 
-pub clear_all-requires-clause-same : goal.clear_all-requires-clause-same
-clear_all-requires-clause-same g c = opened_same (g.S.Shelf.meaning c.args.shelf.now) (g.S.Shelf.meaning c.import_marked.new.shelf) c.in-Ok.marked (g.met.S.Shelf.lawful c.import_marked.new.shelf) c.in-Ok.ensures
+pub take_all-requires-clause-stands : goal.take_all-requires-clause-stands
+take_all-requires-clause-stands g c =
+    opened_stands (g.S.Shelf.meaning c.args.shelf.now) (g.S.Shelf.meaning c.import_marked.new.shelf) c.in-Ok.marked (g.met.S.Shelf.lawful c.args.shelf.now) (g.met.S.Shelf.lawful c.import_marked.new.shelf) c.requires.can c.in-Ok.ensures.ends c.args.rested.now c.requires.tells c.alike_of-alike.result c.alike_of-alike.ensures.why
 
-pub clear_all-requires-clause-full : goal.clear_all-requires-clause-full
-clear_all-requires-clause-full g c = opened_full (g.S.Shelf.meaning c.args.shelf.now) (g.S.Shelf.meaning c.import_marked.new.shelf) c.in-Ok.marked (g.met.S.Shelf.lawful c.import_marked.new.shelf) c.in-Ok.ensures
+pub take_all-requires-clause-plain : goal.take_all-requires-clause-plain
+take_all-requires-clause-plain g c = c.in-Ok.ensures.ends.logs.plain
 
-pub returns-in-Ok-clear_all : goal.returns-in-Ok-clear_all
-returns-in-Ok-clear_all g c = (
-  record {
-    moment = c.import_marked.new.shelf;
-    marked = c.in-Ok.marked;
-    resumed = c.in-Ok.ensures;
-    goes = c.clear_all.ensures.goes;
-    agreed = c.clear_all.ensures.stands.group.stands.trusts.both (c.in-Ok-clear_all.ensures.trust c.in-Ok.ensures.resumed.committed);
-    alike = refl;
-    off = λ going. inl (c.in-Ok-clear_all.ensures.off (not_false c.in-Ok-clear_all.done going));
-  },
-  stop_stands c.clear_all.new.core c.clear_all.new.logs.items c.in-Ok.marked.stopped (not c.in-Ok-clear_all.done) (g.S.Shelf.meaning c.clear_all.new.shelf) c.clear_all.ensures.stands,
-)
+pub take_all-requires-clause-tells : goal.take_all-requires-clause-tells
+take_all-requires-clause-tells g c =
+    opened_maps (g.S.Shelf.meaning c.args.shelf.now) (g.S.Shelf.meaning c.import_marked.new.shelf) c.in-Ok.marked (g.met.S.Shelf.lawful c.args.shelf.now) (g.met.S.Shelf.lawful c.import_marked.new.shelf) c.requires.can c.in-Ok.ensures.ends c.args.rested.now c.requires.tells
 
-pub returns-in-Err-clear_all : goal.returns-in-Err-clear_all
-returns-in-Err-clear_all g c = (
-  record {
-    moment = c.import_marked.new.shelf;
-    marked = c.in-Ok.marked;
-    resumed = c.in-Ok.ensures;
-    goes = c.clear_all.ensures.goes;
-    agreed = c.in-Err-clear_all.ensures.agreed c.in-Ok.ensures.resumed.committed;
-    alike = refl;
-    off = λ going. inr (failed_by Bool (g.S.Shelf.meaning c.import_marked.new.shelf) (g.S.Shelf.meaning c.clear_all.new.shelf) c.in-Err-clear_all.field-0 c.in-Err-clear_all.ensures.cause);
-  },
-  c.clear_all.ensures.stands,
-)
+pub settle_logs-requires-clause-stands : goal.settle_logs-requires-clause-stands
+settle_logs-requires-clause-stands g c = c.take_all.ensures.stands
+
+pub settle_logs-requires-clause-same : goal.settle_logs-requires-clause-same
+settle_logs-requires-clause-same g c =
+    taken_same (g.S.Shelf.meaning c.args.shelf.now) (g.S.Shelf.meaning c.import_marked.new.shelf) c.in-Ok.marked (g.met.S.Shelf.lawful c.args.shelf.now) (g.met.S.Shelf.lawful c.import_marked.new.shelf) c.requires.can c.in-Ok.ensures.ends c.args.rested.now c.requires.tells
+    c.take_all.new.logs.items (g.S.Shelf.meaning c.take_all.new.shelf) (g.S.Shelf.meaning c.take_all.new.shelf) c.take_all.ensures.drls (let one = c.take_all.ensures.stands.many in let two = c.in-Ok.ensures.ends.logs.many in omega (arith, one, two)) c.take_all.ensures.goes (g.met.S.Shelf.lawful c.take_all.new.shelf)
+    c.alike_of-alike.result c.alike_of-alike.ensures.why
+
+pub settle_logs-requires-clause-full : goal.settle_logs-requires-clause-full
+settle_logs-requires-clause-full g c =
+    taken_full (g.S.Shelf.meaning c.args.shelf.now) (g.S.Shelf.meaning c.import_marked.new.shelf) c.in-Ok.marked (g.met.S.Shelf.lawful c.args.shelf.now) (g.met.S.Shelf.lawful c.import_marked.new.shelf) c.requires.can c.in-Ok.ensures.ends c.args.rested.now c.requires.tells
+    c.take_all.new.logs.items (g.S.Shelf.meaning c.take_all.new.shelf) (g.S.Shelf.meaning c.take_all.new.shelf) c.take_all.ensures.drls (let one = c.take_all.ensures.stands.many in let two = c.in-Ok.ensures.ends.logs.many in omega (arith, one, two)) c.take_all.ensures.goes (g.met.S.Shelf.lawful c.take_all.new.shelf)
+
+pub returns-in-Ok-clause-ends : goal.returns-in-Ok-clause-ends
+returns-in-Ok-clause-ends g c =
+    opens_by (λ s. g.S.Shelf.meaning s) c.import_marked.new.shelf (g.S.Shelf.meaning c.args.shelf.now) c.in-Ok.marked (g.met.S.Shelf.lawful c.args.shelf.now) (g.met.S.Shelf.lawful c.import_marked.new.shelf) c.requires.can c.in-Ok.ensures.ends c.args.rested.now c.requires.tells
+    c.alike_of-alike.result c.alike_of-alike.ensures.stopped c.alike_of-alike.ensures.rested c.take_all.new.logs.items (g.S.Shelf.meaning c.take_all.new.shelf) (g.S.Shelf.meaning c.settle_logs.new.shelf) c.take_all.ensures.drls (let one = c.take_all.ensures.stands.many in let two = c.in-Ok.ensures.ends.logs.many in omega (arith, one, two))
+    c.take_all.ensures.goes (g.met.S.Shelf.lawful c.take_all.new.shelf) c.settle_logs.result c.settle_logs.ensures
+
+pub returns-in-Ok-clause-same : goal.returns-in-Ok-clause-same
+returns-in-Ok-clause-same g c =
+    then_units (g.S.Shelf.meaning c.args.shelf.now) (g.S.Shelf.meaning c.import_marked.new.shelf) (g.S.Shelf.meaning c.settle_logs.new.shelf) c.import_marked.ensures.same
+    (then_units (g.S.Shelf.meaning c.import_marked.new.shelf) (g.S.Shelf.meaning c.take_all.new.shelf) (g.S.Shelf.meaning c.settle_logs.new.shelf) (goes_units _ (g.S.Shelf.meaning c.import_marked.new.shelf) (g.S.Shelf.meaning c.take_all.new.shelf) c.take_all.ensures.goes)
+    (settled_below (record { inner = c.in-Ok.marked.core; held = None }) c.alike_of-alike.result (g.S.Shelf.meaning c.take_all.new.shelf) (g.S.Shelf.meaning c.settle_logs.new.shelf) c.settle_logs.result c.settle_logs.ensures))
+
+pub returns-in-Err-clause-same : goal.returns-in-Err-clause-same
+returns-in-Err-clause-same g c = c.import_marked.ensures.same

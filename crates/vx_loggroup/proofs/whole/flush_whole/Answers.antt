@@ -4,8 +4,9 @@ use Rattle.vx_disk.specs.Shelf.{Nothing}
 use Rattle.vx_group.specs.Holding.{wide}
 use Rattle.vx_group.proofs.CallLemmas.{not_down}
 use Rattle.vx_loggroup.specs.LoggedVolumes.{is_alike}
-use Rattle.vx_loggroup.proofs.AlikeLemmas.{clears_set, here_stands, index_low, set_stands}
+use Rattle.vx_loggroup.proofs.AlikeLemmas.{clears_set, notes_set, here_stands, index_low, set_stands}
 use Rattle.vx_loggroup.proofs.SetLemmas.{item_of}
+use Rattle.vx_logged.specs.Behind.{none_missing}
 use Rattle.vx_loggroup.proofs.whole.flush_whole.Goals as goal
 
 pub index_mut-requires : goal.index_mut-requires
@@ -27,3 +28,6 @@ returns-clause-stands g c =
 
 pub returns-clause-marks : goal.returns-clause-marks
 returns-clause-marks g c = clears_set (wide c.args.core.now).config c.args.vol c.args.logs.now.items c.index_mut.result.now c.flush_cleared.new.logs (item_of c.args.logs.now.items c.args.vol c.index_mut.result.now c.index_mut.ensures.value (index_low c.args.core.now c.args.logs.now.items c.args.alike.now c.args.stopped (g.S.Shelf.meaning c.args.shelf.now) c.args.vol c.requires.stands c.requires.there)) c.flush_cleared.ensures.fewer
+
+pub returns-clause-maps : goal.returns-clause-maps
+returns-clause-maps g c = notes_set none_missing c.args.vol 0 0 c.args.logs.now.items c.index_mut.result.now c.flush_cleared.new.logs (item_of c.args.logs.now.items c.args.vol c.index_mut.result.now c.index_mut.ensures.value (index_low c.args.core.now c.args.logs.now.items c.args.alike.now c.args.stopped (g.S.Shelf.meaning c.args.shelf.now) c.args.vol c.requires.stands c.requires.there)) c.flush_cleared.ensures.stay

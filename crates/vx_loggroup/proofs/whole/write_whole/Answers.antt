@@ -3,7 +3,9 @@ use Rattle.std.proofs.Common.{◌≡◌, ◌∙◌, ◌/◌, true, false, length
 use Rattle.vx_disk.specs.Shelf.{Written}
 use Rattle.vx_group.specs.Holding.{wide}
 use Rattle.vx_logs.specs.Writes.{first_region, last_region}
-use Rattle.vx_loggroup.proofs.AlikeLemmas.{going_back, index_low, marks_set, reads_wrote, set_stands}
+use Rattle.vx_loggroup.proofs.AlikeLemmas.{going_back, index_low, marks_set, notes_set, reads_wrote, set_stands}
+use Rattle.vx_logged.specs.Behind.{all_those}
+use Rattle.vx_logged.specs.Logged.{are_off}
 use Rattle.vx_loggroup.proofs.SetLemmas.{item_of}
 use Rattle.vx_loggroup.proofs.whole.write_whole.Goals as goal
 
@@ -39,3 +41,15 @@ returns-in-Ok-clause-marks g c = marks_set (wide c.args.core.now).config c.args.
 
 pub returns-in-Err-clause-marks : goal.returns-in-Err-clause-marks
 returns-in-Err-clause-marks g c = marks_set (wide c.args.core.now).config c.args.vol (first_region c.args.block) (last_region c.args.block (length c.args.bytes.now / 512)) c.args.logs.now.items c.index_mut.result.now c.write_marked.new.logs (item_of c.args.logs.now.items c.args.vol c.index_mut.result.now c.index_mut.ensures.value (index_low c.args.core.now c.args.logs.now.items c.args.alike.now c.args.stopped.now (g.S.Shelf.meaning c.args.shelf.now) c.args.vol c.requires.stands c.requires.fits.exists)) c.write_marked.ensures.adds
+
+pub returns-in-Ok-clause-notes : goal.returns-in-Ok-clause-notes
+returns-in-Ok-clause-notes g c = notes_set (are_off c.write_marked.new.core c.args.vol) c.args.vol (first_region c.args.block) (last_region c.args.block (length c.args.bytes.now / 512)) c.args.logs.now.items c.index_mut.result.now c.write_marked.new.logs (item_of c.args.logs.now.items c.args.vol c.index_mut.result.now c.index_mut.ensures.value (index_low c.args.core.now c.args.logs.now.items c.args.alike.now c.args.stopped.now (g.S.Shelf.meaning c.args.shelf.now) c.args.vol c.requires.stands c.requires.fits.exists)) c.in-Ok.ensures.notes
+
+pub returns-in-Ok-clause-marked : goal.returns-in-Ok-clause-marked
+returns-in-Ok-clause-marked g c = c.write_marked.ensures.marked
+
+pub returns-in-Err-clause-notes : goal.returns-in-Err-clause-notes
+returns-in-Err-clause-notes g c = notes_set all_those c.args.vol (first_region c.args.block) (last_region c.args.block (length c.args.bytes.now / 512)) c.args.logs.now.items c.index_mut.result.now c.write_marked.new.logs (item_of c.args.logs.now.items c.args.vol c.index_mut.result.now c.index_mut.ensures.value (index_low c.args.core.now c.args.logs.now.items c.args.alike.now c.args.stopped.now (g.S.Shelf.meaning c.args.shelf.now) c.args.vol c.requires.stands c.requires.fits.exists)) c.in-Err.ensures.notes
+
+pub returns-in-Err-clause-marked : goal.returns-in-Err-clause-marked
+returns-in-Err-clause-marked g c = c.write_marked.ensures.marked

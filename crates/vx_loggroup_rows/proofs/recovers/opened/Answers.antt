@@ -1,4 +1,5 @@
 -- `opened`: what `import` asks.
+use Rattle.vx_logimport.proofs.TellLemmas.{untold_tells}
 use Rattle.vx_loggroup_rows.proofs.recovers.opened.Goals as goal
 
 pub import-requires-clause-can : goal.import-requires-clause-can
@@ -9,4 +10,4 @@ import-requires-clause-can c = record {
 }
 
 pub import-requires-clause-tells : goal.import-requires-clause-tells
-import-requires-clause-tells c = λ v. record { covers = λ i x each is. absurd (each 0 0); settled = λ i x each is. absurd (each 0 0) }
+import-requires-clause-tells c = untold_tells _ _ (λ i each. each 0 0)

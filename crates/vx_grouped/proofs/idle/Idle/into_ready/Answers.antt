@@ -6,6 +6,8 @@ use Rattle.vx_untold.specs.Shades.{rack_of, shade_meaning}
 use Rattle.vx_untold.specs.declared.shade.Shade.TheVariants.{Dark}
 use Rattle.vx_grouped.proofs.ImportFactLemmas.{fact_import}
 use Rattle.vx_grouped.proofs.SinceReturns.{dark_can}
+use Rattle.vx_grouped.proofs.TellLemmas.{dark_tells}
+use Rattle.vx_logimport.specs.Rests.{LogsTell}
 use Rattle.vx_grouped.proofs.idle.Idle.into_ready.Goals as goal
 
 pub returns-then-self-clause-can : goal.returns-then-self-clause-can
@@ -13,3 +15,9 @@ returns-then-self-clause-can g c = fact_import (shade_meaning g.R.Shelf.meaning 
 
 pub returns-else-self-clause-can : goal.returns-else-self-clause-can
 returns-else-self-clause-can g c = subst (λ s. CanImport (shade_meaning g.R.Shelf.meaning s)) (sym c.darkened.ensures) (dark_can g.R.Shelf.meaning c.args.self.rack)
+
+pub returns-then-self-clause-tells : goal.returns-then-self-clause-tells
+returns-then-self-clause-tells g c = λ r is. c.args.self.tells r c.if-self.true is
+
+pub returns-else-self-clause-tells : goal.returns-else-self-clause-tells
+returns-else-self-clause-tells g c = λ r is. subst (λ s. LogsTell r (shade_meaning g.R.Shelf.meaning s)) (sym c.darkened.ensures) (dark_tells r g.R.Shelf.meaning c.args.self.rack)

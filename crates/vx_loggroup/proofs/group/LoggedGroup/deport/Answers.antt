@@ -2,13 +2,14 @@
 use Rattle.vx_group.specs.Holding.{wide}
 use Rattle.vx_group.proofs.CrashLemmas.{group_can}
 use Rattle.vx_loggroup.proofs.FactLemmas.{from_logged, to_logged}
+use Rattle.vx_loggroup.proofs.FreshLemmas.{fresh_still}
 use Rattle.vx_loggroup.proofs.group.LoggedGroup.deport.Goals as goal
 
 pub deport_whole-requires : goal.deport_whole-requires
 deport_whole-requires g c = record { stands = from_logged c.args.self.core c.args.self.logs.items c.args.self.alike c.args.self.stopped (g.S.Shelf.meaning c.args.self.shelf) c.args.self.stands }
 
 pub invariant_of-result : goal.invariant_of-result
-invariant_of-result g c = record { stands = to_logged c.deport_whole.new.core c.args.self.logs.items c.args.self.alike c.args.self.stopped (g.S.Shelf.meaning c.deport_whole.new.shelf) c.in-Err.ensures.stands }
+invariant_of-result g c = record { stands = to_logged c.deport_whole.new.core c.args.self.logs.items c.args.self.alike c.args.self.stopped (g.S.Shelf.meaning c.deport_whole.new.shelf) c.in-Err.ensures.stands; begins = fresh_still c.args.self.core c.deport_whole.new.core c.args.self.fresh (g.S.Shelf.meaning c.args.self.shelf) (g.S.Shelf.meaning c.deport_whole.new.shelf) c.in-Err.ensures.back c.args.self.begins }
 
 pub returns-in-Ok-clause-can : goal.returns-in-Ok-clause-can
 returns-in-Ok-clause-can g c = group_can (wide c.args.self.core).config c.args.self.core.inner (g.S.Shelf.meaning c.args.self.shelf) (g.S.Shelf.meaning c.deport_whole.new.shelf) c.in-Ok.ensures.ends

@@ -1,9 +1,12 @@
--- `det`: what `det_whole` asks, and what stands then.
+-- `det`: what `det_fresh` asks, and what stands then.
 use Rattle.vx_loggroup.proofs.FactLemmas.{from_logged, to_logged}
 use Rattle.vx_loggroup.proofs.group.LoggedGroup.det.Goals as goal
 
-pub det_whole-requires : goal.det_whole-requires
-det_whole-requires g c = record { stands = from_logged c.args.self.now.core c.args.self.now.logs.items c.args.self.now.alike c.args.self.now.stopped (g.S.Shelf.meaning c.args.self.now.shelf) c.args.self.now.stands }
+pub det_fresh-requires-clause-stands : goal.det_fresh-requires-clause-stands
+det_fresh-requires-clause-stands g c = from_logged c.args.self.now.core c.args.self.now.logs.items c.args.self.now.alike c.args.self.now.stopped (g.S.Shelf.meaning c.args.self.now.shelf) c.args.self.now.stands
+
+pub det_fresh-requires-clause-fresh : goal.det_fresh-requires-clause-fresh
+det_fresh-requires-clause-fresh g c = c.args.self.now.begins
 
 pub invariant_of-self : goal.invariant_of-self
-invariant_of-self g c = record { stands = to_logged c.det_whole.new.core c.args.self.now.logs.items c.args.self.now.alike c.args.self.now.stopped (g.S.Shelf.meaning c.det_whole.new.shelf) c.det_whole.ensures.stands }
+invariant_of-self g c = record { stands = to_logged c.det_fresh.new.core c.det_fresh.new.logs.items c.args.self.now.alike c.args.self.now.stopped (g.S.Shelf.meaning c.det_fresh.new.shelf) c.det_fresh.ensures.stands; begins = c.det_fresh.ensures.fresh }

@@ -1,0 +1,30 @@
+-- An import of disks that crashed, unless their logs were stopped.
+use Rattle.std.proofs.Common.{◌∙◌, IsTrue, ap, refl, subst, sym}
+use Rattle.vx_untold.specs.Shades.{rack_of, shade_meaning}
+use Rattle.std.specs.Prelude.{Err}
+use Rattle.vx_untold.specs.declared.shade.Shade.TheVariants.{Dark}
+use Rattle.vx_grouped.specs.SiteReturns.{SiteRecovers}
+use Rattle.vx_grouped.specs.declared.group_site.GroupSite.TheVariants.{Down}
+use Rattle.vx_grouped.proofs.GivenUpLemmas.{given_down}
+use Rattle.vx_grouped.proofs.ReadyLemmas.{recovered_ready, since_ready, told_ready}
+use Rattle.vx_grouped.proofs.SinceReturns.{return_at, return_dark}
+use Rattle.vx_grouped.proofs.site_returning.recover_idle.Goals as goal
+
+pub returns-in-Some-clause-recovered : goal.returns-in-Some-clause-recovered
+returns-in-Some-clause-recovered g c = recovered_ready (Down c.args.idle) c.args.idle c.into_ready.result c.into_ready.ensures.ready c.recover_site.result.0 c.recover_site.result.1 refl c.recover_site.ensures.recovered
+
+pub returns-in-Some-clause-since : goal.returns-in-Some-clause-since
+returns-in-Some-clause-since g c = since_ready (Down c.args.idle) c.args.idle c.into_ready.result c.into_ready.ensures.ready c.recover_site.result.0 c.recover_site.result.1 refl c.recover_site.ensures.since
+
+pub returns-in-Some-clause-told : goal.returns-in-Some-clause-told
+returns-in-Some-clause-told g c = told_ready (Down c.args.idle) c.args.idle c.into_ready.result c.into_ready.ensures.ready c.recover_site.result.0 refl c.recover_site.ensures.told
+
+pub returns-in-None-clause-recovered : goal.returns-in-None-clause-recovered
+returns-in-None-clause-recovered g c = λ n note it.
+    subst (λ x. SiteRecovers n note (Down c.args.idle) (Down c.given_up.result) (Err x)) (sym c.too_few.ensures) (given_down n note c.args.idle c.given_up.result c.given_up.ensures.rack c.given_up.ensures.agreed it)
+
+pub returns-in-None-clause-since : goal.returns-in-None-clause-since
+returns-in-None-clause-since g c = return_at (λ s. shade_meaning g.R.Shelf.meaning s) (shade_meaning g.R.Shelf.meaning c.args.idle.rack) (Dark (rack_of c.args.idle.rack)) c.given_up.result.rack c.given_up.ensures.rack (return_dark g.R.Shelf.meaning c.args.idle.rack)
+
+pub returns-in-None-clause-told : goal.returns-in-None-clause-told
+returns-in-None-clause-told g c = λ told. subst (λ s. IsTrue (g.R.Shelf.meaning (rack_of s)).tells) c.given_up.ensures.rack told

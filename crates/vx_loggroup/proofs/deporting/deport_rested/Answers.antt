@@ -1,0 +1,62 @@
+-- `deport_rested`: its clauses; what the calls ask.
+use Rattle.std.proofs.Common.{◌∙◌, inl, Bool, List, length, false, refl, sym, ap, arith}
+use Rattle.std.specs.Prelude.{Err, Ok}
+use Rattle.vx_disk.specs.Shelf.{Nothing}
+use Rattle.vx_disk.proofs.Runs.{then_nothing}
+use Rattle.vx_group.specs.Holding.{wide}
+use Rattle.vx_group.specs.Stands.{inner_meaning}
+use Rattle.vx_group.proofs.BehindLemmas.{group_still}
+use Rattle.vx_group.proofs.HoldLemmas.{wide_shape}
+use Rattle.vx_group.proofs.Standing.{fit_of}
+use Rattle.vx_loggroup.proofs.CloseLemmas.{closes_later, det_before, down_back, still_stands, unsure_stands, with_unsure}
+use Rattle.vx_loggroup.proofs.DeportedLogs.{deport_stands}
+use Rattle.vx_loggroup.proofs.RestTells.{rest_tells}
+use Rattle.vx_loggroup.proofs.RestingLemmas.{some_failed}
+use Rattle.vx_loggroup.proofs.StillLemmas.{core_goes}
+use Rattle.vx_loggroup.proofs.deporting.deport_rested.Goals as goal
+
+pub flush_disks-requires-clause-disks : goal.flush_disks-requires-clause-disks
+flush_disks-requires-clause-disks g c = fit_of (wide c.args.core.now) (g.S.Shelf.meaning c.args.shelf.now) c.requires.stands.group.stands
+
+pub returns-in-Err-clause-stands : goal.returns-in-Err-clause-stands
+returns-in-Err-clause-stands g c = (still_stands c.args.core.now c.args.logs.now.items c.args.alike.now false (g.S.Shelf.meaning c.args.shelf.now) (g.S.Shelf.meaning c.flush_disks.new.shelf) (g.met.S.Shelf.lawful c.args.shelf.now) (g.met.S.Shelf.lawful c.flush_disks.new.shelf) c.requires.stands c.flush_disks.ensures.goes)
+
+pub returns-in-Err-clause-ends : goal.returns-in-Err-clause-ends
+returns-in-Err-clause-ends g c = down_back c.args.core.now (g.S.Shelf.meaning c.args.shelf.now) (g.S.Shelf.meaning c.flush_disks.new.shelf) (g.met.S.Shelf.lawful c.args.shelf.now) (g.met.S.Shelf.lawful c.flush_disks.new.shelf) c.requires.stands.group c.flush_disks.ensures.goes
+
+pub returns-in-Err-clause-back : goal.returns-in-Err-clause-back
+returns-in-Err-clause-back g c = core_goes c.args.core.now (g.S.Shelf.meaning c.args.shelf.now) (g.S.Shelf.meaning c.flush_disks.new.shelf) (g.met.S.Shelf.lawful c.args.shelf.now) (g.met.S.Shelf.lawful c.flush_disks.new.shelf) c.requires.stands.group c.flush_disks.ensures.goes
+
+pub returns-in-Err-clause-cause : goal.returns-in-Err-clause-cause
+returns-in-Err-clause-cause g c = c.in-Err.ensures.down
+
+pub rest_all-requires : goal.rest_all-requires
+rest_all-requires g c = record { few = let many = c.requires.stands.many in let few = c.requires.stands.group.stands.few in let same = (wide_shape c.args.core.now).volumes in omega (arith, many, few, same) }
+
+pub are_kept-requires : goal.are_kept-requires
+are_kept-requires g c = record { few = let many = c.requires.stands.many in let few = c.requires.stands.group.stands.few in let same = (wide_shape c.args.core.now).volumes in omega (arith, many, few, same) }
+
+pub deport_in-requires : goal.deport_in-requires
+deport_in-requires g c = record { stands = (unsure_stands c.args.core.now c.rest_all-maps.new.unsure c.args.logs.now.items c.args.alike.now false (g.S.Shelf.meaning c.flush_disks.new.shelf) (still_stands c.args.core.now c.args.logs.now.items c.args.alike.now false (g.S.Shelf.meaning c.args.shelf.now) (g.S.Shelf.meaning c.flush_disks.new.shelf) (g.met.S.Shelf.lawful c.args.shelf.now) (g.met.S.Shelf.lawful c.flush_disks.new.shelf) c.requires.stands c.flush_disks.ensures.goes)).group }
+
+pub returns-in-Err-deport_in-clause-stands : goal.returns-in-Err-deport_in-clause-stands
+returns-in-Err-deport_in-clause-stands g c = deport_stands (with_unsure c.rest_all-maps.new.unsure c.args.core.now) c.deport_in.new.core c.args.logs.now.items c.args.alike.now false (g.S.Shelf.meaning c.flush_disks.new.shelf) (g.S.Shelf.meaning c.deport_in.new.shelf) (unsure_stands c.args.core.now c.rest_all-maps.new.unsure c.args.logs.now.items c.args.alike.now false (g.S.Shelf.meaning c.flush_disks.new.shelf) (still_stands c.args.core.now c.args.logs.now.items c.args.alike.now false (g.S.Shelf.meaning c.args.shelf.now) (g.S.Shelf.meaning c.flush_disks.new.shelf) (g.met.S.Shelf.lawful c.args.shelf.now) (g.met.S.Shelf.lawful c.flush_disks.new.shelf) c.requires.stands c.flush_disks.ensures.goes)) (Err c.in-Err-deport_in.stop) c.in-Err-deport_in.ensures.ends c.in-Err-deport_in.ensures.back
+
+pub returns-in-Err-deport_in-clause-ends : goal.returns-in-Err-deport_in-clause-ends
+returns-in-Err-deport_in-clause-ends g c = closes_later c.args.core.now c.rest_all-maps.new.unsure (g.S.Shelf.meaning c.args.shelf.now) (g.S.Shelf.meaning c.flush_disks.new.shelf) c.requires.stands.group c.flush_disks.ensures.goes c.in-Ok.ensures.settles.up c.rest_all-maps.ensures.unsure.more (some_failed (length c.args.core.now.inner.config.disks) c.in-Ok.failed (g.S.Shelf.meaning c.args.shelf.now) (g.S.Shelf.meaning c.flush_disks.new.shelf) c.rest_all-maps.new.unsure c.args.core.now.inner.unsure c.in-Ok.ensures.settles c.rest_all-maps.ensures.unsure.none) c.deport_in.new.core (g.S.Shelf.meaning c.deport_in.new.shelf) (Err c.in-Err-deport_in.stop) c.in-Err-deport_in.ensures.ends
+
+pub returns-in-Err-deport_in-clause-back : goal.returns-in-Err-deport_in-clause-back
+returns-in-Err-deport_in-clause-back g c = then_nothing Nothing (inner_meaning (wide c.args.core.now) (g.S.Shelf.meaning c.args.shelf.now)) (inner_meaning (wide c.args.core.now) (g.S.Shelf.meaning c.flush_disks.new.shelf)) (inner_meaning (wide c.deport_in.new.core) (g.S.Shelf.meaning c.deport_in.new.shelf)) (core_goes c.args.core.now (g.S.Shelf.meaning c.args.shelf.now) (g.S.Shelf.meaning c.flush_disks.new.shelf) (g.met.S.Shelf.lawful c.args.shelf.now) (g.met.S.Shelf.lawful c.flush_disks.new.shelf) c.requires.stands.group c.flush_disks.ensures.goes) c.in-Err-deport_in.ensures.back
+
+pub returns-in-Err-deport_in-clause-cause : goal.returns-in-Err-deport_in-clause-cause
+returns-in-Err-deport_in-clause-cause g c = det_before (g.S.Shelf.meaning c.args.shelf.now) (g.S.Shelf.meaning c.flush_disks.new.shelf) (g.S.Shelf.meaning c.deport_in.new.shelf) c.flush_disks.ensures.goes.disk_faults c.in-Err-deport_in.stop (c.in-Err-deport_in.ensures.cause c.requires.near)
+
+pub returns-then-not-kept-clause-ends : goal.returns-then-not-kept-clause-ends
+returns-then-not-kept-clause-ends g c = closes_later c.args.core.now c.rest_all-maps.new.unsure (g.S.Shelf.meaning c.args.shelf.now) (g.S.Shelf.meaning c.flush_disks.new.shelf) c.requires.stands.group c.flush_disks.ensures.goes c.in-Ok.ensures.settles.up c.rest_all-maps.ensures.unsure.more (some_failed (length c.args.core.now.inner.config.disks) c.in-Ok.failed (g.S.Shelf.meaning c.args.shelf.now) (g.S.Shelf.meaning c.flush_disks.new.shelf) c.rest_all-maps.new.unsure c.args.core.now.inner.unsure c.in-Ok.ensures.settles c.rest_all-maps.ensures.unsure.none) c.deport_in.new.core (g.S.Shelf.meaning c.deport_in.new.shelf) (Ok tt) c.in-Ok-deport_in.ensures.ends
+
+pub returns-clause-ends : goal.returns-clause-ends
+returns-clause-ends g c = closes_later c.args.core.now c.rest_all-maps.new.unsure (g.S.Shelf.meaning c.args.shelf.now) (g.S.Shelf.meaning c.flush_disks.new.shelf) c.requires.stands.group c.flush_disks.ensures.goes c.in-Ok.ensures.settles.up c.rest_all-maps.ensures.unsure.more (some_failed (length c.args.core.now.inner.config.disks) c.in-Ok.failed (g.S.Shelf.meaning c.args.shelf.now) (g.S.Shelf.meaning c.flush_disks.new.shelf) c.rest_all-maps.new.unsure c.args.core.now.inner.unsure c.in-Ok.ensures.settles c.rest_all-maps.ensures.unsure.none) c.deport_in.new.core (g.S.Shelf.meaning c.deport_in.new.shelf) (Ok tt) c.in-Ok-deport_in.ensures.ends
+
+pub returns-clause-tells : goal.returns-clause-tells
+returns-clause-tells g c =
+    rest_tells c.args.core.now (with_unsure c.rest_all-maps.new.unsure c.args.core.now) c.args.logs.now.items c.args.alike.now c.rest_all-maps.result (g.S.Shelf.meaning c.args.shelf.now) (g.S.Shelf.meaning c.flush_disks.new.shelf) (g.S.Shelf.meaning c.deport_in.new.shelf) c.requires.stands (unsure_stands c.args.core.now c.rest_all-maps.new.unsure c.args.logs.now.items c.args.alike.now false (g.S.Shelf.meaning c.flush_disks.new.shelf) (still_stands c.args.core.now c.args.logs.now.items c.args.alike.now false (g.S.Shelf.meaning c.args.shelf.now) (g.S.Shelf.meaning c.flush_disks.new.shelf) (g.met.S.Shelf.lawful c.args.shelf.now) (g.met.S.Shelf.lawful c.flush_disks.new.shelf) c.requires.stands c.flush_disks.ensures.goes)) c.in-Ok-deport_in.ensures.ends c.flush_disks.ensures.goes c.in-Ok.ensures.settles.up refl refl c.in-Ok.failed c.in-Ok.ensures.settles c.requires.few c.rest_all-maps.ensures.rests (c.are_kept-kept.ensures c.if-not-kept.false)

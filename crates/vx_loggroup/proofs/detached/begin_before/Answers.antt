@@ -1,0 +1,117 @@
+-- `begin_before`: its clauses; what the calls ask.
+use Rattle.std.proofs.Common.{◌≡◌, ◌∙◌, ◌≤◌, ◌-◌, Err, false, refl, subst, sym, arith}
+use Rattle.std.specs.Prelude.{None, Some}
+use Rattle.vx_config.specs.Table.{greatest}
+use Rattle.vx_group.specs.Dets.{DetStops, margin}
+use Rattle.vx_group.specs.Holding.{wide}
+use Rattle.vx_group.specs.Stands.{inner_meaning}
+use Rattle.vx_group.proofs.HoldLemmas.{wide_shape}
+use Rattle.vx_group.proofs.LoseLemmas.{along_none}
+use Rattle.vx_group.proofs.MendLemmas.{same_Goes}
+use Rattle.vx_group.proofs.UnitLemmas.{same_units}
+use Rattle.vx_model.specs.declared.errors.Stop.TheVariants.{No as Refused}
+use Rattle.vx_loggroup.specs.LoggedVolumes.{LoggedStands}
+use Rattle.vx_loggroup.specs.Marks.{region_count}
+use Rattle.vx_loggroup.proofs.DetFresh.{begins_may, some_of}
+use Rattle.vx_loggroup.proofs.DetachedLogs.{active_low, det_cause}
+use Rattle.vx_loggroup.proofs.FreshLemmas.{fresh_still, fresh_taken, lists_none, none_of}
+use Rattle.vx_loggroup.proofs.detached.begin_before.Goals as goal
+
+pub returns-then-is_some-clause-goes : goal.returns-then-is_some-clause-goes
+returns-then-is_some-clause-goes g c = same_Goes (inner_meaning (wide c.args.core.now) (g.S.Shelf.meaning c.args.shelf.now))
+
+pub returns-then-is_some-clause-loses : goal.returns-then-is_some-clause-loses
+returns-then-is_some-clause-loses g c = along_none c.args.core.now.inner.config (g.S.Shelf.meaning c.args.shelf.now)
+
+pub returns-then-is_some-clause-still : goal.returns-then-is_some-clause-still
+returns-then-is_some-clause-still g c = λ w p. refl
+
+pub returns-then-is_some-clause-below : goal.returns-then-is_some-clause-below
+returns-then-is_some-clause-below g c = same_units (g.S.Shelf.meaning c.args.shelf.now)
+
+pub returns-then-is_some-clause-first : goal.returns-then-is_some-clause-first
+returns-then-is_some-clause-first g c = lists_none c.args.vol (region_count (wide c.args.core.now).config c.args.vol) c.args.logs.now.items
+
+pub returns-then-core-clause-goes : goal.returns-then-core-clause-goes
+returns-then-core-clause-goes g c = same_Goes (inner_meaning (wide c.args.core.now) (g.S.Shelf.meaning c.args.shelf.now))
+
+pub returns-then-core-clause-loses : goal.returns-then-core-clause-loses
+returns-then-core-clause-loses g c = along_none c.args.core.now.inner.config (g.S.Shelf.meaning c.args.shelf.now)
+
+pub returns-then-core-clause-still : goal.returns-then-core-clause-still
+returns-then-core-clause-still g c = λ w p. refl
+
+pub returns-then-core-clause-below : goal.returns-then-core-clause-below
+returns-then-core-clause-below g c = same_units (g.S.Shelf.meaning c.args.shelf.now)
+
+pub returns-then-core-clause-first : goal.returns-then-core-clause-first
+returns-then-core-clause-first g c = lists_none c.args.vol (region_count (wide c.args.core.now).config c.args.vol) c.args.logs.now.items
+
+pub returns-then-not-is_active-clause-goes : goal.returns-then-not-is_active-clause-goes
+returns-then-not-is_active-clause-goes g c = same_Goes (inner_meaning (wide c.args.core.now) (g.S.Shelf.meaning c.args.shelf.now))
+
+pub returns-then-not-is_active-clause-loses : goal.returns-then-not-is_active-clause-loses
+returns-then-not-is_active-clause-loses g c = along_none c.args.core.now.inner.config (g.S.Shelf.meaning c.args.shelf.now)
+
+pub returns-then-not-is_active-clause-still : goal.returns-then-not-is_active-clause-still
+returns-then-not-is_active-clause-still g c = λ w p. refl
+
+pub returns-then-not-is_active-clause-below : goal.returns-then-not-is_active-clause-below
+returns-then-not-is_active-clause-below g c = same_units (g.S.Shelf.meaning c.args.shelf.now)
+
+pub returns-then-not-is_active-clause-first : goal.returns-then-not-is_active-clause-first
+returns-then-not-is_active-clause-first g c = lists_none c.args.vol (region_count (wide c.args.core.now).config c.args.vol) c.args.logs.now.items
+
+pub returns-then-not-takes_fresh-clause-goes : goal.returns-then-not-takes_fresh-clause-goes
+returns-then-not-takes_fresh-clause-goes g c = same_Goes (inner_meaning (wide c.args.core.now) (g.S.Shelf.meaning c.args.shelf.now))
+
+pub returns-then-not-takes_fresh-clause-loses : goal.returns-then-not-takes_fresh-clause-loses
+returns-then-not-takes_fresh-clause-loses g c = along_none c.args.core.now.inner.config (g.S.Shelf.meaning c.args.shelf.now)
+
+pub returns-then-not-takes_fresh-clause-still : goal.returns-then-not-takes_fresh-clause-still
+returns-then-not-takes_fresh-clause-still g c = λ w p. refl
+
+pub returns-then-not-takes_fresh-clause-below : goal.returns-then-not-takes_fresh-clause-below
+returns-then-not-takes_fresh-clause-below g c = same_units (g.S.Shelf.meaning c.args.shelf.now)
+
+pub returns-then-not-takes_fresh-clause-first : goal.returns-then-not-takes_fresh-clause-first
+returns-then-not-takes_fresh-clause-first g c = lists_none c.args.vol (region_count (wide c.args.core.now).config c.args.vol) c.args.logs.now.items
+
+pub returns-then-not-takes_fresh-clause-fresh : goal.returns-then-not-takes_fresh-clause-fresh
+returns-then-not-takes_fresh-clause-fresh g c = fresh_taken c.args.vol c.args.core.now c.args.fresh.now c.takes_fresh.new.fresh (g.S.Shelf.meaning c.args.shelf.now) c.takes_fresh.ensures.here c.takes_fresh.ensures.others c.requires.fresh
+
+pub takes_fresh-requires : goal.takes_fresh-requires
+takes_fresh-requires g c = record { inside = let few = c.requires.stands.group.stands.few in let low = active_low c.args.core.now.inner.config c.args.vol c.args.plex (sym c.is_active.ensures ∙ c.if-not-is_active.false) in let same = (wide_shape c.args.core.now).volumes in omega (arith, few, low, same) }
+
+pub begin_first-requires-clause-stands : goal.begin_first-requires-clause-stands
+begin_first-requires-clause-stands g c = subst (λ s. LoggedStands c.args.core.now c.args.logs.now.items c.args.alike.now s (g.S.Shelf.meaning c.args.shelf.now)) (c.takes_fresh.ensures.going c.if-not-takes_fresh.false) c.requires.stands
+
+pub begin_first-requires-clause-there : goal.begin_first-requires-clause-there
+begin_first-requires-clause-there g c = let low = active_low c.args.core.now.inner.config c.args.vol c.args.plex (sym c.is_active.ensures ∙ c.if-not-is_active.false) in let same = (wide_shape c.args.core.now).volumes in omega (arith, low, same)
+
+pub begin_first-requires-clause-same : goal.begin_first-requires-clause-same
+begin_first-requires-clause-same g c = c.requires.fresh.each c.args.vol (c.takes_fresh.ensures.was c.if-not-takes_fresh.false)
+
+pub returns-in-Ok-clause-stands : goal.returns-in-Ok-clause-stands
+returns-in-Ok-clause-stands g c = subst (λ s. LoggedStands c.begin_first.new.core c.begin_first.new.logs.items c.args.alike.now s (g.S.Shelf.meaning c.begin_first.new.shelf)) (sym (c.takes_fresh.ensures.going c.if-not-takes_fresh.false)) c.begin_first.ensures.stands
+
+pub returns-in-Ok-clause-fresh : goal.returns-in-Ok-clause-fresh
+returns-in-Ok-clause-fresh g c = (fresh_still c.args.core.now c.begin_first.new.core c.takes_fresh.new.fresh (g.S.Shelf.meaning c.args.shelf.now) (g.S.Shelf.meaning c.begin_first.new.shelf) c.begin_first.ensures.begins.goes (fresh_taken c.args.vol c.args.core.now c.args.fresh.now c.takes_fresh.new.fresh (g.S.Shelf.meaning c.args.shelf.now) c.takes_fresh.ensures.here c.takes_fresh.ensures.others c.requires.fresh))
+
+pub returns-in-Ok-clause-refused : goal.returns-in-Ok-clause-refused
+returns-in-Ok-clause-refused g c = λ why is. absurd (let clash : None ≡ Some why = sym (sym c.refuse_det.ensures ∙ none_of c.refuse_det.result (sym c.is_some.ensures ∙ c.if-is_some.false)) ∙ is in cc)
+
+pub returns-in-Err-clause-stands : goal.returns-in-Err-clause-stands
+returns-in-Err-clause-stands g c = subst (λ s. LoggedStands c.begin_first.new.core c.begin_first.new.logs.items c.args.alike.now s (g.S.Shelf.meaning c.begin_first.new.shelf)) (sym (c.takes_fresh.ensures.going c.if-not-takes_fresh.false)) c.begin_first.ensures.stands
+
+pub returns-in-Err-clause-fresh : goal.returns-in-Err-clause-fresh
+returns-in-Err-clause-fresh g c = (fresh_still c.args.core.now c.begin_first.new.core c.takes_fresh.new.fresh (g.S.Shelf.meaning c.args.shelf.now) (g.S.Shelf.meaning c.begin_first.new.shelf) c.begin_first.ensures.begins.goes (fresh_taken c.args.vol c.args.core.now c.args.fresh.now c.takes_fresh.new.fresh (g.S.Shelf.meaning c.args.shelf.now) c.takes_fresh.ensures.here c.takes_fresh.ensures.others c.requires.fresh))
+
+pub returns-in-Err-clause-refused : goal.returns-in-Err-clause-refused
+returns-in-Err-clause-refused g c = λ why is. absurd (let clash : None ≡ Some why = sym (sym c.refuse_det.ensures ∙ none_of c.refuse_det.result (sym c.is_some.ensures ∙ c.if-is_some.false)) ∙ is in cc)
+
+pub returns-in-Ok-clause-may : goal.returns-in-Ok-clause-may
+returns-in-Ok-clause-may g c = λ may. begins_may c.args.vol c.args.plex c.args.core.now c.begin_first.new.core (g.S.Shelf.meaning c.args.shelf.now) (g.S.Shelf.meaning c.begin_first.new.shelf) c.begin_first.ensures.begins (let few = c.in-Ok.ensures.few in let room = c.if-core.false in omega (arith, few, room)) may
+
+pub returns-in-Err-clause-cause : goal.returns-in-Err-clause-cause
+returns-in-Err-clause-cause g c = subst (λ no. DetStops {T = Unit {0}} (g.S.Shelf.meaning c.args.shelf.now) (g.S.Shelf.meaning c.begin_first.new.shelf) (Err (Refused no))) (sym c.refusal.ensures) (det_cause (Unit {0}) (Unit {0}) (g.S.Shelf.meaning c.args.shelf.now) (g.S.Shelf.meaning c.args.shelf.now) (g.S.Shelf.meaning c.begin_first.new.shelf) c.args.vol (inner_meaning (wide c.args.core.now) (g.S.Shelf.meaning c.args.shelf.now)) (inner_meaning (wide c.begin_first.new.core) (g.S.Shelf.meaning c.begin_first.new.shelf)) refl refl refl (λ u. omega arith) c.in-Err.error c.in-Err.ensures.cause)

@@ -1,0 +1,85 @@
+-- `det_fresh`: its clauses.
+use Rattle.std.proofs.Common.{◌∙◌, ap, arith, refl, subst, sym}
+use Rattle.vx_disk.specs.Shelf.{Nothing}
+use Rattle.vx_disk.proofs.Runs.{then_nothing}
+use Rattle.vx_group.specs.Dets.{det_refusal}
+use Rattle.vx_group.specs.Holding.{wide}
+use Rattle.vx_group.specs.Stands.{inner_meaning}
+use Rattle.vx_group.proofs.FailingLemmas.{then_failing}
+use Rattle.vx_group.proofs.HoldLemmas.{wide_shape}
+use Rattle.vx_group.proofs.LoseLemmas.{then_parts}
+use Rattle.vx_group.proofs.TrustLemmas.{err_from, ok_from}
+use Rattle.vx_group.proofs.UnitLemmas.{then_units}
+use Rattle.vx_group.specs.declared.group_core.GroupCore.{GroupCore}
+use Rattle.vx_loggroup.proofs.DetFresh.{never_err}
+use Rattle.vx_loggroup.proofs.DetachedLogs.{begin_none, det_later, empty_later}
+use Rattle.vx_loggroup.proofs.FreshLemmas.{fresh_still}
+use Rattle.vx_loggroup.proofs.detached.det_fresh.Goals as goal
+
+pub returns-in-Err-clause-refused : goal.returns-in-Err-clause-refused
+returns-in-Err-clause-refused g c = λ why is. absurd (never_err c.begin_before.result c.in-Err.stop c.in-Err.is (c.begin_before.ensures.refused why is).0)
+
+pub returns-in-Err-clause-parts : goal.returns-in-Err-clause-parts
+returns-in-Err-clause-parts g c = c.begin_before.ensures.loses.loses.parts
+
+pub returns-in-Err-clause-disks : goal.returns-in-Err-clause-disks
+returns-in-Err-clause-disks g c = c.begin_before.ensures.loses.loses.disks
+
+pub returns-in-Err-clause-frames : goal.returns-in-Err-clause-frames
+returns-in-Err-clause-frames g c = c.begin_before.ensures.loses.loses.frames
+
+pub returns-in-Err-clause-on : goal.returns-in-Err-clause-on
+returns-in-Err-clause-on g c = λ w p is. sym (c.begin_before.ensures.still w p) ∙ is
+
+pub returns-in-Err-clause-others : goal.returns-in-Err-clause-others
+returns-in-Err-clause-others g c = λ w p apart. c.begin_before.ensures.still w p
+
+pub returns-in-Err-clause-maps : goal.returns-in-Err-clause-maps
+returns-in-Err-clause-maps g c = (c.begin_before.new.logs.items, c.begin_before.ensures.first, begin_none c.args.vol c.args.plex c.begin_before.new.logs.items)
+
+pub returns-in-Err-clause-cause : goal.returns-in-Err-clause-cause
+returns-in-Err-clause-cause g c = λ may. c.in-Err.ensures.cause
+
+pub returns-clause-fresh : goal.returns-clause-fresh
+returns-clause-fresh g c = fresh_still c.begin_before.new.core c.det_whole.new.core c.begin_before.new.fresh (g.S.Shelf.meaning c.begin_before.new.shelf) (g.S.Shelf.meaning c.det_whole.new.shelf) c.det_whole.ensures.goes c.begin_before.ensures.fresh
+
+pub returns-clause-refused : goal.returns-clause-refused
+returns-clause-refused g c = λ why is. let was = c.begin_before.ensures.refused why is in let it = c.det_whole.ensures.refused why (ap (λ (x : GroupCore). det_refusal x.inner.config c.args.vol c.args.plex) was.1 ∙ is) in (it.0, it.1 ∙ was.1, it.2 ∙ was.2)
+
+pub returns-clause-goes : goal.returns-clause-goes
+returns-clause-goes g c = then_nothing Nothing (inner_meaning (wide c.args.core.now) (g.S.Shelf.meaning c.args.shelf.now)) (inner_meaning (wide c.begin_before.new.core) (g.S.Shelf.meaning c.begin_before.new.shelf)) (inner_meaning (wide c.det_whole.new.core) (g.S.Shelf.meaning c.det_whole.new.shelf)) c.begin_before.ensures.goes c.det_whole.ensures.goes
+
+pub returns-clause-parts : goal.returns-clause-parts
+returns-clause-parts g c = then_parts c.args.core.now.inner.config c.begin_before.new.core.inner.config c.det_whole.new.core.inner.config c.begin_before.ensures.loses.loses.parts c.det_whole.ensures.parts
+
+pub returns-clause-disks : goal.returns-clause-disks
+returns-clause-disks g c = then_failing (g.S.Shelf.meaning c.args.shelf.now) (g.S.Shelf.meaning c.begin_before.new.shelf) (g.S.Shelf.meaning c.det_whole.new.shelf) c.begin_before.ensures.loses.rises c.det_whole.ensures.rises c.args.core.now.inner.config.disks c.begin_before.new.core.inner.config.disks c.det_whole.new.core.inner.config.disks c.begin_before.ensures.loses.loses.disks c.det_whole.ensures.disks
+
+pub returns-clause-frames : goal.returns-clause-frames
+returns-clause-frames g c = λ w. c.det_whole.ensures.frames w ∙ c.begin_before.ensures.loses.loses.frames w
+
+pub returns-clause-below : goal.returns-clause-below
+returns-clause-below g c = then_units (g.S.Shelf.meaning c.args.shelf.now) (g.S.Shelf.meaning c.begin_before.new.shelf) (g.S.Shelf.meaning c.det_whole.new.shelf) c.begin_before.ensures.below c.det_whole.ensures.below
+
+pub returns-clause-on : goal.returns-clause-on
+returns-clause-on g c = λ w p is. sym (c.begin_before.ensures.still w p) ∙ c.det_whole.ensures.on w p is
+
+pub returns-clause-others : goal.returns-clause-others
+returns-clause-others g c = λ w p apart. c.det_whole.ensures.others w p apart ∙ c.begin_before.ensures.still w p
+
+pub returns-clause-begins : goal.returns-clause-begins
+returns-clause-begins g c = ok_from c.det_whole.result (λ empty going none same on. empty_later c.begin_before.new.core.inner.config c.args.core.now.inner.config c.args.vol c.args.plex _
+    (λ b is. record { volume = let old = (wide_shape c.args.core.now).volumes in let new = (wide_shape c.begin_before.new.core).volumes in let units = c.begin_before.ensures.goes.units in let lt = is.volume in omega (arith, old, new, units, lt); within = let old = (wide_shape c.args.core.now).blocks c.args.vol in let new = (wide_shape c.begin_before.new.core).blocks c.args.vol in let size = c.begin_before.ensures.goes.size c.args.vol in let lt = is.within in omega (arith, old, new, size, lt) })
+    (empty going none same (c.begin_before.ensures.still c.args.vol c.args.plex ∙ on))) c.det_whole.ensures.begins
+
+pub returns-clause-maps : goal.returns-clause-maps
+returns-clause-maps g c = (c.begin_before.new.logs.items, c.begin_before.ensures.first, c.det_whole.ensures.maps)
+
+pub returns-clause-trust : goal.returns-clause-trust
+returns-clause-trust g c = ok_from c.det_whole.result (λ keeps is. keeps (c.in-Ok.ensures.trust is)) c.det_whole.ensures.trust
+
+pub returns-clause-agreed : goal.returns-clause-agreed
+returns-clause-agreed g c = err_from c.det_whole.result (λ keeps is. keeps (c.in-Ok.ensures.trust is)) c.det_whole.ensures.agreed
+
+pub returns-clause-cause : goal.returns-clause-cause
+returns-clause-cause g c = λ may. det_later (g.S.Shelf.meaning c.args.shelf.now) (g.S.Shelf.meaning c.begin_before.new.shelf) (g.S.Shelf.meaning c.det_whole.new.shelf) c.begin_before.ensures.goes.disk_faults c.det_whole.result (c.det_whole.ensures.cause (c.in-Ok.ensures.may may))

@@ -1,0 +1,100 @@
+-- `write_fresh`: its clauses; what the calls ask.
+use Rattle.std.proofs.Common.{◌/◌, ◌∙◌, ℕ, List, inl, true, false, length, refl, subst, sym, arith, ◌≡◌}
+use Rattle.vx_disk.specs.Shelf.{Written}
+use Rattle.vx_disk.proofs.Causing.{Cause_both}
+use Rattle.vx_disk.proofs.Runs.{none_written, nothing_then}
+use Rattle.vx_group.specs.Holding.{wide}
+use Rattle.vx_group.specs.Stands.{inner_meaning}
+use Rattle.vx_group.proofs.CallLemmas.{nothing_Wrote}
+use Rattle.vx_group.proofs.HoldLemmas.{wide_shape}
+use Rattle.vx_group.proofs.LoseLemmas.{then_along}
+use Rattle.vx_group.proofs.TrustLemmas.{err_from, ok_from}
+use Rattle.vx_logs.specs.Writes.{first_region, last_region}
+use Rattle.vx_logged.specs.Behind.{those_missing}
+use Rattle.vx_logged.proofs.RefuseLemmas.{marks_sooner}
+use Rattle.vx_logged.proofs.StandLemmas.{fits_later}
+use Rattle.vx_loggroup.specs.LoggedVolumes.{LoggedStands}
+use Rattle.vx_loggroup.proofs.FreshLemmas.{begins_stale, fresh_goes, fresh_still, fresh_taken, lists_marks, lists_notes, lists_only, lists_same}
+use Rattle.vx_loggroup.proofs.fresh.write_fresh.Goals as goal
+
+pub takes_fresh-requires : goal.takes_fresh-requires
+takes_fresh-requires g c = record { inside = let few = c.requires.stands.group.stands.few in let there = c.requires.fits.exists in omega (arith, few, there) }
+
+pub begin_first-requires-clause-stands : goal.begin_first-requires-clause-stands
+begin_first-requires-clause-stands g c = (subst (λ s. LoggedStands c.args.core.now c.args.logs.now.items c.args.alike.now s (g.S.Shelf.meaning c.args.shelf.now)) (c.takes_fresh.ensures.going c.if-not-takes_fresh.false) c.requires.stands)
+
+pub begin_first-requires-clause-there : goal.begin_first-requires-clause-there
+begin_first-requires-clause-there g c = c.requires.fits.exists
+
+pub begin_first-requires-clause-same : goal.begin_first-requires-clause-same
+begin_first-requires-clause-same g c = c.requires.fresh.each c.args.vol (c.takes_fresh.ensures.was c.if-not-takes_fresh.false)
+
+pub write_whole-requires-2-clause-stands : goal.write_whole-requires-2-clause-stands
+write_whole-requires-2-clause-stands g c = subst (λ s. LoggedStands c.begin_first.new.core c.begin_first.new.logs.items c.args.alike.now s (g.S.Shelf.meaning c.begin_first.new.shelf)) (sym (c.takes_fresh.ensures.going c.if-not-takes_fresh.false)) c.begin_first.ensures.stands
+
+pub write_whole-requires-2-clause-fits : goal.write_whole-requires-2-clause-fits
+write_whole-requires-2-clause-fits g c = (fits_later c.args.core.now c.begin_first.new.core c.args.vol c.args.block (length c.args.bytes.now) (g.S.Shelf.meaning c.args.shelf.now) (g.S.Shelf.meaning c.begin_first.new.shelf) c.begin_first.ensures.begins.goes c.requires.fits)
+
+pub returns-then-not-takes_fresh-clause-fresh : goal.returns-then-not-takes_fresh-clause-fresh
+returns-then-not-takes_fresh-clause-fresh g c = fresh_goes (Written c.args.vol c.args.block c.args.bytes.now) c.args.vol c.args.core.now c.write_whole.new.core c.args.fresh.now c.takes_fresh.new.fresh (g.S.Shelf.meaning c.args.shelf.now) (g.S.Shelf.meaning c.write_whole.new.shelf) c.write_whole.ensures.goes (λ w b x apart put. apart put.covers.there) c.takes_fresh.ensures.here c.takes_fresh.ensures.others c.requires.fresh
+
+pub returns-then-not-takes_fresh-clause-full : goal.returns-then-not-takes_fresh-clause-full
+returns-then-not-takes_fresh-clause-full g c = λ off on. let full = c.write_whole.ensures.full off on in omega (arith, full)
+
+pub returns-in-Err-clause-stands : goal.returns-in-Err-clause-stands
+returns-in-Err-clause-stands g c = subst (λ s. LoggedStands c.begin_first.new.core c.begin_first.new.logs.items c.args.alike.now s (g.S.Shelf.meaning c.begin_first.new.shelf)) (sym (c.takes_fresh.ensures.going c.if-not-takes_fresh.false)) c.begin_first.ensures.stands
+
+pub returns-in-Err-clause-fresh : goal.returns-in-Err-clause-fresh
+returns-in-Err-clause-fresh g c = (fresh_still c.args.core.now c.begin_first.new.core c.takes_fresh.new.fresh (g.S.Shelf.meaning c.args.shelf.now) (g.S.Shelf.meaning c.begin_first.new.shelf) c.begin_first.ensures.begins.goes (fresh_taken c.args.vol c.args.core.now c.args.fresh.now c.takes_fresh.new.fresh (g.S.Shelf.meaning c.args.shelf.now) c.takes_fresh.ensures.here c.takes_fresh.ensures.others c.requires.fresh))
+
+pub returns-in-Err-clause-goes : goal.returns-in-Err-clause-goes
+returns-in-Err-clause-goes g c = none_written (Written c.args.vol c.args.block c.args.bytes.now) (inner_meaning (wide c.args.core.now) (g.S.Shelf.meaning c.args.shelf.now)) (inner_meaning (wide c.begin_first.new.core) (g.S.Shelf.meaning c.begin_first.new.shelf)) c.begin_first.ensures.begins.goes
+
+pub returns-in-Err-clause-loses : goal.returns-in-Err-clause-loses
+returns-in-Err-clause-loses g c = c.begin_first.ensures.begins.loses
+
+pub returns-in-Err-clause-marks : goal.returns-in-Err-clause-marks
+returns-in-Err-clause-marks g c = lists_only (wide c.args.core.now).config c.args.vol (first_region c.args.block) (last_region c.args.block (length c.args.bytes.now / 512)) c.args.logs.now.items c.begin_first.new.logs.items c.begin_first.ensures.first
+
+pub returns-in-Err-clause-notes : goal.returns-in-Err-clause-notes
+returns-in-Err-clause-notes g c = lists_same _ c.args.vol _ (first_region c.args.block) (last_region c.args.block (length c.args.bytes.now / 512)) c.args.logs.now.items c.begin_first.new.logs.items c.begin_first.ensures.first
+
+pub returns-in-Err-clause-marked : goal.returns-in-Err-clause-marked
+returns-in-Err-clause-marked g c = λ off. inl c.begin_first.ensures.begins.goes
+
+pub returns-in-Err-clause-full : goal.returns-in-Err-clause-full
+returns-in-Err-clause-full g c = λ off on. absurd (let clash : true ≡ false = sym on ∙ off in cc)
+
+pub returns-clause-fresh : goal.returns-clause-fresh
+returns-clause-fresh g c = fresh_goes (Written c.args.vol c.args.block c.args.bytes.now) c.args.vol c.begin_first.new.core c.write_whole-2.new.core c.takes_fresh.new.fresh c.takes_fresh.new.fresh (g.S.Shelf.meaning c.begin_first.new.shelf) (g.S.Shelf.meaning c.write_whole-2.new.shelf) c.write_whole-2.ensures.goes (λ w b x apart put. apart put.covers.there) c.takes_fresh.ensures.here (λ w apart. refl) (fresh_still c.args.core.now c.begin_first.new.core c.takes_fresh.new.fresh (g.S.Shelf.meaning c.args.shelf.now) (g.S.Shelf.meaning c.begin_first.new.shelf) c.begin_first.ensures.begins.goes (fresh_taken c.args.vol c.args.core.now c.args.fresh.now c.takes_fresh.new.fresh (g.S.Shelf.meaning c.args.shelf.now) c.takes_fresh.ensures.here c.takes_fresh.ensures.others c.requires.fresh))
+
+pub returns-clause-goes : goal.returns-clause-goes
+returns-clause-goes g c = nothing_then (Written c.args.vol c.args.block c.args.bytes.now) (inner_meaning (wide c.args.core.now) (g.S.Shelf.meaning c.args.shelf.now)) (inner_meaning (wide c.begin_first.new.core) (g.S.Shelf.meaning c.begin_first.new.shelf)) (inner_meaning (wide c.write_whole-2.new.core) (g.S.Shelf.meaning c.write_whole-2.new.shelf)) c.begin_first.ensures.begins.goes c.write_whole-2.ensures.goes
+
+pub returns-clause-ok : goal.returns-clause-ok
+returns-clause-ok g c = ok_from c.write_whole-2.result (λ wrote. nothing_Wrote c.args.vol c.args.block c.args.bytes.now (inner_meaning (wide c.args.core.now) (g.S.Shelf.meaning c.args.shelf.now)) (inner_meaning (wide c.begin_first.new.core) (g.S.Shelf.meaning c.begin_first.new.shelf)) (inner_meaning (wide c.write_whole-2.new.core) (g.S.Shelf.meaning c.write_whole-2.new.shelf)) c.begin_first.ensures.begins.goes c.in-Ok.ensures.cause.after wrote) c.write_whole-2.ensures.ok
+
+pub returns-clause-loses : goal.returns-clause-loses
+returns-clause-loses g c = then_along c.args.core.now.inner.config c.begin_first.new.core.inner.config c.write_whole-2.new.core.inner.config (g.S.Shelf.meaning c.args.shelf.now) (g.S.Shelf.meaning c.begin_first.new.shelf) (g.S.Shelf.meaning c.write_whole-2.new.shelf) c.begin_first.ensures.begins.loses c.write_whole-2.ensures.loses
+
+pub returns-clause-marks : goal.returns-clause-marks
+returns-clause-marks g c = lists_marks (wide c.args.core.now).config (wide c.begin_first.new.core).config c.args.vol (first_region c.args.block) (last_region c.args.block (length c.args.bytes.now / 512)) c.args.logs.now.items c.begin_first.new.logs.items c.write_whole-2.new.logs.items (c.begin_first.ensures.begins.goes.size c.args.vol) c.begin_first.ensures.first c.write_whole-2.ensures.marks
+
+pub returns-clause-notes : goal.returns-clause-notes
+returns-clause-notes g c = lists_notes (those_missing c.write_whole-2.new.core c.args.vol c.write_whole-2.result) c.args.vol _ (first_region c.args.block) (last_region c.args.block (length c.args.bytes.now / 512)) c.args.logs.now.items c.begin_first.new.logs.items c.write_whole-2.new.logs.items c.begin_first.ensures.first c.write_whole-2.ensures.notes
+
+pub returns-clause-marked : goal.returns-clause-marked
+returns-clause-marked g c = λ off. marks_sooner (λ s. g.S.Shelf.meaning s) c.args.vol c.args.block c.args.bytes.now (first_region c.args.block) (last_region c.args.block (length c.args.bytes.now / 512)) c.args.core.now c.begin_first.new.core c.write_whole-2.new.core (g.S.Shelf.meaning c.args.shelf.now) (g.S.Shelf.meaning c.begin_first.new.shelf) (g.S.Shelf.meaning c.write_whole-2.new.shelf) c.begin_first.ensures.begins.goes
+    (begins_stale c.args.core.now c.begin_first.new.core c.args.vol (g.S.Shelf.meaning c.args.shelf.now) (g.S.Shelf.meaning c.begin_first.new.shelf) c.begin_first.ensures.stands.group c.begin_first.ensures.begins (record { volume = c.requires.fits.exists; within = let some = c.requires.fits.some in let whole = c.requires.fits.whole in let within = c.requires.fits.within in omega (arith, some, whole, within) })) (c.write_whole-2.ensures.marked off)
+
+pub returns-clause-full : goal.returns-clause-full
+returns-clause-full g c = λ off on. let full = c.write_whole-2.ensures.full off on in let few = c.in-Ok.ensures.few in omega (arith, full, few)
+
+pub returns-clause-trust : goal.returns-clause-trust
+returns-clause-trust g c = ok_from c.write_whole-2.result (λ keeps is. keeps (c.in-Ok.ensures.trust is)) c.write_whole-2.ensures.trust
+
+pub returns-clause-agreed : goal.returns-clause-agreed
+returns-clause-agreed g c = err_from c.write_whole-2.result (λ keeps is. keeps (c.in-Ok.ensures.trust is)) c.write_whole-2.ensures.agreed
+
+pub returns-clause-cause : goal.returns-clause-cause
+returns-clause-cause g c = Cause_both (inner_meaning (wide c.args.core.now) (g.S.Shelf.meaning c.args.shelf.now)) (inner_meaning (wide c.begin_first.new.core) (g.S.Shelf.meaning c.begin_first.new.shelf)) (inner_meaning (wide c.write_whole-2.new.core) (g.S.Shelf.meaning c.write_whole-2.new.shelf)) c.args.vol c.write_whole-2.result c.in-Ok.ensures.cause c.begin_first.ensures.begins.goes.faults c.begin_first.ensures.begins.goes.disk_faults c.write_whole-2.ensures.cause

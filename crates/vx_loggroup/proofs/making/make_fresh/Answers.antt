@@ -1,0 +1,101 @@
+-- `make_fresh`: its clauses; what the calls ask.
+use Rattle.std.proofs.Common.{◌≡◌, ◌∙◌, ◌-◌, inl, inr, ℕ, None, true, List, [], ◌∷◌, length, refl, ap, sym, subst, arith, vec_len}
+use Rattle.std.specs.Prelude.{Some, take}
+use Rattle.vx_config.specs.declared.entry.VolumeLog.TheVariants.{Drl}
+use Rattle.vx_group.specs.Makes.{AreZero}
+use Rattle.vx_group.proofs.BehindLemmas.{no_stays}
+use Rattle.vx_group.proofs.FailingLemmas.{no_failing}
+use Rattle.vx_group.proofs.HoldLemmas.{wide_shape}
+use Rattle.vx_group.proofs.LoseLemmas.{none_parts}
+use Rattle.vx_group.proofs.UnitLemmas.{beside_units, same_units}
+use Rattle.vx_logs.specs.declared.logs.Logs.{Logs}
+use Rattle.vx_model.specs.declared.errors.Stop.TheVariants.{No as Refused}
+use Rattle.vx_loggroup.specs.LoggedVolumes.{LoggedStands, is_alike}
+use Rattle.vx_loggroup.proofs.FreshLemmas.{fresh_still}
+use Rattle.vx_loggroup.proofs.MadeLogs.{fresh_made, long_one, none_goes, none_made, one_made, refused_volumes, take_front, unmoved_by}
+use Rattle.vx_loggroup.proofs.making.make_fresh.Goals as goal
+
+pub make_in-requires-clause-stands : goal.make_in-requires-clause-stands
+make_in-requires-clause-stands g c = c.requires.stands.group
+
+pub returns-in-Some-clause-agreed : goal.returns-in-Some-clause-agreed
+returns-in-Some-clause-agreed g c = c.requires.stands.group.stands.trusts.both
+
+pub returns-in-Some-clause-unmoved : goal.returns-in-Some-clause-unmoved
+returns-in-Some-clause-unmoved g c = unmoved_by ℕ (Refused c.in-Some.no) _ (refl, refl)
+
+pub returns-in-Some-clause-stays : goal.returns-in-Some-clause-stays
+returns-in-Some-clause-stays g c = no_stays c.args.core.now (g.S.Shelf.meaning c.args.shelf.now)
+
+pub returns-in-Some-clause-below : goal.returns-in-Some-clause-below
+returns-in-Some-clause-below g c = same_units (g.S.Shelf.meaning c.args.shelf.now)
+
+pub returns-in-Some-clause-parts : goal.returns-in-Some-clause-parts
+returns-in-Some-clause-parts g c = none_parts c.args.core.now.inner.config
+
+pub returns-in-Some-clause-disks : goal.returns-in-Some-clause-disks
+returns-in-Some-clause-disks g c = no_failing (g.S.Shelf.meaning c.args.shelf.now) (g.S.Shelf.meaning c.args.shelf.now) c.args.core.now.inner.config.disks c.args.core.now.inner.config.disks refl
+
+pub returns-in-Err-clause-stands : goal.returns-in-Err-clause-stands
+returns-in-Err-clause-stands g c = subst (λ (ls : List Logs). LoggedStands c.args.core.now ls c.args.alike.now c.args.stopped (g.S.Shelf.meaning c.args.shelf.now)) (sym c.in-Err.ensures.items) c.requires.stands
+
+pub returns-in-Err-clause-refused : goal.returns-in-Err-clause-refused
+returns-in-Err-clause-refused g c = λ why is. absurd (let clash : None ≡ Some why = sym (sym c.refuse_volume.ensures ∙ c.in_default.is) ∙ is in cc)
+
+pub returns-in-Err-clause-agreed : goal.returns-in-Err-clause-agreed
+returns-in-Err-clause-agreed g c = c.requires.stands.group.stands.trusts.both
+
+pub returns-in-Err-clause-stays : goal.returns-in-Err-clause-stays
+returns-in-Err-clause-stays g c = no_stays c.args.core.now (g.S.Shelf.meaning c.args.shelf.now)
+
+pub returns-in-Err-clause-below : goal.returns-in-Err-clause-below
+returns-in-Err-clause-below g c = same_units (g.S.Shelf.meaning c.args.shelf.now)
+
+pub returns-in-Err-clause-parts : goal.returns-in-Err-clause-parts
+returns-in-Err-clause-parts g c = none_parts c.args.core.now.inner.config
+
+pub returns-in-Err-clause-disks : goal.returns-in-Err-clause-disks
+returns-in-Err-clause-disks g c = no_failing (g.S.Shelf.meaning c.args.shelf.now) (g.S.Shelf.meaning c.args.shelf.now) c.args.core.now.inner.config.disks c.args.core.now.inner.config.disks refl
+
+pub set_alike-requires : goal.set_alike-requires
+set_alike-requires g c = record {
+  inside =
+      let few = c.make_in.ensures.stands.stands.few in
+      let same = (wide_shape c.make_in.new.core).volumes in
+      let long = ap length (c.in-Ok-make_in.ensures.ends (sym c.refuse_volume.ensures ∙ c.in_default.is)).volumes ∙ long_one c.args.core.now.inner.config.volumes (c.in-Ok-make_in.ensures.ends (sym c.refuse_volume.ensures ∙ c.in_default.is)).volume in
+      let number = (c.in-Ok-make_in.ensures.ends (sym c.refuse_volume.ensures ∙ c.in_default.is)).number in
+      omega (arith, few, same, long, number);
+}
+
+pub set_alike-requires-in-Ok-make_in : goal.set_alike-requires-in-Ok-make_in
+set_alike-requires-in-Ok-make_in g c = record {
+  inside =
+      let few = c.make_in.ensures.stands.stands.few in
+      let same = (wide_shape c.make_in.new.core).volumes in
+      let long = ap length (c.in-Ok-make_in.ensures.ends (sym c.refuse_volume.ensures ∙ c.in_default.is)).volumes ∙ long_one c.args.core.now.inner.config.volumes (c.in-Ok-make_in.ensures.ends (sym c.refuse_volume.ensures ∙ c.in_default.is)).volume in
+      let number = (c.in-Ok-make_in.ensures.ends (sym c.refuse_volume.ensures ∙ c.in_default.is)).number in
+      omega (arith, few, same, long, number);
+}
+
+pub returns-in-Ok-make_in-clause-stands : goal.returns-in-Ok-make_in-clause-stands
+returns-in-Ok-make_in-clause-stands g c = subst (λ (ls : List Logs). LoggedStands c.make_in.new.core ls c.set_alike.new.alike c.args.stopped (g.S.Shelf.meaning c.make_in.new.shelf)) (sym c.in-Ok.ensures.items)
+    (one_made c.args.core.now c.make_in.new.core c.args.logs.now.items c.args.alike.now c.set_alike.new.alike c.args.stopped (g.S.Shelf.meaning c.args.shelf.now) (g.S.Shelf.meaning c.make_in.new.shelf) (c.in-Ok-make_in.ensures.ends (sym c.refuse_volume.ensures ∙ c.in_default.is)).volume c.requires.stands c.make_in.ensures.stands c.make_in.ensures.stays c.make_in.ensures.beside c.in-Ok-make_in.ensures.held (c.in-Ok-make_in.ensures.ends (sym c.refuse_volume.ensures ∙ c.in_default.is)).volumes ((c.in-Ok-make_in.ensures.ends (sym c.refuse_volume.ensures ∙ c.in_default.is)).is_volume.lost Drl)
+    (subst (λ (n : ℕ). AreZero c.make_in.new.core.inner.config n (g.S.Shelf.meaning c.make_in.new.shelf)) (c.in-Ok-make_in.ensures.ends (sym c.refuse_volume.ensures ∙ c.in_default.is)).number (c.in-Ok-make_in.ensures.ends (sym c.refuse_volume.ensures ∙ c.in_default.is)).begins) (g.met.S.Shelf.lawful c.make_in.new.shelf) (subst (λ (n : ℕ). is_alike c.set_alike.new.alike n ≡ true) (c.in-Ok-make_in.ensures.ends (sym c.refuse_volume.ensures ∙ c.in_default.is)).number c.set_alike.ensures.here) (λ w apart. c.set_alike.ensures.others w (λ same. apart (same ∙ (c.in-Ok-make_in.ensures.ends (sym c.refuse_volume.ensures ∙ c.in_default.is)).number))))
+
+pub returns-in-Ok-make_in-clause-fresh : goal.returns-in-Ok-make_in-clause-fresh
+returns-in-Ok-make_in-clause-fresh g c =
+    fresh_made c.args.core.now c.make_in.new.core c.args.fresh.now c.set_alike-in-Ok-make_in.new.alike (g.S.Shelf.meaning c.args.shelf.now) (g.S.Shelf.meaning c.make_in.new.shelf) (c.in-Ok-make_in.ensures.ends (sym c.refuse_volume.ensures ∙ c.in_default.is)).volume c.requires.stands.group c.make_in.ensures.stays c.in-Ok-make_in.ensures.held (c.in-Ok-make_in.ensures.ends (sym c.refuse_volume.ensures ∙ c.in_default.is)).volumes (subst (λ (n : ℕ). AreZero c.make_in.new.core.inner.config n (g.S.Shelf.meaning c.make_in.new.shelf)) (c.in-Ok-make_in.ensures.ends (sym c.refuse_volume.ensures ∙ c.in_default.is)).number (c.in-Ok-make_in.ensures.ends (sym c.refuse_volume.ensures ∙ c.in_default.is)).begins) (λ w apart. c.set_alike-in-Ok-make_in.ensures.others w (λ same. apart (same ∙ (c.in-Ok-make_in.ensures.ends (sym c.refuse_volume.ensures ∙ c.in_default.is)).number))) c.requires.fresh
+
+pub returns-in-Ok-make_in-clause-below : goal.returns-in-Ok-make_in-clause-below
+returns-in-Ok-make_in-clause-below g c = beside_units c.args.core.now.inner.config (g.S.Shelf.meaning c.args.shelf.now) (g.S.Shelf.meaning c.make_in.new.shelf) c.make_in.ensures.beside
+
+pub returns-in-Err-make_in-clause-below : goal.returns-in-Err-make_in-clause-below
+returns-in-Err-make_in-clause-below g c = beside_units c.args.core.now.inner.config (g.S.Shelf.meaning c.args.shelf.now) (g.S.Shelf.meaning c.make_in.new.shelf) c.make_in.ensures.beside
+
+pub returns-in-Err-make_in-clause-stands : goal.returns-in-Err-make_in-clause-stands
+returns-in-Err-make_in-clause-stands g c =
+    subst (λ (ls : List Logs). LoggedStands c.make_in.new.core ls c.args.alike.now c.args.stopped (g.S.Shelf.meaning c.make_in.new.shelf)) (sym (c.pop.ensures.rest ∙ ap (take (vec_len c.push.new.self - 1)) c.in-Ok.ensures.items ∙ take_front c.args.logs.now.items ((record { drl = None; fmr = None }) ∷ []) (vec_len c.push.new.self - 1) (let long = ap length c.in-Ok.ensures.items ∙ long_one c.args.logs.now.items (record { drl = None; fmr = None }) in omega (arith, c.push.new.self.ok, long))))
+    (none_made c.args.core.now c.make_in.new.core c.args.logs.now.items c.args.alike.now c.args.stopped (g.S.Shelf.meaning c.args.shelf.now) (g.S.Shelf.meaning c.make_in.new.shelf) c.requires.stands c.make_in.ensures.stands c.make_in.ensures.stays c.make_in.ensures.beside (refused_volumes c.args.name.now c.args.want.now c.args.core.now c.make_in.new.core (g.S.Shelf.meaning c.args.shelf.now) (g.S.Shelf.meaning c.make_in.new.shelf) c.in-Err-make_in.stop (λ why is. (c.make_in.ensures.refused why is).1) c.in-Err-make_in.ensures.ends))
+
+pub returns-in-Err-make_in-clause-fresh : goal.returns-in-Err-make_in-clause-fresh
+returns-in-Err-make_in-clause-fresh g c = fresh_still c.args.core.now c.make_in.new.core c.args.fresh.now (g.S.Shelf.meaning c.args.shelf.now) (g.S.Shelf.meaning c.make_in.new.shelf) (none_goes c.args.core.now c.make_in.new.core (g.S.Shelf.meaning c.args.shelf.now) (g.S.Shelf.meaning c.make_in.new.shelf) c.make_in.ensures.stays (refused_volumes c.args.name.now c.args.want.now c.args.core.now c.make_in.new.core (g.S.Shelf.meaning c.args.shelf.now) (g.S.Shelf.meaning c.make_in.new.shelf) c.in-Err-make_in.stop (λ why is. (c.make_in.ensures.refused why is).1) c.in-Err-make_in.ensures.ends)) c.requires.fresh

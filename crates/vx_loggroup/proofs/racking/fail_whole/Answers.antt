@@ -1,0 +1,10 @@
+-- `fail_whole`: clauses stands and fresh.
+use Rattle.vx_group.specs.Holding.{wide}
+use Rattle.vx_loggroup.proofs.RackLemmas.{alike_fresh, alike_logged}
+use Rattle.vx_loggroup.proofs.racking.fail_whole.Goals as goal
+
+pub returns-clause-stands : goal.returns-clause-stands
+returns-clause-stands g c = alike_logged c.args.core.now c.args.logs.now.items c.args.alike.now c.args.stopped (g.R.Shelf.meaning c.args.rack.now) (g.R.Shelf.meaning c.fail_in.new.rack) c.fail_in.ensures.alike c.fail_in.ensures.down c.fail_in.ensures.stands c.requires.stands
+
+pub returns-clause-fresh : goal.returns-clause-fresh
+returns-clause-fresh g c = alike_fresh c.args.core.now c.args.fresh.now (g.R.Shelf.meaning c.args.rack.now) (g.R.Shelf.meaning c.fail_in.new.rack) c.fail_in.ensures.alike c.requires.fresh

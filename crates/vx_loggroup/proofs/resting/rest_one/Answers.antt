@@ -1,0 +1,17 @@
+-- `rest_one`: its clauses.
+use Rattle.std.proofs.Common.{◌≡◌, ◌∙◌, Option, None, Some, Bool, true, false, sym, ap}
+use Rattle.std.specs.Prelude.{is_some}
+use Rattle.vx_loggroup.proofs.TouchLemmas.{has_rests, marked_unsure, none_rests, same_unsure}
+use Rattle.vx_loggroup.proofs.resting.rest_one.Goals as goal
+
+pub returns-then-is_none-clause-unsure : goal.returns-then-is_none-clause-unsure
+returns-then-is_none-clause-unsure c = same_unsure c.args.unsure.now c.args.failed.now
+
+pub returns-then-not-touches-clause-unsure : goal.returns-then-not-touches-clause-unsure
+returns-then-not-touches-clause-unsure c = same_unsure c.args.unsure.now c.args.failed.now
+
+pub returns-clause-unsure : goal.returns-clause-unsure
+returns-clause-unsure c = marked_unsure c.args.vol c.args.unsure.now c.mark.new.unsure c.args.failed.now c.mark.ensures (λ off. let clash : true ≡ false = sym c.if-not-touches.false ∙ c.touches.ensures.some off in cc)
+
+pub returns-clause-others : goal.returns-clause-others
+returns-clause-others c = c.mark.ensures.others

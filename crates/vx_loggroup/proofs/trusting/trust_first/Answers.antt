@@ -1,0 +1,52 @@
+-- `trust_first`: its clauses.
+use Rattle.std.proofs.Common.{ℕ, Bool, List, ap, refl, subst, arith}
+use Rattle.vx_disk.specs.Shelf.{Nothing}
+use Rattle.vx_disk.proofs.Runs.{then_nothing}
+use Rattle.vx_group.specs.Blames.{CountsRise}
+use Rattle.vx_group.specs.Holding.{wide}
+use Rattle.vx_group.specs.Stands.{inner_meaning, volume_faults}
+use Rattle.vx_group.proofs.CallLemmas.{cause_by, counts_less, not_down}
+use Rattle.vx_group.proofs.LoseLemmas.{along_none}
+use Rattle.vx_group.proofs.LostLemmas.{error_to}
+use Rattle.vx_group.proofs.MendLemmas.{same_Goes}
+use Rattle.vx_group.proofs.TrustingLemmas.{still_PlexActs}
+use Rattle.vx_loggroup.proofs.FreshLemmas.{counted_Goes}
+use Rattle.vx_loggroup.proofs.trusting.trust_first.Goals as goal
+
+pub give_up-requires : goal.give_up-requires
+give_up-requires g c = record { inside = let few = c.requires.stands.stands.few in let there = c.requires.there in omega (arith, few, there) }
+
+pub returns-then-is_down-clause-goes : goal.returns-then-is_down-clause-goes
+returns-then-is_down-clause-goes g c = same_Goes (inner_meaning (wide c.args.core.now) (g.S.Shelf.meaning c.args.shelf.now))
+
+pub returns-then-is_down-clause-acts : goal.returns-then-is_down-clause-acts
+returns-then-is_down-clause-acts g c = still_PlexActs c.args.vol c.args.log (wide c.args.core.now).config (g.S.Shelf.meaning c.args.shelf.now)
+
+pub returns-then-is_down-clause-loses : goal.returns-then-is_down-clause-loses
+returns-then-is_down-clause-loses g c = along_none c.args.core.now.inner.config (g.S.Shelf.meaning c.args.shelf.now)
+
+pub returns-then-is_down-clause-still : goal.returns-then-is_down-clause-still
+returns-then-is_down-clause-still g c = λ w p. refl
+
+pub returns-then-is_down-clause-agreed : goal.returns-then-is_down-clause-agreed
+returns-then-is_down-clause-agreed g c = λ is. c.requires.stands.stands.trusts.both is
+
+pub returns-in-Ok-clause-loses : goal.returns-in-Ok-clause-loses
+returns-in-Ok-clause-loses g c = record { loses = c.trust_group.ensures.loses; rises = c.trust_group.ensures.acts.acts.faults }
+
+pub returns-in-Err-clause-loses : goal.returns-in-Err-clause-loses
+returns-in-Err-clause-loses g c = record { loses = c.trust_group.ensures.loses; rises = c.trust_group.ensures.acts.acts.faults }
+
+pub returns-in-Ok-clause-cause : goal.returns-in-Ok-clause-cause
+returns-in-Ok-clause-cause g c = record { before = not_down c.is_down.result (g.S.Shelf.meaning c.args.shelf.now).down c.is_down.ensures c.if-is_down.false; after = c.in-Ok.ensures.cause }
+
+pub returns-in-Err-clause-goes : goal.returns-in-Err-clause-goes
+returns-in-Err-clause-goes g c =
+    then_nothing Nothing (inner_meaning (wide c.args.core.now) (g.S.Shelf.meaning c.args.shelf.now)) (inner_meaning (wide c.trust_group.new.core) (g.S.Shelf.meaning c.trust_group.new.shelf)) (inner_meaning (wide (record { inner = record { config = c.trust_group.new.core.inner.config; good = c.trust_group.new.core.inner.good; room = c.trust_group.new.core.inner.room; unsettled = c.trust_group.new.core.inner.unsettled; committed = c.trust_group.new.core.inner.committed; agreed = c.trust_group.new.core.inner.agreed; next = c.trust_group.new.core.inner.next; faults = c.give_up.new.faults; unsure = c.give_up.new.unsure }; held = c.trust_group.new.core.held })) (g.S.Shelf.meaning c.trust_group.new.shelf)) c.trust_group.ensures.goes
+    (counted_Goes (wide c.trust_group.new.core).config (volume_faults c.trust_group.new.core.inner.faults) (volume_faults c.give_up.new.faults) (g.S.Shelf.meaning c.trust_group.new.shelf) (counts_less c.in-Err.error c.args.vol (volume_faults c.trust_group.new.core.inner.faults) (volume_faults c.give_up.new.faults) c.give_up.ensures.counts))
+
+pub returns-in-Err-clause-cause : goal.returns-in-Err-clause-cause
+returns-in-Err-clause-cause g c =
+    cause_by (Unit {0}) c.in-Err.error (wide c.args.core.now).config (wide c.trust_group.new.core).config c.args.vol (volume_faults c.args.core.now.inner.faults) (volume_faults c.give_up.new.faults) (g.S.Shelf.meaning c.args.shelf.now) (g.S.Shelf.meaning c.trust_group.new.shelf)
+    (not_down c.is_down.result (g.S.Shelf.meaning c.args.shelf.now).down c.is_down.ensures c.if-is_down.false) (error_to Bool (Unit {0}) c.in-Err.error (g.S.Shelf.meaning c.args.shelf.now) (g.S.Shelf.meaning c.trust_group.new.shelf) c.in-Err.ensures.cause)
+    (subst (λ (f : List ℕ). CountsRise c.in-Err.error c.args.vol (volume_faults f) (volume_faults c.give_up.new.faults)) c.trust_group.ensures.faults c.give_up.ensures.counts)

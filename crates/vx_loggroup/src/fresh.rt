@@ -1,0 +1,77 @@
+// A write of a volume whose logs may not have begun.
+ghost use Rattle.std.specs.Prelude.{◌≡◌, ◌+◌, ◌/◌, ◌<◌, ◌≤◌, ℕ, false, length, true, IfErr, OnOk};
+ghost use Rattle.vx_config.specs.Table.{greatest};
+ghost use Rattle.vx_disk.specs.Causes.{Cause};
+ghost use Rattle.vx_disk.specs.Shelf.{Fits, Goes, Written, Wrote};
+ghost use Rattle.vx_group.specs.Holding.{wide};
+ghost use Rattle.vx_group.specs.Loses.{LosesAlong};
+ghost use Rattle.vx_group.specs.Stands.{inner_meaning};
+ghost use Rattle.vx_logged.specs.Behind.{MarkedBefore, those_missing};
+ghost use Rattle.vx_loggroup.specs.Fresh.{FreshStands};
+ghost use Rattle.vx_loggroup.specs.LoggedVolumes.{LoggedStands, is_alike as is_alike_is};
+ghost use Rattle.vx_loggroup.specs.Marks.{MarksVolume, NotesMaps};
+ghost use Rattle.vx_logs.specs.Writes.{first_region, last_region};
+ghost use Rattle.vx_model.specs.declared.limits.TheConstants.{MOST_VOLUMES};
+
+use crate::alike::{is_alike, set_alike};
+use crate::first::begin_first;
+use crate::whole::write_whole;
+use vx_disk::{Shelf, ShelfError};
+use vx_group::GroupCore;
+use vx_logs::Logs;
+use vx_model::limits::MOST_VOLUMES;
+
+/// Whether the logs of a volume may begin. From then on they may not.
+pub fn takes_fresh(fresh: &mut [bool; MOST_VOLUMES], stopped: bool, vol: u32) -> bool
+    requires inside { vol < MOST_VOLUMES }
+    ensures was { result ≡ true → is_alike_is fresh.old vol ≡ true }
+    ensures going { result ≡ true → stopped ≡ false }
+    ensures here { is_alike_is fresh.new vol ≡ false }
+    ensures others { (w : ℕ) → (w ≡ vol → ⊥) → is_alike_is fresh.new w ≡ is_alike_is fresh.old w }
+{
+    let was = is_alike(fresh, vol);
+    set_alike(fresh, vol, false);
+    if stopped {
+        return false;
+    }
+    was
+}
+
+/// Writes a run of blocks of a volume, of which the logs begin first where it is fresh: they have no region then. A refused commit in that is the
+/// answer, and then no plex was written. Else it is the write of a volume whose logs have begun.
+pub fn write_fresh<S: Shelf>(
+    shelf: &mut S,
+    core: &mut GroupCore,
+    logs: &mut Vec<Logs>,
+    alike: &mut [bool; MOST_VOLUMES],
+    fresh: &mut [bool; MOST_VOLUMES],
+    stopped: &mut bool,
+    vol: u32,
+    block: u64,
+    bytes: &[u8],
+) -> Result<(), ShelfError>
+    requires stands { LoggedStands core.old logs.old.items alike.old stopped.old (S.meaning shelf.old) }
+    requires fresh { FreshStands core.old fresh.old (S.meaning shelf.old) }
+    requires fits { Fits (inner_meaning (wide core.old) (S.meaning shelf.old)) vol block (length bytes.now) }
+    ensures stands { LoggedStands core.new logs.new.items alike.new stopped.new (S.meaning shelf.new) }
+    ensures fresh { FreshStands core.new fresh.new (S.meaning shelf.new) }
+    ensures goes { Goes (Written vol block bytes.now) (inner_meaning (wide core.old) (S.meaning shelf.old)) (inner_meaning (wide core.new) (S.meaning shelf.new)) }
+    ensures ok { OnOk result (Wrote vol block bytes.now (inner_meaning (wide core.old) (S.meaning shelf.old)) (inner_meaning (wide core.new) (S.meaning shelf.new))) }
+    ensures loses { LosesAlong core.old.inner.config core.new.inner.config (S.meaning shelf.old) (S.meaning shelf.new) }
+    ensures marks { MarksVolume (wide core.old).config vol (first_region block) (last_region block (length bytes.now / 512)) logs.old.items logs.new.items }
+    ensures notes { NotesMaps (those_missing core.new vol result) vol (first_region block) (last_region block (length bytes.now / 512)) logs.old.items logs.new.items }
+    ensures marked { stopped.new ≡ false → MarkedBefore (λ s. S.meaning s) vol block bytes.now (first_region block) (last_region block (length bytes.now / 512)) core.old core.new (S.meaning shelf.old) (S.meaning shelf.new) }
+    ensures full { stopped.old ≡ false → stopped.new ≡ true → greatest ≤ core.old.inner.config.serial + 45 }
+    ensures trust { OnOk result (core.old.inner.committed ≡ true → core.new.inner.committed ≡ true) }
+    ensures agreed { IfErr result (λ e. core.old.inner.committed ≡ true → core.new.inner.agreed ≡ true) }
+    ensures cause { Cause (inner_meaning (wide core.old) (S.meaning shelf.old)) (inner_meaning (wide core.new) (S.meaning shelf.new)) vol result }
+{
+    if !takes_fresh(fresh, *stopped, vol) {
+        return write_whole(shelf, core, logs, alike, stopped, vol, block, bytes);
+    }
+    match begin_first(shelf, core, logs, alike, vol) {
+        Ok(()) => {}
+        Err(error) => return Err(error),
+    }
+    write_whole(shelf, core, logs, alike, stopped, vol, block, bytes)
+}

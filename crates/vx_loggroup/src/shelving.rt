@@ -1,0 +1,128 @@
+// A group with logs as a shelf.
+ghost use Rattle.std.specs.Prelude.{◌≡◌, ◌+◌, ◌/◌, ◌<◌, ◌≤◌, IfErr, OnOk, true, false, length};
+ghost use Rattle.vx_config.specs.Table.{greatest};
+ghost use Rattle.vx_disk.specs.Causes.{Calls, Cause, CountsOnly, Names, OnDisks, Works};
+ghost use Rattle.vx_disk.specs.Disks.{Untouched};
+ghost use Rattle.vx_disk.specs.Shelf.{DisksFlushed, DisksWrote, Fits, Flushed, Goes, Nothing, Read, Written, Wrote};
+ghost use Rattle.vx_group.specs.Holding.{wide};
+ghost use Rattle.vx_group.specs.Laws.{group_lawful};
+ghost use Rattle.vx_group.specs.Loses.{LosesPlexes};
+ghost use Rattle.vx_group.specs.Stands.{inner_meaning};
+ghost use Rattle.vx_logged.specs.Behind.{MarkedBefore, none_missing, those_missing};
+ghost use Rattle.vx_loggroup.specs.Marks.{ClearsVolume, MarksVolume, NotesMaps};
+ghost use Rattle.vx_logs.specs.Writes.{first_region, last_region};
+
+use crate::fresh::write_fresh;
+use crate::group::LoggedGroup;
+use crate::keeping::read_whole;
+use crate::whole::flush_whole;
+use vx_disk::{Shelf, ShelfError};
+
+impl<S: Shelf> Shelf for LoggedGroup<S> {
+    ghost meaning = { λ g. inner_meaning (wide g.core) (S.meaning g.shelf) };
+
+    fn units(&self) -> u32 {
+        self.core.inner.config.volumes.as_slice().len() as u32
+    }
+
+    fn size(&self, unit: u32) -> u64 {
+        self.core.inner.config.volumes.as_slice()[unit as usize].blocks
+    }
+
+    /// Reads from one plex that is ACTIVE in the configuration. All logs are as they were.
+    fn read(&mut self, unit: u32, block: u64, into: &mut [u8]) -> Result<(), ShelfError>
+        requires { Fits (inner_meaning (wide self.old.core) (S.meaning self.old.shelf)) unit block (length into.old) }
+        ensures goes { Goes Nothing (inner_meaning (wide self.old.core) (S.meaning self.old.shelf)) (inner_meaning (wide self.new.core) (S.meaning self.new.shelf)) }
+        ensures ok { OnOk result (Read (inner_meaning (wide self.old.core) (S.meaning self.old.shelf)) unit block into.new) }
+        ensures down { (inner_meaning (wide self.new.core) (S.meaning self.new.shelf)).down ≡ (inner_meaning (wide self.old.core) (S.meaning self.old.shelf)).down }
+        ensures cause { Cause (inner_meaning (wide self.old.core) (S.meaning self.old.shelf)) (inner_meaning (wide self.new.core) (S.meaning self.new.shelf)) unit result }
+        ensures counts { CountsOnly unit result (inner_meaning (wide self.old.core) (S.meaning self.old.shelf)).faults (inner_meaning (wide self.new.core) (S.meaning self.new.shelf)).faults }
+        ensures names { Names (inner_meaning (wide self.old.core) (S.meaning self.old.shelf)).disks unit result }
+        ensures works { OnOk result (Works (inner_meaning (wide self.old.core) (S.meaning self.old.shelf)).disks unit) }
+        ensures disks { OnDisks (inner_meaning (wide self.old.core) (S.meaning self.old.shelf)).disks (inner_meaning (wide self.new.core) (S.meaning self.new.shelf)).disks Untouched }
+        ensures shown { OnOk result (Read (inner_meaning self.old.core.inner (S.meaning self.old.shelf)) unit block into.new) }
+        ensures same { self.new.core.inner.config ≡ self.old.core.inner.config }
+        ensures held { self.new.core.held ≡ self.old.core.held }
+        ensures trusted { (self.new.core.inner.committed ≡ self.old.core.inner.committed) × (self.new.core.inner.agreed ≡ self.old.core.inner.agreed) }
+        ensures below { Goes Nothing (S.meaning self.old.shelf) (S.meaning self.new.shelf) }
+        ensures logs { self.new.logs.items ≡ self.old.logs.items }
+    {
+        read_whole(
+            &mut self.shelf,
+            &mut self.core,
+            &self.logs,
+            &self.alike,
+            self.stopped,
+            unit,
+            block,
+            into,
+        )
+    }
+
+    /// Writes to each plex that is ACTIVE; the logs of a volume begin in its first write. The regions of the run are durably marked first, and no
+    /// others: as dirty, and as missed by each plex that is STALE; a log of which the disk fails is lost by a commit before a plex is written. A plex that fails in the write misses these regions too.
+    /// Behind a refusal they are noted as missed by each plex.
+    fn write(&mut self, unit: u32, block: u64, bytes: &[u8]) -> Result<(), ShelfError>
+        requires { Fits (inner_meaning (wide self.old.core) (S.meaning self.old.shelf)) unit block (length bytes.now) }
+        ensures goes { Goes (Written unit block bytes.now) (inner_meaning (wide self.old.core) (S.meaning self.old.shelf)) (inner_meaning (wide self.new.core) (S.meaning self.new.shelf)) }
+        ensures ok { OnOk result (Wrote unit block bytes.now (inner_meaning (wide self.old.core) (S.meaning self.old.shelf)) (inner_meaning (wide self.new.core) (S.meaning self.new.shelf))) }
+        ensures cause { Cause (inner_meaning (wide self.old.core) (S.meaning self.old.shelf)) (inner_meaning (wide self.new.core) (S.meaning self.new.shelf)) unit result }
+        ensures names { Names (inner_meaning (wide self.old.core) (S.meaning self.old.shelf)).disks unit result }
+        ensures works { OnOk result (Works (inner_meaning (wide self.old.core) (S.meaning self.old.shelf)).disks unit) }
+        ensures disks { OnDisks (inner_meaning (wide self.old.core) (S.meaning self.old.shelf)).disks (inner_meaning (wide self.new.core) (S.meaning self.new.shelf)).disks (λ o n. Calls (inner_meaning (wide self.old.core) (S.meaning self.old.shelf)) (DisksWrote unit block bytes.now) o n result) }
+        ensures loses { LosesPlexes self.old.core.inner.config self.new.core.inner.config (S.meaning self.old.shelf) (S.meaning self.new.shelf) }
+        ensures marks { MarksVolume (wide self.old.core).config unit (first_region block) (last_region block (length bytes.now / 512)) self.old.logs.items self.new.logs.items }
+        ensures notes { NotesMaps (those_missing self.new.core unit result) unit (first_region block) (last_region block (length bytes.now / 512)) self.old.logs.items self.new.logs.items }
+        ensures marked { self.new.stopped ≡ false → MarkedBefore (λ s. S.meaning s) unit block bytes.now (first_region block) (last_region block (length bytes.now / 512)) self.old.core self.new.core (S.meaning self.old.shelf) (S.meaning self.new.shelf) }
+        ensures full { self.old.stopped ≡ false → self.new.stopped ≡ true → greatest ≤ self.old.core.inner.config.serial + 45 }
+        ensures trust { OnOk result (self.old.core.inner.committed ≡ true → self.new.core.inner.committed ≡ true) }
+        ensures agreed { IfErr result (λ e. self.old.core.inner.committed ≡ true → self.new.core.inner.agreed ≡ true) }
+    {
+        write_fresh(
+            &mut self.shelf,
+            &mut self.core,
+            &mut self.logs,
+            &mut self.alike,
+            &mut self.fresh,
+            &mut self.stopped,
+            unit,
+            block,
+            bytes,
+        )
+    }
+
+    /// Flushes each plex that is ACTIVE, and takes all marks off the log of the volume where more than 64 regions were marked since.
+    fn flush(&mut self, unit: u32) -> Result<(), ShelfError>
+        requires { unit < (inner_meaning (wide self.old.core) (S.meaning self.old.shelf)).units }
+        ensures goes { Goes Nothing (inner_meaning (wide self.old.core) (S.meaning self.old.shelf)) (inner_meaning (wide self.new.core) (S.meaning self.new.shelf)) }
+        ensures ok { OnOk result (Flushed unit (inner_meaning (wide self.old.core) (S.meaning self.old.shelf)) (inner_meaning (wide self.new.core) (S.meaning self.new.shelf))) }
+        ensures cause { Cause (inner_meaning (wide self.old.core) (S.meaning self.old.shelf)) (inner_meaning (wide self.new.core) (S.meaning self.new.shelf)) unit result }
+        ensures names { Names (inner_meaning (wide self.old.core) (S.meaning self.old.shelf)).disks unit result }
+        ensures works { OnOk result (Works (inner_meaning (wide self.old.core) (S.meaning self.old.shelf)).disks unit) }
+        ensures disks { OnDisks (inner_meaning (wide self.old.core) (S.meaning self.old.shelf)).disks (inner_meaning (wide self.new.core) (S.meaning self.new.shelf)).disks (λ o n. Calls (inner_meaning (wide self.old.core) (S.meaning self.old.shelf)) (DisksFlushed unit) o n result) }
+        ensures loses { LosesPlexes self.old.core.inner.config self.new.core.inner.config (S.meaning self.old.shelf) (S.meaning self.new.shelf) }
+        ensures marks { ClearsVolume (wide self.old.core).config unit self.old.logs.items self.new.logs.items }
+        ensures maps { NotesMaps none_missing unit 0 0 self.old.logs.items self.new.logs.items }
+        ensures trust { OnOk result (self.old.core.inner.committed ≡ true → self.new.core.inner.committed ≡ true) }
+        ensures agreed { IfErr result (λ e. self.old.core.inner.committed ≡ true → self.new.core.inner.agreed ≡ true) }
+    {
+        flush_whole(
+            &mut self.shelf,
+            &mut self.core,
+            &mut self.logs,
+            &self.alike,
+            self.stopped,
+            unit,
+        )
+    }
+
+    fn faults(&self, unit: u32) -> u64 {
+        self.core.inner.faults[unit as usize]
+    }
+
+    fn is_down(&self) -> bool {
+        self.shelf.is_down()
+    }
+
+    ghost lawful = { λ g. group_lawful (wide g.core) (S.meaning g.shelf) (S.lawful g.shelf) g.stands.group.stands };
+}
