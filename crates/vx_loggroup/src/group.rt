@@ -99,7 +99,7 @@ impl<S: Shelf> LoggedGroup<S> {
 
     /// Imports a group. Of a volume that stopped uncleanly the regions alone are copied that its log has, and all of them where no log could
     /// be read. Where its plexes are alike then, and where the disks tell that a clean stop left them so, all marks are taken off its log. The log
-    /// of missed regions of one that stopped cleanly goes on. Each refusal is one of the import of a group; then the shelf is handed back.
+    /// of missed regions of one that stopped cleanly goes on. A log on a disk that was held as failed is lost. Each refusal is one of the import of a group; then the shelf is handed back.
     pub fn import(alloc: Global, shelf: S, rested: &Rested) -> Result<LoggedGroup<S>, (S, Stop)>
         requires can { CanImport (S.meaning shelf) }
         requires tells { LogsTell rested.now (S.meaning shelf) }
