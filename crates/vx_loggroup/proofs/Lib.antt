@@ -24,3 +24,4 @@ pub mod CloseLemmas
 pub mod AlikeFlags
 pub mod TouchLemmas
 pub mod UsesLemmas
+pub mod HeldMaps

@@ -21,7 +21,7 @@ ghost use Rattle.vx_group.specs.Makes.{MakeEnds, Unmoved, make_refusal};
 ghost use Rattle.vx_group.specs.Regains.{HoldsPlex, Regains};
 ghost use Rattle.vx_group.specs.Resumes.{CanImport};
 ghost use Rattle.vx_group.specs.Stands.{inner_meaning};
-ghost use Rattle.vx_loggroup.specs.Attaching.{fmr_at, map_by};
+ghost use Rattle.vx_loggroup.specs.Attaching.{MapsHeld, fmr_at, map_by};
 ghost use Rattle.vx_loggroup.specs.Detaching.{MapIsEmpty, MapsBegin};
 ghost use Rattle.vx_loggroup.specs.Facts.{LoggedFact};
 ghost use Rattle.vx_loggroup.specs.LoggedVolumes.{LoggedStands, is_alike};
@@ -37,10 +37,10 @@ ghost use Rattle.vx_model.specs.declared.no.No.{No as NoValue};
 ghost use Rattle.vx_model.specs.declared.no.No.TheVariants.{Size};
 ghost use Rattle.vx_volume.specs.Plexes.{active};
 
-use crate::attaching::att_whole;
 use crate::crashing::crash_whole;
 use crate::deporting::deport_whole;
 use crate::detached::det_fresh;
+use crate::failed_maps::att_held;
 use crate::making::make_fresh;
 use crate::opening::{Opened, open_logged};
 use crate::racking::{fail_whole, fuse_whole};
@@ -208,8 +208,8 @@ impl<S: Shelf> LoggedGroup<S> {
     }
 
     /// Attaches a plex, as a group does without logs, and answers how many regions were copied: those that the plex has missed by its map, or all of
-    /// the volume where no map is in memory, and none where the plex is ACTIVE already. Of the plex it writes blocks of these regions alone, and
-    /// whatever it answers, no map changes.
+    /// the volume where no map is in memory or its disk is held as failed, and none where the plex is ACTIVE already. Of the plex it writes blocks of
+    /// these regions alone, and whatever it answers, no map changes; one on a disk that is held as failed is in memory no more.
     pub fn att(&mut self, vol: u32, plex: u32) -> Result<u64, Stop>
         ensures refused { (no : NoValue) → att_refusal self.old.core.inner.config vol plex ≡ Some no → (result ≡ Err (Refused no)) × (self.new.core ≡ self.old.core) × (self.new.shelf ≡ self.old.shelf) }
         ensures already { att_refusal self.old.core.inner.config vol plex ≡ None → IsTrue (active self.old.core.inner.config vol plex) → (result ≡ Ok 0) × (self.new.core ≡ self.old.core) × (self.new.shelf ≡ self.old.shelf) }
@@ -218,14 +218,14 @@ impl<S: Shelf> LoggedGroup<S> {
         ensures ends { active self.old.core.inner.config vol plex ≡ false → GroupAttachEnds vol plex self.new.core.inner.config (S.meaning self.new.shelf) result }
         ensures regains { Regains self.old.core.inner.config self.new.core.inner.config vol plex (S.meaning self.old.shelf) (S.meaning self.new.shelf) }
         ensures held { active self.old.core.inner.config vol plex ≡ false → OnOk result (HoldsPlex (λ s. S.meaning s) self.old.core.inner.config self.new.core.inner.config vol plex self.new.shelf) }
-        ensures logs { self.new.logs.items ≡ self.old.logs.items }
+        ensures logs { MapsHeld self.old.core.inner.config vol self.old.logs.items self.new.logs.items }
         ensures trust { OnOk result (self.old.core.inner.committed ≡ true → self.new.core.inner.committed ≡ true) }
         ensures cause { att_refusal self.old.core.inner.config vol plex ≡ None → DetStops (S.meaning self.old.shelf) (S.meaning self.new.shelf) result }
     {
-        att_whole(
+        att_held(
             &mut self.shelf,
             &mut self.core,
-            &self.logs,
+            &mut self.logs,
             &self.alike,
             self.stopped,
             vol,
