@@ -25,3 +25,4 @@ pub mod AlikeFlags
 pub mod TouchLemmas
 pub mod UsesLemmas
 pub mod HeldMaps
+pub mod MirrorLemmas
