@@ -1,5 +1,5 @@
 -- An import that goes by the dirty region logs of the volumes.
-use Rattle.std.specs.Prelude.{◌≡◌, ◌⊎◌, ℕ, ◌/◌, ◌<◌, true, false, IsTrue, Option, Some, None, List, length, slice_get, Result, Ok, Err}
+use Rattle.std.specs.Prelude.{◌≡◌, ◌⊎◌, ℕ, ◌/◌, ◌<◌, Bool, true, false, IsTrue, Option, Some, None, List, length, slice_get, Result, Ok, Err}
 use Rattle.vx_model.specs.declared.errors.Stop.{Stop}
 use Rattle.vx_model.specs.declared.limits.TheConstants.{REGION}
 use Rattle.vx_bitmap.specs.Maps.{IsRead}

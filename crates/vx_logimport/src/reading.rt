@@ -1,5 +1,5 @@
 // The dirty region logs of a group as an import reads them.
-ghost use Rattle.std.specs.Prelude.{IfErr, IfOk, IsTrue, OnOk, length};
+ghost use Rattle.std.specs.Prelude.{◌≡◌, IfErr, IfOk, IsTrue, OnOk, length};
 ghost use Rattle.vx_config.specs.Checks.{is_sound};
 ghost use Rattle.vx_disk.specs.Shelf.{Goes, Nothing};
 ghost use Rattle.vx_grouplogs.specs.Loading.{LoadIsRefused};
