@@ -1,13 +1,15 @@
 -- Which configurations images have behind calls in a row.
-use Rattle.std.proofs.Common.{◌≡◌, ◌⊎◌, inl, inr, Bool, true, false, None, List, [], ◌∷◌, ◌++◌, refl, ap, sym, ◌∙◌, subst}
-use Rattle.vx_disk.specs.Shelf.{Meaning}
+use Rattle.std.proofs.Common.{◌≡◌, ◌⊎◌, inl, inr, ⊎_elim, Bool, true, false, Option, None, List, [], ◌∷◌, ◌++◌, refl, ap, sym, ◌∙◌, subst}
+use Rattle.vx_disk.specs.Shelf.{Goes, Lawful, Meaning, Nothing}
 use Rattle.vx_config.specs.declared.config.Config.{Config}
 use Rattle.vx_kept.specs.Cleans.{at_serial}
 use Rattle.vx_kept.specs.Commits.{IsCommitted}
 use Rattle.vx_kept.specs.Finds.{AllAtOnce, FindsFrom, IsTryAmong, IsTryOf, NoConfiguration}
 use Rattle.vx_kept.proofs.Findings.{first_tries, last_tries, newest_at, same_from, then_from, wider_from}
+use Rattle.vx_kept.proofs.Trusting.{less_finds}
 use Rattle.vx_group.specs.Finds.{CoreEnds, CoreFinds, FindsStill, GroupFinds, MissesOpenly}
-use Rattle.vx_group.specs.Holding.{wide}
+use Rattle.vx_group.specs.Holding.{config_by, wide}
+use Rattle.vx_group.specs.declared.group_core.Held.{Held}
 use Rattle.vx_group.specs.declared.group_core.GroupCore.{GroupCore}
 use Rattle.vx_group.specs.declared.inner.Inner.{Inner}
 
@@ -129,6 +131,10 @@ left_ends a d m m' tried off = record {
   newest = λ is. absurd (not_both d.committed off is);
 }
 
+-- calls that write nothing
+pub quiet_finds : (m m' : Meaning) → Lawful m → Lawful m' → Goes Nothing m m' → FindsFrom NoConfiguration m m'
+quiet_finds m m' law law' goes = less_finds m m' law law' goes.units goes.size goes.tells (λ u b v lt left. ⊎_elim (λ was. was) (λ none. absurd none) (goes.leaves u b v left))
+
 -- ---- a whole group
 
 pub still_group : (c : GroupCore) (m : Meaning) → GroupFinds c c m m
@@ -140,3 +146,17 @@ then_group c d e m m1 m2 one two = record { core = then_finds (wide c) (wide d) 
 -- no image has another configuration, and memory has what it had
 pub idle_group : (c : GroupCore) (m m' : Meaning) → FindsFrom NoConfiguration m m' → GroupFinds c c m m'
 idle_group c m m' finds = record { core = stays_finds (wide c) (wide c) m m' refl refl refl finds; free = λ none. none }
+
+-- the same where marks of volumes changed
+pub marked_group : (c d : GroupCore) (m m' : Meaning) → d.inner.config ≡ c.inner.config → d.held ≡ c.held → d.inner.committed ≡ c.inner.committed → d.inner.unsettled ≡ c.inner.unsettled → FindsFrom NoConfiguration m m' → GroupFinds c d m m'
+marked_group c d m m' config held committed unsettled finds = record {
+  core = stays_finds (wide c) (wide d) m m' (ap (λ (x : Config). at_serial 0 (config_by d.held x)) config ∙ ap (λ (o : Option Held). at_serial 0 (config_by o c.inner.config)) held) committed unsettled finds;
+  free = λ none. held ∙ none;
+}
+
+-- behind calls on a group of which each image has the configuration in memory, each has it still where it is committed
+pub newest_group : (c d : GroupCore) (m m' : Meaning) → c.held ≡ None → c.inner.unsettled ≡ false → AllAtOnce (wide c).config m → GroupFinds c d m m' → d.inner.committed ≡ true → AllAtOnce (wide d).config m'
+newest_group c d m m' none settled newest finds is = elim (finds.core.sure (λ un. absurd (not_both c.inner.unsettled settled un)) is) [
+  | inl now ↦ now
+  | inr still ↦ still_newest (wide c) (wide d) m m' newest still
+]

@@ -2,6 +2,7 @@
 use Rattle.std.specs.Prelude.{◌≡◌, ◌⊎◌, true, false, List, None, Result, Ok, Err}
 use Rattle.vx_disk.specs.declared.shelf.ShelfError.{ShelfError}
 use Rattle.vx_disk.specs.Shelf.{Meaning}
+use Rattle.vx_model.specs.declared.errors.Stop.{Stop}
 use Rattle.vx_config.specs.declared.config.Config.{Config}
 use Rattle.vx_kept.specs.Cleans.{at_serial}
 use Rattle.vx_kept.specs.Finds.{AllAtOnce, FindsFrom, IsTryAmong, NoConfiguration}
@@ -50,3 +51,8 @@ Recommits c d old new (Err error) = HeadersMissed c d old new ⊎ CoreEnds d old
 pub record GroupFinds (c d : GroupCore) (old new : Meaning) : Type 0 where
   pub core : CoreFinds (wide c) (wide d) old new
   pub free : c.held ≡ None → d.held ≡ None
+
+-- the same of a group that is given back
+abbrev pub BackFinds : {S G : Type 0} → GroupCore → Meaning → (G → GroupCore) → (G → Meaning) → Result S (G × Stop) → Type 0
+BackFinds c old core meaning (Ok s) = Unit {0}
+BackFinds c old core meaning (Err (g, stop)) = GroupFinds c (core g) old (meaning g)

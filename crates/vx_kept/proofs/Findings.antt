@@ -10,7 +10,7 @@ use Rattle.vx_copies.specs.Marks.{blocks_at}
 use Rattle.vx_copyfmt.specs.Imports.{Found}
 use Rattle.vx_kept.specs.Cleans.{at_serial}
 use Rattle.vx_kept.specs.Commits.{IsCommitted}
-use Rattle.vx_kept.specs.Finds.{AllAtOnce, FindsFrom, IsTryAmong, good_config, good_disks}
+use Rattle.vx_kept.specs.Finds.{AllAtOnce, FindsFrom, IsTryAmong, NoConfiguration, good_config, good_disks}
 use Rattle.vx_kept.specs.Groups.{found}
 
 good_same : (ds es : List DiskEntry) → length ds ≡ length es → ((u : ℕ) → blocks_at ds u ≡ blocks_at es u) → good_disks ds ≡ good_disks es
@@ -61,3 +61,11 @@ then_from P m m1 m2 one two = record {
 
 pub newest_at : (c : Config) (m : Meaning) → IsCommitted c m → AllAtOnce c m
 newest_at c m committed = record { each = λ i x each is. ap (λ (y : Config). at_serial 0 y) (found_is x c (sym is ∙ committed.finds i each)) }
+
+pub less_newest : (c : Config) (m m' : Meaning) → AllAtOnce c m → FindsFrom NoConfiguration m m' → AllAtOnce c m'
+less_newest c m m' newest finds = record {
+  each = λ i x each is. elim (finds.each i x each is) [
+    | inl left ↦ newest.each left.image x left.left left.found
+    | inr none ↦ absurd none
+  ];
+}
