@@ -20,8 +20,9 @@ use Rattle.vx_group.specs.Mends.{drl_at, drl_or}
 use Rattle.vx_group.specs.Resumes.{CanImport, TakenUp, stopped}
 use Rattle.vx_group.specs.Stands.{inner_meaning}
 use Rattle.vx_group.specs.declared.group_core.GroupCore.{GroupCore}
+use Rattle.vx_group.specs.declared.inner.Inner.{Inner}
 use Rattle.vx_group.proofs.CreateLemmas.{cause_before}
-use Rattle.vx_group.proofs.HoldLemmas.{whole_Stands, wide_shape}
+use Rattle.vx_group.proofs.HoldLemmas.{whole_Stands, wide_none, wide_shape}
 use Rattle.vx_group.proofs.LoseLemmas.{along_same, then_along}
 use Rattle.vx_group.proofs.UnitLemmas.{goes_units, then_units}
 use Rattle.vx_grouplogs.specs.Covering.{AllAlike}
