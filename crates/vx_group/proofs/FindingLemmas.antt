@@ -160,3 +160,10 @@ newest_group c d m m' none settled newest finds is = elim (finds.core.sure (λ u
   | inl now ↦ now
   | inr still ↦ still_newest (wide c) (wide d) m m' newest still
 ]
+
+-- the same where none misses a commit that is said to be made
+pub newest_goes : (c d : GroupCore) (m m' : Meaning) → MissesOpenly (wide c) → (c.inner.committed ≡ true → AllAtOnce (wide c).config m) → CoreFinds (wide c) (wide d) m m' → d.inner.committed ≡ true → AllAtOnce (wide d).config m'
+newest_goes c d m m' openly newest finds is = elim (finds.sure openly is) [
+  | inl now ↦ now
+  | inr still ↦ still_newest (wide c) (wide d) m m' (newest still.was) still
+]

@@ -45,6 +45,7 @@ impl<S: Shelf> Shelf for LoggedGroup<S> {
         ensures same { self.new.core.inner.config ≡ self.old.core.inner.config }
         ensures held { self.new.core.held ≡ self.old.core.held }
         ensures trusted { (self.new.core.inner.committed ≡ self.old.core.inner.committed) × (self.new.core.inner.agreed ≡ self.old.core.inner.agreed) }
+        ensures settled { self.new.core.inner.unsettled ≡ self.old.core.inner.unsettled }
         ensures below { Goes Nothing (S.meaning self.old.shelf) (S.meaning self.new.shelf) }
         ensures logs { self.new.logs.items ≡ self.old.logs.items }
     {
