@@ -1,12 +1,12 @@
 -- Which configurations images have behind calls, by the note.
-use Rattle.std.proofs.Common.{◌≡◌, ◌⊎◌, inl, inr, ℕ, suc, ◌&&◌, ◌||◌, Bool, true, false, Option, Some, None, List, [], ◌∷◌, ◌++◌, refl, sym, ◌∙◌, ap, subst, arith}
+use Rattle.std.proofs.Common.{◌≡◌, ◌⊎◌, inl, inr, ℕ, zero, suc, ◌<◌, ◌&&◌, ◌||◌, Bool, true, false, Option, Some, None, List, [], ◌∷◌, ◌++◌, refl, sym, ◌∙◌, ap, subst, arith}
 use Rattle.std.specs.Prelude.{Contains, if◌then◌else◌, not}
 use Rattle.vx_disk.specs.Shelf.{Each, Image, Meaning}
 use Rattle.vx_history.specs.Groups.{GroupNode}
 use Rattle.vx_config.specs.declared.config.Config.{Config}
 use Rattle.vx_copyfmt.specs.Imports.{Found}
 use Rattle.vx_kept.specs.Cleans.{at_serial}
-use Rattle.vx_kept.specs.Finds.{AllAtOnce, FindsFrom, IsTryAmong, IsTryOf, LeavesConfig, NoConfiguration, good_config}
+use Rattle.vx_kept.specs.Finds.{AllAtOnce, FindsFrom, IsTryAmong, LeavesConfig, NoConfiguration}
 use Rattle.vx_kept.specs.Groups.{found}
 use Rattle.vx_kept.proofs.Findings.{less_newest}
 use Rattle.vx_kept.proofs.Low.{found_same}
@@ -26,14 +26,14 @@ tries [] = []
 tries (x ∷ xs) = noted_try x ∷ tries xs
 
 contains_first : {A : Type 0} (x : A) (xs : List A) → Contains (x ∷ xs) x
-contains_first x xs = (0, omega (arith), refl)
+contains_first x xs = (0, omega arith, refl)
 
 contains_next : {A : Type 0} (x y : A) (xs : List A) → Contains xs x → Contains (y ∷ xs) x
 contains_next x y xs has = (suc has.0, omega (arith, has.1), has.2)
 
 contains_left : {A : Type 0} (x : A) (xs ys : List A) → Contains xs x → Contains (xs ++ ys) x
 contains_left x [] ys has = absurd (omega (arith, has.1))
-contains_left x (z ∷ xs) ys (0, low, at) = (0, omega (arith), at)
+contains_left x (z ∷ xs) ys (zero, low, at) = (0, omega arith, at)
 contains_left x (z ∷ xs) ys (suc k, low, at) = contains_next x z (xs ++ ys) (contains_left x xs ys (k, omega (arith, low), at))
 
 contains_right : {A : Type 0} (x : A) (xs ys : List A) → Contains ys x → Contains (xs ++ ys) x

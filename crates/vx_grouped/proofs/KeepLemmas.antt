@@ -39,7 +39,7 @@ att_not_down false false false v p most is = let clash : None ≡ Some Down = is
 
 module _ (n : Node) (note : GroupNode) (c d : GroupCore) (m m' : Meaning) (at : IsGroupAt n note c m) (two : GroupStands d m') (units : m'.units ≡ m.units) (size : (u : ℕ) → m'.size u ≡ m.size u)
     (goes : Goes Nothing (inner_meaning (wide c) m) (inner_meaning (wide d) m')) (finds : CoreFinds (wide c) (wide d) m m') where
-  nexts : List (List ℕ)
+  abbrev nexts : List (List ℕ)
   nexts = nexts_of c d m m' finds
 
   kept_called : GroupLies n (note_called nexts d note) d m'

@@ -23,7 +23,7 @@ use Rattle.vx_grouped.proofs.NoteLemmas.{lies_called, rack_size, rack_units}
 use Rattle.vx_grouped.proofs.PlainLemmas.{cut_holds, doubt_holds, same_holds, write_holds}
 
 module _ (n : Node) (note : GroupNode) (v block : ℕ) (bytes : List ℕ) (c d : GroupCore) (m m' : Meaning) (at : IsGroupAt n note c m) (one : GroupStands c m) (two : GroupStands d m') (loses : LosesPlexes c.inner.config d.inner.config m m') (finds : GroupFinds c d m m') where
-  nexts : List (List ℕ)
+  abbrev nexts : List (List ℕ)
   nexts = nexts_of c d m m' finds.core
 
   abbrev called : GroupNode
