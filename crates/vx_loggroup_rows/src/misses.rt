@@ -10,10 +10,10 @@ use vx_layout::Shape;
 use vx_loggroup::LoggedGroup;
 use vx_model::{Name, OutOfMemory};
 
-type Disks = Untold<MemShelf>;
+pub type Disks = Untold<MemShelf>;
 
 // 256 blocks on two plexes, with maps of missed regions, and without.
-const MAPPED: Shape = Shape {
+pub const MAPPED: Shape = Shape {
     blocks: 256,
     mirrors: 2,
     ncol: 1,
@@ -45,7 +45,11 @@ const LOGGED: Shape = Shape {
 };
 
 // A group on three disks, of which these calls fail, with such a volume.
-fn group_of(alloc: Global, fails: &[u64], want: &Shape) -> Result<LoggedGroup<Disks>, OutOfMemory>
+pub fn group_of(
+    alloc: Global,
+    fails: &[u64],
+    want: &Shape,
+) -> Result<LoggedGroup<Disks>, OutOfMemory>
     requires { want.now.prefer ≡ None }
 {
     let mut shelf = match MemShelf::new(alloc, fails) {
@@ -72,7 +76,7 @@ fn group_of(alloc: Global, fails: &[u64], want: &Shape) -> Result<LoggedGroup<Di
 }
 
 // Writes one block of these bytes, and answers whether that is done.
-fn put(group: &mut LoggedGroup<Disks>, block: u64, byte: u8) -> bool {
+pub fn put(group: &mut LoggedGroup<Disks>, block: u64, byte: u8) -> bool {
     if group.units() == 0 || block >= group.size(0) {
         return false;
     }
@@ -92,7 +96,7 @@ fn read(group: &mut LoggedGroup<Disks>, block: u64) -> Option<u8> {
 }
 
 // How many regions an attach of a plex copies.
-fn att(group: &mut LoggedGroup<Disks>, plex: u32) -> Option<u64> {
+pub fn att(group: &mut LoggedGroup<Disks>, plex: u32) -> Option<u64> {
     match group.att(0, plex) {
         Ok(copied) => Some(copied),
         Err(_) => None,
@@ -111,7 +115,7 @@ fn is_active(config: &Config, plex: usize) -> bool {
 }
 
 // Whether the maps of the volume are held as lost.
-fn is_lost(config: &Config) -> Option<bool> {
+pub fn is_lost(config: &Config) -> Option<bool> {
     match config.volumes.as_slice().get(0) {
         Some(volume) => match volume.fmr {
             Some(entry) => Some(entry.lost),
