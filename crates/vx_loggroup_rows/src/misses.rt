@@ -202,20 +202,20 @@ fn failing(alloc: Global, call: u64) -> Result<Option<u64>, OutOfMemory> {
 #[test]
 fn a_write_is_done_whichever_of_its_calls_fails(rt: HostRuntime) -> Result<(), Fail> {
     let alloc = rt.alloc();
-    let mut some = false;
-    let mut all = false;
-    // The calls of the write and of the attach.
-    for call in 160..190 {
+    // The calls of the write: a mark in each log and the flush behind it, and the two plexes that are ACTIVE.
+    for call in 165..171 {
+        // Where the log of missed regions is lost all regions are copied.
+        let is_lost = call == 167 || call == 168;
+        let wanted = if is_lost { Some(4) } else { Some(1) };
+        assert_eq!(rt; failing(alloc, call)?, wanted);
+    }
+    // The read, and the calls of the attach.
+    for call in 171..193 {
         match failing(alloc, call)? {
-            Some(1) => some = true,
-            Some(4) => all = true,
-            Some(_) => assert!(rt; false),
+            Some(copied) => assert_eq!(rt; copied, 1),
             None => {}
         }
     }
-    // Where the log of missed regions is lost all regions are copied.
-    assert!(rt; some);
-    assert!(rt; all);
     Ok(())
 }
 
@@ -251,18 +251,11 @@ fn refused(alloc: Global, call: u64) -> Result<Option<u64>, OutOfMemory> {
 #[test]
 fn a_refused_write_is_noted(rt: HostRuntime) -> Result<(), Fail> {
     let alloc = rt.alloc();
-    let mut some = false;
-    // The write of the one plex that is ACTIVE is among these calls.
-    for call in 120..136 {
-        match refused(alloc, call)? {
-            Some(copied) => {
-                some = true;
-                assert_eq!(rt; copied, 2);
-            }
-            None => {}
-        }
+    // The calls of the detach that write its commit, and those of both writes. That of the first write to the one plex that is ACTIVE is the 128th.
+    for call in 120..132 {
+        let wanted = if call == 128 { Some(2) } else { None };
+        assert_eq!(rt; refused(alloc, call)?, wanted);
     }
-    assert!(rt; some);
     Ok(())
 }
 
