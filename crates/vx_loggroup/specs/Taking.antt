@@ -3,6 +3,7 @@ use Rattle.std.specs.Prelude.{◌≡◌, ℕ, Bool, true, false, Some, None, Lis
 use Rattle.vx_config.specs.declared.config.Config.{Config}
 use Rattle.vx_config.specs.declared.entry.VolumeLog.TheVariants.{Fmr}
 use Rattle.vx_disk.specs.Shelf.{Goes, Meaning, Nothing}
+use Rattle.vx_group.specs.Finds.{GroupFinds}
 use Rattle.vx_group.specs.Creates.{SameUnits}
 use Rattle.vx_group.specs.Holding.{wide}
 use Rattle.vx_group.specs.Loses.{LosesAlong}
@@ -48,4 +49,5 @@ pub record LogsSettle (c d : GroupCore) (old new : Meaning) : Type 0 where
   pub goes : Goes Nothing (inner_meaning (wide c) old) (inner_meaning (wide d) new)
   pub narrow : Narrowed c d
   pub loses : LosesAlong c.inner.config d.inner.config old new
+  pub finds : GroupFinds c d old new
   pub below : SameUnits old new

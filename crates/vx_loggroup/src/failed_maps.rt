@@ -3,6 +3,8 @@ ghost use Rattle.std.specs.Prelude.{◌≡◌, ◌<◌, IfOk, IsTrue, None, Ok, 
 ghost use Rattle.vx_group.specs.Attaches.{GroupAttachEnds, att_refusal, missed_regions};
 ghost use Rattle.vx_group.specs.Calls.{GroupAttaches};
 ghost use Rattle.vx_group.specs.Dets.{DetStops};
+ghost use Rattle.vx_group.specs.Finds.{CoreFinds};
+ghost use Rattle.vx_group.specs.Holding.{wide};
 ghost use Rattle.vx_group.specs.Regains.{HoldsPlex, Regains};
 ghost use Rattle.vx_groupmaps.specs.Loading.{on_failed_disk};
 ghost use Rattle.vx_loggroup.specs.Attaching.{MapHeld, MapsHeld, map_by};
@@ -102,6 +104,8 @@ pub fn att_held<S: Shelf>(
     ensures held { active core.old.inner.config vol plex ≡ false → OnOk result (HoldsPlex (λ s. S.meaning s) core.old.inner.config core.new.inner.config vol plex shelf.new) }
     ensures maps { MapsHeld core.old.inner.config logs.old.items logs.new.items }
     ensures trust { OnOk result (core.old.inner.committed ≡ true → core.new.inner.committed ≡ true) }
+    ensures finds { CoreFinds (wide core.old) (wide core.new) (S.meaning shelf.old) (S.meaning shelf.new) }
+    ensures free { OnOk result (core.old.held ≡ None → core.new.held ≡ None) }
     ensures cause { att_refusal core.old.inner.config vol plex ≡ None → DetStops (S.meaning shelf.old) (S.meaning shelf.new) result }
 {
     give_up_all(shelf, core, logs, alike, stopped);
