@@ -21,6 +21,7 @@ mod keeping;
 mod losing;
 mod making;
 mod opening;
+mod racked;
 mod racking;
 mod resting;
 mod shelving;

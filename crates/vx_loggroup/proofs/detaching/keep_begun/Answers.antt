@@ -54,7 +54,7 @@ returns-in-Err-clause-finds g c =
     c.keep_map.ensures.finds
 
 pub returns-in-Ok-clause-trusts : goal.returns-in-Ok-clause-trusts
-returns-in-Ok-clause-trusts g c = here_trusts c.args.vol c.args.logs.now.items _ (item_of c.args.logs.now.items c.args.vol _ c.index-logs-vol.is (let many = c.requires.stands.many in let there = c.requires.there in omega (arith, many, there))) c.args.core.now.inner.config c.keep_map.new.core.inner.config c.keep_map.ensures.trusts
+returns-in-Ok-clause-trusts g c = here_trusts c.args.vol c.args.logs.now.items c.index.result.now (item_of c.args.logs.now.items c.args.vol c.index.result.now c.index.ensures (let many = c.requires.stands.many in let there = c.requires.there in omega (arith, many, there))) c.args.core.now.inner.config c.keep_map.new.core.inner.config c.keep_map.ensures.trusts
 
 pub returns-in-Err-clause-trusts : goal.returns-in-Err-clause-trusts
-returns-in-Err-clause-trusts g c = here_trusts c.args.vol c.args.logs.now.items _ (item_of c.args.logs.now.items c.args.vol _ c.index-logs-vol.is (let many = c.requires.stands.many in let there = c.requires.there in omega (arith, many, there))) c.args.core.now.inner.config c.keep_map.new.core.inner.config c.keep_map.ensures.trusts
+returns-in-Err-clause-trusts g c = here_trusts c.args.vol c.args.logs.now.items c.index.result.now (item_of c.args.logs.now.items c.args.vol c.index.result.now c.index.ensures (let many = c.requires.stands.many in let there = c.requires.there in omega (arith, many, there))) c.args.core.now.inner.config c.keep_map.new.core.inner.config c.keep_map.ensures.trusts
