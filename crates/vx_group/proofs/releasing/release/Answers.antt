@@ -41,8 +41,8 @@ pub returns-in-Some-clause-finds : goal.returns-in-Some-clause-finds
 returns-in-Some-clause-finds g c =
     record {
       core = e_finds c.args.core.now c.in-Some.held (g.S.Shelf.meaning c.args.shelf.now) c.requires.stands (sym c.open_held.ensures.held ∙ c.in-Some.is) c.open_held.new.core.inner c.open_held.ensures.inner
-    c.detach_plex-result.new.core c.detach_plex-result.ensures.others _ c.hold_back.new.core refl c.open_held.ensures.none c.hold_back.ensures
-    (g.S.Shelf.meaning c.detach_plex-result.new.shelf) c.detach_plex-result.ensures.finds;
+          c.detach_plex-result.new.core c.detach_plex-result.ensures.others _ c.hold_back.new.core refl c.open_held.ensures.none c.hold_back.ensures
+          (g.S.Shelf.meaning c.detach_plex-result.new.shelf) c.detach_plex-result.ensures.finds;
       free = λ none. absurd (let clash : None ≡ Some c.in-Some.held = sym none ∙ sym c.open_held.ensures.held ∙ c.in-Some.is in cc);
     }
 
