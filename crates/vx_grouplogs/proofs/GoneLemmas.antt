@@ -5,7 +5,7 @@ use Rattle.vx_config.specs.declared.config.Config.{Config}
 use Rattle.vx_config.specs.declared.entry.LogEntry.{LogEntry}
 use Rattle.vx_config.specs.declared.entry.Subdisk.{Subdisk}
 use Rattle.vx_config.specs.declared.entry.VolumeLog.{VolumeLog}
-use Rattle.vx_config.specs.declared.entry.VolumeLog.TheVariants.{Drl as DrlLog, Fmr as FmrLog}
+use Rattle.vx_config.specs.declared.entry.VolumeLog.TheVariants.{Drl, Fmr}
 use Rattle.vx_bitmap.specs.Maps.{Map}
 use Rattle.vx_disk.specs.Counts.{Rose}
 use Rattle.vx_disk.specs.Shelf.{Meaning}
@@ -90,45 +90,45 @@ pub drops_of : (c : Config) (v : ℕ) (l k : Logs) (m m' : Meaning) → LogsFit 
     → ((f : Missed) → l.fmr ≡ Some f → k.fmr ≡ None → Rose (m.faults f.map.unit) (m'.faults f.map.unit) ⊎ IsTrue m'.down) → (is_there k.fmr ≡ true → is_there l.fmr ≡ true) → LogsDrop c v l k m m'
 drops_of c v l k m m' fits drl drl_none fmr fmr_none = record { gone = gone; none = none }
   where
-    dirty : (s : Subdisk) → log_place c v DrlLog ≡ Some s → (o n : Option Dirty) → l.drl ≡ o → k.drl ≡ n → is_there o ≡ true → is_there n ≡ false → Rose (m.faults s.disk) (m'.faults s.disk) ⊎ IsTrue m'.down
+    dirty : (s : Subdisk) → log_place c v Drl ≡ Some s → (o n : Option Dirty) → l.drl ≡ o → k.drl ≡ n → is_there o ≡ true → is_there n ≡ false → Rose (m.faults s.disk) (m'.faults s.disk) ⊎ IsTrue m'.down
     dirty s at None n is now has no_more = absurd (let clash : false ≡ true = has in cc)
     dirty s at (Some d) (Some e) is now has no_more = absurd (let clash : true ≡ false = no_more in cc)
     dirty s at (Some d) None is now has no_more = elim (drl d is now) [
-      | inl rose ↦ inl (rose_at c v DrlLog d.map s m m' (fits.drl d is).log at rose)
+      | inl rose ↦ inl (rose_at c v Drl d.map s m m' (fits.drl d is).log at rose)
       | inr down ↦ inr down
     ]
 
-    missed : (s : Subdisk) → log_place c v FmrLog ≡ Some s → (o n : Option Missed) → l.fmr ≡ o → k.fmr ≡ n → is_there o ≡ true → is_there n ≡ false → Rose (m.faults s.disk) (m'.faults s.disk) ⊎ IsTrue m'.down
+    missed : (s : Subdisk) → log_place c v Fmr ≡ Some s → (o n : Option Missed) → l.fmr ≡ o → k.fmr ≡ n → is_there o ≡ true → is_there n ≡ false → Rose (m.faults s.disk) (m'.faults s.disk) ⊎ IsTrue m'.down
     missed s at None n is now has no_more = absurd (let clash : false ≡ true = has in cc)
     missed s at (Some f) (Some g) is now has no_more = absurd (let clash : true ≡ false = no_more in cc)
     missed s at (Some f) None is now has no_more = elim (fmr f is now) [
-      | inl rose ↦ inl (rose_at c v FmrLog f.map s m m' (fits.fmr f is).log at rose)
+      | inl rose ↦ inl (rose_at c v Fmr f.map s m m' (fits.fmr f is).log at rose)
       | inr down ↦ inr down
     ]
 
     gone : (log : VolumeLog) (s : Subdisk) → log_place c v log ≡ Some s → has_log log l ≡ true → has_log log k ≡ false → Rose (m.faults s.disk) (m'.faults s.disk) ⊎ IsTrue m'.down
-    gone DrlLog s at has no_more = dirty s at l.drl k.drl refl refl has no_more
-    gone FmrLog s at has no_more = missed s at l.fmr k.fmr refl refl has no_more
+    gone Drl s at has no_more = dirty s at l.drl k.drl refl refl has no_more
+    gone Fmr s at has no_more = missed s at l.fmr k.fmr refl refl has no_more
 
     none : (log : VolumeLog) → has_log log k ≡ true → has_log log l ≡ true
-    none DrlLog has = drl_none has
-    none FmrLog has = fmr_none has
+    none Drl has = drl_none has
+    none Fmr has = fmr_none has
 
 -- where the shelf is down nothing is said of those that are gone
 pub drops_down : (c : Config) (v : ℕ) (l : Logs) (m m' : Meaning) → IsTrue m'.down → LogsDrop c v l (record { drl = None; fmr = None }) m m'
 drops_down c v l m m' down = record { gone = λ log s is has none. inr down; none = none }
   where
     none : (log : VolumeLog) → has_log log (record { drl = None; fmr = None }) ≡ true → has_log log l ≡ true
-    none DrlLog has = absurd (let clash : false ≡ true = has in cc)
-    none FmrLog has = absurd (let clash : false ≡ true = has in cc)
+    none Drl has = absurd (let clash : false ≡ true = has in cc)
+    none Fmr has = absurd (let clash : false ≡ true = has in cc)
 
 -- the maps alone are gone, and the shelf is down
 pub drops_maps : (c : Config) (v : ℕ) (l k : Logs) (m m' : Meaning) → k.drl ≡ l.drl → k.fmr ≡ None → IsTrue m'.down → LogsDrop c v l k m m'
 drops_maps c v l k m m' same gone down = record { gone = λ log s is has none. inr down; none = none }
   where
     none : (log : VolumeLog) → has_log log k ≡ true → has_log log l ≡ true
-    none DrlLog has = sym (ap is_there same) ∙ has
-    none FmrLog has = absurd (let clash : false ≡ true = sym (ap is_there gone) ∙ has in cc)
+    none Drl has = sym (ap is_there same) ∙ has
+    none Fmr has = absurd (let clash : false ≡ true = sym (ap is_there gone) ∙ has in cc)
 
 -- ---- marks
 
