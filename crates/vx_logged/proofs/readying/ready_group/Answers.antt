@@ -112,8 +112,8 @@ returns-in-Err-clause-trusts g c =
 pub returns-in-Ok-clause-spent : goal.returns-in-Ok-clause-spent
 returns-in-Ok-clause-spent g c =
     λ is. ready_spent c.args.core.now c.release.new.core c.in-Ok.ensures.done (λ none. (c.release.ensures.full none).0) (λ none.
-        let was = c.is_none.ensures in
-        let on : not c.is_none.result ≡ true = ap not is in
-        let gone : is_some c.release.new.core.held ≡ false = ap (λ (o : Option Held). is_some o) none in
-        let turned : not (is_some c.release.new.core.held) ≡ true = ap not gone in
-        cc)
+    let was = c.is_none.ensures in
+    let on : not c.is_none.result ≡ true = ap not is in
+    let gone : is_some c.release.new.core.held ≡ false = ap (λ (o : Option Held). is_some o) none in
+    let turned : not (is_some c.release.new.core.held) ≡ true = ap not gone in
+    cc)
