@@ -26,6 +26,6 @@ pub returns-clause-maps : goal.returns-clause-maps
 returns-clause-maps g c = c.give_up_all.ensures.held
 
 pub returns-clause-keeps : goal.returns-clause-keeps
-returns-clause-keeps g c = 
+returns-clause-keeps g c =
     then_keeps c.args.core.now c.args.core.now c.att_whole.new.core c.args.logs.now.items c.give_up_all.new.logs.items c.give_up_all.new.logs.items (g.S.Shelf.meaning c.args.shelf.now) (g.S.Shelf.meaning c.args.shelf.now) (g.S.Shelf.meaning c.att_whole.new.shelf) (λ v log s at. at) (λ u. omega arith) c.att_whole.ensures.attaches.acts.faults c.att_whole.ensures.attaches.acts.falls
     (held_stays c.args.core.now.inner.config c.args.logs.now.items c.give_up_all.new.logs.items (g.S.Shelf.meaning c.args.shelf.now) c.give_up_all.ensures.held) c.att_whole.ensures.keeps

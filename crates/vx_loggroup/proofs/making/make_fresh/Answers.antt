@@ -126,13 +126,13 @@ pub returns-in-Err-clause-keeps : goal.returns-in-Err-clause-keeps
 returns-in-Err-clause-keeps g c = subst (λ (ls : List Logs). LogsKeep c.args.core.now c.args.core.now c.args.logs.now.items ls (g.S.Shelf.meaning c.args.shelf.now) (g.S.Shelf.meaning c.args.shelf.now)) (sym c.in-Err.ensures.items) (stay_keeps c.args.core.now c.args.core.now c.args.logs.now.items c.args.logs.now.items (g.S.Shelf.meaning c.args.shelf.now) (g.S.Shelf.meaning c.args.shelf.now) (stays_none c.args.core.now.inner.config c.args.logs.now.items (g.S.Shelf.meaning c.args.shelf.now) (g.S.Shelf.meaning c.args.shelf.now)))
 
 pub returns-in-Ok-make_in-clause-keeps : goal.returns-in-Ok-make_in-clause-keeps
-returns-in-Ok-make_in-clause-keeps g c = 
+returns-in-Ok-make_in-clause-keeps g c =
     subst (λ (ls : List Logs). LogsKeep c.args.core.now c.make_in.new.core c.args.logs.now.items ls (g.S.Shelf.meaning c.args.shelf.now) (g.S.Shelf.meaning c.make_in.new.shelf)) (sym c.in-Ok.ensures.items)
     (stay_keeps c.args.core.now c.make_in.new.core c.args.logs.now.items (c.args.logs.now.items ++ ((record { drl = None; fmr = None }) ∷ [])) (g.S.Shelf.meaning c.args.shelf.now) (g.S.Shelf.meaning c.make_in.new.shelf)
     (stays_more c.args.core.now.inner.config c.make_in.new.core.inner.config c.args.logs.now.items (c.args.logs.now.items ++ ((record { drl = None; fmr = None }) ∷ [])) (g.S.Shelf.meaning c.args.shelf.now) (g.S.Shelf.meaning c.make_in.new.shelf) (extends_places c.args.core.now.inner.config c.make_in.new.core.inner.config c.make_in.ensures.stays.shape) c.make_in.ensures.disks.blamed c.make_in.ensures.logs (λ v log has. memory_more c.args.logs.now.items ((record { drl = None; fmr = None }) ∷ []) v log has)))
 
 pub returns-in-Err-make_in-clause-keeps : goal.returns-in-Err-make_in-clause-keeps
-returns-in-Err-make_in-clause-keeps g c = 
+returns-in-Err-make_in-clause-keeps g c =
     subst (λ (ls : List Logs). LogsKeep c.args.core.now c.make_in.new.core c.args.logs.now.items ls (g.S.Shelf.meaning c.args.shelf.now) (g.S.Shelf.meaning c.make_in.new.shelf)) (sym (c.pop.ensures.rest ∙ ap (take (vec_len c.push.new.self - 1)) c.in-Ok.ensures.items ∙ take_front c.args.logs.now.items ((record { drl = None; fmr = None }) ∷ []) (vec_len c.push.new.self - 1) (let long = ap length c.in-Ok.ensures.items ∙ long_one c.args.logs.now.items (record { drl = None; fmr = None }) in omega (arith, c.push.new.self.ok, long))))
     (stay_keeps c.args.core.now c.make_in.new.core c.args.logs.now.items c.args.logs.now.items (g.S.Shelf.meaning c.args.shelf.now) (g.S.Shelf.meaning c.make_in.new.shelf)
     (stays_same c.args.core.now.inner.config c.make_in.new.core.inner.config c.args.logs.now.items (g.S.Shelf.meaning c.args.shelf.now) (g.S.Shelf.meaning c.make_in.new.shelf) (extends_places c.args.core.now.inner.config c.make_in.new.core.inner.config c.make_in.ensures.stays.shape) c.make_in.ensures.disks.blamed c.make_in.ensures.logs))
