@@ -1,4 +1,5 @@
 // Maps of missed regions on a disk that is held as failed, by which no plex is attached.
+ghost use Rattle.vx_loggroup.specs.Keeping.{LogsKeep};
 ghost use Rattle.std.specs.Prelude.{◌≡◌, ◌<◌, IfOk, IsTrue, None, Ok, OnOk, Some, Err, false, length, true};
 ghost use Rattle.vx_group.specs.Attaches.{GroupAttachEnds, att_refusal, missed_regions};
 ghost use Rattle.vx_group.specs.Calls.{GroupAttaches};
@@ -103,6 +104,7 @@ pub fn att_held<S: Shelf>(
     ensures regains { Regains core.old.inner.config core.new.inner.config vol plex (S.meaning shelf.old) (S.meaning shelf.new) }
     ensures held { active core.old.inner.config vol plex ≡ false → OnOk result (HoldsPlex (λ s. S.meaning s) core.old.inner.config core.new.inner.config vol plex shelf.new) }
     ensures maps { MapsHeld core.old.inner.config logs.old.items logs.new.items }
+    ensures keeps { LogsKeep core.old core.new logs.old.items logs.new.items (S.meaning shelf.old) (S.meaning shelf.new) }
     ensures trust { OnOk result (core.old.inner.committed ≡ true → core.new.inner.committed ≡ true) }
     ensures finds { CoreFinds (wide core.old) (wide core.new) (S.meaning shelf.old) (S.meaning shelf.new) }
     ensures free { OnOk result (core.old.held ≡ None → core.new.held ≡ None) }
