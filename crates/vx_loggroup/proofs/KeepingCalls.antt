@@ -1,10 +1,9 @@
 -- Which logs a group uses behind its calls: logs that begin, maps that are given up or emptied, writes and flushes.
-use Rattle.std.proofs.Common.{◌≡◌, ◌⊎◌, ◌∙◌, inl, inr, ℕ, zero, suc, ◌+◌, ◌<◌, ◌≤◌, Bool, true, false, Option, Some, None, List, [], ◌∷◌, length, IsTrue, refl, sym, ap, subst, arith}
+use Rattle.std.proofs.Common.{◌≡◌, ◌⊎◌, ◌∙◌, inl, inr, ℕ, zero, suc, ◌<◌, Bool, true, false, Option, Some, None, List, [], ◌∷◌, length, IsTrue, refl, sym, ap, subst, arith}
 use Rattle.std.proofs.Math.ListN.{set}
 use Rattle.std.proofs.lemmas.Bool.{cases_eq}
 use Rattle.std.proofs.lemmas.Option.{slice_get_within}
 use Rattle.std.specs.Prelude.{◌&&◌, not, slice_get}
-use Rattle.vx_config.specs.Table.{greatest}
 use Rattle.vx_config.specs.declared.config.Config.{Config}
 use Rattle.vx_config.specs.declared.entry.DiskEntry.{DiskEntry}
 use Rattle.vx_config.specs.declared.entry.LogEntry.{LogEntry}
@@ -31,7 +30,7 @@ use Rattle.vx_maplog.specs.Logs.{log_of}
 use Rattle.vx_loggroup.specs.Attaching.{MapsHeld}
 use Rattle.vx_loggroup.specs.Fresh.{FirstLogs, LogsFirst, LogsStart}
 use Rattle.vx_loggroup.specs.Keeping.{LogsKeep, LogsStay, has_or, in_memory}
-use Rattle.vx_loggroup.proofs.KeepingLemmas.{LogUsed, MayGo, frames_places, full_keeps, memory_item, stay_keeps, stays_by, stays_more, stays_set}
+use Rattle.vx_loggroup.proofs.KeepingLemmas.{LogUsed, frames_places, full_keeps, memory_item, stay_keeps, stays_by, stays_more, stays_set}
 use Rattle.vx_loggroup.proofs.SetLemmas.{item_at}
 
 -- ---- logs that begin

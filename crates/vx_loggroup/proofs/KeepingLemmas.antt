@@ -27,7 +27,7 @@ use Rattle.vx_layout.proofs.Pairs.{and_left, and_right}
 use Rattle.vx_logged.specs.Behind.{AreKept}
 use Rattle.vx_logged.specs.Logged.{TrustsIn}
 use Rattle.vx_logs.specs.declared.logs.Logs.{Logs}
-use Rattle.vx_maplog.specs.Logs.{log_of, log_or}
+use Rattle.vx_maplog.specs.Logs.{log_or}
 use Rattle.vx_loggroup.specs.Keeping.{KeptOr, LogsKeep, LogsKept, LogsStay, has_or, in_memory, lies_well, logs_at, logs_or, uses_log}
 use Rattle.vx_loggroup.proofs.SetLemmas.{item_at, set_here, set_other}
 
