@@ -1,5 +1,5 @@
 -- Logs that are trusted still behind calls of a group.
-use Rattle.std.proofs.Common.{◌≡◌, ◌⊎◌, inl, inr, ℕ, zero, suc, ◌≤◌, Bool, true, false, Option, Some, None, List, length, refl, sym, ◌∙◌, subst}
+use Rattle.std.proofs.Common.{◌≡◌, ◌⊎◌, inl, inr, ℕ, zero, suc, Bool, true, false, Option, Some, None, length, refl, sym, ◌∙◌, subst}
 use Rattle.std.specs.Prelude.{if◌then◌else◌}
 use Rattle.std.proofs.lemmas.Bool.{cases_lt}
 use Rattle.vx_disk.specs.Blocks.{bit_at}
@@ -11,7 +11,6 @@ use Rattle.vx_config.specs.declared.entry.VolumeEntry.{VolumeEntry}
 use Rattle.vx_config.specs.declared.entry.VolumeLog.{VolumeLog}
 use Rattle.vx_layout.specs.Made.{with_volume}
 use Rattle.vx_maplog.specs.Logs.{log_of}
-use Rattle.vx_kept.specs.LogRuns.{log_trusted}
 use Rattle.vx_kept.specs.States.{stale_at, staled, whole_of}
 use Rattle.vx_kept.proofs.RunLemmas.{logs_volumes, none_trusted, trust_from}
 use Rattle.vx_kept.proofs.StateLemmas.{stated_logs}
