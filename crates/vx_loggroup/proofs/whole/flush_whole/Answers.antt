@@ -6,6 +6,7 @@ use Rattle.vx_group.proofs.CallLemmas.{not_down}
 use Rattle.vx_loggroup.specs.LoggedVolumes.{is_alike}
 use Rattle.vx_loggroup.proofs.AlikeLemmas.{clears_set, notes_set, here_stands, index_low, set_stands}
 use Rattle.vx_loggroup.proofs.SetLemmas.{item_of}
+use Rattle.vx_logged.proofs.BeginLemmas.{but_note}
 use Rattle.vx_logged.specs.Behind.{none_missing}
 use Rattle.vx_loggroup.proofs.whole.flush_whole.Goals as goal
 
@@ -30,4 +31,4 @@ pub returns-clause-marks : goal.returns-clause-marks
 returns-clause-marks g c = clears_set (wide c.args.core.now).config c.args.vol c.args.logs.now.items c.index_mut.result.now c.flush_cleared.new.logs (item_of c.args.logs.now.items c.args.vol c.index_mut.result.now c.index_mut.ensures.value (index_low c.args.core.now c.args.logs.now.items c.args.alike.now c.args.stopped (g.S.Shelf.meaning c.args.shelf.now) c.args.vol c.requires.stands c.requires.there)) c.flush_cleared.ensures.fewer
 
 pub returns-clause-maps : goal.returns-clause-maps
-returns-clause-maps g c = notes_set none_missing c.args.vol 0 0 c.args.logs.now.items c.index_mut.result.now c.flush_cleared.new.logs (item_of c.args.logs.now.items c.args.vol c.index_mut.result.now c.index_mut.ensures.value (index_low c.args.core.now c.args.logs.now.items c.args.alike.now c.args.stopped (g.S.Shelf.meaning c.args.shelf.now) c.args.vol c.requires.stands c.requires.there)) c.flush_cleared.ensures.stay
+returns-clause-maps g c = notes_set none_missing none_missing c.args.vol 0 0 c.args.logs.now.items c.index_mut.result.now c.flush_cleared.new.logs (item_of c.args.logs.now.items c.args.vol c.index_mut.result.now c.index_mut.ensures.value (index_low c.args.core.now c.args.logs.now.items c.args.alike.now c.args.stopped (g.S.Shelf.meaning c.args.shelf.now) c.args.vol c.requires.stands c.requires.there)) (but_note none_missing none_missing 0 0 c.index_mut.result.now c.flush_cleared.new.logs c.flush_cleared.ensures.stay)
