@@ -1,6 +1,6 @@
 -- The maps of plexes that fell out of use in a call, as they begin.
 use Rattle.std.proofs.Common.{[], ◌≡◌, ◌∙◌, ◌⊎◌, inl, inr, ℕ, ◌+◌, ◌/◌, ◌<◌, ◌≤◌, Bool, true, false, Option, Some, None, List, IsTrue, length, replicate, set, get_or-set_same, get_or-set_other, length-set, refl, sym, ap, subst, arith}
-use Rattle.std.specs.Prelude.{◌&&◌, ◌||◌, ◌==◌, ◌*◌, ◌%◌, not, slice_index}
+use Rattle.std.specs.Prelude.{◌&&◌, ◌||◌, ◌*◌, ◌%◌, not, slice_index}
 use Rattle.std.proofs.lemmas.Bool.{cases_eq, cases_lt, eqb-true}
 use Rattle.std.proofs.lemmas.List.{get_or-replicate, get_or_past, length-replicate}
 use Rattle.vx_bitmap.specs.Bits.{is_among, is_marked}
@@ -9,8 +9,8 @@ use Rattle.vx_config.specs.declared.config.Config.{Config}
 use Rattle.vx_disk.specs.Counts.{Rose}
 use Rattle.vx_disk.specs.Shelf.{Goes, Meaning}
 use Rattle.vx_drl.specs.Dirty.{Dirty}
-use Rattle.vx_fmr.specs.Missed.{FmrLoaded, Missed, has_missed}
-use Rattle.vx_group.specs.Holding.{GroupStands, wide}
+use Rattle.vx_fmr.specs.Missed.{Missed, has_missed}
+use Rattle.vx_group.specs.Holding.{wide}
 use Rattle.vx_group.specs.declared.group_core.GroupCore.{GroupCore}
 use Rattle.vx_group.proofs.DetachLemmas.{zero_bit}
 use Rattle.vx_grouplogs.specs.Covering.{OnLogs}
@@ -20,7 +20,7 @@ use Rattle.vx_grouplogs.proofs.GoneLemmas.{drops_of}
 use Rattle.vx_grouplogs.proofs.KnowActs.{know_logs, logs_off_plex}
 use Rattle.vx_grouplogs.proofs.MapLemmas.{goes_logs, maps_logs}
 use Rattle.vx_groupmaps.specs.Beginning.{EmptyEnds, MapEmptied}
-use Rattle.vx_groupmaps.specs.Knowing.{MapsKnowBy, MapsNote, NotesMore, PlexesKnow}
+use Rattle.vx_groupmaps.specs.Knowing.{MapsKnowBy, MapsNote, PlexesKnow}
 use Rattle.vx_groupmaps.specs.Missing.{OnMaps, or_run, or_spared}
 use Rattle.vx_groupmaps.proofs.BetweenLemmas.{goes_reads}
 use Rattle.vx_groupmaps.proofs.KnowLemmas.{knows_stay, plex_below, read_old}
@@ -31,7 +31,7 @@ use Rattle.vx_logs.specs.Noting.{this_plex}
 use Rattle.vx_logs.specs.declared.logs.Logs.{Logs}
 use Rattle.vx_volume.specs.Plexes.{active}
 use Rattle.vx_volume.proofs.PlaceLemmas.{has_of}
-use Rattle.vx_logged.specs.Begun.{MapsBut, MapsOff, NotesBut, ReadsBut, but_run, fell_now, was_on}
+use Rattle.vx_logged.specs.Begun.{MapsBut, MapsOff, NotesBut, ReadsBut, fell_now, was_on}
 use Rattle.vx_logged.specs.Behind.{none_missing}
 use Rattle.vx_logged.specs.Logged.{EachOn}
 

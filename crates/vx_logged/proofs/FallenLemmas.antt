@@ -1,6 +1,6 @@
 -- Maps of plexes of a list that begin one after the other, and marks behind them.
 use Rattle.std.proofs.Common.{◌≡◌, ◌∙◌, inl, inr, ℕ, ◌+◌, ◌/◌, ◌<◌, ◌≤◌, Bool, true, false, Option, Some, None, List, IsTrue, refl, sym, ap, subst, arith}
-use Rattle.std.specs.Prelude.{◌&&◌, ◌||◌, ◌==◌, not, Result, Ok, Err}
+use Rattle.std.specs.Prelude.{◌&&◌, ◌||◌, not, Result, Ok, Err}
 use Rattle.std.proofs.lemmas.Bool.{cases_eq, eq-eqb}
 use Rattle.vx_bitmap.specs.Bits.{is_among}
 use Rattle.vx_config.specs.Checks.{plexes_of}
@@ -22,7 +22,7 @@ use Rattle.vx_grouplogs.specs.Marking.{MarksOnly, dirty_or}
 use Rattle.vx_grouplogs.proofs.GoneLemmas.{drop_same, drop_then}
 use Rattle.vx_grouplogs.proofs.LogShape.{has_back}
 use Rattle.vx_grouplogs.proofs.MapLemmas.{goes_logs}
-use Rattle.vx_groupmaps.specs.Knowing.{MapsKnowBy, MapsNote, PlexesKnow, or_off}
+use Rattle.vx_groupmaps.specs.Knowing.{MapsNote, PlexesKnow, or_off}
 use Rattle.vx_groupmaps.specs.Missing.{OnMaps, none_spared, or_run}
 use Rattle.vx_groupmaps.proofs.KnowLemmas.{know_less, note_same, plex_below}
 use Rattle.vx_kept.specs.Finds.{FindsFrom, NoConfiguration}

@@ -1,8 +1,7 @@
 -- What the maps of missed regions know of a volume of a group beside marks, and behind a write.
-use Rattle.std.proofs.Common.{◌≡◌, ◌∙◌, ◌⊎◌, inl, inr, ℕ, ◌+◌, ◌/◌, ◌<◌, ◌≤◌, Bool, true, false, Option, Some, None, List, IsTrue, length, refl, sym, ap, subst, arith}
-use Rattle.std.specs.Prelude.{◌&&◌, ◌||◌, ◌-◌, ◌*◌, not}
+use Rattle.std.proofs.Common.{◌≡◌, ◌∙◌, ◌⊎◌, inl, inr, ℕ, ◌+◌, ◌/◌, ◌≤◌, Bool, true, false, Some, None, List, IsTrue, length, refl, sym, ap, subst, arith}
+use Rattle.std.specs.Prelude.{◌&&◌, ◌||◌, ◌-◌, not}
 use Rattle.vx_bitmap.specs.Bits.{is_among}
-use Rattle.vx_config.specs.Checks.{is_sound}
 use Rattle.vx_config.specs.declared.config.Config.{Config}
 use Rattle.vx_disk.specs.Shelf.{Covers, Fits, Meaning, Written, Wrote}
 use Rattle.vx_fmr.specs.Missed.{Missed, has_missed}
@@ -12,8 +11,8 @@ use Rattle.vx_group.specs.declared.group_core.GroupCore.{GroupCore}
 use Rattle.vx_group.specs.declared.inner.Inner.{Inner}
 use Rattle.vx_group.proofs.HoldLemmas.{wide_none}
 use Rattle.vx_group.proofs.Standing.{sound_of}
-use Rattle.vx_groupmaps.specs.Knowing.{MapsKnow, MapsKnowBy, PlexesKnow, or_off, or_stale}
-use Rattle.vx_groupmaps.specs.Missing.{none_spared, or_run, or_spared}
+use Rattle.vx_groupmaps.specs.Knowing.{MapsKnowBy, PlexesKnow, or_off, or_stale}
+use Rattle.vx_groupmaps.specs.Missing.{none_spared, or_run}
 use Rattle.vx_groupmaps.proofs.KnowLemmas.{know_less, read_old}
 use Rattle.vx_groupmaps.proofs.MapPlaces.{stale_off}
 use Rattle.vx_grouplogs.proofs.FreshLemmas.{fresh_active}

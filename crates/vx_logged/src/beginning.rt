@@ -57,13 +57,7 @@ fn fell(core: &GroupCore, was: &[bool; MOST_PLEXES], vol: u32, plex: u32) -> boo
 }
 
 // Empties the map of a plex. A log of which the disk fails is in memory no more.
-fn begin_plex<S: Shelf>(
-    shelf: &mut S,
-    core: &GroupCore,
-    logs: &mut Logs,
-    vol: u32,
-    plex: u32,
-)
+fn begin_plex<S: Shelf>(shelf: &mut S, core: &GroupCore, logs: &mut Logs, vol: u32, plex: u32)
     requires stands { GroupStands core.now (S.meaning shelf.old) }
     requires none { core.now.held ≡ None }
     requires some { 0 < blocks_of_is core.now.inner.config.volumes vol }

@@ -1,11 +1,5 @@
 -- `begin_fallen`: its clauses; what stays true in its loop over `plex`.
-use Rattle.std.proofs.Common.{◌≡◌, ◌∙◌, true, false, refl, sym, arith}
-use Rattle.std.specs.Prelude.{◌&&◌, not}
-use Rattle.vx_disk.specs.Shelf.{Nothing}
-use Rattle.vx_group.specs.Holding.{wide}
-use Rattle.vx_group.specs.Stands.{inner_meaning}
-use Rattle.vx_groupmaps.specs.Missing.{OnMaps}
-use Rattle.vx_logged.specs.Begun.{fell_now}
+use Rattle.std.proofs.Common.{◌≡◌, ◌∙◌, true, false, sym, arith}
 use Rattle.vx_logged.proofs.BeginLemmas.{first_flag}
 use Rattle.vx_logged.proofs.FallenLemmas.{fallen_end, fallen_few, fallen_pass, fallen_start, fallen_then}
 use Rattle.vx_logged.proofs.beginning.begin_fallen.Goals.{else-fell, then-fell}

@@ -1,5 +1,5 @@
 -- `begin_plex`: what `begin_map` asks; its clauses.
-use Rattle.std.proofs.Common.{◌≡◌, ◌∙◌, None, Some, refl, subst, sym}
+use Rattle.std.proofs.Common.{◌≡◌, None, Some, refl, subst, sym}
 use Rattle.vx_config.specs.declared.config.Config.{Config}
 use Rattle.vx_fmr.specs.Missed.{Missed}
 use Rattle.vx_group.specs.Holding.{wide}

@@ -27,7 +27,7 @@ pub begin_fallen-requires-clause-none : goal.begin_fallen-requires-clause-none
 begin_fallen-requires-clause-none g c = (c.in-Ok.ensures.none c.if-not-ready.false)
 
 pub begin_fallen-requires-clause-some : goal.begin_fallen-requires-clause-some
-begin_fallen-requires-clause-some g c = 
+begin_fallen-requires-clause-some g c =
     let same = c.ready_group.ensures.goes.size c.args.vol in
     subst (λ (x : Config). 0 < blocks_of x.volumes c.args.vol) (config_is c.ready_group.new.core c.args.vol (g.S.Shelf.meaning c.ready_group.new.shelf) (g.S.Shelf.meaning c.ready_group.new.shelf) (c.in-Ok.ensures.none c.if-not-ready.false) c.ready_group.ensures.stands) (omega (arith, same, c.requires.some, c.requires.within))
 
@@ -137,7 +137,7 @@ returns-clause-knows g c = λ know. c.mark_group.ensures.knows none_spared
     (off_more c.args.core.now c.ready_group.new.core c.args.vol (first_region c.args.block) (last_region c.args.block c.args.count) c.args.logs.now (g.S.Shelf.meaning c.ready_group.new.shelf) c.ready_group.ensures.narrow (c.ready_group.ensures.logs.maps c.args.vol (or_off (wide c.args.core.now).config c.args.vol (first_region c.args.block) (last_region c.args.block c.args.count) none_spared) c.args.logs.now know)))
 
 pub returns-clause-notes : goal.returns-clause-notes
-returns-clause-notes g c = 
+returns-clause-notes g c =
     let same = fell_same c.ready_group.new.core c.mark_group.new.core c.args.vol c.args.was.now c.mark_group.ensures.still in
     but_then (fell_now c.args.was.now c.mark_group.new.core c.args.vol) (are_off c.mark_group.new.core c.args.vol) (first_region c.args.block) (last_region c.args.block c.args.count) c.args.logs.now c.begin_fallen.new.logs c.mark_group.new.logs
     (but_more (fell_now c.args.was.now c.ready_group.new.core c.args.vol) (fell_now c.args.was.now c.mark_group.new.core c.args.vol) (are_off c.mark_group.new.core c.args.vol) (are_off c.mark_group.new.core c.args.vol) (first_region c.args.block) (last_region c.args.block c.args.count) c.args.logs.now c.begin_fallen.new.logs (λ p is. same p ∙ is) (λ p is. is) (but_any (fell_now c.args.was.now c.ready_group.new.core c.args.vol) (are_off c.mark_group.new.core c.args.vol) (first_region c.args.block) (last_region c.args.block c.args.count) c.args.logs.now c.begin_fallen.new.logs c.begin_fallen.ensures.notes))
@@ -149,7 +149,7 @@ returns-clause-begins g c = λ is. if_ok_any c.mark_group.result (λ (done : Boo
     off_run (fell_now c.args.was.now c.mark_group.new.core c.args.vol) (fell_now c.args.was.now c.ready_group.new.core c.args.vol) (are_off c.mark_group.new.core c.args.vol) (first_region c.args.block) (last_region c.args.block c.args.count) c.begin_fallen.new.logs c.mark_group.new.logs (λ p on. sym (same p) ∙ on) (c.begin_fallen.ensures.begins is) c.mark_group.ensures.notes)
 
 pub returns-clause-drops : goal.returns-clause-drops
-returns-clause-drops g c = 
+returns-clause-drops g c =
     drop_behind (wide c.args.core.now).config (wide c.ready_group.new.core).config c.args.vol c.args.logs.now c.mark_group.new.logs (g.S.Shelf.meaning c.args.shelf.now) (g.S.Shelf.meaning c.ready_group.new.shelf) (g.S.Shelf.meaning c.mark_group.new.shelf) (c.ready_group.ensures.narrow.shape.logs c.args.vol) c.ready_group.ensures.loses.rises
     (drop_then (wide c.ready_group.new.core).config (wide c.ready_group.new.core).config c.args.vol c.args.logs.now c.begin_fallen.new.logs c.mark_group.new.logs (g.S.Shelf.meaning c.ready_group.new.shelf) (g.S.Shelf.meaning c.begin_fallen.new.shelf) (g.S.Shelf.meaning c.mark_group.new.shelf) (λ log. refl) c.begin_fallen.ensures.below.faults c.mark_group.ensures.loses.rises c.mark_group.ensures.goes.falls c.begin_fallen.ensures.drops c.mark_group.ensures.drops)
 

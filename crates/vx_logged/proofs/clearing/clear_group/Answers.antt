@@ -1,5 +1,5 @@
 -- Marks that are taken off.
-use Rattle.std.proofs.Common.{◌≡◌, ◌+◌, ◌<◌, ◌≤◌, ℕ, Bool, false, true, ap, refl, subst, sym, arith}
+use Rattle.std.proofs.Common.{◌≡◌, ℕ, Bool, false, true, refl, subst, arith}
 use Rattle.vx_config.specs.declared.config.Config.{Config}
 use Rattle.vx_disk.specs.Shelf.{Nothing}
 use Rattle.vx_disk.proofs.Causing.{Cause_both}

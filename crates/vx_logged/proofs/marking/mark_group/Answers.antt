@@ -1,5 +1,5 @@
 -- Marks of a group before a write.
-use Rattle.std.proofs.Common.{IsTrue, ◌≡◌, ◌+◌, ◌<◌, ◌≤◌, ℕ, Bool, false, true, ap, refl, subst, sym, arith}
+use Rattle.std.proofs.Common.{IsTrue, ◌≡◌, ◌+◌, ◌≤◌, ℕ, Bool, false, true, refl, subst, sym, arith}
 use Rattle.vx_config.specs.Checks.{blocks_of}
 use Rattle.vx_config.specs.declared.config.Config.{Config}
 use Rattle.vx_disk.specs.Shelf.{Nothing}
@@ -304,6 +304,6 @@ returns-clause-plexes g c = λ missed up know.
     let same = config_is c.ready_group.new.core c.args.vol (g.S.Shelf.meaning c.ready_group.new.shelf) (g.S.Shelf.meaning c.ready_group.new.shelf) none c.ready_group.ensures.stands in
     let ready = plexes_each c.args.core.now c.ready_group.new.core c.args.vol (g.S.Shelf.meaning c.args.shelf.now) (g.S.Shelf.meaning c.ready_group.new.shelf) c.ready_group.ensures.logs missed first know in
     let guarded = plexes_logs c.ready_group.new.core.inner.config (inner_sound c.ready_group.new.core c.args.vol (g.S.Shelf.meaning c.ready_group.new.shelf) (g.S.Shelf.meaning c.ready_group.new.shelf) none c.ready_group.ensures.stands) c.args.vol (g.S.Shelf.meaning c.ready_group.new.shelf) (g.S.Shelf.meaning c.guard_run.new.shelf) c.guard_run.ensures.goes missed mid
-        (subst (λ (x : Config). PlexesKnow x c.args.vol missed (g.S.Shelf.meaning c.ready_group.new.shelf).reads) same ready) in
+    (subst (λ (x : Config). PlexesKnow x c.args.vol missed (g.S.Shelf.meaning c.ready_group.new.shelf).reads) same ready) in
     plexes_each c.ready_group.new.core c.keep_logs.new.core c.args.vol (g.S.Shelf.meaning c.guard_run.new.shelf) (g.S.Shelf.meaning c.keep_logs.new.shelf) c.keep_logs.ensures.logs missed up
     (subst (λ (x : Config). PlexesKnow x c.args.vol missed (g.S.Shelf.meaning c.guard_run.new.shelf).reads) (sym same) guarded)

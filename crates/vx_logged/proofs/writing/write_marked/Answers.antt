@@ -9,7 +9,6 @@ use Rattle.vx_group.specs.Stands.{inner_meaning}
 use Rattle.vx_groupmaps.proofs.KnowLemmas.{note_more, note_then}
 use Rattle.vx_logs.specs.Writes.{first_region, last_region}
 use Rattle.vx_model.specs.Sizes.{regions_of as regions_in}
-use Rattle.vx_groupmaps.specs.Missing.{none_spared, or_run}
 use Rattle.vx_group.proofs.HoldLemmas.{narrow_sound, narrow_wider}
 use Rattle.vx_volume.specs.Plexes.{active}
 use Rattle.vx_volume.proofs.PlaceLemmas.{active_few}

@@ -82,7 +82,8 @@ returns-clause-begins g c =
     begins_then c.args.vol c.args.core.now c.args.core.now c.trust_first.new.core (g.S.Shelf.meaning c.args.shelf.now) (g.S.Shelf.meaning c.begin_maps.new.shelf) (g.S.Shelf.meaning c.trust_first.new.shelf) (record { goes = logs_goes c.args.core.now c.args.vol (g.S.Shelf.meaning c.args.shelf.now) (g.S.Shelf.meaning c.begin_maps.new.shelf) c.requires.none c.requires.stands c.begin_maps.ensures.group; loses = along_same c.args.core.now.inner.config (g.S.Shelf.meaning c.args.shelf.now) (g.S.Shelf.meaning c.begin_maps.new.shelf) c.begin_maps.ensures.goes.faults; finds = idle_group c.args.core.now (g.S.Shelf.meaning c.args.shelf.now) (g.S.Shelf.meaning c.begin_maps.new.shelf) (logs_finds c.args.core.now c.args.vol (g.S.Shelf.meaning c.args.shelf.now) (g.S.Shelf.meaning c.begin_maps.new.shelf) c.requires.none c.requires.stands (goes_logs c.args.core.now.inner.config c.args.vol (g.S.Shelf.meaning c.args.shelf.now) (g.S.Shelf.meaning c.begin_maps.new.shelf) c.begin_maps.ensures.goes) (g.met.S.Shelf.lawful c.args.shelf.now) (g.met.S.Shelf.lawful c.begin_maps.new.shelf)); still = λ w p. refl; on = λ w p is. is; units = goes_units _ (g.S.Shelf.meaning c.args.shelf.now) (g.S.Shelf.meaning c.begin_maps.new.shelf) c.begin_maps.ensures.goes; others = inner_others c.args.core.now c.args.vol (g.S.Shelf.meaning c.args.shelf.now) (g.S.Shelf.meaning c.begin_maps.new.shelf) c.requires.none c.requires.stands (goes_logs c.args.core.now.inner.config c.args.vol (g.S.Shelf.meaning c.args.shelf.now) (g.S.Shelf.meaning c.begin_maps.new.shelf) c.begin_maps.ensures.goes) c.begin_maps.ensures.others })
     (record {
       goes = c.trust_first.ensures.goes;
-      loses = c.trust_first.ensures.loses; finds = c.trust_first.ensures.finds;
+      loses = c.trust_first.ensures.loses;
+      finds = c.trust_first.ensures.finds;
       still = c.trust_first.ensures.still;
       on = λ w p is. sym (trusting_active c.args.vol Fmr (wide c.args.core.now).config w p) ∙ c.trust_first.ensures.acts.on w p is;
       units = acts_units Nothing _ (g.S.Shelf.meaning c.begin_maps.new.shelf) (g.S.Shelf.meaning c.trust_first.new.shelf) c.trust_first.ensures.acts.acts;
