@@ -1,6 +1,6 @@
 -- Volumes of which a crash leaves one value of each block, beside calls; and logs that begin.
 use Rattle.std.proofs.Common.{◌≡◌, ◌∙◌, inl, inr, ℕ, ◌<◌, ◌≤◌, Bool, true, false, IsTrue, Option, Some, None, List, length, refl, sym, ap, subst, arith}
-use Rattle.std.specs.Prelude.{is_some, slice_get}
+use Rattle.std.specs.Prelude.{◌&&◌, is_some, not, slice_get}
 use Rattle.std.proofs.Math.ListN.{set}
 use Rattle.std.proofs.lemmas.Bool.{cases_eq}
 use Rattle.std.proofs.lemmas.List.{length-set}
@@ -27,7 +27,7 @@ use Rattle.vx_logged.proofs.StandLemmas.{others_then, same_only}
 use Rattle.vx_logs.specs.Held.{stale}
 use Rattle.vx_logs.specs.declared.logs.Logs.{Logs}
 use Rattle.vx_model.specs.Sizes.{regions_of}
-use Rattle.vx_volume.specs.Plexes.{Inside}
+use Rattle.vx_volume.specs.Plexes.{active, Inside}
 use Rattle.vx_loggroup.specs.Fresh.{LogsStart, FirstLogs, FreshStands, LogsFirst}
 use Rattle.vx_loggroup.specs.LoggedVolumes.{is_alike}
 use Rattle.vx_loggroup.specs.Marks.{MarksVolume, NotesMaps, RunsMaps, region_count}
