@@ -31,7 +31,7 @@ use Rattle.vx_logs.specs.Noting.{this_plex}
 use Rattle.vx_logs.specs.declared.logs.Logs.{Logs}
 use Rattle.vx_volume.specs.Plexes.{active}
 use Rattle.vx_volume.proofs.PlaceLemmas.{has_of}
-use Rattle.vx_logged.specs.Begun.{MapsBut, MapsOff, NotesBut, ReadsBut, fell_now, was_on}
+use Rattle.vx_logged.specs.Begun.{ReadsWhole, MapsBut, MapsOff, NotesBut, ReadsBut, fell_now, was_on}
 use Rattle.vx_logged.specs.Behind.{none_missing}
 use Rattle.vx_logged.specs.Logged.{EachOn}
 
@@ -137,6 +137,12 @@ but_less c v first last these those m less reads = record {
     by : (s t a : Bool) → (s ≡ true → t ≡ true) → not s || a ≡ false → not t || a ≡ false
     by true t a less clear = ap (λ (x : Bool). not x || a) (less refl) ∙ clear
     by false t a less clear = absurd (let clash : true ≡ false = clear in cc)
+
+-- in each block, of fewer plexes
+pub whole_of : (c : Config) (v : ℕ) (these those : ℕ → Bool) (m : Meaning) → ((p : ℕ) → these p ≡ true → those p ≡ true) → ((IsTrue m.down → ⊥) → PlexesKnow c v (λ p r. not (those p)) m.reads) → ReadsWhole c v these m
+whole_of c v these those m less reads = record {
+  so = λ up. record { so = λ p q b x y has on inside clear at_p at_q. (reads up).so p q b x y has on inside (ap not (less p (not_clear (these p) clear))) at_p at_q };
+}
 
 -- ---- maps behind calls
 

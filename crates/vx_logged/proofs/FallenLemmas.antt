@@ -1,9 +1,9 @@
 -- Maps of plexes of a list that begin one after the other, and marks behind them.
 use Rattle.std.proofs.Common.{◌≡◌, ◌∙◌, inl, inr, ℕ, ◌+◌, ◌/◌, ◌<◌, ◌≤◌, Bool, true, false, Option, Some, None, List, IsTrue, refl, sym, ap, subst, arith}
-use Rattle.std.specs.Prelude.{◌&&◌, ◌||◌, not, Result, Ok, Err}
+use Rattle.std.specs.Prelude.{◌*◌, ◌&&◌, ◌||◌, not, Result, Ok, Err}
 use Rattle.std.proofs.lemmas.Bool.{cases_eq, eq-eqb}
 use Rattle.vx_bitmap.specs.Bits.{is_among}
-use Rattle.vx_config.specs.Checks.{plexes_of}
+use Rattle.vx_config.specs.Checks.{blocks_of, plexes_of}
 use Rattle.vx_config.specs.declared.config.Config.{Config}
 use Rattle.vx_disk.specs.Causes.{Cause}
 use Rattle.vx_disk.specs.Shelf.{Goes, Meaning, Nothing, Or}
@@ -18,15 +18,18 @@ use Rattle.vx_group.specs.Stands.{inner_meaning}
 use Rattle.vx_group.specs.declared.group_core.GroupCore.{GroupCore}
 use Rattle.vx_group.proofs.HoldLemmas.{narrow_wider}
 use Rattle.vx_grouplogs.specs.Gone.{LogsDrop}
-use Rattle.vx_grouplogs.specs.Marking.{MarksOnly, dirty_or}
+use Rattle.vx_grouplogs.specs.Marking.{MarksFewer, MarksOnly, dirty_or}
 use Rattle.vx_grouplogs.proofs.GoneLemmas.{drop_same, drop_then}
 use Rattle.vx_grouplogs.proofs.LogShape.{has_back}
 use Rattle.vx_grouplogs.proofs.MapLemmas.{goes_logs}
-use Rattle.vx_groupmaps.specs.Knowing.{MapsNote, PlexesKnow, or_off}
+use Rattle.vx_groupmaps.specs.Knowing.{MapsStay, MapsNote, PlexesKnow, or_off}
 use Rattle.vx_groupmaps.specs.Missing.{OnMaps, none_spared, or_run}
 use Rattle.vx_groupmaps.proofs.KnowLemmas.{know_less, note_same, plex_below}
 use Rattle.vx_kept.specs.Finds.{FindsFrom, NoConfiguration}
 use Rattle.vx_layout.specs.Places.{HasBlock}
+use Rattle.vx_logs.specs.Held.{LogsFit}
+use Rattle.vx_model.specs.Sizes.{map_blocks}
+use Rattle.vx_model.specs.declared.limits.TheConstants.{MAP_REGIONS}
 use Rattle.vx_logs.specs.Noting.{this_plex}
 use Rattle.vx_logs.specs.declared.logs.Logs.{Logs}
 use Rattle.vx_volume.specs.Plexes.{Inside, active}
@@ -240,3 +243,37 @@ run_less fell these first last l less run = record { only = λ f is p r low unde
 
 pub run_none : (fell : ℕ → Bool) (first last : ℕ) (l : Logs) → l.fmr ≡ None → MapsOfRun fell first last l
 run_none fell first last l none = record { only = λ f is. absurd (let clash : None ≡ Some f = sym none ∙ is in cc) }
+
+-- no region of fewer plexes, or of a volume without blocks
+pub off_less : (fell these : ℕ → Bool) (l : Logs) → ((p : ℕ) → fell p ≡ true → these p ≡ true) → MapsOff these l → MapsOff fell l
+off_less fell these l less off = record { none = λ f is p r low under on. off.none f is p r low under (less p on) }
+
+pub no_blocks : (c : Config) (v : ℕ) (these : ℕ → Bool) (l : Logs) → LogsFit c v l → blocks_of c.volumes v ≡ 0 → MapsOff these l
+no_blocks c v these l fits none = record {
+  none = λ f is p r low under on. absurd (let stride : f.stride ≡ 0 = (fits.fmr f is).stride ∙ ap (λ (n : ℕ). MAP_REGIONS * map_blocks n) none in omega (arith, under, stride));
+}
+
+-- behind calls that note none
+pub off_stay : (these : ℕ → Bool) (l k : Logs) → MapsOff these l → MapsStay l k → MapsOff these k
+off_stay these l k off stay = record { none = λ g is p r low under on. by g is p r low under on l.fmr refl }
+  where
+    by : (g : Missed) → k.fmr ≡ Some g → (p r : ℕ) → p < g.plexes → r < g.stride → these p ≡ true → (o : Option Missed) → l.fmr ≡ o → has_missed g p r ≡ false
+    by g is p r low under on None at = absurd (let clash : None ≡ Some g = sym (stay.gone at) ∙ is in cc)
+    by g is p r low under on (Some f) at = bit (has_missed g p r) refl
+      where
+        shape : SameMissedShape f g
+        shape = (stay.each f g at is).shape
+
+        bit : (t : Bool) → has_missed g p r ≡ t → t ≡ false
+        bit false has = refl
+        bit true has = elim ((stay.each f g at is).only p r (omega (arith, low, shape.plexes)) (omega (arith, under, shape.stride)) has) [
+          | inl was ↦ absurd (let clash : true ≡ false = sym was ∙ off.none f at p r (omega (arith, low, shape.plexes)) (omega (arith, under, shape.stride)) on in cc)
+          | inr now ↦ absurd (let clash : false ≡ true = now.0 in cc)
+        ]
+
+-- marks of a dirty region log that stays
+pub fewer_drl : (n : ℕ) (l k : Logs) → k.drl ≡ l.drl → MarksFewer n l k
+fewer_drl n l k same = record { each = λ r lt is. subst (λ (o : Option Dirty). dirty_or o r ≡ true) same is }
+
+pub fewer_before : (n n' : ℕ) (l k j : Logs) → n' ≡ n → k.drl ≡ l.drl → MarksFewer n' k j → MarksFewer n l j
+fewer_before n n' l k j size same one = record { each = λ r lt is. subst (λ (o : Option Dirty). dirty_or o r ≡ true) same (one.each r (omega (arith, lt, size)) is) }

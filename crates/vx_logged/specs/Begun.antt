@@ -29,6 +29,10 @@ but_run these first last p r = not (these p) || is_among first last r
 pub record ReadsBut (c : Config) (v : ℕ) (these : ℕ → Bool) (first last : ℕ) (m : Meaning) : Type 0 where
   pub so : (IsTrue m.down → ⊥) → PlexesKnow c v (but_run these first last) m.reads
 
+-- in each block these plexes read what each plex that is ACTIVE reads
+pub record ReadsWhole (c : Config) (v : ℕ) (these : ℕ → Bool) (m : Meaning) : Type 0 where
+  pub so : (IsTrue m.down → ⊥) → PlexesKnow c v (λ p r. not (these p)) m.reads
+
 -- A map behind a call: what it had it has, but of plexes that fell; and what it has besides is of a run, of one of those.
 pub record NotesBut (fell those : ℕ → Bool) (first last : ℕ) (f g : Missed) : Type 0 where
   pub shape : SameMissedShape f g

@@ -14,7 +14,7 @@ ghost use Rattle.vx_grouplogs.specs.Marking.{MarksOnly};
 ghost use Rattle.vx_groupmaps.specs.Knowing.{PlexesKnow, or_off};
 ghost use Rattle.vx_groupmaps.specs.Missing.{OnMaps, none_spared, or_run};
 ghost use Rattle.vx_layout.specs.Places.{HasBlock};
-ghost use Rattle.vx_logged.specs.Begun.{MapsBut, MapsOff, MapsOfRun, ReadsBut, fell_now, was_on};
+ghost use Rattle.vx_logged.specs.Begun.{MapsBut, MapsOff, MapsOfRun, ReadsBut, ReadsWhole, fell_now, was_on};
 ghost use Rattle.vx_logged.specs.Behind.{MapSaid, none_missing};
 ghost use Rattle.vx_logged.specs.Logged.{Known, KnownBy, LogOn, MayWrite, Narrowed, OthersOn, TrustsIn, are_off};
 ghost use Rattle.vx_logs.specs.Noting.{this_plex};
@@ -23,6 +23,7 @@ ghost use Rattle.vx_model.specs.Sizes.{regions_of as regions_in};
 ghost use Rattle.vx_model.specs.declared.limits.TheConstants.{MOST_PLEXES};
 ghost use Rattle.vx_volume.specs.Plexes.{active};
 
+use crate::keeping::keep_map;
 use crate::marking::mark_group;
 use crate::readying::ready_group;
 use vx_config::Config;
@@ -31,7 +32,7 @@ use vx_group::GroupCore;
 use vx_groupmaps::begin_map;
 use vx_logs::Logs;
 use vx_model::limits::MOST_PLEXES;
-use vx_volume::is_active;
+use vx_volume::{blocks_of, is_active};
 
 /// Which plexes of a volume are ACTIVE.
 pub fn actives(config: &Config, vol: u32) -> [bool; MOST_PLEXES]
@@ -168,4 +169,52 @@ pub fn mark_fallen<S: Shelf>(
     }
     begin_fallen(shelf, core, logs, sure, was, vol);
     mark_group(shelf, core, logs, vol, block, count)
+}
+
+/// Empties the maps of the plexes of a list that are not ACTIVE, which read in each block what those read that are ACTIVE, and answers whether it
+/// is done: so it is while a serial is left. A log of which the disk fails is committed as lost.
+pub fn keep_fallen<S: Shelf>(
+    shelf: &mut S,
+    core: &mut GroupCore,
+    logs: &mut Logs,
+    was: &[bool; MOST_PLEXES],
+    vol: u32,
+) -> Result<bool, ShelfError>
+    requires stands { GroupStands core.old (S.meaning shelf.old) }
+    requires there { vol < (inner_meaning (wide core.old) (S.meaning shelf.old)).units }
+    requires log { LogOn core.old vol logs.old (S.meaning shelf.old) }
+    requires has { (p : ℕ) → 0 < blocks_of_is (wide core.old).config.volumes vol → was_on was.now p ≡ true → HasBlock (wide core.old).config vol p 0 }
+    requires reads { ReadsWhole (wide core.old).config vol (was_on was.now) (S.meaning shelf.old) }
+    ensures stands { GroupStands core.new (S.meaning shelf.new) }
+    ensures goes { Goes Nothing (inner_meaning (wide core.old) (S.meaning shelf.old)) (inner_meaning (wide core.new) (S.meaning shelf.new)) }
+    ensures loses { LosesAlong core.old.inner.config core.new.inner.config (S.meaning shelf.old) (S.meaning shelf.new) }
+    ensures log { LogOn core.new vol logs.new (S.meaning shelf.new) }
+    ensures others { OthersOn vol core.old core.new (S.meaning shelf.old) (S.meaning shelf.new) }
+    ensures drl { logs.new.drl ≡ logs.old.drl }
+    ensures narrow { Narrowed core.old core.new }
+    ensures still { (w p : ℕ) → active core.new.inner.config w p ≡ active core.old.inner.config w p }
+    ensures maps { Known core.old vol logs.old (S.meaning shelf.old) → Known core.new vol logs.new (S.meaning shelf.new) }
+    ensures notes { MapsBut (fell_now was.now core.new vol) none_missing 0 0 logs.old logs.new }
+    ensures begins { IfOk result (λ done. done ≡ true → MapsOff (fell_now was.now core.new vol) logs.new) }
+    ensures spent { IfOk result (λ done. done ≡ false → greatest ≤ core.new.inner.config.serial + 9) }
+    ensures drops { LogsDrop (wide core.old).config vol logs.old logs.new (S.meaning shelf.old) (S.meaning shelf.new) }
+    ensures trusts { TrustsIn vol logs.new core.old.inner.config core.new.inner.config }
+    ensures trust { OnOk result (core.old.inner.committed ≡ true → core.new.inner.committed ≡ true) }
+    ensures agreed { IfErr result (λ e. core.old.inner.committed ≡ true → core.new.inner.agreed ≡ true) }
+    ensures finds { GroupFinds core.old core.new (S.meaning shelf.old) (S.meaning shelf.new) }
+    ensures cause { Cause (inner_meaning (wide core.old) (S.meaning shelf.old)) (inner_meaning (wide core.new) (S.meaning shelf.new)) vol result }
+{
+    let ready = match ready_group(shelf, core, vol) {
+        Ok(ready) => ready,
+        Err(error) => return Err(error),
+    };
+    if !ready {
+        return Ok(false);
+    }
+    let blocks = blocks_of(&core.inner.config, vol);
+    if blocks == 0 {
+        return Ok(true);
+    }
+    begin_fallen(shelf, core, logs, true, was, vol);
+    keep_map(shelf, core, logs, vol)
 }
