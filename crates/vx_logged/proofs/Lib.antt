@@ -5,3 +5,4 @@ pub mod RefuseLemmas
 pub mod GoneLogs
 pub mod BeginLemmas
 pub mod FallenLemmas
+pub mod HoldsLemmas
