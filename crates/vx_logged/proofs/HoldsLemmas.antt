@@ -8,14 +8,12 @@ use Rattle.vx_config.specs.declared.config.Config.{Config}
 use Rattle.vx_config.specs.declared.entry.PlexEntry.{PlexEntry}
 use Rattle.vx_config.specs.declared.entry.VolumeEntry.{VolumeEntry}
 use Rattle.vx_disk.specs.Shelf.{Meaning}
-use Rattle.vx_fmr.specs.Missed.{Missed, has_missed}
 use Rattle.vx_group.specs.Holding.{GroupStands, wide}
 use Rattle.vx_group.specs.declared.group_core.GroupCore.{GroupCore}
 use Rattle.vx_group.proofs.HoldLemmas.{narrow_sound, wide_shape}
 use Rattle.vx_grouplogs.specs.Marking.{MarksFewer, MarksOnly}
 use Rattle.vx_grouplogs.proofs.FreshLemmas.{fresh_active}
 use Rattle.vx_grouplogs.proofs.LogShape.{same_count}
-use Rattle.vx_groupmaps.specs.Knowing.{MapsNote}
 use Rattle.vx_groupmaps.specs.Missing.{HoldMissed}
 use Rattle.vx_groupmaps.proofs.KnowLemmas.{note_same}
 use Rattle.vx_kept.specs.Keeping.{AllOn, frame_at}
@@ -23,7 +21,7 @@ use Rattle.vx_layout.specs.Places.{has_plex, plex_in}
 use Rattle.vx_logs.specs.Held.{stale}
 use Rattle.vx_logs.specs.declared.logs.Logs.{Logs}
 use Rattle.vx_volume.specs.Plexes.{active}
-use Rattle.vx_volume.proofs.PlaceLemmas.{active_below, count_few}
+use Rattle.vx_volume.proofs.PlaceLemmas.{count_few}
 use Rattle.vx_logged.specs.Begun.{MapsOff, MapsOfRun, fell_in, fell_now, was_on}
 use Rattle.vx_logged.specs.Holds.{HoldsRun, NoneFell, TheseHold}
 use Rattle.vx_logged.proofs.BeginLemmas.{first_flag}

@@ -1,5 +1,5 @@
 -- `flush_behind`: its clauses; what `miss_fallen` asks.
-use Rattle.std.proofs.Common.{◌∙◌, inl, inr, ap, sym, arith}
+use Rattle.std.proofs.Common.{inl, inr, ap, arith}
 use Rattle.vx_disk.specs.Shelf.{Nothing}
 use Rattle.vx_disk.proofs.Causing.{Cause_both}
 use Rattle.vx_disk.proofs.Runs.{then_nothing}

@@ -3,7 +3,7 @@ use Rattle.vx_loggroup.proofs.FactLemmas.{from_logged, to_logged}
 use Rattle.vx_loggroup.proofs.FreshLemmas.{fresh_still}
 use Rattle.vx_loggroup.specs.Mirrors.{names_none}
 use Rattle.vx_loggroup.proofs.MirrorLemmas.{keep_loses}
-use Rattle.vx_loggroup.proofs.behind.LoggedGroup.flush_run.Goals as goal
+use Rattle.vx_loggroup.proofs.group.LoggedGroup.flush_run.Goals as goal
 
 pub flush_run-requires-clause-stands : goal.flush_run-requires-clause-stands
 flush_run-requires-clause-stands g c = from_logged c.args.self.now.core c.args.self.now.logs.items c.args.self.now.alike c.args.self.now.stopped (g.S.Shelf.meaning c.args.self.now.shelf) c.args.self.now.stands
