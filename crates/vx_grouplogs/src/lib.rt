@@ -7,8 +7,6 @@ mod clearing;
 mod guarding;
 mod loading;
 mod running;
-#[cfg(test)]
-mod tests;
 
 pub use clearing::clear_marks;
 pub use guarding::{clear_run, guard_run};

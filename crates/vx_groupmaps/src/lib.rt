@@ -11,8 +11,6 @@ pub mod laws;
 mod loading;
 mod marking;
 mod readying;
-#[cfg(test)]
-mod tests;
 
 pub use beginning::begin_map;
 pub use filling::fill_maps;
