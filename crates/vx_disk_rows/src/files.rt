@@ -85,23 +85,20 @@ fn files_keep_what_was_written(rt: HostRuntime) -> Result<(), Fail> {
     drop(first);
     let mut second = fitted(rt, rt.alloc(), Some("."), 8)?;
     for (unit, block, want) in [(1, 3, 7), (1, 2, 0), (0, 3, 0)] {
-        assert_eq!(rt; last_byte(&mut second, unit, block), Ok(want));
+        assert!(rt; last_byte(&mut second, unit, block) == Ok(want));
     }
     write(&mut second, 0, 7, 5)?;
     crash(&mut second);
-    assert_eq!(rt; last_byte(&mut second, 0, 7), Ok(5));
+    assert!(rt; last_byte(&mut second, 0, 7) == Ok(5));
     drop(second);
     let mut longer = fitted(rt, rt.alloc(), Some("."), 9)?;
-    assert_eq!(rt; last_byte(&mut longer, 1, 3), Ok(0));
+    assert!(rt; last_byte(&mut longer, 1, 3) == Ok(0));
     // Another cuts the file short under it.
     assert!(rt; fs::write(&rt, "./901-1.vxd", "").is_ok());
-    assert_eq!(rt;
-        last_byte(&mut longer, 1, 3),
-        Err(ShelfError::Fault { disk: 1 })
-    );
-    assert_eq!(rt; last_byte(&mut longer, 0, 3), Ok(0));
-    assert_eq!(rt; faults(&longer, 1), 1);
-    assert_eq!(rt; faults(&longer, 0), 0);
+    assert!(rt; last_byte(&mut longer, 1, 3) == Err(ShelfError::Fault { disk: 1 }));
+    assert!(rt; last_byte(&mut longer, 0, 3) == Ok(0));
+    assert!(rt; faults(&longer, 1) == 1);
+    assert!(rt; faults(&longer, 0) == 0);
     remove(&rt);
     Ok(())
 }
@@ -110,16 +107,13 @@ fn files_keep_what_was_written(rt: HostRuntime) -> Result<(), Fail> {
 fn faults_of_files_are_counted(rt: HostRuntime) -> Result<(), Fail> {
     let mut rack = HostRack::new(rt, rt.alloc())?;
     let answer = fit(&mut rack, rt.alloc(), Some("no/such/folder"), 8);
-    assert_eq!(rt; answer, Err(Stop::No(No::Device { disk: 0 })));
-    assert_eq!(rt; fit(&mut rack, rt.alloc(), None, 8), Ok(()));
-    assert_eq!(rt; faults(&rack, 0), 1);
-    assert_eq!(rt; faults(&rack, 1), 0);
+    assert!(rt; answer == Err(Stop::No(No::Device { disk: 0 })));
+    assert!(rt; fit(&mut rack, rt.alloc(), None, 8) == Ok(()));
+    assert!(rt; faults(&rack, 0) == 1);
+    assert!(rt; faults(&rack, 1) == 0);
     make_fail(&mut rack, 1, true);
-    assert_eq!(rt;
-        last_byte(&mut rack, 1, 0),
-        Err(ShelfError::Fault { disk: 1 })
-    );
-    assert_eq!(rt; faults(&rack, 1), 1);
+    assert!(rt; last_byte(&mut rack, 1, 0) == Err(ShelfError::Fault { disk: 1 }));
+    assert!(rt; faults(&rack, 1) == 1);
     Ok(())
 }
 
@@ -129,8 +123,8 @@ fn memory_forgets_what_was_not_flushed(rt: HostRuntime) -> Result<(), Fail> {
     write(&mut rack, 0, 2, 4)?;
     flush(&mut rack, 0)?;
     write(&mut rack, 0, 2, 6)?;
-    assert_eq!(rt; last_byte(&mut rack, 0, 2), Ok(6));
+    assert!(rt; last_byte(&mut rack, 0, 2) == Ok(6));
     crash(&mut rack);
-    assert_eq!(rt; last_byte(&mut rack, 0, 2), Ok(4));
+    assert!(rt; last_byte(&mut rack, 0, 2) == Ok(4));
     Ok(())
 }

@@ -44,12 +44,12 @@ fn numbers_stand_where_they_are_put(rt: HostRuntime) {
         wanted[i] = i as u8 + 1;
     }
     assert!(rt; bytes == wanted);
-    assert_eq!(rt; get_u8(&bytes, 0), 0x01);
-    assert_eq!(rt; get_u16(&bytes, 1), 0x0203);
-    assert_eq!(rt; get_u32(&bytes, 3), 0x04050607);
-    assert_eq!(rt; get_u64(&bytes, 7), 0x08090a0b0c0d0e0f);
-    assert_eq!(rt; get_line(&bytes, 15).generation, 0x1011121314151617);
-    assert_eq!(rt; get_line(&bytes, 15).origin, 0x18191a1b);
+    assert!(rt; get_u8(&bytes, 0) == 0x01);
+    assert!(rt; get_u16(&bytes, 1) == 0x0203);
+    assert!(rt; get_u32(&bytes, 3) == 0x04050607);
+    assert!(rt; get_u64(&bytes, 7) == 0x08090a0b0c0d0e0f);
+    assert!(rt; get_line(&bytes, 15).generation == 0x1011121314151617);
+    assert!(rt; get_line(&bytes, 15).origin == 0x18191a1b);
 }
 
 #[test]
@@ -61,10 +61,10 @@ fn names_and_flags_stand_where_they_are_put(rt: HostRuntime) {
     put_zeros(&mut bytes, 7, 3);
     put_bytes(&mut bytes, 10, b"xy");
     assert!(rt; bytes == *b"\x04log1\x01\x00\x00\x00\x00xy\xff");
-    assert_eq!(rt; get_name(&bytes, 0), Some(Name::new(b"log1")));
-    assert_eq!(rt; get_flag(&bytes, 5), Some(true));
-    assert_eq!(rt; get_flag(&bytes, 6), Some(false));
-    assert_eq!(rt; get_flag(&bytes, 11), None);
+    assert!(rt; get_name(&bytes, 0) == Some(Name::new(b"log1")));
+    assert!(rt; get_flag(&bytes, 5) == Some(true));
+    assert!(rt; get_flag(&bytes, 6) == Some(false));
+    assert!(rt; get_flag(&bytes, 11) == None);
     assert!(rt; is_zero(&bytes, 6, 4));
     assert!(rt; !is_zero(&bytes, 6, 5));
     let two: [u8; 2] = get_bytes(&bytes, 10);
@@ -85,7 +85,7 @@ fn fields_stand_in_their_order(rt: HostRuntime) {
             Field::U64(0x08090a0b0c0d0e0f),
         ],
     );
-    assert_eq!(rt; next, 16);
+    assert!(rt; next == 16);
     let mut wanted = [0xff; 17];
     for i in 1..16 {
         wanted[i] = i as u8;
@@ -96,11 +96,11 @@ fn fields_stand_in_their_order(rt: HostRuntime) {
 #[test]
 fn names_are_whole(rt: HostRuntime) {
     let most = b"\x08abcdefgh\x09abcdefghi\x00\x03ab";
-    assert_eq!(rt; get_name(most, 0), Some(Name::new(b"abcdefgh")));
-    assert_eq!(rt; get_name(most, 9), None);
-    assert_eq!(rt; get_name(most, 19), None);
-    assert_eq!(rt; get_name(most, 20), None);
-    assert_eq!(rt; get_name(most, 23), None);
+    assert!(rt; get_name(most, 0) == Some(Name::new(b"abcdefgh")));
+    assert!(rt; get_name(most, 9) == None);
+    assert!(rt; get_name(most, 19) == None);
+    assert!(rt; get_name(most, 20) == None);
+    assert!(rt; get_name(most, 23) == None);
 }
 
 #[test]
@@ -120,5 +120,5 @@ fn seals(rt: HostRuntime) {
     let mut stored = zeros;
     stored[31] ^= 1;
     let computed = zeros;
-    assert_eq!(rt; broken_seal(&block), Some(BrokenSeal { stored, computed }));
+    assert!(rt; broken_seal(&block) == Some(BrokenSeal { stored, computed }));
 }

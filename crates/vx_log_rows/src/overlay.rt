@@ -14,12 +14,12 @@ fn the_newest_is_read_until_it_is_dropped(rt: HostRuntime) -> Result<(), Fail> {
     let mut overlay = Overlay::new(rt.alloc(), 3)?;
     overlay.insert(1, 5, &[7; 512]);
     overlay.insert(1, 5, &[8; 512]);
-    assert_eq!(rt; ends(&overlay, 1, 5), (true, 8, 8));
-    assert_eq!(rt; ends(&overlay, 5, 1), (false, 99, 99));
+    assert!(rt; ends(&overlay, 1, 5) == (true, 8, 8));
+    assert!(rt; ends(&overlay, 5, 1) == (false, 99, 99));
     overlay.drop_oldest(1);
-    assert_eq!(rt; ends(&overlay, 1, 5), (true, 8, 8));
+    assert!(rt; ends(&overlay, 1, 5) == (true, 8, 8));
     overlay.drop_oldest(1);
-    assert_eq!(rt; ends(&overlay, 1, 5), (false, 99, 99));
+    assert!(rt; ends(&overlay, 1, 5) == (false, 99, 99));
     Ok(())
 }
 
@@ -28,15 +28,15 @@ fn room_comes_back(rt: HostRuntime) -> Result<(), Fail> {
     let mut overlay = Overlay::new(rt.alloc(), 2)?;
     overlay.insert(0, 4, &[1; 512]);
     overlay.insert(2, 4, &[2; 512]);
-    assert_eq!(rt; overlay.spare(), 0);
+    assert!(rt; overlay.spare() == 0);
     overlay.drop_oldest(1);
-    assert_eq!(rt; overlay.spare(), 1);
+    assert!(rt; overlay.spare() == 1);
     overlay.insert(0, 9, &[3; 512]);
-    assert_eq!(rt; ends(&overlay, 0, 4), (false, 99, 99));
-    assert_eq!(rt; ends(&overlay, 2, 4), (true, 2, 2));
-    assert_eq!(rt; ends(&overlay, 0, 9), (true, 3, 3));
+    assert!(rt; ends(&overlay, 0, 4) == (false, 99, 99));
+    assert!(rt; ends(&overlay, 2, 4) == (true, 2, 2));
+    assert!(rt; ends(&overlay, 0, 9) == (true, 3, 3));
     overlay.drop_oldest(2);
-    assert_eq!(rt; overlay.spare(), 2);
+    assert!(rt; overlay.spare() == 2);
     Ok(())
 }
 
@@ -47,13 +47,13 @@ fn blocks_of_one_bucket_are_told_apart(rt: HostRuntime) -> Result<(), Fail> {
     overlay.insert(0, 1, &[1; 512]);
     overlay.insert(0, 4, &[2; 512]);
     overlay.insert(0, 1, &[3; 512]);
-    assert_eq!(rt; ends(&overlay, 0, 1), (true, 3, 3));
-    assert_eq!(rt; ends(&overlay, 0, 4), (true, 2, 2));
-    assert_eq!(rt; ends(&overlay, 0, 7), (false, 99, 99));
+    assert!(rt; ends(&overlay, 0, 1) == (true, 3, 3));
+    assert!(rt; ends(&overlay, 0, 4) == (true, 2, 2));
+    assert!(rt; ends(&overlay, 0, 7) == (false, 99, 99));
     overlay.drop_oldest(2);
     overlay.insert(0, 7, &[4; 512]);
-    assert_eq!(rt; ends(&overlay, 0, 1), (true, 3, 3));
-    assert_eq!(rt; ends(&overlay, 0, 4), (false, 99, 99));
-    assert_eq!(rt; ends(&overlay, 0, 7), (true, 4, 4));
+    assert!(rt; ends(&overlay, 0, 1) == (true, 3, 3));
+    assert!(rt; ends(&overlay, 0, 4) == (false, 99, 99));
+    assert!(rt; ends(&overlay, 0, 7) == (true, 4, 4));
     Ok(())
 }

@@ -62,8 +62,8 @@ fn fresh() -> RState {
 
 fn follows(rt: &impl Abort, link: &mut Link, event: &PEvent, wanted: PAction, mode: Mode) {
     let action = primary(link, event);
-    assert_eq!(rt; action, wanted);
-    assert_eq!(rt; link.mode, mode);
+    assert!(rt; action == wanted);
+    assert!(rt; link.mode == mode);
 }
 
 // Six writes overflowed the log, and one region is marked. It is read behind a seventh write.
@@ -109,7 +109,7 @@ fn the_log_follows_the_regions(rt: HostRuntime) {
     ] {
         follows(&rt, &mut link, &event, wanted, mode);
     }
-    assert_eq!(rt; (link.net, link.stored, link.sent), (6, 6, 6));
+    assert!(rt; (link.net, link.stored, link.sent) == (6, 6, 6));
 }
 
 // A replay at the site that receives: it is consistent neither with the last region nor behind it, as the seventh write is still to come.
@@ -138,8 +138,8 @@ fn a_replay_at_its_receiver(rt: HostRuntime) {
         (start, QAction::Ignored, SPhase::Log),
     ] {
         let action = secondary(&mut state, &event);
-        assert_eq!(rt; action, wanted);
-        assert_eq!(rt; state.phase, phase);
+        assert!(rt; action == wanted);
+        assert!(rt; state.phase == phase);
     }
     let mut wanted = fresh();
     wanted.last = 6;
@@ -147,7 +147,7 @@ fn a_replay_at_its_receiver(rt: HostRuntime) {
     wanted.phase = SPhase::Log;
     wanted.replay = 1;
     wanted.end = 7;
-    assert_eq!(rt; state, wanted);
+    assert!(rt; state == wanted);
 }
 
 // Where no region was read behind the start both ends are done with the last answer.
@@ -155,9 +155,9 @@ fn a_replay_at_its_receiver(rt: HostRuntime) {
 fn nothing_was_written_meanwhile(rt: HostRuntime) {
     let mut link = link(replay(Phase::Done, 0, 6, 6));
     let action = primary(&mut link, &ack(2));
-    assert_eq!(rt; action, PAction::Finished);
-    assert_eq!(rt; link.mode, Mode::Log);
-    assert_eq!(rt; link.stored, 6);
+    assert!(rt; action == PAction::Finished);
+    assert!(rt; link.mode == Mode::Log);
+    assert!(rt; link.stored == 6);
     let mut state = fresh();
     state.mark = Mark::Inconsistent;
     state.phase = SPhase::Regions;
@@ -169,8 +169,8 @@ fn nothing_was_written_meanwhile(rt: HostRuntime) {
         end: 6,
     };
     let action = secondary(&mut state, &done);
-    assert_eq!(rt; action, QAction::Close);
-    assert_eq!(rt; (state.mark, state.last), (Mark::Consistent, 6));
+    assert!(rt; action == QAction::Close);
+    assert!(rt; (state.mark, state.last) == (Mark::Consistent, 6));
 }
 
 // A replay begins from a map or from nothing, and one of an empty map copies no region. A crash of the sending site puts it back to its map.
@@ -196,18 +196,18 @@ fn how_a_replay_begins_and_falls_back(rt: HostRuntime) {
     ] {
         let mut link = link(mode);
         let action = primary(&mut link, &begin);
-        assert_eq!(rt; action, wanted);
-        assert_eq!(rt; link.mode, after);
+        assert!(rt; action == wanted);
+        assert!(rt; link.mode == after);
     }
     let mut link = link(begun);
     let action = primary(&mut link, &ack(0));
-    assert_eq!(rt; action, PAction::Nothing);
-    assert_eq!(rt; link.mode, replay(Phase::Done, 0, 4, 4));
+    assert!(rt; action == PAction::Nothing);
+    assert!(rt; link.mode == replay(Phase::Done, 0, 4, 4));
     let action = primary(&mut link, &PEvent::Restart);
-    assert_eq!(rt; action, PAction::Nothing);
-    assert_eq!(rt; link.mode, Mode::Dcm);
+    assert!(rt; action == PAction::Nothing);
+    assert!(rt; link.mode == Mode::Dcm);
     let action = primary(&mut link, &ack(2));
-    assert_eq!(rt; action, PAction::Ignored);
+    assert!(rt; action == PAction::Ignored);
 }
 
 // Answers of an earlier replay, out of turn, and of a region that is no longer marked.
@@ -223,8 +223,8 @@ fn late_answers(rt: HostRuntime) {
     ] {
         let mut link = link(replay(Phase::Regions, 2, 6, 6));
         let action = primary(&mut link, &PEvent::Ack { id, kind, marked });
-        assert_eq!(rt; action, wanted);
-        assert_eq!(rt; link.mode, replay(Phase::Regions, left, 6, 6));
+        assert!(rt; action == wanted);
+        assert!(rt; link.mode == replay(Phase::Regions, left, 6, 6));
     }
 }
 
@@ -247,7 +247,7 @@ fn late_messages(rt: HostRuntime) {
         state.last = 5;
         state.replay = 2;
         let action = secondary(&mut state, &QEvent::Start { line, id, start });
-        assert_eq!(rt; action, wanted);
+        assert!(rt; action == wanted);
     }
     let mut state = fresh();
     state.phase = SPhase::Regions;
@@ -258,6 +258,6 @@ fn late_messages(rt: HostRuntime) {
         (line(), 2, QAction::Store),
     ] {
         let action = secondary(&mut state, &QEvent::Region { line, id });
-        assert_eq!(rt; action, wanted);
+        assert!(rt; action == wanted);
     }
 }

@@ -62,12 +62,12 @@ fn a_new_log_has_two_headers(rt: HostRuntime) {
     assert!(rt; spelled(&new_header(2)) == block_of(&NEW, &NEW_DIGEST));
     assert!(rt; spelled(&new_header(1)) == copy);
     let found = get_header(&copy).expect(&rt, "the copy is a header");
-    assert_eq!(rt; found.stamp, 1);
-    assert_eq!(rt; found.state.line.generation, 1);
-    assert_eq!(rt; found.state.other, u32::MAX);
-    assert_eq!(rt; found.state.role, Role::Primary);
-    assert_eq!(rt; found.state.mark, Mark::Consistent);
-    assert_eq!(rt; found.state.links.as_slice().len(), 0);
+    assert!(rt; found.stamp == 1);
+    assert!(rt; found.state.line.generation == 1);
+    assert!(rt; found.state.other == u32::MAX);
+    assert!(rt; found.state.role == Role::Primary);
+    assert!(rt; found.state.mark == Mark::Consistent);
+    assert!(rt; found.state.links.as_slice().len() == 0);
 }
 
 fn most_state() -> State
@@ -128,9 +128,9 @@ fn each_field_has_a_greatest_value(rt: HostRuntime) {
     assert!(rt; spelled(&most_header()) == block);
     let found = get_header(&block).expect(&rt, "the block is a header");
     assert!(rt; spelled(&found) == block);
-    assert_eq!(rt; found.state.role, Role::Handing { to: u32::MAX });
+    assert!(rt; found.state.role == Role::Handing { to: u32::MAX });
     for link in found.state.links.as_slice() {
-        assert_eq!(rt; link.mode, KeptMode::Stale);
+        assert!(rt; link.mode == KeptMode::Stale);
     }
     for (at, byte, digest) in OUTSIDE {
         let outside = changed(block_of(&MOST, &digest), at, byte);
@@ -165,17 +165,17 @@ fn a_record_of_one_block(rt: HostRuntime) {
     let mut block = [0xff; 512];
     put_record(&head, &mut block);
     assert!(rt; block == block_of(&RECORD, &RECORD_DIGEST));
-    assert_eq!(rt; get_record(&block), Seen::Record(head));
+    assert!(rt; get_record(&block) == Seen::Record(head));
     for (at, byte, digest) in OUTSIDE_RECORD {
         let outside = changed(block_of(&RECORD, &digest), at, byte);
-        assert_eq!(rt; get_record(&outside), Seen::Other, "at {at}");
+        assert!(rt; get_record(&outside) == Seen::Other, "at {at}");
     }
     let most = block_of(&MOST_RECORD, &MOST_RECORD_DIGEST);
     match get_record(&most) {
         Seen::Record(found) => {
-            assert_eq!(rt; found.number, MOST_NUMBER);
-            assert_eq!(rt; found.block, u64::MAX);
-            assert_eq!(rt; found.count, 16);
+            assert!(rt; found.number == MOST_NUMBER);
+            assert!(rt; found.block == u64::MAX);
+            assert!(rt; found.count == 16);
         }
         _ => assert!(rt; false, "the block is a record header"),
     }
@@ -203,6 +203,6 @@ fn one_changed_byte_is_refused(rt: HostRuntime) {
 fn a_body_block_is_neither(rt: HostRuntime) {
     let mut body = block_of(&RECORD, &RECORD_DIGEST);
     body[0] = 0x42;
-    assert_eq!(rt; get_record(&body), Seen::Other);
+    assert!(rt; get_record(&body) == Seen::Other);
     assert!(rt; get_header(&body).is_none());
 }

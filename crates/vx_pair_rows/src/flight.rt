@@ -13,8 +13,8 @@ fn ends(flight: &Flight, k: u64) -> Option<(u8, u8)> {
 #[test]
 fn an_empty_flight_gives_none(rt: HostRuntime) -> Result<(), Fail> {
     let flight = Flight::new(rt.alloc())?;
-    assert_eq!(rt; flight.count(), 0);
-    assert_eq!(rt; flight.first(), 1);
+    assert!(rt; flight.count() == 0);
+    assert!(rt; flight.first() == 1);
     for k in [0, 1, 2, u64::MAX] {
         assert!(rt; flight.get(k).is_none());
     }
@@ -24,11 +24,11 @@ fn an_empty_flight_gives_none(rt: HostRuntime) -> Result<(), Fail> {
 #[test]
 fn packets_come_back_under_their_numbers(rt: HostRuntime) -> Result<(), Fail> {
     let mut flight = Flight::new(rt.alloc())?;
-    assert_eq!(rt; flight.send(&[7; 48]), 1);
-    assert_eq!(rt; flight.send(&[8; 1072]), 2);
-    assert_eq!(rt; flight.send(&[1, 2, 3]), 3);
-    assert_eq!(rt; flight.first(), 1);
-    assert_eq!(rt; flight.count(), 3);
+    assert!(rt; flight.send(&[7; 48]) == 1);
+    assert!(rt; flight.send(&[8; 1072]) == 2);
+    assert!(rt; flight.send(&[1, 2, 3]) == 3);
+    assert!(rt; flight.first() == 1);
+    assert!(rt; flight.count() == 3);
     for (k, wanted) in [
         (0, None),
         (1, Some((7, 7))),
@@ -36,9 +36,9 @@ fn packets_come_back_under_their_numbers(rt: HostRuntime) -> Result<(), Fail> {
         (3, Some((1, 3))),
         (4, None),
     ] {
-        assert_eq!(rt; ends(&flight, k), wanted);
+        assert!(rt; ends(&flight, k) == wanted);
     }
-    assert_eq!(rt; flight.get(2).map(|bytes| bytes.len()), Some(1072));
+    assert!(rt; flight.get(2).map(|bytes| bytes.len()) == Some(1072));
     Ok(())
 }
 
@@ -48,10 +48,10 @@ fn the_oldest_are_dropped(rt: HostRuntime) -> Result<(), Fail> {
     let mut flight = Flight::new(rt.alloc())?;
     for k in 1..65539 {
         let number = flight.send(&[(k % 256) as u8, (k / 256 % 256) as u8]);
-        assert_eq!(rt; number, k);
+        assert!(rt; number == k);
     }
-    assert_eq!(rt; flight.first(), 3);
-    assert_eq!(rt; flight.count(), 65538);
+    assert!(rt; flight.first() == 3);
+    assert!(rt; flight.count() == 65538);
     for (k, wanted) in [
         (2, None),
         (3, Some((3, 0))),
@@ -59,7 +59,7 @@ fn the_oldest_are_dropped(rt: HostRuntime) -> Result<(), Fail> {
         (65538, Some((2, 0))),
         (65539, None),
     ] {
-        assert_eq!(rt; ends(&flight, k), wanted);
+        assert!(rt; ends(&flight, k) == wanted);
     }
     Ok(())
 }

@@ -85,13 +85,13 @@ fn the_table(rt: HostRuntime) {
     ] {
         let plain = link(1, prot, state);
         let full = decide(&[plain], &facts([7; 8]));
-        assert_eq!(rt; full, wanted);
+        assert!(rt; full == wanted);
         let fits = decide(&[plain], &facts([6; 8]));
-        assert_eq!(rt; fits, NONE);
+        assert!(rt; fits == NONE);
         let mut bunker = plain;
         bunker.bunker = true;
         let full = decide(&[bunker], &facts([7; 8]));
-        assert_eq!(rt; full, wanted_of_bunker);
+        assert!(rt; full == wanted_of_bunker);
     }
 }
 
@@ -105,21 +105,21 @@ fn several_links(rt: HostRuntime) {
     ];
     let used = [7, 6, 8, 7, 0, 0, 0, 0];
     let verdict = decide(&links, &facts(used));
-    assert_eq!(rt; verdict, Verdict::Go { stale: 4, dcm: 9 });
+    assert!(rt; verdict == Verdict::Go { stale: 4, dcm: 9 });
     let stalls = decide(&links, &facts([7, 7, 8, 7, 0, 0, 0, 0]));
     let wanted = Verdict::Refuse(No::Stalled {
         link: SiteName::Number(2),
     });
-    assert_eq!(rt; stalls, wanted);
+    assert!(rt; stalls == wanted);
     let fails = [
         link(5, Prot::Autodcm, State::Live),
         link(1, Prot::Fail, State::Cut),
         link(2, Prot::Override, State::Live),
     ];
     let verdict = decide(&fails, &facts([7; 8]));
-    assert_eq!(rt; verdict, FULL);
+    assert!(rt; verdict == FULL);
     let none = decide(&[], &facts([9; 8]));
-    assert_eq!(rt; none, NONE);
+    assert!(rt; none == NONE);
 }
 
 // A link with synchronous=fail that is attached, but not live or not in mode Log, comes before a full log of an earlier link.
@@ -129,22 +129,22 @@ fn links_that_are_down(rt: HostRuntime) {
     waits.sync = SyncMode::Fail;
     let full = link(2, Prot::Fail, State::Cut);
     let verdict = decide(&[waits], &facts([0; 8]));
-    assert_eq!(rt; verdict, NONE);
+    assert!(rt; verdict == NONE);
     for mode in [Mode::Dcm, Mode::Stale, replay(Phase::Log)] {
         let mut other = waits;
         other.mode = mode;
         let verdict = decide(&[full, other], &facts([7; 8]));
-        assert_eq!(rt; verdict, DOWN);
+        assert!(rt; verdict == DOWN);
         other.attached = false;
         let verdict = decide(&[other], &facts([7; 8]));
-        assert_eq!(rt; verdict, NONE);
+        assert!(rt; verdict == NONE);
     }
     waits.connected = false;
     let verdict = decide(&[full, waits], &facts([7; 8]));
-    assert_eq!(rt; verdict, DOWN);
+    assert!(rt; verdict == DOWN);
     waits.sync = SyncMode::Override;
     let verdict = decide(&[waits], &facts([0; 8]));
-    assert_eq!(rt; verdict, NONE);
+    assert!(rt; verdict == NONE);
 }
 
 // In these modes a link needs the log, from its hold on.
@@ -163,7 +163,7 @@ fn holds_by_mode(rt: HostRuntime) {
         let mut held = link(1, Prot::Autodcm, State::Live);
         held.mode = mode;
         let verdict = decide(&[held], &facts([8; 8]));
-        assert_eq!(rt; verdict, wanted);
-        assert_eq!(rt; hold_of(&held), hold);
+        assert!(rt; verdict == wanted);
+        assert!(rt; hold_of(&held) == hold);
     }
 }

@@ -71,8 +71,8 @@ fn a_new_session_forgets_memory(rt: HostRuntime) {
         (SEvent::DataAck { number: 1 }, Action::Ignored, (2, 1, 1, 1)),
     ] {
         let action = step(&mut link, &event, &facts(1));
-        assert_eq!(rt; action, wanted);
-        assert_eq!(rt; numbers(&link), after);
+        assert!(rt; action == wanted);
+        assert!(rt; numbers(&link) == after);
     }
 }
 
@@ -104,7 +104,7 @@ fn eight_are_under_way(rt: HostRuntime) {
         (SEvent::Pump, 20, Action::Updates { from: 4, to: 11 }),
     ] {
         let action = step(&mut link, &event, &facts(safe));
-        assert_eq!(rt; action, wanted);
+        assert!(rt; action == wanted);
     }
 }
 
@@ -122,9 +122,9 @@ fn a_restart_keeps_what_is_stored(rt: HostRuntime) {
         link.stored = 3;
         link.sent = 7;
         let action = step(&mut link, &SEvent::Restart, &facts(9));
-        assert_eq!(rt; action, Action::Nothing);
-        assert_eq!(rt; numbers(&link), (0, 3, 3, 3));
-        assert_eq!(rt; link.mode, wanted);
+        assert!(rt; action == Action::Nothing);
+        assert!(rt; numbers(&link) == (0, 3, 3, 3));
+        assert!(rt; link.mode == wanted);
         assert!(rt; link.attached && !link.connected);
     }
 }
@@ -153,13 +153,10 @@ fn hellos_by_the_log(rt: HostRuntime) {
         (2, 1, Action::Taken, (2, 4, 4, 4)),
         (0, 9, Action::Ignored, (1, 5, 3, 7)),
     ] {
-        assert_eq!(rt;
-            greeted(Mode::Log, session, number),
-            (wanted, after, Mode::Log)
-        );
+        assert!(rt; greeted(Mode::Log, session, number) == (wanted, after, Mode::Log));
     }
     let log = replay(Phase::Log);
-    assert_eq!(rt; greeted(log, 1, 8), (Action::Taken, (1, 8, 4, 7), log));
+    assert!(rt; greeted(log, 1, 8) == (Action::Taken, (1, 8, 4, 7), log));
 }
 
 // A hello where the writes go by the map: what is stored stays, and a replay that had not begun is given up where the number shows it.
@@ -173,10 +170,7 @@ fn hellos_by_the_map(rt: HostRuntime) {
         (start, 1, 7, (1, 5, 3, 7), Mode::Dcm),
         (regions, 2, 7, (2, 3, 3, 7), regions),
     ] {
-        assert_eq!(rt;
-            greeted(mode, session, number),
-            (Action::Taken, after, mode_after)
-        );
+        assert!(rt; greeted(mode, session, number) == (Action::Taken, after, mode_after));
     }
 }
 
@@ -196,6 +190,6 @@ fn foreign_messages(rt: HostRuntime) {
     ] {
         let mut link = link(mode);
         let action = step(&mut link, &ack, &facts);
-        assert_eq!(rt; action, wanted);
+        assert!(rt; action == wanted);
     }
 }

@@ -61,23 +61,20 @@ fn a_region_is_its_bit(rt: HostRuntime) -> Result<(), Fail> {
     let mut shelf = fitted(alloc)?;
     match loaded(alloc, &mut shelf) {
         Ok(mut map) => {
-            assert_eq!(rt; mark(&mut map, &mut shelf, 70, 70, true), Ok(()));
-            assert_eq!(rt;
-                (map.test(70), map.test(69), map.test(71)),
-                (true, false, false)
-            );
-            assert_eq!(rt; byte_of(&mut shelf, 3, 8), 0x40);
-            assert_eq!(rt; mark(&mut map, &mut shelf, 4090, 4105, true), Ok(()));
-            assert_eq!(rt; byte_of(&mut shelf, 3, 511), 0xfc);
-            assert_eq!(rt; byte_of(&mut shelf, 4, 0), 0xff);
-            assert_eq!(rt; byte_of(&mut shelf, 4, 1), 0x03);
-            assert_eq!(rt; mark(&mut map, &mut shelf, 4095, 4103, false), Ok(()));
-            assert_eq!(rt; byte_of(&mut shelf, 3, 511), 0x7c);
-            assert_eq!(rt; byte_of(&mut shelf, 4, 0), 0x00);
-            assert_eq!(rt; byte_of(&mut shelf, 4, 1), 0x03);
+            assert!(rt; mark(&mut map, &mut shelf, 70, 70, true) == Ok(()));
+            assert!(rt; (map.test(70), map.test(69), map.test(71)) == (true, false, false));
+            assert!(rt; byte_of(&mut shelf, 3, 8) == 0x40);
+            assert!(rt; mark(&mut map, &mut shelf, 4090, 4105, true) == Ok(()));
+            assert!(rt; byte_of(&mut shelf, 3, 511) == 0xfc);
+            assert!(rt; byte_of(&mut shelf, 4, 0) == 0xff);
+            assert!(rt; byte_of(&mut shelf, 4, 1) == 0x03);
+            assert!(rt; mark(&mut map, &mut shelf, 4095, 4103, false) == Ok(()));
+            assert!(rt; byte_of(&mut shelf, 3, 511) == 0x7c);
+            assert!(rt; byte_of(&mut shelf, 4, 0) == 0x00);
+            assert!(rt; byte_of(&mut shelf, 4, 1) == 0x03);
         }
         Err(_) => {
-            assert_eq!(rt; 0, 1);
+            assert!(rt; false);
         }
     }
     Ok(())
@@ -90,11 +87,11 @@ fn marks_are_there_behind_a_crash(rt: HostRuntime) -> Result<(), Fail> {
     let mut shelf = fitted(alloc)?;
     match loaded(alloc, &mut shelf) {
         Ok(mut map) => {
-            assert_eq!(rt; mark(&mut map, &mut shelf, 4090, 4105, true), Ok(()));
-            assert_eq!(rt; mark(&mut map, &mut shelf, 4095, 4103, false), Ok(()));
+            assert!(rt; mark(&mut map, &mut shelf, 4090, 4105, true) == Ok(()));
+            assert!(rt; mark(&mut map, &mut shelf, 4095, 4103, false) == Ok(()));
         }
         Err(_) => {
-            assert_eq!(rt; 0, 1);
+            assert!(rt; false);
         }
     }
     shelf.crash(0);
@@ -103,13 +100,10 @@ fn marks_are_there_behind_a_crash(rt: HostRuntime) -> Result<(), Fail> {
     }
     match loaded(alloc, &mut shelf) {
         Ok(map) => {
-            assert_eq!(rt;
-                (map.test(4094), map.test(4095), map.test(4104)),
-                (true, false, true)
-            );
+            assert!(rt; (map.test(4094), map.test(4095), map.test(4104)) == (true, false, true));
         }
         Err(_) => {
-            assert_eq!(rt; 0, 1);
+            assert!(rt; false);
         }
     }
     Ok(())
@@ -125,19 +119,13 @@ fn a_failing_disk_is_named(rt: HostRuntime) -> Result<(), Fail> {
             if shelf.units() == 2 {
                 shelf.fail(1, true);
             }
-            assert_eq!(rt;
-                mark(&mut map, &mut shelf, 5, 5, true),
-                Err(No::Device { disk: 1 })
-            );
-            assert_eq!(rt; map.test(5), false);
+            assert!(rt; mark(&mut map, &mut shelf, 5, 5, true) == Err(No::Device { disk: 1 }));
+            assert!(rt; !map.test(5));
         }
         Err(_) => {
-            assert_eq!(rt; 0, 1);
+            assert!(rt; false);
         }
     }
-    assert_eq!(rt;
-        loaded(alloc, &mut shelf).err(),
-        Some(Stop::No(No::Device { disk: 1 }))
-    );
+    assert!(rt; loaded(alloc, &mut shelf).err() == Some(Stop::No(No::Device { disk: 1 })));
     Ok(())
 }

@@ -41,7 +41,7 @@ fn loaded<S: Shelf>(alloc: Global, shelf: &mut S, units: &Units) -> Result<Dcm, 
     Dcm::load(alloc, shelf, units)
 }
 
-#[derive(Clone, Copy, Debug, PartialEq, Eq)]
+#[derive(Clone, Copy, PartialEq, Eq)]
 enum Told {
     Done,
     Device(u32),
@@ -129,17 +129,14 @@ fn a_region_is_its_bit(rt: HostRuntime) -> Result<(), Fail> {
     let alloc = rt.alloc();
     let mut shelf = fitted(alloc, &[])?;
     for (slot, vol, region) in [(0, 0, 3), (0, 1, 1), (1, 0, 0), (7, 1, 2)] {
-        assert_eq!(rt;
-            marked(alloc, &mut shelf, slot, vol, region, true),
-            Told::Done
-        );
+        assert!(rt; marked(alloc, &mut shelf, slot, vol, region, true) == Told::Done);
     }
     shelf.crash(0);
     if shelf.is_down() {
         shelf.revive();
     }
     for (block, wanted) in [(0, 0x08), (1, 0x02), (2, 0x01), (3, 0), (14, 0), (15, 0x04)] {
-        assert_eq!(rt; byte_of(&mut shelf, block, 0), wanted);
+        assert!(rt; byte_of(&mut shelf, block, 0) == wanted);
     }
     for (slot, vol, region, wanted) in [
         (0, 0, 3, Some(true)),
@@ -152,11 +149,11 @@ fn a_region_is_its_bit(rt: HostRuntime) -> Result<(), Fail> {
         (0, 2, 0, None),
         (8, 0, 0, None),
     ] {
-        assert_eq!(rt; is_marked(alloc, &mut shelf, slot, vol, region), wanted);
+        assert!(rt; is_marked(alloc, &mut shelf, slot, vol, region) == wanted);
     }
-    assert_eq!(rt; marked(alloc, &mut shelf, 0, 1, 1, false), Told::Done);
-    assert_eq!(rt; byte_of(&mut shelf, 1, 0), 0);
-    assert_eq!(rt; byte_of(&mut shelf, 0, 0), 0x08);
+    assert!(rt; marked(alloc, &mut shelf, 0, 1, 1, false) == Told::Done);
+    assert!(rt; byte_of(&mut shelf, 1, 0) == 0);
+    assert!(rt; byte_of(&mut shelf, 0, 0) == 0x08);
     Ok(())
 }
 
@@ -166,16 +163,13 @@ fn marks_are_counted(rt: HostRuntime) -> Result<(), Fail> {
     let alloc = rt.alloc();
     let mut shelf = fitted(alloc, &[])?;
     if shelf.units() == 4 && shelf.size(3) == 200 {
-        assert_eq!(rt; shelf.write(3, 2, &[0xff; 512]), Ok(()));
+        assert!(rt; shelf.write(3, 2, &[0xff; 512]) == Ok(()));
     }
     for (slot, vol, region) in [(0, 0, 3), (0, 0, 3), (0, 1, 0), (0, 1, 3), (1, 1, 2)] {
-        assert_eq!(rt;
-            marked(alloc, &mut shelf, slot, vol, region, true),
-            Told::Done
-        );
+        assert!(rt; marked(alloc, &mut shelf, slot, vol, region, true) == Told::Done);
     }
     for (slot, wanted) in [(0, Some(3)), (1, Some(5)), (2, Some(0)), (8, None)] {
-        assert_eq!(rt; left(alloc, &mut shelf, slot), wanted);
+        assert!(rt; left(alloc, &mut shelf, slot) == wanted);
     }
     Ok(())
 }
@@ -191,12 +185,11 @@ fn a_failing_disk_is_named(rt: HostRuntime) -> Result<(), Fail> {
         (4, Told::Done),
     ] {
         let mut shelf = fitted(alloc, &[call])?;
-        assert_eq!(rt; marked(alloc, &mut shelf, 2, 1, 0, true), wanted);
+        assert!(rt; marked(alloc, &mut shelf, 2, 1, 0, true) == wanted);
     }
     let mut shelf = fitted(alloc, &[1])?;
-    assert_eq!(rt;
-        loaded(alloc, &mut shelf, &units()).err(),
-        Some(Stop::No(No::Device { disk: 3 }))
+    assert!(rt;
+        loaded(alloc, &mut shelf, &units()).err() == Some(Stop::No(No::Device { disk: 3 }))
     );
     Ok(())
 }
@@ -223,14 +216,11 @@ fn marked_twice<S: Shelf>(alloc: Global, shelf: &mut S, first: bool, second: boo
 fn a_mark_that_stands_makes_no_call(rt: HostRuntime) -> Result<(), Fail> {
     let alloc = rt.alloc();
     let mut shelf = fitted(alloc, &[4, 5, 6, 7])?;
-    assert_eq!(rt; marked_twice(alloc, &mut shelf, true, true), Told::Done);
+    assert!(rt; marked_twice(alloc, &mut shelf, true, true) == Told::Done);
     let mut shelf = fitted(alloc, &[4, 5, 6, 7])?;
-    assert_eq!(rt;
-        marked_twice(alloc, &mut shelf, true, false),
-        Told::Device(3)
-    );
+    assert!(rt; marked_twice(alloc, &mut shelf, true, false) == Told::Device(3));
     let mut shelf = fitted(alloc, &[2, 3])?;
-    assert_eq!(rt; marked_twice(alloc, &mut shelf, false, false), Told::Done);
+    assert!(rt; marked_twice(alloc, &mut shelf, false, false) == Told::Done);
     Ok(())
 }
 
@@ -256,7 +246,7 @@ fn what_fits(rt: HostRuntime) -> Result<(), Fail> {
             vols.push(last);
         }
         let units = Units { srl: 0, maps, vols };
-        assert_eq!(rt; maps_fit(&units, &shelf), wanted);
+        assert!(rt; maps_fit(&units, &shelf) == wanted);
     }
     let none = Units {
         srl: 0,

@@ -72,7 +72,7 @@ fn loaded<S: Shelf>(alloc: Global, shelf: &mut S, config: &Config) -> Result<Drl
     Drl::load(alloc, shelf, config, 0)
 }
 
-#[derive(Clone, Copy, Debug, PartialEq, Eq)]
+#[derive(Clone, Copy, PartialEq, Eq)]
 enum Told {
     Done,
     Device(u32),
@@ -140,19 +140,19 @@ fn marks_are_there_behind_a_crash(rt: HostRuntime) -> Result<(), Fail> {
     let alloc = rt.alloc();
     let config = group(alloc)?;
     let mut shelf = fitted(alloc, &[])?;
-    assert_eq!(rt; marked(alloc, &mut shelf, &config, 5, 104), Told::Done);
+    assert!(rt; marked(alloc, &mut shelf, &config, 5, 104) == Told::Done);
     shelf.crash(0);
     if shelf.is_down() {
         shelf.revive();
     }
-    assert_eq!(rt; is_dirty(alloc, &mut shelf, &config, 4), Some(false));
-    assert_eq!(rt; is_dirty(alloc, &mut shelf, &config, 5), Some(true));
-    assert_eq!(rt; is_dirty(alloc, &mut shelf, &config, 104), Some(true));
-    assert_eq!(rt; is_dirty(alloc, &mut shelf, &config, 105), Some(false));
-    assert_eq!(rt; is_dirty(alloc, &mut shelf, &config, 128), None);
-    assert_eq!(rt; cleared(alloc, &mut shelf, &config), Told::Done);
-    assert_eq!(rt; is_dirty(alloc, &mut shelf, &config, 5), Some(false));
-    assert_eq!(rt; is_dirty(alloc, &mut shelf, &config, 104), Some(false));
+    assert!(rt; is_dirty(alloc, &mut shelf, &config, 4) == Some(false));
+    assert!(rt; is_dirty(alloc, &mut shelf, &config, 5) == Some(true));
+    assert!(rt; is_dirty(alloc, &mut shelf, &config, 104) == Some(true));
+    assert!(rt; is_dirty(alloc, &mut shelf, &config, 105) == Some(false));
+    assert!(rt; is_dirty(alloc, &mut shelf, &config, 128) == None);
+    assert!(rt; cleared(alloc, &mut shelf, &config) == Told::Done);
+    assert!(rt; is_dirty(alloc, &mut shelf, &config, 5) == Some(false));
+    assert!(rt; is_dirty(alloc, &mut shelf, &config, 104) == Some(false));
     Ok(())
 }
 
@@ -162,8 +162,8 @@ fn a_failing_disk_is_named(rt: HostRuntime) -> Result<(), Fail> {
     let alloc = rt.alloc();
     let config = group(alloc)?;
     let mut shelf = fitted(alloc, &[2])?;
-    assert_eq!(rt; marked(alloc, &mut shelf, &config, 7, 7), Told::Device(1));
-    assert_eq!(rt; is_dirty(alloc, &mut shelf, &config, 7), Some(false));
+    assert!(rt; marked(alloc, &mut shelf, &config, 7, 7) == Told::Device(1));
+    assert!(rt; is_dirty(alloc, &mut shelf, &config, 7) == Some(false));
     Ok(())
 }
 
@@ -209,10 +209,7 @@ fn a_mark_of_what_is_marked_makes_no_call(rt: HostRuntime) -> Result<(), Fail> {
     let alloc = rt.alloc();
     let config = group(alloc)?;
     let mut shelf = fitted(alloc, &[4, 5, 6, 7])?;
-    assert_eq!(rt;
-        marked_twice(alloc, &mut shelf, &config, 5, 9, false),
-        Told::Done
-    );
+    assert!(rt; marked_twice(alloc, &mut shelf, &config, 5, 9, false) == Told::Done);
     Ok(())
 }
 
@@ -230,8 +227,8 @@ fn a_load_that_fails_names_the_disk(rt: HostRuntime) -> Result<(), Fail> {
     let alloc = rt.alloc();
     let config = group(alloc)?;
     let mut shelf = fitted(alloc, &[1])?;
-    assert_eq!(rt; load_said(alloc, &mut shelf, &config), Told::Device(1));
-    assert_eq!(rt; load_said(alloc, &mut shelf, &config), Told::Done);
+    assert!(rt; load_said(alloc, &mut shelf, &config) == Told::Device(1));
+    assert!(rt; load_said(alloc, &mut shelf, &config) == Told::Done);
     Ok(())
 }
 
@@ -247,10 +244,7 @@ fn marks_are_taken_off_in_two_calls(rt: HostRuntime) -> Result<(), Fail> {
         (8, Told::Done),
     ] {
         let mut shelf = fitted(alloc, &[call])?;
-        assert_eq!(rt;
-            marked_twice(alloc, &mut shelf, &config, 5, 9, true),
-            wanted
-        );
+        assert!(rt; marked_twice(alloc, &mut shelf, &config, 5, 9, true) == wanted);
     }
     Ok(())
 }

@@ -81,7 +81,7 @@ fn loaded<S: Shelf>(alloc: Global, shelf: &mut S, config: &Config) -> Result<Fmr
     Fmr::load(alloc, shelf, config, 0)
 }
 
-#[derive(Clone, Copy, Debug, PartialEq, Eq)]
+#[derive(Clone, Copy, PartialEq, Eq)]
 enum Told {
     Done,
     Device(u32),
@@ -170,19 +170,19 @@ fn each_plex_has_its_map(rt: HostRuntime) -> Result<(), Fail> {
     let alloc = rt.alloc();
     let config = group(alloc)?;
     let mut shelf = fitted(alloc, &[])?;
-    assert_eq!(rt; noted(alloc, &mut shelf, &config, 0, 5, 104), Told::Done);
-    assert_eq!(rt; noted(alloc, &mut shelf, &config, 1, 7, 7), Told::Done);
+    assert!(rt; noted(alloc, &mut shelf, &config, 0, 5, 104) == Told::Done);
+    assert!(rt; noted(alloc, &mut shelf, &config, 1, 7, 7) == Told::Done);
     shelf.crash(0);
     if shelf.is_down() {
         shelf.revive();
     }
-    assert_eq!(rt; has_missed(alloc, &mut shelf, &config, 0, 104), Some(true));
-    assert_eq!(rt; has_missed(alloc, &mut shelf, &config, 0, 105), Some(false));
-    assert_eq!(rt; has_missed(alloc, &mut shelf, &config, 1, 7), Some(true));
-    assert_eq!(rt; has_missed(alloc, &mut shelf, &config, 1, 8), Some(false));
-    assert_eq!(rt; begun(alloc, &mut shelf, &config, 0), Told::Done);
-    assert_eq!(rt; has_missed(alloc, &mut shelf, &config, 0, 7), Some(false));
-    assert_eq!(rt; has_missed(alloc, &mut shelf, &config, 1, 7), Some(true));
+    assert!(rt; has_missed(alloc, &mut shelf, &config, 0, 104) == Some(true));
+    assert!(rt; has_missed(alloc, &mut shelf, &config, 0, 105) == Some(false));
+    assert!(rt; has_missed(alloc, &mut shelf, &config, 1, 7) == Some(true));
+    assert!(rt; has_missed(alloc, &mut shelf, &config, 1, 8) == Some(false));
+    assert!(rt; begun(alloc, &mut shelf, &config, 0) == Told::Done);
+    assert!(rt; has_missed(alloc, &mut shelf, &config, 0, 7) == Some(false));
+    assert!(rt; has_missed(alloc, &mut shelf, &config, 1, 7) == Some(true));
     Ok(())
 }
 
@@ -192,7 +192,7 @@ fn a_failing_disk_is_named(rt: HostRuntime) -> Result<(), Fail> {
     let alloc = rt.alloc();
     let config = group(alloc)?;
     let mut shelf = fitted(alloc, &[2])?;
-    assert_eq!(rt; noted(alloc, &mut shelf, &config, 1, 7, 7), Told::Device(1));
-    assert_eq!(rt; has_missed(alloc, &mut shelf, &config, 1, 7), Some(false));
+    assert!(rt; noted(alloc, &mut shelf, &config, 1, 7, 7) == Told::Device(1));
+    assert!(rt; has_missed(alloc, &mut shelf, &config, 1, 7) == Some(false));
     Ok(())
 }

@@ -44,7 +44,7 @@ fn taken<S: Shelf>(alloc: Global, shelf: &mut S, config: &Config) -> Option<Take
     }
 }
 
-#[derive(Clone, Copy, Debug, PartialEq, Eq)]
+#[derive(Clone, Copy, PartialEq, Eq)]
 enum Told {
     Kept,
     Lost,
@@ -122,7 +122,7 @@ fn a_log_of_maps_is_lost_at_each_call(rt: HostRuntime) -> Result<(), Fail> {
         ([5, 6], [kept, kept, kept, lost]),
     ] {
         let mut shelf = fitted(alloc, &fails)?;
-        assert_eq!(rt; three_calls(alloc, &mut shelf, &config), told);
+        assert!(rt; three_calls(alloc, &mut shelf, &config) == told);
     }
     Ok(())
 }
@@ -132,9 +132,8 @@ fn a_log_of_maps_on_a_failed_disk_is_lost(rt: HostRuntime) -> Result<(), Fail> {
     let alloc = rt.alloc();
     let config = mapping(alloc, true, PlexState::Stale)?;
     let mut shelf = fitted(alloc, &[1])?;
-    assert_eq!(rt;
-        three_calls(alloc, &mut shelf, &config),
-        [Told::Lost, Told::Kept, Told::Kept, Told::Kept]
+    assert!(rt;
+        three_calls(alloc, &mut shelf, &config) == [Told::Lost, Told::Kept, Told::Kept, Told::Kept]
     );
     Ok(())
 }
@@ -173,24 +172,18 @@ fn a_missed_region_is_there_behind_a_crash(rt: HostRuntime) -> Result<(), Fail> 
     let stale = mapping(alloc, false, PlexState::Stale)?;
     let active = mapping(alloc, false, PlexState::Active)?;
     let mut shelf = fitted(alloc, &[])?;
-    assert_eq!(rt; mark_once(alloc, &mut shelf, &active), Told::Kept);
-    assert_eq!(rt; regions(alloc, &mut shelf, &stale), [false; 4]);
-    assert_eq!(rt; mark_once(alloc, &mut shelf, &stale), Told::Kept);
+    assert!(rt; mark_once(alloc, &mut shelf, &active) == Told::Kept);
+    assert!(rt; regions(alloc, &mut shelf, &stale) == [false; 4]);
+    assert!(rt; mark_once(alloc, &mut shelf, &stale) == Told::Kept);
     shelf.crash(0);
     if shelf.is_down() {
         shelf.revive();
     }
-    assert_eq!(rt;
-        regions(alloc, &mut shelf, &stale),
-        [false, true, false, false]
-    );
-    assert_eq!(rt; ready_once(alloc, &mut shelf, &stale), Told::Kept);
-    assert_eq!(rt;
-        regions(alloc, &mut shelf, &stale),
-        [false, true, false, false]
-    );
-    assert_eq!(rt; ready_once(alloc, &mut shelf, &active), Told::Kept);
-    assert_eq!(rt; regions(alloc, &mut shelf, &stale), [false; 4]);
+    assert!(rt; regions(alloc, &mut shelf, &stale) == [false, true, false, false]);
+    assert!(rt; ready_once(alloc, &mut shelf, &stale) == Told::Kept);
+    assert!(rt; regions(alloc, &mut shelf, &stale) == [false, true, false, false]);
+    assert!(rt; ready_once(alloc, &mut shelf, &active) == Told::Kept);
+    assert!(rt; regions(alloc, &mut shelf, &stale) == [false; 4]);
     Ok(())
 }
 
@@ -222,11 +215,11 @@ fn a_plex_that_fails_is_to_be_copied_whole(rt: HostRuntime) -> Result<(), Fail> 
     let alloc = rt.alloc();
     let stale = mapping(alloc, false, PlexState::Stale)?;
     let mut shelf = fitted(alloc, &[1])?;
-    assert_eq!(rt; unflushed(&mut shelf, &stale), Some(2));
-    assert_eq!(rt; unflushed(&mut shelf, &stale), Some(0));
-    assert_eq!(rt; filled(alloc, &mut shelf, &stale, 1), Told::Kept);
-    assert_eq!(rt; regions(alloc, &mut shelf, &stale), [false; 4]);
-    assert_eq!(rt; filled(alloc, &mut shelf, &stale, 2), Told::Kept);
-    assert_eq!(rt; regions(alloc, &mut shelf, &stale), [true; 4]);
+    assert!(rt; unflushed(&mut shelf, &stale) == Some(2));
+    assert!(rt; unflushed(&mut shelf, &stale) == Some(0));
+    assert!(rt; filled(alloc, &mut shelf, &stale, 1) == Told::Kept);
+    assert!(rt; regions(alloc, &mut shelf, &stale) == [false; 4]);
+    assert!(rt; filled(alloc, &mut shelf, &stale, 2) == Told::Kept);
+    assert!(rt; regions(alloc, &mut shelf, &stale) == [true; 4]);
     Ok(())
 }

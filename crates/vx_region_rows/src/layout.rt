@@ -73,7 +73,7 @@ fn units_go_by_turns(rt: HostRuntime) -> Result<(), Fail> {
         let there = has_block(&config, 0, 0, block);
         assert!(rt; there);
         if there && check(&config) {
-            assert_eq!(rt; place(&config, 0, 0, block), wanted);
+            assert!(rt; place(&config, 0, 0, block) == wanted);
         }
     }
     Ok(())
@@ -131,7 +131,7 @@ fn found(
 fn are_runs(rt: &impl Abort, runs: &[Subdisk], wanted: &[Subdisk; 3]) {
     for (k, run) in wanted.iter().enumerate() {
         if run.blocks > 0 {
-            assert_eq!(rt; runs.get(k).copied(), Some(*run));
+            assert!(rt; runs.get(k).copied() == Some(*run));
         } else {
             assert!(rt; runs.get(k).is_none());
         }
@@ -187,7 +187,7 @@ fn a_plex_that_no_disk_holds_is_spread(rt: HostRuntime) -> Result<(), Fail> {
         run(1, 832, 192),
         run(2, 512, 104),
     ];
-    assert_eq!(rt; runs.as_slice(), wanted.as_slice());
+    assert!(rt; runs.as_slice() == wanted.as_slice());
     Ok(())
 }
 
@@ -204,7 +204,7 @@ fn says_what_is_needed_and_there(rt: HostRuntime) -> Result<(), Fail> {
         (shape(1407, 1, 1, 0, true, true), (1, 0)),
     ] {
         let (_, refused) = found(rt.alloc(), &config, &want)?;
-        assert_eq!(rt; refused, Some(wanted));
+        assert!(rt; refused == Some(wanted));
     }
     Ok(())
 }

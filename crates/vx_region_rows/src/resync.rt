@@ -44,7 +44,7 @@ fn is_ready<S: Shelf>(config: &Config, shelf: &S) -> bool
     disks_fit(config.disks.as_slice(), shelf) && !shelf.is_down()
 }
 
-#[derive(Clone, Copy, Debug, PartialEq, Eq)]
+#[derive(Clone, Copy, PartialEq, Eq)]
 enum Told {
     Copied(u64),
     Device(u32),
@@ -201,19 +201,13 @@ fn a_marked_region_alone_is_copied(rt: HostRuntime) -> Result<(), Fail> {
     let config = both(alloc)?;
     let mut shelf = filled(alloc, &[])?;
     mark(alloc, &mut shelf, &config, 1);
-    assert_eq!(rt; recovered(alloc, &mut shelf, &config), Told::Copied(1));
+    assert!(rt; recovered(alloc, &mut shelf, &config) == Told::Copied(1));
     shelf.crash(0);
     if shelf.is_down() {
         shelf.revive();
     }
-    assert_eq!(rt;
-        has_all(&mut shelf, 0),
-        [Some(1), Some(2), Some(3), Some(4)]
-    );
-    assert_eq!(rt;
-        has_all(&mut shelf, 1),
-        [Some(9), Some(2), Some(9), Some(9)]
-    );
+    assert!(rt; has_all(&mut shelf, 0) == [Some(1), Some(2), Some(3), Some(4)]);
+    assert!(rt; has_all(&mut shelf, 1) == [Some(9), Some(2), Some(9), Some(9)]);
     Ok(())
 }
 
@@ -222,15 +216,9 @@ fn all_regions_are_copied_without_a_log(rt: HostRuntime) -> Result<(), Fail> {
     let alloc = rt.alloc();
     let config = both(alloc)?;
     let mut shelf = filled(alloc, &[])?;
-    assert_eq!(rt; recovered_all(&mut shelf, &config), Told::Copied(4));
-    assert_eq!(rt;
-        has_all(&mut shelf, 0),
-        [Some(1), Some(2), Some(3), Some(4)]
-    );
-    assert_eq!(rt;
-        has_all(&mut shelf, 1),
-        [Some(1), Some(2), Some(3), Some(4)]
-    );
+    assert!(rt; recovered_all(&mut shelf, &config) == Told::Copied(4));
+    assert!(rt; has_all(&mut shelf, 0) == [Some(1), Some(2), Some(3), Some(4)]);
+    assert!(rt; has_all(&mut shelf, 1) == [Some(1), Some(2), Some(3), Some(4)]);
     Ok(())
 }
 
@@ -243,7 +231,7 @@ fn a_failing_plex_is_named(rt: HostRuntime) -> Result<(), Fail> {
     for (call, disk) in [(13, 0), (14, 0), (15, 1), (16, 0), (17, 1)] {
         let mut shelf = filled(alloc, &[call])?;
         mark(alloc, &mut shelf, &config, 1);
-        assert_eq!(rt; recovered(alloc, &mut shelf, &config), Told::Device(disk));
+        assert!(rt; recovered(alloc, &mut shelf, &config) == Told::Device(disk));
     }
     Ok(())
 }
@@ -254,16 +242,10 @@ fn missed_regions_alone_are_attached(rt: HostRuntime) -> Result<(), Fail> {
     let config = both(alloc)?;
     let mut shelf = filled(alloc, &[])?;
     note(alloc, &mut shelf, &config, 2);
-    assert_eq!(rt; attached(alloc, &mut shelf, &config), Told::Copied(1));
-    assert_eq!(rt;
-        has_all(&mut shelf, 1),
-        [Some(9), Some(9), Some(3), Some(9)]
-    );
-    assert_eq!(rt; attached_all(&mut shelf, &config), Told::Copied(4));
-    assert_eq!(rt;
-        has_all(&mut shelf, 1),
-        [Some(1), Some(2), Some(3), Some(4)]
-    );
+    assert!(rt; attached(alloc, &mut shelf, &config) == Told::Copied(1));
+    assert!(rt; has_all(&mut shelf, 1) == [Some(9), Some(9), Some(3), Some(9)]);
+    assert!(rt; attached_all(&mut shelf, &config) == Told::Copied(4));
+    assert!(rt; has_all(&mut shelf, 1) == [Some(1), Some(2), Some(3), Some(4)]);
     Ok(())
 }
 
@@ -275,7 +257,7 @@ fn a_failing_call_of_an_attach_is_named(rt: HostRuntime) -> Result<(), Fail> {
     for (call, disk) in [(13, 0), (14, 1), (15, 1)] {
         let mut shelf = filled(alloc, &[call])?;
         note(alloc, &mut shelf, &config, 2);
-        assert_eq!(rt; attached(alloc, &mut shelf, &config), Told::Device(disk));
+        assert!(rt; attached(alloc, &mut shelf, &config) == Told::Device(disk));
     }
     Ok(())
 }

@@ -75,7 +75,7 @@ fn is_ready<S: Shelf>(config: &Config, shelf: &S) -> bool
     disks_fit(config.disks.as_slice(), shelf) && !shelf.is_down()
 }
 
-#[derive(Clone, Copy, Debug, PartialEq, Eq)]
+#[derive(Clone, Copy, PartialEq, Eq)]
 enum Told {
     Set(u8),
     Device(u32),
@@ -140,14 +140,14 @@ fn a_plex_that_fails_is_in_the_set(rt: HostRuntime) -> Result<(), Fail> {
     ] {
         let mut shelf = MemShelf::new(rt.alloc(), &fails)?;
         assert!(rt; shelf.fit(rt.alloc(), None, 0, 2, 1024).is_ok());
-        assert_eq!(rt; written(&both, &mut shelf, 7), wanted);
+        assert!(rt; written(&both, &mut shelf, 7) == wanted);
         match wanted {
-            Told::Set(1) => assert_eq!(rt; reads(&second, &mut shelf, 0, 7), (true, 0)),
+            Told::Set(1) => assert!(rt; reads(&second, &mut shelf, 0, 7) == (true, 0)),
             Told::Set(2) => assert_eq!(rt; reads(&first, &mut shelf, 1, 7).0, fails[1] == 0),
             Told::Set(_) => {
-                assert_eq!(rt; reads(&both, &mut shelf, 0, 7), (true, 1));
-                assert_eq!(rt; reads(&both, &mut shelf, 1, 7), (true, 0));
-                assert_eq!(rt; flushed(&both, &mut shelf), Told::Set(0));
+                assert!(rt; reads(&both, &mut shelf, 0, 7) == (true, 1));
+                assert!(rt; reads(&both, &mut shelf, 1, 7) == (true, 0));
+                assert!(rt; flushed(&both, &mut shelf) == Told::Set(0));
             }
             _ => {}
         }
@@ -160,9 +160,9 @@ fn a_read_asks_the_next_plex(rt: HostRuntime) -> Result<(), Fail> {
     let both = mirror(rt.alloc(), PlexState::Active, PlexState::Active)?;
     let mut shelf = MemShelf::new(rt.alloc(), &[6, 7])?;
     assert!(rt; shelf.fit(rt.alloc(), None, 0, 2, 1024).is_ok());
-    assert_eq!(rt; written(&both, &mut shelf, 3), Told::Set(0));
+    assert!(rt; written(&both, &mut shelf, 3) == Told::Set(0));
     // The second run of plex 0 fails, and then the first of plex 1.
-    assert_eq!(rt; reads(&both, &mut shelf, 0, 3), (false, 9));
-    assert_eq!(rt; reads(&both, &mut shelf, 0, 3), (true, 1));
+    assert!(rt; reads(&both, &mut shelf, 0, 3) == (false, 9));
+    assert!(rt; reads(&both, &mut shelf, 0, 3) == (true, 1));
     Ok(())
 }
