@@ -7,7 +7,5 @@ mod bit;
 mod bitmap;
 mod change;
 mod run;
-#[cfg(test)]
-mod tests;
 
 pub use bitmap::Bitmap;

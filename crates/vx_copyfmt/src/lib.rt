@@ -10,6 +10,3 @@ mod laws;
 pub use area::{AREA_MAGIC, AreaHeader, get_area, put_area};
 pub use label::{LABEL_MAGIC, Label, LabelSeen, get_label, put_label};
 pub use laws::blocks_have_one_spelling;
-
-#[cfg(test)]
-mod tests;

@@ -9,8 +9,6 @@ mod counting;
 mod dcm;
 mod fit;
 mod sizes;
-#[cfg(test)]
-mod tests;
 
 pub use dcm::{Dcm, MOST_MAP_BLOCKS};
 pub use fit::maps_fit;

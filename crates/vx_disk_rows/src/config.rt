@@ -119,13 +119,31 @@ fn spells_a_mirror(rt: HostRuntime) -> Result<(), Fail> {
     let bytes = encode(rt.alloc(), &config)
         .ok()
         .ok_or("a mirror has a spelling")?;
-    assert_eq!(rt; bytes.as_slice(), MIRROR.as_slice());
+    assert!(rt; bytes.as_slice() == MIRROR.as_slice());
     let mut into = [0xff; 65024];
     is_short(&config);
-    assert_eq!(rt; encode_into(&config, &mut into), 117);
+    assert!(rt; encode_into(&config, &mut into) == 117);
     assert!(rt; into.starts_with(&MIRROR));
-    assert_eq!(rt; into[117], 0xff);
+    assert!(rt; into[117] == 0xff);
     Ok(())
+}
+
+// Whether a volume is that of the mirror, but for its plexes.
+fn is_mirrored(volume: &VolumeEntry) -> bool {
+    volume.name == Name::new(b"v")
+        && volume.prefer == Some(1)
+        && volume.drl == log(576)
+        && volume.fmr.is_none()
+}
+
+// Whether a plex is whole where it is STALE, and lies on 64 blocks from block 512 on.
+fn is_plex(plex: &PlexEntry) -> bool {
+    plex.whole == (plex.state == PlexState::Stale)
+        && plex
+            .subdisks
+            .as_slice()
+            .iter()
+            .all(|subdisk| subdisk.start == 512 && subdisk.blocks == 64)
 }
 
 #[test]
@@ -133,23 +151,16 @@ fn reads_a_mirror(rt: HostRuntime) -> Result<(), Fail> {
     let mut bytes = [9; 200];
     bytes[..117].copy_from_slice(&MIRROR);
     let (config, len) = decode(rt.alloc(), &bytes)?;
-    assert_eq!(rt; len, 117);
-    assert_eq!(rt; config.serial, 5);
-    assert_eq!(rt; config.site, 1);
-    assert_eq!(rt; config.disks.as_slice().len(), 2);
+    assert!(rt; len == 117);
+    assert!(rt; config.serial == 5);
+    assert!(rt; config.site == 1);
+    assert!(rt; config.disks.as_slice().len() == 2);
     assert!(rt; config.disks.as_slice()[1].failed);
     assert!(rt; config.rvg.is_none());
     for volume in config.volumes.as_slice() {
-        assert_eq!(rt; volume.name, Name::new(b"v"));
-        assert_eq!(rt; volume.prefer, Some(1));
-        assert_eq!(rt; volume.drl, log(576));
-        assert_eq!(rt; volume.fmr, None);
+        assert!(rt; is_mirrored(volume));
         for plex in volume.plexes.as_slice() {
-            assert_eq!(rt; plex.whole, plex.state == PlexState::Stale);
-            for subdisk in plex.subdisks.as_slice() {
-                assert_eq!(rt; subdisk.start, 512);
-                assert_eq!(rt; subdisk.blocks, 64);
-            }
+            assert!(rt; is_plex(plex));
         }
     }
     assert!(rt; check(&config));
@@ -159,13 +170,13 @@ fn reads_a_mirror(rt: HostRuntime) -> Result<(), Fail> {
 #[test]
 fn reads_a_group(rt: HostRuntime) -> Result<(), Fail> {
     let (config, len) = decode(rt.alloc(), &GROUP)?;
-    assert_eq!(rt; len, 32);
+    assert!(rt; len == 32);
     assert!(rt; !check(&config));
     match &config.rvg {
         Some(units) => {
-            assert_eq!(rt; units.srl, 0);
-            assert_eq!(rt; units.maps, 1);
-            assert_eq!(rt; units.vols.as_slice(), [2].as_slice());
+            assert!(rt; units.srl == 0);
+            assert!(rt; units.maps == 1);
+            assert!(rt; units.vols.as_slice() == [2].as_slice());
         }
         None => assert!(rt; false),
     }
@@ -197,7 +208,7 @@ fn finds_the_first_wrong_field(rt: HostRuntime) {
             bytes[place] = byte;
         }
         match decode(rt.alloc(), &bytes) {
-            Err(ConfigStop::BadConfig { at }) => assert_eq!(rt; at, wanted),
+            Err(ConfigStop::BadConfig { at }) => assert!(rt; at == wanted),
             _ => assert!(rt; false),
         }
     }
@@ -215,7 +226,7 @@ fn finds_the_first_missing_field(rt: HostRuntime) {
         (116, 116),
     ] {
         match decode(rt.alloc(), &MIRROR[..len]) {
-            Err(ConfigStop::BadConfig { at }) => assert_eq!(rt; at, wanted),
+            Err(ConfigStop::BadConfig { at }) => assert!(rt; at == wanted),
             _ => assert!(rt; false),
         }
     }
@@ -236,7 +247,7 @@ fn tests_where_blocks_lie(rt: HostRuntime) -> Result<(), Fail> {
         (run(0, 512, 64), run(1, 512, 64), 1024, false),
     ] {
         let config = group(rt.alloc(), 1, 0, drl, &[first], &[second])?;
-        assert_eq!(rt; check(&config), wanted);
+        assert!(rt; check(&config) == wanted);
     }
     Ok(())
 }
@@ -253,7 +264,7 @@ fn tests_columns(rt: HostRuntime) -> Result<(), Fail> {
     ] {
         let other = [run(0, 700, runs[0].blocks), run(1, 700, runs[1].blocks)];
         let config = group(rt.alloc(), ncol, width, 1000, &runs, &other)?;
-        assert_eq!(rt; check(&config), wanted);
+        assert!(rt; check(&config) == wanted);
     }
     Ok(())
 }
@@ -312,20 +323,20 @@ fn states(alloc: Global, config: &Config) -> Option<[u8; 5]>
 fn changes_a_mirror_in_place(rt: HostRuntime) -> Result<(), Fail> {
     let alloc = rt.alloc();
     let mut config = mirror(alloc)?;
-    assert_eq!(rt; states(alloc, &config), Some([0, 0, 2, 1, 0]));
+    assert!(rt; states(alloc, &config) == Some([0, 0, 2, 1, 0]));
     config.set_state(0, 0, PlexState::Stale, true);
-    assert_eq!(rt; states(alloc, &config), Some([2, 1, 2, 1, 0]));
+    assert!(rt; states(alloc, &config) == Some([2, 1, 2, 1, 0]));
     assert!(rt; !check(&config));
     config.set_state(0, 1, PlexState::Clean, false);
-    assert_eq!(rt; states(alloc, &config), Some([2, 1, 1, 0, 0]));
+    assert!(rt; states(alloc, &config) == Some([2, 1, 1, 0, 0]));
     assert!(rt; check(&config));
     config.set_lost(0, VolumeLog::Drl, true);
-    assert_eq!(rt; states(alloc, &config), Some([2, 1, 1, 0, 1]));
+    assert!(rt; states(alloc, &config) == Some([2, 1, 1, 0, 1]));
     // There is no such log, plex or volume.
     config.set_lost(0, VolumeLog::Fmr, true);
     config.set_state(0, 2, PlexState::Stale, true);
     config.set_lost(1, VolumeLog::Drl, false);
-    assert_eq!(rt; states(alloc, &config), Some([2, 1, 1, 0, 1]));
+    assert!(rt; states(alloc, &config) == Some([2, 1, 1, 0, 1]));
     assert!(rt; check(&config));
     assert!(rt; config.volumes.pop().is_some());
     assert!(rt; config.volumes.pop().is_none());

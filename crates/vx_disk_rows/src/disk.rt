@@ -72,12 +72,11 @@ fn a_crash_keeps_the_picked_blocks(rt: HostRuntime) -> Result<(), Fail> {
     write(&mut shelf, 0, 3, 2)?;
     write(&mut shelf, 0, 1, 1)?;
     shelf.crash(5);
-    assert_eq!(rt; last_byte(&mut shelf, 0, 3), Err(ShelfError::Down));
+    assert!(rt; last_byte(&mut shelf, 0, 3) == Err(ShelfError::Down));
     raise(&mut shelf);
     for (unit, block, want) in [(0, 1, 1), (0, 3, 0), (1, 0, 3)] {
-        assert_eq!(rt;
-            last_byte(&mut shelf, unit, block),
-            Ok(want),
+        assert!(rt;
+            last_byte(&mut shelf, unit, block) == Ok(want),
             "at {unit} {block}"
         );
     }
@@ -94,7 +93,7 @@ fn what_was_flushed_stays(rt: HostRuntime) -> Result<(), Fail> {
     shelf.crash(0);
     raise(&mut shelf);
     for (block, want) in [(0, 0), (1, 1), (2, 4), (3, 4), (4, 0)] {
-        assert_eq!(rt; last_byte(&mut shelf, 0, block), Ok(want), "at {block}");
+        assert!(rt; last_byte(&mut shelf, 0, block) == Ok(want), "at {block}");
     }
     Ok(())
 }
@@ -104,28 +103,25 @@ fn a_fuse_lets_writes_and_flushes_pass(rt: HostRuntime) -> Result<(), Fail> {
     let mut shelf = fitted(rt.alloc(), &[], 1)?;
     shelf.fuse(2, 1);
     write(&mut shelf, 0, 1, 1)?;
-    assert_eq!(rt; last_byte(&mut shelf, 0, 1), Ok(1));
+    assert!(rt; last_byte(&mut shelf, 0, 1) == Ok(1));
     write(&mut shelf, 0, 2, 2)?;
-    assert_eq!(rt; flush(&mut shelf, 0), Err(ShelfError::Down));
+    assert!(rt; flush(&mut shelf, 0) == Err(ShelfError::Down));
     raise(&mut shelf);
-    assert_eq!(rt; last_byte(&mut shelf, 0, 1), Ok(1));
-    assert_eq!(rt; last_byte(&mut shelf, 0, 2), Ok(0));
-    assert_eq!(rt; write(&mut shelf, 0, 2, 2), Ok(()));
+    assert!(rt; last_byte(&mut shelf, 0, 1) == Ok(1));
+    assert!(rt; last_byte(&mut shelf, 0, 2) == Ok(0));
+    assert!(rt; write(&mut shelf, 0, 2, 2) == Ok(()));
     Ok(())
 }
 
 #[test]
 fn listed_calls_fail(rt: HostRuntime) -> Result<(), Fail> {
     let mut shelf = fitted(rt.alloc(), &[2, 4], 2)?;
-    assert_eq!(rt; write(&mut shelf, 1, 0, 1), Ok(()));
-    assert_eq!(rt; flush(&mut shelf, 1), Err(ShelfError::Fault { disk: 1 }));
-    assert_eq!(rt; last_byte(&mut shelf, 1, 0), Ok(1));
-    assert_eq!(rt;
-        last_byte(&mut shelf, 0, 0),
-        Err(ShelfError::Fault { disk: 0 })
-    );
-    assert_eq!(rt; last_byte(&mut shelf, 0, 0), Ok(0));
-    assert_eq!(rt; (faults(&shelf, 0), faults(&shelf, 1)), (1, 1));
+    assert!(rt; write(&mut shelf, 1, 0, 1) == Ok(()));
+    assert!(rt; flush(&mut shelf, 1) == Err(ShelfError::Fault { disk: 1 }));
+    assert!(rt; last_byte(&mut shelf, 1, 0) == Ok(1));
+    assert!(rt; last_byte(&mut shelf, 0, 0) == Err(ShelfError::Fault { disk: 0 }));
+    assert!(rt; last_byte(&mut shelf, 0, 0) == Ok(0));
+    assert!(rt; (faults(&shelf, 0), faults(&shelf, 1)) == (1, 1));
     Ok(())
 }
 
@@ -133,18 +129,12 @@ fn listed_calls_fail(rt: HostRuntime) -> Result<(), Fail> {
 fn a_failing_disk_fails_until_it_works(rt: HostRuntime) -> Result<(), Fail> {
     let mut shelf = fitted(rt.alloc(), &[], 2)?;
     make_fail(&mut shelf, 1, true);
-    assert_eq!(rt;
-        write(&mut shelf, 1, 0, 1),
-        Err(ShelfError::Fault { disk: 1 })
-    );
-    assert_eq!(rt;
-        last_byte(&mut shelf, 1, 0),
-        Err(ShelfError::Fault { disk: 1 })
-    );
-    assert_eq!(rt; write(&mut shelf, 0, 0, 1), Ok(()));
+    assert!(rt; write(&mut shelf, 1, 0, 1) == Err(ShelfError::Fault { disk: 1 }));
+    assert!(rt; last_byte(&mut shelf, 1, 0) == Err(ShelfError::Fault { disk: 1 }));
+    assert!(rt; write(&mut shelf, 0, 0, 1) == Ok(()));
     make_fail(&mut shelf, 1, false);
-    assert_eq!(rt; last_byte(&mut shelf, 1, 0), Ok(0));
-    assert_eq!(rt; faults(&shelf, 1), 2);
+    assert!(rt; last_byte(&mut shelf, 1, 0) == Ok(0));
+    assert!(rt; faults(&shelf, 1) == 2);
     Ok(())
 }
 
@@ -156,18 +146,18 @@ fn a_fit_is_refused_above_its_limits(rt: HostRuntime) -> Result<(), Fail> {
         most: 8,
     });
     let mut shelf = MemShelf::new(alloc, &[])?;
-    assert_eq!(rt; shelf.fit(alloc, None, 0, 9, 16385), Err(disks));
+    assert!(rt; shelf.fit(alloc, None, 0, 9, 16385) == Err(disks));
     for (dir, most) in [(None, 16384), (Some("files"), 4194304)] {
         let mut shelf = MemShelf::new(alloc, &[])?;
         let blocks = Stop::No(No::Limit {
             what: Counted::Blocks,
             most,
         });
-        assert_eq!(rt; shelf.fit(alloc, dir, 0, 1, most + 1), Err(blocks));
+        assert!(rt; shelf.fit(alloc, dir, 0, 1, most + 1) == Err(blocks));
     }
     let mut shelf = MemShelf::new(alloc, &[])?;
-    assert_eq!(rt; shelf.fit(alloc, Some("files"), 0, 1, 16385), Ok(()));
-    assert_eq!(rt; last_byte(&mut shelf, 0, 16384), Ok(0));
+    assert!(rt; shelf.fit(alloc, Some("files"), 0, 1, 16385) == Ok(()));
+    assert!(rt; last_byte(&mut shelf, 0, 16384) == Ok(0));
     Ok(())
 }
 
@@ -184,7 +174,7 @@ fn errors_are_printed(rt: HostRuntime) -> Result<(), Fail> {
         (ShelfError::Down, "the shelf is down"),
     ] {
         let text = format!(in alloc; "{error}")?;
-        assert_eq!(rt; text.as_str(), want);
+        assert!(rt; text.as_str() == want);
     }
     Ok(())
 }

@@ -5,8 +5,6 @@
 
 mod drl;
 mod marks;
-#[cfg(test)]
-mod tests;
 
 pub use drl::Drl;
 pub use marks::MOST_HELD;

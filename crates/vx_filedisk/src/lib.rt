@@ -8,7 +8,5 @@ mod files;
 mod fit;
 mod host;
 mod rack;
-#[cfg(test)]
-mod tests;
 
 pub use host::HostRack;

@@ -5,7 +5,5 @@
 #![tactic(auto)]
 
 mod fmr;
-#[cfg(test)]
-mod tests;
 
 pub use fmr::Fmr;

@@ -21,26 +21,23 @@ fn a_plex_is_attached(rt: HostRuntime) -> Result<(), Fail> {
     let alloc = rt.alloc();
     // Call 87 is the write to the second plex.
     let mut group = group_of(alloc, &[87], 3)?;
-    assert_eq!(rt;
-        make(alloc, &mut group, b"v", &plain(256, 2)),
-        Told::Volume(0)
-    );
-    assert_eq!(rt; put(&mut group, 0, 70, 0xbb), Told::Done);
-    assert_eq!(rt; state(group.config(), 0, 1), Some(PlexState::Stale));
-    assert_eq!(rt; att(&mut group, 0, 1), Told::Attached(4));
-    assert_eq!(rt; state(group.config(), 0, 1), Some(PlexState::Active));
-    assert_eq!(rt; att(&mut group, 0, 1), Told::Attached(0));
-    assert_eq!(rt; att(&mut group, 0, 2), Told::Unknown);
-    assert_eq!(rt; att(&mut group, 1, 0), Told::Unknown);
-    assert_eq!(rt; det(&mut group, 0, 0), Told::Done);
-    assert_eq!(rt; get(&mut group, 0, 70), Told::Block(0xbb));
-    assert_eq!(rt; get(&mut group, 0, 255), Told::Block(0));
-    assert_eq!(rt; put(&mut group, 0, 255, 0xcc), Told::Done);
-    assert_eq!(rt; att(&mut group, 0, 0), Told::Attached(4));
+    assert!(rt; make(alloc, &mut group, b"v", &plain(256, 2)) == Told::Volume(0));
+    assert!(rt; put(&mut group, 0, 70, 0xbb) == Told::Done);
+    assert!(rt; state(group.config(), 0, 1) == Some(PlexState::Stale));
+    assert!(rt; att(&mut group, 0, 1) == Told::Attached(4));
+    assert!(rt; state(group.config(), 0, 1) == Some(PlexState::Active));
+    assert!(rt; att(&mut group, 0, 1) == Told::Attached(0));
+    assert!(rt; att(&mut group, 0, 2) == Told::Unknown);
+    assert!(rt; att(&mut group, 1, 0) == Told::Unknown);
+    assert!(rt; det(&mut group, 0, 0) == Told::Done);
+    assert!(rt; get(&mut group, 0, 70) == Told::Block(0xbb));
+    assert!(rt; get(&mut group, 0, 255) == Told::Block(0));
+    assert!(rt; put(&mut group, 0, 255, 0xcc) == Told::Done);
+    assert!(rt; att(&mut group, 0, 0) == Told::Attached(4));
     let (mut shelf, _core) = group.apart();
-    assert_eq!(rt; get(&mut shelf, 0, 512 + 70), Told::Block(0xbb));
-    assert_eq!(rt; get(&mut shelf, 0, 512 + 255), Told::Block(0xcc));
-    assert_eq!(rt; get(&mut shelf, 1, 512 + 255), Told::Block(0xcc));
+    assert!(rt; get(&mut shelf, 0, 512 + 70) == Told::Block(0xbb));
+    assert!(rt; get(&mut shelf, 0, 512 + 255) == Told::Block(0xcc));
+    assert!(rt; get(&mut shelf, 1, 512 + 255) == Told::Block(0xcc));
     Ok(())
 }
 
@@ -60,20 +57,17 @@ fn each_call_of_an_attach_fails(rt: HostRuntime) -> Result<(), Fail> {
         (54, 55, Told::Device(1), off),
     ] {
         let mut group = group_of(alloc, &[first, second], 2)?;
-        assert_eq!(rt;
-            make(alloc, &mut group, b"v", &plain(16, 2)),
-            Told::Volume(0)
-        );
-        assert_eq!(rt; det(&mut group, 0, 1), Told::Done);
-        assert_eq!(rt; att(&mut group, 0, 1), wanted);
-        assert_eq!(rt; state(group.config(), 0, 1), is);
-        assert_eq!(rt; put(&mut group, 0, 3, 0x22), Told::Done);
-        assert_eq!(rt; get(&mut group, 0, 3), Told::Block(0x22));
-        assert_eq!(rt; get(&mut group, 0, 3), Told::Block(0x22));
+        assert!(rt; make(alloc, &mut group, b"v", &plain(16, 2)) == Told::Volume(0));
+        assert!(rt; det(&mut group, 0, 1) == Told::Done);
+        assert!(rt; att(&mut group, 0, 1) == wanted);
+        assert!(rt; state(group.config(), 0, 1) == is);
+        assert!(rt; put(&mut group, 0, 3, 0x22) == Told::Done);
+        assert!(rt; get(&mut group, 0, 3) == Told::Block(0x22));
+        assert!(rt; get(&mut group, 0, 3) == Told::Block(0x22));
         let again = if is == on { 0 } else { 1 };
-        assert_eq!(rt; att(&mut group, 0, 1), Told::Attached(again));
-        assert_eq!(rt; det(&mut group, 0, 0), Told::Done);
-        assert_eq!(rt; get(&mut group, 0, 3), Told::Block(0x22));
+        assert!(rt; att(&mut group, 0, 1) == Told::Attached(again));
+        assert!(rt; det(&mut group, 0, 0) == Told::Done);
+        assert!(rt; get(&mut group, 0, 3) == Told::Block(0x22));
     }
     Ok(())
 }
@@ -134,12 +128,9 @@ fn an_attach_is_cut_at_each_call(rt: HostRuntime) -> Result<(), Fail> {
     let alloc = rt.alloc();
     // A flush of the volume is the last call before the attach, which has a write and a flush of the plex and a commit of eight.
     for calls in [40, 41, 42, 43, 44, 45, 46, 47, 48, 49] {
-        assert_eq!(rt; cut(alloc, calls, 0)?, (Told::Down, Told::Block(0x11)));
-        assert_eq!(rt;
-            cut(alloc, calls, u64::MAX)?,
-            (Told::Down, Told::Block(0x11))
-        );
+        assert!(rt; cut(alloc, calls, 0)? == (Told::Down, Told::Block(0x11)));
+        assert!(rt; cut(alloc, calls, u64::MAX)? == (Told::Down, Told::Block(0x11)));
     }
-    assert_eq!(rt; cut(alloc, 50, 0)?, (Told::Attached(1), Told::Block(0x11)));
+    assert!(rt; cut(alloc, 50, 0)? == (Told::Attached(1), Told::Block(0x11)));
     Ok(())
 }

@@ -63,8 +63,8 @@ fn each_call_of_a_write_is_cut(rt: HostRuntime) -> Result<(), Fail> {
         (2, u64::MAX, Told::Done, new),
     ] {
         let mut group = volume(alloc, &[], calls, pick)?;
-        assert_eq!(rt; put(&mut group, 0, 3, 0x22), answer);
-        assert_eq!(rt; behind(alloc, group, pick), (block, block, true));
+        assert!(rt; put(&mut group, 0, 3, 0x22) == answer);
+        assert!(rt; behind(alloc, group, pick) == (block, block, true));
     }
     Ok(())
 }
@@ -80,8 +80,8 @@ fn each_call_of_a_write_with_its_commit_is_cut(rt: HostRuntime) -> Result<(), Fa
             let mut group = volume(alloc, &[44], calls, pick)?;
             let answer = if calls < 10 { Told::Down } else { Told::Done };
             let block = Told::Block(if calls < durable { 0x11 } else { 0x22 });
-            assert_eq!(rt; put(&mut group, 0, 3, 0x22), answer);
-            assert_eq!(rt; behind(alloc, group, pick), (block, block, calls < header));
+            assert!(rt; put(&mut group, 0, 3, 0x22) == answer);
+            assert!(rt; behind(alloc, group, pick) == (block, block, calls < header));
         }
     }
     Ok(())
@@ -95,8 +95,8 @@ fn each_call_of_a_detach_is_cut(rt: HostRuntime) -> Result<(), Fail> {
         for calls in 0..9 {
             let mut group = volume(alloc, &[], calls, pick)?;
             let answer = if calls < 8 { Told::Down } else { Told::Done };
-            assert_eq!(rt; det(&mut group, 0, 1), answer);
-            assert_eq!(rt; behind(alloc, group, pick), (block, block, calls < header));
+            assert!(rt; det(&mut group, 0, 1) == answer);
+            assert!(rt; behind(alloc, group, pick) == (block, block, calls < header));
         }
     }
     Ok(())

@@ -26,14 +26,14 @@ fn each_call_of_a_write_fails(rt: HostRuntime) -> Result<(), Fail> {
         for second in 45..57 {
             let pick = pick_of(second);
             let mut group = volume(alloc, &[first, second], ALL, pick)?;
-            assert_eq!(rt; put(&mut group, 0, 3, 0x22), Told::Done);
+            assert!(rt; put(&mut group, 0, 3, 0x22) == Told::Done);
             let states = (
                 state(group.config(), 0, 0) == Some(PlexState::Active),
                 state(group.config(), 0, 1) == Some(PlexState::Active),
             );
-            assert_eq!(rt; states, (on, !on));
-            assert_eq!(rt; flush(&mut group, 0), Told::Done);
-            assert_eq!(rt; behind(alloc, group, pick), (block, block, !on));
+            assert!(rt; states == (on, !on));
+            assert!(rt; flush(&mut group, 0) == Told::Done);
+            assert!(rt; behind(alloc, group, pick) == (block, block, !on));
         }
     }
     Ok(())
@@ -46,8 +46,8 @@ fn each_call_of_a_detach_fails(rt: HostRuntime) -> Result<(), Fail> {
     for call in 43..55 {
         let pick = pick_of(call);
         let mut group = volume(alloc, &[call], ALL, pick)?;
-        assert_eq!(rt; det(&mut group, 0, 1), Told::Done);
-        assert_eq!(rt; behind(alloc, group, pick), (block, block, false));
+        assert!(rt; det(&mut group, 0, 1) == Told::Done);
+        assert!(rt; behind(alloc, group, pick) == (block, block, false));
     }
     Ok(())
 }
@@ -65,9 +65,9 @@ fn each_call_of_an_attach_fails(rt: HostRuntime) -> Result<(), Fail> {
         };
         let pick = pick_of(call);
         let mut group = volume(alloc, &[call], ALL, pick)?;
-        assert_eq!(rt; det(&mut group, 0, 1), Told::Done);
-        assert_eq!(rt; att(&mut group, 0, 1), answer);
-        assert_eq!(rt; behind(alloc, group, pick), (block, block, on));
+        assert!(rt; det(&mut group, 0, 1) == Told::Done);
+        assert!(rt; att(&mut group, 0, 1) == answer);
+        assert!(rt; behind(alloc, group, pick) == (block, block, on));
     }
     Ok(())
 }
@@ -81,14 +81,14 @@ fn each_call_of_an_attach_is_cut(rt: HostRuntime) -> Result<(), Fail> {
     for (pick, header) in [(0, 6), (u64::MAX, 5)] {
         for calls in 0..11 {
             let mut group = volume(alloc, &[], 8 + calls, pick)?;
-            assert_eq!(rt; det(&mut group, 0, 1), Told::Done);
+            assert!(rt; det(&mut group, 0, 1) == Told::Done);
             let answer = if calls < 10 {
                 Told::Down
             } else {
                 Told::Attached(1)
             };
-            assert_eq!(rt; att(&mut group, 0, 1), answer);
-            assert_eq!(rt; behind(alloc, group, pick), (block, block, calls >= header));
+            assert!(rt; att(&mut group, 0, 1) == answer);
+            assert!(rt; behind(alloc, group, pick) == (block, block, calls >= header));
         }
     }
     Ok(())
@@ -108,12 +108,9 @@ const STRIPED: Shape = Shape {
 fn a_disk_is_away_over_a_deport(rt: HostRuntime) -> Result<(), Fail> {
     let alloc = rt.alloc();
     let mut group = group_on(alloc, disks_of(alloc, &[], 3, 1024)?)?;
-    assert_eq!(rt;
-        make(alloc, &mut group, b"v", &plain(256, 2)),
-        Told::Volume(0)
-    );
+    assert!(rt; make(alloc, &mut group, b"v", &plain(256, 2)) == Told::Volume(0));
     let mut group = failing(group, 1, true);
-    assert_eq!(rt; put(&mut group, 0, 70, 0xbb), Told::Done);
+    assert!(rt; put(&mut group, 0, 70, 0xbb) == Told::Done);
     let group = failing(group, 1, false);
     let found = match group.deport() {
         Ok(shelf) => again(alloc, shelf),
@@ -126,17 +123,14 @@ fn a_disk_is_away_over_a_deport(rt: HostRuntime) -> Result<(), Fail> {
             return Ok(());
         }
     };
-    assert_eq!(rt; att(&mut group, 0, 1), Told::Attached(4));
-    assert_eq!(rt; att(&mut group, 0, 1), Told::Attached(0));
-    assert_eq!(rt; get(&mut group, 0, 70), Told::Block(0xbb));
-    assert_eq!(rt; get(&mut group, 0, 70), Told::Block(0xbb));
-    assert_eq!(rt;
-        make(alloc, &mut group, b"w", &plain(2000, 1)),
-        Told::Space(2000, 1024)
-    );
-    assert_eq!(rt; make(alloc, &mut group, b"s", &STRIPED), Told::Volume(1));
-    assert_eq!(rt; put(&mut group, 1, 40, 0x77), Told::Done);
+    assert!(rt; att(&mut group, 0, 1) == Told::Attached(4));
+    assert!(rt; att(&mut group, 0, 1) == Told::Attached(0));
+    assert!(rt; get(&mut group, 0, 70) == Told::Block(0xbb));
+    assert!(rt; get(&mut group, 0, 70) == Told::Block(0xbb));
+    assert!(rt; make(alloc, &mut group, b"w", &plain(2000, 1)) == Told::Space(2000, 1024));
+    assert!(rt; make(alloc, &mut group, b"s", &STRIPED) == Told::Volume(1));
+    assert!(rt; put(&mut group, 1, 40, 0x77) == Told::Done);
     let (mut shelf, _core) = group.apart();
-    assert_eq!(rt; get(&mut shelf, 0, 792), Told::Block(0x77));
+    assert!(rt; get(&mut shelf, 0, 792) == Told::Block(0x77));
     Ok(())
 }

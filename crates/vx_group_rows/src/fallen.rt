@@ -11,14 +11,11 @@ use vx_model::OutOfMemory;
 fn a_group_crashes_again_and_again(rt: HostRuntime) -> Result<(), Fail> {
     let alloc = rt.alloc();
     let mut group = group_of(alloc, &[], 2)?;
-    assert_eq!(rt;
-        make(alloc, &mut group, b"v", &plain(16, 2)),
-        Told::Volume(0)
-    );
+    assert!(rt; make(alloc, &mut group, b"v", &plain(16, 2)) == Told::Volume(0));
     for turn in 0..3 {
-        assert_eq!(rt; put(&mut group, 0, turn, 0x11), Told::Done);
-        assert_eq!(rt; flush(&mut group, 0), Told::Done);
-        assert_eq!(rt; put(&mut group, 0, turn, 0x22), Told::Done);
+        assert!(rt; put(&mut group, 0, turn, 0x11) == Told::Done);
+        assert!(rt; flush(&mut group, 0) == Told::Done);
+        assert!(rt; put(&mut group, 0, turn, 0x22) == Told::Done);
         group = match crash_and_import(alloc, group, 0) {
             Some(group) => group,
             None => {
@@ -26,8 +23,8 @@ fn a_group_crashes_again_and_again(rt: HostRuntime) -> Result<(), Fail> {
                 return Ok(());
             }
         };
-        assert_eq!(rt; get(&mut group, 0, turn), Told::Block(0x11));
-        assert_eq!(rt; get(&mut group, 0, turn), Told::Block(0x11));
+        assert!(rt; get(&mut group, 0, turn) == Told::Block(0x11));
+        assert!(rt; get(&mut group, 0, turn) == Told::Block(0x11));
     }
     Ok(())
 }
@@ -38,17 +35,14 @@ fn imports_agree_again(rt: HostRuntime) -> Result<(), Fail> {
     // A volume of two plexes is made with call 38. A detach is refused, as both disks fail in its first calls on them; it is so once more, behind
     // ten calls that write headers back; and then it is done.
     let mut group = group_of(alloc, &[39, 40, 51, 52], 2)?;
-    assert_eq!(rt;
-        make(alloc, &mut group, b"v", &plain(16, 2)),
-        Told::Volume(0)
-    );
+    assert!(rt; make(alloc, &mut group, b"v", &plain(16, 2)) == Told::Volume(0));
     for (answer, agreed) in [
         (Told::Device(1), true),
         (Told::Device(1), false),
         (Told::Done, true),
     ] {
-        assert_eq!(rt; det(&mut group, 0, 1), answer);
-        assert_eq!(rt; group.is_agreed(), agreed);
+        assert!(rt; det(&mut group, 0, 1) == answer);
+        assert!(rt; group.is_agreed() == agreed);
     }
     Ok(())
 }
@@ -82,12 +76,9 @@ fn a_refused_import_is_tried_again(rt: HostRuntime) -> Result<(), Fail> {
     // A volume of two plexes is made with call 38, and a block of it written and flushed with call 42.
     for (first, second, once) in [(43, 44, Told::Other), (43, 0, Told::Other)] {
         let group = written(alloc, &[first, second])?;
-        assert_eq!(rt; block_of(crash_and_import(alloc, group, 0)), once);
+        assert!(rt; block_of(crash_and_import(alloc, group, 0)) == once);
         let group = written(alloc, &[first, second])?;
-        assert_eq!(rt;
-            block_of(crash_and_import_again(alloc, group, 0)),
-            Told::Block(0x11)
-        );
+        assert!(rt; block_of(crash_and_import_again(alloc, group, 0)) == Told::Block(0x11));
     }
     Ok(())
 }
@@ -99,7 +90,7 @@ fn an_import_that_is_cut_is_done_by_the_next(rt: HostRuntime) -> Result<(), Fail
         for pick in [0, u64::MAX] {
             let group = written(alloc, &[])?;
             let back = cut_and_import(alloc, group, calls, pick);
-            assert_eq!(rt; block_of(back), Told::Block(0x11));
+            assert!(rt; block_of(back) == Told::Block(0x11));
         }
     }
     Ok(())

@@ -44,14 +44,14 @@ fn a_refused_attach_is_held_back(rt: HostRuntime) -> Result<(), Fail> {
     // A crash that keeps what was written keeps the header, by which the plex is ACTIVE.
     for (pick, is) in [(u64::MAX, ON), (0, OFF)] {
         let mut group = before(alloc, &[61, 62, 63, 64])?;
-        assert_eq!(rt; att(&mut group, 0, 1), Told::Device(1));
-        assert_eq!(rt; state(group.config(), 0, 1), OFF);
-        assert_eq!(rt; failed_disk(group.config()), None);
-        assert_eq!(rt; det(&mut group, 0, 1), Told::Done);
-        assert_eq!(rt; det(&mut group, 0, 0), Told::LastPlex);
-        assert_eq!(rt; get(&mut group, 0, 3), block);
-        assert_eq!(rt; get(&mut group, 0, 3), block);
-        assert_eq!(rt; found(alloc, crashed(group, pick)), (is, block, block));
+        assert!(rt; att(&mut group, 0, 1) == Told::Device(1));
+        assert!(rt; state(group.config(), 0, 1) == OFF);
+        assert!(rt; failed_disk(group.config()) == None);
+        assert!(rt; det(&mut group, 0, 1) == Told::Done);
+        assert!(rt; det(&mut group, 0, 0) == Told::LastPlex);
+        assert!(rt; get(&mut group, 0, 3) == block);
+        assert!(rt; get(&mut group, 0, 3) == block);
+        assert!(rt; found(alloc, crashed(group, pick)) == (is, block, block));
     }
     Ok(())
 }
@@ -62,13 +62,13 @@ fn a_write_comes_behind_it(rt: HostRuntime) -> Result<(), Fail> {
     let block = Told::Block(0x22);
     for pick in [0, u64::MAX] {
         let mut group = before(alloc, &[61, 62, 63, 64])?;
-        assert_eq!(rt; att(&mut group, 0, 1), Told::Device(1));
-        assert_eq!(rt; put(&mut group, 0, 3, 0x22), Told::Done);
-        assert_eq!(rt; state(group.config(), 0, 1), OFF);
-        assert_eq!(rt; get(&mut group, 0, 3), block);
-        assert_eq!(rt; get(&mut group, 0, 3), block);
-        assert_eq!(rt; flush(&mut group, 0), Told::Done);
-        assert_eq!(rt; found(alloc, crashed(group, pick)), (OFF, block, block));
+        assert!(rt; att(&mut group, 0, 1) == Told::Device(1));
+        assert!(rt; put(&mut group, 0, 3, 0x22) == Told::Done);
+        assert!(rt; state(group.config(), 0, 1) == OFF);
+        assert!(rt; get(&mut group, 0, 3) == block);
+        assert!(rt; get(&mut group, 0, 3) == block);
+        assert!(rt; flush(&mut group, 0) == Told::Done);
+        assert!(rt; found(alloc, crashed(group, pick)) == (OFF, block, block));
     }
     Ok(())
 }
@@ -80,12 +80,12 @@ fn a_write_behind_it_is_refused(rt: HostRuntime) -> Result<(), Fail> {
     // The first calls for the headers fail once more.
     for (pick, is) in [(u64::MAX, ON), (0, OFF)] {
         let mut group = before(alloc, &[61, 62, 63, 64, 65, 66])?;
-        assert_eq!(rt; att(&mut group, 0, 1), Told::Device(1));
-        assert_eq!(rt; put(&mut group, 0, 3, 0x22), Told::Device(1));
-        assert_eq!(rt; state(group.config(), 0, 1), OFF);
-        assert_eq!(rt; get(&mut group, 0, 3), block);
-        assert_eq!(rt; get(&mut group, 0, 3), block);
-        assert_eq!(rt; found(alloc, crashed(group, pick)), (is, block, block));
+        assert!(rt; att(&mut group, 0, 1) == Told::Device(1));
+        assert!(rt; put(&mut group, 0, 3, 0x22) == Told::Device(1));
+        assert!(rt; state(group.config(), 0, 1) == OFF);
+        assert!(rt; get(&mut group, 0, 3) == block);
+        assert!(rt; get(&mut group, 0, 3) == block);
+        assert!(rt; found(alloc, crashed(group, pick)) == (is, block, block));
     }
     Ok(())
 }
@@ -94,14 +94,14 @@ fn a_write_behind_it_is_refused(rt: HostRuntime) -> Result<(), Fail> {
 fn it_is_attached_again(rt: HostRuntime) -> Result<(), Fail> {
     let alloc = rt.alloc();
     let mut group = before(alloc, &[61, 62, 63, 64])?;
-    assert_eq!(rt; att(&mut group, 0, 1), Told::Device(1));
-    assert_eq!(rt; state(group.config(), 0, 1), OFF);
-    assert_eq!(rt; att(&mut group, 0, 1), Told::Attached(1));
-    assert_eq!(rt; state(group.config(), 0, 1), ON);
-    assert_eq!(rt; put(&mut group, 0, 4, 0x33), Told::Done);
-    assert_eq!(rt; det(&mut group, 0, 0), Told::Done);
-    assert_eq!(rt; get(&mut group, 0, 3), Told::Block(0x11));
-    assert_eq!(rt; get(&mut group, 0, 4), Told::Block(0x33));
+    assert!(rt; att(&mut group, 0, 1) == Told::Device(1));
+    assert!(rt; state(group.config(), 0, 1) == OFF);
+    assert!(rt; att(&mut group, 0, 1) == Told::Attached(1));
+    assert!(rt; state(group.config(), 0, 1) == ON);
+    assert!(rt; put(&mut group, 0, 4, 0x33) == Told::Done);
+    assert!(rt; det(&mut group, 0, 0) == Told::Done);
+    assert!(rt; get(&mut group, 0, 3) == Told::Block(0x11));
+    assert!(rt; get(&mut group, 0, 4) == Told::Block(0x33));
     Ok(())
 }
 
@@ -110,18 +110,15 @@ fn other_calls_come_behind_it(rt: HostRuntime) -> Result<(), Fail> {
     let alloc = rt.alloc();
     let block = Told::Block(0x11);
     let mut group = before(alloc, &[61, 62, 63, 64])?;
-    assert_eq!(rt; att(&mut group, 0, 1), Told::Device(1));
-    assert_eq!(rt;
-        make(alloc, &mut group, b"w", &plain(16, 2)),
-        Told::Volume(1)
-    );
-    assert_eq!(rt; state(group.config(), 0, 1), OFF);
-    assert_eq!(rt; state(group.config(), 1, 1), ON);
-    assert_eq!(rt; found(alloc, crashed(group, u64::MAX)), (OFF, block, block));
+    assert!(rt; att(&mut group, 0, 1) == Told::Device(1));
+    assert!(rt; make(alloc, &mut group, b"w", &plain(16, 2)) == Told::Volume(1));
+    assert!(rt; state(group.config(), 0, 1) == OFF);
+    assert!(rt; state(group.config(), 1, 1) == ON);
+    assert!(rt; found(alloc, crashed(group, u64::MAX)) == (OFF, block, block));
     let mut group = before(alloc, &[61, 62, 63, 64])?;
-    assert_eq!(rt; att(&mut group, 0, 1), Told::Device(1));
+    assert!(rt; att(&mut group, 0, 1) == Told::Device(1));
     match group.deport() {
-        Ok(shelf) => assert_eq!(rt; found(alloc, shelf), (OFF, block, block)),
+        Ok(shelf) => assert!(rt; found(alloc, shelf) == (OFF, block, block)),
         Err(_) => assert!(rt; false),
     }
     Ok(())

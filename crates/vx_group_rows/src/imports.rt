@@ -15,7 +15,7 @@ const ON: Option<PlexState> = Some(PlexState::Active);
 const OFF: Option<PlexState> = Some(PlexState::Stale);
 
 // What an import gave: its answer, the states of the first two plexes of a volume, and the first disk that is held as failed.
-#[derive(Clone, Copy, Debug, PartialEq, Eq)]
+#[derive(Clone, Copy, PartialEq, Eq)]
 struct Given {
     told: Told,
     first: Option<PlexState>,
@@ -176,11 +176,8 @@ fn each_call_of_an_import_fails(rt: HostRuntime) -> Result<(), Fail> {
         (77, done_with(ON, ON, Some(1))),
     ] {
         let (shelf, was) = import(alloc, torn(alloc, &[call])?, 0);
-        assert_eq!(rt; was, wanted);
-        assert_eq!(rt;
-            reads(alloc, shelf, 0, 3),
-            (Told::Block(0x11), Told::Block(0x11))
-        );
+        assert!(rt; was == wanted);
+        assert!(rt; reads(alloc, shelf, 0, 3) == (Told::Block(0x11), Told::Block(0x11)));
     }
     Ok(())
 }
@@ -199,11 +196,8 @@ fn each_call_of_an_import_is_cut(rt: HostRuntime) -> Result<(), Fail> {
             } else {
                 done_with(ON, ON, None)
             };
-            assert_eq!(rt; was, wanted);
-            assert_eq!(rt;
-                reads(alloc, shelf, 0, 3),
-                (Told::Block(0x11), Told::Block(0x11))
-            );
+            assert!(rt; was == wanted);
+            assert!(rt; reads(alloc, shelf, 0, 3) == (Told::Block(0x11), Told::Block(0x11)));
         }
     }
     Ok(())
@@ -213,30 +207,18 @@ fn each_call_of_an_import_is_cut(rt: HostRuntime) -> Result<(), Fail> {
 fn a_group_behind_a_crash(rt: HostRuntime) -> Result<(), Fail> {
     let alloc = rt.alloc();
     let mut group = group_on(alloc, disks_of(alloc, &[], 2, 1024)?)?;
-    assert_eq!(rt;
-        make(alloc, &mut group, b"log1", &plain(64, 2)),
-        Told::Volume(0)
-    );
-    assert_eq!(rt;
-        make(alloc, &mut group, b"maps", &plain(8, 2)),
-        Told::Volume(1)
-    );
-    assert_eq!(rt;
-        make(alloc, &mut group, b"v", &plain(256, 2)),
-        Told::Volume(2)
-    );
-    assert_eq!(rt; put(&mut group, 2, 0, 0x11), Told::Done);
-    assert_eq!(rt; flush(&mut group, 2), Told::Done);
+    assert!(rt; make(alloc, &mut group, b"log1", &plain(64, 2)) == Told::Volume(0));
+    assert!(rt; make(alloc, &mut group, b"maps", &plain(8, 2)) == Told::Volume(1));
+    assert!(rt; make(alloc, &mut group, b"v", &plain(256, 2)) == Told::Volume(2));
+    assert!(rt; put(&mut group, 2, 0, 0x11) == Told::Done);
+    assert!(rt; flush(&mut group, 2) == Told::Done);
     let mut shelf = crashed(group, 0);
     for volume in 0..3 {
         let (behind, was) = import(alloc, shelf, volume);
-        assert_eq!(rt; was, done_with(ON, ON, None));
+        assert!(rt; was == done_with(ON, ON, None));
         shelf = behind;
     }
-    assert_eq!(rt;
-        reads(alloc, shelf, 2, 0),
-        (Told::Block(0x11), Told::Block(0x11))
-    );
+    assert!(rt; reads(alloc, shelf, 2, 0) == (Told::Block(0x11), Told::Block(0x11)));
     Ok(())
 }
 
@@ -247,16 +229,13 @@ fn a_detach_that_was_cut(rt: HostRuntime) -> Result<(), Fail> {
     let mut disks = disks_of(alloc, &[], 2, 1024)?.shelf;
     disks.fuse(40, 0);
     let mut group = group_on(alloc, Untold { shelf: disks })?;
-    assert_eq!(rt;
-        make(alloc, &mut group, b"v", &plain(64, 2)),
-        Told::Volume(0)
-    );
+    assert!(rt; make(alloc, &mut group, b"v", &plain(64, 2)) == Told::Volume(0));
     assert!(rt; group.det(0, 1).is_err());
     let shelf = fail(crashed(group, 0), 0, true);
     let (shelf, was) = import(alloc, shelf, 0);
-    assert_eq!(rt; was, refused(Told::Missing(0)));
+    assert!(rt; was == refused(Told::Missing(0)));
     let (_, was) = import(alloc, fail(shelf, 0, false), 0);
-    assert_eq!(rt; was, done_with(ON, OFF, None));
+    assert!(rt; was == done_with(ON, OFF, None));
     Ok(())
 }
 
@@ -265,19 +244,13 @@ fn a_group_behind_a_deport(rt: HostRuntime) -> Result<(), Fail> {
     let alloc = rt.alloc();
     // Call 87 is the write to the second plex.
     let mut group = group_on(alloc, disks_of(alloc, &[87], 3, 1024)?)?;
-    assert_eq!(rt;
-        make(alloc, &mut group, b"v", &plain(256, 2)),
-        Told::Volume(0)
-    );
-    assert_eq!(rt; put(&mut group, 0, 70, 0xbb), Told::Done);
+    assert!(rt; make(alloc, &mut group, b"v", &plain(256, 2)) == Told::Volume(0));
+    assert!(rt; put(&mut group, 0, 70, 0xbb) == Told::Done);
     match group.deport() {
         Ok(shelf) => {
             let (shelf, was) = import(alloc, shelf, 0);
-            assert_eq!(rt; was, done_with(ON, OFF, None));
-            assert_eq!(rt;
-                reads(alloc, shelf, 0, 70),
-                (Told::Block(0xbb), Told::Block(0xbb))
-            );
+            assert!(rt; was == done_with(ON, OFF, None));
+            assert!(rt; reads(alloc, shelf, 0, 70) == (Told::Block(0xbb), Told::Block(0xbb)));
         }
         Err(_) => assert!(rt; false),
     }
@@ -289,7 +262,7 @@ fn no_group_is_found(rt: HostRuntime) -> Result<(), Fail> {
     let alloc = rt.alloc();
     for blocks in [1023, 1024] {
         let (_, was) = import(alloc, disks_of(alloc, &[], 2, blocks)?, 0);
-        assert_eq!(rt; was, refused(Told::NoConfig));
+        assert!(rt; was == refused(Told::NoConfig));
     }
     Ok(())
 }

@@ -31,27 +31,21 @@ fn a_disk_comes_back(rt: HostRuntime) -> Result<(), Fail> {
     let on = Some(PlexState::Active);
     let off = Some(PlexState::Stale);
     let mut group = group_on(alloc, disks_of(alloc, &[], 2, 1024)?)?;
-    assert_eq!(rt;
-        make(alloc, &mut group, b"v", &plain(16, 2)),
-        Told::Volume(0)
-    );
+    assert!(rt; make(alloc, &mut group, b"v", &plain(16, 2)) == Told::Volume(0));
     let mut group = failing(group, 1, true);
-    assert_eq!(rt; put(&mut group, 0, 3, 0x11), Told::Done);
-    assert_eq!(rt; seen(group.config()), (off, Some(1)));
-    assert_eq!(rt; att(&mut group, 0, 1), Told::Device(1));
-    assert_eq!(rt; seen(group.config()), (off, Some(1)));
+    assert!(rt; put(&mut group, 0, 3, 0x11) == Told::Done);
+    assert!(rt; seen(group.config()) == (off, Some(1)));
+    assert!(rt; att(&mut group, 0, 1) == Told::Device(1));
+    assert!(rt; seen(group.config()) == (off, Some(1)));
     let mut group = failing(group, 1, false);
-    assert_eq!(rt; put(&mut group, 0, 4, 0x22), Told::Done);
-    assert_eq!(rt; seen(group.config()), (off, Some(1)));
-    assert_eq!(rt; att(&mut group, 0, 1), Told::Attached(1));
-    assert_eq!(rt; seen(group.config()), (on, None));
-    assert_eq!(rt; det(&mut group, 0, 0), Told::Done);
-    assert_eq!(rt; get(&mut group, 0, 3), Told::Block(0x11));
-    assert_eq!(rt; get(&mut group, 0, 4), Told::Block(0x22));
-    assert_eq!(rt;
-        reads(alloc, crashed(group, 0), 0, 3),
-        (Told::Block(0x11), Told::Block(0x11))
-    );
+    assert!(rt; put(&mut group, 0, 4, 0x22) == Told::Done);
+    assert!(rt; seen(group.config()) == (off, Some(1)));
+    assert!(rt; att(&mut group, 0, 1) == Told::Attached(1));
+    assert!(rt; seen(group.config()) == (on, None));
+    assert!(rt; det(&mut group, 0, 0) == Told::Done);
+    assert!(rt; get(&mut group, 0, 3) == Told::Block(0x11));
+    assert!(rt; get(&mut group, 0, 4) == Told::Block(0x22));
+    assert!(rt; reads(alloc, crashed(group, 0), 0, 3) == (Told::Block(0x11), Told::Block(0x11)));
     Ok(())
 }
 
@@ -72,16 +66,13 @@ fn each_call_for_a_disk_fails(rt: HostRuntime) -> Result<(), Fail> {
         (77, (Told::Device(1), off, None)),
     ] {
         let mut group = group_of(alloc, &[40, 47, call], 2)?;
-        assert_eq!(rt;
-            make(alloc, &mut group, b"v", &plain(16, 2)),
-            Told::Volume(0)
-        );
-        assert_eq!(rt; put(&mut group, 0, 3, 0x11), Told::Done);
-        assert_eq!(rt; seen(group.config()), (off, Some(1)));
+        assert!(rt; make(alloc, &mut group, b"v", &plain(16, 2)) == Told::Volume(0));
+        assert!(rt; put(&mut group, 0, 3, 0x11) == Told::Done);
+        assert!(rt; seen(group.config()) == (off, Some(1)));
         let told = att(&mut group, 0, 1);
         let is = seen(group.config());
-        assert_eq!(rt; (told, is.0, is.1), wanted);
-        assert_eq!(rt; get(&mut group, 0, 3), Told::Block(0x11));
+        assert!(rt; (told, is.0, is.1) == wanted);
+        assert!(rt; get(&mut group, 0, 3) == Told::Block(0x11));
     }
     Ok(())
 }

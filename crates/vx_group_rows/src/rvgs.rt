@@ -81,10 +81,10 @@ fn volumes_that_may_be_a_group_are_named(rt: HostRuntime) -> Result<(), Fail> {
         (1, 0, 2, Told::Done, Some((1, 0, 1))),
     ] {
         let mut group = four(alloc)?;
-        assert_eq!(rt; named(group.config()), None);
-        assert_eq!(rt; set(&mut group, srl, maps, data), wanted);
-        assert_eq!(rt; named(group.config()), is);
-        assert_eq!(rt; behind(alloc, group, 0), (true, is));
+        assert!(rt; named(group.config()) == None);
+        assert!(rt; set(&mut group, srl, maps, data) == wanted);
+        assert!(rt; named(group.config()) == is);
+        assert!(rt; behind(alloc, group, 0) == (true, is));
     }
     Ok(())
 }
@@ -100,11 +100,11 @@ fn each_call_that_names_them_is_cut(rt: HostRuntime) -> Result<(), Fail> {
             let mut group = four(alloc)?;
             group.fuse(calls, pick);
             let answer = if calls < 8 { Told::Down } else { Told::Done };
-            assert_eq!(rt; set(&mut group, 0, 1, 2), answer);
+            assert!(rt; set(&mut group, 0, 1, 2) == answer);
             let now = if calls < 8 { None } else { is };
-            assert_eq!(rt; named(group.config()), now);
+            assert!(rt; named(group.config()) == now);
             let then = if calls < header { None } else { is };
-            assert_eq!(rt; behind(alloc, group, pick), (true, then));
+            assert!(rt; behind(alloc, group, pick) == (true, then));
         }
     }
     Ok(())
@@ -129,8 +129,8 @@ fn a_refused_deport_gives_the_group_back(rt: HostRuntime) -> Result<(), Fail> {
     let alloc = rt.alloc();
     let is = Some((0, 1, 1));
     let mut group = four(alloc)?;
-    assert_eq!(rt; set(&mut group, 0, 1, 2), Told::Done);
-    assert_eq!(rt; put(&mut group, 2, 3, 0x11), Told::Done);
+    assert!(rt; set(&mut group, 0, 1, 2) == Told::Done);
+    assert!(rt; put(&mut group, 2, 3, 0x11) == Told::Done);
     fail_both(&mut group, true);
     let mut group = match given_back(group) {
         Some(group) => group,
@@ -139,10 +139,10 @@ fn a_refused_deport_gives_the_group_back(rt: HostRuntime) -> Result<(), Fail> {
             return Ok(());
         }
     };
-    assert_eq!(rt; named(group.config()), is);
+    assert!(rt; named(group.config()) == is);
     fail_both(&mut group, false);
-    assert_eq!(rt; get(&mut group, 2, 3), Told::Block(0x11));
-    assert_eq!(rt; put(&mut group, 2, 3, 0x22), Told::Done);
-    assert_eq!(rt; behind(alloc, group, u64::MAX), (true, is));
+    assert!(rt; get(&mut group, 2, 3) == Told::Block(0x11));
+    assert!(rt; put(&mut group, 2, 3, 0x22) == Told::Done);
+    assert!(rt; behind(alloc, group, u64::MAX) == (true, is));
     Ok(())
 }

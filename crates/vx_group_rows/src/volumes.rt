@@ -7,7 +7,7 @@ use vx_group::Group;
 use vx_layout::Shape;
 use vx_model::{Counted, Name, No, OutOfMemory, Stop};
 
-#[derive(Clone, Copy, Debug, PartialEq, Eq)]
+#[derive(Clone, Copy, PartialEq, Eq)]
 pub enum Told {
     Done,
     Volume(u32),
@@ -150,21 +150,15 @@ fn a_write_detaches_the_plex_that_failed(rt: HostRuntime) -> Result<(), Fail> {
     // A new group of three disks has made 33 calls; zeros in runs of 16 blocks, two flushes, a commit and a read follow, and call 88 is the
     // write to the second plex.
     let mut group = group_of(alloc, &[88], 3)?;
-    assert_eq!(rt;
-        make(alloc, &mut group, b"v", &plain(256, 2)),
-        Told::Volume(0)
-    );
-    assert_eq!(rt; get(&mut group, 0, 255), Told::Block(0));
-    assert_eq!(rt; put(&mut group, 0, 70, 0xbb), Told::Done);
-    assert_eq!(rt; state(group.config(), 0, 0), Some(PlexState::Active));
-    assert_eq!(rt; state(group.config(), 0, 1), Some(PlexState::Stale));
-    assert_eq!(rt; get(&mut group, 0, 70), Told::Block(0xbb));
-    assert_eq!(rt; get(&mut group, 0, 70), Told::Block(0xbb));
-    assert_eq!(rt; det(&mut group, 0, 0), Told::LastPlex);
-    assert_eq!(rt;
-        make(alloc, &mut group, b"w", &plain(2000, 1)),
-        Told::Space(2000, 1024)
-    );
+    assert!(rt; make(alloc, &mut group, b"v", &plain(256, 2)) == Told::Volume(0));
+    assert!(rt; get(&mut group, 0, 255) == Told::Block(0));
+    assert!(rt; put(&mut group, 0, 70, 0xbb) == Told::Done);
+    assert!(rt; state(group.config(), 0, 0) == Some(PlexState::Active));
+    assert!(rt; state(group.config(), 0, 1) == Some(PlexState::Stale));
+    assert!(rt; get(&mut group, 0, 70) == Told::Block(0xbb));
+    assert!(rt; get(&mut group, 0, 70) == Told::Block(0xbb));
+    assert!(rt; det(&mut group, 0, 0) == Told::LastPlex);
+    assert!(rt; make(alloc, &mut group, b"w", &plain(2000, 1)) == Told::Space(2000, 1024));
     let striped = Shape {
         blocks: 100,
         mirrors: 1,
@@ -174,12 +168,12 @@ fn a_write_detaches_the_plex_that_failed(rt: HostRuntime) -> Result<(), Fail> {
         fmr: false,
         prefer: None,
     };
-    assert_eq!(rt; make(alloc, &mut group, b"s", &striped), Told::Volume(1));
-    assert_eq!(rt; get(&mut group, 1, 40), Told::Block(0));
-    assert_eq!(rt; put(&mut group, 1, 40, 0x77), Told::Done);
+    assert!(rt; make(alloc, &mut group, b"s", &striped) == Told::Volume(1));
+    assert!(rt; get(&mut group, 1, 40) == Told::Block(0));
+    assert!(rt; put(&mut group, 1, 40, 0x77) == Told::Done);
     // Block 40 of the striped plex is block 792 of disk 0.
     let (mut shelf, _core) = group.apart();
-    assert_eq!(rt; get(&mut shelf, 0, 792), Told::Block(0x77));
+    assert!(rt; get(&mut shelf, 0, 792) == Told::Block(0x77));
     Ok(())
 }
 
@@ -187,28 +181,13 @@ fn a_write_detaches_the_plex_that_failed(rt: HostRuntime) -> Result<(), Fail> {
 fn a_volume_is_refused(rt: HostRuntime) -> Result<(), Fail> {
     let alloc = rt.alloc();
     let mut group = group_of(alloc, &[], 2)?;
-    assert_eq!(rt;
-        make(alloc, &mut group, b"v", &plain(64, 2)),
-        Told::Volume(0)
-    );
-    assert_eq!(rt; make(alloc, &mut group, b"v", &plain(64, 9)), Told::Exists);
-    assert_eq!(rt;
-        make(alloc, &mut group, b"w", &plain(0, 9)),
-        Told::Limit(Counted::Plexes, 8)
-    );
-    assert_eq!(rt; make(alloc, &mut group, b"w", &plain(0, 1)), Told::Small);
-    assert_eq!(rt;
-        make(alloc, &mut group, b"w", &plain(64, 3)),
-        Told::Space(64, 0)
-    );
-    assert_eq!(rt;
-        make(alloc, &mut group, b"w", &plain(448, 2)),
-        Told::Volume(1)
-    );
-    assert_eq!(rt;
-        make(alloc, &mut group, b"x", &plain(1, 1)),
-        Told::Space(1, 0)
-    );
+    assert!(rt; make(alloc, &mut group, b"v", &plain(64, 2)) == Told::Volume(0));
+    assert!(rt; make(alloc, &mut group, b"v", &plain(64, 9)) == Told::Exists);
+    assert!(rt; make(alloc, &mut group, b"w", &plain(0, 9)) == Told::Limit(Counted::Plexes, 8));
+    assert!(rt; make(alloc, &mut group, b"w", &plain(0, 1)) == Told::Small);
+    assert!(rt; make(alloc, &mut group, b"w", &plain(64, 3)) == Told::Space(64, 0));
+    assert!(rt; make(alloc, &mut group, b"w", &plain(448, 2)) == Told::Volume(1));
+    assert!(rt; make(alloc, &mut group, b"x", &plain(1, 1)) == Told::Space(1, 0));
     Ok(())
 }
 
@@ -227,13 +206,13 @@ fn each_call_of_a_new_volume_fails(rt: HostRuntime) -> Result<(), Fail> {
         (38, Told::Volume(0)),
     ] {
         let mut group = group_of(alloc, &[call], 2)?;
-        assert_eq!(rt; make(alloc, &mut group, b"v", &plain(16, 2)), wanted);
+        assert!(rt; make(alloc, &mut group, b"v", &plain(16, 2)) == wanted);
         let again = match wanted {
             Told::Volume(_) => Told::Exists,
             _ => Told::Volume(0),
         };
-        assert_eq!(rt; make(alloc, &mut group, b"v", &plain(16, 2)), again);
-        assert_eq!(rt; get(&mut group, 0, 15), Told::Block(0));
+        assert!(rt; make(alloc, &mut group, b"v", &plain(16, 2)) == again);
+        assert!(rt; get(&mut group, 0, 15) == Told::Block(0));
     }
     Ok(())
 }
@@ -252,17 +231,14 @@ fn each_call_of_a_write_fails(rt: HostRuntime) -> Result<(), Fail> {
         (40, 47, Told::Done, (on, off)),
     ] {
         let mut group = group_of(alloc, &[first, second], 2)?;
-        assert_eq!(rt;
-            make(alloc, &mut group, b"v", &plain(16, 2)),
-            Told::Volume(0)
-        );
-        assert_eq!(rt; put(&mut group, 0, 3, 0x11), wanted);
-        assert_eq!(rt; state(group.config(), 0, 0), states.0);
-        assert_eq!(rt; state(group.config(), 0, 1), states.1);
-        assert_eq!(rt; put(&mut group, 0, 3, 0x22), Told::Done);
-        assert_eq!(rt; flush(&mut group, 0), Told::Done);
-        assert_eq!(rt; get(&mut group, 0, 3), Told::Block(0x22));
-        assert_eq!(rt; get(&mut group, 0, 3), Told::Block(0x22));
+        assert!(rt; make(alloc, &mut group, b"v", &plain(16, 2)) == Told::Volume(0));
+        assert!(rt; put(&mut group, 0, 3, 0x11) == wanted);
+        assert!(rt; state(group.config(), 0, 0) == states.0);
+        assert!(rt; state(group.config(), 0, 1) == states.1);
+        assert!(rt; put(&mut group, 0, 3, 0x22) == Told::Done);
+        assert!(rt; flush(&mut group, 0) == Told::Done);
+        assert!(rt; get(&mut group, 0, 3) == Told::Block(0x22));
+        assert!(rt; get(&mut group, 0, 3) == Told::Block(0x22));
     }
     Ok(())
 }
@@ -279,17 +255,14 @@ fn each_call_of_a_detach_fails(rt: HostRuntime) -> Result<(), Fail> {
         (39, 40, Told::Device(1), on),
     ] {
         let mut group = group_of(alloc, &[first, second], 2)?;
-        assert_eq!(rt;
-            make(alloc, &mut group, b"v", &plain(16, 2)),
-            Told::Volume(0)
-        );
-        assert_eq!(rt; det(&mut group, 0, 1), wanted);
-        assert_eq!(rt; state(group.config(), 0, 0), on);
-        assert_eq!(rt; state(group.config(), 0, 1), is);
-        assert_eq!(rt; det(&mut group, 1, 0), Told::Unknown);
-        assert_eq!(rt; det(&mut group, 0, 2), Told::Unknown);
-        assert_eq!(rt; put(&mut group, 0, 3, 0x22), Told::Done);
-        assert_eq!(rt; get(&mut group, 0, 3), Told::Block(0x22));
+        assert!(rt; make(alloc, &mut group, b"v", &plain(16, 2)) == Told::Volume(0));
+        assert!(rt; det(&mut group, 0, 1) == wanted);
+        assert!(rt; state(group.config(), 0, 0) == on);
+        assert!(rt; state(group.config(), 0, 1) == is);
+        assert!(rt; det(&mut group, 1, 0) == Told::Unknown);
+        assert!(rt; det(&mut group, 0, 2) == Told::Unknown);
+        assert!(rt; put(&mut group, 0, 3, 0x22) == Told::Done);
+        assert!(rt; get(&mut group, 0, 3) == Told::Block(0x22));
     }
     Ok(())
 }
@@ -315,12 +288,9 @@ fn a_deport_flushes_before_it_commits(rt: HostRuntime) -> Result<(), Fail> {
         (43, 44, Told::Device(1)),
     ] {
         let mut group = group_of(alloc, &[first, second], 2)?;
-        assert_eq!(rt;
-            make(alloc, &mut group, b"v", &plain(16, 2)),
-            Told::Volume(0)
-        );
-        assert_eq!(rt; put(&mut group, 0, 3, 0x11), Told::Done);
-        assert_eq!(rt; deport(group), wanted);
+        assert!(rt; make(alloc, &mut group, b"v", &plain(16, 2)) == Told::Volume(0));
+        assert!(rt; put(&mut group, 0, 3, 0x11) == Told::Done);
+        assert!(rt; deport(group) == wanted);
     }
     Ok(())
 }

@@ -9,8 +9,6 @@ mod guarding;
 mod loading;
 mod mapping;
 mod running;
-#[cfg(test)]
-mod tests;
 mod zeroing;
 
 pub use beginning::begin_run;

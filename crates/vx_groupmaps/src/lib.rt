@@ -12,8 +12,6 @@ mod loading;
 mod marking;
 mod readying;
 mod refusing;
-#[cfg(test)]
-mod tests;
 
 pub use beginning::begin_map;
 pub use filling::fill_maps;

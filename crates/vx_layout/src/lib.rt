@@ -20,6 +20,3 @@ pub use gap::PUBLIC_START;
 pub use shape::{Found, Runs, Shape};
 pub use space::find_space;
 pub use spot::{Spot, find_spot, place};
-
-#[cfg(test)]
-mod tests;

@@ -91,17 +91,17 @@ fn first_byte(rvg: &mut Rvg<MemShelf>, block: u64) -> Result<u8, No> {
 fn a_change_of_line_keeps_the_content(rt: HostRuntime) -> Result<(), Fail> {
     let alloc = rt.alloc();
     let mut rvg = made(alloc, 1000)?;
-    assert_eq!(rt; write(&mut rvg, 3, 0x11), Ok(1));
-    assert_eq!(rt; write(&mut rvg, 4, 0x22), Ok(2));
-    assert_eq!(rt; rvg.change(&State::first(1), Some(7)), Ok(()));
-    assert_eq!(rt; (rvg.low(), rvg.head(), rvg.applied()), (8, 7, 7));
-    assert_eq!(rt; first_byte(&mut rvg, 3), Ok(0x11));
+    assert!(rt; write(&mut rvg, 3, 0x11) == Ok(1));
+    assert!(rt; write(&mut rvg, 4, 0x22) == Ok(2));
+    assert!(rt; rvg.change(&State::first(1), Some(7)) == Ok(()));
+    assert!(rt; (rvg.low(), rvg.head(), rvg.applied()) == (8, 7, 7));
+    assert!(rt; first_byte(&mut rvg, 3) == Ok(0x11));
     let mut rvg = again(alloc, rvg)?;
-    assert_eq!(rt; (rvg.low(), rvg.head(), rvg.session()), (8, 7, 2));
-    assert_eq!(rt; rvg.state().line.origin, 1);
-    assert_eq!(rt; first_byte(&mut rvg, 3), Ok(0x11));
-    assert_eq!(rt; first_byte(&mut rvg, 4), Ok(0x22));
-    assert_eq!(rt; write(&mut rvg, 5, 0x33), Ok(8));
+    assert!(rt; (rvg.low(), rvg.head(), rvg.session()) == (8, 7, 2));
+    assert!(rt; rvg.state().line.origin == 1);
+    assert!(rt; first_byte(&mut rvg, 3) == Ok(0x11));
+    assert!(rt; first_byte(&mut rvg, 4) == Ok(0x22));
+    assert!(rt; write(&mut rvg, 5, 0x33) == Ok(8));
     Ok(())
 }
 
@@ -111,23 +111,23 @@ fn a_change_of_line_keeps_the_content(rt: HostRuntime) -> Result<(), Fail> {
 fn what_is_stored_is_durable(rt: HostRuntime) -> Result<(), Fail> {
     let alloc = rt.alloc();
     let mut rvg = made(alloc, 1000)?;
-    assert_eq!(rt; write(&mut rvg, 3, 0x11), Ok(1));
-    assert_eq!(rt; store(&mut rvg, 5, 0x44), Err(No::Role));
-    assert_eq!(rt; write(&mut rvg, 2, 0x22), Ok(2));
-    assert_eq!(rt; rvg.apply(2), Ok(2));
-    assert_eq!(rt; (rvg.low(), rvg.head()), (1, 2));
-    assert_eq!(rt; store(&mut rvg, 3, 0x33), Ok(()));
-    assert_eq!(rt; (rvg.low(), rvg.head()), (3, 2));
-    assert_eq!(rt; store(&mut rvg, 5, 0x44), Ok(()));
-    assert_eq!(rt; store(&mut rvg, 15, 0x44), Err(No::Range));
+    assert!(rt; write(&mut rvg, 3, 0x11) == Ok(1));
+    assert!(rt; store(&mut rvg, 5, 0x44) == Err(No::Role));
+    assert!(rt; write(&mut rvg, 2, 0x22) == Ok(2));
+    assert!(rt; rvg.apply(2) == Ok(2));
+    assert!(rt; (rvg.low(), rvg.head()) == (1, 2));
+    assert!(rt; store(&mut rvg, 3, 0x33) == Ok(()));
+    assert!(rt; (rvg.low(), rvg.head()) == (3, 2));
+    assert!(rt; store(&mut rvg, 5, 0x44) == Ok(()));
+    assert!(rt; store(&mut rvg, 15, 0x44) == Err(No::Range));
     let mut rvg = again(alloc, rvg)?;
-    assert_eq!(rt; (rvg.low(), rvg.head()), (3, 2));
-    assert_eq!(rt; first_byte(&mut rvg, 2), Ok(0x22));
-    assert_eq!(rt; first_byte(&mut rvg, 3), Ok(0x33));
-    assert_eq!(rt; first_byte(&mut rvg, 4), Ok(0x33));
-    assert_eq!(rt; first_byte(&mut rvg, 5), Ok(0x44));
-    assert_eq!(rt; first_byte(&mut rvg, 6), Ok(0x44));
-    assert_eq!(rt; first_byte(&mut rvg, 7), Ok(0));
+    assert!(rt; (rvg.low(), rvg.head()) == (3, 2));
+    assert!(rt; first_byte(&mut rvg, 2) == Ok(0x22));
+    assert!(rt; first_byte(&mut rvg, 3) == Ok(0x33));
+    assert!(rt; first_byte(&mut rvg, 4) == Ok(0x33));
+    assert!(rt; first_byte(&mut rvg, 5) == Ok(0x44));
+    assert!(rt; first_byte(&mut rvg, 6) == Ok(0x44));
+    assert!(rt; first_byte(&mut rvg, 7) == Ok(0));
     Ok(())
 }
 
@@ -137,12 +137,12 @@ fn what_is_stored_is_durable(rt: HostRuntime) -> Result<(), Fail> {
 fn a_change_that_is_cut_off_leaves_the_log(rt: HostRuntime) -> Result<(), Fail> {
     let alloc = rt.alloc();
     let mut rvg = made(alloc, 6 + 4 + 2 + 1)?;
-    assert_eq!(rt; write(&mut rvg, 3, 0x11), Ok(1));
-    assert_eq!(rt; rvg.change(&State::first(1), Some(7)), Err(No::Down));
+    assert!(rt; write(&mut rvg, 3, 0x11) == Ok(1));
+    assert!(rt; rvg.change(&State::first(1), Some(7)) == Err(No::Down));
     let mut rvg = again(alloc, rvg)?;
-    assert_eq!(rt; (rvg.low(), rvg.head(), rvg.session()), (1, 1, 2));
-    assert_eq!(rt; rvg.state().line.origin, 0);
-    assert_eq!(rt; first_byte(&mut rvg, 3), Ok(0x11));
+    assert!(rt; (rvg.low(), rvg.head(), rvg.session()) == (1, 1, 2));
+    assert!(rt; rvg.state().line.origin == 0);
+    assert!(rt; first_byte(&mut rvg, 3) == Ok(0x11));
     Ok(())
 }
 
@@ -151,13 +151,13 @@ fn a_change_that_is_cut_off_leaves_the_log(rt: HostRuntime) -> Result<(), Fail> 
 fn a_change_is_one_header(rt: HostRuntime) -> Result<(), Fail> {
     let alloc = rt.alloc();
     let mut rvg = made(alloc, 6 + 4 + 2 + 2)?;
-    assert_eq!(rt; write(&mut rvg, 3, 0x11), Ok(1));
-    assert_eq!(rt; rvg.change(&State::first(1), Some(7)), Ok(()));
-    assert_eq!(rt; write(&mut rvg, 4, 0x22), Err(No::Down));
+    assert!(rt; write(&mut rvg, 3, 0x11) == Ok(1));
+    assert!(rt; rvg.change(&State::first(1), Some(7)) == Ok(()));
+    assert!(rt; write(&mut rvg, 4, 0x22) == Err(No::Down));
     let mut rvg = again(alloc, rvg)?;
-    assert_eq!(rt; (rvg.low(), rvg.head(), rvg.session()), (8, 7, 2));
-    assert_eq!(rt; first_byte(&mut rvg, 3), Ok(0x11));
-    assert_eq!(rt; first_byte(&mut rvg, 4), Ok(0));
+    assert!(rt; (rvg.low(), rvg.head(), rvg.session()) == (8, 7, 2));
+    assert!(rt; first_byte(&mut rvg, 3) == Ok(0x11));
+    assert!(rt; first_byte(&mut rvg, 4) == Ok(0));
     Ok(())
 }
 
@@ -209,15 +209,15 @@ fn sealed(staging: Staging<MemShelf>) -> Result<(u64, Rvg<MemShelf>), OutOfMemor
 fn a_group_commit_is_durable_once_it_is_sealed(rt: HostRuntime) -> Result<(), Fail> {
     let alloc = rt.alloc();
     let mut staging = begin(made(alloc, 6 + 6)?)?;
-    assert_eq!(rt; stage(&mut staging, 3, 0x11), Ok(1));
-    assert_eq!(rt; stage(&mut staging, 3, 0x22), Ok(2));
-    assert_eq!(rt; staged_byte(&mut staging, 3), Ok(0x22));
-    assert_eq!(rt; staging.head(), 0);
+    assert!(rt; stage(&mut staging, 3, 0x11) == Ok(1));
+    assert!(rt; stage(&mut staging, 3, 0x22) == Ok(2));
+    assert!(rt; staged_byte(&mut staging, 3) == Ok(0x22));
+    assert!(rt; staging.head() == 0);
     let (number, rvg) = sealed(staging)?;
-    assert_eq!(rt; (number, rvg.head()), (2, 2));
+    assert!(rt; (number, rvg.head()) == (2, 2));
     let mut rvg = again(alloc, rvg)?;
-    assert_eq!(rt; rvg.head(), 2);
-    assert_eq!(rt; first_byte(&mut rvg, 3), Ok(0x22));
+    assert!(rt; rvg.head() == 2);
+    assert!(rt; first_byte(&mut rvg, 3) == Ok(0x22));
     Ok(())
 }
 
@@ -227,12 +227,12 @@ fn a_group_commit_is_durable_once_it_is_sealed(rt: HostRuntime) -> Result<(), Fa
 fn a_group_commit_that_is_cut_off_leaves_its_first_part(rt: HostRuntime) -> Result<(), Fail> {
     let alloc = rt.alloc();
     let mut staging = begin(made_with(alloc, 6 + 5, 2)?)?;
-    assert_eq!(rt; stage(&mut staging, 3, 0x11), Ok(1));
-    assert_eq!(rt; stage(&mut staging, 4, 0x22), Ok(2));
+    assert!(rt; stage(&mut staging, 3, 0x11) == Ok(1));
+    assert!(rt; stage(&mut staging, 4, 0x22) == Ok(2));
     let (number, rvg) = sealed(staging)?;
-    assert_eq!(rt; (number, rvg.head()), (0, 0));
+    assert!(rt; (number, rvg.head()) == (0, 0));
     let mut rvg = again(alloc, rvg)?;
-    assert_eq!(rt; rvg.head(), 0);
-    assert_eq!(rt; first_byte(&mut rvg, 3), Ok(0));
+    assert!(rt; rvg.head() == 0);
+    assert!(rt; first_byte(&mut rvg, 3) == Ok(0));
     Ok(())
 }

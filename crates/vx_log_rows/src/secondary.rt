@@ -96,16 +96,10 @@ fn shown(secondary: &mut Secondary<MemShelf>, block: u64) -> Result<u8, No> {
 fn updates_are_taken_in_their_order(rt: HostRuntime) -> Result<(), Fail> {
     let alloc = rt.alloc();
     let mut site = made(alloc, 1000)?;
-    assert_eq!(rt; site.take(&update(2, 3, 0x22)), Ok(RAction::Ignored));
-    assert_eq!(rt;
-        site.take(&update(1, 3, 0x11)),
-        Ok(RAction::Take { ack: 1 })
-    );
-    assert_eq!(rt;
-        site.take(&update(1, 3, 0x33)),
-        Ok(RAction::IgnoredAck { number: 1 })
-    );
-    assert_eq!(rt; site.take(&update(2, 18, 0x22)), Err(No::Range));
+    assert!(rt; site.take(&update(2, 3, 0x22)) == Ok(RAction::Ignored));
+    assert!(rt; site.take(&update(1, 3, 0x11)) == Ok(RAction::Take { ack: 1 }));
+    assert!(rt; site.take(&update(1, 3, 0x33)) == Ok(RAction::IgnoredAck { number: 1 }));
+    assert!(rt; site.take(&update(2, 18, 0x22)) == Err(No::Range));
     let other = Update {
         line: Line {
             generation: 1,
@@ -116,13 +110,10 @@ fn updates_are_taken_in_their_order(rt: HostRuntime) -> Result<(), Fail> {
         block: 3,
         bytes: Blocks::filled(1, 0x44),
     };
-    assert_eq!(rt; site.take(&other), Ok(RAction::Ignored));
-    assert_eq!(rt;
-        site.take(&update(2, 3, 0x22)),
-        Ok(RAction::Take { ack: 2 })
-    );
-    assert_eq!(rt; shown(&mut site, 3), Ok(0x22));
-    assert_eq!(rt; (site.rvg.head(), site.waiting.len()), (0, 2));
+    assert!(rt; site.take(&other) == Ok(RAction::Ignored));
+    assert!(rt; site.take(&update(2, 3, 0x22)) == Ok(RAction::Take { ack: 2 }));
+    assert!(rt; shown(&mut site, 3) == Ok(0x22));
+    assert!(rt; (site.rvg.head(), site.waiting.len()) == (0, 2));
     Ok(())
 }
 
@@ -132,21 +123,17 @@ fn what_was_applied_is_there_behind_a_crash(rt: HostRuntime) -> Result<(), Fail>
     let alloc = rt.alloc();
     let mut site = made(alloc, 1000)?;
     for number in 1..3 {
-        assert_eq!(rt;
-            site.take(&update(number, 3, 0x11 * number as u8)),
-            Ok(RAction::Take { ack: number })
+        assert!(rt;
+            site.take(&update(number, 3, 0x11 * number as u8)) == Ok(RAction::Take { ack: number })
         );
     }
-    assert_eq!(rt; site.apply(1), Ok(RAction::DataAck { number: 1 }));
-    assert_eq!(rt;
-        (site.rvg.head(), site.rvg.applied(), site.waiting.len()),
-        (1, 1, 1)
-    );
-    assert_eq!(rt; shown(&mut site, 3), Ok(0x22));
+    assert!(rt; site.apply(1) == Ok(RAction::DataAck { number: 1 }));
+    assert!(rt; (site.rvg.head(), site.rvg.applied(), site.waiting.len()) == (1, 1, 1));
+    assert!(rt; shown(&mut site, 3) == Ok(0x22));
     let mut site = again(alloc, site)?;
-    assert_eq!(rt; (site.rvg.head(), site.waiting.len()), (1, 0));
-    assert_eq!(rt; shown(&mut site, 3), Ok(0x11));
-    assert_eq!(rt; site.apply(16), Ok(RAction::Nothing));
+    assert!(rt; (site.rvg.head(), site.waiting.len()) == (1, 0));
+    assert!(rt; shown(&mut site, 3) == Ok(0x11));
+    assert!(rt; site.apply(16) == Ok(RAction::Nothing));
     Ok(())
 }
 
@@ -156,23 +143,14 @@ fn sixteen_updates_wait(rt: HostRuntime) -> Result<(), Fail> {
     let alloc = rt.alloc();
     let mut site = made(alloc, 1000)?;
     for k in 0..16 {
-        assert_eq!(rt;
-            site.take(&update(k + 1, k, k as u8)),
-            Ok(RAction::Take { ack: k + 1 })
-        );
+        assert!(rt; site.take(&update(k + 1, k, k as u8)) == Ok(RAction::Take { ack: k + 1 }));
     }
-    assert_eq!(rt; site.take(&update(17, 0, 0x77)), Ok(RAction::Ignored));
-    assert_eq!(rt; site.apply(100), Ok(RAction::DataAck { number: 16 }));
-    assert_eq!(rt;
-        (site.rvg.head(), site.rvg.applied(), site.waiting.len()),
-        (16, 16, 0)
-    );
-    assert_eq!(rt;
-        site.take(&update(17, 0, 0x77)),
-        Ok(RAction::Take { ack: 17 })
-    );
-    assert_eq!(rt; shown(&mut site, 0), Ok(0x77));
-    assert_eq!(rt; shown(&mut site, 15), Ok(15));
+    assert!(rt; site.take(&update(17, 0, 0x77)) == Ok(RAction::Ignored));
+    assert!(rt; site.apply(100) == Ok(RAction::DataAck { number: 16 }));
+    assert!(rt; (site.rvg.head(), site.rvg.applied(), site.waiting.len()) == (16, 16, 0));
+    assert!(rt; site.take(&update(17, 0, 0x77)) == Ok(RAction::Take { ack: 17 }));
+    assert!(rt; shown(&mut site, 0) == Ok(0x77));
+    assert!(rt; shown(&mut site, 15) == Ok(15));
     Ok(())
 }
 
@@ -184,9 +162,8 @@ fn a_cut_apply_leaves_a_first_part(rt: HostRuntime) -> Result<(), Fail> {
     for calls in 0..60 {
         if let Ok(mut site) = made(alloc, calls) {
             for k in 0..3 {
-                assert_eq!(rt;
-                    site.take(&update(k + 1, 4, k as u8 + 1)),
-                    Ok(RAction::Take { ack: k + 1 })
+                assert!(rt;
+                    site.take(&update(k + 1, 4, k as u8 + 1)) == Ok(RAction::Take { ack: k + 1 })
                 );
             }
             let done = site.apply(3);
@@ -195,15 +172,15 @@ fn a_cut_apply_leaves_a_first_part(rt: HostRuntime) -> Result<(), Fail> {
             let head = site.rvg.head();
             match done {
                 Ok(action) => {
-                    assert_eq!(rt; action, RAction::DataAck { number: 3 });
-                    assert_eq!(rt; (head, waits), (3, 0));
+                    assert!(rt; action == RAction::DataAck { number: 3 });
+                    assert!(rt; (head, waits) == (3, 0));
                 }
                 Err(no) => {
-                    assert_eq!(rt; no, No::Down);
-                    assert_eq!(rt; (head <= 3, 3 <= waits + head), (true, true));
+                    assert!(rt; no == No::Down);
+                    assert!(rt; (head <= 3, 3 <= waits + head) == (true, true));
                 }
             }
-            assert_eq!(rt; shown(&mut site, 4), Ok(head.min(3) as u8));
+            assert!(rt; shown(&mut site, 4) == Ok(head.min(3) as u8));
         }
     }
     Ok(())

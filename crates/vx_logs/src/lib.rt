@@ -8,8 +8,6 @@ mod logs;
 mod marking;
 mod noting;
 mod sets;
-#[cfg(test)]
-mod tests;
 mod writing;
 
 pub use loading::{load_drl, load_fmr};

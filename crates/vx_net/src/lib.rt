@@ -7,8 +7,6 @@ mod flight;
 pub mod laws;
 mod net;
 mod packet;
-#[cfg(test)]
-mod tests;
 
 pub use flight::Flight;
 pub use net::Net;

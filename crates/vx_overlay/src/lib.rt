@@ -7,8 +7,6 @@ mod entry;
 mod index;
 pub mod laws;
 mod overlay;
-#[cfg(test)]
-mod tests;
 
 pub use entry::Entry;
 pub use overlay::Overlay;

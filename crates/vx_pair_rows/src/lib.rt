@@ -1,8 +1,10 @@
-//! Tests of packets, by their worked bytes.
+//! Tests of packets by their worked bytes, of links, of what they let in and send, and of worlds of several sites.
 //!
 //! They stand apart from the crates that they test, which are so proved once and not once more with them.
 #![tactic(auto)]
 
+#[cfg(test)]
+mod flight;
 #[cfg(test)]
 mod linked;
 #[cfg(test)]
@@ -13,5 +15,9 @@ mod packets;
 mod parts;
 #[cfg(test)]
 mod peers;
+#[cfg(test)]
+mod policy;
+#[cfg(test)]
+mod sender;
 #[cfg(test)]
 mod world;

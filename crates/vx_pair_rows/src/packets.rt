@@ -46,7 +46,7 @@ pub fn taken(assembly: &mut Assembly, bytes: &[u8]) -> Option<Taken> {
 pub fn begins(rt: &impl Abort, m: &Message<'_>, kind: u8, wanted: &[u8]) {
     let (packet, _) = packet_of(rt, m, 0);
     assert!(rt; packet[..5] == HELLO[..5]);
-    assert_eq!(rt; packet[5], kind);
+    assert!(rt; packet[5] == kind);
     assert!(rt; packet[6..26] == HELLO[6..26]);
     assert!(rt; packet[26..].starts_with(wanted));
 }
@@ -58,12 +58,12 @@ pub fn comes_through(
     m: &Message<'_>,
     count: u32,
 ) -> Result<(), Fail> {
-    assert_eq!(rt; parts(m), count);
+    assert!(rt; parts(m) == count);
     let mut assembly = Assembly::new(alloc)?;
     for before in 1..count {
         let (packet, len) = packet_of(rt, m, count - before);
-        assert_eq!(rt; taken(&mut assembly, &packet[..len]), Some(Taken::Kept));
-        assert_eq!(rt; taken(&mut assembly, &packet[..len]), Some(Taken::Kept));
+        assert!(rt; taken(&mut assembly, &packet[..len]) == Some(Taken::Kept));
+        assert!(rt; taken(&mut assembly, &packet[..len]) == Some(Taken::Kept));
     }
     let (first, end) = packet_of(rt, m, 0);
     let part = decode(&first[..end]).expect(rt, "a packet");
@@ -89,6 +89,6 @@ pub fn whole(
     begins(rt, m, kind, wanted);
     let (_, len) = packet_of(rt, m, 0);
     assert!(rt; len >= 26);
-    assert_eq!(rt; len - 26, wanted.len());
+    assert!(rt; len - 26 == wanted.len());
     comes_through(rt, alloc, m, 1)
 }

@@ -26,9 +26,9 @@ fn the_worked_hello(rt: HostRuntime) -> Result<(), Fail> {
         start: 48,
         length: 8,
     };
-    assert_eq!(rt; decode(&HELLO), Some(part));
+    assert!(rt; decode(&HELLO) == Some(part));
     let mut assembly = Assembly::new(rt.alloc())?;
-    assert_eq!(rt; taken(&mut assembly, &HELLO), Some(Taken::Whole));
+    assert!(rt; taken(&mut assembly, &HELLO) == Some(Taken::Whole));
     Ok(())
 }
 
@@ -43,24 +43,24 @@ fn changed(at: usize, byte: u8) -> [u8; 56]
 
 #[test]
 fn other_bytes_are_no_packet(rt: HostRuntime) {
-    assert_eq!(rt; decode(&HELLO[..55]), None);
+    assert!(rt; decode(&HELLO[..55]) == None);
     // The magic, the version, a kind that is none, twice.
-    assert_eq!(rt; decode(&changed(0, 0x57)), None);
-    assert_eq!(rt; decode(&changed(4, 2)), None);
-    assert_eq!(rt; decode(&changed(5, 0)), None);
-    assert_eq!(rt; decode(&changed(5, 13)), None);
+    assert!(rt; decode(&changed(0, 0x57)) == None);
+    assert!(rt; decode(&changed(4, 2)) == None);
+    assert!(rt; decode(&changed(5, 0)) == None);
+    assert!(rt; decode(&changed(5, 13)) == None);
     // A generation and a session of 2^63, and a session where the kind has none.
-    assert_eq!(rt; decode(&changed(14, 0x80)), None);
-    assert_eq!(rt; decode(&changed(26, 0x80)), None);
-    assert_eq!(rt; decode(&changed(5, 2)), None);
+    assert!(rt; decode(&changed(14, 0x80)) == None);
+    assert!(rt; decode(&changed(26, 0x80)) == None);
+    assert!(rt; decode(&changed(5, 2)) == None);
     // The part is equal to the parts, and there are no parts.
-    assert_eq!(rt; decode(&changed(43, 1)), None);
-    assert_eq!(rt; decode(&changed(45, 0)), None);
+    assert!(rt; decode(&changed(43, 1)) == None);
+    assert!(rt; decode(&changed(45, 0)) == None);
     // A byte behind the packet, and a part before the last with fewer than 1,024 bytes.
     let mut longer = [0; 57];
     longer[..56].copy_from_slice(&HELLO);
-    assert_eq!(rt; decode(&longer), None);
-    assert_eq!(rt; decode(&changed(45, 2)), None);
+    assert!(rt; decode(&longer) == None);
+    assert!(rt; decode(&changed(45, 2)) == None);
 }
 
 #[test]
@@ -71,7 +71,7 @@ fn a_part_has_at_most_1024_bytes(rt: HostRuntime) {
     packet[47] = 0;
     assert!(rt; decode(&packet[..1072]).is_some());
     packet[47] = 1;
-    assert_eq!(rt; decode(&packet), None);
+    assert!(rt; decode(&packet) == None);
 }
 
 #[test]
@@ -84,15 +84,15 @@ fn a_fork_map_of_too_few_bytes_is_bad(rt: HostRuntime) -> Result<(), Fail> {
     packet[55] = 9;
     let mut assembly = Assembly::new(rt.alloc())?;
     packet[47] = 9;
-    assert_eq!(rt; taken(&mut assembly, &packet[..57]), Some(Taken::Bad));
+    assert!(rt; taken(&mut assembly, &packet[..57]) == Some(Taken::Bad));
     packet[47] = 11;
-    assert_eq!(rt; taken(&mut assembly, &packet), Some(Taken::Bad));
+    assert!(rt; taken(&mut assembly, &packet) == Some(Taken::Bad));
     packet[47] = 10;
     packet[57] = 1;
-    assert_eq!(rt; taken(&mut assembly, &packet[..58]), Some(Taken::Whole));
+    assert!(rt; taken(&mut assembly, &packet[..58]) == Some(Taken::Whole));
     // A bit behind the last region.
     packet[57] = 2;
-    assert_eq!(rt; taken(&mut assembly, &packet[..58]), Some(Taken::Bad));
+    assert!(rt; taken(&mut assembly, &packet[..58]) == Some(Taken::Bad));
     Ok(())
 }
 
@@ -113,12 +113,12 @@ fn another_message_takes_the_place(rt: HostRuntime) -> Result<(), Fail> {
     };
     let mut assembly = Assembly::new(rt.alloc())?;
     let (first, len) = packet_of(&rt, &one, 0);
-    assert_eq!(rt; taken(&mut assembly, &first[..len]), Some(Taken::Kept));
+    assert!(rt; taken(&mut assembly, &first[..len]) == Some(Taken::Kept));
     let (last, len) = packet_of(&rt, &other, 1);
-    assert_eq!(rt; taken(&mut assembly, &last[..len]), Some(Taken::Kept));
+    assert!(rt; taken(&mut assembly, &last[..len]) == Some(Taken::Kept));
     let (last, len) = packet_of(&rt, &one, 1);
-    assert_eq!(rt; taken(&mut assembly, &last[..len]), Some(Taken::Kept));
-    assert_eq!(rt; taken(&mut assembly, &first[..len]), Some(Taken::Whole));
+    assert!(rt; taken(&mut assembly, &last[..len]) == Some(Taken::Kept));
+    assert!(rt; taken(&mut assembly, &first[..len]) == Some(Taken::Whole));
     Ok(())
 }
 
@@ -134,9 +134,9 @@ fn more_parts_than_any_message(rt: HostRuntime) -> Result<(), Fail> {
     let mut assembly = Assembly::new(rt.alloc())?;
     for part in 0..65 {
         packet[43] = part;
-        assert_eq!(rt; taken(&mut assembly, &packet), Some(Taken::Kept));
+        assert!(rt; taken(&mut assembly, &packet) == Some(Taken::Kept));
     }
     packet[43] = 65;
-    assert_eq!(rt; taken(&mut assembly, &packet), Some(Taken::Bad));
+    assert!(rt; taken(&mut assembly, &packet) == Some(Taken::Bad));
     Ok(())
 }

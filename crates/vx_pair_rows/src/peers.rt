@@ -183,20 +183,20 @@ fn a_gap_waits_for_its_turn(rt: HostRuntime) -> Result<(), Fail> {
     let alloc = rt.alloc();
     let mut pair = two_sites(alloc)?;
     greet(&mut pair);
-    assert_eq!(rt; answered(&mut pair, 1), true);
-    assert_eq!(rt; write(&mut pair.sender, 0, &[0x11; 512]), Ok(1));
-    assert_eq!(rt; write(&mut pair.sender, 1, &[0x22; 512]), Ok(2));
-    assert_eq!(rt; pumped(alloc, &mut pair), 3);
-    assert_eq!(rt; handed(&mut pair, 3), (false, 3));
-    assert_eq!(rt; handed(&mut pair, 2), (true, 4));
-    assert_eq!(rt; handed(&mut pair, 2), (false, 5));
-    assert_eq!(rt; handed(&mut pair, 3), (true, 6));
-    assert_eq!(rt; (shown(&mut pair, 0), shown(&mut pair, 1)), (0x11, 0x22));
-    assert_eq!(rt; (answered(&mut pair, 4), pair.link.net), (true, 1));
-    assert_eq!(rt; (answered(&mut pair, 5), pair.link.net), (false, 1));
-    assert_eq!(rt; (answered(&mut pair, 6), pair.link.net), (true, 2));
-    assert_eq!(rt; handed(&mut pair, 9), (false, 6));
-    assert_eq!(rt; pumped(alloc, &mut pair), 6);
+    assert!(rt; answered(&mut pair, 1));
+    assert!(rt; write(&mut pair.sender, 0, &[0x11; 512]) == Ok(1));
+    assert!(rt; write(&mut pair.sender, 1, &[0x22; 512]) == Ok(2));
+    assert!(rt; pumped(alloc, &mut pair) == 3);
+    assert!(rt; handed(&mut pair, 3) == (false, 3));
+    assert!(rt; handed(&mut pair, 2) == (true, 4));
+    assert!(rt; handed(&mut pair, 2) == (false, 5));
+    assert!(rt; handed(&mut pair, 3) == (true, 6));
+    assert!(rt; (shown(&mut pair, 0), shown(&mut pair, 1)) == (0x11, 0x22));
+    assert!(rt; (answered(&mut pair, 4), pair.link.net) == (true, 1));
+    assert!(rt; (answered(&mut pair, 5), pair.link.net) == (false, 1));
+    assert!(rt; (answered(&mut pair, 6), pair.link.net) == (true, 2));
+    assert!(rt; handed(&mut pair, 9) == (false, 6));
+    assert!(rt; pumped(alloc, &mut pair) == 6);
     Ok(())
 }
 
@@ -205,12 +205,12 @@ fn a_gap_waits_for_its_turn(rt: HostRuntime) -> Result<(), Fail> {
 fn an_update_comes_in_parts(rt: HostRuntime) -> Result<(), Fail> {
     let alloc = rt.alloc();
     let mut pair = two_sites(alloc)?;
-    assert_eq!(rt; write(&mut pair.sender, 4, &[0x33; 1024]), Ok(1));
-    assert_eq!(rt; pumped(alloc, &mut pair), 2);
-    assert_eq!(rt; handed(&mut pair, 2), (true, 2));
-    assert_eq!(rt; shown(&mut pair, 5), 0);
-    assert_eq!(rt; handed(&mut pair, 1), (true, 3));
-    assert_eq!(rt; (shown(&mut pair, 4), shown(&mut pair, 5)), (0x33, 0x33));
-    assert_eq!(rt; (answered(&mut pair, 3), pair.link.net), (true, 1));
+    assert!(rt; write(&mut pair.sender, 4, &[0x33; 1024]) == Ok(1));
+    assert!(rt; pumped(alloc, &mut pair) == 2);
+    assert!(rt; handed(&mut pair, 2) == (true, 2));
+    assert!(rt; shown(&mut pair, 5) == 0);
+    assert!(rt; handed(&mut pair, 1) == (true, 3));
+    assert!(rt; (shown(&mut pair, 4), shown(&mut pair, 5)) == (0x33, 0x33));
+    assert!(rt; (answered(&mut pair, 3), pair.link.net) == (true, 1));
     Ok(())
 }

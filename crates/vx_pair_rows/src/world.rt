@@ -158,10 +158,7 @@ const CONNECT: Event = Event::Connect { site: 0, to: 1 };
 #[test]
 fn a_write_fails_where_its_link_is_cut(rt: HostRuntime) -> Result<(), Fail> {
     let mut world = World::new(rt.alloc())?;
-    assert_eq!(rt;
-        first_wrong(&mut world, &two_sites(64, SyncMode::Fail))?,
-        None
-    );
+    assert!(rt; first_wrong(&mut world, &two_sites(64, SyncMode::Fail))? == None);
     let rows = [
         (put(0, Blocks::filled(1, 0x11)), "logged", 1, None),
         (wait(1), "pending", 1, None),
@@ -175,7 +172,7 @@ fn a_write_fails_where_its_link_is_cut(rt: HostRuntime) -> Result<(), Fail> {
         (put(2, Blocks::filled(1, 0x33)), "linkdown", 1, None),
         (wait(3), "unknown", 3, None),
     ];
-    assert_eq!(rt; first_wrong(&mut world, &rows)?, None);
+    assert!(rt; first_wrong(&mut world, &rows)? == None);
     Ok(())
 }
 
@@ -184,10 +181,7 @@ fn a_receiver_that_crashes_forgets_what_it_acknowledged_from_memory(
     rt: HostRuntime,
 ) -> Result<(), Fail> {
     let mut world = World::new(rt.alloc())?;
-    assert_eq!(rt;
-        first_wrong(&mut world, &two_sites(64, SyncMode::Fail))?,
-        None
-    );
+    assert!(rt; first_wrong(&mut world, &two_sites(64, SyncMode::Fail))? == None);
     let rows = [
         (put(0, Blocks::filled(1, 0x11)), "logged", 1, None),
         (wait(1), "pending", 1, None),
@@ -207,7 +201,7 @@ fn a_receiver_that_crashes_forgets_what_it_acknowledged_from_memory(
         (deliver(3), "ignored", 0, None),
         (wait(1), "pending", 1, None),
     ];
-    assert_eq!(rt; first_wrong(&mut world, &rows)?, None);
+    assert!(rt; first_wrong(&mut world, &rows)? == None);
     Ok(())
 }
 
@@ -223,11 +217,8 @@ fn filling() -> [Row; 3] {
 #[test]
 fn a_full_log_stalls_writes_until_the_link_is_settled(rt: HostRuntime) -> Result<(), Fail> {
     let mut world = World::new(rt.alloc())?;
-    assert_eq!(rt;
-        first_wrong(&mut world, &two_sites(10, SyncMode::Off))?,
-        None
-    );
-    assert_eq!(rt; first_wrong(&mut world, &filling())?, None);
+    assert!(rt; first_wrong(&mut world, &two_sites(10, SyncMode::Off))? == None);
+    assert!(rt; first_wrong(&mut world, &filling())? == None);
     let rows = [
         (put(4, Blocks::filled(1, 4)), "stalled", 1, None),
         (CONNECT, "done", 0, Some((2, 2))),
@@ -248,33 +239,27 @@ fn a_full_log_stalls_writes_until_the_link_is_settled(rt: HostRuntime) -> Result
         (recover(0), "recovered", 4, None),
         (read(0, 4), "got", 4, None),
     ];
-    assert_eq!(rt; first_wrong(&mut world, &rows)?, None);
+    assert!(rt; first_wrong(&mut world, &rows)? == None);
     Ok(())
 }
 
 #[test]
 fn a_full_log_fails_writes_where_the_link_is_cut(rt: HostRuntime) -> Result<(), Fail> {
     let mut world = World::new(rt.alloc())?;
-    assert_eq!(rt;
-        first_wrong(&mut world, &two_sites(10, SyncMode::Off))?,
-        None
-    );
-    assert_eq!(rt; first_wrong(&mut world, &filling())?, None);
+    assert!(rt; first_wrong(&mut world, &two_sites(10, SyncMode::Off))? == None);
+    assert!(rt; first_wrong(&mut world, &filling())? == None);
     let rows = [
         (CUT, "done", 0, None),
         (put(4, Blocks::filled(1, 4)), "logfull", 1, None),
     ];
-    assert_eq!(rt; first_wrong(&mut world, &rows)?, None);
+    assert!(rt; first_wrong(&mut world, &rows)? == None);
     Ok(())
 }
 
 #[test]
 fn updates_are_taken_in_order_and_once(rt: HostRuntime) -> Result<(), Fail> {
     let mut world = World::new(rt.alloc())?;
-    assert_eq!(rt;
-        first_wrong(&mut world, &two_sites(64, SyncMode::Off))?,
-        None
-    );
+    assert!(rt; first_wrong(&mut world, &two_sites(64, SyncMode::Off))? == None);
     let rows = [
         (put(0, Blocks::filled(1, 0x11)), "done", 1, None),
         (put(1, Blocks::filled(1, 0x22)), "done", 2, None),
@@ -286,7 +271,7 @@ fn updates_are_taken_in_order_and_once(rt: HostRuntime) -> Result<(), Fail> {
         (read(1, 0), "role", 0, None),
         (deliver(9), "unknown", 9, None),
     ];
-    assert_eq!(rt; first_wrong(&mut world, &rows)?, None);
+    assert!(rt; first_wrong(&mut world, &rows)? == None);
     Ok(())
 }
 
@@ -296,7 +281,7 @@ fn a_site_has_four_links_at_most(rt: HostRuntime) -> Result<(), Fail> {
     let names = [b"a", b"b", b"c", b"d", b"e", b"f"];
     for (at, name) in names.iter().enumerate() {
         let rows = [site(name, 64), raw(at as u32)];
-        assert_eq!(rt; first_wrong(&mut world, &rows)?, None);
+        assert!(rt; first_wrong(&mut world, &rows)? == None);
     }
     for to in 1..5 {
         let rows = [
@@ -305,21 +290,18 @@ fn a_site_has_four_links_at_most(rt: HostRuntime) -> Result<(), Fail> {
             link(to, SyncMode::Off, LinkPart::Marked),
             link(to, SyncMode::Off, LinkPart::Opened),
         ];
-        assert_eq!(rt; first_wrong(&mut world, &rows)?, None);
+        assert!(rt; first_wrong(&mut world, &rows)? == None);
     }
     let (event, ..) = link(5, SyncMode::Off, LinkPart::Joins);
     let refused = [(event, "limit links", 4, None)];
-    assert_eq!(rt; first_wrong(&mut world, &refused)?, None);
+    assert!(rt; first_wrong(&mut world, &refused)? == None);
     Ok(())
 }
 
 #[test]
 fn deported_sites_come_back(rt: HostRuntime) -> Result<(), Fail> {
     let mut world = World::new(rt.alloc())?;
-    assert_eq!(rt;
-        first_wrong(&mut world, &two_sites(64, SyncMode::Off))?,
-        None
-    );
+    assert!(rt; first_wrong(&mut world, &two_sites(64, SyncMode::Off))? == None);
     let rows = [
         (put(0, Blocks::filled(1, 0x11)), "done", 1, None),
         (Event::Deport { site: 0 }, "done", 0, None),
@@ -340,6 +322,6 @@ fn deported_sites_come_back(rt: HostRuntime) -> Result<(), Fail> {
         (Event::Deport { site: 2 }, "done", 0, None),
         (recover(2), "recovered", 0, None),
     ];
-    assert_eq!(rt; first_wrong(&mut world, &rows)?, None);
+    assert!(rt; first_wrong(&mut world, &rows)? == None);
     Ok(())
 }

@@ -8,10 +8,6 @@ mod plans;
 mod shut;
 mod small;
 mod taker;
-#[cfg(test)]
-mod tests;
-#[cfg(test)]
-mod thread_tests;
 mod trail;
 
 pub use bursts::{burst_of, small_burst};

@@ -7,8 +7,6 @@
 mod decision;
 mod full;
 pub mod laws;
-#[cfg(test)]
-mod tests;
 mod verdict;
 
 pub use decision::decide;

@@ -5,8 +5,6 @@
 
 pub mod laws;
 mod machine;
-#[cfg(test)]
-mod tests;
 
 pub use machine::step;
 pub use vx_history::{RAction, REvent, RState};

@@ -8,8 +8,6 @@ mod event;
 pub mod laws;
 mod receiving;
 mod sending;
-#[cfg(test)]
-mod tests;
 
 pub use event::{PAction, PEvent, QAction, QEvent};
 pub use receiving::secondary;

@@ -11,8 +11,6 @@ mod putting;
 mod regions;
 mod resync;
 mod sources;
-#[cfg(test)]
-mod tests;
 
 pub use gathering::attach_from;
 pub use picks::is_picked;

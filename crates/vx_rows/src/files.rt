@@ -198,19 +198,19 @@ fn a_write_that_is_answered_is_in_the_files(rt: HostRuntime) -> Result<(), Fail>
     let mut second = new_sink(rt)?;
     let later_status = run_in_files(&rt, rt, ".", later, &mut second)?;
     remove(&rt);
-    assert_eq!(rt; status, Status::Done);
-    assert_eq!(rt;
-        first.inner.written(),
-        b"done\ndone\ndone 1\ndone 2\ndone 3\ndone 4\ndone 5\ndone 6\ndone 7\ndone 8\ndone 9\ndone 10\n".as_slice()
+    assert!(rt; status == Status::Done);
+    assert!(rt;
+        first.inner.written()
+            == b"done\ndone\ndone 1\ndone 2\ndone 3\ndone 4\ndone 5\ndone 6\ndone 7\ndone 8\ndone 9\ndone 10\n".as_slice()
     );
-    assert_eq!(rt; first.copies, 10);
-    assert_eq!(rt; first.misses, 0);
-    assert_eq!(rt; later_status, Status::Done);
-    assert_eq!(rt;
-        second.inner.written(),
-        b"done\nrecovered 10\nsite a up\nrvg primary 1 a head 10 mark consistent session 2\n33\ndone 11\nbb\n44\ndone\nno 9 noconfig\n".as_slice()
+    assert!(rt; first.copies == 10);
+    assert!(rt; first.misses == 0);
+    assert!(rt; later_status == Status::Done);
+    assert!(rt;
+        second.inner.written()
+            == b"done\nrecovered 10\nsite a up\nrvg primary 1 a head 10 mark consistent session 2\n33\ndone 11\nbb\n44\ndone\nno 9 noconfig\n".as_slice()
     );
-    assert_eq!(rt; second.misses, 0);
+    assert!(rt; second.misses == 0);
     Ok(())
 }
 
@@ -227,15 +227,12 @@ fn sites_have_files_of_their_own(rt: HostRuntime) -> Result<(), Fail> {
     let mut second = MemSink::new(alloc, 4096, &[])?;
     let later_status = run_in_files(&rt, rt, ".", later, &mut second)?;
     remove(&rt);
-    assert_eq!(rt; status, Status::Done);
-    assert_eq!(rt;
-        first.written(),
-        b"done\ndone\ndone 1\ndone\ndone\ndone 1\ndone 2\n".as_slice()
-    );
-    assert_eq!(rt; later_status, Status::Done);
-    assert_eq!(rt;
-        second.written(),
-        b"done\ndone\nrecovered 1\nsite a up\nrvg primary 1 a head 1 mark consistent session 2\nrecovered 2\nsite b up\nrvg primary 1 b head 2 mark consistent session 2\n11\n00\n22\n33\n".as_slice()
+    assert!(rt; status == Status::Done);
+    assert!(rt; first.written() == b"done\ndone\ndone 1\ndone\ndone\ndone 1\ndone 2\n".as_slice());
+    assert!(rt; later_status == Status::Done);
+    assert!(rt;
+        second.written()
+            == b"done\ndone\nrecovered 1\nsite a up\nrvg primary 1 a head 1 mark consistent session 2\nrecovered 2\nsite b up\nrvg primary 1 b head 2 mark consistent session 2\n11\n00\n22\n33\n".as_slice()
     );
     Ok(())
 }
@@ -246,8 +243,8 @@ fn a_folder_that_is_not_there_has_no_disks(rt: HostRuntime) -> Result<(), Fail> 
     let alloc = rt.alloc();
     let mut sink = MemSink::new(alloc, 64, &[])?;
     let status = run_in_files(&rt, rt, "./not-there", b"site a 3 64\n", &mut sink)?;
-    assert_eq!(rt; status, Status::Done);
-    assert_eq!(rt; sink.written(), b"no 7 device 0\n".as_slice());
+    assert!(rt; status == Status::Done);
+    assert!(rt; sink.written() == b"no 7 device 0\n".as_slice());
     Ok(())
 }
 
@@ -265,14 +262,14 @@ fn a_link_stands_in_the_files(rt: HostRuntime) -> Result<(), Fail> {
     let mut second = MemSink::new(alloc, 4096, &[])?;
     let later_status = run_in_files(&rt, rt, ".", later, &mut second)?;
     remove(&rt);
-    assert_eq!(rt; (status, later_status), (Status::Done, Status::Done));
-    assert_eq!(rt;
-        first.written(),
-        b"done\ndone\ndone\ndone\ndone\ndone sent 1 1\ndone 1\nsettled 1 sent 2 5\ndone 2\n".as_slice()
+    assert!(rt; (status, later_status) == (Status::Done, Status::Done));
+    assert!(rt;
+        first.written()
+            == b"done\ndone\ndone\ndone\ndone\ndone sent 1 1\ndone 1\nsettled 1 sent 2 5\ndone 2\n".as_slice()
     );
-    assert_eq!(rt;
-        second.written(),
-        b"done\ndone\nrecovered 2\nsite a up\nrvg primary 1 a head 2 mark consistent session 2\nlink b attached cut running log net 1 stored 1\nrecovered 1 sent 1 1\nsite b up\nrvg secondary 1 a head 1 mark consistent session 2\ndone sent 2 2\nsettled 2 sent 3 6\n11\n22\n".as_slice()
+    assert!(rt;
+        second.written()
+            == b"done\ndone\nrecovered 2\nsite a up\nrvg primary 1 a head 2 mark consistent session 2\nlink b attached cut running log net 1 stored 1\nrecovered 1 sent 1 1\nsite b up\nrvg secondary 1 a head 1 mark consistent session 2\ndone sent 2 2\nsettled 2 sent 3 6\n11\n22\n".as_slice()
     );
     Ok(())
 }
@@ -292,14 +289,14 @@ fn a_link_to_a_site_that_is_no_secondary_is_not_settled(rt: HostRuntime) -> Resu
     let mut second = MemSink::new(alloc, 4096, &[])?;
     let later_status = run_in_files(&rt, rt, ".", later, &mut second)?;
     remove(&rt);
-    assert_eq!(rt; (status, later_status), (Status::Done, Status::Done));
-    assert_eq!(rt;
-        first.written(),
-        b"done\ndone\ndone\ndone\ndone\ndone sent 1 1\ndone 1\nsettled 1 sent 2 5\ndone 2\n".as_slice()
+    assert!(rt; (status, later_status) == (Status::Done, Status::Done));
+    assert!(rt;
+        first.written()
+            == b"done\ndone\ndone\ndone\ndone\ndone sent 1 1\ndone 1\nsettled 1 sent 2 5\ndone 2\n".as_slice()
     );
-    assert_eq!(rt;
-        second.written(),
-        b"done\ndone\nrecovered 2\nsite a up\nrvg primary 1 a head 2 mark consistent session 2\nlink b attached cut running log net 1 stored 1\ndone\nno 5 role\ndone\nno 5 role\nno 1 unknown c\n00\n00\nsite a up\nrvg primary 1 a head 2 mark consistent session 2\nlink b attached connected running log net 1 stored 1\nsite b up\nrvg primary 1 b head 0 mark consistent session 1\n".as_slice()
+    assert!(rt;
+        second.written()
+            == b"done\ndone\nrecovered 2\nsite a up\nrvg primary 1 a head 2 mark consistent session 2\nlink b attached cut running log net 1 stored 1\ndone\nno 5 role\ndone\nno 5 role\nno 1 unknown c\n00\n00\nsite a up\nrvg primary 1 a head 2 mark consistent session 2\nlink b attached connected running log net 1 stored 1\nsite b up\nrvg primary 1 b head 0 mark consistent session 1\n".as_slice()
     );
     Ok(())
 }

@@ -71,7 +71,7 @@ fn a_site_crashes_between_any_two_lines(rt: HostRuntime) -> Result<(), Fail> {
                 let script = script_of_crash(alloc, site, place, pick)?;
                 let answer = answers(&rt, alloc, script.as_bytes())?;
                 let name = site.name();
-                assert_eq!(rt; answer.status, Status::Done);
+                assert!(rt; answer.status == Status::Done);
                 let is_right = match from_utf8(answer.text.as_slice()) {
                     Ok(text) => are_of_crash(text, site, place),
                     Err(_) => false,
@@ -132,7 +132,7 @@ fn a_fuse_cuts_the_lines_anywhere(rt: HostRuntime) -> Result<(), Fail> {
                 let script = script_of_fuse(alloc, site, calls, pick)?;
                 let answer = answers(&rt, alloc, script.as_bytes())?;
                 let name = site.name();
-                assert_eq!(rt; answer.status, Status::Done);
+                assert!(rt; answer.status == Status::Done);
                 let is_cut = match from_utf8(answer.text.as_slice()) {
                     Ok(text) => is_cut_by_fuse(text, site),
                     Err(_) => None,

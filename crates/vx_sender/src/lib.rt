@@ -6,8 +6,6 @@
 pub mod laws;
 mod machine;
 mod messages;
-#[cfg(test)]
-mod tests;
 
 pub use machine::step;
 pub use vx_history::{Action, SEvent, SFacts};

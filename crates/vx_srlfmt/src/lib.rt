@@ -12,8 +12,3 @@ mod record;
 pub use header::{HEADER_MAGIC, Header, get_header, put_header};
 pub use kind::kinds;
 pub use record::{RECORD_MAGIC, RecordHead, Seen, get_record, put_record};
-
-#[cfg(test)]
-mod test_blocks;
-#[cfg(test)]
-mod tests;

@@ -80,36 +80,3 @@ impl<W: Write> Sink for HostSink<W> {
         self.faults
     }
 }
-
-#[cfg(test)]
-mod tests {
-    use super::*;
-    use std::fs::{self, File};
-    use std::test::Fail;
-
-    #[test]
-    fn writes_a_file_and_reads_it_again(rt: HostRuntime) -> Result<(), Fail> {
-        let mut sink = HostSink::new(File::create(&rt, "stream")?);
-        assert_eq!(rt; sink.put(b"hello"), Ok(5));
-        assert_eq!(rt; sink.faults(), 0);
-        let mut source = HostSource::new(fs::open(&rt, "stream")?);
-        let mut into = [0; 4];
-        assert_eq!(rt; source.take(&mut into), Ok(4));
-        assert_eq!(rt; &into[..], b"hell".as_slice());
-        assert_eq!(rt; source.take(&mut into), Ok(1));
-        assert_eq!(rt; &into[..], b"oell".as_slice());
-        assert_eq!(rt; source.take(&mut into), Ok(0));
-        assert_eq!(rt; source.faults(), 0);
-        Ok(())
-    }
-
-    #[test]
-    fn counts_what_a_full_writer_refuses(rt: HostRuntime) -> Result<(), Fail> {
-        let mut room = [0; 2];
-        let mut sink = HostSink::new(&mut room[..]);
-        assert_eq!(rt; sink.put(b"abc"), Ok(2));
-        assert_eq!(rt; sink.put(b"c"), Err(Failed));
-        assert_eq!(rt; sink.faults(), 1);
-        Ok(())
-    }
-}

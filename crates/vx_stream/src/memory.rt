@@ -168,38 +168,3 @@ impl Sink for MemSink {
         self.faults
     }
 }
-
-#[cfg(test)]
-mod tests {
-    use super::*;
-    use std::test::Fail;
-
-    #[test]
-    fn takes_what_is_left_but_at_named_calls(rt: HostRuntime) -> Result<(), Fail> {
-        let mut source = MemSource::new(rt.alloc(), b"hello", &[2, 4])?;
-        let mut into = [0; 3];
-        for (wanted, bytes) in [
-            (Ok(3), b"hel"),
-            (Err(Failed), b"hel"),
-            (Ok(2), b"lol"),
-            (Err(Failed), b"lol"),
-            (Ok(0), b"lol"),
-        ] {
-            assert_eq!(rt; source.take(&mut into), wanted);
-            assert_eq!(rt; &into[..], &bytes[..]);
-        }
-        assert_eq!(rt; source.faults(), 2);
-        Ok(())
-    }
-
-    #[test]
-    fn puts_what_fits_but_at_named_calls(rt: HostRuntime) -> Result<(), Fail> {
-        let mut sink = MemSink::new(rt.alloc(), 4, &[1])?;
-        for wanted in [Err(Failed), Ok(3), Ok(1), Err(Failed)] {
-            assert_eq!(rt; sink.put(b"abc"), wanted);
-        }
-        assert_eq!(rt; sink.written(), b"abca".as_slice());
-        assert_eq!(rt; sink.faults(), 2);
-        Ok(())
-    }
-}

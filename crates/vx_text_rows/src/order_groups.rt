@@ -175,7 +175,7 @@ fn tests_groups_as_a_whole(rt: HostRuntime) -> Result<(), Fail> {
         (apply(Name::new(b"g")), Some(No::Role)),
         (apply(Name::new(b"r")), None),
     ] {
-        assert_eq!(rt; refuse(&all, false, &line), wanted);
+        assert!(rt; refuse(&all, false, &line) == wanted);
     }
     Ok(())
 }
@@ -206,7 +206,7 @@ fn tests_new_volumes_in_order(rt: HostRuntime) -> Result<(), Fail> {
         (h, n, 8, ReadPolicy::Round, Some(No::Size)),
     ] {
         let line = volume(site, name, 0, mirrors, flat, policy);
-        assert_eq!(rt; refuse(&all, false, &line), wanted);
+        assert!(rt; refuse(&all, false, &line) == wanted);
     }
     Ok(())
 }
@@ -228,7 +228,7 @@ fn tests_shapes_of_volumes(rt: HostRuntime) -> Result<(), Fail> {
         (8, 2, stripe(1, 4294967295), None),
     ] {
         let line = volume(g, n, blocks, mirrors, layout, ReadPolicy::Round);
-        assert_eq!(rt; refuse(&all, false, &line), wanted);
+        assert!(rt; refuse(&all, false, &line) == wanted);
     }
     Ok(())
 }
@@ -249,7 +249,7 @@ fn tests_plexes_in_order(rt: HostRuntime) -> Result<(), Fail> {
         (attach(g, v, 2), no_number(2)),
         (attach(Name::new(b"h"), v, 1), None),
     ] {
-        assert_eq!(rt; refuse(&all, false, &line), wanted);
+        assert!(rt; refuse(&all, false, &line) == wanted);
     }
     Ok(())
 }
@@ -280,7 +280,7 @@ fn tests_replicated_groups_in_order(rt: HostRuntime) -> Result<(), Fail> {
         (g, l, m, v, 1, None),
     ] {
         let line = rvg(rt.alloc(), site, srl, dcm, data, times)?;
-        assert_eq!(rt; refuse(&all, false, &line), wanted);
+        assert!(rt; refuse(&all, false, &line) == wanted);
     }
     Ok(())
 }
@@ -333,7 +333,7 @@ fn tests_calls_by_kinds_of_volumes(rt: HostRuntime) -> Result<(), Fail> {
             count,
             fill,
         };
-        assert_eq!(rt; refuse(&all, false, &line), wanted);
+        assert!(rt; refuse(&all, false, &line) == wanted);
     }
     Ok(())
 }
@@ -348,6 +348,6 @@ fn tests_a_show_of_a_log(rt: HostRuntime) -> Result<(), Fail> {
         block: 0,
         count: 8,
     };
-    assert_eq!(rt; refuse(&all, false, &show), None);
+    assert!(rt; refuse(&all, false, &show) == None);
     Ok(())
 }

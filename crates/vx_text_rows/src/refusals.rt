@@ -7,7 +7,7 @@ use vx_report::refusal;
 
 fn prints(rt: &impl Abort, alloc: Global, no: &No, wanted: &str) -> Result<(), Fail> {
     let text = refusal(alloc, no)?;
-    assert_eq!(rt; text.as_slice(), wanted.as_bytes(), "{wanted}");
+    assert!(rt; text.as_slice() == wanted.as_bytes(), "{wanted}");
     Ok(())
 }
 

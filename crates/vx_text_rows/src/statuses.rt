@@ -44,7 +44,7 @@ fn prints_the_site_alone_where_it_is_not_up(rt: HostRuntime) -> Result<(), Fail>
             view.rvg = Some(rvg(Role::Primary, Mark::Consistent, None));
         }
         let text = status(rt.alloc(), &view)?;
-        assert_eq!(rt; text.as_slice(), wanted.as_bytes());
+        assert!(rt; text.as_slice() == wanted.as_bytes());
     }
     Ok(())
 }
@@ -67,9 +67,9 @@ fn prints_a_group(rt: HostRuntime) -> Result<(), Fail> {
         })?;
     }
     let text = status(rt.alloc(), &view)?;
-    assert_eq!(rt;
-        text.as_slice(),
-        b"site a up\ndisk 0 ok\ndisk 1 failed\nvol v 64 none off\nplex 0 ACTIVE\nplex 1 STALE\nvol v 64 drl on\nplex 0 ACTIVE\nplex 1 STALE\n".as_slice()
+    assert!(rt;
+        text.as_slice()
+            == b"site a up\ndisk 0 ok\ndisk 1 failed\nvol v 64 none off\nplex 0 ACTIVE\nplex 1 STALE\nvol v 64 drl on\nplex 0 ACTIVE\nplex 1 STALE\n".as_slice()
     );
     Ok(())
 }
@@ -105,7 +105,7 @@ fn prints_each_role(rt: HostRuntime) -> Result<(), Fail> {
         let mut view = site(rt.alloc(), SiteState::Up);
         view.rvg = Some(rvg(role, mark, halted));
         let text = status(rt.alloc(), &view)?;
-        assert_eq!(rt; text.as_slice(), wanted.as_bytes());
+        assert!(rt; text.as_slice() == wanted.as_bytes());
     }
     Ok(())
 }

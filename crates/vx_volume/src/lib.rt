@@ -20,6 +20,3 @@ pub use reading::read_plex;
 pub use sets::{Failed, set_of};
 pub use volume::{Volume, flush, flush_all, read, write, write_all};
 pub use writing::write_plex;
-
-#[cfg(test)]
-mod tests;

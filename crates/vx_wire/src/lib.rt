@@ -21,6 +21,3 @@ pub use number::{
     get_u8, get_u16, get_u32, get_u64, numbers_are_spelled, put_u8, put_u16, put_u32, put_u64,
 };
 pub use sealed::{BrokenSeal, broken_seal, seal};
-
-#[cfg(test)]
-mod tests;

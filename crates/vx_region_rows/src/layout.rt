@@ -1,0 +1,210 @@
+// Worked examples of places and of space.
+ghost use Rattle.std.specs.Prelude.{IsTrue};
+ghost use Rattle.vx_layout.specs.Places.{HasBlock};
+ghost use Rattle.vx_layout.specs.Space.{IsShape};
+
+use crate::mirrors::{good, run};
+use std::alloc::Global;
+use std::process::Abort;
+use std::test::Fail;
+use vx_config::{Config, Disks, PlexEntry, Plexes, Subdisk, Subdisks, VolumeEntry, Volumes, check};
+use vx_layout::{Shape, find_space, place};
+use vx_model::{Name, No, OutOfMemory, PlexState, Stop};
+
+// Three disks of 1,024 blocks, and a volume of 100 blocks on two columns with units of 16 blocks.
+fn striped(alloc: Global) -> Result<Config, OutOfMemory> {
+    let mut disks = Disks::new();
+    for _ in 0..3 {
+        if disks.as_slice().len() < 8 {
+            disks.push(good(1024));
+        }
+    }
+    let mut subdisks = Subdisks::new(alloc);
+    subdisks.push(run(0, 768, 64))?;
+    subdisks.push(run(1, 768, 64))?;
+    let mut plexes = Plexes::new(alloc);
+    plexes.push(PlexEntry {
+        state: PlexState::Active,
+        whole: false,
+        subdisks,
+    })?;
+    let mut volumes = Volumes::new(alloc);
+    volumes.push(VolumeEntry {
+        name: Name::new(b"s"),
+        blocks: 100,
+        ncol: 2,
+        width: 16,
+        prefer: None,
+        drl: None,
+        fmr: None,
+        plexes,
+    })?;
+    Ok(Config {
+        serial: 1,
+        site: 0,
+        disks,
+        volumes,
+        rvg: None,
+    })
+}
+
+fn has_block(config: &Config, vol: u32, plex: u32, block: u64) -> bool
+    ensures { IsTrue result → HasBlock config.now vol plex block }
+{
+    match config.volumes.as_slice().get(vol as usize) {
+        Some(volume) => (plex as usize) < volume.plexes.as_slice().len() && block < volume.blocks,
+        None => false,
+    }
+}
+
+#[test]
+fn units_go_by_turns(rt: HostRuntime) -> Result<(), Fail> {
+    let config = striped(rt.alloc())?;
+    assert!(rt; check(&config));
+    for (block, wanted) in [
+        (0, (0, 768)),
+        (15, (0, 783)),
+        (16, (1, 768)),
+        (31, (1, 783)),
+        (32, (0, 784)),
+        (40, (0, 792)),
+        (99, (0, 819)),
+    ] {
+        let there = has_block(&config, 0, 0, block);
+        assert!(rt; there);
+        if there && check(&config) {
+            assert!(rt; place(&config, 0, 0, block) == wanted);
+        }
+    }
+    Ok(())
+}
+
+fn shape(blocks: u64, mirrors: u32, ncol: u32, width: u32, drl: bool, fmr: bool) -> Shape {
+    Shape {
+        blocks,
+        mirrors,
+        ncol,
+        width,
+        drl,
+        fmr,
+        prefer: None,
+    }
+}
+
+// Whether a shape is one that space can be looked for.
+fn is_shape(want: &Shape) -> bool
+    ensures { IsTrue result → IsShape want.now }
+{
+    0 < want.blocks
+        && want.blocks <= 1 << 40
+        && 0 < want.mirrors
+        && want.mirrors <= 8
+        && 0 < want.ncol
+        && want.ncol <= 8
+        && (want.width != 0 || want.ncol == 1)
+}
+
+// What is found: the runs of all plexes and then of the logs, or the two numbers of a refusal.
+fn found(
+    alloc: Global,
+    config: &Config,
+    want: &Shape,
+) -> Result<(Vec<Subdisk>, Option<(u64, u64)>), OutOfMemory> {
+    let mut runs = Vec::new(alloc);
+    if !is_shape(want) {
+        return Ok((runs, None));
+    }
+    match find_space(alloc, config, want) {
+        Ok(found) => {
+            for plex in &found.plexes {
+                runs.extend_from_slice(plex.as_slice())?;
+            }
+            runs.extend_from_slice(found.logs.as_slice())?;
+            Ok((runs, None))
+        }
+        Err(Stop::No(No::Space { need, have })) => Ok((runs, Some((need, have)))),
+        Err(_) => Err(OutOfMemory),
+    }
+}
+
+// Of three places each is of these runs, or of none where there are fewer.
+fn are_runs(rt: &impl Abort, runs: &[Subdisk], wanted: &[Subdisk; 3]) {
+    for (k, run) in wanted.iter().enumerate() {
+        if run.blocks > 0 {
+            assert!(rt; runs.get(k).copied() == Some(*run));
+        } else {
+            assert!(rt; runs.get(k).is_none());
+        }
+    }
+}
+
+#[test]
+fn the_lowest_blocks_are_taken(rt: HostRuntime) -> Result<(), Fail> {
+    let config = striped(rt.alloc())?;
+    let none = run(0, 0, 0);
+    for (want, wanted) in [
+        (
+            shape(192, 1, 1, 0, false, false),
+            [run(0, 512, 256 - 64), none, none],
+        ),
+        (
+            shape(300, 1, 1, 0, false, false),
+            [run(0, 512, 256), run(0, 832, 44), none],
+        ),
+        (
+            shape(449, 1, 1, 0, false, false),
+            [run(2, 512, 449), none, none],
+        ),
+        (
+            shape(256, 2, 1, 0, false, false),
+            [run(0, 512, 256), run(1, 512, 256), none],
+        ),
+        (
+            shape(40, 1, 2, 16, false, false),
+            [run(0, 512, 32), run(1, 512, 32), none],
+        ),
+        (
+            shape(256, 1, 1, 0, true, true),
+            [run(0, 512, 256), run(0, 832, 1), run(0, 833, 1)],
+        ),
+    ] {
+        let (runs, refused) = found(rt.alloc(), &config, &want)?;
+        assert!(rt; refused.is_none());
+        are_runs(&rt, runs.as_slice(), &wanted);
+    }
+    Ok(())
+}
+
+#[test]
+fn a_plex_that_no_disk_holds_is_spread(rt: HostRuntime) -> Result<(), Fail> {
+    let config = striped(rt.alloc())?;
+    let (runs, refused) = found(rt.alloc(), &config, &shape(1000, 1, 1, 0, false, false))?;
+    assert!(rt; refused.is_none());
+    let wanted = [
+        run(0, 512, 256),
+        run(0, 832, 192),
+        run(1, 512, 256),
+        run(1, 832, 192),
+        run(2, 512, 104),
+    ];
+    assert!(rt; runs.as_slice() == wanted.as_slice());
+    Ok(())
+}
+
+#[test]
+fn says_what_is_needed_and_there(rt: HostRuntime) -> Result<(), Fail> {
+    let config = striped(rt.alloc())?;
+    for (want, wanted) in [
+        (shape(2000, 1, 1, 0, false, false), (2000, 1408)),
+        (shape(513, 2, 1, 0, false, false), (513, 512)),
+        (shape(1000, 2, 1, 0, false, false), (1000, 0)),
+        (shape(900, 1, 2, 16, false, false), (464, 448)),
+        (shape(16, 4, 1, 0, false, false), (16, 0)),
+        (shape(1408, 1, 1, 0, true, false), (1, 0)),
+        (shape(1407, 1, 1, 0, true, true), (1, 0)),
+    ] {
+        let (_, refused) = found(rt.alloc(), &config, &want)?;
+        assert!(rt; refused == Some(wanted));
+    }
+    Ok(())
+}
