@@ -95,6 +95,11 @@ fn read(group: &mut LoggedGroup<Disks>, block: u64) -> Option<u8> {
     }
 }
 
+// Detaches a plex, and answers whether that is done.
+pub fn det(group: &mut LoggedGroup<Disks>, plex: u32) -> bool {
+    group.det(0, plex).is_ok()
+}
+
 // How many regions an attach of a plex copies.
 pub fn att(group: &mut LoggedGroup<Disks>, plex: u32) -> Option<u64> {
     match group.att(0, plex) {
@@ -129,9 +134,9 @@ pub fn is_lost(config: &Config) -> Option<bool> {
 fn maps_are_trusted_behind_the_first_detach(rt: HostRuntime) -> Result<(), Fail> {
     let alloc = rt.alloc();
     let mut group = group_of(alloc, &[], &MAPPED)?;
-    assert_eq!(rt; is_lost(group.config()), Some(true));
-    assert!(rt; group.det(0, 1).is_ok());
-    assert_eq!(rt; is_lost(group.config()), Some(false));
+    assert!(rt; is_lost(group.config()) == Some(true));
+    assert!(rt; det(&mut group, 1));
+    assert!(rt; is_lost(group.config()) == Some(false));
     Ok(())
 }
 
@@ -140,16 +145,16 @@ fn an_attach_copies_the_regions_that_were_written(rt: HostRuntime) -> Result<(),
     let alloc = rt.alloc();
     let mut group = group_of(alloc, &[], &MAPPED)?;
     assert!(rt; put(&mut group, 10, 0xaa));
-    assert!(rt; group.det(0, 1).is_ok());
+    assert!(rt; det(&mut group, 1));
     assert!(rt; put(&mut group, 70, 0xbb));
     assert!(rt; put(&mut group, 71, 0xbb));
     assert!(rt; put(&mut group, 200, 0xcc));
-    assert_eq!(rt; att(&mut group, 1), Some(2));
-    assert_eq!(rt; att(&mut group, 1), Some(0));
-    assert!(rt; group.det(0, 0).is_ok());
-    assert_eq!(rt; read(&mut group, 10), Some(0xaa));
-    assert_eq!(rt; read(&mut group, 70), Some(0xbb));
-    assert_eq!(rt; read(&mut group, 200), Some(0xcc));
+    assert!(rt; att(&mut group, 1) == Some(2));
+    assert!(rt; att(&mut group, 1) == Some(0));
+    assert!(rt; det(&mut group, 0));
+    assert!(rt; read(&mut group, 10) == Some(0xaa));
+    assert!(rt; read(&mut group, 70) == Some(0xbb));
+    assert!(rt; read(&mut group, 200) == Some(0xcc));
     Ok(())
 }
 
@@ -157,9 +162,9 @@ fn an_attach_copies_the_regions_that_were_written(rt: HostRuntime) -> Result<(),
 fn without_maps_an_attach_copies_all(rt: HostRuntime) -> Result<(), Fail> {
     let alloc = rt.alloc();
     let mut group = group_of(alloc, &[], &PLAIN)?;
-    assert!(rt; group.det(0, 1).is_ok());
+    assert!(rt; det(&mut group, 1));
     assert!(rt; put(&mut group, 70, 0xbb));
-    assert_eq!(rt; att(&mut group, 1), Some(4));
+    assert!(rt; att(&mut group, 1) == Some(4));
     Ok(())
 }
 
@@ -171,11 +176,11 @@ fn a_plex_that_fails_in_a_write_misses_it(rt: HostRuntime) -> Result<(), Fail> {
         let mut group = group_of(alloc, &[call], &MAPPED)?;
         if put(&mut group, 70, 0xbb) && !is_active(group.config(), 1) {
             seen = seen.wrapping_add(1);
-            assert_eq!(rt; read(&mut group, 70), Some(0xbb));
-            assert_eq!(rt; att(&mut group, 1), Some(1));
+            assert!(rt; read(&mut group, 70) == Some(0xbb));
+            assert!(rt; att(&mut group, 1) == Some(1));
         }
     }
-    assert_eq!(rt; seen, 1);
+    assert!(rt; seen == 1);
     Ok(())
 }
 
@@ -183,7 +188,7 @@ fn a_plex_that_fails_in_a_write_misses_it(rt: HostRuntime) -> Result<(), Fail> {
 // copies then, where it failed in that write.
 fn missed_anew(alloc: Global, call: u64) -> Result<Option<u64>, OutOfMemory> {
     let mut group = group_of(alloc, &[call], &MAPPED)?;
-    if group.det(0, 1).is_err() || !put(&mut group, 70, 0xbb) {
+    if !det(&mut group, 1) || !put(&mut group, 70, 0xbb) {
         return Ok(None);
     }
     if att(&mut group, 1) != Some(1) || !is_active(group.config(), 1) {
@@ -203,12 +208,12 @@ fn a_plex_that_fails_behind_an_attach_misses_that_write_alone(rt: HostRuntime) -
         match missed_anew(alloc, call)? {
             Some(copied) => {
                 seen = seen.wrapping_add(1);
-                assert_eq!(rt; copied, 1);
+                assert!(rt; copied == 1);
             }
             None => {}
         }
     }
-    assert_eq!(rt; seen, 1);
+    assert!(rt; seen == 1);
     Ok(())
 }
 
@@ -241,12 +246,12 @@ fn a_plex_that_fails_in_the_flush_behind_a_write_misses_it(rt: HostRuntime) -> R
         match missed_behind(alloc, call)? {
             Some(copied) => {
                 seen = seen.wrapping_add(1);
-                assert_eq!(rt; copied, 1);
+                assert!(rt; copied == 1);
             }
             None => {}
         }
     }
-    assert_eq!(rt; seen, 1);
+    assert!(rt; seen == 1);
     Ok(())
 }
 
@@ -254,7 +259,7 @@ fn a_plex_that_fails_in_the_flush_behind_a_write_misses_it(rt: HostRuntime) -> R
 // where the detach or the attach is refused.
 fn failing(alloc: Global, call: u64) -> Result<Option<u64>, OutOfMemory> {
     let mut group = group_of(alloc, &[call], &LOGGED)?;
-    if group.det(0, 2).is_err() {
+    if !det(&mut group, 2) {
         return Ok(None);
     }
     if !put(&mut group, 70, 0xbb) || read(&mut group, 70) != Some(0xbb) {
@@ -262,7 +267,7 @@ fn failing(alloc: Global, call: u64) -> Result<Option<u64>, OutOfMemory> {
     }
     let copied = att(&mut group, 2);
     if copied.is_some() {
-        let other = group.det(0, 0).is_ok() && group.det(0, 1).is_ok();
+        let other = det(&mut group, 0) && det(&mut group, 1);
         if other && read(&mut group, 70) != Some(0xbb) {
             return Ok(Some(99));
         }
@@ -278,12 +283,12 @@ fn a_write_is_done_whichever_of_its_calls_fails(rt: HostRuntime) -> Result<(), F
         // Where the log of missed regions is lost all regions are copied.
         let is_lost = call == 167 || call == 168;
         let wanted = if is_lost { Some(4) } else { Some(1) };
-        assert_eq!(rt; failing(alloc, call)?, wanted);
+        assert!(rt; failing(alloc, call)? == wanted);
     }
     // The read, and the calls of the attach.
     for call in 171..193 {
         match failing(alloc, call)? {
-            Some(copied) => assert_eq!(rt; copied, 1),
+            Some(copied) => assert!(rt; copied == 1),
             None => {}
         }
     }
@@ -294,15 +299,15 @@ fn a_write_is_done_whichever_of_its_calls_fails(rt: HostRuntime) -> Result<(), F
 fn a_detach_begins_the_map_anew(rt: HostRuntime) -> Result<(), Fail> {
     let alloc = rt.alloc();
     let mut group = group_of(alloc, &[], &MAPPED)?;
-    assert!(rt; group.det(0, 1).is_ok());
+    assert!(rt; det(&mut group, 1));
     assert!(rt; put(&mut group, 10, 0xaa));
-    assert_eq!(rt; att(&mut group, 1), Some(1));
-    assert!(rt; group.det(0, 1).is_ok());
+    assert!(rt; att(&mut group, 1) == Some(1));
+    assert!(rt; det(&mut group, 1));
     assert!(rt; put(&mut group, 70, 0xbb));
-    assert_eq!(rt; att(&mut group, 1), Some(1));
-    assert!(rt; group.det(0, 0).is_ok());
-    assert_eq!(rt; read(&mut group, 10), Some(0xaa));
-    assert_eq!(rt; read(&mut group, 70), Some(0xbb));
+    assert!(rt; att(&mut group, 1) == Some(1));
+    assert!(rt; det(&mut group, 0));
+    assert!(rt; read(&mut group, 10) == Some(0xaa));
+    assert!(rt; read(&mut group, 70) == Some(0xbb));
     Ok(())
 }
 
@@ -310,7 +315,7 @@ fn a_detach_begins_the_map_anew(rt: HostRuntime) -> Result<(), Fail> {
 // the first write was refused and the second one done.
 fn refused(alloc: Global, call: u64) -> Result<Option<u64>, OutOfMemory> {
     let mut group = group_of(alloc, &[call], &MAPPED)?;
-    if group.det(0, 1).is_err() || put(&mut group, 70, 0xbb) {
+    if !det(&mut group, 1) || put(&mut group, 70, 0xbb) {
         return Ok(None);
     }
     if !put(&mut group, 200, 0xcc) {
@@ -325,7 +330,7 @@ fn a_refused_write_is_noted(rt: HostRuntime) -> Result<(), Fail> {
     // The calls of the detach that write its commit, and those of both writes. That of the first write to the one plex that is ACTIVE is the 128th.
     for call in 120..132 {
         let wanted = if call == 128 { Some(2) } else { None };
-        assert_eq!(rt; refused(alloc, call)?, wanted);
+        assert!(rt; refused(alloc, call)? == wanted);
     }
     Ok(())
 }
@@ -349,17 +354,17 @@ fn an_attach_behind_a_deport_goes_by_the_map(rt: HostRuntime) -> Result<(), Fail
     let alloc = rt.alloc();
     let mut group = group_of(alloc, &[], &MAPPED)?;
     assert!(rt; put(&mut group, 10, 0xaa));
-    assert!(rt; group.det(0, 1).is_ok());
+    assert!(rt; det(&mut group, 1));
     assert!(rt; put(&mut group, 70, 0xbb));
     match moved(alloc, group) {
         Some(group) => {
             let mut group = group;
-            assert_eq!(rt; read(&mut group, 70), Some(0xbb));
-            assert!(rt; group.det(0, 0).is_err());
-            assert_eq!(rt; att(&mut group, 1), Some(1));
-            assert!(rt; group.det(0, 0).is_ok());
-            assert_eq!(rt; read(&mut group, 10), Some(0xaa));
-            assert_eq!(rt; read(&mut group, 70), Some(0xbb));
+            assert!(rt; read(&mut group, 70) == Some(0xbb));
+            assert!(rt; !det(&mut group, 0));
+            assert!(rt; att(&mut group, 1) == Some(1));
+            assert!(rt; det(&mut group, 0));
+            assert!(rt; read(&mut group, 10) == Some(0xaa));
+            assert!(rt; read(&mut group, 70) == Some(0xbb));
         }
         None => assert!(rt; false),
     }

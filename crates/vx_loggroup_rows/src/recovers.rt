@@ -1,4 +1,5 @@
 // What an import by a dirty region log writes to the plexes, and what it does where the log is lost.
+use crate::misses::{Disks, group_of, put};
 use std::alloc::Global;
 use std::test::*;
 use vx_config::{Config, LogEntry, Subdisk};
@@ -7,9 +8,7 @@ use vx_group_rows::Untold;
 use vx_layout::Shape;
 use vx_loggroup::LoggedGroup;
 use vx_logimport::Rested;
-use vx_model::{Name, OutOfMemory};
-
-type Disks = Untold<MemShelf>;
+use vx_model::OutOfMemory;
 
 // 256 blocks on two plexes, with a dirty region log.
 const WANT: Shape = Shape {
@@ -24,35 +23,7 @@ const WANT: Shape = Shape {
 
 // A group on three disks, of which these calls fail, with such a volume.
 fn group_on(alloc: Global, fails: &[u64]) -> Result<LoggedGroup<Disks>, OutOfMemory> {
-    let mut shelf = match MemShelf::new(alloc, fails) {
-        Ok(shelf) => shelf,
-        Err(_) => return Err(OutOfMemory),
-    };
-    if shelf.fit(alloc, None, 7, 3, 1024).is_err() {
-        return Err(OutOfMemory);
-    }
-    let shelf = Untold { shelf };
-    if shelf.units() == 0 || shelf.units() > 8 {
-        return Err(OutOfMemory);
-    }
-    match LoggedGroup::create(alloc, shelf, 7) {
-        Ok(group) => {
-            let mut group = group;
-            match group.make_volume(alloc, &Name::new(b"v"), &WANT) {
-                Ok(_) => Ok(group),
-                Err(_) => Err(OutOfMemory),
-            }
-        }
-        Err(_) => Err(OutOfMemory),
-    }
-}
-
-// Writes one block of these bytes, and answers whether that is done.
-fn put(group: &mut LoggedGroup<Disks>, block: u64, byte: u8) -> bool {
-    if group.units() == 0 || block >= group.size(0) {
-        return false;
-    }
-    group.write(0, block, &[byte; 512]).is_ok()
+    group_of(alloc, fails, &WANT)
 }
 
 fn log_of(config: &Config) -> Option<LogEntry> {
@@ -175,9 +146,9 @@ const COPIED: Option<u8> = Some(0);
 fn a_log_is_trusted_behind_the_first_write(rt: HostRuntime) -> Result<(), Fail> {
     let alloc = rt.alloc();
     let mut group = group_on(alloc, &[])?;
-    assert_eq!(rt; is_lost(group.config()), Some(true));
+    assert!(rt; is_lost(group.config()) == Some(true));
     assert!(rt; put(&mut group, 70, 0x11));
-    assert_eq!(rt; is_lost(group.config()), Some(false));
+    assert!(rt; is_lost(group.config()) == Some(false));
     Ok(())
 }
 
@@ -187,9 +158,8 @@ fn an_import_copies_the_regions_of_writes(rt: HostRuntime) -> Result<(), Fail> {
     let mut group = group_on(alloc, &[])?;
     assert!(rt; put(&mut group, 70, 0x11));
     let (disks, run) = crashed(group);
-    assert_eq!(rt;
-        again(alloc, disks, run),
-        ([KEPT, KEPT, COPIED, COPIED, KEPT, KEPT], Some(false))
+    assert!(rt;
+        again(alloc, disks, run) == ([KEPT, KEPT, COPIED, COPIED, KEPT, KEPT], Some(false))
     );
     Ok(())
 }
@@ -210,9 +180,8 @@ fn an_import_takes_marks_off(rt: HostRuntime) -> Result<(), Fail> {
             let mut group = group;
             assert!(rt; put(&mut group, 200, 0x22));
             let (disks, run) = crashed(group);
-            assert_eq!(rt;
-                again(alloc, disks, run),
-                ([KEPT, KEPT, KEPT, KEPT, KEPT, COPIED], Some(false))
+            assert!(rt;
+                again(alloc, disks, run) == ([KEPT, KEPT, KEPT, KEPT, KEPT, COPIED], Some(false))
             );
         }
         None => assert!(rt; false),
@@ -252,14 +221,14 @@ fn losing(alloc: Global, from: u64, to: u64) -> u64 {
 #[test]
 fn a_log_that_does_not_begin_stays_lost(rt: HostRuntime) -> Result<(), Fail> {
     // The writing of its block, the flush behind it, and its reading: the first calls behind the 85 of the making.
-    assert_eq!(rt; losing(rt.alloc(), 86, 89), 3);
+    assert!(rt; losing(rt.alloc(), 86, 89) == 3);
     Ok(())
 }
 
 #[test]
 fn a_log_that_a_write_loses_is_not_used(rt: HostRuntime) -> Result<(), Fail> {
     // The writing of the mark, and the flush behind it, between the commit by which the log is trusted and the writing of the plexes.
-    assert_eq!(rt; losing(rt.alloc(), 107, 109), 2);
+    assert!(rt; losing(rt.alloc(), 107, 109) == 2);
     Ok(())
 }
 
@@ -287,13 +256,13 @@ fn trusting(alloc: Global, from: u64, to: u64, want: ([Option<u8>; 6], Option<bo
 fn a_log_is_used_whose_commit_fails_on_another_disk(rt: HostRuntime) -> Result<(), Fail> {
     // The calls of the commit by which the log is trusted on the disk of the second plex, and on the one that has nothing: six on each.
     let want = ([KEPT, KEPT, COPIED, COPIED, KEPT, KEPT], Some(false));
-    assert_eq!(rt; trusting(rt.alloc(), 95, 107, want), 12);
+    assert!(rt; trusting(rt.alloc(), 95, 107, want) == 12);
     Ok(())
 }
 
 #[test]
 fn a_log_is_lost_whose_disk_fails_in_its_commit(rt: HostRuntime) -> Result<(), Fail> {
     // The calls of that commit on the disk of the log: the plex on it is copied whole from the one on a disk that did not fail.
-    assert_eq!(rt; trusting(rt.alloc(), 89, 95, ([KEPT; 6], Some(true))), 6);
+    assert!(rt; trusting(rt.alloc(), 89, 95, ([KEPT; 6], Some(true))) == 6);
     Ok(())
 }

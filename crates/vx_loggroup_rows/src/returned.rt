@@ -1,5 +1,5 @@
 // What an attach copies behind an import of disks of which the one with the maps was held as failed.
-use crate::misses::{Disks, MAPPED, att, group_of, is_lost, put};
+use crate::misses::{Disks, MAPPED, att, det, group_of, is_lost, put};
 use std::alloc::Global;
 use std::test::*;
 use vx_config::Config;
@@ -24,9 +24,7 @@ fn missed(alloc: Global, call: u64) -> Option<LoggedGroup<Disks>> {
     match group_of(alloc, &[call], &MAPPED) {
         Ok(group) => {
             let mut group = group;
-            let done = put(&mut group, 10, 0xaa)
-                && group.det(0, 1).is_ok()
-                && put(&mut group, 70, 0xbb);
+            let done = put(&mut group, 10, 0xaa) && det(&mut group, 1) && put(&mut group, 70, 0xbb);
             if !done || is_failed(group.config()) || is_lost(group.config()) != Some(false) {
                 return None;
             }
@@ -70,7 +68,7 @@ fn maps_on_a_disk_that_was_held_as_failed_are_lost(rt: HostRuntime) -> Result<()
         match copied(alloc, call) {
             Some(copied) => {
                 seen = seen.wrapping_add(1);
-                assert_eq!(rt; copied, 4);
+                assert!(rt; copied == 4);
             }
             None => {}
         }

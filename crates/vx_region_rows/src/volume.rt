@@ -143,7 +143,7 @@ fn a_plex_that_fails_is_in_the_set(rt: HostRuntime) -> Result<(), Fail> {
         assert!(rt; written(&both, &mut shelf, 7) == wanted);
         match wanted {
             Told::Set(1) => assert!(rt; reads(&second, &mut shelf, 0, 7) == (true, 0)),
-            Told::Set(2) => assert_eq!(rt; reads(&first, &mut shelf, 1, 7).0, fails[1] == 0),
+            Told::Set(2) => assert!(rt; reads(&first, &mut shelf, 1, 7).0 == (fails[1] == 0)),
             Told::Set(_) => {
                 assert!(rt; reads(&both, &mut shelf, 0, 7) == (true, 1));
                 assert!(rt; reads(&both, &mut shelf, 1, 7) == (true, 0));
