@@ -1,4 +1,5 @@
 // Plexes that are attached: the regions that are copied, each device call of it failing, and what a crash in it leaves.
+use crate::rows::{Call, first_wrong};
 use crate::volumes::{Told, det, flush, get, group_of, make, plain, put, state, told_of};
 use std::alloc::Global;
 use std::test::*;
@@ -21,19 +22,22 @@ fn a_plex_is_attached(rt: HostRuntime) -> Result<(), Fail> {
     let alloc = rt.alloc();
     // Call 87 is the write to the second plex.
     let mut group = group_of(alloc, &[87], 3)?;
-    assert!(rt; make(alloc, &mut group, b"v", &plain(256, 2)) == Told::Volume(0));
-    assert!(rt; put(&mut group, 0, 70, 0xbb) == Told::Done);
-    assert!(rt; state(group.config(), 0, 1) == Some(PlexState::Stale));
-    assert!(rt; att(&mut group, 0, 1) == Told::Attached(4));
-    assert!(rt; state(group.config(), 0, 1) == Some(PlexState::Active));
-    assert!(rt; att(&mut group, 0, 1) == Told::Attached(0));
-    assert!(rt; att(&mut group, 0, 2) == Told::Unknown);
-    assert!(rt; att(&mut group, 1, 0) == Told::Unknown);
-    assert!(rt; det(&mut group, 0, 0) == Told::Done);
-    assert!(rt; get(&mut group, 0, 70) == Told::Block(0xbb));
-    assert!(rt; get(&mut group, 0, 255) == Told::Block(0));
-    assert!(rt; put(&mut group, 0, 255, 0xcc) == Told::Done);
-    assert!(rt; att(&mut group, 0, 0) == Told::Attached(4));
+    let rows = [
+        (Call::Make(b"v", 256, 2), Told::Volume(0)),
+        (Call::Put(0, 70, 0xbb), Told::Done),
+        (Call::State(0, 1), Told::Is(Some(PlexState::Stale))),
+        (Call::Att(0, 1), Told::Attached(4)),
+        (Call::State(0, 1), Told::Is(Some(PlexState::Active))),
+        (Call::Att(0, 1), Told::Attached(0)),
+        (Call::Att(0, 2), Told::Unknown),
+        (Call::Att(1, 0), Told::Unknown),
+        (Call::Det(0, 0), Told::Done),
+        (Call::Get(0, 70), Told::Block(0xbb)),
+        (Call::Get(0, 255), Told::Block(0)),
+        (Call::Put(0, 255, 0xcc), Told::Done),
+        (Call::Att(0, 0), Told::Attached(4)),
+    ];
+    assert!(rt; first_wrong(alloc, &mut group, &rows) == None);
     let (mut shelf, _core) = group.apart();
     assert!(rt; get(&mut shelf, 0, 512 + 70) == Told::Block(0xbb));
     assert!(rt; get(&mut shelf, 0, 512 + 255) == Told::Block(0xcc));
@@ -56,18 +60,21 @@ fn each_call_of_an_attach_fails(rt: HostRuntime) -> Result<(), Fail> {
         (60, 0, Told::Attached(1), on),
         (54, 55, Told::Device(1), off),
     ] {
-        let mut group = group_of(alloc, &[first, second], 2)?;
-        assert!(rt; make(alloc, &mut group, b"v", &plain(16, 2)) == Told::Volume(0));
-        assert!(rt; det(&mut group, 0, 1) == Told::Done);
-        assert!(rt; att(&mut group, 0, 1) == wanted);
-        assert!(rt; state(group.config(), 0, 1) == is);
-        assert!(rt; put(&mut group, 0, 3, 0x22) == Told::Done);
-        assert!(rt; get(&mut group, 0, 3) == Told::Block(0x22));
-        assert!(rt; get(&mut group, 0, 3) == Told::Block(0x22));
         let again = if is == on { 0 } else { 1 };
-        assert!(rt; att(&mut group, 0, 1) == Told::Attached(again));
-        assert!(rt; det(&mut group, 0, 0) == Told::Done);
-        assert!(rt; get(&mut group, 0, 3) == Told::Block(0x22));
+        let mut group = group_of(alloc, &[first, second], 2)?;
+        let rows = [
+            (Call::Make(b"v", 16, 2), Told::Volume(0)),
+            (Call::Det(0, 1), Told::Done),
+            (Call::Att(0, 1), wanted),
+            (Call::State(0, 1), Told::Is(is)),
+            (Call::Put(0, 3, 0x22), Told::Done),
+            (Call::Get(0, 3), Told::Block(0x22)),
+            (Call::Get(0, 3), Told::Block(0x22)),
+            (Call::Att(0, 1), Told::Attached(again)),
+            (Call::Det(0, 0), Told::Done),
+            (Call::Get(0, 3), Told::Block(0x22)),
+        ];
+        assert!(rt; first_wrong(alloc, &mut group, &rows) == None);
     }
     Ok(())
 }

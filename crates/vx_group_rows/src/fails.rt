@@ -3,6 +3,7 @@ use crate::attaches::att;
 use crate::cuts::{behind, volume};
 use crate::imports::{again, disks_of, group_on};
 use crate::regains::failing;
+use crate::rows::{Call, first_wrong};
 use crate::volumes::{Told, det, flush, get, make, plain, put, state};
 use std::test::*;
 use vx_config::PlexState;
@@ -123,11 +124,14 @@ fn a_disk_is_away_over_a_deport(rt: HostRuntime) -> Result<(), Fail> {
             return Ok(());
         }
     };
-    assert!(rt; att(&mut group, 0, 1) == Told::Attached(4));
-    assert!(rt; att(&mut group, 0, 1) == Told::Attached(0));
-    assert!(rt; get(&mut group, 0, 70) == Told::Block(0xbb));
-    assert!(rt; get(&mut group, 0, 70) == Told::Block(0xbb));
-    assert!(rt; make(alloc, &mut group, b"w", &plain(2000, 1)) == Told::Space(2000, 1024));
+    let rows = [
+        (Call::Att(0, 1), Told::Attached(4)),
+        (Call::Att(0, 1), Told::Attached(0)),
+        (Call::Get(0, 70), Told::Block(0xbb)),
+        (Call::Get(0, 70), Told::Block(0xbb)),
+        (Call::Make(b"w", 2000, 1), Told::Space(2000, 1024)),
+    ];
+    assert!(rt; first_wrong(alloc, &mut group, &rows) == None);
     assert!(rt; make(alloc, &mut group, b"s", &STRIPED) == Told::Volume(1));
     assert!(rt; put(&mut group, 1, 40, 0x77) == Told::Done);
     let (mut shelf, _core) = group.apart();

@@ -1,4 +1,5 @@
 // Groups over disks in memory that crash and are imported again.
+use crate::rows::{Call, first_wrong};
 use crate::volumes::{Told, det, flush, get, group_of, make, plain, put};
 use crate::{crash_and_import, crash_and_import_again, cut_and_import};
 use std::alloc::Global;
@@ -13,9 +14,12 @@ fn a_group_crashes_again_and_again(rt: HostRuntime) -> Result<(), Fail> {
     let mut group = group_of(alloc, &[], 2)?;
     assert!(rt; make(alloc, &mut group, b"v", &plain(16, 2)) == Told::Volume(0));
     for turn in 0..3 {
-        assert!(rt; put(&mut group, 0, turn, 0x11) == Told::Done);
-        assert!(rt; flush(&mut group, 0) == Told::Done);
-        assert!(rt; put(&mut group, 0, turn, 0x22) == Told::Done);
+        let rows = [
+            (Call::Put(0, turn, 0x11), Told::Done),
+            (Call::Flush(0), Told::Done),
+            (Call::Put(0, turn, 0x22), Told::Done),
+        ];
+        assert!(rt; first_wrong(alloc, &mut group, &rows) == None);
         group = match crash_and_import(alloc, group, 0) {
             Some(group) => group,
             None => {

@@ -1,6 +1,7 @@
 // Attaches of which the commit is refused, and the one that takes it back too.
 use crate::attaches::att;
 use crate::imports::{Disks, again, crashed, disks_of, failed_disk, group_on};
+use crate::rows::{Call, first_wrong};
 use crate::volumes::{Told, det, flush, get, make, plain, put, state};
 use std::alloc::Global;
 use std::test::*;
@@ -47,10 +48,13 @@ fn a_refused_attach_is_held_back(rt: HostRuntime) -> Result<(), Fail> {
         assert!(rt; att(&mut group, 0, 1) == Told::Device(1));
         assert!(rt; state(group.config(), 0, 1) == OFF);
         assert!(rt; failed_disk(group.config()) == None);
-        assert!(rt; det(&mut group, 0, 1) == Told::Done);
-        assert!(rt; det(&mut group, 0, 0) == Told::LastPlex);
-        assert!(rt; get(&mut group, 0, 3) == block);
-        assert!(rt; get(&mut group, 0, 3) == block);
+        let rows = [
+            (Call::Det(0, 1), Told::Done),
+            (Call::Det(0, 0), Told::LastPlex),
+            (Call::Get(0, 3), block),
+            (Call::Get(0, 3), block),
+        ];
+        assert!(rt; first_wrong(alloc, &mut group, &rows) == None);
         assert!(rt; found(alloc, crashed(group, pick)) == (is, block, block));
     }
     Ok(())
@@ -62,12 +66,15 @@ fn a_write_comes_behind_it(rt: HostRuntime) -> Result<(), Fail> {
     let block = Told::Block(0x22);
     for pick in [0, u64::MAX] {
         let mut group = before(alloc, &[61, 62, 63, 64])?;
-        assert!(rt; att(&mut group, 0, 1) == Told::Device(1));
-        assert!(rt; put(&mut group, 0, 3, 0x22) == Told::Done);
-        assert!(rt; state(group.config(), 0, 1) == OFF);
-        assert!(rt; get(&mut group, 0, 3) == block);
-        assert!(rt; get(&mut group, 0, 3) == block);
-        assert!(rt; flush(&mut group, 0) == Told::Done);
+        let rows = [
+            (Call::Att(0, 1), Told::Device(1)),
+            (Call::Put(0, 3, 0x22), Told::Done),
+            (Call::State(0, 1), Told::Is(OFF)),
+            (Call::Get(0, 3), block),
+            (Call::Get(0, 3), block),
+            (Call::Flush(0), Told::Done),
+        ];
+        assert!(rt; first_wrong(alloc, &mut group, &rows) == None);
         assert!(rt; found(alloc, crashed(group, pick)) == (OFF, block, block));
     }
     Ok(())
@@ -80,11 +87,14 @@ fn a_write_behind_it_is_refused(rt: HostRuntime) -> Result<(), Fail> {
     // The first calls for the headers fail once more.
     for (pick, is) in [(u64::MAX, ON), (0, OFF)] {
         let mut group = before(alloc, &[61, 62, 63, 64, 65, 66])?;
-        assert!(rt; att(&mut group, 0, 1) == Told::Device(1));
-        assert!(rt; put(&mut group, 0, 3, 0x22) == Told::Device(1));
-        assert!(rt; state(group.config(), 0, 1) == OFF);
-        assert!(rt; get(&mut group, 0, 3) == block);
-        assert!(rt; get(&mut group, 0, 3) == block);
+        let rows = [
+            (Call::Att(0, 1), Told::Device(1)),
+            (Call::Put(0, 3, 0x22), Told::Device(1)),
+            (Call::State(0, 1), Told::Is(OFF)),
+            (Call::Get(0, 3), block),
+            (Call::Get(0, 3), block),
+        ];
+        assert!(rt; first_wrong(alloc, &mut group, &rows) == None);
         assert!(rt; found(alloc, crashed(group, pick)) == (is, block, block));
     }
     Ok(())
@@ -94,14 +104,17 @@ fn a_write_behind_it_is_refused(rt: HostRuntime) -> Result<(), Fail> {
 fn it_is_attached_again(rt: HostRuntime) -> Result<(), Fail> {
     let alloc = rt.alloc();
     let mut group = before(alloc, &[61, 62, 63, 64])?;
-    assert!(rt; att(&mut group, 0, 1) == Told::Device(1));
-    assert!(rt; state(group.config(), 0, 1) == OFF);
-    assert!(rt; att(&mut group, 0, 1) == Told::Attached(1));
-    assert!(rt; state(group.config(), 0, 1) == ON);
-    assert!(rt; put(&mut group, 0, 4, 0x33) == Told::Done);
-    assert!(rt; det(&mut group, 0, 0) == Told::Done);
-    assert!(rt; get(&mut group, 0, 3) == Told::Block(0x11));
-    assert!(rt; get(&mut group, 0, 4) == Told::Block(0x33));
+    let rows = [
+        (Call::Att(0, 1), Told::Device(1)),
+        (Call::State(0, 1), Told::Is(OFF)),
+        (Call::Att(0, 1), Told::Attached(1)),
+        (Call::State(0, 1), Told::Is(ON)),
+        (Call::Put(0, 4, 0x33), Told::Done),
+        (Call::Det(0, 0), Told::Done),
+        (Call::Get(0, 3), Told::Block(0x11)),
+        (Call::Get(0, 4), Told::Block(0x33)),
+    ];
+    assert!(rt; first_wrong(alloc, &mut group, &rows) == None);
     Ok(())
 }
 
@@ -110,10 +123,13 @@ fn other_calls_come_behind_it(rt: HostRuntime) -> Result<(), Fail> {
     let alloc = rt.alloc();
     let block = Told::Block(0x11);
     let mut group = before(alloc, &[61, 62, 63, 64])?;
-    assert!(rt; att(&mut group, 0, 1) == Told::Device(1));
-    assert!(rt; make(alloc, &mut group, b"w", &plain(16, 2)) == Told::Volume(1));
-    assert!(rt; state(group.config(), 0, 1) == OFF);
-    assert!(rt; state(group.config(), 1, 1) == ON);
+    let rows = [
+        (Call::Att(0, 1), Told::Device(1)),
+        (Call::Make(b"w", 16, 2), Told::Volume(1)),
+        (Call::State(0, 1), Told::Is(OFF)),
+        (Call::State(1, 1), Told::Is(ON)),
+    ];
+    assert!(rt; first_wrong(alloc, &mut group, &rows) == None);
     assert!(rt; found(alloc, crashed(group, u64::MAX)) == (OFF, block, block));
     let mut group = before(alloc, &[61, 62, 63, 64])?;
     assert!(rt; att(&mut group, 0, 1) == Told::Device(1));

@@ -1,5 +1,6 @@
 // Groups that are imported over a shelf in memory behind crashes and deports, with each device call of an import failing or cut in turn.
-use crate::volumes::{Told, flush, get, make, plain, put, state, told_of};
+use crate::rows::{Call, first_wrong};
+use crate::volumes::{Told, get, make, plain, put, state, told_of};
 use std::alloc::Global;
 use std::test::*;
 use vx_config::{Config, PlexState};
@@ -207,11 +208,14 @@ fn each_call_of_an_import_is_cut(rt: HostRuntime) -> Result<(), Fail> {
 fn a_group_behind_a_crash(rt: HostRuntime) -> Result<(), Fail> {
     let alloc = rt.alloc();
     let mut group = group_on(alloc, disks_of(alloc, &[], 2, 1024)?)?;
-    assert!(rt; make(alloc, &mut group, b"log1", &plain(64, 2)) == Told::Volume(0));
-    assert!(rt; make(alloc, &mut group, b"maps", &plain(8, 2)) == Told::Volume(1));
-    assert!(rt; make(alloc, &mut group, b"v", &plain(256, 2)) == Told::Volume(2));
-    assert!(rt; put(&mut group, 2, 0, 0x11) == Told::Done);
-    assert!(rt; flush(&mut group, 2) == Told::Done);
+    let rows = [
+        (Call::Make(b"log1", 64, 2), Told::Volume(0)),
+        (Call::Make(b"maps", 8, 2), Told::Volume(1)),
+        (Call::Make(b"v", 256, 2), Told::Volume(2)),
+        (Call::Put(2, 0, 0x11), Told::Done),
+        (Call::Flush(2), Told::Done),
+    ];
+    assert!(rt; first_wrong(alloc, &mut group, &rows) == None);
     let mut shelf = crashed(group, 0);
     for volume in 0..3 {
         let (behind, was) = import(alloc, shelf, volume);

@@ -25,6 +25,8 @@ mod imports;
 #[cfg(test)]
 mod regains;
 #[cfg(test)]
+mod rows;
+#[cfg(test)]
 mod rvgs;
 #[cfg(test)]
 mod volumes;

@@ -1,8 +1,8 @@
 // A disk that fails, is held as failed, works again, and comes back with the plex on it.
 use crate::attaches::att;
 use crate::imports::{Disks, crashed, disks_of, failed_disk, group_on, reads};
-use crate::volumes::{Told, det, get, group_of, make, plain, put, state};
-use std::alloc::Global;
+use crate::rows::{Call, first_wrong};
+use crate::volumes::{Told, get, group_of, make, plain, put, state};
 use std::test::*;
 use vx_config::{Config, PlexState};
 use vx_disk::{Rack, Shelf};
@@ -42,9 +42,12 @@ fn a_disk_comes_back(rt: HostRuntime) -> Result<(), Fail> {
     assert!(rt; seen(group.config()) == (off, Some(1)));
     assert!(rt; att(&mut group, 0, 1) == Told::Attached(1));
     assert!(rt; seen(group.config()) == (on, None));
-    assert!(rt; det(&mut group, 0, 0) == Told::Done);
-    assert!(rt; get(&mut group, 0, 3) == Told::Block(0x11));
-    assert!(rt; get(&mut group, 0, 4) == Told::Block(0x22));
+    let rows = [
+        (Call::Det(0, 0), Told::Done),
+        (Call::Get(0, 3), Told::Block(0x11)),
+        (Call::Get(0, 4), Told::Block(0x22)),
+    ];
+    assert!(rt; first_wrong(alloc, &mut group, &rows) == None);
     assert!(rt; reads(alloc, crashed(group, 0), 0, 3) == (Told::Block(0x11), Told::Block(0x11)));
     Ok(())
 }

@@ -1,4 +1,5 @@
 // Volumes of a group over a shelf in memory: they are made, written, read and detached, with each device call failing in turn.
+use crate::rows::{Call, first_wrong};
 use std::alloc::Global;
 use std::test::*;
 use vx_config::{Config, PlexState};
@@ -22,6 +23,8 @@ pub enum Told {
     Small,
     LastPlex,
     Unknown,
+    /// The state of a plex, where there is one.
+    Is(Option<PlexState>),
     Missing(u32),
     NoConfig,
     Other,
@@ -150,15 +153,18 @@ fn a_write_detaches_the_plex_that_failed(rt: HostRuntime) -> Result<(), Fail> {
     // A new group of three disks has made 33 calls; zeros in runs of 16 blocks, two flushes, a commit and a read follow, and call 88 is the
     // write to the second plex.
     let mut group = group_of(alloc, &[88], 3)?;
-    assert!(rt; make(alloc, &mut group, b"v", &plain(256, 2)) == Told::Volume(0));
-    assert!(rt; get(&mut group, 0, 255) == Told::Block(0));
-    assert!(rt; put(&mut group, 0, 70, 0xbb) == Told::Done);
-    assert!(rt; state(group.config(), 0, 0) == Some(PlexState::Active));
-    assert!(rt; state(group.config(), 0, 1) == Some(PlexState::Stale));
-    assert!(rt; get(&mut group, 0, 70) == Told::Block(0xbb));
-    assert!(rt; get(&mut group, 0, 70) == Told::Block(0xbb));
-    assert!(rt; det(&mut group, 0, 0) == Told::LastPlex);
-    assert!(rt; make(alloc, &mut group, b"w", &plain(2000, 1)) == Told::Space(2000, 1024));
+    let rows = [
+        (Call::Make(b"v", 256, 2), Told::Volume(0)),
+        (Call::Get(0, 255), Told::Block(0)),
+        (Call::Put(0, 70, 0xbb), Told::Done),
+        (Call::State(0, 0), Told::Is(Some(PlexState::Active))),
+        (Call::State(0, 1), Told::Is(Some(PlexState::Stale))),
+        (Call::Get(0, 70), Told::Block(0xbb)),
+        (Call::Get(0, 70), Told::Block(0xbb)),
+        (Call::Det(0, 0), Told::LastPlex),
+        (Call::Make(b"w", 2000, 1), Told::Space(2000, 1024)),
+    ];
+    assert!(rt; first_wrong(alloc, &mut group, &rows) == None);
     let striped = Shape {
         blocks: 100,
         mirrors: 1,
@@ -181,13 +187,16 @@ fn a_write_detaches_the_plex_that_failed(rt: HostRuntime) -> Result<(), Fail> {
 fn a_volume_is_refused(rt: HostRuntime) -> Result<(), Fail> {
     let alloc = rt.alloc();
     let mut group = group_of(alloc, &[], 2)?;
-    assert!(rt; make(alloc, &mut group, b"v", &plain(64, 2)) == Told::Volume(0));
-    assert!(rt; make(alloc, &mut group, b"v", &plain(64, 9)) == Told::Exists);
-    assert!(rt; make(alloc, &mut group, b"w", &plain(0, 9)) == Told::Limit(Counted::Plexes, 8));
-    assert!(rt; make(alloc, &mut group, b"w", &plain(0, 1)) == Told::Small);
-    assert!(rt; make(alloc, &mut group, b"w", &plain(64, 3)) == Told::Space(64, 0));
-    assert!(rt; make(alloc, &mut group, b"w", &plain(448, 2)) == Told::Volume(1));
-    assert!(rt; make(alloc, &mut group, b"x", &plain(1, 1)) == Told::Space(1, 0));
+    let rows = [
+        (Call::Make(b"v", 64, 2), Told::Volume(0)),
+        (Call::Make(b"v", 64, 9), Told::Exists),
+        (Call::Make(b"w", 0, 9), Told::Limit(Counted::Plexes, 8)),
+        (Call::Make(b"w", 0, 1), Told::Small),
+        (Call::Make(b"w", 64, 3), Told::Space(64, 0)),
+        (Call::Make(b"w", 448, 2), Told::Volume(1)),
+        (Call::Make(b"x", 1, 1), Told::Space(1, 0)),
+    ];
+    assert!(rt; first_wrong(alloc, &mut group, &rows) == None);
     Ok(())
 }
 
@@ -205,14 +214,17 @@ fn each_call_of_a_new_volume_fails(rt: HostRuntime) -> Result<(), Fail> {
         (33, Told::Volume(0)),
         (38, Told::Volume(0)),
     ] {
-        let mut group = group_of(alloc, &[call], 2)?;
-        assert!(rt; make(alloc, &mut group, b"v", &plain(16, 2)) == wanted);
         let again = match wanted {
             Told::Volume(_) => Told::Exists,
             _ => Told::Volume(0),
         };
-        assert!(rt; make(alloc, &mut group, b"v", &plain(16, 2)) == again);
-        assert!(rt; get(&mut group, 0, 15) == Told::Block(0));
+        let mut group = group_of(alloc, &[call], 2)?;
+        let rows = [
+            (Call::Make(b"v", 16, 2), wanted),
+            (Call::Make(b"v", 16, 2), again),
+            (Call::Get(0, 15), Told::Block(0)),
+        ];
+        assert!(rt; first_wrong(alloc, &mut group, &rows) == None);
     }
     Ok(())
 }
@@ -231,14 +243,17 @@ fn each_call_of_a_write_fails(rt: HostRuntime) -> Result<(), Fail> {
         (40, 47, Told::Done, (on, off)),
     ] {
         let mut group = group_of(alloc, &[first, second], 2)?;
-        assert!(rt; make(alloc, &mut group, b"v", &plain(16, 2)) == Told::Volume(0));
-        assert!(rt; put(&mut group, 0, 3, 0x11) == wanted);
-        assert!(rt; state(group.config(), 0, 0) == states.0);
-        assert!(rt; state(group.config(), 0, 1) == states.1);
-        assert!(rt; put(&mut group, 0, 3, 0x22) == Told::Done);
-        assert!(rt; flush(&mut group, 0) == Told::Done);
-        assert!(rt; get(&mut group, 0, 3) == Told::Block(0x22));
-        assert!(rt; get(&mut group, 0, 3) == Told::Block(0x22));
+        let rows = [
+            (Call::Make(b"v", 16, 2), Told::Volume(0)),
+            (Call::Put(0, 3, 0x11), wanted),
+            (Call::State(0, 0), Told::Is(states.0)),
+            (Call::State(0, 1), Told::Is(states.1)),
+            (Call::Put(0, 3, 0x22), Told::Done),
+            (Call::Flush(0), Told::Done),
+            (Call::Get(0, 3), Told::Block(0x22)),
+            (Call::Get(0, 3), Told::Block(0x22)),
+        ];
+        assert!(rt; first_wrong(alloc, &mut group, &rows) == None);
     }
     Ok(())
 }
@@ -255,14 +270,17 @@ fn each_call_of_a_detach_fails(rt: HostRuntime) -> Result<(), Fail> {
         (39, 40, Told::Device(1), on),
     ] {
         let mut group = group_of(alloc, &[first, second], 2)?;
-        assert!(rt; make(alloc, &mut group, b"v", &plain(16, 2)) == Told::Volume(0));
-        assert!(rt; det(&mut group, 0, 1) == wanted);
-        assert!(rt; state(group.config(), 0, 0) == on);
-        assert!(rt; state(group.config(), 0, 1) == is);
-        assert!(rt; det(&mut group, 1, 0) == Told::Unknown);
-        assert!(rt; det(&mut group, 0, 2) == Told::Unknown);
-        assert!(rt; put(&mut group, 0, 3, 0x22) == Told::Done);
-        assert!(rt; get(&mut group, 0, 3) == Told::Block(0x22));
+        let rows = [
+            (Call::Make(b"v", 16, 2), Told::Volume(0)),
+            (Call::Det(0, 1), wanted),
+            (Call::State(0, 0), Told::Is(on)),
+            (Call::State(0, 1), Told::Is(is)),
+            (Call::Det(1, 0), Told::Unknown),
+            (Call::Det(0, 2), Told::Unknown),
+            (Call::Put(0, 3, 0x22), Told::Done),
+            (Call::Get(0, 3), Told::Block(0x22)),
+        ];
+        assert!(rt; first_wrong(alloc, &mut group, &rows) == None);
     }
     Ok(())
 }
