@@ -1,4 +1,5 @@
 // Sites whose disks are a group of mirrors, word for word.
+use crate::done::is_done;
 use std::test::Fail;
 use vx_cli::Status;
 use vx_runs::answers;
@@ -8,10 +9,9 @@ use vx_runs::answers;
 fn a_group_comes_back_without_a_plex_that_was_detached(rt: HostRuntime) -> Result<(), Fail> {
     let script =
         b"site a 2 1024\ndg a init\nvol a v 64 mirrors=2 layout=concat log=none fmr=off rdpol=round\nfuse a 4 0\nplex a v 1 det\ndisk a 0 fail\nrecover a\ndisk a 0 ok\nrecover a\n";
-    let answer = answers(&rt, rt.alloc(), script)?;
     let wanted =
         "done\ndone\ndone\ndone\nno 6 down\ndone\nno 8 missing 0\ndone\nrecovered\nsite a up\ndisk 0 ok\ndisk 1 ok\nvol v 64 none off\nplex 0 ACTIVE\nplex 1 STALE\n";
-    assert!(rt; answer.is(Status::Done, wanted));
+    assert!(rt; is_done(&rt, rt.alloc(), script, wanted)?);
     Ok(())
 }
 
@@ -20,10 +20,9 @@ fn a_group_comes_back_without_a_plex_that_was_detached(rt: HostRuntime) -> Resul
 fn a_plex_that_missed_a_write_is_attached_again(rt: HostRuntime) -> Result<(), Fail> {
     let script =
         b"site a 3 1024\ndg a init\nvol a v 256 mirrors=2 layout=concat log=none fmr=off rdpol=round\ndisk a 1 fail\nwrite a v 70 1 bb\ndisk a 1 ok\ndg a deport\ndg a import\nplex a v 1 att\nplex a v 1 att\nvol a w 2000 mirrors=1 layout=concat log=none fmr=off rdpol=round\nvol a s 100 mirrors=1 layout=stripe ncol=2 width=16 log=none fmr=off rdpol=round\n";
-    let answer = answers(&rt, rt.alloc(), script)?;
     let wanted =
         "done\ndone\ndone\ndone\ndone\ndone\ndone\ndone\ndone 4\ndone 0\nno 11 space 2000 1024\ndone\n";
-    assert!(rt; answer.is(Status::Done, wanted));
+    assert!(rt; is_done(&rt, rt.alloc(), script, wanted)?);
     Ok(())
 }
 
@@ -49,9 +48,8 @@ fn nothing_is_kept_of_a_write_that_was_not_begun(rt: HostRuntime) -> Result<(), 
 fn lines_of_a_group_are_refused(rt: HostRuntime) -> Result<(), Fail> {
     let script =
         b"site a 2 1024\ndg a deport\ndg a init\ndg a init\nvol a v 64 mirrors=3 layout=concat log=none fmr=off rdpol=round\nvol a v 64 mirrors=2 layout=concat log=none fmr=off rdpol=round\nvol a v 64 mirrors=1 layout=concat log=none fmr=off rdpol=round\nplex a w 0 det\nplex a v 2 det\nplex a v 0 det\nplex a v 1 det\nwrite a v 63 2 11\ndg a import\ndg a deport\nread a v 0 1\nrecover a\ncrash a 0\ndg a import\nread a v 0 1\ncrash a 0\ndg a import\nread a v 0 1\n";
-    let answer = answers(&rt, rt.alloc(), script)?;
     let wanted =
         "done\nno 6 down\ndone\nno 5 role\nno 11 space 64 0\ndone\nno 2 exists v\nno 1 unknown w\nno 1 unknown 2\ndone\nno 10 lastplex\nno 3 range\nno 5 role\ndone\nno 6 down\nno 5 role\nno 6 down\ndone\n00\ndone\nno 5 role\nno 6 down\n";
-    assert!(rt; answer.is(Status::Done, wanted));
+    assert!(rt; is_done(&rt, rt.alloc(), script, wanted)?);
     Ok(())
 }

@@ -1,4 +1,5 @@
 // Lines of links that a failing disk or a fuse ends: what they were doing stands behind a recovery, or does not.
+use crate::done::is_done;
 use std::test::Fail;
 use vx_cli::Status;
 use vx_runs::answers;
@@ -78,9 +79,8 @@ fn a_disk_fails_as_updates_are_applied(rt: HostRuntime) -> Result<(), Fail> {
 fn a_settling_is_cut(rt: HostRuntime) -> Result<(), Fail> {
     let script =
         b"site a 3 64\nraw a\nsite b 3 64\nraw b\nlink a b synchronous=off srlprot=fail\nconnect a b\nwrite a d1 0 1 11\nfuse b 0 0\nsettle a b\nrecover b\nsettle a b\nshow b d1 0 1\n";
-    let answer = answers(&rt, rt.alloc(), script)?;
     let wanted =
         "done\ndone\ndone\ndone\ndone\ndone sent 1 1\ndone 1\ndone\nno 6 down sent 2 4\nrecovered 0 sent 5 5\nsite b up\nrvg secondary 1 a head 0 mark consistent session 2\nsettled 1 sent 6 9\n11\n";
-    assert!(rt; answer.is(Status::Done, wanted));
+    assert!(rt; is_done(&rt, rt.alloc(), script, wanted)?);
     Ok(())
 }

@@ -6,6 +6,8 @@ mod bytes;
 #[cfg(test)]
 mod disks;
 #[cfg(test)]
+mod done;
+#[cfg(test)]
 mod ends;
 #[cfg(test)]
 mod files;

@@ -1,21 +1,20 @@
 // The first run, and words that are no call.
+use crate::done::is_done;
 use std::test::Fail;
 use vx_cli::Status;
-use vx_runs::{answers, run_over};
+use vx_runs::run_over;
 use vx_stream::{MemSink, MemSource};
 
 #[test]
 fn the_first_run_is_answered(rt: HostRuntime) -> Result<(), Fail> {
     let script = b"site a 3 64\nraw a\nwrite a d1 3 1 5a\nread a d1 3 1\nread a d1 4 1\n";
-    let answer = answers(&rt, rt.alloc(), script)?;
-    assert!(rt; answer.is(Status::Done, "done\ndone\ndone 1\n5a\n00\n"));
+    assert!(rt; is_done(&rt, rt.alloc(), script, "done\ndone\ndone 1\n5a\n00\n")?);
     Ok(())
 }
 
 #[test]
 fn an_empty_script_is_done(rt: HostRuntime) -> Result<(), Fail> {
-    let answer = answers(&rt, rt.alloc(), b"")?;
-    assert!(rt; answer.is(Status::Done, ""));
+    assert!(rt; is_done(&rt, rt.alloc(), b"", "")?);
     Ok(())
 }
 

@@ -1,4 +1,5 @@
 // Lines that are wrong, and the last line.
+use crate::done::is_done;
 use std::test::Fail;
 use vx_cli::Status;
 use vx_runs::answers;
@@ -28,8 +29,7 @@ fn a_long_line_ends_the_run(rt: HostRuntime) -> Result<(), Fail> {
 
 #[test]
 fn the_last_line_needs_no_end(rt: HostRuntime) -> Result<(), Fail> {
-    let answer = answers(&rt, rt.alloc(), b"site a 3 64\nraw a")?;
-    assert!(rt; answer.is(Status::Done, "done\ndone\n"));
+    assert!(rt; is_done(&rt, rt.alloc(), b"site a 3 64\nraw a", "done\ndone\n")?);
     Ok(())
 }
 
