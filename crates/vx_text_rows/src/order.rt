@@ -86,8 +86,10 @@ fn limit(what: Counted, most: u64) -> Option<No> {
 #[test]
 fn tests_writes_in_order(rt: HostRuntime) -> Result<(), Fail> {
     let mut sites = Vec::new(rt.alloc());
-    sites.push(raw(rt.alloc(), Name::new(b"a"), 64, Role::Primary, None)?)?;
-    sites.push(raw(rt.alloc(), Name::new(b"b"), 10, Role::Primary, None)?)?;
+    for (name, blocks) in [(b"a", 64), (b"b", 10)] {
+        let site = raw(rt.alloc(), Name::new(name), blocks, Role::Primary, None)?;
+        sites.push(site)?;
+    }
     for (line, wanted) in [
         (write(Name::new(b"a"), 63, 1), None),
         (write(Name::new(b"a"), 63, 2), Some(No::Range)),
@@ -115,15 +117,13 @@ fn tests_writes_in_order(rt: HostRuntime) -> Result<(), Fail> {
 #[test]
 fn tests_how_a_site_stands(rt: HostRuntime) -> Result<(), Fail> {
     let mut sites = Vec::new(rt.alloc());
-    sites.push(raw(rt.alloc(), Name::new(b"a"), 64, Role::Primary, Some(0))?)?;
-    sites.push(raw(rt.alloc(), Name::new(b"b"), 64, Role::Secondary, None)?)?;
-    sites.push(raw(
-        rt.alloc(),
-        Name::new(b"c"),
-        64,
-        Role::Handing { to: 1 },
-        None,
-    )?)?;
+    for (name, role, halted) in [
+        (b"a", Role::Primary, Some(0)),
+        (b"b", Role::Secondary, None),
+        (b"c", Role::Handing { to: 1 }, None),
+    ] {
+        sites.push(raw(rt.alloc(), Name::new(name), 64, role, halted)?)?;
+    }
     sites.push(bare(rt.alloc(), Name::new(b"d"), 3, 64))?;
     let mut down = bare(rt.alloc(), Name::new(b"e"), 3, 64);
     down.state = SiteState::Down;
@@ -159,9 +159,9 @@ fn tests_how_a_site_stands(rt: HostRuntime) -> Result<(), Fail> {
 fn sites(alloc: Global) -> Result<Vec<SiteFacts>, OutOfMemory> {
     let mut sites = Vec::new(alloc);
     sites.push(raw(alloc, Name::new(b"a"), 64, Role::Primary, None)?)?;
-    sites.push(bare(alloc, Name::new(b"b"), 2, 64))?;
-    sites.push(bare(alloc, Name::new(b"c"), 4, 8))?;
-    sites.push(bare(alloc, Name::new(b"d"), 3, 8))?;
+    for (name, disks, blocks) in [(b"b", 2, 64), (b"c", 4, 8), (b"d", 3, 8)] {
+        sites.push(bare(alloc, Name::new(name), disks, blocks))?;
+    }
     Ok(sites)
 }
 

@@ -32,10 +32,9 @@ fn plain(name: Name, blocks: u64) -> VolumeFacts {
 // A disk group with the volumes l of 8 blocks, m of 8, v of 256 and w of 300000.
 fn group(alloc: Global, name: Name) -> Result<SiteFacts, OutOfMemory> {
     let mut made = site(alloc, name, SiteState::Up, 1024, true);
-    made.volumes.push(plain(Name::new(b"l"), 8))?;
-    made.volumes.push(plain(Name::new(b"m"), 8))?;
-    made.volumes.push(plain(Name::new(b"v"), 256))?;
-    made.volumes.push(plain(Name::new(b"w"), 300000))?;
+    for (volume, blocks) in [(b"l", 8), (b"m", 8), (b"v", 256), (b"w", 300000)] {
+        made.volumes.push(plain(Name::new(volume), blocks))?;
+    }
     Ok(made)
 }
 
@@ -135,10 +134,14 @@ fn sites(alloc: Global) -> Result<Vec<SiteFacts>, OutOfMemory> {
     let mut raw = site(alloc, Name::new(b"r"), SiteState::Up, 64, false);
     raw.rvg = Some(rvg_of(None));
     made.push(raw)?;
-    made.push(site(alloc, Name::new(b"d"), SiteState::Deported, 1024, true))?;
-    made.push(site(alloc, Name::new(b"o"), SiteState::Down, 1024, true))?;
-    made.push(site(alloc, Name::new(b"b"), SiteState::Bare, 1024, false))?;
-    made.push(site(alloc, Name::new(b"s"), SiteState::Bare, 1023, false))?;
+    for (name, state, blocks, grouped) in [
+        (b"d", SiteState::Deported, 1024, true),
+        (b"o", SiteState::Down, 1024, true),
+        (b"b", SiteState::Bare, 1024, false),
+        (b"s", SiteState::Bare, 1023, false),
+    ] {
+        made.push(site(alloc, Name::new(name), state, blocks, grouped))?;
+    }
     Ok(made)
 }
 

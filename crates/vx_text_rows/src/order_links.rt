@@ -85,13 +85,17 @@ fn write(site: Name) -> ScriptLine {
 fn tests_a_further_link(rt: HostRuntime) -> Result<(), Fail> {
     let (a, b, c) = (Name::new(b"a"), Name::new(b"b"), Name::new(b"c"));
     let mut sites = Vec::new(rt.alloc());
-    sites.push(primary(rt.alloc(), a, 0, 0)?)?;
-    sites.push(primary(rt.alloc(), b, 1, 0)?)?;
-    sites.push(primary(rt.alloc(), c, 2, 1)?)?;
-    assert!(rt; refuse(&sites, false, &made(a, b)) == None);
-    assert!(rt; refuse(&sites, false, &made(a, a)) == Some(No::Role));
-    assert!(rt; refuse(&sites, false, &made(a, c)) == Some(No::Role));
-    assert!(rt; refuse(&sites, false, &made(c, b)) == Some(No::Role));
+    for (name, number, last) in [(a, 0, 0), (b, 1, 0), (c, 2, 1)] {
+        sites.push(primary(rt.alloc(), name, number, last)?)?;
+    }
+    for (line, wanted) in [
+        (made(a, b), None),
+        (made(a, a), Some(No::Role)),
+        (made(a, c), Some(No::Role)),
+        (made(c, b), Some(No::Role)),
+    ] {
+        assert!(rt; refuse(&sites, false, &line) == wanted);
+    }
     let mut first = primary(rt.alloc(), a, 0, 0)?;
     for number in 2..6 {
         first.links.push(LinkFacts {
