@@ -86,6 +86,11 @@ fn first_byte(rvg: &mut Rvg<MemShelf>, block: u64) -> Result<u8, No> {
     }
 }
 
+// Changes to the line that another site begins, with a log that is empty behind number 7.
+fn change(rvg: &mut Rvg<MemShelf>) -> Result<(), No> {
+    rvg.change(&State::first(1), Some(7))
+}
+
 // The state of the site that a line begins at, and behind it a log that is empty behind number 7. The content is as it was.
 #[test]
 fn a_change_of_line_keeps_the_content(rt: HostRuntime) -> Result<(), Fail> {
@@ -93,7 +98,7 @@ fn a_change_of_line_keeps_the_content(rt: HostRuntime) -> Result<(), Fail> {
     let mut rvg = made(alloc, 1000)?;
     assert!(rt; write(&mut rvg, 3, 0x11) == Ok(1));
     assert!(rt; write(&mut rvg, 4, 0x22) == Ok(2));
-    assert!(rt; rvg.change(&State::first(1), Some(7)) == Ok(()));
+    assert!(rt; change(&mut rvg) == Ok(()));
     assert!(rt; (rvg.low(), rvg.head(), rvg.applied()) == (8, 7, 7));
     assert!(rt; first_byte(&mut rvg, 3) == Ok(0x11));
     let mut rvg = again(alloc, rvg)?;
@@ -138,7 +143,7 @@ fn a_change_that_is_cut_off_leaves_the_log(rt: HostRuntime) -> Result<(), Fail> 
     let alloc = rt.alloc();
     let mut rvg = made(alloc, 6 + 4 + 2 + 1)?;
     assert!(rt; write(&mut rvg, 3, 0x11) == Ok(1));
-    assert!(rt; rvg.change(&State::first(1), Some(7)) == Err(No::Down));
+    assert!(rt; change(&mut rvg) == Err(No::Down));
     let mut rvg = again(alloc, rvg)?;
     assert!(rt; (rvg.low(), rvg.head(), rvg.session()) == (1, 1, 2));
     assert!(rt; rvg.state().line.origin == 0);
@@ -152,7 +157,7 @@ fn a_change_is_one_header(rt: HostRuntime) -> Result<(), Fail> {
     let alloc = rt.alloc();
     let mut rvg = made(alloc, 6 + 4 + 2 + 2)?;
     assert!(rt; write(&mut rvg, 3, 0x11) == Ok(1));
-    assert!(rt; rvg.change(&State::first(1), Some(7)) == Ok(()));
+    assert!(rt; change(&mut rvg) == Ok(()));
     assert!(rt; write(&mut rvg, 4, 0x22) == Err(No::Down));
     let mut rvg = again(alloc, rvg)?;
     assert!(rt; (rvg.low(), rvg.head(), rvg.session()) == (8, 7, 2));

@@ -79,6 +79,16 @@ fn update(number: u64, block: u64, value: u8) -> Update {
     }
 }
 
+// Hands the site an update of one block of these bytes.
+fn take(site: &mut Secondary<MemShelf>, number: u64, block: u64, value: u8) -> Result<RAction, No> {
+    site.take(&update(number, block, value))
+}
+
+// Applies so many of the updates that wait.
+fn apply(site: &mut Secondary<MemShelf>, count: u64) -> Result<RAction, No> {
+    site.apply(count)
+}
+
 // The first byte of a block.
 fn shown(secondary: &mut Secondary<MemShelf>, block: u64) -> Result<u8, No> {
     if secondary.rvg.volumes() == 0 {
@@ -96,10 +106,10 @@ fn shown(secondary: &mut Secondary<MemShelf>, block: u64) -> Result<u8, No> {
 fn updates_are_taken_in_their_order(rt: HostRuntime) -> Result<(), Fail> {
     let alloc = rt.alloc();
     let mut site = made(alloc, 1000)?;
-    assert!(rt; site.take(&update(2, 3, 0x22)) == Ok(RAction::Ignored));
-    assert!(rt; site.take(&update(1, 3, 0x11)) == Ok(RAction::Take { ack: 1 }));
-    assert!(rt; site.take(&update(1, 3, 0x33)) == Ok(RAction::IgnoredAck { number: 1 }));
-    assert!(rt; site.take(&update(2, 18, 0x22)) == Err(No::Range));
+    assert!(rt; take(&mut site, 2, 3, 0x22) == Ok(RAction::Ignored));
+    assert!(rt; take(&mut site, 1, 3, 0x11) == Ok(RAction::Take { ack: 1 }));
+    assert!(rt; take(&mut site, 1, 3, 0x33) == Ok(RAction::IgnoredAck { number: 1 }));
+    assert!(rt; take(&mut site, 2, 18, 0x22) == Err(No::Range));
     let other = Update {
         line: Line {
             generation: 1,
@@ -111,7 +121,7 @@ fn updates_are_taken_in_their_order(rt: HostRuntime) -> Result<(), Fail> {
         bytes: Blocks::filled(1, 0x44),
     };
     assert!(rt; site.take(&other) == Ok(RAction::Ignored));
-    assert!(rt; site.take(&update(2, 3, 0x22)) == Ok(RAction::Take { ack: 2 }));
+    assert!(rt; take(&mut site, 2, 3, 0x22) == Ok(RAction::Take { ack: 2 }));
     assert!(rt; shown(&mut site, 3) == Ok(0x22));
     assert!(rt; (site.rvg.head(), site.waiting.len()) == (0, 2));
     Ok(())
@@ -124,16 +134,16 @@ fn what_was_applied_is_there_behind_a_crash(rt: HostRuntime) -> Result<(), Fail>
     let mut site = made(alloc, 1000)?;
     for number in 1..3 {
         assert!(rt;
-            site.take(&update(number, 3, 0x11 * number as u8)) == Ok(RAction::Take { ack: number })
+            take(&mut site, number, 3, 0x11 * number as u8) == Ok(RAction::Take { ack: number })
         );
     }
-    assert!(rt; site.apply(1) == Ok(RAction::DataAck { number: 1 }));
+    assert!(rt; apply(&mut site, 1) == Ok(RAction::DataAck { number: 1 }));
     assert!(rt; (site.rvg.head(), site.rvg.applied(), site.waiting.len()) == (1, 1, 1));
     assert!(rt; shown(&mut site, 3) == Ok(0x22));
     let mut site = again(alloc, site)?;
     assert!(rt; (site.rvg.head(), site.waiting.len()) == (1, 0));
     assert!(rt; shown(&mut site, 3) == Ok(0x11));
-    assert!(rt; site.apply(16) == Ok(RAction::Nothing));
+    assert!(rt; apply(&mut site, 16) == Ok(RAction::Nothing));
     Ok(())
 }
 
@@ -143,12 +153,12 @@ fn sixteen_updates_wait(rt: HostRuntime) -> Result<(), Fail> {
     let alloc = rt.alloc();
     let mut site = made(alloc, 1000)?;
     for k in 0..16 {
-        assert!(rt; site.take(&update(k + 1, k, k as u8)) == Ok(RAction::Take { ack: k + 1 }));
+        assert!(rt; take(&mut site, k + 1, k, k as u8) == Ok(RAction::Take { ack: k + 1 }));
     }
-    assert!(rt; site.take(&update(17, 0, 0x77)) == Ok(RAction::Ignored));
-    assert!(rt; site.apply(100) == Ok(RAction::DataAck { number: 16 }));
+    assert!(rt; take(&mut site, 17, 0, 0x77) == Ok(RAction::Ignored));
+    assert!(rt; apply(&mut site, 100) == Ok(RAction::DataAck { number: 16 }));
     assert!(rt; (site.rvg.head(), site.rvg.applied(), site.waiting.len()) == (16, 16, 0));
-    assert!(rt; site.take(&update(17, 0, 0x77)) == Ok(RAction::Take { ack: 17 }));
+    assert!(rt; take(&mut site, 17, 0, 0x77) == Ok(RAction::Take { ack: 17 }));
     assert!(rt; shown(&mut site, 0) == Ok(0x77));
     assert!(rt; shown(&mut site, 15) == Ok(15));
     Ok(())
@@ -163,10 +173,10 @@ fn a_cut_apply_leaves_a_first_part(rt: HostRuntime) -> Result<(), Fail> {
         if let Ok(mut site) = made(alloc, calls) {
             for k in 0..3 {
                 assert!(rt;
-                    site.take(&update(k + 1, 4, k as u8 + 1)) == Ok(RAction::Take { ack: k + 1 })
+                    take(&mut site, k + 1, 4, k as u8 + 1) == Ok(RAction::Take { ack: k + 1 })
                 );
             }
-            let done = site.apply(3);
+            let done = apply(&mut site, 3);
             let waits = u64::from(site.waiting.len());
             let mut site = again(alloc, site)?;
             let head = site.rvg.head();
