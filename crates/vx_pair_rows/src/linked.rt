@@ -205,25 +205,19 @@ fn links_are_waited_for(rt: HostRuntime) -> Result<(), Fail> {
     let mut sites = three_sites(rt.alloc())?;
     let mut flight = Flight::new(rt.alloc())?;
     let primary = Name::new(b"a");
-    let said = answer(&mut sites, &mut flight, &waits(1))?;
-    assert!(rt; said == Heard::Confirmed);
-    let said = answer(&mut sites, &mut flight, &waits(2))?;
-    assert!(rt; said == Heard::Refused);
     let secondary = Name::new(b"b");
-    let said = answer(
-        &mut sites,
-        &mut flight,
-        &ScriptLine::Connect { primary, secondary },
-    )?;
-    assert!(rt; said == Heard::Done);
+    let connect = ScriptLine::Connect { primary, secondary };
     let secondary = Name::new(b"c");
-    let said = answer(
-        &mut sites,
-        &mut flight,
-        &ScriptLine::Cut { primary, secondary },
-    )?;
-    assert!(rt; said == Heard::Done);
-    let said = answer(&mut sites, &mut flight, &waits(2))?;
-    assert!(rt; said == Heard::Pending);
+    let cut = ScriptLine::Cut { primary, secondary };
+    for (line, wanted) in [
+        (waits(1), Heard::Confirmed),
+        (waits(2), Heard::Refused),
+        (connect, Heard::Done),
+        (cut, Heard::Done),
+        (waits(2), Heard::Pending),
+    ] {
+        let said = answer(&mut sites, &mut flight, &line)?;
+        assert!(rt; said == wanted);
+    }
     Ok(())
 }
