@@ -1,5 +1,5 @@
 -- `mark_fallen`: what its calls ask; its clauses.
-use Rattle.std.proofs.Common.{◌≡◌, ◌∙◌, ◌<◌, Bool, true, false, refl, sym, ap, subst, arith}
+use Rattle.std.proofs.Common.{◌≡◌, ◌∙◌, ◌<◌, Bool, true, false, IsTrue, refl, sym, ap, subst, arith}
 use Rattle.vx_config.specs.Checks.{blocks_of}
 use Rattle.vx_config.specs.declared.config.Config.{Config}
 use Rattle.vx_disk.specs.Shelf.{Nothing}
@@ -177,7 +177,7 @@ returns-then-not-ready-clause-plexes g c = λ missed up know. plexes_each c.args
 
 pub returns-clause-plexes : goal.returns-clause-plexes
 returns-clause-plexes g c = λ missed up know.
-    let mid = λ down. up (c.mark_group.ensures.goes.falls down) in
+    let mid : IsTrue (g.S.Shelf.meaning c.begin_fallen.new.shelf).down → ⊥ = λ down. up (c.mark_group.ensures.goes.falls down) in
     c.mark_group.ensures.plexes missed up
     (plexes_maps c.ready_group.new.core c.args.vol (g.S.Shelf.meaning c.ready_group.new.shelf) (g.S.Shelf.meaning c.begin_fallen.new.shelf) (c.in-Ok.ensures.none c.if-not-ready.false) c.ready_group.ensures.stands c.begin_fallen.ensures.below missed mid
     (plexes_each c.args.core.now c.ready_group.new.core c.args.vol (g.S.Shelf.meaning c.args.shelf.now) (g.S.Shelf.meaning c.ready_group.new.shelf) c.ready_group.ensures.logs missed (λ down. mid (c.begin_fallen.ensures.below.falls down)) know))
