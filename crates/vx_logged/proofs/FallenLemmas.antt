@@ -58,7 +58,7 @@ pub record Fallen (core : GroupCore) (v n : ℕ) (was : List Bool) (l l' : Logs)
 pub finds_none : (m : Meaning) → FindsFrom NoConfiguration m m
 finds_none m = record { each = λ i x leaves is. inl (record { image = i; left = leaves; found = is }) }
 
-finds_both : (m m1 m2 : Meaning) → FindsFrom NoConfiguration m m1 → FindsFrom NoConfiguration m1 m2 → FindsFrom NoConfiguration m m2
+pub finds_both : (m m1 m2 : Meaning) → FindsFrom NoConfiguration m m1 → FindsFrom NoConfiguration m1 m2 → FindsFrom NoConfiguration m m2
 finds_both m m1 m2 one two = record {
   each = λ i x leaves is. elim (two.each i x leaves is) [
     | inl some ↦ one.each some.image x some.left some.found

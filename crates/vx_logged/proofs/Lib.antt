@@ -6,3 +6,5 @@ pub mod GoneLogs
 pub mod BeginLemmas
 pub mod FallenLemmas
 pub mod HoldsLemmas
+pub mod SpentLemmas
+pub mod EmptyLemmas

@@ -1,5 +1,5 @@
 -- The maps of plexes that fall out of use in a call: they begin with it.
-use Rattle.std.specs.Prelude.{◌≡◌, ◌⊎◌, ℕ, ◌<◌, ◌≤◌, Bool, true, false, not, ◌&&◌, ◌||◌, IsTrue, None, Some, List, slice_index_or}
+use Rattle.std.specs.Prelude.{◌≡◌, ◌⊎◌, ℕ, ◌<◌, ◌≤◌, Bool, true, false, not, ◌&&◌, ◌||◌, IsTrue, None, Some, List, Result, Ok, Err, slice_index_or}
 use Rattle.vx_bitmap.specs.Bits.{is_among}
 use Rattle.vx_config.specs.declared.config.Config.{Config}
 use Rattle.vx_disk.specs.Shelf.{Meaning}
@@ -20,6 +20,20 @@ fell_in c d v p = active c.inner.config v p && not (active d.inner.config v p)
 -- those of a list that are not ACTIVE in memory
 abbrev pub fell_now : List Bool → GroupCore → ℕ → ℕ → Bool
 fell_now was d v p = was_on was p && not (active d.inner.config v p)
+
+-- those of a list, where it is sure what they read
+abbrev pub if_sure : Bool → List Bool → ℕ → Bool
+if_sure sure was p = sure && was_on was p
+
+-- the plexes of volume v whose maps a write that is refused may begin: those that fell, and where it is sure what they read, those that were
+-- ACTIVE before
+abbrev pub begun_refused : GroupCore → GroupCore → ℕ → Bool → ℕ → Bool
+begun_refused c d v sure p = fell_in c d v p || (sure && active c.inner.config v p)
+
+-- those whose maps a write may begin: behind an Ok those that fell
+abbrev pub begun_in : {T E : Type 0} → GroupCore → GroupCore → ℕ → Bool → Result T E → ℕ → Bool
+begun_in c d v sure (Ok x) p = fell_in c d v p
+begun_in c d v sure (Err e) p = begun_refused c d v sure p
 
 -- each region of the plexes that are none of those, and the regions of a run
 abbrev pub but_run : (ℕ → Bool) → ℕ → ℕ → ℕ → ℕ → Bool

@@ -146,6 +146,7 @@ pub fn mark_fallen<S: Shelf>(
     ensures adds { MarksOnly (regions_in (blocks_of_is (wide core.old).config.volumes vol)) (first_region block) (last_region block count) logs.old logs.new }
     ensures narrow { Narrowed core.old core.new }
     ensures still { (w p : ℕ) → active core.new.inner.config w p ≡ active core.old.inner.config w p }
+    ensures plexes { (missed : ℕ → ℕ → Bool) → (IsTrue (S.meaning shelf.new).down → ⊥) → PlexesKnow (wide core.old).config vol missed (S.meaning shelf.old).reads → PlexesKnow (wide core.new).config vol missed (S.meaning shelf.new).reads }
     ensures maps { KnownBy core.old vol (or_run (first_region block) (last_region block count) none_spared) logs.old (S.meaning shelf.old) → KnownBy core.new vol (or_run (first_region block) (last_region block count) none_spared) logs.new (S.meaning shelf.new) }
     ensures knows { KnownBy core.old vol (or_off (wide core.old).config vol (first_region block) (last_region block count) none_spared) logs.old (S.meaning shelf.old) → IfOk result (λ done. done ≡ true → Known core.new vol logs.new (S.meaning shelf.new)) }
     ensures notes { MapsBut (fell_now was.now core.new vol) (are_off core.new vol) (first_region block) (last_region block count) logs.old logs.new }

@@ -1,7 +1,7 @@
 // Maps of a volume of a group behind a write that was refused.
 ghost use Rattle.vx_grouplogs.specs.Gone.{LogsDrop};
 ghost use Rattle.vx_kept.specs.Finds.{FindsFrom, NoConfiguration};
-ghost use Rattle.std.specs.Prelude.{◌≡◌, ◌+◌, ◌<◌, ◌≤◌, false, IsTrue, true};
+ghost use Rattle.std.specs.Prelude.{◌≡◌, ◌+◌, ◌<◌, ◌≤◌, ℕ, false, IsTrue, true};
 ghost use Rattle.vx_config.specs.Checks.{blocks_of as blocks_of_is};
 ghost use Rattle.vx_disk.specs.Shelf.{Goes, Nothing};
 ghost use Rattle.vx_disk.specs.declared.shelf.ShelfError.TheVariants.{Down as IsDown};
@@ -9,14 +9,18 @@ ghost use Rattle.vx_group.specs.Holding.{GroupStands, wide};
 ghost use Rattle.vx_group.specs.Stands.{inner_meaning};
 ghost use Rattle.vx_groupmaps.specs.Knowing.{MapsNote};
 ghost use Rattle.vx_groupmaps.specs.Missing.{OnMaps, none_spared, or_run};
+ghost use Rattle.vx_layout.specs.Places.{HasBlock};
+ghost use Rattle.vx_logged.specs.Begun.{MapsBut, MapsOfRun, ReadsBut, if_sure, was_on};
 ghost use Rattle.vx_logged.specs.Behind.{all_those};
 ghost use Rattle.vx_logged.specs.Logged.{Known, KnownBy, LogOn, OthersOn};
 ghost use Rattle.vx_logs.specs.Writes.{first_region, last_region};
 
+use crate::emptying::empty_listed;
 use vx_disk::{Shelf, ShelfError};
 use vx_group::GroupCore;
 use vx_groupmaps::miss_run;
 use vx_logs::Logs;
+use vx_model::limits::MOST_PLEXES;
 
 // Notes the regions of a run of blocks as missed by each plex of a volume; where the shelf falls in that, no map is in memory.
 fn miss_all<S: Shelf>(
@@ -50,8 +54,8 @@ fn miss_all<S: Shelf>(
 }
 
 /// Notes the regions of a run of blocks of a volume as missed by each of its plexes, where logs are not stopped: behind a write that was refused
-/// with this error any of them may have missed any of its blocks. Answers the refusal of the write, which is that the shelf is down where it
-/// fell in this.
+/// with this error any of them may have missed any of its blocks. Where the caller is sure that the plexes of a list read one value out of the run,
+/// their maps have these regions alone then. Answers the refusal of the write, which is that the shelf is down where it fell in this.
 ///
 /// All volumes read as before, and the maps in memory then know what the plexes miss, where they knew it but for this run. A log of which the disk
 /// fails is in memory no more; a later call commits that it is lost.
@@ -60,6 +64,8 @@ pub fn miss_refused<S: Shelf>(
     core: &GroupCore,
     logs: &mut Logs,
     stopped: bool,
+    sure: bool,
+    was: &[bool; MOST_PLEXES],
     vol: u32,
     block: u64,
     count: u64,
@@ -69,6 +75,8 @@ pub fn miss_refused<S: Shelf>(
     requires some { 0 < count }
     requires within { block + count ≤ blocks_of_is (wide core.now).config.volumes vol }
     requires log { stopped ≡ false → LogOn core.now vol logs.old (S.meaning shelf.old) }
+    requires has { (p : ℕ) → was_on was.now p ≡ true → HasBlock (wide core.now).config vol p 0 }
+    requires reads { stopped ≡ false → sure ≡ true → ReadsBut (wide core.now).config vol (was_on was.now) (first_region block) (last_region block count) (S.meaning shelf.old) }
     ensures stands { GroupStands core.now (S.meaning shelf.new) }
     ensures below { Goes (OnMaps (wide core.now).config vol) (S.meaning shelf.old) (S.meaning shelf.new) }
     ensures goes { Goes Nothing (inner_meaning (wide core.now) (S.meaning shelf.old)) (inner_meaning (wide core.now) (S.meaning shelf.new)) }
@@ -77,7 +85,8 @@ pub fn miss_refused<S: Shelf>(
     ensures drl { logs.new.drl ≡ logs.old.drl }
     ensures knows { stopped ≡ false → KnownBy core.now vol (or_run (first_region block) (last_region block count) none_spared) logs.old (S.meaning shelf.old) → Known core.now vol logs.new (S.meaning shelf.new) }
     ensures less { FindsFrom NoConfiguration (S.meaning shelf.old) (S.meaning shelf.new) }
-    ensures notes { MapsNote all_those (first_region block) (last_region block count) logs.old logs.new }
+    ensures notes { MapsBut (if_sure sure was.now) all_those (first_region block) (last_region block count) logs.old logs.new }
+    ensures begins { stopped ≡ false → sure ≡ true → MapsOfRun (was_on was.now) (first_region block) (last_region block count) logs.new }
     ensures drops { stopped ≡ false → LogsDrop (wide core.now).config vol logs.old logs.new (S.meaning shelf.old) (S.meaning shelf.new) }
     ensures stays { stopped ≡ true → logs.new ≡ logs.old }
     ensures same { (IsTrue (S.meaning shelf.new).down → ⊥) → result ≡ error }
@@ -86,6 +95,7 @@ pub fn miss_refused<S: Shelf>(
     if stopped {
         return said(shelf, error);
     }
+    empty_listed(shelf, core, logs, sure, was, vol);
     miss_all(shelf, core, logs, vol, block, count);
     said(shelf, error)
 }

@@ -13,7 +13,7 @@ ghost use Rattle.vx_grouplogs.specs.Marking.{MarksOnly};
 ghost use Rattle.vx_grouplogs.specs.On.{ReadsOne};
 ghost use Rattle.vx_groupmaps.specs.Knowing.{MapsNote, or_off};
 ghost use Rattle.vx_groupmaps.specs.Missing.{none_spared, or_run};
-ghost use Rattle.vx_logged.specs.Begun.{MapsBut, MapsOfRun, ReadsBut, fell_in};
+ghost use Rattle.vx_logged.specs.Begun.{MapsBut, MapsOfRun, ReadsBut, begun_in, fell_in};
 ghost use Rattle.vx_logged.specs.Behind.{AreKept, MarkedBefore, those_missing};
 ghost use Rattle.vx_logged.specs.Logged.{DropsBut, Known, KnownBy, LogOn, Narrowed, OthersOn, TrustsIn, are_off};
 ghost use Rattle.vx_logs.specs.Writes.{first_region, last_region};
@@ -51,7 +51,7 @@ fn write_first<S: Shelf>(
     ensures written { stopped.new ≡ false → OnOk result (Known core.old vol logs.old (S.meaning shelf.old) → KnownBy core.new vol (or_off (wide core.new).config vol (first_region block) (last_region block (length bytes.now / 512)) none_spared) logs.new (S.meaning shelf.new)) }
     ensures notes { MapsNote (are_off core.new vol) (first_region block) (last_region block (length bytes.now / 512)) logs.old logs.new }
     ensures missed { stopped.new ≡ false → Known core.old vol logs.old (S.meaning shelf.old) → KnownBy core.new vol (or_run (first_region block) (last_region block (length bytes.now / 512)) none_spared) logs.new (S.meaning shelf.new) }
-    ensures alike { stopped.new ≡ false → OnOk result (ReadsOne (wide core.old).config vol (S.meaning shelf.old) → ReadsBut (wide core.new).config vol (active (wide core.old).config vol) (first_region block) (last_region block (length bytes.now / 512)) (S.meaning shelf.new)) }
+    ensures alike { stopped.new ≡ false → ReadsOne (wide core.old).config vol (S.meaning shelf.old) → ReadsBut (wide core.new).config vol (active (wide core.old).config vol) (first_region block) (last_region block (length bytes.now / 512)) (S.meaning shelf.new) }
     ensures marked { stopped.new ≡ false → MarkedBefore (λ s. S.meaning s) vol block bytes.now (first_region block) (last_region block (length bytes.now / 512)) core.old core.new (S.meaning shelf.old) (S.meaning shelf.new) }
     ensures stays { stopped.old ≡ true → stopped.new ≡ true }
     ensures full { stopped.old ≡ false → stopped.new ≡ true → greatest ≤ core.old.inner.config.serial + 18 }
@@ -81,7 +81,8 @@ fn write_first<S: Shelf>(
 ///
 /// Behind it the maps in memory have of each plex each region in which it may read another value than one that is ACTIVE, where they had, also
 /// where the write is refused; what they have besides what they had are regions of the write: behind an Ok of plexes that are not ACTIVE, and
-/// behind a refusal of any, as each may have missed any block of it.
+/// behind a refusal of any, as each may have missed any block of it. Where the caller is sure that the plexes that were ACTIVE read one value in
+/// each block, the maps of those that fell have regions of the write alone, and behind a refusal so have the maps of all of them.
 pub fn write_marked<S: Shelf>(
     shelf: &mut S,
     core: &mut GroupCore,
@@ -104,8 +105,9 @@ pub fn write_marked<S: Shelf>(
     ensures others { OthersOn vol core.old core.new (S.meaning shelf.old) (S.meaning shelf.new) }
     ensures adds { MarksOnly (regions_in (blocks_of_is (wide core.old).config.volumes vol)) (first_region block) (last_region block (length bytes.now / 512)) logs.old logs.new }
     ensures maps { stopped.new ≡ false → Known core.old vol logs.old (S.meaning shelf.old) → Known core.new vol logs.new (S.meaning shelf.new) }
-    ensures notes { MapsBut (fell_in core.old core.new vol) (those_missing core.new vol result) (first_region block) (last_region block (length bytes.now / 512)) logs.old logs.new }
+    ensures notes { MapsBut (begun_in core.old core.new vol sure result) (those_missing core.new vol result) (first_region block) (last_region block (length bytes.now / 512)) logs.old logs.new }
     ensures begins { sure ≡ true → stopped.new ≡ false → OnOk result (MapsOfRun (fell_in core.old core.new vol) (first_region block) (last_region block (length bytes.now / 512)) logs.new) }
+    ensures refused { sure ≡ true → stopped.new ≡ false → IfErr result (λ e. MapsOfRun (active core.old.inner.config vol) (first_region block) (last_region block (length bytes.now / 512)) logs.new) }
     ensures marked { stopped.new ≡ false → MarkedBefore (λ s. S.meaning s) vol block bytes.now (first_region block) (last_region block (length bytes.now / 512)) core.old core.new (S.meaning shelf.old) (S.meaning shelf.new) }
     ensures stays { stopped.old ≡ true → stopped.new ≡ true }
     ensures full { stopped.old ≡ false → stopped.new ≡ true → greatest ≤ core.old.inner.config.serial + 18 }
@@ -122,7 +124,9 @@ pub fn write_marked<S: Shelf>(
     match write_first(shelf, core, logs, stopped, vol, block, bytes) {
         Ok(()) => {}
         Err(error) => {
-            return Err(miss_refused(shelf, core, logs, *stopped, vol, block, count, error));
+            return Err(miss_refused(
+                shelf, core, logs, *stopped, sure, &was, vol, block, count, error,
+            ));
         }
     }
     if *stopped {
@@ -135,6 +139,8 @@ pub fn write_marked<S: Shelf>(
             }
             Ok(())
         }
-        Err(error) => Err(miss_refused(shelf, core, logs, false, vol, block, count, error)),
+        Err(error) => Err(miss_refused(
+            shelf, core, logs, false, sure, &was, vol, block, count, error,
+        )),
     }
 }

@@ -1,6 +1,6 @@
 -- Volumes of which a crash leaves one value of each block, beside calls; and logs that begin.
 use Rattle.std.proofs.Common.{◌≡◌, ◌∙◌, inl, inr, ℕ, ◌<◌, ◌≤◌, Bool, true, false, IsTrue, Option, Some, None, List, length, refl, sym, ap, subst, arith}
-use Rattle.std.specs.Prelude.{◌&&◌, is_some, not, slice_get}
+use Rattle.std.specs.Prelude.{◌&&◌, ◌||◌, Result, Ok, Err, is_some, not, slice_get}
 use Rattle.std.proofs.Math.ListN.{set}
 use Rattle.std.proofs.lemmas.Bool.{cases_eq}
 use Rattle.std.proofs.lemmas.List.{length-set}
@@ -31,7 +31,7 @@ use Rattle.vx_volume.specs.Plexes.{active, Inside}
 use Rattle.vx_loggroup.specs.Fresh.{LogsStart, FirstLogs, FreshStands, LogsFirst}
 use Rattle.vx_loggroup.specs.LoggedVolumes.{is_alike}
 use Rattle.vx_loggroup.specs.Marks.{MarksVolume, NotesMaps, RunsMaps, region_count}
-use Rattle.vx_logged.specs.Begun.{fell_in}
+use Rattle.vx_logged.specs.Begun.{begun_in, begun_refused, fell_in}
 use Rattle.vx_logged.proofs.BeginLemmas.{but_note}
 use Rattle.vx_logged.proofs.FallenLemmas.{run_less}
 use Rattle.vx_loggroup.proofs.SetLemmas.{item_at, set_here, set_other}
@@ -227,6 +227,20 @@ lists_same fell those v n first last ls ks one = record {
 -- the same plexes fell since logs began
 pub fell_first : (c d e : GroupCore) (v : ℕ) → ((w p : ℕ) → active d.inner.config w p ≡ active c.inner.config w p) → (p : ℕ) → fell_in d e v p ≡ fell_in c e v p
 fell_first c d e v still p = ap (λ (t : Bool). t && not (active e.inner.config v p)) (still v p)
+
+-- so those whose maps a write may begin are the same
+pub begun_first : {T E : Type 0} → (c d e : GroupCore) (v : ℕ) (s : Bool) (r : Result T E) → ((w p : ℕ) → active d.inner.config w p ≡ active c.inner.config w p) → (p : ℕ) → begun_in d e v s r p ≡ begun_in c e v s r p
+begun_first c d e v s (Ok x) still p = fell_first c d e v still p
+begun_first c d e v s (Err x) still p = ap (λ (t : Bool). t || (s && active d.inner.config v p)) (fell_first c d e v still p) ∙ ap (λ (t : Bool). fell_in c e v p || (s && t)) (still v p)
+
+-- they are those of a write that is sure less often, and more
+pub begun_more : (c d : GroupCore) (v : ℕ) (s a : Bool) → (s ≡ true → a ≡ true) → (p : ℕ) → begun_refused c d v s p ≡ true → begun_refused c d v a p ≡ true
+begun_more c d v s a more p on = by s a (active c.inner.config v p) (fell_in c d v p) more on
+  where
+    by : (s a t f : Bool) → (s ≡ true → a ≡ true) → f || (s && t) ≡ true → f || (a && t) ≡ true
+    by s a t true more on = refl
+    by true a t false more on = ap (λ (x : Bool). x && t) (more refl) ∙ on
+    by false a t false more on = absurd (let clash : false ≡ true = on in cc)
 
 pub runs_same : (fell fall : ℕ → Bool) (v first last : ℕ) (ls : List Logs) → ((p : ℕ) → fell p ≡ fall p) → RunsMaps fell v first last ls → RunsMaps fall v first last ls
 runs_same fell fall v first last ls same runs = record { here = λ l is. run_less fall fell first last l (λ p on. same p ∙ on) (runs.here l is) }

@@ -1,8 +1,7 @@
 // A flush of a group with logs behind a write.
 ghost use Rattle.vx_loggroup.specs.Keeping.{LogsKeep};
 ghost use Rattle.vx_group.specs.Finds.{GroupFinds};
-ghost use Rattle.std.specs.Prelude.{◌≡◌, ◌⊎◌, ◌+◌, ◌<◌, ◌≤◌, IfErr, OnOk, true, false};
-ghost use Rattle.vx_config.specs.Table.{greatest};
+ghost use Rattle.std.specs.Prelude.{◌≡◌, ◌+◌, ◌<◌, ◌≤◌, IfErr, OnOk, true, false};
 ghost use Rattle.vx_disk.specs.Causes.{Cause};
 ghost use Rattle.vx_disk.specs.Shelf.{Flushed, Goes, Nothing};
 ghost use Rattle.vx_group.specs.Holding.{wide};
@@ -20,12 +19,12 @@ use crate::alike::{is_alike, is_sure};
 use crate::group::LoggedGroup;
 use vx_disk::{Shelf, ShelfError};
 use vx_group::GroupCore;
-use vx_logged::flush_behind;
+use vx_logged::flush_noted;
 use vx_logs::Logs;
 use vx_model::limits::MOST_VOLUMES;
 
 // Makes a volume durable behind a write of a run of its blocks, as `flush_whole` does. A plex that fails in it misses the regions of the run, and
-// where its plexes are alike no others, unless no serial is left.
+// where its plexes are alike no others.
 fn flush_run<S: Shelf>(
     shelf: &mut S,
     core: &mut GroupCore,
@@ -47,15 +46,15 @@ fn flush_run<S: Shelf>(
     ensures finds { GroupFinds core.old core.new (S.meaning shelf.old) (S.meaning shelf.new) }
     ensures marks { MarksVolume (wide core.old).config vol (first_region block) (last_region block count) logs.old.items logs.new.items }
     ensures maps { NotesMaps (fell_in core.old core.new vol) (are_off core.new vol) vol (first_region block) (last_region block count) logs.old.items logs.new.items }
-    ensures begins { is_alike_is alike.now vol ≡ true → stopped ≡ false → OnOk result (RunsMaps (fell_in core.old core.new vol) vol (first_region block) (last_region block count) logs.new.items ⊎ (greatest ≤ core.new.inner.config.serial + 9)) }
-    ensures holds { stopped ≡ false → 0 < count → OnOk result (HoldMaps (fell_in core.old core.new vol) vol (first_region block) (last_region block count) logs.new.items ⊎ (greatest ≤ core.new.inner.config.serial + 9)) }
+    ensures begins { is_alike_is alike.now vol ≡ true → stopped ≡ false → OnOk result (RunsMaps (fell_in core.old core.new vol) vol (first_region block) (last_region block count) logs.new.items) }
+    ensures holds { stopped ≡ false → 0 < count → OnOk result (HoldMaps (fell_in core.old core.new vol) vol (first_region block) (last_region block count) logs.new.items) }
     ensures trust { OnOk result (core.old.inner.committed ≡ true → core.new.inner.committed ≡ true) }
     ensures agreed { IfErr result (λ e. core.old.inner.committed ≡ true → core.new.inner.agreed ≡ true) }
     ensures cause { Cause (inner_meaning (wide core.old) (S.meaning shelf.old)) (inner_meaning (wide core.new) (S.meaning shelf.new)) vol result }
 {
     let down = shelf.is_down();
     let sure = is_sure(is_alike(alike, vol), stopped, down);
-    flush_behind(
+    flush_noted(
         shelf,
         core,
         &mut logs[vol as usize],
@@ -70,7 +69,7 @@ fn flush_run<S: Shelf>(
 impl<S: Shelf> LoggedGroup<S> {
     /// Flushes each plex that is ACTIVE, behind a write of a run of blocks of the volume, and takes marks off its log as a flush does. A plex that
     /// fails in it misses the regions of the run; and no others, where no write of the volume failed since the import. So it is while logs go
-    /// on and a serial is left.
+    /// on; where no serial is left no map of the volume is in memory then.
     pub fn flush_run(&mut self, vol: u32, block: u64, count: u64) -> Result<(), ShelfError>
         requires there { vol < (inner_meaning (wide self.old.core) (S.meaning self.old.shelf)).units }
         requires within { block + count ≤ (inner_meaning (wide self.old.core) (S.meaning self.old.shelf)).size vol }
@@ -82,8 +81,8 @@ impl<S: Shelf> LoggedGroup<S> {
         ensures loses { LosesPlexes self.old.core.inner.config self.new.core.inner.config (S.meaning self.old.shelf) (S.meaning self.new.shelf) }
         ensures marks { MarksVolume (wide self.old.core).config vol (first_region block) (last_region block count) self.old.logs.items self.new.logs.items }
         ensures maps { NotesMaps (fell_in self.old.core self.new.core vol) (are_off self.new.core vol) vol (first_region block) (last_region block count) self.old.logs.items self.new.logs.items }
-        ensures begins { is_alike_is self.old.alike vol ≡ true → self.old.stopped ≡ false → OnOk result (RunsMaps (fell_in self.old.core self.new.core vol) vol (first_region block) (last_region block count) self.new.logs.items ⊎ (greatest ≤ self.new.core.inner.config.serial + 9)) }
-        ensures holds { self.old.stopped ≡ false → 0 < count → OnOk result (HoldMaps (fell_in self.old.core self.new.core vol) vol (first_region block) (last_region block count) self.new.logs.items ⊎ (greatest ≤ self.new.core.inner.config.serial + 9)) }
+        ensures begins { is_alike_is self.old.alike vol ≡ true → self.old.stopped ≡ false → OnOk result (RunsMaps (fell_in self.old.core self.new.core vol) vol (first_region block) (last_region block count) self.new.logs.items) }
+        ensures holds { self.old.stopped ≡ false → 0 < count → OnOk result (HoldMaps (fell_in self.old.core self.new.core vol) vol (first_region block) (last_region block count) self.new.logs.items) }
         ensures trust { OnOk result (self.old.core.inner.committed ≡ true → self.new.core.inner.committed ≡ true) }
         ensures agreed { IfErr result (λ e. self.old.core.inner.committed ≡ true → self.new.core.inner.agreed ≡ true) }
         ensures finds { GroupFinds self.old.core self.new.core (S.meaning self.old.shelf) (S.meaning self.new.shelf) }

@@ -1,7 +1,7 @@
 // A group with logs as a shelf.
 ghost use Rattle.vx_loggroup.specs.Keeping.{LogsKeep, LogsKept};
 ghost use Rattle.vx_group.specs.Finds.{GroupFinds};
-ghost use Rattle.std.specs.Prelude.{◌≡◌, ◌⊎◌, ◌+◌, ◌/◌, ◌<◌, ◌≤◌, IfErr, OnOk, true, false, length};
+ghost use Rattle.std.specs.Prelude.{◌≡◌, ◌+◌, ◌/◌, ◌<◌, ◌≤◌, IfErr, IsTrue, OnOk, true, false, length};
 ghost use Rattle.vx_config.specs.Table.{greatest};
 ghost use Rattle.vx_disk.specs.Causes.{Calls, Cause, CountsOnly, Names, OnDisks, Works};
 ghost use Rattle.vx_disk.specs.Disks.{Untouched};
@@ -11,11 +11,12 @@ ghost use Rattle.vx_group.specs.Laws.{group_lawful};
 ghost use Rattle.vx_group.specs.Loses.{LosesPlexes};
 ghost use Rattle.vx_group.specs.Stands.{inner_meaning};
 ghost use Rattle.vx_loggroup.specs.LoggedVolumes.{is_alike};
-ghost use Rattle.vx_logged.specs.Begun.{fell_in};
+ghost use Rattle.vx_logged.specs.Begun.{begun_in, fell_in};
 ghost use Rattle.vx_logged.specs.Behind.{MarkedBefore, none_missing, those_missing};
 ghost use Rattle.vx_loggroup.specs.Marks.{ClearsVolume, EmptyMaps, MarksVolume, NotesMaps, RunsMaps};
 ghost use Rattle.vx_loggroup.specs.Mirrors.{MirrorsKeep, names_none};
 ghost use Rattle.vx_logs.specs.Writes.{first_region, last_region};
+ghost use Rattle.vx_volume.specs.Plexes.{active};
 
 use crate::fresh::write_fresh;
 use crate::group::LoggedGroup;
@@ -69,7 +70,8 @@ impl<S: Shelf> Shelf for LoggedGroup<S> {
 
     /// Writes to each plex that is ACTIVE; the logs of a volume begin in its first write. The regions of the run are durably marked first, and no
     /// others: as dirty, and as missed by each plex that is STALE; a log of which the disk fails is lost by a commit before a plex is written. A plex that fails in the write misses these regions too.
-    /// Behind a refusal they are noted as missed by each plex. Behind an Ok each log of the volume is in memory or held as lost, unless logs are stopped or
+    /// Behind a refusal they are noted as missed by each plex; and where no write of the volume failed before, the maps of those that were ACTIVE have no
+    /// others then. Behind an Ok each log of the volume is in memory or held as lost, unless logs are stopped or
     /// no serial is left.
     fn write(&mut self, unit: u32, block: u64, bytes: &[u8]) -> Result<(), ShelfError>
         requires { Fits (inner_meaning (wide self.old.core) (S.meaning self.old.shelf)) unit block (length bytes.now) }
@@ -84,8 +86,9 @@ impl<S: Shelf> Shelf for LoggedGroup<S> {
         ensures mirrors { MirrorsKeep names_none self.old.core self.new.core (S.meaning self.old.shelf) (S.meaning self.new.shelf) }
         ensures loses { LosesPlexes self.old.core.inner.config self.new.core.inner.config (S.meaning self.old.shelf) (S.meaning self.new.shelf) }
         ensures marks { MarksVolume (wide self.old.core).config unit (first_region block) (last_region block (length bytes.now / 512)) self.old.logs.items self.new.logs.items }
-        ensures notes { NotesMaps (fell_in self.old.core self.new.core unit) (those_missing self.new.core unit result) unit (first_region block) (last_region block (length bytes.now / 512)) self.old.logs.items self.new.logs.items }
+        ensures notes { NotesMaps (begun_in self.old.core self.new.core unit (is_alike self.old.alike unit) result) (those_missing self.new.core unit result) unit (first_region block) (last_region block (length bytes.now / 512)) self.old.logs.items self.new.logs.items }
         ensures begins { is_alike self.old.alike unit ≡ true → self.new.stopped ≡ false → OnOk result (RunsMaps (fell_in self.old.core self.new.core unit) unit (first_region block) (last_region block (length bytes.now / 512)) self.new.logs.items) }
+        ensures refused { is_alike self.old.alike unit ≡ true → self.new.stopped ≡ false → (IsTrue (S.meaning self.old.shelf).down → ⊥) → IfErr result (λ e. is_alike self.new.alike unit ≡ false → RunsMaps (active self.old.core.inner.config unit) unit (first_region block) (last_region block (length bytes.now / 512)) self.new.logs.items) }
         ensures marked { self.new.stopped ≡ false → MarkedBefore (λ s. S.meaning s) unit block bytes.now (first_region block) (last_region block (length bytes.now / 512)) self.old.core self.new.core (S.meaning self.old.shelf) (S.meaning self.new.shelf) }
         ensures full { self.old.stopped ≡ false → self.new.stopped ≡ true → greatest ≤ self.old.core.inner.config.serial + 45 }
         ensures trust { OnOk result (self.old.core.inner.committed ≡ true → self.new.core.inner.committed ≡ true) }
@@ -119,7 +122,7 @@ impl<S: Shelf> Shelf for LoggedGroup<S> {
         ensures loses { LosesPlexes self.old.core.inner.config self.new.core.inner.config (S.meaning self.old.shelf) (S.meaning self.new.shelf) }
         ensures marks { ClearsVolume (wide self.old.core).config unit self.old.logs.items self.new.logs.items }
         ensures maps { NotesMaps (fell_in self.old.core self.new.core unit) none_missing unit 0 0 self.old.logs.items self.new.logs.items }
-        ensures begins { is_alike self.old.alike unit ≡ true → self.old.stopped ≡ false → OnOk result (EmptyMaps (fell_in self.old.core self.new.core unit) unit self.new.logs.items ⊎ (greatest ≤ self.new.core.inner.config.serial + 9)) }
+        ensures begins { is_alike self.old.alike unit ≡ true → self.old.stopped ≡ false → OnOk result (EmptyMaps (fell_in self.old.core self.new.core unit) unit self.new.logs.items) }
         ensures trust { OnOk result (self.old.core.inner.committed ≡ true → self.new.core.inner.committed ≡ true) }
         ensures agreed { IfErr result (λ e. self.old.core.inner.committed ≡ true → self.new.core.inner.agreed ≡ true) }
         ensures finds { GroupFinds self.old.core self.new.core (S.meaning self.old.shelf) (S.meaning self.new.shelf) }

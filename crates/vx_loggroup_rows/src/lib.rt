@@ -8,4 +8,6 @@ mod misses;
 #[cfg(test)]
 mod recovers;
 #[cfg(test)]
+mod refuses;
+#[cfg(test)]
 mod returned;

@@ -109,7 +109,7 @@ pub fn att(group: &mut LoggedGroup<Disks>, plex: u32) -> Option<u64> {
 }
 
 // Whether a plex of the volume is ACTIVE.
-fn is_active(config: &Config, plex: usize) -> bool {
+pub fn is_active(config: &Config, plex: usize) -> bool {
     match config.volumes.as_slice().get(0) {
         Some(volume) => match volume.plexes.as_slice().get(plex) {
             Some(entry) => entry.state == PlexState::Active,

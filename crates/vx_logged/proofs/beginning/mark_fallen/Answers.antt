@@ -1,5 +1,5 @@
 -- `mark_fallen`: what its calls ask; its clauses.
-use Rattle.std.proofs.Common.{◌≡◌, ◌∙◌, ◌<◌, Bool, true, false, refl, sym, ap, subst, arith}
+use Rattle.std.proofs.Common.{◌≡◌, ◌∙◌, ◌<◌, Bool, true, false, IsTrue, refl, sym, ap, subst, arith}
 use Rattle.vx_config.specs.Checks.{blocks_of}
 use Rattle.vx_config.specs.declared.config.Config.{Config}
 use Rattle.vx_disk.specs.Shelf.{Nothing}
@@ -18,6 +18,7 @@ use Rattle.vx_model.specs.Sizes.{regions_of as regions_in}
 use Rattle.vx_logged.specs.Begun.{but_run, fell_now, was_on}
 use Rattle.vx_logged.specs.Logged.{are_off}
 use Rattle.vx_logged.proofs.BeginLemmas.{but_any, but_more, but_note, but_then, plexes_each}
+use Rattle.vx_logged.proofs.EmptyLemmas.{plexes_maps}
 use Rattle.vx_logged.proofs.FallenLemmas.{adds_before, cause_from, clear_off, clear_run, fell_same, off_more, off_run, there_still}
 use Rattle.vx_logged.proofs.GoneLogs.{trusts_in, trusts_then}
 use Rattle.vx_logged.proofs.StandLemmas.{config_is, if_ok_any, narrowed_then, others_each, others_then, same_only}
@@ -167,3 +168,16 @@ returns-clause-finds g c = then_group c.args.core.now c.ready_group.new.core c.m
 
 pub returns-clause-cause : goal.returns-clause-cause
 returns-clause-cause g c = cause_from (inner_meaning (wide c.args.core.now) (g.S.Shelf.meaning c.args.shelf.now)) (inner_meaning (wide c.ready_group.new.core) (g.S.Shelf.meaning c.begin_fallen.new.shelf)) (inner_meaning (wide c.mark_group.new.core) (g.S.Shelf.meaning c.mark_group.new.shelf)) c.args.vol c.mark_group.result (then_nothing Nothing (inner_meaning (wide c.args.core.now) (g.S.Shelf.meaning c.args.shelf.now)) (inner_meaning (wide c.ready_group.new.core) (g.S.Shelf.meaning c.ready_group.new.shelf)) (inner_meaning (wide c.ready_group.new.core) (g.S.Shelf.meaning c.begin_fallen.new.shelf)) c.ready_group.ensures.goes c.begin_fallen.ensures.goes).falls (then_nothing Nothing (inner_meaning (wide c.args.core.now) (g.S.Shelf.meaning c.args.shelf.now)) (inner_meaning (wide c.ready_group.new.core) (g.S.Shelf.meaning c.ready_group.new.shelf)) (inner_meaning (wide c.ready_group.new.core) (g.S.Shelf.meaning c.begin_fallen.new.shelf)) c.ready_group.ensures.goes c.begin_fallen.ensures.goes).faults (then_nothing Nothing (inner_meaning (wide c.args.core.now) (g.S.Shelf.meaning c.args.shelf.now)) (inner_meaning (wide c.ready_group.new.core) (g.S.Shelf.meaning c.ready_group.new.shelf)) (inner_meaning (wide c.ready_group.new.core) (g.S.Shelf.meaning c.begin_fallen.new.shelf)) c.ready_group.ensures.goes c.begin_fallen.ensures.goes).disk_faults c.mark_group.ensures.cause
+
+pub returns-in-Err-clause-plexes : goal.returns-in-Err-clause-plexes
+returns-in-Err-clause-plexes g c = λ missed up know. plexes_each c.args.core.now c.ready_group.new.core c.args.vol (g.S.Shelf.meaning c.args.shelf.now) (g.S.Shelf.meaning c.ready_group.new.shelf) c.ready_group.ensures.logs missed up know
+
+pub returns-then-not-ready-clause-plexes : goal.returns-then-not-ready-clause-plexes
+returns-then-not-ready-clause-plexes g c = λ missed up know. plexes_each c.args.core.now c.ready_group.new.core c.args.vol (g.S.Shelf.meaning c.args.shelf.now) (g.S.Shelf.meaning c.ready_group.new.shelf) c.ready_group.ensures.logs missed up know
+
+pub returns-clause-plexes : goal.returns-clause-plexes
+returns-clause-plexes g c = λ missed up know.
+    let mid : IsTrue (g.S.Shelf.meaning c.begin_fallen.new.shelf).down → ⊥ = λ down. up (c.mark_group.ensures.goes.falls down) in
+    c.mark_group.ensures.plexes missed up
+    (plexes_maps c.ready_group.new.core c.args.vol (g.S.Shelf.meaning c.ready_group.new.shelf) (g.S.Shelf.meaning c.begin_fallen.new.shelf) (c.in-Ok.ensures.none c.if-not-ready.false) c.ready_group.ensures.stands c.begin_fallen.ensures.below missed mid
+    (plexes_each c.args.core.now c.ready_group.new.core c.args.vol (g.S.Shelf.meaning c.args.shelf.now) (g.S.Shelf.meaning c.ready_group.new.shelf) c.ready_group.ensures.logs missed (λ down. mid (c.begin_fallen.ensures.below.falls down)) know))

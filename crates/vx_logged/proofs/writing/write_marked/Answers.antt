@@ -6,16 +6,17 @@ use Rattle.vx_disk.proofs.Causing.{Cause_both}
 use Rattle.vx_disk.proofs.Runs.{then_nothing}
 use Rattle.vx_group.specs.Holding.{wide}
 use Rattle.vx_group.specs.Stands.{inner_meaning}
-use Rattle.vx_groupmaps.proofs.KnowLemmas.{note_more, note_then}
+use Rattle.vx_groupmaps.proofs.KnowLemmas.{note_more}
 use Rattle.vx_logs.specs.Writes.{first_region, last_region}
 use Rattle.vx_model.specs.Sizes.{regions_of as regions_in}
 use Rattle.vx_group.proofs.HoldLemmas.{narrow_sound, narrow_wider}
 use Rattle.vx_volume.specs.Plexes.{active}
 use Rattle.vx_volume.proofs.PlaceLemmas.{active_few}
-use Rattle.vx_logged.specs.Begun.{fell_in, fell_now, was_on}
+use Rattle.vx_logged.specs.Begun.{begun_refused, but_run, fell_in, fell_now, if_sure, was_on}
 use Rattle.vx_logged.specs.Behind.{all_those}
 use Rattle.vx_logged.specs.Logged.{are_off}
 use Rattle.vx_logged.proofs.BeginLemmas.{but_less, but_more, but_none, but_note, but_then}
+use Rattle.vx_logged.proofs.EmptyLemmas.{fell_begun, sure_begun}
 use Rattle.vx_logged.proofs.FallenLemmas.{fell_all, fell_some, run_less, run_none, was_there}
 use Rattle.vx_logged.proofs.MissLemmas.{more_off}
 use Rattle.vx_logged.proofs.RefuseLemmas.{cause_refused, marks_later, only_same, those_any}
@@ -228,10 +229,25 @@ pub mark_fallen-requires-clause-has : goal.mark_fallen-requires-clause-has
 mark_fallen-requires-clause-has g c = λ p on. was_there c.args.core.now c.write_first.new.core c.args.vol p (g.S.Shelf.meaning c.args.shelf.now) c.requires.stands c.write_first.ensures.narrow (record { volume = c.requires.fits.exists; within = omega (arith, c.requires.fits.some, c.requires.fits.whole, c.requires.fits.within) }) (c.actives-was.ensures.some p on)
 
 pub mark_fallen-requires-clause-reads : goal.mark_fallen-requires-clause-reads
-mark_fallen-requires-clause-reads g c = λ is. but_less (wide c.write_first.new.core).config c.args.vol (first_region c.args.block) (last_region c.args.block (length c.args.bytes.now / 512)) (was_on c.actives-was.result) (active (wide c.args.core.now).config c.args.vol) (g.S.Shelf.meaning c.write_first.new.shelf) (λ p on. narrow_wider c.args.core.now (g.S.Shelf.meaning c.args.shelf.now) c.requires.stands c.args.vol p (c.actives-was.ensures.some p on)) (c.in-Ok.ensures.alike c.if-stopped.false (c.requires.one is))
+mark_fallen-requires-clause-reads g c = λ is. but_less (wide c.write_first.new.core).config c.args.vol (first_region c.args.block) (last_region c.args.block (length c.args.bytes.now / 512)) (was_on c.actives-was.result) (active (wide c.args.core.now).config c.args.vol) (g.S.Shelf.meaning c.write_first.new.shelf) (λ p on. narrow_wider c.args.core.now (g.S.Shelf.meaning c.args.shelf.now) c.requires.stands c.args.vol p (c.actives-was.ensures.some p on)) (c.write_first.ensures.alike c.if-stopped.false (c.requires.one is))
+
+pub miss_refused-requires-clause-has : goal.miss_refused-requires-clause-has
+miss_refused-requires-clause-has g c = λ p on. was_there c.args.core.now c.write_first.new.core c.args.vol p (g.S.Shelf.meaning c.args.shelf.now) c.requires.stands c.write_first.ensures.narrow (record { volume = c.requires.fits.exists; within = omega (arith, c.requires.fits.some, c.requires.fits.whole, c.requires.fits.within) }) (c.actives-was.ensures.some p on)
+
+pub miss_refused-requires-clause-reads : goal.miss_refused-requires-clause-reads
+miss_refused-requires-clause-reads g c = λ off is. but_less (wide c.write_first.new.core).config c.args.vol (first_region c.args.block) (last_region c.args.block (length c.args.bytes.now / 512)) (was_on c.actives-was.result) (active (wide c.args.core.now).config c.args.vol) (g.S.Shelf.meaning c.write_first.new.shelf) (λ p on. narrow_wider c.args.core.now (g.S.Shelf.meaning c.args.shelf.now) c.requires.stands c.args.vol p (c.actives-was.ensures.some p on)) (c.write_first.ensures.alike off (c.requires.one is))
+
+pub miss_refused-requires-in-Err-mark_fallen-clause-has : goal.miss_refused-requires-in-Err-mark_fallen-clause-has
+miss_refused-requires-in-Err-mark_fallen-clause-has g c = λ p on. was_there c.args.core.now c.mark_fallen.new.core c.args.vol p (g.S.Shelf.meaning c.args.shelf.now) c.requires.stands (narrowed_then c.args.core.now c.write_first.new.core c.mark_fallen.new.core c.write_first.ensures.narrow c.mark_fallen.ensures.narrow) (record { volume = c.requires.fits.exists; within = omega (arith, c.requires.fits.some, c.requires.fits.whole, c.requires.fits.within) }) (c.actives-was.ensures.some p on)
+
+pub miss_refused-requires-in-Err-mark_fallen-clause-reads : goal.miss_refused-requires-in-Err-mark_fallen-clause-reads
+miss_refused-requires-in-Err-mark_fallen-clause-reads g c = λ off is. record {
+  so = λ up. c.mark_fallen.ensures.plexes (but_run (was_on c.actives-was.result) (first_region c.args.block) (last_region c.args.block (length c.args.bytes.now / 512))) up ((but_less (wide c.write_first.new.core).config c.args.vol (first_region c.args.block) (last_region c.args.block (length c.args.bytes.now / 512)) (was_on c.actives-was.result) (active (wide c.args.core.now).config c.args.vol) (g.S.Shelf.meaning c.write_first.new.shelf) (λ p on. narrow_wider c.args.core.now (g.S.Shelf.meaning c.args.shelf.now) c.requires.stands c.args.vol p (c.actives-was.ensures.some p on)) (c.write_first.ensures.alike c.if-stopped.false (c.requires.one is))).so (λ down. up (c.mark_fallen.ensures.goes.falls down)));
+}
 
 pub returns-in-Err-clause-notes : goal.returns-in-Err-clause-notes
-returns-in-Err-clause-notes g c = but_note (fell_in c.args.core.now c.write_first.new.core c.args.vol) all_those (first_region c.args.block) (last_region c.args.block (length c.args.bytes.now / 512)) c.args.logs.now c.miss_refused.new.logs (note_then all_those (first_region c.args.block) (last_region c.args.block (length c.args.bytes.now / 512)) c.args.logs.now c.write_first.new.logs c.miss_refused.new.logs (those_any (are_off c.write_first.new.core c.args.vol) (first_region c.args.block) (last_region c.args.block (length c.args.bytes.now / 512)) c.args.logs.now c.write_first.new.logs c.write_first.ensures.notes) c.miss_refused.ensures.notes)
+returns-in-Err-clause-notes g c = but_then (begun_refused c.args.core.now c.write_first.new.core c.args.vol c.args.sure) all_those (first_region c.args.block) (last_region c.args.block (length c.args.bytes.now / 512)) c.args.logs.now c.write_first.new.logs c.miss_refused.new.logs (but_note (begun_refused c.args.core.now c.write_first.new.core c.args.vol c.args.sure) all_those (first_region c.args.block) (last_region c.args.block (length c.args.bytes.now / 512)) c.args.logs.now c.write_first.new.logs (those_any (are_off c.write_first.new.core c.args.vol) (first_region c.args.block) (last_region c.args.block (length c.args.bytes.now / 512)) c.args.logs.now c.write_first.new.logs c.write_first.ensures.notes))
+    (but_more (if_sure c.args.sure c.actives-was.result) (begun_refused c.args.core.now c.write_first.new.core c.args.vol c.args.sure) all_those all_those (first_region c.args.block) (last_region c.args.block (length c.args.bytes.now / 512)) c.write_first.new.logs c.miss_refused.new.logs (λ p on. sure_begun c.args.core.now c.write_first.new.core c.args.vol c.args.sure c.actives-was.result c.actives-was.ensures.some p on) (λ p on. on) c.miss_refused.ensures.notes)
 
 pub returns-then-stopped-clause-notes : goal.returns-then-stopped-clause-notes
 returns-then-stopped-clause-notes g c = but_note (fell_in c.args.core.now c.write_first.new.core c.args.vol) (are_off c.write_first.new.core c.args.vol) (first_region c.args.block) (last_region c.args.block (length c.args.bytes.now / 512)) c.args.logs.now c.write_first.new.logs c.write_first.ensures.notes
@@ -245,10 +261,10 @@ returns-else-not-done-clause-notes g c = but_then (fell_in c.args.core.now c.mar
     (but_more (fell_now c.actives-was.result c.mark_fallen.new.core c.args.vol) (fell_in c.args.core.now c.mark_fallen.new.core c.args.vol) (are_off c.mark_fallen.new.core c.args.vol) (are_off c.mark_fallen.new.core c.args.vol) (first_region c.args.block) (last_region c.args.block (length c.args.bytes.now / 512)) c.write_first.new.logs c.mark_fallen.new.logs (fell_some c.args.core.now c.mark_fallen.new.core c.args.vol c.actives-was.result c.actives-was.ensures.some) (λ p is. is) c.mark_fallen.ensures.notes)
 
 pub returns-in-Err-mark_fallen-clause-notes : goal.returns-in-Err-mark_fallen-clause-notes
-returns-in-Err-mark_fallen-clause-notes g c = but_then (fell_in c.args.core.now c.mark_fallen.new.core c.args.vol) all_those (first_region c.args.block) (last_region c.args.block (length c.args.bytes.now / 512)) c.args.logs.now c.mark_fallen.new.logs c.miss_refused-in-Err-mark_fallen.new.logs
-    (but_then (fell_in c.args.core.now c.mark_fallen.new.core c.args.vol) all_those (first_region c.args.block) (last_region c.args.block (length c.args.bytes.now / 512)) c.args.logs.now c.write_first.new.logs c.mark_fallen.new.logs (but_note (fell_in c.args.core.now c.mark_fallen.new.core c.args.vol) all_those (first_region c.args.block) (last_region c.args.block (length c.args.bytes.now / 512)) c.args.logs.now c.write_first.new.logs (those_any (are_off c.write_first.new.core c.args.vol) (first_region c.args.block) (last_region c.args.block (length c.args.bytes.now / 512)) c.args.logs.now c.write_first.new.logs c.write_first.ensures.notes))
-    (but_more (fell_now c.actives-was.result c.mark_fallen.new.core c.args.vol) (fell_in c.args.core.now c.mark_fallen.new.core c.args.vol) (are_off c.mark_fallen.new.core c.args.vol) all_those (first_region c.args.block) (last_region c.args.block (length c.args.bytes.now / 512)) c.write_first.new.logs c.mark_fallen.new.logs (fell_some c.args.core.now c.mark_fallen.new.core c.args.vol c.actives-was.result c.actives-was.ensures.some) (λ p is. refl) c.mark_fallen.ensures.notes))
-    (but_note (fell_in c.args.core.now c.mark_fallen.new.core c.args.vol) all_those (first_region c.args.block) (last_region c.args.block (length c.args.bytes.now / 512)) c.mark_fallen.new.logs c.miss_refused-in-Err-mark_fallen.new.logs c.miss_refused-in-Err-mark_fallen.ensures.notes)
+returns-in-Err-mark_fallen-clause-notes g c = but_then (begun_refused c.args.core.now c.mark_fallen.new.core c.args.vol c.args.sure) all_those (first_region c.args.block) (last_region c.args.block (length c.args.bytes.now / 512)) c.args.logs.now c.mark_fallen.new.logs c.miss_refused-in-Err-mark_fallen.new.logs
+    (but_then (begun_refused c.args.core.now c.mark_fallen.new.core c.args.vol c.args.sure) all_those (first_region c.args.block) (last_region c.args.block (length c.args.bytes.now / 512)) c.args.logs.now c.write_first.new.logs c.mark_fallen.new.logs (but_note (begun_refused c.args.core.now c.mark_fallen.new.core c.args.vol c.args.sure) all_those (first_region c.args.block) (last_region c.args.block (length c.args.bytes.now / 512)) c.args.logs.now c.write_first.new.logs (those_any (are_off c.write_first.new.core c.args.vol) (first_region c.args.block) (last_region c.args.block (length c.args.bytes.now / 512)) c.args.logs.now c.write_first.new.logs c.write_first.ensures.notes))
+    (but_more (fell_now c.actives-was.result c.mark_fallen.new.core c.args.vol) (begun_refused c.args.core.now c.mark_fallen.new.core c.args.vol c.args.sure) (are_off c.mark_fallen.new.core c.args.vol) all_those (first_region c.args.block) (last_region c.args.block (length c.args.bytes.now / 512)) c.write_first.new.logs c.mark_fallen.new.logs (λ p on. fell_begun c.args.core.now c.mark_fallen.new.core c.args.vol c.args.sure p (fell_some c.args.core.now c.mark_fallen.new.core c.args.vol c.actives-was.result c.actives-was.ensures.some p on)) (λ p is. refl) c.mark_fallen.ensures.notes))
+    (but_more (if_sure c.args.sure c.actives-was.result) (begun_refused c.args.core.now c.mark_fallen.new.core c.args.vol c.args.sure) all_those all_those (first_region c.args.block) (last_region c.args.block (length c.args.bytes.now / 512)) c.mark_fallen.new.logs c.miss_refused-in-Err-mark_fallen.new.logs (λ p on. sure_begun c.args.core.now c.mark_fallen.new.core c.args.vol c.args.sure c.actives-was.result c.actives-was.ensures.some p on) (λ p on. on) c.miss_refused-in-Err-mark_fallen.ensures.notes)
 
 pub returns-in-Err-mark_fallen-clause-maps : goal.returns-in-Err-mark_fallen-clause-maps
 returns-in-Err-mark_fallen-clause-maps g c = λ off know. c.miss_refused-in-Err-mark_fallen.ensures.knows refl (c.mark_fallen.ensures.maps (c.write_first.ensures.missed off know))
@@ -272,3 +288,18 @@ pub returns-else-not-done-clause-begins : goal.returns-else-not-done-clause-begi
 returns-else-not-done-clause-begins g c = λ is off. run_less (fell_in c.args.core.now c.mark_fallen.new.core c.args.vol) (fell_now c.actives-was.result c.mark_fallen.new.core c.args.vol) (first_region c.args.block) (last_region c.args.block (length c.args.bytes.now / 512)) c.mark_fallen.new.logs
     (fell_all c.args.core.now c.mark_fallen.new.core c.args.vol c.actives-was.result (λ p on. c.actives-was.ensures.all p (active_few c.args.core.now.inner.config (narrow_sound c.args.core.now (g.S.Shelf.meaning c.args.shelf.now) c.requires.stands) c.args.vol p on) on))
     (c.in-Ok-mark_fallen.ensures.begins is c.if-not-done.false)
+
+pub returns-in-Err-clause-refused : goal.returns-in-Err-clause-refused
+returns-in-Err-clause-refused g c = λ is off. run_less (active c.args.core.now.inner.config c.args.vol) (was_on c.actives-was.result) (first_region c.args.block) (last_region c.args.block (length c.args.bytes.now / 512)) c.miss_refused.new.logs (λ p on. c.actives-was.ensures.all p (active_few c.args.core.now.inner.config (narrow_sound c.args.core.now (g.S.Shelf.meaning c.args.shelf.now) c.requires.stands) c.args.vol p on) on) (c.miss_refused.ensures.begins off is)
+
+pub returns-in-Err-mark_fallen-clause-refused : goal.returns-in-Err-mark_fallen-clause-refused
+returns-in-Err-mark_fallen-clause-refused g c = λ is off. run_less (active c.args.core.now.inner.config c.args.vol) (was_on c.actives-was.result) (first_region c.args.block) (last_region c.args.block (length c.args.bytes.now / 512)) c.miss_refused-in-Err-mark_fallen.new.logs (λ p on. c.actives-was.ensures.all p (active_few c.args.core.now.inner.config (narrow_sound c.args.core.now (g.S.Shelf.meaning c.args.shelf.now) c.requires.stands) c.args.vol p on) on) (c.miss_refused-in-Err-mark_fallen.ensures.begins refl is)
+
+pub returns-then-stopped-clause-refused : goal.returns-then-stopped-clause-refused
+returns-then-stopped-clause-refused g c = λ is off. tt
+
+pub returns-then-not-done-clause-refused : goal.returns-then-not-done-clause-refused
+returns-then-not-done-clause-refused g c = λ is off. tt
+
+pub returns-else-not-done-clause-refused : goal.returns-else-not-done-clause-refused
+returns-else-not-done-clause-refused g c = λ is off. tt

@@ -9,13 +9,14 @@ use Rattle.vx_group.proofs.CallLemmas.{nothing_Wrote}
 use Rattle.vx_group.proofs.HoldLemmas.{wide_shape}
 use Rattle.vx_group.proofs.LoseLemmas.{then_along}
 use Rattle.vx_group.proofs.TrustLemmas.{err_from, ok_from}
+use Rattle.vx_volume.specs.Plexes.{active}
 use Rattle.vx_logs.specs.Writes.{first_region, last_region}
 use Rattle.vx_logged.specs.Behind.{those_missing}
 use Rattle.vx_logged.proofs.RefuseLemmas.{marks_sooner}
 use Rattle.vx_logged.proofs.StandLemmas.{fits_later}
-use Rattle.vx_loggroup.specs.LoggedVolumes.{LoggedStands}
-use Rattle.vx_loggroup.proofs.FreshLemmas.{begins_stale, fresh_goes, fresh_still, fresh_taken, lists_marks, lists_notes, lists_only, lists_same, fell_first, runs_same}
-use Rattle.vx_logged.specs.Begun.{fell_in}
+use Rattle.vx_loggroup.specs.LoggedVolumes.{LoggedStands, is_alike}
+use Rattle.vx_loggroup.proofs.FreshLemmas.{begins_stale, begun_first, fresh_goes, fresh_still, fresh_taken, lists_marks, lists_notes, lists_only, lists_same, fell_first, runs_same}
+use Rattle.vx_logged.specs.Begun.{begun_in, fell_in}
 use Rattle.vx_group.proofs.FindingLemmas.{then_group}
 use Rattle.vx_loggroup.proofs.KeepingLemmas.{frames_places, stay_keeps, then_keeps}
 use Rattle.vx_loggroup.proofs.KeepingCalls.{begins_stay}
@@ -86,7 +87,7 @@ pub returns-clause-marks : goal.returns-clause-marks
 returns-clause-marks g c = lists_marks (wide c.args.core.now).config (wide c.begin_first.new.core).config c.args.vol (first_region c.args.block) (last_region c.args.block (length c.args.bytes.now / 512)) c.args.logs.now.items c.begin_first.new.logs.items c.write_whole-2.new.logs.items (c.begin_first.ensures.begins.goes.size c.args.vol) c.begin_first.ensures.first c.write_whole-2.ensures.marks
 
 pub returns-clause-notes : goal.returns-clause-notes
-returns-clause-notes g c = lists_notes (fell_in c.begin_first.new.core c.write_whole-2.new.core c.args.vol) (fell_in c.args.core.now c.write_whole-2.new.core c.args.vol) (those_missing c.write_whole-2.new.core c.args.vol c.write_whole-2.result) c.args.vol _ (first_region c.args.block) (last_region c.args.block (length c.args.bytes.now / 512)) c.args.logs.now.items c.begin_first.new.logs.items c.write_whole-2.new.logs.items (fell_first c.args.core.now c.begin_first.new.core c.write_whole-2.new.core c.args.vol c.begin_first.ensures.begins.still) c.begin_first.ensures.first c.write_whole-2.ensures.notes
+returns-clause-notes g c = lists_notes (begun_in c.begin_first.new.core c.write_whole-2.new.core c.args.vol (is_alike c.args.alike.now c.args.vol) c.write_whole-2.result) (begun_in c.args.core.now c.write_whole-2.new.core c.args.vol (is_alike c.args.alike.now c.args.vol) c.write_whole-2.result) (those_missing c.write_whole-2.new.core c.args.vol c.write_whole-2.result) c.args.vol _ (first_region c.args.block) (last_region c.args.block (length c.args.bytes.now / 512)) c.args.logs.now.items c.begin_first.new.logs.items c.write_whole-2.new.logs.items (begun_first c.args.core.now c.begin_first.new.core c.write_whole-2.new.core c.args.vol (is_alike c.args.alike.now c.args.vol) c.write_whole-2.result c.begin_first.ensures.begins.still) c.begin_first.ensures.first c.write_whole-2.ensures.notes
 
 pub returns-clause-marked : goal.returns-clause-marked
 returns-clause-marked g c = λ off. marks_sooner (λ s. g.S.Shelf.meaning s) c.args.vol c.args.block c.args.bytes.now (first_region c.args.block) (last_region c.args.block (length c.args.bytes.now / 512)) c.args.core.now c.begin_first.new.core c.write_whole-2.new.core (g.S.Shelf.meaning c.args.shelf.now) (g.S.Shelf.meaning c.begin_first.new.shelf) (g.S.Shelf.meaning c.write_whole-2.new.shelf) c.begin_first.ensures.begins.goes
@@ -134,3 +135,12 @@ returns-in-Err-clause-begins g c = λ alike going. tt
 
 pub returns-clause-begins : goal.returns-clause-begins
 returns-clause-begins g c = λ alike going. ok_from c.write_whole-2.result (λ runs. runs_same (fell_in c.begin_first.new.core c.write_whole-2.new.core c.args.vol) (fell_in c.args.core.now c.write_whole-2.new.core c.args.vol) c.args.vol (first_region c.args.block) (last_region c.args.block (length c.args.bytes.now / 512)) c.write_whole-2.new.logs.items (fell_first c.args.core.now c.begin_first.new.core c.write_whole-2.new.core c.args.vol c.begin_first.ensures.begins.still) runs) (c.write_whole-2.ensures.begins alike going)
+
+pub returns-then-not-takes_fresh-clause-refused : goal.returns-then-not-takes_fresh-clause-refused
+returns-then-not-takes_fresh-clause-refused g c = c.write_whole.ensures.refused
+
+pub returns-in-Err-clause-refused : goal.returns-in-Err-clause-refused
+returns-in-Err-clause-refused g c = λ alike going up off. absurd (let clash : true ≡ false = sym alike ∙ off in cc)
+
+pub returns-clause-refused : goal.returns-clause-refused
+returns-clause-refused g c = λ alike going up. err_from c.write_whole-2.result (λ runs off. runs_same (active c.begin_first.new.core.inner.config c.args.vol) (active c.args.core.now.inner.config c.args.vol) c.args.vol (first_region c.args.block) (last_region c.args.block (length c.args.bytes.now / 512)) c.write_whole-2.new.logs.items (c.begin_first.ensures.begins.still c.args.vol) (runs off)) (c.write_whole-2.ensures.refused alike going c.in-Ok.ensures.cause.after)

@@ -5,9 +5,13 @@ use Rattle.vx_group.specs.Holding.{wide}
 use Rattle.vx_logs.specs.Writes.{first_region, last_region}
 use Rattle.vx_loggroup.proofs.AlikeLemmas.{going_back, index_low, marks_set, notes_set, reads_wrote, set_stands, runs_set, up_false}
 use Rattle.vx_group.proofs.CallLemmas.{not_down}
-use Rattle.vx_logged.specs.Begun.{fell_in}
+use Rattle.vx_logged.specs.Begun.{begun_refused, fell_in}
 use Rattle.vx_logged.specs.Behind.{all_those}
 use Rattle.vx_logged.specs.Logged.{are_off}
+use Rattle.vx_logged.proofs.BeginLemmas.{but_more}
+use Rattle.vx_loggroup.specs.LoggedVolumes.{is_alike}
+use Rattle.vx_loggroup.proofs.FreshLemmas.{begun_more}
+use Rattle.vx_volume.specs.Plexes.{active}
 use Rattle.vx_loggroup.proofs.SetLemmas.{item_of}
 use Rattle.vx_loggroup.proofs.KeepingLemmas.{kept_set}
 use Rattle.vx_loggroup.proofs.KeepingCalls.{marked_keeps}
@@ -53,7 +57,9 @@ pub returns-in-Ok-clause-marked : goal.returns-in-Ok-clause-marked
 returns-in-Ok-clause-marked g c = c.write_marked.ensures.marked
 
 pub returns-in-Err-clause-notes : goal.returns-in-Err-clause-notes
-returns-in-Err-clause-notes g c = notes_set (fell_in c.args.core.now c.write_marked.new.core c.args.vol) all_those c.args.vol (first_region c.args.block) (last_region c.args.block (length c.args.bytes.now / 512)) c.args.logs.now.items c.index_mut.result.now c.write_marked.new.logs (item_of c.args.logs.now.items c.args.vol c.index_mut.result.now c.index_mut.ensures.value (index_low c.args.core.now c.args.logs.now.items c.args.alike.now c.args.stopped.now (g.S.Shelf.meaning c.args.shelf.now) c.args.vol c.requires.stands c.requires.fits.exists)) c.in-Err.ensures.notes
+returns-in-Err-clause-notes g c = notes_set (begun_refused c.args.core.now c.write_marked.new.core c.args.vol (is_alike c.args.alike.now c.args.vol)) all_those c.args.vol (first_region c.args.block) (last_region c.args.block (length c.args.bytes.now / 512)) c.args.logs.now.items c.index_mut.result.now c.write_marked.new.logs (item_of c.args.logs.now.items c.args.vol c.index_mut.result.now c.index_mut.ensures.value (index_low c.args.core.now c.args.logs.now.items c.args.alike.now c.args.stopped.now (g.S.Shelf.meaning c.args.shelf.now) c.args.vol c.requires.stands c.requires.fits.exists))
+    (but_more (begun_refused c.args.core.now c.write_marked.new.core c.args.vol c.is_sure-sure.result) (begun_refused c.args.core.now c.write_marked.new.core c.args.vol (is_alike c.args.alike.now c.args.vol)) all_those all_those (first_region c.args.block) (last_region c.args.block (length c.args.bytes.now / 512)) c.index_mut.result.now c.write_marked.new.logs
+    (λ p on. begun_more c.args.core.now c.write_marked.new.core c.args.vol c.is_sure-sure.result (is_alike c.args.alike.now c.args.vol) (λ is. sym c.is_alike.ensures ∙ c.is_sure-sure.ensures.alike is) p on) (λ p on. on) c.in-Err.ensures.notes)
 
 pub returns-in-Err-clause-marked : goal.returns-in-Err-clause-marked
 returns-in-Err-clause-marked g c = c.write_marked.ensures.marked
@@ -77,3 +83,10 @@ returns-in-Ok-clause-begins g c = λ alike going. runs_set (fell_in c.args.core.
 
 pub returns-in-Err-clause-begins : goal.returns-in-Err-clause-begins
 returns-in-Err-clause-begins g c = λ alike going. tt
+
+pub returns-in-Ok-clause-refused : goal.returns-in-Ok-clause-refused
+returns-in-Ok-clause-refused g c = λ alike going up. tt
+
+pub returns-in-Err-clause-refused : goal.returns-in-Err-clause-refused
+returns-in-Err-clause-refused g c = λ alike going up off. runs_set (active c.args.core.now.inner.config c.args.vol) c.args.vol (first_region c.args.block) (last_region c.args.block (length c.args.bytes.now / 512)) c.args.logs.now.items c.write_marked.new.logs
+    (c.in-Err.ensures.refused (c.is_sure-sure.ensures.all (c.is_alike.ensures ∙ alike) (going_back c.args.stopped.now c.write_marked.new.stopped c.write_marked.ensures.stays going) (c.is_down-down.ensures ∙ up_false (g.S.Shelf.meaning c.args.shelf.now).down up)) going)

@@ -24,3 +24,6 @@ returns-clause-keeps g c = c.write_fresh.ensures.keeps
 
 pub returns-clause-kept : goal.returns-clause-kept
 returns-clause-kept g c = c.write_fresh.ensures.kept
+
+pub returns-clause-refused : goal.returns-clause-refused
+returns-clause-refused g c = c.write_fresh.ensures.refused
