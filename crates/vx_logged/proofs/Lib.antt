@@ -8,3 +8,4 @@ pub mod FallenLemmas
 pub mod HoldsLemmas
 pub mod SpentLemmas
 pub mod EmptyLemmas
+pub mod CopyLemmas

@@ -3,3 +3,4 @@ pub mod Tells
 pub mod Behind
 pub mod Begun
 pub mod Holds
+pub mod Copied

@@ -28,3 +28,4 @@ pub mod HeldMaps
 pub mod MirrorLemmas
 pub mod KeepingLemmas
 pub mod KeepingCalls
+pub mod FollowLemmas
