@@ -9,13 +9,11 @@ use Rattle.vx_config.specs.Checks.{blocks_of as blocks_in, plexes_of}
 use Rattle.vx_config.specs.declared.config.Config.{Config}
 use Rattle.vx_config.specs.declared.entry.Subdisk.{Subdisk}
 use Rattle.vx_config.specs.declared.entry.VolumeLog.{VolumeLog}
-use Rattle.vx_copies.specs.Commits.{MoreFailed}
-use Rattle.vx_disk.specs.Counts.{Rose}
 use Rattle.vx_disk.specs.Shelf.{Goes, Lawful, Meaning, Nothing, Or}
 use Rattle.vx_disk.proofs.Causing.{Rose_after, Rose_before}
 use Rattle.vx_disk.proofs.Runs.{then_nothing}
 use Rattle.vx_fmr.specs.Missed.{Missed, has_missed}
-use Rattle.vx_group.specs.Attaches.{AnyImage, GroupAttachEnds, OnMissed, att_refusal}
+use Rattle.vx_group.specs.Attaches.{AnyImage, IsAttached, OnMissed, att_refusal}
 use Rattle.vx_group.specs.Calls.{GroupAttaches}
 use Rattle.vx_group.specs.Finds.{CoreFinds}
 use Rattle.vx_group.specs.Holding.{GroupStands, wide}
@@ -31,8 +29,8 @@ use Rattle.vx_groupmaps.specs.Loading.{on_failed_disk}
 use Rattle.vx_groupmaps.specs.Missing.{OnMaps}
 use Rattle.vx_kept.specs.Commits.{IsCommitted}
 use Rattle.vx_kept.specs.Finds.{FindsFrom, NoConfiguration}
-use Rattle.vx_kept.specs.Groups.{OnSome, found}
-use Rattle.vx_kept.specs.Keeping.{Acts, SameShape}
+use Rattle.vx_kept.specs.Groups.{OnSome}
+use Rattle.vx_kept.specs.Keeping.{Acts}
 use Rattle.vx_kept.specs.LogRuns.{log_place}
 use Rattle.vx_kept.proofs.PlexActing.{only_PlexActs}
 use Rattle.vx_kept.proofs.Steps.{both_Acts, wide_Acts}
@@ -232,8 +230,8 @@ committed_still core d m m' stands finds committed = record {
       ];
 }
 
-pub copied_ends : {T E : Type 0} (core : GroupCore) (v p : ℕ) (d : Config) (m m' : Meaning) (x : T) → GroupStands core m' → FindsFrom NoConfiguration m m' → GroupAttachEnds {E = E} v p d m (Ok x) → GroupAttachEnds {E = E} v p d m' (Ok x)
-copied_ends core v p d m m' x stands finds ends = record { is_on = ends.is_on; committed = committed_still core d m m' stands finds ends.committed }
+pub copied_ends : (core : GroupCore) (v p : ℕ) (d : Config) (m m' : Meaning) → GroupStands core m' → FindsFrom NoConfiguration m m' → IsAttached v p d m → IsAttached v p d m'
+copied_ends core v p d m m' stands finds ends = record { is_on = ends.is_on; committed = committed_still core d m m' stands finds ends.committed }
 
 pub copied_regains : (c d : Config) (v p : ℕ) (m m1 m2 : Meaning) → ((u : ℕ) → m1.faults u ≤ m2.faults u) → Regains c d v p m m1 → Regains c d v p m m2
 copied_regains c d v p m m1 m2 faults it = record { blamed = λ u was now. Rose_after (m.faults u) (m1.faults u) (m2.faults u) (it.blamed u was now) (faults u); others = it.others }

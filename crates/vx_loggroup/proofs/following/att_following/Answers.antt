@@ -75,7 +75,7 @@ returns-in-Ok-in-Some-clause-attaches g c =
 
 pub returns-in-Ok-in-Some-clause-ends : goal.returns-in-Ok-in-Some-clause-ends
 returns-in-Ok-in-Some-clause-ends g c =
-    λ off. copied_ends c.att_whole.new.core c.args.vol c.args.plex c.att_whole.new.core.inner.config (g.S.Shelf.meaning c.att_whole.new.shelf) (g.S.Shelf.meaning c.take_map.new.shelf) _ (c.take_map.ensures.stands).group c.take_map.ensures.less (subst (λ (r : Result ℕ Stop). GroupAttachEnds c.args.vol c.args.plex c.att_whole.new.core.inner.config (g.S.Shelf.meaning c.att_whole.new.shelf) r) c.in-Ok.is (c.att_whole.ensures.ends (subst (λ (o : Option ℕ). IfSome o (IsSource c.args.core.now.inner.config c.args.alike.now c.args.stopped c.args.vol c.args.plex)) c.in-Some.is c.source_of-source.ensures.is).off))
+    λ off. copied_ends c.att_whole.new.core c.args.vol c.args.plex c.att_whole.new.core.inner.config (g.S.Shelf.meaning c.att_whole.new.shelf) (g.S.Shelf.meaning c.take_map.new.shelf) (c.take_map.ensures.stands).group c.take_map.ensures.less (subst (λ (r : Result ℕ Stop). GroupAttachEnds c.args.vol c.args.plex c.att_whole.new.core.inner.config (g.S.Shelf.meaning c.att_whole.new.shelf) r) c.in-Ok.is (c.att_whole.ensures.ends (subst (λ (o : Option ℕ). IfSome o (IsSource c.args.core.now.inner.config c.args.alike.now c.args.stopped c.args.vol c.args.plex)) c.in-Some.is c.source_of-source.ensures.is).off))
 
 pub returns-in-Ok-in-Some-clause-regains : goal.returns-in-Ok-in-Some-clause-regains
 returns-in-Ok-in-Some-clause-regains g c =
