@@ -46,7 +46,7 @@ use Rattle.vx_volume.specs.Plexes.{Inside, active}
 use Rattle.vx_volume.proofs.PlaceLemmas.{active_below, active_few, has_of}
 use Rattle.vx_logged.specs.Copied.{MapsTake, ReadsRow, TakesRow}
 use Rattle.vx_logged.proofs.EmptyLemmas.{maps_alike}
-use Rattle.vx_loggroup.specs.Attaching.{IsSource, LoggedAttaches, MapsFollow, MapsHeld, OnAttached, TakesActive, VolumeTakes, fmr_at, fmr_or}
+use Rattle.vx_loggroup.specs.Attaching.{LoggedAttaches, MapSource, MapsFollow, MapsHeld, OnAttached, TakesActive, VolumeTakes, fmr_at, fmr_or}
 use Rattle.vx_loggroup.specs.Keeping.{LogsKeep, LogsStay, logs_at, logs_or}
 use Rattle.vx_loggroup.specs.LoggedVolumes.{LoggedStands}
 use Rattle.vx_loggroup.proofs.AlikeLemmas.{inside_back, same_item}
@@ -111,7 +111,7 @@ pub record Followed (d : GroupCore) (ls : List Logs) (a : List Bool) (m : Meanin
   pub apart : p ≡ q → ⊥
   pub reads : ReadsRow (wide d).config v p q (logs_at ls v) m
 
-pub followed : (c d : GroupCore) (ls : List Logs) (a : List Bool) (s : Bool) (v p q : ℕ) (f : Option Missed) (m m' : Meaning) → Lawful m → LoggedStands c ls a s m → LoggedStands d ls a s m' → IsSource c.inner.config a s v p q → GroupAttaches v p f c d m m'
+pub followed : (c d : GroupCore) (ls : List Logs) (a : List Bool) (s : Bool) (v p q : ℕ) (f : Option Missed) (m m' : Meaning) → Lawful m → LoggedStands c ls a s m → LoggedStands d ls a s m' → MapSource c.inner.config a s v p q → GroupAttaches v p f c d m m'
     → IsTrue (active d.inner.config v p) → Followed d ls a m' v p q
 followed c d ls a s v p q f m m' lawful before after source it on = record {
   stands = subst (λ (b : Bool). LoggedStands d ls a b m') source.going after;

@@ -4,7 +4,7 @@ use Rattle.std.specs.Prelude.{◌||◌, IfSome}
 use Rattle.vx_group.proofs.HoldLemmas.{wide_shape}
 use Rattle.vx_model.specs.declared.errors.Stop.TheVariants.{No as Refused}
 use Rattle.vx_model.specs.declared.no.No.{No}
-use Rattle.vx_loggroup.specs.Attaching.{IsSource, map_there}
+use Rattle.vx_loggroup.specs.Attaching.{MapSource, map_there}
 use Rattle.vx_loggroup.specs.LoggedVolumes.{LoggedStands, is_alike}
 use Rattle.vx_loggroup.proofs.FollowLemmas.{attached_low, copied_attaches, copied_ends, copied_finds, copied_holds, copied_keeps, copied_regains, followed, kept_attaches, none_takes, or_none}
 use Rattle.vx_loggroup.proofs.KeepingLemmas.{shape_places}
@@ -21,27 +21,27 @@ att_whole-requires g c =
 
 pub take_map-requires-clause-stands : goal.take_map-requires-clause-stands
 take_map-requires-clause-stands g c =
-    (followed c.args.core.now c.att_whole.new.core c.args.logs.now.items c.args.alike.now c.args.stopped c.args.vol c.args.plex c.in-Some.from (map_there c.args.logs.now.items c.args.core.now.inner.config c.args.stopped (g.S.Shelf.meaning c.args.shelf.now).down c.args.vol c.args.plex) (g.S.Shelf.meaning c.args.shelf.now) (g.S.Shelf.meaning c.att_whole.new.shelf) (g.met.S.Shelf.lawful c.args.shelf.now) c.requires.stands c.att_whole.ensures.stands (subst (λ (o : Option ℕ). IfSome o (IsSource c.args.core.now.inner.config c.args.alike.now c.args.stopped c.args.vol c.args.plex)) c.in-Some.is c.source_of-source.ensures.is) c.att_whole.ensures.attaches (c.in-Ok.ensures.ends (subst (λ (o : Option ℕ). IfSome o (IsSource c.args.core.now.inner.config c.args.alike.now c.args.stopped c.args.vol c.args.plex)) c.in-Some.is c.source_of-source.ensures.is).off).is_on).stands
+    (followed c.args.core.now c.att_whole.new.core c.args.logs.now.items c.args.alike.now c.args.stopped c.args.vol c.args.plex c.in-Some.from (map_there c.args.logs.now.items c.args.core.now.inner.config c.args.stopped (g.S.Shelf.meaning c.args.shelf.now).down c.args.vol c.args.plex) (g.S.Shelf.meaning c.args.shelf.now) (g.S.Shelf.meaning c.att_whole.new.shelf) (g.met.S.Shelf.lawful c.args.shelf.now) c.requires.stands c.att_whole.ensures.stands (subst (λ (o : Option ℕ). IfSome o (MapSource c.args.core.now.inner.config c.args.alike.now c.args.stopped c.args.vol c.args.plex)) c.in-Some.is c.source_of-source.ensures.is) c.att_whole.ensures.attaches (c.in-Ok.ensures.ends (subst (λ (o : Option ℕ). IfSome o (MapSource c.args.core.now.inner.config c.args.alike.now c.args.stopped c.args.vol c.args.plex)) c.in-Some.is c.source_of-source.ensures.is).off).is_on).stands
 
 pub take_map-requires-clause-there : goal.take_map-requires-clause-there
 take_map-requires-clause-there g c =
-    (followed c.args.core.now c.att_whole.new.core c.args.logs.now.items c.args.alike.now c.args.stopped c.args.vol c.args.plex c.in-Some.from (map_there c.args.logs.now.items c.args.core.now.inner.config c.args.stopped (g.S.Shelf.meaning c.args.shelf.now).down c.args.vol c.args.plex) (g.S.Shelf.meaning c.args.shelf.now) (g.S.Shelf.meaning c.att_whole.new.shelf) (g.met.S.Shelf.lawful c.args.shelf.now) c.requires.stands c.att_whole.ensures.stands (subst (λ (o : Option ℕ). IfSome o (IsSource c.args.core.now.inner.config c.args.alike.now c.args.stopped c.args.vol c.args.plex)) c.in-Some.is c.source_of-source.ensures.is) c.att_whole.ensures.attaches (c.in-Ok.ensures.ends (subst (λ (o : Option ℕ). IfSome o (IsSource c.args.core.now.inner.config c.args.alike.now c.args.stopped c.args.vol c.args.plex)) c.in-Some.is c.source_of-source.ensures.is).off).is_on).there
+    (followed c.args.core.now c.att_whole.new.core c.args.logs.now.items c.args.alike.now c.args.stopped c.args.vol c.args.plex c.in-Some.from (map_there c.args.logs.now.items c.args.core.now.inner.config c.args.stopped (g.S.Shelf.meaning c.args.shelf.now).down c.args.vol c.args.plex) (g.S.Shelf.meaning c.args.shelf.now) (g.S.Shelf.meaning c.att_whole.new.shelf) (g.met.S.Shelf.lawful c.args.shelf.now) c.requires.stands c.att_whole.ensures.stands (subst (λ (o : Option ℕ). IfSome o (MapSource c.args.core.now.inner.config c.args.alike.now c.args.stopped c.args.vol c.args.plex)) c.in-Some.is c.source_of-source.ensures.is) c.att_whole.ensures.attaches (c.in-Ok.ensures.ends (subst (λ (o : Option ℕ). IfSome o (MapSource c.args.core.now.inner.config c.args.alike.now c.args.stopped c.args.vol c.args.plex)) c.in-Some.is c.source_of-source.ensures.is).off).is_on).there
 
 pub take_map-requires-clause-to : goal.take_map-requires-clause-to
 take_map-requires-clause-to g c =
-    (followed c.args.core.now c.att_whole.new.core c.args.logs.now.items c.args.alike.now c.args.stopped c.args.vol c.args.plex c.in-Some.from (map_there c.args.logs.now.items c.args.core.now.inner.config c.args.stopped (g.S.Shelf.meaning c.args.shelf.now).down c.args.vol c.args.plex) (g.S.Shelf.meaning c.args.shelf.now) (g.S.Shelf.meaning c.att_whole.new.shelf) (g.met.S.Shelf.lawful c.args.shelf.now) c.requires.stands c.att_whole.ensures.stands (subst (λ (o : Option ℕ). IfSome o (IsSource c.args.core.now.inner.config c.args.alike.now c.args.stopped c.args.vol c.args.plex)) c.in-Some.is c.source_of-source.ensures.is) c.att_whole.ensures.attaches (c.in-Ok.ensures.ends (subst (λ (o : Option ℕ). IfSome o (IsSource c.args.core.now.inner.config c.args.alike.now c.args.stopped c.args.vol c.args.plex)) c.in-Some.is c.source_of-source.ensures.is).off).is_on).low
+    (followed c.args.core.now c.att_whole.new.core c.args.logs.now.items c.args.alike.now c.args.stopped c.args.vol c.args.plex c.in-Some.from (map_there c.args.logs.now.items c.args.core.now.inner.config c.args.stopped (g.S.Shelf.meaning c.args.shelf.now).down c.args.vol c.args.plex) (g.S.Shelf.meaning c.args.shelf.now) (g.S.Shelf.meaning c.att_whole.new.shelf) (g.met.S.Shelf.lawful c.args.shelf.now) c.requires.stands c.att_whole.ensures.stands (subst (λ (o : Option ℕ). IfSome o (MapSource c.args.core.now.inner.config c.args.alike.now c.args.stopped c.args.vol c.args.plex)) c.in-Some.is c.source_of-source.ensures.is) c.att_whole.ensures.attaches (c.in-Ok.ensures.ends (subst (λ (o : Option ℕ). IfSome o (MapSource c.args.core.now.inner.config c.args.alike.now c.args.stopped c.args.vol c.args.plex)) c.in-Some.is c.source_of-source.ensures.is).off).is_on).low
 
 pub take_map-requires-clause-from : goal.take_map-requires-clause-from
 take_map-requires-clause-from g c =
-    (followed c.args.core.now c.att_whole.new.core c.args.logs.now.items c.args.alike.now c.args.stopped c.args.vol c.args.plex c.in-Some.from (map_there c.args.logs.now.items c.args.core.now.inner.config c.args.stopped (g.S.Shelf.meaning c.args.shelf.now).down c.args.vol c.args.plex) (g.S.Shelf.meaning c.args.shelf.now) (g.S.Shelf.meaning c.att_whole.new.shelf) (g.met.S.Shelf.lawful c.args.shelf.now) c.requires.stands c.att_whole.ensures.stands (subst (λ (o : Option ℕ). IfSome o (IsSource c.args.core.now.inner.config c.args.alike.now c.args.stopped c.args.vol c.args.plex)) c.in-Some.is c.source_of-source.ensures.is) c.att_whole.ensures.attaches (c.in-Ok.ensures.ends (subst (λ (o : Option ℕ). IfSome o (IsSource c.args.core.now.inner.config c.args.alike.now c.args.stopped c.args.vol c.args.plex)) c.in-Some.is c.source_of-source.ensures.is).off).is_on).under
+    (followed c.args.core.now c.att_whole.new.core c.args.logs.now.items c.args.alike.now c.args.stopped c.args.vol c.args.plex c.in-Some.from (map_there c.args.logs.now.items c.args.core.now.inner.config c.args.stopped (g.S.Shelf.meaning c.args.shelf.now).down c.args.vol c.args.plex) (g.S.Shelf.meaning c.args.shelf.now) (g.S.Shelf.meaning c.att_whole.new.shelf) (g.met.S.Shelf.lawful c.args.shelf.now) c.requires.stands c.att_whole.ensures.stands (subst (λ (o : Option ℕ). IfSome o (MapSource c.args.core.now.inner.config c.args.alike.now c.args.stopped c.args.vol c.args.plex)) c.in-Some.is c.source_of-source.ensures.is) c.att_whole.ensures.attaches (c.in-Ok.ensures.ends (subst (λ (o : Option ℕ). IfSome o (MapSource c.args.core.now.inner.config c.args.alike.now c.args.stopped c.args.vol c.args.plex)) c.in-Some.is c.source_of-source.ensures.is).off).is_on).under
 
 pub take_map-requires-clause-apart : goal.take_map-requires-clause-apart
 take_map-requires-clause-apart g c =
-    (followed c.args.core.now c.att_whole.new.core c.args.logs.now.items c.args.alike.now c.args.stopped c.args.vol c.args.plex c.in-Some.from (map_there c.args.logs.now.items c.args.core.now.inner.config c.args.stopped (g.S.Shelf.meaning c.args.shelf.now).down c.args.vol c.args.plex) (g.S.Shelf.meaning c.args.shelf.now) (g.S.Shelf.meaning c.att_whole.new.shelf) (g.met.S.Shelf.lawful c.args.shelf.now) c.requires.stands c.att_whole.ensures.stands (subst (λ (o : Option ℕ). IfSome o (IsSource c.args.core.now.inner.config c.args.alike.now c.args.stopped c.args.vol c.args.plex)) c.in-Some.is c.source_of-source.ensures.is) c.att_whole.ensures.attaches (c.in-Ok.ensures.ends (subst (λ (o : Option ℕ). IfSome o (IsSource c.args.core.now.inner.config c.args.alike.now c.args.stopped c.args.vol c.args.plex)) c.in-Some.is c.source_of-source.ensures.is).off).is_on).apart
+    (followed c.args.core.now c.att_whole.new.core c.args.logs.now.items c.args.alike.now c.args.stopped c.args.vol c.args.plex c.in-Some.from (map_there c.args.logs.now.items c.args.core.now.inner.config c.args.stopped (g.S.Shelf.meaning c.args.shelf.now).down c.args.vol c.args.plex) (g.S.Shelf.meaning c.args.shelf.now) (g.S.Shelf.meaning c.att_whole.new.shelf) (g.met.S.Shelf.lawful c.args.shelf.now) c.requires.stands c.att_whole.ensures.stands (subst (λ (o : Option ℕ). IfSome o (MapSource c.args.core.now.inner.config c.args.alike.now c.args.stopped c.args.vol c.args.plex)) c.in-Some.is c.source_of-source.ensures.is) c.att_whole.ensures.attaches (c.in-Ok.ensures.ends (subst (λ (o : Option ℕ). IfSome o (MapSource c.args.core.now.inner.config c.args.alike.now c.args.stopped c.args.vol c.args.plex)) c.in-Some.is c.source_of-source.ensures.is).off).is_on).apart
 
 pub take_map-requires-clause-reads : goal.take_map-requires-clause-reads
 take_map-requires-clause-reads g c =
-    (followed c.args.core.now c.att_whole.new.core c.args.logs.now.items c.args.alike.now c.args.stopped c.args.vol c.args.plex c.in-Some.from (map_there c.args.logs.now.items c.args.core.now.inner.config c.args.stopped (g.S.Shelf.meaning c.args.shelf.now).down c.args.vol c.args.plex) (g.S.Shelf.meaning c.args.shelf.now) (g.S.Shelf.meaning c.att_whole.new.shelf) (g.met.S.Shelf.lawful c.args.shelf.now) c.requires.stands c.att_whole.ensures.stands (subst (λ (o : Option ℕ). IfSome o (IsSource c.args.core.now.inner.config c.args.alike.now c.args.stopped c.args.vol c.args.plex)) c.in-Some.is c.source_of-source.ensures.is) c.att_whole.ensures.attaches (c.in-Ok.ensures.ends (subst (λ (o : Option ℕ). IfSome o (IsSource c.args.core.now.inner.config c.args.alike.now c.args.stopped c.args.vol c.args.plex)) c.in-Some.is c.source_of-source.ensures.is).off).is_on).reads
+    (followed c.args.core.now c.att_whole.new.core c.args.logs.now.items c.args.alike.now c.args.stopped c.args.vol c.args.plex c.in-Some.from (map_there c.args.logs.now.items c.args.core.now.inner.config c.args.stopped (g.S.Shelf.meaning c.args.shelf.now).down c.args.vol c.args.plex) (g.S.Shelf.meaning c.args.shelf.now) (g.S.Shelf.meaning c.att_whole.new.shelf) (g.met.S.Shelf.lawful c.args.shelf.now) c.requires.stands c.att_whole.ensures.stands (subst (λ (o : Option ℕ). IfSome o (MapSource c.args.core.now.inner.config c.args.alike.now c.args.stopped c.args.vol c.args.plex)) c.in-Some.is c.source_of-source.ensures.is) c.att_whole.ensures.attaches (c.in-Ok.ensures.ends (subst (λ (o : Option ℕ). IfSome o (MapSource c.args.core.now.inner.config c.args.alike.now c.args.stopped c.args.vol c.args.plex)) c.in-Some.is c.source_of-source.ensures.is).off).is_on).reads
 
 pub returns-in-Err-clause-stands : goal.returns-in-Err-clause-stands
 returns-in-Err-clause-stands g c =
@@ -145,7 +145,7 @@ returns-in-None-clause-takes g c =
 
 pub returns-in-Some-clause-stands : goal.returns-in-Some-clause-stands
 returns-in-Some-clause-stands g c =
-    subst (λ (b : Bool). LoggedStands c.att_whole.new.core c.take_map.new.logs.items c.args.alike.now b (g.S.Shelf.meaning c.take_map.new.shelf)) (sym (subst (λ (o : Option ℕ). IfSome o (IsSource c.args.core.now.inner.config c.args.alike.now c.args.stopped c.args.vol c.args.plex)) c.in-Some.is c.source_of-source.ensures.is).going) c.take_map.ensures.stands
+    subst (λ (b : Bool). LoggedStands c.att_whole.new.core c.take_map.new.logs.items c.args.alike.now b (g.S.Shelf.meaning c.take_map.new.shelf)) (sym (subst (λ (o : Option ℕ). IfSome o (MapSource c.args.core.now.inner.config c.args.alike.now c.args.stopped c.args.vol c.args.plex)) c.in-Some.is c.source_of-source.ensures.is).going) c.take_map.ensures.stands
 
 pub returns-in-Some-clause-refused : goal.returns-in-Some-clause-refused
 returns-in-Some-clause-refused g c =
@@ -153,7 +153,7 @@ returns-in-Some-clause-refused g c =
 
 pub returns-in-Some-clause-already : goal.returns-in-Some-clause-already
 returns-in-Some-clause-already g c =
-    λ may on. absurd (let clash : false ≡ true = sym (subst (λ (o : Option ℕ). IfSome o (IsSource c.args.core.now.inner.config c.args.alike.now c.args.stopped c.args.vol c.args.plex)) c.in-Some.is c.source_of-source.ensures.is).off ∙ on in cc)
+    λ may on. absurd (let clash : false ≡ true = sym (subst (λ (o : Option ℕ). IfSome o (MapSource c.args.core.now.inner.config c.args.alike.now c.args.stopped c.args.vol c.args.plex)) c.in-Some.is c.source_of-source.ensures.is).off ∙ on in cc)
 
 pub returns-in-Some-clause-count : goal.returns-in-Some-clause-count
 returns-in-Some-clause-count g c =
@@ -169,11 +169,11 @@ returns-in-Some-clause-free g c =
 
 pub returns-in-Some-clause-attaches : goal.returns-in-Some-clause-attaches
 returns-in-Some-clause-attaches g c =
-    copied_attaches (is_alike c.args.alike.now c.args.vol || c.args.stopped) c.args.vol c.args.plex (map_there c.args.logs.now.items c.args.core.now.inner.config c.args.stopped (g.S.Shelf.meaning c.args.shelf.now).down c.args.vol c.args.plex) c.args.core.now c.att_whole.new.core (g.S.Shelf.meaning c.args.shelf.now) (g.S.Shelf.meaning c.att_whole.new.shelf) (g.S.Shelf.meaning c.take_map.new.shelf) (or_none (is_alike c.args.alike.now c.args.vol) c.args.stopped (subst (λ (o : Option ℕ). IfSome o (IsSource c.args.core.now.inner.config c.args.alike.now c.args.stopped c.args.vol c.args.plex)) c.in-Some.is c.source_of-source.ensures.is).apart (subst (λ (o : Option ℕ). IfSome o (IsSource c.args.core.now.inner.config c.args.alike.now c.args.stopped c.args.vol c.args.plex)) c.in-Some.is c.source_of-source.ensures.is).going) c.att_whole.ensures.attaches c.take_map.ensures.below c.take_map.ensures.goes
+    copied_attaches (is_alike c.args.alike.now c.args.vol || c.args.stopped) c.args.vol c.args.plex (map_there c.args.logs.now.items c.args.core.now.inner.config c.args.stopped (g.S.Shelf.meaning c.args.shelf.now).down c.args.vol c.args.plex) c.args.core.now c.att_whole.new.core (g.S.Shelf.meaning c.args.shelf.now) (g.S.Shelf.meaning c.att_whole.new.shelf) (g.S.Shelf.meaning c.take_map.new.shelf) (or_none (is_alike c.args.alike.now c.args.vol) c.args.stopped (subst (λ (o : Option ℕ). IfSome o (MapSource c.args.core.now.inner.config c.args.alike.now c.args.stopped c.args.vol c.args.plex)) c.in-Some.is c.source_of-source.ensures.is).apart (subst (λ (o : Option ℕ). IfSome o (MapSource c.args.core.now.inner.config c.args.alike.now c.args.stopped c.args.vol c.args.plex)) c.in-Some.is c.source_of-source.ensures.is).going) c.att_whole.ensures.attaches c.take_map.ensures.below c.take_map.ensures.goes
 
 pub returns-in-Some-clause-ends : goal.returns-in-Some-clause-ends
 returns-in-Some-clause-ends g c =
-    λ off. copied_ends c.att_whole.new.core c.args.vol c.args.plex c.att_whole.new.core.inner.config (g.S.Shelf.meaning c.att_whole.new.shelf) (g.S.Shelf.meaning c.take_map.new.shelf) (c.take_map.ensures.stands).group c.take_map.ensures.less (c.in-Ok.ensures.ends (subst (λ (o : Option ℕ). IfSome o (IsSource c.args.core.now.inner.config c.args.alike.now c.args.stopped c.args.vol c.args.plex)) c.in-Some.is c.source_of-source.ensures.is).off)
+    λ off. copied_ends c.att_whole.new.core c.args.vol c.args.plex c.att_whole.new.core.inner.config (g.S.Shelf.meaning c.att_whole.new.shelf) (g.S.Shelf.meaning c.take_map.new.shelf) (c.take_map.ensures.stands).group c.take_map.ensures.less (c.in-Ok.ensures.ends (subst (λ (o : Option ℕ). IfSome o (MapSource c.args.core.now.inner.config c.args.alike.now c.args.stopped c.args.vol c.args.plex)) c.in-Some.is c.source_of-source.ensures.is).off)
 
 pub returns-in-Some-clause-regains : goal.returns-in-Some-clause-regains
 returns-in-Some-clause-regains g c =
@@ -185,11 +185,11 @@ returns-in-Some-clause-held g c =
 
 pub returns-in-Some-clause-maps : goal.returns-in-Some-clause-maps
 returns-in-Some-clause-maps g c =
-    λ leaves. absurd (let clash : true ≡ false = sym leaves ∙ (or_none (is_alike c.args.alike.now c.args.vol) c.args.stopped (subst (λ (o : Option ℕ). IfSome o (IsSource c.args.core.now.inner.config c.args.alike.now c.args.stopped c.args.vol c.args.plex)) c.in-Some.is c.source_of-source.ensures.is).apart (subst (λ (o : Option ℕ). IfSome o (IsSource c.args.core.now.inner.config c.args.alike.now c.args.stopped c.args.vol c.args.plex)) c.in-Some.is c.source_of-source.ensures.is).going) in cc)
+    λ leaves. absurd (let clash : true ≡ false = sym leaves ∙ (or_none (is_alike c.args.alike.now c.args.vol) c.args.stopped (subst (λ (o : Option ℕ). IfSome o (MapSource c.args.core.now.inner.config c.args.alike.now c.args.stopped c.args.vol c.args.plex)) c.in-Some.is c.source_of-source.ensures.is).apart (subst (λ (o : Option ℕ). IfSome o (MapSource c.args.core.now.inner.config c.args.alike.now c.args.stopped c.args.vol c.args.plex)) c.in-Some.is c.source_of-source.ensures.is).going) in cc)
 
 pub returns-in-Some-clause-takes : goal.returns-in-Some-clause-takes
 returns-in-Some-clause-takes g c =
-    λ takes. record { from = c.in-Some.from; is_on = (subst (λ (o : Option ℕ). IfSome o (IsSource c.args.core.now.inner.config c.args.alike.now c.args.stopped c.args.vol c.args.plex)) c.in-Some.is c.source_of-source.ensures.is).on; takes = c.take_map.ensures.takes }
+    λ takes. record { from = c.in-Some.from; is_on = (subst (λ (o : Option ℕ). IfSome o (MapSource c.args.core.now.inner.config c.args.alike.now c.args.stopped c.args.vol c.args.plex)) c.in-Some.is c.source_of-source.ensures.is).on; takes = c.take_map.ensures.takes }
 
 pub returns-in-Some-clause-keeps : goal.returns-in-Some-clause-keeps
 returns-in-Some-clause-keeps g c =
