@@ -28,12 +28,12 @@ fn a_refused_write_leaves_its_own_regions_alone(rt: HostRuntime) -> Result<(), F
         match refused_anew(alloc, call)? {
             Some(copied) => {
                 seen = seen.wrapping_add(1);
-                assert_eq!(rt; copied, 1);
+                assert!(rt; copied == 1);
             }
             None => {}
         }
     }
-    assert_eq!(rt; seen, 1);
+    assert!(rt; seen == 1);
     Ok(())
 }
 
@@ -75,7 +75,7 @@ fn an_attach_leaves_the_regions_of_refused_writes_alone(rt: HostRuntime) -> Resu
                 match refused_before(alloc, call, later)? {
                     Some(copied) => {
                         seen = seen.wrapping_add(1);
-                        assert_eq!(rt; copied, 2);
+                        assert!(rt; copied == 2);
                     }
                     None => {}
                 }
