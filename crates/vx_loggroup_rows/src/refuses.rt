@@ -71,7 +71,7 @@ fn an_attach_leaves_the_regions_of_refused_writes_alone(rt: HostRuntime) -> Resu
     let mut seen: u64 = 0;
     for call in 105..115 {
         if refuses(alloc, call)? {
-            for later in 110..290 {
+            for later in 150..180 {
                 match refused_before(alloc, call, later)? {
                     Some(copied) => {
                         seen = seen.wrapping_add(1);
