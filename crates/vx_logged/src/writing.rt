@@ -15,6 +15,7 @@ ghost use Rattle.vx_groupmaps.specs.Knowing.{MapsNote, or_off};
 ghost use Rattle.vx_groupmaps.specs.Missing.{none_spared, or_run};
 ghost use Rattle.vx_logged.specs.Begun.{MapsBut, MapsOfRun, ReadsBut, fell_in};
 ghost use Rattle.vx_logged.specs.Behind.{AreKept, MarkedBefore, those_missing};
+ghost use Rattle.vx_logged.specs.Holds.{HoldsRun};
 ghost use Rattle.vx_logged.specs.Logged.{DropsBut, Known, KnownBy, LogOn, Narrowed, OthersOn, TrustsIn, are_off};
 ghost use Rattle.vx_logs.specs.Writes.{first_region, last_region};
 ghost use Rattle.vx_model.specs.Sizes.{regions_of as regions_in};
@@ -106,6 +107,7 @@ pub fn write_marked<S: Shelf>(
     ensures maps { stopped.new ≡ false → Known core.old vol logs.old (S.meaning shelf.old) → Known core.new vol logs.new (S.meaning shelf.new) }
     ensures notes { MapsBut (fell_in core.old core.new vol) (those_missing core.new vol result) (first_region block) (last_region block (length bytes.now / 512)) logs.old logs.new }
     ensures begins { sure ≡ true → stopped.new ≡ false → OnOk result (MapsOfRun (fell_in core.old core.new vol) (first_region block) (last_region block (length bytes.now / 512)) logs.new) }
+    ensures holds { stopped.new ≡ false → OnOk result (HoldsRun core.new.inner.config vol (first_region block) (last_region block (length bytes.now / 512)) logs.new) }
     ensures marked { stopped.new ≡ false → MarkedBefore (λ s. S.meaning s) vol block bytes.now (first_region block) (last_region block (length bytes.now / 512)) core.old core.new (S.meaning shelf.old) (S.meaning shelf.new) }
     ensures stays { stopped.old ≡ true → stopped.new ≡ true }
     ensures full { stopped.old ≡ false → stopped.new ≡ true → greatest ≤ core.old.inner.config.serial + 18 }

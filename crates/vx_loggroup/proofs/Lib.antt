@@ -15,6 +15,7 @@ pub mod StillLemmas
 pub mod TakenMaps
 pub mod SettleLemmas
 pub mod FreshLemmas
+pub mod NewLemmas
 pub mod RackLemmas
 pub mod DetFresh
 pub mod RestingLemmas
@@ -28,3 +29,7 @@ pub mod HeldMaps
 pub mod MirrorLemmas
 pub mod KeepingLemmas
 pub mod KeepingCalls
+pub mod MovedLemmas
+pub mod VolumeMoves
+pub mod ThenMoves
+pub mod EndedLemmas
