@@ -31,5 +31,6 @@ pub mod KeepingLemmas
 pub mod KeepingCalls
 pub mod MovedLemmas
 pub mod VolumeMoves
+pub mod WroteMoves
 pub mod ThenMoves
 pub mod EndedLemmas
