@@ -34,3 +34,4 @@ pub mod VolumeMoves
 pub mod WroteMoves
 pub mod ThenMoves
 pub mod EndedLemmas
+pub mod ComesLemmas

@@ -72,6 +72,13 @@ all_anew vol sure v p = (v == vol) && sure
 abbrev pub this_anew : (vol plex : ℕ) → Bool → ℕ → ℕ → Bool
 this_anew vol plex sure v p = (v == vol) && ((p == plex) && sure)
 
+-- one volume, and none
+abbrev pub only_volume : ℕ → ℕ → Bool
+only_volume vol v = v == vol
+
+abbrev pub no_volume : ℕ → Bool
+no_volume v = false
+
 -- no region, and no plex
 abbrev pub in_none : ℕ → ℕ → Bool
 in_none v r = false
