@@ -32,6 +32,7 @@ pub mod KeepingCalls
 pub mod MovedLemmas
 pub mod VolumeMoves
 pub mod WroteMoves
+pub mod DetMoves
 pub mod ThenMoves
 pub mod EndedLemmas
 pub mod ComesLemmas

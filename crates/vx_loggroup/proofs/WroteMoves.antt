@@ -23,13 +23,13 @@ use Rattle.vx_logs.specs.declared.logs.Logs.{Logs}
 use Rattle.vx_model.specs.Sizes.{map_blocks, regions_of}
 use Rattle.vx_volume.specs.Plexes.{active}
 use Rattle.vx_loggroup.specs.Attaching.{fmr_at, fmr_or}
-use Rattle.vx_loggroup.specs.Fresh.{ListMaps, LogsFirst, LogsStart}
+use Rattle.vx_loggroup.specs.Fresh.{ListMaps, LogsFirst}
 use Rattle.vx_loggroup.specs.Keeping.{logs_at, logs_or}
 use Rattle.vx_loggroup.specs.Marks.{NotesMaps, RunsMaps}
 use Rattle.vx_loggroup.specs.Moving.{FollowsRun, IsThere, MapsDoubt, MovesRun, RunFallen, RunHolds, in_run}
 use Rattle.vx_loggroup.proofs.FreshLemmas.{fell_first}
 use Rattle.vx_loggroup.proofs.MovedLemmas.{doubt_run}
-use Rattle.vx_loggroup.proofs.NewLemmas.{HasMaps, begun_missed, has_maps, maps_at, start_blocks, start_count}
+use Rattle.vx_loggroup.proofs.NewLemmas.{HasMaps, begun_missed, has_maps, maps_at}
 use Rattle.vx_loggroup.proofs.SetLemmas.{set_here}
 use Rattle.vx_loggroup.proofs.VolumeMoves.{MapFirst, MapFrom, flush_moves, write_doubts, write_moves}
 
@@ -78,16 +78,17 @@ first_doubts c d v first_r last_r n ls ks first news =
 -- ---- the maps before it
 
 -- From a group c the logs of volume v may begin, which gives e; then comes the call, which gives d.
-module _ (c e d : GroupCore) (v n : ℕ) (ls ks js : List Logs) (a b : Meaning) (begins : LogsStart v c e a b) (first : LogsFirst v n ls ks) (news : ListMaps c.inner.config v ls ks)
+module _ (c e d : GroupCore) (v n : ℕ) (ls ks js : List Logs) (still : (w p : ℕ) → active e.inner.config w p ≡ active c.inner.config w p) (count : plexes_of e.inner.config v ≡ plexes_of c.inner.config v)
+    (blocks : blocks_of e.inner.config.volumes v ≡ blocks_of c.inner.config.volumes v) (first : LogsFirst v n ls ks) (news : ListMaps c.inner.config v ls ks)
     (fits : (k : Logs) → slice_get ks v ≡ Some k → (f : Missed) → k.fmr ≡ Some f → FmrLoaded (wide e).config v f) where
   wide_blocks : blocks_of (wide e).config.volumes v ≡ blocks_of c.inner.config.volumes v
-  wide_blocks = (wide_shape e).blocks v ∙ start_blocks v c e a b begins
+  wide_blocks = (wide_shape e).blocks v ∙ blocks
 
   wide_count : plexes_of (wide e).config v ≡ plexes_of c.inner.config v
-  wide_count = same_count e.inner.config (wide e).config v ((wide_shape e).frames v) ((wide_shape e).blocks v) ∙ start_count v c e a b begins
+  wide_count = same_count e.inner.config (wide e).config v ((wide_shape e).frames v) ((wide_shape e).blocks v) ∙ count
 
   -- the maps before the call have what plexes had missed before they began
-  first_maps : (f : Missed) → fmr_at ks v ≡ Some f → MapFirst c.inner.config v ls f
+  pub first_maps : (f : Missed) → fmr_at ks v ≡ Some f → MapFirst c.inner.config v ls f
   first_maps f is =
       let now : HasMaps ks v f = has_maps ks v f is in
       let loaded = fits now.logs now.at f now.has in
@@ -117,7 +118,7 @@ module _ (c e d : GroupCore) (v n : ℕ) (ls ks js : List Logs) (a b : Meaning) 
               map = f;
               begun = first_maps f at;
               shape = it.shape;
-              stay = λ p r low lt off has. it.stay p r low lt (fell_first c e d v begins.still p ∙ off) has;
+              stay = λ p r low lt off has. it.stay p r low lt (fell_first c e d v still p ∙ off) has;
               only = it.only;
             }
 
@@ -129,10 +130,10 @@ module _ (c e d : GroupCore) (v n : ℕ) (ls ks js : List Logs) (a b : Meaning) 
     after_count = same_count e.inner.config d.inner.config v frames (let old = (wide_shape e).blocks v in let new = (wide_shape d).blocks v in omega (arith, old, new, size))
 
     later_plex : (p : ℕ) → p < plexes_of c.inner.config v → p < plexes_of d.inner.config v
-    later_plex p low = let one = start_count v c e a b begins in let two = after_count in omega (arith, low, one, two)
+    later_plex p low = let one = count in let two = after_count in omega (arith, low, one, two)
 
     run_of : RunsMaps (fell_in e d v) v first_r last_r js → (g : Missed) → fmr_at js v ≡ Some g → (p r : ℕ) → p < g.plexes → r < g.stride → fell_in c d v p ≡ true → has_missed g p r ≡ true → (first_r ≤ r) × (r ≤ last_r)
-    run_of run g at p r low lt fell has = let now : HasMaps js v g = has_maps js v g at in (run.here now.logs now.at).only g now.has p r low lt (fell_first c e d v begins.still p ∙ fell) has
+    run_of run g at p r low lt fell has = let now : HasMaps js v g = has_maps js v g at in (run.here now.logs now.at).only g now.has p r low lt (fell_first c e d v still p ∙ fell) has
 
     pub run_moves : NotesMaps (fell_in e d v) (those_missing d v r) v first_r last_r ks js → OnOk r (RunHolds d.inner.config v first_r last_r js) → MovesRun c.inner.config d.inner.config v first_r last_r sure ls js r
     run_moves notes holds = by r notes holds runs
@@ -159,7 +160,7 @@ module _ (c e d : GroupCore) (v n : ℕ) (ls ks js : List Logs) (a b : Meaning) 
         holds_these : RunFallen (fell_in e d v) v first_r last_r js → (p r : ℕ) (g : Missed) → fmr_at js v ≡ Some g → IsThere c.inner.config v p r → active c.inner.config v p ≡ true → active d.inner.config v p ≡ false → first_r ≤ r → r ≤ last_r → has_missed g p r ≡ true
         holds_these run p r g at it on off lo hi =
             let now : HasMaps js v g = has_maps js v g at in
-            (run.here now.logs now.at).each g now.has p r (fell_first c e d v begins.still p ∙ fell_is (active c.inner.config v p) (active d.inner.config v p) on off) lo hi
+            (run.here now.logs now.at).each g now.has p r (fell_first c e d v still p ∙ fell_is (active c.inner.config v p) (active d.inner.config v p) on off) lo hi
 
         any_from : (g : Missed) → fmr_at js v ≡ Some g → MapFrom c.inner.config d.inner.config v first_r last_r (λ p. true) ls g
         any_from g at = let it = map_from first_r last_r (are_off d v) notes gone g at in record {

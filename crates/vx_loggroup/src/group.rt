@@ -27,6 +27,7 @@ ghost use Rattle.vx_loggroup.specs.LoggedVolumes.{LoggedStands, is_alike};
 ghost use Rattle.vx_loggroup.specs.Fresh.{FreshStands, LogsFirst};
 ghost use Rattle.vx_loggroup.specs.Marks.{region_count};
 ghost use Rattle.vx_loggroup.specs.Mirrors.{MirrorsKeep, names_none, names_plex};
+ghost use Rattle.vx_loggroup.specs.Moving.{MapsBeginIn, MapsEnd, MovesDet, only_volume};
 ghost use Rattle.vx_loggroup.specs.Opens.{DeportTells, LoggedImported};
 ghost use Rattle.vx_logimport.specs.Rests.{LogsTell};
 ghost use Rattle.vx_logs.specs.declared.logs.Logs.{Logs as LogsValue};
@@ -192,6 +193,10 @@ impl<S: Shelf> LoggedGroup<S> {
         ensures others { (w p : ℕ) → (w ≡ vol → p ≡ plex → ⊥) → active self.new.core.inner.config w p ≡ active self.old.core.inner.config w p }
         ensures mirrors { MirrorsKeep (names_plex vol plex) self.old.core self.new.core (S.meaning self.old.shelf) (S.meaning self.new.shelf) }
         ensures maps { (ls : List LogsValue) × LogsFirst vol (region_count (wide self.old.core).config vol) self.old.logs.items ls × MapsBegin vol plex ls self.new.logs.items }
+        ensures moves { self.old.stopped ≡ false → MovesDet self.old.core.inner.config self.new.core.inner.config vol plex (is_alike self.old.alike vol) self.old.logs.items self.new.logs.items result }
+        ensures comes { MapsBeginIn (only_volume vol) self.old.core.inner.config self.new.core.inner.config self.old.stopped self.new.stopped self.old.logs.items self.new.logs.items }
+        ensures ends { MapsEnd self.old.core.inner.config self.new.core.inner.config self.old.stopped self.new.stopped self.old.logs.items self.new.logs.items (S.meaning self.old.shelf) (S.meaning self.new.shelf) }
+        ensures flags { (self.new.alike ≡ self.old.alike) × (self.new.stopped ≡ self.old.stopped) }
         ensures keeps { LogsKeep self.old.core self.new.core self.old.logs.items self.new.logs.items (S.meaning self.old.shelf) (S.meaning self.new.shelf) }
         ensures trust { OnOk result (self.old.core.inner.committed ≡ true → self.new.core.inner.committed ≡ true) }
         ensures agreed { IfErr result (λ e. self.old.core.inner.committed ≡ true → self.new.core.inner.agreed ≡ true) }

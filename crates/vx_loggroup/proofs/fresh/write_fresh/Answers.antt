@@ -16,9 +16,9 @@ use Rattle.vx_logged.proofs.StandLemmas.{fits_later}
 use Rattle.vx_loggroup.specs.Attaching.{fmr_or}
 use Rattle.vx_loggroup.specs.LoggedVolumes.{LoggedStands, is_alike}
 use Rattle.vx_loggroup.proofs.AlikeLemmas.{going_back}
-use Rattle.vx_loggroup.proofs.NewLemmas.{list_same}
+use Rattle.vx_loggroup.proofs.NewLemmas.{list_same, start_blocks, start_count}
 use Rattle.vx_loggroup.proofs.WroteMoves.{first_doubts, run_moves}
-use Rattle.vx_loggroup.proofs.FreshLemmas.{begins_none, begins_stale, fresh_goes, fresh_still, fresh_taken, lists_marks, lists_none, lists_notes, lists_only, lists_same, fell_first, runs_same}
+use Rattle.vx_loggroup.proofs.FreshLemmas.{begins_stale, fresh_goes, fresh_still, fresh_taken, lists_marks, lists_none, lists_notes, lists_only, lists_same, fell_first, runs_same}
 use Rattle.vx_logged.specs.Begun.{fell_in}
 use Rattle.vx_group.proofs.FindingLemmas.{then_group}
 use Rattle.vx_loggroup.proofs.KeepingLemmas.{frames_places, stay_keeps, then_keeps}
@@ -141,8 +141,8 @@ returns-clause-begins g c = λ alike going. ok_from c.write_whole-2.result (λ r
 
 pub returns-then-not-takes_fresh-clause-moves : goal.returns-then-not-takes_fresh-clause-moves
 returns-then-not-takes_fresh-clause-moves g c = λ off.
-    run_moves c.args.core.now c.args.core.now c.write_whole.new.core c.args.vol (region_count (wide c.args.core.now).config c.args.vol) c.args.logs.now.items c.args.logs.now.items c.write_whole.new.logs.items (g.S.Shelf.meaning c.args.shelf.now) (g.S.Shelf.meaning c.args.shelf.now)
-    (begins_none c.args.vol c.args.core.now (g.S.Shelf.meaning c.args.shelf.now)) (lists_none c.args.vol (region_count (wide c.args.core.now).config c.args.vol) c.args.logs.now.items) (list_same c.args.core.now.inner.config c.args.vol c.args.logs.now.items)
+    run_moves c.args.core.now c.args.core.now c.write_whole.new.core c.args.vol (region_count (wide c.args.core.now).config c.args.vol) c.args.logs.now.items c.args.logs.now.items c.write_whole.new.logs.items (λ w p. refl) refl refl
+    (lists_none c.args.vol (region_count (wide c.args.core.now).config c.args.vol) c.args.logs.now.items) (list_same c.args.core.now.inner.config c.args.vol c.args.logs.now.items)
     (λ k at f is. ((c.requires.stands.each c.args.vol k at).on (going_back c.args.stopped.now c.write_whole.new.stopped c.write_whole.ensures.stays off)).fits.fmr f is)
     (first_region c.args.block) (last_region c.args.block (length c.args.bytes.now / 512)) (is_alike c.args.alike.now c.args.vol) c.write_whole.result (g.S.Shelf.meaning c.write_whole.new.shelf) c.write_whole.ensures.stands.group (c.write_whole.ensures.loses.loses.frames c.args.vol) (c.write_whole.ensures.goes.size c.args.vol)
     (λ w apart. ap fmr_or (c.write_whole.ensures.marks.others w apart)) c.write_whole.ensures.gone (λ alike. c.write_whole.ensures.begins alike off) c.write_whole.ensures.notes (c.write_whole.ensures.holds off)
@@ -152,8 +152,9 @@ returns-in-Err-clause-moves g c = λ off. first_doubts c.args.core.now.inner.con
 
 pub returns-clause-moves : goal.returns-clause-moves
 returns-clause-moves g c = λ off.
-    run_moves c.args.core.now c.begin_first.new.core c.write_whole-2.new.core c.args.vol (region_count (wide c.args.core.now).config c.args.vol) c.args.logs.now.items c.begin_first.new.logs.items c.write_whole-2.new.logs.items (g.S.Shelf.meaning c.args.shelf.now) (g.S.Shelf.meaning c.begin_first.new.shelf)
-    c.begin_first.ensures.begins c.begin_first.ensures.first c.begin_first.ensures.news (λ k at f is. ((c.begin_first.ensures.stands.each c.args.vol k at).on refl).fits.fmr f is)
+    run_moves c.args.core.now c.begin_first.new.core c.write_whole-2.new.core c.args.vol (region_count (wide c.args.core.now).config c.args.vol) c.args.logs.now.items c.begin_first.new.logs.items c.write_whole-2.new.logs.items c.begin_first.ensures.begins.still
+    (start_count c.args.vol c.args.core.now c.begin_first.new.core (g.S.Shelf.meaning c.args.shelf.now) (g.S.Shelf.meaning c.begin_first.new.shelf) c.begin_first.ensures.begins)
+    (start_blocks c.args.vol c.args.core.now c.begin_first.new.core (g.S.Shelf.meaning c.args.shelf.now) (g.S.Shelf.meaning c.begin_first.new.shelf) c.begin_first.ensures.begins) c.begin_first.ensures.first c.begin_first.ensures.news (λ k at f is. ((c.begin_first.ensures.stands.each c.args.vol k at).on refl).fits.fmr f is)
     (first_region c.args.block) (last_region c.args.block (length c.args.bytes.now / 512)) (is_alike c.args.alike.now c.args.vol) c.write_whole-2.result (g.S.Shelf.meaning c.write_whole-2.new.shelf) c.write_whole-2.ensures.stands.group (c.write_whole-2.ensures.loses.loses.frames c.args.vol) (c.write_whole-2.ensures.goes.size c.args.vol)
     (λ w apart. ap fmr_or (c.write_whole-2.ensures.marks.others w apart ∙ c.begin_first.ensures.first.others w apart)) c.write_whole-2.ensures.gone (λ alike. c.write_whole-2.ensures.begins alike off) c.write_whole-2.ensures.notes (c.write_whole-2.ensures.holds off)
 
