@@ -91,7 +91,7 @@ impl<S: Shelf> Shelf for LoggedGroup<S> {
         ensures begins { is_alike self.old.alike unit ≡ true → self.new.stopped ≡ false → OnOk result (RunsMaps (fell_in self.old.core self.new.core unit) unit (first_region block) (last_region block (length bytes.now / 512)) self.new.logs.items) }
         ensures moves { self.new.stopped ≡ false → MovesRun self.old.core.inner.config self.new.core.inner.config unit (first_region block) (last_region block (length bytes.now / 512)) (is_alike self.old.alike unit) self.old.logs.items self.new.logs.items result }
         ensures comes { MapsBeginIn (only_volume unit) self.old.core.inner.config self.new.core.inner.config self.old.stopped self.new.stopped self.old.logs.items self.new.logs.items }
-        ensures ends { MapsEnd self.old.core.inner.config self.new.core.inner.config self.old.stopped self.new.stopped self.old.logs.items self.new.logs.items (S.meaning self.old.shelf) (S.meaning self.new.shelf) }
+        ensures ends_maps { MapsEnd self.old.core.inner.config self.new.core.inner.config self.old.stopped self.new.stopped self.old.logs.items self.new.logs.items (S.meaning self.old.shelf) (S.meaning self.new.shelf) }
         ensures stays { self.old.stopped ≡ true → self.new.stopped ≡ true }
         ensures alike { OnOk result (self.new.alike ≡ self.old.alike) }
         ensures flags { (w : ℕ) → (w ≡ unit → ⊥) → is_alike self.new.alike w ≡ is_alike self.old.alike w }

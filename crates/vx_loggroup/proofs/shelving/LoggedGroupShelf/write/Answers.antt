@@ -36,12 +36,12 @@ pub returns-clause-moves : goal.returns-clause-moves
 returns-clause-moves g c = c.write_fresh.ensures.moves
 
 pub returns-clause-comes : goal.returns-clause-comes
-returns-clause-comes g c = maps_come c.args.self.now.core.inner.config c.write_fresh.new.core.inner.config c.write_fresh.new.logs.items c.write_fresh.ensures.loses.loses.frames c.write_fresh.ensures.loses.loses.disks.stays (trusts_maps c.args.unit c.args.self.now.core.inner.config c.write_fresh.new.core.inner.config c.write_fresh.new.logs.items c.write_fresh.ensures.trusts)
+returns-clause-comes g c = maps_come c.args.self.now.core.inner.config c.write_fresh.new.core.inner.config c.write_fresh.new.logs.items (λ v r at. frames_places c.args.self.now.core.inner.config c.write_fresh.new.core.inner.config c.write_fresh.ensures.loses.loses.frames v Fmr r at) c.write_fresh.ensures.loses.loses.disks.stays (trusts_maps c.args.unit c.args.self.now.core.inner.config c.write_fresh.new.core.inner.config c.write_fresh.new.logs.items c.write_fresh.ensures.trusts)
     (only_volume c.args.unit) c.args.self.now.logs.items c.args.self.now.stopped c.write_fresh.new.stopped c.write_fresh.ensures.stays
     (new_here c.args.unit c.args.self.now.logs.items c.write_fresh.new.logs.items (λ w apart. ap fmr_or (c.write_fresh.ensures.marks.others w apart)))
 
-pub returns-clause-ends : goal.returns-clause-ends
-returns-clause-ends g c = maps_end c.args.self.now.core c.write_fresh.new.core c.args.self.now.logs.items c.write_fresh.new.logs.items c.args.self.now.stopped c.write_fresh.new.stopped (g.S.Shelf.meaning c.args.self.now.shelf) (g.S.Shelf.meaning c.write_fresh.new.shelf) c.write_fresh.ensures.keeps
+pub returns-clause-ends_maps : goal.returns-clause-ends_maps
+returns-clause-ends_maps g c = maps_end c.args.self.now.core c.write_fresh.new.core c.args.self.now.logs.items c.write_fresh.new.logs.items c.args.self.now.stopped c.write_fresh.new.stopped (g.S.Shelf.meaning c.args.self.now.shelf) (g.S.Shelf.meaning c.write_fresh.new.shelf) c.write_fresh.ensures.keeps
     c.write_fresh.ensures.loses.loses.disks.blamed (λ off on. let full = c.write_fresh.ensures.full off on in omega (arith, full)) (λ v r at. frames_places c.args.self.now.core.inner.config c.write_fresh.new.core.inner.config c.write_fresh.ensures.loses.loses.frames v Fmr r at)
 
 pub returns-clause-stays : goal.returns-clause-stays
