@@ -33,6 +33,7 @@ pub mod MovedLemmas
 pub mod VolumeMoves
 pub mod WroteMoves
 pub mod DetMoves
+pub mod RestMaps
 pub mod ThenMoves
 pub mod EndedLemmas
 pub mod ComesLemmas

@@ -15,13 +15,17 @@ use Rattle.vx_groupmaps.specs.Loading.{on_failed_disk}
 use Rattle.vx_copyfmt.specs.Imports.{Found}
 use Rattle.vx_kept.specs.Groups.{found}
 use Rattle.vx_kept.specs.LogRuns.{log_trusted}
+use Rattle.vx_logimport.specs.Rests.{rests}
+use Rattle.vx_logimport.specs.declared.rested.Rested.{Rested}
 use Rattle.vx_logs.specs.Held.{InUse, logged_in}
 use Rattle.vx_logs.specs.Marks.{stride_of}
 use Rattle.vx_logs.specs.declared.logs.Logs.{Logs}
 use Rattle.vx_maplog.specs.Logs.{log_of}
+use Rattle.vx_model.specs.declared.errors.Stop.{Stop}
 use Rattle.vx_volume.specs.Plexes.{active}
 use Rattle.vx_logged.specs.Holds.{HoldsRun, TheseHold}
 use Rattle.vx_loggroup.specs.Attaching.{fmr_at}
+use Rattle.vx_loggroup.specs.LoggedVolumes.{is_alike}
 
 -- whether attaches of the plexes of a volume go by its maps in memory
 abbrev pub goes_by : List Logs → Config → Bool → ℕ → Bool
@@ -129,3 +133,17 @@ pub record MapsTaken (old : Meaning) (d : Config) (logs : List Logs) : Type 0 wh
 -- What the disks have of the maps that were in memory as a group was deported, whatever a crash leaves.
 pub record MapsStand (logs : List Logs) (m : Meaning) : Type 0 where
   pub each : (v : ℕ) (f : Missed) → fmr_at logs v ≡ Some f → MapOn f.map m
+
+-- What a deport answers of volumes whose maps are in memory, and of those whose plexes are alike.
+pub record RestsMaps (logs : List Logs) (alike : List Bool) (r : Rested) : Type 0 where
+  pub maps : (v : ℕ) (f : Missed) → fmr_at logs v ≡ Some f → rests r.maps v ≡ true
+  pub same : (v : ℕ) → is_alike alike v ≡ true → rests r.alike v ≡ true
+
+abbrev pub RestsOr : List Logs → List Bool → Option Rested → Type 0
+RestsOr logs alike None = Unit {0}
+RestsOr logs alike (Some r) = RestsMaps logs alike r
+
+-- of a group that is handed out
+abbrev pub DeportMaps : {S G : Type 0} → (S → Meaning) → List Logs → List Bool → Bool → Result (S × Option Rested) (G × Stop) → Type 0
+DeportMaps meaning logs alike stopped (Ok x) = (stopped ≡ false → MapsStand logs (meaning x.0)) × RestsOr logs alike x.1
+DeportMaps meaning logs alike stopped (Err e) = Unit {0}
