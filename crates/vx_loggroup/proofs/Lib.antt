@@ -13,6 +13,7 @@ pub mod DetachedLogs
 pub mod MadeLogs
 pub mod StillLemmas
 pub mod TakenMaps
+pub mod TookLemmas
 pub mod SettleLemmas
 pub mod FreshLemmas
 pub mod NewLemmas
