@@ -12,7 +12,7 @@ use Rattle.vx_group.specs.Holding.{wide}
 use Rattle.vx_group.specs.declared.group_core.GroupCore.{GroupCore}
 use Rattle.vx_group.specs.declared.group_core.Held.{Held}
 use Rattle.vx_logs.specs.declared.logs.Logs.{Logs}
-use Rattle.vx_volume.specs.Plexes.{Inside, active}
+use Rattle.vx_volume.specs.Plexes.{active}
 use Rattle.vx_loggroup.specs.Attaching.{fmr_at, fmr_or}
 use Rattle.vx_loggroup.specs.Detaching.{MapIsEmpty, MapsBegin}
 use Rattle.vx_loggroup.specs.Fresh.{ListMaps, LogsFirst}

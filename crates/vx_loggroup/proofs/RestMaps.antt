@@ -1,5 +1,5 @@
 -- What the disks have of the maps of missed regions that were in memory as a group was deported.
-use Rattle.std.proofs.Common.{List, Bool, false, length, refl, arith}
+use Rattle.std.proofs.Common.{List, Bool, false, refl, arith}
 use Rattle.std.proofs.lemmas.Option.{slice_get_within}
 use Rattle.vx_disk.specs.Shelf.{Meaning}
 use Rattle.vx_group.specs.Deports.{DeportedBy}

@@ -28,7 +28,6 @@ use Rattle.vx_logs.specs.Marks.{stride_of}
 use Rattle.vx_logs.specs.declared.logs.Logs.{Logs}
 use Rattle.vx_model.specs.Content.{block_of}
 use Rattle.vx_model.specs.Sizes.{map_blocks, regions_of}
-use Rattle.vx_loggroup.specs.Attaching.{fmr_at}
 use Rattle.vx_loggroup.specs.Moving.{IsThere, MapTaken, MapsTaken}
 use Rattle.vx_loggroup.specs.Taking.{MapWas, MapsShrink, MapsWere, MapsWhy}
 use Rattle.vx_loggroup.proofs.NewLemmas.{HasMaps, has_maps}
