@@ -47,8 +47,8 @@ pub fn actives(config: &Config, vol: u32) -> [bool; MOST_PLEXES]
     was
 }
 
-// Whether a plex is one of a list, and is not ACTIVE.
-fn fell(core: &GroupCore, was: &[bool; MOST_PLEXES], vol: u32, plex: u32) -> bool
+/// Whether a plex is one of a list, and is not ACTIVE.
+pub fn fell(core: &GroupCore, was: &[bool; MOST_PLEXES], vol: u32, plex: u32) -> bool
     requires few { plex < MOST_PLEXES }
     ensures { result ≡ fell_now was.now core.now vol plex }
 {

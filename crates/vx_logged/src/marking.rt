@@ -13,6 +13,7 @@ ghost use Rattle.vx_grouplogs.specs.Marking.{MarksOnly};
 ghost use Rattle.vx_groupmaps.specs.Knowing.{MapsNote, PlexesKnow, or_off};
 ghost use Rattle.vx_groupmaps.specs.Missing.{HoldMissed};
 ghost use Rattle.vx_logged.specs.Behind.{MapSaid};
+ghost use Rattle.vx_logged.specs.Holds.{HoldsRun};
 ghost use Rattle.vx_logged.specs.Logged.{KnownBy, LogOn, MayWrite, Narrowed, OthersOn, TrustsIn, are_off};
 ghost use Rattle.vx_logs.specs.Writes.{first_region, last_region};
 ghost use Rattle.vx_model.specs.Sizes.{regions_of as regions_in};
@@ -55,6 +56,7 @@ pub fn mark_group<S: Shelf>(
     ensures notes { MapsNote (are_off core.new vol) (first_region block) (last_region block count) logs.old logs.new }
     ensures said { IfOk result (λ done. done ≡ true → MapSaid core.new vol logs.new) }
     ensures missed { IfOk result (λ done. done ≡ true → HoldMissed (wide core.old).config vol (first_region block) (last_region block count) logs.new) }
+    ensures holds { IfOk result (λ done. done ≡ true → HoldsRun core.new.inner.config vol (first_region block) (last_region block count) logs.new) }
     ensures may { IfOk result (λ done. done ≡ true → MayWrite core.new vol (first_region block) (last_region block count) logs.new) }
     ensures full { IfOk result (λ done. done ≡ false → greatest ≤ core.old.inner.config.serial + 18) }
     ensures spent { IfOk result (λ done. done ≡ false → greatest ≤ core.new.inner.config.serial + 9) }

@@ -16,7 +16,7 @@ use Rattle.vx_grouplogs.proofs.LogShape.{same_count}
 use Rattle.vx_grouplogs.specs.Gone.{has_log}
 use Rattle.vx_logged.specs.Begun.{fell_in}
 use Rattle.vx_logged.specs.Behind.{those_missing}
-use Rattle.vx_logged.specs.Holds.{HoldsRun, TheseHold}
+use Rattle.vx_logged.specs.Holds.{HoldsRun}
 use Rattle.vx_logged.specs.Logged.{TrustsIn, are_off}
 use Rattle.vx_kept.specs.Keeping.{frame_at}
 use Rattle.vx_logs.specs.declared.logs.Logs.{Logs}
@@ -25,8 +25,8 @@ use Rattle.vx_volume.specs.Plexes.{active}
 use Rattle.vx_loggroup.specs.Attaching.{fmr_at, fmr_or}
 use Rattle.vx_loggroup.specs.Fresh.{ListMaps, LogsFirst}
 use Rattle.vx_loggroup.specs.Keeping.{logs_at, logs_or}
-use Rattle.vx_loggroup.specs.Marks.{NotesMaps, RunsMaps}
-use Rattle.vx_loggroup.specs.Moving.{FollowsRun, IsThere, MapsDoubt, MovesRun, RunFallen, RunHolds, in_run}
+use Rattle.vx_loggroup.specs.Marks.{HoldMaps, NotesMaps, RunsMaps}
+use Rattle.vx_loggroup.specs.Moving.{FollowsRun, IsThere, MapsDoubt, MovesRun, RunHolds, in_run}
 use Rattle.vx_loggroup.proofs.FreshLemmas.{fell_first}
 use Rattle.vx_loggroup.proofs.MovedLemmas.{doubt_run}
 use Rattle.vx_loggroup.proofs.NewLemmas.{HasMaps, begun_missed, has_maps, maps_at}
@@ -44,9 +44,6 @@ gone_set v ls l k at gone none = by (slice_get (set ls v k) v) refl
 
 pub holds_set : (c : Config) (v first last : ℕ) (ls : List Logs) (k : Logs) → HoldsRun c v first last k → RunHolds c v first last (set ls v k)
 holds_set c v first last ls k holds = record { here = λ y now. subst (λ (z : Logs). HoldsRun c v first last z) (set_here ls v k y now) holds }
-
-pub fallen_set : (these : ℕ → Bool) (v first last : ℕ) (ls : List Logs) (k : Logs) → TheseHold these first last k → RunFallen these v first last (set ls v k)
-fallen_set these v first last ls k holds = record { here = λ y now. subst (λ (z : Logs). TheseHold these first last z) (set_here ls v k y now) holds }
 
 pub trusts_set : (v : ℕ) (ls : List Logs) (k : Logs) (c d : Config) → TrustsIn v k c d → TrustsIn v (logs_at (set ls v k) v) c d
 trusts_set v ls k c d trusts = record { each = λ w log has told. trusts.each w log (λ same. by log (slice_get (set ls v k) v) refl (has same)) told }
@@ -149,7 +146,7 @@ module _ (c e d : GroupCore) (v n : ℕ) (ls ks js : List Logs) (still : (w p : 
             write_moves c.inner.config d.inner.config v first_r last_r ls js others sure (are_off d v) (λ p off. off_inner d v p z stands off) (map_from first_r last_r (are_off d v) notes gone) (λ is. run_of (runs is)) (holds_all holds)
         by (Err x) notes holds runs = write_doubts c.inner.config d.inner.config v first_r last_r ls js others (map_from first_r last_r (λ p. true) notes gone)
 
-    pub run_follows : NotesMaps (fell_in e d v) (are_off d v) v first_r last_r ks js → OnOk r (RunFallen (fell_in e d v) v first_r last_r js) → FollowsRun c.inner.config d.inner.config v first_r last_r sure ls js r
+    pub run_follows : NotesMaps (fell_in e d v) (are_off d v) v first_r last_r ks js → OnOk r (HoldMaps (fell_in e d v) v first_r last_r js) → FollowsRun c.inner.config d.inner.config v first_r last_r sure ls js r
     run_follows notes holds = by r holds runs
       where
         fell_is : (x y : Bool) → x ≡ true → y ≡ false → (x && not y) ≡ true
@@ -157,7 +154,7 @@ module _ (c e d : GroupCore) (v n : ℕ) (ls ks js : List Logs) (still : (w p : 
         fell_is true true on off = let clash : true ≡ false = off in cc
         fell_is false y on off = let clash : false ≡ true = on in cc
 
-        holds_these : RunFallen (fell_in e d v) v first_r last_r js → (p r : ℕ) (g : Missed) → fmr_at js v ≡ Some g → IsThere c.inner.config v p r → active c.inner.config v p ≡ true → active d.inner.config v p ≡ false → first_r ≤ r → r ≤ last_r → has_missed g p r ≡ true
+        holds_these : HoldMaps (fell_in e d v) v first_r last_r js → (p r : ℕ) (g : Missed) → fmr_at js v ≡ Some g → IsThere c.inner.config v p r → active c.inner.config v p ≡ true → active d.inner.config v p ≡ false → first_r ≤ r → r ≤ last_r → has_missed g p r ≡ true
         holds_these run p r g at it on off lo hi =
             let now : HasMaps js v g = has_maps js v g at in
             (run.here now.logs now.at).each g now.has p r (fell_first c e d v still p ∙ fell_is (active c.inner.config v p) (active d.inner.config v p) on off) lo hi
@@ -175,7 +172,7 @@ module _ (c e d : GroupCore) (v n : ℕ) (ls ks js : List Logs) (still : (w p : 
             any_run (inl was) = inl was
             any_run (inr run) = inr (refl, run.1, run.2)
 
-        by : (r : Result T E) → OnOk r (RunFallen (fell_in e d v) v first_r last_r js) → (sure ≡ true → OnOk r (RunsMaps (fell_in e d v) v first_r last_r js)) → FollowsRun c.inner.config d.inner.config v first_r last_r sure ls js r
+        by : (r : Result T E) → OnOk r (HoldMaps (fell_in e d v) v first_r last_r js) → (sure ≡ true → OnOk r (RunsMaps (fell_in e d v) v first_r last_r js)) → FollowsRun c.inner.config d.inner.config v first_r last_r sure ls js r
         by (Ok x) holds runs =
             flush_moves c.inner.config d.inner.config v first_r last_r ls js others sure (are_off d v) (λ p off. off_inner d v p z stands off) (map_from first_r last_r (are_off d v) notes gone) (λ is. run_of (runs is)) (holds_these holds)
         by (Err x) holds runs = write_doubts c.inner.config d.inner.config v first_r last_r ls js others any_from

@@ -23,7 +23,7 @@ use Rattle.vx_logs.specs.declared.logs.Logs.{Logs}
 use Rattle.vx_maplog.specs.Logs.{log_of}
 use Rattle.vx_model.specs.declared.errors.Stop.{Stop}
 use Rattle.vx_volume.specs.Plexes.{active}
-use Rattle.vx_logged.specs.Holds.{HoldsRun, TheseHold}
+use Rattle.vx_logged.specs.Holds.{HoldsRun}
 use Rattle.vx_loggroup.specs.Attaching.{fmr_at}
 use Rattle.vx_loggroup.specs.LoggedVolumes.{is_alike}
 
@@ -102,12 +102,9 @@ abbrev pub MovesDet : {T E : Type 0} → Config → Config → (vol plex : ℕ) 
 MovesDet c d vol plex sure l k (Ok x) = MapsMove c d in_none (this_anew vol plex sure) l k
 MovesDet c d vol plex sure l k (Err e) = MapsMove c d in_none in_none l k
 
--- the maps of a volume, where they are in memory, have a run: of each plex that is not ACTIVE, or of these
+-- the maps of a volume, where they are in memory, have a run of each plex that is not ACTIVE
 pub record RunHolds (c : Config) (v first last : ℕ) (logs : List Logs) : Type 0 where
   pub here : (l : Logs) → slice_get logs v ≡ Some l → HoldsRun c v first last l
-
-pub record RunFallen (these : ℕ → Bool) (v first last : ℕ) (logs : List Logs) : Type 0 where
-  pub here : (l : Logs) → slice_get logs v ≡ Some l → TheseHold these first last l
 
 -- Maps come to memory in a call of one volume alone; where they were there and are gone by no more, they are.
 pub record MapsBeginIn (may : ℕ → Bool) (c d : Config) (s t : Bool) (l k : List Logs) : Type 0 where
