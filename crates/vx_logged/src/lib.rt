@@ -14,6 +14,7 @@ mod marking;
 mod missing;
 mod readying;
 mod refusing;
+mod spending;
 mod writing;
 
 pub use clearing::clear_group;
@@ -24,4 +25,5 @@ pub use keeping::{keep_logs, keep_map};
 pub use marking::mark_group;
 pub use missing::flush_behind;
 pub use readying::ready_group;
+pub use spending::flush_noted;
 pub use writing::write_marked;

@@ -103,6 +103,12 @@ new_here vol l k others v some none = elim (cases_eq v vol) [
 pub new_none : (l k : List Logs) → ((w : ℕ) → fmr_at l w ≡ None → fmr_at k w ≡ None) → (v : ℕ) → is_some (fmr_at k v) ≡ true → fmr_at l v ≡ None → no_volume v ≡ true
 new_none l k gone v some none = absurd (let clash : false ≡ true = sym (ap (λ (o : Option Missed). is_some o) (gone v none)) ∙ some in cc)
 
+pub gone_by : (vol : ℕ) (l k : List Logs) → (fmr_at l vol ≡ None → fmr_at k vol ≡ None) → ((w : ℕ) → (w ≡ vol → ⊥) → fmr_at k w ≡ fmr_at l w) → (w : ℕ) → fmr_at l w ≡ None → fmr_at k w ≡ None
+gone_by vol l k here others w none = elim (cases_eq w vol) [
+  | inl same ↦ ap (fmr_at k) same ∙ here (ap (fmr_at l) (sym same) ∙ none)
+  | inr apart ↦ others w apart ∙ none
+]
+
 -- ---- an attach
 
 module _ (c d : Config) (l k : List Logs) (held : MapsHeld c l k) where

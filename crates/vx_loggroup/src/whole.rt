@@ -1,7 +1,7 @@
 // Calls on a volume of a group with logs, and what they leave of all volumes.
 ghost use Rattle.vx_loggroup.specs.Attaching.{fmr_at};
 ghost use Rattle.vx_loggroup.specs.Keeping.{LogsKeep, LogsKept, logs_at};
-ghost use Rattle.vx_loggroup.specs.Moving.{RunHolds};
+ghost use Rattle.vx_loggroup.specs.Moving.{FollowsRun, RunHolds};
 ghost use Rattle.vx_group.specs.Finds.{GroupFinds};
 ghost use Rattle.std.specs.Prelude.{◌≡◌, ◌⊎◌, ◌+◌, ◌/◌, ◌<◌, ◌≤◌, ℕ, None, false, length, true, IfErr, OnOk};
 ghost use Rattle.vx_config.specs.Table.{greatest};
@@ -21,7 +21,7 @@ ghost use Rattle.vx_model.specs.declared.limits.TheConstants.{MOST_VOLUMES};
 use crate::alike::{is_alike, is_sure, set_alike};
 use vx_disk::{Shelf, ShelfError};
 use vx_group::GroupCore;
-use vx_logged::{flush_behind, flush_cleared, write_marked};
+use vx_logged::{flush_cleared, flush_noted, write_marked};
 use vx_logs::Logs;
 use vx_model::limits::MOST_VOLUMES;
 
@@ -112,7 +112,7 @@ pub fn flush_whole<S: Shelf>(
 }
 
 /// Makes a volume durable behind a write of a run of its blocks, as `flush_whole` does. A plex that fails in it misses the regions of the run, and
-/// where its plexes are alike no others, unless no serial is left.
+/// where its plexes are alike no others.
 pub fn flush_run<S: Shelf>(
     shelf: &mut S,
     core: &mut GroupCore,
@@ -134,15 +134,18 @@ pub fn flush_run<S: Shelf>(
     ensures finds { GroupFinds core.old core.new (S.meaning shelf.old) (S.meaning shelf.new) }
     ensures marks { MarksVolume (wide core.old).config vol (first_region block) (last_region block count) logs.old.items logs.new.items }
     ensures maps { NotesMaps (fell_in core.old core.new vol) (are_off core.new vol) vol (first_region block) (last_region block count) logs.old.items logs.new.items }
-    ensures begins { is_alike_is alike.now vol ≡ true → stopped ≡ false → OnOk result (RunsMaps (fell_in core.old core.new vol) vol (first_region block) (last_region block count) logs.new.items ⊎ (greatest ≤ core.new.inner.config.serial + 9)) }
-    ensures holds { stopped ≡ false → 0 < count → OnOk result (HoldMaps (fell_in core.old core.new vol) vol (first_region block) (last_region block count) logs.new.items ⊎ (greatest ≤ core.new.inner.config.serial + 9)) }
+    ensures begins { is_alike_is alike.now vol ≡ true → stopped ≡ false → OnOk result (RunsMaps (fell_in core.old core.new vol) vol (first_region block) (last_region block count) logs.new.items) }
+    ensures holds { stopped ≡ false → 0 < count → OnOk result (HoldMaps (fell_in core.old core.new vol) vol (first_region block) (last_region block count) logs.new.items) }
+    ensures moves { stopped ≡ false → 0 < count → FollowsRun core.old.inner.config core.new.inner.config vol (first_region block) (last_region block count) (is_alike_is alike.now vol) logs.old.items logs.new.items result }
+    ensures gone { fmr_at logs.old.items vol ≡ None → fmr_at logs.new.items vol ≡ None }
+    ensures trusts { TrustsIn vol (logs_at logs.new.items vol) core.old.inner.config core.new.inner.config }
     ensures trust { OnOk result (core.old.inner.committed ≡ true → core.new.inner.committed ≡ true) }
     ensures agreed { IfErr result (λ e. core.old.inner.committed ≡ true → core.new.inner.agreed ≡ true) }
     ensures cause { Cause (inner_meaning (wide core.old) (S.meaning shelf.old)) (inner_meaning (wide core.new) (S.meaning shelf.new)) vol result }
 {
     let down = shelf.is_down();
     let sure = is_sure(is_alike(alike, vol), stopped, down);
-    flush_behind(
+    flush_noted(
         shelf,
         core,
         &mut logs[vol as usize],
