@@ -77,11 +77,11 @@ these_hold c d v first last was l many exists it = record {
 pub none_hold : (core : GroupCore) (v first last : ℕ) (was : List Bool) (l : Logs) (m : Meaning) → GroupStands core m → ((p : ℕ) → was_on was p ≡ true → p < plexes_of core.inner.config v) → NoneFell was core v 8 → TheseHold (fell_now was core v) first last l
 none_hold core v first last was l m stands exists none = record {
   each = λ f is p r fell lo hi. absurd (
-    let low = exists p (first_flag was core v p fell) in
-    let few = count_few core.inner.config (narrow_sound core m stands) v in
-    let clash : false ≡ true = sym (none.each p (omega (arith, low, few))) ∙ fell in
-    cc
-  );
+      let low = exists p (first_flag was core v p fell) in
+      let few = count_few core.inner.config (narrow_sound core m stands) v in
+      let clash : false ≡ true = sym (none.each p (omega (arith, low, few))) ∙ fell in
+      cc
+      );
 }
 
 pub less_hold : (fell these : ℕ → Bool) (first last : ℕ) (l : Logs) → ((p : ℕ) → fell p ≡ true → these p ≡ true) → TheseHold these first last l → TheseHold fell first last l

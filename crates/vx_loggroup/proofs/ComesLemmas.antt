@@ -57,7 +57,7 @@ module _ (c d : Config) (k : List Logs) (places : (v : ℕ) (r : Subdisk) → lo
   same_place : (v : ℕ) (e f : LogEntry) → log_of c v Fmr ≡ Some e → log_of d v Fmr ≡ Some f → f.disk ≡ e.disk
   same_place v e f at now =
       let both : Some (record { disk = f.disk; start = f.start; blocks = f.blocks }) ≡ Some (record { disk = e.disk; start = e.start; blocks = e.blocks }) =
-          sym (place_of d v f now) ∙ places v (record { disk = e.disk; start = e.start; blocks = e.blocks }) (place_of c v e at) in
+      sym (place_of d v f now) ∙ places v (record { disk = e.disk; start = e.start; blocks = e.blocks }) (place_of c v e at) in
       ap (λ (r : Option Subdisk). disk_of r) both
     where
       disk_of : Option Subdisk → ℕ

@@ -56,7 +56,7 @@ module _ (c : Config) (l k : List Logs) (v : ℕ) (same : fmr_at k v ≡ fmr_at 
 module _ (c d : Config) (vol first last : ℕ) (sure : Bool) (l k : List Logs) (others : (w : ℕ) → (w ≡ vol → ⊥) → fmr_at k w ≡ fmr_at l w) where
   -- what a map has besides
   most_run : ((p r : ℕ) (g : Missed) → fmr_at k vol ≡ Some g → IsThere c vol p r → has_missed g p r ≡ true
-          → ((active d vol p ≡ false) × (first ≤ r) × (r ≤ last)) ⊎ ((active c vol p ≡ true → active d vol p ≡ false → sure ≡ false) × (missed_in l c vol p r ≡ true)))
+      → ((active d vol p ≡ false) × (first ≤ r) × (r ≤ last)) ⊎ ((active c vol p ≡ true → active d vol p ≡ false → sure ≡ false) × (missed_in l c vol p r ≡ true)))
       → (v p r : ℕ) (g : Missed) → fmr_at k v ≡ Some g → IsThere c v p r → has_missed g p r ≡ true
       → ((active d v p ≡ false) × (in_run vol first last v r ≡ true)) ⊎ ((active c v p ≡ true → active d v p ≡ false → all_anew vol sure v p ≡ false) × (missed_in l c v p r ≡ true))
   most_run only v p r g at it has = elim (cases_eq v vol) [
@@ -86,7 +86,7 @@ module _ (c d : Config) (vol first last : ℕ) (sure : Bool) (l k : List Logs) (
 
   -- a write that is done, by what it makes of the volume
   pub move_run : ((p r : ℕ) (g : Missed) → fmr_at k vol ≡ Some g → IsThere c vol p r → has_missed g p r ≡ true
-          → ((active d vol p ≡ false) × (first ≤ r) × (r ≤ last)) ⊎ ((active c vol p ≡ true → active d vol p ≡ false → sure ≡ false) × (missed_in l c vol p r ≡ true)))
+      → ((active d vol p ≡ false) × (first ≤ r) × (r ≤ last)) ⊎ ((active c vol p ≡ true → active d vol p ≡ false → sure ≡ false) × (missed_in l c vol p r ≡ true)))
       → ((p r : ℕ) (g : Missed) → fmr_at k vol ≡ Some g → IsThere c vol p r → active d vol p ≡ false → first ≤ r → r ≤ last → has_missed g p r ≡ true)
       → ((p r : ℕ) (g : Missed) → fmr_at k vol ≡ Some g → IsThere c vol p r → active c vol p ≡ false → active d vol p ≡ false → missed_in l c vol p r ≡ true → has_missed g p r ≡ true)
       → MapsMove c d (in_run vol first last) (all_anew vol sure) l k
@@ -101,7 +101,7 @@ module _ (c d : Config) (vol first last : ℕ) (sure : Bool) (l k : List Logs) (
 
   -- and the flush behind it
   pub follow_run : ((p r : ℕ) (g : Missed) → fmr_at k vol ≡ Some g → IsThere c vol p r → has_missed g p r ≡ true
-          → ((active d vol p ≡ false) × (first ≤ r) × (r ≤ last)) ⊎ ((active c vol p ≡ true → active d vol p ≡ false → sure ≡ false) × (missed_in l c vol p r ≡ true)))
+      → ((active d vol p ≡ false) × (first ≤ r) × (r ≤ last)) ⊎ ((active c vol p ≡ true → active d vol p ≡ false → sure ≡ false) × (missed_in l c vol p r ≡ true)))
       → ((p r : ℕ) (g : Missed) → fmr_at k vol ≡ Some g → IsThere c vol p r → active c vol p ≡ true → active d vol p ≡ false → first ≤ r → r ≤ last → has_missed g p r ≡ true)
       → ((p r : ℕ) (g : Missed) → fmr_at k vol ≡ Some g → IsThere c vol p r → active c vol p ≡ false → active d vol p ≡ false → missed_in l c vol p r ≡ true → has_missed g p r ≡ true)
       → MapsFollow c d (in_run vol first last) (all_anew vol sure) l k

@@ -95,14 +95,14 @@ module _ (c d : Config) (vol first last : ℕ) (l k : List Logs) (others : (w : 
     write_doubts =
         doubt_run c d vol first last false l k others
         (λ p r g at it has.
-            let f = from g at in
-            elim (f.only p r (low_old p (plexes_of c vol) f.map.plexes it.plex f.begun.plexes) (low_old r (copied_regions c vol) f.map.stride it.region f.begun.stride) has) [
-              | inl was ↦ inr (sym (f.begun.same p r it) ∙ was)
-              | inr run ↦ inl (run.1, run.2)
-            ])
+        let f = from g at in
+        elim (f.only p r (low_old p (plexes_of c vol) f.map.plexes it.plex f.begun.plexes) (low_old r (copied_regions c vol) f.map.stride it.region f.begun.stride) has) [
+          | inl was ↦ inr (sym (f.begun.same p r it) ∙ was)
+          | inr run ↦ inl (run.1, run.2)
+        ])
         (λ p r g at it was away has.
-            let f = from g at in
-            f.stay p r (low_old p (plexes_of c vol) f.map.plexes it.plex f.begun.plexes) (low_old r (copied_regions c vol) f.map.stride it.region f.begun.stride) (fell_none (active c vol p) (active d vol p) was) (f.begun.same p r it ∙ has))
+        let f = from g at in
+        f.stay p r (low_old p (plexes_of c vol) f.map.plexes it.plex f.begun.plexes) (low_old r (copied_regions c vol) f.map.stride it.region f.begun.stride) (fell_none (active c vol p) (active d vol p) was) (f.begun.same p r it ∙ has))
 
 -- ---- a detach
 
@@ -124,8 +124,8 @@ module _ (c d : Config) (vol plex : ℕ) (sure : Bool) (l k : List Logs) (others
       let region = low_old r (copied_regions c vol) f.map.stride it.region f.begun.stride in
       elim (cases_eq p plex) [
         | inl same ↦
-          sym (f.begun.same p r it) ∙ ap (λ (q : ℕ). has_missed f.map q r) same
-          ∙ f.fewer r (subst (λ (q : ℕ). q < f.map.plexes) same low) region (subst (λ (q : ℕ). has_missed g q r ≡ true) same has)
+            sym (f.begun.same p r it) ∙ ap (λ (q : ℕ). has_missed f.map q r) same
+            ∙ f.fewer r (subst (λ (q : ℕ). q < f.map.plexes) same low) region (subst (λ (q : ℕ). has_missed g q r ≡ true) same has)
         | inr apart ↦ sym (f.begun.same p r it) ∙ sym (f.others.each p r low region apart) ∙ has
       ]
 
@@ -136,8 +136,8 @@ module _ (c d : Config) (vol plex : ℕ) (sure : Bool) (l k : List Logs) (others
       let region = low_old r (copied_regions c vol) f.map.stride it.region f.begun.stride in
       elim (cases_eq p plex) [
         | inl same ↦
-          ap (λ (q : ℕ). has_missed g q r) same
-          ∙ f.still (subst (λ (q : ℕ). active c vol q ≡ false) same was) r region (subst (λ (q : ℕ). has_missed f.map q r ≡ true) same (f.begun.same p r it ∙ has))
+            ap (λ (q : ℕ). has_missed g q r) same
+            ∙ f.still (subst (λ (q : ℕ). active c vol q ≡ false) same was) r region (subst (λ (q : ℕ). has_missed f.map q r ≡ true) same (f.begun.same p r it ∙ has))
         | inr apart ↦ f.others.each p r low region apart ∙ f.begun.same p r it ∙ has
       ]
 
@@ -169,14 +169,14 @@ module _ (c d : Config) (vol plex : ℕ) (sure : Bool) (l k : List Logs) (others
       was : (v p r : ℕ) (g : Missed) → fmr_at k v ≡ Some g → IsThere c v p r → has_missed g p r ≡ true → missed_in l c v p r ≡ true
       was v p r g at it has = elim (cases_eq v vol) [
         | inl here ↦
-          subst (λ (w : ℕ). missed_in l c w p r ≡ true) (sym here) (was_here p r g (subst (λ (w : ℕ). fmr_at k w ≡ Some g) here at) (subst (λ (w : ℕ). IsThere c w p r) here it) has)
+            subst (λ (w : ℕ). missed_in l c w p r ≡ true) (sym here) (was_here p r g (subst (λ (w : ℕ). fmr_at k w ≡ Some g) here at) (subst (λ (w : ℕ). IsThere c w p r) here it) has)
         | inr other ↦ same_missed c l k v (others v other) p r g at ∙ has
       ]
 
       stays : (v p r : ℕ) (g : Missed) → fmr_at k v ≡ Some g → IsThere c v p r → active c v p ≡ false → missed_in l c v p r ≡ true → has_missed g p r ≡ true
       stays v p r g at it gone has = elim (cases_eq v vol) [
         | inl here ↦
-          stays_here p r g (subst (λ (w : ℕ). fmr_at k w ≡ Some g) here at) (subst (λ (w : ℕ). IsThere c w p r) here it) (subst (λ (w : ℕ). active c w p ≡ false) here gone)
-          (subst (λ (w : ℕ). missed_in l c w p r ≡ true) here has)
+            stays_here p r g (subst (λ (w : ℕ). fmr_at k w ≡ Some g) here at) (subst (λ (w : ℕ). IsThere c w p r) here it) (subst (λ (w : ℕ). active c w p ≡ false) here gone)
+            (subst (λ (w : ℕ). missed_in l c w p r ≡ true) here has)
         | inr other ↦ sym (same_missed c l k v (others v other) p r g at) ∙ has
       ]

@@ -112,7 +112,7 @@ returns-in-Err-clause-moves g c = λ off. first_moves c.args.core.now.inner.conf
 pub returns-clause-moves : goal.returns-clause-moves
 returns-clause-moves g c = λ off.
     let blocks : blocks_of c.begin_before.new.core.inner.config.volumes c.args.vol ≡ blocks_of c.args.core.now.inner.config.volumes c.args.vol =
-        (let old = (wide_shape c.args.core.now).blocks c.args.vol in let new = (wide_shape c.begin_before.new.core).blocks c.args.vol in let size = c.begin_before.ensures.goes.size c.args.vol in omega (arith, old, new, size)) in
+    (let old = (wide_shape c.args.core.now).blocks c.args.vol in let new = (wide_shape c.begin_before.new.core).blocks c.args.vol in let size = c.begin_before.ensures.goes.size c.args.vol in omega (arith, old, new, size)) in
     run_det c.args.core.now c.begin_before.new.core c.det_whole.new.core c.args.vol c.args.plex (region_count (wide c.args.core.now).config c.args.vol) c.args.logs.now.items c.begin_before.new.logs.items c.det_whole.new.logs.items c.begin_before.ensures.still
     (same_count c.args.core.now.inner.config c.begin_before.new.core.inner.config c.args.vol (c.begin_before.ensures.loses.loses.frames c.args.vol) blocks) blocks c.begin_before.ensures.first c.begin_before.ensures.news
     (λ k at f is. ((c.begin_before.ensures.stands.each c.args.vol k at).on off).fits.fmr f is) c.det_whole.ensures.maps
