@@ -41,4 +41,4 @@ pub use keeping::read_whole;
 pub use making::make_fresh;
 pub use opening::{Opened, open_logged};
 pub use racking::{fail_whole, fuse_whole};
-pub use whole::{flush_run, flush_whole, write_whole};
+pub use whole::{flush_whole, write_whole};

@@ -20,7 +20,7 @@ use Rattle.vx_logged.specs.Logged.{are_off}
 use Rattle.vx_logged.proofs.StandLemmas.{not_true}
 use Rattle.vx_logs.specs.Writes.{first_region, last_region}
 use Rattle.vx_loggroup.proofs.KeepingCalls.{marked_keeps}
-use Rattle.vx_loggroup.proofs.whole.flush_run.Goals as goal
+use Rattle.vx_loggroup.proofs.behind.flush_run.Goals as goal
 
 pub index_mut-requires : goal.index_mut-requires
 index_mut-requires g c = let lt = (index_low c.args.core.now c.args.logs.now.items c.args.alike.now c.args.stopped (g.S.Shelf.meaning c.args.shelf.now) c.args.vol c.requires.stands c.requires.there) in omega (arith, c.args.logs.now.ok, lt)
