@@ -1,5 +1,5 @@
 -- Plexes that take no part have noted a run, where each that is STALE has; and plexes that fell in a flush.
-use Rattle.std.proofs.Common.{◌≡◌, ◌⊎◌, inl, inr, ◌+◌, ◌<◌, ◌≤◌, ℕ, Bool, true, false, List, refl, sym, ◌∙◌, ap, subst, arith}
+use Rattle.std.proofs.Common.{◌≡◌, ◌⊎◌, inl, inr, ◌+◌, ◌<◌, ◌≤◌, ℕ, Bool, true, false, IsTrue, List, refl, sym, ◌∙◌, ap, subst, arith}
 use Rattle.std.specs.Prelude.{Some, None, ◌&&◌, not}
 use Rattle.std.proofs.lemmas.Bool.{cases_eq}
 use Rattle.vx_config.specs.Checks.{blocks_of, plexes_of}
@@ -7,7 +7,8 @@ use Rattle.vx_config.specs.declared.config.Config.{Config}
 use Rattle.vx_disk.specs.Shelf.{Meaning}
 use Rattle.vx_group.specs.Holding.{GroupStands, wide}
 use Rattle.vx_group.specs.declared.group_core.GroupCore.{GroupCore}
-use Rattle.vx_group.proofs.HoldLemmas.{narrow_sound, wide_shape}
+use Rattle.vx_group.specs.declared.inner.Inner.{Inner}
+use Rattle.vx_group.proofs.HoldLemmas.{narrow_sound, wide_none, wide_shape}
 use Rattle.vx_grouplogs.specs.Marking.{MarksFewer, MarksOnly}
 use Rattle.vx_grouplogs.proofs.FreshLemmas.{off_stale}
 use Rattle.vx_grouplogs.proofs.LogShape.{same_count}
@@ -19,6 +20,7 @@ use Rattle.vx_volume.specs.Plexes.{active}
 use Rattle.vx_volume.proofs.PlaceLemmas.{count_few}
 use Rattle.vx_logged.specs.Begun.{MapsOff, MapsOfRun, fell_in, fell_now, was_on}
 use Rattle.vx_logged.specs.Holds.{HoldsRun, NoneFell, TheseHold}
+use Rattle.vx_logged.specs.Logged.{Narrowed}
 use Rattle.vx_logged.proofs.BeginLemmas.{first_flag}
 use Rattle.vx_logged.proofs.FallenLemmas.{off_run}
 
@@ -108,3 +110,9 @@ fewer_only n n' first last l k j same one two = record {
 
 pub only_fewer : (n first last : ℕ) (l k : Logs) → MarksFewer n l k → MarksOnly n first last l k
 only_fewer n first last l k one = record { each = λ r lt is. inl (one.each r lt is) }
+
+-- ---- plexes that take no part still do not
+
+-- where none is held back
+pub narrow_inner : (c d : GroupCore) → c.held ≡ None → d.held ≡ None → Narrowed c d → (w p : ℕ) → IsTrue (active d.inner.config w p) → IsTrue (active c.inner.config w p)
+narrow_inner c d none gone narrow w p is = sym (ap (λ (i : Inner). active i.config w p) (wide_none c none)) ∙ narrow.on w p (ap (λ (i : Inner). active i.config w p) (wide_none d gone) ∙ is)

@@ -152,6 +152,7 @@ pub fn mark_fallen<S: Shelf>(
     ensures notes { MapsBut (fell_now was.now core.new vol) (are_off core.new vol) (first_region block) (last_region block count) logs.old logs.new }
     ensures begins { sure ≡ true → IfOk result (λ done. done ≡ true → MapsOfRun (fell_now was.now core.new vol) (first_region block) (last_region block count) logs.new) }
     ensures said { IfOk result (λ done. done ≡ true → MapSaid core.new vol logs.new) }
+    ensures free { IfOk result (λ done. done ≡ true → core.new.held ≡ None) }
     ensures holds { IfOk result (λ done. done ≡ true → HoldsRun core.new.inner.config vol (first_region block) (last_region block count) logs.new) }
     ensures may { IfOk result (λ done. done ≡ true → MayWrite core.new vol (first_region block) (last_region block count) logs.new) }
     ensures spent { IfOk result (λ done. done ≡ false → greatest ≤ core.new.inner.config.serial + 9) }

@@ -21,7 +21,7 @@ use Rattle.vx_loggroup.specs.Moving.{IsThere, MapsBeginIn, MapsDoubt, MapsFollow
 
 -- from configuration c over e to d; no map begins in the second call, and in neither a plex comes to take part
 module _ (c e d : Config) (these anew : ℕ → ℕ → Bool) (l j k : List Logs) (there : (v p r : ℕ) → IsThere c v p r → IsThere e v p r) (middle : (v : ℕ) (g : Missed) → fmr_at k v ≡ Some g → (f : Missed) × (fmr_at j v ≡ Some f))
-    (stays : (v p : ℕ) → active c v p ≡ false → active e v p ≡ false) (rests : (v p : ℕ) → active e v p ≡ false → active d v p ≡ false) where
+    (stays : (v p : ℕ) → active c v p ≡ false → active e v p ≡ false) (rests : (v p r : ℕ) (g : Missed) → fmr_at k v ≡ Some g → these v r ≡ true → active e v p ≡ false → active d v p ≡ false) where
   -- the maps between them
   had_then : (v p r : ℕ) (f : Missed) → fmr_at j v ≡ Some f → missed_in j e v p r ≡ has_missed f p r
   had_then v p r f at = ap (λ (o : Option Missed). missed_by o (active e v p) p r) at
@@ -42,7 +42,7 @@ module _ (c e d : Config) (these anew : ℕ → ℕ → Bool) (l j k : List Logs
       where
         before : (active e v p ≡ true → active d v p ≡ false → anew v p ≡ false) → ((active e v p ≡ false) × (these v r ≡ true)) ⊎ ((active c v p ≡ true → active e v p ≡ false → anew v p ≡ false) × (missed_in l c v p r ≡ true))
             → ((active d v p ≡ false) × (these v r ≡ true)) ⊎ ((active c v p ≡ true → active d v p ≡ false → anew v p ≡ false) × (missed_in l c v p r ≡ true))
-        before later (inl (off, here)) = inl (rests v p off, here)
+        before later (inl (off, here)) = inl (rests v p r g at here off, here)
         before later (inr (keeps, was)) = inr (off_by v p keeps later, was)
 
         by : ((active d v p ≡ false) × (these v r ≡ true)) ⊎ ((active e v p ≡ true → active d v p ≡ false → anew v p ≡ false) × (missed_in j e v p r ≡ true))

@@ -42,6 +42,13 @@ gone_set v ls l k at gone none = by (slice_get (set ls v k) v) refl
     by None is = ap fmr_or is
     by (Some y) is = ap fmr_or is ∙ ap (λ (z : Logs). z.fmr) (sym (set_here ls v k y is)) ∙ gone (sym (maps_at ls v l at) ∙ none)
 
+pub none_set : (v : ℕ) (ls : List Logs) (k : Logs) → k.fmr ≡ None → fmr_at (set ls v k) v ≡ None
+none_set v ls k none = by (slice_get (set ls v k) v) refl
+  where
+    by : (o : Option Logs) → slice_get (set ls v k) v ≡ o → fmr_at (set ls v k) v ≡ None
+    by None is = ap fmr_or is
+    by (Some y) is = ap fmr_or is ∙ ap (λ (z : Logs). z.fmr) (sym (set_here ls v k y is)) ∙ none
+
 pub holds_set : (c : Config) (v first last : ℕ) (ls : List Logs) (k : Logs) → HoldsRun c v first last k → RunHolds c v first last (set ls v k)
 holds_set c v first last ls k holds = record { here = λ y now. subst (λ (z : Logs). HoldsRun c v first last z) (set_here ls v k y now) holds }
 

@@ -173,3 +173,12 @@ returns-then-not-ready-clause-holds g c = λ is. absurd (let clash : false ≡ t
 
 pub returns-clause-holds : goal.returns-clause-holds
 returns-clause-holds g c = c.mark_group.ensures.holds
+
+pub returns-in-Err-clause-free : goal.returns-in-Err-clause-free
+returns-in-Err-clause-free g c = tt
+
+pub returns-then-not-ready-clause-free : goal.returns-then-not-ready-clause-free
+returns-then-not-ready-clause-free g c = λ is. absurd (let clash : false ≡ true = is in cc)
+
+pub returns-clause-free : goal.returns-clause-free
+returns-clause-free g c = c.mark_group.ensures.free

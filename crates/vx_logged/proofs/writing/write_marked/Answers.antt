@@ -288,3 +288,33 @@ returns-then-not-done-clause-holds g c = λ off. holds_none c.mark_fallen.new.co
 
 pub returns-else-not-done-clause-holds : goal.returns-else-not-done-clause-holds
 returns-else-not-done-clause-holds g c = λ off. c.in-Ok-mark_fallen.ensures.holds c.if-not-done.false
+
+pub returns-in-Err-clause-rests : goal.returns-in-Err-clause-rests
+returns-in-Err-clause-rests g c = c.write_first.ensures.rests
+
+pub returns-then-stopped-clause-rests : goal.returns-then-stopped-clause-rests
+returns-then-stopped-clause-rests g c = c.write_first.ensures.rests
+
+pub returns-then-not-done-clause-rests : goal.returns-then-not-done-clause-rests
+returns-then-not-done-clause-rests g c = λ off w p is. c.write_first.ensures.rests off w p (sym (c.mark_fallen.ensures.still w p) ∙ is)
+
+pub returns-else-not-done-clause-rests : goal.returns-else-not-done-clause-rests
+returns-else-not-done-clause-rests g c = λ off w p is. c.write_first.ensures.rests off w p (sym (c.mark_fallen.ensures.still w p) ∙ is)
+
+pub returns-in-Err-mark_fallen-clause-rests : goal.returns-in-Err-mark_fallen-clause-rests
+returns-in-Err-mark_fallen-clause-rests g c = λ off w p is. c.write_first.ensures.rests off w p (sym (c.mark_fallen.ensures.still w p) ∙ is)
+
+pub returns-in-Err-clause-free : goal.returns-in-Err-clause-free
+returns-in-Err-clause-free g c = λ off. tt
+
+pub returns-in-Err-mark_fallen-clause-free : goal.returns-in-Err-mark_fallen-clause-free
+returns-in-Err-mark_fallen-clause-free g c = λ off. tt
+
+pub returns-then-stopped-clause-free : goal.returns-then-stopped-clause-free
+returns-then-stopped-clause-free g c = λ off. absurd (let clash : true ≡ false = sym c.if-stopped.true ∙ off in cc)
+
+pub returns-then-not-done-clause-free : goal.returns-then-not-done-clause-free
+returns-then-not-done-clause-free g c = λ off. inr refl
+
+pub returns-else-not-done-clause-free : goal.returns-else-not-done-clause-free
+returns-else-not-done-clause-free g c = λ off. inl (c.in-Ok-mark_fallen.ensures.free c.if-not-done.false)

@@ -72,3 +72,6 @@ returns-clause-moves g c = λ going some.
     (lists_none c.args.vol (region_count (wide c.args.core.now).config c.args.vol) c.args.logs.now.items) (list_same c.args.core.now.inner.config c.args.vol c.args.logs.now.items) (λ k at f is. ((c.requires.stands.each c.args.vol k at).on going).fits.fmr f is)
     (first_region c.args.block) (last_region c.args.block c.args.count) (is_alike c.args.alike.now c.args.vol) c.flush_noted.result (g.S.Shelf.meaning c.flush_noted.new.shelf) c.flush_noted.ensures.stands (c.flush_noted.ensures.loses.loses.frames c.args.vol) (c.flush_noted.ensures.goes.size c.args.vol)
     (λ w apart. ap fmr_or (set_other c.args.logs.now.items c.args.vol c.flush_noted.new.logs w apart)) (returns-clause-gone g c) (λ alike. returns-clause-begins g c alike going) (returns-clause-maps g c) (returns-clause-holds g c going some)
+
+pub returns-clause-rests : goal.returns-clause-rests
+returns-clause-rests g c = c.flush_noted.ensures.rests

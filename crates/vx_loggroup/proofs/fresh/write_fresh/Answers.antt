@@ -193,3 +193,21 @@ returns-in-Err-clause-flags g c = λ w apart. refl
 
 pub returns-clause-flags : goal.returns-clause-flags
 returns-clause-flags g c = c.write_whole-2.ensures.flags
+
+pub returns-then-not-takes_fresh-clause-rests : goal.returns-then-not-takes_fresh-clause-rests
+returns-then-not-takes_fresh-clause-rests g c = c.write_whole.ensures.rests
+
+pub returns-in-Err-clause-rests : goal.returns-in-Err-clause-rests
+returns-in-Err-clause-rests g c = λ off w p is. sym (c.begin_first.ensures.begins.still w p) ∙ is
+
+pub returns-clause-rests : goal.returns-clause-rests
+returns-clause-rests g c = λ off w p is. sym (c.begin_first.ensures.begins.still w p) ∙ c.write_whole-2.ensures.rests off w p is
+
+pub returns-then-not-takes_fresh-clause-free : goal.returns-then-not-takes_fresh-clause-free
+returns-then-not-takes_fresh-clause-free g c = c.write_whole.ensures.free
+
+pub returns-in-Err-clause-free : goal.returns-in-Err-clause-free
+returns-in-Err-clause-free g c = λ off. tt
+
+pub returns-clause-free : goal.returns-clause-free
+returns-clause-free g c = c.write_whole-2.ensures.free

@@ -1,5 +1,5 @@
 -- `write_whole`: clauses stands and marks; what `write_marked` asks.
-use Rattle.std.proofs.Common.{◌≡◌, ◌∙◌, ◌/◌, true, false, length, refl, sym, arith}
+use Rattle.std.proofs.Common.{◌≡◌, ◌∙◌, ◌/◌, inl, inr, true, false, length, refl, sym, arith}
 use Rattle.vx_disk.specs.Shelf.{Written}
 use Rattle.vx_group.specs.Holding.{wide}
 use Rattle.vx_logs.specs.Writes.{first_region, last_region}
@@ -11,7 +11,7 @@ use Rattle.vx_logged.specs.Logged.{are_off}
 use Rattle.vx_loggroup.proofs.SetLemmas.{item_of}
 use Rattle.vx_loggroup.proofs.KeepingLemmas.{kept_set}
 use Rattle.vx_loggroup.proofs.KeepingCalls.{marked_keeps}
-use Rattle.vx_loggroup.proofs.WroteMoves.{gone_set, holds_set, trusts_set}
+use Rattle.vx_loggroup.proofs.WroteMoves.{gone_set, holds_set, none_set, trusts_set}
 use Rattle.vx_loggroup.proofs.whole.write_whole.Goals as goal
 
 pub index_mut-requires : goal.index_mut-requires
@@ -114,3 +114,18 @@ returns-in-Ok-clause-flags g c = λ w apart. refl
 
 pub returns-in-Err-clause-flags : goal.returns-in-Err-clause-flags
 returns-in-Err-clause-flags g c = c.set_alike.ensures.others
+
+pub returns-in-Ok-clause-rests : goal.returns-in-Ok-clause-rests
+returns-in-Ok-clause-rests g c = c.write_marked.ensures.rests
+
+pub returns-in-Err-clause-rests : goal.returns-in-Err-clause-rests
+returns-in-Err-clause-rests g c = c.write_marked.ensures.rests
+
+pub returns-in-Err-clause-free : goal.returns-in-Err-clause-free
+returns-in-Err-clause-free g c = λ off. tt
+
+pub returns-in-Ok-clause-free : goal.returns-in-Ok-clause-free
+returns-in-Ok-clause-free g c = λ off. elim (c.in-Ok.ensures.free off) [
+  | inl none ↦ inl none
+  | inr gone ↦ inr (none_set c.args.vol c.args.logs.now.items c.write_marked.new.logs gone)
+]

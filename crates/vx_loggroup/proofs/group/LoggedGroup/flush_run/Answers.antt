@@ -43,3 +43,6 @@ returns-clause-ends_maps g c = maps_end c.args.self.now.core c.flush_run.new.cor
 
 pub returns-clause-flags : goal.returns-clause-flags
 returns-clause-flags g c = (refl, refl)
+
+pub returns-clause-rests : goal.returns-clause-rests
+returns-clause-rests g c = c.flush_run.ensures.rests

@@ -52,3 +52,9 @@ returns-clause-alike g c = c.write_fresh.ensures.alike
 
 pub returns-clause-flags : goal.returns-clause-flags
 returns-clause-flags g c = c.write_fresh.ensures.flags
+
+pub returns-clause-rests : goal.returns-clause-rests
+returns-clause-rests g c = c.write_fresh.ensures.rests
+
+pub returns-clause-free : goal.returns-clause-free
+returns-clause-free g c = c.write_fresh.ensures.free
