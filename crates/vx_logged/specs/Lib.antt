@@ -1,5 +1,5 @@
+pub mod Holds
 pub mod Logged
 pub mod Tells
 pub mod Behind
 pub mod Begun
-pub mod Holds
