@@ -1,5 +1,5 @@
 -- Logs whose maps of missed regions are taken out of memory, where no serial is left.
-use Rattle.std.proofs.Common.{◌≡◌, ◌⊎◌, ◌∙◌, ◌+◌, ◌≤◌, inl, inr, ℕ, Bool, Option, None, Some, sym, ap, subst, true}
+use Rattle.std.proofs.Common.{◌≡◌, ◌⊎◌, ◌∙◌, ◌+◌, ◌≤◌, inl, inr, ℕ, Bool, Option, None, Some, sym, ap, subst}
 use Rattle.vx_config.specs.Table.{greatest}
 use Rattle.vx_config.specs.declared.config.Config.{Config}
 use Rattle.vx_disk.specs.Shelf.{Meaning}

@@ -1,5 +1,5 @@
 -- `flush_noted`: its clauses.
-use Rattle.std.proofs.Common.{inl, inr, refl, ℕ}
+use Rattle.std.proofs.Common.{inl, inr, refl}
 use Rattle.vx_config.specs.Checks.{blocks_of}
 use Rattle.vx_group.specs.Holding.{wide}
 use Rattle.vx_grouplogs.specs.Marking.{MarksOnly}
