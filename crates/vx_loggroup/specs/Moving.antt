@@ -103,6 +103,19 @@ abbrev pub MovesDet : {T E : Type 0} → Config → Config → (vol plex : ℕ) 
 MovesDet c d vol plex sure l k (Ok x) = MapsMove c d in_none (this_anew vol plex sure) l k
 MovesDet c d vol plex sure l k (Err e) = MapsMove c d in_none in_none l k
 
+-- An attach by which the map of its plex becomes that of one that was ACTIVE: a map has what it had, or that of the plex what the other one had; one that takes
+-- no part has what it had.
+pub record MapsAttach (c d : Config) (vol plex : ℕ) (l k : List Logs) : Type 0 where
+  pub from : ℕ
+  pub is_on : IsTrue (active c vol from)
+  pub most : (v p r : ℕ) (g : Missed) → fmr_at k v ≡ Some g → IsThere c v p r → has_missed g p r ≡ true → (missed_in l c v p r ≡ true) ⊎ ((v ≡ vol) × (p ≡ plex) × (missed_in l c vol from r ≡ true))
+  pub stay : (v p r : ℕ) (g : Missed) → fmr_at k v ≡ Some g → IsThere c v p r → active c v p ≡ false → active d v p ≡ false → missed_in l c v p r ≡ true → has_missed g p r ≡ true
+
+-- what an attach makes of the maps, by whether it leaves them as they are
+abbrev pub MovesAtt : Bool → Config → Config → (vol plex : ℕ) → List Logs → List Logs → Type 0
+MovesAtt true c d vol plex l k = MapsMove c d in_none in_none l k
+MovesAtt false c d vol plex l k = MapsAttach c d vol plex l k
+
 -- the maps of a volume, where they are in memory, have a run of each plex that is not ACTIVE
 pub record RunHolds (c : Config) (v first last : ℕ) (logs : List Logs) : Type 0 where
   pub here : (l : Logs) → slice_get logs v ≡ Some l → HoldsRun c v first last l
