@@ -42,7 +42,7 @@ attached_on same stopped (Ok x) c d vol plex m leaves refused already ends = by 
   where
     was : (o : Option No) → att_refusal c.inner.config vol plex ≡ o → IsTrue (active c.inner.config vol plex) → IsTrue (active d.inner.config vol plex)
     was None none on = subst (λ (e : GroupCore). IsTrue (active e.inner.config vol plex)) (sym (already none on)) on
-    was (Some no) some on = absurd (let clash : Ok x ≡ Err (Refused no) = refused no some in cc)
+    was (Some why) some on = absurd (let clash : Ok x ≡ Err (Refused why) = refused why some in cc)
 
     by : (b : Bool) → active c.inner.config vol plex ≡ b → IsTrue (active d.inner.config vol plex)
     by true on = was (att_refusal c.inner.config vol plex) refl on
