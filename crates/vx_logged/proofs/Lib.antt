@@ -1,3 +1,4 @@
+pub mod HoldsLemmas
 pub mod StandLemmas
 pub mod TellLemmas
 pub mod MissLemmas
@@ -5,7 +6,6 @@ pub mod RefuseLemmas
 pub mod GoneLogs
 pub mod BeginLemmas
 pub mod FallenLemmas
-pub mod HoldsLemmas
 pub mod SpentLemmas
 pub mod EmptyLemmas
 pub mod CopyLemmas

@@ -1,6 +1,6 @@
+pub mod Holds
 pub mod Logged
 pub mod Tells
 pub mod Behind
 pub mod Begun
-pub mod Holds
 pub mod Copied

@@ -1,6 +1,6 @@
 // A flush: where no serial is left to commit that a log is lost, no map of missed regions is gone by.
 ghost use Rattle.vx_group.specs.Finds.{GroupFinds};
-ghost use Rattle.std.specs.Prelude.{◌≡◌, ◌⊎◌, ◌+◌, ◌<◌, ◌≤◌, None, true, IfErr, OnOk};
+ghost use Rattle.std.specs.Prelude.{◌≡◌, ◌⊎◌, ◌+◌, ◌<◌, ◌≤◌, ℕ, None, true, IfErr, IsTrue, OnOk};
 ghost use Rattle.vx_config.specs.Checks.{blocks_of as blocks_of_is};
 ghost use Rattle.vx_config.specs.Table.{greatest};
 ghost use Rattle.vx_disk.specs.Causes.{Cause};
@@ -16,6 +16,7 @@ ghost use Rattle.vx_logged.specs.Holds.{TheseHold};
 ghost use Rattle.vx_logged.specs.Logged.{DropsBut, Known, LogOn, Narrowed, OthersOn, TrustsIn, are_off};
 ghost use Rattle.vx_logs.specs.Writes.{first_region, last_region};
 ghost use Rattle.vx_model.specs.Sizes.{regions_of as regions_in};
+ghost use Rattle.vx_volume.specs.Plexes.{active};
 
 use crate::flushing::flush_cleared;
 use crate::missing::flush_behind;
@@ -72,6 +73,7 @@ pub fn flush_noted<S: Shelf>(
     ensures trusts { TrustsIn vol logs.new core.old.inner.config core.new.inner.config }
     ensures trust { OnOk result (core.old.inner.committed ≡ true → core.new.inner.committed ≡ true) }
     ensures agreed { IfErr result (λ e. core.old.inner.committed ≡ true → core.new.inner.agreed ≡ true) }
+    ensures rests { core.old.held ≡ None → (w p : ℕ) → IsTrue (active core.new.inner.config w p) → IsTrue (active core.old.inner.config w p) }
     ensures finds { GroupFinds core.old core.new (S.meaning shelf.old) (S.meaning shelf.new) }
     ensures cause { Cause (inner_meaning (wide core.old) (S.meaning shelf.old)) (inner_meaning (wide core.new) (S.meaning shelf.new)) vol result }
 {

@@ -1,7 +1,7 @@
 // A flush of a group with logs behind a write.
-ghost use Rattle.vx_loggroup.specs.Keeping.{LogsKeep};
+ghost use Rattle.vx_loggroup.specs.Keeping.{LogsKeep, logs_at};
 ghost use Rattle.vx_group.specs.Finds.{GroupFinds};
-ghost use Rattle.std.specs.Prelude.{◌≡◌, ◌+◌, ◌<◌, ◌≤◌, IfErr, OnOk, true, false};
+ghost use Rattle.std.specs.Prelude.{◌≡◌, ◌+◌, ◌<◌, ◌≤◌, IfErr, OnOk, true, false, ℕ, IsTrue, None};
 ghost use Rattle.vx_disk.specs.Causes.{Cause};
 ghost use Rattle.vx_disk.specs.Shelf.{Flushed, Goes, Nothing};
 ghost use Rattle.vx_group.specs.Holding.{wide};
@@ -9,11 +9,14 @@ ghost use Rattle.vx_group.specs.Loses.{LosesAlong, LosesPlexes};
 ghost use Rattle.vx_group.specs.Stands.{inner_meaning};
 ghost use Rattle.vx_loggroup.specs.LoggedVolumes.{LoggedStands, is_alike as is_alike_is};
 ghost use Rattle.vx_logged.specs.Begun.{fell_in};
-ghost use Rattle.vx_logged.specs.Logged.{are_off};
+ghost use Rattle.vx_logged.specs.Logged.{TrustsIn, are_off};
 ghost use Rattle.vx_loggroup.specs.Marks.{HoldMaps, MarksVolume, NotesMaps, RunsMaps};
+ghost use Rattle.vx_loggroup.specs.Attaching.{fmr_at};
 ghost use Rattle.vx_loggroup.specs.Mirrors.{MirrorsKeep, names_none};
+ghost use Rattle.vx_loggroup.specs.Moving.{FollowsRun, MapsBeginIn, MapsEnd, no_volume};
 ghost use Rattle.vx_logs.specs.Writes.{first_region, last_region};
 ghost use Rattle.vx_model.specs.declared.limits.TheConstants.{MOST_VOLUMES};
+ghost use Rattle.vx_volume.specs.Plexes.{active};
 
 use crate::alike::{is_alike, is_sure};
 use crate::group::LoggedGroup;
@@ -48,6 +51,10 @@ fn flush_run<S: Shelf>(
     ensures maps { NotesMaps (fell_in core.old core.new vol) (are_off core.new vol) vol (first_region block) (last_region block count) logs.old.items logs.new.items }
     ensures begins { is_alike_is alike.now vol ≡ true → stopped ≡ false → OnOk result (RunsMaps (fell_in core.old core.new vol) vol (first_region block) (last_region block count) logs.new.items) }
     ensures holds { stopped ≡ false → 0 < count → OnOk result (HoldMaps (fell_in core.old core.new vol) vol (first_region block) (last_region block count) logs.new.items) }
+    ensures moves { stopped ≡ false → 0 < count → FollowsRun core.old.inner.config core.new.inner.config vol (first_region block) (last_region block count) (is_alike_is alike.now vol) logs.old.items logs.new.items result }
+    ensures gone { fmr_at logs.old.items vol ≡ None → fmr_at logs.new.items vol ≡ None }
+    ensures rests { core.old.held ≡ None → (w p : ℕ) → IsTrue (active core.new.inner.config w p) → IsTrue (active core.old.inner.config w p) }
+    ensures trusts { TrustsIn vol (logs_at logs.new.items vol) core.old.inner.config core.new.inner.config }
     ensures trust { OnOk result (core.old.inner.committed ≡ true → core.new.inner.committed ≡ true) }
     ensures agreed { IfErr result (λ e. core.old.inner.committed ≡ true → core.new.inner.agreed ≡ true) }
     ensures cause { Cause (inner_meaning (wide core.old) (S.meaning shelf.old)) (inner_meaning (wide core.new) (S.meaning shelf.new)) vol result }
@@ -83,6 +90,12 @@ impl<S: Shelf> LoggedGroup<S> {
         ensures maps { NotesMaps (fell_in self.old.core self.new.core vol) (are_off self.new.core vol) vol (first_region block) (last_region block count) self.old.logs.items self.new.logs.items }
         ensures begins { is_alike_is self.old.alike vol ≡ true → self.old.stopped ≡ false → OnOk result (RunsMaps (fell_in self.old.core self.new.core vol) vol (first_region block) (last_region block count) self.new.logs.items) }
         ensures holds { self.old.stopped ≡ false → 0 < count → OnOk result (HoldMaps (fell_in self.old.core self.new.core vol) vol (first_region block) (last_region block count) self.new.logs.items) }
+        ensures moves { self.old.stopped ≡ false → 0 < count → FollowsRun self.old.core.inner.config self.new.core.inner.config vol (first_region block) (last_region block count) (is_alike_is self.old.alike vol) self.old.logs.items self.new.logs.items result }
+        ensures comes { MapsBeginIn no_volume self.old.core.inner.config self.new.core.inner.config self.old.stopped self.new.stopped self.old.logs.items self.new.logs.items }
+        ensures ends_maps { MapsEnd self.old.core.inner.config self.new.core.inner.config self.old.stopped self.new.stopped self.old.logs.items self.new.logs.items (S.meaning self.old.shelf) (S.meaning self.new.shelf) }
+        ensures gone { (v : ℕ) → fmr_at self.old.logs.items v ≡ None → fmr_at self.new.logs.items v ≡ None }
+        ensures rests { self.old.core.held ≡ None → (w p : ℕ) → IsTrue (active self.new.core.inner.config w p) → IsTrue (active self.old.core.inner.config w p) }
+        ensures flags { (self.new.alike ≡ self.old.alike) × (self.new.stopped ≡ self.old.stopped) }
         ensures trust { OnOk result (self.old.core.inner.committed ≡ true → self.new.core.inner.committed ≡ true) }
         ensures agreed { IfErr result (λ e. self.old.core.inner.committed ≡ true → self.new.core.inner.agreed ≡ true) }
         ensures finds { GroupFinds self.old.core self.new.core (S.meaning self.old.shelf) (S.meaning self.new.shelf) }

@@ -1,7 +1,10 @@
 // A write of a volume whose logs may not have begun.
-ghost use Rattle.vx_loggroup.specs.Keeping.{LogsKeep, LogsKept};
+ghost use Rattle.vx_loggroup.specs.Attaching.{fmr_at};
+ghost use Rattle.vx_loggroup.specs.Keeping.{LogsKeep, LogsKept, logs_at};
+ghost use Rattle.vx_loggroup.specs.Moving.{MovesRun};
+ghost use Rattle.vx_logged.specs.Logged.{TrustsIn};
 ghost use Rattle.vx_group.specs.Finds.{GroupFinds};
-ghost use Rattle.std.specs.Prelude.{◌≡◌, ◌+◌, ◌/◌, ◌<◌, ◌≤◌, ℕ, false, length, true, IfErr, IsTrue, OnOk};
+ghost use Rattle.std.specs.Prelude.{◌≡◌, ◌+◌, ◌/◌, ◌<◌, ◌≤◌, ℕ, false, length, true, IfErr, IsTrue, OnOk, ◌⊎◌, None};
 ghost use Rattle.vx_config.specs.Table.{greatest};
 ghost use Rattle.vx_disk.specs.Causes.{Cause};
 ghost use Rattle.vx_disk.specs.Shelf.{Fits, Goes, Written, Wrote};
@@ -69,6 +72,13 @@ pub fn write_fresh<S: Shelf>(
     ensures notes { NotesMaps (begun_in core.old core.new vol (is_alike_is alike.old vol) result) (those_missing core.new vol result) vol (first_region block) (last_region block (length bytes.now / 512)) logs.old.items logs.new.items }
     ensures begins { is_alike_is alike.old vol ≡ true → stopped.new ≡ false → OnOk result (RunsMaps (fell_in core.old core.new vol) vol (first_region block) (last_region block (length bytes.now / 512)) logs.new.items) }
     ensures refused { is_alike_is alike.old vol ≡ true → stopped.new ≡ false → (IsTrue (S.meaning shelf.old).down → ⊥) → IfErr result (λ e. is_alike_is alike.new vol ≡ false → RunsMaps (active core.old.inner.config vol) vol (first_region block) (last_region block (length bytes.now / 512)) logs.new.items) }
+    ensures moves { stopped.new ≡ false → MovesRun core.old.inner.config core.new.inner.config vol (first_region block) (last_region block (length bytes.now / 512)) (is_alike_is alike.old vol) logs.old.items logs.new.items result }
+    ensures trusts { TrustsIn vol (logs_at logs.new.items vol) core.old.inner.config core.new.inner.config }
+    ensures stays { stopped.old ≡ true → stopped.new ≡ true }
+    ensures rests { stopped.new ≡ false → (w p : ℕ) → IsTrue (active core.new.inner.config w p) → IsTrue (active core.old.inner.config w p) }
+    ensures free { stopped.new ≡ false → OnOk result ((core.new.held ≡ None) ⊎ (fmr_at logs.new.items vol ≡ None)) }
+    ensures alike { OnOk result (alike.new ≡ alike.old) }
+    ensures flags { (w : ℕ) → (w ≡ vol → ⊥) → is_alike_is alike.new w ≡ is_alike_is alike.old w }
     ensures marked { stopped.new ≡ false → MarkedBefore (λ s. S.meaning s) vol block bytes.now (first_region block) (last_region block (length bytes.now / 512)) core.old core.new (S.meaning shelf.old) (S.meaning shelf.new) }
     ensures full { stopped.old ≡ false → stopped.new ≡ true → greatest ≤ core.old.inner.config.serial + 45 }
     ensures trust { OnOk result (core.old.inner.committed ≡ true → core.new.inner.committed ≡ true) }

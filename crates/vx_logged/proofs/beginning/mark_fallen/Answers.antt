@@ -181,3 +181,18 @@ returns-clause-plexes g c = λ missed up know.
     c.mark_group.ensures.plexes missed up
     (plexes_maps c.ready_group.new.core c.args.vol (g.S.Shelf.meaning c.ready_group.new.shelf) (g.S.Shelf.meaning c.begin_fallen.new.shelf) (c.in-Ok.ensures.none c.if-not-ready.false) c.ready_group.ensures.stands c.begin_fallen.ensures.below missed mid
     (plexes_each c.args.core.now c.ready_group.new.core c.args.vol (g.S.Shelf.meaning c.args.shelf.now) (g.S.Shelf.meaning c.ready_group.new.shelf) c.ready_group.ensures.logs missed (λ down. mid (c.begin_fallen.ensures.below.falls down)) know))
+
+pub returns-then-not-ready-clause-holds : goal.returns-then-not-ready-clause-holds
+returns-then-not-ready-clause-holds g c = λ is. absurd (let clash : false ≡ true = is in cc)
+
+pub returns-clause-holds : goal.returns-clause-holds
+returns-clause-holds g c = c.mark_group.ensures.holds
+
+pub returns-in-Err-clause-free : goal.returns-in-Err-clause-free
+returns-in-Err-clause-free g c = tt
+
+pub returns-then-not-ready-clause-free : goal.returns-then-not-ready-clause-free
+returns-then-not-ready-clause-free g c = λ is. absurd (let clash : false ≡ true = is in cc)
+
+pub returns-clause-free : goal.returns-clause-free
+returns-clause-free g c = c.mark_group.ensures.free

@@ -322,3 +322,15 @@ returns-clause-holds g c = if_ok_any c.keep_logs.result (λ (done : Bool) is.
     (inner_count c.ready_group.new.core c.keep_logs.new.core c.args.vol (c.keep_logs.ensures.loses.loses.frames c.args.vol) (c.keep_logs.ensures.goes.size c.args.vol)) (c.keep_logs.ensures.still none c.args.vol)
     (holds_run c.ready_group.new.core.inner.config c.args.vol (first_region c.args.block) (last_region c.args.block c.args.count) c.guard_run.new.logs
     (subst (λ (x : Config). AllOn x) same c.ready_group.ensures.stands.stands.on) (subst (λ (x : Config). 0 < blocks_of x.volumes c.args.vol) same (omega (arith, size, c.requires.some, c.requires.within))) c.in-Ok-guard_run.ensures.missed))
+
+pub returns-in-Err-clause-free : goal.returns-in-Err-clause-free
+returns-in-Err-clause-free g c = tt
+
+pub returns-then-not-ready-clause-free : goal.returns-then-not-ready-clause-free
+returns-then-not-ready-clause-free g c = λ is. absurd (let clash : false ≡ true = is in cc)
+
+pub returns-in-Err-guard_run-clause-free : goal.returns-in-Err-guard_run-clause-free
+returns-in-Err-guard_run-clause-free g c = tt
+
+pub returns-clause-free : goal.returns-clause-free
+returns-clause-free g c = if_ok_any c.keep_logs.result (λ (done : Bool) is. c.keep_logs.ensures.finds.free (c.in-Ok.ensures.none c.if-not-ready.false))

@@ -1,5 +1,5 @@
 -- `flush_behind`: its clauses; what `miss_fallen` asks.
-use Rattle.std.proofs.Common.{inl, inr, ap, arith}
+use Rattle.std.proofs.Common.{◌∙◌, inl, inr, ap, sym, arith}
 use Rattle.vx_disk.specs.Shelf.{Nothing}
 use Rattle.vx_disk.proofs.Causing.{Cause_both}
 use Rattle.vx_disk.proofs.Runs.{then_nothing}
@@ -19,7 +19,7 @@ use Rattle.vx_logged.specs.Logged.{are_off}
 use Rattle.vx_logged.proofs.BeginLemmas.{but_any, but_more, but_note, but_then}
 use Rattle.vx_logged.proofs.FallenLemmas.{fell_all, fell_some, off_less, run_less}
 use Rattle.vx_logged.proofs.GoneLogs.{trusts_less, trusts_then}
-use Rattle.vx_logged.proofs.HoldsLemmas.{fell_still, fewer_only, inner_count, less_hold, only_fewer}
+use Rattle.vx_logged.proofs.HoldsLemmas.{fell_still, fewer_only, inner_count, less_hold, narrow_inner, only_fewer}
 use Rattle.vx_logged.proofs.StandLemmas.{flushed_then, others_then}
 use Rattle.vx_logged.proofs.missing.flush_behind.Goals as goal
 
@@ -124,3 +124,9 @@ returns-clause-finds g c = then_group c.args.core.now c.flush_cleared.new.core c
 
 pub returns-clause-cause : goal.returns-clause-cause
 returns-clause-cause g c = Cause_both (inner_meaning (wide c.args.core.now) (g.S.Shelf.meaning c.args.shelf.now)) (inner_meaning (wide c.flush_cleared.new.core) (g.S.Shelf.meaning c.flush_cleared.new.shelf)) (inner_meaning (wide c.miss_fallen.new.core) (g.S.Shelf.meaning c.miss_fallen.new.shelf)) c.args.vol c.miss_fallen.result c.in-Ok.ensures.cause c.flush_cleared.ensures.goes.faults c.flush_cleared.ensures.goes.disk_faults c.miss_fallen.ensures.cause
+
+pub returns-in-Err-clause-rests : goal.returns-in-Err-clause-rests
+returns-in-Err-clause-rests g c = λ none. narrow_inner c.args.core.now c.flush_cleared.new.core none (c.flush_cleared.ensures.finds.free none) c.flush_cleared.ensures.narrow
+
+pub returns-clause-rests : goal.returns-clause-rests
+returns-clause-rests g c = λ none w p is. narrow_inner c.args.core.now c.flush_cleared.new.core none (c.flush_cleared.ensures.finds.free none) c.flush_cleared.ensures.narrow w p (sym (c.miss_fallen.ensures.still w p) ∙ is)

@@ -120,3 +120,9 @@ returns-clause-drops g c = drops_by c.args.core.now c.flush_behind.new.core c.ar
 pub returns-clause-trusts : goal.returns-clause-trusts
 returns-clause-trusts g c = by_spent (λ (k : Logs). TrustsIn c.args.vol k c.args.core.now.inner.config c.flush_behind.new.core.inner.config) c.flush_behind.new.logs c.drop_spent.new.logs c.drop_spent.ensures.drl c.drop_spent.ensures.kept c.flush_behind.ensures.trusts
     (λ spent. trusts_less c.args.vol c.flush_behind.new.logs (bare c.flush_behind.new.logs) c.args.core.now.inner.config c.flush_behind.new.core.inner.config (no_map c.flush_behind.new.logs) c.flush_behind.ensures.trusts)
+
+pub returns-in-Err-clause-rests : goal.returns-in-Err-clause-rests
+returns-in-Err-clause-rests g c = c.flush_behind.ensures.rests
+
+pub returns-clause-rests : goal.returns-clause-rests
+returns-clause-rests g c = c.flush_behind.ensures.rests

@@ -1,9 +1,11 @@
 -- `deport_whole`: its clauses; what the calls ask.
 use Rattle.std.proofs.Common.{◌∙◌, Bool, true, false, length, refl, sym, ap, subst, arith}
-use Rattle.std.specs.Prelude.{Err}
+use Rattle.std.specs.Prelude.{Err, IfOk}
 use Rattle.vx_loggroup.specs.LoggedVolumes.{LoggedStands}
+use Rattle.vx_loggroup.specs.Moving.{RestsOr}
 use Rattle.vx_loggroup.proofs.AlikeLemmas.{stop_stands}
 use Rattle.vx_loggroup.proofs.DeportedLogs.{deport_stands}
+use Rattle.vx_loggroup.proofs.RestMaps.{maps_stand}
 use Rattle.vx_group.proofs.CallLemmas.{not_down}
 use Rattle.vx_group.proofs.TrustLemmas.{err_from}
 use Rattle.vx_loggroup.proofs.deporting.deport_whole.Goals as goal
@@ -42,3 +44,30 @@ returns-then-may_rest-clause-finds g c =
 pub returns-in-Err-clause-finds : goal.returns-in-Err-clause-finds
 returns-in-Err-clause-finds g c =
     c.in-Err.ensures.finds
+
+pub returns-then-may_rest-clause-maps : goal.returns-then-may_rest-clause-maps
+returns-then-may_rest-clause-maps g c = λ going. c.deport_rested.ensures.maps
+
+pub returns-then-may_rest-clause-rests : goal.returns-then-may_rest-clause-rests
+returns-then-may_rest-clause-rests g c = subst (λ (s : Bool). IfOk c.deport_rested.result (λ r. RestsOr c.args.core.now.inner.config s c.args.logs.now.items c.args.alike.now r)) (sym (c.may_rest.ensures.going c.if-may_rest.true)) c.deport_rested.ensures.rests
+
+pub returns-in-Ok-clause-maps : goal.returns-in-Ok-clause-maps
+returns-in-Ok-clause-maps g c = λ going. maps_stand c.args.core.now c.args.logs.now.items c.args.alike.now (g.S.Shelf.meaning c.args.shelf.now) (g.S.Shelf.meaning c.deport_in.new.shelf) (subst (λ (s : Bool). LoggedStands c.args.core.now c.args.logs.now.items c.args.alike.now s (g.S.Shelf.meaning c.args.shelf.now)) going c.requires.stands) c.in-Ok.ensures.ends
+
+pub returns-in-Ok-clause-rests : goal.returns-in-Ok-clause-rests
+returns-in-Ok-clause-rests g c = tt
+
+pub returns-in-Err-clause-maps : goal.returns-in-Err-clause-maps
+returns-in-Err-clause-maps g c = λ going. tt
+
+pub returns-in-Err-clause-rests : goal.returns-in-Err-clause-rests
+returns-in-Err-clause-rests g c = tt
+
+pub returns-then-may_rest-clause-trusts : goal.returns-then-may_rest-clause-trusts
+returns-then-may_rest-clause-trusts g c = c.deport_rested.ensures.trusts
+
+pub returns-in-Ok-clause-trusts : goal.returns-in-Ok-clause-trusts
+returns-in-Ok-clause-trusts g c = tt
+
+pub returns-in-Err-clause-trusts : goal.returns-in-Err-clause-trusts
+returns-in-Err-clause-trusts g c = c.in-Err.ensures.logs
