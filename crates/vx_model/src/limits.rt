@@ -23,6 +23,8 @@ pub const DISK_PLACES: usize = 8;
 pub const LEAST_RAW_DISKS: u32 = 3;
 /// The least blocks of a disk, and of a unit that holds a log.
 pub const LEAST_BLOCKS: u64 = 8;
+/// The least blocks of a disk of a group.
+pub const LEAST_GROUP_BLOCKS: u64 = 1024;
 /// The most blocks of a disk in memory.
 pub const MOST_MEMORY_BLOCKS: u64 = 16_384;
 /// The most blocks of a disk in a file.
