@@ -7,7 +7,6 @@ ghost use Rattle.vx_regions.specs.Regions.{PuttingRegion, volume_has_region, reg
 ghost use Rattle.vx_rvg.specs.Stores.{AreBlocks, StoresInto};
 ghost use Rattle.vx_rvg.specs.Views.{unit_of};
 ghost use Rattle.vx_secondary.specs.Logging.{EndsLogging};
-ghost use Rattle.vx_secondary.specs.Receivers.{receiver_of};
 
 use vx_disk::Shelf;
 use vx_model::No;
