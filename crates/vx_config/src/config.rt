@@ -10,7 +10,7 @@ use vx_model::{PlexState, Units};
 /// The configuration of a disk group.
 #[derive(Drop)]
 pub struct Config {
-    /// One more at each commit; at most 2^63 - 1.
+    /// One more at each commit; at most `MOST_NUMBER`.
     pub serial: u64,
     /// The number of the group's site.
     pub site: u32,

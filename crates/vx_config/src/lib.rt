@@ -33,6 +33,7 @@ pub use disks::Disks;
 pub use encoding::{encode, encode_into, is_short};
 pub use entry::{DiskEntry, LogEntry, PlexEntry, Subdisk, VolumeEntry, VolumeLog};
 pub use plexes::Plexes;
+pub use runs::log_run;
 pub use stop::ConfigStop;
 pub use subdisks::Subdisks;
 pub use volumes::Volumes;

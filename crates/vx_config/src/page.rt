@@ -6,15 +6,13 @@ ghost use Rattle.vx_wire.specs.Numbers.{be_bytes};
 
 use std::marker::Model;
 use vx_model::Name;
+use vx_model::limits::MOST_CONFIG_BYTES;
 use vx_wire::{put_u32, put_u64};
-
-/// So many bytes has a page at most, which is the room of an area.
-pub const ROOM: usize = 65024;
 
 /// Up to 65,024 bytes. Those that are put behind its end are lost. Contracts see the bytes.
 #[derive(Drop)]
 pub struct Page {
-    bytes: [u8; 65024],
+    bytes: [u8; MOST_CONFIG_BYTES],
     len: usize,
 }
 
@@ -34,7 +32,7 @@ impl Page {
         ensures { result ≡ [] }
     {
         Page {
-            bytes: [0; 65024],
+            bytes: [0; MOST_CONFIG_BYTES],
             len: 0,
         }
     }
@@ -58,7 +56,7 @@ impl Page {
     pub fn text(&mut self, text: &[u8])
         ensures { self.new ≡ onto self.old text.now }
     {
-        let room = ROOM - self.len;
+        let room = MOST_CONFIG_BYTES - self.len;
         let count = if text.len() < room { text.len() } else { room };
         self.bytes[self.len..self.len + count].copy_from_slice(&text[..count]);
         self.len += count;

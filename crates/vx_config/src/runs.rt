@@ -13,7 +13,8 @@ const MOST_RUNS: usize = MOST_SUBDISKS + 2 * MOST_VOLUMES;
 
 type Runs = ArrayVec<Subdisk, MOST_RUNS>;
 
-fn log_run(log: &LogEntry) -> Subdisk
+/// The blocks of a log as a run of its disk.
+pub fn log_run(log: &LogEntry) -> Subdisk
     ensures { result ≡ log_run_is log.now }
 {
     Subdisk {

@@ -12,9 +12,7 @@ use std::alloc::Global;
 use vx_config::Config;
 use vx_disk::Shelf;
 use vx_model::Stop;
-
-// The most bytes of a body.
-const ROOM: usize = 65024;
+use vx_model::limits::MOST_CONFIG_BYTES;
 
 /// The newest configuration of the disks that can be read, with those of them that it held as failed held as good again, and
 /// the set of the disks that it held as good. It writes nothing.
@@ -32,7 +30,7 @@ pub fn import<S: Shelf>(alloc: Global, shelf: &mut S) -> Result<(Config, u8), St
     ensures disks { OnDisks (S.meaning shelf.old).disks (S.meaning shelf.new).disks Untouched }
 {
     let units = shelf.units();
-    let mut room = match vec![in alloc; 0; ROOM] {
+    let mut room = match vec![in alloc; 0; MOST_CONFIG_BYTES] {
         Ok(room) => room,
         Err(_) => return Err(Stop::OutOfMemory),
     };

@@ -8,9 +8,7 @@ use std::alloc::Global;
 use std::marker::Model;
 use vx_config::{Config, is_short};
 use vx_model::OutOfMemory;
-
-// The most bytes of a body.
-const ROOM: usize = 65024;
+use vx_model::limits::MOST_CONFIG_BYTES;
 
 /// The bytes of one encoded configuration, in whole blocks. Contracts see how many there are.
 #[derive(Drop)]
@@ -36,7 +34,7 @@ impl Room {
         ensures { IfOk result (λ room. body_bytes config.now ≤ room) }
     {
         is_short(config);
-        match vec![in alloc; 0; ROOM] {
+        match vec![in alloc; 0; MOST_CONFIG_BYTES] {
             Ok(bytes) => Ok(Room { bytes }),
             Err(_) => Err(OutOfMemory),
         }

@@ -2,14 +2,11 @@
 use Rattle.std.specs.Prelude.{◌≡◌, ℕ, ◌<◌, ◌≤◌, List, Result, Ok, Err}
 use Rattle.vx_model.specs.declared.errors.Stop.{Stop}
 use Rattle.vx_model.specs.declared.errors.Stop.TheVariants.{No as Refused, OutOfMemory}
+use Rattle.vx_model.specs.declared.limits.TheConstants.{LEAST_GROUP_BLOCKS}
 use Rattle.vx_disk.specs.Shelf.{Meaning, Keeps}
 use Rattle.vx_copyfmt.specs.Labels.{label_block}
 use Rattle.vx_copyfmt.specs.declared.label.Label.{Label}
 use Rattle.vx_disk.specs.Causes.{DeviceCause}
-
--- the fewest blocks of a disk of a group
-abbrev pub least_blocks : ℕ
-least_blocks = 1024
 
 -- the label of a disk of this site
 abbrev pub label_of : ℕ → ℕ → ℕ → Label
@@ -17,13 +14,13 @@ label_of site disk blocks = record { site = site; disk = disk; blocks = blocks }
 
 -- each disk is as large as one of a group has to be
 pub record AreLarge (m : Meaning) : Type 0 where
-  pub each : (u : ℕ) → u < m.units → least_blocks ≤ m.size u
+  pub each : (u : ℕ) → u < m.units → LEAST_GROUP_BLOCKS ≤ m.size u
 
 -- one of them is not
 pub record HasSmall (m : Meaning) : Type 0 where
   pub unit : ℕ
   pub there : unit < m.units
-  pub small : m.size unit < least_blocks
+  pub small : m.size unit < LEAST_GROUP_BLOCKS
 
 -- the labels that are written: each in block 0 of its disk
 pub record LabelWritten (site : ℕ) (m : Meaning) (u b : ℕ) (v : List ℕ) : Type 0 where

@@ -11,10 +11,8 @@ ghost use Rattle.vx_copyio.specs.Labelling.{label_of};
 
 use vx_copyfmt::{Label, put_label};
 use vx_disk::{Shelf, ShelfError, put, refusal};
+use vx_model::limits::LEAST_GROUP_BLOCKS;
 use vx_model::{No, Stop};
-
-// The fewest blocks of a disk of a group.
-const LEAST_BLOCKS: u64 = 1024;
 
 /// Whether each disk is large enough for a group: 1,024 blocks.
 pub fn are_large<S: Shelf>(shelf: &S) -> bool
@@ -22,7 +20,7 @@ pub fn are_large<S: Shelf>(shelf: &S) -> bool
     ensures small { IsFalse result → HasSmall (S.meaning shelf.now) }
 {
     for unit in 0..shelf.units() {
-        if shelf.size(unit) < LEAST_BLOCKS {
+        if shelf.size(unit) < LEAST_GROUP_BLOCKS {
             return false;
         }
     }

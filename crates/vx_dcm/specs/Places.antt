@@ -3,12 +3,11 @@ use Rattle.std.specs.Prelude.{◌≡◌, ℕ, ◌+◌, ◌*◌, ◌<◌, ◌≤�
 use Rattle.std.specs.List.{sum_by}
 use Rattle.vx_disk.specs.Maps.{maps_of}
 use Rattle.vx_model.specs.Sizes.{map_blocks, regions_of}
-use Rattle.vx_model.specs.declared.limits.TheConstants.{LINK_PLACES, MAP_REGIONS, MOST_DATA_VOLUMES}
+use Rattle.vx_model.specs.declared.limits.TheConstants.{LINK_PLACES, MAP_REGIONS, MOST_DATA_VOLUMES, MOST_MAP_BLOCKS}
 use Rattle.vx_model.specs.declared.units.Units.{Units}
 use Rattle.vx_disk.specs.Shelf.{Meaning}
 use Rattle.vx_bitmap.specs.Bits.{is_marked}
 use Rattle.vx_bitmap.specs.Maps.{Map}
-use Rattle.vx_dcm.specs.declared.dcm.TheConstants.{MOST_MAP_BLOCKS}
 
 -- the maps of all places of a link, one after another, and how many blocks each volume has
 pub record Maps : Type 0 where

@@ -16,11 +16,8 @@ use std::alloc::Global;
 use std::marker::Model;
 use vx_bitmap::Bitmap;
 use vx_disk::Shelf;
-use vx_model::limits::{LINK_PLACES, MAP_REGIONS, MOST_DATA_VOLUMES, REGION};
+use vx_model::limits::{LINK_PLACES, MAP_REGIONS, MOST_DATA_VOLUMES, MOST_MAP_BLOCKS, REGION};
 use vx_model::{No, Stop, Units};
-
-/// The most blocks of maps that are taken into memory.
-pub const MOST_MAP_BLOCKS: u64 = 65_536;
 
 /// The change maps of a group, in memory and in the first blocks of its map unit.
 #[derive(Drop)]

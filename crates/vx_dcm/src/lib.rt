@@ -10,5 +10,5 @@ mod dcm;
 mod fit;
 mod sizes;
 
-pub use dcm::{Dcm, MOST_MAP_BLOCKS};
+pub use dcm::Dcm;
 pub use fit::maps_fit;

@@ -14,7 +14,7 @@ mod shelf;
 mod steps;
 mod unit;
 
-pub use errors::refusal;
+pub use errors::{refusal, too_many};
 pub use memory::MemShelf;
 pub use plan::FaultPlan;
 pub use rack::Rack;

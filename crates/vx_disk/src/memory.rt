@@ -13,10 +13,10 @@ ghost use Rattle.vx_disk.specs.Racks.{Alike, Bare, Fitted, FitStops, Stopped, Te
 ghost use Rattle.vx_disk.specs.Shelf.{DisksFlushed, DisksWrote, Fits, Flushed, Goes, Nothing, Read, Written, Wrote};
 
 use crate::disks::MemDisks;
-use crate::{FaultPlan, Rack, Shelf, ShelfError};
+use crate::{FaultPlan, Rack, Shelf, ShelfError, too_many};
 use std::alloc::Global;
 use vx_model::limits::{LEAST_BLOCKS, MOST_DISKS, MOST_FILE_BLOCKS, MOST_MEMORY_BLOCKS};
-use vx_model::{Counted, No, OutOfMemory, Stop};
+use vx_model::{Counted, OutOfMemory, Stop};
 
 /// A shelf in memory, which tells its contents.
 ///
@@ -238,10 +238,4 @@ fn limit(dir: Option<&str>) -> u64
         None => MOST_MEMORY_BLOCKS,
         Some(_) => MOST_FILE_BLOCKS,
     }
-}
-
-fn too_many(what: Counted, most: u64) -> Stop
-    ensures { result ≡ Refused (Limit what most) }
-{
-    Stop::No(No::Limit { what, most })
 }

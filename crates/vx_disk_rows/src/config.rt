@@ -7,6 +7,7 @@ use vx_config::{
     Config, ConfigStop, DiskEntry, Disks, LogEntry, PlexEntry, PlexState, Plexes, Subdisk,
     Subdisks, VolumeEntry, VolumeLog, Volumes, check, decode, encode, encode_into, is_short,
 };
+use vx_model::limits::MOST_VOLUMES;
 use vx_model::{Counted, Name, No, OutOfMemory, Stop};
 
 // A group of two disks, of which the second is failed, and a mirror of 64 blocks over both, as the table spells it.
@@ -278,7 +279,7 @@ fn refuses_too_many_subdisks(rt: HostRuntime) -> Result<(), Fail> {
         let mut plexes = Plexes::new(rt.alloc());
         plexes.push(plex(rt.alloc(), PlexState::Active, &runs)?)?;
         plexes.push(plex(rt.alloc(), PlexState::Active, &runs)?)?;
-        if volumes.as_slice().len() < 32 {
+        if volumes.as_slice().len() < MOST_VOLUMES {
             volumes.push(VolumeEntry {
                 name: Name::new(b"v"),
                 blocks: 1,

@@ -4,6 +4,7 @@ use std::mem::size_of;
 use std::snapshot::Snapshot;
 use std::test::Fail;
 use vx_disk::{MemShelf, Rack, Shelf, ShelfError, put};
+use vx_model::limits::MOST_DISKS;
 use vx_model::{Counted, No, OutOfMemory, Stop};
 
 // A shelf in memory of so many disks of 8 blocks.
@@ -143,7 +144,7 @@ fn a_fit_is_refused_above_its_limits(rt: HostRuntime) -> Result<(), Fail> {
     let alloc = rt.alloc();
     let disks = Stop::No(No::Limit {
         what: Counted::Disks,
-        most: 8,
+        most: u64::from(MOST_DISKS),
     });
     let mut shelf = MemShelf::new(alloc, &[])?;
     assert!(rt; shelf.fit(alloc, None, 0, 9, 16385) == Err(disks));

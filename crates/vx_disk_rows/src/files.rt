@@ -4,10 +4,11 @@ use std::fs;
 use std::test::Fail;
 use vx_disk::{Rack, Shelf, ShelfError};
 use vx_filedisk::HostRack;
+use vx_model::limits::LEAST_BLOCKS;
 use vx_model::{No, OutOfMemory, Stop};
 
 fn fit(rack: &mut HostRack, alloc: Global, dir: Option<&str>, blocks: u64) -> Result<(), Stop> {
-    if rack.units() != 0 || rack.is_down() || blocks < 8 {
+    if rack.units() != 0 || rack.is_down() || blocks < LEAST_BLOCKS {
         return Err(Stop::OutOfMemory);
     }
     rack.fit(alloc, dir, 901, 2, blocks)

@@ -4,10 +4,9 @@ use Rattle.std.specs.Prelude.{IfErr, Option, Some, None, Result, Ok, Err}
 use Rattle.vx_model.specs.Content.{Write}
 use Rattle.vx_model.specs.declared.errors.Stop.{Stop}
 use Rattle.vx_model.specs.declared.errors.Stop.TheVariants.{No as Refused, OutOfMemory}
-use Rattle.vx_model.specs.declared.limits.TheConstants.{LEAST_BLOCKS, MOST_DISKS}
+use Rattle.vx_model.specs.declared.limits.TheConstants.{LEAST_BLOCKS, LEAST_GROUP_BLOCKS, MOST_DISKS}
 use Rattle.vx_model.specs.declared.no.No.TheVariants.{Device}
 use Rattle.vx_model.specs.declared.site.SiteState.TheVariants.{Bare as IsBare, Up as IsUp, Down as IsDown, Deported as IsDeported}
-use Rattle.vx_copyio.specs.Labelling.{least_blocks}
 use Rattle.vx_disk.specs.Racks.{IsRack}
 use Rattle.vx_disk.specs.Shelf.{Meaning}
 use Rattle.vx_disk.specs.declared.shelf.Shelf.{Ghosts}
@@ -34,7 +33,7 @@ use Rattle.vx_watched.specs.Traces.{TellsLess}
 
 -- ---- disks of which a group can be made
 
-pub begin_bare : (n : Node) (m : Meaning) → IsBareAt n m → n.state ≡ IsBare → 0 < n.disks → least_blocks ≤ n.blocks → CanBegin n m
+pub begin_bare : (n : Node) (m : Meaning) → IsBareAt n m → n.state ≡ IsBare → 0 < n.disks → LEAST_GROUP_BLOCKS ≤ n.blocks → CanBegin n m
 begin_bare n m it state some large = record {
   state = state;
   unfused = ap (λ (x : Node). x.fuse) it.is;
@@ -47,7 +46,7 @@ begin_bare n m it state some large = record {
   unarmed = it.unarmed;
 }
 
-pub begin_marked : (n : Node) (m : Meaning) → IsMarkedSite n m → n.disks ≤ MOST_DISKS → 0 < n.disks → least_blocks ≤ n.blocks → CanBegin n m
+pub begin_marked : (n : Node) (m : Meaning) → IsMarkedSite n m → n.disks ≤ MOST_DISKS → 0 < n.disks → LEAST_GROUP_BLOCKS ≤ n.blocks → CanBegin n m
 begin_marked n m it few some large = record {
   state = it.state;
   unfused = it.unfused;
@@ -138,7 +137,7 @@ module _ {R : Type 0} {g : Ghosts R} where
   pub marked_at : (beside : KeptBeside) (n : Node) (e : DiskSet R g) (s : GroupSet R g) → e ≡ OfGroup s → SiteStands beside n e → IsGroupSet beside n s
   marked_at beside n e s is stands = subst (λ (x : DiskSet R g). SiteStands beside n x) is stands
 
-  pub marked_can : (n : Node) (s : GroupSite R g) → GroupSiteStands n s → n.state ≡ IsBare → n.disks ≤ MOST_DISKS → 0 < n.disks → least_blocks ≤ n.blocks → CanBegin n (site_disks s)
+  pub marked_can : (n : Node) (s : GroupSite R g) → GroupSiteStands n s → n.state ≡ IsBare → n.disks ≤ MOST_DISKS → 0 < n.disks → LEAST_GROUP_BLOCKS ≤ n.blocks → CanBegin n (site_disks s)
   marked_can n (Up group) it state few some large = absurd (let e : IsUp ≡ IsBare = sym it.1.at.state ∙ state in cc)
   marked_can n (Deported idle) it state few some large = absurd (let e : IsDeported ≡ IsBare = sym it.1.away.state ∙ state in cc)
   marked_can n (Down idle) it state few some large = absurd (let e : IsDown ≡ IsBare = sym it.1.away.state ∙ state in cc)

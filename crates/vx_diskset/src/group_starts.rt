@@ -1,12 +1,12 @@
 // How a group is made on the disks of a site, and how it comes up again.
 ghost use Rattle.std.specs.Prelude.{◌≡◌, ◌<◌, ◌≤◌, IfErr, None, Some};
-ghost use Rattle.vx_copyio.specs.Labelling.{least_blocks};
 ghost use Rattle.vx_grouped.specs.GroupSites.{AwayNoted, DownNoted, GroupSiteStands, UpNoted, site_below, site_disks};
 ghost use Rattle.vx_grouped.specs.Begins.{BeginsGroup, CanBegin};
 ghost use Rattle.vx_grouped.specs.SiteReturns.{SiteImports};
 ghost use Rattle.vx_history.specs.Groups.{GroupNode};
 ghost use Rattle.vx_history.specs.World.{Node};
 ghost use Rattle.vx_model.specs.declared.site.SiteState.TheVariants.{Bare as BareState};
+ghost use Rattle.vx_model.specs.declared.limits.TheConstants.{LEAST_GROUP_BLOCKS};
 ghost use Rattle.vx_watched.specs.Since.{CalledSince};
 ghost use Rattle.vx_diskset.specs.Asked.{FuseGoesOn, SameFailing};
 ghost use Rattle.vx_diskset.specs.DiskSets.{Later};
@@ -152,9 +152,9 @@ fn raise_in<R: Rack>(
 impl<R: Rack> DiskSet<R> {
     /// Makes a bare site's disks a group without volumes. Where it is not made, labels of it may stand on them.
     pub fn init_group(self, alloc: Global, site: u32) -> (DiskSet<R>, Result<(), Stop>)
-        ensures begun { (beside : KeptBeside) (n : Node) → SiteStands beside n self → n.state ≡ BareState → 0 < n.disks → least_blocks ≤ n.blocks → InitIs site n self result.0 result.1 }
-        ensures stays { (beside : KeptBeside) (n : Node) → SiteStands beside n self → n.state ≡ BareState → 0 < n.disks → least_blocks ≤ n.blocks → IfErr result.1 (λ stop. SiteStands beside n result.0) }
-        ensures fuse { (beside : KeptBeside) (n : Node) → SiteStands beside n self → n.state ≡ BareState → 0 < n.disks → least_blocks ≤ n.blocks → FuseGoesOn self result.0 }
+        ensures begun { (beside : KeptBeside) (n : Node) → SiteStands beside n self → n.state ≡ BareState → 0 < n.disks → LEAST_GROUP_BLOCKS ≤ n.blocks → InitIs site n self result.0 result.1 }
+        ensures stays { (beside : KeptBeside) (n : Node) → SiteStands beside n self → n.state ≡ BareState → 0 < n.disks → LEAST_GROUP_BLOCKS ≤ n.blocks → IfErr result.1 (λ stop. SiteStands beside n result.0) }
+        ensures fuse { (beside : KeptBeside) (n : Node) → SiteStands beside n self → n.state ≡ BareState → 0 < n.disks → LEAST_GROUP_BLOCKS ≤ n.blocks → FuseGoesOn self result.0 }
         ensures failing { SameFailing self result.0 }
         ensures later { Later self result.0 }
     {

@@ -3,11 +3,12 @@ use Rattle.std.specs.Prelude.{◌≡◌, ℕ, ◌<◌, ◌≤◌, Bool, false, O
 use Rattle.std.specs.Option.{ForSome}
 use Rattle.vx_disk.specs.Disks.{Disks}
 use Rattle.vx_disk.specs.Shelf.{Image, Meaning, Values}
+use Rattle.vx_model.specs.declared.limits.TheConstants.{LEAST_BLOCKS}
 use Rattle.vx_filedisk.specs.declared.files.DiskFiles.{DiskFiles}
 
 -- where there are files, there is one for each of the shelf's disks, and those have some blocks
 abbrev pub AsMany : Option DiskFiles → Meaning → Type 0
-AsMany files m = ForSome files (λ f. (length f.files.items ≡ m.units) × (0 < m.units) × ((u : ℕ) → u < m.units → 8 ≤ m.size u))
+AsMany files m = ForSome files (λ f. (length f.files.items ≡ m.units) × (0 < m.units) × ((u : ℕ) → u < m.units → LEAST_BLOCKS ≤ m.size u))
 
 -- a file's size is its number of blocks
 abbrev pub disk_sizes : Option DiskFiles → (ℕ → ℕ) → ℕ → ℕ

@@ -15,7 +15,7 @@ use crate::HostRack;
 use crate::files::DiskFiles;
 use crate::fit::{OpenError, open_disks};
 use std::alloc::Global;
-use vx_disk::{Rack, Shelf, ShelfError};
+use vx_disk::{Rack, Shelf, ShelfError, too_many};
 use vx_model::limits::{LEAST_BLOCKS, MOST_DISKS, MOST_FILE_BLOCKS};
 use vx_model::{Counted, No, Stop};
 
@@ -196,10 +196,4 @@ impl HostRack {
             }
         }
     }
-}
-
-fn too_many(what: Counted, most: u64) -> Stop
-    ensures { result ≡ Refused (Limit what most) }
-{
-    Stop::No(No::Limit { what, most })
 }

@@ -7,11 +7,11 @@ use Rattle.vx_model.specs.declared.errors.Stop.TheVariants.{No as Refused, OutOf
 use Rattle.vx_model.specs.declared.no.No.TheVariants.{Device}
 use Rattle.vx_model.specs.declared.site.SiteState.{SiteState}
 use Rattle.vx_model.specs.declared.site.SiteState.TheVariants.{Bare as IsBare}
+use Rattle.vx_model.specs.declared.limits.TheConstants.{LEAST_GROUP_BLOCKS}
 use Rattle.vx_config.specs.declared.config.Config.{Config}
 use Rattle.vx_config.specs.declared.entry.DiskEntry.{DiskEntry}
 use Rattle.vx_config.specs.declared.entry.VolumeEntry.{VolumeEntry}
 use Rattle.vx_copies.specs.Marks.{failed_at}
-use Rattle.vx_copyio.specs.Labelling.{least_blocks}
 use Rattle.vx_disk.specs.Counts.{Rose}
 use Rattle.vx_disk.specs.declared.shelf.Shelf.{Ghosts}
 use Rattle.vx_history.specs.Doubts.{Doubted, happened}
@@ -83,7 +83,7 @@ module _ {R : Type 0} {g : Ghosts R} where
   -- what the tests of the line found
   pub record IsInitSite (d : Doubted) (y : Yard R g) (name : List ℕ) (s : ℕ) (e : DiskSet R g) : Type 0 where
     pub at : IsBareSite d y name s e
-    pub large : least_blocks ≤ (d.world.nodes s).blocks
+    pub large : LEAST_GROUP_BLOCKS ≤ (d.world.nodes s).blocks
 
   pub init_site : (d : Doubted) (y : Yard R g) (name : List ℕ) (s : ℕ) (e : DiskSet R g) → StandsFor d y → IsYardKept y → IsFree y (GroupInit name) → seat_of y.facts.items name ≡ Some s → slice_get y.disk_sets.items s ≡ Some e → IsInitSite d y name s e
   init_site d y name s e stands kept free seat there =

@@ -4,7 +4,7 @@ use Rattle.std.specs.Prelude.{Option, Some, None, not, ◌&&◌, nat_le, nat_lt,
 use Rattle.std.specs.List.{find}
 use Rattle.std.specs.Str.{bytes_eq}
 use Rattle.std.proofs.lemmas.Bool.Decides.{nat_tests}
-use Rattle.vx_model.specs.declared.limits.TheConstants.{MOST_PLEXES, MOST_VOLUMES}
+use Rattle.vx_model.specs.declared.limits.TheConstants.{LEAST_GROUP_BLOCKS, MOST_PLEXES, MOST_VOLUMES}
 use Rattle.vx_model.specs.declared.no.No.{No}
 use Rattle.vx_model.specs.declared.site.SiteState.{SiteState}
 use Rattle.vx_model.specs.declared.site.SiteState.TheVariants.{Bare, Up, Deported, Down}
@@ -22,7 +22,6 @@ use Rattle.vx_order.specs.Subject.{first_name}
 use Rattle.vx_order.specs.Volumes.{is_volume_shape, plex_unknown, preferred_unknown, volume_count, volume_limit, volume_taken}
 use Rattle.vx_order.specs.declared.facts.SiteFacts.{SiteFacts}
 use Rattle.vx_order.specs.declared.facts.VolumeFacts.{VolumeFacts}
-use Rattle.vx_order.specs.declared.grouping.TheConstants.{LEAST_GROUP_BLOCKS}
 use Rattle.vx_events.proofs.Refused.{FoundAt, Named, found_at, lt_false, named, not_false, passes, when_none}
 
 bare_by : (state : SiteState) → is_bare state ≡ true → state ≡ Bare

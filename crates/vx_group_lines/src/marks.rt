@@ -1,7 +1,6 @@
 // The lines that make a disk of a group fail, crash its site, or set its fuse.
 ghost use Rattle.std.specs.Prelude.{◌≡◌, true};
 ghost use Rattle.vx_history.specs.Doubts.{Doubted};
-ghost use Rattle.vx_events.specs.Failing.{is_failing as is_failing_is};
 ghost use Rattle.vx_script.specs.declared.line.ScriptLine.TheVariants.{Crash, Disk, Fuse};
 ghost use Rattle.vx_events.specs.StepsOver.{is_for_group};
 ghost use Rattle.vx_yard.specs.OfSites.{AsAsked};
@@ -11,18 +10,11 @@ ghost use Rattle.vx_yard.specs.Yards.{IsYardKept, IsTold, in_files};
 
 use std::alloc::Global;
 use vx_disk::Rack;
-use vx_events::Said;
+use vx_events::{Said, is_failing};
 use vx_model::Name;
 use vx_script::DiskState as DiskWord;
 use vx_yard::Yard;
 use vx_yard::falling::go_down;
-
-// Whether the calls on the disk are to fail.
-fn is_failing(state: DiskWord) -> bool
-    ensures { result ≡ is_failing_is state }
-{
-    matches!(state, DiskWord::Fail)
-}
 
 /// Makes the calls on a disk fail, or ends that.
 pub fn disk_line<R: Rack>(yard: &mut Yard<R>, name: &Name, disk: u64, state: DiskWord) -> Said

@@ -9,6 +9,7 @@ use vx_copyio::are_large;
 use vx_disk::{MemShelf, Rack, Shelf};
 use vx_group::Group;
 use vx_model::OutOfMemory;
+use vx_model::limits::MOST_DISKS;
 
 pub fn att<S: Shelf>(group: &mut Group<S>, volume: u32, plex: u32) -> Told {
     match group.att(volume, plex) {
@@ -90,7 +91,7 @@ fn cut(alloc: Global, calls: u64, pick: u64) -> Result<(Told, Told), OutOfMemory
         return Err(OutOfMemory);
     }
     shelf.fuse(calls, pick);
-    if shelf.units() == 0 || shelf.units() > 8 {
+    if shelf.units() == 0 || shelf.units() > MOST_DISKS {
         return Err(OutOfMemory);
     }
     let mut group = match Group::create(alloc, shelf, 7) {

@@ -5,6 +5,7 @@ use vx_copies::import;
 use vx_copyio::are_large;
 use vx_disk::{MemShelf, Rack, Shelf};
 use vx_group::Group;
+use vx_model::limits::MOST_DISKS;
 use vx_model::{No, Stop};
 
 #[derive(Clone, Copy, PartialEq, Eq)]
@@ -29,7 +30,7 @@ fn found<S: Shelf>(alloc: Global, shelf: &mut S) -> Told {
 
 // Makes a group, and tells what an import finds behind it.
 fn made(alloc: Global, shelf: MemShelf) -> Told {
-    if shelf.units() == 0 || shelf.units() > 8 {
+    if shelf.units() == 0 || shelf.units() > MOST_DISKS {
         return Told::Other;
     }
     match Group::create(alloc, shelf, 7) {

@@ -7,6 +7,7 @@ use vx_config::{Config, PlexState};
 use vx_disk::{MemShelf, Rack, Shelf};
 use vx_group::Group;
 use vx_model::OutOfMemory;
+use vx_model::limits::{LEAST_BLOCKS, MOST_DISKS};
 use vx_untold::Untold;
 
 pub type Disks = Untold<MemShelf>;
@@ -63,7 +64,7 @@ pub fn disks_of(
         Ok(shelf) => shelf,
         Err(_) => return Err(OutOfMemory),
     };
-    if disks == 0 || blocks < 8 || shelf.fit(alloc, None, 7, disks, blocks).is_err() {
+    if disks == 0 || blocks < LEAST_BLOCKS || shelf.fit(alloc, None, 7, disks, blocks).is_err() {
         return Err(OutOfMemory);
     }
     Ok(Untold { shelf })
@@ -71,7 +72,7 @@ pub fn disks_of(
 
 /// A group on them.
 pub fn group_on(alloc: Global, shelf: Disks) -> Result<Group<Disks>, OutOfMemory> {
-    if shelf.units() == 0 || shelf.units() > 8 {
+    if shelf.units() == 0 || shelf.units() > MOST_DISKS {
         return Err(OutOfMemory);
     }
     match Group::create(alloc, shelf, 7) {

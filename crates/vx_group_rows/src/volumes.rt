@@ -6,6 +6,7 @@ use vx_config::{Config, PlexState};
 use vx_disk::{MemShelf, Rack, Shelf, ShelfError};
 use vx_group::Group;
 use vx_layout::Shape;
+use vx_model::limits::{MOST_DISKS, MOST_NAME_BYTES};
 use vx_model::{Counted, Name, No, OutOfMemory, Stop};
 
 #[derive(Clone, Copy, PartialEq, Eq)]
@@ -60,7 +61,7 @@ pub fn plain(blocks: u64, mirrors: u32) -> Shape {
 }
 
 pub fn make<S: Shelf>(alloc: Global, group: &mut Group<S>, name: &[u8], want: &Shape) -> Told {
-    if name.is_empty() || name.len() > 8 || want.prefer.is_some() {
+    if name.is_empty() || name.len() > MOST_NAME_BYTES || want.prefer.is_some() {
         return Told::Other;
     }
     match group.make_volume(alloc, &Name::new(name), want) {
@@ -138,7 +139,7 @@ pub fn group_of(alloc: Global, fails: &[u64], disks: u32) -> Result<Group<MemShe
     if disks == 0 || shelf.fit(alloc, None, 7, disks, 1024).is_err() {
         return Err(OutOfMemory);
     }
-    if shelf.units() == 0 || shelf.units() > 8 {
+    if shelf.units() == 0 || shelf.units() > MOST_DISKS {
         return Err(OutOfMemory);
     }
     match Group::create(alloc, shelf, 7) {

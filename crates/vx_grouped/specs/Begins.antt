@@ -2,7 +2,7 @@
 use Rattle.std.specs.Prelude.{◌≡◌, ◌⊎◌, ℕ, ◌<◌, ◌≤◌, false, [], length, slice_get, Some, None, IsFalse, Result, Ok, Err}
 use Rattle.vx_model.specs.declared.errors.Stop.{Stop}
 use Rattle.vx_model.specs.declared.errors.Stop.TheVariants.{No as Refused, OutOfMemory}
-use Rattle.vx_model.specs.declared.limits.TheConstants.{MOST_DISKS}
+use Rattle.vx_model.specs.declared.limits.TheConstants.{LEAST_GROUP_BLOCKS, MOST_DISKS}
 use Rattle.vx_model.specs.declared.no.No.TheVariants.{Device, Size}
 use Rattle.vx_model.specs.declared.site.SiteState.TheVariants.{Bare}
 use Rattle.vx_disk.specs.Causes.{DeviceCause}
@@ -14,7 +14,7 @@ use Rattle.vx_history.specs.Steps.{group_set}
 use Rattle.vx_history.specs.World.{Node, NoFuse}
 use Rattle.vx_config.specs.declared.config.Config.{Config}
 use Rattle.vx_config.specs.declared.entry.DiskEntry.{DiskEntry}
-use Rattle.vx_copyio.specs.Labelling.{HasSmall, least_blocks}
+use Rattle.vx_copyio.specs.Labelling.{HasSmall}
 use Rattle.vx_kept.specs.Trusts.{HasFailed}
 use Rattle.vx_watched.specs.Since.{CalledSince}
 use Rattle.vx_grouped.specs.GroupSites.{GroupSiteStands, UpNoted, site_disks}
@@ -27,7 +27,7 @@ pub record CanBegin (n : Node) (m : Meaning) : Type 0 where
   pub unfused : n.fuse ≡ NoFuse
   pub some : 0 < n.disks
   pub few : n.disks ≤ MOST_DISKS
-  pub large : least_blocks ≤ n.blocks
+  pub large : LEAST_GROUP_BLOCKS ≤ n.blocks
   pub units : m.units ≡ n.disks
   pub size : (u : ℕ) → u < n.disks → m.size u ≡ n.blocks
   pub up : IsFalse m.down

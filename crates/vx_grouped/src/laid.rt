@@ -12,11 +12,8 @@ use vx_disk::{Rack, Shelf};
 use vx_group::GroupCore;
 use vx_loggroup::{LoggedGroup, Opened};
 use vx_logs::Logs;
-use vx_model::limits::MOST_VOLUMES;
+use vx_model::limits::{MOST_CONFIG_BYTES, MOST_VOLUMES};
 use vx_untold::Shade;
-
-// The most bytes of a configuration.
-const MOST_BYTES: usize = 65024;
 
 /// A group by its parts, over disks of which the contents are told or not.
 #[derive(Drop)]
@@ -140,7 +137,7 @@ impl<R: Rack> Laid<R> {
         ensures { HasSpelling self.now.core.inner.config }
     {
         let config = &self.core.inner.config;
-        let mut page = [0; MOST_BYTES];
+        let mut page = [0; MOST_CONFIG_BYTES];
         is_short(config);
         encode_into(config, &mut page);
     }

@@ -6,10 +6,7 @@ ghost use Rattle.vx_grouped.specs.GroupNotes.{noted_config};
 ghost use Rattle.vx_kept.specs.Cleans.{at_serial};
 
 use vx_config::{Config, encode_into, is_short};
-use vx_model::limits::MOST_SUBDISKS;
-
-// The most bytes of a configuration.
-const MOST_BYTES: usize = 65024;
+use vx_model::limits::{MOST_CONFIG_BYTES, MOST_SUBDISKS};
 
 /// What is noted of a configuration is read back from its bytes, under the serial 0.
 pub fn noted_reads(config: &Config)
@@ -17,7 +14,7 @@ pub fn noted_reads(config: &Config)
     requires few { subdisk_count config.now ≤ MOST_SUBDISKS }
     ensures { table.read (noted_config config.now) ≡ Ok (at_serial 0 config.now, []) }
 {
-    let mut page = [0; MOST_BYTES];
+    let mut page = [0; MOST_CONFIG_BYTES];
     is_short(config);
     encode_into(config, &mut page);
 }

@@ -22,9 +22,9 @@ use Rattle.vx_layout.specs.Places.{HasBlock, has_plex, plex_in}
 use Rattle.vx_logs.specs.Held.{DrlFits, LogsFit}
 use Rattle.vx_logs.specs.declared.logs.Logs.{Logs}
 use Rattle.vx_maplog.specs.Logs.{LogLoaded, log_blocks, log_of, maps_in_log}
-use Rattle.vx_maplog.specs.declared.reading.TheConstants.{MOST_MAP_BLOCKS}
 use Rattle.vx_model.specs.Sizes.{map_blocks, regions_of as regions_in}
 use Rattle.vx_model.specs.declared.site.PlexState.TheVariants.{Stale}
+use Rattle.vx_model.specs.declared.limits.TheConstants.{MOST_MAP_BLOCKS}
 
 -- ---- an entry with the same run
 

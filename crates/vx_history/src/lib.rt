@@ -8,8 +8,10 @@ mod event;
 pub mod laws;
 mod receiver;
 mod sender;
+mod states;
 
 pub use admission::{Change, FullLog};
 pub use event::{Event, LinkPart, Said};
 pub use receiver::{RAction, REvent, RState};
 pub use sender::{Action, SEvent, SFacts};
+pub use states::{is_held, is_in_log, is_live, takes_updates};

@@ -1,5 +1,5 @@
 // A greeting or an acknowledgement that a link of a site hears, and the header that it may write.
-ghost use Rattle.std.specs.Prelude.{◌≡◌, ◌<◌, ◌≤◌, ◌^◌, ℕ, Err, Some, None, OnErr, length, slice_get, true, false};
+ghost use Rattle.std.specs.Prelude.{◌≡◌, ◌<◌, ◌≤◌, ℕ, Err, Some, None, OnErr, length, slice_get, true, false};
 ghost use Rattle.vx_events.specs.GroupLines.{is_over_group};
 ghost use Rattle.vx_model.specs.declared.limits.TheConstants.{LINK_PLACES};
 ghost use Rattle.vx_courier.specs.Together.{AreOne, AssemblyStands};
@@ -54,7 +54,7 @@ fn with_stored(links: &[KeptLink], to: u32, stored: u64) -> KeptLinks
 // The state with that link changed so.
 fn state_stored(state: &State, to: u32, stored: u64) -> State
     requires state { CanSpellState state.now }
-    requires number { stored < 2 ^ 63 }
+    requires number { stored ≤ MOST_NUMBER }
     ensures is { result ≡ record state.now { links = links_stored to stored state.now.links } }
     ensures spell { CanSpellState result }
 {

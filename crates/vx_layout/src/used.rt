@@ -1,20 +1,10 @@
 // The runs of blocks that subdisks and logs take.
 ghost use Rattle.std.specs.Prelude.{◌≡◌, ◌++◌, flat_map, IfOk, OnOk};
-ghost use Rattle.vx_config.specs.Checks.{log_run as log_run_is, log_runs, plex_runs, runs as runs_is, volume_runs};
+ghost use Rattle.vx_config.specs.Checks.{log_runs, plex_runs, runs as runs_is, volume_runs};
 
 use std::alloc::Global;
-use vx_config::{Config, LogEntry, PlexEntry, Subdisk, VolumeEntry};
+use vx_config::{Config, LogEntry, PlexEntry, Subdisk, VolumeEntry, log_run};
 use vx_model::OutOfMemory;
-
-fn log_run(log: &LogEntry) -> Subdisk
-    ensures { result ≡ log_run_is log.now }
-{
-    Subdisk {
-        disk: log.disk,
-        start: log.start,
-        blocks: log.blocks,
-    }
-}
 
 fn push_log(used: &mut Vec<Subdisk>, log: &Option<LogEntry>) -> Result<(), OutOfMemory>
     ensures { OnOk result (used.new.items ≡ used.old.items ++ log_runs log.now) }

@@ -1,22 +1,14 @@
 // What a write of a site asks of its links in memory, and makes of them.
 ghost use Rattle.std.specs.Prelude.{◌≡◌};
 ghost use Rattle.vx_order.specs.Sending.{last_number};
-ghost use Rattle.vx_history.specs.Admission.{is_holding as holds, is_live_link as live, mode_holds};
+ghost use Rattle.vx_history.specs.Admission.{is_holding as holds};
 ghost use Rattle.vx_history.specs.Refusals.{waits};
 ghost use Rattle.vx_linked.specs.Holds.{awaits, awaits_one, least_hold, lesser_hold};
 
+use vx_history::{is_held, is_live};
 use vx_model::{Link, Mode, SyncMode};
 use vx_order::{LinkFacts, SiteFacts};
 use vx_policy::hold_of;
-
-fn is_held(mode: &Mode) -> bool
-    ensures { result ≡ mode_holds mode.now }
-{
-    match mode {
-        Mode::Log | Mode::Replay { .. } => true,
-        Mode::Dcm | Mode::Fork { .. } | Mode::Stale => false,
-    }
-}
 
 pub(crate) fn is_holding(link: &Link) -> bool
     ensures { result ≡ holds link.now }
@@ -54,19 +46,13 @@ pub fn hold_of_site(site: &SiteFacts) -> u64
     number
 }
 
-fn is_waited_for(sync: SyncMode) -> bool
+pub(crate) fn is_waited_for(sync: SyncMode) -> bool
     ensures { result ≡ waits sync }
 {
     match sync {
         SyncMode::Off => false,
         SyncMode::Override | SyncMode::Fail => true,
     }
-}
-
-fn is_live(link: &Link) -> bool
-    ensures { result ≡ live link.now }
-{
-    link.attached && link.connected && !link.paused
 }
 
 fn is_awaited(l: &LinkFacts) -> bool

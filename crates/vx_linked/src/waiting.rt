@@ -4,8 +4,6 @@ ghost use Rattle.std.specs.List.{list_any};
 ghost use Rattle.vx_events.specs.Facts.{site_number};
 ghost use Rattle.vx_events.specs.StepsOver.{facts_over};
 ghost use Rattle.vx_history.specs.Listed.{AreListed};
-ghost use Rattle.vx_history.specs.Admission.{is_live_link as live};
-ghost use Rattle.vx_history.specs.Refusals.{waits as waited_for};
 ghost use Rattle.vx_history.specs.Step.{step};
 ghost use Rattle.vx_history.specs.World.{World};
 ghost use Rattle.vx_history.specs.declared.event.Event.TheVariants.{Wait as WaitAt};
@@ -15,25 +13,11 @@ ghost use Rattle.vx_script.specs.declared.line.ScriptLine.TheVariants.{Wait};
 ghost use Rattle.vx_linked.specs.Tables.{IsUnrefused};
 ghost use Rattle.vx_linked.specs.Waits.{holds_up, wait_said};
 
+use crate::holding::is_waited_for;
 use crate::seats::seat;
-use vx_history::Said;
-use vx_model::{Link, Mode, Name, SyncMode};
+use vx_history::{Said, is_live};
+use vx_model::{Mode, Name};
 use vx_order::{LinkFacts, SiteFacts};
-
-fn is_live(link: &Link) -> bool
-    ensures { result ≡ live link.now }
-{
-    link.attached && link.connected && !link.paused
-}
-
-fn is_waited_for(sync: SyncMode) -> bool
-    ensures { result ≡ waited_for sync }
-{
-    match sync {
-        SyncMode::Off => false,
-        SyncMode::Override | SyncMode::Fail => true,
-    }
-}
 
 fn is_holding_up(l: &LinkFacts, number: u64) -> bool
     ensures { result ≡ holds_up number l.now }

@@ -4,6 +4,7 @@ ghost use Rattle.std.specs.Prelude.{◌≡◌, [], ◌∷◌};
 use std::alloc::Global;
 use std::test::*;
 use vx_disk::{MemShelf, Rack, Shelf};
+use vx_model::limits::LEAST_BLOCKS;
 use vx_model::{No, OutOfMemory, State, Stop, Units, VolumeUnits};
 use vx_rvg::{Rvg, Staging};
 
@@ -49,7 +50,11 @@ fn again(alloc: Global, rvg: Rvg<MemShelf>) -> Result<Rvg<MemShelf>, OutOfMemory
     if shelf.is_down() {
         shelf.revive();
     }
-    if shelf.units() != 3 || shelf.size(0) < 8 || shelf.size(1) != 16 || shelf.size(2) != 16 {
+    if shelf.units() != 3
+        || shelf.size(0) < LEAST_BLOCKS
+        || shelf.size(1) != 16
+        || shelf.size(2) != 16
+    {
         return Err(OutOfMemory);
     }
     match Rvg::start(alloc, shelf, &three_units()) {

@@ -4,6 +4,7 @@ ghost use Rattle.std.specs.Prelude.{◌≡◌, [], ◌∷◌, ◌<◌, ◌≤◌
 use std::alloc::Global;
 use std::test::*;
 use vx_disk::{MemShelf, Rack, Shelf};
+use vx_model::limits::LEAST_BLOCKS;
 use vx_model::{Blocks, Line, No, OutOfMemory, State, Units, Update, VolumeUnits};
 use vx_rvg::Rvg;
 use vx_secondary::{RAction, Secondary};
@@ -52,7 +53,11 @@ fn again(
     if shelf.is_down() {
         shelf.revive();
     }
-    if shelf.units() != 3 || shelf.size(0) < 8 || shelf.size(1) != 18 || shelf.size(2) != 18 {
+    if shelf.units() != 3
+        || shelf.size(0) < LEAST_BLOCKS
+        || shelf.size(1) != 18
+        || shelf.size(2) != 18
+    {
         return Err(OutOfMemory);
     }
     let rvg = match Rvg::start(alloc, shelf, &three_units()) {

@@ -5,6 +5,7 @@ ghost use Rattle.vx_ringio.specs.Tracks.{RingLies};
 use std::alloc::Global;
 use std::test::*;
 use vx_disk::{MemShelf, Rack, Shelf};
+use vx_model::limits::LEAST_BLOCKS;
 use vx_model::{Blocks, Line, OutOfMemory, State, Stop, Update};
 use vx_srl::{Srl, SrlNo};
 
@@ -32,7 +33,7 @@ fn create<S: Shelf>(alloc: Global, shelf: &mut S) -> Result<Srl, Stop> {
 }
 
 fn start<S: Shelf>(alloc: Global, shelf: &mut S) -> Result<Srl, Stop> {
-    if shelf.units() == 0 || shelf.size(0) < 8 {
+    if shelf.units() == 0 || shelf.size(0) < LEAST_BLOCKS {
         return Err(Stop::OutOfMemory);
     }
     Srl::start(alloc, shelf, 0)

@@ -18,9 +18,8 @@ use Rattle.vx_kept.specs.LogRuns.{log_trusted}
 use Rattle.vx_logs.specs.Held.{LogsStand}
 use Rattle.vx_logs.specs.declared.logs.Logs.{Logs}
 use Rattle.vx_maplog.specs.Logs.{log_blocks, log_of}
-use Rattle.vx_maplog.specs.declared.reading.TheConstants.{MOST_MAP_BLOCKS}
 use Rattle.vx_model.specs.Sizes.{map_blocks, regions_of}
-use Rattle.vx_model.specs.declared.limits.TheConstants.{MAP_REGIONS}
+use Rattle.vx_model.specs.declared.limits.TheConstants.{MAP_REGIONS, MOST_MAP_BLOCKS}
 use Rattle.vx_loggroup.specs.LoggedVolumes.{is_alike}
 
 -- a map in memory lies where the configuration has the log

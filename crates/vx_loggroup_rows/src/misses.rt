@@ -8,6 +8,7 @@ use vx_disk::{MemShelf, Rack, Shelf};
 use vx_group_rows::Untold;
 use vx_layout::Shape;
 use vx_loggroup::LoggedGroup;
+use vx_model::limits::MOST_DISKS;
 use vx_model::{Name, OutOfMemory};
 
 pub type Disks = Untold<MemShelf>;
@@ -60,7 +61,7 @@ pub fn group_of(
         return Err(OutOfMemory);
     }
     let shelf = Untold { shelf };
-    if shelf.units() == 0 || shelf.units() > 8 {
+    if shelf.units() == 0 || shelf.units() > MOST_DISKS {
         return Err(OutOfMemory);
     }
     match LoggedGroup::create(alloc, shelf, 7) {

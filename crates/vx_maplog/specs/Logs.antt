@@ -1,6 +1,7 @@
 -- Where a configuration has the logs of a volume, and the map that is read of one.
 use Rattle.std.specs.Prelude.{◌≡◌, ℕ, ◌*◌, ◌<◌, ◌≤◌, true, List, length, Option, Some, None, slice_get}
 use Rattle.vx_model.specs.Sizes.{map_blocks}
+use Rattle.vx_model.specs.declared.limits.TheConstants.{MOST_MAP_BLOCKS}
 use Rattle.vx_disk.specs.Shelf.{Meaning}
 use Rattle.vx_config.specs.Checks.{blocks_of, is_sound, plexes_of}
 use Rattle.vx_config.specs.declared.config.Config.{Config}
@@ -10,7 +11,6 @@ use Rattle.vx_config.specs.declared.entry.VolumeEntry.{VolumeEntry}
 use Rattle.vx_config.specs.declared.entry.VolumeLog.{VolumeLog}
 use Rattle.vx_config.specs.declared.entry.VolumeLog.TheVariants.{Drl, Fmr}
 use Rattle.vx_bitmap.specs.Maps.{Map}
-use Rattle.vx_maplog.specs.declared.reading.TheConstants.{MOST_MAP_BLOCKS}
 
 -- one of the logs of a volume
 abbrev pub log_in : VolumeLog → VolumeEntry → Option LogEntry

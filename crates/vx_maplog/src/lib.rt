@@ -6,5 +6,5 @@ mod reading;
 mod tested;
 
 pub use entry::{blocks_of, log_of, plexes_of};
-pub use reading::{MOST_MAP_BLOCKS, load};
+pub use reading::load;
 pub use tested::{disks_fit, has_log};

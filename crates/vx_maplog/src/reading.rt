@@ -11,10 +11,7 @@ use vx_bitmap::Bitmap;
 use vx_config::{Config, VolumeLog};
 use vx_disk::Shelf;
 use vx_model::Stop;
-use vx_model::limits::MAP_REGIONS;
-
-/// The most blocks of a log that is taken into memory.
-pub const MOST_MAP_BLOCKS: u64 = 65_536;
+use vx_model::limits::{MAP_REGIONS, MOST_MAP_BLOCKS};
 
 // Reads the map in a run of blocks.
 fn read_run<S: Shelf>(

@@ -6,6 +6,7 @@ use vx_disk::{MemShelf, Rack, Shelf};
 use vx_layout::Shape;
 use vx_loggroup::LoggedGroup;
 use vx_model::Name;
+use vx_model::limits::MOST_DISKS;
 
 /// A volume of 1,024 blocks on two plexes, with these logs.
 pub fn shape(drl: bool, fmr: bool) -> Shape
@@ -33,7 +34,7 @@ pub fn group(alloc: Global, want: &Shape, fuse: u64) -> Option<LoggedGroup<MemSh
         return None;
     }
     shelf.fuse(fuse, 0);
-    if shelf.units() == 0 || shelf.units() > 8 {
+    if shelf.units() == 0 || shelf.units() > MOST_DISKS {
         return None;
     }
     match LoggedGroup::create(alloc, shelf, 0) {

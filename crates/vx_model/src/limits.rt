@@ -6,10 +6,14 @@ pub const BLOCK: usize = 512;
 pub const REGION: u64 = 64;
 /// The regions that one block of a map has bits for.
 pub const MAP_REGIONS: u64 = 4096;
+/// The most blocks of maps, or of a log of regions, that are taken into memory.
+pub const MOST_MAP_BLOCKS: u64 = 65_536;
 /// The most blocks of one read or write.
 pub const MOST_CALL_BLOCKS: u64 = 16;
 /// The most bytes of one read or write.
 pub const MOST_CALL_BYTES: usize = 8192;
+/// The most bytes of a configuration as it is spelled, which is the room of an area.
+pub const MOST_CONFIG_BYTES: usize = 65024;
 /// The most bytes of a name.
 pub const MOST_NAME_BYTES: usize = 8;
 
@@ -23,6 +27,8 @@ pub const DISK_PLACES: usize = 8;
 pub const LEAST_RAW_DISKS: u32 = 3;
 /// The least blocks of a disk, and of a unit that holds a log.
 pub const LEAST_BLOCKS: u64 = 8;
+/// The least blocks of a disk of a group.
+pub const LEAST_GROUP_BLOCKS: u64 = 1024;
 /// The most blocks of a disk in memory.
 pub const MOST_MEMORY_BLOCKS: u64 = 16_384;
 /// The most blocks of a disk in a file.

@@ -8,7 +8,7 @@ pub trait Net {
     ghost flying: { Self → Flying };
 
     /// Sends a packet of at most 1,072 bytes, and answers its number, the first of which is 1. Where 65,536 packets are kept the
-    /// oldest is dropped. A packet past number 2^63 - 1 is lost, and the count is answered.
+    /// oldest is dropped. A packet past number `MOST_NUMBER` is lost, and the count is answered.
     fn send(&mut self, bytes: &[u8]) -> u64
         requires fits { length bytes.now ≤ 1072 }
         ensures number { result ≡ (flying self.new).count }

@@ -4,13 +4,13 @@ use Rattle.std.specs.Prelude.{Option, Some, None}
 use Rattle.vx_model.specs.declared.no.No.{No}
 use Rattle.vx_model.specs.declared.no.No.TheVariants.{Exists, Size, Role, Down}
 use Rattle.vx_model.specs.Sites.{is_bare, is_up}
+use Rattle.vx_model.specs.declared.limits.TheConstants.{LEAST_GROUP_BLOCKS}
 use Rattle.vx_script.specs.declared.line.Layout.{Layout}
 use Rattle.vx_script.specs.declared.line.ReadPolicy.{ReadPolicy}
 use Rattle.vx_script.specs.declared.line.ScriptLine.TheVariants.{GroupInit, GroupDeport, GroupImport, Volume, PlexDetach, PlexAttach, Rvg}
 use Rattle.vx_script.specs.declared.line.VolumeLog.{VolumeLog}
 use Rattle.vx_script.specs.declared.line.VolumeMap.{VolumeMap}
 use Rattle.vx_order.specs.declared.facts.SiteFacts.{SiteFacts}
-use Rattle.vx_order.specs.declared.grouping.TheConstants.{LEAST_GROUP_BLOCKS}
 use Rattle.vx_order.specs.declared.subject.Halt.TheVariants.{First}
 use Rattle.vx_order.specs.declared.subject.Need.TheVariants.{FirstUp}
 use Rattle.vx_order.specs.Asks.{ask_of}

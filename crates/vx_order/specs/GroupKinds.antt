@@ -4,10 +4,10 @@ use Rattle.vx_model.specs.declared.no.Named.TheVariants.{Of}
 use Rattle.vx_model.specs.declared.no.No.{No}
 use Rattle.vx_model.specs.declared.no.No.TheVariants.{Unknown, Exists, Size, Role, Down}
 use Rattle.vx_model.specs.Sites.{is_bare, is_up}
+use Rattle.vx_model.specs.declared.limits.TheConstants.{LEAST_GROUP_BLOCKS}
 use Rattle.vx_script.specs.declared.line.Layout.{Layout}
 use Rattle.vx_script.specs.declared.line.ReadPolicy.{ReadPolicy}
 use Rattle.vx_order.specs.declared.facts.SiteFacts.{SiteFacts}
-use Rattle.vx_order.specs.declared.grouping.TheConstants.{LEAST_GROUP_BLOCKS}
 use Rattle.vx_order.specs.Grouping.{is_deported}
 use Rattle.vx_order.specs.Replicating.{group_unknown, group_word, fits_group}
 use Rattle.vx_order.specs.Sites.{volume_of, rvg_of, halted_one}

@@ -5,8 +5,8 @@ use Rattle.vx_model.specs.declared.no.No.TheVariants.{Size, Role as WrongRole}
 use Rattle.vx_model.specs.declared.site.SiteState.{SiteState}
 use Rattle.vx_model.specs.declared.site.SiteState.TheVariants.{Bare, Up, Deported, Down}
 use Rattle.vx_model.specs.Sites.{is_up}
+use Rattle.vx_model.specs.declared.limits.TheConstants.{LEAST_GROUP_BLOCKS}
 use Rattle.vx_order.specs.declared.facts.SiteFacts.{SiteFacts}
-use Rattle.vx_order.specs.declared.grouping.TheConstants.{LEAST_GROUP_BLOCKS}
 use Rattle.vx_order.specs.Sites.{rvg_of}
 use Rattle.vx_order.specs.Tests.{when}
 

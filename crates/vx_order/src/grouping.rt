@@ -5,10 +5,8 @@ ghost use Rattle.vx_order.specs.Grouping.{group_role, import_role, recover_role,
 
 use crate::facts::SiteFacts;
 use crate::sites::find_rvg;
+use vx_model::limits::LEAST_GROUP_BLOCKS;
 use vx_model::{No, SiteState};
-
-/// The least blocks of a disk of a group.
-pub const LEAST_GROUP_BLOCKS: u64 = 1024;
 
 /// 5, where the site is not up as a disk group.
 pub fn refuse_no_group(site: Option<&SiteFacts>) -> Option<No>

@@ -3,8 +3,6 @@ use Rattle.std.proofs.Common.{◌≡◌, ℕ, ◌+◌, List, ◌++◌, length, t
 use Rattle.std.proofs.lemmas.List.{take_at, take_all, length-drop, take-append-drop}
 use Rattle.vx_wire.specs.Fields.{spelled}
 use Rattle.vx_wire.specs.Numbers.{be_bytes, number_at}
-use Rattle.vx_wire.specs.Places.{put_at}
-use Rattle.std.proofs.lemmas.List.{append-nil, drop_all}
 use Rattle.vx_packet.specs.PacketReading.{part_in}
 use Rattle.vx_packet.specs.Packets.{packet_table, packet_bytes, payload_in, CanCarry, IsTypedPart, IsPacket}
 use Rattle.vx_packet.specs.declared.part.Part.{Part}
@@ -63,8 +61,3 @@ packet_from bytes p front start whole =
     let all : take p.length (drop 48 bytes) ≡ drop 48 bytes = take_all p.length (drop 48 bytes) (omega (arith, length-drop 48 bytes)) in
     let payload : payload_in p bytes ≡ drop 48 bytes = ap (λ (n : ℕ). take p.length (drop n bytes)) start ∙ all in
     sym (take-append-drop 48 bytes) ∙ ap (λ (t : List ℕ). t ++ drop 48 bytes) front ∙ ap (λ (t : List ℕ). spelled (packet_table p) ++ t) (sym payload)
-
--- what is written over the whole
-pub put_at-whole : (a bytes : List ℕ) → length a ≡ length bytes → put_at 0 a bytes ≡ a
-unfolding put_at
-put_at-whole a bytes len = rw (drop_all (0 + length a) bytes (omega (arith, len))) (append-nil a)

@@ -11,6 +11,7 @@ ghost use Rattle.vx_rvg.specs.Views.{last_of};
 
 use std::alloc::Global;
 use vx_disk::Shelf;
+use vx_model::limits::MOST_NUMBER;
 use vx_model::{Blocks, Line, Stop, Update};
 use vx_rvg::Rvg;
 use vx_srl::SrlNo;
@@ -50,7 +51,7 @@ pub(crate) fn read_updates<S: Shelf>(
     requires running { rvg.old.core.halted ≡ None }
     requires low { rvg.old.core.log.header.low ≤ first }
     requires held { first + count ≤ last_of rvg.old.core + 1 }
-    requires number { first + count ≤ 0x8000_0000_0000_0000 }
+    requires number { first + count ≤ MOST_NUMBER + 1 }
     ensures read { IfOk result (λ us. (length us.items ≡ count) × ((h : Holding) → Stands rvg.old.core h (S.meaning rvg.old.shelf) → IsTrue (S.meaning rvg.old.shelf).tells
         → AreRead h rvg.old.core.log.header.state.line first us.items × Stands rvg.old.core h (S.meaning rvg.new.shelf))) }
     ensures cause { IfErr result (ReadCause rvg.old.core (S.meaning rvg.old.shelf) (S.meaning rvg.new.shelf)) }

@@ -9,6 +9,7 @@ ghost use Rattle.vx_secondary.specs.Receivers.{write_of_update};
 
 use vx_courier::send_message;
 use vx_model::Update;
+use vx_model::limits::MOST_NUMBER;
 use vx_net::Net;
 use vx_packet::{BlockBytes, Envelope, Message};
 
@@ -38,7 +39,7 @@ pub(crate) fn send_updates<N: Net>(
     updates: &[Update],
 )
     requires generation { IsCounted envelope.now.line.generation }
-    requires numbers { first + length updates.now ≤ 0x8000_0000_0000_0000 }
+    requires numbers { first + length updates.now ≤ MOST_NUMBER + 1 }
     requires room { (N.flying flight.old).count + 16 * length updates.now ≤ greatest_packet }
     ensures flies { (ps : List Packet) → FlightStands ps (N.flying flight.old)
         → FlightStands (ps ++ updates_of envelope.now.source envelope.now.target envelope.now.line first (map write_of_update updates.now)) (N.flying flight.new) }

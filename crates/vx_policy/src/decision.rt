@@ -7,6 +7,7 @@ ghost use Rattle.vx_policy.specs.declared.verdict.Verdict.TheVariants.{Go};
 use crate::full::{find_change, is_down, refuse_full};
 use crate::{Facts, Verdict};
 use vx_history::Change;
+use vx_model::limits::LINK_PLACES;
 use vx_model::{Link, No, SiteName};
 
 /// Whether a write is let in, over the links of its site in the order of their making.
@@ -15,7 +16,7 @@ use vx_model::{Link, No, SiteName};
 /// refused with 12 or 13 for the first link that leaves too little room and says so. Else it is let in, and each link that leaves
 /// too little room is given up or goes by a map.
 pub fn decide(links: &[Link], facts: &Facts) -> Verdict
-    requires few { length links.now ≤ 8 }
+    requires few { length links.now ≤ LINK_PLACES }
     ensures { result ≡ verdict (admit facts.now.need facts.now.room links.now facts.now.used) }
 {
     if let Some(no) = refuse_down(links) {
@@ -41,7 +42,7 @@ fn refuse_down(links: &[Link]) -> Option<No>
 }
 
 fn refuse_first_full(links: &[Link], facts: &Facts) -> Option<No>
-    requires few { length links.now ≤ 8 }
+    requires few { length links.now ≤ LINK_PLACES }
     ensures { result ≡ refusal_if (first_full facts.now.need facts.now.room (zip links.now facts.now.used)) }
 {
     for at in 0..links.len() {
@@ -55,7 +56,7 @@ fn refuse_first_full(links: &[Link], facts: &Facts) -> Option<No>
 
 // From the last link to the first, which is the lowest bit.
 fn convert(links: &[Link], facts: &Facts) -> Verdict
-    requires few { length links.now ≤ 8 }
+    requires few { length links.now ≤ LINK_PLACES }
     ensures { result ≡ Go (bits_for goes_stale (changes facts.now.need facts.now.room (zip links.now facts.now.used))) (bits_for goes_dcm (changes facts.now.need facts.now.room (zip links.now facts.now.used))) }
 {
     let count = links.len();

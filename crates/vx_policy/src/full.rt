@@ -1,9 +1,9 @@
 // What a link needs of the log, and what becomes of a write or of the link where too little room is left.
 ghost use Rattle.std.specs.Prelude.{◌≡◌};
-ghost use Rattle.vx_history.specs.Admission.{is_live_link as live, is_down as down, hold, mode_hold, is_holding, mode_holds, blocks, full_log, full_log_of, change, change_by, held_by_room, held_when_full};
+ghost use Rattle.vx_history.specs.Admission.{is_down as down, hold, mode_hold, is_holding, blocks, full_log, full_log_of, change, change_by, held_by_room, held_when_full};
 ghost use Rattle.vx_policy.specs.Verdicts.{refusal_if};
 
-use vx_history::{Change, FullLog};
+use vx_history::{Change, FullLog, is_held, is_live};
 use vx_model::{Link, Mode, No, Phase, Prot, SiteName, SyncMode};
 
 /// The number up to which a link has no need of the log: what its site has stored, or where a replay has not come to its
@@ -64,15 +64,6 @@ fn is_blocking(link: &Link, used: u64, need: u64, room: u64) -> bool
     is_holding && (used > room || need > room - used)
 }
 
-fn is_held(mode: &Mode) -> bool
-    ensures { result ≡ mode_holds mode.now }
-{
-    match mode {
-        Mode::Log | Mode::Replay { .. } => true,
-        Mode::Dcm | Mode::Fork { .. } | Mode::Stale => false,
-    }
-}
-
 fn find_full_log(link: &Link) -> FullLog
     ensures { result ≡ full_log_of link.now }
 {
@@ -82,10 +73,4 @@ fn find_full_log(link: &Link) -> FullLog
         (Prot::Fail, false) => FullLog::Fails,
         (Prot::Dcm, false) | (Prot::Autodcm, _) => FullLog::TurnsDcm,
     }
-}
-
-fn is_live(link: &Link) -> bool
-    ensures { result ≡ live link.now }
-{
-    link.attached && link.connected && !link.paused
 }

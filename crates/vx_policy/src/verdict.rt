@@ -1,5 +1,6 @@
 // What is asked of a write, and what is answered.
 use vx_model::No;
+use vx_model::limits::LINK_PLACES;
 
 /// A write, and how full the log is.
 #[derive(Clone, Copy, Debug, PartialEq, Eq)]
@@ -11,7 +12,7 @@ pub struct Facts {
     /// The number of the last write that is logged.
     pub head: u64,
     /// For each link, in order, the blocks of the ring that the numbers above its hold take.
-    pub used: [u64; 8],
+    pub used: [u64; LINK_PLACES],
 }
 
 /// What becomes of a write.

@@ -1,11 +1,11 @@
 // What the events of a receiver make of it.
 ghost use Rattle.std.specs.Prelude.{◌≡◌};
-ghost use Rattle.vx_model.specs.Sites.{same_line};
-ghost use Rattle.vx_history.specs.Receiving.{received_step, phase_takes, is_log_phase, update_heard, records_applied, marked_by, site_restarted};
+ghost use Rattle.vx_history.specs.Receiving.{received_step, update_heard, records_applied, marked_by, site_restarted};
 
 use crate::{RAction, REvent, RState};
+use vx_history::{is_in_log, takes_updates};
 use vx_model::limits::MOST_WAITING;
-use vx_model::{Line, Mark, SPhase};
+use vx_model::{Line, Mark, is_same_line};
 
 /// What the event makes of the receiver, and what is then to be done: an acknowledgement, or nothing.
 ///
@@ -74,29 +74,5 @@ fn mark_by(state: &mut RState, applied: u64)
 {
     if is_in_log(&state.phase) && state.end <= applied {
         state.mark = Mark::Consistent;
-    }
-}
-
-fn is_same_line(line: &Line, other: &Line) -> bool
-    ensures { result ≡ same_line line.now other.now }
-{
-    line.generation == other.generation && line.origin == other.origin
-}
-
-fn takes_updates(phase: &SPhase) -> bool
-    ensures { result ≡ phase_takes phase.now }
-{
-    match phase {
-        SPhase::Quiet | SPhase::Log => true,
-        SPhase::Regions | SPhase::ForkKept => false,
-    }
-}
-
-fn is_in_log(phase: &SPhase) -> bool
-    ensures { result ≡ is_log_phase phase.now }
-{
-    match phase {
-        SPhase::Log => true,
-        SPhase::Quiet | SPhase::Regions | SPhase::ForkKept => false,
     }
 }

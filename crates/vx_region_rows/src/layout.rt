@@ -9,13 +9,14 @@ use std::process::Abort;
 use std::test::Fail;
 use vx_config::{Config, Disks, PlexEntry, Plexes, Subdisk, Subdisks, VolumeEntry, Volumes, check};
 use vx_layout::{Shape, find_space, place};
+use vx_model::limits::{DISK_PLACES, MOST_COLUMNS, MOST_PLEXES};
 use vx_model::{Name, No, OutOfMemory, PlexState, Stop};
 
 // Three disks of 1,024 blocks, and a volume of 100 blocks on two columns with units of 16 blocks.
 fn striped(alloc: Global) -> Result<Config, OutOfMemory> {
     let mut disks = Disks::new();
     for _ in 0..3 {
-        if disks.as_slice().len() < 8 {
+        if disks.as_slice().len() < DISK_PLACES {
             disks.push(good(1024));
         }
     }
@@ -98,9 +99,9 @@ fn is_shape(want: &Shape) -> bool
     0 < want.blocks
         && want.blocks <= 1 << 40
         && 0 < want.mirrors
-        && want.mirrors <= 8
+        && want.mirrors <= MOST_PLEXES as u32
         && 0 < want.ncol
-        && want.ncol <= 8
+        && want.ncol <= MOST_COLUMNS
         && (want.width != 0 || want.ncol == 1)
 }
 

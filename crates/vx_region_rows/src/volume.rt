@@ -8,6 +8,7 @@ use std::alloc::Global;
 use std::test::Fail;
 use vx_config::{Config, Disks, PlexEntry, Plexes, Subdisk, Subdisks, VolumeEntry, Volumes, check};
 use vx_disk::{MemShelf, Rack, Shelf};
+use vx_model::limits::DISK_PLACES;
 use vx_model::{Name, No, OutOfMemory, PlexState};
 use vx_volume::{Volume, blocks_of, flush, is_active, read, write};
 
@@ -26,7 +27,7 @@ fn plex(alloc: Global, state: PlexState, runs: [Subdisk; 2]) -> Result<PlexEntry
 fn mirror(alloc: Global, first: PlexState, second: PlexState) -> Result<Config, OutOfMemory> {
     let mut disks = Disks::new();
     for _ in 0..2 {
-        if disks.as_slice().len() < 8 {
+        if disks.as_slice().len() < DISK_PLACES {
             disks.push(good(1024));
         }
     }

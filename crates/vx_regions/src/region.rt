@@ -7,34 +7,13 @@ ghost use Rattle.vx_regions.specs.Regions.{PuttingRegion, volume_has_region, reg
 ghost use Rattle.vx_rvg.specs.Stores.{AreBlocks, StoresInto};
 ghost use Rattle.vx_rvg.specs.Views.{unit_of};
 ghost use Rattle.vx_secondary.specs.Logging.{EndsLogging};
-ghost use Rattle.vx_secondary.specs.Receivers.{receiver_of};
 
 use vx_disk::Shelf;
 use vx_model::No;
 use vx_model::limits::REGION;
-use vx_receiver::RState;
 use vx_replay::{QAction, QEvent};
 use vx_rvg::Rvg;
-use vx_secondary::{Secondary, Waiting};
-
-fn receiver<S: Shelf>(rvg: &Rvg<S>, waiting: &Waiting) -> RState
-    ensures { result ≡ receiver_of rvg.now.core waiting.now }
-{
-    // For its bound.
-    let _ring = rvg.ring();
-    let state = rvg.state();
-    let count = waiting.len();
-    RState {
-        line: state.line,
-        last: rvg.head() + u64::from(count),
-        waiting: count,
-        session: rvg.session(),
-        mark: state.mark,
-        phase: state.phase,
-        replay: state.replay,
-        end: state.end,
-    }
-}
+use vx_secondary::{Secondary, Waiting, receiver};
 
 // What the rule says of a region of this replay.
 fn action_of<S: Shelf>(rvg: &Rvg<S>, waiting: &Waiting, id: u64) -> QAction

@@ -1,12 +1,10 @@
 // What the messages of a replay make of the site that receives.
 ghost use Rattle.std.specs.Prelude.{◌≡◌};
-ghost use Rattle.vx_history.specs.Receiving.{is_log_phase};
-ghost use Rattle.vx_model.specs.Sites.{same_line};
 ghost use Rattle.vx_replay.specs.Secondary.{copies as copies_is, done_came, fills as fills_is, phase_copies, region_came, secondary_step, start_came};
 
 use crate::{QAction, QEvent};
-use vx_history::RState;
-use vx_model::{Line, Mark, SPhase};
+use vx_history::{RState, is_in_log};
+use vx_model::{Line, Mark, SPhase, is_same_line};
 
 /// What the message makes of the receiver, and what is then to be done.
 ///
@@ -93,26 +91,11 @@ fn fills(state: &RState, line: &Line, id: u64) -> bool
     is_same_line(line, &state.line) && id == state.replay && is_in_log(&state.phase)
 }
 
-fn is_same_line(line: &Line, other: &Line) -> bool
-    ensures { result ≡ same_line line.now other.now }
-{
-    line.generation == other.generation && line.origin == other.origin
-}
-
 fn is_copying(phase: &SPhase) -> bool
     ensures { result ≡ phase_copies phase.now }
 {
     match phase {
         SPhase::Regions => true,
         SPhase::Quiet | SPhase::Log | SPhase::ForkKept => false,
-    }
-}
-
-fn is_in_log(phase: &SPhase) -> bool
-    ensures { result ≡ is_log_phase phase.now }
-{
-    match phase {
-        SPhase::Log => true,
-        SPhase::Quiet | SPhase::Regions | SPhase::ForkKept => false,
     }
 }

@@ -10,6 +10,7 @@ use std::thread::Threads;
 use vx_cli::{OpenGate, Status, fresh_racks, vx_main};
 use vx_disk::{MemShelf, Rack, Shelf};
 use vx_filedisk::HostRack;
+use vx_model::limits::LEAST_BLOCKS;
 use vx_model::{Units, VolumeUnits};
 use vx_rvg::Rvg;
 use vx_stream::{Failed, MemSink, MemSource, Sink};
@@ -67,7 +68,11 @@ fn last_done(bytes: &[u8]) -> Option<u64> {
 // The number of the last write in the files of the first site, as a start over a copy of them finds it.
 fn head_in_files(rt: HostRuntime, alloc: Global) -> Option<u64> {
     let shelf = copy_of_files(rt, alloc)?;
-    if shelf.units() != 3 || shelf.size(0) < 8 || shelf.size(1) != 64 || shelf.size(2) != 64 {
+    if shelf.units() != 3
+        || shelf.size(0) < LEAST_BLOCKS
+        || shelf.size(1) != 64
+        || shelf.size(2) != 64
+    {
         return None;
     }
     match Rvg::start(alloc, shelf, &three_units()) {

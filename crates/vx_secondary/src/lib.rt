@@ -13,6 +13,7 @@ mod secondary;
 mod show;
 mod waiting;
 
+pub use rule::receiver;
 pub use secondary::Secondary;
 pub use vx_receiver::RAction;
 pub use waiting::Waiting;

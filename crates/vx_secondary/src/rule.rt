@@ -10,7 +10,8 @@ use vx_model::limits::BLOCK;
 use vx_receiver::{RAction, REvent, RState};
 use vx_rvg::Rvg;
 
-fn receiver<S: Shelf>(rvg: &Rvg<S>, waiting: &Waiting) -> RState
+/// The group with its waiting updates, as the rule of receivers sees it.
+pub fn receiver<S: Shelf>(rvg: &Rvg<S>, waiting: &Waiting) -> RState
     ensures { result ≡ receiver_of rvg.now.core waiting.now }
 {
     // For its bound.

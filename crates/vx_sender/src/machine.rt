@@ -1,6 +1,5 @@
 // What the events of a link make of it.
 ghost use Rattle.std.specs.Prelude.{◌≡◌};
-ghost use Rattle.vx_history.specs.Admission.{is_live_link as live};
 ghost use Rattle.vx_history.specs.Sending.{sent_step, pumped, ticked, restarted, mode_restarted};
 
 use crate::messages::{goes_by_log, hear_data_ack, hear_hello, hear_net_ack};
@@ -103,10 +102,4 @@ fn restart_mode(mode: &Mode) -> Mode
         Mode::Fork { .. } => Mode::Fork { maps: 0 },
         _ => *mode,
     }
-}
-
-fn is_live(link: &Link) -> bool
-    ensures { result ≡ live link.now }
-{
-    link.attached && link.connected && !link.paused
 }

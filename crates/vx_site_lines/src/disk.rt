@@ -2,7 +2,6 @@
 ghost use Rattle.std.specs.Prelude.{◌≡◌, false};
 ghost use Rattle.vx_history.specs.Doubts.{Doubted};
 ghost use Rattle.vx_script.specs.declared.line.ScriptLine.TheVariants.{Disk};
-ghost use Rattle.vx_events.specs.Failing.{is_failing};
 ghost use Rattle.vx_events.specs.StepsOver.{is_for_group};
 ghost use Rattle.vx_yard.specs.OfSites.{AsAsked};
 ghost use Rattle.vx_yard.specs.Standing.{Leads, StandsFor};
@@ -10,17 +9,10 @@ ghost use Rattle.vx_yard.specs.Working.{IsFree};
 ghost use Rattle.vx_yard.specs.Yards.{IsYardKept, IsTold, in_files};
 
 use vx_disk::Rack;
-use vx_events::Said;
+use vx_events::{Said, is_failing};
 use vx_model::Name;
 use vx_script::DiskState as DiskWord;
 use vx_yard::Yard;
-
-// Whether the calls on the disk are to fail.
-fn is_failing(state: DiskWord) -> bool
-    ensures { result ≡ is_failing state }
-{
-    matches!(state, DiskWord::Fail)
-}
 
 /// Makes the calls on a disk fail, or ends that.
 pub fn set_disk<R: Rack>(yard: &mut Yard<R>, name: &Name, disk: u64, state: DiskWord) -> Said

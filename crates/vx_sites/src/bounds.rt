@@ -1,9 +1,7 @@
 // The tests of sites that are made, of volumes, and of links that are made. Each answers the refusal, or none.
 ghost use Rattle.std.specs.Prelude.{◌≡◌, ◌+◌, ◌<◌, ◌^◌, not, ◌&&◌, length, leb, IsNone, bytes_eq};
 ghost use Rattle.vx_history.specs.World.{World as PlainWorld};
-ghost use Rattle.vx_model.specs.Sites.{same_line as on_same_line};
 ghost use Rattle.vx_model.specs.Answer.{is_past};
-ghost use Rattle.vx_history.specs.Receiving.{phase_takes};
 ghost use Rattle.vx_history.specs.Sends.{is_linked};
 ghost use Rattle.vx_history.specs.Refusals.{unless, unless_at_most, at_site, at_work, is_primary as primary, some_below, may_be_site, is_fresh as fresh, may_link as can_link, may_join, agree, rings_fit as fit, count_links_of, follows as following};
 ghost use Rattle.vx_model.specs.Sites.{is_bare as bare};
@@ -16,7 +14,7 @@ ghost use Rattle.vx_sites.specs.Shapes.{world_of, node_of, named_volumes};
 use crate::refusals::{has_writes, refuse_site, refuse_work};
 use crate::{Node, World};
 use vx_model::limits::{LEAST_BLOCKS, MOST_DISKS, MOST_NUMBER, MOST_SITES};
-use vx_model::{Counted, Line, Name, Named, No, Role, SPhase, SiteState, is_raw_shape};
+use vx_model::{Counted, Line, Name, Named, No, Role, SiteState, is_raw_shape, is_same_line};
 
 /// 2, 19 and 4 of a further site.
 pub fn refuse_new_site(world: &World, name: &Name, disks: u32, blocks: u64) -> Option<No>
@@ -234,13 +232,6 @@ pub fn count_links(world: &World, site: u32) -> usize
     count
 }
 
-/// Whether two lines are the same.
-pub fn is_same_line(line: &Line, other: &Line) -> bool
-    ensures { result ≡ on_same_line line.now other.now }
-{
-    line.generation == other.generation && line.origin == other.origin
-}
-
 fn has_same_volumes(here: &Node, there: &Node) -> bool
     ensures { result ≡ agree (node_of here.now).volumes (node_of there.now).volumes }
 {
@@ -276,16 +267,6 @@ pub fn follows(world: &World, from: u32, to: u32) -> bool
 {
     let there = world.node(to);
     !has_writes(&there.role) && is_same_line(&there.line, &world.node(from).line)
-}
-
-/// Whether a receiver in this phase takes updates.
-pub fn takes_updates(phase: &SPhase) -> bool
-    ensures { result ≡ phase_takes phase.now }
-{
-    match phase {
-        SPhase::Quiet | SPhase::Log => true,
-        SPhase::Regions | SPhase::ForkKept => false,
-    }
 }
 
 /// 19 where a number, of a write or a session, is the greatest.

@@ -1,6 +1,7 @@
 // What each line is answered, with all later reasons holding too.
 use std::alloc::Global;
 use std::test::Fail;
+use vx_model::limits::{MOST_DISKS, MOST_SITES};
 use vx_model::{Counted, Line, Mark, Name, Named, No, OutOfMemory, Role, SiteName, SiteState};
 use vx_order::{LinkTable, RvgFacts, SiteFacts, VolumeFacts, VolumeKind, VolumeTable, refuse};
 use vx_script::{DiskState, ScriptLine};
@@ -174,7 +175,10 @@ fn tests_new_sites(rt: HostRuntime) -> Result<(), Fail> {
     let blocks = limit(Counted::Blocks, 16384);
     for (line, wanted) in [
         (made(Name::new(b"a"), 9, 64), taken),
-        (made(Name::new(b"e"), 9, 64), limit(Counted::Disks, 8)),
+        (
+            made(Name::new(b"e"), 9, 64),
+            limit(Counted::Disks, u64::from(MOST_DISKS)),
+        ),
         (made(Name::new(b"e"), 0, 16385), blocks),
         (made(Name::new(b"e"), 0, 8), Some(No::Size)),
         (made(Name::new(b"e"), 1, 7), Some(No::Size)),
@@ -186,7 +190,9 @@ fn tests_new_sites(rt: HostRuntime) -> Result<(), Fail> {
     for name in [b"e", b"f", b"g", b"h"] {
         all.push(bare(rt.alloc(), Name::new(name), 1, 8))?;
     }
-    assert!(rt; refuse(&all, true, &made(Name::new(b"i"), 9, 1)) == limit(Counted::Sites, 8));
+    assert!(rt;
+        refuse(&all, true, &made(Name::new(b"i"), 9, 1)) == limit(Counted::Sites, MOST_SITES as u64)
+    );
     Ok(())
 }
 

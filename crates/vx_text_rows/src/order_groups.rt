@@ -1,6 +1,7 @@
 // Tests of the lines of disk groups: of each refusal one row in which all later ones hold too.
 use std::alloc::Global;
 use std::test::Fail;
+use vx_model::limits::{MOST_PLEXES, MOST_VOLUMES};
 use vx_model::{Counted, Line, Mark, Name, Named, No, OutOfMemory, Role, SiteState};
 use vx_order::{LinkTable, RvgFacts, SiteFacts, VolumeFacts, VolumeKind, VolumeTable, refuse};
 use vx_script::{Layout, Names, ReadPolicy, ScriptLine, VolumeLog, VolumeMap};
@@ -196,8 +197,8 @@ fn tests_new_volumes_in_order(rt: HostRuntime) -> Result<(), Fail> {
     let eighth = ReadPolicy::Prefer { plex: 8 };
     let (v, n) = (Name::new(b"v"), Name::new(b"n"));
     let (f, g, h) = (Name::new(b"f"), Name::new(b"g"), Name::new(b"h"));
-    let volumes = limit(Counted::Volumes, 32);
-    let plexes = limit(Counted::Plexes, 8);
+    let volumes = limit(Counted::Volumes, MOST_VOLUMES as u64);
+    let plexes = limit(Counted::Plexes, MOST_PLEXES as u64);
     for (site, name, mirrors, policy, wanted) in [
         (Name::new(b"z"), v, 9, ninth, unknown(Name::new(b"z"))),
         (Name::new(b"o"), v, 9, ninth, Some(No::Down)),

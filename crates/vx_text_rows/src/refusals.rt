@@ -2,6 +2,7 @@
 use std::alloc::Global;
 use std::process::Abort;
 use std::test::Fail;
+use vx_model::limits::MOST_DISKS;
 use vx_model::{Counted, Name, Named, No, SiteName};
 use vx_report::refusal;
 
@@ -93,12 +94,12 @@ fn prints_numbers(rt: HostRuntime) -> Result<(), Fail> {
 #[test]
 fn prints_limits(rt: HostRuntime) -> Result<(), Fail> {
     for (what, most, wanted) in [
-        (Counted::Disks, 8, "no 19 limit disks 8\n"),
         (
-            Counted::Number,
-            9223372036854775807,
-            "no 19 limit number 9223372036854775807\n",
+            Counted::Disks,
+            u64::from(MOST_DISKS),
+            "no 19 limit disks 8\n",
         ),
+        (Counted::Number, 4096, "no 19 limit number 4096\n"),
     ] {
         prints(&rt, rt.alloc(), &No::Limit { what, most }, wanted)?;
     }

@@ -6,18 +6,16 @@ ghost use Rattle.vx_sites.specs.Refusing.{unless_refused};
 ghost use Rattle.vx_sites.specs.Shapes.{world_of, node_of, link_of};
 ghost use Rattle.vx_world.specs.Counted.{AreCounted, most_counted, refusal_by};
 
+use vx_model::limits::LINK_PLACES;
 use vx_model::{Link as PlainLink, Mode, No, OutOfMemory, SyncMode};
 use vx_policy::{Facts, Verdict, decide};
 use vx_sites::row::used_above;
 use vx_sites::{Link, Node, World, Write};
 
-// As many links as the rule of admission takes.
-const MOST: usize = 8;
-
 /// 14, 12 or 13 where a link of the site holds the write, by the rule of admission over the links in the order of their making.
 pub fn refuse_by_links(world: &World, site: u32, links: &[PlainLink], write: &Write) -> Option<No>
     requires within { site < length world.now.nodes.items }
-    requires few { length links.now ≤ 8 }
+    requires few { length links.now ≤ LINK_PLACES }
     requires listed { let w = world_of world.now in links.now ≡ plain_links (w.links site) (linked_sites (w.links site) w.sites 0 w.sites) }
     ensures { let w = world_of world.now in let x = write.now in (fails : Option ℕ) → unless_refused result w (unless_at_most (w.nodes site).safe w (put_in (links_changed w site x) site x fails)) ≡ written_if (admitted w site x) w site x fails }
 {
@@ -49,12 +47,12 @@ fn room_of(node: &Node) -> u64
 }
 
 // For each link, in order, the blocks of the log that the numbers above its hold take, counted up to 2^32.
-fn count_used(node: &Node, links: &[PlainLink]) -> [u64; 8]
-    requires few { length links.now ≤ 8 }
+fn count_used(node: &Node, links: &[PlainLink]) -> [u64; LINK_PLACES]
+    requires few { length links.now ≤ LINK_PLACES }
     ensures counted { AreCounted (node_of node.now).log links.now (length links.now) result }
-    ensures long { length result ≡ 8 }
+    ensures long { length result ≡ LINK_PLACES }
 {
-    let mut used = [0; 8];
+    let mut used = [0; LINK_PLACES];
     for at in 0..links.len() {
         used[at] = used_above(&node.log, &links[at]);
     }
@@ -64,14 +62,14 @@ fn count_used(node: &Node, links: &[PlainLink]) -> [u64; 8]
 /// The links of the site in the order of their making. More of them than the rule of admission takes have no memory.
 pub fn list_links(world: &World, site: u32, sites: u32) -> Result<Vec<PlainLink>, OutOfMemory>
     ensures listed { IfOk result (λ links. let row = (world_of world.now).links site in links.items ≡ plain_links row (linked_sites row sites 0 sites)) }
-    ensures few { IfOk result (λ links. length links.items ≤ 8) }
+    ensures few { IfOk result (λ links. length links.items ≤ LINK_PLACES) }
 {
     let mut links = Vec::new(world.alloc);
     for place in 0..sites {
         let to = find_link(world, site, sites, place);
         add_link(&mut links, world, site, to)?;
     }
-    if links.len() > MOST {
+    if links.len() > LINK_PLACES {
         return Err(OutOfMemory);
     }
     Ok(links)

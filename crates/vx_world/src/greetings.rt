@@ -10,8 +10,7 @@ ghost use Rattle.vx_sites.specs.Shapes.{world_of, node_of};
 use crate::rule::move_link;
 use crate::targets::is_running;
 use vx_history::{SEvent, Said};
-use vx_model::OutOfMemory;
-use vx_sites::bounds::is_same_line;
+use vx_model::{OutOfMemory, is_same_line};
 use vx_sites::refusals::{has_writes, is_up, refuse_link};
 use vx_sites::{Node, World};
 

@@ -8,8 +8,7 @@ ghost use Rattle.vx_history.specs.Events.{receiver_facts, link_heard, said_of_li
 ghost use Rattle.vx_sites.specs.Shapes.{world_of, packet_of};
 
 use vx_history::{Action, SEvent, SFacts, Said};
-use vx_model::OutOfMemory;
-use vx_sites::bounds::is_same_line;
+use vx_model::{OutOfMemory, is_same_line};
 use vx_sites::refusals::has_links;
 use vx_sites::{Packet, World};
 

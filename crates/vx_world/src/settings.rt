@@ -12,9 +12,9 @@ ghost use Rattle.vx_history.specs.Events.{new_link};
 ghost use Rattle.vx_sites.specs.Refusing.{Refuses};
 ghost use Rattle.vx_sites.specs.Shapes.{world_of, link_of};
 
-use vx_history::{LinkPart, Said};
+use vx_history::{LinkPart, Said, takes_updates};
 use vx_model::{Mark, Mode, No, OutOfMemory, Prot, SyncMode};
-use vx_sites::bounds::{count_links, follows, is_primary, refuse_join, refuse_made, takes_updates};
+use vx_sites::bounds::{count_links, follows, is_primary, refuse_join, refuse_made};
 use vx_sites::refusals::{refuse_link_of_origin, refuse_site, refuse_work_of_both};
 use vx_sites::{Link, World};
 

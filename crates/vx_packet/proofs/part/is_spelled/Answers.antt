@@ -6,8 +6,9 @@ use Rattle.std.specs.Cmp.Lexicographic.{same_text}
 use Rattle.std.proofs.lemmas.Cmp.{nat_list_eq_equiv}
 use Rattle.vx_wire.specs.Fields.{spelled}
 use Rattle.vx_wire.specs.Places.{put_at}
+use Rattle.vx_wire.proofs.PlaceLemmas.{put_at-whole}
 use Rattle.vx_packet.specs.Packets.{packet_table}
-use Rattle.vx_packet.proofs.PartLemmas.{length-header_table, put_at-whole}
+use Rattle.vx_packet.proofs.PartLemmas.{length-header_table}
 use Rattle.vx_packet.proofs.part.is_spelled.Goals as goal
 
 pub put_fields-requires : goal.put_fields-requires

@@ -1,0 +1,43 @@
+// What the rules ask of the state of a link and of a receiver.
+ghost use Rattle.std.specs.Prelude.{◌≡◌};
+ghost use Rattle.vx_history.specs.Admission.{is_live_link, mode_holds};
+ghost use Rattle.vx_history.specs.Receiving.{is_log_phase, phase_takes};
+
+use vx_model::{Link, Mode, SPhase};
+
+/// Whether a link is attached and connected, and not paused.
+pub fn is_live(link: &Link) -> bool
+    ensures { result ≡ is_live_link link.now }
+{
+    link.attached && link.connected && !link.paused
+}
+
+/// Whether a link in this mode needs the log.
+pub fn is_held(mode: &Mode) -> bool
+    ensures { result ≡ mode_holds mode.now }
+{
+    match mode {
+        Mode::Log | Mode::Replay { .. } => true,
+        Mode::Dcm | Mode::Fork { .. } | Mode::Stale => false,
+    }
+}
+
+/// Whether a receiver in this phase takes updates.
+pub fn takes_updates(phase: &SPhase) -> bool
+    ensures { result ≡ phase_takes phase.now }
+{
+    match phase {
+        SPhase::Quiet | SPhase::Log => true,
+        SPhase::Regions | SPhase::ForkKept => false,
+    }
+}
+
+/// Whether a receiver is in the phase Log of a replay.
+pub fn is_in_log(phase: &SPhase) -> bool
+    ensures { result ≡ is_log_phase phase.now }
+{
+    match phase {
+        SPhase::Log => true,
+        SPhase::Quiet | SPhase::Regions | SPhase::ForkKept => false,
+    }
+}
