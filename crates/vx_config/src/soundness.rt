@@ -80,7 +80,8 @@ fn preferred_is(plexes: usize, prefer: Option<u8>) -> bool
     }
 }
 
-fn is_live(plex: &PlexEntry) -> bool
+/// Whether a plex takes part.
+pub fn is_live(plex: &PlexEntry) -> bool
     ensures { result ≡ is_live_is plex.now }
 {
     match plex.state {

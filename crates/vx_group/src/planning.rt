@@ -8,7 +8,7 @@ ghost use Rattle.vx_kept.specs.Choice.{first_where};
 ghost use Rattle.vx_kept.specs.Cleans.{is_unsure};
 ghost use Rattle.vx_model.specs.declared.limits.TheConstants.{MOST_VOLUMES};
 
-use vx_config::{Config, PlexEntry, PlexState, Subdisk};
+use vx_config::{Config, PlexEntry, Subdisk, is_live};
 use vx_copyio::is_member;
 use vx_model::limits::MOST_VOLUMES;
 use vx_volume::{is_active, plex_count};
@@ -35,16 +35,6 @@ pub fn stopped_of(config: &Config) -> [bool; MOST_VOLUMES]
         flags[vol] = is_stopped(config, vol as u32);
     }
     flags
-}
-
-fn is_live(plex: &PlexEntry) -> bool
-    ensures { result ≡ is_live_is plex.now }
-{
-    match plex.state {
-        PlexState::Active => true,
-        PlexState::Clean => true,
-        PlexState::Stale => false,
-    }
 }
 
 fn lies_outside(subdisks: &[Subdisk], good: u8) -> bool
