@@ -34,7 +34,7 @@ pub use encoding::{encode, encode_into, is_short};
 pub use entry::{DiskEntry, LogEntry, PlexEntry, Subdisk, VolumeEntry, VolumeLog};
 pub use plexes::Plexes;
 pub use runs::log_run;
-pub use soundness::is_live;
+pub use soundness::{column_blocks, is_live};
 pub use stop::ConfigStop;
 pub use subdisks::Subdisks;
 pub use volumes::Volumes;

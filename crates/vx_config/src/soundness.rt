@@ -1,5 +1,5 @@
 // The tests of one volume.
-ghost use Rattle.std.specs.Prelude.{◌≡◌, ◌*◌, ◌<◌, ◌≤◌, length};
+ghost use Rattle.std.specs.Prelude.{◌≡◌, ◌*◌, ◌<◌, ◌≤◌, ◌^◌, length};
 ghost use Rattle.std.specs.List.{list_all, list_any};
 ghost use Rattle.vx_config.specs.Checks.{column_blocks as column_blocks_is, next_room as next_room_is, fill, plex_fills as plex_fills_is, log_has as log_has_is, preferred_is as preferred_is_is, is_live as is_live_is, has_shape as has_shape_is, has_logs as has_logs_is, has_plexes as has_plexes_is, is_volume as is_volume_is};
 
@@ -7,10 +7,12 @@ use crate::{LogEntry, PlexEntry, Subdisk, VolumeEntry};
 use vx_model::limits::{MOST_COLUMNS, MOST_PLEXES};
 use vx_model::{PlexState, map_blocks};
 
+/// The blocks of one column of a volume's plexes.
 #[tactic(auto, unfolding(crate::specs::Checks::column_blocks))]
-fn column_blocks(volume: &VolumeEntry) -> u128
+pub fn column_blocks(volume: &VolumeEntry) -> u128
     requires { 0 < volume.now.ncol }
-    ensures { result ≡ column_blocks_is volume.now }
+    ensures is { result ≡ column_blocks_is volume.now }
+    ensures few { result < 2 ^ 96 }
 {
     let blocks = u128::from(volume.blocks);
     let width = u128::from(volume.width);

@@ -1,9 +1,9 @@
 // Where the blocks of plexes lie.
-ghost use Rattle.std.specs.Prelude.{◌≡◌, ◌+◌, ◌-◌, ◌*◌, ◌%◌, ◌<◌, ◌≤◌, ◌^◌, ℕ, IsTrue, Some, sum_by};
+ghost use Rattle.std.specs.Prelude.{◌≡◌, ◌+◌, ◌-◌, ◌*◌, ◌%◌, ◌<◌, ◌≤◌, ℕ, IsTrue, Some, sum_by};
 ghost use Rattle.vx_config.specs.Checks.{column_blocks as column_blocks_is, in_region, is_sound};
 ghost use Rattle.vx_layout.specs.Places.{HasBlock, InRegion, IsFilled, IsSeat, subdisk_blocks, linear as linear_is, located, place as place_is, place_in};
 
-use vx_config::{Config, DiskEntry, PlexEntry, Subdisk, VolumeEntry};
+use vx_config::{Config, DiskEntry, PlexEntry, Subdisk, VolumeEntry, column_blocks};
 
 /// A place, and how many blocks from it on lie one behind the other.
 #[derive(Clone, Copy, Debug, PartialEq, Eq)]
@@ -39,22 +39,6 @@ fn locate(subdisks: &[Subdisk], block: u128) -> Seat
         left -= u128::from(subdisk.blocks);
     }
     unreachable!()
-}
-
-// The blocks of one column of a volume's plexes.
-#[tactic(auto, unfolding(vx_config::specs::Checks::column_blocks))]
-fn column_blocks(volume: &VolumeEntry) -> u128
-    requires { 0 < volume.now.ncol }
-    ensures is { result ≡ column_blocks_is volume.now }
-    ensures few { result < 2 ^ 96 }
-{
-    let blocks = u128::from(volume.blocks);
-    let width = u128::from(volume.width);
-    if volume.width == 0 {
-        blocks
-    } else {
-        blocks.div_ceil(u128::from(volume.ncol) * width) * width
-    }
 }
 
 // Which block of a plex's subdisks a block of the volume is.
