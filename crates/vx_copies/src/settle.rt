@@ -25,7 +25,7 @@ fn lowest_missing(config: &Config, readable: &[bool; DISK_PLACES]) -> Option<u32
     None
 }
 
-// The set of the disks that are held as good, from the last one on.
+/// The set of the disks that are held as good, from the last one on.
 pub fn good_of(disks: &Disks) -> u8
     ensures { result ≡ good_set disks.now }
 {

@@ -8,12 +8,11 @@ ghost use Rattle.vx_model.specs.declared.errors.Stop.TheVariants.{No as Refused}
 ghost use Rattle.vx_model.specs.declared.limits.TheConstants.{MOST_DISKS};
 ghost use Rattle.vx_model.specs.declared.no.No.TheVariants.{Size};
 
-use crate::detaching::good_of;
 use crate::inner::Inner;
 use crate::marking::is_committed;
 use std::alloc::Global;
 use vx_config::{Config, DiskEntry, Disks, Volumes};
-use vx_copies::Room;
+use vx_copies::{Room, good_of};
 use vx_copyio::{are_large, clear, label};
 use vx_disk::{Shelf, refusal};
 use vx_kept::commit_first;

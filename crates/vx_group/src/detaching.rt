@@ -2,7 +2,6 @@
 ghost use Rattle.vx_group.specs.Finds.{CoreEnds};
 ghost use Rattle.std.specs.Prelude.{◌≡◌, ◌⊎◌, ◌+◌, ◌<◌, ◌≤◌, ℕ, length, true, false, IfErr, IfOk, IsTrue, OnOk};
 ghost use Rattle.vx_config.specs.Table.{greatest};
-ghost use Rattle.vx_copies.specs.Answers.{good_set};
 ghost use Rattle.vx_copies.specs.Commits.{MoreFailed, NamesFailed};
 ghost use Rattle.vx_group.specs.GivesUp.{KeepsVolumes, NoCommit};
 ghost use Rattle.vx_group.specs.Blames.{Blames, BlamesOr, fault_of as fault_is};
@@ -17,24 +16,11 @@ ghost use Rattle.vx_group.specs.Loses.{SameParts, TrustsStill};
 
 use crate::inner::Inner;
 use crate::marking::is_committed;
-use vx_config::Disks;
+use vx_copies::good_of;
 use vx_disk::{Shelf, ShelfError};
 use vx_kept::commit_stale;
 use vx_model::No;
 use vx_volume::Failed;
-
-/// The set of the disks that are held as good, from the last one on.
-pub fn good_of(disks: &Disks) -> u8
-    ensures { result ≡ good_set disks.now }
-{
-    let disks = disks.as_slice();
-    let mut good = 0;
-    for k in 0..disks.len() {
-        let disk = disks[disks.len() - 1 - k];
-        good = 2 * good + if disk.failed { 0 } else { 1 };
-    }
-    good
-}
 
 /// A refusal as a fault, which names this disk where no serial was left.
 pub fn fault_of(no: No, device: u32) -> ShelfError

@@ -11,11 +11,11 @@ ghost use Rattle.vx_kept.specs.Keeping.{Acts};
 ghost use Rattle.vx_model.specs.declared.limits.TheConstants.{MOST_VOLUMES};
 ghost use Rattle.vx_volume.specs.Plexes.{active};
 
-use crate::detaching::good_of;
 use crate::inner::Inner;
 use crate::marking::is_committed;
 use crate::mending::mend_volumes;
 use crate::settling::settle_headers;
+use vx_copies::good_of;
 use vx_disk::{Shelf, refusal};
 use vx_kept::commit_stale;
 use vx_logs::Logs;

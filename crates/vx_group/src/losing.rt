@@ -14,11 +14,12 @@ ghost use Rattle.vx_kept.specs.LogRuns.{log_trusted};
 ghost use Rattle.vx_layout.specs.Places.{plex_at};
 ghost use Rattle.vx_maplog.specs.Logs.{log_of};
 
-use crate::detaching::{fault_of, good_of};
+use crate::detaching::fault_of;
 use crate::inner::Inner;
 use crate::marking::is_committed;
 use crate::settling::settle_headers;
 use vx_config::VolumeLog;
+use vx_copies::good_of;
 use vx_disk::{Shelf, ShelfError};
 use vx_kept::commit_lost;
 

@@ -19,7 +19,7 @@ ghost use Rattle.vx_kept.specs.Keeping.{Acts};
 ghost use Rattle.vx_kept.specs.Trusts.{HasFailed};
 ghost use Rattle.vx_group.specs.Stands.{InnerStands};
 
-use crate::detaching::{fault_of, good_of};
+use crate::detaching::fault_of;
 use crate::group_core::GroupCore;
 use crate::inner::Inner;
 use crate::lengthening::longer;
@@ -30,6 +30,7 @@ use crate::shaping::{are_few, refuse_volume, volume_of};
 use crate::zeroing::zero_volume;
 use std::alloc::Global;
 use vx_config::Config;
+use vx_copies::good_of;
 use vx_disk::{Shelf, ShelfError, refusal};
 use vx_kept::commit_next;
 use vx_layout::{Shape, find_space};

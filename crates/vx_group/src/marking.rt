@@ -1,12 +1,11 @@
 // Disks that are held as failed, or as good.
 ghost use Rattle.std.specs.Prelude.{◌≡◌, ◌⊎◌, ◌<◌, ◌≤◌, ℕ, length, true, false, IsTrue, IsFalse};
 ghost use Rattle.vx_copies.specs.Bodies.{is_wanted};
-ghost use Rattle.vx_copies.specs.Marks.{HasGood, NoneGood, marked};
+ghost use Rattle.vx_copies.specs.Marks.{marked};
 ghost use Rattle.vx_group.specs.Regains.{regained};
 ghost use Rattle.vx_kept.specs.Trusts.{AllGood, HasFailed};
 
 use vx_config::{Config, DiskEntry, Disks};
-use vx_copyio::is_member;
 
 /// Holds a disk as failed. What is sound stays so.
 pub fn hold_failed(config: &mut Config, disk: u32)
@@ -37,20 +36,6 @@ pub fn hold_good(config: &mut Config, disk: u32)
             failed: false,
         },
     );
-}
-
-/// Whether a disk of a set is held as good.
-pub fn has_good(disks: &Disks, good: u8) -> bool
-    ensures some { IsTrue result → HasGood disks.now good }
-    ensures none { IsFalse result → NoneGood disks.now (length disks.now) good }
-{
-    let disks = disks.as_slice();
-    for k in 0..disks.len() {
-        if !disks[k].failed && is_member(good, k as u32) {
-            return true;
-        }
-    }
-    false
 }
 
 /// Whether behind a commit the newest configuration is committed: where it was so before, or no disk is held as failed.

@@ -7,11 +7,10 @@ ghost use Rattle.vx_disk.specs.Shelf.{Goes, Nothing};
 ghost use Rattle.vx_group.specs.Resumes.{CanImport, Planned, RefusesPlan, TakesPlan};
 
 use crate::inner::Inner;
-use crate::marking::has_good;
 use crate::planning::{sources_of, stopped_of};
 use std::alloc::Global;
 use vx_config::Config;
-use vx_copies::{Room, import};
+use vx_copies::{Room, has_good, import};
 use vx_disk::Shelf;
 use vx_kept::make_open;
 use vx_model::limits::{MOST_NUMBER, MOST_VOLUMES};
