@@ -10,7 +10,7 @@ ghost use Rattle.vx_disk.specs.Burns.{MakesCalls};
 ghost use Rattle.vx_copies.specs.Marks.{HasGood, NoneGood, good_count};
 ghost use Rattle.vx_model.specs.declared.limits.TheConstants.{MOST_SUBDISKS};
 
-use crate::{has_good, mark, put_config};
+use crate::{has_good, hold_failed, put_config};
 use vx_config::{Config, is_short};
 use vx_disk::{Shelf, ShelfError};
 use vx_model::No;
@@ -45,7 +45,7 @@ fn try_next<S: Shelf>(
         Ok(()) => Ok(()),
         Err(failed) => match failed.error {
             ShelfError::Fault { disk } => {
-                mark(config, failed.disk);
+                hold_failed(config, failed.disk);
                 Err(ShelfError::Fault { disk })
             }
             ShelfError::Down => Err(ShelfError::Down),

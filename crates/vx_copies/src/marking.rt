@@ -7,7 +7,7 @@ use vx_config::{Config, DiskEntry, Disks};
 use vx_copyio::is_member;
 
 /// Holds a disk as failed. What is sound stays so.
-pub fn mark(config: &mut Config, disk: u32)
+pub fn hold_failed(config: &mut Config, disk: u32)
     requires inside { disk < length config.old.disks }
     ensures marked { config.new ≡ marked config.old disk }
     ensures wanted { (units : ℕ) (size : ℕ → ℕ) → is_wanted units size config.old ≡ true → is_wanted units size config.new ≡ true }

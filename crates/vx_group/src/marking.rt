@@ -1,27 +1,9 @@
-// Disks that are held as failed, or as good.
-ghost use Rattle.std.specs.Prelude.{◌≡◌, ◌⊎◌, ◌<◌, ◌≤◌, ℕ, length, true, false, IsTrue, IsFalse};
-ghost use Rattle.vx_copies.specs.Bodies.{is_wanted};
-ghost use Rattle.vx_copies.specs.Marks.{marked};
+// Disks that are held as good again, and whether all are.
+ghost use Rattle.std.specs.Prelude.{◌≡◌, ◌⊎◌, ◌<◌, length, true, false, IsTrue, IsFalse};
 ghost use Rattle.vx_group.specs.Regains.{regained};
 ghost use Rattle.vx_kept.specs.Trusts.{AllGood, HasFailed};
 
 use vx_config::{Config, DiskEntry, Disks};
-
-/// Holds a disk as failed. What is sound stays so.
-pub fn hold_failed(config: &mut Config, disk: u32)
-    requires inside { disk < length config.old.disks }
-    ensures marked { config.new ≡ marked config.old disk }
-    ensures wanted { (units : ℕ) (size : ℕ → ℕ) → is_wanted units size config.old ≡ true → is_wanted units size config.new ≡ true }
-{
-    let blocks = config.disks.as_slice()[disk as usize].blocks;
-    config.disks.set(
-        disk as usize,
-        DiskEntry {
-            blocks,
-            failed: true,
-        },
-    );
-}
 
 /// Holds a disk as good.
 pub fn hold_good(config: &mut Config, disk: u32)

@@ -13,8 +13,7 @@ ghost use Rattle.vx_group.specs.Stands.{InnerStands};
 
 use crate::detaching::detach;
 use crate::inner::Inner;
-use crate::marking::hold_failed;
-use vx_copies::has_good;
+use vx_copies::{has_good, hold_failed};
 use vx_copyio::settle;
 use vx_disk::{Shelf, ShelfError};
 use vx_model::limits::MOST_NUMBER;

@@ -35,8 +35,8 @@ pub returns-in-Fault-clause-wanted : goal.returns-in-Fault-clause-wanted
 returns-in-Fault-clause-wanted g c =
     let old : Meaning = g.S.Shelf.meaning c.args.shelf.now in
     let new : Meaning = g.S.Shelf.meaning c.put_config.new.shelf in
-    wanted_same old new c.mark.new.config c.put_config.ensures.tried.moves.units c.put_config.ensures.tried.moves.size
-    (c.mark.ensures.wanted old.units old.size (wanted_serial old.units old.size c.args.config.now (c.args.config.now.serial + 1) c.requires.wanted))
+    wanted_same old new c.hold_failed.new.config c.put_config.ensures.tried.moves.units c.put_config.ensures.tried.moves.size
+    (c.hold_failed.ensures.wanted old.units old.size (wanted_serial old.units old.size c.args.config.now (c.args.config.now.serial + 1) c.requires.wanted))
 
 pub returns-in-Ok-clause-underway : goal.returns-in-Ok-clause-underway
 returns-in-Ok-clause-underway g c =
@@ -65,19 +65,19 @@ returns-in-Ok-clause-ends g c =
       try_stands c.args.config.now (next c.args.config.now) old new refl refl count own c.put_config.ensures.tried c.in-Ok.ensures.ok,
     )
 
-fault : (g : Over) (c : goal.After-mark g) → FailedOn (g.S.Shelf.meaning c.args.shelf.now) (g.S.Shelf.meaning c.put_config.new.shelf) c.in-Err.failed.disk (Fault c.in-Fault.disk)
+fault : (g : Over) (c : goal.After-hold_failed g) → FailedOn (g.S.Shelf.meaning c.args.shelf.now) (g.S.Shelf.meaning c.put_config.new.shelf) c.in-Err.failed.disk (Fault c.in-Fault.disk)
 fault g c = subst (FailedOn (g.S.Shelf.meaning c.args.shelf.now) (g.S.Shelf.meaning c.put_config.new.shelf) c.in-Err.failed.disk) c.in-Fault.is c.in-Err.ensures.stops.cause
 
-marks : (g : Over) (c : goal.After-mark g) → Grown (g.S.Shelf.meaning c.args.shelf.now) (g.S.Shelf.meaning c.put_config.new.shelf) c.args.config.now c.mark.new.config
+marks : (g : Over) (c : goal.After-hold_failed g) → Grown (g.S.Shelf.meaning c.args.shelf.now) (g.S.Shelf.meaning c.put_config.new.shelf) c.args.config.now c.hold_failed.new.config
 marks g c =
-    mark_grown c.args.config.now (c.args.config.now.serial + 1) c.in-Err.failed.disk c.mark.new.config (g.S.Shelf.meaning c.args.shelf.now) (g.S.Shelf.meaning c.put_config.new.shelf)
-    (fault g c).0 c.mark.ensures.marked
+    mark_grown c.args.config.now (c.args.config.now.serial + 1) c.in-Err.failed.disk c.hold_failed.new.config (g.S.Shelf.meaning c.args.shelf.now) (g.S.Shelf.meaning c.put_config.new.shelf)
+    (fault g c).0 c.hold_failed.ensures.marked
 
 pub returns-in-Fault-clause-underway : goal.returns-in-Fault-clause-underway
 returns-in-Fault-clause-underway g c =
     let old : Meaning = g.S.Shelf.meaning c.args.shelf.now in
     let new : Meaning = g.S.Shelf.meaning c.put_config.new.shelf in
-    try_underway c.args.config.now (next c.args.config.now) c.mark.new.config old new refl refl (ap (λ (x : Config). x.serial) c.mark.ensures.marked) (wanted_count old.units old.size c.args.config.now c.requires.wanted)
+    try_underway c.args.config.now (next c.args.config.now) c.hold_failed.new.config old new refl refl (ap (λ (x : Config). x.serial) c.hold_failed.ensures.marked) (wanted_count old.units old.size c.args.config.now c.requires.wanted)
     (serial_grown c.args.config.now (c.args.config.now.serial + 1) old new) (marks g c) c.put_config.ensures.tried
     c.args.good c.requires.some c.put_config.ensures.order
 
@@ -90,13 +90,13 @@ returns-in-Fault-clause-ends g c =
       record {
         unit = c.in-Err.failed.disk;
         failed = ((fault g c).0, (fault g c).1);
-        fewer = c.mark.ensures.falls was.good;
-        others = λ u held failed. mark_new c.args.config.now (c.args.config.now.serial + 1) c.in-Err.failed.disk u c.mark.new.config c.mark.ensures.marked held failed;
+        fewer = c.hold_failed.ensures.falls was.good;
+        others = λ u held failed. mark_new c.args.config.now (c.args.config.now.serial + 1) c.in-Err.failed.disk u c.hold_failed.new.config c.hold_failed.ensures.marked held failed;
       },
-      try_remain c.args.config.now (next c.args.config.now) c.mark.new.config old new refl refl (ap (λ (x : Config). x.serial) c.mark.ensures.marked) count (serial_grown c.args.config.now (c.args.config.now.serial + 1) old new) (marks g c)
+      try_remain c.args.config.now (next c.args.config.now) c.hold_failed.new.config old new refl refl (ap (λ (x : Config). x.serial) c.hold_failed.ensures.marked) count (serial_grown c.args.config.now (c.args.config.now.serial + 1) old new) (marks g c)
           c.put_config.ensures.tried (λ u held.
           c.in-Err.ensures.stops.others u
           (held_member (next c.args.config.now) old count u (record { below = held.below; good = kept_good (marks g c) u held.good }))
-          (mark_other c.args.config.now (c.args.config.now.serial + 1) c.in-Err.failed.disk u c.mark.new.config (omega (arith, count, was.below)) c.mark.ensures.marked held.good)),
+          (mark_other c.args.config.now (c.args.config.now.serial + 1) c.in-Err.failed.disk u c.hold_failed.new.config (omega (arith, count, was.below)) c.hold_failed.ensures.marked held.good)),
       (fault g c).2,
     )

@@ -1,10 +1,10 @@
--- `mark`: clauses wanted and falls.
+-- `hold_failed`: clauses wanted and falls.
 use Rattle.std.proofs.Common.{◌≡◌, ◌∙◌, true, ap, sym, get_or, ℕ, List}
 use Rattle.std.specs.Prelude.{slice_set}
 use Rattle.vx_config.specs.declared.entry.DiskEntry.{DiskEntry}
 use Rattle.vx_copies.proofs.Marked.{blocks_is, failed_now, mark_falls, mark_wanted}
 use Rattle.vx_copies.proofs.Settling.{no_disk}
-use Rattle.vx_copies.proofs.marking.mark.Goals as goal
+use Rattle.vx_copies.proofs.marking.hold_failed.Goals as goal
 
 set_is : (c : goal.After-set) → c.set.new.self ≡ slice_set c.args.config.now.disks c.args.disk (failed_now c.args.config.now.disks c.args.disk)
 set_is c = c.set.ensures ∙ ap (λ (b : ℕ). slice_set c.args.config.now.disks c.args.disk (record { blocks = b; failed = true }))
