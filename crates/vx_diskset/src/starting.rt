@@ -3,7 +3,6 @@ ghost use Rattle.std.specs.Prelude.{◌≡◌, ◌≤◌, ◌<◌, ◌*◌, ℕ,
 ghost use Rattle.vx_events.specs.GroupLines.{is_over_group};
 ghost use Rattle.vx_disk.specs.Maps.{maps_of};
 ghost use Rattle.vx_model.specs.Content.{zero_block};
-ghost use Rattle.vx_model.specs.Sites.{is_origin as is_origin_is};
 ghost use Rattle.vx_model.specs.Sizes.{ring_of};
 ghost use Rattle.vx_disk.specs.Causes.{DeviceCause};
 ghost use Rattle.vx_disk.specs.Shelf.{Goes, Keeps, Nothing};
@@ -24,7 +23,7 @@ use std::alloc::Global;
 use vx_disk::{Rack, refusal};
 use vx_grouped::GroupSite;
 use vx_model::limits::{LEAST_BLOCKS, LEAST_RAW_DISKS, LINK_PLACES, MOST_DISKS};
-use vx_model::{No, Role, State, Stop, map_blocks, ring_blocks};
+use vx_model::{No, Role, State, Stop, is_origin, map_blocks, ring_blocks};
 use vx_ringio::{TopSeen, read_top};
 use vx_rvg::{Rvg, StartRoom};
 use vx_secondary::{Secondary, Waiting};
@@ -174,13 +173,6 @@ fn start_bare<R: Rack>(rack: R, room: StartRoom) -> (DiskSet<R>, Result<(), No>)
             (DiskSet::Bare(rack), Err(no))
         }
     }
-}
-
-// Whether writes of a line arise at a site of this role.
-fn is_origin(role: &Role) -> bool
-    ensures { result ≡ is_origin_is role.now }
-{
-    matches!(role, Role::Primary | Role::Handing { to: _ })
 }
 
 impl<R: Rack> DiskSet<R> {

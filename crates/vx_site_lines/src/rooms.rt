@@ -20,7 +20,7 @@ use vx_disk::Rack;
 use vx_diskset::DiskSet;
 use vx_linked::are_fine;
 use vx_model::limits::{LEAST_BLOCKS, LINK_PLACES};
-use vx_model::{KeptLink, KeptMode, OutOfMemory, Role, SPhase, State};
+use vx_model::{KeptLink, KeptMode, OutOfMemory, SPhase, State, is_origin};
 use vx_net::Flight;
 use vx_order::{LinkFacts, LinkRoom, SiteFacts};
 use vx_packet::{Envelope, Message};
@@ -35,13 +35,6 @@ fn is_quiet(phase: SPhase) -> bool
         SPhase::Quiet => true,
         SPhase::Regions | SPhase::Log | SPhase::ForkKept => false,
     }
-}
-
-// Whether writes of a line arise at a site of this role.
-fn is_origin(role: &Role) -> bool
-    ensures { result ≡ is_origin_is role.now }
-{
-    matches!(role, Role::Primary | Role::Handing { to: _ })
 }
 
 fn is_none(links: &[KeptLink]) -> bool

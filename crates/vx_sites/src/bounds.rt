@@ -11,10 +11,12 @@ ghost use Rattle.vx_model.specs.declared.no.Named.TheVariants.{Number as ByNumbe
 ghost use Rattle.vx_sites.specs.Refusing.{Refuses};
 ghost use Rattle.vx_sites.specs.Shapes.{world_of, node_of, named_volumes};
 
-use crate::refusals::{has_writes, refuse_site, refuse_work};
+use crate::refusals::{refuse_site, refuse_work};
 use crate::{Node, World};
 use vx_model::limits::{LEAST_BLOCKS, MOST_DISKS, MOST_NUMBER, MOST_SITES};
-use vx_model::{Counted, Line, Name, Named, No, Role, SiteState, is_raw_shape, is_same_line};
+use vx_model::{
+    Counted, Line, Name, Named, No, Role, SiteState, is_origin, is_raw_shape, is_same_line,
+};
 
 /// 2, 19 and 4 of a further site.
 pub fn refuse_new_site(world: &World, name: &Name, disks: u32, blocks: u64) -> Option<No>
@@ -266,7 +268,7 @@ pub fn follows(world: &World, from: u32, to: u32) -> bool
     ensures { result ≡ following (world_of world.now) from to }
 {
     let there = world.node(to);
-    !has_writes(&there.role) && is_same_line(&there.line, &world.node(from).line)
+    !is_origin(&there.role) && is_same_line(&there.line, &world.node(from).line)
 }
 
 /// 19 where a number, of a write or a session, is the greatest.

@@ -10,7 +10,7 @@ ghost use Rattle.vx_sites.specs.Refusing.{Refuses};
 ghost use Rattle.vx_sites.specs.Shapes.{world_of, link_of};
 
 use crate::{Link, Node, World};
-use vx_model::{Named, No, Role, SiteName, SiteState};
+use vx_model::{Named, No, Role, SiteName, SiteState, is_origin};
 
 /// 1 where no site has this number.
 pub fn refuse_site(world: &World, site: u32) -> Option<No>
@@ -125,7 +125,7 @@ pub fn refuse_link_of_origin(world: &World, from: u32, to: u32) -> Option<No>
     if let Some(no) = refuse_ends(world, from, to) {
         return Some(no);
     }
-    if !has_writes(&world.nodes[from as usize].role) {
+    if !is_origin(&world.nodes[from as usize].role) {
         return Some(No::Role);
     }
     refuse_no_link(world, from, to)
@@ -154,16 +154,6 @@ pub fn has_links(role: &Role) -> bool
     match role {
         Role::Primary | Role::Handing { .. } | Role::Bunker => true,
         Role::Secondary => false,
-    }
-}
-
-/// Whether writes arise at a site of this role.
-pub fn has_writes(role: &Role) -> bool
-    ensures { result ≡ is_origin role.now }
-{
-    match role {
-        Role::Primary | Role::Handing { .. } => true,
-        Role::Secondary | Role::Bunker => false,
     }
 }
 

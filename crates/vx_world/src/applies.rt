@@ -9,8 +9,8 @@ ghost use Rattle.vx_history.specs.declared.event.Event.TheVariants.{Apply};
 ghost use Rattle.vx_sites.specs.Shapes.{world_of};
 
 use vx_history::Said;
-use vx_model::{Mark, OutOfMemory, SPhase};
-use vx_sites::refusals::{has_writes, refuse_site, refuse_work};
+use vx_model::{Mark, OutOfMemory, SPhase, is_origin};
+use vx_sites::refusals::{refuse_site, refuse_work};
 use vx_sites::{Dispatch, Message, World};
 
 /// The next waiting records, so many, are durable at a receiver, and are acknowledged from disk, to the
@@ -27,7 +27,7 @@ pub fn apply(world: &mut World, site: u32, count: u64, reached: u64) -> Result<S
     }
     let node = world.node(site);
     let head = node.safe;
-    if has_writes(&node.role) {
+    if is_origin(&node.role) {
         return Ok(Said::DoneAt(head.min(reached.max(count.min(head)))));
     }
     apply_received(world, site, count)

@@ -10,8 +10,8 @@ ghost use Rattle.vx_sites.specs.Shapes.{world_of, node_of};
 use crate::rule::move_link;
 use crate::targets::is_running;
 use vx_history::{SEvent, Said};
-use vx_model::{OutOfMemory, is_same_line};
-use vx_sites::refusals::{has_writes, is_up, refuse_link};
+use vx_model::{OutOfMemory, is_origin, is_same_line};
+use vx_sites::refusals::{is_up, refuse_link};
 use vx_sites::{Node, World};
 
 /// The link is connected. The site that it leads to greets the other, where it is up, not halted, and a receiver on its line.
@@ -45,6 +45,6 @@ fn is_greeting(here: &Node, there: &Node) -> bool
 {
     is_up(there)
         && is_running(there)
-        && !has_writes(&there.role)
+        && !is_origin(&there.role)
         && is_same_line(&there.line, &here.line)
 }

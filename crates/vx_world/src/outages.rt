@@ -7,9 +7,9 @@ ghost use Rattle.vx_history.specs.declared.event.Event.TheVariants.{Crash, Depor
 ghost use Rattle.vx_sites.specs.Shapes.{world_of};
 
 use vx_history::Said;
-use vx_model::OutOfMemory;
+use vx_model::{OutOfMemory, is_origin};
 use vx_sites::World;
-use vx_sites::refusals::{has_writes, refuse_not_up, refuse_site, refuse_work};
+use vx_sites::refusals::{refuse_not_up, refuse_site, refuse_work};
 
 /// The site is down, and keeps its first writes: as many as are nearest to `kept` of those that a crash may keep. Refused with 1
 /// and 6.
@@ -66,7 +66,7 @@ fn take_down(world: &mut World, site: u32, kept: u64) -> Result<(), OutOfMemory>
     requires { site < length world.old.nodes.items }
     ensures { OnOk result (world_of world.new ≡ crash_world (world_of world.old) site kept) }
 {
-    if !has_writes(&world.node(site).role) {
+    if !is_origin(&world.node(site).role) {
         world.go_down(site, kept)?;
         return Ok(());
     }

@@ -11,8 +11,7 @@ ghost use Rattle.vx_sites.specs.Shapes.{world_of, node_of, packet_of};
 
 use vx_history::{RAction, REvent, RState, Said};
 use vx_model::limits::MOST_WAITING;
-use vx_model::{Line, OutOfMemory};
-use vx_sites::refusals::has_writes;
+use vx_model::{Line, OutOfMemory, is_origin};
 use vx_sites::{Dispatch, Message, Node, Packet, World, Write};
 
 /// The target hears an update. A site where writes arise ignores it.
@@ -26,7 +25,7 @@ pub fn hear_update(
     ensures { IfOk result (λ said. says (world_of world.new) said ≡ update_heard (world_of world.old) (packet_of packet.now) number write.now) }
 {
     let node = world.node(packet.target);
-    if has_writes(&node.role) {
+    if is_origin(&node.role) {
         return Ok(Said::Ignored);
     }
     let action = find_action(node, &packet.line, number);

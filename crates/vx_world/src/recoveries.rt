@@ -11,9 +11,9 @@ ghost use Rattle.vx_sites.specs.Shapes.{world_of, node_of};
 use crate::applies::mark_at;
 use vx_history::Said;
 use vx_model::limits::MOST_NUMBER;
-use vx_model::{Mark, No, OutOfMemory, SiteState};
+use vx_model::{Mark, No, OutOfMemory, SiteState, is_origin};
 use vx_sites::bounds::refuse_most;
-use vx_sites::refusals::{has_writes, refuse_site};
+use vx_sites::refusals::refuse_site;
 use vx_sites::{Dispatch, Message, Node, World};
 
 /// A site that is down or deported comes up in its next session, and a receiver greets its primary. Where a disk fails the session
@@ -66,7 +66,7 @@ fn bring_up(world: &mut World, site: u32) -> Result<Said, OutOfMemory>
 fn mark_after(node: &Node) -> Mark
     ensures { let n = node_of node.now in come_back n ≡ record (recovered n) { mark = result } }
 {
-    if has_writes(&node.role) {
+    if is_origin(&node.role) {
         return node.mark;
     }
     mark_at(node.mark, &node.phase, node.end, node.log.len() as u64)
@@ -78,7 +78,7 @@ fn greet(world: &mut World, site: u32) -> Result<(), OutOfMemory>
     ensures { OnOk result (let w = world_of world.old in world_of world.new ≡ sending w (recovery_greeting site (w.nodes site))) }
 {
     let node = world.node(site);
-    if has_writes(&node.role) {
+    if is_origin(&node.role) {
         return Ok(());
     }
     let hello = Dispatch {

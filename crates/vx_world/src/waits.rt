@@ -8,9 +8,9 @@ ghost use Rattle.vx_sites.specs.Shapes.{world_of};
 ghost use Rattle.vx_world.specs.Confirming.{may_confirm, confirmed};
 
 use vx_history::Said;
-use vx_model::{Named, No, OutOfMemory};
+use vx_model::{Named, No, OutOfMemory, is_origin};
 use vx_sites::World;
-use vx_sites::refusals::{has_writes, refuse_site, refuse_work};
+use vx_sites::refusals::{refuse_site, refuse_work};
 
 /// Whether the write of this number is confirmed as the site's links say: done, with a promise by each attached link that fails
 /// writes, or pending. Refused with 1, 6, 20 and 5, with 1 for a number that is not durable, and where a link can't confirm it.
@@ -35,7 +35,7 @@ fn refuse_number(world: &World, site: u32, number: u64) -> Option<No>
     ensures { Refuses result (world_of world.now) (may_confirm (world_of world.now) site number) }
 {
     let node = world.node(site);
-    if !has_writes(&node.role) {
+    if !is_origin(&node.role) {
         return Some(No::Role);
     }
     if number == 0 || node.safe < number {

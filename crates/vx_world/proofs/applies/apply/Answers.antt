@@ -12,7 +12,7 @@ use Rattle.vx_world.proofs.applies.apply.Goals as goal
 pub returns : goal.returns
 returns c =
     let w = world_of c.args.world.now in
-    let receives : is_origin (w.nodes c.args.site).role ≡ false = ap (λ (n : Node). is_origin n.role) (sym c.node-node.ensures) ∙ sym c.if-has_writes.ensures in
+    let receives : is_origin (w.nodes c.args.site).role ≡ false = ap (λ (n : Node). is_origin n.role) (sym c.node-node.ensures) ∙ sym c.if-is_origin.ensures in
     let o : Outcome = apply_at w c.args.site c.args.count in
     let o2 : Outcome = if is_origin (w.nodes c.args.site).role then reached_at w c.args.site c.args.count c.args.reached else o in
     let chosen : o ≡ o2 = sym (ap (λ (b : Bool). if b then reached_at w c.args.site c.args.count c.args.reached else o) receives) in
