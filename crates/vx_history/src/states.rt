@@ -1,9 +1,20 @@
-// What the rules ask of the state of a link and of a receiver.
+// What the rules ask of the role of a site, and of the state of a link and of a receiver.
 ghost use Rattle.std.specs.Prelude.{◌≡◌};
 ghost use Rattle.vx_history.specs.Admission.{is_live_link, mode_holds};
 ghost use Rattle.vx_history.specs.Receiving.{is_log_phase, phase_takes};
+ghost use Rattle.vx_history.specs.Refusals.{keeps_links};
 
-use vx_model::{Link, Mode, SPhase};
+use vx_model::{Link, Mode, Role, SPhase};
+
+/// Whether links start at a site of this role.
+pub fn has_links(role: &Role) -> bool
+    ensures { result ≡ keeps_links role.now }
+{
+    match role {
+        Role::Primary | Role::Handing { .. } | Role::Bunker => true,
+        Role::Secondary => false,
+    }
+}
 
 /// Whether a link is attached and connected, and not paused.
 pub fn is_live(link: &Link) -> bool

@@ -6,7 +6,7 @@ ghost use Rattle.vx_events.specs.GroupLines.{is_over_group};
 ghost use Rattle.vx_events.specs.StepsOver.{facts_over};
 ghost use Rattle.vx_history.specs.Listed.{AreListed};
 ghost use Rattle.vx_history.specs.Events.{handed, heard, link_heard, packet_at};
-ghost use Rattle.vx_history.specs.Refusals.{keeps_links, says};
+ghost use Rattle.vx_history.specs.Refusals.{says};
 ghost use Rattle.vx_history.specs.Sends.{is_linked};
 ghost use Rattle.vx_history.specs.Step.{step};
 ghost use Rattle.vx_history.specs.World.{Packet, World};
@@ -18,24 +18,16 @@ ghost use Rattle.vx_linked.specs.Hearings.{Hears, IsHearing, hearing, listens};
 ghost use Rattle.vx_linked.specs.Tables.{Put, fact_between};
 
 use crate::keeping::{link_between, put_link, site_at};
-use vx_model::{Role, SiteState};
+use vx_history::has_links;
+use vx_model::SiteState;
 use vx_order::{LinkFacts, SiteFacts};
-
-fn is_sender(role: &Role) -> bool
-    ensures { result ≡ keeps_links role.now }
-{
-    match role {
-        Role::Primary | Role::Handing { .. } | Role::Bunker => true,
-        Role::Secondary => false,
-    }
-}
 
 fn is_listening(site: Option<&SiteFacts>) -> bool
     ensures { result ≡ listens (option_copied site.entry) }
 {
     match site {
         Some(site) if site.state == SiteState::Up => match site.rvg {
-            Some(rvg) => rvg.halted.is_none() && is_sender(&rvg.role),
+            Some(rvg) => rvg.halted.is_none() && has_links(&rvg.role),
             None => false,
         },
         _ => false,

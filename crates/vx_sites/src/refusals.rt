@@ -2,7 +2,7 @@
 ghost use Rattle.std.specs.Prelude.{◌≡◌, ◌<◌, length, not, IsNone};
 ghost use Rattle.vx_model.specs.Sites.{is_origin};
 ghost use Rattle.vx_history.specs.Sends.{is_linked};
-ghost use Rattle.vx_history.specs.Refusals.{unless, at_site, at_work, both_at_work, on_link, on_link_if, when_live, keeps_links};
+ghost use Rattle.vx_history.specs.Refusals.{unless, at_site, at_work, both_at_work, on_link, on_link_if, when_live};
 ghost use Rattle.vx_model.specs.Sites.{is_up as up};
 ghost use Rattle.vx_model.specs.declared.no.No.TheVariants.{Unknown, Down as NotUp};
 ghost use Rattle.vx_model.specs.declared.no.Named.TheVariants.{Number as ByNumber};
@@ -10,7 +10,8 @@ ghost use Rattle.vx_sites.specs.Refusing.{Refuses};
 ghost use Rattle.vx_sites.specs.Shapes.{world_of, link_of};
 
 use crate::{Link, Node, World};
-use vx_model::{Named, No, Role, SiteName, SiteState, is_origin};
+use vx_history::has_links;
+use vx_model::{Named, No, SiteName, SiteState, is_origin};
 
 /// 1 where no site has this number.
 pub fn refuse_site(world: &World, site: u32) -> Option<No>
@@ -144,16 +145,6 @@ pub fn refuse_dead(world: &World, to: u32, link: &Link) -> Option<No>
         Some(No::Paused)
     } else {
         None
-    }
-}
-
-/// Whether links start at a site of this role.
-pub fn has_links(role: &Role) -> bool
-    ensures { result ≡ keeps_links role.now }
-{
-    match role {
-        Role::Primary | Role::Handing { .. } | Role::Bunker => true,
-        Role::Secondary => false,
     }
 }
 

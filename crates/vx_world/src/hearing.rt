@@ -7,9 +7,8 @@ ghost use Rattle.vx_history.specs.Sending.{sent_step};
 ghost use Rattle.vx_history.specs.Events.{receiver_facts, link_heard, said_of_link};
 ghost use Rattle.vx_sites.specs.Shapes.{world_of, packet_of};
 
-use vx_history::{Action, SEvent, SFacts, Said};
+use vx_history::{Action, SEvent, SFacts, Said, has_links};
 use vx_model::{OutOfMemory, is_same_line};
-use vx_sites::refusals::has_links;
 use vx_sites::{Packet, World};
 
 /// The target's link to the source hears a message of it. Without a link there, and at a site that keeps none, it is ignored.
