@@ -1,18 +1,18 @@
 // The dirty region log of a volume as an import takes it up.
 ghost use Rattle.std.specs.Prelude.{◌≡◌, ◌+◌, ◌<◌, IfErr, IfOk, IsFalse, IsTrue, Some};
 ghost use Rattle.vx_config.specs.Checks.{blocks_of as blocks_of_is, is_sound};
-ghost use Rattle.vx_config.specs.declared.entry.VolumeLog.TheVariants.{Drl as DrlLog};
 ghost use Rattle.vx_disk.specs.Shelf.{Goes, Nothing};
 ghost use Rattle.vx_drl.specs.Dirty.{Dirty};
 ghost use Rattle.vx_drl.specs.declared.marks.TheConstants.{MOST_HELD};
 ghost use Rattle.vx_grouplogs.specs.Loading.{LoadIsRefused, TakesUp, on_failed as on_failed_is};
-ghost use Rattle.vx_logs.specs.Held.{DrlFits, is_used as is_used_is};
+ghost use Rattle.vx_logs.specs.Held.{DrlFits};
 ghost use Rattle.vx_volume.specs.Plexes.{DisksFit};
 
 use std::alloc::Global;
 use vx_config::{Config, VolumeLog};
 use vx_disk::Shelf;
 use vx_drl::Drl;
+use vx_logs::is_used;
 use vx_maplog::log_of;
 use vx_model::{No, Stop};
 
@@ -38,16 +38,6 @@ fn on_failed(config: &Config, vol: u32) -> bool
     }
 }
 
-// Whether a volume has a dirty region log that is not lost.
-fn is_used(config: &Config, vol: u32) -> bool
-    ensures { result ≡ is_used_is config.now vol DrlLog }
-{
-    match log_of(config, vol, VolumeLog::Drl) {
-        Some(entry) => !entry.lost,
-        None => false,
-    }
-}
-
 /// Reads the dirty region log of a volume of a checked configuration. It is lost where its disk is held as failed, or where the device call
 /// fails: the caller commits that, and copies all regions. It changes nothing.
 ///
@@ -68,7 +58,7 @@ pub fn load_marks<S: Shelf>(
     ensures goes { Goes Nothing (S.meaning shelf.old) (S.meaning shelf.new) }
     ensures cause { IfErr result (LoadIsRefused (S.meaning shelf.new)) }
 {
-    if !is_used(config, vol) {
+    if !is_used(config, vol, VolumeLog::Drl) {
         return Ok(Loaded {
             drl: None,
             gone: false,

@@ -1,19 +1,17 @@
 // The log of missed regions of a volume as an import takes it up.
 ghost use Rattle.std.specs.Prelude.{◌≡◌, ◌<◌, IfErr, IfOk, IsFalse, IsTrue, Some};
 ghost use Rattle.vx_config.specs.Checks.{blocks_of as blocks_of_is, is_sound};
-ghost use Rattle.vx_config.specs.declared.entry.VolumeLog.TheVariants.{Fmr as FmrLog};
 ghost use Rattle.vx_disk.specs.Shelf.{Goes, Nothing};
 ghost use Rattle.vx_fmr.specs.Missed.{FmrLoaded, Missed, has_missed};
 ghost use Rattle.vx_groupmaps.specs.Loading.{MapsCause, TakesMaps, on_failed_disk as on_failed_is};
 ghost use Rattle.vx_groupmaps.specs.Missing.{DiskAgrees, MapAgrees};
-ghost use Rattle.vx_logs.specs.Held.{is_used as is_used_is};
 ghost use Rattle.vx_volume.specs.Plexes.{DisksFit};
 
 use std::alloc::Global;
 use vx_config::{Config, VolumeLog};
 use vx_disk::Shelf;
 use vx_fmr::Fmr;
-use vx_logs::load_fmr;
+use vx_logs::{is_used, load_fmr};
 use vx_maplog::log_of;
 use vx_model::{No, Stop};
 
@@ -39,16 +37,6 @@ fn on_failed_disk(config: &Config, vol: u32) -> bool
     }
 }
 
-// Whether a volume has a log of missed regions that is not lost.
-fn is_used(config: &Config, vol: u32) -> bool
-    ensures { result ≡ is_used_is config.now vol FmrLog }
-{
-    match log_of(config, vol, VolumeLog::Fmr) {
-        Some(entry) => !entry.lost,
-        None => false,
-    }
-}
-
 /// Reads the log of missed regions of a volume of a checked configuration. It is lost where its disk is held as failed, or where the device
 /// call fails: the caller commits that, and the next attach of each plex copies all regions. It changes nothing.
 ///
@@ -70,7 +58,7 @@ pub fn load_maps<S: Shelf>(
     ensures goes { Goes Nothing (S.meaning shelf.old) (S.meaning shelf.new) }
     ensures cause { IfErr result (MapsCause (S.meaning shelf.new)) }
 {
-    if !is_used(config, vol) {
+    if !is_used(config, vol, VolumeLog::Fmr) {
         return Ok(LoadedMaps {
             fmr: None,
             gone: false,

@@ -10,6 +10,7 @@ mod first;
 mod following;
 mod losing;
 mod states;
+mod trusted;
 
 pub use cleaning::{make_clean, make_open};
 pub use committing::{commit_clean, commit_stale};
@@ -17,3 +18,4 @@ pub use first::commit_first;
 pub use following::commit_next;
 pub use losing::commit_lost;
 pub use states::{make_active, make_stale, whole_of};
+pub use trusted::is_trusted;

@@ -13,23 +13,12 @@ ghost use Rattle.vx_volume.specs.Plexes.{active};
 ghost use Rattle.vx_logged.specs.Behind.{MapSaid};
 ghost use Rattle.vx_logged.specs.Logged.{EachOn, LogKept, MapKept, Narrowed, TrustsIn};
 
-use vx_config::{Config, VolumeLog};
+use vx_config::VolumeLog;
 use vx_disk::{Shelf, ShelfError};
 use vx_group::{GroupCore, lose_group};
+use vx_kept::is_trusted;
 use vx_logs::Logs;
-use vx_maplog::log_of;
 use vx_model::limits::MOST_NUMBER;
-
-// Whether a volume has a log that is not held as lost.
-#[tactic(auto, unfolding(vx_kept::specs::LogRuns::log_trusted))]
-fn is_trusted(config: &Config, vol: u32, log: VolumeLog) -> bool
-    ensures trusted { result ≡ log_trusted config.now vol log }
-{
-    match log_of(config, vol, log) {
-        Some(entry) => !entry.lost,
-        None => false,
-    }
-}
 
 // Commits that a log of a volume is lost, where it is in memory no more and not held as lost, and answers whether the log may be gone by further.
 fn keep_one<S: Shelf>(

@@ -16,8 +16,8 @@ ghost use Rattle.vx_volume.specs.Plexes.{DisksFit, uses as uses_is};
 
 use vx_config::{Config, VolumeLog};
 use vx_disk::{Shelf, ShelfError};
+use vx_kept::is_trusted;
 use vx_logs::Logs;
-use vx_maplog::log_of;
 use vx_model::limits::{MOST_DISKS, MOST_VOLUMES};
 use vx_volume::{plex_count, uses};
 
@@ -98,17 +98,6 @@ fn touches(config: &Config, vol: u32, failed: &[bool; MOST_DISKS as usize]) -> b
         }
     }
     false
-}
-
-// Whether a volume has a log that is not held as lost.
-#[tactic(auto, unfolding(vx_kept::specs::LogRuns::log_trusted))]
-fn is_trusted(config: &Config, vol: u32, log: VolumeLog) -> bool
-    ensures { result ≡ log_trusted config.now vol log }
-{
-    match log_of(config, vol, log) {
-        Some(entry) => !entry.lost,
-        None => false,
-    }
 }
 
 // Marks a volume as unsure.

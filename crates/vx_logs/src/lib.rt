@@ -10,6 +10,6 @@ mod noting;
 mod sets;
 mod writing;
 
-pub use loading::{load_drl, load_fmr};
+pub use loading::{is_used, load_drl, load_fmr};
 pub use logs::{Logs, Lost};
 pub use writing::{Stored, Written, mark, put, write};

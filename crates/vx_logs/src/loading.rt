@@ -14,8 +14,8 @@ use vx_fmr::Fmr;
 use vx_maplog::log_of;
 use vx_model::Stop;
 
-// Whether a volume has a log that is not lost.
-fn is_used(config: &Config, volume: u32, log: VolumeLog) -> bool
+/// Whether a volume has a log that is not lost.
+pub fn is_used(config: &Config, volume: u32, log: VolumeLog) -> bool
     ensures { result ≡ is_used_is config.now volume log }
 {
     match log_of(config, volume, log) {

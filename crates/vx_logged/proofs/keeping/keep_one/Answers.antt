@@ -30,7 +30,7 @@ returns-clause-logs g c =
 pub returns-then-not-is_trusted-clause-kept : goal.returns-then-not-is_trusted-clause-kept
 returns-then-not-is_trusted-clause-kept g c =
     λ is told.
-    let off : log_trusted c.args.core.now.inner.config c.args.vol c.args.log ≡ false = sym c.is_trusted.ensures.trusted ∙ c.if-not-is_trusted.true in
+    let off : log_trusted c.args.core.now.inner.config c.args.vol c.args.log ≡ false = sym c.is_trusted.ensures ∙ c.if-not-is_trusted.true in
     let here = (wide_shape c.args.core.now).trusted c.args.vol c.args.log told in
     absurd (let clash : false ≡ true = sym off ∙ here in cc)
 
