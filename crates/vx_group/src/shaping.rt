@@ -2,7 +2,6 @@
 ghost use Rattle.std.specs.Prelude.{◌≡◌, ◌<◌, ◌≤◌, true, length, map, IfOk, IfSome, if◌then◌else◌, slice_get, None};
 ghost use Rattle.std.specs.List.{list_all, list_any};
 ghost use Rattle.vx_model.specs.declared.limits.TheConstants.{MOST_PLEXES};
-ghost use Rattle.vx_model.specs.declared.no.No.TheVariants.{Limit};
 ghost use Rattle.vx_layout.specs.Made.{made_plex};
 ghost use Rattle.vx_layout.specs.Space.{IsShape};
 ghost use Rattle.vx_group.specs.Makes.{IsVolume, has_name, is_few, is_shape as is_shape_is, log_count, lost_log, make_refusal};
@@ -11,7 +10,7 @@ use std::alloc::Global;
 use vx_config::{Config, LogEntry, PlexEntry, PlexState, Plexes, Subdisk, Subdisks, VolumeEntry};
 use vx_layout::{Found, Runs, Shape};
 use vx_model::limits::{MOST_COLUMNS, MOST_NUMBER, MOST_PLEXES, MOST_VOLUMES};
-use vx_model::{Counted, Name, No, OutOfMemory};
+use vx_model::{Counted, Name, No, OutOfMemory, limit};
 
 // So many serials are left at least where a call of its own may commit.
 const MARGIN: u64 = 65_536;
@@ -40,12 +39,6 @@ fn is_shape(want: &Shape) -> bool
         && 1 <= want.ncol
         && want.ncol <= MOST_COLUMNS as u32
         && (want.width != 0 || want.ncol == 1)
-}
-
-fn limit(what: Counted, most: u64) -> No
-    ensures { result ≡ Limit what most }
-{
-    No::Limit { what, most }
 }
 
 /// Why a volume may not be made, before space is searched.

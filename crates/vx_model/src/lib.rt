@@ -29,7 +29,7 @@ pub use history::Line;
 pub use lines::is_same_line;
 pub use link::{Link, Mode, Phase, Prot, SyncMode};
 pub use name::Name;
-pub use no::{Counted, Named, No, SiteName};
+pub use no::{Counted, Named, No, SiteName, limit};
 pub use roles::is_origin;
 pub use site::{Mark, PlexState, Role, SPhase, SiteState};
 pub use sizes::{is_raw_shape, map_blocks, ring_blocks};

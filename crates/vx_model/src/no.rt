@@ -1,4 +1,6 @@
 // What is refused, and why.
+ghost use Rattle.std.specs.Prelude.{◌≡◌};
+
 use crate::Name;
 
 /// What a refusal names as unknown: a name, or a number that is printed in decimals.
@@ -126,4 +128,11 @@ pub enum No {
     Format {
         version: u32,
     },
+}
+
+/// The refusal of a count that would pass its greatest value.
+pub fn limit(what: Counted, most: u64) -> No
+    ensures { result ≡ No.Limit what most }
+{
+    No::Limit { what, most }
 }

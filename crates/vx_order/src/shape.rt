@@ -15,7 +15,7 @@ use crate::volumes::{
 use vx_model::limits::{
     LEAST_BLOCKS, MOST_DISKS, MOST_FILE_BLOCKS, MOST_MEMORY_BLOCKS, MOST_SITES,
 };
-use vx_model::{Counted, Named, No, SiteState, is_raw_shape};
+use vx_model::{Counted, Named, No, SiteState, is_raw_shape, limit};
 use vx_script::ScriptLine;
 
 /// 5, where the line's site does not stand as the line needs it.
@@ -137,12 +137,6 @@ fn greatest_size(files: bool) -> u64
     } else {
         MOST_MEMORY_BLOCKS
     }
-}
-
-fn limit(what: Counted, most: u64) -> No
-    ensures { result ≡ No.Limit what most }
-{
-    No::Limit { what, most }
 }
 
 /// 4, where a site's disks are too few or too small, or make no raw set or group, or where volumes have no shape or are no

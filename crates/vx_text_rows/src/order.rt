@@ -74,13 +74,15 @@ fn made(site: Name, disks: u64, blocks: u64) -> ScriptLine {
     }
 }
 
-fn unknown(name: Name) -> Option<No> {
+/// The refusal of a name that nothing has.
+pub fn unknown(name: Name) -> Option<No> {
     Some(No::Unknown {
         what: Named::Of(name),
     })
 }
 
-fn limit(what: Counted, most: u64) -> Option<No> {
+/// The refusal of a count that would pass its greatest value.
+pub fn limit(what: Counted, most: u64) -> Option<No> {
     Some(No::Limit { what, most })
 }
 

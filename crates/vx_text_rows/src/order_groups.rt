@@ -1,4 +1,5 @@
 // Tests of the lines of disk groups: of each refusal one row in which all later ones hold too.
+use crate::order::{limit, unknown};
 use std::alloc::Global;
 use std::test::Fail;
 use vx_model::limits::{MOST_PLEXES, MOST_VOLUMES};
@@ -108,20 +109,10 @@ fn rvg(
     })
 }
 
-fn unknown(name: Name) -> Option<No> {
-    Some(No::Unknown {
-        what: Named::Of(name),
-    })
-}
-
 fn no_number(number: u64) -> Option<No> {
     Some(No::Unknown {
         what: Named::Number(number),
     })
-}
-
-fn limit(what: Counted, most: u64) -> Option<No> {
-    Some(No::Limit { what, most })
 }
 
 // A group g, a group h with a replicated volume group that is halted, a raw set r, a deported site d, a site o that is down, and
