@@ -5,6 +5,7 @@ use Rattle.vx_disk.specs.Causes.{DeviceCause}
 use Rattle.vx_disk.specs.Shelf.{Meaning}
 use Rattle.vx_model.specs.declared.errors.Stop.{Stop}
 use Rattle.vx_model.specs.declared.errors.Stop.TheVariants.{No as Refused, OutOfMemory}
+use Rattle.vx_model.specs.declared.limits.TheConstants.{COMMIT_MARGIN}
 use Rattle.vx_model.specs.declared.no.Counted.TheVariants.{Number as Numbers}
 use Rattle.vx_model.specs.declared.no.Named.TheVariants.{Number}
 use Rattle.vx_model.specs.declared.no.No.{No}
@@ -24,7 +25,7 @@ is_other c v p q = not (q == p) && active c v q
 
 -- so many serials are left at least where a call of its own may commit
 abbrev pub margin : ℕ
-margin = 65536
+margin = COMMIT_MARGIN
 
 -- The first refusal that holds: no such volume, no such plex, the last one that is ACTIVE, too few serials.
 abbrev pub det_refusal : Config → ℕ → ℕ → Option No

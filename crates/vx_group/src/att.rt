@@ -24,12 +24,9 @@ use crate::releasing::release;
 use vx_config::Config;
 use vx_disk::{Shelf, ShelfError, refusal};
 use vx_fmr::Fmr;
-use vx_model::limits::MOST_NUMBER;
+use vx_model::limits::{COMMIT_MARGIN, MOST_NUMBER};
 use vx_model::{Counted, Named, No, Stop};
 use vx_volume::{is_active, plex_count};
-
-// So many serials are left at least where a call of its own may commit.
-const MARGIN: u64 = 65_536;
 
 // Why a plex may not be attached.
 fn refuse(config: &Config, vol: u32, plex: u32) -> Option<No>
@@ -45,7 +42,7 @@ fn refuse(config: &Config, vol: u32, plex: u32) -> Option<No>
             what: Named::Number(u64::from(plex)),
         });
     }
-    if MOST_NUMBER - MARGIN < config.serial {
+    if MOST_NUMBER - COMMIT_MARGIN < config.serial {
         return Some(No::Limit {
             what: Counted::Number,
             most: MOST_NUMBER,

@@ -23,11 +23,8 @@ use crate::releasing::release;
 use crate::settling::settle_headers;
 use vx_disk::{Shelf, ShelfError, refusal};
 use vx_kept::commit_clean;
-use vx_model::limits::MOST_NUMBER;
+use vx_model::limits::{COMMIT_MARGIN, MOST_NUMBER};
 use vx_model::{Counted, No, Stop};
-
-// So many serials are left at least where a call of its own may commit.
-const MARGIN: u64 = 65_536;
 
 // Commits the configuration with plexes CLEAN.
 fn commit_closed<S: Shelf>(shelf: &mut S, core: &mut Inner) -> Result<(), ShelfError>
@@ -99,7 +96,7 @@ pub fn deport_in<S: Shelf>(shelf: &mut S, core: &mut GroupCore) -> Result<(), St
     ensures logs { IfErr result (λ e. TrustsStill core.old.inner.config core.new.inner.config) }
     ensures cause { core.old.inner.config.serial ≤ greatest - margin → DetStops (S.meaning shelf.old) (S.meaning shelf.new) result }
 {
-    if MOST_NUMBER - MARGIN < core.inner.config.serial {
+    if MOST_NUMBER - COMMIT_MARGIN < core.inner.config.serial {
         return Err(Stop::No(No::Limit {
             what: Counted::Number,
             most: MOST_NUMBER,

@@ -18,12 +18,9 @@ use crate::holding::has_other;
 use crate::releasing::{detach_plex, release};
 use vx_config::Config;
 use vx_disk::{Shelf, refusal};
-use vx_model::limits::MOST_NUMBER;
+use vx_model::limits::{COMMIT_MARGIN, MOST_NUMBER};
 use vx_model::{Counted, Named, No, Stop};
 use vx_volume::{is_active, plex_count};
-
-// So many serials are left at least where a call of its own may commit.
-const MARGIN: u64 = 65_536;
 
 /// Why a plex may not be detached.
 pub fn refuse_det(config: &Config, vol: u32, plex: u32) -> Option<No>
@@ -42,7 +39,7 @@ pub fn refuse_det(config: &Config, vol: u32, plex: u32) -> Option<No>
     if is_active(config, vol, plex) && !has_other(config, vol, plex) {
         return Some(No::LastPlex);
     }
-    if MOST_NUMBER - MARGIN < config.serial {
+    if MOST_NUMBER - COMMIT_MARGIN < config.serial {
         return Some(No::Limit {
             what: Counted::Number,
             most: MOST_NUMBER,

@@ -22,12 +22,9 @@ use crate::releasing::release;
 use crate::settling::settle_headers;
 use vx_config::{Config, check};
 use vx_disk::{Shelf, ShelfError, refusal};
-use vx_model::limits::MOST_NUMBER;
+use vx_model::limits::{COMMIT_MARGIN, MOST_NUMBER};
 use vx_model::{Counted, No, Stop, Units};
 use vx_volume::Failed;
-
-// So many serials are left at least where a call of its own may commit.
-const MARGIN: u64 = 65_536;
 
 // The volumes of the replicated volume group once more.
 fn named_by(config: &Config) -> Option<Units>
@@ -134,7 +131,7 @@ pub fn set_rvg_in<S: Shelf>(shelf: &mut S, core: &mut GroupCore, units: &Units) 
     ensures agreed { IfErr result (λ e. core.old.inner.committed ≡ true → core.new.inner.agreed ≡ true) }
     ensures cause { set_rvg_refusal core.old.inner.config units.now ≡ None → DetStops (S.meaning shelf.old) (S.meaning shelf.new) result }
 {
-    if MOST_NUMBER - MARGIN < core.inner.config.serial {
+    if MOST_NUMBER - COMMIT_MARGIN < core.inner.config.serial {
         return Err(Stop::No(No::Limit {
             what: Counted::Number,
             most: MOST_NUMBER,

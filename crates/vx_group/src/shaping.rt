@@ -9,11 +9,8 @@ ghost use Rattle.vx_group.specs.Makes.{IsVolume, has_name, is_few, is_shape as i
 use std::alloc::Global;
 use vx_config::{Config, LogEntry, PlexEntry, PlexState, Plexes, Subdisk, Subdisks, VolumeEntry};
 use vx_layout::{Found, Runs, Shape};
-use vx_model::limits::{MOST_COLUMNS, MOST_NUMBER, MOST_PLEXES, MOST_VOLUMES};
+use vx_model::limits::{COMMIT_MARGIN, MOST_COLUMNS, MOST_NUMBER, MOST_PLEXES, MOST_VOLUMES};
 use vx_model::{Counted, Name, No, OutOfMemory, limit};
-
-// So many serials are left at least where a call of its own may commit.
-const MARGIN: u64 = 65_536;
 
 // The most blocks of a volume.
 const MOST_BLOCKS: u64 = 1_099_511_627_776;
@@ -55,7 +52,7 @@ pub fn refuse_volume(config: &Config, name: &Name, want: &Shape) -> Option<No>
     if (MOST_PLEXES as u32) < want.mirrors {
         return Some(limit(Counted::Plexes, MOST_PLEXES as u64));
     }
-    if MOST_NUMBER - MARGIN < config.serial {
+    if MOST_NUMBER - COMMIT_MARGIN < config.serial {
         return Some(limit(Counted::Number, MOST_NUMBER));
     }
     if !is_shape(want) {

@@ -13,12 +13,9 @@ use vx_config::Config;
 use vx_copies::{Room, has_good, import};
 use vx_disk::Shelf;
 use vx_kept::make_open;
-use vx_model::limits::{MOST_NUMBER, MOST_VOLUMES};
+use vx_model::limits::{COMMIT_MARGIN, MOST_NUMBER, MOST_VOLUMES};
 use vx_model::{Counted, No, Stop};
 use vx_volume::blocks_of;
-
-// So many serials are left at least where a call of its own may commit.
-const MARGIN: u64 = 65_536;
 
 /// A group that was found, with each plex that is CLEAN in the state ACTIVE.
 #[derive(Drop)]
@@ -34,7 +31,7 @@ pub struct Plan {
 fn refuse(config: &Config, good: u8) -> Option<No>
     ensures { RefusesPlan config.now good result }
 {
-    if MOST_NUMBER - MARGIN < config.serial {
+    if MOST_NUMBER - COMMIT_MARGIN < config.serial {
         return Some(No::Limit {
             what: Counted::Number,
             most: MOST_NUMBER,

@@ -20,11 +20,8 @@ use vx_disk::Shelf;
 use vx_group::{GroupCore, deport_in};
 use vx_logimport::Rested;
 use vx_logs::Logs;
-use vx_model::limits::{MOST_DISKS, MOST_NUMBER, MOST_VOLUMES};
+use vx_model::limits::{COMMIT_MARGIN, MOST_DISKS, MOST_NUMBER, MOST_VOLUMES};
 use vx_model::{No, Stop};
-
-// So many serials are left at least where a group is deported.
-const MARGIN: u64 = 65_536;
 
 // Whether a deport flushes the disks first: logs go on, serials are left, and the disks are up.
 fn may_rest(stopped: bool, down: bool, serial: u64, disks: usize) -> bool
@@ -39,7 +36,7 @@ fn may_rest(stopped: bool, down: bool, serial: u64, disks: usize) -> bool
     if down {
         return false;
     }
-    if serial > MOST_NUMBER - MARGIN {
+    if serial > MOST_NUMBER - COMMIT_MARGIN {
         return false;
     }
     disks <= MOST_DISKS as usize

@@ -60,6 +60,9 @@ pub const MOST_AHEAD: u64 = 8;
 /// The packets that the network keeps, the oldest being lost.
 pub const MOST_PACKETS: usize = 65_536;
 
+/// The serials that are left at least where a call of its own may commit.
+pub const COMMIT_MARGIN: u64 = 65_536;
+
 /// The greatest serial, stamp, incarnation, run, generation, record number, and replay or freeze number.
 pub const MOST_NUMBER: u64 = 0x7fff_ffff_ffff_ffff;
 /// The other site of a site that has none.
