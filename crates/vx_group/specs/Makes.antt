@@ -1,5 +1,5 @@
 -- A volume that is made.
-use Rattle.std.specs.Prelude.{◌≡◌, ◌⊎◌, ℕ, ◌+◌, ◌-◌, ◌^◌, ◌<◌, ◌≤◌, Bool, true, false, not, ◌&&◌, ◌||◌, ◌==◌, nat_le, nat_lt, if◌then◌else◌, IsTrue, Option, Some, None, Result, Ok, Err, List, [], ◌∷◌, ◌++◌, length}
+use Rattle.std.specs.Prelude.{◌≡◌, ◌⊎◌, ℕ, ◌+◌, ◌-◌, ◌<◌, ◌≤◌, Bool, true, false, not, ◌&&◌, ◌||◌, ◌==◌, nat_le, nat_lt, if◌then◌else◌, IsTrue, Option, Some, None, Result, Ok, Err, List, [], ◌∷◌, ◌++◌, length}
 use Rattle.std.specs.List.{list_all, list_any}
 use Rattle.std.specs.Str.{bytes_eq}
 use Rattle.vx_disk.specs.Causes.{DeviceCause}
@@ -8,7 +8,7 @@ use Rattle.vx_disk.specs.Shelf.{Goes, Meaning, Nothing}
 use Rattle.vx_wire.specs.Fields.{zero_bytes}
 use Rattle.vx_model.specs.declared.errors.Stop.{Stop}
 use Rattle.vx_model.specs.declared.errors.Stop.TheVariants.{No as Refused, OutOfMemory}
-use Rattle.vx_model.specs.declared.limits.TheConstants.{MOST_COLUMNS, MOST_PLEXES, MOST_SUBDISKS, MOST_VOLUMES}
+use Rattle.vx_model.specs.declared.limits.TheConstants.{MOST_COLUMNS, MOST_PLEXES, MOST_SUBDISKS, MOST_VOLUME_BLOCKS, MOST_VOLUMES}
 use Rattle.vx_model.specs.declared.no.Counted.TheVariants.{Number, Plexes, Subdisks, Volumes}
 use Rattle.vx_model.specs.declared.no.No.{No}
 use Rattle.vx_model.specs.declared.no.No.TheVariants as refusal
@@ -42,7 +42,7 @@ has_name name v = bytes_eq v.name name
 
 -- 1 to 2^40 blocks, at least one plex, and 1 to 8 columns, of which there is one where the plexes are concatenated
 abbrev pub is_shape : Shape → Bool
-is_shape want = nat_le 1 want.blocks && nat_le want.blocks (2 ^ 40) && nat_le 1 want.mirrors && nat_le 1 want.ncol && nat_le want.ncol MOST_COLUMNS && (not (want.width == 0) || want.ncol == 1)
+is_shape want = nat_le 1 want.blocks && nat_le want.blocks MOST_VOLUME_BLOCKS && nat_le 1 want.mirrors && nat_le 1 want.ncol && nat_le want.ncol MOST_COLUMNS && (not (want.width == 0) || want.ncol == 1)
 
 -- The first refusal that holds before the search for space: the name is taken, there are too many volumes, plexes or serials, it is no shape.
 abbrev pub make_refusal : Config → List ℕ → Shape → Option No

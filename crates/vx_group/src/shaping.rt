@@ -9,11 +9,10 @@ ghost use Rattle.vx_group.specs.Makes.{IsVolume, has_name, is_few, is_shape as i
 use std::alloc::Global;
 use vx_config::{Config, LogEntry, PlexEntry, PlexState, Plexes, Subdisk, Subdisks, VolumeEntry};
 use vx_layout::{Found, Runs, Shape};
-use vx_model::limits::{COMMIT_MARGIN, MOST_COLUMNS, MOST_NUMBER, MOST_PLEXES, MOST_VOLUMES};
+use vx_model::limits::{
+    COMMIT_MARGIN, MOST_COLUMNS, MOST_NUMBER, MOST_PLEXES, MOST_VOLUME_BLOCKS, MOST_VOLUMES,
+};
 use vx_model::{Counted, Name, No, OutOfMemory, limit};
-
-// The most blocks of a volume.
-const MOST_BLOCKS: u64 = 1_099_511_627_776;
 
 fn is_named(volume: &VolumeEntry, name: &Name) -> bool
     ensures { result ≡ has_name name.now volume.now }
@@ -31,7 +30,7 @@ fn is_shape(want: &Shape) -> bool
     ensures { result ≡ is_shape_is want.now }
 {
     1 <= want.blocks
-        && want.blocks <= MOST_BLOCKS
+        && want.blocks <= MOST_VOLUME_BLOCKS
         && 1 <= want.mirrors
         && 1 <= want.ncol
         && want.ncol <= MOST_COLUMNS as u32

@@ -3,7 +3,7 @@ use Rattle.std.specs.Prelude.{◌≡◌, ◌⊎◌, ℕ, zero, suc, ◌+◌, ◌
 use Rattle.std.specs.Int.{div_ceil}
 use Rattle.std.specs.List.{list_any}
 use Rattle.vx_model.specs.declared.errors.Stop.{Stop}
-use Rattle.vx_model.specs.declared.limits.TheConstants.{DISK_PLACES, MOST_COLUMNS, MOST_PLEXES}
+use Rattle.vx_model.specs.declared.limits.TheConstants.{DISK_PLACES, MOST_COLUMNS, MOST_PLEXES, MOST_VOLUME_BLOCKS}
 use Rattle.vx_model.specs.declared.errors.Stop.TheVariants.{No, OutOfMemory}
 use Rattle.vx_model.specs.declared.no.No.TheVariants as refusal
 use Rattle.vx_config.specs.declared.config.Config.{Config}
@@ -19,7 +19,7 @@ use Rattle.vx_layout.specs.declared.shape.Shape.{Shape}
 -- 1 to 2^40 blocks on 1 to 8 plexes; 1 to 8 columns, and one where the plexes are concatenated; the width has 32 bits
 pub record IsShape (want : Shape) : Type 0 where
   pub some : 0 < want.blocks
-  pub few : want.blocks ≤ 2 ^ 40
+  pub few : want.blocks ≤ MOST_VOLUME_BLOCKS
   pub mirrors : 0 < want.mirrors
   pub plexes : want.mirrors ≤ MOST_PLEXES
   pub columns : 0 < want.ncol

@@ -40,6 +40,8 @@ pub const LOG_HEADERS: u64 = 2;
 
 /// The most volumes of a disk group.
 pub const MOST_VOLUMES: usize = 32;
+/// The most blocks of a volume of a disk group.
+pub const MOST_VOLUME_BLOCKS: u64 = 1_099_511_627_776;
 /// The most plexes of a volume.
 pub const MOST_PLEXES: usize = 8;
 /// The most columns of a striped plex.

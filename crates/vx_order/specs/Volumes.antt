@@ -1,6 +1,6 @@
 -- The tests of a volume of a disk group and of its plexes.
 use Rattle.std.specs.Prelude.{ℕ, ◌^◌, Bool, true, ◌&&◌, nat_lt, nat_le, List, length, Option, Some, None, is_some, if◌then◌else◌}
-use Rattle.vx_model.specs.declared.limits.TheConstants.{MOST_COLUMNS, MOST_PLEXES, MOST_VOLUMES}
+use Rattle.vx_model.specs.declared.limits.TheConstants.{MOST_COLUMNS, MOST_PLEXES, MOST_VOLUME_BLOCKS, MOST_VOLUMES}
 use Rattle.vx_model.specs.declared.no.Counted.TheVariants.{Plexes, Volumes}
 use Rattle.vx_model.specs.declared.no.Named.TheVariants.{Of, Number}
 use Rattle.vx_model.specs.declared.no.No.{No}
@@ -47,4 +47,4 @@ is_layout (Stripe columns width) = nat_le 1 columns && nat_le columns MOST_COLUM
 
 -- 1 to 2^40 blocks, and at least one plex
 abbrev pub is_volume_shape : (blocks mirrors : ℕ) → Layout → Bool
-is_volume_shape blocks mirrors layout = nat_le 1 blocks && nat_le blocks (2 ^ 40) && nat_le 1 mirrors && is_layout layout
+is_volume_shape blocks mirrors layout = nat_le 1 blocks && nat_le blocks MOST_VOLUME_BLOCKS && nat_le 1 mirrors && is_layout layout

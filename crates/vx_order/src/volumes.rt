@@ -6,12 +6,10 @@ ghost use Rattle.vx_order.specs.Volumes.{preferred_unknown, plex_unknown, volume
 
 use crate::facts::{SiteFacts, VolumeFacts};
 use crate::sites::find_volume;
-use vx_model::limits::{MOST_COLUMNS, MOST_PLEXES, MOST_VOLUMES};
+use vx_model::limits::{MOST_COLUMNS, MOST_PLEXES, MOST_VOLUME_BLOCKS, MOST_VOLUMES};
 use vx_model::{Counted, Name, Named, No, SiteState};
 use vx_script::{Layout, ReadPolicy};
 
-/// The most blocks of a volume.
-const MOST_VOLUME_BLOCKS: u64 = 1_099_511_627_776;
 /// The blocks that a column's unit has fewer of.
 const UNIT_BOUND: u64 = 4_294_967_296;
 
