@@ -14,9 +14,8 @@ use crate::marks::{MOST_HELD, are_marked, held_with};
 use std::alloc::Global;
 use std::marker::Model;
 use vx_bitmap::Bitmap;
-use vx_config::{Config, VolumeLog};
+use vx_config::{Config, VolumeLog, blocks_of};
 use vx_disk::Shelf;
-use vx_maplog::blocks_of;
 use vx_model::limits::REGION;
 use vx_model::{No, Stop};
 

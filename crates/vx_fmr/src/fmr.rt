@@ -12,9 +12,9 @@ ghost use Rattle.vx_fmr.specs.Missed.{FmrLoaded, OthersSame, SameMissedShape, ha
 use std::alloc::Global;
 use std::marker::Model;
 use vx_bitmap::Bitmap;
-use vx_config::{Config, VolumeLog};
+use vx_config::{Config, VolumeLog, blocks_of};
 use vx_disk::Shelf;
-use vx_maplog::{blocks_of, plexes_of};
+use vx_maplog::plexes_of;
 use vx_model::limits::{MAP_REGIONS, REGION};
 use vx_model::{No, Stop, map_blocks};
 

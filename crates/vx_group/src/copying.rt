@@ -14,12 +14,13 @@ ghost use Rattle.vx_volume.specs.Plexes.{InRun, active};
 use crate::detaching::{detach, fault_of};
 use crate::flushing::flush_plexes;
 use crate::inner::Inner;
+use vx_config::blocks_of;
 use vx_copyio::is_member;
 use vx_disk::{Shelf, ShelfError};
 use vx_drl::Drl;
 use vx_model::limits::{BLOCK, REGION};
 use vx_resync::is_picked;
-use vx_volume::{blocks_of, read_plex, write_all};
+use vx_volume::{read_plex, write_all};
 
 // The bytes of a region.
 const REGION_BYTES: usize = 32_768;

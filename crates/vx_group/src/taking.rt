@@ -9,13 +9,12 @@ ghost use Rattle.vx_group.specs.Resumes.{CanImport, Planned, RefusesPlan, TakesP
 use crate::inner::Inner;
 use crate::planning::{sources_of, stopped_of};
 use std::alloc::Global;
-use vx_config::Config;
+use vx_config::{Config, blocks_of};
 use vx_copies::{Room, has_good, import};
 use vx_disk::Shelf;
 use vx_kept::make_open;
 use vx_model::limits::{COMMIT_MARGIN, MOST_NUMBER, MOST_VOLUMES};
 use vx_model::{Counted, No, Stop};
-use vx_volume::blocks_of;
 
 /// A group that was found, with each plex that is CLEAN in the state ACTIVE.
 #[derive(Drop)]

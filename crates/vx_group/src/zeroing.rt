@@ -1,5 +1,5 @@
 // Zeros on the plexes of a new volume.
-ghost use Rattle.std.specs.Prelude.{◌≡◌, ◌+◌, ◌*◌, ◌<◌, ◌≤◌, length, IsTrue, OnOk};
+ghost use Rattle.std.specs.Prelude.{◌+◌, ◌*◌, ◌<◌, ◌≤◌, length, IsTrue, OnOk};
 ghost use Rattle.vx_config.specs.Checks.{blocks_of, is_sound};
 ghost use Rattle.vx_disk.specs.Shelf.{Goes, Nothing};
 ghost use Rattle.vx_volume.specs.Plexes.{DisksFit, SomeActive};
@@ -7,23 +7,13 @@ ghost use Rattle.vx_group.specs.Blames.{Blames};
 ghost use Rattle.vx_group.specs.Makes.{AreZero, EachFlushed, ZeroBelow, ZeroRun, ZerosOn};
 
 use crate::detaching::fault_of;
-use vx_config::Config;
+use vx_config::{Config, blocks_of};
 use vx_disk::{Shelf, ShelfError};
 use vx_model::limits::BLOCK;
 use vx_volume::{flush_all, write_all};
 
 // The blocks of one call on the plexes.
 const RUN: usize = 16;
-
-// The blocks of a volume; none where there is no such volume.
-fn block_count(config: &Config, vol: u32) -> u64
-    ensures { result ≡ blocks_of config.now.volumes vol }
-{
-    match config.volumes.as_slice().get(vol as usize) {
-        Some(volume) => volume.blocks,
-        None => 0,
-    }
-}
 
 // Writes zeros to a run of blocks on each plex that is ACTIVE.
 fn zero_run<S: Shelf>(
@@ -68,7 +58,7 @@ fn zero_blocks<S: Shelf>(shelf: &mut S, config: &Config, vol: u32) -> Result<(),
     ensures ok { OnOk result (ZeroBelow config.now vol (blocks_of config.now.volumes vol) (S.meaning shelf.new)) }
     ensures cause { Blames (S.meaning shelf.old) (S.meaning shelf.new) result }
 {
-    let blocks = block_count(config, vol);
+    let blocks = blocks_of(config, vol);
     let mut done = 0;
     while done < blocks {
         let count = (blocks - done).min(RUN as u64);

@@ -16,13 +16,12 @@ ghost use Rattle.vx_volume.specs.Plexes.{DisksFit};
 
 use crate::zeroing::zero_run;
 use std::alloc::Global;
-use vx_config::{Config, VolumeLog};
+use vx_config::{Config, VolumeLog, blocks_of};
 use vx_disk::Shelf;
 use vx_fmr::Fmr;
 use vx_groupmaps::{mark_maps, ready_maps};
 use vx_logs::Logs;
 use vx_maplog::log_of;
-use vx_volume::blocks_of;
 
 // Zeros the log of missed regions of a volume, and reads it.
 fn zeroed_map<S: Shelf>(alloc: Global, config: &Config, vol: u32, shelf: &mut S) -> Option<Fmr>

@@ -10,12 +10,11 @@ ghost use Rattle.vx_logs.specs.Held.{LogsFit, LogsStand};
 ghost use Rattle.vx_logs.specs.Writes.{MarksLogs, StaleStill, first_region, last_region};
 ghost use Rattle.vx_volume.specs.Plexes.{DisksFit};
 
-use vx_config::Config;
+use vx_config::{Config, blocks_of};
 use vx_disk::Shelf;
 use vx_logs::{Logs, Lost, mark};
 use vx_model::No;
 use vx_model::limits::REGION;
-use vx_volume::blocks_of;
 
 /// Marks the regions of a run of blocks durably in the logs of a volume, and answers which logs were lost. The caller commits these as lost
 /// before a plex is written. It makes no device call where all are marked.

@@ -11,13 +11,12 @@ ghost use Rattle.vx_logs.specs.Held.{LogsFit, LogsStand};
 ghost use Rattle.vx_logs.specs.Noting.{FmrKeeps, SameFmr};
 ghost use Rattle.vx_volume.specs.Plexes.{DisksFit};
 
-use vx_config::Config;
+use vx_config::{Config, blocks_of};
 use vx_disk::Shelf;
 use vx_fmr::Fmr;
 use vx_logs::Logs;
 use vx_model::No;
 use vx_model::limits::REGION;
-use vx_volume::blocks_of;
 
 // Notes in the map of a plex each of the first regions that the map of another one has.
 fn note_row<S: Shelf>(

@@ -11,13 +11,12 @@ ghost use Rattle.vx_model.specs.declared.limits.TheConstants.{MOST_PLEXES, REGIO
 ghost use Rattle.vx_volume.specs.Plexes.{DisksFit};
 
 use crate::flushing::goes_by_map;
-use vx_config::Config;
+use vx_config::{Config, blocks_of};
 use vx_disk::Shelf;
 use vx_fmr::Fmr;
 use vx_logs::Logs;
 use vx_model::No;
 use vx_model::limits::{MOST_PLEXES, REGION};
-use vx_volume::blocks_of;
 
 // Fills the map of a plex up to a region, where there is a log. Answers whether it was lost.
 fn fill_one<S: Shelf>(

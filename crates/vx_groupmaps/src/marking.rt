@@ -8,12 +8,11 @@ ghost use Rattle.vx_logs.specs.Held.{LogsFit};
 ghost use Rattle.vx_logs.specs.Writes.{MarkedAt, MarksLogs, StaleStill, first_region, last_region};
 ghost use Rattle.vx_volume.specs.Plexes.{DisksFit};
 
-use vx_config::Config;
+use vx_config::{Config, blocks_of};
 use vx_disk::Shelf;
 use vx_logs::{Logs, Lost, mark};
 use vx_model::No;
 use vx_model::limits::REGION;
-use vx_volume::blocks_of;
 
 /// Marks the regions of a run of blocks durably, as `mark` of vx_logs does: before a write, and again behind one that failed a plex, which is
 /// STALE by then. Answers which logs were lost, which the caller commits.

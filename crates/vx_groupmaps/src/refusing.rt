@@ -11,13 +11,13 @@ ghost use Rattle.vx_logs.specs.Writes.{first_region, last_region};
 ghost use Rattle.vx_model.specs.declared.limits.TheConstants.{MOST_PLEXES, REGION};
 ghost use Rattle.vx_volume.specs.Plexes.{DisksFit};
 
-use vx_config::Config;
+use vx_config::{Config, blocks_of};
 use vx_disk::Shelf;
 use vx_fmr::Fmr;
 use vx_logs::Logs;
 use vx_model::No;
 use vx_model::limits::REGION;
-use vx_volume::{blocks_of, plex_count};
+use vx_volume::plex_count;
 
 // Notes a run of regions in the map of a plex.
 fn miss_one<S: Shelf>(

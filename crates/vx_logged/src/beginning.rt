@@ -27,13 +27,13 @@ ghost use Rattle.vx_volume.specs.Plexes.{active};
 use crate::keeping::keep_map;
 use crate::marking::mark_group;
 use crate::readying::ready_group;
-use vx_config::Config;
+use vx_config::{Config, blocks_of};
 use vx_disk::{Shelf, ShelfError};
 use vx_group::GroupCore;
 use vx_groupmaps::begin_map;
 use vx_logs::Logs;
 use vx_model::limits::MOST_PLEXES;
-use vx_volume::{blocks_of, is_active};
+use vx_volume::is_active;
 
 /// Which plexes of a volume are ACTIVE.
 pub fn actives(config: &Config, vol: u32) -> [bool; MOST_PLEXES]

@@ -19,11 +19,11 @@ ghost use Rattle.vx_volume.specs.Plexes.{active};
 
 use crate::keeping::keep_log;
 use crate::readying::ready_group;
+use vx_config::blocks_of;
 use vx_disk::{Shelf, ShelfError};
 use vx_group::GroupCore;
 use vx_grouplogs::clear_run;
 use vx_logs::Logs;
-use vx_volume::blocks_of;
 
 /// Takes all marks off the log of a volume where more than 64 regions were marked since, and answers whether the log may be gone by further.
 /// The caller says that of each block of the volume a crash leaves one value. A log of which the disk fails is committed as lost. All volumes

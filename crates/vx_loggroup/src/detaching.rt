@@ -25,12 +25,12 @@ ghost use Rattle.vx_model.specs.declared.no.No.TheVariants.{Down as DownNo};
 ghost use Rattle.vx_volume.specs.Plexes.{active};
 
 use crate::alike::is_alike;
+use vx_config::blocks_of;
 use vx_disk::{Shelf, refusal};
 use vx_group::GroupCore;
 use vx_groupmaps::begin_map;
 use vx_logged::{det_logged, keep_map};
 use vx_logs::Logs;
-use vx_maplog::blocks_of;
 use vx_model::limits::MOST_VOLUMES;
 use vx_model::{No, Stop};
 use vx_volume::is_active;

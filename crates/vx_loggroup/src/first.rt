@@ -9,11 +9,11 @@ ghost use Rattle.vx_loggroup.specs.LoggedVolumes.{LoggedStands};
 ghost use Rattle.vx_loggroup.specs.Marks.{region_count};
 
 use crate::beginning::begin_both;
+use vx_config::blocks_of;
 use vx_disk::{Shelf, ShelfError};
 use vx_group::GroupCore;
 use vx_logged::ready_group;
 use vx_logs::Logs;
-use vx_maplog::blocks_of;
 use vx_model::limits::MOST_VOLUMES;
 
 /// Begins the logs of a volume that are held as lost, where of each block of it a crash leaves one value. No plex is called, and none changes its

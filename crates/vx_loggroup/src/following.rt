@@ -21,14 +21,14 @@ ghost use Rattle.vx_volume.specs.Plexes.{active};
 
 use crate::alike::is_alike;
 use crate::attaching::att_whole;
-use vx_config::Config;
+use vx_config::{Config, blocks_of};
 use vx_disk::Shelf;
 use vx_group::GroupCore;
 use vx_logged::copy_plex;
 use vx_logs::Logs;
 use vx_model::Stop;
 use vx_model::limits::{MOST_PLEXES, MOST_VOLUMES};
-use vx_volume::{blocks_of, is_active};
+use vx_volume::is_active;
 
 // The first plex of a volume that is ACTIVE.
 fn first_active(config: &Config, vol: u32) -> Option<u32>

@@ -15,13 +15,12 @@ ghost use Rattle.vx_logs.specs.declared.logs.Logs.{Logs as LogsValue};
 ghost use Rattle.vx_model.specs.declared.limits.TheConstants.{MOST_VOLUMES};
 
 use std::alloc::Global;
-use vx_config::{Config, VolumeLog};
+use vx_config::{Config, VolumeLog, blocks_of};
 use vx_disk::Shelf;
 use vx_group::GroupCore;
 use vx_groupmaps::{LoadedMaps, load_maps};
 use vx_logimport::{Rested, lies_within};
 use vx_logs::Logs;
-use vx_maplog::blocks_of;
 use vx_model::limits::MOST_VOLUMES;
 
 // Reads the log of missed regions of a volume, where one is in use. It is in memory then, unless it could not be read.

@@ -7,7 +7,7 @@ ghost use Rattle.vx_logimport.specs.Marked.{AreDirtyLogs, LogRead, LogsRead, log
 ghost use Rattle.vx_volume.specs.Plexes.{DisksFit};
 
 use std::alloc::Global;
-use vx_config::{Config, VolumeLog};
+use vx_config::{Config, VolumeLog, blocks_of};
 use vx_copyio::is_member;
 use vx_disk::Shelf;
 use vx_drl::Drl;
@@ -15,7 +15,6 @@ use vx_grouplogs::load_marks;
 use vx_logs::Logs;
 use vx_maplog::log_of;
 use vx_model::{No, Stop};
-use vx_volume::blocks_of;
 
 /// Whether a log of a volume, where it has one, lies on a disk of a set.
 pub fn lies_within(config: &Config, good: u8, vol: u32, log: VolumeLog) -> bool

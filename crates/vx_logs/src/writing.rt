@@ -14,11 +14,11 @@ use crate::logs::{Logs, Lost};
 use crate::marking::mark_dirty;
 use crate::noting::note_missed;
 use crate::sets::stale_set;
-use vx_config::Config;
+use vx_config::{Config, blocks_of};
 use vx_disk::Shelf;
 use vx_model::No;
 use vx_model::limits::{BLOCK, REGION};
-use vx_volume::{Failed, blocks_of, write_all};
+use vx_volume::{Failed, write_all};
 
 /// What a write of the plexes did.
 #[derive(Clone, Copy, Debug, PartialEq, Eq)]

@@ -1,6 +1,6 @@
 // What a configuration says of the logs of a volume.
 ghost use Rattle.std.specs.Prelude.{◌≡◌};
-ghost use Rattle.vx_config.specs.Checks.{blocks_of as blocks_of_is, plexes_of as plexes_of_is};
+ghost use Rattle.vx_config.specs.Checks.{plexes_of as plexes_of_is};
 ghost use Rattle.vx_maplog.specs.Logs.{log_of as log_of_is};
 
 use vx_config::{Config, LogEntry, VolumeLog};
@@ -15,16 +15,6 @@ pub fn log_of(config: &Config, volume: u32, log: VolumeLog) -> Option<LogEntry>
             VolumeLog::Fmr => entry.fmr,
         },
         None => None,
-    }
-}
-
-/// The blocks of a volume; none where there is no such volume.
-pub fn blocks_of(config: &Config, volume: u32) -> u64
-    ensures { result ≡ blocks_of_is config.now.volumes volume }
-{
-    match config.volumes.as_slice().get(volume as usize) {
-        Some(entry) => entry.blocks,
-        None => 0,
     }
 }
 

@@ -5,6 +5,6 @@ mod entry;
 mod reading;
 mod tested;
 
-pub use entry::{blocks_of, log_of, plexes_of};
+pub use entry::{log_of, plexes_of};
 pub use reading::load;
 pub use tested::{disks_fit, has_log};

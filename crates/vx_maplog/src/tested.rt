@@ -3,8 +3,8 @@ ghost use Rattle.std.specs.Prelude.{◌≡◌, true, slice_get};
 ghost use Rattle.vx_config.specs.Checks.{blocks_or};
 ghost use Rattle.vx_maplog.specs.Logs.{DisksReach, HasLog};
 
-use crate::entry::{blocks_of, log_of};
-use vx_config::{Config, DiskEntry, VolumeLog, check};
+use crate::entry::log_of;
+use vx_config::{Config, DiskEntry, VolumeLog, blocks_of, check};
 use vx_disk::Shelf;
 
 /// Whether the configuration is sound, and its volume has blocks and this log.

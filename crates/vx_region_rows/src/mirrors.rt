@@ -8,12 +8,12 @@ ghost use Rattle.vx_volume.specs.Plexes.{DisksFit};
 use std::alloc::Global;
 use vx_config::{
     Config, DiskEntry, Disks, LogEntry, PlexEntry, Plexes, Subdisk, Subdisks, VolumeEntry, Volumes,
-    check,
+    blocks_of, check,
 };
 use vx_disk::{MemShelf, Rack, Shelf};
 use vx_logs::Logs;
 use vx_model::{Name, OutOfMemory, PlexState};
-use vx_volume::{blocks_of, plex_count};
+use vx_volume::plex_count;
 
 // These blocks of a disk.
 pub fn run(disk: u8, start: u64, blocks: u64) -> Subdisk {

@@ -6,11 +6,11 @@ ghost use Rattle.vx_volume.specs.Plexes.{DisksFit, SomeActive, active as active_
 use crate::mirrors::{disks_fit, fitted, log, mirror};
 use std::alloc::Global;
 use std::test::*;
-use vx_config::{Config, VolumeLog, check};
+use vx_config::{Config, VolumeLog, blocks_of, check};
 use vx_disk::{MemShelf, Rack, Shelf};
 use vx_drl::Drl;
 use vx_fmr::Fmr;
-use vx_maplog::{blocks_of, disks_fit as disks_reach, has_log, plexes_of};
+use vx_maplog::{disks_fit as disks_reach, has_log, plexes_of};
 use vx_model::{No, OutOfMemory, PlexState};
 use vx_resync::{attach, recover};
 use vx_volume::is_active;

@@ -6,11 +6,13 @@ ghost use Rattle.vx_volume.specs.Plexes.{DisksFit, SomeActive};
 use crate::mirrors::{disks_fit, good, run};
 use std::alloc::Global;
 use std::test::Fail;
-use vx_config::{Config, Disks, PlexEntry, Plexes, Subdisk, Subdisks, VolumeEntry, Volumes, check};
+use vx_config::{
+    Config, Disks, PlexEntry, Plexes, Subdisk, Subdisks, VolumeEntry, Volumes, blocks_of, check,
+};
 use vx_disk::{MemShelf, Rack, Shelf};
 use vx_model::limits::DISK_PLACES;
 use vx_model::{Name, No, OutOfMemory, PlexState};
-use vx_volume::{Volume, blocks_of, flush, is_active, read, write};
+use vx_volume::{Volume, flush, is_active, read, write};
 
 fn plex(alloc: Global, state: PlexState, runs: [Subdisk; 2]) -> Result<PlexEntry, OutOfMemory> {
     let mut subdisks = Subdisks::new(alloc);

@@ -12,13 +12,12 @@ ghost use Rattle.vx_resync.specs.Picks.{LiesInRegion, InPicked, MapsReach, is_pi
 
 use crate::copying::copy_run;
 use crate::picks::is_picked;
-use vx_config::Config;
+use vx_config::{Config, blocks_of};
 use vx_disk::Shelf;
 use vx_drl::Drl;
 use vx_fmr::Fmr;
 use vx_model::No;
 use vx_model::limits::{BLOCK, REGION};
-use vx_volume::blocks_of;
 
 // The bytes of a region.
 const REGION_BYTES: usize = 32_768;

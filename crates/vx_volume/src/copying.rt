@@ -6,10 +6,9 @@ ghost use Rattle.vx_volume.specs.Copies.{CopyBelow, CopyCause, CopyRun, IsCopied
 ghost use Rattle.vx_volume.specs.Plexes.{DisksFit, active};
 
 use crate::flushing::flush_plex;
-use crate::plexes::blocks_of;
 use crate::reading::read_plex;
 use crate::writing::write_plex;
-use vx_config::Config;
+use vx_config::{Config, blocks_of};
 use vx_disk::{Shelf, ShelfError};
 use vx_model::limits::BLOCK;
 

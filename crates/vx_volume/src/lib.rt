@@ -15,7 +15,7 @@ mod writing;
 
 pub use copying::copy_plex;
 pub use flushing::flush_plex;
-pub use plexes::{blocks_of, is_active, plex_count, uses};
+pub use plexes::{is_active, plex_count, uses};
 pub use reading::read_plex;
 pub use sets::{Failed, set_of};
 pub use volume::{Volume, flush, flush_all, read, write, write_all};

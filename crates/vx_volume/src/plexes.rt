@@ -1,7 +1,7 @@
 // What a configuration says of the plexes of a volume.
 ghost use Rattle.std.specs.Prelude.{◌≡◌};
 ghost use Rattle.std.specs.List.{list_any};
-ghost use Rattle.vx_config.specs.Checks.{blocks_of as blocks_of_is, plexes_of};
+ghost use Rattle.vx_config.specs.Checks.{plexes_of};
 ghost use Rattle.vx_volume.specs.Plexes.{active, lies_on, prefer_of, uses as uses_is};
 
 use vx_config::{Config, PlexState, Subdisk};
@@ -43,16 +43,6 @@ pub fn uses(config: &Config, vol: u32, plex: u32, disk: u32) -> bool
             None => false,
         },
         None => false,
-    }
-}
-
-/// The blocks of a volume; none where there is no such volume.
-pub fn blocks_of(config: &Config, vol: u32) -> u64
-    ensures { result ≡ blocks_of_is config.now.volumes vol }
-{
-    match config.volumes.as_slice().get(vol as usize) {
-        Some(volume) => volume.blocks,
-        None => 0,
     }
 }
 

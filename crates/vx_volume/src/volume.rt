@@ -6,10 +6,10 @@ ghost use Rattle.vx_volume.specs.Plexes.{DisksFit, SomeActive, prefer_of};
 ghost use Rattle.vx_volume.specs.Volumes.{PlexesEnd, EndsAt, OnPlexes, PlexFlushed, PlexWrote, VolumeReads, first_asked, next_asked};
 
 use crate::every::{flush_plexes, write_plexes};
-use crate::plexes::{blocks_of, plex_count, preferred};
+use crate::plexes::{plex_count, preferred};
 use crate::sets::{Failed, set_of};
 use crate::turns::read_in_turn;
-use vx_config::Config;
+use vx_config::{Config, blocks_of};
 use vx_disk::Shelf;
 use vx_model::No;
 use vx_model::limits::MOST_PLEXES;

@@ -11,4 +11,4 @@ pub returns-in-Err-clause-goes : goal.returns-in-Err-clause-goes
 returns-in-Err-clause-goes g c = zero_then c.args.config.now c.args.vol c.loop-done.done c.min-count.result (blocks_of c.args.config.now.volumes c.args.vol) (g.S.Shelf.meaning c.args.shelf.now) (g.S.Shelf.meaning c.loop-done.shelf) (g.S.Shelf.meaning c.zero_run.new.shelf) c.loop-done.invariant c.zero_run.ensures.goes
 
 pub returns-clause-ok : goal.returns-clause-ok
-returns-clause-ok g c = zero_end c.args.config.now c.args.vol c.loop-done.done (blocks_of c.args.config.now.volumes c.args.vol) c.block_count-blocks.result (g.S.Shelf.meaning c.args.shelf.now) (g.S.Shelf.meaning c.loop-done.shelf) c.loop-done.invariant c.block_count-blocks.ensures (omega (arith, c.loop-done-test.false))
+returns-clause-ok g c = zero_end c.args.config.now c.args.vol c.loop-done.done (blocks_of c.args.config.now.volumes c.args.vol) c.blocks_of-blocks.result (g.S.Shelf.meaning c.args.shelf.now) (g.S.Shelf.meaning c.loop-done.shelf) c.loop-done.invariant c.blocks_of-blocks.ensures (omega (arith, c.loop-done-test.false))
