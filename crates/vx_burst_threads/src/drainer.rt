@@ -7,8 +7,8 @@ use crate::gate::Gate;
 use std::sync::Wait;
 use std::sync::atomic::{AtomicU64, Ordering};
 use std::thread;
-use vx_model::{Blocks, Line, Update};
-use vx_settle::{Ack, Peer};
+use vx_model::Update;
+use vx_settle::{Ack, Peer, unset};
 use vx_turn::{Engine, Job, JobReply, Pass, Turn};
 
 /// A pass, and the peer of its link.
@@ -23,20 +23,6 @@ pub(crate) enum Next {
     From(u64),
     Idle,
     End,
-}
-
-// An update for a job to write over.
-fn unset() -> Update {
-    Update {
-        line: Line {
-            generation: 0,
-            origin: 0,
-        },
-        number: 0,
-        vol: 0,
-        block: 0,
-        bytes: Blocks::filled(1, 0),
-    }
 }
 
 // Tells the engine what the peer said that it has.

@@ -6,8 +6,8 @@ use crate::peer::Peer;
 use vx_model::{Blocks, Call, Line, No, Reply, Update};
 use vx_turn::{Engine, Job, JobReply};
 
-// An update for a job to write over.
-fn unset() -> Update {
+/// An update for a job to write over.
+pub fn unset() -> Update {
     Update {
         line: Line {
             generation: 0,

@@ -6,5 +6,5 @@
 mod bringing;
 mod peer;
 
-pub use bringing::{Ended, answer_again, bring, bring_all, wait_for};
+pub use bringing::{Ended, answer_again, bring, bring_all, unset, wait_for};
 pub use peer::{Ack, Peer, Stand};
