@@ -28,7 +28,7 @@ use vx_model::{Counted, No};
 use vx_rvg::Rvg;
 
 /// Whether the shelf was found down.
-pub(crate) fn is_off(no: &No) -> bool
+pub fn is_off(no: &No) -> bool
     ensures { result ≡ is_off no.now }
 {
     matches!(no, No::Down)

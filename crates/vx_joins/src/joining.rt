@@ -8,7 +8,7 @@ ghost use Rattle.vx_ringio.specs.Spends.{Spends};
 ghost use Rattle.vx_srlfmt.specs.Headers.{CanSpellState};
 ghost use Rattle.vx_diskset.specs.Asked.{HeadUnder, LeavesFuse};
 ghost use Rattle.vx_diskset.specs.Burning.{NoMore, OffIf};
-ghost use Rattle.vx_diskset.specs.DiskSets.{Later, is_off};
+ghost use Rattle.vx_diskset.specs.DiskSets.{Later};
 ghost use Rattle.vx_diskset.specs.Holds.{KeptBeside, state_with};
 ghost use Rattle.vx_diskset.specs.Keeps.{done_by};
 ghost use Rattle.vx_diskset.specs.Stands.{IsUpAt, SiteStands};
@@ -16,17 +16,10 @@ ghost use Rattle.vx_joins.specs.Joins.{CanJoin, JoinedAs, JoinedAt};
 
 use std::mem;
 use vx_disk::Rack;
-use vx_diskset::DiskSet;
+use vx_diskset::{DiskSet, is_off};
 use vx_model::{No, State};
 use vx_rvg::Rvg;
 use vx_secondary::{Secondary, Waiting};
-
-// Whether the shelf was found down.
-fn is_off(no: &No) -> bool
-    ensures { result ≡ is_off no.now }
-{
-    matches!(no, No::Down)
-}
 
 // Brings a group to another line, behind an empty log. A shelf that is down behind it answers so.
 fn join_group<R: Rack>(rvg: &mut Rvg<R>, state: &State) -> Result<(), No>
