@@ -17,8 +17,8 @@ pub fn count_fault(faults: &mut [u64; MOST_VOLUMES], vol: u32)
     faults[vol as usize] = faults[vol as usize].saturating_add(1);
 }
 
-//// Marks a volume as unsure.
-pub fn mark(unsure: &mut [bool; MOST_VOLUMES], vol: u32)
+/// Marks a volume as unsure.
+pub fn mark_unsure(unsure: &mut [bool; MOST_VOLUMES], vol: u32)
     requires inside { vol < MOST_VOLUMES }
     ensures { MarkedUnsure vol unsure.old unsure.new }
 {
@@ -39,7 +39,7 @@ pub fn give_up(
     match error {
         ShelfError::Fault { .. } => {
             count_fault(faults, vol);
-            mark(unsure, vol);
+            mark_unsure(unsure, vol);
         }
         ShelfError::Down => {}
     }

@@ -40,7 +40,7 @@ mod writing;
 mod zeroing;
 
 pub use att::att_in;
-pub use counting::give_up;
+pub use counting::{give_up, mark_unsure};
 pub use crashing::{crash_in, fall, revive};
 pub use create::start;
 pub use deporting::deport_in;

@@ -9,7 +9,7 @@ ghost use Rattle.vx_group.specs.Quiesces.{GoesOnBy, QuiesceEnds};
 ghost use Rattle.vx_group.specs.Stands.{InnerStands};
 ghost use Rattle.vx_model.specs.declared.limits.TheConstants.{MOST_VOLUMES};
 
-use crate::counting::mark;
+use crate::counting::mark_unsure;
 use crate::detaching::{detach, fault_of};
 use crate::inner::Inner;
 use vx_disk::{Shelf, ShelfError};
@@ -22,7 +22,7 @@ fn mark_failed(unsure: &mut [bool; MOST_VOLUMES], vol: u32, error: ShelfError)
     ensures { MarksUnsure error vol unsure.old unsure.new }
 {
     match error {
-        ShelfError::Fault { .. } => mark(unsure, vol),
+        ShelfError::Fault { .. } => mark_unsure(unsure, vol),
         ShelfError::Down => {}
     }
 }
@@ -39,7 +39,7 @@ fn leave_unsure(
 {
     match error {
         ShelfError::Fault { .. } => {
-            mark(unsure, vol);
+            mark_unsure(unsure, vol);
             Ok(())
         }
         ShelfError::Down => Err(ShelfError::Down),

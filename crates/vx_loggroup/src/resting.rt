@@ -4,7 +4,6 @@ ghost use Rattle.vx_config.specs.declared.entry.VolumeLog.{VolumeLog as VolumeLo
 ghost use Rattle.vx_config.specs.declared.entry.VolumeLog.TheVariants.{Drl as DrlLog};
 ghost use Rattle.vx_disk.specs.Shelf.{Goes, Nothing};
 ghost use Rattle.vx_fmr.specs.Missed.{Missed};
-ghost use Rattle.vx_group.specs.Blames.{MarkedUnsure};
 ghost use Rattle.vx_kept.specs.Cleans.{is_unsure};
 ghost use Rattle.vx_kept.specs.LogRuns.{log_trusted};
 ghost use Rattle.vx_loggroup.specs.Attaching.{fmr_at};
@@ -16,6 +15,7 @@ ghost use Rattle.vx_volume.specs.Plexes.{DisksFit, uses as uses_is};
 
 use vx_config::{Config, VolumeLog};
 use vx_disk::{Shelf, ShelfError};
+use vx_group::mark_unsure;
 use vx_kept::is_trusted;
 use vx_logs::Logs;
 use vx_model::limits::{MOST_DISKS, MOST_VOLUMES};
@@ -100,14 +100,6 @@ fn touches(config: &Config, vol: u32, failed: &[bool; MOST_DISKS as usize]) -> b
     false
 }
 
-// Marks a volume as unsure.
-fn mark(unsure: &mut [bool; MOST_VOLUMES], vol: u32)
-    requires inside { vol < MOST_VOLUMES }
-    ensures { MarkedUnsure vol unsure.old unsure.new }
-{
-    unsure[vol as usize] = true;
-}
-
 // Marks a volume with maps in memory as unsure, where a plex of it uses one of these disks, and answers whether the maps of the volume are in
 // memory where its log is not held as lost.
 fn rest_one(
@@ -129,7 +121,7 @@ fn rest_one(
     if !touches(config, vol, failed) {
         return true;
     }
-    mark(unsure, vol);
+    mark_unsure(unsure, vol);
     true
 }
 
