@@ -19,8 +19,8 @@ use vx_model::limits::{BLOCK, MOST_CALL_BLOCKS};
 use vx_model::{Block, Name, OutOfMemory};
 use vx_yard::Yard;
 
-// So many blocks, each byte of which is `fill`, and no more than a line may ask.
-fn filled(alloc: Global, count: u64, fill: u8) -> Result<Vec<u8>, OutOfMemory>
+/// So many blocks, each byte of which is `fill`, and no more than a line may ask.
+pub fn filled(alloc: Global, count: u64, fill: u8) -> Result<Vec<u8>, OutOfMemory>
     ensures { IfOk result (λ bytes. bytes.items ≡ replicate (512 * min count MOST_CALL_BLOCKS) fill) }
 {
     let bytes = Vec::from_elem(alloc, fill, BLOCK * count.min(MOST_CALL_BLOCKS) as usize)?;

@@ -20,5 +20,6 @@ mod views;
 mod volume;
 mod write;
 
+pub use blocks::filled;
 pub use found::{holds_group, recover_found};
 pub use lines::{is_of_group, work_group};

@@ -1,5 +1,5 @@
 // What a line is answered.
-ghost use Rattle.std.specs.Prelude.{◌≡◌, ◌*◌, IfOk, IsOk, IsSome, min, replicate, false, true};
+ghost use Rattle.std.specs.Prelude.{◌≡◌, IfOk, IsOk, IsSome, false, true};
 ghost use Rattle.vx_history.specs.Doubts.{Doubted};
 ghost use Rattle.vx_events.specs.Parts.{goes_in_parts};
 ghost use Rattle.vx_events.specs.StepsOver.{is_for_group};
@@ -17,9 +17,8 @@ use crate::settled::settle_line;
 use std::alloc::Global;
 use vx_disk::Rack;
 use vx_events::Said;
-use vx_group_lines::{holds_group, is_of_group, recover_found, work_group};
+use vx_group_lines::{filled, holds_group, is_of_group, recover_found, work_group};
 use vx_link_lines::{apply_line, deliver_line, work_link};
-use vx_model::limits::{BLOCK, MOST_CALL_BLOCKS};
 use vx_model::{Name, No, OutOfMemory};
 use vx_net::Net;
 use vx_order::{refuse, refuse_packet};
@@ -29,14 +28,6 @@ use vx_site_lines::{
     show_line, status_line, write_line,
 };
 use vx_yard::Yard;
-
-// So many blocks, each byte of which is `fill`, and no more than a line may ask.
-fn filled(alloc: Global, count: u64, fill: u8) -> Result<Vec<u8>, OutOfMemory>
-    ensures { IfOk result (λ bytes. bytes.items ≡ replicate (512 * min count MOST_CALL_BLOCKS) fill) }
-{
-    let bytes = Vec::from_elem(alloc, fill, BLOCK * count.min(MOST_CALL_BLOCKS) as usize)?;
-    Ok(bytes)
-}
 
 // Recovers a site over no group. A bare one may have a group on its disks.
 fn recover<R: Rack>(yard: &mut Yard<R>, alloc: Global, site: &Name) -> Result<Said, OutOfMemory>
