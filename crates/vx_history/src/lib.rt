@@ -14,4 +14,4 @@ pub use admission::{Change, FullLog};
 pub use event::{Event, LinkPart, Said};
 pub use receiver::{RAction, REvent, RState};
 pub use sender::{Action, SEvent, SFacts};
-pub use states::{has_links, is_held, is_in_log, is_live, takes_updates};
+pub use states::{has_links, is_held, is_in_log, is_live, is_waited_for, takes_updates};

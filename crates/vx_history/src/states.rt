@@ -2,9 +2,9 @@
 ghost use Rattle.std.specs.Prelude.{◌≡◌};
 ghost use Rattle.vx_history.specs.Admission.{is_live_link, mode_holds};
 ghost use Rattle.vx_history.specs.Receiving.{is_log_phase, phase_takes};
-ghost use Rattle.vx_history.specs.Refusals.{keeps_links};
+ghost use Rattle.vx_history.specs.Refusals.{keeps_links, waits};
 
-use vx_model::{Link, Mode, Role, SPhase};
+use vx_model::{Link, Mode, Role, SPhase, SyncMode};
 
 /// Whether links start at a site of this role.
 pub fn has_links(role: &Role) -> bool
@@ -21,6 +21,16 @@ pub fn is_live(link: &Link) -> bool
     ensures { result ≡ is_live_link link.now }
 {
     link.attached && link.connected && !link.paused
+}
+
+/// Whether a write waits for the site of a link that is set so.
+pub fn is_waited_for(sync: SyncMode) -> bool
+    ensures { result ≡ waits sync }
+{
+    match sync {
+        SyncMode::Off => false,
+        SyncMode::Override | SyncMode::Fail => true,
+    }
 }
 
 /// Whether a link in this mode needs the log.

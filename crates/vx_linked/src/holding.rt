@@ -2,11 +2,10 @@
 ghost use Rattle.std.specs.Prelude.{◌≡◌};
 ghost use Rattle.vx_order.specs.Sending.{last_number};
 ghost use Rattle.vx_history.specs.Admission.{is_holding as holds};
-ghost use Rattle.vx_history.specs.Refusals.{waits};
 ghost use Rattle.vx_linked.specs.Holds.{awaits, awaits_one, least_hold, lesser_hold};
 
-use vx_history::{is_held, is_live};
-use vx_model::{Link, Mode, SyncMode};
+use vx_history::{is_held, is_live, is_waited_for};
+use vx_model::{Link, Mode};
 use vx_order::{LinkFacts, SiteFacts};
 use vx_policy::hold_of;
 
@@ -44,15 +43,6 @@ pub fn hold_of_site(site: &SiteFacts) -> u64
         number = lesser(number, l);
     }
     number
-}
-
-pub(crate) fn is_waited_for(sync: SyncMode) -> bool
-    ensures { result ≡ waits sync }
-{
-    match sync {
-        SyncMode::Off => false,
-        SyncMode::Override | SyncMode::Fail => true,
-    }
 }
 
 fn is_awaited(l: &LinkFacts) -> bool

@@ -13,9 +13,8 @@ ghost use Rattle.vx_script.specs.declared.line.ScriptLine.TheVariants.{Wait};
 ghost use Rattle.vx_linked.specs.Tables.{IsUnrefused};
 ghost use Rattle.vx_linked.specs.Waits.{holds_up, wait_said};
 
-use crate::holding::is_waited_for;
 use crate::seats::seat;
-use vx_history::{Said, is_live};
+use vx_history::{Said, is_live, is_waited_for};
 use vx_model::{Mode, Name};
 use vx_order::{LinkFacts, SiteFacts};
 

@@ -2,13 +2,14 @@
 ghost use Rattle.std.specs.Prelude.{◌≡◌, ◌<◌, ◌++◌, length, map, leb, OnOk, if◌then◌else◌};
 ghost use Rattle.vx_history.specs.World.{Durable, InSession};
 ghost use Rattle.vx_history.specs.Admission.{is_log as logs, is_fail as fails};
-ghost use Rattle.vx_history.specs.Refusals.{some_below, waits, goes, holds_back, is_unconfirmed as unconfirmed};
+ghost use Rattle.vx_history.specs.Refusals.{some_below, goes, holds_back, is_unconfirmed as unconfirmed};
 ghost use Rattle.vx_history.specs.Sends.{promising};
 ghost use Rattle.vx_history.specs.Events.{promise_of as promise_by, promises_of};
 ghost use Rattle.vx_sites.specs.Shapes.{world_of, node_of, link_of, row_of, surety_of, plain_promise};
 
 use crate::link::link_in;
 use crate::{Link, Node, Promise, Surety, World};
+use vx_history::is_waited_for;
 use vx_model::{Mode, OutOfMemory, SyncMode};
 
 impl World {
@@ -38,7 +39,7 @@ impl World {
         ensures { result ≡ holds_back number to ((world_of self.now).links site to) }
     {
         let link = self.link_at(site, to);
-        let waits = link.is_linked() && link.state.attached && is_waiting(&link.state.sync);
+        let waits = link.is_linked() && link.state.attached && is_waited_for(link.state.sync);
         waits && is_going(&link) && link.state.net < number
     }
 
@@ -77,15 +78,6 @@ fn is_by_log(mode: &Mode) -> bool
     match mode {
         Mode::Log => true,
         Mode::Dcm | Mode::Replay { .. } | Mode::Fork { .. } | Mode::Stale => false,
-    }
-}
-
-fn is_waiting(sync: &SyncMode) -> bool
-    ensures { result ≡ waits sync.now }
-{
-    match sync {
-        SyncMode::Off => false,
-        SyncMode::Override | SyncMode::Fail => true,
     }
 }
 
