@@ -18,7 +18,7 @@ pub use beginning::begin_map;
 pub use copying::copy_map;
 pub use filling::fill_maps;
 pub use flushing::{flush_mapped, goes_by_map};
-pub use loading::{LoadedMaps, load_maps};
+pub use loading::{LoadedMaps, load_maps, on_failed_disk};
 pub use marking::mark_maps;
 pub use readying::ready_maps;
 pub use refusing::miss_run;

@@ -24,8 +24,8 @@ pub struct LoadedMaps {
     pub gone: bool,
 }
 
-// Whether a volume has a log of missed regions that is not lost, on a disk that is held as failed.
-fn on_failed_disk(config: &Config, vol: u32) -> bool
+/// Whether a volume has a log of missed regions that is not lost, on a disk that is held as failed.
+pub fn on_failed_disk(config: &Config, vol: u32) -> bool
     ensures { result ≡ on_failed_is config.now vol }
 {
     match log_of(config, vol, VolumeLog::Fmr) {

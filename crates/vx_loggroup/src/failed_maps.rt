@@ -6,7 +6,6 @@ ghost use Rattle.vx_group.specs.Dets.{DetStops};
 ghost use Rattle.vx_group.specs.Finds.{CoreFinds};
 ghost use Rattle.vx_group.specs.Holding.{wide};
 ghost use Rattle.vx_group.specs.Regains.{HoldsPlex, Regains};
-ghost use Rattle.vx_groupmaps.specs.Loading.{on_failed_disk};
 ghost use Rattle.vx_loggroup.specs.Attaching.{LoggedAttaches, MapHeld, MapsFollow, MapsHeld, leaves_maps, map_by};
 ghost use Rattle.vx_loggroup.specs.LoggedVolumes.{LoggedStands, is_alike};
 ghost use Rattle.vx_model.specs.declared.errors.Stop.TheVariants.{No as Refused};
@@ -14,26 +13,12 @@ ghost use Rattle.vx_model.specs.declared.no.No.{No as NoValue};
 ghost use Rattle.vx_volume.specs.Plexes.{active};
 
 use crate::following::att_following;
-use vx_config::{Config, VolumeLog};
 use vx_disk::Shelf;
 use vx_group::GroupCore;
+use vx_groupmaps::on_failed_disk;
 use vx_logs::Logs;
-use vx_maplog::log_of;
 use vx_model::Stop;
 use vx_model::limits::MOST_VOLUMES;
-
-// Whether a volume has a log of missed regions that is not lost, on a disk that is held as failed.
-fn lies_on_failed(config: &Config, vol: u32) -> bool
-    ensures { result ≡ on_failed_disk config.now vol }
-{
-    match log_of(config, vol, VolumeLog::Fmr) {
-        Some(entry) => match config.disks.as_slice().get(entry.disk as usize) {
-            Some(disk) => !entry.lost && disk.failed,
-            None => false,
-        },
-        None => false,
-    }
-}
 
 // Takes the maps of a volume out of memory.
 fn drop_maps(one: &mut Logs)
@@ -58,7 +43,7 @@ fn give_up<S: Shelf>(
 {
     // The volumes stand as they did.
     let _kept = (shelf.is_down(), alike.len(), stopped);
-    if !lies_on_failed(&core.inner.config, vol) {
+    if !on_failed_disk(&core.inner.config, vol) {
         return;
     }
     drop_maps(&mut logs[vol as usize]);
