@@ -1,20 +1,19 @@
 // The maps of plexes that may have missed anything.
 ghost use Rattle.std.specs.Prelude.{◌≡◌, ◌-◌, ◌/◌, ◌<◌, ◌≤◌, ℕ, Bool, IsTrue, OnOk};
 ghost use Rattle.vx_config.specs.Checks.{blocks_of as blocks_of_is, is_sound};
-ghost use Rattle.vx_disk.specs.Blocks.{bit_at};
 ghost use Rattle.vx_disk.specs.Shelf.{Goes};
 ghost use Rattle.vx_groupmaps.specs.Filling.{AreFilled, FillAnswers, FilledAt, HasMapRegion, LostAnswers};
 ghost use Rattle.vx_groupmaps.specs.Missing.{MapsCoverBy, MapsReady, OnMaps, by_map, or_set};
 ghost use Rattle.vx_logs.specs.Held.{LogsFit, LogsStand};
 ghost use Rattle.vx_logs.specs.Noting.{FmrKeeps};
-ghost use Rattle.vx_model.specs.declared.limits.TheConstants.{MOST_PLEXES, REGION};
+ghost use Rattle.vx_model.specs.declared.limits.TheConstants.{REGION};
 ghost use Rattle.vx_volume.specs.Plexes.{DisksFit};
 
 use crate::flushing::goes_by_map;
 use vx_config::{Config, blocks_of};
 use vx_disk::Shelf;
 use vx_fmr::Fmr;
-use vx_logs::Logs;
+use vx_logs::{Logs, is_in};
 use vx_model::No;
 use vx_model::limits::{MOST_PLEXES, REGION};
 
@@ -41,14 +40,6 @@ fn fill_one<S: Shelf>(
         },
         None => Ok(false),
     }
-}
-
-// Whether a plex is one of a set, which has bit P for plex P.
-fn is_picked(set: u8, plex: u32) -> bool
-    requires { plex < MOST_PLEXES }
-    ensures { result ≡ bit_at set plex }
-{
-    (u64::from(set) >> plex) % 2 == 1
 }
 
 /// Fills the map of each plex of a set that goes by its map, durably, so that its next attach copies all regions: behind an import that copied
@@ -78,7 +69,7 @@ pub fn fill_maps<S: Shelf>(
 {
     let last = (blocks_of(config, vol) - 1) / REGION;
     for plex in 0..MOST_PLEXES as u32 {
-        if is_picked(set, plex) {
+        if is_in(set, plex) {
             if goes_by_map(config, vol, plex) {
                 match fill_one(&mut logs.fmr, shelf, plex, last) {
                     Ok(gone) => {

@@ -11,7 +11,7 @@ use vx_model::limits::MOST_PLEXES;
 use vx_volume::set_of;
 
 /// Whether a plex is one of a set, which has bit P for plex P.
-pub(crate) fn is_in(set: u8, plex: u32) -> bool
+pub fn is_in(set: u8, plex: u32) -> bool
     requires { plex < MOST_PLEXES }
     ensures { result ≡ bit_at set plex }
 {

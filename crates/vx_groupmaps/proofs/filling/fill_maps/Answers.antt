@@ -2,7 +2,7 @@
 use Rattle.std.proofs.Common.{◌≡◌, ◌∙◌, ◌-◌, ◌/◌, ℕ, true, false, ap, sym, subst, arith}
 use Rattle.vx_groupmaps.specs.Filling.{AreFilled}
 use Rattle.vx_groupmaps.proofs.FillLemmas.{fill_covers, fill_end, fill_fits, fill_goes, fill_pass, fill_stands, fill_start, fill_then, has_region}
-use Rattle.vx_groupmaps.proofs.filling.fill_maps.Goals.{then-is_picked+then-goes_by_map+in-Ok+else-gone, then-is_picked+else-goes_by_map, else-is_picked}
+use Rattle.vx_groupmaps.proofs.filling.fill_maps.Goals.{then-is_in+then-goes_by_map+in-Ok+else-gone, then-is_in+else-goes_by_map, else-is_in}
 use Rattle.vx_groupmaps.proofs.filling.fill_maps.Goals as goal
 
 pub loop-plex-init : goal.loop-plex-init
@@ -25,15 +25,15 @@ returns-in-Err-clause-fits g c = fill_fits c.args.config.now c.requires.checked 
 
 pub loop-plex-preserved : goal.loop-plex-preserved
 loop-plex-preserved g c =
-    elim c.if-is_picked.branch [
-      | then-is_picked+then-goes_by_map+in-Ok+else-gone w ↦
+    elim c.if-is_in.branch [
+      | then-is_in+then-goes_by_map+in-Ok+else-gone w ↦
           rw (w.logs-is, w.shelf-is) (fill_then c.args.config.now c.requires.checked c.args.vol c.requires.some c.args.set ((c.blocks_of.result - 1) / 64) (ap (λ (n : ℕ). (n - 1) / 64) c.blocks_of.ensures) c.args.logs.now c.loop-plex.logs (g.S.Shelf.meaning c.args.shelf.now) (g.S.Shelf.meaning c.loop-plex.shelf) c.requires.disks c.loop-plex.plex c.loop-plex.invariant (sym w.goes_by_map.ensures ∙ w.if-goes_by_map.true) (g.S.Shelf.meaning w.fill_one.new.shelf) w.fill_one.ensures.writes w.fill_one.new.fmr w.in-Ok.gone w.in-Ok.ensures.answers w.if-gone.false w.fill_one.ensures.keeps)
-      | then-is_picked+else-goes_by_map w ↦
+      | then-is_in+else-goes_by_map w ↦
           rw (w.logs-is, w.shelf-is) (fill_pass c.args.config.now c.args.vol c.args.set ((c.blocks_of.result - 1) / 64) c.loop-plex.plex c.args.logs.now c.loop-plex.logs (g.S.Shelf.meaning c.args.shelf.now) (g.S.Shelf.meaning c.loop-plex.shelf)
           (λ on is_map. let clash : true ≡ false = sym is_map ∙ sym w.goes_by_map.ensures ∙ w.if-goes_by_map.false in cc) c.loop-plex.invariant)
-      | else-is_picked w ↦
+      | else-is_in w ↦
           rw (w.logs-is, w.shelf-is) (fill_pass c.args.config.now c.args.vol c.args.set ((c.blocks_of.result - 1) / 64) c.loop-plex.plex c.args.logs.now c.loop-plex.logs (g.S.Shelf.meaning c.args.shelf.now) (g.S.Shelf.meaning c.loop-plex.shelf)
-          (λ on is_map. let clash : true ≡ false = sym on ∙ sym c.is_picked.ensures ∙ w.if-is_picked.false in cc) c.loop-plex.invariant)
+          (λ on is_map. let clash : true ≡ false = sym on ∙ sym c.is_in.ensures ∙ w.if-is_in.false in cc) c.loop-plex.invariant)
     ]
 
 pub returns-clause-filled : goal.returns-clause-filled
