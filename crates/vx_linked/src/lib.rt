@@ -39,6 +39,7 @@ pub use pausing::pause;
 pub use pumped::{keep_pumped, link_named};
 pub use restarting::{are_fine, restart_links};
 pub use resuming::resume;
+pub use seats::find_seat;
 pub use states::{join_state, mark_state, with_links};
 pub use ticking::tick;
 pub use waiting::wait;

@@ -6,7 +6,8 @@ ghost use Rattle.vx_linked.specs.Tables.{place_to};
 use vx_model::Name;
 use vx_order::{LinkFacts, SiteFacts};
 
-fn find_seat(sites: &[SiteFacts], name: &Name) -> Option<usize>
+/// The number of the site of this name, where there is one.
+pub fn find_seat(sites: &[SiteFacts], name: &Name) -> Option<usize>
     ensures { result ≡ seat_of sites.now name.now }
 {
     sites

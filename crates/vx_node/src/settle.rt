@@ -18,10 +18,10 @@ use crate::going::{Went, answered};
 use std::alloc::Global;
 use vx_disk::Rack;
 use vx_link_lines::{apply_line, connect_line, deliver_line, pump_line, tick_line};
+use vx_linked::find_seat;
 use vx_model::Name;
 use vx_script::ScriptLine;
 use vx_yard::Yard;
-use vx_yard::place::seat;
 
 // Whether the yard is whole, and no test refuses a line.
 pub(crate) fn may<R: Rack>(yard: &Yard<R>, words: &ScriptLine) -> bool
@@ -137,7 +137,7 @@ fn waits_at<R: Rack>(yard: &Yard<R>, name: &Name) -> Option<u64>
     ensures { (d : Doubted) → StandsFor d yard.now → IfSome result (λ count. (s : ℕ) → site_number d.world name.now ≡ s → (d.world.nodes s).state ≡ UpState → (d.world.nodes s).halted ≡ None
         → count ≡ length (d.world.nodes s).log - (d.world.nodes s).safe) }
 {
-    let Some(site) = seat(&yard.facts, name) else {
+    let Some(site) = find_seat(&yard.facts, name) else {
         return None;
     };
     if site >= yard.disk_sets.len() {

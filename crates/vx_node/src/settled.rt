@@ -19,12 +19,12 @@ use std::alloc::Global;
 use vx_disk::Rack;
 use vx_events::Said;
 use vx_link_lines::connect_line;
+use vx_linked::find_seat;
 use vx_model::limits::MOST_SITES;
 use vx_model::{Name, OutOfMemory};
 use vx_net::Net;
 use vx_script::ScriptLine;
 use vx_yard::Yard;
-use vx_yard::place::seat;
 
 // What the line is answered, by how its parts went, and by whether all is stored up to the last number there was.
 fn end_of(went: Went, settled: bool, head: u64) -> Result<Said, OutOfMemory>
@@ -47,7 +47,7 @@ fn end_of(went: Went, settled: bool, head: u64) -> Result<Said, OutOfMemory>
 fn number_of<R: Rack>(yard: &Yard<R>, name: &Name) -> Option<u32>
     ensures { IfSome result (λ site. seat_of yard.now.facts.items name.now ≡ Some site) }
 {
-    let Some(site) = seat(&yard.facts, name) else {
+    let Some(site) = find_seat(&yard.facts, name) else {
         return None;
     };
     if site >= MOST_SITES {

@@ -7,17 +7,8 @@ ghost use Rattle.vx_yard.specs.Yards.{IsYardKept};
 
 use crate::{Yard, facts};
 use vx_disk::Rack;
+use vx_linked::find_seat;
 use vx_model::Name;
-use vx_order::SiteFacts;
-
-/// The number of the site of this name.
-pub fn seat(sites: &[SiteFacts], name: &Name) -> Option<usize>
-    ensures { result ≡ seat_of sites.now name.now }
-{
-    sites
-        .iter()
-        .position(|site| site.name.as_bytes() == name.as_bytes())
-}
 
 impl<R: Rack> Yard<R> {
     /// The number of the site that a line names.
@@ -29,7 +20,7 @@ impl<R: Rack> Yard<R> {
         ensures disk_set { result < length self.now.disk_sets.items }
         ensures small { result < MOST_SITES }
     {
-        match seat(&self.facts, name) {
+        match find_seat(&self.facts, name) {
             Some(site) => site,
             None => unreachable!(),
         }

@@ -13,7 +13,7 @@ pub returns : goal.returns
 returns g c = λ d stands s number up none.
     let y = c.args.yard.now in
     let site = c.in-Some.site in
-    let seat : seat_of y.facts.items c.args.name.now ≡ Some site = ap (λ (fs : List SiteFacts). seat_of fs c.args.name.now) (sym c.deref.ensures.value) ∙ sym c.seat.ensures ∙ c.in-Some.is in
+    let seat : seat_of y.facts.items c.args.name.now ≡ Some site = ap (λ (fs : List SiteFacts). seat_of fs c.args.name.now) (sym c.deref.ensures.value) ∙ sym c.find_seat.ensures ∙ c.in-Some.is in
     let at = place_at d y c.args.name.now site stands seat in
     let same : s ≡ site = sym number ∙ at.number in
     let there = get_at y.disk_sets.items site c.index.result.now (omega (arith, c.if-site-len.false, c.len.ensures)) c.index.ensures in
