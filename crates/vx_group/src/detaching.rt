@@ -20,6 +20,7 @@ use vx_copies::good_of;
 use vx_disk::{Shelf, ShelfError};
 use vx_kept::commit_stale;
 use vx_model::No;
+use vx_model::limits::MOST_PLEXES;
 use vx_volume::Failed;
 
 /// A refusal as a fault, which names this disk where no serial was left.
@@ -57,7 +58,7 @@ pub fn detach_named<S: Shelf>(
     ensures failing { MoreFailed (S.meaning shelf.old) (S.meaning shelf.new) core.old.config.disks core.new.config.disks }
     ensures few { OnOk result (core.new.config.serial ≤ core.old.config.serial + 1 + length core.old.config.disks) }
     ensures good { core.new.unsettled ≡ true → core.new.good ≡ core.old.good }
-    ensures kept { (core.new.config.volumes ≡ core.old.config.volumes) ⊎ (core.new.config.volumes ≡ (staled vol failed.set core.old.config 8).volumes) }
+    ensures kept { (core.new.config.volumes ≡ core.old.config.volumes) ⊎ (core.new.config.volumes ≡ (staled vol failed.set core.old.config MOST_PLEXES).volumes) }
     ensures none { failed.set ≡ 0 → core.new.config.volumes ≡ core.old.config.volumes }
     ensures keeps { KeepsVolumes core.old.config core.new.config result }
     ensures missed { IfErr result (λ e. NoCommit core.new (S.meaning shelf.new)) }
@@ -121,7 +122,7 @@ pub fn detach<S: Shelf>(
     ensures failing { MoreFailed (S.meaning shelf.old) (S.meaning shelf.new) core.old.config.disks core.new.config.disks }
     ensures few { OnOk result (core.new.config.serial ≤ core.old.config.serial + 1 + length core.old.config.disks) }
     ensures good { core.new.unsettled ≡ true → core.new.good ≡ core.old.good }
-    ensures kept { (core.new.config.volumes ≡ core.old.config.volumes) ⊎ (core.new.config.volumes ≡ (staled vol failed.set core.old.config 8).volumes) }
+    ensures kept { (core.new.config.volumes ≡ core.old.config.volumes) ⊎ (core.new.config.volumes ≡ (staled vol failed.set core.old.config MOST_PLEXES).volumes) }
     ensures none { failed.set ≡ 0 → core.new.config.volumes ≡ core.old.config.volumes }
     ensures keeps { KeepsVolumes core.old.config core.new.config result }
     ensures missed { IfErr result (λ e. NoCommit core.new (S.meaning shelf.new)) }

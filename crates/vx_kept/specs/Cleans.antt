@@ -1,6 +1,7 @@
 -- Plexes that a deport puts from ACTIVE into CLEAN, in a configuration in memory, and what the commit of it leaves.
 use Rattle.std.specs.Prelude.{◌≡◌, ℕ, zero, suc, Bool, true, false, if◌then◌else◌, Option, Some, None, Result, Ok, Err, List, slice_index_or}
 use Rattle.vx_disk.specs.Shelf.{Each, Image, Meaning}
+use Rattle.vx_model.specs.declared.limits.TheConstants.{MOST_PLEXES}
 use Rattle.vx_model.specs.declared.no.No.{No}
 use Rattle.vx_model.specs.declared.site.PlexState.{PlexState}
 use Rattle.vx_model.specs.declared.site.PlexState.TheVariants.{Active, Clean, Stale}
@@ -50,7 +51,7 @@ is_unsure unsure v = slice_index_or unsure v false
 -- with all plexes of the first n volumes so, but for the volumes that are marked
 unfoldable pub cleaned : List Bool → Config → ℕ → Config
 cleaned unsure c zero = c
-cleaned unsure c (suc n) = if is_unsure unsure n then cleaned unsure c n else clean_plexes n (cleaned unsure c n) 8
+cleaned unsure c (suc n) = if is_unsure unsure n then cleaned unsure c n else clean_plexes n (cleaned unsure c n) MOST_PLEXES
 
 -- a configuration with another serial
 abbrev pub at_serial : ℕ → Config → Config

@@ -40,7 +40,7 @@ fn is_marked(unsure: &[bool; MOST_VOLUMES], vol: u32) -> bool
 
 // Puts the plexes of a volume that are ACTIVE into the state CLEAN.
 fn clean_volume(config: &mut Config, vol: u32)
-    ensures cleaned { config.new ≡ clean_plexes vol config.old 8 }
+    ensures cleaned { config.new ≡ clean_plexes vol config.old MOST_PLEXES }
     ensures can { CanSpell config.old → CanSpell config.new }
     ensures sound { IsTrue (is_sound config.old) → IsTrue (is_sound config.new) }
 {
@@ -54,7 +54,7 @@ fn clean_volume(config: &mut Config, vol: u32)
 
 // Puts the plexes of a volume that are CLEAN into the state ACTIVE.
 fn open_volume(config: &mut Config, vol: u32)
-    ensures back { (c : ConfigValue) → config.old ≡ clean_plexes vol c 8 → NoneClean c vol → config.new ≡ c }
+    ensures back { (c : ConfigValue) → config.old ≡ clean_plexes vol c MOST_PLEXES → NoneClean c vol → config.new ≡ c }
     ensures same { NoneClean config.old vol → config.new ≡ config.old }
     ensures opens { OpenFrom vol 0 config.old config.new }
     ensures can { CanSpell config.old → CanSpell config.new }

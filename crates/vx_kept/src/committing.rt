@@ -18,7 +18,7 @@ use vx_config::Config;
 use vx_copies::{Room, commit_in, commit_named};
 use vx_disk::Shelf;
 use vx_model::No;
-use vx_model::limits::MOST_VOLUMES;
+use vx_model::limits::{MOST_PLEXES, MOST_VOLUMES};
 
 /// Commits a configuration with the plexes of a set STALE, and as it stands where the set is empty. It takes no memory.
 /// It answers the device that failed last, where a disk came to be held as failed.
@@ -45,9 +45,9 @@ pub fn commit_stale<S: Shelf>(
     ensures wanted { is_wanted (S.meaning shelf.new).units (S.meaning shelf.new).size config.new ≡ true }
     ensures on { AllOn config.new }
     ensures acts { Acts Nothing (Sees config.old (Member good (S.meaning shelf.old)) (S.meaning shelf.old)) (S.meaning shelf.old) (S.meaning shelf.new) }
-    ensures ends { TakeEnds good config.old (staled vol set config.old 8) config.new (S.meaning shelf.old) (S.meaning shelf.new) result }
+    ensures ends { TakeEnds good config.old (staled vol set config.old MOST_PLEXES) config.new (S.meaning shelf.old) (S.meaning shelf.new) result }
     ensures trusts { (committed agreed : Bool) → Trusts committed agreed good (S.meaning shelf.old) → TrustEnds committed good config.new (S.meaning shelf.new) result }
-    ensures finds { FindsFrom (IsTryOf (staled vol set config.old 8)) (S.meaning shelf.old) (S.meaning shelf.new) }
+    ensures finds { FindsFrom (IsTryOf (staled vol set config.old MOST_PLEXES)) (S.meaning shelf.old) (S.meaning shelf.new) }
     ensures named { IfOk result (NamesFailed config.old config.new (S.meaning shelf.old) (S.meaning shelf.new)) }
 {
     make_stale(config, vol, set);

@@ -26,7 +26,7 @@ pub fn whole_of(config: &Config, vol: u32, plex: u32) -> bool
 /// Puts the plexes of a set into the state STALE. It takes no memory.
 pub fn make_stale(config: &mut Config, vol: u32, set: u8)
     requires left { vol < length config.old.volumes → SomeLeft config.old vol set }
-    ensures staled { config.new ≡ staled vol set config.old 8 }
+    ensures staled { config.new ≡ staled vol set config.old MOST_PLEXES }
     ensures can { CanSpell config.old → CanSpell config.new }
     ensures sound { IsTrue (is_sound config.old) → IsTrue (is_sound config.new) }
 {
@@ -40,7 +40,7 @@ pub fn make_stale(config: &mut Config, vol: u32, set: u8)
 
 /// Puts them back into the state ACTIVE.
 pub fn make_active(config: &mut Config, vol: u32, set: u8)
-    ensures { (c : ConfigValue) → config.old ≡ staled vol set c 8 → AreOn c vol set → config.new ≡ c }
+    ensures { (c : ConfigValue) → config.old ≡ staled vol set c MOST_PLEXES → AreOn c vol set → config.new ≡ c }
 {
     for turn in 0..MOST_PLEXES as u32 {
         let plex = MOST_PLEXES as u32 - 1 - turn;
