@@ -4,6 +4,7 @@ use Rattle.std.specs.List.{position_or_len, list_all, slice_split}
 use Rattle.std.specs.Str.{bytes_eq}
 use Rattle.hex.specs.Hex.{decode_sized}
 use Rattle.hex.specs.declared.error.FromHexError.{FromHexError}
+use Rattle.vx_model.specs.declared.limits.TheConstants.{MOST_NAME_BYTES}
 use Rattle.vx_script.specs.declared.wrong.Wrong.{Wrong}
 use Rattle.vx_script.specs.declared.wrong.Wrong.TheVariants.{Left, Memory}
 
@@ -56,7 +57,7 @@ is_name_byte b = is_letter b || is_digit b
 
 -- a name is a lower-case letter and up to 7 lower-case letters or digits
 abbrev pub is_name : List ℕ → Bool
-is_name word = nat_lt 0 (length word) && nat_le (length word) 8 && is_letter (slice_index word 0) && list_all is_name_byte word
+is_name word = nat_lt 0 (length word) && nat_le (length word) MOST_NAME_BYTES && is_letter (slice_index word 0) && list_all is_name_byte word
 
 -- the name that a word is
 unfoldable pub word_name : List ℕ → Option (List ℕ)

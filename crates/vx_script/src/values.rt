@@ -6,6 +6,7 @@ ghost use Rattle.vx_script.specs.Words.{is_digit, digits_after, word_name, word_
 use crate::Names;
 use crate::scan::first_of;
 use std::alloc::Global;
+use vx_model::limits::MOST_NAME_BYTES;
 use vx_model::{Block, Name, OutOfMemory};
 
 fn is_name_text(word: &[u8]) -> bool
@@ -26,7 +27,7 @@ fn is_decimal(word: &[u8]) -> bool
 pub fn as_name(word: &[u8]) -> Option<Name>
     ensures { result ≡ word_name word.now }
 {
-    if word.is_empty() || word.len() > 8 || !word[0].is_ascii_lowercase() {
+    if word.is_empty() || word.len() > MOST_NAME_BYTES || !word[0].is_ascii_lowercase() {
         return None;
     }
     if is_name_text(word) {
