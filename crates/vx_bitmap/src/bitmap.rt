@@ -12,7 +12,7 @@ use crate::change::change;
 use std::alloc::Global;
 use std::marker::Model;
 use vx_disk::{Shelf, refusal};
-use vx_model::limits::MAP_REGIONS;
+use vx_model::limits::{BLOCK, MAP_REGIONS};
 use vx_model::{No, Stop};
 
 /// A map of regions, in memory and in a run of blocks of a shelf. Contracts see where it stands and its bytes.
@@ -58,7 +58,7 @@ impl Bitmap {
         ensures cause { IfErr result (LoadCause (S.meaning shelf.old) (S.meaning shelf.new)) }
     {
         let blocks = regions.div_ceil(MAP_REGIONS) as usize;
-        let mut bytes = Vec::from_elem(alloc, 0u8, 512 * blocks)?;
+        let mut bytes = Vec::from_elem(alloc, 0u8, BLOCK * blocks)?;
         match shelf.read(unit, first, &mut bytes) {
             Ok(()) => Ok(Bitmap { unit, first, bytes }),
             Err(error) => Err(Stop::No(refusal(error))),

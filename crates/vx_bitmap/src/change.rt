@@ -8,6 +8,7 @@ ghost use Rattle.vx_disk.specs.Shelf.{Goes};
 
 use crate::run::mark_run;
 use vx_disk::{Shelf, ShelfError, put};
+use vx_model::limits::BLOCK;
 
 // Changes a run of regions of one block, durably. Where all of them have that value already it makes no call.
 fn change_block<S: Shelf>(
@@ -35,15 +36,15 @@ fn change_block<S: Shelf>(
     ensures up { ShelfCause unit (S.meaning shelf.old) (S.meaning shelf.new) result }
     ensures nothing { AllAre start end value (is_marked bytes.old) → shelf.new ≡ shelf.old }
 {
-    let at = (512 * block) as usize;
-    let mut fresh = [0; 512];
-    fresh.copy_from_slice(&bytes[at..at + 512]);
+    let at = (BLOCK as u64 * block) as usize;
+    let mut fresh = [0; BLOCK];
+    fresh.copy_from_slice(&bytes[at..at + BLOCK]);
     mark_run(&mut fresh, start - 4096 * block, end - 4096 * block, value);
-    if fresh[..] == bytes[at..at + 512] {
+    if fresh[..] == bytes[at..at + BLOCK] {
         return Ok(());
     }
     put(shelf, unit, first + block, &fresh)?;
-    bytes[at..at + 512].copy_from_slice(&fresh);
+    bytes[at..at + BLOCK].copy_from_slice(&fresh);
     Ok(())
 }
 
