@@ -14,6 +14,7 @@ use std::alloc::Global;
 use vx_copyfmt::{AreaHeader, get_area};
 use vx_disk::Shelf;
 use vx_model::OutOfMemory;
+use vx_model::limits::BLOCK;
 use vx_wire::digest;
 
 // What a header and its body are as a copy: none where the body is no configuration of this shelf, or has another serial than the header.
@@ -69,7 +70,7 @@ fn read_copy<S: Shelf>(
     ensures disks { OnDisks (S.meaning shelf.old).disks (S.meaning shelf.new).disks Untouched }
 {
     let length = header.length as usize;
-    let filled = 512 * length.div_ceil(512);
+    let filled = BLOCK * length.div_ceil(BLOCK);
     match shelf.read(disk, area as u64 + 1, &mut room[..filled]) {
         Ok(()) => match judge(alloc, shelf, area, header, &room[..length]) {
             Ok(copy) => Ok(AreaSeen::Seen(copy)),
@@ -100,7 +101,7 @@ pub fn read_area<S: Shelf>(
     ensures down { (S.meaning shelf.new).down ≡ (S.meaning shelf.old).down }
     ensures disks { OnDisks (S.meaning shelf.old).disks (S.meaning shelf.new).disks Untouched }
 {
-    let mut block = [0; 512];
+    let mut block = [0; BLOCK];
     match shelf.read(disk, area as u64, &mut block) {
         Ok(()) => match get_area(&block) {
             Some(header) => read_copy(alloc, shelf, disk, area, &header, room),

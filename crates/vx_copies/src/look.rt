@@ -13,6 +13,7 @@ use vx_copyfmt::{LabelSeen, get_label};
 use vx_copyio::{AREA_A, AREA_B};
 use vx_disk::Shelf;
 use vx_model::OutOfMemory;
+use vx_model::limits::BLOCK;
 
 // The greater of two copies: the first where both have one serial.
 fn greater(first: Option<CopySeen>, second: Option<CopySeen>) -> Option<CopySeen>
@@ -82,7 +83,7 @@ pub fn look<S: Shelf>(
     ensures down { (S.meaning shelf.new).down ≡ (S.meaning shelf.old).down }
     ensures disks { OnDisks (S.meaning shelf.old).disks (S.meaning shelf.new).disks Untouched }
 {
-    let mut block = [0; 512];
+    let mut block = [0; BLOCK];
     match shelf.read(disk, 0, &mut block) {
         Ok(()) => match get_label(&block) {
             LabelSeen::Label(_) => look_areas(alloc, shelf, disk, room),

@@ -9,6 +9,7 @@ ghost use Rattle.vx_model.specs.declared.limits.TheConstants.{MOST_SUBDISKS};
 
 use vx_config::{Config, encode_into, is_short};
 use vx_copyfmt::AreaHeader;
+use vx_model::limits::BLOCK;
 use vx_wire::{digest, put_zeros};
 
 /// Spells a configuration at the front of a room, with zeros up to the end of its last block. Gives the header of a copy of it, and
@@ -32,7 +33,7 @@ pub fn spell(config: &Config, room: &mut [u8]) -> (AreaHeader, usize)
 {
     is_short(config);
     let length = encode_into(config, room);
-    let filled = 512 * length.div_ceil(512);
+    let filled = BLOCK * length.div_ceil(BLOCK);
     put_zeros(room, length, filled - length);
     let header = AreaHeader {
         serial: config.serial,
