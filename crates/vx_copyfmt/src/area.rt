@@ -4,7 +4,7 @@ ghost use Rattle.vx_copyfmt.specs.Areas.{area_table, area_fields, area_in, heade
 ghost use Rattle.vx_wire.specs.Places.{put_at};
 ghost use Rattle.vx_wire.specs.Seals.{filled};
 
-use vx_model::limits::MOST_NUMBER;
+use vx_model::limits::{BLOCK, MOST_NUMBER};
 use vx_wire::{
     Field, broken_seal, get_bytes, get_u32, get_u64, put_bytes, put_fields, put_zeros, seal,
 };
@@ -61,7 +61,7 @@ fn put_front(h: &AreaHeader, into: &mut [u8])
 }
 
 // Whether the 480 bytes before the digest of the block are those of the header.
-fn is_spelled(h: &AreaHeader, block: &[u8; 512]) -> bool
+fn is_spelled(h: &AreaHeader, block: &[u8; BLOCK]) -> bool
     requires { IsTypedArea h.now }
     ensures { IsTrue result ↔ (take 480 block.now ≡ filled (area_fields h.now)) }
 {
@@ -79,7 +79,7 @@ fn can_spell(h: &AreaHeader) -> bool
 
 // What stands in the places of the fields, whether or not the block is a header.
 #[tactic(auto, unfolding(crate::specs::Areas::area_in))]
-fn read_area(block: &[u8; 512]) -> AreaHeader
+fn read_area(block: &[u8; BLOCK]) -> AreaHeader
     ensures { result ≡ area_in block.now }
 {
     AreaHeader {
@@ -90,7 +90,7 @@ fn read_area(block: &[u8; 512]) -> AreaHeader
 }
 
 /// Writes an area's header as a block.
-pub fn put_area(h: &AreaHeader, into: &mut [u8; 512])
+pub fn put_area(h: &AreaHeader, into: &mut [u8; BLOCK])
     requires { CanSpellArea h.now }
     ensures { IsArea into.new h.now }
 {
@@ -100,7 +100,7 @@ pub fn put_area(h: &AreaHeader, into: &mut [u8; 512])
 }
 
 /// The header that a block is: None exactly where it is the spelling of none.
-pub fn get_area(block: &[u8; 512]) -> Option<AreaHeader>
+pub fn get_area(block: &[u8; BLOCK]) -> Option<AreaHeader>
     ensures { result ≡ header_of block.now }
 {
     let header = read_area(block);

@@ -4,6 +4,7 @@ ghost use Rattle.vx_copyfmt.specs.Labels.{label_table, label_fields, IsTypedLabe
 ghost use Rattle.vx_wire.specs.Places.{put_at};
 ghost use Rattle.vx_wire.specs.Seals.{filled};
 
+use vx_model::limits::BLOCK;
 use vx_wire::{Field, broken_seal, get_u32, get_u64, put_fields, put_zeros, seal};
 
 /// The bytes "VXLABEL1", with which a label begins.
@@ -74,7 +75,7 @@ fn put_front(label: &Label, into: &mut [u8])
 }
 
 // Whether the 480 bytes before the digest are those of the label.
-fn is_spelled(label: &Label, block: &[u8; 512]) -> bool
+fn is_spelled(label: &Label, block: &[u8; BLOCK]) -> bool
     ensures { IsTrue result ↔ (take 480 block.now ≡ filled (label_fields label.now)) }
 {
     let mut again = [0; 480];
@@ -84,7 +85,7 @@ fn is_spelled(label: &Label, block: &[u8; 512]) -> bool
 
 // What stands in the places of the fields, whether or not the block is a label.
 #[tactic(auto, unfolding(crate::specs::Labels::label_in))]
-fn read_label(block: &[u8; 512]) -> Label
+fn read_label(block: &[u8; BLOCK]) -> Label
     ensures { result ≡ label_in block.now }
 {
     Label {
@@ -95,7 +96,7 @@ fn read_label(block: &[u8; 512]) -> Label
 }
 
 /// Writes a label as a block.
-pub fn put_label(label: &Label, into: &mut [u8; 512])
+pub fn put_label(label: &Label, into: &mut [u8; BLOCK])
     ensures { IsLabel into.new label.now }
 {
     is_typed(label);
@@ -104,7 +105,7 @@ pub fn put_label(label: &Label, into: &mut [u8; 512])
 }
 
 // What a block is as a label, where it begins as one and its digest is good.
-fn whole_label(block: &[u8; 512]) -> LabelSeen
+fn whole_label(block: &[u8; BLOCK]) -> LabelSeen
     requires { begins_label block.now ≡ true }
     ensures { result ≡ seen_in block.now }
 {
@@ -122,7 +123,7 @@ fn whole_label(block: &[u8; 512]) -> LabelSeen
 
 /// What a block is: a label exactly where it is the spelling of one, and of another version exactly where it begins as a
 /// label, its digest is good, and its version is not the one that is known.
-pub fn get_label(block: &[u8; 512]) -> LabelSeen
+pub fn get_label(block: &[u8; BLOCK]) -> LabelSeen
     ensures { result ≡ seen_in block.now }
 {
     if get_u64(block, 0) == LABEL_MAGIC && broken_seal(block).is_none() {
