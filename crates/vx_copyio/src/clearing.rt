@@ -8,6 +8,7 @@ ghost use Rattle.vx_disk.specs.Shelf.{Goes};
 
 use crate::{AREA_A, AREA_B};
 use vx_disk::{Shelf, ShelfError};
+use vx_model::limits::BLOCK;
 
 // Writes zeros over both headers of one disk, and makes them durable.
 fn clear_disk<S: Shelf>(shelf: &mut S, disk: u32) -> Result<(), ShelfError>
@@ -18,7 +19,7 @@ fn clear_disk<S: Shelf>(shelf: &mut S, disk: u32) -> Result<(), ShelfError>
     ensures none { OnOk result (NoHeaders disk (S.meaning shelf.new)) }
     ensures cause { Cause (S.meaning shelf.old) (S.meaning shelf.new) disk result }
 {
-    let zeros = [0; 512];
+    let zeros = [0; BLOCK];
     shelf.write(disk, AREA_A, &zeros)?;
     shelf.write(disk, AREA_B, &zeros)?;
     shelf.flush(disk)

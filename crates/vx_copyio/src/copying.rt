@@ -11,6 +11,7 @@ ghost use Rattle.vx_wire.specs.Seals.{digest_of};
 
 use vx_copyfmt::{AreaHeader, get_area, put_area};
 use vx_disk::{Shelf, ShelfError, put};
+use vx_model::limits::BLOCK;
 
 /// The first block of the first area, which is its header.
 pub const AREA_A: u64 = 1;
@@ -45,9 +46,9 @@ fn find_target<S: Shelf>(shelf: &mut S, disk: u32) -> Result<u64, ShelfError>
     ensures cause { Cause (S.meaning shelf.old) (S.meaning shelf.new) disk result }
     ensures calls { OnOk result (MakesCalls 0 (S.meaning shelf.old) (S.meaning shelf.new)) }
 {
-    let mut first = [0; 512];
+    let mut first = [0; BLOCK];
     shelf.read(disk, AREA_A, &mut first)?;
-    let mut second = [0; 512];
+    let mut second = [0; BLOCK];
     shelf.read(disk, AREA_B, &mut second)?;
     Ok(target(get_area(&first), get_area(&second)))
 }
@@ -67,7 +68,7 @@ fn put_header<S: Shelf>(
     ensures cause { Cause (S.meaning shelf.old) (S.meaning shelf.new) disk result }
     ensures calls { OnOk result (MakesCalls 2 (S.meaning shelf.old) (S.meaning shelf.new)) }
 {
-    let mut block = [0; 512];
+    let mut block = [0; BLOCK];
     put_area(header, &mut block);
     put(shelf, disk, area, &block)
 }

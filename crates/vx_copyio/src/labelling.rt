@@ -11,7 +11,7 @@ ghost use Rattle.vx_copyio.specs.Labelling.{label_of};
 
 use vx_copyfmt::{Label, put_label};
 use vx_disk::{Shelf, ShelfError, put, refusal};
-use vx_model::limits::LEAST_GROUP_BLOCKS;
+use vx_model::limits::{BLOCK, LEAST_GROUP_BLOCKS};
 use vx_model::{No, Stop};
 
 /// Whether each disk is large enough for a group: 1,024 blocks.
@@ -41,7 +41,7 @@ fn write_label<S: Shelf>(shelf: &mut S, site: u32, unit: u32) -> Result<(), Shel
         disk: unit,
         blocks: shelf.size(unit),
     };
-    let mut block = [0; 512];
+    let mut block = [0; BLOCK];
     put_label(&label, &mut block);
     put(shelf, unit, 0, &block)
 }

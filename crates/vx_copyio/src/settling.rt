@@ -6,6 +6,7 @@ ghost use Rattle.vx_disk.specs.Shelf.{Goes};
 
 use crate::{AREA_A, AREA_B};
 use vx_disk::{Shelf, ShelfError};
+use vx_model::limits::BLOCK;
 
 // Writes a block back as it is read.
 fn write_back<S: Shelf>(shelf: &mut S, disk: u32, block: u64) -> Result<(), ShelfError>
@@ -15,7 +16,7 @@ fn write_back<S: Shelf>(shelf: &mut S, disk: u32, block: u64) -> Result<(), Shel
     ensures one { OnOk result (OneRead disk block (S.meaning shelf.new)) }
     ensures cause { Cause (S.meaning shelf.old) (S.meaning shelf.new) disk result }
 {
-    let mut bytes = [0; 512];
+    let mut bytes = [0; BLOCK];
     shelf.read(disk, block, &mut bytes)?;
     shelf.write(disk, block, &bytes)
 }
