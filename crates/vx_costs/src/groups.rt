@@ -4,7 +4,7 @@ ghost use Rattle.vx_ringio.specs.Bodies.{IsBlocks};
 
 use std::alloc::Global;
 use vx_disk::{MemShelf, Rack, Shelf};
-use vx_model::limits::{LEAST_BLOCKS, MOST_MEMORY_BLOCKS};
+use vx_model::limits::{BLOCK, LEAST_BLOCKS, MOST_MEMORY_BLOCKS};
 use vx_model::{State, Units, VolumeUnits};
 use vx_rvg::Rvg;
 
@@ -46,7 +46,7 @@ pub fn group(alloc: Global, disk: u64, fuse: u64) -> Option<Rvg<MemShelf>>
 pub fn write(rvg: &mut Rvg<MemShelf>, start: u64, bytes: &[u8]) -> bool
     requires blocks { IsBlocks bytes.now }
 {
-    if rvg.volumes() == 0 || rvg.free() < bytes.len() as u64 / 512 + 1 {
+    if rvg.volumes() == 0 || rvg.free() < (bytes.len() / BLOCK) as u64 + 1 {
         return false;
     }
     rvg.write(0, start, bytes, 0).is_ok()

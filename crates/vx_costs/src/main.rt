@@ -12,7 +12,7 @@ use crate::groups::calls_of;
 use crate::times::{bringing, hashing, writing};
 use std::alloc::Global;
 use std::env;
-use vx_model::limits::{LEAST_BLOCKS, MOST_MEMORY_BLOCKS};
+use vx_model::limits::{BLOCK, LEAST_BLOCKS, MOST_MEMORY_BLOCKS};
 
 // The number that the program was called with.
 fn wanted(rt: HostRuntime) -> Option<u64> {
@@ -37,7 +37,7 @@ fn line(rt: HostRuntime, alloc: Global, disk: u64, bytes: &[u8], count: u64)
     requires few { disk ≤ MOST_MEMORY_BLOCKS }
     requires blocks { IsBlocks bytes.now }
 {
-    let blocks = bytes.len() / 512;
+    let blocks = bytes.len() / BLOCK;
     let write = writing(rt, alloc, disk, bytes, count);
     let hash = hashing(rt, bytes, count);
     let room = bringing(rt, alloc, disk, bytes);
@@ -52,8 +52,8 @@ fn main(rt: HostRuntime) {
         return;
     };
     let alloc = rt.alloc();
-    line(rt, alloc, 64, &[0x5a; 512], count);
+    line(rt, alloc, 64, &[0x5a; BLOCK], count);
     line(rt, alloc, 64, &[0x5a; 8192], count);
-    line(rt, alloc, 16384, &[0x5a; 512], count);
+    line(rt, alloc, 16384, &[0x5a; BLOCK], count);
     line(rt, alloc, 16384, &[0x5a; 8192], count);
 }

@@ -5,7 +5,7 @@ ghost use Rattle.vx_ringio.specs.Bodies.{IsBlocks};
 use crate::groups::{group, make_room, write};
 use std::alloc::Global;
 use std::time::{Duration, Instant};
-use vx_model::limits::{LEAST_BLOCKS, MOST_MEMORY_BLOCKS};
+use vx_model::limits::{BLOCK, LEAST_BLOCKS, MOST_MEMORY_BLOCKS};
 use vx_wire::digest;
 
 // Nanoseconds, at most the greatest number.
@@ -26,7 +26,7 @@ pub fn writing(rt: HostRuntime, alloc: Global, disk: u64, bytes: &[u8], count: u
     };
     let mut least = u64::MAX;
     for _ in 0..count {
-        if rvg.free() < bytes.len() as u64 / 512 + 1 && !make_room(&mut rvg) {
+        if rvg.free() < (bytes.len() / BLOCK) as u64 + 1 && !make_room(&mut rvg) {
             return u64::MAX;
         }
         let Ok(start) = Instant::now(&rt) else {
@@ -73,7 +73,7 @@ pub fn bringing(rt: HostRuntime, alloc: Global, disk: u64, bytes: &[u8]) -> u64
     let Some(mut rvg) = group(alloc, disk, u64::MAX) else {
         return u64::MAX;
     };
-    let blocks = bytes.len() as u64 / 512;
+    let blocks = (bytes.len() / BLOCK) as u64;
     let mut writes: u64 = 0;
     for k in 0..disk {
         if rvg.free() <= blocks {
