@@ -3,6 +3,8 @@ ghost use Rattle.std.specs.Prelude.{◌≡◌, ◌*◌, ◌+◌, ◌≤◌, ℕ,
 ghost use Rattle.vx_disk.specs.Blocks.{block_at, over};
 ghost use Rattle.vx_disk.specs.Runs.{AreInside, AreNoted, IsNoted};
 
+use vx_model::limits::BLOCK;
+
 /// So many blocks of a disk, from the first on.
 #[derive(Clone, Copy)]
 pub struct Run {
@@ -70,8 +72,8 @@ fn keep_run(stable: &mut [u8], latest: &[u8], loose: &mut [bool], first: usize, 
     ensures kept { stable.new ≡ over stable.old (512 * first) (take (512 * count) (drop (512 * first) latest.now)) }
     ensures none { loose.new ≡ over loose.old first (replicate count false) }
 {
-    let start = 512 * first;
-    copy_over(stable, start, &latest[start..start + 512 * count]);
+    let start = BLOCK * first;
+    copy_over(stable, start, &latest[start..start + BLOCK * count]);
     loose[first..first + count].fill(false);
 }
 
@@ -104,8 +106,8 @@ pub fn keep_block(stable: &mut [u8], latest: &[u8], b: usize)
     requires in_latest { 512 * b + 512 ≤ length latest.now }
     ensures { stable.new ≡ over stable.old (512 * b) (block_at latest.now b) }
 {
-    let start = 512 * b;
-    copy_over(stable, start, &latest[start..start + 512]);
+    let start = BLOCK * b;
+    copy_over(stable, start, &latest[start..start + BLOCK]);
 }
 
 /// Copies bytes over others from that place on.

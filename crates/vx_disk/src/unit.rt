@@ -6,7 +6,7 @@ ghost use Rattle.vx_disk.specs.Runs.{AreInside, AreNoted};
 
 use crate::keeping::{Run, copy_over, keep_block, keep_written, note_run};
 use std::alloc::{AllocError, Global};
-use vx_model::limits::MOST_FILE_BLOCKS;
+use vx_model::limits::{BLOCK, MOST_FILE_BLOCKS};
 
 /// A disk: of each block a stable and a latest value, and whether it was written since the last flush.
 #[derive(Drop)]
@@ -37,8 +37,8 @@ impl MemUnit {
         requires { blocks ≤ MOST_FILE_BLOCKS }
         ensures { IfOk result (IsZeroed blocks) }
     {
-        let stable = Vec::from_elem(alloc, 0u8, 512 * blocks)?;
-        let latest = Vec::from_elem(alloc, 0u8, 512 * blocks)?;
+        let stable = Vec::from_elem(alloc, 0u8, BLOCK * blocks)?;
+        let latest = Vec::from_elem(alloc, 0u8, BLOCK * blocks)?;
         let loose = Vec::from_elem(alloc, false, blocks)?;
         let runs = Vec::from_elem(alloc, Run { first: 0, count: 0 }, blocks)?;
         Ok(MemUnit {
@@ -63,7 +63,7 @@ impl MemUnit {
         requires within { block + length into.old / 512 ≤ length self.now.loose.items }
         ensures { into.new ≡ take (length into.old) (drop (512 * block) self.now.latest.items) }
     {
-        let start = 512 * block;
+        let start = BLOCK * block;
         into.copy_from_slice(&self.latest[start..start + into.len()]);
     }
 
@@ -77,9 +77,9 @@ impl MemUnit {
         ensures faults { self.new.faults ≡ self.old.faults }
         ensures failing { self.new.failing ≡ self.old.failing }
     {
-        copy_over(&mut self.latest, 512 * block, bytes);
-        mark(&mut self.loose, block, bytes.len() / 512);
-        self.number = note_run(&mut self.runs, self.number, block, bytes.len() / 512);
+        copy_over(&mut self.latest, BLOCK * block, bytes);
+        mark(&mut self.loose, block, bytes.len() / BLOCK);
+        self.number = note_run(&mut self.runs, self.number, block, bytes.len() / BLOCK);
     }
 
     pub fn flush(&mut self)
