@@ -14,6 +14,7 @@ use vx_copyfmt::{LabelSeen, get_label};
 use vx_copyio::are_large;
 use vx_disk::{Rack, ShelfError, refusal};
 use vx_model::No;
+use vx_model::limits::BLOCK;
 
 // Whether a disk that can be read has a label. Of zeros it is known that they are none.
 fn has_label_at<R: Rack>(rack: &mut R, disk: u32) -> bool
@@ -23,7 +24,7 @@ fn has_label_at<R: Rack>(rack: &mut R, disk: u32) -> bool
     ensures goes { Goes Nothing (R.meaning rack.old) (R.meaning rack.new) }
     ensures spends { Spends (R.meaning rack.old) (R.meaning rack.new) }
 {
-    let mut block = [0; 512];
+    let mut block = [0; BLOCK];
     match rack.read(disk, 0, &mut block) {
         Ok(()) => !matches!(get_label(&block), LabelSeen::Other),
         Err(_) => false,
@@ -66,7 +67,7 @@ fn zero_front<R: Rack>(rack: &mut R, disk: u32) -> Result<(), ShelfError>
     ensures spends { Spends (R.meaning rack.old) (R.meaning rack.new) }
     ensures cause { IfErr result (λ e. DeviceCause (R.meaning rack.old) (R.meaning rack.new) (refusal_of e)) }
 {
-    match rack.write(disk, 0, &[0; 512]) {
+    match rack.write(disk, 0, &[0; BLOCK]) {
         Ok(()) => rack.flush(disk),
         Err(error) => Err(error),
     }

@@ -23,7 +23,7 @@ ghost use Rattle.vx_diskset.specs.Stands.{IsUpAt, KeepsRole, StandsAlone, SiteSt
 use crate::DiskSet;
 use std::mem;
 use vx_disk::Rack;
-use vx_model::limits::MOST_NUMBER;
+use vx_model::limits::{BLOCK, MOST_NUMBER};
 use vx_model::{Counted, No};
 use vx_rvg::Rvg;
 
@@ -136,7 +136,7 @@ pub(crate) fn write_group<R: Rack>(
             most: MOST_NUMBER,
         });
     }
-    make_room(rvg, bytes.len() as u64 / 512, hold)?;
+    make_room(rvg, (bytes.len() / BLOCK) as u64, hold)?;
     // Numbers are above 0.
     let _ring = rvg.ring();
     let answer = rvg.write(volume, start, bytes, 0);
