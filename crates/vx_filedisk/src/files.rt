@@ -7,6 +7,7 @@ use std::fs::File;
 use std::io;
 use std::os::unix::fs::FileExt;
 use vx_disk::ShelfError;
+use vx_model::limits::BLOCK;
 
 /// One open file a disk, each of so many blocks.
 #[derive(Drop)]
@@ -32,7 +33,7 @@ impl DiskFiles {
         passed?;
         told(
             unit,
-            self.files[unit as usize].read_exact_at(into, 512 * block),
+            self.files[unit as usize].read_exact_at(into, BLOCK as u64 * block),
         )
     }
 
@@ -51,7 +52,7 @@ impl DiskFiles {
         passed?;
         told(
             unit,
-            self.files[unit as usize].write_all_at(bytes, 512 * block),
+            self.files[unit as usize].write_all_at(bytes, BLOCK as u64 * block),
         )
     }
 

@@ -6,7 +6,7 @@ ghost use Rattle.vx_filedisk.specs.declared.fit.OpenError.TheVariants.{OutOfMemo
 use std::alloc::{AllocError, AllocFailed, Global};
 use std::fs::File;
 use std::io;
-use vx_model::limits::MOST_FILE_BLOCKS;
+use vx_model::limits::{BLOCK, MOST_FILE_BLOCKS};
 
 /// Why the files were not opened.
 #[derive(Clone, Copy, Debug, PartialEq, Eq, Drop)]
@@ -49,7 +49,7 @@ pub fn open_disks(
     let mut files = Vec::new(alloc);
     for disk in 0..disks {
         let path = format!(in alloc; "{dir}/{site}-{disk}.vxd")?;
-        match open_disk(rt, path.as_str(), 512 * blocks) {
+        match open_disk(rt, path.as_str(), BLOCK as u64 * blocks) {
             Ok(file) => files.push(file)?,
             Err(_) => return Err(OpenError::Disk { disk }),
         }

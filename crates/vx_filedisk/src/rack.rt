@@ -16,7 +16,7 @@ use crate::files::DiskFiles;
 use crate::fit::{OpenError, open_disks};
 use std::alloc::Global;
 use vx_disk::{Rack, Shelf, ShelfError, too_many};
-use vx_model::limits::{LEAST_BLOCKS, MOST_DISKS, MOST_FILE_BLOCKS};
+use vx_model::limits::{BLOCK, LEAST_BLOCKS, MOST_DISKS, MOST_FILE_BLOCKS};
 use vx_model::{Counted, No, Stop};
 
 impl Shelf for HostRack {
@@ -52,7 +52,7 @@ impl Shelf for HostRack {
             self.counts.note(unit, &answer);
             return answer;
         };
-        let passed = self.memory.read(unit, 0, &mut [0; 512]);
+        let passed = self.memory.read(unit, 0, &mut [0; BLOCK]);
         let answer = files.read(passed, unit, block, into);
         self.counts.note(unit, &answer);
         answer
