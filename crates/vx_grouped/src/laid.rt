@@ -12,7 +12,7 @@ use vx_disk::{Rack, Shelf};
 use vx_group::GroupCore;
 use vx_loggroup::{LoggedGroup, Opened};
 use vx_logs::Logs;
-use vx_model::limits::{MOST_CONFIG_BYTES, MOST_VOLUMES};
+use vx_model::limits::{BLOCK, MOST_CONFIG_BYTES, MOST_VOLUMES};
 use vx_untold::Shade;
 
 /// A group by its parts, over disks of which the contents are told or not.
@@ -121,8 +121,8 @@ impl<R: Rack> Laid<R> {
             return false;
         }
         let size = self.size(vol);
-        let blocks = count as u64 / 512;
-        count > 0 && count % 512 == 0 && blocks <= size && block <= size - blocks
+        let blocks = (count / BLOCK) as u64;
+        count > 0 && count % BLOCK == 0 && blocks <= size && block <= size - blocks
     }
 
     /// Whether the disks are down.

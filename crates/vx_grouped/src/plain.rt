@@ -16,6 +16,7 @@ ghost use Rattle.vx_history.specs.World.{Node};
 use vx_disk::{Shelf, refusal};
 use vx_loggroup::LoggedGroup;
 use vx_model::No;
+use vx_model::limits::BLOCK;
 
 /// Writes whole blocks to a volume of a group over a rack, and makes them durable.
 ///
@@ -40,7 +41,7 @@ pub fn write_plain<S: Shelf>(
         Ok(()) => {}
         Err(error) => return Err(refusal(error)),
     }
-    match group.flush_run(vol, block, (bytes.len() / 512) as u64) {
+    match group.flush_run(vol, block, (bytes.len() / BLOCK) as u64) {
         Ok(()) => Ok(()),
         Err(error) => Err(refusal(error)),
     }
