@@ -27,6 +27,7 @@ use crate::refusing::miss_refused;
 use vx_disk::{Shelf, ShelfError};
 use vx_group::{GroupCore, write_group};
 use vx_logs::Logs;
+use vx_model::limits::BLOCK;
 
 // Writes a run of blocks of a volume, of which the regions are marked durably in its logs before a plex is written.
 fn write_first<S: Shelf>(
@@ -67,7 +68,7 @@ fn write_first<S: Shelf>(
     if *stopped {
         return write_group(shelf, core, vol, block, bytes);
     }
-    let count = (bytes.len() / 512) as u64;
+    let count = (bytes.len() / BLOCK) as u64;
     let done = match mark_group(shelf, core, logs, vol, block, count) {
         Ok(done) => done,
         Err(error) => return Err(error),
@@ -124,7 +125,7 @@ pub fn write_marked<S: Shelf>(
     ensures finds { GroupFinds core.old core.new (S.meaning shelf.old) (S.meaning shelf.new) }
     ensures cause { Cause (inner_meaning (wide core.old) (S.meaning shelf.old)) (inner_meaning (wide core.new) (S.meaning shelf.new)) vol result }
 {
-    let count = (bytes.len() / 512) as u64;
+    let count = (bytes.len() / BLOCK) as u64;
     let was = actives(&core.inner.config, vol);
     match write_first(shelf, core, logs, stopped, vol, block, bytes) {
         Ok(()) => {}
