@@ -6,7 +6,7 @@ use vx_disk::{MemShelf, Rack, Shelf};
 use vx_layout::Shape;
 use vx_loggroup::LoggedGroup;
 use vx_model::Name;
-use vx_model::limits::MOST_DISKS;
+use vx_model::limits::{BLOCK, MOST_CALL_BLOCKS, MOST_DISKS};
 
 /// A volume of 1,024 blocks on two plexes, with these logs.
 pub fn shape(drl: bool, fmr: bool) -> Shape
@@ -48,8 +48,13 @@ pub fn group(alloc: Global, want: &Shape, fuse: u64) -> Option<LoggedGroup<MemSh
 
 /// Writes these blocks at a place of the volume, and makes them durable. False where it is refused.
 pub fn write(group: &mut LoggedGroup<MemShelf>, start: u64, bytes: &[u8]) -> bool {
-    let blocks = bytes.len() as u64 / 512;
-    if group.units() == 0 || blocks == 0 || bytes.len() % 512 != 0 || blocks > 16 || start > 1000 {
+    let blocks = (bytes.len() / BLOCK) as u64;
+    if group.units() == 0
+        || blocks == 0
+        || bytes.len() % BLOCK != 0
+        || blocks > MOST_CALL_BLOCKS
+        || start > 1000
+    {
         return false;
     }
     if start + blocks > group.size(0) {

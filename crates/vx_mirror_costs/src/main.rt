@@ -9,6 +9,7 @@ use crate::groups::{calls_of, shape};
 use crate::times::{hashing, writing};
 use std::alloc::Global;
 use std::env;
+use vx_model::limits::BLOCK;
 
 // The number that the program was called with.
 fn wanted(rt: HostRuntime) -> Option<u64> {
@@ -30,7 +31,7 @@ fn wanted(rt: HostRuntime) -> Option<u64> {
 // Prints one line: calls and nanoseconds of a write of a volume with these logs, and nanoseconds of a digest of its bytes.
 fn line(rt: HostRuntime, alloc: Global, drl: bool, fmr: bool, bytes: &[u8], count: u64) {
     let want = shape(drl, fmr);
-    let blocks = bytes.len() / 512;
+    let blocks = bytes.len() / BLOCK;
     let calls = calls_of(alloc, &want, bytes);
     let write = writing(rt, alloc, &want, bytes, count);
     let hash = hashing(rt, bytes, count);
@@ -49,7 +50,7 @@ fn main(rt: HostRuntime) {
     let alloc = rt.alloc();
     for blocks in 0..2 {
         let bytes: &[u8] = if blocks == 0 {
-            &[0x5a; 512]
+            &[0x5a; BLOCK]
         } else {
             &[0x5a; 8192]
         };
