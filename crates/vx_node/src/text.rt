@@ -6,6 +6,7 @@ ghost use Rattle.vx_yard.specs.Replies.{reply_text, blocks_text, kept_lines, rec
 
 use vx_events::Said;
 use vx_model::OutOfMemory;
+use vx_model::limits::BLOCK;
 use vx_report::{
     Kept, SiteView, push_block, push_kept, push_number, push_refusal, push_status, push_text,
 };
@@ -71,7 +72,7 @@ fn push_kept_lines(out: &mut Vec<u8>, kept: &Option<Kept>) -> Result<(), OutOfMe
 fn push_blocks(out: &mut Vec<u8>, bytes: &[u8]) -> Result<(), OutOfMemory>
     ensures { OnOk result (out.new.items ≡ out.old.items ++ blocks_text bytes.now 0 (blocks_in bytes.now)) }
 {
-    for k in 0..bytes.len() / 512 {
+    for k in 0..bytes.len() / BLOCK {
         push_block(out, block_at(bytes, k))?;
     }
     Ok(())
@@ -82,5 +83,5 @@ fn block_at(bytes: &[u8], k: usize) -> &[u8]
     ensures shows { result.now ≡ block_of bytes.now k }
     ensures size { length result.now ≡ 512 }
 {
-    &bytes[512 * k..512 * k + 512]
+    &bytes[BLOCK * k..BLOCK * k + BLOCK]
 }
