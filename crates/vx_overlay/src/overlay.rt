@@ -7,6 +7,7 @@ use crate::index::{bucket, find};
 use std::alloc::Global;
 use std::marker::Model;
 use vx_model::OutOfMemory;
+use vx_model::limits::BLOCK;
 
 // The greatest number of an oldest entry.
 const MOST: u64 = 0x4000_0000_0000_0000;
@@ -71,7 +72,7 @@ impl Overlay {
     }
 
     /// Adds a block, the newest from now on. It takes no memory.
-    pub fn insert(&mut self, vol: u32, block: u64, bytes: &[u8; 512])
+    pub fn insert(&mut self, vol: u32, block: u64, bytes: &[u8; BLOCK])
         requires room { length self.old.entries < self.old.capacity }
         ensures entries { self.new.entries ≡ self.old.entries ++ entry_of vol block bytes.now ∷ [] }
         ensures capacity { self.new.capacity ≡ self.old.capacity }
@@ -88,7 +89,7 @@ impl Overlay {
     }
 
     /// Copies the newest bytes of a block, and answers whether there are any. Where there are none, `into` stays.
-    pub fn get(&self, vol: u32, block: u64, into: &mut [u8; 512]) -> bool
+    pub fn get(&self, vol: u32, block: u64, into: &mut [u8; BLOCK]) -> bool
         ensures { MatchOption (newest self.now.entries vol block) ((result ≡ false) × (into.new ≡ into.old)) (λ bytes. (result ≡ true) × (into.new ≡ bytes)) }
     {
         match find(
