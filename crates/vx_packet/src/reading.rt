@@ -9,6 +9,7 @@ ghost use Rattle.vx_packet.specs.declared.message.Message.{Message as MessageVal
 use crate::row::{Row, put_front, row_of};
 use crate::spelling::can_spell;
 use crate::{BlockBytes, MapBytes, Message, RegionBytes};
+use vx_model::limits::{BLOCK, MOST_CALL_BLOCKS};
 use vx_wire::{get_line, get_u8, get_u32, get_u64};
 
 // Whether these are 1 to so many whole blocks.
@@ -16,7 +17,7 @@ fn are_blocks(most: usize, bytes: &[u8]) -> bool
     requires { most ≤ 64 }
     ensures { result ≡ are_blocks_is most bytes.now }
 {
-    !bytes.is_empty() && bytes.len() <= 512 * most && bytes.len() % 512 == 0
+    !bytes.is_empty() && bytes.len() <= BLOCK * most && bytes.len() % BLOCK == 0
 }
 
 // The volume of a region's number, and the region.
@@ -33,7 +34,7 @@ fn region_of(number: u64) -> (u32, u32)
 fn read_update(number: u64, payload: &[u8]) -> Option<Message<'_>>
     ensures { result ≡ update_in number payload.now }
 {
-    if payload.len() > 16 && are_blocks(16, &payload[16..]) {
+    if payload.len() > 16 && are_blocks(MOST_CALL_BLOCKS as usize, &payload[16..]) {
         Some(Message::Update {
             number,
             vol: get_u32(payload, 0),

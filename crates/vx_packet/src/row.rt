@@ -6,6 +6,7 @@ ghost use Rattle.vx_wire.specs.Fields.{spelled};
 ghost use Rattle.vx_wire.specs.Places.{put_at};
 
 use crate::{BlockBytes, Message};
+use vx_model::limits::BLOCK;
 use vx_wire::{Field, put_fields};
 
 /// The numbers with which a payload begins.
@@ -84,7 +85,7 @@ fn region_number(vol: u32, region: u32) -> u64
 fn block_count(bytes: &BlockBytes<'_>) -> u32
     ensures { result ≡ length bytes.now / 512 }
 {
-    (bytes.as_bytes().len() / 512) as u32
+    (bytes.as_bytes().len() / BLOCK) as u32
 }
 
 /// The row of a message.
