@@ -13,7 +13,7 @@ use crate::trail::{Note, noted, unused};
 use std::alloc::Global;
 use std::mem;
 use std::snapshot::Snapshot;
-use vx_model::limits::MOST_CALL_BLOCKS;
+use vx_model::limits::{BLOCK, MOST_CALL_BLOCKS};
 use vx_model::{Blocks, Call, Counted, Line, No, Reply, SiteName, Update};
 use vx_turn::{Engine, Job, JobReply, Last};
 
@@ -83,7 +83,7 @@ pub(crate) fn raised(count: u64) -> u64
 pub(crate) fn count_of(bytes: &Blocks) -> u64
     ensures { (result ≡ blocks_in bytes.now) × (0 < result) × (result ≤ MOST_CALL_BLOCKS) }
 {
-    bytes.as_bytes().len() as u64 / 512
+    (bytes.as_bytes().len() / BLOCK) as u64
 }
 
 /// Puts one behind the others, and says whether there was memory for it.
