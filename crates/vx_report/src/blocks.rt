@@ -5,10 +5,11 @@ ghost use Rattle.vx_report.specs.BlockText.{shown_bytes, block_text};
 
 use crate::words::{push_hex, push_text};
 use std::alloc::Global;
+use vx_model::limits::BLOCK;
 use vx_model::{Bytes, OutOfMemory};
 
 /// The line of a block of 512 bytes: two lower-case hexadecimal digits where all its bytes are equal, else 1,024.
-pub fn block(alloc: Global, bytes: &[u8; 512]) -> Result<Bytes, OutOfMemory>
+pub fn block(alloc: Global, bytes: &[u8; BLOCK]) -> Result<Bytes, OutOfMemory>
     ensures { IfOk result (λ text. text ≡ block_text bytes.now) }
 {
     let mut out = Vec::new(alloc);
