@@ -8,6 +8,7 @@ ghost use Rattle.vx_ringio.specs.Tracks.{RingLies};
 ghost use Rattle.vx_srlfmt.specs.Kinds.{Other};
 
 use vx_disk::{Shelf, ShelfError};
+use vx_model::limits::{BLOCK, MOST_CALL_BYTES};
 
 // The blocks of one chunk of 16, or those of the last one.
 fn blank_chunk<S: Shelf>(shelf: &mut S, unit: u32, used: u64, chunk: u64) -> Result<(), ShelfError>
@@ -20,10 +21,10 @@ fn blank_chunk<S: Shelf>(shelf: &mut S, unit: u32, used: u64, chunk: u64) -> Res
     ensures cause { Cause (S.meaning shelf.old) (S.meaning shelf.new) unit result }
     ensures spends { Spends (S.meaning shelf.old) (S.meaning shelf.new) }
 {
-    let zeros = [0; 8192];
+    let zeros = [0; MOST_CALL_BYTES];
     let first = 16 * chunk;
     let count = (used - first).min(16);
-    shelf.write(unit, first, &zeros[..512 * count as usize])
+    shelf.write(unit, first, &zeros[..BLOCK * count as usize])
 }
 
 /// Writes zeros over the headers and the ring, and makes them durable.

@@ -4,6 +4,7 @@ ghost use Rattle.vx_ringlog.specs.Records.{as_on_disk, firsts_of};
 ghost use Rattle.vx_ringio.specs.Bodies.{IsBlocks, BodyIs, all_blocks};
 ghost use Rattle.vx_srlfmt.specs.Kinds.{IsBody};
 
+use vx_model::limits::BLOCK;
 use vx_srlfmt::RecordHead;
 use vx_wire::digest;
 
@@ -26,9 +27,9 @@ pub fn mask_body(bytes: &mut [u8]) -> [u8; 16]
     ensures size { length bytes.new ≡ length bytes.old }
 {
     let mut firsts = [0; 16];
-    for k in 0..bytes.len() / 512 {
-        firsts[k] = bytes[512 * k];
-        bytes[512 * k] = 0x42;
+    for k in 0..bytes.len() / BLOCK {
+        firsts[k] = bytes[BLOCK * k];
+        bytes[BLOCK * k] = 0x42;
     }
     firsts
 }
@@ -39,8 +40,8 @@ pub fn unmask_body(bytes: &mut [u8], head: &RecordHead) -> Body
     ensures is { BodyIs head.now bytes.old bytes.new result }
     ensures size { length bytes.new ≡ length bytes.old }
 {
-    for k in 0..bytes.len() / 512 {
-        bytes[512 * k] = head.firsts[k];
+    for k in 0..bytes.len() / BLOCK {
+        bytes[BLOCK * k] = head.firsts[k];
     }
     let computed = digest(bytes);
     if computed == head.digest {

@@ -12,11 +12,12 @@ ghost use Rattle.vx_ringlog.specs.Chain.{block as block_of_place};
 
 use crate::TopSeen;
 use vx_disk::{Shelf, ShelfError};
+use vx_model::limits::BLOCK;
 use vx_srlfmt::{HEADER_MAGIC, Seen, get_header, get_record};
 use vx_wire::{broken_seal, get_u64};
 
 // What a block is as a header of a ring of so many blocks.
-fn top_of(ring: u64, block: &[u8; 512]) -> TopSeen
+fn top_of(ring: u64, block: &[u8; BLOCK]) -> TopSeen
     ensures is { IsTopSeen ring block.now result }
     ensures differ { DigestsDiffer result }
     ensures of_ring { TopIsOfRing ring result }
@@ -56,7 +57,7 @@ pub fn read_top<S: Shelf>(
     ensures cause { Cause (S.meaning shelf.old) (S.meaning shelf.new) unit result }
     ensures works { OnOk result (Works (S.meaning shelf.old).disks unit) }
 {
-    let mut bytes = [0; 512];
+    let mut bytes = [0; BLOCK];
     shelf.read(unit, block, &mut bytes)?;
     Ok(top_of(ring, &bytes))
 }
@@ -79,7 +80,7 @@ pub fn read_front<S: Shelf>(
     ensures spends { Spends (S.meaning shelf.old) (S.meaning shelf.new) }
     ensures cause { Cause (S.meaning shelf.old) (S.meaning shelf.new) unit result }
 {
-    let mut bytes = [0; 512];
+    let mut bytes = [0; BLOCK];
     shelf.read(unit, 2 + place % ring, &mut bytes)?;
     Ok(get_record(&bytes))
 }
@@ -134,8 +135,8 @@ pub fn read_body<S: Shelf>(
     ensures works { OnOk result (Works (S.meaning shelf.old).disks unit) }
 {
     let first = place % ring;
-    let before_end = (ring - first).min(into.len() as u64 / 512);
-    let (one, two) = into.split_at_mut(512 * before_end as usize);
+    let before_end = (ring - first).min((into.len() / BLOCK) as u64);
+    let (one, two) = into.split_at_mut(BLOCK * before_end as usize);
     read_part(shelf, unit, ring, first, one)?;
     if two.is_empty() {
         Ok(())

@@ -16,6 +16,7 @@ ghost use Rattle.vx_srlfmt.specs.Kinds.{Front, IsBody};
 ghost use Rattle.vx_srlfmt.specs.Records.{CanSpellHead};
 
 use vx_disk::{Shelf, ShelfError};
+use vx_model::limits::BLOCK;
 use vx_srlfmt::{Header, RecordHead, put_header, put_record};
 
 /// Makes all that was written to the log's unit durable.
@@ -53,7 +54,7 @@ pub fn write_front<S: Shelf>(
     ensures names { Names (S.meaning shelf.old).disks unit result }
     ensures spends { Spends (S.meaning shelf.old) (S.meaning shelf.new) }
 {
-    let mut bytes = [0; 512];
+    let mut bytes = [0; BLOCK];
     put_record(head, &mut bytes);
     shelf.write(unit, 2 + place % ring, &bytes)
 }
@@ -78,7 +79,7 @@ pub fn write_header<S: Shelf>(
     ensures spends { Spends (S.meaning shelf.old) (S.meaning shelf.new) }
     ensures works { OnOk result (Works (S.meaning shelf.old).disks unit) }
 {
-    let mut bytes = [0; 512];
+    let mut bytes = [0; BLOCK];
     put_header(header, &mut bytes);
     shelf.write(unit, header.stamp % 2, &bytes)?;
     flush_ring(shelf, unit)
@@ -133,8 +134,8 @@ pub fn write_body<S: Shelf>(
     ensures works { OnOk result (Works (S.meaning shelf.old).disks unit) }
 {
     let first = place % ring;
-    let before_end = (ring - first).min(bytes.len() as u64 / 512);
-    let (one, two) = bytes.split_at(512 * before_end as usize);
+    let before_end = (ring - first).min((bytes.len() / BLOCK) as u64);
+    let (one, two) = bytes.split_at(BLOCK * before_end as usize);
     write_part(shelf, unit, ring, first, one)?;
     if two.is_empty() {
         Ok(())
