@@ -13,6 +13,7 @@ use crate::patch::patch;
 use crate::{Rvg, RvgCore};
 use vx_disk::{Shelf, ShelfError, refusal};
 use vx_model::No;
+use vx_model::limits::{BLOCK, MOST_CALL_BYTES};
 
 // Writes the newest blocks of the places of one record, and answers how many; none where it does not end within its volume.
 fn bring_one<S: Shelf>(shelf: &mut S, core: &RvgCore, n: u64) -> Result<u64, ShelfError>
@@ -38,8 +39,8 @@ fn bring_one<S: Shelf>(shelf: &mut S, core: &RvgCore, n: u64) -> Result<u64, She
     if size < count || size - count < head.block {
         return Ok(0);
     }
-    let mut room = [0; 8192];
-    let bytes = &mut room[..512 * head.count as usize];
+    let mut room = [0; MOST_CALL_BYTES];
+    let bytes = &mut room[..BLOCK * head.count as usize];
     patch(&core.pending, head.vol, head.block, bytes);
     shelf.write(unit, head.block, bytes)?;
     Ok(count)

@@ -21,7 +21,7 @@ use crate::RvgCore;
 use crate::read::read_blocks;
 use crate::write::commit;
 use vx_disk::Shelf;
-use vx_model::limits::MOST_NUMBER;
+use vx_model::limits::{BLOCK, MOST_NUMBER};
 use vx_model::{No, State};
 
 /// A replicated volume group over a shelf. Volumes go by their numbers from 0 in its list of data volumes.
@@ -65,7 +65,7 @@ impl<S: Shelf> Rvg<S> {
         let size = self.shelf.size(unit);
         if let Some(no) = self
             .core
-            .write_refusal(size, start, bytes.len() as u64 / 512)
+            .write_refusal(size, start, (bytes.len() / BLOCK) as u64)
         {
             return Err(no);
         }

@@ -16,6 +16,7 @@ use crate::RvgCore;
 use crate::patch::patch;
 use vx_disk::{Shelf, refusal};
 use vx_model::No;
+use vx_model::limits::BLOCK;
 
 /// Reads blocks, and puts what waits over them.
 pub(crate) fn read_blocks<S: Shelf>(
@@ -45,7 +46,7 @@ pub(crate) fn read_blocks<S: Shelf>(
     let _low = core.srl.low();
     let unit = core.unit(vol);
     let size = shelf.size(unit);
-    if let Some(no) = core.read_refusal(size, start, into.len() as u64 / 512) {
+    if let Some(no) = core.read_refusal(size, start, (into.len() / BLOCK) as u64) {
         return Err(no);
     }
     match shelf.read(unit, start, into) {

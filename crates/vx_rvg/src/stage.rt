@@ -18,6 +18,7 @@ use crate::write::refused;
 use crate::{RvgCore, Staging};
 use vx_disk::Shelf;
 use vx_model::No;
+use vx_model::limits::BLOCK;
 
 /// Stages a write, and its blocks wait. A device call that fails halts the group.
 pub(crate) fn stage_record<S: Shelf>(
@@ -90,7 +91,7 @@ impl<S: Shelf> Staging<S> {
         let size = self.shelf.size(unit);
         if let Some(no) = self
             .core
-            .write_refusal(size, start, bytes.len() as u64 / 512)
+            .write_refusal(size, start, (bytes.len() / BLOCK) as u64)
         {
             return Err(no);
         }

@@ -19,7 +19,7 @@ use crate::{Rvg, RvgCore};
 use std::alloc::Global;
 use std::marker::Model;
 use vx_disk::Shelf;
-use vx_model::limits::LEAST_BLOCKS;
+use vx_model::limits::{BLOCK, LEAST_BLOCKS};
 use vx_model::{Blocks, Line, No, OutOfMemory, Stop, Units, Update};
 use vx_overlay::Overlay;
 use vx_srl::{LogRoom, Srl};
@@ -37,7 +37,7 @@ fn add_within<S: Shelf>(shelf: &S, units: &Units, pending: &mut Overlay, update:
     }
     let size = shelf.size(vols[update.vol as usize]);
     let bytes = update.bytes.as_bytes();
-    let count = bytes.len() as u64 / 512;
+    let count = (bytes.len() / BLOCK) as u64;
     if count <= size && update.block <= size - count {
         add_all(pending, update.vol, update.block, bytes);
     }

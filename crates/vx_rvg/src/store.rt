@@ -13,6 +13,7 @@ use crate::header::give_up;
 use crate::{Rvg, RvgCore};
 use vx_disk::{Shelf, ShelfError, refusal};
 use vx_model::No;
+use vx_model::limits::BLOCK;
 
 // Writes the blocks, and makes them durable.
 fn put_durably<S: Shelf>(
@@ -117,7 +118,7 @@ impl<S: Shelf> Rvg<S> {
         let size = self.shelf.size(unit);
         if let Some(no) = self
             .core
-            .read_refusal(size, start, bytes.len() as u64 / 512)
+            .read_refusal(size, start, (bytes.len() / BLOCK) as u64)
         {
             return Err(no);
         }
