@@ -6,7 +6,7 @@ ghost use Rattle.vx_script.specs.Words.{is_digit, digits_after, word_name, word_
 use crate::Names;
 use crate::scan::first_of;
 use std::alloc::Global;
-use vx_model::limits::MOST_NAME_BYTES;
+use vx_model::limits::{BLOCK, MOST_NAME_BYTES};
 use vx_model::{Block, Name, OutOfMemory};
 
 fn is_name_text(word: &[u8]) -> bool
@@ -80,7 +80,7 @@ pub fn as_byte(word: &[u8]) -> Option<u8>
 pub fn as_block(word: &[u8]) -> Option<Block>
     ensures { result ≡ block_word word.now }
 {
-    let mut bytes = [0; 512];
+    let mut bytes = [0; BLOCK];
     match hex::decode_to_slice(word, &mut bytes) {
         Ok(()) => Some(Block::new(bytes)),
         Err(_) => None,
