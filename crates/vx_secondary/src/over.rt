@@ -8,6 +8,7 @@ ghost use Rattle.vx_secondary.specs.Receivers.{write_of_update, writes_of_update
 
 use crate::Waiting;
 use vx_model::Update;
+use vx_model::limits::BLOCK;
 
 // Which block of an update's write a block of a volume is, if any.
 fn touched(update: &Update, vol: u32, block: u64) -> Option<usize>
@@ -17,7 +18,7 @@ fn touched(update: &Update, vol: u32, block: u64) -> Option<usize>
         return None;
     }
     let place = block - update.block;
-    if place < update.bytes.as_bytes().len() as u64 / 512 {
+    if place < (update.bytes.as_bytes().len() / BLOCK) as u64 {
         Some(place as usize)
     } else {
         None
@@ -31,9 +32,11 @@ fn put_over(update: &Update, vol: u32, start: u64, into: &mut [u8])
     ensures { IsPutOver (write_of_update update.now) vol start into.old into.new }
 {
     let bytes = update.bytes.as_bytes();
-    for k in 0..into.len() / 512 {
+    for k in 0..into.len() / BLOCK {
         if let Some(place) = touched(update, vol, start + k as u64) {
-            into[512 * k..512 * k + 512].copy_from_slice(&bytes[512 * place..512 * place + 512]);
+            into[BLOCK * k..BLOCK * k + BLOCK].copy_from_slice(
+                &bytes[BLOCK * place..BLOCK * place + BLOCK],
+            );
         }
     }
 }
