@@ -17,7 +17,7 @@ use std::alloc::Global;
 use vx_disk::Rack;
 use vx_events::Said;
 use vx_linked::hold_of_site;
-use vx_model::limits::{MOST_CALL_BLOCKS, MOST_CALL_BYTES};
+use vx_model::limits::{BLOCK, MOST_CALL_BLOCKS, MOST_CALL_BYTES};
 use vx_model::{Block, Name};
 use vx_yard::Yard;
 use vx_yard::load::let_go_if_down;
@@ -43,7 +43,7 @@ fn write_blocks<R: Rack>(
 {
     let site = yard.site_of(name);
     let place = yard.volume_of(site, volume);
-    let count = bytes.len() as u64 / 512;
+    let count = (bytes.len() / BLOCK) as u64;
     let next = yard.disk_sets[site].last().saturating_add(1);
     let hold = hold_of_site(&yard.facts[site]);
     match yard.disk_sets[site].write_keeping(place as u32, start, bytes, hold) {
