@@ -6,6 +6,7 @@ ghost use Rattle.vx_sites.specs.Shapes.{sizes, content_of};
 
 use std::alloc::Global;
 use std::marker::Model;
+use vx_model::limits::BLOCK;
 use vx_model::{Blocks, OutOfMemory};
 
 /// One write: whole blocks of 512 bytes, from block `start` of a volume on.
@@ -124,12 +125,12 @@ impl Content {
     }
 
     /// The 512 bytes of a block of a volume.
-    pub fn block(&self, volume: u32, block: u64) -> [u8; 512]
+    pub fn block(&self, volume: u32, block: u64) -> [u8; BLOCK]
         ensures is { result ≡ (content_of self.now).block volume block }
         ensures long { length result ≡ 512 }
     {
         let size = self.size(volume);
-        let mut bytes = [0; 512];
+        let mut bytes = [0; BLOCK];
         for write in self.writes.iter() {
             put_block(write, size, volume, block, &mut bytes);
         }
@@ -148,17 +149,17 @@ fn size_in(blocks: &[u64], volume: usize) -> u64
 }
 
 // What a write makes of this block of a volume of so many blocks.
-fn put_block(write: &Write, size: u64, volume: u32, block: u64, bytes: &mut [u8; 512])
+fn put_block(write: &Write, size: u64, volume: u32, block: u64, bytes: &mut [u8; BLOCK])
     ensures { (c : PlainContent) → c.size volume ≡ size → c.block volume block ≡ bytes.old → bytes.new ≡ (put c write.now).block volume block }
 {
-    let count = write.as_bytes().len() / 512;
+    let count = write.as_bytes().len() / BLOCK;
     let start = write.start();
     if volume != write.volume() || block < start || size < start || size - start < count as u64 {
         return;
     }
     let place = block - start;
     if place < count as u64 {
-        let at = 512 * place as usize;
-        bytes.copy_from_slice(&write.as_bytes()[at..at + 512]);
+        let at = BLOCK * place as usize;
+        bytes.copy_from_slice(&write.as_bytes()[at..at + BLOCK]);
     }
 }

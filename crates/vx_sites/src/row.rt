@@ -8,6 +8,7 @@ ghost use Rattle.vx_sites.specs.Shapes.{node_of, link_of, row_of, world_of};
 
 use crate::{Link, Node, World, Write};
 use vx_history::{Change, SEvent, SFacts};
+use vx_model::limits::BLOCK;
 use vx_model::{Link as PlainLink, Mode};
 use vx_policy::{find_change, hold_of};
 
@@ -104,7 +105,7 @@ fn change_each(links: &mut Vec<Link>, node: &Node, write: &Write)
 fn change(link: &Link, node: &Node, write: &Write) -> Link
     ensures { (k : ℕ) → link_of result ≡ link_after (node_of node.now) write.now k (link_of link.now) }
 {
-    let need = (write.as_bytes().len() / 512 + 1) as u64;
+    let need = (write.as_bytes().len() / BLOCK + 1) as u64;
     let used = used_above(&node.log, &link.state);
     let mode = match find_change(&link.state, used, need, u64::from(node.ring)) {
         Change::Stays => link.state.mode,
@@ -130,7 +131,7 @@ fn count_blocks(writes: &[Write]) -> u64
 {
     let mut count = 0;
     for write in writes {
-        let blocks = write.as_bytes().len() / 512;
+        let blocks = write.as_bytes().len() / BLOCK;
         count = MOST.min(count + blocks as u64 + 1);
     }
     count
