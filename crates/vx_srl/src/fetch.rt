@@ -11,6 +11,7 @@ ghost use Rattle.vx_srl.specs.Views.{head_number};
 
 use crate::{Srl, SrlNo};
 use vx_disk::{Shelf, refusal};
+use vx_model::limits::{BLOCK, MOST_CALL_BYTES};
 use vx_model::{Blocks, No, Update};
 use vx_ringio::{Body, read_body, unmask_body};
 
@@ -42,8 +43,8 @@ impl Srl {
         }
         let kept = self.records[(n - self.header.low) as usize];
         let head = kept.head;
-        let mut room = [0; 8192];
-        let bytes = &mut room[..512 * head.count as usize];
+        let mut room = [0; MOST_CALL_BYTES];
+        let bytes = &mut room[..BLOCK * head.count as usize];
         if let Err(error) = read_body(shelf, self.unit, self.ring, kept.place as u64 + 1, bytes) {
             return Err(SrlNo::Other(refusal(error)));
         }

@@ -24,6 +24,7 @@ use crate::Kept;
 use std::collections::VecDeque;
 use vx_disk::{Shelf, ShelfError, refusal};
 use vx_model::No;
+use vx_model::limits::{BLOCK, MOST_CALL_BYTES};
 use vx_ringio::{Body, read_body, read_front, unmask_body};
 use vx_srlfmt::{Header, RecordHead, Seen};
 
@@ -57,8 +58,9 @@ fn is_body(bytes: &[u8]) -> bool
     requires { IsBlocks bytes.now }
     ensures { IsTrue result ↔ All IsBody (all_blocks bytes.now) }
 {
-    for k in 0..bytes.len() / 512 {
-        if bytes[512 * k] != 0x42 {
+    for k in 0..bytes.len() / BLOCK {
+        let at = BLOCK * k;
+        if bytes[at] != 0x42 {
             return false;
         }
     }
@@ -88,8 +90,8 @@ fn take<S: Shelf>(
     ensures spends { Spends (S.meaning shelf.old) (S.meaning shelf.new) }
     ensures cause { Cause (S.meaning shelf.old) (S.meaning shelf.new) unit result }
 {
-    let mut room = [0; 8192];
-    let bytes = &mut room[..512 * head.count as usize];
+    let mut room = [0; MOST_CALL_BYTES];
+    let bytes = &mut room[..BLOCK * head.count as usize];
     read_body(shelf, unit, ring, place + 1, bytes)?;
     if !is_body(bytes) {
         return Ok(Found::End);

@@ -13,7 +13,7 @@ ghost use Rattle.vx_srl.specs.Views.{BodyFits, free_of, blocks_needed, next_of, 
 
 use crate::{Kept, Srl, SrlNo};
 use vx_disk::{Shelf, refusal};
-use vx_model::limits::MOST_NUMBER;
+use vx_model::limits::{BLOCK, MOST_CALL_BYTES, MOST_NUMBER};
 use vx_model::{Counted, No};
 use vx_ringio::{mask_body, write_body};
 use vx_srlfmt::RecordHead;
@@ -47,7 +47,7 @@ impl Srl {
             number: self.header.low + self.records.len() as u64,
             vol,
             block,
-            count: (bytes.len() / 512) as u32,
+            count: (bytes.len() / BLOCK) as u32,
             digest: digest(bytes),
             firsts,
         }
@@ -96,7 +96,7 @@ impl Srl {
         ensures spends { Spends (S.meaning shelf.old) (S.meaning shelf.new) }
         ensures works { OnOk result (Works (S.meaning shelf.old).disks self.old.unit) }
     {
-        let need = bytes.len() as u64 / 512 + 1;
+        let need = (bytes.len() / BLOCK) as u64 + 1;
         let free = self.free();
         if free < need {
             return Err(SrlNo::NoRoom { need, free });
@@ -105,7 +105,7 @@ impl Srl {
         if number > MOST_NUMBER {
             return Err(no_number_left());
         }
-        let mut room = [0; 8192];
+        let mut room = [0; MOST_CALL_BYTES];
         let disk = &mut room[..bytes.len()];
         let head = self.next_front(vol, block, bytes, disk);
         if let Err(error) = write_body(shelf, self.unit, self.ring, self.end as u64 + 1, disk) {
