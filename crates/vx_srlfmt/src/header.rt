@@ -9,7 +9,7 @@ use crate::header_codes::{
     flags_code, mark_code, mode_code, phase_code, prot_code, role_code, sync_code,
 };
 use crate::header_reading::read_header;
-use vx_model::limits::MOST_NUMBER;
+use vx_model::limits::{BLOCK, MOST_NUMBER};
 use vx_model::{KeptLink, State};
 use vx_wire::{Field, broken_seal, put_fields, put_zeros, seal};
 
@@ -117,7 +117,7 @@ fn put_front(h: &Header, into: &mut [u8])
 }
 
 // Whether the 480 bytes before the digest are those of the header.
-fn is_spelled(h: &Header, block: &[u8; 512]) -> bool
+fn is_spelled(h: &Header, block: &[u8; BLOCK]) -> bool
     requires { length h.now.state.links ≤ 4 }
     ensures { IsTrue result ↔ (take 480 block.now ≡ filled (header_fields h.now)) }
 {
@@ -164,7 +164,7 @@ fn can_spell(h: &Header) -> bool
 }
 
 /// Writes a header as a block.
-pub fn put_header(h: &Header, into: &mut [u8; 512])
+pub fn put_header(h: &Header, into: &mut [u8; BLOCK])
     requires { CanSpellHeader h.now }
     ensures { IsHeader into.new h.now }
 {
@@ -174,7 +174,7 @@ pub fn put_header(h: &Header, into: &mut [u8; 512])
 }
 
 /// The header that a block is: None exactly where it is the spelling of none.
-pub fn get_header(block: &[u8; 512]) -> Option<Header>
+pub fn get_header(block: &[u8; BLOCK]) -> Option<Header>
     ensures found { IfSome result (λ h. IsHeader block.now h) }
     ensures only { (h : HeaderValue) → IsHeader block.now h → result ≡ Some h }
 {

@@ -7,6 +7,7 @@ use crate::header::Header;
 use crate::header_codes::{
     attached_of, bunker_of, mark_of, mode_of, phase_of, prot_of, role_of, sync_of,
 };
+use vx_model::limits::BLOCK;
 use vx_model::{KeptLink, KeptLinks, State};
 use vx_wire::{get_line, get_u8, get_u32, get_u64};
 
@@ -54,7 +55,7 @@ const LINK_BYTES: usize = 24;
 
 const MOST_LINKS: u8 = 4;
 
-fn read_link(block: &[u8; 512], at: usize) -> KeptLink
+fn read_link(block: &[u8; BLOCK], at: usize) -> KeptLink
     requires { at + 24 ≤ 512 }
     ensures link { result ≡ link_at at block.now }
     ensures site { result.site < 2 ^ 32 }
@@ -72,7 +73,7 @@ fn read_link(block: &[u8; 512], at: usize) -> KeptLink
     }
 }
 
-fn read_links(block: &[u8; 512], count: u8) -> KeptLinks
+fn read_links(block: &[u8; BLOCK], count: u8) -> KeptLinks
     requires { count ≤ 4 }
     ensures links { result ≡ links_at count 124 block.now }
     ensures sites { All (λ l. l.site < 2 ^ 32) result }
@@ -85,7 +86,7 @@ fn read_links(block: &[u8; 512], count: u8) -> KeptLinks
 }
 
 #[tactic(auto, unfolding(crate::specs::HeaderReading::state_in))]
-fn read_state(block: &[u8; 512]) -> State
+fn read_state(block: &[u8; BLOCK]) -> State
     ensures state { result ≡ state_in block.now }
     ensures typed { IsTypedState result }
 {
@@ -107,7 +108,7 @@ fn read_state(block: &[u8; 512]) -> State
 
 /// The header that a block is, if it is one.
 #[tactic(auto, unfolding(crate::specs::HeaderReading::header_in))]
-pub fn read_header(block: &[u8; 512]) -> Header
+pub fn read_header(block: &[u8; BLOCK]) -> Header
     ensures header { result ≡ header_in block.now }
     ensures typed { IsTypedState result.state }
     ensures place { result.place < 2 ^ 32 }

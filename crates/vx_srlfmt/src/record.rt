@@ -8,7 +8,7 @@ ghost use Rattle.vx_wire.specs.Places.{put_at};
 ghost use Rattle.vx_wire.specs.Seals.{filled, digest_of, IsSealed};
 
 use vx_model::Line;
-use vx_model::limits::MOST_NUMBER;
+use vx_model::limits::{BLOCK, MOST_NUMBER};
 use vx_wire::{
     Field, broken_seal, get_bytes, get_line, get_u32, get_u64, is_zero, put_bytes, put_fields,
     put_zeros, seal,
@@ -28,7 +28,7 @@ const NUMBER: usize = 36;
 
 const VOL: usize = 44;
 
-const BLOCK: usize = 48;
+const START: usize = 48;
 
 const COUNT: usize = 56;
 
@@ -109,7 +109,7 @@ fn put_front(h: &RecordHead, into: &mut [u8])
 }
 
 // Whether the 480 bytes before the digest are those of the record header.
-fn is_spelled(h: &RecordHead, block: &[u8; 512]) -> bool
+fn is_spelled(h: &RecordHead, block: &[u8; BLOCK]) -> bool
     requires { IsTypedHead h.now }
     ensures { IsTrue result ↔ (take 480 block.now ≡ filled (record_fields h.now)) }
 {
@@ -142,7 +142,7 @@ fn can_spell(h: &RecordHead) -> bool
 
 // What stands in the places of the fields, whether or not the block is a record header.
 #[tactic(auto, unfolding(crate::specs::RecordReading::head_in))]
-fn read_head(block: &[u8; 512]) -> RecordHead
+fn read_head(block: &[u8; BLOCK]) -> RecordHead
     ensures { result ≡ head_in block.now }
 {
     RecordHead {
@@ -151,7 +151,7 @@ fn read_head(block: &[u8; 512]) -> RecordHead
         line: get_line(block, LINE),
         number: get_u64(block, NUMBER),
         vol: get_u32(block, VOL),
-        block: get_u64(block, BLOCK),
+        block: get_u64(block, START),
         count: get_u32(block, COUNT),
         digest: get_bytes(block, DIGEST),
         firsts: get_bytes(block, FIRSTS),
@@ -159,7 +159,7 @@ fn read_head(block: &[u8; 512]) -> RecordHead
 }
 
 /// Writes a record header as a block.
-pub fn put_record(h: &RecordHead, into: &mut [u8; 512])
+pub fn put_record(h: &RecordHead, into: &mut [u8; BLOCK])
     requires { CanSpellHead h.now }
     ensures { IsRecord into.new h.now }
 {
@@ -169,7 +169,7 @@ pub fn put_record(h: &RecordHead, into: &mut [u8; 512])
 }
 
 // What a block is as a record header, where its digest is good.
-fn whole_record(block: &[u8; 512]) -> Seen
+fn whole_record(block: &[u8; BLOCK]) -> Seen
     requires { IsSealed block.now }
     ensures { IsSeen block.now result }
 {
@@ -184,7 +184,7 @@ fn whole_record(block: &[u8; 512]) -> Seen
 
 /// What a block is: a record header exactly where it is the spelling of one, damaged exactly where it begins as one and
 /// its digest fails.
-pub fn get_record(block: &[u8; 512]) -> Seen
+pub fn get_record(block: &[u8; BLOCK]) -> Seen
     ensures seen { IsSeen block.now result }
     ensures only { (r : HeadValue) → IsRecord block.now r → result ≡ Seen.Record r }
     ensures damaged { IsDamaged block.now → result ≡ Seen.Damaged (drop 480 block.now) (digest_of (take 480 block.now)) }
