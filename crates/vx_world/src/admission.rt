@@ -6,7 +6,7 @@ ghost use Rattle.vx_sites.specs.Refusing.{unless_refused};
 ghost use Rattle.vx_sites.specs.Shapes.{world_of, node_of, link_of};
 ghost use Rattle.vx_world.specs.Counted.{AreCounted, most_counted, refusal_by};
 
-use vx_model::limits::LINK_PLACES;
+use vx_model::limits::{BLOCK, LINK_PLACES};
 use vx_model::{Link as PlainLink, Mode, No, OutOfMemory, SyncMode};
 use vx_policy::{Facts, Verdict, decide};
 use vx_sites::row::used_above;
@@ -21,7 +21,7 @@ pub fn refuse_by_links(world: &World, site: u32, links: &[PlainLink], write: &Wr
 {
     let node = world.node(site);
     let facts = Facts {
-        need: (write.as_bytes().len() / 512 + 1) as u64,
+        need: (write.as_bytes().len() / BLOCK + 1) as u64,
         room: room_of(node),
         head: node.safe,
         used: count_used(node, links),

@@ -12,7 +12,7 @@ ghost use Rattle.vx_sites.specs.Shapes.{world_of};
 
 use crate::admission::{is_waited_for, list_links, refuse_by_links};
 use vx_history::Said;
-use vx_model::limits::MOST_NUMBER;
+use vx_model::limits::{BLOCK, MOST_NUMBER};
 use vx_model::{Blocks, No, OutOfMemory};
 use vx_sites::bounds::{refuse_most, refuse_range, refuse_volume};
 use vx_sites::{World, Write};
@@ -36,7 +36,7 @@ pub fn write(
     if let Some(no) = refuse_size(world, site, &write) {
         return Ok(Said::Refused(no));
     }
-    let count = (write.as_bytes().len() / 512) as u64;
+    let count = (write.as_bytes().len() / BLOCK) as u64;
     if let Some(no) = refuse_range(world, site, volume, start, count) {
         return Ok(Said::Refused(no));
     }
@@ -48,7 +48,7 @@ fn refuse_size(world: &World, site: u32, write: &Write) -> Option<No>
     requires { site < length world.now.nodes.items }
     ensures { let w = world_of world.now in let count = blocks_in write.now.bytes in Refuses result w (unless (is_wrong_count count || is_too_large (w.nodes site).ring count) WrongSize w) }
 {
-    let count = (write.as_bytes().len() / 512) as u64;
+    let count = (write.as_bytes().len() / BLOCK) as u64;
     if u64::from(world.node(site).ring) < count + 1 {
         Some(No::Size)
     } else {
