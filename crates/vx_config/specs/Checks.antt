@@ -1,6 +1,6 @@
 -- What the tests of a configuration are.
 use Rattle.std.specs.Prelude.{ℕ, ◌+◌, ◌-◌, ◌*◌, Bool, true, false, not, ◌&&◌, ◌||◌, ◌==◌, nat_lt, nat_le, List, [], ◌∷◌, ◌++◌, length, flat_map, Option, Some, None, if◌then◌else◌, slice_get, sum_by, min, max}
-use Rattle.vx_model.specs.declared.limits.TheConstants.{LEAST_BLOCKS, LINK_PLACES, MOST_COLUMNS, MOST_DATA_VOLUMES, MOST_PLEXES, MOST_SUBDISKS}
+use Rattle.vx_model.specs.declared.limits.TheConstants.{LEAST_BLOCKS, LINK_PLACES, MOST_COLUMNS, MOST_DATA_VOLUMES, MOST_PLEXES, MOST_SUBDISKS, PUBLIC_START}
 use Rattle.std.specs.Int.{div_ceil}
 use Rattle.std.specs.List.{list_all, list_any}
 use Rattle.std.specs.Str.{bytes_eq}
@@ -65,7 +65,7 @@ runs c = flat_map volume_runs c.volumes
 
 abbrev pub ends_within : Subdisk → Option DiskEntry → Bool
 ends_within r None = false
-ends_within r (Some d) = nat_le 512 r.start && nat_le (r.start + r.blocks) d.blocks
+ends_within r (Some d) = nat_le PUBLIC_START r.start && nat_le (r.start + r.blocks) d.blocks
 
 -- a run lies in the public region of a disk that there is
 abbrev pub in_region : List DiskEntry → Subdisk → Bool

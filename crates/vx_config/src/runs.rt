@@ -6,7 +6,7 @@ ghost use Rattle.vx_config.specs.Configs.{plex_subdisks, subdisk_count};
 
 use crate::{Config, DiskEntry, LogEntry, PlexEntry, Subdisk, VolumeEntry};
 use arrayvec::ArrayVec;
-use vx_model::limits::{MOST_SUBDISKS, MOST_VOLUMES};
+use vx_model::limits::{MOST_SUBDISKS, MOST_VOLUMES, PUBLIC_START};
 
 // Room for all subdisks, and two logs of each volume.
 const MOST_RUNS: usize = MOST_SUBDISKS + 2 * MOST_VOLUMES;
@@ -110,7 +110,7 @@ fn in_region(disks: &[DiskEntry], run: &Subdisk) -> bool
 {
     let end = u128::from(run.start) + u128::from(run.blocks);
     match disks.get(run.disk as usize) {
-        Some(disk) => run.start >= 512 && end <= u128::from(disk.blocks),
+        Some(disk) => run.start >= PUBLIC_START && end <= u128::from(disk.blocks),
         None => false,
     }
 }

@@ -1,11 +1,11 @@
 -- Which blocks of the disks are free, and which of them are the lowest.
 use Rattle.std.specs.Prelude.{◌≡◌, ◌⊎◌, ℕ, zero, suc, ◌+◌, ◌-◌, ◌<◌, ◌≤◌, Bool, true, false, not, ◌&&◌, ◌==◌, nat_lt, nat_le, if◌then◌else◌, List, [], ◌∷◌, ◌++◌}
 use Rattle.std.specs.List.{list_any}
+use Rattle.vx_model.specs.declared.limits.TheConstants.{PUBLIC_START}
 use Rattle.vx_config.specs.declared.entry.DiskEntry.{DiskEntry}
 use Rattle.vx_config.specs.declared.entry.Subdisk.{Subdisk}
 use Rattle.vx_layout.specs.Places.{disk_blocks}
 use Rattle.vx_layout.specs.declared.gap.Gap.{Gap}
-use Rattle.vx_layout.specs.declared.gap.TheConstants.{PUBLIC_START}
 
 -- a run has this block of this disk
 abbrev pub holds : ℕ → ℕ → Subdisk → Bool

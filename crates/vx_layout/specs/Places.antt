@@ -1,12 +1,12 @@
 -- Where the blocks of plexes lie.
 use Rattle.std.specs.Prelude.{◌≡◌, ℕ, ◌+◌, ◌-◌, ◌*◌, ◌/◌, ◌%◌, ◌<◌, ◌≤◌, Bool, IsTrue, nat_lt, ◌==◌, if◌then◌else◌, Option, Some, None, is_some, sum_by, List, [], ◌∷◌, slice_get}
+use Rattle.vx_model.specs.declared.limits.TheConstants.{PUBLIC_START}
 use Rattle.vx_config.specs.declared.config.Config.{Config}
 use Rattle.vx_config.specs.declared.entry.DiskEntry.{DiskEntry}
 use Rattle.vx_config.specs.declared.entry.PlexEntry.{PlexEntry}
 use Rattle.vx_config.specs.declared.entry.Subdisk.{Subdisk}
 use Rattle.vx_config.specs.declared.entry.VolumeEntry.{VolumeEntry}
 use Rattle.vx_config.specs.Checks.{blocks_of, column_blocks, blocks_or}
-use Rattle.vx_layout.specs.declared.gap.TheConstants.{PUBLIC_START}
 use Rattle.vx_layout.specs.declared.spot.Seat.{Seat}
 
 -- the place of block k of subdisks that stand one behind the other

@@ -1,8 +1,8 @@
 -- How far free blocks reach, run by run.
 use Rattle.std.specs.Prelude.{◌≡◌, ◌⊎◌, ℕ, ◌+◌, ◌-◌, ◌<◌, ◌≤◌, true, false, List, ◌++◌, slice_get, Some}
+use Rattle.vx_model.specs.declared.limits.TheConstants.{PUBLIC_START}
 use Rattle.vx_config.specs.declared.entry.Subdisk.{Subdisk}
 use Rattle.vx_layout.specs.Free.{AreLowest, free_in, holds, is_free}
-use Rattle.vx_layout.specs.declared.gap.TheConstants.{PUBLIC_START}
 
 -- as many blocks as a run leaves, which begins behind them or has none of them
 pub record IsCut (s : Subdisk) (disk block blocks left : ℕ) : Type 0 where

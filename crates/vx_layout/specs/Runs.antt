@@ -1,8 +1,8 @@
 -- The lowest run of free blocks on one disk.
 use Rattle.std.specs.Prelude.{◌≡◌, ◌⊎◌, ℕ, ◌+◌, ◌<◌, ◌≤◌, true, List, Result, Ok, Err}
+use Rattle.vx_model.specs.declared.limits.TheConstants.{PUBLIC_START}
 use Rattle.vx_config.specs.declared.entry.Subdisk.{Subdisk}
 use Rattle.vx_layout.specs.Free.{is_free}
-use Rattle.vx_layout.specs.declared.gap.TheConstants.{PUBLIC_START}
 
 -- so many blocks from this one on are free, on a disk with so many blocks
 pub record FreeRun (used : List Subdisk) (disk end count block : ℕ) : Type 0 where

@@ -3,7 +3,7 @@ use Rattle.std.specs.Prelude.{◌≡◌, ◌⊎◌, ℕ, zero, suc, ◌+◌, ◌
 use Rattle.std.specs.Int.{div_ceil}
 use Rattle.std.specs.List.{list_any}
 use Rattle.vx_model.specs.declared.errors.Stop.{Stop}
-use Rattle.vx_model.specs.declared.limits.TheConstants.{DISK_PLACES, MOST_COLUMNS, MOST_PLEXES, MOST_VOLUME_BLOCKS}
+use Rattle.vx_model.specs.declared.limits.TheConstants.{DISK_PLACES, MOST_COLUMNS, MOST_PLEXES, MOST_VOLUME_BLOCKS, PUBLIC_START}
 use Rattle.vx_model.specs.declared.errors.Stop.TheVariants.{No, OutOfMemory}
 use Rattle.vx_model.specs.declared.no.No.TheVariants as refusal
 use Rattle.vx_config.specs.declared.config.Config.{Config}
@@ -12,7 +12,6 @@ use Rattle.vx_config.specs.declared.entry.Subdisk.{Subdisk}
 use Rattle.vx_config.specs.Checks.{map_blocks, runs}
 use Rattle.vx_layout.specs.Places.{disk_blocks}
 use Rattle.vx_layout.specs.Free.{AreLowest, HasNoRun, IsLowestRun, free_blocks}
-use Rattle.vx_layout.specs.declared.gap.TheConstants.{PUBLIC_START}
 use Rattle.vx_layout.specs.declared.shape.Found.{Found}
 use Rattle.vx_layout.specs.declared.shape.Shape.{Shape}
 

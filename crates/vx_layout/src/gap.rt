@@ -4,9 +4,7 @@ ghost use Rattle.vx_layout.specs.Free.{IsGap, free_in, holds as holds_is, is_fre
 ghost use Rattle.vx_layout.specs.Reaches.{IsCut, IsReach};
 
 use vx_config::Subdisk;
-
-/// The first block of the public region of a disk.
-pub const PUBLIC_START: u64 = 512;
+use vx_model::limits::PUBLIC_START;
 
 /// Free blocks that stand one behind the other.
 #[derive(Clone, Copy)]

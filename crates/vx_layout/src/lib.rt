@@ -16,7 +16,6 @@ mod spot;
 mod take;
 mod used;
 
-pub use gap::PUBLIC_START;
 pub use shape::{Found, Runs, Shape};
 pub use space::find_space;
 pub use spot::{Spot, find_spot, place};

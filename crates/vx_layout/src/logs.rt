@@ -4,13 +4,13 @@ ghost use Rattle.vx_layout.specs.Space.{AreLogs, IsShape, NoLog};
 ghost use Rattle.vx_layout.specs.Runs.{RunOn};
 ghost use Rattle.vx_layout.specs.Steps.{AddsDrl, AddsFmr, AddsLog, DrlShort, StepEnds, FmrShort, FoundRun, LogShort};
 
-use crate::gap::{PUBLIC_START, next_gap};
+use crate::gap::next_gap;
 use crate::rooms::{DISKS, end_of};
 use crate::shape::Shape;
 use crate::short::Short;
 use std::alloc::Global;
 use vx_config::{DiskEntry, Subdisk};
-use vx_model::limits::DISK_PLACES;
+use vx_model::limits::{DISK_PLACES, PUBLIC_START};
 use vx_model::map_blocks;
 
 // The lowest run of so many free blocks on a disk with so many blocks; where there is none, the longest run.

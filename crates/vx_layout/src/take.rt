@@ -2,9 +2,10 @@
 ghost use Rattle.std.specs.Prelude.{◌≡◌, ◌-◌, ◌≤◌, OnOk};
 ghost use Rattle.vx_layout.specs.Free.{AddsLowest, free_in};
 
-use crate::gap::{PUBLIC_START, next_gap};
+use crate::gap::next_gap;
 use vx_config::Subdisk;
 use vx_model::OutOfMemory;
+use vx_model::limits::PUBLIC_START;
 
 /// Puts so many of the lowest free blocks of a disk with so many blocks behind the runs that were found before.
 pub fn take_lowest(

@@ -29,6 +29,8 @@ pub const LEAST_RAW_DISKS: u32 = 3;
 pub const LEAST_BLOCKS: u64 = 8;
 /// The least blocks of a disk of a group.
 pub const LEAST_GROUP_BLOCKS: u64 = 1024;
+/// The block of a disk of a group at which its public region begins.
+pub const PUBLIC_START: u64 = 512;
 /// The most blocks of a disk in memory.
 pub const MOST_MEMORY_BLOCKS: u64 = 16_384;
 /// The most blocks of a disk in a file.
