@@ -1,6 +1,6 @@
 -- Packets under their numbers, of which the newest are kept.
 use Rattle.std.specs.Prelude.{◌≡◌, ℕ, ◌+◌, ◌-◌, ◌≤◌, min, ltb, List, [], ◌∷◌, ◌++◌, length, drop, slice_get, Option, None, if◌then◌else◌}
-use Rattle.vx_model.specs.declared.limits.TheConstants.{MOST_NUMBER}
+use Rattle.vx_model.specs.declared.limits.TheConstants.{MOST_NUMBER, MOST_PACKETS}
 
 -- how many packets were sent, and the newest of them, oldest first
 pub record Flying : Type 0 where
@@ -9,7 +9,7 @@ pub record Flying : Type 0 where
 
 -- so many packets are kept at most
 abbrev pub most_kept : ℕ
-most_kept = 65536
+most_kept = MOST_PACKETS
 
 -- the greatest number of a packet
 abbrev pub greatest_packet : ℕ
