@@ -8,6 +8,7 @@ ghost use Rattle.vx_sites.specs.Shapes.{world_of, content_of};
 
 use std::alloc::Global;
 use vx_history::Said;
+use vx_model::limits::MOST_CALL_BLOCKS;
 use vx_model::{Blocks, No, OutOfMemory};
 use vx_sites::bounds::{refuse_range, refuse_volume};
 use vx_sites::{Content, World};
@@ -25,7 +26,7 @@ pub fn read(
     if let Some(no) = refuse_volume(world, site, volume) {
         return Ok(Said::Refused(no));
     }
-    if count == 0 || count > 16 {
+    if count == 0 || count > MOST_CALL_BLOCKS as u32 {
         return Ok(Said::Refused(No::Size));
     }
     if let Some(no) = refuse_range(world, site, volume, start, u64::from(count)) {
@@ -44,7 +45,7 @@ fn blocks_at(
     count: u32,
 ) -> Result<Blocks, OutOfMemory>
     requires some { 0 < count }
-    requires few { count ≤ 16 }
+    requires few { count ≤ MOST_CALL_BLOCKS }
     requires ends { start + count < 2 ^ 64 }
     ensures { IfOk result (λ blocks. blocks ≡ joined_blocks (blocks_from (content_of content.now) volume start count)) }
 {
