@@ -4,6 +4,7 @@ ghost use Rattle.vx_packet.specs.Buffers.{AreWholeBlocks};
 
 use std::marker::Model;
 use vx_model::Blocks;
+use vx_model::limits::MOST_CALL_BLOCKS;
 
 /// 1 to 16 blocks of 512 bytes, which stand elsewhere. Contracts see their bytes.
 #[derive(Drop)]
@@ -13,19 +14,20 @@ pub struct BlockBytes<'a> {
 
 impl<'a> Model for BlockBytes<'a> {
     ghost use Rattle.std.specs.Prelude.{List, ℕ};
+    ghost use Rattle.vx_model.specs.declared.limits.TheConstants.{MOST_CALL_BLOCKS};
     ghost use Rattle.vx_packet.specs.Buffers.{AreWholeBlocks};
 
     ghost Value = { List ℕ };
 
     ghost view = { λ b. b.bytes.now };
 
-    ghost invariant = { λ b. AreWholeBlocks 16 b.bytes.now };
+    ghost invariant = { λ b. AreWholeBlocks MOST_CALL_BLOCKS b.bytes.now };
 }
 
 impl<'a> BlockBytes<'a> {
     /// These bytes, which are 1 to 16 whole blocks.
     pub fn new(bytes: &'a [u8]) -> BlockBytes<'a>
-        requires { AreWholeBlocks 16 bytes.now }
+        requires { AreWholeBlocks MOST_CALL_BLOCKS bytes.now }
         ensures { result ≡ bytes.now }
     {
         BlockBytes { bytes }
@@ -34,7 +36,7 @@ impl<'a> BlockBytes<'a> {
     /// Those of the blocks of a write.
     pub fn of(blocks: &'a Blocks) -> BlockBytes<'a>
         ensures bytes { result ≡ blocks.now }
-        ensures blocks { AreWholeBlocks 16 blocks.now }
+        ensures blocks { AreWholeBlocks MOST_CALL_BLOCKS blocks.now }
     {
         BlockBytes {
             bytes: blocks.as_bytes(),
@@ -44,7 +46,7 @@ impl<'a> BlockBytes<'a> {
     /// The bytes of the blocks.
     pub fn as_bytes(&self) -> &[u8]
         ensures bytes { result.now ≡ self.now }
-        ensures blocks { AreWholeBlocks 16 self.now }
+        ensures blocks { AreWholeBlocks MOST_CALL_BLOCKS self.now }
     {
         self.bytes
     }
