@@ -6,7 +6,7 @@ ghost use Rattle.vx_sites.specs.Shapes.{sizes, content_of};
 
 use std::alloc::Global;
 use std::marker::Model;
-use vx_model::limits::BLOCK;
+use vx_model::limits::{BLOCK, MOST_CALL_BYTES};
 use vx_model::{Blocks, OutOfMemory};
 
 /// One write: whole blocks of 512 bytes, from block `start` of a volume on.
@@ -55,8 +55,8 @@ impl Write {
     pub fn as_bytes(&self) -> &[u8]
         ensures bytes { result.now ≡ self.now.bytes }
         ensures some { 0 < length self.now.bytes }
-        ensures few { length self.now.bytes ≤ 8192 }
-        ensures whole { length self.now.bytes % 512 ≡ 0 }
+        ensures few { length self.now.bytes ≤ MOST_CALL_BYTES }
+        ensures whole { length self.now.bytes % BLOCK ≡ 0 }
     {
         self.bytes.as_bytes()
     }
