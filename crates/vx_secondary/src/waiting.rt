@@ -5,6 +5,7 @@ ghost use Rattle.vx_model.specs.declared.limits.TheConstants.{MOST_WAITING};
 use circular_buffer::HeapCircularBuffer;
 use std::alloc::Global;
 use std::marker::Model;
+use vx_model::limits::MOST_WAITING;
 use vx_model::{OutOfMemory, Update};
 
 /// Up to 16 updates, oldest first. Contracts see their list.
@@ -30,7 +31,7 @@ impl Waiting {
     pub fn new(alloc: Global) -> Result<Waiting, OutOfMemory>
         ensures { IfOk result (λ w. w ≡ []) }
     {
-        let updates = HeapCircularBuffer::with_capacity(alloc, 16)?;
+        let updates = HeapCircularBuffer::with_capacity(alloc, MOST_WAITING as usize)?;
         Ok(Waiting { updates })
     }
 
