@@ -10,10 +10,7 @@ use crate::reading::read_plex;
 use crate::writing::write_plex;
 use vx_config::{Config, blocks_of};
 use vx_disk::{Shelf, ShelfError};
-use vx_model::limits::BLOCK;
-
-// The blocks that are copied at once.
-const RUN: usize = 16;
+use vx_model::limits::{BLOCK, MOST_CALL_BLOCKS, MOST_CALL_BYTES};
 
 // Copies a run of blocks.
 fn copy_run<S: Shelf>(
@@ -68,10 +65,10 @@ fn copy_blocks<S: Shelf>(
     ensures cause { CopyCause config.now vol source plex (S.meaning shelf.old) (S.meaning shelf.new) result }
 {
     let blocks = blocks_of(config, vol);
-    let mut buffer = [0; RUN * BLOCK];
+    let mut buffer = [0; MOST_CALL_BYTES];
     let mut done = 0;
     while done < blocks {
-        let count = (blocks - done).min(RUN as u64);
+        let count = (blocks - done).min(MOST_CALL_BLOCKS);
         let run = &mut buffer[..BLOCK * count as usize];
         match copy_run(config, vol, source, plex, shelf, done, count, run) {
             Ok(()) => done += count,
