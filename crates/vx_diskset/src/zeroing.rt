@@ -6,16 +6,13 @@ ghost use Rattle.vx_diskset.specs.Zeroing.{FailsAlike, GivesZeros, IsZeroOf, Lea
 ghost use Rattle.vx_diskset.specs.Zeros.{OnlyZeros};
 
 use vx_disk::{Rack, ShelfError};
-use vx_model::limits::BLOCK;
-
-// The blocks of one write.
-const RUN: usize = 16;
+use vx_model::limits::{BLOCK, MOST_CALL_BLOCKS, MOST_CALL_BYTES};
 
 // Writes zeros to so many blocks of a disk.
 fn zero_run<R: Rack>(rack: &mut R, disk: u32, block: u64, count: u64) -> Result<(), ShelfError>
     requires there { disk < (R.meaning rack.old).units }
     requires some { 0 < count }
-    requires few { count ≤ 16 }
+    requires few { count ≤ MOST_CALL_BLOCKS }
     requires within { block + count ≤ (R.meaning rack.old).size disk }
     ensures goes { Goes (IsZeroOf disk) (R.meaning rack.old) (R.meaning rack.new) }
     ensures ok { OnOk result (GivesZeros disk block (R.meaning rack.old) → GivesZeros disk (block + count) (R.meaning rack.new)) }
@@ -23,7 +20,7 @@ fn zero_run<R: Rack>(rack: &mut R, disk: u32, block: u64, count: u64) -> Result<
     ensures failing { FailsAlike (R.meaning rack.old).disks (R.meaning rack.new).disks }
     ensures within { block + count ≤ (R.meaning rack.old).size disk }
 {
-    let zeros = [0; RUN * BLOCK];
+    let zeros = [0; MOST_CALL_BYTES];
     rack.write(disk, block, &zeros[..BLOCK * count as usize])
 }
 
@@ -38,7 +35,7 @@ fn zero_disk<R: Rack>(rack: &mut R, disk: u32) -> Result<(), ShelfError>
     let blocks = rack.size(disk);
     let mut done = 0;
     while done < blocks {
-        let count = (blocks - done).min(RUN as u64);
+        let count = (blocks - done).min(MOST_CALL_BLOCKS);
         match zero_run(rack, disk, done, count) {
             Ok(()) => done += count,
             Err(error) => return Err(error),
