@@ -9,11 +9,8 @@ ghost use Rattle.vx_group.specs.Makes.{AreZero, EachFlushed, ZeroBelow, ZeroRun,
 use crate::detaching::fault_of;
 use vx_config::{Config, blocks_of};
 use vx_disk::{Shelf, ShelfError};
-use vx_model::limits::BLOCK;
+use vx_model::limits::{BLOCK, MOST_CALL_BLOCKS, MOST_CALL_BYTES};
 use vx_volume::{flush_all, write_all};
-
-// The blocks of one call on the plexes.
-const RUN: usize = 16;
 
 // Writes zeros to a run of blocks on each plex that is ACTIVE.
 fn zero_run<S: Shelf>(
@@ -26,7 +23,7 @@ fn zero_run<S: Shelf>(
     requires checked { IsTrue (is_sound config.now) }
     requires volume { vol < length config.now.volumes }
     requires within { block + count ≤ blocks_of config.now.volumes vol }
-    requires few { count ≤ 16 }
+    requires few { count ≤ MOST_CALL_BLOCKS }
     requires some { SomeActive config.now vol }
     requires disks { DisksFit config.now.disks (S.meaning shelf.old) }
     requires up { IsTrue (S.meaning shelf.old).down → ⊥ }
@@ -35,7 +32,7 @@ fn zero_run<S: Shelf>(
     ensures ok { OnOk result (ZeroRun config.now vol block count (S.meaning shelf.old) (S.meaning shelf.new)) }
     ensures cause { Blames (S.meaning shelf.old) (S.meaning shelf.new) result }
 {
-    let zeros = [0; RUN * BLOCK];
+    let zeros = [0; MOST_CALL_BYTES];
     match write_all(config, vol, shelf, block, &zeros[..BLOCK * count as usize]) {
         Ok(failed) => {
             if failed.set == 0 {
@@ -61,7 +58,7 @@ fn zero_blocks<S: Shelf>(shelf: &mut S, config: &Config, vol: u32) -> Result<(),
     let blocks = blocks_of(config, vol);
     let mut done = 0;
     while done < blocks {
-        let count = (blocks - done).min(RUN as u64);
+        let count = (blocks - done).min(MOST_CALL_BLOCKS);
         match zero_run(shelf, config, vol, done, count) {
             Ok(()) => done += count,
             Err(error) => return Err(error),
