@@ -4,7 +4,7 @@ ghost use Rattle.vx_ringlog.specs.Records.{as_on_disk, firsts_of};
 ghost use Rattle.vx_ringio.specs.Bodies.{IsBlocks, BodyIs, all_blocks};
 ghost use Rattle.vx_srlfmt.specs.Kinds.{IsBody};
 
-use vx_model::limits::BLOCK;
+use vx_model::limits::{BLOCK, MOST_CALL_BLOCKS};
 use vx_srlfmt::RecordHead;
 use vx_wire::digest;
 
@@ -20,13 +20,13 @@ pub enum Body {
 }
 
 /// Puts the byte 0x42 first in each of 1 to 16 blocks, and answers the bytes that stood there, with zeros behind them.
-pub fn mask_body(bytes: &mut [u8]) -> [u8; 16]
+pub fn mask_body(bytes: &mut [u8]) -> [u8; MOST_CALL_BLOCKS as usize]
     requires { IsBlocks bytes.old }
     ensures blocks { all_blocks bytes.new ≡ as_on_disk (all_blocks bytes.old) }
     ensures firsts { result ≡ firsts_of (all_blocks bytes.old) }
     ensures size { length bytes.new ≡ length bytes.old }
 {
-    let mut firsts = [0; 16];
+    let mut firsts = [0; MOST_CALL_BLOCKS as usize];
     for k in 0..bytes.len() / BLOCK {
         firsts[k] = bytes[BLOCK * k];
         bytes[BLOCK * k] = 0x42;
