@@ -8,7 +8,7 @@ ghost use Rattle.vx_wire.specs.Places.{put_at};
 ghost use Rattle.vx_wire.specs.Seals.{filled, digest_of, IsSealed};
 
 use vx_model::Line;
-use vx_model::limits::{BLOCK, MOST_NUMBER};
+use vx_model::limits::{BLOCK, MOST_CALL_BLOCKS, MOST_NUMBER};
 use vx_wire::{
     Field, broken_seal, get_bytes, get_line, get_u32, get_u64, is_zero, put_bytes, put_fields,
     put_zeros, seal,
@@ -53,7 +53,7 @@ pub struct RecordHead {
     /// The digest of these blocks as they were given.
     pub digest: [u8; 32],
     /// The first byte of each block as it was given, and zeros behind them.
-    pub firsts: [u8; 16],
+    pub firsts: [u8; MOST_CALL_BLOCKS as usize],
 }
 
 /// What a block is as a record header.
@@ -120,11 +120,11 @@ fn is_spelled(h: &RecordHead, block: &[u8; BLOCK]) -> bool
 
 // Whether the bytes behind the first bytes of the blocks are zero.
 fn has_zeros(h: &RecordHead) -> bool
-    requires { h.now.count ≤ 16 }
-    ensures { IsTrue result ↔ (drop h.now.count h.now.firsts ≡ zero_bytes (16 - h.now.count)) }
+    requires { h.now.count ≤ MOST_CALL_BLOCKS }
+    ensures { IsTrue result ↔ (drop h.now.count h.now.firsts ≡ zero_bytes (MOST_CALL_BLOCKS - h.now.count)) }
 {
     let count = h.count as usize;
-    is_zero(&h.firsts, count, 16 - count)
+    is_zero(&h.firsts, count, MOST_CALL_BLOCKS as usize - count)
 }
 
 // Whether a record header that was read is one that its form can spell.
@@ -136,7 +136,7 @@ fn can_spell(h: &RecordHead) -> bool
         && h.line.generation <= MOST_NUMBER
         && h.number <= MOST_NUMBER
         && h.count > 0
-        && h.count <= 16
+        && h.count <= MOST_CALL_BLOCKS as u32
         && has_zeros(h)
 }
 
