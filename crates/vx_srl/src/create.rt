@@ -20,7 +20,7 @@ use std::alloc::Global;
 use std::collections::VecDeque;
 use vx_disk::{Shelf, ShelfError, refusal};
 use vx_model::limits::{LEAST_BLOCKS, MOST_NUMBER};
-use vx_model::{Counted, No, State, Stop};
+use vx_model::{Counted, No, State, Stop, ring_blocks};
 use vx_ringio::{blank_ring, write_header};
 use vx_srlfmt::Header;
 
@@ -106,7 +106,7 @@ impl Srl {
                 most: MOST_NUMBER,
             }));
         }
-        let ring = size.min(65536) - 2;
+        let ring = ring_blocks(size);
         let records = VecDeque::with_capacity(alloc, (ring as usize).div_ceil(2))?;
         let second = new_header(state, head, 1);
         let first = new_header(state, head, 2);

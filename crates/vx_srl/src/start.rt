@@ -23,7 +23,7 @@ use std::collections::VecDeque;
 use std::marker::Model;
 use vx_disk::{Shelf, ShelfError, refusal};
 use vx_model::limits::{LEAST_BLOCKS, MOST_NUMBER};
-use vx_model::{Counted, No, OutOfMemory, Stop};
+use vx_model::{Counted, No, OutOfMemory, Stop, ring_blocks};
 use vx_ringio::{TopSeen, read_top, write_header};
 use vx_srlfmt::Header;
 
@@ -211,7 +211,7 @@ impl LogRoom {
         requires { LEAST_BLOCKS ≤ blocks }
         ensures { IfOk result (λ room. room.ring ≡ ring_of blocks) }
     {
-        let ring = blocks.min(65536) - 2;
+        let ring = ring_blocks(blocks);
         let records = VecDeque::with_capacity(alloc, (ring as usize).div_ceil(2))?;
         Ok(LogRoom { ring, records })
     }
