@@ -20,7 +20,7 @@ use std::alloc::Global;
 use std::marker::Model;
 use vx_disk::Shelf;
 use vx_model::limits::{BLOCK, LEAST_BLOCKS};
-use vx_model::{Blocks, Line, No, OutOfMemory, Stop, Units, Update};
+use vx_model::{Blocks, Line, No, OutOfMemory, Stop, Units, Update, ring_blocks};
 use vx_overlay::Overlay;
 use vx_srl::{LogRoom, Srl};
 
@@ -100,7 +100,7 @@ impl StartRoom {
         ensures { IfOk result (λ room. room.ring ≡ ring_of blocks) }
     {
         let log = LogRoom::new(alloc, blocks)?;
-        let pending = Overlay::new(alloc, blocks.min(65536) - 2)?;
+        let pending = Overlay::new(alloc, ring_blocks(blocks))?;
         Ok(StartRoom { log, pending })
     }
 
