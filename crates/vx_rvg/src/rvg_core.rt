@@ -4,7 +4,7 @@ ghost use Rattle.vx_rvg.specs.Groups.{write_refusal, read_refusal, applied_throu
 ghost use Rattle.vx_rvg.specs.Views.{unit_of};
 
 use std::marker::Model;
-use vx_model::limits::MOST_NUMBER;
+use vx_model::limits::{MOST_CALL_BLOCKS, MOST_NUMBER};
 use vx_model::{Counted, No, Units};
 use vx_overlay::Overlay;
 use vx_srl::Srl;
@@ -52,7 +52,7 @@ impl RvgCore {
 
     /// Why a write of so many blocks to a volume of `size` blocks is refused before it begins.
     pub(crate) fn write_refusal(&self, size: u64, start: u64, count: u64) -> Option<No>
-        requires { count ≤ 16 }
+        requires { count ≤ MOST_CALL_BLOCKS }
         ensures is { result ≡ write_refusal self.now size start count }
         ensures some { result ≡ None → 0 < self.now.log.header.low }
         ensures idle { IfSome result IsNoFault }
