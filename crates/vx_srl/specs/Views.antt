@@ -1,6 +1,6 @@
 -- A log as its callers see it.
 use Rattle.std.specs.Prelude.{◌≡◌, ℕ, ◌+◌, ◌-◌, ◌%◌, ◌≤◌, List, [], ◌∷◌, ◌++◌, length, drop, slice_get, Some, All, true}
-use Rattle.vx_model.specs.declared.limits.TheConstants.{MOST_NUMBER}
+use Rattle.vx_model.specs.declared.limits.TheConstants.{LOG_HEADERS, MOST_LOG_BLOCKS, MOST_NUMBER}
 use Rattle.vx_model.specs.Content.{blocks_in}
 use Rattle.vx_wire.specs.Seals.{digest_of}
 use Rattle.vx_srlfmt.specs.Headers.{CanSpellHeader}
@@ -87,7 +87,7 @@ last_incarnation floor (k ∷ ks) = last_incarnation k.head.incarnation ks
 -- records behind a header of a ring: they follow one another, and there is room for them
 pub record IsOrdered (ring : ℕ) (header : Header) (records : List Kept) : Type 0 where
   pub some : 6 ≤ ring
-  pub few : ring ≤ 65534
+  pub few : ring ≤ MOST_LOG_BLOCKS - LOG_HEADERS
   pub spell : CanSpellHeader header
   pub of_ring : is_of_ring ring header ≡ true
   pub heads : All (λ k. CanSpellHead k.head) records

@@ -1,5 +1,5 @@
 // The making of a log.
-ghost use Rattle.std.specs.Prelude.{◌≡◌, ◌⊎◌, ◌+◌, ◌<◌, ◌≤◌, ◌%◌, ℕ, true, Err, OnOk, IfOk};
+ghost use Rattle.std.specs.Prelude.{◌≡◌, ◌⊎◌, ◌+◌, ◌-◌, ◌<◌, ◌≤◌, ◌%◌, ℕ, true, Err, OnOk, IfOk};
 ghost use Rattle.vx_disk.specs.Causes.{Works};
 ghost use Rattle.vx_disk.specs.Moves.{Moves, Run, Anything};
 ghost use Rattle.vx_model.specs.Sizes.{ring_of};
@@ -19,7 +19,7 @@ use crate::Srl;
 use std::alloc::Global;
 use std::collections::VecDeque;
 use vx_disk::{Shelf, ShelfError, refusal};
-use vx_model::limits::{LEAST_BLOCKS, MOST_NUMBER};
+use vx_model::limits::{LEAST_BLOCKS, LOG_HEADERS, MOST_LOG_BLOCKS, MOST_NUMBER};
 use vx_model::{Counted, No, State, Stop, ring_blocks};
 use vx_ringio::{blank_ring, write_header};
 use vx_srlfmt::Header;
@@ -56,7 +56,7 @@ fn write_new<S: Shelf>(
 ) -> Result<(), ShelfError>
     requires lies { RingLies unit ring (S.meaning shelf.old) }
     requires some { 0 < ring }
-    requires few { ring ≤ 65534 }
+    requires few { ring ≤ MOST_LOG_BLOCKS - LOG_HEADERS }
     requires spell { CanSpellHeader first.now }
     requires spell_second { CanSpellHeader second.now }
     requires of_ring { is_of_ring ring first.now ≡ true }

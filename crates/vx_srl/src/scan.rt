@@ -1,5 +1,5 @@
 // The scan of a ring: the records that a start takes up.
-ghost use Rattle.std.specs.Prelude.{◌≡◌, ◌↔◌, ◌+◌, ◌*◌, ◌<◌, ◌≤◌, ◌%◌, ℕ, [], List, length, true, All, IsTrue, OnOk, IfOk, IfErr};
+ghost use Rattle.std.specs.Prelude.{◌≡◌, ◌↔◌, ◌+◌, ◌-◌, ◌*◌, ◌<◌, ◌≤◌, ◌%◌, ℕ, [], List, length, true, All, IsTrue, OnOk, IfOk, IfErr};
 ghost use Rattle.std.specs.VecDeque.{deque_capacity};
 ghost use Rattle.vx_disk.specs.Causes.{Cause};
 ghost use Rattle.vx_disk.specs.Shelf.{Goes, Nothing};
@@ -24,7 +24,7 @@ use crate::Kept;
 use std::collections::VecDeque;
 use vx_disk::{Shelf, ShelfError, refusal};
 use vx_model::No;
-use vx_model::limits::{BLOCK, MOST_CALL_BYTES};
+use vx_model::limits::{BLOCK, LOG_HEADERS, MOST_CALL_BYTES, MOST_LOG_BLOCKS};
 use vx_ringio::{Body, read_body, read_front, unmask_body};
 use vx_srlfmt::{Header, RecordHead, Seen};
 
@@ -76,7 +76,7 @@ fn take<S: Shelf>(
     head: RecordHead,
 ) -> Result<Found, ShelfError>
     requires lies { RingLies unit ring (S.meaning shelf.old) }
-    requires few { ring ≤ 65534 }
+    requires few { ring ≤ MOST_LOG_BLOCKS - LOG_HEADERS }
     requires place { place < ring }
     requires spell { CanSpellHead head }
     requires fits { head.count < ring }
@@ -122,7 +122,7 @@ fn look<S: Shelf>(
 ) -> Result<Found, ShelfError>
     requires lies { RingLies unit ring (S.meaning shelf.old) }
     requires some { 0 < ring }
-    requires few { ring ≤ 65534 }
+    requires few { ring ≤ MOST_LOG_BLOCKS - LOG_HEADERS }
     requires place { place < ring }
     requires left { left ≤ ring }
     ensures agrees { IfOk result (λ found. (c : RingImage) (rs : List Record) → ReadsAs unit ring c (S.meaning shelf.old)
@@ -170,7 +170,7 @@ pub(crate) fn scan<S: Shelf>(
 ) -> Result<Scanned, No>
     requires lies { RingLies unit ring (S.meaning shelf.old) }
     requires some { 6 ≤ ring }
-    requires few { ring ≤ 65534 }
+    requires few { ring ≤ MOST_LOG_BLOCKS - LOG_HEADERS }
     requires spell { CanSpellHeader header.now }
     requires of_ring { is_of_ring ring header.now ≡ true }
     requires none { records.old.items ≡ [] }

@@ -14,6 +14,7 @@ ghost use Rattle.vx_srlfmt.specs.Records.{CanSpellHead};
 use crate::{Kept, Srl, SrlNo};
 use std::collections::VecDeque;
 use vx_disk::{Shelf, ShelfError, refusal};
+use vx_model::limits::{LOG_HEADERS, MOST_LOG_BLOCKS};
 use vx_ringio::{flush_ring, write_front};
 
 // Writes the headers of the records from one on.
@@ -26,7 +27,7 @@ fn write_fronts<S: Shelf>(
 ) -> Result<(), ShelfError>
     requires lies { RingLies unit ring (S.meaning shelf.old) }
     requires some { 0 < ring }
-    requires few { ring ≤ 65534 }
+    requires few { ring ≤ MOST_LOG_BLOCKS - LOG_HEADERS }
     requires spell { All (λ k. CanSpellHead k.head) records.now.items }
     requires places { All (λ k. k.place < ring) records.now.items }
     requires from { from ≤ length records.now.items }
