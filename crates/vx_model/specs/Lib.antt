@@ -3,6 +3,7 @@ pub mod BlockLists
 pub mod Content
 pub mod Kept
 pub mod Names
+pub mod Numbers
 pub mod Sites
 pub mod Sizes
 pub mod States
