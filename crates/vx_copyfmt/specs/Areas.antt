@@ -1,5 +1,6 @@
 -- The header of a configuration area, as a block.
-use Rattle.std.specs.Prelude.{◌≡◌, ℕ, ◌<◌, ◌≤◌, ◌^◌, Bool, ◌&&◌, nat_lt, ◌==◌, bytes_eq, if◌then◌else◌, Option, Some, None, List, [], ◌∷◌, ◌++◌, length}
+use Rattle.std.specs.Prelude.{◌≡◌, ℕ, ◌<◌, ◌≤◌, Bool, ◌&&◌, nat_lt, ◌==◌, bytes_eq, if◌then◌else◌, Option, Some, None, List, [], ◌∷◌, ◌++◌, length}
+use Rattle.vx_model.specs.Numbers.{number_bound}
 use Rattle.vx_wire.specs.declared.field.Field.{Field}
 use Rattle.vx_wire.specs.declared.field.Field.TheVariants.{U32, U64}
 use Rattle.vx_wire.specs.Fields.{spelled}
@@ -26,7 +27,7 @@ area_block h = sealed (area_fields h)
 
 -- a header that its form can spell
 pub record CanSpellArea (h : AreaHeader) : Type 0 where
-  pub serial : h.serial < 2 ^ 63
+  pub serial : h.serial < number_bound
   pub some : 0 < h.length
   pub few : h.length ≤ 65024
 
@@ -46,7 +47,7 @@ area_in block = record { serial = number_at 8 8 block; length = number_at 4 16 b
 
 -- the block is the spelling of the header that is read in it
 unfoldable pub is_area : List ℕ → AreaHeader → Bool
-is_area block h = bytes_eq block (area_block h) && (nat_lt h.serial (2 ^ 63) && (nat_lt 0 h.length && (nat_lt h.length 65025 && length h.digest == 32)))
+is_area block h = bytes_eq block (area_block h) && (nat_lt h.serial number_bound && (nat_lt 0 h.length && (nat_lt h.length 65025 && length h.digest == 32)))
 
 -- the header that a block is
 unfoldable pub header_of : List ℕ → Option AreaHeader
