@@ -1,5 +1,6 @@
 -- Messages, as the table of kinds spells them.
 use Rattle.std.specs.Prelude.{◌≡◌, ℕ, ◌+◌, ◌*◌, ◌/◌, ◌%◌, ◌^◌, ◌<◌, ◌≤◌, ◌≢◌, max, List, [], ◌∷◌, ◌++◌, length, slice_index}
+use Rattle.vx_model.specs.Numbers.{number_bound}
 use Rattle.vx_wire.specs.declared.field.Field.{Field}
 use Rattle.vx_wire.specs.declared.field.Field.TheVariants.{U8, U32, U64}
 use Rattle.vx_wire.specs.Fields.{spelled}
@@ -37,7 +38,7 @@ row (Trim number) = record { kind = 12; session = 0; number = number; numbers = 
 
 -- a number of a write or a replay, a session or a generation
 abbrev pub IsCounted : ℕ → Type 0
-IsCounted n = n < 2 ^ 63
+IsCounted n = n < number_bound
 
 -- an acknowledgement of a replay: its start, a region of it, or its end
 abbrev pub IsAck : ℕ → ℕ → ℕ → Type 0

@@ -1,6 +1,7 @@
 -- Packets: a header, and a part of a message's payload.
 use Rattle.std.specs.Prelude.{◌≡◌, ℕ, Bool, true, ◌+◌, ◌^◌, ◌<◌, ◌≤◌, ◌&&◌, ◌==◌, nat_lt, IsTrue, List, [], ◌∷◌, ◌++◌, length}
 use Rattle.std.specs.List.{list_any}
+use Rattle.vx_model.specs.Numbers.{number_bound}
 use Rattle.vx_wire.specs.declared.field.Field.{Field}
 use Rattle.vx_wire.specs.declared.field.Field.TheVariants.{U8, U16, U32, U64}
 use Rattle.vx_wire.specs.Fields.{spelled}
@@ -49,11 +50,11 @@ kinds =
 
 abbrev pub fits_session : SessionField → ℕ → Bool
 fits_session Zero n = n == 0
-fits_session Session n = nat_lt n (2 ^ 63)
+fits_session Session n = nat_lt n number_bound
 fits_session OfRegion n = true
 
 abbrev pub fits_number : NumberField → ℕ → Bool
-fits_number Counted n = nat_lt n (2 ^ 63)
+fits_number Counted n = nat_lt n number_bound
 fits_number Volume n = true
 
 -- one of the kinds has this code, and its fields may hold these
