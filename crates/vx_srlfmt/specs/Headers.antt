@@ -1,5 +1,6 @@
 -- The header of a log, as a block.
 use Rattle.std.specs.Prelude.{◌≡◌, ℕ, ◌<◌, ◌≤◌, ◌^◌, List, [], ◌∷◌, ◌++◌, length, take, flat_map, All}
+use Rattle.vx_model.specs.Numbers.{number_bound}
 use Rattle.vx_model.specs.declared.site.Role.{Role}
 use Rattle.vx_model.specs.declared.site.Role.TheVariants as role
 use Rattle.vx_model.specs.declared.state.KeptLink.{KeptLink}
@@ -74,30 +75,30 @@ Agrees role.Bunker other = Unit {0}
 
 -- a link that the table can spell
 pub record CanSpellLink (l : KeptLink) : Type 0 where
-  pub stored : l.stored < 2 ^ 63
-  pub start : l.start < 2 ^ 63
+  pub stored : l.stored < number_bound
+  pub start : l.start < number_bound
 
 -- a state that the table can spell
 pub record CanSpellState (s : State) : Type 0 where
-  pub generation : s.line.generation < 2 ^ 63
-  pub top : s.top < 2 ^ 63
+  pub generation : s.line.generation < number_bound
+  pub top : s.top < number_bound
   pub role : Agrees s.role s.other
-  pub replay : s.replay < 2 ^ 63
-  pub end : s.end < 2 ^ 63
-  pub parent : s.parent.generation < 2 ^ 63
-  pub fork : s.fork < 2 ^ 63
+  pub replay : s.replay < number_bound
+  pub end : s.end < number_bound
+  pub parent : s.parent.generation < number_bound
+  pub fork : s.fork < number_bound
   pub few : length s.links ≤ 4
   pub links : All CanSpellLink s.links
 
 -- a header that the table can spell
 pub record CanSpellHeader (h : Header) : Type 0 where
-  pub stamp : h.stamp < 2 ^ 63
+  pub stamp : h.stamp < number_bound
   pub state : CanSpellState h.state
-  pub incarnation : h.incarnation < 2 ^ 63
-  pub floor : h.floor < 2 ^ 63
-  pub run : h.run < 2 ^ 63
-  pub low : h.low < 2 ^ 63
-  pub applied : h.applied < 2 ^ 63
+  pub incarnation : h.incarnation < number_bound
+  pub floor : h.floor < number_bound
+  pub run : h.run < number_bound
+  pub low : h.low < number_bound
+  pub applied : h.applied < number_bound
 
 -- the numbers of a state are of their types
 pub record IsTypedState (s : State) : Type 0 where

@@ -1,6 +1,7 @@
 -- What a block of a log is, each block one thing.
 use Rattle.std.specs.Prelude.{◌≡◌, ℕ, ◌^◌, Bool, ◌&&◌, not, nat_lt, ◌==◌, if◌then◌else◌, List, [], ◌∷◌, length, ◌-◌, take, drop, slice_index, bytes_eq}
 use Rattle.std.specs.List.{list_all}
+use Rattle.vx_model.specs.Numbers.{number_bound}
 use Rattle.vx_model.specs.declared.state.KeptLink.{KeptLink}
 use Rattle.vx_wire.specs.Fields.{zero_bytes}
 use Rattle.vx_wire.specs.Numbers.{be_bytes}
@@ -33,35 +34,35 @@ abbrev pub all_below : List (ℕ × ℕ) → Bool
 all_below pairs = list_all (λ p. nat_lt p.0 p.1) pairs
 
 abbrev pub link_bounds : KeptLink → List (ℕ × ℕ)
-link_bounds l = (l.site, 2 ^ 32) ∷ (l.stored, 2 ^ 63) ∷ (l.start, 2 ^ 63) ∷ []
+link_bounds l = (l.site, 2 ^ 32) ∷ (l.stored, number_bound) ∷ (l.start, number_bound) ∷ []
 
 abbrev pub header_bounds : Header → List (ℕ × ℕ)
 header_bounds h =
-    (h.stamp, 2 ^ 63)
-    ∷ (h.state.line.generation, 2 ^ 63)
+    (h.stamp, number_bound)
+    ∷ (h.state.line.generation, number_bound)
     ∷ (h.state.line.origin, 2 ^ 32)
-    ∷ (h.state.top, 2 ^ 63)
-    ∷ (h.incarnation, 2 ^ 63)
-    ∷ (h.floor, 2 ^ 63)
-    ∷ (h.run, 2 ^ 63)
-    ∷ (h.low, 2 ^ 63)
+    ∷ (h.state.top, number_bound)
+    ∷ (h.incarnation, number_bound)
+    ∷ (h.floor, number_bound)
+    ∷ (h.run, number_bound)
+    ∷ (h.low, number_bound)
     ∷ (h.place, 2 ^ 32)
-    ∷ (h.applied, 2 ^ 63)
-    ∷ (h.state.replay, 2 ^ 63)
-    ∷ (h.state.end, 2 ^ 63)
+    ∷ (h.applied, number_bound)
+    ∷ (h.state.replay, number_bound)
+    ∷ (h.state.end, number_bound)
     ∷ (h.state.other, 2 ^ 32)
-    ∷ (h.state.parent.generation, 2 ^ 63)
+    ∷ (h.state.parent.generation, number_bound)
     ∷ (h.state.parent.origin, 2 ^ 32)
-    ∷ (h.state.fork, 2 ^ 63)
+    ∷ (h.state.fork, number_bound)
     ∷ []
 
 abbrev pub head_bounds : RecordHead → List (ℕ × ℕ)
 head_bounds r =
-    (r.incarnation, 2 ^ 63)
-    ∷ (r.run, 2 ^ 63)
-    ∷ (r.line.generation, 2 ^ 63)
+    (r.incarnation, number_bound)
+    ∷ (r.run, number_bound)
+    ∷ (r.line.generation, number_bound)
     ∷ (r.line.origin, 2 ^ 32)
-    ∷ (r.number, 2 ^ 63)
+    ∷ (r.number, number_bound)
     ∷ (r.vol, 2 ^ 32)
     ∷ (r.block, 2 ^ 64)
     ∷ (0, r.count)

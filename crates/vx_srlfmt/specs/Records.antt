@@ -1,5 +1,6 @@
 -- The header of a record, as a block.
 use Rattle.std.specs.Prelude.{◌≡◌, ℕ, ◌-◌, ◌<◌, ◌≤◌, ◌^◌, List, [], ◌∷◌, ◌++◌, length, take, drop}
+use Rattle.vx_model.specs.Numbers.{number_bound}
 use Rattle.vx_wire.specs.declared.field.Field.{Field}
 use Rattle.vx_wire.specs.declared.field.Field.TheVariants.{U32, U64}
 use Rattle.vx_wire.specs.Fields.{spelled, zero_bytes}
@@ -37,10 +38,10 @@ record_block r = sealed (record_fields r)
 
 -- a record header that its form can spell
 pub record CanSpellHead (r : RecordHead) : Type 0 where
-  pub incarnation : r.incarnation < 2 ^ 63
-  pub run : r.run < 2 ^ 63
-  pub generation : r.line.generation < 2 ^ 63
-  pub number : r.number < 2 ^ 63
+  pub incarnation : r.incarnation < number_bound
+  pub run : r.run < number_bound
+  pub generation : r.line.generation < number_bound
+  pub number : r.number < number_bound
   pub some : 0 < r.count
   pub few : r.count ≤ 16
   pub firsts : drop r.count r.firsts ≡ zero_bytes (16 - r.count)
