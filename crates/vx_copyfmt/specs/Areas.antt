@@ -1,5 +1,6 @@
 -- The header of a configuration area, as a block.
-use Rattle.std.specs.Prelude.{◌≡◌, ℕ, ◌<◌, ◌≤◌, Bool, ◌&&◌, nat_lt, ◌==◌, bytes_eq, if◌then◌else◌, Option, Some, None, List, [], ◌∷◌, ◌++◌, length}
+use Rattle.std.specs.Prelude.{◌≡◌, ℕ, ◌+◌, ◌<◌, ◌≤◌, Bool, ◌&&◌, nat_lt, ◌==◌, bytes_eq, if◌then◌else◌, Option, Some, None, List, [], ◌∷◌, ◌++◌, length}
+use Rattle.vx_model.specs.declared.limits.TheConstants.{MOST_CONFIG_BYTES}
 use Rattle.vx_model.specs.Numbers.{number_bound}
 use Rattle.vx_wire.specs.declared.field.Field.{Field}
 use Rattle.vx_wire.specs.declared.field.Field.TheVariants.{U32, U64}
@@ -29,7 +30,7 @@ area_block h = sealed (area_fields h)
 pub record CanSpellArea (h : AreaHeader) : Type 0 where
   pub serial : h.serial < number_bound
   pub some : 0 < h.length
-  pub few : h.length ≤ 65024
+  pub few : h.length ≤ MOST_CONFIG_BYTES
 
 -- its digest is one
 pub record IsTypedArea (h : AreaHeader) : Type 0 where
@@ -47,7 +48,7 @@ area_in block = record { serial = number_at 8 8 block; length = number_at 4 16 b
 
 -- the block is the spelling of the header that is read in it
 unfoldable pub is_area : List ℕ → AreaHeader → Bool
-is_area block h = bytes_eq block (area_block h) && (nat_lt h.serial number_bound && (nat_lt 0 h.length && (nat_lt h.length 65025 && length h.digest == 32)))
+is_area block h = bytes_eq block (area_block h) && (nat_lt h.serial number_bound && (nat_lt 0 h.length && (nat_lt h.length (MOST_CONFIG_BYTES + 1) && length h.digest == 32)))
 
 -- the header that a block is
 unfoldable pub header_of : List ℕ → Option AreaHeader

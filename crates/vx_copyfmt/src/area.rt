@@ -4,7 +4,7 @@ ghost use Rattle.vx_copyfmt.specs.Areas.{area_table, area_fields, area_in, heade
 ghost use Rattle.vx_wire.specs.Places.{put_at};
 ghost use Rattle.vx_wire.specs.Seals.{filled};
 
-use vx_model::limits::{BLOCK, MOST_NUMBER};
+use vx_model::limits::{BLOCK, MOST_CONFIG_BYTES, MOST_NUMBER};
 use vx_wire::{
     Field, broken_seal, get_bytes, get_u32, get_u64, put_bytes, put_fields, put_zeros, seal,
 };
@@ -74,7 +74,7 @@ fn is_spelled(h: &AreaHeader, block: &[u8; BLOCK]) -> bool
 fn can_spell(h: &AreaHeader) -> bool
     ensures { IsTrue result ↔ CanSpellArea h.now }
 {
-    h.serial <= MOST_NUMBER && h.length > 0 && h.length <= 65024
+    h.serial <= MOST_NUMBER && h.length > 0 && h.length <= MOST_CONFIG_BYTES as u32
 }
 
 // What stands in the places of the fields, whether or not the block is a header.
