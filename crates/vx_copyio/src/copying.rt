@@ -11,7 +11,7 @@ ghost use Rattle.vx_wire.specs.Seals.{digest_of};
 
 use vx_copyfmt::{AreaHeader, get_area, put_area};
 use vx_disk::{Shelf, ShelfError, put};
-use vx_model::limits::BLOCK;
+use vx_model::limits::{BLOCK, MOST_CONFIG_BYTES};
 
 /// The first block of the first area, which is its header.
 pub const AREA_A: u64 = 1;
@@ -88,7 +88,7 @@ pub fn put_copy<S: Shelf>(
     requires room { 257 ≤ (S.meaning shelf.old).size disk }
     requires can { CanSpellArea header.now }
     requires whole { length body.now % 512 ≡ 0 }
-    requires few { length body.now ≤ 65024 }
+    requires few { length body.now ≤ MOST_CONFIG_BYTES }
     requires long { header.now.length ≤ length body.now }
     requires digest { header.now.digest ≡ digest_of (take header.now.length body.now) }
     ensures moves { Moves (Run disk 1 256) (InImage disk header.now body.now (S.meaning shelf.old)) (S.meaning shelf.old) (S.meaning shelf.new) }

@@ -12,6 +12,7 @@ ghost use Rattle.vx_wire.specs.Seals.{digest_of};
 use crate::put_copy;
 use vx_copyfmt::AreaHeader;
 use vx_disk::{Shelf, ShelfError};
+use vx_model::limits::MOST_CONFIG_BYTES;
 
 /// The disk to which a copy could not be written, and why.
 #[derive(Clone, Copy, Debug, PartialEq, Eq)]
@@ -50,7 +51,7 @@ fn put_part<S: Shelf>(
     requires large { AreLarge (S.meaning shelf.old) }
     requires can { CanSpellArea header.now }
     requires whole { length body.now % 512 ≡ 0 }
-    requires few { length body.now ≤ 65024 }
+    requires few { length body.now ≤ MOST_CONFIG_BYTES }
     requires long { header.now.length ≤ length body.now }
     requires digest { header.now.digest ≡ digest_of (take header.now.length body.now) }
     ensures copied { Copied (IsMember (part_of set good which) (S.meaning shelf.old).units) header.now body.now (S.meaning shelf.old) (S.meaning shelf.new) }
@@ -82,7 +83,7 @@ pub fn put_copies<S: Shelf>(
     requires large { AreLarge (S.meaning shelf.old) }
     requires can { CanSpellArea header.now }
     requires whole { length body.now % 512 ≡ 0 }
-    requires few { length body.now ≤ 65024 }
+    requires few { length body.now ≤ MOST_CONFIG_BYTES }
     requires long { header.now.length ≤ length body.now }
     requires digest { header.now.digest ≡ digest_of (take header.now.length body.now) }
     ensures copied { Copied (IsMember (bit_at set) (S.meaning shelf.old).units) header.now body.now (S.meaning shelf.old) (S.meaning shelf.new) }
