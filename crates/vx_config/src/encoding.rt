@@ -11,7 +11,7 @@ use crate::fits::config_fits;
 use crate::shape::has_few_subdisks;
 use crate::spelling::page_of;
 use std::alloc::Global;
-use vx_model::limits::MOST_SUBDISKS;
+use vx_model::limits::{MOST_CONFIG_BYTES, MOST_SUBDISKS};
 use vx_model::{Bytes, Counted, No, Stop};
 use vx_wire::put_bytes;
 
@@ -55,7 +55,7 @@ pub fn encode_into(config: &Config, into: &mut [u8]) -> usize
 pub fn is_short(config: &Config)
     requires can { CanSpell config.now }
     requires few { subdisk_count config.now ≤ MOST_SUBDISKS }
-    ensures { length (spelled_config config.now) ≤ 65024 }
+    ensures { length (spelled_config config.now) ≤ MOST_CONFIG_BYTES }
 {
     config_fits(config);
 }

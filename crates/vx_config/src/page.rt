@@ -23,7 +23,9 @@ impl Model for Page {
 
     ghost view = { λ p. take p.len p.bytes };
 
-    ghost invariant = { λ p. p.len ≤ 65024 };
+    ghost use Rattle.vx_model.specs.declared.limits.TheConstants.{MOST_CONFIG_BYTES};
+
+    ghost invariant = { λ p. p.len ≤ MOST_CONFIG_BYTES };
 }
 
 impl Page {
@@ -40,7 +42,7 @@ impl Page {
     /// The bytes of the page.
     pub fn as_slice(&self) -> &[u8]
         ensures bytes { result.now ≡ self.now }
-        ensures few { length self.now ≤ 65024 }
+        ensures few { length self.now ≤ MOST_CONFIG_BYTES }
     {
         &self.bytes[..self.len]
     }

@@ -8,6 +8,7 @@ ghost use Rattle.vx_model.specs.declared.limits.TheConstants.{MOST_DATA_VOLUMES,
 
 use crate::page::Page;
 use crate::{Config, DiskEntry, LogEntry, PlexEntry, Subdisk, VolumeEntry};
+use vx_model::limits::MOST_CONFIG_BYTES;
 use vx_model::{PlexState, Units};
 
 // The version of the format that is written.
@@ -220,7 +221,7 @@ fn cut_page(config: &Config) -> Page
 /// A page with the bytes of a configuration, for which there is room.
 pub fn page_of(config: &Config) -> Page
     requires can { CanSpell config.now }
-    requires short { length (spelled_config config.now) ≤ 65024 }
+    requires short { length (spelled_config config.now) ≤ MOST_CONFIG_BYTES }
     ensures { result ≡ spelled_config config.now }
 {
     cut_page(config)
