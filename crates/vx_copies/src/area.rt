@@ -14,7 +14,7 @@ use std::alloc::Global;
 use vx_copyfmt::{AreaHeader, get_area};
 use vx_disk::Shelf;
 use vx_model::OutOfMemory;
-use vx_model::limits::BLOCK;
+use vx_model::limits::{BLOCK, MOST_CONFIG_BYTES};
 use vx_wire::digest;
 
 // What a header and its body are as a copy: none where the body is no configuration of this shelf, or has another serial than the header.
@@ -60,11 +60,11 @@ fn read_copy<S: Shelf>(
     requires large { area + 128 ≤ (S.meaning shelf.old).size disk }
     requires up { IsTrue (S.meaning shelf.old).down → ⊥ }
     requires can { CanSpellArea header.now }
-    requires room { length room.old ≡ 65024 }
+    requires room { length room.old ≡ MOST_CONFIG_BYTES }
     ensures sees { IfOk result (SeesBody disk area header.now (S.meaning shelf.old) (S.meaning shelf.new)) }
     ensures counts { IfOk result (CountsArea disk (S.meaning shelf.old).faults (S.meaning shelf.new).faults) }
     ensures fits { IfOk result (FitsArea (S.meaning shelf.old).units) }
-    ensures room { length room.new ≡ 65024 }
+    ensures room { length room.new ≡ MOST_CONFIG_BYTES }
     ensures goes { Goes Nothing (S.meaning shelf.old) (S.meaning shelf.new) }
     ensures down { (S.meaning shelf.new).down ≡ (S.meaning shelf.old).down }
     ensures disks { OnDisks (S.meaning shelf.old).disks (S.meaning shelf.new).disks Untouched }
@@ -92,11 +92,11 @@ pub fn read_area<S: Shelf>(
     requires large { area + 128 ≤ (S.meaning shelf.old).size disk }
     requires up { IsTrue (S.meaning shelf.old).down → ⊥ }
     requires header { IsHeaderBlock area }
-    requires room { length room.old ≡ 65024 }
+    requires room { length room.old ≡ MOST_CONFIG_BYTES }
     ensures sees { IfOk result (SeesArea disk area (S.meaning shelf.old) (S.meaning shelf.new)) }
     ensures counts { IfOk result (CountsArea disk (S.meaning shelf.old).faults (S.meaning shelf.new).faults) }
     ensures fits { IfOk result (FitsArea (S.meaning shelf.old).units) }
-    ensures room { length room.new ≡ 65024 }
+    ensures room { length room.new ≡ MOST_CONFIG_BYTES }
     ensures goes { Goes Nothing (S.meaning shelf.old) (S.meaning shelf.new) }
     ensures down { (S.meaning shelf.new).down ≡ (S.meaning shelf.old).down }
     ensures disks { OnDisks (S.meaning shelf.old).disks (S.meaning shelf.new).disks Untouched }

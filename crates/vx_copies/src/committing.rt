@@ -14,7 +14,7 @@ use crate::{has_good, hold_failed, put_config};
 use vx_config::{Config, is_short};
 use vx_disk::{Shelf, ShelfError};
 use vx_model::No;
-use vx_model::limits::MOST_NUMBER;
+use vx_model::limits::{MOST_CONFIG_BYTES, MOST_NUMBER};
 
 // One try under the next serial. A disk that fails is then held as failed.
 fn try_next<S: Shelf>(
@@ -27,7 +27,7 @@ fn try_next<S: Shelf>(
     requires can { CanSpell config.old }
     requires short { subdisk_count config.old ≤ MOST_SUBDISKS }
     requires wanted { is_wanted (S.meaning shelf.old).units (S.meaning shelf.old).size config.old ≡ true }
-    requires room { length room.old ≡ 65024 }
+    requires room { length room.old ≡ MOST_CONFIG_BYTES }
     requires more { config.old.serial < greatest }
     requires some { HasGood config.old.disks good }
     ensures can { CanSpell config.new }
@@ -80,7 +80,7 @@ pub fn try_all<S: Shelf>(
     requires can { CanSpell config.old }
     requires short { subdisk_count config.old ≤ MOST_SUBDISKS }
     requires wanted { is_wanted (S.meaning shelf.old).units (S.meaning shelf.old).size config.old ≡ true }
-    requires room { length room.old ≡ 65024 }
+    requires room { length room.old ≡ MOST_CONFIG_BYTES }
     requires more { config.old.serial < greatest }
     ensures can { CanSpell config.new }
     ensures short { subdisk_count config.new ≤ MOST_SUBDISKS }

@@ -13,7 +13,7 @@ use vx_copyfmt::{LabelSeen, get_label};
 use vx_copyio::{AREA_A, AREA_B};
 use vx_disk::Shelf;
 use vx_model::OutOfMemory;
-use vx_model::limits::BLOCK;
+use vx_model::limits::{BLOCK, MOST_CONFIG_BYTES};
 
 // The greater of two copies: the first where both have one serial.
 fn greater(first: Option<CopySeen>, second: Option<CopySeen>) -> Option<CopySeen>
@@ -43,11 +43,11 @@ fn look_areas<S: Shelf>(
     requires there { disk < (S.meaning shelf.old).units }
     requires large { 257 ≤ (S.meaning shelf.old).size disk }
     requires up { IsTrue (S.meaning shelf.old).down → ⊥ }
-    requires room { length room.old ≡ 65024 }
+    requires room { length room.old ≡ MOST_CONFIG_BYTES }
     ensures sees { IfOk result (SeesAreas disk (S.meaning shelf.old) (S.meaning shelf.new)) }
     ensures counts { IfOk result (CountsDisk disk (S.meaning shelf.old).faults (S.meaning shelf.new).faults) }
     ensures fits { IfOk result (FitsDisk (S.meaning shelf.old).units) }
-    ensures room { length room.new ≡ 65024 }
+    ensures room { length room.new ≡ MOST_CONFIG_BYTES }
     ensures goes { Goes Nothing (S.meaning shelf.old) (S.meaning shelf.new) }
     ensures down { (S.meaning shelf.new).down ≡ (S.meaning shelf.old).down }
     ensures disks { OnDisks (S.meaning shelf.old).disks (S.meaning shelf.new).disks Untouched }
@@ -74,11 +74,11 @@ pub fn look<S: Shelf>(
     requires there { disk < (S.meaning shelf.old).units }
     requires large { 257 ≤ (S.meaning shelf.old).size disk }
     requires up { IsTrue (S.meaning shelf.old).down → ⊥ }
-    requires room { length room.old ≡ 65024 }
+    requires room { length room.old ≡ MOST_CONFIG_BYTES }
     ensures sees { IfOk result (SeesDisk disk (S.meaning shelf.old) (S.meaning shelf.new)) }
     ensures counts { IfOk result (CountsDisk disk (S.meaning shelf.old).faults (S.meaning shelf.new).faults) }
     ensures fits { IfOk result (FitsDisk (S.meaning shelf.old).units) }
-    ensures room { length room.new ≡ 65024 }
+    ensures room { length room.new ≡ MOST_CONFIG_BYTES }
     ensures goes { Goes Nothing (S.meaning shelf.old) (S.meaning shelf.new) }
     ensures down { (S.meaning shelf.new).down ≡ (S.meaning shelf.old).down }
     ensures disks { OnDisks (S.meaning shelf.old).disks (S.meaning shelf.new).disks Untouched }

@@ -23,7 +23,9 @@ impl Model for Room {
 
     ghost view = { λ r. vec_len r.bytes };
 
-    ghost invariant = { λ r. vec_len r.bytes ≡ 65024 };
+    ghost use Rattle.vx_model.specs.declared.limits.TheConstants.{MOST_CONFIG_BYTES};
+
+    ghost invariant = { λ r. vec_len r.bytes ≡ MOST_CONFIG_BYTES };
 }
 
 impl Room {

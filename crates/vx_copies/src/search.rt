@@ -14,7 +14,7 @@ use crate::{CopySeen, DiskSeen};
 use std::alloc::Global;
 use vx_disk::Shelf;
 use vx_model::OutOfMemory;
-use vx_model::limits::{DISK_PLACES, MOST_DISKS};
+use vx_model::limits::{DISK_PLACES, MOST_CONFIG_BYTES, MOST_DISKS};
 
 /// The greatest copy so far, with its disk.
 #[derive(Drop)]
@@ -107,7 +107,7 @@ pub fn search_all<S: Shelf>(
 ) -> Result<Search, OutOfMemory>
     requires up { IsTrue (S.meaning shelf.old).down → ⊥ }
     requires large { AreLarge (S.meaning shelf.old) }
-    requires room { length room.old ≡ 65024 }
+    requires room { length room.old ≡ MOST_CONFIG_BYTES }
     ensures searched { IfOk result (Searched (S.meaning shelf.old).units (S.meaning shelf.old) (S.meaning shelf.new)) }
     ensures goes { Goes Nothing (S.meaning shelf.old) (S.meaning shelf.new) }
     ensures down { (S.meaning shelf.new).down ≡ (S.meaning shelf.old).down }

@@ -9,7 +9,7 @@ ghost use Rattle.vx_model.specs.declared.limits.TheConstants.{MOST_SUBDISKS};
 
 use vx_config::{Config, encode_into, is_short};
 use vx_copyfmt::AreaHeader;
-use vx_model::limits::BLOCK;
+use vx_model::limits::{BLOCK, MOST_CONFIG_BYTES};
 use vx_wire::{digest, put_zeros};
 
 /// Spells a configuration at the front of a room, with zeros up to the end of its last block. Gives the header of a copy of it, and
@@ -27,7 +27,7 @@ pub fn spell(config: &Config, room: &mut [u8]) -> (AreaHeader, usize)
     ensures bytes { result.1 ≡ body_bytes config.now }
     ensures inside { result.0.length ≤ result.1 }
     ensures whole { result.1 % 512 ≡ 0 }
-    ensures few { result.1 ≤ 65024 }
+    ensures few { result.1 ≤ MOST_CONFIG_BYTES }
     ensures kept { length room.new ≡ length room.old }
     ensures has { HasSpelling config.now }
 {
