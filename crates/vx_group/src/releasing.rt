@@ -5,7 +5,7 @@ ghost use Rattle.vx_config.specs.Table.{greatest};
 ghost use Rattle.vx_copies.specs.Commits.{MoreFailed};
 ghost use Rattle.vx_group.specs.Attaches.{HasOther};
 ghost use Rattle.vx_group.specs.Blames.{Blames};
-ghost use Rattle.vx_group.specs.GivesUp.{NoCommit};
+ghost use Rattle.vx_group.specs.GivesUp.{KeepsVolumes, NoCommit};
 ghost use Rattle.vx_group.specs.Holding.{GroupStands, wide};
 ghost use Rattle.vx_group.specs.Moves.{Narrows};
 ghost use Rattle.vx_group.specs.Stands.{InnerStands};
@@ -41,6 +41,7 @@ pub fn detach_plex<S: Shelf>(
     ensures newest { OnOk result (IsCommitted core.new.config (S.meaning shelf.new)) }
     ensures others { (w p : ℕ) → (w ≡ vol → p ≡ plex → ⊥) → active core.new.config w p ≡ active core.old.config w p }
     ensures kept { (core.new.config.volumes ≡ core.old.config.volumes) ⊎ (core.new.config.volumes ≡ (stale_at vol plex core.old.config).volumes) }
+    ensures keeps { KeepsVolumes core.old.config core.new.config result }
     ensures parts { SameParts core.old.config core.new.config }
     ensures failing { MoreFailed (S.meaning shelf.old) (S.meaning shelf.new) core.old.config.disks core.new.config.disks }
     ensures few { OnOk result (core.new.config.serial ≤ core.old.config.serial + 9) }
