@@ -1,6 +1,6 @@
 // A plex that is detached by one commit, as the one that is held back before the next call.
 ghost use Rattle.vx_group.specs.Finds.{CoreFinds, GroupFinds};
-ghost use Rattle.std.specs.Prelude.{◌≡◌, ◌⊎◌, ◌+◌, ◌<◌, ◌≤◌, ℕ, false, true, None, OnOk, IfErr, IsTrue};
+ghost use Rattle.std.specs.Prelude.{◌≡◌, ◌⊎◌, ◌+◌, ◌<◌, ◌≤◌, ℕ, false, true, None, OnOk, IfErr, IsOk, IsTrue};
 ghost use Rattle.vx_config.specs.Table.{greatest};
 ghost use Rattle.vx_copies.specs.Commits.{MoreFailed};
 ghost use Rattle.vx_group.specs.Attaches.{HasOther};
@@ -76,6 +76,7 @@ pub fn release<S: Shelf>(shelf: &mut S, core: &mut GroupCore) -> Result<(), Shel
     ensures few { OnOk result (core.new.inner.config.serial ≤ core.old.inner.config.serial + 9) }
     ensures done { core.old.inner.config.serial < greatest → OnOk result (core.new.held ≡ None) }
     ensures none { core.old.held ≡ None → (core.new ≡ core.old) × (shelf.new ≡ shelf.old) }
+    ensures idle { core.old.held ≡ None → IsOk result }
     ensures missed { IfErr result (λ e. NoCommit core.new.inner (S.meaning shelf.new)) }
     ensures trust { OnOk result (core.old.inner.committed ≡ true → core.new.inner.committed ≡ true) }
     ensures agreed { IfErr result (λ e. core.old.inner.committed ≡ true → core.new.inner.agreed ≡ true) }
