@@ -1,5 +1,5 @@
 -- When a write or a flush of a volume gives up.
-use Rattle.std.proofs.Common.{◌≡◌, inl, inr, ⊎_elim, ℕ, zero, suc, ◌≤◌, Bool, IsTrue, List, Result, Ok, Err, IfErr, refl, ap, sym, ◌∙◌}
+use Rattle.std.proofs.Common.{◌≡◌, ◌⊎◌, inl, inr, ⊎_elim, ℕ, zero, suc, ◌≤◌, Bool, IsTrue, List, Result, Ok, Err, IfErr, refl, ap, sym, ◌∙◌}
 use Rattle.std.specs.Prelude.{if◌then◌else◌, slice_get}
 use Rattle.vx_disk.specs.Shelf.{Meaning}
 use Rattle.vx_disk.specs.declared.shelf.ShelfError.{ShelfError}
