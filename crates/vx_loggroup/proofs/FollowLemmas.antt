@@ -242,6 +242,7 @@ copied_holds meaning c d v p s1 s2 faults it = record {
   config = it.config;
   volumes = it.volumes;
   now = it.now;
+  rises = λ u. (let one = it.rises u in let two = faults u in omega (arith, one, two));
   failing = record {
     count = it.failing.count;
     blocks = it.failing.blocks;

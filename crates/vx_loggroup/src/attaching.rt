@@ -23,8 +23,8 @@ use vx_model::Stop;
 use vx_model::limits::MOST_VOLUMES;
 use vx_volume::plex_count;
 
-// The maps of a volume in memory, where there are any.
-fn fmr_of(logs: &[Logs], vol: usize) -> Option<&Fmr>
+/// The maps of a volume in memory, where there are any.
+pub fn fmr_of(logs: &[Logs], vol: usize) -> Option<&Fmr>
     ensures { option_copied result ≡ fmr_at logs.now vol }
 {
     match logs.get(vol) {
