@@ -100,9 +100,9 @@ fn touches(config: &Config, vol: u32, failed: &[bool; MOST_DISKS as usize]) -> b
     false
 }
 
-// Whether a volume has a log that is not held as lost.
+/// Whether a volume has a log that is not held as lost.
 #[tactic(auto, unfolding(vx_kept::specs::LogRuns::log_trusted))]
-fn is_trusted(config: &Config, vol: u32, log: VolumeLog) -> bool
+pub fn is_trusted(config: &Config, vol: u32, log: VolumeLog) -> bool
     ensures { result ≡ log_trusted config.now vol log }
 {
     match log_of(config, vol, log) {
