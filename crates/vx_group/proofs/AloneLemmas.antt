@@ -1,5 +1,5 @@
 -- A call over the parts of a group of which no plex is held back, and the plex that is held back behind it.
-use Rattle.std.proofs.Common.{◌≡◌, None, ℕ, List, ap, sym, ◌∙◌, subst, length}
+use Rattle.std.proofs.Common.{◌≡◌, None, Option, ℕ, List, ap, sym, ◌∙◌, subst}
 use Rattle.vx_disk.specs.Shelf.{Goes, Meaning, Nothing}
 use Rattle.vx_config.specs.declared.config.Config.{Config}
 use Rattle.vx_config.specs.declared.entry.DiskEntry.{DiskEntry}

@@ -51,10 +51,10 @@ use Rattle.vx_loggroup.proofs.StayLemmas.{each_idle}
 
 -- another plex than the one that is attached is ACTIVE
 pub source_other : (c d : GroupCore) (a : List Bool) (s : Bool) (v p q : ℕ) (f : Option Missed) (m m' : Meaning) → MapSource c.inner.config a s v p q → GroupAttaches v p f c d m m' → HasOther d.inner.config v p
-source_other c d a s v p q f m m' source it = record { plex = q; is_on = it.others v q (λ one same. apart same) ∙ source.on; apart = apart }
+source_other c d a s v p q f m m' source it = record { plex = q; is_on = it.others v q (λ one same. other same) ∙ source.on; apart = other }
   where
-    apart : q ≡ p → ⊥
-    apart same = let clash : false ≡ true = sym source.off ∙ ap (active c.inner.config v) (sym same) ∙ source.on in cc
+    other : q ≡ p → ⊥
+    other same = let clash : false ≡ true = sym source.off ∙ ap (active c.inner.config v) (sym same) ∙ source.on in cc
 
 pub idle_logged : (c d : GroupCore) (ls : List Logs) (a : List Bool) (s : Bool) (m m' : Meaning) → LoggedStands c ls a s m → GroupStands d m' → SameShape d.inner.config c.inner.config → Goes Nothing (inner_meaning (wide c) m) (inner_meaning (wide d) m') → Acts Nothing AnyImage m m'
     → LoggedStands d ls a s m'
