@@ -1,14 +1,12 @@
 -- Maps that go from memory behind an attach: the commit that their log is lost, and what the attach is then.
-use Rattle.std.proofs.Common.{◌≡◌, ◌⊎◌, ◌∙◌, inl, inr, ⊎_elim, ℕ, ◌+◌, ◌<◌, ◌≤◌, Bool, true, false, Option, Some, None, List, IsTrue, refl, sym, ap, subst, arith}
+use Rattle.std.proofs.Common.{◌≡◌, ◌∙◌, inl, inr, ⊎_elim, ℕ, ◌+◌, ◌<◌, ◌≤◌, Bool, true, false, Option, Some, None, List, IsTrue, refl, sym, ap, subst, arith}
 use Rattle.std.proofs.lemmas.Bool.{cases_lt}
 use Rattle.std.specs.Prelude.{◌||◌, ◌&&◌, not, IfErr, Result, Ok, Err, is_some, slice_get}
 use Rattle.vx_config.specs.Table.{greatest}
 use Rattle.vx_config.specs.declared.config.Config.{Config}
-use Rattle.vx_config.specs.declared.entry.Subdisk.{Subdisk}
 use Rattle.vx_config.specs.declared.entry.VolumeLog.{VolumeLog}
 use Rattle.vx_config.specs.declared.entry.VolumeLog.TheVariants.{Fmr}
 use Rattle.vx_copies.specs.Commits.{MoreFailed}
-use Rattle.vx_disk.specs.Counts.{Rose}
 use Rattle.vx_disk.specs.Shelf.{Goes, Meaning, Nothing, Or, Values}
 use Rattle.vx_disk.proofs.Causing.{Rose_after, Rose_before}
 use Rattle.vx_disk.proofs.Runs.{then_nothing}
@@ -30,7 +28,7 @@ use Rattle.vx_group.proofs.LoseLemmas.{none_parts, then_parts}
 use Rattle.vx_groupmaps.specs.Loading.{on_failed_disk}
 use Rattle.vx_groupmaps.specs.Missing.{OnMaps}
 use Rattle.vx_kept.specs.Keeping.{Acts, SameShape}
-use Rattle.vx_kept.specs.LogRuns.{log_place, log_trusted}
+use Rattle.vx_kept.specs.LogRuns.{log_trusted}
 use Rattle.vx_kept.proofs.StateLemmas.{same_shape, then_shape}
 use Rattle.vx_kept.proofs.Steps.{both_Acts, same_Acts, wide_Acts}
 use Rattle.vx_logged.specs.Behind.{MapSaid}
@@ -39,7 +37,7 @@ use Rattle.vx_model.specs.declared.errors.Stop.{Stop}
 use Rattle.vx_model.specs.declared.errors.Stop.TheVariants.{No as Refused, OutOfMemory}
 use Rattle.vx_volume.specs.Plexes.{active}
 use Rattle.vx_loggroup.specs.Attaching.{LoggedAttaches, MapSource, MapsHeld, OnAttached, fmr_at, fmr_or, leaves_maps, maps_gone, went}
-use Rattle.vx_loggroup.specs.Keeping.{LogsKeep, LogsStay, in_memory, logs_at, logs_or, uses_log}
+use Rattle.vx_loggroup.specs.Keeping.{LogsKeep, LogsStay, in_memory, logs_at, logs_or}
 use Rattle.vx_loggroup.specs.LoggedVolumes.{LoggedStands}
 use Rattle.vx_loggroup.proofs.AlikeLemmas.{all_whole}
 use Rattle.vx_loggroup.proofs.EndedLemmas.{memory_is}
