@@ -1,14 +1,12 @@
 -- Maps that go from memory behind an attach: the commit that their log is lost, and what the attach is then.
-use Rattle.std.proofs.Common.{◌≡◌, ◌⊎◌, ◌∙◌, inl, inr, ⊎_elim, ℕ, ◌+◌, ◌<◌, ◌≤◌, Bool, true, false, Option, Some, None, List, IsTrue, refl, sym, ap, subst, arith}
+use Rattle.std.proofs.Common.{◌≡◌, ◌∙◌, inl, inr, ⊎_elim, ℕ, ◌+◌, ◌<◌, ◌≤◌, Bool, true, false, Option, Some, None, List, IsTrue, refl, sym, ap, subst, arith}
 use Rattle.std.proofs.lemmas.Bool.{cases_lt}
 use Rattle.std.specs.Prelude.{◌||◌, ◌&&◌, not, IfErr, Result, Ok, Err, is_some, slice_get}
 use Rattle.vx_config.specs.Table.{greatest}
 use Rattle.vx_config.specs.declared.config.Config.{Config}
-use Rattle.vx_config.specs.declared.entry.Subdisk.{Subdisk}
 use Rattle.vx_config.specs.declared.entry.VolumeLog.{VolumeLog}
 use Rattle.vx_config.specs.declared.entry.VolumeLog.TheVariants.{Fmr}
 use Rattle.vx_copies.specs.Commits.{MoreFailed}
-use Rattle.vx_disk.specs.Counts.{Rose}
 use Rattle.vx_disk.specs.Shelf.{Goes, Meaning, Nothing, Or, Values}
 use Rattle.vx_disk.proofs.Causing.{Rose_after, Rose_before}
 use Rattle.vx_disk.proofs.Runs.{then_nothing}
@@ -30,7 +28,7 @@ use Rattle.vx_group.proofs.LoseLemmas.{none_parts, then_parts}
 use Rattle.vx_groupmaps.specs.Loading.{on_failed_disk}
 use Rattle.vx_groupmaps.specs.Missing.{OnMaps}
 use Rattle.vx_kept.specs.Keeping.{Acts, SameShape}
-use Rattle.vx_kept.specs.LogRuns.{log_place, log_trusted}
+use Rattle.vx_kept.specs.LogRuns.{log_trusted}
 use Rattle.vx_kept.proofs.StateLemmas.{same_shape, then_shape}
 use Rattle.vx_kept.proofs.Steps.{both_Acts, same_Acts, wide_Acts}
 use Rattle.vx_logged.specs.Behind.{MapSaid}
@@ -39,7 +37,7 @@ use Rattle.vx_model.specs.declared.errors.Stop.{Stop}
 use Rattle.vx_model.specs.declared.errors.Stop.TheVariants.{No as Refused, OutOfMemory}
 use Rattle.vx_volume.specs.Plexes.{active}
 use Rattle.vx_loggroup.specs.Attaching.{LoggedAttaches, MapSource, MapsHeld, OnAttached, fmr_at, fmr_or, leaves_maps, maps_gone, went}
-use Rattle.vx_loggroup.specs.Keeping.{LogsKeep, LogsStay, in_memory, logs_at, logs_or, uses_log}
+use Rattle.vx_loggroup.specs.Keeping.{LogsKeep, LogsStay, in_memory, logs_at, logs_or}
 use Rattle.vx_loggroup.specs.LoggedVolumes.{LoggedStands}
 use Rattle.vx_loggroup.proofs.AlikeLemmas.{all_whole}
 use Rattle.vx_loggroup.proofs.EndedLemmas.{memory_is}
@@ -51,10 +49,10 @@ use Rattle.vx_loggroup.proofs.StayLemmas.{each_idle}
 
 -- another plex than the one that is attached is ACTIVE
 pub source_other : (c d : GroupCore) (a : List Bool) (s : Bool) (v p q : ℕ) (f : Option Missed) (m m' : Meaning) → MapSource c.inner.config a s v p q → GroupAttaches v p f c d m m' → HasOther d.inner.config v p
-source_other c d a s v p q f m m' source it = record { plex = q; is_on = it.others v q (λ one same. apart same) ∙ source.on; apart = apart }
+source_other c d a s v p q f m m' source it = record { plex = q; is_on = it.others v q (λ one same. other same) ∙ source.on; apart = other }
   where
-    apart : q ≡ p → ⊥
-    apart same = let clash : false ≡ true = sym source.off ∙ ap (active c.inner.config v) (sym same) ∙ source.on in cc
+    other : q ≡ p → ⊥
+    other same = let clash : false ≡ true = sym source.off ∙ ap (active c.inner.config v) (sym same) ∙ source.on in cc
 
 pub idle_logged : (c d : GroupCore) (ls : List Logs) (a : List Bool) (s : Bool) (m m' : Meaning) → LoggedStands c ls a s m → GroupStands d m' → SameShape d.inner.config c.inner.config → Goes Nothing (inner_meaning (wide c) m) (inner_meaning (wide d) m') → Acts Nothing AnyImage m m'
     → LoggedStands d ls a s m'
