@@ -1,5 +1,5 @@
 -- When a write or a flush of a volume gives up.
-use Rattle.std.proofs.Common.{◌≡◌, inl, inr, ⊎_elim, ℕ, zero, suc, ◌≤◌, Bool, List, Result, Ok, Err, IfErr, refl, ap, sym, ◌∙◌}
+use Rattle.std.proofs.Common.{◌≡◌, ◌⊎◌, inl, inr, ⊎_elim, ℕ, zero, suc, ◌≤◌, Bool, IsTrue, List, Result, Ok, Err, IfErr, refl, ap, sym, ◌∙◌}
 use Rattle.std.specs.Prelude.{if◌then◌else◌, slice_get}
 use Rattle.vx_disk.specs.Shelf.{Meaning}
 use Rattle.vx_disk.specs.declared.shelf.ShelfError.{ShelfError}
@@ -30,6 +30,11 @@ none_changed v set c d same is = same ∙ ap (λ (x : Config). x.volumes) (stale
 pub keeps_volumes : (c d : Config) (error : ShelfError) → d.volumes ≡ c.volumes → KeepsVolumes {T = Unit {0}} c d (Err error)
 keeps_volumes c d (Fault disk) same = same
 keeps_volumes c d Down same = tt
+
+-- behind a refusal the volumes are as they were, or the shelf is down
+pub kept_or_down : (b c d : Config) (old new : Meaning) (error : ShelfError) → c.volumes ≡ b.volumes → KeepsVolumes {T = Unit {0}} c d (Err error) → Blames {T = Unit {0}} old new (Err error) → IsTrue new.down ⊎ (d.volumes ≡ b.volumes)
+kept_or_down b c d old new (Fault disk) volumes keeps why = inr (keeps ∙ volumes)
+kept_or_down b c d old new Down volumes keeps down = inl down
 
 -- ---- why
 

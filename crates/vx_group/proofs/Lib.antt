@@ -32,6 +32,7 @@ pub mod FinishLemmas
 pub mod SourceLemmas
 pub mod GivingLemmas
 pub mod HoldLemmas
+pub mod AloneLemmas
 pub mod FoundThrough
 pub mod ThroughLemmas
 pub mod BehindLemmas

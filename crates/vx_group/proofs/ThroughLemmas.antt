@@ -329,6 +329,7 @@ holds_first meaning m m1 c mid d v p last volumes failing it = record {
     held = it.now.held;
     committed = λ on. it.now.committed (record { disk = on.disk; lies = uses_volumes c mid volumes v p on.disk ∙ on.lies; failed = failing.stays on.disk on.failed });
   };
+  rises = it.rises;
   failing = it.failing;
 }
 

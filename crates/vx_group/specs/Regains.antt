@@ -1,5 +1,5 @@
 -- Disks that are held as good again before a plex on them is attached.
-use Rattle.std.specs.Prelude.{◌≡◌, ◌⊎◌, ℕ, ◌<◌, Bool, true, false, slice_set}
+use Rattle.std.specs.Prelude.{◌≡◌, ◌⊎◌, ℕ, ◌<◌, ◌≤◌, Bool, true, false, slice_set}
 use Rattle.vx_disk.specs.Counts.{Rose}
 use Rattle.vx_disk.specs.Shelf.{Meaning}
 use Rattle.vx_config.specs.declared.config.Config.{Config}
@@ -48,10 +48,11 @@ pub record HoldsNow (c d : Config) (v p : ℕ) (m : Meaning) : Type 0 where
   pub committed : LiesOnFailed c v p → IsCommitted d m
 
 -- There was a moment at which each disk on which the plex lies was held as good, by each image too where one was held as failed before; since then
--- a disk came to be held as failed only where a call on it failed.
+-- no count of a unit fell, and a disk came to be held as failed only where a call on it failed.
 pub record HoldsPlex {T : Type 0} (meaning : T → Meaning) (c d : Config) (v p : ℕ) (new : T) : Type 0 where
   pub moment : T
   pub config : Config
   pub volumes : config.volumes ≡ c.volumes
   pub now : HoldsNow c config v p (meaning moment)
+  pub rises : (u : ℕ) → (meaning moment).faults u ≤ (meaning new).faults u
   pub failing : MoreFailed (meaning moment) (meaning new) config.disks d.disks

@@ -110,6 +110,7 @@ pub fn att_in<S: Shelf>(
     ensures trust { OnOk result (core.old.inner.committed ≡ true → core.new.inner.committed ≡ true) }
     ensures finds { CoreFinds (wide core.old) (wide core.new) (S.meaning shelf.old) (S.meaning shelf.new) }
     ensures free { OnOk result (core.old.held ≡ None → core.new.held ≡ None) }
+    ensures alone { active core.old.inner.config vol plex ≡ false → OnOk result (core.new.held ≡ None) }
     ensures logs { TrustsStill core.old.inner.config core.new.inner.config }
     ensures cause { att_refusal core.old.inner.config vol plex ≡ None → DetStops (S.meaning shelf.old) (S.meaning shelf.new) result }
 {

@@ -1,6 +1,6 @@
 // A plex that is detached by its name.
 ghost use Rattle.vx_group.specs.Finds.{GroupFinds};
-ghost use Rattle.std.specs.Prelude.{◌≡◌, ℕ, false, true, IsOk, IsTrue, Some, None, Err, OnOk, IfErr};
+ghost use Rattle.std.specs.Prelude.{◌≡◌, ◌⊎◌, ℕ, false, true, IsOk, IsTrue, Some, None, Err, OnOk, IfErr};
 ghost use Rattle.vx_copies.specs.Commits.{MoreFailed};
 ghost use Rattle.vx_disk.specs.Shelf.{Goes, Nothing};
 ghost use Rattle.vx_group.specs.Dets.{DetStops, det_refusal};
@@ -52,7 +52,8 @@ pub fn refuse_det(config: &Config, vol: u32, plex: u32) -> Option<No>
 ///
 /// Answers 1 exactly where there is no such volume or plex, else 10 exactly where no other plex of the volume is ACTIVE, else 19 exactly
 /// where fewer than 65,536 serials are left, and then nothing has changed; else 7 only where the count of the disk that it names rose, and
-/// 6 only where the shelf is then down. It makes no device call but those of a commit, takes no memory, and touches no block of a plex.
+/// 6 only where the shelf is then down. Where it is refused and the shelf is not down, each plex is in the state in which it was. It makes
+/// no device call but those of a commit, takes no memory, and touches no block of a plex.
 pub fn det_in<S: Shelf>(
     shelf: &mut S,
     core: &mut GroupCore,
@@ -71,6 +72,7 @@ pub fn det_in<S: Shelf>(
     ensures off { OnOk result (active core.new.inner.config vol plex ≡ false) }
     ensures free { IsTrue (active core.old.inner.config vol plex) → OnOk result (core.new.held ≡ None) }
     ensures others { (w p : ℕ) → (w ≡ vol → p ≡ plex → ⊥) → active core.new.inner.config w p ≡ active core.old.inner.config w p }
+    ensures stays { IfErr result (λ stop. IsTrue (S.meaning shelf.new).down ⊎ (core.new.inner.config.volumes ≡ core.old.inner.config.volumes)) }
     ensures trust { OnOk result (core.old.inner.committed ≡ true → core.new.inner.committed ≡ true) }
     ensures agreed { IfErr result (λ e. core.old.inner.committed ≡ true → core.new.inner.agreed ≡ true) }
     ensures finds { GroupFinds core.old core.new (S.meaning shelf.old) (S.meaning shelf.new) }

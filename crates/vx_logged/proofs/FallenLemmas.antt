@@ -1,5 +1,5 @@
 -- Maps of plexes of a list that begin one after the other, and marks behind them.
-use Rattle.std.proofs.Common.{◌≡◌, ◌∙◌, inl, inr, ℕ, ◌+◌, ◌/◌, ◌<◌, ◌≤◌, Bool, true, false, Option, Some, None, List, IsTrue, refl, sym, ap, subst, arith}
+use Rattle.std.proofs.Common.{◌≡◌, ◌∙◌, ◌⊎◌, inl, inr, ℕ, ◌+◌, ◌/◌, ◌<◌, ◌≤◌, Bool, true, false, Option, Some, None, List, IsTrue, refl, sym, ap, subst, arith}
 use Rattle.std.specs.Prelude.{◌*◌, ◌&&◌, ◌||◌, not, Result, Ok, Err}
 use Rattle.std.proofs.lemmas.Bool.{cases_eq, eq-eqb}
 use Rattle.vx_bitmap.specs.Bits.{is_among}
@@ -13,6 +13,7 @@ use Rattle.vx_disk.proofs.Causing.{Rose_before}
 use Rattle.vx_disk.proofs.Runs.{both_Goes, same_Goes, then_nothing, weaker}
 use Rattle.vx_drl.specs.Dirty.{Dirty}
 use Rattle.vx_fmr.specs.Missed.{Missed, SameMissedShape, has_missed}
+use Rattle.vx_group.specs.GivesUp.{GivesUp}
 use Rattle.vx_group.specs.Holding.{GroupStands, wide}
 use Rattle.vx_group.specs.Stands.{inner_meaning}
 use Rattle.vx_group.specs.declared.group_core.GroupCore.{GroupCore}
@@ -26,6 +27,7 @@ use Rattle.vx_groupmaps.specs.Knowing.{MapsStay, MapsNote, PlexesKnow, or_off}
 use Rattle.vx_groupmaps.specs.Missing.{OnMaps, none_spared, or_run}
 use Rattle.vx_groupmaps.proofs.KnowLemmas.{know_less, note_same, plex_below}
 use Rattle.vx_kept.specs.Finds.{FindsFrom, NoConfiguration}
+use Rattle.vx_kept.proofs.Chosen.{active_volumes}
 use Rattle.vx_layout.specs.Places.{HasBlock}
 use Rattle.vx_logs.specs.Held.{LogsFit}
 use Rattle.vx_model.specs.Sizes.{map_blocks}
@@ -277,3 +279,13 @@ fewer_drl n l k same = record { each = λ r lt is. subst (λ (o : Option Dirty).
 
 pub fewer_before : (n n' : ℕ) (l k j : Logs) → n' ≡ n → k.drl ≡ l.drl → MarksFewer n' k j → MarksFewer n l j
 fewer_before n n' l k j size same one = record { each = λ r lt is. subst (λ (o : Option Dirty). dirty_or o r ≡ true) same (one.each r (omega (arith, lt, size)) is) }
+
+-- a call that gives up takes no plex out of use, or the shelf is down
+pub gave_off : (v : ℕ) (c d : GroupCore) (a b m m' : Meaning) (l : Logs) (error : ShelfError) → GivesUp {T = Unit {0}} v c.inner d.inner m m' (Err error) → Cause {T = Unit {0}} a b v (Err error) → IsTrue b.down ⊎ MapsOff (fell_in c d v) l
+gave_off v c d a b m m' l (Fault disk) gave why = inr (record { none = λ f is p r low under fell. absurd (never (active c.inner.config v p) (active d.inner.config v p) (active_volumes d.inner.config c.inner.config gave.0 v p) fell) })
+  where
+    never : (t u : Bool) → u ≡ t → (t && not u) ≡ true → ⊥
+    never true true same fell = let clash : false ≡ true = fell in cc
+    never true false same fell = let clash : false ≡ true = same in cc
+    never false u same fell = let clash : false ≡ true = fell in cc
+gave_off v c d a b m m' l Down gave why = inl why

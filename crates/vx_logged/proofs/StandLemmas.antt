@@ -3,7 +3,7 @@ use Rattle.std.proofs.Common.{◌≡◌, ◌∙◌, inl, inr, ⊎_elim, ℕ, ◌
 use Rattle.vx_config.specs.Checks.{blocks_of, is_sound}
 use Rattle.vx_config.specs.declared.config.Config.{Config}
 use Rattle.vx_model.specs.declared.site.PlexState.TheVariants.{Stale}
-use Rattle.std.specs.Prelude.{IfOk, Result, Ok, Err, not}
+use Rattle.std.specs.Prelude.{IfErr, IfOk, Result, Ok, Err, not}
 use Rattle.vx_disk.specs.Causes.{Cause}
 use Rattle.vx_disk.specs.declared.shelf.ShelfError.{ShelfError}
 use Rattle.vx_disk.specs.declared.shelf.ShelfError.TheVariants.{Fault, Down}
@@ -272,3 +272,7 @@ no_regions c d v blocks l m m' none goes is zero = record {
 pub if_ok_any : {T E : Type 0} {P : T → Type 0} (r : Result T E) → ((x : T) → P x) → IfOk r P
 if_ok_any (Ok x) f = f x
 if_ok_any (Err error) f = tt
+
+pub if_err_any : {T E P : Type 0} (r : Result T E) → P → IfErr r (λ e. P)
+if_err_any (Ok x) p = tt
+if_err_any (Err error) p = p

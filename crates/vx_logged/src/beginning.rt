@@ -2,7 +2,7 @@
 ghost use Rattle.vx_grouplogs.specs.Gone.{LogsDrop};
 ghost use Rattle.vx_kept.specs.Finds.{FindsFrom, NoConfiguration};
 ghost use Rattle.vx_group.specs.Finds.{GroupFinds};
-ghost use Rattle.std.specs.Prelude.{◌≡◌, ◌+◌, ◌<◌, ◌≤◌, ℕ, Bool, IfErr, IfOk, IsTrue, None, OnOk, false, true};
+ghost use Rattle.std.specs.Prelude.{◌≡◌, ◌⊎◌, ◌+◌, ◌<◌, ◌≤◌, ℕ, Bool, IfErr, IfOk, IsTrue, None, OnOk, false, true};
 ghost use Rattle.vx_config.specs.Checks.{blocks_of as blocks_of_is, plexes_of};
 ghost use Rattle.vx_config.specs.Table.{greatest};
 ghost use Rattle.vx_disk.specs.Causes.{Cause};
@@ -176,7 +176,8 @@ pub fn mark_fallen<S: Shelf>(
 }
 
 /// Empties the maps of the plexes of a list that are not ACTIVE, which read in each block what those read that are ACTIVE, and answers whether it
-/// is done: so it is while a serial is left. A log of which the disk fails is committed as lost.
+/// is done: so it is while a serial is left. A log of which the disk fails is committed as lost. Where no plex was held back they are empty behind
+/// a refusal too, unless the shelf is down.
 pub fn keep_fallen<S: Shelf>(
     shelf: &mut S,
     core: &mut GroupCore,
@@ -200,6 +201,7 @@ pub fn keep_fallen<S: Shelf>(
     ensures maps { Known core.old vol logs.old (S.meaning shelf.old) → Known core.new vol logs.new (S.meaning shelf.new) }
     ensures notes { MapsBut (fell_now was.now core.new vol) none_missing 0 0 logs.old logs.new }
     ensures begins { IfOk result (λ done. done ≡ true → MapsOff (fell_now was.now core.new vol) logs.new) }
+    ensures left { core.old.held ≡ None → IfErr result (λ e. IsTrue (S.meaning shelf.new).down ⊎ MapsOff (fell_now was.now core.new vol) logs.new) }
     ensures spent { IfOk result (λ done. done ≡ false → greatest ≤ core.new.inner.config.serial + 9) }
     ensures drops { LogsDrop (wide core.old).config vol logs.old logs.new (S.meaning shelf.old) (S.meaning shelf.new) }
     ensures trusts { TrustsIn vol logs.new core.old.inner.config core.new.inner.config }

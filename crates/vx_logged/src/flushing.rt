@@ -24,7 +24,8 @@ use vx_logs::Logs;
 
 /// Makes a volume durable, and takes the marks off its log where more than 64 regions were marked since. So it is only where logs are not
 /// stopped, and where the caller is sure that each block of the volume reads as one value on all plexes that are ACTIVE: else it is a flush
-/// and no more. A plex that fails in the flush has missed nothing: its map is empty then, unless no serial is left.
+/// and no more. A plex that fails in the flush has missed nothing: its map is empty then, unless no serial is left. So it is behind a refusal too,
+/// unless the shelf is down.
 pub fn flush_cleared<S: Shelf>(
     shelf: &mut S,
     core: &mut GroupCore,
@@ -47,6 +48,7 @@ pub fn flush_cleared<S: Shelf>(
     ensures narrow { Narrowed core.old core.new }
     ensures notes { MapsBut (fell_in core.old core.new vol) none_missing 0 0 logs.old logs.new }
     ensures begins { sure ≡ true → OnOk result (MapsOff (fell_in core.old core.new vol) logs.new ⊎ (greatest ≤ core.new.inner.config.serial + 9)) }
+    ensures left { core.old.inner.config.serial < greatest → sure ≡ true → IfErr result (λ e. IsTrue (S.meaning shelf.new).down ⊎ MapsOff (fell_in core.old core.new vol) logs.new) }
     ensures drops { LogsDrop (wide core.old).config vol logs.old logs.new (S.meaning shelf.old) (S.meaning shelf.new) }
     ensures trusts { TrustsIn vol logs.new core.old.inner.config core.new.inner.config }
     ensures trust { OnOk result (core.old.inner.committed ≡ true → core.new.inner.committed ≡ true) }

@@ -92,6 +92,7 @@ fn miss_fallen<S: Shelf>(
     ensures still { (w p : ℕ) → active core.new.inner.config w p ≡ active core.old.inner.config w p }
     ensures notes { MapsNote (are_off core.new vol) (first_region block) (last_region block count) logs.old logs.new }
     ensures begins { MapsOff (fell_now was.now core.old vol) logs.old ⊎ (greatest ≤ core.old.inner.config.serial + 9) → OnOk result (MapsOfRun (fell_now was.now core.new vol) (first_region block) (last_region block count) logs.new ⊎ (greatest ≤ core.new.inner.config.serial + 9)) }
+    ensures left { MapsOff (fell_now was.now core.old vol) logs.old ⊎ (greatest ≤ core.old.inner.config.serial + 9) → IfErr result (λ e. MapsOfRun (fell_now was.now core.new vol) (first_region block) (last_region block count) logs.new) }
     ensures holds { going ≡ true → 0 < count → OnOk result (TheseHold (fell_now was.now core.new vol) (first_region block) (last_region block count) logs.new ⊎ (greatest ≤ core.new.inner.config.serial + 9)) }
     ensures drops { LogsDrop (wide core.old).config vol logs.old logs.new (S.meaning shelf.old) (S.meaning shelf.new) }
     ensures trusts { TrustsIn vol logs.new core.old.inner.config core.new.inner.config }
@@ -111,7 +112,8 @@ fn miss_fallen<S: Shelf>(
 }
 
 /// Makes a volume durable behind a write of a run of its blocks, as `flush_cleared` does. Where a plex falls out of use in that, logs go on and a
-/// serial is left, the regions of the run are marked: the plex has missed them then, and no others where the caller is sure.
+/// serial is left, the regions of the run are marked: the plex has missed them then, and no others where the caller is sure. It has no others behind
+/// a refusal either, unless the shelf is down.
 pub fn flush_behind<S: Shelf>(
     shelf: &mut S,
     core: &mut GroupCore,
@@ -138,6 +140,7 @@ pub fn flush_behind<S: Shelf>(
     ensures maps { Known core.old vol logs.old (S.meaning shelf.old) → Known core.new vol logs.new (S.meaning shelf.new) }
     ensures notes { MapsBut (fell_in core.old core.new vol) (are_off core.new vol) (first_region block) (last_region block count) logs.old logs.new }
     ensures begins { sure ≡ true → OnOk result (MapsOfRun (fell_in core.old core.new vol) (first_region block) (last_region block count) logs.new ⊎ (greatest ≤ core.new.inner.config.serial + 9)) }
+    ensures left { core.old.inner.config.serial < greatest → sure ≡ true → IfErr result (λ e. IsTrue (S.meaning shelf.new).down ⊎ MapsOfRun (fell_in core.old core.new vol) (first_region block) (last_region block count) logs.new) }
     ensures holds { going ≡ true → 0 < count → OnOk result (TheseHold (fell_in core.old core.new vol) (first_region block) (last_region block count) logs.new ⊎ (greatest ≤ core.new.inner.config.serial + 9)) }
     ensures drops { LogsDrop (wide core.old).config vol logs.old logs.new (S.meaning shelf.old) (S.meaning shelf.new) }
     ensures trusts { TrustsIn vol logs.new core.old.inner.config core.new.inner.config }

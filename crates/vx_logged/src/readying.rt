@@ -1,6 +1,6 @@
 // A group that is made ready for work on its logs.
 ghost use Rattle.vx_group.specs.Finds.{GroupFinds};
-ghost use Rattle.std.specs.Prelude.{◌≡◌, ◌+◌, ◌<◌, ◌≤◌, ℕ, false, true, IfErr, IfOk, None, OnOk};
+ghost use Rattle.std.specs.Prelude.{◌≡◌, ◌+◌, ◌<◌, ◌≤◌, ℕ, false, true, IfErr, IfOk, IsTrue, None, OnOk};
 ghost use Rattle.vx_config.specs.Table.{greatest};
 ghost use Rattle.vx_disk.specs.Causes.{Cause};
 ghost use Rattle.vx_disk.specs.Shelf.{Goes, Nothing};
@@ -14,7 +14,8 @@ ghost use Rattle.vx_volume.specs.Plexes.{active};
 use vx_disk::{Shelf, ShelfError};
 use vx_group::{GroupCore, give_up, release};
 
-/// Detaches the plex that is held back, in a call on a volume, and answers whether none is held back then: so it is while a serial is left.
+/// Detaches the plex that is held back, in a call on a volume, and answers whether none is held back then: so it is while a serial is left. Where
+/// none is held back it is refused only where the shelf is down.
 pub fn ready_group<S: Shelf>(
     shelf: &mut S,
     core: &mut GroupCore,
@@ -30,6 +31,7 @@ pub fn ready_group<S: Shelf>(
     ensures still { (w p : ℕ) → active core.new.inner.config w p ≡ active core.old.inner.config w p }
     ensures below { SameUnits (S.meaning shelf.old) (S.meaning shelf.new) }
     ensures none { IfOk result (λ done. done ≡ true → core.new.held ≡ None) }
+    ensures quiet { core.old.held ≡ None → IfErr result (λ e. IsTrue (S.meaning shelf.new).down) }
     ensures few { OnOk result (core.new.inner.config.serial ≤ core.old.inner.config.serial + 9) }
     ensures full { IfOk result (λ done. done ≡ false → greatest ≤ core.old.inner.config.serial) }
     ensures spent { IfOk result (λ done. done ≡ false → greatest ≤ core.new.inner.config.serial) }

@@ -2,7 +2,7 @@
 use Rattle.std.proofs.Common.{◌≡◌, ◌⊎◌, ◌∙◌, inl, inr, ℕ, ◌<◌, Bool, true, false, IsTrue, Option, Some, List, length, refl, sym, ap, subst, arith}
 use Rattle.std.proofs.Math.ListN.{set}
 use Rattle.std.proofs.lemmas.List.{length-set}
-use Rattle.std.specs.Prelude.{OnOk, Result, Ok, Err, slice_get}
+use Rattle.std.specs.Prelude.{IfErr, OnOk, Result, Ok, Err, slice_get}
 use Rattle.vx_config.specs.declared.config.Config.{Config}
 use Rattle.vx_disk.specs.Causes.{Cause}
 use Rattle.vx_disk.specs.declared.shelf.ShelfError.{ShelfError}
@@ -10,6 +10,7 @@ use Rattle.vx_disk.specs.Shelf.{Covers, Goes, Meaning, Nothing, Values, Written,
 use Rattle.vx_kept.specs.Groups.{OnSome, OutsideVolumes}
 use Rattle.vx_volume.specs.Plexes.{Inside}
 use Rattle.vx_kept.specs.PlexActs.{PlexActs}
+use Rattle.vx_kept.proofs.Lasting.{cases_bool}
 use Rattle.vx_kept.proofs.PlexActing.{only_PlexActs}
 use Rattle.vx_group.specs.Holding.{GroupStands, config_by, wide}
 use Rattle.vx_group.specs.Stands.{inner_meaning}
@@ -192,3 +193,11 @@ up_false false up = refl
 pub done_up : {T P Q : Type 0} (r : Result T ShelfError) (a b : Meaning) (v : ℕ) → Cause a b v r → ((IsTrue a.down → ⊥) → OnOk r P) → (P → Q) → OnOk r Q
 done_up (Ok x) a b v cause so to = to (so cause.before)
 done_up (Err e) a b v cause so to = tt
+
+-- and of each that was refused, unless the shelf is down
+pub left_up : {T P Q : Type 0} (r : Result T ShelfError) (a b : Meaning) → (IsTrue a.down → IsTrue b.down) → ((IsTrue a.down → ⊥) → IfErr r (λ e. IsTrue b.down ⊎ P)) → (P → Q) → IfErr r (λ e. IsTrue b.down ⊎ Q)
+left_up (Ok x) a b falls so to = tt
+left_up (Err e) a b falls so to = elim (cases_bool a.down) [
+  | inl down ↦ inl (falls down)
+  | inr not ↦ elim (so (λ down. let clash : false ≡ true = sym not ∙ down in cc)) [ inl down ↦ inl down | inr p ↦ inr (to p) ]
+]

@@ -1,6 +1,7 @@
 -- What an attach makes of the maps of missed regions in memory.
 use Rattle.std.proofs.Common.{◌≡◌, ◌∙◌, ◌<◌, ◌⊎◌, ◌||◌, inl, inr, ℕ, Bool, true, false, IsTrue, Option, Some, None, List, refl, sym, ap, subst, arith}
-use Rattle.std.specs.Prelude.{slice_get, Result, Ok, Err}
+use Rattle.std.specs.Prelude.{◌&&◌, is_some, not, slice_get, Result, Ok, Err}
+use Rattle.vx_config.specs.declared.config.Config.{Config}
 use Rattle.std.proofs.lemmas.Bool.{cases_eq}
 use Rattle.std.proofs.lemmas.Option.{slice_get_within}
 use Rattle.vx_disk.specs.Shelf.{Meaning}
@@ -15,11 +16,11 @@ use Rattle.vx_model.specs.declared.errors.Stop.{Stop}
 use Rattle.vx_model.specs.declared.errors.Stop.TheVariants.{No as Refused}
 use Rattle.vx_model.specs.declared.no.No.{No}
 use Rattle.vx_volume.specs.Plexes.{active}
-use Rattle.vx_loggroup.specs.Attaching.{MapsFollow, MapsHeld, fmr_at, fmr_or, leaves_maps}
-use Rattle.vx_loggroup.specs.Moving.{IsThere, MapsAttach, MapsBeginIn, MovesAtt, missed_by, missed_in, no_volume}
+use Rattle.vx_loggroup.specs.Attaching.{MapsFollow, MapsHeld, fmr_at, fmr_or, leaves_maps, maps_gone, went}
+use Rattle.vx_loggroup.specs.Moving.{IsThere, MapsAttach, MapsBeginIn, MapsMove, MovesAtt, MovesBy, in_none, missed_by, missed_in, no_volume}
 use Rattle.vx_loggroup.proofs.ComesLemmas.{att_comes, held_comes, held_moves}
 use Rattle.vx_loggroup.proofs.FreshLemmas.{lists_none}
-use Rattle.vx_loggroup.proofs.MovedLemmas.{same_missed}
+use Rattle.vx_loggroup.proofs.MovedLemmas.{move_none, same_missed}
 use Rattle.vx_loggroup.proofs.NewLemmas.{HasMaps, has_maps, list_same}
 use Rattle.vx_loggroup.proofs.SetLemmas.{item_at}
 use Rattle.vx_loggroup.proofs.VolumeMoves.{MapFirst}
@@ -29,16 +30,24 @@ either : (x y : Bool) → (x || y) ≡ false → y ≡ false
 either true y is = let clash : true ≡ false = is in cc
 either false y is = is
 
--- where it changes maps, logs go on
-pub going_on : {T E : Type 0} (same stopped : Bool) (r : Result T E) → leaves_maps same stopped r ≡ false → stopped ≡ false
-going_on same stopped (Ok x) is = either same stopped is
-going_on same stopped (Err e) is = let clash : true ≡ false = is in cc
+first_off : (x y : Bool) → (x || y) ≡ false → x ≡ false
+first_off true y is = let clash : true ≡ false = is in cc
+first_off false y is = refl
 
--- and the plex is ACTIVE behind it
-pub attached_on : (same stopped : Bool) (r : Result ℕ Stop) (c d : GroupCore) (vol plex : ℕ) (m : Meaning) → leaves_maps same stopped r ≡ false → ((no : No) → att_refusal c.inner.config vol plex ≡ Some no → r ≡ Err (Refused no))
-    → (att_refusal c.inner.config vol plex ≡ None → IsTrue (active c.inner.config vol plex) → d ≡ c) → (active c.inner.config vol plex ≡ false → GroupAttachEnds vol plex d.inner.config m r) → IsTrue (active d.inner.config vol plex)
-attached_on same stopped (Err e) c d vol plex m leaves refused already ends = absurd (let clash : true ≡ false = leaves in cc)
-attached_on same stopped (Ok x) c d vol plex m leaves refused already ends = by (active c.inner.config vol plex) refl
+-- where it changes maps, logs go on
+pub going_on : {T E : Type 0} (same stopped gone : Bool) (r : Result T E) → leaves_maps same stopped gone r ≡ false → stopped ≡ false
+going_on same stopped gone (Ok x) is = either same stopped is
+going_on same stopped gone (Err e) is = either same stopped (first_off (same || stopped) (not gone) is)
+
+-- and the plex is ACTIVE behind it, where it is done
+abbrev pub IsOnOk : {T E : Type 0} → Config → ℕ → ℕ → Result T E → Type 0
+IsOnOk d vol plex (Ok x) = IsTrue (active d vol plex)
+IsOnOk d vol plex (Err e) = Unit {0}
+
+pub attached_on : (r : Result ℕ Stop) (c d : GroupCore) (vol plex : ℕ) (m : Meaning) → ((no : No) → att_refusal c.inner.config vol plex ≡ Some no → r ≡ Err (Refused no))
+    → (att_refusal c.inner.config vol plex ≡ None → IsTrue (active c.inner.config vol plex) → d ≡ c) → (active c.inner.config vol plex ≡ false → GroupAttachEnds vol plex d.inner.config m r) → IsOnOk d.inner.config vol plex r
+attached_on (Err e) c d vol plex m refused already ends = tt
+attached_on (Ok x) c d vol plex m refused already ends = by (active c.inner.config vol plex) refl
   where
     was : (o : Option No) → att_refusal c.inner.config vol plex ≡ o → IsTrue (active c.inner.config vol plex) → IsTrue (active d.inner.config vol plex)
     was None none on = subst (λ (e : GroupCore). IsTrue (active e.inner.config vol plex)) (sym (already none on)) on
@@ -154,12 +163,45 @@ module _ (c d : GroupCore) (vol plex : ℕ) (ls ks : List Logs) (follow : MapsFo
           | inr row ↦ inr (here, row.0, row.1)
         ]
 
+-- ---- maps that went in an attach that was refused
+
+gone_none : (same stopped good : Bool) (a b : Option Missed) → (same || stopped) || not (good && (is_some a && not (is_some b))) ≡ false → b ≡ None
+gone_none true stopped good a b is = let clash : true ≡ false = is in cc
+gone_none false true good a b is = let clash : true ≡ false = is in cc
+gone_none false false false a b is = let clash : true ≡ false = is in cc
+gone_none false false true None b is = let clash : true ≡ false = is in cc
+gone_none false false true (Some f) None is = refl
+gone_none false false true (Some f) (Some g) is = let clash : true ≡ false = is in cc
+
+-- each map is as it was, or in memory no more
+pub gone_moves : (c d : Config) (vol plex : ℕ) (ls ks : List Logs) → MapsFollow c vol plex ls ks → fmr_at ks vol ≡ None → MapsMove c d in_none in_none ls ks
+gone_moves c d vol plex ls ks follow none = move_none c d ls ks (λ v. by v (on_failed_disk c v) refl)
+  where
+    by : (v : ℕ) (x : Bool) → on_failed_disk c v ≡ x → (fmr_at ks v ≡ fmr_at ls v) ⊎ (fmr_at ks v ≡ None)
+    by v true failed = inr (follow.gone v failed)
+    by v false good = elim (cases_eq v vol) [
+      | inl same ↦ inr (ap (fmr_at ks) same ∙ none)
+      | inr apart ↦ inl (ap fmr_or (follow.same v apart good))
+    ]
+
 -- ---- by whether it leaves the maps as they are
 
-pub att_moves : (b : Bool) (c d : GroupCore) (vol plex : ℕ) (ls ks : List Logs) → (b ≡ true → MapsHeld c.inner.config ls ks) → (b ≡ false → MapsFollow c.inner.config vol plex ls ks)
-    → (b ≡ false → (l : Logs) → slice_get ls vol ≡ Some l → (f : Missed) → l.fmr ≡ Some f → FmrLoaded (wide c).config vol f) → (b ≡ false → IsTrue (active d.inner.config vol plex)) → MovesAtt b c.inner.config d.inner.config vol plex ls ks
-att_moves true c d vol plex ls ks held follow fits on = held_moves c.inner.config d.inner.config ls ks (held refl)
-att_moves false c d vol plex ls ks held follow fits on = follow_moves c d vol plex ls ks (follow refl) (fits refl) (on refl)
+moves_by : (b : Bool) (c d : GroupCore) (vol plex : ℕ) (ls ks : List Logs) → (b ≡ true → MapsHeld c.inner.config ls ks) → (b ≡ false → MapsFollow c.inner.config vol plex ls ks)
+    → (b ≡ false → (l : Logs) → slice_get ls vol ≡ Some l → (f : Missed) → l.fmr ≡ Some f → FmrLoaded (wide c).config vol f) → IsTrue (active d.inner.config vol plex) → MovesBy b c.inner.config d.inner.config vol plex ls ks
+moves_by true c d vol plex ls ks held follow fits on = held_moves c.inner.config d.inner.config ls ks (held refl)
+moves_by false c d vol plex ls ks held follow fits on = follow_moves c d vol plex ls ks (follow refl) (fits refl) on
+
+refused_moves : (same stopped good : Bool) (b : Bool) (c d : Config) (vol plex : ℕ) (ls ks : List Logs) → (same || stopped) || not (good && went ls ks vol) ≡ b → (b ≡ true → MapsHeld c ls ks) → (b ≡ false → MapsFollow c vol plex ls ks) → MapsMove c d in_none in_none ls ks
+refused_moves same stopped good true c d vol plex ls ks is held follow = held_moves c d ls ks (held refl)
+refused_moves same stopped good false c d vol plex ls ks is held follow = gone_moves c d vol plex ls ks (follow refl) (gone_none same stopped good (fmr_at ls vol) (fmr_at ks vol) is)
+
+pub att_moves : (same stopped : Bool) (r : Result ℕ Stop) (c d : GroupCore) (vol plex : ℕ) (ls ks : List Logs) → (leaves_maps same stopped (maps_gone c.inner.config ls ks vol) r ≡ true → MapsHeld c.inner.config ls ks)
+    → (leaves_maps same stopped (maps_gone c.inner.config ls ks vol) r ≡ false → MapsFollow c.inner.config vol plex ls ks)
+    → (leaves_maps same stopped (maps_gone c.inner.config ls ks vol) r ≡ false → (l : Logs) → slice_get ls vol ≡ Some l → (f : Missed) → l.fmr ≡ Some f → FmrLoaded (wide c).config vol f) → IsOnOk d.inner.config vol plex r
+    → MovesAtt (leaves_maps same stopped (maps_gone c.inner.config ls ks vol) r) c.inner.config d.inner.config vol plex ls ks r
+att_moves same stopped (Ok x) c d vol plex ls ks held follow fits on = moves_by (same || stopped) c d vol plex ls ks held follow fits on
+att_moves same stopped (Err e) c d vol plex ls ks held follow fits on =
+    refused_moves same stopped (not (on_failed_disk c.inner.config vol)) ((same || stopped) || not (maps_gone c.inner.config ls ks vol)) c.inner.config d.inner.config vol plex ls ks refl held follow
 
 pub att_begins : (b : Bool) (c d : GroupCore) (vol plex : ℕ) (ls ks : List Logs) (s : Bool) → (b ≡ true → MapsHeld c.inner.config ls ks) → (b ≡ false → MapsFollow c.inner.config vol plex ls ks) → MapsBeginIn no_volume c.inner.config d.inner.config s s ls ks
 att_begins true c d vol plex ls ks s held follow = held_comes c.inner.config d.inner.config ls ks (held refl) s

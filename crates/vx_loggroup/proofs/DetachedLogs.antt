@@ -1,5 +1,5 @@
 -- The map of a plex that was detached, as it begins.
-use Rattle.std.proofs.Common.{◌≡◌, ◌∙◌, inl, inr, ℕ, ◌/◌, ◌<◌, ◌≤◌, Bool, true, false, Option, Some, None, List, IsTrue, length, refl, sym, ap, subst, arith}
+use Rattle.std.proofs.Common.{◌≡◌, ◌⊎◌, ◌∙◌, inl, inr, ℕ, ◌/◌, ◌<◌, ◌≤◌, Bool, true, false, Option, Some, None, List, IsTrue, length, refl, sym, ap, subst, arith}
 use Rattle.std.specs.Prelude.{IfErr, OnOk, Result, Ok, Err, slice_get}
 use Rattle.std.proofs.lemmas.Option.{slice_get_within}
 use Rattle.vx_config.specs.declared.entry.VolumeEntry.{VolumeEntry}
@@ -161,6 +161,12 @@ empty_none c v plex o none = record { so = λ f is b inside. absurd (let within 
 -- by a configuration whose volumes lie alike
 pub empty_later : (c d : Config) (v plex : ℕ) (o : Option Missed) → ((b : ℕ) → Inside d v b → Inside c v b) → MapIsEmpty c v plex o → MapIsEmpty d v plex o
 empty_later c d v plex o back empty = record { so = λ f is b inside. empty.so f is b (back b inside) }
+
+-- so it is of what a refused detach says, where the plex is ACTIVE as it was before the calls in front
+pub stays_later : {Q : Type 0} (c d e : Config) (v plex : ℕ) (o : Option Missed) → active c v plex ≡ active d v plex → ((b : ℕ) → Inside d v b → Inside c v b) → Q ⊎ (active e v plex ≡ active c v plex) ⊎ MapIsEmpty c v plex o → Q ⊎ (active e v plex ≡ active d v plex) ⊎ MapIsEmpty d v plex o
+stays_later c d e v plex o same back (inl q) = inl q
+stays_later c d e v plex o same back (inr (inl on)) = inr (inl (on ∙ same))
+stays_later c d e v plex o same back (inr (inr empty)) = inr (inr (empty_later c d v plex o back empty))
 
 -- ---- a plex that was ACTIVE
 

@@ -165,6 +165,10 @@ each_map to from l row = record { gone = λ none. none; each = λ f g is at. sub
 pub take_own : (v p : ℕ) (ls : List Logs) → VolumeTakes v p p ls ls
 take_own v p ls = take_same v p p ls (λ l at. each_map p p l (λ f is. record { shape = record { plexes = refl; stride = refl; regions = refl }; all = λ r low on. on; only = λ r low on. on; others = record { each = λ q r lt low other. refl } }))
 
+-- no map is in memory
+pub take_gone : (v to from : ℕ) (ls : List Logs) → fmr_at ls v ≡ None → VolumeTakes v to from ls ls
+take_gone v to from ls none = take_same v to from ls (λ l at. record { gone = λ is. is; each = λ f g is was. absurd (let clash : None ≡ Some f = sym none ∙ ap fmr_or at ∙ is in cc) })
+
 -- a volume without a block has no region
 pub take_empty : (c : GroupCore) (ls : List Logs) (a : List Bool) (m : Meaning) (v to from : ℕ) → LoggedStands c ls a false m → blocks_in c.inner.config.volumes v ≡ 0 → VolumeTakes v to from ls ls
 take_empty c ls a m v to from stands zero = take_same v to from ls (λ l at. each_map to from l (λ f is. row f ((((stands.each v l at).on refl).fits.fmr f is).stride) ((((stands.each v l at).on refl).fits.fmr f is).regions)))
@@ -242,6 +246,7 @@ copied_holds meaning c d v p s1 s2 faults it = record {
   config = it.config;
   volumes = it.volumes;
   now = it.now;
+  rises = λ u. (let one = it.rises u in let two = faults u in omega (arith, one, two));
   failing = record {
     count = it.failing.count;
     blocks = it.failing.blocks;
@@ -322,20 +327,23 @@ pub or_none : (a b : Bool) → a ≡ false → b ≡ false → a || b ≡ false
 or_none true b one two = absurd (let clash : true ≡ false = one in cc)
 or_none false b one two = two
 
--- an attach that is done copies a map, where the maps do not stay and the plex was not ACTIVE: some other one was
+-- a map is copied to a plex that was not ACTIVE, where the maps do not stay: some other one was
+pub none_off : (c : GroupCore) (m : Meaning) (same stopped : Bool) (v p : ℕ) (o : Option ℕ) → GroupStands c m → o ≡ None → v < length c.inner.config.volumes
+    → (v < length c.inner.config.volumes → active c.inner.config v p ≡ false → stopped ≡ false → same ≡ false → (q : ℕ) → q < 8 → IsTrue (active c.inner.config v q) → is_some o ≡ true)
+    → active c.inner.config v p ≡ false → same ≡ false → stopped ≡ false → ⊥
+none_off c m same stopped v p o stands none there all off one two =
+    let some = narrow_some c m stands v there in
+    let clash : false ≡ true = sym (ap is_some none) ∙ all there off two one some.plex (active_few c.inner.config (narrow_sound c m stands) v some.plex some.is_on) some.is_on in cc
+
+-- so an attach that is done copies a map, or the plex was ACTIVE
 pub none_takes : (c : GroupCore) (m : Meaning) (same stopped : Bool) (v p : ℕ) (ls : List Logs) (o : Option ℕ) → GroupStands c m → o ≡ None → v < length c.inner.config.volumes
     → (v < length c.inner.config.volumes → active c.inner.config v p ≡ false → stopped ≡ false → same ≡ false → (q : ℕ) → q < 8 → IsTrue (active c.inner.config v q) → is_some o ≡ true)
     → same || stopped ≡ false → TakesActive c.inner.config v p ls ls
 none_takes c m same stopped v p ls o stands none there all copies = by (active c.inner.config v p) refl
   where
-    parts : (same ≡ false) × (stopped ≡ false)
-    parts = or_parts same stopped copies
-
     by : (t : Bool) → active c.inner.config v p ≡ t → TakesActive c.inner.config v p ls ls
     by true on = record { from = p; is_on = on; takes = take_own v p ls }
-    by false off =
-        let some = narrow_some c m stands v there in
-        absurd (let clash : false ≡ true = sym (ap is_some none) ∙ all there off parts.1 parts.0 some.plex (active_few c.inner.config (narrow_sound c m stands) v some.plex some.is_on) some.is_on in cc)
+    by false off = let parts = or_parts same stopped copies in absurd (none_off c m same stopped v p o stands none there all off parts.0 parts.1)
 
 -- one that is done is of a volume that there is
 pub attached_low : {T : Type 0} (c : Config) (v p : ℕ) (r : Result T Stop) (x : T) → r ≡ Ok x → ((no : No) → att_refusal c v p ≡ Some no → r ≡ Err (Refused no)) → v < length c.volumes

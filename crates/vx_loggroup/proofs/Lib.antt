@@ -39,4 +39,5 @@ pub mod ThenMoves
 pub mod EndedLemmas
 pub mod ComesLemmas
 pub mod FollowLemmas
+pub mod GoingLemmas
 pub mod AttMoves

@@ -1,5 +1,5 @@
 -- Which map of missed regions an attach goes by, and which maps it leaves.
-use Rattle.std.specs.Prelude.{◌≡◌, ◌||◌, ℕ, Bool, true, false, nat_le, if◌then◌else◌, IsTrue, Option, Some, None, List, Result, Ok, Err, length, slice_get}
+use Rattle.std.specs.Prelude.{◌≡◌, ◌||◌, ◌&&◌, not, ℕ, Bool, true, false, nat_le, if◌then◌else◌, IsTrue, is_some, Option, Some, None, List, Result, Ok, Err, length, slice_get}
 use Rattle.vx_config.specs.Checks.{plexes_of}
 use Rattle.vx_config.specs.declared.config.Config.{Config}
 use Rattle.vx_disk.specs.Shelf.{Goes, Meaning, Nothing, Or, Values}
@@ -50,10 +50,19 @@ pub record MapsHeld (c : Config) (old new : List Logs) : Type 0 where
 
 -- ---- a volume of which a write was refused since the import
 
--- whether an attach leaves the maps as they are: where it is refused, the plexes of the volume are alike, or logs are stopped
-abbrev pub leaves_maps : {T E : Type 0} → Bool → Bool → Result T E → Bool
-leaves_maps same stopped (Ok x) = same || stopped
-leaves_maps same stopped (Err e) = true
+-- whether maps of volume v that were in memory are there no more
+abbrev pub went : List Logs → List Logs → ℕ → Bool
+went old new v = is_some (fmr_at old v) && not (is_some (fmr_at new v))
+
+-- the same of maps that attaches went by, as their disk was not held as failed
+abbrev pub maps_gone : Config → List Logs → List Logs → ℕ → Bool
+maps_gone c old new v = not (on_failed_disk c v) && went old new v
+
+-- Whether an attach leaves the maps as they are: where the plexes of the volume are alike, or logs are stopped; and where it is refused, and did not end with
+-- the maps of the volume gone from memory.
+abbrev pub leaves_maps : {T E : Type 0} → Bool → Bool → Bool → Result T E → Bool
+leaves_maps same stopped gone (Ok x) = same || stopped
+leaves_maps same stopped gone (Err e) = (same || stopped) || not gone
 
 -- a plex that is ACTIVE, of which an attach copies the map: this one is not, logs go on, and the plexes of the volume are not alike
 pub record MapSource (c : Config) (alike : List Bool) (stopped : Bool) (v p q : ℕ) : Type 0 where

@@ -111,10 +111,15 @@ pub record MapsAttach (c d : Config) (vol plex : ℕ) (l k : List Logs) : Type 0
   pub most : (v p r : ℕ) (g : Missed) → fmr_at k v ≡ Some g → IsThere c v p r → has_missed g p r ≡ true → (missed_in l c v p r ≡ true) ⊎ ((v ≡ vol) × (p ≡ plex) × (missed_in l c vol from r ≡ true))
   pub stay : (v p r : ℕ) (g : Missed) → fmr_at k v ≡ Some g → IsThere c v p r → active c v p ≡ false → active d v p ≡ false → missed_in l c v p r ≡ true → has_missed g p r ≡ true
 
--- what an attach makes of the maps, by whether it leaves them as they are
-abbrev pub MovesAtt : Bool → Config → Config → (vol plex : ℕ) → List Logs → List Logs → Type 0
-MovesAtt true c d vol plex l k = MapsMove c d in_none in_none l k
-MovesAtt false c d vol plex l k = MapsAttach c d vol plex l k
+-- what an attach that is done makes of the maps, by whether it leaves them as they are
+abbrev pub MovesBy : Bool → Config → Config → (vol plex : ℕ) → List Logs → List Logs → Type 0
+MovesBy true c d vol plex l k = MapsMove c d in_none in_none l k
+MovesBy false c d vol plex l k = MapsAttach c d vol plex l k
+
+-- and one that is refused: no map in memory changes
+abbrev pub MovesAtt : {T E : Type 0} → Bool → Config → Config → (vol plex : ℕ) → List Logs → List Logs → Result T E → Type 0
+MovesAtt leaves c d vol plex l k (Ok x) = MovesBy leaves c d vol plex l k
+MovesAtt leaves c d vol plex l k (Err e) = MapsMove c d in_none in_none l k
 
 -- the maps of a volume, where they are in memory, have a run of each plex that is not ACTIVE
 pub record RunHolds (c : Config) (v first last : ℕ) (logs : List Logs) : Type 0 where

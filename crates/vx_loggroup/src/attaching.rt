@@ -3,7 +3,7 @@ ghost use Rattle.vx_loggroup.specs.Keeping.{LogsKeep};
 ghost use Rattle.vx_group.specs.Holding.{wide};
 ghost use Rattle.vx_group.specs.Finds.{CoreFinds};
 ghost use Rattle.std.specs.Option.{option_copied};
-ghost use Rattle.std.specs.Prelude.{◌≡◌, ◌⊎◌, ◌<◌, false, IfOk, IsTrue, None, Ok, OnOk, Some, Err, length, true, ℕ};
+ghost use Rattle.std.specs.Prelude.{◌≡◌, ◌⊎◌, ◌<◌, false, IfOk, IsTrue, None, Ok, OnOk, Some, Err, is_some, length, true, ℕ};
 ghost use Rattle.vx_group.specs.Attaches.{GroupAttachEnds, att_refusal, missed_regions};
 ghost use Rattle.vx_group.specs.Calls.{GroupAttaches};
 ghost use Rattle.vx_group.specs.Dets.{DetStops};
@@ -30,6 +30,16 @@ fn fmr_of(logs: &[Logs], vol: usize) -> Option<&Fmr>
     match logs.get(vol) {
         Some(l) => l.fmr.as_ref(),
         None => None,
+    }
+}
+
+/// Whether the maps of a volume are in memory.
+pub fn has_maps(logs: &[Logs], vol: u32) -> bool
+    ensures { result ≡ is_some (fmr_at logs.now vol) }
+{
+    match logs.get(vol as usize) {
+        Some(l) => l.fmr.is_some(),
+        None => false,
     }
 }
 
@@ -80,6 +90,7 @@ pub fn att_whole<S: Shelf>(
     ensures trust { OnOk result (core.old.inner.committed ≡ true → core.new.inner.committed ≡ true) }
     ensures finds { CoreFinds (wide core.old) (wide core.new) (S.meaning shelf.old) (S.meaning shelf.new) }
     ensures free { OnOk result (core.old.held ≡ None → core.new.held ≡ None) }
+    ensures alone { active core.old.inner.config vol plex ≡ false → OnOk result (core.new.held ≡ None) }
     ensures cause { att_refusal core.old.inner.config vol plex ≡ None → DetStops (S.meaning shelf.old) (S.meaning shelf.new) result }
 {
     // What is kept of the volumes stays as it is.

@@ -1,7 +1,7 @@
 // A plex of a volume whose logs may not have begun, that is detached.
 ghost use Rattle.vx_loggroup.specs.Keeping.{LogsKeep, LogsStay, logs_at};
 ghost use Rattle.vx_group.specs.Finds.{GroupFinds};
-ghost use Rattle.std.specs.Prelude.{◌≡◌, ℕ, Err, false, IfErr, IsOk, IsTrue, List, None, OnOk, Some, true};
+ghost use Rattle.std.specs.Prelude.{◌≡◌, ◌⊎◌, ℕ, Err, false, IfErr, IsOk, IsTrue, List, None, OnOk, Some, true};
 ghost use Rattle.vx_copies.specs.Commits.{MoreFailed};
 ghost use Rattle.vx_disk.specs.Shelf.{Goes, Nothing};
 ghost use Rattle.vx_group.specs.Creates.{SameUnits};
@@ -110,6 +110,7 @@ pub fn det_fresh<S: Shelf>(
     ensures on { (v p : ℕ) → IsTrue (active core.new.inner.config v p) → IsTrue (active core.old.inner.config v p) }
     ensures begins { OnOk result (stopped ≡ false → core.new.held ≡ None → is_alike_is alike.now vol ≡ true → IsTrue (active core.old.inner.config vol plex) → MapIsEmpty core.old.inner.config vol plex (fmr_at logs.new.items vol)) }
     ensures off { OnOk result (active core.new.inner.config vol plex ≡ false) }
+    ensures stays { IfErr result (λ stop. IsTrue (S.meaning shelf.new).down ⊎ (active core.new.inner.config vol plex ≡ active core.old.inner.config vol plex) ⊎ MapIsEmpty core.old.inner.config vol plex (fmr_at logs.new.items vol)) }
     ensures others { (w p : ℕ) → (w ≡ vol → p ≡ plex → ⊥) → active core.new.inner.config w p ≡ active core.old.inner.config w p }
     ensures maps { (ls : List LogsValue) × LogsFirst vol (region_count (wide core.old).config vol) logs.old.items ls × MapsBegin vol plex ls logs.new.items }
     ensures moves { stopped ≡ false → MovesDet core.old.inner.config core.new.inner.config vol plex (is_alike_is alike.now vol) logs.old.items logs.new.items result }

@@ -2,7 +2,7 @@
 ghost use Rattle.vx_loggroup.specs.Keeping.{LogsKeep, LogsStay, logs_at};
 ghost use Rattle.vx_kept.specs.Finds.{FindsFrom, NoConfiguration};
 ghost use Rattle.vx_group.specs.Finds.{GroupFinds};
-ghost use Rattle.std.specs.Prelude.{◌≡◌, ◌<◌, ◌≤◌, ℕ, Err, false, IfErr, IsTrue, None, OnOk, Some, length, true};
+ghost use Rattle.std.specs.Prelude.{◌≡◌, ◌⊎◌, ◌<◌, ◌≤◌, ℕ, Err, false, IfErr, IsTrue, None, OnOk, Some, length, true};
 ghost use Rattle.vx_disk.specs.Shelf.{Goes, Nothing};
 ghost use Rattle.vx_group.specs.Dets.{DetStops, det_refusal};
 ghost use Rattle.vx_config.specs.Checks.{blocks_of as blocks_of_is, plexes_of};
@@ -161,7 +161,8 @@ fn may_begin(
 }
 
 /// Detaches a plex, as a group does without logs; and where the plexes of the volume are alike the map of this one begins then: it has missed no
-/// region yet. A log of which the disk fails in that is lost by a commit.
+/// region yet. A log of which the disk fails in that is lost by a commit. Where it is refused and the shelf is not down, the plex is in its state
+/// as before, or its map is empty.
 pub fn det_whole<S: Shelf>(
     shelf: &mut S,
     core: &mut GroupCore,
@@ -183,6 +184,7 @@ pub fn det_whole<S: Shelf>(
     ensures on { (v p : ℕ) → IsTrue (active core.new.inner.config v p) → IsTrue (active core.old.inner.config v p) }
     ensures begins { OnOk result (stopped ≡ false → core.new.held ≡ None → is_alike_is alike.now vol ≡ true → IsTrue (active core.old.inner.config vol plex) → MapIsEmpty core.old.inner.config vol plex (fmr_at logs.new.items vol)) }
     ensures off { OnOk result (active core.new.inner.config vol plex ≡ false) }
+    ensures stays { IfErr result (λ stop. IsTrue (S.meaning shelf.new).down ⊎ (active core.new.inner.config vol plex ≡ active core.old.inner.config vol plex) ⊎ MapIsEmpty core.old.inner.config vol plex (fmr_at logs.new.items vol)) }
     ensures others { (w p : ℕ) → (w ≡ vol → p ≡ plex → ⊥) → active core.new.inner.config w p ≡ active core.old.inner.config w p }
     ensures maps { MapsBegin vol plex logs.old.items logs.new.items }
     ensures same { active core.old.inner.config vol plex ≡ false → logs.new.items ≡ logs.old.items }

@@ -11,8 +11,9 @@ ghost use Rattle.vx_group.specs.Holding.{wide};
 ghost use Rattle.vx_group.specs.Regains.{HoldsPlex, Regains};
 ghost use Rattle.vx_group.specs.Stands.{inner_meaning};
 ghost use Rattle.vx_groupmaps.specs.Missing.{OnMaps};
+ghost use Rattle.vx_logged.specs.Behind.{MapSaid};
 ghost use Rattle.vx_logged.specs.Copied.{ReadsRow};
-ghost use Rattle.vx_loggroup.specs.Attaching.{LoggedAttaches, MapSource, TakesActive, VolumeTakes, leaves_maps, map_there};
+ghost use Rattle.vx_loggroup.specs.Attaching.{LoggedAttaches, MapSource, TakesActive, VolumeTakes, fmr_at, leaves_maps, map_there, went};
 ghost use Rattle.vx_loggroup.specs.LoggedVolumes.{LoggedStands, is_alike as is_alike_is};
 ghost use Rattle.vx_model.specs.declared.errors.Stop.TheVariants.{No as Refused};
 ghost use Rattle.vx_model.specs.declared.limits.TheConstants.{MOST_PLEXES, MOST_VOLUMES};
@@ -20,7 +21,8 @@ ghost use Rattle.vx_model.specs.declared.no.No.{No as NoValue};
 ghost use Rattle.vx_volume.specs.Plexes.{active};
 
 use crate::alike::is_alike;
-use crate::attaching::att_whole;
+use crate::attaching::{att_whole, has_maps};
+use crate::gone_maps::lose_gone;
 use vx_config::{Config, blocks_of};
 use vx_disk::Shelf;
 use vx_group::GroupCore;
@@ -109,10 +111,14 @@ fn take_map<S: Shelf>(
     ensures takes { VolumeTakes vol plex from logs.old.items logs.new.items }
     ensures less { FindsFrom NoConfiguration (S.meaning shelf.old) (S.meaning shelf.new) }
     ensures stays { LogsStay core.now.inner.config core.now.inner.config logs.old.items logs.new.items (S.meaning shelf.old) (S.meaning shelf.new) }
+    ensures none { fmr_at logs.old.items vol ≡ None → (logs.new.items ≡ logs.old.items) × (shelf.new ≡ shelf.old) }
 {
     // What is known of the plexes stays as it is.
     let _kept = alike.len();
     if blocks_of(&core.inner.config, vol) == 0 {
+        return;
+    }
+    if !has_maps(logs.as_slice(), vol) {
         return;
     }
     copy_plex(shelf, core, &mut logs[vol as usize], vol, plex, from)
@@ -120,7 +126,8 @@ fn take_map<S: Shelf>(
 
 /// Attaches a plex, as a group does without logs, and answers how many regions were copied: those that it has missed by its map, or all of the
 /// volume where no map is in memory. Of the plex it writes blocks of these regions alone. No map changes, but where a write of the volume was refused
-/// since the import: then the map of a plex that is attached has the regions that the map of a plex has that was ACTIVE.
+/// since the import: then the map of a plex that is attached has the regions that the map of a plex has that was ACTIVE. Where that map is in memory
+/// no more, its log is committed as lost, while serials are left; where this is refused so is the attach, and the plex is held back.
 pub fn att_following<S: Shelf>(
     shelf: &mut S,
     core: &mut GroupCore,
@@ -135,12 +142,13 @@ pub fn att_following<S: Shelf>(
     ensures refused { (no : NoValue) → att_refusal core.old.inner.config vol plex ≡ Some no → (result ≡ Err (Refused no)) × (core.new ≡ core.old) × (shelf.new ≡ shelf.old) }
     ensures already { att_refusal core.old.inner.config vol plex ≡ None → IsTrue (active core.old.inner.config vol plex) → (result ≡ Ok 0) × (core.new ≡ core.old) × (shelf.new ≡ shelf.old) }
     ensures count { active core.old.inner.config vol plex ≡ false → IfOk result (λ n. n ≡ missed_regions core.old.inner.config vol plex (map_there logs.old.items core.old.inner.config stopped (S.meaning shelf.old).down vol plex)) }
-    ensures attaches { LoggedAttaches (leaves_maps (is_alike_is alike.now vol) stopped result) vol plex (map_there logs.old.items core.old.inner.config stopped (S.meaning shelf.old).down vol plex) core.old core.new (S.meaning shelf.old) (S.meaning shelf.new) }
+    ensures attaches { LoggedAttaches (leaves_maps (is_alike_is alike.now vol) stopped (went logs.old.items logs.new.items vol) result) vol plex (map_there logs.old.items core.old.inner.config stopped (S.meaning shelf.old).down vol plex) core.old core.new (S.meaning shelf.old) (S.meaning shelf.new) }
     ensures ends { active core.old.inner.config vol plex ≡ false → GroupAttachEnds vol plex core.new.inner.config (S.meaning shelf.new) result }
     ensures regains { Regains core.old.inner.config core.new.inner.config vol plex (S.meaning shelf.old) (S.meaning shelf.new) }
     ensures held { active core.old.inner.config vol plex ≡ false → OnOk result (HoldsPlex (λ s. S.meaning s) core.old.inner.config core.new.inner.config vol plex shelf.new) }
-    ensures maps { leaves_maps (is_alike_is alike.now vol) stopped result ≡ true → logs.new.items ≡ logs.old.items }
-    ensures takes { leaves_maps (is_alike_is alike.now vol) stopped result ≡ false → TakesActive core.old.inner.config vol plex logs.old.items logs.new.items }
+    ensures maps { leaves_maps (is_alike_is alike.now vol) stopped (went logs.old.items logs.new.items vol) result ≡ true → logs.new.items ≡ logs.old.items }
+    ensures takes { leaves_maps (is_alike_is alike.now vol) stopped (went logs.old.items logs.new.items vol) result ≡ false → TakesActive core.old.inner.config vol plex logs.old.items logs.new.items }
+    ensures kept { active core.old.inner.config vol plex ≡ false → is_alike_is alike.now vol ≡ false → stopped ≡ false → OnOk result (MapSaid core.new vol (logs_at logs.new.items vol)) }
     ensures keeps { LogsKeep core.old core.new logs.old.items logs.new.items (S.meaning shelf.old) (S.meaning shelf.new) }
     ensures trust { OnOk result (core.old.inner.committed ≡ true → core.new.inner.committed ≡ true) }
     ensures finds { CoreFinds (wide core.old) (wide core.new) (S.meaning shelf.old) (S.meaning shelf.new) }
@@ -152,7 +160,10 @@ pub fn att_following<S: Shelf>(
         Ok(copied) => match source {
             Some(from) => {
                 take_map(shelf, core, logs, alike, vol, plex, from);
-                Ok(copied)
+                match lose_gone(shelf, core, logs, alike, vol, plex) {
+                    Ok(()) => Ok(copied),
+                    Err(stop) => Err(stop),
+                }
             }
             None => Ok(copied),
         },

@@ -1,5 +1,6 @@
 // A group that keeps the dirty region logs of its volumes.
-ghost use Rattle.vx_loggroup.specs.Keeping.{LogsKeep};
+ghost use Rattle.vx_loggroup.specs.Keeping.{LogsKeep, logs_at};
+ghost use Rattle.vx_logged.specs.Behind.{MapSaid};
 ghost use Rattle.vx_group.specs.Finds.{BackFinds, CoreFinds, GroupFinds};
 ghost use Rattle.std.specs.Prelude.{◌≡◌, ◌⊎◌, ◌-◌, ◌<◌, ◌≤◌, ℕ, Err, IfErr, IfOk, IfSome, IsTrue, List, None, Ok, OnOk, Some, true, false};
 ghost use Rattle.vx_config.specs.Table.{greatest};
@@ -20,7 +21,7 @@ ghost use Rattle.vx_group.specs.Makes.{MakeEnds, Unmoved, make_refusal};
 ghost use Rattle.vx_group.specs.Regains.{HoldsPlex, Regains};
 ghost use Rattle.vx_group.specs.Resumes.{CanImport};
 ghost use Rattle.vx_group.specs.Stands.{inner_meaning};
-ghost use Rattle.vx_loggroup.specs.Attaching.{LoggedAttaches, MapsFollow, MapsHeld, fmr_at, leaves_maps, map_by};
+ghost use Rattle.vx_loggroup.specs.Attaching.{LoggedAttaches, MapsFollow, MapsHeld, fmr_at, leaves_maps, map_by, maps_gone};
 ghost use Rattle.vx_loggroup.specs.Detaching.{MapIsEmpty, MapsBegin};
 ghost use Rattle.vx_loggroup.specs.Facts.{LoggedFact};
 ghost use Rattle.vx_loggroup.specs.LoggedVolumes.{LoggedStands, is_alike};
@@ -186,7 +187,7 @@ impl<S: Shelf> LoggedGroup<S> {
     }
 
     /// Detaches a plex, as a group does without logs. Where no write of the volume failed since the import, the map of the plex begins then: it has
-    /// missed no region yet.
+    /// missed no region yet. Where it is refused and the shelf is not down, the plex is ACTIVE as before, or its map is empty.
     pub fn det(&mut self, vol: u32, plex: u32) -> Result<(), Stop>
         ensures refused { (no : NoValue) → det_refusal self.old.core.inner.config vol plex ≡ Some no → (result ≡ Err (Refused no)) × (self.new.core ≡ self.old.core) × (self.new.shelf ≡ self.old.shelf) }
         ensures goes { Goes Nothing (inner_meaning (wide self.old.core) (S.meaning self.old.shelf)) (inner_meaning (wide self.new.core) (S.meaning self.new.shelf)) }
@@ -197,6 +198,7 @@ impl<S: Shelf> LoggedGroup<S> {
         ensures on { (v p : ℕ) → IsTrue (active self.new.core.inner.config v p) → IsTrue (active self.old.core.inner.config v p) }
         ensures begins { OnOk result (self.old.stopped ≡ false → self.new.core.held ≡ None → is_alike self.old.alike vol ≡ true → IsTrue (active self.old.core.inner.config vol plex) → MapIsEmpty self.old.core.inner.config vol plex (fmr_at self.new.logs.items vol)) }
         ensures off { OnOk result (active self.new.core.inner.config vol plex ≡ false) }
+        ensures stays { IfErr result (λ stop. IsTrue (S.meaning self.new.shelf).down ⊎ (active self.new.core.inner.config vol plex ≡ active self.old.core.inner.config vol plex) ⊎ MapIsEmpty self.old.core.inner.config vol plex (fmr_at self.new.logs.items vol)) }
         ensures others { (w p : ℕ) → (w ≡ vol → p ≡ plex → ⊥) → active self.new.core.inner.config w p ≡ active self.old.core.inner.config w p }
         ensures mirrors { MirrorsKeep (names_plex vol plex) self.old.core self.new.core (S.meaning self.old.shelf) (S.meaning self.new.shelf) }
         ensures maps { (ls : List LogsValue) × LogsFirst vol (region_count (wide self.old.core).config vol) self.old.logs.items ls × MapsBegin vol plex ls self.new.logs.items }
@@ -224,20 +226,22 @@ impl<S: Shelf> LoggedGroup<S> {
 
     /// Attaches a plex, as a group does without logs, and answers how many regions were copied: those that the plex has missed by its map, or all of
     /// the volume where no map is in memory or its disk is held as failed, and none where the plex is ACTIVE already. Of the plex it writes blocks of
-    /// these regions alone. A map on a disk that is held as failed is in memory no more. No other one changes where it is refused, and where no write of
-    /// the volume failed since the import; else the map of the plex has the regions then that the map of a plex had that was ACTIVE.
+    /// these regions alone. A map on a disk that is held as failed is in memory no more. No other one changes where no write of the volume failed since
+    /// the import; else the map of the plex has the regions then that the map of a plex had that was ACTIVE. Where the maps of the volume go from memory
+    /// in that, their log is committed as lost before the answer, while serials are left; where this is refused so is the attach.
     pub fn att(&mut self, vol: u32, plex: u32) -> Result<u64, Stop>
         ensures refused { (no : NoValue) → att_refusal self.old.core.inner.config vol plex ≡ Some no → (result ≡ Err (Refused no)) × (self.new.core ≡ self.old.core) × (self.new.shelf ≡ self.old.shelf) }
         ensures already { att_refusal self.old.core.inner.config vol plex ≡ None → IsTrue (active self.old.core.inner.config vol plex) → (result ≡ Ok 0) × (self.new.core ≡ self.old.core) × (self.new.shelf ≡ self.old.shelf) }
         ensures count { active self.old.core.inner.config vol plex ≡ false → IfOk result (λ n. n ≡ missed_regions self.old.core.inner.config vol plex (map_by self.old.logs.items self.old.core.inner.config self.old.stopped (S.meaning self.old.shelf).down vol plex)) }
-        ensures attaches { LoggedAttaches (leaves_maps (is_alike self.old.alike vol) self.old.stopped result) vol plex (map_by self.old.logs.items self.old.core.inner.config self.old.stopped (S.meaning self.old.shelf).down vol plex) self.old.core self.new.core (S.meaning self.old.shelf) (S.meaning self.new.shelf) }
+        ensures attaches { LoggedAttaches (leaves_maps (is_alike self.old.alike vol) self.old.stopped (maps_gone self.old.core.inner.config self.old.logs.items self.new.logs.items vol) result) vol plex (map_by self.old.logs.items self.old.core.inner.config self.old.stopped (S.meaning self.old.shelf).down vol plex) self.old.core self.new.core (S.meaning self.old.shelf) (S.meaning self.new.shelf) }
         ensures ends { active self.old.core.inner.config vol plex ≡ false → GroupAttachEnds vol plex self.new.core.inner.config (S.meaning self.new.shelf) result }
         ensures regains { Regains self.old.core.inner.config self.new.core.inner.config vol plex (S.meaning self.old.shelf) (S.meaning self.new.shelf) }
         ensures held { active self.old.core.inner.config vol plex ≡ false → OnOk result (HoldsPlex (λ s. S.meaning s) self.old.core.inner.config self.new.core.inner.config vol plex self.new.shelf) }
         ensures mirrors { MirrorsKeep (names_plex vol plex) self.old.core self.new.core (S.meaning self.old.shelf) (S.meaning self.new.shelf) }
-        ensures logs { leaves_maps (is_alike self.old.alike vol) self.old.stopped result ≡ true → MapsHeld self.old.core.inner.config self.old.logs.items self.new.logs.items }
-        ensures follows { leaves_maps (is_alike self.old.alike vol) self.old.stopped result ≡ false → MapsFollow self.old.core.inner.config vol plex self.old.logs.items self.new.logs.items }
-        ensures moves { MovesAtt (leaves_maps (is_alike self.old.alike vol) self.old.stopped result) self.old.core.inner.config self.new.core.inner.config vol plex self.old.logs.items self.new.logs.items }
+        ensures logs { leaves_maps (is_alike self.old.alike vol) self.old.stopped (maps_gone self.old.core.inner.config self.old.logs.items self.new.logs.items vol) result ≡ true → MapsHeld self.old.core.inner.config self.old.logs.items self.new.logs.items }
+        ensures follows { leaves_maps (is_alike self.old.alike vol) self.old.stopped (maps_gone self.old.core.inner.config self.old.logs.items self.new.logs.items vol) result ≡ false → MapsFollow self.old.core.inner.config vol plex self.old.logs.items self.new.logs.items }
+        ensures moves { MovesAtt (leaves_maps (is_alike self.old.alike vol) self.old.stopped (maps_gone self.old.core.inner.config self.old.logs.items self.new.logs.items vol) result) self.old.core.inner.config self.new.core.inner.config vol plex self.old.logs.items self.new.logs.items result }
+        ensures kept { active self.old.core.inner.config vol plex ≡ false → is_alike self.old.alike vol ≡ false → self.old.stopped ≡ false → OnOk result (MapSaid self.new.core vol (logs_at self.new.logs.items vol)) }
         ensures comes { MapsBeginIn no_volume self.old.core.inner.config self.new.core.inner.config self.old.stopped self.new.stopped self.old.logs.items self.new.logs.items }
         ensures ends_maps { MapsEnd self.old.core.inner.config self.new.core.inner.config self.old.stopped self.new.stopped self.old.logs.items self.new.logs.items (S.meaning self.old.shelf) (S.meaning self.new.shelf) }
         ensures flags { (self.new.alike ≡ self.old.alike) × (self.new.stopped ≡ self.old.stopped) }

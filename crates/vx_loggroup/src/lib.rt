@@ -18,6 +18,7 @@ mod failed_maps;
 mod first;
 mod following;
 mod fresh;
+mod gone_maps;
 mod group;
 mod keeping;
 mod losing;

@@ -135,6 +135,7 @@ impl<S: Shelf> Shelf for LoggedGroup<S> {
         ensures marks { ClearsVolume (wide self.old.core).config unit self.old.logs.items self.new.logs.items }
         ensures maps { NotesMaps (fell_in self.old.core self.new.core unit) none_missing unit 0 0 self.old.logs.items self.new.logs.items }
         ensures begins { is_alike self.old.alike unit ≡ true → self.old.stopped ≡ false → OnOk result (EmptyMaps (fell_in self.old.core self.new.core unit) unit self.new.logs.items) }
+        ensures left { self.old.core.inner.config.serial < greatest → is_alike self.old.alike unit ≡ true → self.old.stopped ≡ false → IfErr result (λ e. IsTrue (S.meaning self.new.shelf).down ⊎ EmptyMaps (fell_in self.old.core self.new.core unit) unit self.new.logs.items) }
         ensures trust { OnOk result (self.old.core.inner.committed ≡ true → self.new.core.inner.committed ≡ true) }
         ensures agreed { IfErr result (λ e. self.old.core.inner.committed ≡ true → self.new.core.inner.agreed ≡ true) }
         ensures finds { GroupFinds self.old.core self.new.core (S.meaning self.old.shelf) (S.meaning self.new.shelf) }

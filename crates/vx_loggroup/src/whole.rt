@@ -86,7 +86,8 @@ pub fn write_whole<S: Shelf>(
 }
 
 /// Makes a volume durable, and takes marks off its log where more than 64 regions were marked since and its plexes are alike. A plex that fails in
-/// it has missed nothing then: its map is empty. Where no serial is left no map of the volume is in memory then.
+/// it has missed nothing then: its map is empty. Where no serial is left no map of the volume is in memory then. Where a flush is refused, while a
+/// serial is left and the shelf is not down, the map of a plex that fell out of use in it is empty too.
 pub fn flush_whole<S: Shelf>(
     shelf: &mut S,
     core: &mut GroupCore,
@@ -106,6 +107,7 @@ pub fn flush_whole<S: Shelf>(
     ensures marks { ClearsVolume (wide core.old).config vol logs.old.items logs.new.items }
     ensures maps { NotesMaps (fell_in core.old core.new vol) none_missing vol 0 0 logs.old.items logs.new.items }
     ensures begins { is_alike_is alike.now vol ≡ true → stopped ≡ false → OnOk result (EmptyMaps (fell_in core.old core.new vol) vol logs.new.items) }
+    ensures left { core.old.inner.config.serial < greatest → is_alike_is alike.now vol ≡ true → stopped ≡ false → IfErr result (λ e. IsTrue (S.meaning shelf.new).down ⊎ EmptyMaps (fell_in core.old core.new vol) vol logs.new.items) }
     ensures trust { OnOk result (core.old.inner.committed ≡ true → core.new.inner.committed ≡ true) }
     ensures agreed { IfErr result (λ e. core.old.inner.committed ≡ true → core.new.inner.agreed ≡ true) }
     ensures cause { Cause (inner_meaning (wide core.old) (S.meaning shelf.old)) (inner_meaning (wide core.new) (S.meaning shelf.new)) vol result }

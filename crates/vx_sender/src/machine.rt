@@ -4,6 +4,7 @@ ghost use Rattle.vx_history.specs.Sending.{sent_step, pumped, ticked, restarted,
 
 use crate::messages::{goes_by_log, hear_data_ack, hear_hello, hear_net_ack};
 use crate::{Action, SEvent, SFacts};
+use vx_history::is_live;
 use vx_model::limits::MOST_AHEAD;
 use vx_model::{Link, Mode};
 

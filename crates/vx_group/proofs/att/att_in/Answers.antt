@@ -98,6 +98,10 @@ pub returns-in-Ok-attach_held-clause-free : goal.returns-in-Ok-attach_held-claus
 returns-in-Ok-attach_held-clause-free g c =
     λ was. c.in-Ok.ensures.done (may_less c.args.core.now.inner.config c.args.vol c.args.plex (sym c.refuse.ensures ∙ c.in_default.is))
 
+pub returns-in-Ok-attach_held-clause-alone : goal.returns-in-Ok-attach_held-clause-alone
+returns-in-Ok-attach_held-clause-alone g c =
+    λ off. c.in-Ok.ensures.done (may_less c.args.core.now.inner.config c.args.vol c.args.plex (sym c.refuse.ensures ∙ c.in_default.is))
+
 pub returns-in-Some-clause-finds : goal.returns-in-Some-clause-finds
 returns-in-Some-clause-finds g c =
     none_finds (wide c.args.core.now) (g.S.Shelf.meaning c.args.shelf.now)

@@ -42,7 +42,7 @@ returns-clause-regains g c =
 
 pub returns-clause-held : goal.returns-clause-held
 returns-clause-held g c =
-    all_holds c.attach.result (record { moment = c.regain.new.shelf; config = c.regain.new.core.config; volumes = c.regain.ensures.volumes; now = c.in-Ok.ensures.held; failing = c.attach.ensures.failing })
+    all_holds c.attach.result (record { moment = c.regain.new.shelf; config = c.regain.new.core.config; volumes = c.regain.ensures.volumes; now = c.in-Ok.ensures.held; rises = c.attach.ensures.attaches.acts.faults; failing = c.attach.ensures.failing })
 
 pub returns-clause-cause : goal.returns-clause-cause
 returns-clause-cause g c =

@@ -1,9 +1,10 @@
--- `det_in`: clauses goes, narrows, parts, others and stands; what `detach_plex` asks.
-use Rattle.std.proofs.Common.{◌≡◌, ℕ, false, true, List, ap, sym, ◌∙◌, arith}
+-- `det_in`: clauses goes, narrows, parts, others, stays and stands; what `detach_plex` asks.
+use Rattle.std.proofs.Common.{◌≡◌, inr, ℕ, false, true, List, refl, ap, sym, ◌∙◌, arith}
 use Rattle.vx_disk.specs.Shelf.{Nothing}
 use Rattle.vx_group.specs.Stands.{volume_faults}
 use Rattle.vx_group.proofs.CallLemmas.{narrows_Goes}
 use Rattle.vx_group.proofs.DetLemmas.{may_room, may_serial}
+use Rattle.vx_group.proofs.GiveLemmas.{kept_or_down}
 use Rattle.vx_group.proofs.HoldLemmas.{det_other, from_none, none_Stands, wide_none}
 use Rattle.vx_group.proofs.QuiesceLemmas.{both_parts}
 use Rattle.vx_group.proofs.ThroughLemmas.{released_active, released_goes, released_narrows, second_narrows, through_goes}
@@ -147,3 +148,17 @@ returns-in-Err-clause-free g c = λ on. tt
 
 pub returns-in-Err-detach_plex-clause-free : goal.returns-in-Err-detach_plex-clause-free
 returns-in-Err-detach_plex-clause-free g c = λ on. tt
+
+pub returns-in-Some-clause-stays : goal.returns-in-Some-clause-stays
+returns-in-Some-clause-stays g c = inr refl
+
+pub returns-then-is_down-clause-stays : goal.returns-then-is_down-clause-stays
+returns-then-is_down-clause-stays g c = inr refl
+
+pub returns-in-Err-clause-stays : goal.returns-in-Err-clause-stays
+returns-in-Err-clause-stays g c = inr c.release.ensures.volumes
+
+pub returns-in-Err-detach_plex-clause-stays : goal.returns-in-Err-detach_plex-clause-stays
+returns-in-Err-detach_plex-clause-stays g c =
+    kept_or_down c.args.core.now.inner.config c.release.new.core.inner.config c.detach_plex.new.core.config (g.S.Shelf.meaning c.release.new.shelf) (g.S.Shelf.meaning c.detach_plex.new.shelf) c.in-Err-detach_plex.error
+    c.release.ensures.volumes c.in-Err-detach_plex.ensures.keeps c.in-Err-detach_plex.ensures.cause

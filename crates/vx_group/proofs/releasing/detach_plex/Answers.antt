@@ -1,4 +1,4 @@
--- `detach_plex`: clauses off, cause, narrows, others, trust, agreed, kept and 3 more; what `detach` asks; that each place lies within.
+-- `detach_plex`: clauses off, cause, narrows, others, trust, agreed, kept, keeps and 3 more; what `detach` asks; that each place lies within.
 use Rattle.std.proofs.Common.{inl, length, ◌∙◌, arith}
 use Rattle.vx_volume.proofs.PlaceLemmas.{active_few}
 use Rattle.vx_group.proofs.CallLemmas.{blames_later, both_Narrows}
@@ -6,7 +6,9 @@ use Rattle.vx_kept.proofs.Chosen.{active_volumes}
 use Rattle.vx_group.proofs.DetLemmas.{bit_here, bit_only, left_volumes, off_by, on_volumes, one_on}
 use Rattle.vx_group.proofs.AttachLemmas.{other_left}
 use Rattle.vx_group.proofs.FailingLemmas.{few_nine, then_failing}
+use Rattle.vx_group.proofs.GiveLemmas.{keeps_volumes}
 use Rattle.vx_group.proofs.HoldLemmas.{one_kept}
+use Rattle.vx_group.proofs.LostLemmas.{later_keeps}
 use Rattle.vx_group.proofs.Standing.{sound_of}
 use Rattle.vx_group.proofs.TrustLemmas.{err_from, ok_from}
 use Rattle.vx_group.proofs.FindingLemmas.{behind_finds}
@@ -64,6 +66,13 @@ returns-clause-kept g c =
 
 pub returns-in-Err-clause-kept : goal.returns-in-Err-clause-kept
 returns-in-Err-clause-kept g c = inl c.settle_headers.ensures.volumes
+
+pub returns-clause-keeps : goal.returns-clause-keeps
+returns-clause-keeps g c =
+    later_keeps c.args.core.now.config c.settle_headers.new.core.config c.detach.new.core.config c.settle_headers.ensures.volumes c.detach.result c.detach.ensures.keeps
+
+pub returns-in-Err-clause-keeps : goal.returns-in-Err-clause-keeps
+returns-in-Err-clause-keeps g c = keeps_volumes c.args.core.now.config c.settle_headers.new.core.config c.in-Err.error c.settle_headers.ensures.volumes
 
 pub returns-clause-parts : goal.returns-clause-parts
 returns-clause-parts g c =

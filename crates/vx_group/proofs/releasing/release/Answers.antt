@@ -70,3 +70,12 @@ returns-in-Some-clause-full g c = λ full. absurd (let left = c.if-core-ge-MOST_
 
 pub returns-in-None-clause-full : goal.returns-in-None-clause-full
 returns-in-None-clause-full g c = λ full. absurd (let left = c.if-core-ge-MOST_NUMBER.false in omega (arith, full, left))
+
+pub returns-then-core-ge-MOST_NUMBER-clause-idle : goal.returns-then-core-ge-MOST_NUMBER-clause-idle
+returns-then-core-ge-MOST_NUMBER-clause-idle g c = λ none. refl
+
+pub returns-in-Some-clause-idle : goal.returns-in-Some-clause-idle
+returns-in-Some-clause-idle g c = λ none. absurd (let clash : None ≡ Some c.in-Some.held = sym none ∙ sym c.open_held.ensures.held ∙ c.in-Some.is in cc)
+
+pub returns-in-None-clause-idle : goal.returns-in-None-clause-idle
+returns-in-None-clause-idle g c = λ none. refl

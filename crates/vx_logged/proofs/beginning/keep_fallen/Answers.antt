@@ -1,5 +1,5 @@
 -- `keep_fallen`: what its calls ask; its clauses.
-use Rattle.std.proofs.Common.{◌≡◌, ◌∙◌, Bool, true, false, refl, sym, ap, subst, arith}
+use Rattle.std.proofs.Common.{◌≡◌, ◌∙◌, inl, inr, Bool, true, false, refl, sym, ap, subst, arith}
 use Rattle.std.specs.Prelude.{not}
 use Rattle.vx_config.specs.Checks.{blocks_of}
 use Rattle.vx_config.specs.declared.config.Config.{Config}
@@ -19,7 +19,7 @@ use Rattle.vx_logged.specs.Behind.{none_missing}
 use Rattle.vx_logged.proofs.BeginLemmas.{but_more, but_note, first_flag, plexes_each}
 use Rattle.vx_logged.proofs.FallenLemmas.{cause_from, fell_same, no_blocks, off_less, there_still}
 use Rattle.vx_logged.proofs.GoneLogs.{trusts_in, trusts_then}
-use Rattle.vx_logged.proofs.StandLemmas.{config_is, if_ok_any, narrowed_then, others_each, others_then}
+use Rattle.vx_logged.proofs.StandLemmas.{config_is, if_err_any, if_ok_any, narrowed_then, others_each, others_then}
 use Rattle.vx_logged.proofs.beginning.keep_fallen.Goals as goal
 
 pub begin_fallen-requires-clause-none : goal.begin_fallen-requires-clause-none
@@ -154,3 +154,16 @@ returns-clause-finds g c = then_group c.args.core.now c.ready_group.new.core c.k
 
 pub returns-clause-cause : goal.returns-clause-cause
 returns-clause-cause g c = cause_from (inner_meaning (wide c.args.core.now) (g.S.Shelf.meaning c.args.shelf.now)) (inner_meaning (wide c.ready_group.new.core) (g.S.Shelf.meaning c.begin_fallen.new.shelf)) (inner_meaning (wide c.keep_map.new.core) (g.S.Shelf.meaning c.keep_map.new.shelf)) c.args.vol c.keep_map.result (then_nothing Nothing (inner_meaning (wide c.args.core.now) (g.S.Shelf.meaning c.args.shelf.now)) (inner_meaning (wide c.ready_group.new.core) (g.S.Shelf.meaning c.ready_group.new.shelf)) (inner_meaning (wide c.ready_group.new.core) (g.S.Shelf.meaning c.begin_fallen.new.shelf)) c.ready_group.ensures.goes c.begin_fallen.ensures.goes).falls (then_nothing Nothing (inner_meaning (wide c.args.core.now) (g.S.Shelf.meaning c.args.shelf.now)) (inner_meaning (wide c.ready_group.new.core) (g.S.Shelf.meaning c.ready_group.new.shelf)) (inner_meaning (wide c.ready_group.new.core) (g.S.Shelf.meaning c.begin_fallen.new.shelf)) c.ready_group.ensures.goes c.begin_fallen.ensures.goes).faults (then_nothing Nothing (inner_meaning (wide c.args.core.now) (g.S.Shelf.meaning c.args.shelf.now)) (inner_meaning (wide c.ready_group.new.core) (g.S.Shelf.meaning c.ready_group.new.shelf)) (inner_meaning (wide c.ready_group.new.core) (g.S.Shelf.meaning c.begin_fallen.new.shelf)) c.ready_group.ensures.goes c.begin_fallen.ensures.goes).disk_faults c.keep_map.ensures.cause
+
+pub returns-in-Err-clause-left : goal.returns-in-Err-clause-left
+returns-in-Err-clause-left g c = λ none. inl (c.in-Err.ensures.quiet none)
+
+pub returns-then-not-ready-clause-left : goal.returns-then-not-ready-clause-left
+returns-then-not-ready-clause-left g c = λ none. tt
+
+pub returns-then-blocks-eq0-clause-left : goal.returns-then-blocks-eq0-clause-left
+returns-then-blocks-eq0-clause-left g c = λ none. tt
+
+pub returns-clause-left : goal.returns-clause-left
+returns-clause-left g c = λ none. if_err_any c.keep_map.result (inr
+    (off_less (fell_now c.args.was.now c.keep_map.new.core c.args.vol) (fell_now c.args.was.now c.ready_group.new.core c.args.vol) c.begin_fallen.new.logs (λ p on. sym (fell_same c.ready_group.new.core c.keep_map.new.core c.args.vol c.args.was.now (c.keep_map.ensures.still (c.in-Ok.ensures.none c.if-not-ready.false)) p) ∙ on) (c.begin_fallen.ensures.begins refl)))

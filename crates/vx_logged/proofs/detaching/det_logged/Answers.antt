@@ -13,3 +13,6 @@ returns-clause-trusts g c =
 
 pub returns-clause-free : goal.returns-clause-free
 returns-clause-free g c = c.det_in.ensures.free
+
+pub returns-clause-stays : goal.returns-clause-stays
+returns-clause-stays g c = c.det_in.ensures.stays

@@ -116,3 +116,16 @@ returns-in-Ok-clause-cause g c = record { before = c.in-Ok.ensures.cause.before;
 
 pub returns-in-Err-clause-cause : goal.returns-in-Err-clause-cause
 returns-in-Err-clause-cause g c = cause_to Bool (Unit {0}) c.args.vol c.in-Err.error (inner_meaning (wide c.args.core.now) (g.S.Shelf.meaning c.args.shelf.now)) (inner_meaning (wide c.mark_group.new.core) (g.S.Shelf.meaning c.mark_group.new.shelf)) c.in-Err.ensures.cause
+
+pub returns-then-not-misses-clause-left : goal.returns-then-not-misses-clause-left
+returns-then-not-misses-clause-left g c = λ before. tt
+
+pub returns-in-Ok-clause-left : goal.returns-in-Ok-clause-left
+returns-in-Ok-clause-left g c = λ before. tt
+
+pub returns-in-Err-clause-left : goal.returns-in-Err-clause-left
+returns-in-Err-clause-left g c = λ before. elim before [
+  | inl off ↦ off_run (fell_now c.args.was.now c.mark_group.new.core c.args.vol) (fell_now c.args.was.now c.args.core.now c.args.vol) (are_off c.mark_group.new.core c.args.vol) (first_region c.args.block) (last_region c.args.block c.args.count) c.args.logs.now c.mark_group.new.logs
+      (λ p on. sym (fell_same c.args.core.now c.mark_group.new.core c.args.vol c.args.was.now c.mark_group.ensures.still p) ∙ on) off c.mark_group.ensures.notes
+  | inr spent ↦ absurd (let left = c.misses_any-misses.ensures.left c.if-not-misses.false in omega (arith, left, spent))
+]

@@ -1,5 +1,5 @@
 -- A group that is made ready.
-use Rattle.std.proofs.Common.{◌≡◌, ℕ, Bool, List, Option, true, false, ap, refl, subst, arith}
+use Rattle.std.proofs.Common.{◌≡◌, ◌∙◌, ℕ, Bool, List, Option, true, false, ap, refl, subst, sym, arith}
 use Rattle.std.specs.Prelude.{is_some, not}
 use Rattle.vx_group.specs.declared.group_core.Held.{Held}
 use Rattle.vx_disk.specs.Shelf.{Nothing}
@@ -117,3 +117,12 @@ returns-in-Ok-clause-spent g c =
     let gone : is_some c.release.new.core.held ≡ false = ap (λ (o : Option Held). is_some o) none in
     let turned : not (is_some c.release.new.core.held) ≡ true = ap not gone in
     cc)
+
+pub returns-then-is_down-clause-quiet : goal.returns-then-is_down-clause-quiet
+returns-then-is_down-clause-quiet g c = λ none. sym c.is_down.ensures ∙ c.if-is_down.true
+
+pub returns-in-Ok-clause-quiet : goal.returns-in-Ok-clause-quiet
+returns-in-Ok-clause-quiet g c = λ none. tt
+
+pub returns-in-Err-clause-quiet : goal.returns-in-Err-clause-quiet
+returns-in-Err-clause-quiet g c = λ none. absurd (let clash : false ≡ true = c.in-Err.ensures.idle none in cc)

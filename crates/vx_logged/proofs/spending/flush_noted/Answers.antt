@@ -126,3 +126,9 @@ returns-in-Err-clause-rests g c = c.flush_behind.ensures.rests
 
 pub returns-clause-rests : goal.returns-clause-rests
 returns-clause-rests g c = c.flush_behind.ensures.rests
+
+pub returns-in-Err-clause-left : goal.returns-in-Err-clause-left
+returns-in-Err-clause-left g c = c.in-Err.ensures.left
+
+pub returns-clause-left : goal.returns-clause-left
+returns-clause-left g c = λ less is. tt

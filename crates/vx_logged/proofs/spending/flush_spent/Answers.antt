@@ -115,3 +115,9 @@ returns-clause-drops g c = drops_by c.args.core.now c.flush_cleared.new.core c.a
 pub returns-clause-trusts : goal.returns-clause-trusts
 returns-clause-trusts g c = by_spent (λ (k : Logs). TrustsIn c.args.vol k c.args.core.now.inner.config c.flush_cleared.new.core.inner.config) c.flush_cleared.new.logs c.drop_spent.new.logs c.drop_spent.ensures.drl c.drop_spent.ensures.kept c.flush_cleared.ensures.trusts
     (λ spent. trusts_less c.args.vol c.flush_cleared.new.logs (bare c.flush_cleared.new.logs) c.args.core.now.inner.config c.flush_cleared.new.core.inner.config (no_map c.flush_cleared.new.logs) c.flush_cleared.ensures.trusts)
+
+pub returns-in-Err-clause-left : goal.returns-in-Err-clause-left
+returns-in-Err-clause-left g c = c.in-Err.ensures.left
+
+pub returns-clause-left : goal.returns-clause-left
+returns-clause-left g c = λ less is. tt

@@ -38,6 +38,10 @@ pub returns-clause-free : goal.returns-clause-free
 returns-clause-free g c =
     c.att_in.ensures.free
 
+pub returns-clause-alone : goal.returns-clause-alone
+returns-clause-alone g c =
+    c.att_in.ensures.alone
+
 pub returns-clause-keeps : goal.returns-clause-keeps
 returns-clause-keeps g c =
     stay_keeps c.args.core.now c.att_in.new.core c.args.logs.now.items c.args.logs.now.items (g.S.Shelf.meaning c.args.shelf.now) (g.S.Shelf.meaning c.att_in.new.shelf)

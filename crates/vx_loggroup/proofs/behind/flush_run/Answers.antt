@@ -8,7 +8,7 @@ use Rattle.vx_group.specs.Stands.{inner_meaning}
 use Rattle.vx_group.proofs.CallLemmas.{not_down}
 use Rattle.vx_group.proofs.TrustLemmas.{ok_from}
 use Rattle.vx_loggroup.specs.LoggedVolumes.{is_alike}
-use Rattle.vx_loggroup.proofs.AlikeLemmas.{done_up, here_stands, hold_set, index_low, marks_set, notes_set, runs_set, set_stands, up_false}
+use Rattle.vx_loggroup.proofs.AlikeLemmas.{done_up, here_stands, hold_set, index_low, left_up, marks_set, notes_set, runs_set, set_stands, up_false}
 use Rattle.vx_loggroup.proofs.FreshLemmas.{lists_none}
 use Rattle.vx_loggroup.proofs.NewLemmas.{list_same}
 use Rattle.vx_loggroup.proofs.SetLemmas.{item_of, set_other}
@@ -75,3 +75,9 @@ returns-clause-moves g c = λ going some.
 
 pub returns-clause-rests : goal.returns-clause-rests
 returns-clause-rests g c = c.flush_noted.ensures.rests
+
+pub returns-clause-left : goal.returns-clause-left
+returns-clause-left g c = λ less alike going.
+    left_up c.flush_noted.result (g.S.Shelf.meaning c.args.shelf.now) (g.S.Shelf.meaning c.flush_noted.new.shelf) c.flush_noted.ensures.goes.falls
+    (λ up. c.flush_noted.ensures.left less (c.is_sure-sure.ensures.all (c.is_alike.ensures ∙ alike) going (c.is_down-down.ensures ∙ up_false (g.S.Shelf.meaning c.args.shelf.now).down up)))
+    (λ none. runs_set (fell_in c.args.core.now c.flush_noted.new.core c.args.vol) c.args.vol (first_region c.args.block) (last_region c.args.block c.args.count) c.args.logs.now.items c.flush_noted.new.logs none)

@@ -1,5 +1,5 @@
 -- `det_fresh`: its clauses.
-use Rattle.std.proofs.Common.{◌≡◌, ◌∙◌, ap, arith, refl, subst, sym}
+use Rattle.std.proofs.Common.{◌≡◌, ◌∙◌, inl, inr, ap, arith, refl, subst, sym}
 use Rattle.vx_config.specs.Checks.{blocks_of}
 use Rattle.vx_disk.specs.Shelf.{Nothing}
 use Rattle.vx_disk.proofs.Runs.{then_nothing}
@@ -13,12 +13,12 @@ use Rattle.vx_group.proofs.TrustLemmas.{err_from, ok_from}
 use Rattle.vx_group.proofs.UnitLemmas.{then_units}
 use Rattle.vx_group.specs.declared.group_core.GroupCore.{GroupCore}
 use Rattle.vx_grouplogs.proofs.LogShape.{same_count}
-use Rattle.vx_loggroup.specs.Attaching.{fmr_or}
+use Rattle.vx_loggroup.specs.Attaching.{fmr_at, fmr_or}
 use Rattle.vx_loggroup.specs.LoggedVolumes.{is_alike}
 use Rattle.vx_loggroup.specs.Marks.{region_count}
 use Rattle.vx_loggroup.proofs.DetFresh.{never_err}
 use Rattle.vx_loggroup.proofs.DetMoves.{first_moves, run_det}
-use Rattle.vx_loggroup.proofs.DetachedLogs.{begin_none, det_later, empty_later}
+use Rattle.vx_loggroup.proofs.DetachedLogs.{begin_none, det_later, empty_later, stays_later}
 use Rattle.vx_loggroup.proofs.FreshLemmas.{fresh_still}
 use Rattle.vx_group.proofs.FindingLemmas.{then_group}
 use Rattle.vx_loggroup.proofs.KeepingLemmas.{frames_places, stay_keeps, then_keeps}
@@ -131,3 +131,11 @@ returns-in-Err-clause-trusts g c = record { each = λ w log has told. c.begin_be
 
 pub returns-clause-trusts : goal.returns-clause-trusts
 returns-clause-trusts g c = record { each = λ w log has told. c.det_whole.ensures.trusts.each w log has (c.begin_before.ensures.trusts.each w log told) }
+
+pub returns-in-Err-clause-stays : goal.returns-in-Err-clause-stays
+returns-in-Err-clause-stays g c = inr (inl (c.begin_before.ensures.still c.args.vol c.args.plex))
+
+pub returns-clause-stays : goal.returns-clause-stays
+returns-clause-stays g c = err_from c.det_whole.result (stays_later c.begin_before.new.core.inner.config c.args.core.now.inner.config c.det_whole.new.core.inner.config c.args.vol c.args.plex (fmr_at c.det_whole.new.logs.items c.args.vol) (c.begin_before.ensures.still c.args.vol c.args.plex)
+    (λ b is. record { volume = let old = (wide_shape c.args.core.now).volumes in let new = (wide_shape c.begin_before.new.core).volumes in let units = c.begin_before.ensures.goes.units in let lt = is.volume in omega (arith, old, new, units, lt); within = let old = (wide_shape c.args.core.now).blocks c.args.vol in let new = (wide_shape c.begin_before.new.core).blocks c.args.vol in let size = c.begin_before.ensures.goes.size c.args.vol in let lt = is.within in omega (arith, old, new, size, lt) }))
+    c.det_whole.ensures.stays

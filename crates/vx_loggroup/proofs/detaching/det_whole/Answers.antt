@@ -1,5 +1,5 @@
 -- `det_whole`: its clauses; what the calls ask.
-use Rattle.std.proofs.Common.{◌≡◌, ◌∙◌, ◌<◌, Bool, false, true, length, refl, subst, sym, arith}
+use Rattle.std.proofs.Common.{◌≡◌, ◌∙◌, ◌<◌, inl, inr, Bool, false, true, length, refl, subst, sym, arith}
 use Rattle.std.specs.Prelude.{Err}
 use Rattle.vx_disk.specs.Shelf.{Nothing}
 use Rattle.vx_disk.proofs.Runs.{then_nothing}
@@ -12,6 +12,7 @@ use Rattle.vx_group.proofs.TrustLemmas.{err_from, ok_from}
 use Rattle.vx_group.proofs.UnitLemmas.{goes_units, then_units}
 use Rattle.vx_grouplogs.proofs.LogShape.{same_count}
 use Rattle.vx_groupmaps.specs.Missing.{OnMaps}
+use Rattle.vx_kept.proofs.Chosen.{active_volumes}
 use Rattle.vx_kept.proofs.Steps.{inside_back}
 use Rattle.vx_loggroup.specs.Attaching.{fmr_at}
 use Rattle.vx_loggroup.specs.LoggedVolumes.{LoggedStands}
@@ -244,3 +245,18 @@ returns-in-Err-begin_missing-clause-trusts g c = record { each = λ w log has to
 
 pub returns-clause-trusts : goal.returns-clause-trusts
 returns-clause-trusts g c = record { each = λ w log has told. c.keep_begun.ensures.trusts.each w log has (c.det_logged.ensures.trusts.each w log told) }
+
+pub returns-in-Err-clause-stays : goal.returns-in-Err-clause-stays
+returns-in-Err-clause-stays g c = elim c.in-Err.ensures.stays [
+  | inl down ↦ inl down
+  | inr same ↦ inr (inl (active_volumes c.det_logged.new.core.inner.config c.args.core.now.inner.config same c.args.vol c.args.plex))
+]
+
+pub returns-then-not-may_begin-clause-stays : goal.returns-then-not-may_begin-clause-stays
+returns-then-not-may_begin-clause-stays g c = tt
+
+pub returns-in-Err-begin_missing-clause-stays : goal.returns-in-Err-begin_missing-clause-stays
+returns-in-Err-begin_missing-clause-stays g c = inl c.in-Err-begin_missing.ensures.down.1
+
+pub returns-clause-stays : goal.returns-clause-stays
+returns-clause-stays g c = err_any c.keep_begun.result (inr (inr (empty_later c.det_logged.new.core.inner.config c.args.core.now.inner.config c.args.vol c.args.plex (fmr_at c.begin_missing.new.logs.items c.args.vol) (λ b inside. inside_back c.det_logged.new.core.inner.config c.args.core.now.inner.config c.det_logged.ensures.narrows.shape c.args.vol b inside) c.in-Ok-begin_missing.ensures.empty)))

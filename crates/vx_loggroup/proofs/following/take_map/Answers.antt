@@ -1,5 +1,6 @@
 -- `take_map`: its clauses; what `copy_plex` asks.
-use Rattle.std.proofs.Common.{false, refl, subst, arith}
+use Rattle.std.proofs.Common.{◌≡◌, ◌∙◌, List, ap, false, refl, subst, sym, true, arith}
+use Rattle.std.specs.Prelude.{is_some}
 use Rattle.vx_disk.proofs.Runs.{none_written}
 use Rattle.vx_disk.specs.Shelf.{Nothing}
 use Rattle.vx_group.specs.Holding.{wide}
@@ -10,9 +11,11 @@ use Rattle.vx_kept.proofs.Findings.{same_from}
 use Rattle.vx_kept.specs.Finds.{NoConfiguration}
 use Rattle.vx_logged.specs.Copied.{ReadsRow}
 use Rattle.vx_logs.specs.declared.logs.Logs.{Logs}
+use Rattle.vx_loggroup.specs.Attaching.{fmr_at}
 use Rattle.vx_loggroup.specs.LoggedVolumes.{is_alike}
 use Rattle.vx_loggroup.proofs.AlikeLemmas.{here_stands, set_stands}
-use Rattle.vx_loggroup.proofs.FollowLemmas.{copied_stay, logs_item, take_empty, take_set}
+use Rattle.vx_loggroup.proofs.FollowLemmas.{copied_stay, logs_item, take_empty, take_gone, take_set}
+use Rattle.vx_loggroup.proofs.FreshLemmas.{none_of}
 use Rattle.vx_loggroup.proofs.KeepingLemmas.{stays_none}
 use Rattle.vx_loggroup.proofs.SetLemmas.{item_of}
 use Rattle.vx_loggroup.proofs.following.take_map.Goals as goal
@@ -50,6 +53,37 @@ returns-then-blocks_of-eq0-clause-less g c = same_from NoConfiguration (g.S.Shel
 
 pub returns-then-blocks_of-eq0-clause-stays : goal.returns-then-blocks_of-eq0-clause-stays
 returns-then-blocks_of-eq0-clause-stays g c = stays_none c.args.core.now.inner.config c.args.logs.now.items (g.S.Shelf.meaning c.args.shelf.now) (g.S.Shelf.meaning c.args.shelf.now)
+
+pub returns-then-blocks_of-eq0-clause-none : goal.returns-then-blocks_of-eq0-clause-none
+returns-then-blocks_of-eq0-clause-none g c = λ none. (refl, refl)
+
+pub returns-then-not-has_maps-clause-stands : goal.returns-then-not-has_maps-clause-stands
+returns-then-not-has_maps-clause-stands g c = c.requires.stands
+
+pub returns-then-not-has_maps-clause-below : goal.returns-then-not-has_maps-clause-below
+returns-then-not-has_maps-clause-below g c = none_written _ (g.S.Shelf.meaning c.args.shelf.now) (g.S.Shelf.meaning c.args.shelf.now) (same_Goes (g.S.Shelf.meaning c.args.shelf.now))
+
+pub returns-then-not-has_maps-clause-goes : goal.returns-then-not-has_maps-clause-goes
+returns-then-not-has_maps-clause-goes g c = same_Goes (inner_meaning (wide c.args.core.now) (g.S.Shelf.meaning c.args.shelf.now))
+
+pub returns-then-not-has_maps-clause-takes : goal.returns-then-not-has_maps-clause-takes
+returns-then-not-has_maps-clause-takes g c =
+    take_gone c.args.vol c.args.plex c.args.from c.args.logs.now.items
+    (none_of (fmr_at c.args.logs.now.items c.args.vol) (sym (c.has_maps.ensures ∙ ap (λ (ls : List Logs). is_some (fmr_at ls c.args.vol)) c.as_slice.ensures.value) ∙ c.if-not-has_maps.true))
+
+pub returns-then-not-has_maps-clause-less : goal.returns-then-not-has_maps-clause-less
+returns-then-not-has_maps-clause-less g c = same_from NoConfiguration (g.S.Shelf.meaning c.args.shelf.now)
+
+pub returns-then-not-has_maps-clause-stays : goal.returns-then-not-has_maps-clause-stays
+returns-then-not-has_maps-clause-stays g c = stays_none c.args.core.now.inner.config c.args.logs.now.items (g.S.Shelf.meaning c.args.shelf.now) (g.S.Shelf.meaning c.args.shelf.now)
+
+pub returns-then-not-has_maps-clause-none : goal.returns-then-not-has_maps-clause-none
+returns-then-not-has_maps-clause-none g c = λ none. (refl, refl)
+
+pub returns-clause-none : goal.returns-clause-none
+returns-clause-none g c = λ none. absurd (
+    let has = c.has_maps.ensures ∙ ap (λ (ls : List Logs). is_some (fmr_at ls c.args.vol)) c.as_slice.ensures.value in
+    let clash : false ≡ true = sym (ap is_some none) ∙ sym has ∙ c.if-not-has_maps.false in cc)
 
 pub returns-clause-stands : goal.returns-clause-stands
 returns-clause-stands g c =

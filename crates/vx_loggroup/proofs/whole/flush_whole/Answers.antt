@@ -5,7 +5,7 @@ use Rattle.vx_group.specs.Holding.{wide}
 use Rattle.vx_group.specs.Stands.{inner_meaning}
 use Rattle.vx_group.proofs.CallLemmas.{not_down}
 use Rattle.vx_loggroup.specs.LoggedVolumes.{is_alike}
-use Rattle.vx_loggroup.proofs.AlikeLemmas.{clears_set, done_up, notes_set, off_set, up_false, here_stands, index_low, set_stands}
+use Rattle.vx_loggroup.proofs.AlikeLemmas.{clears_set, done_up, left_up, notes_set, off_set, up_false, here_stands, index_low, set_stands}
 use Rattle.vx_loggroup.proofs.SetLemmas.{item_of}
 use Rattle.vx_logged.specs.Begun.{fell_in}
 use Rattle.vx_logged.specs.Behind.{none_missing}
@@ -42,4 +42,10 @@ pub returns-clause-begins : goal.returns-clause-begins
 returns-clause-begins g c = λ alike going.
     done_up c.flush_spent.result (inner_meaning (wide c.args.core.now) (g.S.Shelf.meaning c.args.shelf.now)) (inner_meaning (wide c.flush_spent.new.core) (g.S.Shelf.meaning c.flush_spent.new.shelf)) c.args.vol c.flush_spent.ensures.cause
     (λ up. c.flush_spent.ensures.begins (c.is_sure-sure.ensures.all (c.is_alike.ensures ∙ alike) going (c.is_down-down.ensures ∙ up_false (g.S.Shelf.meaning c.args.shelf.now).down up)))
+    (λ none. off_set (fell_in c.args.core.now c.flush_spent.new.core c.args.vol) c.args.vol c.args.logs.now.items c.flush_spent.new.logs none)
+
+pub returns-clause-left : goal.returns-clause-left
+returns-clause-left g c = λ less alike going.
+    left_up c.flush_spent.result (g.S.Shelf.meaning c.args.shelf.now) (g.S.Shelf.meaning c.flush_spent.new.shelf) c.flush_spent.ensures.goes.falls
+    (λ up. c.flush_spent.ensures.left less (c.is_sure-sure.ensures.all (c.is_alike.ensures ∙ alike) going (c.is_down-down.ensures ∙ up_false (g.S.Shelf.meaning c.args.shelf.now).down up)))
     (λ none. off_set (fell_in c.args.core.now c.flush_spent.new.core c.args.vol) c.args.vol c.args.logs.now.items c.flush_spent.new.logs none)

@@ -6,7 +6,7 @@ use Rattle.vx_loggroup.proofs.EndedLemmas.{maps_end}
 use Rattle.vx_loggroup.proofs.FactLemmas.{from_logged, to_logged}
 use Rattle.vx_loggroup.proofs.KeepingLemmas.{shape_places}
 use Rattle.vx_loggroup.proofs.FreshLemmas.{fresh_still}
-use Rattle.vx_loggroup.specs.Attaching.{leaves_maps, map_by}
+use Rattle.vx_loggroup.specs.Attaching.{leaves_maps, map_by, maps_gone}
 use Rattle.vx_loggroup.specs.LoggedVolumes.{is_alike}
 use Rattle.vx_loggroup.proofs.MirrorLemmas.{keep_att}
 use Rattle.vx_loggroup.proofs.group.LoggedGroup.att.Goals as goal
@@ -25,12 +25,12 @@ returns-clause-keeps g c = c.att_held.ensures.keeps
 
 pub returns-clause-moves : goal.returns-clause-moves
 returns-clause-moves g c =
-    att_moves (leaves_maps (is_alike c.args.self.now.alike c.args.vol) c.args.self.now.stopped c.att_held.result) c.args.self.now.core c.att_held.new.core c.args.vol c.args.plex c.args.self.now.logs.items c.att_held.new.logs.items c.att_held.ensures.maps c.att_held.ensures.follows
-    (λ leaves l at f has. (((from_logged c.args.self.now.core c.args.self.now.logs.items c.args.self.now.alike c.args.self.now.stopped (g.S.Shelf.meaning c.args.self.now.shelf) c.args.self.now.stands).each c.args.vol l at).on (going_on (is_alike c.args.self.now.alike c.args.vol) c.args.self.now.stopped c.att_held.result leaves)).fits.fmr f has)
-    (λ leaves. attached_on (is_alike c.args.self.now.alike c.args.vol) c.args.self.now.stopped c.att_held.result c.args.self.now.core c.att_held.new.core c.args.vol c.args.plex (g.S.Shelf.meaning c.att_held.new.shelf) leaves (λ no is. (c.att_held.ensures.refused no is).0) (λ none on. (c.att_held.ensures.already none on).1) c.att_held.ensures.ends)
+    att_moves (is_alike c.args.self.now.alike c.args.vol) c.args.self.now.stopped c.att_held.result c.args.self.now.core c.att_held.new.core c.args.vol c.args.plex c.args.self.now.logs.items c.att_held.new.logs.items c.att_held.ensures.maps c.att_held.ensures.follows
+    (λ leaves l at f has. (((from_logged c.args.self.now.core c.args.self.now.logs.items c.args.self.now.alike c.args.self.now.stopped (g.S.Shelf.meaning c.args.self.now.shelf) c.args.self.now.stands).each c.args.vol l at).on (going_on (is_alike c.args.self.now.alike c.args.vol) c.args.self.now.stopped (maps_gone c.args.self.now.core.inner.config c.args.self.now.logs.items c.att_held.new.logs.items c.args.vol) c.att_held.result leaves)).fits.fmr f has)
+    (attached_on c.att_held.result c.args.self.now.core c.att_held.new.core c.args.vol c.args.plex (g.S.Shelf.meaning c.att_held.new.shelf) (λ no is. (c.att_held.ensures.refused no is).0) (λ none on. (c.att_held.ensures.already none on).1) c.att_held.ensures.ends)
 
 pub returns-clause-comes : goal.returns-clause-comes
-returns-clause-comes g c = att_begins (leaves_maps (is_alike c.args.self.now.alike c.args.vol) c.args.self.now.stopped c.att_held.result) c.args.self.now.core c.att_held.new.core c.args.vol c.args.plex c.args.self.now.logs.items c.att_held.new.logs.items c.args.self.now.stopped c.att_held.ensures.maps c.att_held.ensures.follows
+returns-clause-comes g c = att_begins (leaves_maps (is_alike c.args.self.now.alike c.args.vol) c.args.self.now.stopped (maps_gone c.args.self.now.core.inner.config c.args.self.now.logs.items c.att_held.new.logs.items c.args.vol) c.att_held.result) c.args.self.now.core c.att_held.new.core c.args.vol c.args.plex c.args.self.now.logs.items c.att_held.new.logs.items c.args.self.now.stopped c.att_held.ensures.maps c.att_held.ensures.follows
 
 pub returns-clause-ends_maps : goal.returns-clause-ends_maps
 returns-clause-ends_maps g c = maps_end c.args.self.now.core c.att_held.new.core c.args.self.now.logs.items c.att_held.new.logs.items c.args.self.now.stopped c.args.self.now.stopped (g.S.Shelf.meaning c.args.self.now.shelf) (g.S.Shelf.meaning c.att_held.new.shelf) c.att_held.ensures.keeps
@@ -38,3 +38,6 @@ returns-clause-ends_maps g c = maps_end c.args.self.now.core c.att_held.new.core
 
 pub returns-clause-flags : goal.returns-clause-flags
 returns-clause-flags g c = (refl, refl)
+
+pub returns-clause-kept : goal.returns-clause-kept
+returns-clause-kept g c = c.att_held.ensures.kept

@@ -37,3 +37,6 @@ returns-clause-ends_maps g c = maps_end c.args.self.now.core c.det_fresh.new.cor
 
 pub returns-clause-flags : goal.returns-clause-flags
 returns-clause-flags g c = (refl, refl)
+
+pub returns-clause-stays : goal.returns-clause-stays
+returns-clause-stays g c = c.det_fresh.ensures.stays

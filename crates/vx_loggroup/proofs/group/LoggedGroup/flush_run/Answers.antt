@@ -46,3 +46,6 @@ returns-clause-flags g c = (refl, refl)
 
 pub returns-clause-rests : goal.returns-clause-rests
 returns-clause-rests g c = c.flush_run.ensures.rests
+
+pub returns-clause-left : goal.returns-clause-left
+returns-clause-left g c = c.flush_run.ensures.left

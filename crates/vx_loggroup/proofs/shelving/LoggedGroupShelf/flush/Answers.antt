@@ -19,3 +19,6 @@ returns-clause-mirrors g c = keep_loses names_none c.args.self.now.core c.flush_
 
 pub returns-clause-keeps : goal.returns-clause-keeps
 returns-clause-keeps g c = c.flush_whole.ensures.keeps
+
+pub returns-clause-left : goal.returns-clause-left
+returns-clause-left g c = c.flush_whole.ensures.left
