@@ -1,7 +1,7 @@
 -- The meaning of disks in memory: of each block a stable and a latest value, and what they were at earlier moments.
 use Rattle.std.specs.Prelude.{refl, zero, suc, ◌≤◌, ◌^◌, ◌≡◌, ◌⊎◌, ℕ, ◌*◌, ◌%◌, Bool, true, false, Option, Some, replicate, ◌<◌, sum_by, take, List, [], ◌∷◌, length, map, drop, slice_index_or, Vec}
 use Rattle.std.specs.declared.alloc.Global.{Global}
-use Rattle.vx_model.specs.declared.limits.TheConstants.{MOST_DISKS}
+use Rattle.vx_model.specs.declared.limits.TheConstants.{BLOCK, MOST_DISKS}
 use Rattle.vx_disk.specs.declared.unit.MemUnit.{MemUnit}
 use Rattle.vx_disk.specs.Blocks.{block_at, kept, trues}
 use Rattle.std.proofs.Common.{inl, inr, ⊎_elim, sym, ◌∙◌, arith, lit<}
@@ -149,8 +149,8 @@ meaning-IsRack units past down fuse at_rest = record {
 
 -- a new disk
 pub record IsZeroed (blocks : ℕ) (m : MemUnit) : Type 0 where
-  pub stable : m.stable.items ≡ replicate (512 * blocks) 0
-  pub latest : m.latest.items ≡ replicate (512 * blocks) 0
+  pub stable : m.stable.items ≡ replicate (BLOCK * blocks) 0
+  pub latest : m.latest.items ≡ replicate (BLOCK * blocks) 0
   pub loose : m.loose.items ≡ replicate blocks false
   pub none : m.faults ≡ 0
   pub works : m.failing ≡ false

@@ -3,7 +3,7 @@ use Rattle.std.specs.Prelude.{◌≡◌, ◌⊎◌, ℕ, ◌<◌, ◌≤◌, fal
 use Rattle.vx_model.specs.declared.errors.Stop.{Stop}
 use Rattle.vx_model.specs.declared.errors.Stop.TheVariants.{No as Refused, OutOfMemory}
 use Rattle.vx_model.specs.declared.no.No.TheVariants.{Device}
-use Rattle.vx_model.specs.declared.limits.TheConstants.{MOST_FILE_BLOCKS, MOST_MEMORY_BLOCKS}
+use Rattle.vx_model.specs.declared.limits.TheConstants.{BLOCK, MOST_FILE_BLOCKS, MOST_MEMORY_BLOCKS}
 use Rattle.vx_disk.specs.Causes.{OnDisks}
 use Rattle.vx_disk.specs.Counts.{Rose}
 use Rattle.vx_disk.specs.Disks.{Disks, Fresh, Untouched, is_set}
@@ -86,8 +86,8 @@ Telling (Some dir) old new = IsTrue new.tells → IsTrue old.tells
 pub record Fitted (disks blocks : ℕ) (old new : Meaning) : Type 0 where
   pub units : new.units ≡ disks
   pub size : (u : ℕ) → u < disks → new.size u ≡ blocks
-  pub zero_reads : (u b : ℕ) (v : List ℕ) → u < disks → b < blocks → new.reads u b v → v ≡ replicate 512 0
-  pub zeroed : (u b : ℕ) (v : List ℕ) → u < disks → b < blocks → new.leaves u b v → v ≡ replicate 512 0
+  pub zero_reads : (u b : ℕ) (v : List ℕ) → u < disks → b < blocks → new.reads u b v → v ≡ replicate BLOCK 0
+  pub zeroed : (u b : ℕ) (v : List ℕ) → u < disks → b < blocks → new.leaves u b v → v ≡ replicate BLOCK 0
   pub later : old.moment ≤ new.moment
   pub since : (t : ℕ) (i : Image) → t ≤ old.moment → new.left_since t i → old.left_since t i ⊎ new.now i
   pub faults : (u : ℕ) → old.faults u ≤ new.faults u

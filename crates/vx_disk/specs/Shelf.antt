@@ -1,5 +1,6 @@
 -- The meaning of a shelf: what its reads give, and what crashes may leave.
 use Rattle.std.specs.Prelude.{◌≡◌, ◌≢◌, ◌⊎◌, ℕ, ◌+◌, ◌-◌, ◌*◌, ◌/◌, ◌%◌, ◌<◌, ◌≤◌, ◌^◌, Bool, IsTrue, IsFalse, true, false, Option, List, length, take, drop}
+use Rattle.vx_model.specs.declared.limits.TheConstants.{BLOCK}
 use Rattle.vx_disk.specs.Disks.{Disks}
 
 -- for each unit and block a value, which outside the unit says nothing
@@ -60,17 +61,17 @@ pub record Lawful (m : Meaning) : Type 0 where
 pub record Fits (m : Meaning) (unit block n : ℕ) : Type 0 where
   pub exists : unit < m.units
   pub some : 0 < n
-  pub whole : n % 512 ≡ 0
-  pub within : block + n / 512 ≤ m.size unit
+  pub whole : n % BLOCK ≡ 0
+  pub within : block + n / BLOCK ≤ m.size unit
 
 -- the blocks that these bytes cover, and the value of one
 pub record Covers (unit block : ℕ) (bytes : List ℕ) (u b : ℕ) : Type 0 where
   pub there : u ≡ unit
   pub first : block ≤ b
-  pub last : 512 * (b - block) < length bytes
+  pub last : BLOCK * (b - block) < length bytes
 
 abbrev pub piece : ℕ → List ℕ → ℕ → List ℕ
-piece block bytes b = take 512 (drop (512 * (b - block)) bytes)
+piece block bytes b = take BLOCK (drop (BLOCK * (b - block)) bytes)
 
 -- what a write puts there
 pub record Written (unit block : ℕ) (bytes : List ℕ) (u b : ℕ) (v : List ℕ) : Type 0 where

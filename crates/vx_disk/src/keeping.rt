@@ -32,8 +32,8 @@ pub fn keep_written(
     runs: &[Run],
     number: usize,
 )
-    requires stable { length stable.old ≡ 512 * length loose.old }
-    requires latest { length latest.now ≡ 512 * length loose.old }
+    requires stable { length stable.old ≡ BLOCK * length loose.old }
+    requires latest { length latest.now ≡ BLOCK * length loose.old }
     requires clean { (b : ℕ) → slice_index_or loose.old b false ≡ false → block_at stable.old b ≡ block_at latest.now b }
     requires noted { number < length runs.now → AreNoted number runs.now loose.old }
     requires inside { number < length runs.now → AreInside number runs.now (length loose.old) }
@@ -49,8 +49,8 @@ pub fn keep_written(
 }
 
 fn keep_runs(stable: &mut [u8], latest: &[u8], loose: &mut [bool], runs: &[Run], number: usize)
-    requires stable { length stable.old ≡ 512 * length loose.old }
-    requires latest { length latest.now ≡ 512 * length loose.old }
+    requires stable { length stable.old ≡ BLOCK * length loose.old }
+    requires latest { length latest.now ≡ BLOCK * length loose.old }
     requires number { number ≤ length runs.now }
     requires clean { (b : ℕ) → slice_index_or loose.old b false ≡ false → block_at stable.old b ≡ block_at latest.now b }
     requires noted { AreNoted number runs.now loose.old }
@@ -66,10 +66,10 @@ fn keep_runs(stable: &mut [u8], latest: &[u8], loose: &mut [bool], runs: &[Run],
 
 // Keeps the latest values of a run of blocks, and marks none of them as loose.
 fn keep_run(stable: &mut [u8], latest: &[u8], loose: &mut [bool], first: usize, count: usize)
-    requires stable { length stable.old ≡ 512 * length loose.old }
-    requires latest { length latest.now ≡ 512 * length loose.old }
+    requires stable { length stable.old ≡ BLOCK * length loose.old }
+    requires latest { length latest.now ≡ BLOCK * length loose.old }
     requires inside { first + count ≤ length loose.old }
-    ensures kept { stable.new ≡ over stable.old (512 * first) (take (512 * count) (drop (512 * first) latest.now)) }
+    ensures kept { stable.new ≡ over stable.old (BLOCK * first) (take (BLOCK * count) (drop (BLOCK * first) latest.now)) }
     ensures none { loose.new ≡ over loose.old first (replicate count false) }
 {
     let start = BLOCK * first;
@@ -79,8 +79,8 @@ fn keep_run(stable: &mut [u8], latest: &[u8], loose: &mut [bool], first: usize, 
 
 // Keeps the latest value of each loose block.
 fn keep_loose(stable: &mut [u8], latest: &[u8], loose: &[bool])
-    requires stable { length stable.old ≡ 512 * length loose.now }
-    requires latest { length latest.now ≡ 512 * length loose.now }
+    requires stable { length stable.old ≡ BLOCK * length loose.now }
+    requires latest { length latest.now ≡ BLOCK * length loose.now }
     ensures kept { (b : ℕ) → block_at stable.new b ≡ cond (slice_index_or loose.now b false) (block_at latest.now b) (block_at stable.old b) }
 {
     for b in 0..loose.len() {
@@ -90,8 +90,8 @@ fn keep_loose(stable: &mut [u8], latest: &[u8], loose: &[bool])
 
 // Keeps the latest value of block b, if it is loose.
 fn keep_where(stable: &mut [u8], latest: &[u8], loose: bool, b: usize)
-    requires in_stable { 512 * b + 512 ≤ length stable.old }
-    requires in_latest { 512 * b + 512 ≤ length latest.now }
+    requires in_stable { BLOCK * b + BLOCK ≤ length stable.old }
+    requires in_latest { BLOCK * b + BLOCK ≤ length latest.now }
     ensures here { block_at stable.new b ≡ cond loose (block_at latest.now b) (block_at stable.old b) }
     ensures elsewhere { (k : ℕ) → k ≢ b → block_at stable.new k ≡ block_at stable.old k }
 {
@@ -102,9 +102,9 @@ fn keep_where(stable: &mut [u8], latest: &[u8], loose: bool, b: usize)
 
 /// Keeps the latest value of block b.
 pub fn keep_block(stable: &mut [u8], latest: &[u8], b: usize)
-    requires in_stable { 512 * b + 512 ≤ length stable.old }
-    requires in_latest { 512 * b + 512 ≤ length latest.now }
-    ensures { stable.new ≡ over stable.old (512 * b) (block_at latest.now b) }
+    requires in_stable { BLOCK * b + BLOCK ≤ length stable.old }
+    requires in_latest { BLOCK * b + BLOCK ≤ length latest.now }
+    ensures { stable.new ≡ over stable.old (BLOCK * b) (block_at latest.now b) }
 {
     let start = BLOCK * b;
     copy_over(stable, start, &latest[start..start + BLOCK]);

@@ -59,21 +59,21 @@ impl MemUnit {
     }
 
     pub fn read(&self, block: usize, into: &mut [u8])
-        requires whole { length into.old % 512 ≡ 0 }
-        requires within { block + length into.old / 512 ≤ length self.now.loose.items }
-        ensures { into.new ≡ take (length into.old) (drop (512 * block) self.now.latest.items) }
+        requires whole { length into.old % BLOCK ≡ 0 }
+        requires within { block + length into.old / BLOCK ≤ length self.now.loose.items }
+        ensures { into.new ≡ take (length into.old) (drop (BLOCK * block) self.now.latest.items) }
     {
         let start = BLOCK * block;
         into.copy_from_slice(&self.latest[start..start + into.len()]);
     }
 
     pub fn write(&mut self, block: usize, bytes: &[u8])
-        requires whole { length bytes.now % 512 ≡ 0 }
-        requires within { block + length bytes.now / 512 ≤ length self.old.loose.items }
-        ensures latest { self.new.latest.items ≡ over self.old.latest.items (512 * block) bytes.now }
+        requires whole { length bytes.now % BLOCK ≡ 0 }
+        requires within { block + length bytes.now / BLOCK ≤ length self.old.loose.items }
+        ensures latest { self.new.latest.items ≡ over self.old.latest.items (BLOCK * block) bytes.now }
         ensures stable { self.new.stable.items ≡ self.old.stable.items }
         ensures blocks { length self.new.loose.items ≡ length self.old.loose.items }
-        ensures loose { self.new.loose.items ≡ over self.old.loose.items block (replicate (length bytes.now / 512) true) }
+        ensures loose { self.new.loose.items ≡ over self.old.loose.items block (replicate (length bytes.now / BLOCK) true) }
         ensures faults { self.new.faults ≡ self.old.faults }
         ensures failing { self.new.failing ≡ self.old.failing }
     {
@@ -142,8 +142,8 @@ impl MemUnit {
 
 fn settle_blocks(stable: &mut [u8], latest: &[u8], loose: &[bool], pick: u64, from: u32) -> u32
     requires from { from < 64 }
-    requires stable { length stable.old ≡ 512 * length loose.now }
-    requires latest { length latest.now ≡ 512 * length loose.now }
+    requires stable { length stable.old ≡ BLOCK * length loose.now }
+    requires latest { length latest.now ≡ BLOCK * length loose.now }
     ensures next { result ≡ (from + trues loose.now) % 64 }
     ensures kept { (b : ℕ) → block_at stable.new b ≡ kept loose.now stable.old latest.now pick from b }
 {
@@ -164,8 +164,8 @@ fn settle_block(
     b: usize,
 ) -> u32
     requires number { number < 64 }
-    requires in_stable { 512 * b + 512 ≤ length stable.old }
-    requires in_latest { 512 * b + 512 ≤ length latest.now }
+    requires in_stable { BLOCK * b + BLOCK ≤ length stable.old }
+    requires in_latest { BLOCK * b + BLOCK ≤ length latest.now }
     ensures next { result ≡ cond loose ((number + 1) % 64) number }
     ensures here { block_at stable.new b ≡ cond loose (cond (bit_at pick number) (block_at latest.now b) (block_at stable.old b)) (block_at stable.old b) }
     ensures elsewhere { (k : ℕ) → k ≢ b → block_at stable.new k ≡ block_at stable.old k }
