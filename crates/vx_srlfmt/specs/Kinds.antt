@@ -1,6 +1,7 @@
 -- What a block of a log is, each block one thing.
 use Rattle.std.specs.Prelude.{◌≡◌, ℕ, ◌^◌, Bool, ◌&&◌, not, nat_lt, ◌==◌, if◌then◌else◌, List, [], ◌∷◌, length, ◌-◌, take, drop, slice_index, bytes_eq}
 use Rattle.std.specs.List.{list_all}
+use Rattle.vx_model.specs.declared.limits.TheConstants.{MOST_CALL_BLOCKS}
 use Rattle.vx_model.specs.Numbers.{number_bound}
 use Rattle.vx_model.specs.declared.state.KeptLink.{KeptLink}
 use Rattle.vx_wire.specs.Fields.{zero_bytes}
@@ -75,7 +76,7 @@ is_header block h = bytes_eq block (header_block h) && (all_below (header_bounds
 
 -- the block is the spelling of the record header that is read in it
 unfoldable pub is_record : List ℕ → RecordHead → Bool
-is_record block r = bytes_eq block (record_block r) && (all_below (head_bounds r) && (bytes_eq (drop r.count r.firsts) (zero_bytes (16 - r.count)) && (length r.digest == 32 && length r.firsts == 16)))
+is_record block r = bytes_eq block (record_block r) && (all_below (head_bounds r) && (bytes_eq (drop r.count r.firsts) (zero_bytes (MOST_CALL_BLOCKS - r.count)) && (length r.digest == 32 && length r.firsts == MOST_CALL_BLOCKS)))
 
 unfoldable pub is_sealed : List ℕ → Bool
 is_sealed block = bytes_eq (drop 480 block) (digest_of (take 480 block))

@@ -1,5 +1,6 @@
 -- The header of a record, as a block.
 use Rattle.std.specs.Prelude.{◌≡◌, ℕ, ◌-◌, ◌<◌, ◌≤◌, ◌^◌, List, [], ◌∷◌, ◌++◌, length, take, drop}
+use Rattle.vx_model.specs.declared.limits.TheConstants.{MOST_CALL_BLOCKS}
 use Rattle.vx_model.specs.Numbers.{number_bound}
 use Rattle.vx_wire.specs.declared.field.Field.{Field}
 use Rattle.vx_wire.specs.declared.field.Field.TheVariants.{U32, U64}
@@ -43,8 +44,8 @@ pub record CanSpellHead (r : RecordHead) : Type 0 where
   pub generation : r.line.generation < number_bound
   pub number : r.number < number_bound
   pub some : 0 < r.count
-  pub few : r.count ≤ 16
-  pub firsts : drop r.count r.firsts ≡ zero_bytes (16 - r.count)
+  pub few : r.count ≤ MOST_CALL_BLOCKS
+  pub firsts : drop r.count r.firsts ≡ zero_bytes (MOST_CALL_BLOCKS - r.count)
 
 -- its fields are of their types
 pub record IsTypedHead (r : RecordHead) : Type 0 where
@@ -52,7 +53,7 @@ pub record IsTypedHead (r : RecordHead) : Type 0 where
   pub vol : r.vol < 2 ^ 32
   pub block : r.block < 2 ^ 64
   pub digest : length r.digest ≡ 32
-  pub firsts : length r.firsts ≡ 16
+  pub firsts : length r.firsts ≡ MOST_CALL_BLOCKS
 
 -- the block is the spelling of the record header
 pub record IsRecord (block : List ℕ) (r : RecordHead) : Type 0 where

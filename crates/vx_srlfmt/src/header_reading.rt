@@ -56,7 +56,7 @@ const LINK_BYTES: usize = 24;
 const MOST_LINKS: u8 = 4;
 
 fn read_link(block: &[u8; BLOCK], at: usize) -> KeptLink
-    requires { at + 24 ≤ 512 }
+    requires { at + 24 ≤ BLOCK }
     ensures link { result ≡ link_at at block.now }
     ensures site { result.site < 2 ^ 32 }
 {
