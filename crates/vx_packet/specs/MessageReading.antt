@@ -1,19 +1,20 @@
 -- What stands in the places of a message's numbers, whether or not the payload is one of its kind's.
 use Rattle.std.specs.Prelude.{ℕ, Bool, ◌*◌, ◌/◌, ◌%◌, ◌^◌, ◌&&◌, ◌==◌, nat_lt, nat_le, if◌then◌else◌, List, length, drop, Option, Some, None}
+use Rattle.vx_model.specs.declared.limits.TheConstants.{BLOCK, MOST_CALL_BLOCKS}
 use Rattle.vx_wire.specs.Numbers.{number_at}
 use Rattle.vx_packet.specs.declared.message.Message.{Message}
 use Rattle.vx_packet.specs.declared.message.Message.TheVariants.{Hello, Update, NetAck, DataAck, ReplayStart, Region, RegionsDone, RegionAck, Fork, ForkMap, Handover, Trim}
 
 -- 1 to so many whole blocks
 abbrev pub are_blocks : ℕ → List ℕ → Bool
-are_blocks most bytes = nat_lt 0 (length bytes) && (nat_le (length bytes) (512 * most) && length bytes % 512 == 0)
+are_blocks most bytes = nat_lt 0 (length bytes) && (nat_le (length bytes) (BLOCK * most) && length bytes % BLOCK == 0)
 
 -- the message, if the payload has at least so many bytes
 abbrev pub within_payload : ℕ → List ℕ → Message → Option Message
 within_payload least p m = if nat_lt (length p) least then None else Some m
 
 abbrev pub update_in : ℕ → List ℕ → Option Message
-update_in n p = if nat_lt 16 (length p) && are_blocks 16 (drop 16 p) then Some (Update n (number_at 4 0 p) (number_at 8 4 p) (drop 16 p)) else None
+update_in n p = if nat_lt 16 (length p) && are_blocks MOST_CALL_BLOCKS (drop 16 p) then Some (Update n (number_at 4 0 p) (number_at 8 4 p) (drop 16 p)) else None
 
 abbrev pub region_in : ℕ → ℕ → List ℕ → Option Message
 region_in s n p = if are_blocks 64 p then Some (Region n (s / 2 ^ 32) (s % 2 ^ 32) p) else None

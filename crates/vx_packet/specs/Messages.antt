@@ -1,5 +1,6 @@
 -- Messages, as the table of kinds spells them.
 use Rattle.std.specs.Prelude.{◌≡◌, ℕ, ◌+◌, ◌*◌, ◌/◌, ◌%◌, ◌^◌, ◌<◌, ◌≤◌, ◌≢◌, max, List, [], ◌∷◌, ◌++◌, length, slice_index}
+use Rattle.vx_model.specs.declared.limits.TheConstants.{BLOCK, MOST_CALL_BLOCKS}
 use Rattle.vx_model.specs.Numbers.{number_bound}
 use Rattle.vx_wire.specs.declared.field.Field.{Field}
 use Rattle.vx_wire.specs.declared.field.Field.TheVariants.{U8, U32, U64}
@@ -24,7 +25,7 @@ region_number vol region = vol * 2 ^ 32 + region
 -- the table
 abbrev pub row : Message → Row
 row (Hello session number stored) = record { kind = 1; session = session; number = number; numbers = U64 stored ∷ []; bytes = [] }
-row (Update number vol block bytes) = record { kind = 2; session = 0; number = number; numbers = U32 vol ∷ U64 block ∷ U32 (length bytes / 512) ∷ []; bytes = bytes }
+row (Update number vol block bytes) = record { kind = 2; session = 0; number = number; numbers = U32 vol ∷ U64 block ∷ U32 (length bytes / BLOCK) ∷ []; bytes = bytes }
 row (NetAck session number) = record { kind = 3; session = session; number = number; numbers = []; bytes = [] }
 row (DataAck number) = record { kind = 4; session = 0; number = number; numbers = []; bytes = [] }
 row (ReplayStart id start) = record { kind = 5; session = 0; number = id; numbers = U64 start ∷ []; bytes = [] }
@@ -53,7 +54,7 @@ pub record IsMap (regions : ℕ) (bytes : List ℕ) : Type 0 where
 -- a message that the table can spell
 abbrev pub CanSpellMessage : Message → Type 0
 CanSpellMessage (Hello session number stored) = IsCounted session × IsCounted number × IsCounted stored
-CanSpellMessage (Update number vol block bytes) = IsCounted number × AreWholeBlocks 16 bytes
+CanSpellMessage (Update number vol block bytes) = IsCounted number × AreWholeBlocks MOST_CALL_BLOCKS bytes
 CanSpellMessage (NetAck session number) = IsCounted session × IsCounted number
 CanSpellMessage (DataAck number) = IsCounted number
 CanSpellMessage (ReplayStart id start) = IsCounted id × IsCounted start

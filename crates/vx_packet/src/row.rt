@@ -83,7 +83,7 @@ fn region_number(vol: u32, region: u32) -> u64
 
 // How many blocks there are.
 fn block_count(bytes: &BlockBytes<'_>) -> u32
-    ensures { result ≡ length bytes.now / 512 }
+    ensures { result ≡ length bytes.now / BLOCK }
 {
     (bytes.as_bytes().len() / BLOCK) as u32
 }
