@@ -1,5 +1,6 @@
 -- Headers of areas that are written again: as they were read, so that each has one value, or as zeros, so that none is one.
 use Rattle.std.specs.Prelude.{◌≡◌, ℕ, ◌<◌, IsTrue, None, List}
+use Rattle.vx_model.specs.declared.limits.TheConstants.{BLOCK}
 use Rattle.vx_disk.specs.Shelf.{Meaning}
 use Rattle.vx_wire.specs.Fields.{zero_bytes}
 use Rattle.vx_copyfmt.specs.Areas.{header_of}
@@ -29,7 +30,7 @@ pub record OneLeft (u : ℕ) (m : Meaning) : Type 0 where
 pub record HeadersZero (m : Meaning) (u b : ℕ) (v : List ℕ) : Type 0 where
   pub there : u < m.units
   pub header : IsHeaderBlock b
-  pub value : v ≡ zero_bytes 512
+  pub value : v ≡ zero_bytes BLOCK
 
 -- a crash leaves no header in the areas of the disk
 pub record NoHeaders (u : ℕ) (m : Meaning) : Type 0 where

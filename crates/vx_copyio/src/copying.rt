@@ -87,7 +87,7 @@ pub fn put_copy<S: Shelf>(
     requires there { disk < (S.meaning shelf.old).units }
     requires room { 257 ≤ (S.meaning shelf.old).size disk }
     requires can { CanSpellArea header.now }
-    requires whole { length body.now % 512 ≡ 0 }
+    requires whole { length body.now % BLOCK ≡ 0 }
     requires few { length body.now ≤ MOST_CONFIG_BYTES }
     requires long { header.now.length ≤ length body.now }
     requires digest { header.now.digest ≡ digest_of (take header.now.length body.now) }

@@ -12,7 +12,7 @@ ghost use Rattle.vx_wire.specs.Seals.{digest_of};
 use crate::put_copy;
 use vx_copyfmt::AreaHeader;
 use vx_disk::{Shelf, ShelfError};
-use vx_model::limits::MOST_CONFIG_BYTES;
+use vx_model::limits::{BLOCK, MOST_CONFIG_BYTES};
 
 /// The disk to which a copy could not be written, and why.
 #[derive(Clone, Copy, Debug, PartialEq, Eq)]
@@ -50,7 +50,7 @@ fn put_part<S: Shelf>(
 ) -> Result<(), CopyFailed>
     requires large { AreLarge (S.meaning shelf.old) }
     requires can { CanSpellArea header.now }
-    requires whole { length body.now % 512 ≡ 0 }
+    requires whole { length body.now % BLOCK ≡ 0 }
     requires few { length body.now ≤ MOST_CONFIG_BYTES }
     requires long { header.now.length ≤ length body.now }
     requires digest { header.now.digest ≡ digest_of (take header.now.length body.now) }
@@ -82,7 +82,7 @@ pub fn put_copies<S: Shelf>(
 ) -> Result<(), CopyFailed>
     requires large { AreLarge (S.meaning shelf.old) }
     requires can { CanSpellArea header.now }
-    requires whole { length body.now % 512 ≡ 0 }
+    requires whole { length body.now % BLOCK ≡ 0 }
     requires few { length body.now ≤ MOST_CONFIG_BYTES }
     requires long { header.now.length ≤ length body.now }
     requires digest { header.now.digest ≡ digest_of (take header.now.length body.now) }
