@@ -1,6 +1,6 @@
 -- Which bodies are configurations of the disks of a shelf.
 use Rattle.std.specs.Prelude.{ℕ, ◌+◌, ◌-◌, ◌*◌, ◌/◌, ◌≤◌, Bool, true, false, ◌&&◌, ◌==◌, if◌then◌else◌, Option, Some, None, Result, Ok, Err, List, [], ◌∷◌, ◌++◌, length, map, slice_index_or}
-use Rattle.vx_model.specs.declared.limits.TheConstants.{MOST_DISKS}
+use Rattle.vx_model.specs.declared.limits.TheConstants.{BLOCK, MOST_DISKS}
 use Rattle.vx_wire.specs.Fields.{zero_bytes}
 use Rattle.vx_config.specs.Checks.{is_sound}
 use Rattle.vx_config.specs.Configs.{spelled_config}
@@ -51,7 +51,7 @@ HasFewDisks (Some c) = length c.disks ≤ MOST_DISKS
 
 -- the bytes of the whole blocks of its body
 abbrev pub body_bytes : Config → ℕ
-body_bytes c = 512 * ((length (spelled_config c) + 511) / 512)
+body_bytes c = BLOCK * ((length (spelled_config c) + 511) / BLOCK)
 
 -- the body of a copy: its spelling, with zeros up to whole blocks
 abbrev pub body_for : Config → List ℕ

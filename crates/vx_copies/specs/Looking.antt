@@ -1,6 +1,6 @@
 -- What the reading of a disk shows.
 use Rattle.std.specs.Prelude.{◌≡◌, ◌≢◌, ℕ, ◌+◌, ◌*◌, ◌≤◌, IsTrue, if◌then◌else◌, Option, Some, None, List, length, take}
-use Rattle.vx_model.specs.declared.limits.TheConstants.{MOST_DISKS}
+use Rattle.vx_model.specs.declared.limits.TheConstants.{BLOCK, MOST_DISKS}
 use Rattle.vx_disk.specs.Counts.{Rose}
 use Rattle.vx_disk.specs.Shelf.{Meaning, Covers, piece}
 use Rattle.vx_copyfmt.specs.Copies.{Disk, Copy, Body, Holds, Differs, copy_at, copy_of, copy_with}
@@ -52,7 +52,7 @@ on_shelf m serial bytes = of_serial serial (reads_in m.units m.size bytes)
 pub record ShowsBody (u a : ℕ) (h : AreaHeader) (m : Meaning) (seen : Option CopySeen) : Type 0 where
   pub bytes : List ℕ
   pub count : ℕ
-  pub whole : length bytes ≡ 512 * count
+  pub whole : length bytes ≡ BLOCK * count
   pub few : count ≤ 127
   pub long : h.length ≤ length bytes
   pub read : IsTrue m.tells → (b : ℕ) → Covers u (a + 1) bytes u b → m.reads u b (piece (a + 1) bytes b)

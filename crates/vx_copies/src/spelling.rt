@@ -26,7 +26,7 @@ pub fn spell(config: &Config, room: &mut [u8]) -> (AreaHeader, usize)
     ensures body { take result.0.length room.new ≡ spelled_config config.now }
     ensures bytes { result.1 ≡ body_bytes config.now }
     ensures inside { result.0.length ≤ result.1 }
-    ensures whole { result.1 % 512 ≡ 0 }
+    ensures whole { result.1 % BLOCK ≡ 0 }
     ensures few { result.1 ≤ MOST_CONFIG_BYTES }
     ensures kept { length room.new ≡ length room.old }
     ensures has { HasSpelling config.now }
