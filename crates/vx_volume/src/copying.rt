@@ -26,7 +26,7 @@ fn copy_run<S: Shelf>(
     requires checked { IsTrue (is_sound config.now) }
     requires volume { vol < length config.now.volumes }
     requires within { block + count ≤ blocks_of_is config.now.volumes vol }
-    requires long { length run.old ≡ 512 * count }
+    requires long { length run.old ≡ BLOCK * count }
     requires from { IsTrue (active config.now vol source) }
     requires to { IsTrue (active config.now vol plex) }
     requires disks { DisksFit config.now.disks (S.meaning shelf.old) }

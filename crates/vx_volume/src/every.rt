@@ -12,7 +12,7 @@ use crate::writing::write_plex;
 use vx_config::Config;
 use vx_disk::{Shelf, ShelfError};
 use vx_model::No;
-use vx_model::limits::MOST_PLEXES;
+use vx_model::limits::{BLOCK, MOST_PLEXES};
 
 /// Which plexes failed, and the disk of the last device call that did.
 #[derive(Clone, Copy, Drop)]
@@ -29,12 +29,12 @@ pub fn write_plexes<S: Shelf>(
     block: u64,
     bytes: &[u8],
 ) -> Result<Flags, No>
-    requires fits { VolumeFits config.now vol block (length bytes.now / 512) (S.meaning shelf.old) }
-    requires whole { length bytes.now % 512 ≡ 0 }
+    requires fits { VolumeFits config.now vol block (length bytes.now / BLOCK) (S.meaning shelf.old) }
+    requires whole { length bytes.now % BLOCK ≡ 0 }
     requires some { SomeActive config.now vol }
     requires up { IsTrue (S.meaning shelf.old).down → ⊥ }
-    ensures goes { Goes (OnPlexes config.now vol block (length bytes.now / 512) bytes.now) (S.meaning shelf.old) (S.meaning shelf.new) }
-    ensures ends { FlagsEnd config.now vol (λ p. PlexWrote config.now vol p block (length bytes.now / 512) block (length bytes.now / 512) bytes.now (S.meaning shelf.old) (S.meaning shelf.new)) (S.meaning shelf.old) (S.meaning shelf.new) result }
+    ensures goes { Goes (OnPlexes config.now vol block (length bytes.now / BLOCK) bytes.now) (S.meaning shelf.old) (S.meaning shelf.new) }
+    ensures ends { FlagsEnd config.now vol (λ p. PlexWrote config.now vol p block (length bytes.now / BLOCK) block (length bytes.now / BLOCK) bytes.now (S.meaning shelf.old) (S.meaning shelf.new)) (S.meaning shelf.old) (S.meaning shelf.new) result }
 {
     let mut failed = [false; MOST_PLEXES];
     let mut done = false;

@@ -20,13 +20,13 @@ fn read_run<S: Shelf>(
     into: &mut [u8],
     done: u64,
 ) -> Result<u64, ShelfError>
-    requires asked { Asked config.now vol plex block (length into.old / 512) }
-    requires fits { RunFits config.now vol plex block (length into.old / 512) (S.meaning shelf.old) }
-    requires whole { length into.old % 512 ≡ 0 }
-    requires more { done < length into.old / 512 }
+    requires asked { Asked config.now vol plex block (length into.old / BLOCK) }
+    requires fits { RunFits config.now vol plex block (length into.old / BLOCK) (S.meaning shelf.old) }
+    requires whole { length into.old % BLOCK ≡ 0 }
+    requires more { done < length into.old / BLOCK }
     ensures goes { Goes Nothing (S.meaning shelf.old) (S.meaning shelf.new) }
     ensures down { (S.meaning shelf.new).down ≡ (S.meaning shelf.old).down }
-    ensures ok { IfOk result (λ count. ReadRun config.now vol plex block (length into.old / 512) done count into.old into.new (S.meaning shelf.old)) }
+    ensures ok { IfOk result (λ count. ReadRun config.now vol plex block (length into.old / BLOCK) done count into.old into.new (S.meaning shelf.old)) }
     ensures cause { PlexCause config.now vol plex (S.meaning shelf.old) (S.meaning shelf.new) result }
 {
     let total = (into.len() / BLOCK) as u64;
@@ -48,13 +48,13 @@ pub fn read_plex<S: Shelf>(
     block: u64,
     into: &mut [u8],
 ) -> Result<(), ShelfError>
-    requires asked { Asked config.now vol plex block (length into.old / 512) }
-    requires fits { RunFits config.now vol plex block (length into.old / 512) (S.meaning shelf.old) }
-    requires whole { length into.old % 512 ≡ 0 }
+    requires asked { Asked config.now vol plex block (length into.old / BLOCK) }
+    requires fits { RunFits config.now vol plex block (length into.old / BLOCK) (S.meaning shelf.old) }
+    requires whole { length into.old % BLOCK ≡ 0 }
     requires up { IsTrue (S.meaning shelf.old).down → ⊥ }
     ensures goes { Goes Nothing (S.meaning shelf.old) (S.meaning shelf.new) }
     ensures down { (S.meaning shelf.new).down ≡ (S.meaning shelf.old).down }
-    ensures ok { OnOk result (PlexRead config.now vol plex block block (length into.old / 512) into.new (S.meaning shelf.old)) }
+    ensures ok { OnOk result (PlexRead config.now vol plex block block (length into.old / BLOCK) into.new (S.meaning shelf.old)) }
     ensures cause { PlexCause config.now vol plex (S.meaning shelf.old) (S.meaning shelf.new) result }
 {
     let total = (into.len() / BLOCK) as u64;

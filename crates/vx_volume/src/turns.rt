@@ -10,7 +10,7 @@ use crate::reading::read_plex;
 use vx_config::Config;
 use vx_disk::{Shelf, ShelfError};
 use vx_model::No;
-use vx_model::limits::MOST_PLEXES;
+use vx_model::limits::{BLOCK, MOST_PLEXES};
 
 /// Reads a run of blocks from the first plex, from this one on, that is ACTIVE and does not fail. Answers which it is.
 pub fn read_in_turn<S: Shelf>(
@@ -21,15 +21,15 @@ pub fn read_in_turn<S: Shelf>(
     into: &mut [u8],
     first: u32,
 ) -> Result<u32, No>
-    requires fits { VolumeFits config.now vol block (length into.old / 512) (S.meaning shelf.old) }
-    requires whole { length into.old % 512 ≡ 0 }
+    requires fits { VolumeFits config.now vol block (length into.old / BLOCK) (S.meaning shelf.old) }
+    requires whole { length into.old % BLOCK ≡ 0 }
     requires some { SomeActive config.now vol }
     requires first { first < plexes_of config.now vol }
     requires few { plexes_of config.now vol ≤ MOST_PLEXES }
     requires up { IsTrue (S.meaning shelf.old).down → ⊥ }
     ensures goes { Goes Nothing (S.meaning shelf.old) (S.meaning shelf.new) }
     ensures down { (S.meaning shelf.new).down ≡ (S.meaning shelf.old).down }
-    ensures ends { TurnsEnd config.now vol first block (length into.old / 512) into.new (S.meaning shelf.old) (S.meaning shelf.new) result }
+    ensures ends { TurnsEnd config.now vol first block (length into.old / BLOCK) into.new (S.meaning shelf.old) (S.meaning shelf.new) result }
 {
     let plexes = plex_count(config, vol);
     let mut device = 0;

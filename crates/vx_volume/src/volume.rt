@@ -12,7 +12,7 @@ use crate::turns::read_in_turn;
 use vx_config::{Config, blocks_of};
 use vx_disk::Shelf;
 use vx_model::No;
-use vx_model::limits::MOST_PLEXES;
+use vx_model::limits::{BLOCK, MOST_PLEXES};
 
 /// A volume of a configuration.
 #[derive(Clone, Copy, Debug, PartialEq, Eq)]
@@ -60,14 +60,14 @@ pub fn read<S: Shelf>(
 ) -> Result<(), No>
     requires checked { IsTrue (is_sound c.now) }
     requires volume { v.old.number < length c.now.volumes }
-    requires within { block + length into.old / 512 ≤ blocks_of_is c.now.volumes v.old.number }
-    requires whole { length into.old % 512 ≡ 0 }
+    requires within { block + length into.old / BLOCK ≤ blocks_of_is c.now.volumes v.old.number }
+    requires whole { length into.old % BLOCK ≡ 0 }
     requires some { SomeActive c.now v.old.number }
     requires disks { DisksFit c.now.disks (S.meaning shelf.old) }
     requires up { IsTrue (S.meaning shelf.old).down → ⊥ }
     ensures goes { Goes Nothing (S.meaning shelf.old) (S.meaning shelf.new) }
     ensures down { (S.meaning shelf.new).down ≡ (S.meaning shelf.old).down }
-    ensures reads { VolumeReads c.now v.old v.new block (length into.old / 512) into.new (S.meaning shelf.old) (S.meaning shelf.new) result }
+    ensures reads { VolumeReads c.now v.old v.new block (length into.old / BLOCK) into.new (S.meaning shelf.old) (S.meaning shelf.new) result }
 {
     // Read for its bound: no block of a volume is past 2^64.
     let _end = blocks_of(c, v.number);
@@ -93,13 +93,13 @@ pub fn write_all<S: Shelf>(
 ) -> Result<Failed, No>
     requires checked { IsTrue (is_sound c.now) }
     requires volume { vol < length c.now.volumes }
-    requires within { block + length bytes.now / 512 ≤ blocks_of_is c.now.volumes vol }
-    requires whole { length bytes.now % 512 ≡ 0 }
+    requires within { block + length bytes.now / BLOCK ≤ blocks_of_is c.now.volumes vol }
+    requires whole { length bytes.now % BLOCK ≡ 0 }
     requires some { SomeActive c.now vol }
     requires disks { DisksFit c.now.disks (S.meaning shelf.old) }
     requires up { IsTrue (S.meaning shelf.old).down → ⊥ }
-    ensures goes { Goes (OnPlexes c.now vol block (length bytes.now / 512) bytes.now) (S.meaning shelf.old) (S.meaning shelf.new) }
-    ensures ends { EndsAt c.now vol (λ p. PlexWrote c.now vol p block (length bytes.now / 512) block (length bytes.now / 512) bytes.now (S.meaning shelf.old) (S.meaning shelf.new)) (S.meaning shelf.old) (S.meaning shelf.new) result }
+    ensures goes { Goes (OnPlexes c.now vol block (length bytes.now / BLOCK) bytes.now) (S.meaning shelf.old) (S.meaning shelf.new) }
+    ensures ends { EndsAt c.now vol (λ p. PlexWrote c.now vol p block (length bytes.now / BLOCK) block (length bytes.now / BLOCK) bytes.now (S.meaning shelf.old) (S.meaning shelf.new)) (S.meaning shelf.old) (S.meaning shelf.new) result }
 {
     // Read for its bound: no block of a volume is past 2^64.
     let _end = blocks_of(c, vol);
@@ -145,13 +145,13 @@ pub fn write<S: Shelf>(
 ) -> Result<u8, No>
     requires checked { IsTrue (is_sound c.now) }
     requires volume { v.old.number < length c.now.volumes }
-    requires within { block + length bytes.now / 512 ≤ blocks_of_is c.now.volumes v.old.number }
-    requires whole { length bytes.now % 512 ≡ 0 }
+    requires within { block + length bytes.now / BLOCK ≤ blocks_of_is c.now.volumes v.old.number }
+    requires whole { length bytes.now % BLOCK ≡ 0 }
     requires some { SomeActive c.now v.old.number }
     requires disks { DisksFit c.now.disks (S.meaning shelf.old) }
     requires up { IsTrue (S.meaning shelf.old).down → ⊥ }
-    ensures goes { Goes (OnPlexes c.now v.old.number block (length bytes.now / 512) bytes.now) (S.meaning shelf.old) (S.meaning shelf.new) }
-    ensures ends { PlexesEnd c.now v.old.number (λ p. PlexWrote c.now v.old.number p block (length bytes.now / 512) block (length bytes.now / 512) bytes.now (S.meaning shelf.old) (S.meaning shelf.new)) (S.meaning shelf.old) (S.meaning shelf.new) result }
+    ensures goes { Goes (OnPlexes c.now v.old.number block (length bytes.now / BLOCK) bytes.now) (S.meaning shelf.old) (S.meaning shelf.new) }
+    ensures ends { PlexesEnd c.now v.old.number (λ p. PlexWrote c.now v.old.number p block (length bytes.now / BLOCK) block (length bytes.now / BLOCK) bytes.now (S.meaning shelf.old) (S.meaning shelf.new)) (S.meaning shelf.old) (S.meaning shelf.new) result }
     ensures same { v.new ≡ v.old }
 {
     match write_all(c, v.number, shelf, block, bytes) {

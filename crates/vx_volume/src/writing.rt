@@ -20,12 +20,12 @@ fn write_run<S: Shelf>(
     bytes: &[u8],
     done: u64,
 ) -> Result<u64, ShelfError>
-    requires asked { Asked config.now vol plex block (length bytes.now / 512) }
-    requires fits { RunFits config.now vol plex block (length bytes.now / 512) (S.meaning shelf.old) }
-    requires whole { length bytes.now % 512 ≡ 0 }
-    requires more { done < length bytes.now / 512 }
-    ensures goes { Goes (OnPlex config.now vol plex block (length bytes.now / 512) bytes.now) (S.meaning shelf.old) (S.meaning shelf.new) }
-    ensures ok { IfOk result (λ count. WroteRun config.now vol plex block (length bytes.now / 512) done count bytes.now (S.meaning shelf.old) (S.meaning shelf.new)) }
+    requires asked { Asked config.now vol plex block (length bytes.now / BLOCK) }
+    requires fits { RunFits config.now vol plex block (length bytes.now / BLOCK) (S.meaning shelf.old) }
+    requires whole { length bytes.now % BLOCK ≡ 0 }
+    requires more { done < length bytes.now / BLOCK }
+    ensures goes { Goes (OnPlex config.now vol plex block (length bytes.now / BLOCK) bytes.now) (S.meaning shelf.old) (S.meaning shelf.new) }
+    ensures ok { IfOk result (λ count. WroteRun config.now vol plex block (length bytes.now / BLOCK) done count bytes.now (S.meaning shelf.old) (S.meaning shelf.new)) }
     ensures cause { PlexCause config.now vol plex (S.meaning shelf.old) (S.meaning shelf.new) result }
 {
     let total = (bytes.len() / BLOCK) as u64;
@@ -47,12 +47,12 @@ pub fn write_plex<S: Shelf>(
     block: u64,
     bytes: &[u8],
 ) -> Result<(), ShelfError>
-    requires asked { Asked config.now vol plex block (length bytes.now / 512) }
-    requires fits { RunFits config.now vol plex block (length bytes.now / 512) (S.meaning shelf.old) }
-    requires whole { length bytes.now % 512 ≡ 0 }
+    requires asked { Asked config.now vol plex block (length bytes.now / BLOCK) }
+    requires fits { RunFits config.now vol plex block (length bytes.now / BLOCK) (S.meaning shelf.old) }
+    requires whole { length bytes.now % BLOCK ≡ 0 }
     requires up { IsTrue (S.meaning shelf.old).down → ⊥ }
-    ensures goes { Goes (OnPlex config.now vol plex block (length bytes.now / 512) bytes.now) (S.meaning shelf.old) (S.meaning shelf.new) }
-    ensures ok { OnOk result (PlexWrote config.now vol plex block (length bytes.now / 512) block (length bytes.now / 512) bytes.now (S.meaning shelf.old) (S.meaning shelf.new)) }
+    ensures goes { Goes (OnPlex config.now vol plex block (length bytes.now / BLOCK) bytes.now) (S.meaning shelf.old) (S.meaning shelf.new) }
+    ensures ok { OnOk result (PlexWrote config.now vol plex block (length bytes.now / BLOCK) block (length bytes.now / BLOCK) bytes.now (S.meaning shelf.old) (S.meaning shelf.new)) }
     ensures cause { PlexCause config.now vol plex (S.meaning shelf.old) (S.meaning shelf.new) result }
 {
     let total = (bytes.len() / BLOCK) as u64;
