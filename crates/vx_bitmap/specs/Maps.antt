@@ -3,7 +3,7 @@ use Rattle.std.specs.Prelude.{◌≡◌, ℕ, ◌+◌, ◌*◌, ◌/◌, ◌%◌
 use Rattle.std.specs.Int.{div_ceil}
 use Rattle.vx_model.specs.declared.errors.Stop.{Stop}
 use Rattle.vx_model.specs.declared.errors.Stop.TheVariants.{No as Refused, OutOfMemory}
-use Rattle.vx_model.specs.declared.limits.TheConstants.{MAP_REGIONS}
+use Rattle.vx_model.specs.declared.limits.TheConstants.{BLOCK, MAP_REGIONS}
 use Rattle.vx_model.specs.declared.no.No.{No}
 use Rattle.vx_model.specs.declared.no.No.TheVariants.{Device}
 use Rattle.vx_disk.specs.Causes.{DeviceCause}
@@ -23,7 +23,7 @@ pub record Map : Type 0 where
 
 -- how many blocks it has, and how many regions these have bits for
 abbrev pub map_block_count : Map → ℕ
-map_block_count map = length map.bytes / 512
+map_block_count map = length map.bytes / BLOCK
 
 abbrev pub regions_mapped : Map → ℕ
 regions_mapped map = 8 * length map.bytes
@@ -58,7 +58,7 @@ pub record ChangedAt (map : Map) (start end : ℕ) (value : Bool) (m : Meaning) 
 pub record Loaded (unit first regions : ℕ) (map : Map) : Type 0 where
   pub there : map.unit ≡ unit
   pub begins : map.first ≡ first
-  pub long : length map.bytes ≡ 512 * div_ceil regions MAP_REGIONS
+  pub long : length map.bytes ≡ BLOCK * div_ceil regions MAP_REGIONS
 
 -- each block of it is one that a read may give
 pub record IsRead (map : Map) (m : Meaning) : Type 0 where

@@ -22,12 +22,12 @@ fn change_block<S: Shelf>(
     value: bool,
 ) -> Result<(), ShelfError>
     requires lies { Lies (record { unit = unit; first = first; bytes = bytes.old }) (S.meaning shelf.old) }
-    requires whole { length bytes.old % 512 ≡ 0 }
-    requires inside { block < length bytes.old / 512 }
+    requires whole { length bytes.old % BLOCK ≡ 0 }
+    requires inside { block < length bytes.old / BLOCK }
     requires from { 4096 * block ≤ start }
     requires to { end < 4096 * block + 4096 }
     requires some { start ≤ end }
-    ensures moves { Moves (Run unit first (length bytes.old / 512)) (Changing (record { unit = unit; first = first; bytes = bytes.old }) start end value (S.meaning shelf.old)) (S.meaning shelf.old) (S.meaning shelf.new) }
+    ensures moves { Moves (Run unit first (length bytes.old / BLOCK)) (Changing (record { unit = unit; first = first; bytes = bytes.old }) start end value (S.meaning shelf.old)) (S.meaning shelf.old) (S.meaning shelf.new) }
     ensures writes { Goes (ChangedAt (record { unit = unit; first = first; bytes = bytes.old }) start end value (S.meaning shelf.old)) (S.meaning shelf.old) (S.meaning shelf.new) }
     ensures stands { OnOk result (MapOn (record { unit = unit; first = first; bytes = bytes.old }) (S.meaning shelf.old) → MapOn (record { unit = unit; first = first; bytes = bytes.new }) (S.meaning shelf.new)) }
     ensures changed { OnOk result (Changed start end value (8 * length bytes.old) (is_marked bytes.old) (is_marked bytes.new)) }
@@ -59,10 +59,10 @@ pub(crate) fn change<S: Shelf>(
     value: bool,
 ) -> Result<(), ShelfError>
     requires lies { Lies (record { unit = unit; first = first; bytes = bytes.old }) (S.meaning shelf.old) }
-    requires whole { length bytes.old % 512 ≡ 0 }
+    requires whole { length bytes.old % BLOCK ≡ 0 }
     requires some { start ≤ end }
     requires last { end < 8 * length bytes.old }
-    ensures moves { Moves (Run unit first (length bytes.old / 512)) (Changing (record { unit = unit; first = first; bytes = bytes.old }) start end value (S.meaning shelf.old)) (S.meaning shelf.old) (S.meaning shelf.new) }
+    ensures moves { Moves (Run unit first (length bytes.old / BLOCK)) (Changing (record { unit = unit; first = first; bytes = bytes.old }) start end value (S.meaning shelf.old)) (S.meaning shelf.old) (S.meaning shelf.new) }
     ensures writes { Goes (ChangedAt (record { unit = unit; first = first; bytes = bytes.old }) start end value (S.meaning shelf.old)) (S.meaning shelf.old) (S.meaning shelf.new) }
     ensures stands { OnOk result (MapOn (record { unit = unit; first = first; bytes = bytes.old }) (S.meaning shelf.old) → MapOn (record { unit = unit; first = first; bytes = bytes.new }) (S.meaning shelf.new)) }
     ensures changed { OnOk result (Changed start end value (8 * length bytes.old) (is_marked bytes.old) (is_marked bytes.new)) }
