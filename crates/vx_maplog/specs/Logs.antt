@@ -1,7 +1,7 @@
 -- Where a configuration has the logs of a volume, and the map that is read of one.
 use Rattle.std.specs.Prelude.{◌≡◌, ℕ, ◌*◌, ◌<◌, ◌≤◌, true, List, length, Option, Some, None, slice_get}
 use Rattle.vx_model.specs.Sizes.{map_blocks}
-use Rattle.vx_model.specs.declared.limits.TheConstants.{MOST_MAP_BLOCKS}
+use Rattle.vx_model.specs.declared.limits.TheConstants.{BLOCK, MOST_MAP_BLOCKS}
 use Rattle.vx_disk.specs.Shelf.{Meaning}
 use Rattle.vx_config.specs.Checks.{blocks_of, is_sound, plexes_of}
 use Rattle.vx_config.specs.declared.config.Config.{Config}
@@ -50,7 +50,7 @@ pub record DisksReach (disks : List DiskEntry) (m : Meaning) : Type 0 where
 pub record MapInRun (unit first blocks : ℕ) (map : Map) : Type 0 where
   pub there : map.unit ≡ unit
   pub begins : map.first ≡ first
-  pub long : length map.bytes ≡ 512 * blocks
+  pub long : length map.bytes ≡ BLOCK * blocks
   pub few : blocks ≤ MOST_MAP_BLOCKS
 
 -- the map of a log, where the configuration has it
