@@ -1,5 +1,6 @@
 -- A group over a shelf, as a shelf whose units are its volumes.
 use Rattle.std.specs.Prelude.{◌≡◌, ◌⊎◌, ℕ, ◌<◌, ◌≤◌, Bool, true, IsTrue, None, List, [], length}
+use Rattle.vx_model.specs.declared.limits.TheConstants.{PUBLIC_START}
 use Rattle.vx_disk.specs.Shelf.{Meaning, Image, Values}
 use Rattle.vx_copyfmt.specs.Imports.{ImportOutcome, Found, import_of}
 use Rattle.vx_config.specs.Checks.{blocks_of}
@@ -74,7 +75,7 @@ group_meaning c faults m = record {
 
 -- places of plexes are behind the configuration areas, and no two blocks have one place
 pub record PlacesApart (c : Config) : Type 0 where
-  pub above : (v p b : ℕ) → Inside c v b → IsTrue (active c v p) → 512 ≤ (place c v p b).1
+  pub above : (v p b : ℕ) → Inside c v b → IsTrue (active c v p) → PUBLIC_START ≤ (place c v p b).1
   pub one : (v p b w q d : ℕ) → Inside c v b → Inside c w d → IsTrue (active c v p) → IsTrue (active c w q) → place c v p b ≡ place c w q d → (v ≡ w) × (p ≡ q) × (b ≡ d)
 
 -- the number of a plex that is ACTIVE, for each volume

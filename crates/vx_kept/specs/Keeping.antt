@@ -1,5 +1,6 @@
 -- What the disks of a group keep: in each image that a crash may leave, each plex that takes part is ACTIVE in memory.
 use Rattle.std.specs.Prelude.{◌≡◌, ◌⊎◌, ℕ, ◌+◌, ◌<◌, ◌≤◌, Bool, true, false, IsTrue, IsFalse, Option, Some, None, List, [], length, map, slice_get}
+use Rattle.vx_model.specs.declared.limits.TheConstants.{PUBLIC_START}
 use Rattle.vx_model.specs.declared.site.PlexState.TheVariants.{Stale}
 use Rattle.vx_disk.specs.Moves.{Says}
 use Rattle.vx_disk.specs.Shelf.{Each, Image, Meaning, Or, Values}
@@ -109,10 +110,10 @@ pub record Acts (written : Values) (during : Says) (old new : Meaning) : Type 0 
   pub units : new.units ≡ old.units
   pub size : (u : ℕ) → new.size u ≡ old.size u
   pub tells : new.tells ≡ old.tells
-  pub reads : (u b : ℕ) (v : List ℕ) → 512 ≤ b → new.reads u b v → Or old.reads written u b v ⊎ IsTrue new.down
-  pub leaves : (u b : ℕ) (v : List ℕ) → 512 ≤ b → new.leaves u b v → Or old.leaves written u b v
+  pub reads : (u b : ℕ) (v : List ℕ) → PUBLIC_START ≤ b → new.reads u b v → Or old.reads written u b v ⊎ IsTrue new.down
+  pub leaves : (u b : ℕ) (v : List ℕ) → PUBLIC_START ≤ b → new.leaves u b v → Or old.leaves written u b v
   pub later : old.moment ≤ new.moment
-  pub since : (t : ℕ) (i : Image) → t ≤ old.moment → new.left_since t i → old.left_since t i ⊎ (((u b : ℕ) → 512 ≤ b → Or old.leaves written u b (i u b)) × during i)
+  pub since : (t : ℕ) (i : Image) → t ≤ old.moment → new.left_since t i → old.left_since t i ⊎ (((u b : ℕ) → PUBLIC_START ≤ b → Or old.leaves written u b (i u b)) × during i)
   pub keeps : (t : ℕ) (i : Image) → t ≤ old.moment → old.left_since t i → new.left_since t i
   pub faults : (u : ℕ) → old.faults u ≤ new.faults u
   pub disk_faults : (d : ℕ) → old.disk_faults d ≤ new.disk_faults d
