@@ -3,7 +3,7 @@ use Rattle.std.specs.Prelude.{◌≡◌, ℕ, ◌+◌, ◌*◌, ◌<◌, ◌≤�
 use Rattle.std.specs.List.{sum_by}
 use Rattle.vx_disk.specs.Maps.{maps_of}
 use Rattle.vx_model.specs.Sizes.{map_blocks, regions_of}
-use Rattle.vx_model.specs.declared.limits.TheConstants.{LINK_PLACES, MAP_REGIONS, MOST_DATA_VOLUMES, MOST_MAP_BLOCKS}
+use Rattle.vx_model.specs.declared.limits.TheConstants.{BLOCK, LINK_PLACES, MAP_REGIONS, MOST_DATA_VOLUMES, MOST_MAP_BLOCKS}
 use Rattle.vx_model.specs.declared.units.Units.{Units}
 use Rattle.vx_disk.specs.Shelf.{Meaning}
 use Rattle.vx_bitmap.specs.Bits.{is_marked}
@@ -51,7 +51,7 @@ pub record OtherMapsSame (slot v r : ℕ) (old new : Maps) : Type 0 where
 -- for each place of a link there is a map of each volume, and the maps are not too many
 pub record AreMapsKept (map : Map) (sizes : List ℕ) (stride : ℕ) : Type 0 where
   pub stride_is : stride ≡ maps_in sizes
-  pub long : length map.bytes ≡ 512 * (LINK_PLACES * stride)
+  pub long : length map.bytes ≡ BLOCK * (LINK_PLACES * stride)
   pub few : LINK_PLACES * stride ≤ MOST_MAP_BLOCKS
   pub volumes : length sizes ≤ MOST_DATA_VOLUMES
 
@@ -67,5 +67,5 @@ pub record MapsFit (units : Units) (m : Meaning) : Type 0 where
 pub record DcmLoaded (units : Units) (m : Meaning) (d : Maps) : Type 0 where
   pub unit : d.map.unit ≡ units.maps
   pub first : d.map.first ≡ 0
-  pub long : length d.map.bytes ≡ 512 * (LINK_PLACES * maps_of units.vols m)
+  pub long : length d.map.bytes ≡ BLOCK * (LINK_PLACES * maps_of units.vols m)
   pub sizes : d.sizes ≡ map m.size units.vols
