@@ -11,6 +11,7 @@ use crate::putting::put_run;
 use vx_config::Config;
 use vx_disk::{Shelf, refusal};
 use vx_model::No;
+use vx_model::limits::BLOCK;
 use vx_volume::read_plex;
 
 /// Reads a run of blocks of a volume from one plex, once, and writes what was read to one other, or to each that is ACTIVE.
@@ -24,11 +25,11 @@ pub fn copy_run<S: Shelf>(
     bytes: &mut [u8],
 ) -> Result<(), No>
     requires ready { CanCopy config.now vol source to (S.meaning shelf.old) }
-    requires within { block + length bytes.old / 512 ≤ blocks_of_is config.now.volumes vol }
-    requires end { block + length bytes.old / 512 < 2 ^ 64 }
-    requires whole { length bytes.old % 512 ≡ 0 }
-    ensures goes { Goes (FromPlex config.now vol source to (InRun block (length bytes.old / 512)) (S.meaning shelf.old)) (S.meaning shelf.old) (S.meaning shelf.new) }
-    ensures ok { OnOk result (ReadAlike config.now vol source to (InRun block (length bytes.old / 512)) (S.meaning shelf.old) (S.meaning shelf.new)) }
+    requires within { block + length bytes.old / BLOCK ≤ blocks_of_is config.now.volumes vol }
+    requires end { block + length bytes.old / BLOCK < 2 ^ 64 }
+    requires whole { length bytes.old % BLOCK ≡ 0 }
+    ensures goes { Goes (FromPlex config.now vol source to (InRun block (length bytes.old / BLOCK)) (S.meaning shelf.old)) (S.meaning shelf.old) (S.meaning shelf.new) }
+    ensures ok { OnOk result (ReadAlike config.now vol source to (InRun block (length bytes.old / BLOCK)) (S.meaning shelf.old) (S.meaning shelf.new)) }
     ensures cause { IfErr result (DeviceCause (S.meaning shelf.old) (S.meaning shelf.new)) }
     ensures blamed { CopyRefused config.now vol source to (S.meaning shelf.old) (S.meaning shelf.new) result }
 {

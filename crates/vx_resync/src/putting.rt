@@ -10,6 +10,7 @@ ghost use Rattle.vx_volume.specs.Plexes.{Asked, DisksFit, RunFits, SomeActive};
 use vx_config::Config;
 use vx_disk::{Shelf, refusal};
 use vx_model::No;
+use vx_model::limits::BLOCK;
 use vx_volume::{write_all, write_plex};
 
 fn put_one<S: Shelf>(
@@ -20,12 +21,12 @@ fn put_one<S: Shelf>(
     block: u64,
     bytes: &[u8],
 ) -> Result<(), No>
-    requires asked { Asked config.now vol plex block (length bytes.now / 512) }
-    requires fits { RunFits config.now vol plex block (length bytes.now / 512) (S.meaning shelf.old) }
-    requires whole { length bytes.now % 512 ≡ 0 }
+    requires asked { Asked config.now vol plex block (length bytes.now / BLOCK) }
+    requires fits { RunFits config.now vol plex block (length bytes.now / BLOCK) (S.meaning shelf.old) }
+    requires whole { length bytes.now % BLOCK ≡ 0 }
     requires up { IsTrue (S.meaning shelf.old).down → ⊥ }
-    ensures goes { Goes (OnTargets config.now vol (Some plex) block (length bytes.now / 512) bytes.now) (S.meaning shelf.old) (S.meaning shelf.new) }
-    ensures ok { OnOk result (TargetsWrote config.now vol (Some plex) block (length bytes.now / 512) bytes.now (S.meaning shelf.old) (S.meaning shelf.new)) }
+    ensures goes { Goes (OnTargets config.now vol (Some plex) block (length bytes.now / BLOCK) bytes.now) (S.meaning shelf.old) (S.meaning shelf.new) }
+    ensures ok { OnOk result (TargetsWrote config.now vol (Some plex) block (length bytes.now / BLOCK) bytes.now (S.meaning shelf.old) (S.meaning shelf.new)) }
     ensures cause { IfErr result (DeviceCause (S.meaning shelf.old) (S.meaning shelf.new)) }
     ensures blamed { TargetRefused config.now vol (Some plex) (S.meaning shelf.old) (S.meaning shelf.new) result }
 {
@@ -44,13 +45,13 @@ fn put_all<S: Shelf>(
 ) -> Result<(), No>
     requires checked { IsTrue (is_sound config.now) }
     requires volume { vol < length config.now.volumes }
-    requires within { block + length bytes.now / 512 ≤ blocks_of_is config.now.volumes vol }
-    requires whole { length bytes.now % 512 ≡ 0 }
+    requires within { block + length bytes.now / BLOCK ≤ blocks_of_is config.now.volumes vol }
+    requires whole { length bytes.now % BLOCK ≡ 0 }
     requires some { SomeActive config.now vol }
     requires disks { DisksFit config.now.disks (S.meaning shelf.old) }
     requires up { IsTrue (S.meaning shelf.old).down → ⊥ }
-    ensures goes { Goes (OnTargets config.now vol None block (length bytes.now / 512) bytes.now) (S.meaning shelf.old) (S.meaning shelf.new) }
-    ensures ok { OnOk result (TargetsWrote config.now vol None block (length bytes.now / 512) bytes.now (S.meaning shelf.old) (S.meaning shelf.new)) }
+    ensures goes { Goes (OnTargets config.now vol None block (length bytes.now / BLOCK) bytes.now) (S.meaning shelf.old) (S.meaning shelf.new) }
+    ensures ok { OnOk result (TargetsWrote config.now vol None block (length bytes.now / BLOCK) bytes.now (S.meaning shelf.old) (S.meaning shelf.new)) }
     ensures cause { IfErr result (DeviceCause (S.meaning shelf.old) (S.meaning shelf.new)) }
 {
     match write_all(config, vol, shelf, block, bytes) {
@@ -76,15 +77,15 @@ pub fn put_run<S: Shelf>(
 ) -> Result<(), No>
     requires checked { IsTrue (is_sound config.now) }
     requires volume { vol < length config.now.volumes }
-    requires within { block + length bytes.now / 512 ≤ blocks_of_is config.now.volumes vol }
-    requires end { block + length bytes.now / 512 < 2 ^ 64 }
-    requires whole { length bytes.now % 512 ≡ 0 }
+    requires within { block + length bytes.now / BLOCK ≤ blocks_of_is config.now.volumes vol }
+    requires end { block + length bytes.now / BLOCK < 2 ^ 64 }
+    requires whole { length bytes.now % BLOCK ≡ 0 }
     requires some { SomeActive config.now vol }
     requires active { TargetsActive config.now vol to }
     requires disks { DisksFit config.now.disks (S.meaning shelf.old) }
     requires up { IsTrue (S.meaning shelf.old).down → ⊥ }
-    ensures goes { Goes (OnTargets config.now vol to block (length bytes.now / 512) bytes.now) (S.meaning shelf.old) (S.meaning shelf.new) }
-    ensures ok { OnOk result (TargetsWrote config.now vol to block (length bytes.now / 512) bytes.now (S.meaning shelf.old) (S.meaning shelf.new)) }
+    ensures goes { Goes (OnTargets config.now vol to block (length bytes.now / BLOCK) bytes.now) (S.meaning shelf.old) (S.meaning shelf.new) }
+    ensures ok { OnOk result (TargetsWrote config.now vol to block (length bytes.now / BLOCK) bytes.now (S.meaning shelf.old) (S.meaning shelf.new)) }
     ensures cause { IfErr result (DeviceCause (S.meaning shelf.old) (S.meaning shelf.new)) }
     ensures blamed { TargetRefused config.now vol to (S.meaning shelf.old) (S.meaning shelf.new) result }
 {
