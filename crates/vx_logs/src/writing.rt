@@ -47,9 +47,9 @@ fn first_region(block: u64) -> u64
 
 // The region of the last of a run of blocks.
 fn last_region(block: u64, bytes: &[u8]) -> u64
-    requires end { block + length bytes.now / 512 < 2 ^ 64 }
-    requires some { 0 < length bytes.now / 512 }
-    ensures { result ≡ last_region_is block (length bytes.now / 512) }
+    requires end { block + length bytes.now / BLOCK < 2 ^ 64 }
+    requires some { 0 < length bytes.now / BLOCK }
+    ensures { result ≡ last_region_is block (length bytes.now / BLOCK) }
 {
     (block + (bytes.len() / BLOCK) as u64 - 1) / REGION
 }
@@ -102,14 +102,14 @@ pub fn put<S: Shelf>(
     requires checked { IsTrue (is_sound config.now) }
     requires fits { LogsFit config.now vol logs.old }
     requires volume { vol < length config.now.volumes }
-    requires within { block + length bytes.now / 512 ≤ blocks_of_is config.now.volumes vol }
-    requires whole { length bytes.now % 512 ≡ 0 }
+    requires within { block + length bytes.now / BLOCK ≤ blocks_of_is config.now.volumes vol }
+    requires whole { length bytes.now % BLOCK ≡ 0 }
     requires many { 0 < length bytes.now }
     requires some { SomeActive config.now vol }
     requires disks { DisksFit config.now.disks (S.meaning shelf.old) }
     requires up { IsTrue (S.meaning shelf.old).down → ⊥ }
-    ensures writes { Goes (PutAt config.now vol block (length bytes.now / 512) bytes.now logs.old (S.meaning shelf.old)) (S.meaning shelf.old) (S.meaning shelf.new) }
-    ensures puts { PutsPlexes config.now vol block (length bytes.now / 512) bytes.now logs.old logs.new (S.meaning shelf.old) (S.meaning shelf.new) result }
+    ensures writes { Goes (PutAt config.now vol block (length bytes.now / BLOCK) bytes.now logs.old (S.meaning shelf.old)) (S.meaning shelf.old) (S.meaning shelf.new) }
+    ensures puts { PutsPlexes config.now vol block (length bytes.now / BLOCK) bytes.now logs.old logs.new (S.meaning shelf.old) (S.meaning shelf.new) result }
     ensures fits { LogsFit config.now vol logs.new }
 {
     // Read for its bound: no block of a volume is past 2^64.
@@ -141,15 +141,15 @@ pub fn write<S: Shelf>(
     requires checked { IsTrue (is_sound config.now) }
     requires fits { LogsFit config.now vol logs.old }
     requires volume { vol < length config.now.volumes }
-    requires within { block + length bytes.now / 512 ≤ blocks_of_is config.now.volumes vol }
-    requires whole { length bytes.now % 512 ≡ 0 }
+    requires within { block + length bytes.now / BLOCK ≤ blocks_of_is config.now.volumes vol }
+    requires whole { length bytes.now % BLOCK ≡ 0 }
     requires many { 0 < length bytes.now }
     requires some { SomeActive config.now vol }
     requires disks { DisksFit config.now.disks (S.meaning shelf.old) }
     requires up { IsTrue (S.meaning shelf.old).down → ⊥ }
-    ensures goes { Goes (WritesPlexes config.now vol block (length bytes.now / 512) bytes.now logs.old (S.meaning shelf.old)) (S.meaning shelf.old) (S.meaning shelf.new) }
-    ensures first { Along (S.meaning shelf.old) (S.meaning shelf.new) (MarksFirst config.now vol (first_region_is block) (last_region_is block (length bytes.now / 512)) logs.old (S.meaning shelf.old)) }
-    ensures writes { WritesMarked config.now vol block (length bytes.now / 512) bytes.now logs.old logs.new (S.meaning shelf.old) (S.meaning shelf.new) result }
+    ensures goes { Goes (WritesPlexes config.now vol block (length bytes.now / BLOCK) bytes.now logs.old (S.meaning shelf.old)) (S.meaning shelf.old) (S.meaning shelf.new) }
+    ensures first { Along (S.meaning shelf.old) (S.meaning shelf.new) (MarksFirst config.now vol (first_region_is block) (last_region_is block (length bytes.now / BLOCK)) logs.old (S.meaning shelf.old)) }
+    ensures writes { WritesMarked config.now vol block (length bytes.now / BLOCK) bytes.now logs.old logs.new (S.meaning shelf.old) (S.meaning shelf.new) result }
     ensures fits { LogsFit config.now vol logs.new }
 {
     // Read for its bound: no block of a volume is past 2^64.
