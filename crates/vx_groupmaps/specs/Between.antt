@@ -6,13 +6,13 @@ use Rattle.vx_disk.specs.Shelf.{Meaning, Or, Values}
 use Rattle.vx_fmr.specs.Missed.{Missed, has_missed}
 use Rattle.vx_layout.specs.Places.{place}
 use Rattle.vx_logs.specs.declared.logs.Logs.{Logs}
-use Rattle.vx_model.specs.declared.limits.TheConstants.{REGION}
+use Rattle.vx_model.specs.declared.limits.TheConstants.{PUBLIC_START, REGION}
 use Rattle.vx_volume.specs.Plexes.{Inside, active}
 use Rattle.vx_groupmaps.specs.Missing.{by_map}
 
 -- From block 512 on, where plexes lie, a read gives what it gave or one of these values, where the shelf is up.
 pub record ReadsOr (written : Values) (old new : Meaning) : Type 0 where
-  pub so : (u b : ℕ) (x : List ℕ) → 512 ≤ b → new.reads u b x → Or old.reads written u b x ⊎ IsTrue new.down
+  pub so : (u b : ℕ) (x : List ℕ) → PUBLIC_START ≤ b → new.reads u b x → Or old.reads written u b x ⊎ IsTrue new.down
   pub falls : IsTrue old.down → IsTrue new.down
 
 -- The same plexes at the same places, some of which were ACTIVE and are it no more.

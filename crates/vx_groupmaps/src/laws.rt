@@ -18,6 +18,7 @@ ghost use Rattle.vx_volume.specs.Volumes.{OnPlexes};
 use vx_config::Config;
 use vx_disk::Shelf;
 use vx_logs::Logs;
+use vx_model::limits::BLOCK;
 
 /// Behind a write the maps have each region in which a plex that goes by its map differs from the volume, but for the regions of the write,
 /// which `mark_maps` then brings in. So it is of plexes that the write detached too, where all that were ACTIVE read the same before it; else
@@ -33,12 +34,12 @@ pub fn writes_leave_their_regions<S: Shelf>(
 )
     requires checked { IsTrue (is_sound config.now) }
     requires volume { vol < length config.now.volumes }
-    requires within { block + length bytes.now / 512 ≤ blocks_of_is config.now.volumes vol }
-    requires reads { ReadsOr (OnPlexes config.now vol block (length bytes.now / 512) bytes.now) (S.meaning before.now) (S.meaning after.now) }
+    requires within { block + length bytes.now / BLOCK ≤ blocks_of_is config.now.volumes vol }
+    requires reads { ReadsOr (OnPlexes config.now vol block (length bytes.now / BLOCK) bytes.now) (S.meaning before.now) (S.meaning after.now) }
     ensures sure { (d : ConfigValue) (spare : ℕ → ℕ → Bool) → Detaches config.now d vol → ActiveAgree config.now vol (λ r. false) (S.meaning before.now).reads → MapsCoverBy config.now vol spare logs.now (S.meaning before.now)
-        → MapsCoverBy d vol (or_run (first_region block) (last_region block (length bytes.now / 512)) spare) logs.now (S.meaning after.now) }
+        → MapsCoverBy d vol (or_run (first_region block) (last_region block (length bytes.now / BLOCK)) spare) logs.now (S.meaning after.now) }
     ensures unsure { (d : ConfigValue) (spare : ℕ → ℕ → Bool) (set : ℕ) → Detaches config.now d vol → NewlyIn config.now d vol set → MapsCoverBy config.now vol spare logs.now (S.meaning before.now)
-        → MapsCoverBy d vol (or_set set (or_run (first_region block) (last_region block (length bytes.now / 512)) spare)) logs.now (S.meaning after.now) }
+        → MapsCoverBy d vol (or_set set (or_run (first_region block) (last_region block (length bytes.now / BLOCK)) spare)) logs.now (S.meaning after.now) }
 {}
 
 /// A plex that is detached while all plexes that are ACTIVE read the same goes by the map that it has; else it is spared.
