@@ -8,7 +8,7 @@ use Rattle.vx_disk.specs.Shelf.{Goes, Meaning, Nothing}
 use Rattle.vx_wire.specs.Fields.{zero_bytes}
 use Rattle.vx_model.specs.declared.errors.Stop.{Stop}
 use Rattle.vx_model.specs.declared.errors.Stop.TheVariants.{No as Refused, OutOfMemory}
-use Rattle.vx_model.specs.declared.limits.TheConstants.{MOST_COLUMNS, MOST_PLEXES, MOST_SUBDISKS, MOST_VOLUME_BLOCKS, MOST_VOLUMES}
+use Rattle.vx_model.specs.declared.limits.TheConstants.{BLOCK, MOST_COLUMNS, MOST_PLEXES, MOST_SUBDISKS, MOST_VOLUMES, MOST_VOLUME_BLOCKS}
 use Rattle.vx_model.specs.declared.no.Counted.TheVariants.{Number, Plexes, Subdisks, Volumes}
 use Rattle.vx_model.specs.declared.no.No.{No}
 use Rattle.vx_model.specs.declared.no.No.TheVariants as refusal
@@ -89,16 +89,16 @@ pub record ZerosOn (c : Config) (v u b : ℕ) (x : List ℕ) : Type 0 where
   pub is_on : IsTrue (active c v plex)
   pub inside : Inside c v number
   pub at : place c v plex number ≡ (u, b)
-  pub value : x ≡ zero_bytes 512
+  pub value : x ≡ zero_bytes BLOCK
 
 -- a part of the run was written, and elsewhere each plex reads what it read
 pub record ZeroRun (c : Config) (v first count : ℕ) (old new : Meaning) : Type 0 where
   pub each : (p k : ℕ) (x : List ℕ) → IsTrue (active c v p) → Inside c v k → new.reads (place c v p k).0 (place c v p k).1 x
-      → ((first ≤ k) × (k < first + count) × (x ≡ zero_bytes 512)) ⊎ ((first ≤ k → k < first + count → ⊥) × old.reads (place c v p k).0 (place c v p k).1 x)
+      → ((first ≤ k) × (k < first + count) × (x ≡ zero_bytes BLOCK)) ⊎ ((first ≤ k → k < first + count → ⊥) × old.reads (place c v p k).0 (place c v p k).1 x)
 
 -- the blocks below this one read as zeros
 pub record ZeroBelow (c : Config) (v count : ℕ) (m : Meaning) : Type 0 where
-  pub each : (p k : ℕ) (x : List ℕ) → IsTrue (active c v p) → Inside c v k → k < count → m.reads (place c v p k).0 (place c v p k).1 x → x ≡ zero_bytes 512
+  pub each : (p k : ℕ) (x : List ℕ) → IsTrue (active c v p) → Inside c v k → k < count → m.reads (place c v p k).0 (place c v p k).1 x → x ≡ zero_bytes BLOCK
 
 -- so it is behind the first calls
 pub record ZeroLoop (c : Config) (v count blocks : ℕ) (old m : Meaning) : Type 0 where
@@ -109,7 +109,7 @@ pub record ZeroLoop (c : Config) (v count blocks : ℕ) (old m : Meaning) : Type
 
 -- a crash leaves zeros in each block of each plex
 pub record AreZero (c : Config) (v : ℕ) (m : Meaning) : Type 0 where
-  pub each : (p k : ℕ) (x : List ℕ) → IsTrue (active c v p) → Inside c v k → m.leaves (place c v p k).0 (place c v p k).1 x → x ≡ zero_bytes 512
+  pub each : (p k : ℕ) (x : List ℕ) → IsTrue (active c v p) → Inside c v k → m.leaves (place c v p k).0 (place c v p k).1 x → x ≡ zero_bytes BLOCK
 
 -- each plex was flushed
 pub record EachFlushed (c : Config) (v : ℕ) (old new : Meaning) : Type 0 where

@@ -1,5 +1,6 @@
 -- What the calls of a group make of it.
 use Rattle.std.specs.Prelude.{◌≡◌, ℕ, ◌/◌, true, false, IsTrue, List, length}
+use Rattle.vx_model.specs.declared.limits.TheConstants.{BLOCK}
 use Rattle.vx_disk.specs.Blocks.{bit_at}
 use Rattle.vx_disk.specs.Shelf.{Meaning, Nothing}
 use Rattle.vx_config.specs.declared.config.Config.{Config}
@@ -23,7 +24,7 @@ pub record AreOff (d : Config) (v set : ℕ) : Type 0 where
 
 -- each plex of the volume that is ACTIVE reads what was written, and elsewhere what it read
 pub record AllWrote (d : Config) (v block : ℕ) (bytes : List ℕ) (old new : Meaning) : Type 0 where
-  pub each : (p : ℕ) → IsTrue (active d v p) → PlexWrote d v p block (length bytes / 512) block (length bytes / 512) bytes old new
+  pub each : (p : ℕ) → IsTrue (active d v p) → PlexWrote d v p block (length bytes / BLOCK) block (length bytes / BLOCK) bytes old new
 
 -- a crash leaves of each plex of the volume that is ACTIVE what it read
 pub record AllFlushed (d : Config) (v : ℕ) (old new : Meaning) : Type 0 where

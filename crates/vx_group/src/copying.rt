@@ -40,8 +40,8 @@ fn copy_run<S: Shelf>(
     requires is_on { IsTrue (active core.old.config vol source) }
     requires fits { Fits (inner_meaning core.old (S.meaning shelf.old)) vol block (length bytes.old) }
     requires up { IsTrue (S.meaning shelf.old).down → ⊥ }
-    ensures moved { CopyMoved core.old vol source (InRun block (length bytes.old / 512)) core.new (S.meaning shelf.old) (S.meaning shelf.new) }
-    ensures copied { OnOk result (RunCopied core.old vol source (InRun block (length bytes.old / 512)) core.new (S.meaning shelf.old) (S.meaning shelf.new)) }
+    ensures moved { CopyMoved core.old vol source (InRun block (length bytes.old / BLOCK)) core.new (S.meaning shelf.old) (S.meaning shelf.new) }
+    ensures copied { OnOk result (RunCopied core.old vol source (InRun block (length bytes.old / BLOCK)) core.new (S.meaning shelf.old) (S.meaning shelf.new)) }
     ensures agreed { IfErr result (λ e. core.old.committed ≡ true → core.new.agreed ≡ true) }
     ensures cause { Blames (S.meaning shelf.old) (S.meaning shelf.new) result }
 {

@@ -21,6 +21,7 @@ use crate::inner::Inner;
 use crate::releasing::release;
 use crate::settling::make_ready;
 use vx_disk::{Shelf, ShelfError};
+use vx_model::limits::BLOCK;
 use vx_volume::write_all;
 
 // Writes to each plex that is ACTIVE, and detaches those that failed.
@@ -37,7 +38,7 @@ fn write_plexes<S: Shelf>(
     ensures stands { InnerStands core.new (S.meaning shelf.new) }
     ensures goes { Goes (Written vol block bytes.now) (inner_meaning core.old (S.meaning shelf.old)) (inner_meaning core.new (S.meaning shelf.new)) }
     ensures ok { OnOk result (Wrote vol block bytes.now (inner_meaning core.old (S.meaning shelf.old)) (inner_meaning core.new (S.meaning shelf.new))) }
-    ensures acts { PlexActs (OnPlexes core.old.config vol block (length bytes.now / 512) bytes.now) core.old.config core.new.config (S.meaning shelf.old) (S.meaning shelf.new) }
+    ensures acts { PlexActs (OnPlexes core.old.config vol block (length bytes.now / BLOCK) bytes.now) core.old.config core.new.config (S.meaning shelf.old) (S.meaning shelf.new) }
     ensures all { OnOk result (AllWrote core.new.config vol block bytes.now (S.meaning shelf.old) (S.meaning shelf.new)) }
     ensures faults { core.new.faults ≡ core.old.faults }
     ensures unsure { core.new.unsure ≡ core.old.unsure }
@@ -77,7 +78,7 @@ pub fn write_in<S: Shelf>(
     ensures stands { InnerStands core.new (S.meaning shelf.new) }
     ensures goes { Goes (Written vol block bytes.now) (inner_meaning core.old (S.meaning shelf.old)) (inner_meaning core.new (S.meaning shelf.new)) }
     ensures ok { OnOk result (Wrote vol block bytes.now (inner_meaning core.old (S.meaning shelf.old)) (inner_meaning core.new (S.meaning shelf.new))) }
-    ensures acts { PlexActs (OnPlexes core.old.config vol block (length bytes.now / 512) bytes.now) core.old.config core.new.config (S.meaning shelf.old) (S.meaning shelf.new) }
+    ensures acts { PlexActs (OnPlexes core.old.config vol block (length bytes.now / BLOCK) bytes.now) core.old.config core.new.config (S.meaning shelf.old) (S.meaning shelf.new) }
     ensures gave_up { GivesUp vol core.old core.new (S.meaning shelf.old) (S.meaning shelf.new) result }
     ensures loses { LosesPlexes core.old.config core.new.config (S.meaning shelf.old) (S.meaning shelf.new) }
     ensures trust { OnOk result (core.old.committed ≡ true → core.new.committed ≡ true) }
@@ -120,7 +121,7 @@ pub fn write_group<S: Shelf>(
     ensures stands { GroupStands core.new (S.meaning shelf.new) }
     ensures goes { Goes (Written vol block bytes.now) (inner_meaning (wide core.old) (S.meaning shelf.old)) (inner_meaning (wide core.new) (S.meaning shelf.new)) }
     ensures ok { OnOk result (Wrote vol block bytes.now (inner_meaning (wide core.old) (S.meaning shelf.old)) (inner_meaning (wide core.new) (S.meaning shelf.new))) }
-    ensures acts { PlexActs (OnPlexes (wide core.old).config vol block (length bytes.now / 512) bytes.now) (wide core.old).config (wide core.new).config (S.meaning shelf.old) (S.meaning shelf.new) }
+    ensures acts { PlexActs (OnPlexes (wide core.old).config vol block (length bytes.now / BLOCK) bytes.now) (wide core.old).config (wide core.new).config (S.meaning shelf.old) (S.meaning shelf.new) }
     ensures gave_up { GivesUp vol core.old.inner core.new.inner (S.meaning shelf.old) (S.meaning shelf.new) result }
     ensures loses { LosesPlexes core.old.inner.config core.new.inner.config (S.meaning shelf.old) (S.meaning shelf.new) }
     ensures clear { core.old.inner.config.serial < greatest → OnOk result (core.new.held ≡ None) }
