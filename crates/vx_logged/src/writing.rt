@@ -48,13 +48,13 @@ fn write_first<S: Shelf>(
     ensures ok { OnOk result (Wrote vol block bytes.now (inner_meaning (wide core.old) (S.meaning shelf.old)) (inner_meaning (wide core.new) (S.meaning shelf.new))) }
     ensures log { stopped.new ≡ false → LogOn core.new vol logs.new (S.meaning shelf.new) }
     ensures others { OthersOn vol core.old core.new (S.meaning shelf.old) (S.meaning shelf.new) }
-    ensures adds { MarksOnly (regions_in (blocks_of_is (wide core.old).config.volumes vol)) (first_region block) (last_region block (length bytes.now / 512)) logs.old logs.new }
+    ensures adds { MarksOnly (regions_in (blocks_of_is (wide core.old).config.volumes vol)) (first_region block) (last_region block (length bytes.now / BLOCK)) logs.old logs.new }
     ensures narrow { Narrowed core.old core.new }
-    ensures written { stopped.new ≡ false → OnOk result (Known core.old vol logs.old (S.meaning shelf.old) → KnownBy core.new vol (or_off (wide core.new).config vol (first_region block) (last_region block (length bytes.now / 512)) none_spared) logs.new (S.meaning shelf.new)) }
-    ensures notes { MapsNote (are_off core.new vol) (first_region block) (last_region block (length bytes.now / 512)) logs.old logs.new }
-    ensures missed { stopped.new ≡ false → Known core.old vol logs.old (S.meaning shelf.old) → KnownBy core.new vol (or_run (first_region block) (last_region block (length bytes.now / 512)) none_spared) logs.new (S.meaning shelf.new) }
-    ensures alike { stopped.new ≡ false → ReadsOne (wide core.old).config vol (S.meaning shelf.old) → ReadsBut (wide core.new).config vol (active (wide core.old).config vol) (first_region block) (last_region block (length bytes.now / 512)) (S.meaning shelf.new) }
-    ensures marked { stopped.new ≡ false → MarkedBefore (λ s. S.meaning s) vol block bytes.now (first_region block) (last_region block (length bytes.now / 512)) core.old core.new (S.meaning shelf.old) (S.meaning shelf.new) }
+    ensures written { stopped.new ≡ false → OnOk result (Known core.old vol logs.old (S.meaning shelf.old) → KnownBy core.new vol (or_off (wide core.new).config vol (first_region block) (last_region block (length bytes.now / BLOCK)) none_spared) logs.new (S.meaning shelf.new)) }
+    ensures notes { MapsNote (are_off core.new vol) (first_region block) (last_region block (length bytes.now / BLOCK)) logs.old logs.new }
+    ensures missed { stopped.new ≡ false → Known core.old vol logs.old (S.meaning shelf.old) → KnownBy core.new vol (or_run (first_region block) (last_region block (length bytes.now / BLOCK)) none_spared) logs.new (S.meaning shelf.new) }
+    ensures alike { stopped.new ≡ false → ReadsOne (wide core.old).config vol (S.meaning shelf.old) → ReadsBut (wide core.new).config vol (active (wide core.old).config vol) (first_region block) (last_region block (length bytes.now / BLOCK)) (S.meaning shelf.new) }
+    ensures marked { stopped.new ≡ false → MarkedBefore (λ s. S.meaning s) vol block bytes.now (first_region block) (last_region block (length bytes.now / BLOCK)) core.old core.new (S.meaning shelf.old) (S.meaning shelf.new) }
     ensures stays { stopped.old ≡ true → stopped.new ≡ true }
     ensures rests { stopped.new ≡ false → (w p : ℕ) → IsTrue (active core.new.inner.config w p) → IsTrue (active core.old.inner.config w p) }
     ensures full { stopped.old ≡ false → stopped.new ≡ true → greatest ≤ core.old.inner.config.serial + 18 }
@@ -106,13 +106,13 @@ pub fn write_marked<S: Shelf>(
     ensures ok { OnOk result (Wrote vol block bytes.now (inner_meaning (wide core.old) (S.meaning shelf.old)) (inner_meaning (wide core.new) (S.meaning shelf.new))) }
     ensures log { stopped.new ≡ false → LogOn core.new vol logs.new (S.meaning shelf.new) }
     ensures others { OthersOn vol core.old core.new (S.meaning shelf.old) (S.meaning shelf.new) }
-    ensures adds { MarksOnly (regions_in (blocks_of_is (wide core.old).config.volumes vol)) (first_region block) (last_region block (length bytes.now / 512)) logs.old logs.new }
+    ensures adds { MarksOnly (regions_in (blocks_of_is (wide core.old).config.volumes vol)) (first_region block) (last_region block (length bytes.now / BLOCK)) logs.old logs.new }
     ensures maps { stopped.new ≡ false → Known core.old vol logs.old (S.meaning shelf.old) → Known core.new vol logs.new (S.meaning shelf.new) }
-    ensures notes { MapsBut (begun_in core.old core.new vol sure result) (those_missing core.new vol result) (first_region block) (last_region block (length bytes.now / 512)) logs.old logs.new }
-    ensures begins { sure ≡ true → stopped.new ≡ false → OnOk result (MapsOfRun (fell_in core.old core.new vol) (first_region block) (last_region block (length bytes.now / 512)) logs.new) }
-    ensures refused { sure ≡ true → stopped.new ≡ false → IfErr result (λ e. MapsOfRun (active core.old.inner.config vol) (first_region block) (last_region block (length bytes.now / 512)) logs.new) }
-    ensures holds { stopped.new ≡ false → OnOk result (HoldsRun core.new.inner.config vol (first_region block) (last_region block (length bytes.now / 512)) logs.new) }
-    ensures marked { stopped.new ≡ false → MarkedBefore (λ s. S.meaning s) vol block bytes.now (first_region block) (last_region block (length bytes.now / 512)) core.old core.new (S.meaning shelf.old) (S.meaning shelf.new) }
+    ensures notes { MapsBut (begun_in core.old core.new vol sure result) (those_missing core.new vol result) (first_region block) (last_region block (length bytes.now / BLOCK)) logs.old logs.new }
+    ensures begins { sure ≡ true → stopped.new ≡ false → OnOk result (MapsOfRun (fell_in core.old core.new vol) (first_region block) (last_region block (length bytes.now / BLOCK)) logs.new) }
+    ensures refused { sure ≡ true → stopped.new ≡ false → IfErr result (λ e. MapsOfRun (active core.old.inner.config vol) (first_region block) (last_region block (length bytes.now / BLOCK)) logs.new) }
+    ensures holds { stopped.new ≡ false → OnOk result (HoldsRun core.new.inner.config vol (first_region block) (last_region block (length bytes.now / BLOCK)) logs.new) }
+    ensures marked { stopped.new ≡ false → MarkedBefore (λ s. S.meaning s) vol block bytes.now (first_region block) (last_region block (length bytes.now / BLOCK)) core.old core.new (S.meaning shelf.old) (S.meaning shelf.new) }
     ensures stays { stopped.old ≡ true → stopped.new ≡ true }
     ensures rests { stopped.new ≡ false → (w p : ℕ) → IsTrue (active core.new.inner.config w p) → IsTrue (active core.old.inner.config w p) }
     ensures free { stopped.new ≡ false → OnOk result ((core.new.held ≡ None) ⊎ (logs.new.fmr ≡ None)) }
