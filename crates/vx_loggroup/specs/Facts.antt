@@ -19,7 +19,7 @@ use Rattle.vx_logs.specs.Held.{LogsStand}
 use Rattle.vx_logs.specs.declared.logs.Logs.{Logs}
 use Rattle.vx_maplog.specs.Logs.{log_blocks, log_of}
 use Rattle.vx_model.specs.Sizes.{map_blocks, regions_of}
-use Rattle.vx_model.specs.declared.limits.TheConstants.{MAP_REGIONS, MOST_MAP_BLOCKS}
+use Rattle.vx_model.specs.declared.limits.TheConstants.{BLOCK, MAP_REGIONS, MOST_MAP_BLOCKS}
 use Rattle.vx_loggroup.specs.LoggedVolumes.{is_alike}
 
 -- a map in memory lies where the configuration has the log
@@ -27,7 +27,7 @@ pub record RunFact (c : Config) (v : ℕ) (log : VolumeLog) (map : Map) : Type 0
   pub has : is_some (log_of c v log) ≡ true
   pub there : (e : LogEntry) → log_of c v log ≡ Some e → map.unit ≡ e.disk
   pub begins : (e : LogEntry) → log_of c v log ≡ Some e → map.first ≡ e.start
-  pub long : length map.bytes ≡ 512 * log_blocks c v log
+  pub long : length map.bytes ≡ BLOCK * log_blocks c v log
   pub few : log_blocks c v log ≤ MOST_MAP_BLOCKS
 
 -- so does a dirty region log, with a bit for each region

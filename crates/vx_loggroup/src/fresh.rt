@@ -26,7 +26,7 @@ use crate::whole::write_whole;
 use vx_disk::{Shelf, ShelfError};
 use vx_group::GroupCore;
 use vx_logs::Logs;
-use vx_model::limits::MOST_VOLUMES;
+use vx_model::limits::{BLOCK, MOST_VOLUMES};
 
 /// Whether the logs of a volume may begin. From then on they may not.
 pub fn takes_fresh(fresh: &mut [bool; MOST_VOLUMES], stopped: bool, vol: u32) -> bool
@@ -68,18 +68,18 @@ pub fn write_fresh<S: Shelf>(
     ensures keeps { LogsKeep core.old core.new logs.old.items logs.new.items (S.meaning shelf.old) (S.meaning shelf.new) }
     ensures kept { stopped.new ≡ false → OnOk result (LogsKept core.new logs.new.items vol) }
     ensures finds { GroupFinds core.old core.new (S.meaning shelf.old) (S.meaning shelf.new) }
-    ensures marks { MarksVolume (wide core.old).config vol (first_region block) (last_region block (length bytes.now / 512)) logs.old.items logs.new.items }
-    ensures notes { NotesMaps (begun_in core.old core.new vol (is_alike_is alike.old vol) result) (those_missing core.new vol result) vol (first_region block) (last_region block (length bytes.now / 512)) logs.old.items logs.new.items }
-    ensures begins { is_alike_is alike.old vol ≡ true → stopped.new ≡ false → OnOk result (RunsMaps (fell_in core.old core.new vol) vol (first_region block) (last_region block (length bytes.now / 512)) logs.new.items) }
-    ensures refused { is_alike_is alike.old vol ≡ true → stopped.new ≡ false → (IsTrue (S.meaning shelf.old).down → ⊥) → IfErr result (λ e. is_alike_is alike.new vol ≡ false → RunsMaps (active core.old.inner.config vol) vol (first_region block) (last_region block (length bytes.now / 512)) logs.new.items) }
-    ensures moves { stopped.new ≡ false → MovesRun core.old.inner.config core.new.inner.config vol (first_region block) (last_region block (length bytes.now / 512)) (is_alike_is alike.old vol) logs.old.items logs.new.items result }
+    ensures marks { MarksVolume (wide core.old).config vol (first_region block) (last_region block (length bytes.now / BLOCK)) logs.old.items logs.new.items }
+    ensures notes { NotesMaps (begun_in core.old core.new vol (is_alike_is alike.old vol) result) (those_missing core.new vol result) vol (first_region block) (last_region block (length bytes.now / BLOCK)) logs.old.items logs.new.items }
+    ensures begins { is_alike_is alike.old vol ≡ true → stopped.new ≡ false → OnOk result (RunsMaps (fell_in core.old core.new vol) vol (first_region block) (last_region block (length bytes.now / BLOCK)) logs.new.items) }
+    ensures refused { is_alike_is alike.old vol ≡ true → stopped.new ≡ false → (IsTrue (S.meaning shelf.old).down → ⊥) → IfErr result (λ e. is_alike_is alike.new vol ≡ false → RunsMaps (active core.old.inner.config vol) vol (first_region block) (last_region block (length bytes.now / BLOCK)) logs.new.items) }
+    ensures moves { stopped.new ≡ false → MovesRun core.old.inner.config core.new.inner.config vol (first_region block) (last_region block (length bytes.now / BLOCK)) (is_alike_is alike.old vol) logs.old.items logs.new.items result }
     ensures trusts { TrustsIn vol (logs_at logs.new.items vol) core.old.inner.config core.new.inner.config }
     ensures stays { stopped.old ≡ true → stopped.new ≡ true }
     ensures rests { stopped.new ≡ false → (w p : ℕ) → IsTrue (active core.new.inner.config w p) → IsTrue (active core.old.inner.config w p) }
     ensures free { stopped.new ≡ false → OnOk result ((core.new.held ≡ None) ⊎ (fmr_at logs.new.items vol ≡ None)) }
     ensures alike { OnOk result (alike.new ≡ alike.old) }
     ensures flags { (w : ℕ) → (w ≡ vol → ⊥) → is_alike_is alike.new w ≡ is_alike_is alike.old w }
-    ensures marked { stopped.new ≡ false → MarkedBefore (λ s. S.meaning s) vol block bytes.now (first_region block) (last_region block (length bytes.now / 512)) core.old core.new (S.meaning shelf.old) (S.meaning shelf.new) }
+    ensures marked { stopped.new ≡ false → MarkedBefore (λ s. S.meaning s) vol block bytes.now (first_region block) (last_region block (length bytes.now / BLOCK)) core.old core.new (S.meaning shelf.old) (S.meaning shelf.new) }
     ensures full { stopped.old ≡ false → stopped.new ≡ true → greatest ≤ core.old.inner.config.serial + 45 }
     ensures trust { OnOk result (core.old.inner.committed ≡ true → core.new.inner.committed ≡ true) }
     ensures agreed { IfErr result (λ e. core.old.inner.committed ≡ true → core.new.inner.agreed ≡ true) }

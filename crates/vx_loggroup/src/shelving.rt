@@ -25,6 +25,7 @@ use crate::group::LoggedGroup;
 use crate::keeping::read_whole;
 use crate::whole::flush_whole;
 use vx_disk::{Shelf, ShelfError};
+use vx_model::limits::BLOCK;
 
 impl<S: Shelf> Shelf for LoggedGroup<S> {
     ghost meaning = { λ g. inner_meaning (wide g.core) (S.meaning g.shelf) };
@@ -89,11 +90,11 @@ impl<S: Shelf> Shelf for LoggedGroup<S> {
         ensures disks { OnDisks (inner_meaning (wide self.old.core) (S.meaning self.old.shelf)).disks (inner_meaning (wide self.new.core) (S.meaning self.new.shelf)).disks (λ o n. Calls (inner_meaning (wide self.old.core) (S.meaning self.old.shelf)) (DisksWrote unit block bytes.now) o n result) }
         ensures mirrors { MirrorsKeep names_none self.old.core self.new.core (S.meaning self.old.shelf) (S.meaning self.new.shelf) }
         ensures loses { LosesPlexes self.old.core.inner.config self.new.core.inner.config (S.meaning self.old.shelf) (S.meaning self.new.shelf) }
-        ensures marks { MarksVolume (wide self.old.core).config unit (first_region block) (last_region block (length bytes.now / 512)) self.old.logs.items self.new.logs.items }
-        ensures notes { NotesMaps (begun_in self.old.core self.new.core unit (is_alike self.old.alike unit) result) (those_missing self.new.core unit result) unit (first_region block) (last_region block (length bytes.now / 512)) self.old.logs.items self.new.logs.items }
-        ensures begins { is_alike self.old.alike unit ≡ true → self.new.stopped ≡ false → OnOk result (RunsMaps (fell_in self.old.core self.new.core unit) unit (first_region block) (last_region block (length bytes.now / 512)) self.new.logs.items) }
-        ensures refused { is_alike self.old.alike unit ≡ true → self.new.stopped ≡ false → (IsTrue (S.meaning self.old.shelf).down → ⊥) → IfErr result (λ e. is_alike self.new.alike unit ≡ false → RunsMaps (active self.old.core.inner.config unit) unit (first_region block) (last_region block (length bytes.now / 512)) self.new.logs.items) }
-        ensures moves { self.new.stopped ≡ false → MovesRun self.old.core.inner.config self.new.core.inner.config unit (first_region block) (last_region block (length bytes.now / 512)) (is_alike self.old.alike unit) self.old.logs.items self.new.logs.items result }
+        ensures marks { MarksVolume (wide self.old.core).config unit (first_region block) (last_region block (length bytes.now / BLOCK)) self.old.logs.items self.new.logs.items }
+        ensures notes { NotesMaps (begun_in self.old.core self.new.core unit (is_alike self.old.alike unit) result) (those_missing self.new.core unit result) unit (first_region block) (last_region block (length bytes.now / BLOCK)) self.old.logs.items self.new.logs.items }
+        ensures begins { is_alike self.old.alike unit ≡ true → self.new.stopped ≡ false → OnOk result (RunsMaps (fell_in self.old.core self.new.core unit) unit (first_region block) (last_region block (length bytes.now / BLOCK)) self.new.logs.items) }
+        ensures refused { is_alike self.old.alike unit ≡ true → self.new.stopped ≡ false → (IsTrue (S.meaning self.old.shelf).down → ⊥) → IfErr result (λ e. is_alike self.new.alike unit ≡ false → RunsMaps (active self.old.core.inner.config unit) unit (first_region block) (last_region block (length bytes.now / BLOCK)) self.new.logs.items) }
+        ensures moves { self.new.stopped ≡ false → MovesRun self.old.core.inner.config self.new.core.inner.config unit (first_region block) (last_region block (length bytes.now / BLOCK)) (is_alike self.old.alike unit) self.old.logs.items self.new.logs.items result }
         ensures comes { MapsBeginIn (only_volume unit) self.old.core.inner.config self.new.core.inner.config self.old.stopped self.new.stopped self.old.logs.items self.new.logs.items }
         ensures ends_maps { MapsEnd self.old.core.inner.config self.new.core.inner.config self.old.stopped self.new.stopped self.old.logs.items self.new.logs.items (S.meaning self.old.shelf) (S.meaning self.new.shelf) }
         ensures stays { self.old.stopped ≡ true → self.new.stopped ≡ true }
@@ -101,7 +102,7 @@ impl<S: Shelf> Shelf for LoggedGroup<S> {
         ensures free { self.new.stopped ≡ false → OnOk result ((self.new.core.held ≡ None) ⊎ (fmr_at self.new.logs.items unit ≡ None)) }
         ensures alike { OnOk result (self.new.alike ≡ self.old.alike) }
         ensures flags { (w : ℕ) → (w ≡ unit → ⊥) → is_alike self.new.alike w ≡ is_alike self.old.alike w }
-        ensures marked { self.new.stopped ≡ false → MarkedBefore (λ s. S.meaning s) unit block bytes.now (first_region block) (last_region block (length bytes.now / 512)) self.old.core self.new.core (S.meaning self.old.shelf) (S.meaning self.new.shelf) }
+        ensures marked { self.new.stopped ≡ false → MarkedBefore (λ s. S.meaning s) unit block bytes.now (first_region block) (last_region block (length bytes.now / BLOCK)) self.old.core self.new.core (S.meaning self.old.shelf) (S.meaning self.new.shelf) }
         ensures full { self.old.stopped ≡ false → self.new.stopped ≡ true → greatest ≤ self.old.core.inner.config.serial + 45 }
         ensures trust { OnOk result (self.old.core.inner.committed ≡ true → self.new.core.inner.committed ≡ true) }
         ensures agreed { IfErr result (λ e. self.old.core.inner.committed ≡ true → self.new.core.inner.agreed ≡ true) }

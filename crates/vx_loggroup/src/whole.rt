@@ -24,7 +24,7 @@ use vx_disk::{Shelf, ShelfError};
 use vx_group::GroupCore;
 use vx_logged::{flush_spent, write_marked};
 use vx_logs::Logs;
-use vx_model::limits::MOST_VOLUMES;
+use vx_model::limits::{BLOCK, MOST_VOLUMES};
 
 /// Writes a run of blocks of a volume, of which the regions are durably marked first, and no others. Where it fails, the plexes of the volume may
 /// differ: no mark of it is taken off from then on. Where they did not before, the maps of those that were ACTIVE have regions of the run alone then.
@@ -47,11 +47,11 @@ pub fn write_whole<S: Shelf>(
     ensures keeps { LogsKeep core.old core.new logs.old.items logs.new.items (S.meaning shelf.old) (S.meaning shelf.new) }
     ensures kept { stopped.new ≡ false → OnOk result (LogsKept core.new logs.new.items vol) }
     ensures finds { GroupFinds core.old core.new (S.meaning shelf.old) (S.meaning shelf.new) }
-    ensures marks { MarksVolume (wide core.old).config vol (first_region block) (last_region block (length bytes.now / 512)) logs.old.items logs.new.items }
-    ensures notes { NotesMaps (begun_in core.old core.new vol (is_alike_is alike.old vol) result) (those_missing core.new vol result) vol (first_region block) (last_region block (length bytes.now / 512)) logs.old.items logs.new.items }
-    ensures begins { is_alike_is alike.old vol ≡ true → stopped.new ≡ false → OnOk result (RunsMaps (fell_in core.old core.new vol) vol (first_region block) (last_region block (length bytes.now / 512)) logs.new.items) }
-    ensures refused { is_alike_is alike.old vol ≡ true → stopped.new ≡ false → (IsTrue (S.meaning shelf.old).down → ⊥) → IfErr result (λ e. is_alike_is alike.new vol ≡ false → RunsMaps (active core.old.inner.config vol) vol (first_region block) (last_region block (length bytes.now / 512)) logs.new.items) }
-    ensures holds { stopped.new ≡ false → OnOk result (RunHolds core.new.inner.config vol (first_region block) (last_region block (length bytes.now / 512)) logs.new.items) }
+    ensures marks { MarksVolume (wide core.old).config vol (first_region block) (last_region block (length bytes.now / BLOCK)) logs.old.items logs.new.items }
+    ensures notes { NotesMaps (begun_in core.old core.new vol (is_alike_is alike.old vol) result) (those_missing core.new vol result) vol (first_region block) (last_region block (length bytes.now / BLOCK)) logs.old.items logs.new.items }
+    ensures begins { is_alike_is alike.old vol ≡ true → stopped.new ≡ false → OnOk result (RunsMaps (fell_in core.old core.new vol) vol (first_region block) (last_region block (length bytes.now / BLOCK)) logs.new.items) }
+    ensures refused { is_alike_is alike.old vol ≡ true → stopped.new ≡ false → (IsTrue (S.meaning shelf.old).down → ⊥) → IfErr result (λ e. is_alike_is alike.new vol ≡ false → RunsMaps (active core.old.inner.config vol) vol (first_region block) (last_region block (length bytes.now / BLOCK)) logs.new.items) }
+    ensures holds { stopped.new ≡ false → OnOk result (RunHolds core.new.inner.config vol (first_region block) (last_region block (length bytes.now / BLOCK)) logs.new.items) }
     ensures gone { fmr_at logs.old.items vol ≡ None → fmr_at logs.new.items vol ≡ None }
     ensures trusts { TrustsIn vol (logs_at logs.new.items vol) core.old.inner.config core.new.inner.config }
     ensures stays { stopped.old ≡ true → stopped.new ≡ true }
@@ -59,7 +59,7 @@ pub fn write_whole<S: Shelf>(
     ensures free { stopped.new ≡ false → OnOk result ((core.new.held ≡ None) ⊎ (fmr_at logs.new.items vol ≡ None)) }
     ensures alike { OnOk result (alike.new ≡ alike.old) }
     ensures flags { (w : ℕ) → (w ≡ vol → ⊥) → is_alike_is alike.new w ≡ is_alike_is alike.old w }
-    ensures marked { stopped.new ≡ false → MarkedBefore (λ s. S.meaning s) vol block bytes.now (first_region block) (last_region block (length bytes.now / 512)) core.old core.new (S.meaning shelf.old) (S.meaning shelf.new) }
+    ensures marked { stopped.new ≡ false → MarkedBefore (λ s. S.meaning s) vol block bytes.now (first_region block) (last_region block (length bytes.now / BLOCK)) core.old core.new (S.meaning shelf.old) (S.meaning shelf.new) }
     ensures full { stopped.old ≡ false → stopped.new ≡ true → greatest ≤ core.old.inner.config.serial + 18 }
     ensures trust { OnOk result (core.old.inner.committed ≡ true → core.new.inner.committed ≡ true) }
     ensures agreed { IfErr result (λ e. core.old.inner.committed ≡ true → core.new.inner.agreed ≡ true) }
