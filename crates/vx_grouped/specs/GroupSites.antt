@@ -1,5 +1,6 @@
 -- What the disks of a site with a group of disks, and no replicated volume group, stand for.
 use Rattle.std.specs.Prelude.{◌≡◌, ℕ, ◌+◌, ◌/◌, ◌%◌, ◌<◌, ◌≤◌, [], Bool, true, false, Option, Some, None, IsTrue, IsFalse}
+use Rattle.vx_model.specs.declared.limits.TheConstants.{BLOCK}
 use Rattle.vx_model.specs.declared.site.Role.TheVariants.{Primary}
 use Rattle.vx_model.specs.declared.site.SiteState.TheVariants.{Bare}
 use Rattle.vx_disk.specs.Shelf.{Meaning}
@@ -106,8 +107,8 @@ pub record GroupFallen (n : Node) (note : GroupNode) (told : Bool) (core : Group
 -- so many bytes from this block of a volume on: whole blocks, which lie in the volume that is noted
 pub record FitsPlain (note : GroupNode) (vol block count : ℕ) : Type 0 where
   pub some : 0 < count
-  pub whole : count % 512 ≡ 0
-  pub within : block + count / 512 ≤ note.bytes.size vol
+  pub whole : count % BLOCK ≡ 0
+  pub within : block + count / BLOCK ≤ note.bytes.size vol
 
 module _ {R : Type 0} {g : Ghosts R} where
   -- the disks of a group that is up, and of one that is not

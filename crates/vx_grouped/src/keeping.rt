@@ -18,8 +18,8 @@ use vx_model::limits::{BLOCK, MOST_CALL_BLOCKS, MOST_CALL_BYTES};
 
 // Whether this block is the same in both.
 fn is_same(first: &[u8], second: &[u8], block: u64) -> bool
-    requires first { 512 * block + 512 ≤ length first.now }
-    requires second { 512 * block + 512 ≤ length second.now }
+    requires first { BLOCK * block + BLOCK ≤ length first.now }
+    requires second { BLOCK * block + BLOCK ≤ length second.now }
     requires few { length first.now ≤ MOST_CALL_BYTES }
     ensures { result ≡ bytes_eq (block_of first.now block) (block_of second.now block) }
 {
@@ -31,7 +31,7 @@ fn is_same(first: &[u8], second: &[u8], block: u64) -> bool
 fn compared(found: &[u8], bytes: &[u8]) -> [bool; MOST_CALL_BLOCKS as usize]
     requires same { length found.now ≡ length bytes.now }
     requires few { length bytes.now ≤ MOST_CALL_BYTES }
-    requires whole { length bytes.now % 512 ≡ 0 }
+    requires whole { length bytes.now % BLOCK ≡ 0 }
     ensures { BytesKept found.now bytes.now result }
 {
     let mut bits = [false; MOST_CALL_BLOCKS as usize];
