@@ -1,6 +1,7 @@
 -- The records of a log: a logged write with what stands before its blocks on disk.
 use Rattle.std.specs.Prelude.{◌≡◌, ℕ, zero, suc, ◌-◌, ◌%◌, ◌≤◌, List, [], ◌∷◌, ◌++◌, length, take, drop, slice_index, All}
 use Rattle.std.specs.List.{concat}
+use Rattle.vx_model.specs.declared.limits.TheConstants.{BLOCK, MOST_CALL_BLOCKS, MOST_CALL_BYTES}
 use Rattle.vx_model.specs.Content.{Write, blocks_in}
 use Rattle.vx_model.specs.declared.history.Line.{Line}
 use Rattle.vx_wire.specs.Fields.{zero_bytes}
@@ -55,7 +56,7 @@ first_bytes (block ∷ blocks) = slice_index block 0 ∷ first_bytes blocks
 
 -- with zeros behind them, up to 16
 abbrev pub firsts_of : List (List ℕ) → List ℕ
-firsts_of blocks = first_bytes blocks ++ zero_bytes (16 - length blocks)
+firsts_of blocks = first_bytes blocks ++ zero_bytes (MOST_CALL_BLOCKS - length blocks)
 
 -- a record that keeps these blocks
 pub record KeepsBlocks (r : Record) (blocks : List (List ℕ)) : Type 0 where
@@ -64,7 +65,7 @@ pub record KeepsBlocks (r : Record) (blocks : List (List ℕ)) : Type 0 where
 
 -- a block has 512 bytes
 abbrev pub IsWhole : List ℕ → Type 0
-IsWhole block = length block ≡ 512
+IsWhole block = length block ≡ BLOCK
 
 -- what was given comes back, block after block
 abbrev pub GivenComesBack : Type 0
@@ -75,8 +76,8 @@ pub record StandOnDisk (blocks : List (List ℕ)) : Type 0 where
   pub count : length (as_on_disk blocks) ≡ length blocks
   pub whole : All IsWhole (as_on_disk blocks)
   pub body : All IsBody (as_on_disk blocks)
-  pub firsts : length blocks ≤ 16 → length (firsts_of blocks) ≡ 16
-  pub zeros : drop (length blocks) (firsts_of blocks) ≡ zero_bytes (16 - length blocks)
+  pub firsts : length blocks ≤ MOST_CALL_BLOCKS → length (firsts_of blocks) ≡ MOST_CALL_BLOCKS
+  pub zeros : drop (length blocks) (firsts_of blocks) ≡ zero_bytes (MOST_CALL_BLOCKS - length blocks)
 
 -- so it is of all whole blocks
 abbrev pub BlocksStand : Type 0
@@ -85,7 +86,7 @@ BlocksStand = (blocks : List (List ℕ)) → All IsWhole blocks → StandOnDisk 
 -- the first n blocks of these bytes
 abbrev pub first_blocks : ℕ → List ℕ → List (List ℕ)
 first_blocks zero bytes = []
-first_blocks (suc n) bytes = take 512 bytes ∷ first_blocks n (drop 512 bytes)
+first_blocks (suc n) bytes = take BLOCK bytes ∷ first_blocks n (drop BLOCK bytes)
 
 -- all blocks of a write
 abbrev pub write_blocks : Write → List (List ℕ)
@@ -114,9 +115,9 @@ pub record LogsWrite (r : Record) (x : Write) : Type 0 where
   pub genuine : Genuine r
   pub whole : All IsWhole r.body
   pub body : All IsBody r.body
-  pub firsts : length x.bytes ≤ 8192 → length r.head.firsts ≡ 16
-  pub zeros : drop r.head.count r.head.firsts ≡ zero_bytes (16 - r.head.count)
+  pub firsts : length x.bytes ≤ MOST_CALL_BYTES → length r.head.firsts ≡ MOST_CALL_BLOCKS
+  pub zeros : drop r.head.count r.head.firsts ≡ zero_bytes (MOST_CALL_BLOCKS - r.head.count)
 
 -- a write of whole blocks comes back from its record
 abbrev pub WriteComesBack : Type 0
-WriteComesBack = (e : Era) (number : ℕ) (x : Write) → length x.bytes % 512 ≡ 0 → LogsWrite (record_of e number x) x
+WriteComesBack = (e : Era) (number : ℕ) (x : Write) → length x.bytes % BLOCK ≡ 0 → LogsWrite (record_of e number x) x
