@@ -96,7 +96,7 @@ fn read_part<S: Shelf>(
     requires lies { RingLies unit ring (S.meaning shelf.old) }
     requires few { ring ≤ 65534 }
     requires blocks { IsBlocks into.old }
-    requires room { first + length into.old / 512 ≤ ring }
+    requires room { first + length into.old / BLOCK ≤ ring }
     ensures shows { OnOk result ((c : RingImage) → ReadsAs unit ring c (S.meaning shelf.old) → ShowsBlocks ring c first (all_blocks into.new)) }
     ensures gave { OnOk result (IsTrue (S.meaning shelf.old).tells → GaveBlocks unit ring (S.meaning shelf.old) first (all_blocks into.new)) }
     ensures size { length into.new ≡ length into.old }
@@ -122,7 +122,7 @@ pub fn read_body<S: Shelf>(
     requires lies { RingLies unit ring (S.meaning shelf.old) }
     requires few { ring ≤ 65534 }
     requires blocks { IsBlocks into.old }
-    requires room { length into.old / 512 ≤ ring }
+    requires room { length into.old / BLOCK ≤ ring }
     ensures shows { OnOk result ((c : RingImage) → ReadsAs unit ring c (S.meaning shelf.old) → ShowsBlocks ring c place (all_blocks into.new)) }
     ensures gave { OnOk result (IsTrue (S.meaning shelf.old).tells → GaveBlocks unit ring (S.meaning shelf.old) place (all_blocks into.new)) }
     ensures size { length into.new ≡ length into.old }

@@ -96,7 +96,7 @@ fn write_part<S: Shelf>(
     requires lies { RingLies unit ring (S.meaning shelf.old) }
     requires few { ring ≤ 65534 }
     requires blocks { IsBlocks bytes.now }
-    requires room { first + length bytes.now / 512 ≤ ring }
+    requires room { first + length bytes.now / BLOCK ≤ ring }
     requires body { All IsBody (all_blocks bytes.now) }
     ensures follows { Follows unit ring (body_acts ring first (all_blocks bytes.now)) (S.meaning shelf.old) (S.meaning shelf.new) }
     ensures arrives { OnOk result (Arrives unit ring (body_acts ring first (all_blocks bytes.now)) (S.meaning shelf.old) (S.meaning shelf.new)) }
@@ -121,13 +121,13 @@ pub fn write_body<S: Shelf>(
     requires lies { RingLies unit ring (S.meaning shelf.old) }
     requires few { ring ≤ 65534 }
     requires blocks { IsBlocks bytes.now }
-    requires room { length bytes.now / 512 ≤ ring }
+    requires room { length bytes.now / BLOCK ≤ ring }
     requires body { All IsBody (all_blocks bytes.now) }
     ensures follows { Follows unit ring (body_acts ring place (all_blocks bytes.now)) (S.meaning shelf.old) (S.meaning shelf.new) }
     ensures arrives { OnOk result (Arrives unit ring (body_acts ring place (all_blocks bytes.now)) (S.meaning shelf.old) (S.meaning shelf.new)) }
     ensures cause { Cause (S.meaning shelf.old) (S.meaning shelf.new) unit result }
-    ensures calls { OnOk result (place % ring + length bytes.now / 512 ≤ ring → MakesCalls 1 (S.meaning shelf.old) (S.meaning shelf.new)) }
-    ensures short { place % ring + length bytes.now / 512 ≤ ring → FallsShort 1 (S.meaning shelf.old) (S.meaning shelf.new) }
+    ensures calls { OnOk result (place % ring + length bytes.now / BLOCK ≤ ring → MakesCalls 1 (S.meaning shelf.old) (S.meaning shelf.new)) }
+    ensures short { place % ring + length bytes.now / BLOCK ≤ ring → FallsShort 1 (S.meaning shelf.old) (S.meaning shelf.new) }
     ensures least { OnOk result (MakesAtLeast 1 (S.meaning shelf.old) (S.meaning shelf.new)) }
     ensures names { Names (S.meaning shelf.old).disks unit result }
     ensures spends { Spends (S.meaning shelf.old) (S.meaning shelf.new) }
