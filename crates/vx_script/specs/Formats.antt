@@ -1,6 +1,7 @@
 -- The places of each kind of line, as they are read.
 use Rattle.std.specs.Prelude.{ℕ, List, [], ◌∷◌, Option, Some, None, Ok, Err, codes, if◌then◌else◌}
 use Rattle.std.specs.Str.{bytes_eq}
+use Rattle.vx_model.specs.declared.limits.TheConstants.{BLOCK}
 use Rattle.vx_model.specs.declared.link.Prot.{Prot}
 use Rattle.vx_model.specs.declared.link.SyncMode.{SyncMode}
 use Rattle.vx_script.specs.Words.{WordReading, and_then, next_word, words_end, word_name, word_number, byte_of, block_word, labelled, names_of}
@@ -86,7 +87,7 @@ byte = record { value = byte_of; token = λ b. Hex 1 (b ∷ []) }
 
 -- the digits of a block
 abbrev pub a_block : Place (List ℕ)
-a_block = record { value = block_word; token = Hex 512 }
+a_block = record { value = block_word; token = Hex BLOCK }
 
 -- one of a few words
 abbrev pub pick : {V : Type 0} → (V → List ℕ) → List V → Place V

@@ -1,5 +1,6 @@
 -- The lines of a script, how they are spelt, and the column at which a line is wrong.
 use Rattle.std.specs.Prelude.{◌≡◌, ℕ, ◌+◌, ◌-◌, Bool, true, List, [], ◌∷◌, length, Option, Some, None, Result, Ok, Err, nat_lt, ◌==◌, if◌then◌else◌, codes}
+use Rattle.vx_model.specs.declared.limits.TheConstants.{BLOCK}
 use Rattle.vx_model.specs.declared.link.Prot.{Prot}
 use Rattle.vx_model.specs.declared.link.SyncMode.{SyncMode}
 use Rattle.vx_script.specs.Lines.{begins_with}
@@ -68,7 +69,7 @@ tokens (PlexDetach site volume plex) = plex_word site volume plex (codes "det")
 tokens (PlexAttach site volume plex) = plex_word site volume plex (codes "att")
 tokens (Rvg site srl dcm volumes) = Key (codes "rvg") ∷ Named [] site ∷ Named (codes "srl=") srl ∷ Named (codes "dcm=") dcm ∷ NameList (codes "vols=") volumes ∷ []
 tokens (Write site volume start count fill) = Key (codes "write") ∷ Named [] site ∷ Named [] volume ∷ Number [] start ∷ Number [] count ∷ Hex 1 (fill ∷ []) ∷ []
-tokens (Put site volume start bytes) = Key (codes "put") ∷ Named [] site ∷ Named [] volume ∷ Number [] start ∷ Hex 512 bytes ∷ []
+tokens (Put site volume start bytes) = Key (codes "put") ∷ Named [] site ∷ Named [] volume ∷ Number [] start ∷ Hex BLOCK bytes ∷ []
 tokens (Read site volume start count) = block_run (codes "read") site volume start count
 tokens (Show site volume start count) = block_run (codes "show") site volume start count
 tokens (Apply site count) = site_and_number (codes "apply") site count

@@ -4,7 +4,7 @@ use Rattle.std.specs.List.{position_or_len, list_all, slice_split}
 use Rattle.std.specs.Str.{bytes_eq}
 use Rattle.hex.specs.Hex.{decode_sized}
 use Rattle.hex.specs.declared.error.FromHexError.{FromHexError}
-use Rattle.vx_model.specs.declared.limits.TheConstants.{MOST_NAME_BYTES}
+use Rattle.vx_model.specs.declared.limits.TheConstants.{BLOCK, MOST_NAME_BYTES}
 use Rattle.vx_script.specs.declared.wrong.Wrong.{Wrong}
 use Rattle.vx_script.specs.declared.wrong.Wrong.TheVariants.{Left, Memory}
 
@@ -128,7 +128,7 @@ decoded (Err e) = None
 
 -- the 1,024 hexadecimal digits of a block, in either case
 unfoldable pub block_word : List ℕ → Option (List ℕ)
-block_word word = decoded (decode_sized word 512)
+block_word word = decoded (decode_sized word BLOCK)
 
 -- a value and the bytes after its word, or the place of the wrong word
 abbrev pub placed : {A : Type 0} → Option A → List ℕ → WordReading (A × List ℕ)
