@@ -20,7 +20,7 @@ pub fn block(alloc: Global, bytes: &[u8; BLOCK]) -> Result<Bytes, OutOfMemory>
 /// Appends the line of a block of 512 bytes.
 #[tactic(auto, unfolding(crate::specs::BlockText::block_text))]
 pub fn push_block(out: &mut Vec<u8>, bytes: &[u8]) -> Result<(), OutOfMemory>
-    requires { length bytes.now ≡ 512 }
+    requires { length bytes.now ≡ BLOCK }
     ensures { OnOk result (out.new.items ≡ out.old.items ++ block_text bytes.now) }
 {
     push_hex(out, shown(bytes))?;
