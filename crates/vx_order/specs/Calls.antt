@@ -1,5 +1,6 @@
 -- The tests of a run of blocks.
 use Rattle.std.specs.Prelude.{ℕ, ◌+◌, Bool, true, false, not, ◌&&◌, ◌||◌, ◌==◌, nat_lt, List, Option, Some, None}
+use Rattle.vx_model.specs.declared.limits.TheConstants.{MOST_CALL_BLOCKS}
 use Rattle.vx_history.specs.Refusals.{is_primary}
 use Rattle.vx_model.specs.declared.no.No.{No}
 use Rattle.vx_model.specs.declared.no.No.TheVariants.{Unknown, Range, Size, Role as WrongRole}
@@ -69,7 +70,7 @@ outgrows (Some rvg) None count = false
 outgrows (Some rvg) (Some volume) count = is_data volume.kind && nat_lt rvg.ring (count + 1)
 
 abbrev pub call_size : Option RvgFacts → Option VolumeFacts → Span → Option No
-call_size rvg volume span = when (span.count == 0 || nat_lt 16 span.count || (is_write span.way && outgrows rvg volume span.count)) Size
+call_size rvg volume span = when (span.count == 0 || nat_lt MOST_CALL_BLOCKS span.count || (is_write span.way && outgrows rvg volume span.count)) Size
 
 -- 4: the count is not from 1 to 16, or the ring is too short for the write
 abbrev pub span_size : Option SiteFacts → Option Span → Option No

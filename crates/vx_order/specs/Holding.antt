@@ -1,5 +1,6 @@
 -- The tests of a write by the links of its site.
 use Rattle.std.specs.Prelude.{ℕ, ◌+◌, ◌&&◌, nat_le, List, [], ◌∷◌, Option, Some, None, if◌then◌else◌}
+use Rattle.vx_model.specs.declared.limits.TheConstants.{MOST_CALL_BLOCKS}
 use Rattle.vx_history.specs.Admission.{is_down, held_by_room}
 use Rattle.vx_model.specs.declared.no.No.{No}
 use Rattle.vx_model.specs.declared.no.No.TheVariants.{LinkDown, LogFull, Stalled}
@@ -19,7 +20,7 @@ use Rattle.vx_order.specs.Tests.{before}
 -- the blocks that a run of blocks takes in the log, of a write that is logged
 abbrev pub record_size : Option VolumeFacts → Span → Option ℕ
 record_size None span = None
-record_size (Some volume) span = if is_write span.way && (is_data volume.kind && nat_le span.count 16) then Some (span.count + 1) else None
+record_size (Some volume) span = if is_write span.way && (is_data volume.kind && nat_le span.count MOST_CALL_BLOCKS) then Some (span.count + 1) else None
 
 abbrev pub span_record : Option SiteFacts → Option Span → Option ℕ
 span_record site None = None

@@ -1,6 +1,6 @@
 -- What the complete kinds of line are refused, each kind by itself.
 use Rattle.std.specs.Prelude.{ℕ, ◌+◌, Bool, not, ◌&&◌, ◌||◌, ◌==◌, nat_lt, nat_le, List, length, Option, Some, None, is_some, if◌then◌else◌}
-use Rattle.vx_model.specs.declared.limits.TheConstants.{LEAST_BLOCKS, MOST_DISKS, MOST_SITES}
+use Rattle.vx_model.specs.declared.limits.TheConstants.{LEAST_BLOCKS, MOST_CALL_BLOCKS, MOST_DISKS, MOST_SITES}
 use Rattle.vx_model.specs.declared.no.No.{No}
 use Rattle.vx_model.specs.declared.no.No.TheVariants.{Unknown, Exists, Range, Size, Role, Down, Limit}
 use Rattle.vx_model.specs.declared.no.Named.TheVariants.{Of, Number}
@@ -68,7 +68,7 @@ abbrev pub call_on : Option RvgFacts → Option VolumeFacts → Span → Option 
 call_on rvg None span = Some (Unknown (Of span.volume))
 call_on rvg (Some volume) span =
     if asks_role span.way && not (takes_calls volume.kind rvg) then Some Role
-    else if span.count == 0 || nat_lt 16 span.count || (is_write span.way && outgrows rvg (Some volume) span.count) then Some Size
+    else if span.count == 0 || nat_lt MOST_CALL_BLOCKS span.count || (is_write span.way && outgrows rvg (Some volume) span.count) then Some Size
     else if nat_lt volume.blocks (span.start + span.count) then Some Range
     else None
 
