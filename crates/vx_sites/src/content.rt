@@ -127,7 +127,7 @@ impl Content {
     /// The 512 bytes of a block of a volume.
     pub fn block(&self, volume: u32, block: u64) -> [u8; BLOCK]
         ensures is { result ≡ (content_of self.now).block volume block }
-        ensures long { length result ≡ 512 }
+        ensures long { length result ≡ BLOCK }
     {
         let size = self.size(volume);
         let mut bytes = [0; BLOCK];
