@@ -1,5 +1,6 @@
 -- What the calls of a log do.
 use Rattle.std.specs.Prelude.{◌≡◌, ℕ, ◌+◌, ◌-◌, ◌*◌, Bool, ltb, ◌&&◌, Some, Result, Ok, Err, length, [], ◌∷◌, ◌++◌, take, drop, slice_get, IsTrue}
+use Rattle.vx_model.specs.declared.limits.TheConstants.{BLOCK}
 use Rattle.vx_model.specs.declared.call.Update.{Update}
 use Rattle.vx_model.specs.declared.no.No.TheVariants.{Damaged, Limit}
 use Rattle.vx_model.specs.declared.no.Counted.TheVariants.{Number}
@@ -90,7 +91,7 @@ pub record AgreesWithFront (l : Log) (n : ℕ) (update : Update) : Type 0 where
   pub number : update.number ≡ n
   pub vol : update.vol ≡ head.vol
   pub block : update.block ≡ head.block
-  pub size : length update.bytes ≡ 512 * head.count
+  pub size : length update.bytes ≡ BLOCK * head.count
   pub digest : head.digest ≡ digest_of update.bytes
 
 -- a body that differs is named by its first block, by the digest that is kept of it, and by that of the blocks that reads gave
