@@ -1,5 +1,6 @@
 -- A group that stands on its shelf with what it holds, and what a crash leaves of it.
 use Rattle.std.specs.Prelude.{◌≡◌, ◌⊎◌, ℕ, ◌-◌, ◌*◌, ◌<◌, ◌≤◌, IsTrue, List, [], ◌∷◌, ◌++◌, length, take, drop, slice_get, None, Some, All}
+use Rattle.vx_model.specs.declared.limits.TheConstants.{BLOCK}
 use Rattle.vx_model.specs.Content.{Content, Write}
 use Rattle.vx_model.specs.declared.call.Update.{Update}
 use Rattle.vx_model.specs.declared.state.State.{State as SiteState}
@@ -22,7 +23,7 @@ use Rattle.vx_rvg.specs.Views.{Core, unit_of, applied_count}
 
 -- the record has as many whole blocks as its header says
 abbrev pub IsWholeRecord : Record → Type 0
-IsWholeRecord r = length (given r) ≡ 512 * r.head.count
+IsWholeRecord r = length (given r) ≡ BLOCK * r.head.count
 
 -- the blocks of these writes, and of those that are staged behind them
 abbrev pub entries_waiting : (ℕ → ℕ) → List Write → List Write → List Entry

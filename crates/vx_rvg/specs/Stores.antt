@@ -1,5 +1,6 @@
 -- Blocks that are put into a volume without the log.
 use Rattle.std.specs.Prelude.{◌≡◌, ◌⊎◌, ℕ, ◌+◌, ◌%◌, ◌<◌, ◌≤◌, List, length, Option, Some, None, Result, Ok, Err, IsTrue}
+use Rattle.vx_model.specs.declared.limits.TheConstants.{BLOCK}
 use Rattle.vx_model.specs.Content.{Content, Write, put}
 use Rattle.vx_model.specs.declared.no.No.{No}
 use Rattle.vx_disk.specs.Moves.{Blocks, Run, Union}
@@ -14,7 +15,7 @@ use Rattle.vx_rvg.specs.Views.{Core, last_of, unit_of}
 pub record AreBlocks (bytes : List ℕ) : Type 0 where
   pub some : 0 < length bytes
   pub few : length bytes ≤ 32768
-  pub whole : length bytes % 512 ≡ 0
+  pub whole : length bytes % BLOCK ≡ 0
 
 -- each block of the content d is that of c, or that of c with the write in it
 pub record IsPartly (c : Content) (x : Write) (d : Content) : Type 0 where
