@@ -3,7 +3,7 @@
 use Rattle.std.specs.Prelude.{◌≡◌, ◌≢◌, ◌⊎◌, ℕ, ◌*◌, true, false, List, [], map, replicate, Option, Some, None, Contains}
 use Rattle.std.specs.List.{AllByRecursion}
 use Rattle.vx_model.specs.Content.{Write}
-use Rattle.vx_model.specs.declared.limits.TheConstants.{MOST_NUMBER, MOST_SUBDISKS}
+use Rattle.vx_model.specs.declared.limits.TheConstants.{BLOCK, MOST_NUMBER, MOST_SUBDISKS}
 use Rattle.vx_model.specs.declared.no.Counted.TheVariants.{Number, Subdisks}
 use Rattle.vx_model.specs.declared.no.No.{No}
 use Rattle.vx_model.specs.declared.no.No.TheVariants.{Device, Down as IsOff, LastPlex, Limit, Missing, NoConfig, Space}
@@ -54,7 +54,7 @@ GroupDoes told s n note (PlexAttach site volume plex) fails said next =
     NoteSettles note next
     × AttachCopies note (plain_number note volume) plex said
 GroupDoes told s n note (WriteLine site volume start count fill) fails said next =
-    NotesWrite s fails (write_to note volume start (replicate (512 * count) fill)) note next × (said ≡ Done)
+    NotesWrite s fails (write_to note volume start (replicate (BLOCK * count) fill)) note next × (said ≡ Done)
 GroupDoes told s n note (Put site volume start bytes) fails said next = NotesWrite s fails (write_to note volume start bytes) note next × (said ≡ Done)
 GroupDoes told s n note (Read site volume start count) fails said next = (next ≡ note) × GivesPlain told note (plain_number note volume) start count said
 GroupDoes told s n note (Show site volume start count) fails said next = (next ≡ note) × GivesPlain told note (plain_number note volume) start count said
@@ -101,7 +101,7 @@ GroupSpoils s note (PlexAttach site volume plex) fails next =
     (λ c d. ConfigLosesBut (lies_on_disk c (plain_number note volume) plex) s fails c d
     ⊎ ((x : Config) × PutsPlex (plain_number note volume) plex Active c x × ConfigLosesBut (lies_on_disk c (plain_number note volume) plex) s fails x d))
     NoteUnsettles note next
-GroupSpoils s note (WriteLine site volume start count fill) fails next = NotesDoubt s fails (write_to note volume start (replicate (512 * count) fill)) note next
+GroupSpoils s note (WriteLine site volume start count fill) fails next = NotesDoubt s fails (write_to note volume start (replicate (BLOCK * count) fill)) note next
 GroupSpoils s note (Put site volume start bytes) fails next = NotesDoubt s fails (write_to note volume start bytes) note next
 GroupSpoils s note (Read site volume start count) fails next = next ≡ note
 GroupSpoils s note (Show site volume start count) fails next = next ≡ note
@@ -120,7 +120,7 @@ GroupCuts s note (PlexAttach site volume plex) fails next =
     (λ c d. ConfigLosesBut (lies_on_disk c (plain_number note volume) plex) s fails c d
     ⊎ ((x : Config) × PutsPlex (plain_number note volume) plex Active c x × ConfigLosesBut (lies_on_disk c (plain_number note volume) plex) s fails x d))
     NoteUnsettles note next
-GroupCuts s note (WriteLine site volume start count fill) fails next = NotesCut s fails (write_to note volume start (replicate (512 * count) fill)) note next
+GroupCuts s note (WriteLine site volume start count fill) fails next = NotesCut s fails (write_to note volume start (replicate (BLOCK * count) fill)) note next
 GroupCuts s note (Put site volume start bytes) fails next = NotesCut s fails (write_to note volume start bytes) note next
 GroupCuts s note other fails next = ⊥
 

@@ -3,7 +3,7 @@ use Rattle.std.specs.Prelude.{◌≡◌, ℕ, ◌+◌, ◌*◌, ◌<◌, ◌≤�
 use Rattle.std.specs.Int.{div_ceil}
 use Rattle.std.specs.Str.{bytes_eq}
 use Rattle.vx_model.specs.Content.{Write, block_of, blocks_in}
-use Rattle.vx_model.specs.declared.limits.TheConstants.{REGION}
+use Rattle.vx_model.specs.declared.limits.TheConstants.{BLOCK, REGION}
 use Rattle.vx_model.specs.declared.site.PlexState.{PlexState}
 use Rattle.vx_model.specs.declared.site.PlexState.TheVariants.{Active}
 use Rattle.vx_history.specs.Groups.{BlockMay, GroupNode}
@@ -23,7 +23,7 @@ use Rattle.vx_events.specs.declared.said.Said.TheVariants.{DoneAt, Got, Resumed}
 pub record GivesPlain (told : Type 0) (note : GroupNode) (volume start count : ℕ) (said : Said) : Type 0 where
   pub bytes : List ℕ
   pub got : said ≡ Got bytes
-  pub size : length bytes ≡ 512 * count
+  pub size : length bytes ≡ BLOCK * count
   pub each : IsKnown told note → (k : ℕ) → k < count → BlockMay note volume (start + k) (block_of bytes k)
 
 -- ---- plexes

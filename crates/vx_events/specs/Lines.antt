@@ -1,5 +1,6 @@
 -- What a line does to the world, in which sites may be in doubt: its first refusal, or its events and the way in which they end.
 use Rattle.std.specs.Prelude.{◌≡◌, ℕ, ◌*◌, ◌≤◌, ◌<◌, Bool, true, false, List, [], replicate, Option, Some, None}
+use Rattle.vx_model.specs.declared.limits.TheConstants.{BLOCK}
 use Rattle.vx_model.specs.Content.{Write as WriteBlocks}
 use Rattle.vx_model.specs.declared.no.No.{No}
 use Rattle.vx_model.specs.declared.no.No.TheVariants.{Down as IsOff}
@@ -30,7 +31,7 @@ write_in w site volume start bytes = record { volume = volume_number (w.nodes (s
 -- what is known of the calls of a line: how many a write makes
 abbrev pub CountsCalls : Type 0 → World → ScriptLine → Said → Type 0
 CountsCalls told w (Write site volume start count fill) said =
-    IsCutBelow told (w.nodes (site_number w site)) (write_in w site volume start (replicate (512 * count) fill)) said
+    IsCutBelow told (w.nodes (site_number w site)) (write_in w site volume start (replicate (BLOCK * count) fill)) said
 CountsCalls told w (Put site volume start bytes) said =
     IsCutBelow told (w.nodes (site_number w site)) (write_in w site volume start bytes) said
 CountsCalls told w other said = Unit {0}

@@ -1,5 +1,6 @@
 -- The events of the world that a line stands for.
 use Rattle.std.specs.Prelude.{ℕ, ◌*◌, List, [], ◌∷◌, replicate, None}
+use Rattle.vx_model.specs.declared.limits.TheConstants.{BLOCK}
 use Rattle.vx_history.specs.World.{World}
 use Rattle.vx_history.specs.declared.event.Event.{Event}
 use Rattle.vx_history.specs.declared.event.Event.TheVariants.{Site as MakeSite, Raw as MakeRaw, Write as WriteAt, Read as ReadAt, Apply as ApplyAt, Crash as CrashAt, Recover as RecoverAt}
@@ -37,7 +38,7 @@ events_of w (Disk site disk state) c = []
 events_of w (Crash site pick) c = CrashAt (site_number w site) c.kept ∷ []
 events_of w (Fuse site calls pick) c = []
 events_of w (Recover site) c = let s = site_number w site in recovery_of (w.nodes s).state s c.kept
-events_of w (Write site volume start count fill) c = writing_events w site volume start (replicate (512 * count) fill)
+events_of w (Write site volume start count fill) c = writing_events w site volume start (replicate (BLOCK * count) fill)
 events_of w (Put site volume start bytes) c = writing_events w site volume start bytes
 events_of w (Read site volume start count) c = read_of w site volume start count
 events_of w (Show site volume start count) c = read_of w site volume start count

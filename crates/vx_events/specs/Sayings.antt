@@ -1,5 +1,6 @@
 -- What a line is answered, by what is said of its last event.
 use Rattle.std.specs.Prelude.{◌≡◌, ℕ, ◌*◌, Bool, true, false, List, [], ◌∷◌, drop, length}
+use Rattle.vx_model.specs.declared.limits.TheConstants.{BLOCK}
 use Rattle.vx_model.specs.Content.{Content, fold_writes}
 use Rattle.vx_history.specs.Doubts.{Doubted, happened}
 use Rattle.vx_history.specs.Refusals.{Outcome}
@@ -37,7 +38,7 @@ received_content n = fold_writes n.base (drop n.safe n.log)
 pub record GivesBlocks (told : Type 0) (count : ℕ) (o : EventSaid) (said : Said) : Type 0 where
   pub bytes : List ℕ
   pub got : said ≡ Got bytes
-  pub size : length bytes ≡ 512 * count
+  pub size : length bytes ≡ BLOCK * count
   pub is : told → o ≡ HasGot bytes
 
 -- the reply by one event and its outcome

@@ -27,6 +27,8 @@ ghost use Rattle.vx_events.specs.StepsOver.{MakesNoGroup, StepOver, is_for_group
 ghost use Rattle.vx_events.specs.Stopping.{StopsBy};
 ghost use Rattle.vx_events.specs.declared.said.Said.{Said};
 
+use vx_model::limits::BLOCK;
+
 /// A site without links lets every write in.
 pub fn lets_every_write_in()
     ensures { (w : World) (s : ℕ) (x : Write) → IsUnlinked w → admitted w s x ≡ Goes [] }
@@ -43,10 +45,10 @@ pub fn tests_agree()
         → (step w (CrashAt (site_number w name) kept)).said ≡ Done }
     ensures write { (w : World) (files : Bool) (name volume : List ℕ) (start count fill : ℕ) → line_refusal (facts_of w) files (WriteLine name volume start count fill) ≡ None
         → IsUnlinked w → IsSizedAs (w.nodes (site_number w name)) → (w.nodes (site_number w name)).safe < MOST_NUMBER
-        → (step w (WriteAt (site_number w name) (volume_number (w.nodes (site_number w name)) volume) start (replicate (512 * count) fill) None)).said
+        → (step w (WriteAt (site_number w name) (volume_number (w.nodes (site_number w name)) volume) start (replicate (BLOCK * count) fill) None)).said
         ≡ DoneAt ((w.nodes (site_number w name)).safe + 1) }
     ensures put { (w : World) (files : Bool) (name volume : List ℕ) (start : ℕ) (bytes : List ℕ) → line_refusal (facts_of w) files (Put name volume start bytes) ≡ None
-        → length bytes ≡ 512 → IsUnlinked w → IsSizedAs (w.nodes (site_number w name)) → (w.nodes (site_number w name)).safe < MOST_NUMBER
+        → length bytes ≡ BLOCK → IsUnlinked w → IsSizedAs (w.nodes (site_number w name)) → (w.nodes (site_number w name)).safe < MOST_NUMBER
         → (step w (WriteAt (site_number w name) (volume_number (w.nodes (site_number w name)) volume) start bytes None)).said
         ≡ DoneAt ((w.nodes (site_number w name)).safe + 1) }
     ensures read { (w : World) (files : Bool) (name volume : List ℕ) (start count : ℕ) → line_refusal (facts_of w) files (Read name volume start count) ≡ None

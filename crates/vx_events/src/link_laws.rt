@@ -23,6 +23,8 @@ ghost use Rattle.vx_events.specs.LinksFit.{LinksFit};
 ghost use Rattle.vx_events.specs.Plain.{IsUnlinked};
 ghost use Rattle.vx_events.specs.Settles.{CanSettle};
 
+use vx_model::limits::BLOCK;
+
 /// Where no test of a line on a link refuses, its event is not refused by the world, and a packet that no test refuses is one that the network
 /// still keeps. Where each link has a place of its own among those of its site, a write that is waited for is confirmed or pending; where
 /// besides all writes are durable at a site that runs and takes them, the first event of a line that makes a link is not refused either. Where the links
@@ -50,8 +52,8 @@ pub fn link_tests_agree()
 pub fn links_let_in()
     ensures write { (w : World) (files : Bool) (name volume : List ℕ) (start count fill : ℕ) → is_for_group w (Write name volume start count fill) ≡ false
         → refused_over w files (Write name volume start count fill) ≡ None
-        → (cs : List Change) × (admitted w (site_number w name) (write_in w name volume start (replicate (512 * count) fill)) ≡ Goes cs) }
-    ensures put { (w : World) (files : Bool) (name volume : List ℕ) (start : ℕ) (bytes : List ℕ) → is_for_group w (Put name volume start bytes) ≡ false → refused_over w files (Put name volume start bytes) ≡ None → length bytes ≡ 512
+        → (cs : List Change) × (admitted w (site_number w name) (write_in w name volume start (replicate (BLOCK * count) fill)) ≡ Goes cs) }
+    ensures put { (w : World) (files : Bool) (name volume : List ℕ) (start : ℕ) (bytes : List ℕ) → is_for_group w (Put name volume start bytes) ≡ false → refused_over w files (Put name volume start bytes) ≡ None → length bytes ≡ BLOCK
         → (cs : List Change) × (admitted w (site_number w name) (write_in w name volume start bytes) ≡ Goes cs) }
 {}
 
