@@ -1,5 +1,6 @@
 -- What the disks of a site promise of blocks that are read into a place for them.
 use Rattle.std.specs.Prelude.{◌≡◌, ℕ, ◌*◌, List, length, Result, Ok, Err}
+use Rattle.vx_model.specs.declared.limits.TheConstants.{BLOCK}
 use Rattle.vx_history.specs.World.{Node}
 use Rattle.vx_diskset.specs.Holds.{KeptBeside}
 use Rattle.vx_model.specs.declared.no.No.{No}
@@ -13,7 +14,7 @@ use Rattle.vx_diskset.specs.Stands.{SiteStands, IsToldAt}
 module _ {R : Type 0} {g : Ghosts R} where
   -- so many blocks, which are those of the content where it is told
   pub record Gave (beside : KeptBeside) (n : Node) (volume start count : ℕ) (bytes : List ℕ) (new : DiskSet R g) : Type 0 where
-    pub size : length bytes ≡ 512 * count
+    pub size : length bytes ≡ BLOCK * count
     pub shows : IsToldAt new → ShowsContent n.base volume start count bytes
     pub stands : SiteStands beside n new
 

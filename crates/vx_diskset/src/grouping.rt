@@ -24,6 +24,7 @@ use std::mem;
 use vx_config::Config;
 use vx_disk::Rack;
 use vx_layout::Shape;
+use vx_model::limits::BLOCK;
 use vx_model::{Blocks, Name, No, Stop};
 
 // Writes to a volume of a group. The write in which the fuse runs out is cut.
@@ -35,7 +36,7 @@ fn write_set<R: Rack>(
 ) -> Result<(), No>
     requires some { 0 < length bytes.now }
     requires few { length bytes.now ≤ MOST_CALL_BYTES }
-    requires whole { length bytes.now % 512 ≡ 0 }
+    requires whole { length bytes.now % BLOCK ≡ 0 }
     ensures wrote { (n : Node) (note : GroupNode) → UpNoted n note group.old.site → FitsPlain note volume block (length bytes.now) → PlainWrote n note (plain_write volume block bytes.now) group.old.site group.new.site result }
     ensures cut { cut_value group.new.cut ≡ cut_behind result (plain_write volume block bytes.now) (cut_value group.old.cut) }
     ensures since { CalledSince (site_disks group.old.site) (site_disks group.new.site) }
@@ -153,7 +154,7 @@ impl<R: Rack> DiskSet<R> {
     pub fn write_plain(&mut self, volume: u32, start: u64, bytes: &[u8]) -> Result<(), No>
         requires some { 0 < length bytes.now }
         requires few { length bytes.now ≤ MOST_CALL_BYTES }
-        requires whole { length bytes.now % 512 ≡ 0 }
+        requires whole { length bytes.now % BLOCK ≡ 0 }
         ensures wrote { (n : Node) (note : GroupNode) → AtSite (UpNoted n note) self.old → FitsPlain note volume start (length bytes.now) → OnSites (λ o e. PlainWrote n note (plain_write volume start bytes.now) o e result) self.old self.new }
         ensures cut { (n : Node) (note : GroupNode) → AtSite (UpNoted n note) self.old → cut_in self.new ≡ cut_behind result (plain_write volume start bytes.now) (cut_in self.old) }
         ensures fuse { (n : Node) (note : GroupNode) → AtSite (UpNoted n note) self.old → FitsPlain note volume start (length bytes.now) → FuseGoesOn self.old self.new }

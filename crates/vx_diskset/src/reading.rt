@@ -9,7 +9,7 @@ ghost use Rattle.vx_diskset.specs.Stands.{SiteStands};
 
 use crate::DiskSet;
 use vx_disk::Rack;
-use vx_model::limits::MOST_CALL_BLOCKS;
+use vx_model::limits::{BLOCK, MOST_CALL_BLOCKS};
 use vx_model::{Bytes, No};
 
 /// So many blocks of a volume, by its number, read into a place for them.
@@ -22,7 +22,7 @@ pub fn blocks_of<R: Rack>(
 ) -> Result<Bytes, No>
     requires some { 0 < count }
     requires few { count ≤ MOST_CALL_BLOCKS }
-    requires room { length room.items ≡ 512 * count }
+    requires room { length room.items ≡ BLOCK * count }
     ensures read { (beside : KeptBeside) (n : Node) → SiteStands beside n disk_set.old → CanRead n volume start count → GaveAt beside n volume start count disk_set.old disk_set.new result }
     ensures still { LeavesAlone disk_set.old disk_set.new }
     ensures later { Later disk_set.old disk_set.new }

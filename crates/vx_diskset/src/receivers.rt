@@ -18,7 +18,7 @@ ghost use Rattle.vx_diskset.specs.Stands.{InVolumes, IsReceiverAt, KeepsRole, Si
 use crate::DiskSet;
 use crate::writing::{apply_group, is_off, write_group};
 use vx_disk::Rack;
-use vx_model::limits::MOST_NUMBER;
+use vx_model::limits::{BLOCK, MOST_NUMBER};
 use vx_model::{Counted, No};
 use vx_rvg::Rvg;
 use vx_secondary::Waiting;
@@ -126,7 +126,7 @@ impl<R: Rack> DiskSet<R> {
     pub fn show(&mut self, volume: u32, start: u64, into: &mut [u8]) -> Result<(), No>
         requires some { 0 < length into.old }
         requires few { length into.old ≤ MOST_CALL_BYTES }
-        requires whole { length into.old % 512 ≡ 0 }
+        requires whole { length into.old % BLOCK ≡ 0 }
         ensures shows { (beside : KeptBeside) (n : Node) → SiteStands beside n self.old → CanRead n volume start (blocks_in into.old)
             → ShowedAt beside n volume start (blocks_in into.old) into.new self.old self.new result }
         ensures still { LeavesAlone self.old self.new }

@@ -118,7 +118,7 @@ pub(crate) fn write_group<R: Rack>(
     requires volume { volume < length rvg.old.core.units.vols }
     requires some { 0 < length bytes.now }
     requires few { length bytes.now ≤ MOST_CALL_BYTES }
-    requires whole { length bytes.now % 512 ≡ 0 }
+    requires whole { length bytes.now % BLOCK ≡ 0 }
     ensures wrote { (beside : KeptBeside) (n : Node) → SiteStands beside n (DiskSet.Up rvg.old) → CanLog n volume start (blocks_in bytes.now) → HasRoom beside.links n hold (blocks_in bytes.now)
         → LoggedUp beside n (record { volume = volume; start = start; bytes = bytes.now }) (DiskSet.Up rvg.old) (DiskSet.Up rvg.new) result }
     ensures takes { TakesOne rvg.old.core rvg.new.core result }
@@ -166,7 +166,7 @@ impl<R: Rack> DiskSet<R> {
     pub fn write(&mut self, volume: u32, start: u64, bytes: &[u8]) -> Result<u64, No>
         requires some { 0 < length bytes.now }
         requires few { length bytes.now ≤ MOST_CALL_BYTES }
-        requires whole { length bytes.now % 512 ≡ 0 }
+        requires whole { length bytes.now % BLOCK ≡ 0 }
         ensures wrote { (n : Node) → StandsAlone n self.old → CanWrite n volume start (blocks_in bytes.now)
             → WroteAt site_alone n (record { volume = volume; start = start; bytes = bytes.now }) self.old self.new result }
         ensures called { (beside : KeptBeside) (n : Node) → SiteStands beside n self.old → WritesUnder bytes.now (said_by result) self.old self.new }
@@ -189,7 +189,7 @@ impl<R: Rack> DiskSet<R> {
     ) -> Result<u64, No>
         requires some { 0 < length bytes.now }
         requires few { length bytes.now ≤ MOST_CALL_BYTES }
-        requires whole { length bytes.now % 512 ≡ 0 }
+        requires whole { length bytes.now % BLOCK ≡ 0 }
         ensures wrote { (beside : KeptBeside) (n : Node) → SiteStands beside n self.old → CanWrite n volume start (blocks_in bytes.now) → HasRoom beside.links n hold (blocks_in bytes.now)
             → WroteAt beside n (record { volume = volume; start = start; bytes = bytes.now }) self.old self.new result }
         ensures called { (beside : KeptBeside) (n : Node) → SiteStands beside n self.old → WritesUnder bytes.now (said_by result) self.old self.new }
@@ -214,7 +214,7 @@ impl<R: Rack> DiskSet<R> {
     fn write_up(&mut self, volume: u32, start: u64, bytes: &[u8], hold: u64) -> Result<u64, No>
         requires some { 0 < length bytes.now }
         requires few { length bytes.now ≤ MOST_CALL_BYTES }
-        requires whole { length bytes.now % 512 ≡ 0 }
+        requires whole { length bytes.now % BLOCK ≡ 0 }
         ensures wrote { (beside : KeptBeside) (n : Node) → SiteStands beside n self.old → CanWrite n volume start (blocks_in bytes.now) → HasRoom beside.links n hold (blocks_in bytes.now)
             → WroteUp beside n (record { volume = volume; start = start; bytes = bytes.now }) self.old self.new result }
         ensures called { (beside : KeptBeside) (n : Node) → SiteStands beside n self.old → WritesUnder bytes.now (said_by result) self.old self.new }
@@ -244,7 +244,7 @@ impl<R: Rack> DiskSet<R> {
     pub fn read(&mut self, volume: u32, start: u64, into: &mut [u8]) -> Result<(), No>
         requires some { 0 < length into.old }
         requires few { length into.old ≤ MOST_CALL_BYTES }
-        requires whole { length into.old % 512 ≡ 0 }
+        requires whole { length into.old % BLOCK ≡ 0 }
         ensures read { (beside : KeptBeside) (n : Node) → SiteStands beside n self.old → CanRead n volume start (blocks_in into.old)
             → ReadAt beside n volume start (blocks_in into.old) into.new self.old self.new result }
         ensures still { LeavesAlone self.old self.new }
