@@ -1,5 +1,6 @@
 -- What a line asks of the rack of its site, and of no other.
 use Rattle.std.specs.Prelude.{◌≡◌, ℕ, ◌*◌, ◌<◌, ◌≤◌, Bool, true, false, List, replicate, Option, None, Some, slice_get, slice_set}
+use Rattle.vx_model.specs.declared.limits.TheConstants.{BLOCK}
 use Rattle.vx_history.specs.Events.{delivered, packet_at}
 use Rattle.vx_history.specs.World.{Message, Packet, Update, World}
 use Rattle.vx_disk.specs.declared.shelf.Shelf.{Ghosts}
@@ -100,7 +101,7 @@ module _ {R : Type 0} {g : Ghosts R} where
 
   -- What the calls of a line that was answered so leave of the fuse of its site.
   abbrev pub HasCalled : World → ScriptLine → Said → Yard R g → Yard R g → Type 0
-  HasCalled w (Write site volume block count fill) said old new = OfSite (WritesBy (is_over_group (w.nodes (site_number w site))) (replicate (512 * count) fill) said) (site_number w site) old new
+  HasCalled w (Write site volume block count fill) said old new = OfSite (WritesBy (is_over_group (w.nodes (site_number w site))) (replicate (BLOCK * count) fill) said) (site_number w site) old new
   HasCalled w (Put site volume block bytes) said old new = OfSite (WritesBy (is_over_group (w.nodes (site_number w site))) bytes said) (site_number w site) old new
   HasCalled w (GroupDeport site) said old new = OfSite FuseGoesOn (site_number w site) old new
   HasCalled w (GroupImport site) said old new = OfSite FuseGoesOn (site_number w site) old new

@@ -1,5 +1,6 @@
 -- What the yard promises of a write of blocks.
 use Rattle.std.specs.Prelude.{◌≡◌, ℕ, ◌*◌, Bool, List, length, replicate, if◌then◌else◌}
+use Rattle.vx_model.specs.declared.limits.TheConstants.{BLOCK}
 use Rattle.vx_model.specs.declared.no.No.{No}
 use Rattle.vx_model.specs.declared.no.No.TheVariants.{Device, Down}
 use Rattle.vx_disk.specs.declared.shelf.Shelf.{Ghosts}
@@ -31,8 +32,8 @@ answer_by waited number = if waited then Logged number else DoneAt number
 
 -- a line that writes these bytes: a `write` of its fill, or a `put` of one block
 pub data IsWriteLine (line : ScriptLine) (name volume : List ℕ) (start : ℕ) (bytes : List ℕ) : Type 0 where
-  OfWrite : (count fill : ℕ) → line ≡ WriteLine name volume start count fill → bytes ≡ replicate (512 * count) fill → IsWriteLine line name volume start bytes
-  OfPut : line ≡ PutLine name volume start bytes → length bytes ≡ 512 → IsWriteLine line name volume start bytes
+  OfWrite : (count fill : ℕ) → line ≡ WriteLine name volume start count fill → bytes ≡ replicate (BLOCK * count) fill → IsWriteLine line name volume start bytes
+  OfPut : line ≡ PutLine name volume start bytes → length bytes ≡ BLOCK → IsWriteLine line name volume start bytes
 
 module _ {R : Type 0} {g : Ghosts R} where
   -- bytes that such a line may write, which no test refuses
