@@ -1,6 +1,6 @@
 -- What the yard promises of a line that reads blocks.
 use Rattle.std.specs.Prelude.{◌≡◌, ◌⊎◌, ℕ, ◌*◌, List, length, min}
-use Rattle.vx_model.specs.declared.limits.TheConstants.{MOST_CALL_BLOCKS}
+use Rattle.vx_model.specs.declared.limits.TheConstants.{BLOCK, MOST_CALL_BLOCKS}
 use Rattle.vx_disk.specs.declared.shelf.Shelf.{Ghosts}
 use Rattle.vx_script.specs.declared.line.ScriptLine.{ScriptLine}
 use Rattle.vx_script.specs.declared.line.ScriptLine.TheVariants.{Read, Show}
@@ -9,7 +9,7 @@ use Rattle.vx_yard.specs.Working.{IsFree}
 
 -- a place for so many blocks, and for no more than a line may ask
 abbrev pub IsBlockRoom : ℕ → List ℕ → Type 0
-IsBlockRoom count room = length room ≡ 512 * min count MOST_CALL_BLOCKS
+IsBlockRoom count room = length room ≡ BLOCK * min count MOST_CALL_BLOCKS
 
 -- a line that reads these blocks, whichever of the two it is
 abbrev pub IsReadLine : ScriptLine → List ℕ → List ℕ → ℕ → ℕ → Type 0

@@ -1,5 +1,6 @@
 -- What is promised of blocks that a site shows with all writes that came to it.
 use Rattle.std.specs.Prelude.{◌≡◌, ℕ, ◌*◌, List, length, Result, Ok, Err}
+use Rattle.vx_model.specs.declared.limits.TheConstants.{BLOCK}
 use Rattle.vx_model.specs.declared.no.No.{No}
 use Rattle.vx_model.specs.declared.no.No.TheVariants.{Device}
 use Rattle.vx_history.specs.World.{Node}
@@ -14,7 +15,7 @@ use Rattle.vx_diskset.specs.declared.disk_set.DiskSet.{DiskSet}
 module _ {R : Type 0} {g : Ghosts R} where
   -- so many blocks, which are those of that content where it is told
   pub record GaveShown (beside : KeptBeside) (n : Node) (volume start count : ℕ) (bytes : List ℕ) (new : DiskSet R g) : Type 0 where
-    pub size : length bytes ≡ 512 * count
+    pub size : length bytes ≡ BLOCK * count
     pub shows : IsToldAt new → ShowsContent (received_content n) volume start count bytes
     pub stands : SiteStands beside n new
 

@@ -22,7 +22,7 @@ use crate::shown::show_received;
 use vx_disk::Rack;
 use vx_diskset::DiskSet;
 use vx_events::Said;
-use vx_model::limits::MOST_CALL_BLOCKS;
+use vx_model::limits::{BLOCK, MOST_CALL_BLOCKS};
 use vx_model::{Bytes, Name, No};
 use vx_yard::Yard;
 use vx_yard::receiving::receives;
@@ -37,7 +37,7 @@ fn blocks_of<R: Rack>(
 ) -> Result<Bytes, No>
     requires some { 0 < count }
     requires few { count ≤ MOST_CALL_BLOCKS }
-    requires room { length room.items ≡ 512 * count }
+    requires room { length room.items ≡ BLOCK * count }
     ensures read { (beside : KeptBeside) (n : Node) → SiteStands beside n disk_set.old → CanRead n volume start count → GaveAt beside n volume start count disk_set.old disk_set.new result }
     ensures role { KeepsRole disk_set.old disk_set.new }
     ensures still { LeavesAlone disk_set.old disk_set.new }

@@ -20,7 +20,7 @@ ghost use Rattle.vx_yard.specs.Yards.{IsYardKept, IsTold, in_files};
 use vx_disk::Rack;
 use vx_diskset::DiskSet;
 use vx_events::Said;
-use vx_model::limits::MOST_CALL_BLOCKS;
+use vx_model::limits::{BLOCK, MOST_CALL_BLOCKS};
 use vx_model::{Bytes, Name, No};
 use vx_yard::Yard;
 
@@ -34,7 +34,7 @@ fn shown_of<R: Rack>(
 ) -> Result<Bytes, No>
     requires some { 0 < count }
     requires few { count ≤ MOST_CALL_BLOCKS }
-    requires room { length room.items ≡ 512 * count }
+    requires room { length room.items ≡ BLOCK * count }
     ensures shows { (beside : KeptBeside) (n : Node) → SiteStands beside n disk_set.old → CanRead n volume start count → GaveShownAt beside n volume start count disk_set.old disk_set.new result }
     ensures role { KeepsRole disk_set.old disk_set.new }
     ensures still { LeavesAlone disk_set.old disk_set.new }

@@ -33,7 +33,7 @@ fn write_blocks<R: Rack>(
 ) -> Said
     requires some { 0 < length bytes.now }
     requires few { length bytes.now ≤ MOST_CALL_BYTES }
-    requires whole { length bytes.now % 512 ≡ 0 }
+    requires whole { length bytes.now % BLOCK ≡ 0 }
     requires kept { IsYardKept yard.old }
     requires free { IsWriteFree yard.old name.now volume.now start bytes.now }
     ensures leads { (d : Doubted) (line : ScriptLine) → StandsFor d yard.old → over_group_at d.world name.now ≡ false → IsWriteLine line name.now volume.now start bytes.now → IsFree yard.old line → Leads d line result yard.old yard.new }
@@ -66,7 +66,7 @@ pub fn write_line<R: Rack>(
     fill: u8,
     bytes: &[u8],
 ) -> Said
-    requires bytes { bytes.now ≡ replicate (512 * min count MOST_CALL_BLOCKS) fill }
+    requires bytes { bytes.now ≡ replicate (BLOCK * min count MOST_CALL_BLOCKS) fill }
     requires kept { IsYardKept yard.old }
     requires free { IsFree yard.old (WriteLine name.now volume.now start count fill) }
     ensures leads { (d : Doubted) → StandsFor d yard.old → is_for_group d.world (WriteLine name.now volume.now start count fill) ≡ false → Leads d (WriteLine name.now volume.now start count fill) result yard.old yard.new }
