@@ -1,6 +1,6 @@
 -- The lines that go to a disk group, and of these such as write and read blocks of a volume.
 use Rattle.std.specs.Prelude.{◌≡◌, ℕ, ◌*◌, ◌<◌, ◌≤◌, Bool, true, false, List, [], length, Option, Some, None, Result, Ok, Err}
-use Rattle.vx_model.specs.declared.limits.TheConstants.{MOST_CALL_BLOCKS}
+use Rattle.vx_model.specs.declared.limits.TheConstants.{BLOCK, MOST_CALL_BLOCKS}
 use Rattle.vx_model.specs.declared.no.No.{No}
 use Rattle.vx_disk.specs.declared.shelf.Shelf.{Ghosts}
 use Rattle.vx_history.specs.Groups.{GroupNode}
@@ -69,7 +69,7 @@ pub data IsReadOf (line : ScriptLine) (name volume : List ℕ) (start count : �
 pub record IsRoomFor (count : ℕ) (room : List ℕ) : Type 0 where
   pub some : 0 < count
   pub few : count ≤ MOST_CALL_BLOCKS
-  pub size : length room ≡ 512 * count
+  pub size : length room ≡ BLOCK * count
 
 module _ {R : Type 0} {g : Ghosts R} where
   -- so many blocks that a line may read, which no test refuses

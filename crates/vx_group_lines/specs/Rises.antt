@@ -1,5 +1,6 @@
 -- How the group of a site comes up in a recovery.
 use Rattle.std.specs.Prelude.{◌≡◌, ◌⊎◌, ℕ, ◌/◌, List, length, map, Option, Some, None, slice_get, slice_set, false, Result, Ok, Err, []}
+use Rattle.vx_model.specs.declared.limits.TheConstants.{BLOCK}
 use Rattle.vx_model.specs.declared.errors.OutOfMemory.{OutOfMemory}
 use Rattle.vx_model.specs.declared.errors.Stop.{Stop}
 use Rattle.vx_model.specs.declared.site.SiteState.TheVariants.{Down, Up}
@@ -44,7 +45,7 @@ use Rattle.vx_group_lines.specs.Views.{view_with}
 -- with the name of its volume; nothing of a volume that is not there
 abbrev pub kept_of_volume : Option VolumeFacts → KeptWrite → Option Kept
 kept_of_volume None kept = None
-kept_of_volume (Some volume) kept = Some (record { volume = volume.name; block = kept.write.block; count = length kept.write.bytes / 512; bits = kept.bits })
+kept_of_volume (Some volume) kept = Some (record { volume = volume.name; block = kept.write.block; count = length kept.write.bytes / BLOCK; bits = kept.bits })
 
 abbrev pub kept_shown : List VolumeFacts → Option KeptWrite → Option Kept
 kept_shown volumes None = None

@@ -21,7 +21,7 @@ use vx_yard::Yard;
 
 /// So many blocks, each byte of which is `fill`, and no more than a line may ask.
 pub fn filled(alloc: Global, count: u64, fill: u8) -> Result<Vec<u8>, OutOfMemory>
-    ensures { IfOk result (λ bytes. bytes.items ≡ replicate (512 * min count MOST_CALL_BLOCKS) fill) }
+    ensures { IfOk result (λ bytes. bytes.items ≡ replicate (BLOCK * min count MOST_CALL_BLOCKS) fill) }
 {
     let bytes = Vec::from_elem(alloc, fill, BLOCK * count.min(MOST_CALL_BLOCKS) as usize)?;
     Ok(bytes)

@@ -15,6 +15,7 @@ use std::alloc::Global;
 use vx_disk::Rack;
 use vx_events::Said;
 use vx_model::Name;
+use vx_model::limits::BLOCK;
 use vx_yard::Yard;
 
 /// Writes whole blocks to a volume of a site, and makes them durable.
@@ -28,7 +29,7 @@ pub fn write_plain<R: Rack>(
 ) -> Said
     requires some { 0 < length bytes.now }
     requires few { length bytes.now ≤ MOST_CALL_BYTES }
-    requires whole { length bytes.now % 512 ≡ 0 }
+    requires whole { length bytes.now % BLOCK ≡ 0 }
     requires kept { IsYardKept yard.old }
     requires free { IsWriteFree yard.old name.now volume.now start bytes.now }
     ensures leads { (d : Doubted) (line : ScriptLine) → StandsFor d yard.old → IsWriteLine line name.now volume.now start bytes.now → IsFree yard.old line → is_for_group d.world line ≡ true → LeadsOver d line result yard.old yard.new }
