@@ -79,9 +79,9 @@ fn push_blocks(out: &mut Vec<u8>, bytes: &[u8]) -> Result<(), OutOfMemory>
 }
 
 fn block_at(bytes: &[u8], k: usize) -> &[u8]
-    requires { 512 * k + 512 ≤ length bytes.now }
+    requires { BLOCK * k + BLOCK ≤ length bytes.now }
     ensures shows { result.now ≡ block_of bytes.now k }
-    ensures size { length result.now ≡ 512 }
+    ensures size { length result.now ≡ BLOCK }
 {
     &bytes[BLOCK * k..BLOCK * k + BLOCK]
 }
