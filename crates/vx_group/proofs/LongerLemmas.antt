@@ -19,10 +19,10 @@ use Rattle.vx_layout.specs.Places.{place, place_or, plex_in}
 use Rattle.vx_volume.specs.Plexes.{SomeActive, active, active_or}
 use Rattle.vx_kept.specs.Choice.{chosen, live, live_or}
 use Rattle.vx_kept.specs.Keeping.{AllOn, Extends, MayBeNext, frame_or, frame_at}
-use Rattle.vx_kept.specs.LogRuns.{log_trusted, trusted_or}
+use Rattle.vx_kept.specs.LogRuns.{log_trusted}
 use Rattle.vx_kept.proofs.Narrower.{sound_chosen}
 use Rattle.vx_kept.proofs.RunLemmas.{run_same, trust_from}
-use Rattle.vx_maplog.specs.Logs.{log_in, log_of, log_or}
+use Rattle.vx_maplog.specs.Logs.{log_in, log_of, log_or, used_or}
 
 pub get_front : {A : Type 0} (xs ys : List A) (n : ℕ) → n < length xs → slice_get (xs ++ ys) n ≡ slice_get xs n
 get_front [] ys n lt = absurd (omega (arith, lt))
@@ -66,13 +66,13 @@ module _ (c : Config) (v : VolumeEntry) where
 
   -- no log of the last volume is trusted
   abbrev LogsLost : Type 0
-  LogsLost = (log : VolumeLog) → trusted_or (log_in log v) ≡ false
+  LogsLost = (log : VolumeLog) → used_or (log_in log v) ≡ false
 
   beyond_more : LogsLost → (w : ℕ) (log : VolumeLog) → length c.volumes ≤ w → log_trusted more w log ≡ false
   unfolding log_trusted
   beyond_more lost w log past = elim (cases_eq w (length c.volumes)) [
-    | inl at ↦ ap (λ (x : ℕ). trusted_or (log_or log (slice_get more.volumes x))) at ∙ ap (λ (o : Option VolumeEntry). trusted_or (log_or log o)) (get_end c.volumes v) ∙ lost log
-    | inr other ↦ ap (λ (o : Option VolumeEntry). trusted_or (log_or log o)) (slice_get_past more.volumes w (omega (arith, longer_count, past, other)))
+    | inl at ↦ ap (λ (x : ℕ). used_or (log_or log (slice_get more.volumes x))) at ∙ ap (λ (o : Option VolumeEntry). used_or (log_or log o)) (get_end c.volumes v) ∙ lost log
+    | inr other ↦ ap (λ (o : Option VolumeEntry). used_or (log_or log o)) (slice_get_past more.volumes w (omega (arith, longer_count, past, other)))
   ]
 
   -- each plex of the last volume that takes part is ACTIVE

@@ -15,14 +15,14 @@ use Rattle.vx_copies.specs.Bodies.{is_wanted}
 use Rattle.vx_copies.specs.Marks.{NoneGood}
 use Rattle.vx_kept.specs.Commits.{Member, Taken}
 use Rattle.vx_kept.specs.Keeping.{Acts, AllOn, Kept, SameShape, Sees}
-use Rattle.vx_kept.specs.LogRuns.{log_trusted, trusted_or}
+use Rattle.vx_kept.specs.LogRuns.{log_trusted}
 use Rattle.vx_kept.specs.Losses.{SamePlexes}
 use Rattle.vx_kept.specs.Trusts.{Trusts}
 use Rattle.vx_kept.proofs.Chosen.{active_volumes, alike_shape}
 use Rattle.vx_kept.proofs.LosingLemmas.{active_same, loses, lost_plexes}
 use Rattle.vx_kept.proofs.RunLemmas.{logs_volumes}
 use Rattle.vx_layout.specs.Places.{plex_at, plex_in}
-use Rattle.vx_maplog.specs.Logs.{log_of}
+use Rattle.vx_maplog.specs.Logs.{log_of, used_or}
 use Rattle.vx_volume.specs.Plexes.{active, active_or}
 use Rattle.vx_group.specs.Blames.{Blames}
 use Rattle.vx_group.specs.GivesUp.{KeepsVolumes}
@@ -61,13 +61,13 @@ module _ (v : ℕ) (log : VolumeLog) (c d : Config) (volumes : d.volumes ≡ (lo
   pub gone_plexes : (w p : ℕ) → plex_at d w p ≡ plex_at c w p
   gone_plexes w p = ap (λ (vs : List VolumeEntry). plex_in (slice_get vs w) p) volumes ∙ (lost_plexes v log c).plexes w p
 
-  off_lost : (o : Option LogEntry) → trusted_or (lost_as true o) ≡ false
+  off_lost : (o : Option LogEntry) → used_or (lost_as true o) ≡ false
   off_lost None = refl
   off_lost (Some e) = refl
 
   pub gone_off : log_trusted d v log ≡ false
   unfolding log_trusted
-  gone_off = ap trusted_or (logs_volumes d (lost v log true c) volumes v log ∙ (loses v log c).here) ∙ off_lost (log_of c v log)
+  gone_off = ap used_or (logs_volumes d (lost v log true c) volumes v log ∙ (loses v log c).here) ∙ off_lost (log_of c v log)
 
   pub gone_others : (w : ℕ) (k : VolumeLog) → (w ≡ v → k ≡ log → ⊥) → log_of d w k ≡ log_of c w k
   gone_others w k apart = logs_volumes d (lost v log true c) volumes w k ∙ (loses v log c).others w k apart

@@ -18,8 +18,7 @@ use Rattle.vx_config.specs.declared.entry.VolumeLog.TheVariants.{Drl, Fmr}
 use Rattle.vx_layout.specs.Space.{AreLogs, IsShape}
 use Rattle.vx_layout.specs.declared.shape.Shape.{Shape}
 use Rattle.vx_group.specs.Dets.{margin}
-use Rattle.vx_kept.specs.LogRuns.{trusted_or}
-use Rattle.vx_maplog.specs.Logs.{log_in}
+use Rattle.vx_maplog.specs.Logs.{log_in, used_or}
 use Rattle.vx_group.specs.Makes.{has_name, is_shape, lost_log, make_refusal}
 
 none_of : (a b d e f : Bool) (n1 n2 n3 n4 n5 : No) → (if a then Some n1 else (if b then Some n2 else (if d then Some n3 else (if e then Some n4 else (if f then Some n5 else None))))) ≡ None
@@ -148,18 +147,18 @@ pub logs_made : (a b : Bool) (logs : List Subdisk) (drl fmr : Option LogEntry) �
 logs_made a b logs drl fmr long one two = rw one (rw two (logs_are a b logs long))
 
 -- the logs of a new volume are held as lost
-lost_none : (o : Option Subdisk) → trusted_or (lost_log o) ≡ false
+lost_none : (o : Option Subdisk) → used_or (lost_log o) ≡ false
 lost_none None = refl
 lost_none (Some s) = refl
 
-pub logs_lost : (v : VolumeEntry) → trusted_or v.drl ≡ false → trusted_or v.fmr ≡ false → (log : VolumeLog) → trusted_or (log_in log v) ≡ false
+pub logs_lost : (v : VolumeEntry) → used_or v.drl ≡ false → used_or v.fmr ≡ false → (log : VolumeLog) → used_or (log_in log v) ≡ false
 logs_lost v drl fmr Drl = drl
 logs_lost v drl fmr Fmr = fmr
 
-pub drl_lost : (a : Bool) (logs : List Subdisk) → trusted_or (drl_is a logs) ≡ false
+pub drl_lost : (a : Bool) (logs : List Subdisk) → used_or (drl_is a logs) ≡ false
 drl_lost true logs = lost_none (slice_get logs 0)
 drl_lost false logs = refl
 
-pub fmr_lost : (a b : Bool) (logs : List Subdisk) → trusted_or (fmr_is a b logs) ≡ false
+pub fmr_lost : (a b : Bool) (logs : List Subdisk) → used_or (fmr_is a b logs) ≡ false
 fmr_lost a true logs = lost_none (slice_get logs (if a then 1 else 0))
 fmr_lost a false logs = refl

@@ -14,13 +14,13 @@ use Rattle.vx_config.specs.declared.entry.VolumeLog.TheVariants.{Drl, Fmr}
 use Rattle.vx_copies.specs.Commits.{MoreFailed}
 use Rattle.vx_copies.specs.Bodies.{fits_units}
 use Rattle.vx_layout.specs.Places.{plex_at}
-use Rattle.vx_maplog.specs.Logs.{log_of, log_or}
+use Rattle.vx_maplog.specs.Logs.{log_of, log_or, used_or}
 use Rattle.vx_volume.specs.Plexes.{Inside, active, active_or}
 use Rattle.vx_kept.specs.Choice.{live, live_or}
 use Rattle.vx_kept.specs.Commits.{Member}
 use Rattle.vx_kept.specs.Groups.{ImportedImage, OnSome, OutsideVolumes, group_meaning}
 use Rattle.vx_kept.specs.Keeping.{AllOn, Kept, Kin, SameShape, frame_at}
-use Rattle.vx_kept.specs.LogRuns.{log_trusted, trusted_or}
+use Rattle.vx_kept.specs.LogRuns.{log_trusted}
 use Rattle.vx_kept.specs.Losses.{SamePlexes}
 use Rattle.vx_kept.specs.PlexActs.{PlexActs}
 use Rattle.vx_kept.proofs.Chosen.{active_volumes, alike_shape, extends_shape, frames_volumes}
@@ -65,7 +65,7 @@ found_entry log None = refl
 found_entry Drl (Some x) = refl
 found_entry Fmr (Some x) = refl
 
-trusts_more : (o : Option LogEntry) → trusted_or o ≡ true → trusted_or (lost_as false o) ≡ true
+trusts_more : (o : Option LogEntry) → used_or o ≡ true → used_or (lost_as false o) ≡ true
 trusts_more None is = is
 trusts_more (Some e) is = refl
 
@@ -93,17 +93,17 @@ module _ (v : ℕ) (log : VolumeLog) (c : Config) where
   pub trusting_others : (w : ℕ) (k : VolumeLog) → (w ≡ v → k ≡ log → ⊥) → log_of t w k ≡ log_of c w k
   trusting_others w k apart = sym ((loses v log t).others w k apart) ∙ ap (λ (x : Config). log_of x w k) (over v log c) ∙ (loses v log c).others w k apart
 
-  here_more : (w : ℕ) (k : VolumeLog) → w ≡ v → k ≡ log → trusted_or (log_of c w k) ≡ true → trusted_or (log_of t w k) ≡ true
-  here_more w k same at = subst (λ (y : ℕ). trusted_or (log_of c y k) ≡ true → trusted_or (log_of t y k) ≡ true) (sym same)
-      (subst (λ (j : VolumeLog). trusted_or (log_of c v j) ≡ true → trusted_or (log_of t v j) ≡ true) (sym at) (λ is. ap trusted_or trusting_here ∙ trusts_more (log_of c v log) is))
+  here_more : (w : ℕ) (k : VolumeLog) → w ≡ v → k ≡ log → used_or (log_of c w k) ≡ true → used_or (log_of t w k) ≡ true
+  here_more w k same at = subst (λ (y : ℕ). used_or (log_of c y k) ≡ true → used_or (log_of t y k) ≡ true) (sym same)
+      (subst (λ (j : VolumeLog). used_or (log_of c v j) ≡ true → used_or (log_of t v j) ≡ true) (sym at) (λ is. ap used_or trusting_here ∙ trusts_more (log_of c v log) is))
 
-  more : (w : ℕ) (k : VolumeLog) → trusted_or (log_of c w k) ≡ true → trusted_or (log_of t w k) ≡ true
+  more : (w : ℕ) (k : VolumeLog) → used_or (log_of c w k) ≡ true → used_or (log_of t w k) ≡ true
   more w k is = elim (cases_eq w v) [
     | inl same ↦ elim (same_log k log) [
       | inl at ↦ here_more w k same at is
-      | inr apart ↦ ap trusted_or (trusting_others w k (λ _ at. apart at)) ∙ is
+      | inr apart ↦ ap used_or (trusting_others w k (λ _ at. apart at)) ∙ is
     ]
-    | inr apart ↦ ap trusted_or (trusting_others w k (λ same _. apart same)) ∙ is
+    | inr apart ↦ ap used_or (trusting_others w k (λ same _. apart same)) ∙ is
   ]
 
   pub trusting_more : (w : ℕ) (k : VolumeLog) → log_trusted c w k ≡ true → log_trusted t w k ≡ true

@@ -29,8 +29,7 @@ use Rattle.vx_volume.specs.Plexes.{Inside, active}
 use Rattle.vx_volume.specs.Volumes.{PlexFlushed}
 use Rattle.vx_kept.specs.Groups.{group_meaning}
 use Rattle.vx_kept.specs.Keeping.{Acts, Extends}
-use Rattle.vx_kept.specs.LogRuns.{trusted_or}
-use Rattle.vx_maplog.specs.Logs.{log_in}
+use Rattle.vx_maplog.specs.Logs.{log_in, used_or}
 use Rattle.vx_group.specs.Dets.{margin}
 use Rattle.vx_group.specs.Stands.{volume_faults, inner_meaning}
 use Rattle.vx_group.specs.declared.inner.Inner.{Inner}
@@ -72,7 +71,7 @@ is_few ss = nat_le (length ss) 255
 pub record IsVolume (name : List ℕ) (want : Shape) (found : Found) (v : VolumeEntry) : Type 0 where
   pub made : IsVolumeMade want found v
   pub named : v.name ≡ name
-  pub lost : (log : VolumeLog) → trusted_or (log_in log v) ≡ false
+  pub lost : (log : VolumeLog) → used_or (log_in log v) ≡ false
 
 -- the space that was found has too many runs
 pub record HasMany (c : Config) (name : List ℕ) (want : Shape) : Type 0 where

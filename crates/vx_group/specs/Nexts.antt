@@ -16,8 +16,7 @@ use Rattle.vx_layout.specs.declared.shape.Found.{Found}
 use Rattle.vx_layout.specs.declared.shape.Shape.{Shape}
 use Rattle.vx_volume.specs.Plexes.{active_or}
 use Rattle.vx_kept.specs.Choice.{live_or}
-use Rattle.vx_kept.specs.LogRuns.{trusted_or}
-use Rattle.vx_maplog.specs.Logs.{log_in}
+use Rattle.vx_maplog.specs.Logs.{log_in, used_or}
 use Rattle.vx_group.specs.Makes.{AreZero, HasMany, IsVolume}
 use Rattle.vx_group.specs.declared.inner.Inner.{Inner}
 
@@ -51,7 +50,7 @@ pub record IsNextConfig (c next : Config) : Type 0 where
   pub few : length next.volumes ≤ MOST_VOLUMES
   pub small : volume.blocks < 2 ^ 64
   pub on : (p : ℕ) → IsTrue (live_or (slice_get volume.plexes p)) → IsTrue (active_or (slice_get volume.plexes p))
-  pub lost : (log : VolumeLog) → trusted_or (log_in log volume) ≡ false
+  pub lost : (log : VolumeLog) → used_or (log_in log volume) ≡ false
 
 -- the volume was added, and begins as zeros
 pub record Added (c d : Inner) (next : Config) (new : Meaning) : Type 0 where

@@ -7,8 +7,7 @@ use Rattle.vx_config.specs.declared.entry.DiskEntry.{DiskEntry}
 use Rattle.vx_config.specs.declared.entry.LogEntry.{LogEntry}
 use Rattle.vx_config.specs.declared.entry.VolumeLog.TheVariants.{Drl}
 use Rattle.vx_disk.specs.Shelf.{Meaning}
-use Rattle.vx_logs.specs.Held.{is_used, used_or}
-use Rattle.vx_maplog.specs.Logs.{log_of}
+use Rattle.vx_maplog.specs.Logs.{log_of, is_used, used_or}
 use Rattle.vx_model.specs.declared.errors.Stop.{Stop}
 use Rattle.vx_model.specs.declared.errors.Stop.TheVariants.{No as Refused}
 use Rattle.vx_model.specs.declared.no.No.{No}

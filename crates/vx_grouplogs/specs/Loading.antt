@@ -7,8 +7,8 @@ use Rattle.vx_config.specs.declared.entry.VolumeLog.TheVariants.{Drl}
 use Rattle.vx_disk.specs.Counts.{Rose}
 use Rattle.vx_disk.specs.Shelf.{Meaning}
 use Rattle.vx_drl.specs.Dirty.{Dirty}
-use Rattle.vx_logs.specs.Held.{DrlFound, is_used}
-use Rattle.vx_maplog.specs.Logs.{log_of}
+use Rattle.vx_logs.specs.Held.{DrlFound}
+use Rattle.vx_maplog.specs.Logs.{log_of, is_used}
 use Rattle.vx_model.specs.declared.errors.Stop.{Stop}
 use Rattle.vx_model.specs.declared.errors.Stop.TheVariants.{No as Refused, OutOfMemory}
 use Rattle.vx_model.specs.declared.no.No.TheVariants as refusal

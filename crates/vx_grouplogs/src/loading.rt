@@ -12,8 +12,7 @@ use std::alloc::Global;
 use vx_config::{Config, VolumeLog};
 use vx_disk::Shelf;
 use vx_drl::Drl;
-use vx_logs::is_used;
-use vx_maplog::log_of;
+use vx_maplog::{is_used, log_of};
 use vx_model::{No, Stop};
 
 /// A dirty region log that was taken up.

@@ -12,8 +12,8 @@ use Rattle.vx_config.specs.declared.entry.VolumeLog.TheVariants.{Fmr as FmrLog}
 use Rattle.vx_disk.specs.Shelf.{Goes, Lawful, Meaning, Nothing}
 use Rattle.vx_fmr.specs.Missed.{FmrLoaded, Missed, has_missed, missed_place}
 use Rattle.vx_layout.specs.Places.{place}
-use Rattle.vx_logs.specs.Held.{FmrFound, InUse, is_used, used_or}
-use Rattle.vx_maplog.specs.Logs.{log_of}
+use Rattle.vx_logs.specs.Held.{FmrFound, InUse}
+use Rattle.vx_maplog.specs.Logs.{log_of, is_used, used_or}
 use Rattle.vx_model.specs.Content.{block_of}
 use Rattle.vx_model.specs.declared.errors.Stop.{Stop}
 use Rattle.vx_model.specs.declared.errors.Stop.TheVariants.{No as Refused}

@@ -7,8 +7,8 @@ use Rattle.vx_config.specs.declared.entry.VolumeLog.TheVariants.{Fmr as FmrLog}
 use Rattle.vx_disk.specs.Counts.{Rose}
 use Rattle.vx_disk.specs.Shelf.{Meaning}
 use Rattle.vx_fmr.specs.Missed.{Missed}
-use Rattle.vx_logs.specs.Held.{FmrFound, is_used}
-use Rattle.vx_maplog.specs.Logs.{log_of}
+use Rattle.vx_logs.specs.Held.{FmrFound}
+use Rattle.vx_maplog.specs.Logs.{log_of, is_used}
 use Rattle.vx_model.specs.declared.errors.Stop.{Stop}
 use Rattle.vx_model.specs.declared.errors.Stop.TheVariants.{No as Refused, OutOfMemory}
 use Rattle.vx_model.specs.declared.no.No.TheVariants as refusal

@@ -11,8 +11,8 @@ use std::alloc::Global;
 use vx_config::{Config, VolumeLog};
 use vx_disk::Shelf;
 use vx_fmr::Fmr;
-use vx_logs::{is_used, load_fmr};
-use vx_maplog::log_of;
+use vx_logs::load_fmr;
+use vx_maplog::{is_used, log_of};
 use vx_model::{No, Stop};
 
 /// A log of missed regions that was taken up.

@@ -22,14 +22,14 @@ use Rattle.vx_copies.specs.Looking.{on_shelf}
 use Rattle.vx_copies.specs.Marks.{failed_at}
 use Rattle.vx_kept.specs.Choice.{chosen, live, live_or}
 use Rattle.vx_kept.specs.Keeping.{AllOn, IsTidy, MayBeNext, SameShape, frame, frame_or}
-use Rattle.vx_kept.specs.LogRuns.{log_lost, log_place, log_trusted, lost_or, run_or, trusted_or}
+use Rattle.vx_kept.specs.LogRuns.{log_lost, log_place, log_trusted, lost_or, run_or}
 use Rattle.vx_kept.specs.Losses.{LosesLog, SamePlexes}
 use Rattle.vx_kept.proofs.Chosen.{same_extends}
 use Rattle.vx_kept.proofs.Narrower.{sound_chosen}
 use Rattle.vx_kept.proofs.Staling.{with_serial}
 use Rattle.vx_kept.proofs.StateLemmas.{get_other, get_same, map_one}
 use Rattle.vx_layout.specs.Places.{place, place_in, place_or, plex_in}
-use Rattle.vx_maplog.specs.Logs.{log_in, log_of, log_or}
+use Rattle.vx_maplog.specs.Logs.{log_in, log_of, log_or, used_or}
 use Rattle.vx_volume.specs.Plexes.{active, active_or}
 
 -- ---- one entry
@@ -38,7 +38,7 @@ run_lost : (w : Bool) (o : Option LogEntry) → run_or (lost_as w o) ≡ run_or 
 run_lost w None = refl
 run_lost w (Some e) = refl
 
-trust_lost : (o : Option LogEntry) → trusted_or (lost_as true o) ≡ true → ⊥
+trust_lost : (o : Option LogEntry) → used_or (lost_as true o) ≡ true → ⊥
 trust_lost None is = let clash : false ≡ true = is in cc
 trust_lost (Some e) is = let clash : false ≡ true = is in cc
 
@@ -89,7 +89,7 @@ runs_lost Drl Fmr (Some x) = refl
 runs_lost Fmr Drl (Some x) = refl
 runs_lost Fmr Fmr (Some x) = run_lost true x.fmr
 
-trusts_lost : (log k : VolumeLog) (o : Option VolumeEntry) → trusted_or (log_or k (map_one (with_lost log true) o)) ≡ true → trusted_or (log_or k o) ≡ true
+trusts_lost : (log k : VolumeLog) (o : Option VolumeEntry) → used_or (log_or k (map_one (with_lost log true) o)) ≡ true → used_or (log_or k o) ≡ true
 trusts_lost log k None is = is
 trusts_lost Drl Drl (Some x) is = absurd (trust_lost x.drl is)
 trusts_lost Drl Fmr (Some x) is = is
@@ -131,11 +131,11 @@ module _ (v : ℕ) (log : VolumeLog) (c : Config) where
     | inr other ↦ ap f (volume_other x other)
   ]
 
-  trusts : (x : ℕ) (k : VolumeLog) → trusted_or (log_of a x k) ≡ true → trusted_or (log_of c x k) ≡ true
+  trusts : (x : ℕ) (k : VolumeLog) → used_or (log_of a x k) ≡ true → used_or (log_of c x k) ≡ true
   trusts x k = elim (cases_eq x v) [
-    | inl at ↦ subst (λ (y : ℕ). trusted_or (log_of a y k) ≡ true → trusted_or (log_of c y k) ≡ true) (sym at)
-        (λ is. trusts_lost log k (slice_get c.volumes v) (sym (ap (λ (o : Option VolumeEntry). trusted_or (log_or k o)) volume_same) ∙ is))
-    | inr other ↦ (λ is. sym (ap (λ (o : Option VolumeEntry). trusted_or (log_or k o)) (volume_other x other)) ∙ is)
+    | inl at ↦ subst (λ (y : ℕ). used_or (log_of a y k) ≡ true → used_or (log_of c y k) ≡ true) (sym at)
+        (λ is. trusts_lost log k (slice_get c.volumes v) (sym (ap (λ (o : Option VolumeEntry). used_or (log_or k o)) volume_same) ∙ is))
+    | inr other ↦ (λ is. sym (ap (λ (o : Option VolumeEntry). used_or (log_or k o)) (volume_other x other)) ∙ is)
   ]
 
   lost_shape : SameShape a c

@@ -1,10 +1,10 @@
 -- Where a configuration has the logs of its volumes, and which of them are held as lost.
-use Rattle.std.specs.Prelude.{ℕ, Bool, false, not, Option, Some, None}
+use Rattle.std.specs.Prelude.{ℕ, Bool, false, Option, Some, None}
 use Rattle.vx_config.specs.declared.config.Config.{Config}
 use Rattle.vx_config.specs.declared.entry.LogEntry.{LogEntry}
 use Rattle.vx_config.specs.declared.entry.Subdisk.{Subdisk}
 use Rattle.vx_config.specs.declared.entry.VolumeLog.{VolumeLog}
-use Rattle.vx_maplog.specs.Logs.{log_of}
+use Rattle.vx_maplog.specs.Logs.{log_of, is_used}
 
 abbrev pub run_or : Option LogEntry → Option Subdisk
 run_or None = None
@@ -22,10 +22,6 @@ lost_or (Some e) = e.lost
 unfoldable pub log_lost : Config → ℕ → VolumeLog → Bool
 log_lost c v log = lost_or (log_of c v log)
 
-abbrev pub trusted_or : Option LogEntry → Bool
-trusted_or None = false
-trusted_or (Some e) = not e.lost
-
 -- whether a volume has a log that is not held as lost: an import goes by it
 unfoldable pub log_trusted : Config → ℕ → VolumeLog → Bool
-log_trusted c v log = trusted_or (log_of c v log)
+log_trusted c v log = is_used c v log

@@ -3,15 +3,12 @@ ghost use Rattle.std.specs.Prelude.{◌≡◌};
 ghost use Rattle.vx_kept.specs.LogRuns.{log_trusted};
 
 use vx_config::{Config, VolumeLog};
-use vx_maplog::log_of;
+use vx_maplog::is_used;
 
 /// Whether a volume has a log that is not held as lost.
 #[tactic(auto, unfolding(crate::specs::LogRuns::log_trusted))]
 pub fn is_trusted(config: &Config, vol: u32, log: VolumeLog) -> bool
     ensures { result ≡ log_trusted config.now vol log }
 {
-    match log_of(config, vol, log) {
-        Some(entry) => !entry.lost,
-        None => false,
-    }
+    is_used(config, vol, log)
 }

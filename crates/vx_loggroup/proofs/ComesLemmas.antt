@@ -11,10 +11,10 @@ use Rattle.vx_copies.specs.Marks.{failed_at}
 use Rattle.vx_fmr.specs.Missed.{Missed}
 use Rattle.vx_grouplogs.specs.Gone.{has_log, is_there}
 use Rattle.vx_groupmaps.specs.Loading.{failed_under, held_failed, on_failed_disk}
-use Rattle.vx_kept.specs.LogRuns.{log_place, log_trusted, trusted_or}
+use Rattle.vx_kept.specs.LogRuns.{log_place, log_trusted}
 use Rattle.vx_logged.specs.Logged.{TrustsIn}
 use Rattle.vx_logs.specs.declared.logs.Logs.{Logs}
-use Rattle.vx_maplog.specs.Logs.{log_of}
+use Rattle.vx_maplog.specs.Logs.{log_of, used_or}
 use Rattle.vx_loggroup.specs.Attaching.{MapsHeld, fmr_at, fmr_or}
 use Rattle.vx_loggroup.specs.Keeping.{logs_at, logs_or}
 use Rattle.vx_loggroup.specs.Moving.{MapsBeginIn, MapsMove, goes_by, in_none, no_volume, only_volume}
@@ -38,7 +38,7 @@ entry_failed (d ∷ disks) (suc u) e kept is = entry_failed disks u e kept is
 
 trusted_from : (c : Config) (v : ℕ) (e : LogEntry) → log_of c v Fmr ≡ Some e → e.lost ≡ false → log_trusted c v Fmr ≡ true
 unfolding log_trusted
-trusted_from c v e at kept = ap trusted_or at ∙ ap not kept
+trusted_from c v e at kept = ap used_or at ∙ ap not kept
 
 -- maps in memory are of a log that is trusted still, where it was
 pub trusts_maps : (v : ℕ) (c d : Config) (k : List Logs) → TrustsIn v (logs_at k v) c d → (w : ℕ) → is_some (fmr_at k w) ≡ true → log_trusted c w Fmr ≡ true → log_trusted d w Fmr ≡ true

@@ -14,9 +14,9 @@ use Rattle.vx_fmr.specs.Missed.{Missed}
 use Rattle.vx_group.specs.declared.group_core.GroupCore.{GroupCore}
 use Rattle.vx_groupmaps.specs.Loading.{failed_under, held_failed, on_failed_disk}
 use Rattle.vx_grouplogs.specs.Gone.{is_there}
-use Rattle.vx_kept.specs.LogRuns.{log_place, log_trusted, run_or, trusted_or}
+use Rattle.vx_kept.specs.LogRuns.{log_place, log_trusted, run_or}
 use Rattle.vx_logs.specs.declared.logs.Logs.{Logs}
-use Rattle.vx_maplog.specs.Logs.{log_of}
+use Rattle.vx_maplog.specs.Logs.{log_of, used_or}
 use Rattle.vx_loggroup.specs.Attaching.{fmr_at, fmr_or}
 use Rattle.vx_loggroup.specs.Keeping.{LogsKeep, has_or, in_memory, uses_log}
 use Rattle.vx_loggroup.specs.Moving.{MapsEnd, goes_by}
@@ -70,7 +70,7 @@ kept_log c v is = by (log_of c v Fmr) refl is
     not_true true is = let clash : false ≡ true = is in cc
     not_true false is = refl
 
-    by : (o : Option LogEntry) → log_of c v Fmr ≡ o → trusted_or o ≡ true → KeptLog c v
+    by : (o : Option LogEntry) → log_of c v Fmr ≡ o → used_or o ≡ true → KeptLog c v
     by None at is = let clash : false ≡ true = is in cc
     by (Some e) at is = record { entry = e; is = at; kept = not_true e.lost is }
 

@@ -11,14 +11,14 @@ use Rattle.vx_disk.specs.Shelf.{Goes, Lawful, Meaning, Nothing}
 use Rattle.vx_disk.proofs.Runs.{then_nothing}
 use Rattle.vx_kept.specs.Groups.{OnSome, group_meaning}
 use Rattle.vx_kept.specs.Keeping.{SameShape, frame_at}
-use Rattle.vx_kept.specs.LogRuns.{log_trusted, trusted_or}
+use Rattle.vx_kept.specs.LogRuns.{log_trusted}
 use Rattle.vx_kept.proofs.Chosen.{active_volumes, alike_shape}
 use Rattle.vx_kept.proofs.StateLemmas.{same_shape}
 use Rattle.vx_layout.specs.Places.{HasBlock, has_plex, place, place_or, plex_in}
 use Rattle.vx_layout.specs.declared.shape.Shape.{Shape}
 use Rattle.vx_layout.proofs.Placing.{sound_apart}
 use Rattle.vx_logs.specs.declared.logs.Logs.{Logs}
-use Rattle.vx_maplog.specs.Logs.{log_or}
+use Rattle.vx_maplog.specs.Logs.{log_or, used_or}
 use Rattle.vx_model.specs.declared.errors.Stop.{Stop}
 use Rattle.vx_model.specs.declared.errors.Stop.TheVariants.{No as Refused, OutOfMemory}
 use Rattle.vx_model.specs.declared.no.No.{No}
@@ -235,13 +235,13 @@ module _ (c d : GroupCore) (m m' : Meaning) (stands : GroupStands c m) (stays : 
         left b x is = record { inside = is.inside; plex = is.plex; is_on = is.is_on; value = law.shown _ _ x is.value }
 
 -- the log of the last volume is lost
-pub last_lost : (c d : Config) (volume : VolumeEntry) → d.volumes ≡ c.volumes ++ (volume ∷ []) → trusted_or (log_or Drl (Some volume)) ≡ false → log_trusted d (length c.volumes) Drl ≡ false
+pub last_lost : (c d : Config) (volume : VolumeEntry) → d.volumes ≡ c.volumes ++ (volume ∷ []) → used_or (log_or Drl (Some volume)) ≡ false → log_trusted d (length c.volumes) Drl ≡ false
 unfolding log_trusted
-last_lost c d volume is lost = ap (λ (vs : List VolumeEntry). trusted_or (log_or Drl (slice_get vs (length c.volumes)))) is ∙ ap (λ (o : Option VolumeEntry). trusted_or (log_or Drl o)) (get_end c.volumes volume) ∙ lost
+last_lost c d volume is lost = ap (λ (vs : List VolumeEntry). used_or (log_or Drl (slice_get vs (length c.volumes)))) is ∙ ap (λ (o : Option VolumeEntry). used_or (log_or Drl o)) (get_end c.volumes volume) ∙ lost
 
 -- the group with it
 pub one_made : (c d : GroupCore) (ls : List Logs) (a a' : List Bool) (s : Bool) (m m' : Meaning) (volume : VolumeEntry) → LoggedStands c ls a s m → GroupStands d m' → GroupStays c d m m' → MakesBeside c.inner.config m m' → d.held ≡ None
-    → d.inner.config.volumes ≡ c.inner.config.volumes ++ (volume ∷ []) → trusted_or (log_or Drl (Some volume)) ≡ false → AreZero d.inner.config (length c.inner.config.volumes) m' → Lawful m'
+    → d.inner.config.volumes ≡ c.inner.config.volumes ++ (volume ∷ []) → used_or (log_or Drl (Some volume)) ≡ false → AreZero d.inner.config (length c.inner.config.volumes) m' → Lawful m'
     → is_alike a' (length c.inner.config.volumes) ≡ true → ((w : ℕ) → (w ≡ length c.inner.config.volumes → ⊥) → is_alike a' w ≡ is_alike a w) → LoggedStands d (ls ++ (record { drl = None; fmr = None } ∷ [])) a' s m'
 one_made c d ls a a' s m m' volume stands group stays beside none volumes lost zeros law here others = record {
   group = group;

@@ -17,7 +17,8 @@ use Rattle.vx_logged.specs.Logged.{Known}
 use Rattle.vx_group.proofs.HoldLemmas.{wide_shape}
 use Rattle.vx_kept.specs.Cleans.{is_unsure}
 use Rattle.vx_kept.specs.Groups.{found}
-use Rattle.vx_kept.specs.LogRuns.{log_trusted, trusted_or}
+use Rattle.vx_maplog.specs.Logs.{used_or}
+use Rattle.vx_kept.specs.LogRuns.{log_trusted}
 use Rattle.vx_logimport.specs.Covers.{DisksTell}
 use Rattle.vx_logimport.specs.Rests.{AlikeRests, LogsTell, MapsRest, rests}
 use Rattle.vx_logs.specs.Held.{InUse}
@@ -30,7 +31,7 @@ use Rattle.vx_loggroup.proofs.SetLemmas.{item_at}
 
 trusts : (x : Config) (v : ℕ) (log : VolumeLog) (e : LogEntry) → InUse x v log e → log_trusted x v log ≡ true
 unfolding log_trusted
-trusts x v log e it = ap trusted_or it.is ∙ ap not it.kept
+trusts x v log e it = ap used_or it.is ∙ ap not it.kept
 
 module _ (c d : GroupCore) (ls : List Logs) (a maps : List Bool) (m0 m1 new : Meaning) (was : LoggedStands c ls a false m0) (stands : LoggedStands d ls a false m1) (it : DeportedBy (wide d).config d.inner m1 new) (goes : Goes Nothing m0 m1) (up : IsTrue m1.down → ⊥)
     (config : d.inner.config ≡ c.inner.config) (held : d.held ≡ c.held) (failed : List Bool) (settle : DisksSettle (length c.inner.config.disks) failed m0 m1) (few : length c.inner.config.disks ≤ 8)

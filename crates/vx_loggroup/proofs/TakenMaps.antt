@@ -36,7 +36,8 @@ use Rattle.vx_logimport.specs.Rests.{MapsTell, rests}
 use Rattle.vx_logimport.specs.declared.rested.Rested.{Rested}
 use Rattle.vx_logimport.proofs.RestLemmas.{used_in_use}
 use Rattle.vx_logimport.proofs.TellLemmas.{maps_less}
-use Rattle.vx_logs.specs.Held.{FmrFound, InUse, is_used}
+use Rattle.vx_maplog.specs.Logs.{is_used}
+use Rattle.vx_logs.specs.Held.{FmrFound, InUse}
 use Rattle.vx_logs.specs.declared.logs.Logs.{Logs}
 use Rattle.vx_model.specs.Content.{block_of}
 use Rattle.vx_volume.specs.Plexes.{DisksFit, Inside, active}

@@ -7,7 +7,8 @@ use Rattle.vx_config.specs.declared.entry.VolumeLog.{VolumeLog}
 use Rattle.vx_config.specs.declared.entry.VolumeLog.TheVariants.{Drl}
 use Rattle.vx_disk.specs.Shelf.{Meaning, Nothing}
 use Rattle.vx_kept.specs.Groups.{OnSome}
-use Rattle.vx_kept.specs.LogRuns.{log_trusted, trusted_or}
+use Rattle.vx_maplog.specs.Logs.{used_or}
+use Rattle.vx_kept.specs.LogRuns.{log_trusted}
 use Rattle.vx_kept.specs.PlexActs.{PlexActs}
 use Rattle.vx_logs.specs.declared.logs.Logs.{Logs}
 use Rattle.vx_volume.specs.Plexes.{DisksFit}
@@ -32,12 +33,12 @@ module _ (v : ℕ) (log : VolumeLog) (c : Config) (sound : is_sound c ≡ true) 
 
   trusted_back : (w : ℕ) → (w ≡ v → ⊥) → log_trusted told w Drl ≡ true → log_trusted c w Drl ≡ true
   unfolding log_trusted
-  trusted_back w apart is = sym (ap trusted_or (trusting_others v log c w Drl (λ same at. apart same))) ∙ is
+  trusted_back w apart is = sym (ap used_or (trusting_others v log c w Drl (λ same at. apart same))) ∙ is
 
   -- where it is another log
   map_back : (Drl ≡ log → ⊥) → (w : ℕ) → log_trusted told w Drl ≡ true → log_trusted c w Drl ≡ true
   unfolding log_trusted
-  map_back other w is = sym (ap trusted_or (trusting_others v log c w Drl (λ same at. other at))) ∙ is
+  map_back other w is = sym (ap used_or (trusting_others v log c w Drl (λ same at. other at))) ∙ is
 
   told_keeps : (w : ℕ) → KeepsVolume w c told
   told_keeps w = record {

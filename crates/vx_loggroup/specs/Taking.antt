@@ -18,7 +18,7 @@ use Rattle.vx_logged.specs.Logged.{Narrowed}
 use Rattle.vx_logimport.specs.Marked.{log_within}
 use Rattle.vx_logimport.specs.Rests.{rests}
 use Rattle.vx_logimport.specs.declared.rested.Rested.{Rested}
-use Rattle.vx_logs.specs.Held.{is_used}
+use Rattle.vx_maplog.specs.Logs.{is_used}
 use Rattle.vx_logs.specs.declared.logs.Logs.{Logs}
 use Rattle.vx_model.specs.Content.{block_of}
 

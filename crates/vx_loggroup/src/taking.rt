@@ -10,7 +10,7 @@ ghost use Rattle.vx_loggroup.specs.Taking.{MapWas, MapsWere, MapsWhy, SameDrls, 
 ghost use Rattle.vx_fmr.specs.Missed.{Missed};
 ghost use Rattle.vx_logimport.specs.Marked.{log_within};
 ghost use Rattle.vx_logimport.specs.Rests.{MapsTell, rests};
-ghost use Rattle.vx_logs.specs.Held.{is_used};
+ghost use Rattle.vx_maplog.specs.Logs.{is_used};
 ghost use Rattle.vx_logs.specs.declared.logs.Logs.{Logs as LogsValue};
 ghost use Rattle.vx_model.specs.declared.limits.TheConstants.{MOST_VOLUMES};
 

@@ -15,16 +15,16 @@ use Rattle.vx_disk.proofs.Causing.{Rose_after}
 use Rattle.vx_drl.specs.Dirty.{Dirty, is_dirty}
 use Rattle.vx_fmr.specs.Missed.{Missed}
 use Rattle.vx_layout.specs.Places.{place}
-use Rattle.vx_logs.specs.Held.{DrlFits, InUse, used_or}
+use Rattle.vx_logs.specs.Held.{DrlFits, InUse}
 use Rattle.vx_logs.specs.declared.logs.Logs.{Logs}
-use Rattle.vx_maplog.specs.Logs.{log_of}
+use Rattle.vx_maplog.specs.Logs.{log_of, used_or}
 use Rattle.vx_model.specs.Content.{block_of}
 use Rattle.vx_model.specs.Sizes.{map_blocks, regions_of}
 use Rattle.vx_resync.specs.Picks.{DrlReaches, marked_or}
 use Rattle.vx_volume.specs.Plexes.{DisksFit, Inside, active}
 use Rattle.vx_kept.specs.Choice.{live}
 use Rattle.vx_kept.specs.Groups.{OnSome, found}
-use Rattle.vx_kept.specs.LogRuns.{log_trusted, trusted_or}
+use Rattle.vx_kept.specs.LogRuns.{log_trusted}
 use Rattle.vx_kept.proofs.Chosen.{place_volumes}
 use Rattle.vx_kept.proofs.Lasting.{cases_bool}
 use Rattle.vx_kept.proofs.Narrower.{on_live}
@@ -45,13 +45,9 @@ not_lost o e is used = by e.lost (sym (ap used_or is) ∙ used)
     by true off = absurd (let clash : false ≡ true = off in cc)
     by false off = refl
 
-used_as : (o : Option LogEntry) → trusted_or o ≡ true → used_or o ≡ true
-used_as None is = is
-used_as (Some e) is = is
-
 trusted_used : (c : Config) (v : ℕ) → log_trusted c v Drl ≡ true → used_or (log_of c v Drl) ≡ true
 unfolding log_trusted
-trusted_used c v is = used_as (log_of c v Drl) is
+trusted_used c v is = is
 
 some_is : (d e : Dirty) → Some d ≡ Some e → d ≡ e
 some_is d e is = cc

@@ -11,16 +11,16 @@ use Rattle.vx_copyfmt.specs.Imports.{Found}
 use Rattle.vx_disk.specs.Shelf.{Each, Image, Lawful, Meaning}
 use Rattle.vx_layout.specs.Places.{HasBlock, place}
 use Rattle.vx_layout.proofs.Placing.{sound_apart}
-use Rattle.vx_logs.specs.Held.{InUse, is_used, used_or}
+use Rattle.vx_logs.specs.Held.{InUse}
 use Rattle.vx_logs.specs.Marks.{stride_of}
 use Rattle.vx_model.specs.Sizes.{map_blocks}
-use Rattle.vx_maplog.specs.Logs.{log_of}
+use Rattle.vx_maplog.specs.Logs.{log_of, is_used, used_or}
 use Rattle.vx_volume.specs.Plexes.{Inside, active}
 use Rattle.vx_volume.proofs.PlaceLemmas.{has_of}
 use Rattle.vx_kept.specs.Choice.{live}
 use Rattle.vx_kept.specs.Groups.{found}
 use Rattle.vx_kept.specs.Keeping.{SameShape}
-use Rattle.vx_kept.specs.LogRuns.{log_trusted, trusted_or}
+use Rattle.vx_kept.specs.LogRuns.{log_trusted}
 use Rattle.vx_kept.proofs.Chosen.{place_volumes}
 use Rattle.vx_kept.proofs.Lasting.{cases_bool}
 use Rattle.vx_kept.proofs.Narrower.{on_live}
@@ -35,8 +35,8 @@ use Rattle.vx_logimport.specs.Marked.{ResumedBy}
 use Rattle.vx_logimport.specs.Rests.{AlikeRests, MapsRest, MapsTell}
 use Rattle.vx_logimport.specs.declared.importing.Marked.{Marked}
 
-kept_trusted : (o : Option LogEntry) (e : LogEntry) → o ≡ Some e → trusted_or o ≡ true → e.lost ≡ false
-kept_trusted o e is used = by e.lost (sym (ap trusted_or is) ∙ used)
+kept_trusted : (o : Option LogEntry) (e : LogEntry) → o ≡ Some e → used_or o ≡ true → e.lost ≡ false
+kept_trusted o e is used = by e.lost (sym (ap used_or is) ∙ used)
   where
     by : (b : Bool) → not b ≡ true → b ≡ false
     by true off = absurd (let clash : false ≡ true = off in cc)
@@ -57,7 +57,7 @@ used_in_use c v e is used = record { is = is; kept = by e.lost (sym (ap used_or 
 
 pub in_use_trusts : (c : Config) (v : ℕ) (e : LogEntry) → InUse c v Fmr e → log_trusted c v Fmr ≡ true
 unfolding log_trusted
-in_use_trusts c v e it = ap trusted_or it.is ∙ ap not it.kept
+in_use_trusts c v e it = ap used_or it.is ∙ ap not it.kept
 
 module _ (old new : Meaning) (k : Marked) (law : Lawful old) (can : CanImport old) (it : ResumedBy old k new) (v : ℕ) (clean : stopped it.config v ≡ false) where
   abbrev x : Config

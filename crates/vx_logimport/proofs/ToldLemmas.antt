@@ -10,12 +10,12 @@ use Rattle.vx_disk.specs.Shelf.{Each, Image, Meaning}
 use Rattle.vx_drl.specs.Dirty.{Dirty}
 use Rattle.vx_kept.specs.Groups.{found}
 use Rattle.vx_kept.specs.Keeping.{Kin}
-use Rattle.vx_kept.specs.LogRuns.{log_trusted, trusted_or}
+use Rattle.vx_kept.specs.LogRuns.{log_trusted}
 use Rattle.vx_kept.proofs.Low.{found_same}
 use Rattle.vx_layout.specs.Places.{place}
 use Rattle.vx_logs.specs.Held.{InUse}
 use Rattle.vx_logs.specs.declared.logs.Logs.{Logs}
-use Rattle.vx_maplog.specs.Logs.{log_of}
+use Rattle.vx_maplog.specs.Logs.{log_of, used_or}
 use Rattle.vx_model.specs.Content.{block_of}
 use Rattle.vx_model.specs.Sizes.{map_blocks}
 use Rattle.vx_volume.specs.Plexes.{Inside}
@@ -29,7 +29,7 @@ use Rattle.vx_logimport.specs.Covers.{ConfigCovers, DisksTell, LogSettled}
 
 in_use_trusted : (x : Config) (v : ℕ) (e : LogEntry) → InUse x v Drl e → log_trusted x v Drl ≡ true
 unfolding log_trusted
-in_use_trusted x v e use_it = ap trusted_or use_it.is ∙ ap not use_it.kept
+in_use_trusted x v e use_it = ap used_or use_it.is ∙ ap not use_it.kept
 
 the_entry : (o : Option LogEntry) (f h : LogEntry) → o ≡ Some f → o ≡ Some h → h ≡ f
 the_entry o f h one two = let both : Some h ≡ Some f = sym two ∙ one in cc

@@ -14,9 +14,9 @@ use Rattle.vx_disk.specs.Shelf.{Goes, Meaning, Nothing}
 use Rattle.vx_drl.specs.Dirty.{Dirty}
 use Rattle.vx_drl.specs.declared.marks.TheConstants.{MOST_HELD}
 use Rattle.vx_layout.specs.Places.{place}
-use Rattle.vx_logs.specs.Held.{DrlFits, is_used}
+use Rattle.vx_logs.specs.Held.{DrlFits}
 use Rattle.vx_logs.specs.declared.logs.Logs.{Logs}
-use Rattle.vx_maplog.specs.Logs.{log_of}
+use Rattle.vx_maplog.specs.Logs.{log_of, is_used}
 use Rattle.vx_resync.specs.Picks.{marked_or}
 use Rattle.vx_volume.specs.Plexes.{Inside, active}
 use Rattle.vx_kept.specs.Cleans.{is_unsure}

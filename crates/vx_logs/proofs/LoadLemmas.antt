@@ -4,8 +4,7 @@ use Rattle.vx_config.specs.Checks.{blocks_of, is_sound}
 use Rattle.vx_config.specs.declared.config.Config.{Config}
 use Rattle.vx_config.specs.declared.entry.LogEntry.{LogEntry}
 use Rattle.vx_config.specs.declared.entry.VolumeLog.{VolumeLog}
-use Rattle.vx_maplog.specs.Logs.{HasLog, log_of}
-use Rattle.vx_logs.specs.Held.{is_used, used_or}
+use Rattle.vx_maplog.specs.Logs.{HasLog, log_of, is_used, used_or}
 
 -- a volume with blocks and a log in use has that log
 pub has_log : (c : Config) (v : ℕ) (log : VolumeLog) → is_sound c ≡ true → 0 < blocks_of c.volumes v → is_used c v log ≡ true → HasLog c v log

@@ -1,5 +1,5 @@
 -- The logs of a volume in memory, and what they have to do with a configuration and a shelf.
-use Rattle.std.specs.Prelude.{◌≡◌, ◌⊎◌, ℕ, ◌+◌, ◌/◌, ◌%◌, Bool, true, false, not, Option, Some, None}
+use Rattle.std.specs.Prelude.{◌≡◌, ◌⊎◌, ℕ, ◌+◌, ◌/◌, ◌%◌, Bool, true, false, Option, Some, None}
 use Rattle.vx_model.specs.Sizes.{regions_of as regions_in}
 use Rattle.vx_bitmap.specs.Bits.{is_marked}
 use Rattle.vx_bitmap.specs.Maps.{IsRead, MapOn, map_block_count}
@@ -14,7 +14,7 @@ use Rattle.vx_disk.specs.Shelf.{Image, Meaning}
 use Rattle.vx_drl.specs.Dirty.{Dirty}
 use Rattle.vx_fmr.specs.Missed.{FmrLoaded, Missed}
 use Rattle.vx_layout.specs.Places.{plex_at}
-use Rattle.vx_maplog.specs.Logs.{LogLoaded, log_of}
+use Rattle.vx_maplog.specs.Logs.{LogLoaded, log_of, is_used}
 use Rattle.vx_logs.specs.declared.logs.Logs.{Logs}
 
 abbrev pub stale_or : Option PlexEntry → Bool
@@ -67,14 +67,6 @@ FmrRun (Some f) = Run f.map.unit f.map.first (map_block_count f.map)
 -- the blocks of the logs
 pub record LogsRun (l : Logs) (u b : ℕ) : Type 0 where
   pub here : DrlRun l.drl u b ⊎ FmrRun l.fmr u b
-
-abbrev pub used_or : Option LogEntry → Bool
-used_or None = false
-used_or (Some e) = not e.lost
-
--- whether a configuration has a log and does not hold it as lost
-abbrev pub is_used : Config → ℕ → VolumeLog → Bool
-is_used c v log = used_or (log_of c v log)
 
 -- what was read of a dirty region log: none where none is in use, and else that one, which stands where a crash leaves one value at most
 abbrev pub DrlFound : Config → ℕ → Option Dirty → Meaning → Meaning → Type 0

@@ -10,7 +10,7 @@ mod noting;
 mod sets;
 mod writing;
 
-pub use loading::{is_used, load_drl, load_fmr};
+pub use loading::{load_drl, load_fmr};
 pub use logs::{Logs, Lost};
 pub use sets::is_in;
 pub use writing::{Stored, Written, mark, put, write};

@@ -3,7 +3,7 @@ ghost use Rattle.std.specs.Prelude.{◌≡◌, ◌<◌, IfErr, IfOk, IsFalse, Is
 ghost use Rattle.vx_bitmap.specs.Maps.{LoadCause};
 ghost use Rattle.vx_config.specs.Checks.{blocks_of as blocks_of_is, is_sound};
 ghost use Rattle.vx_disk.specs.Shelf.{Goes, Nothing};
-ghost use Rattle.vx_logs.specs.Held.{DrlFound, FmrFound, is_used as is_used_is};
+ghost use Rattle.vx_logs.specs.Held.{DrlFound, FmrFound};
 ghost use Rattle.vx_volume.specs.Plexes.{DisksFit};
 
 use std::alloc::Global;
@@ -11,18 +11,8 @@ use vx_config::{Config, VolumeLog};
 use vx_disk::Shelf;
 use vx_drl::Drl;
 use vx_fmr::Fmr;
-use vx_maplog::log_of;
+use vx_maplog::is_used;
 use vx_model::Stop;
-
-/// Whether a volume has a log that is not lost.
-pub fn is_used(config: &Config, volume: u32, log: VolumeLog) -> bool
-    ensures { result ≡ is_used_is config.now volume log }
-{
-    match log_of(config, volume, log) {
-        Some(entry) => !entry.lost,
-        None => false,
-    }
-}
 
 /// Reads the dirty region log of a volume of a checked configuration; none where it has none, or where that is lost. It changes nothing.
 /// Where a crash leaves one value at most in each block of the log, the log stands.

@@ -1,5 +1,5 @@
 -- Where a configuration has the logs of a volume, and the map that is read of one.
-use Rattle.std.specs.Prelude.{◌≡◌, ℕ, ◌*◌, ◌<◌, ◌≤◌, true, List, length, Option, Some, None, slice_get}
+use Rattle.std.specs.Prelude.{◌≡◌, ℕ, ◌*◌, ◌<◌, ◌≤◌, Bool, true, false, not, List, length, Option, Some, None, slice_get}
 use Rattle.vx_model.specs.Sizes.{map_blocks}
 use Rattle.vx_model.specs.declared.limits.TheConstants.{BLOCK, MOST_MAP_BLOCKS}
 use Rattle.vx_disk.specs.Shelf.{Meaning}
@@ -24,6 +24,14 @@ log_or log (Some v) = log_in log v
 -- the same by the volume's place; none where there is no such volume
 abbrev pub log_of : Config → ℕ → VolumeLog → Option LogEntry
 log_of c v log = log_or log (slice_get c.volumes v)
+
+abbrev pub used_or : Option LogEntry → Bool
+used_or None = false
+used_or (Some e) = not e.lost
+
+-- whether a configuration has a log and does not hold it as lost
+abbrev pub is_used : Config → ℕ → VolumeLog → Bool
+is_used c v log = used_or (log_of c v log)
 
 -- how many maps a log has: one of dirty regions, and one of missed regions for each plex
 abbrev pub maps_in_log : VolumeLog → ℕ → ℕ

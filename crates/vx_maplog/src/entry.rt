@@ -1,7 +1,7 @@
 // What a configuration says of the logs of a volume.
 ghost use Rattle.std.specs.Prelude.{◌≡◌};
 ghost use Rattle.vx_config.specs.Checks.{plexes_of as plexes_of_is};
-ghost use Rattle.vx_maplog.specs.Logs.{log_of as log_of_is};
+ghost use Rattle.vx_maplog.specs.Logs.{is_used as is_used_is, log_of as log_of_is};
 
 use vx_config::{Config, LogEntry, VolumeLog};
 
@@ -15,6 +15,16 @@ pub fn log_of(config: &Config, volume: u32, log: VolumeLog) -> Option<LogEntry>
             VolumeLog::Fmr => entry.fmr,
         },
         None => None,
+    }
+}
+
+/// Whether a volume has a log that is not lost.
+pub fn is_used(config: &Config, volume: u32, log: VolumeLog) -> bool
+    ensures { result ≡ is_used_is config.now volume log }
+{
+    match log_of(config, volume, log) {
+        Some(entry) => !entry.lost,
+        None => false,
     }
 }
 

@@ -5,6 +5,6 @@ mod entry;
 mod reading;
 mod tested;
 
-pub use entry::{log_of, plexes_of};
+pub use entry::{is_used, log_of, plexes_of};
 pub use reading::load;
 pub use tested::{disks_fit, has_log};

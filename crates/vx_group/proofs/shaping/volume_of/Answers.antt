@@ -2,7 +2,7 @@
 use Rattle.std.proofs.Common.{refl, ap, ◌∙◌}
 use Rattle.std.specs.Prelude.{map}
 use Rattle.vx_layout.specs.Made.{made_plex}
-use Rattle.vx_kept.specs.LogRuns.{trusted_or}
+use Rattle.vx_maplog.specs.Logs.{used_or}
 use Rattle.vx_group.proofs.ShapeLemmas.{drl_is, drl_lost, fmr_is, fmr_lost, logs_lost, logs_made}
 use Rattle.vx_group.proofs.shaping.volume_of.Goals as goal
 
@@ -15,5 +15,5 @@ returns c =
     record {
       made = record { blocks = refl; ncol = refl; width = refl; prefer = c.preferred.ensures; plexes = c.in_ok-plexes.ensures ∙ ap (map made_plex) c.deref.ensures.value; drl = logs.0; fmr = logs.1; logs = logs.2 };
       named = refl;
-      lost = logs_lost _ (ap trusted_or drl ∙ drl_lost want.drl c.args.found.now.logs) (ap trusted_or fmr ∙ fmr_lost want.drl want.fmr c.args.found.now.logs);
+      lost = logs_lost _ (ap used_or drl ∙ drl_lost want.drl c.args.found.now.logs) (ap used_or fmr ∙ fmr_lost want.drl want.fmr c.args.found.now.logs);
     }
