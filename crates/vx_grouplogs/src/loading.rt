@@ -4,7 +4,8 @@ ghost use Rattle.vx_config.specs.Checks.{blocks_of as blocks_of_is, is_sound};
 ghost use Rattle.vx_disk.specs.Shelf.{Goes, Nothing};
 ghost use Rattle.vx_drl.specs.Dirty.{Dirty};
 ghost use Rattle.vx_drl.specs.declared.marks.TheConstants.{MOST_HELD};
-ghost use Rattle.vx_grouplogs.specs.Loading.{LoadIsRefused, TakesUp, on_failed as on_failed_is};
+ghost use Rattle.vx_grouplogs.specs.Loading.{TakesUp, on_failed as on_failed_is};
+ghost use Rattle.vx_groupmaps.specs.Loading.{LoadIsRefused};
 ghost use Rattle.vx_logs.specs.Held.{DrlFits};
 ghost use Rattle.vx_volume.specs.Plexes.{DisksFit};
 

@@ -36,7 +36,7 @@ TakesMaps c v o true m m' = (o ≡ None) × (is_used c v FmrLog ≡ true) × ((o
 TakesMaps c v o false m m' = FmrFound c v o m m' × (on_failed_disk c v ≡ false)
 
 -- the refusals: the shelf is down, or memory ran out
-abbrev pub MapsCause : Meaning → Stop → Type 0
-MapsCause m (Refused refusal.Down) = IsTrue m.down
-MapsCause m (Refused other) = ⊥
-MapsCause m OutOfMemory = Unit {0}
+abbrev pub LoadIsRefused : Meaning → Stop → Type 0
+LoadIsRefused m (Refused refusal.Down) = IsTrue m.down
+LoadIsRefused m (Refused other) = ⊥
+LoadIsRefused m OutOfMemory = Unit {0}

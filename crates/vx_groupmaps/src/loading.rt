@@ -3,7 +3,7 @@ ghost use Rattle.std.specs.Prelude.{◌≡◌, ◌<◌, IfErr, IfOk, IsFalse, Is
 ghost use Rattle.vx_config.specs.Checks.{blocks_of as blocks_of_is, is_sound};
 ghost use Rattle.vx_disk.specs.Shelf.{Goes, Nothing};
 ghost use Rattle.vx_fmr.specs.Missed.{FmrLoaded, Missed, has_missed};
-ghost use Rattle.vx_groupmaps.specs.Loading.{MapsCause, TakesMaps, on_failed_disk as on_failed_is};
+ghost use Rattle.vx_groupmaps.specs.Loading.{LoadIsRefused, TakesMaps, on_failed_disk as on_failed_is};
 ghost use Rattle.vx_groupmaps.specs.Missing.{DiskAgrees, MapAgrees};
 ghost use Rattle.vx_volume.specs.Plexes.{DisksFit};
 
@@ -56,7 +56,7 @@ pub fn load_maps<S: Shelf>(
     ensures fits { IfOk result (λ loaded. (f : Missed) → loaded.fmr ≡ Some f → FmrLoaded config.now vol f) }
     ensures covers { DiskAgrees config.now vol (S.meaning shelf.old) → IfOk result (λ loaded. (f : Missed) → loaded.fmr ≡ Some f → IsFalse (S.meaning shelf.new).down → MapAgrees config.now vol (has_missed f) (S.meaning shelf.new).reads) }
     ensures goes { Goes Nothing (S.meaning shelf.old) (S.meaning shelf.new) }
-    ensures cause { IfErr result (MapsCause (S.meaning shelf.new)) }
+    ensures cause { IfErr result (LoadIsRefused (S.meaning shelf.new)) }
 {
     if !is_used(config, vol, VolumeLog::Fmr) {
         return Ok(LoadedMaps {

@@ -32,7 +32,7 @@ use Rattle.vx_group.proofs.ImportLemmas.{import_late, import_ok}
 use Rattle.vx_group.proofs.ResumeLemmas.{taken_Goes}
 use Rattle.vx_group.proofs.Standing.{fit_of, kept_of, low_Stands, sound_of}
 use Rattle.vx_grouplogs.specs.Covering.{OnLogs}
-use Rattle.vx_grouplogs.specs.Loading.{LoadIsRefused}
+use Rattle.vx_groupmaps.specs.Loading.{LoadIsRefused}
 use Rattle.vx_grouplogs.specs.On.{VolumeOn}
 use Rattle.vx_grouplogs.proofs.GroupLemmas.{logs_keep}
 use Rattle.vx_logimport.specs.Covers.{DisksTell}

@@ -2,7 +2,7 @@
 ghost use Rattle.std.specs.Prelude.{◌≡◌, IfErr, IfOk, IsTrue, OnOk, length};
 ghost use Rattle.vx_config.specs.Checks.{is_sound};
 ghost use Rattle.vx_disk.specs.Shelf.{Goes, Nothing};
-ghost use Rattle.vx_grouplogs.specs.Loading.{LoadIsRefused};
+ghost use Rattle.vx_groupmaps.specs.Loading.{LoadIsRefused};
 ghost use Rattle.vx_logimport.specs.Marked.{AreDirtyLogs, LogRead, LogsRead, log_within};
 ghost use Rattle.vx_volume.specs.Plexes.{DisksFit};
 
