@@ -43,7 +43,7 @@ use Rattle.vx_yard.proofs.FuseStays.{fused_none}
 use Rattle.vx_yard.proofs.Lists.{get-set_same}
 use Rattle.vx_yard.proofs.OneSite.{Changed}
 use Rattle.vx_yard.proofs.OverGroup.{set_notes}
-use Rattle.vx_yard.specs.Changes.{down_facts}
+use Rattle.vx_effects.specs.Facts.{down_fact}
 use Rattle.vx_yard.specs.Standing.{StandsFor}
 use Rattle.vx_yard.specs.Stands.{RoseAll, fault_count}
 use Rattle.vx_yard.specs.Yards.{count_of}
@@ -77,8 +77,8 @@ not_so false h = refl
 
 -- the facts of such a site that went down
 pub down_seen : (n : Node) (note : GroupNode) (k : GroupNode) → n.volumes ≡ [] → noted_table k ≡ noted_table note
-    → down_facts (fact_of_group n note) ≡ fact_of_group (crashed (with_note k n) 0) k
-down_seen n note k none same = ap (λ (vs : List VolumeFacts). let f : SiteFacts = record (down_facts (fact_of_group n note)) { volumes = vs } in f) (sym same)
+    → down_fact (fact_of_group n note) ≡ fact_of_group (crashed (with_note k n) 0) k
+down_seen n note k none same = ap (λ (vs : List VolumeFacts). let f : SiteFacts = record (down_fact (fact_of_group n note)) { volumes = vs } in f) (sym same)
 
 pub seen_as : (n m : Node) (note next : GroupNode) → m.name ≡ n.name → m.state ≡ n.state → m.disks ≡ n.disks → m.blocks ≡ n.blocks → noted_table next ≡ noted_table note
     → fact_of_group n note ≡ fact_of_group m next

@@ -59,7 +59,7 @@ use Rattle.vx_yard.proofs.Carrying.{LetsGo, SameLoad}
 use Rattle.vx_yard.proofs.FuseStays.{fused_none}
 use Rattle.vx_yard.proofs.Lists.{get-set_same, set_same}
 use Rattle.vx_yard.proofs.OverGroup.{set_notes}
-use Rattle.vx_yard.specs.Changes.{down_facts}
+use Rattle.vx_effects.specs.Facts.{down_fact}
 use Rattle.vx_yard.specs.GroupFacts.{group_up_facts}
 use Rattle.vx_yard.specs.Standing.{LeadsOver, LeadsOverIs, LeadsOverOrStops, StandsFor, StopsFor}
 use Rattle.vx_yard.specs.Writes.{noted_facts}
@@ -378,7 +378,7 @@ module _ {R : Type 0} {g : Ghosts R} where
 
     -- the fuse ran out
     pub import_off : (next : GroupSet R g) → after ≡ OfGroup next → DownNoted (crashed (returned_with (left true) (d.world.nodes s)) 0) (left true) next.site → IsFused n.fuse → cut_in after ≡ cut_in before
-        → new.facts.items ≡ slice_set old.facts.items s (down_facts (fact_of_group (d.world.nodes s) (note_at (d.world.nodes s)))) → LetsGo old new s → LeadsOver d (GroupImport name) (Refused IsOff) old new
+        → new.facts.items ≡ slice_set old.facts.items s (down_fact (fact_of_group (d.world.nodes s) (note_at (d.world.nodes s)))) → LetsGo old new s → LeadsOver d (GroupImport name) (Refused IsOff) old new
     import_off next is down fused cut facts lets =
         let k : GroupNode = left true in
         let m : Node = crashed (returned_with k n) 0 in
@@ -390,7 +390,7 @@ module _ {R : Type 0} {g : Ghosts R} where
         let clear : cut_value next.cut ≡ None = cut_of d old new name s before after stands call next is None (cut ∙ ap (λ (x : DiskSet R g). cut_in x) call.at.is_set ∙ set_clear) in
         leads_by d last (GroupImport name) s (calls s old new n.disks) (Refused IsOff) old new place
         (GroupCut k (calls_are d old new name s before after stands call n.disks) fused (notes_refused true dims note) refl (record { world = refl; after = λ i. refl }))
-        (follows_off d last s m k (down_facts (fact_of_group n note)) old new before next stands call.at.below (called_to d old new name s before after stands call next is)
+        (follows_off d last s m k (down_fact (fact_of_group n note)) old new before next stands call.at.below (called_to d old new name s before after stands call next is)
         (arrives_worked d e s (crashed (group_up n) 0) k None (arrives_crash d first s (group_up n) (d.world.gathering s) risen (omega (arith, call.at.below, risen.site.sites)) refl none.log none.safe))
         (λ up. let w : IsDown ≡ IsUp = up in absurd (cc))
         (down_notes m k next.site down).0
@@ -438,7 +438,7 @@ module _ {R : Type 0} {g : Ghosts R} where
       by_case why next is (inr (inl (off, down, fused))) refusal =
           let r : IsNotedRefusal s (fact_of_group n note) IsOff mid new result = subst (λ (w : No). IsNotedRefusal s (fact_of_group n note) w mid new result) off refusal in
           subst (λ (x : Result Said OutOfMemory). LeadsOverIs d (GroupImport name) old new x) (sym r.said)
-          (import_off next is down fused cut (r.facts ∙ ap (λ (fs : List SiteFacts). slice_set fs s (down_facts (fact_of_group n note))) half.facts) (lets_on old mid new s half r.same r.assemblies))
+          (import_off next is down fused cut (r.facts ∙ ap (λ (fs : List SiteFacts). slice_set fs s (down_fact (fact_of_group n note))) half.facts) (lets_on old mid new s half r.same r.assemblies))
       by_case why next is (inr (inr (stays, it, not_device, not_off))) refusal =
           let many : ℕ = why_disk why + 1 in
           let of = calls_are d old new name s before after stands call many in

@@ -42,7 +42,7 @@ use Rattle.vx_yard.proofs.Carrying.{LetsGo, LetsGoBy, SameLoad}
 use Rattle.vx_yard.proofs.Lists.{set_same}
 use Rattle.vx_yard.proofs.NamedSite.{asks_at}
 use Rattle.vx_yard.proofs.OverGroup.{set_notes}
-use Rattle.vx_yard.specs.Changes.{down_facts}
+use Rattle.vx_effects.specs.Facts.{down_fact}
 use Rattle.vx_yard.specs.OfSites.{AsAsked, HasCalled, WritesBy}
 use Rattle.vx_yard.specs.Standing.{LeadsOver, StandsFor}
 use Rattle.vx_yard.specs.Working.{IsFree}
@@ -227,7 +227,7 @@ module _ {R : Type 0} {g : Ghosts R} where
         subst (λ (z : Write). FitsPlain k z.volume z.start (length z.bytes)) (sym same) fits
 
     write_cut : OnSites (λ o e. PlainWrote n note (plain_write place start bytes) o e (Err IsOff)) before after → cut_in after ≡ Some (plain_write place start bytes)
-        → new.facts.items ≡ slice_set old.facts.items s (down_facts (fact_of_group n note)) → LetsGo old new s → LeadsOver d line (Refused IsOff) old new
+        → new.facts.items ≡ slice_set old.facts.items s (down_fact (fact_of_group n note)) → LetsGo old new s → LeadsOver d line (Refused IsOff) old new
     write_cut wrote cut facts lets =
         let to : SetThen (λ e. PlainWrote n note x called.at.set.site e (Err IsOff)) after = sets_then (λ o e. PlainWrote n note x o e (Err IsOff)) before after called.at.set called.at.is_set wrote in
         let middle : GroupNode = to.holds.0 in
@@ -243,7 +243,7 @@ module _ {R : Type 0} {g : Ghosts R} where
         (off_follows d old new name s before after stands called k to.set plain.up to.is to.holds.2 cut
         (cut_fits k to.set.cut (record { some = fits.some; whole = fits.whole; within = omega (arith, fits.within, ap (λ c. c.size place) unsettles.same.bytes) })
         (ap (λ (z : DiskSet R g). cut_in z) (sym to.is) ∙ cut))
-        (down_facts (fact_of_group n note))
+        (down_fact (fact_of_group n note))
         (down_seen n note k (set_notes (beside_of d s) n called.at.set called.at.stands called.at.made).1.none.volumes (table to.set to.is middle to.holds.4)) facts lets)
         (calls_all d old new name s before after stands called many)
 

@@ -47,7 +47,7 @@ use Rattle.vx_yard.proofs.Lists.{get-set_same, set_twice}
 use Rattle.vx_yard.proofs.OneSite.{Changed, told_by}
 use Rattle.vx_yard.proofs.RecoverLine.{rose_then}
 use Rattle.vx_yard.specs.Carries.{Carries}
-use Rattle.vx_yard.specs.Changes.{down_facts}
+use Rattle.vx_effects.specs.Facts.{down_fact}
 use Rattle.vx_yard.specs.GroupFacts.{group_up_facts}
 use Rattle.vx_yard.specs.Loads.{LetGo}
 use Rattle.vx_yard.specs.OfSites.{OfSite}
@@ -338,13 +338,13 @@ module _ {R : Type 0} {g : Ghosts R} where
   pub so_down : (s : ℕ) (old mid near new : Yard R g) (before after : DiskSet R g) (stop : Stop) (result : Result Said OutOfMemory) → KeepsRest old mid → slice_get mid.disk_sets.items s ≡ Some before → near.facts.items ≡ mid.facts.items
       → near.assemblies ≡ mid.assemblies → mid.assemblies ≡ old.assemblies
       → ((f : SiteFacts) (c : Config) → slice_get old.facts.items s ≡ Some f → HasConfig s c old → mid.facts.items ≡ slice_set old.facts.items s (group_up_facts (map plain_fact c.volumes) f))
-      → ((f : SiteFacts) → slice_get near.facts.items s ≡ Some f → new.facts.items ≡ slice_set near.facts.items s (down_facts f)) → LetGo s near.assemblies.items new.assemblies.items → result ≡ reply_to stop
+      → ((f : SiteFacts) → slice_get near.facts.items s ≡ Some f → new.facts.items ≡ slice_set near.facts.items s (down_fact f)) → LetGo s near.assemblies.items new.assemblies.items → result ≡ reply_to stop
       → (f : SiteFacts) (c : Config) → slice_get old.facts.items s ≡ Some f → AtSite (λ x. site_config x ≡ Some c) before → StandsSo s f c after (Err stop) old new result
   so_down s old mid near new before after stop result rest there facts loads held noted fell lets replied f c at is =
       let x : SiteFacts = group_up_facts (map plain_fact c.volumes) f in
       let marked : mid.facts.items ≡ slice_set old.facts.items s x = noted_up s old mid before f c rest there at is noted in
       let now : slice_get near.facts.items s ≡ Some x = ap (λ (fs : List SiteFacts). slice_get fs s) facts ∙ seen_up s old mid f x at marked in (
-        fell x now ∙ ap (λ (fs : List SiteFacts). slice_set fs s (down_facts x)) (facts ∙ marked) ∙ set_twice old.facts.items s x (down_facts x),
+        fell x now ∙ ap (λ (fs : List SiteFacts). slice_set fs s (down_fact x)) (facts ∙ marked) ∙ set_twice old.facts.items s x (down_fact x),
         subst (λ (xs : List Assembled). LetGo s xs new.assemblies.items) (ap (λ xs. xs.items) (loads ∙ held)) lets,
         replied,
       )

@@ -50,7 +50,7 @@ use Rattle.vx_events.specs.declared.said.Said.TheVariants.{Refused, Resumed}
 use Rattle.vx_yard.proofs.Carrying.{LetsGo, SameLoad}
 use Rattle.vx_yard.proofs.FuseStays.{fused_none}
 use Rattle.vx_yard.proofs.OneSite.{Changed}
-use Rattle.vx_yard.specs.Changes.{down_facts}
+use Rattle.vx_effects.specs.Facts.{down_fact}
 use Rattle.vx_yard.specs.GroupFacts.{group_up_facts}
 use Rattle.vx_yard.specs.Loads.{LetGo}
 use Rattle.vx_yard.specs.Yards.{IsTold}
@@ -85,10 +85,10 @@ up_seen n note next c is = ap (λ (vs : List VolumeFacts). group_up_facts vs (fa
 
 -- and went down again
 fell_seen : (n : Node) (note next k : GroupNode) (c : Config) → config_of next.config ≡ Some (at_serial 0 c) → k.config ≡ next.config
-    → down_facts (group_up_facts (map plain_fact c.volumes) (fact_of_group n note)) ≡ fact_of_group (crashed (with_note k (returned_with next n)) 0) k
+    → down_fact (group_up_facts (map plain_fact c.volumes) (fact_of_group n note)) ≡ fact_of_group (crashed (with_note k (returned_with next n)) 0) k
 fell_seen n note next k c is same =
-    ap (λ (vs : List VolumeFacts). down_facts (group_up_facts vs (fact_of_group n note))) (sym (table_is next c is))
-    ∙ ap (λ (xs : List ℕ). let q : GroupNode = record next { config = xs } in down_facts (group_up_facts (noted_table q) (fact_of_group n note))) (sym same)
+    ap (λ (vs : List VolumeFacts). down_fact (group_up_facts vs (fact_of_group n note))) (sym (table_is next c is))
+    ∙ ap (λ (xs : List ℕ). let q : GroupNode = record next { config = xs } in down_fact (group_up_facts (noted_table q) (fact_of_group n note))) (sym same)
 
 named_view : (n k : Node) (next : GroupNode) → n.name ≡ k.name → grouped_view (risen_node next n) next ≡ grouped_view (record k { state = IsUp }) next
 named_view n k next name = ap (λ (x : List ℕ). let v : SiteView = record (grouped_view (risen_node next n) next) { name = x } in v) name
@@ -294,12 +294,12 @@ module _ {R : Type 0} {g : Ghosts R} where
             follows : Follows e (noted_at (happened (happened e (Regroup s) false) (CrashAt s 0) false) s (still_cut cut next)) old new
             follows =
                 follows_off e (noted_at (happened (happened e (Regroup s) false) (CrashAt s 0) false) s (still_cut cut next)) s k (still_cut cut next)
-                (down_facts (group_up_facts (map plain_fact c.volumes) (fact_of_group n note))) old new before t.set begin.stands begin.below (turned t.set t.is)
+                (down_fact (group_up_facts (map plain_fact c.volumes) (fact_of_group n note))) old new before t.set begin.stands begin.below (turned t.set t.is)
                 (arrives_noted e (happened (happened e (Regroup s) false) (CrashAt s 0) false) s (crashed (group_up n) 0) (still_cut cut next) None fell)
                 (λ back_up. let w : IsDown ≡ IsUp = back_up in absurd (cc)) (down_notes k (still_cut cut next) t.set.site t.holds).0
                 (down_set k (still_cut cut next) t.set (record { few = sized.few; some = sized.some }) t.holds same (λ x is. fits_note (still_cut cut next) next refl x (fits x t.set.cut same is)))
                 (still_fails k t.set t.is refl) (fused_none k (OfGroup t.set) refl) (fell_seen n note next (still_cut cut next) c reads refl)
-                (so.0 ∙ ap (λ (fs : List SiteFacts). slice_set fs s (down_facts (group_up_facts (map plain_fact c.volumes) (fact_of_group n note)))) half.facts) lets
+                (so.0 ∙ ap (λ (fs : List SiteFacts). slice_set fs s (down_fact (group_up_facts (map plain_fact c.volumes) (fact_of_group n note)))) half.facts) lets
 
             named : Contains (calls s old new (MOST_DISKS + suc disk)) (s, disk)
             named =

@@ -30,7 +30,7 @@ use Rattle.vx_events.specs.GroupViews.{plain_fact}
 use Rattle.vx_events.specs.declared.said.Said.{Said}
 use Rattle.vx_events.specs.declared.said.Said.TheVariants.{Resumed}
 use Rattle.vx_yard.specs.Carries.{Carries}
-use Rattle.vx_yard.specs.Changes.{down_facts}
+use Rattle.vx_effects.specs.Facts.{down_fact}
 use Rattle.vx_yard.specs.GroupFacts.{group_up_facts}
 use Rattle.vx_yard.specs.Loads.{LetGo}
 use Rattle.vx_yard.specs.Replies.{reply_to}
@@ -71,7 +71,7 @@ module _ {R : Type 0} {g : Ghosts R} where
       × ((k : Config) → AtSite (λ x. site_config x ≡ Some k) after
       → result ≡ Ok (Resumed (view_with (group_up_facts (map plain_fact c.volumes) f) (Some k)) (kept_shown (map plain_fact c.volumes) kept)))
   StandsSo s f c after (Err stop) old new result =
-      (new.facts.items ≡ slice_set old.facts.items s (down_facts (group_up_facts (map plain_fact c.volumes) f))) × LetGo s old.assemblies.items new.assemblies.items
+      (new.facts.items ≡ slice_set old.facts.items s (down_fact (group_up_facts (map plain_fact c.volumes) f))) × LetGo s old.assemblies.items new.assemblies.items
       × (result ≡ reply_to stop)
 
   -- a look at the write that was cut, at a site that came up

@@ -6,7 +6,7 @@ ghost use Rattle.vx_group_lines.specs.Noting.{KeepsRest};
 ghost use Rattle.vx_group_lines.specs.Rises.{RisesIs, StoodUp, kept_shown};
 ghost use Rattle.vx_model.specs.declared.site.SiteState.TheVariants.{Down as DownState};
 ghost use Rattle.vx_order.specs.declared.facts.SiteFacts.{SiteFacts as Facts};
-ghost use Rattle.vx_yard.specs.Changes.{down_facts};
+ghost use Rattle.vx_effects.specs.Facts.{down_fact};
 ghost use Rattle.vx_yard.specs.Loads.{LetGo};
 ghost use Rattle.vx_yard.specs.Replies.{reply_to};
 ghost use Rattle.vx_history.specs.Doubts.{Doubted};
@@ -83,7 +83,7 @@ fn fall_again<R: Rack>(
     stop: Stop,
 ) -> Result<Said, OutOfMemory>
     requires facts { site < length yard.old.facts.items }
-    ensures facts { (f : Facts) → slice_get yard.old.facts.items site ≡ Some f → yard.new.facts.items ≡ slice_set yard.old.facts.items site (down_facts f) }
+    ensures facts { (f : Facts) → slice_get yard.old.facts.items site ≡ Some f → yard.new.facts.items ≡ slice_set yard.old.facts.items site (down_fact f) }
     ensures assemblies { LetGo site yard.old.assemblies.items yard.new.assemblies.items }
     ensures same { KeepsRest yard.old yard.new }
     ensures said { result ≡ reply_to stop }

@@ -49,6 +49,3 @@ pub record IsDeportedAt (n : Node) (note : GroupNode) (last newest : Config) (m 
   pub found : NotesFound note newest m
   pub lies : AwayLies n note last m
 
--- whatever a crash leaves, each image has this configuration
-pub record AllHave (c : Config) (m : Meaning) : Type 0 where
-  pub finds : (i : Image) → Each m.leaves i → found m i ≡ Found c

@@ -23,7 +23,7 @@ use Rattle.vx_group.specs.Attaches.{att_refusal}
 use Rattle.vx_group.specs.Dets.{det_refusal}
 use Rattle.vx_untold.specs.Shades.{shade_meaning}
 use Rattle.vx_watched.specs.Traces.{TellsLess}
-use Rattle.vx_grouped.specs.Away.{AllHave}
+use Rattle.vx_kept.specs.Commits.{IsCommitted}
 use Rattle.vx_grouped.specs.Copied.{CopiesRegions}
 use Rattle.vx_grouped.specs.ConfigMoves.{AttDone, AttFails, CleansPlexes, DetDone, DetFails, LosesSome}
 use Rattle.vx_grouped.specs.GroupNotes.{NotesConfig}
@@ -48,7 +48,7 @@ stops_down other = false
 module _ {R : Type 0} {g : Ghosts R} where
   -- each image has the configuration that is noted
   abbrev pub NewestCommitted : GroupNode → GroupSite R g → Type 0
-  NewestCommitted note (Deported idle) = (c : Config) × NotesConfig note c × AllHave c (shade_meaning g.meaning idle.rack)
+  NewestCommitted note (Deported idle) = (c : Config) × NotesConfig note c × IsCommitted c (shade_meaning g.meaning idle.rack)
   NewestCommitted note other = ⊥
 
   -- whatever the site is noted as, it still is

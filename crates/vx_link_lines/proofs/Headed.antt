@@ -35,11 +35,11 @@ use Rattle.vx_effects.proofs.Effects.{changes_same}
 use Rattle.vx_effects.proofs.Facts.{facts_at, halted_is, over_apart, over_same}
 use Rattle.vx_effects.proofs.Leaving.{fit_crashed_as, fit_halved}
 use Rattle.vx_effects.proofs.Notes.{burned_twice}
-use Rattle.vx_effects.specs.Facts.{fact_of, halted_fact, halted_group as halted_there, halted_group, over_of}
+use Rattle.vx_effects.specs.Facts.{fact_of, halted_fact, halted_group as halted_there, halted_group, over_of, down_fact}
 use Rattle.vx_diskset.proofs.Roles.{role_like}
 use Rattle.vx_model.specs.Sites.{is_origin}
 use Rattle.vx_yard.specs.Carries.{Carries}
-use Rattle.vx_yard.specs.Changes.{down_facts, halted_facts}
+use Rattle.vx_yard.specs.Changes.{halted_facts}
 use Rattle.vx_link_lines.specs.Headed.{CutFor, FullFor, HeadedIs, NextFor, NotesAt, behind, noted_by}
 use Rattle.vx_yard.specs.Standing.{IsSameSite, StandsFor}
 use Rattle.vx_yard.specs.Writes.{noted_facts}
@@ -75,12 +75,12 @@ facts_there d e s n row changes below alone node links =
     ∙ over_apart n row d.world.sites alone)
 
 -- a site that went down shows nothing of what a header says
-down_alike : (n m : Node) (a b : ℕ → Link) (sites : ℕ) → m.name ≡ n.name → m.disks ≡ n.disks → m.blocks ≡ n.blocks → m.volumes ≡ n.volumes → down_facts (fact_of m b sites) ≡ down_facts (fact_of n a sites)
+down_alike : (n m : Node) (a b : ℕ → Link) (sites : ℕ) → m.name ≡ n.name → m.disks ≡ n.disks → m.blocks ≡ n.blocks → m.volumes ≡ n.volumes → down_fact (fact_of m b sites) ≡ down_fact (fact_of n a sites)
 down_alike n m a b sites name disks blocks volumes =
-    ap (λ (x : List ℕ). down_facts (let y : SiteFacts = record (fact_of m b sites) { name = x } in y)) name
-    ∙ ap (λ (x : ℕ). down_facts (let y : SiteFacts = record (fact_of m b sites) { name = n.name; disks = x } in y)) disks
-    ∙ ap (λ (x : ℕ). down_facts (let y : SiteFacts = record (fact_of m b sites) { name = n.name; disks = n.disks; blocks = x } in y)) blocks
-    ∙ ap (λ (x : List Volume). down_facts (let y : SiteFacts = record (fact_of m b sites) { name = n.name; disks = n.disks; blocks = n.blocks; volumes = map volume_fact x } in y)) volumes
+    ap (λ (x : List ℕ). down_fact (let y : SiteFacts = record (fact_of m b sites) { name = x } in y)) name
+    ∙ ap (λ (x : ℕ). down_fact (let y : SiteFacts = record (fact_of m b sites) { name = n.name; disks = x } in y)) disks
+    ∙ ap (λ (x : ℕ). down_fact (let y : SiteFacts = record (fact_of m b sites) { name = n.name; disks = n.disks; blocks = x } in y)) blocks
+    ∙ ap (λ (x : List Volume). down_fact (let y : SiteFacts = record (fact_of m b sites) { name = n.name; disks = n.disks; blocks = n.blocks; volumes = map volume_fact x } in y)) volumes
 
 module _ {R : Type 0} {g : Ghosts R} (note : (ℕ → Node) → ℕ → Node) (s : ℕ) (notes : NotesAt s note) (d : Doubted) (e : Event) (m : Node) (ls : List KeptLink) (gathered : Option Gathering)
     (h : IsHeader d e s m ls gathered) (old new : Yard R g) (before after : DiskSet R g) (stands : StandsFor (noted_by note d) old) (below : s < d.world.sites) (changed : Changed old new s before after) where
@@ -214,14 +214,14 @@ module _ {R : Type 0} {g : Ghosts R} (note : (ℕ → Node) → ℕ → Node) (s
       }
 
   -- its fuse ran out in it
-  pub headed_cut : (x x' : SiteFacts) → Answered CrashedAt (beside_of d s) (worked n) (worked m) ls before after (Err Off) → LeavesFuse NoMore (Refused Off) before after → slice_get old.facts.items s ≡ Some x → x' ≡ down_facts x
+  pub headed_cut : (x x' : SiteFacts) → Answered CrashedAt (beside_of d s) (worked n) (worked m) ls before after (Err Off) → LeavesFuse NoMore (Refused Off) before after → slice_get old.facts.items s ≡ Some x → x' ≡ down_fact x
       → new.facts.items ≡ slice_set old.facts.items s x' → LetsGo old new s → CutFor note d e s old new
   headed_cut x x' is calls at noted facts lets =
       ⊎_elim (λ own. itself_by is.1.kept own is.1.count is.1.least is.1.most is.1.stands) (λ other. doubt_by is.1.kept other is.1.count is.1.least is.1.most is.1.stands) is.1.is
     where
       by : (count : ℕ) (taken : Bool) (k : Node) (links : ℕ → Link) (ks : List KeptLink) (node_is : (resolved_at (halved d e s 0) s taken).world.nodes s ≡ k)
           (row_is : (j : ℕ) → (resolved_at (halved d e s 0) s taken).world.links s j ≡ links j) (links_are : row_links links d.world.sites ≡ ks) (least : k.safe ≤ count) (most : count ≤ length k.log)
-          → is_over_group k ≡ false → k.state ≡ IsUp → k.failing ≡ n.failing → down_facts (fact_of k links d.world.sites) ≡ down_facts (fact_of n links d.world.sites)
+          → is_over_group k ≡ false → k.state ≡ IsUp → k.failing ≡ n.failing → down_fact (fact_of k links d.world.sites) ≡ down_fact (fact_of n links d.world.sites)
           → SiteStands (record { links = ks; headers = d.world.headers s + 1; doubt = None }) (crashed k count) after → CutFor note d e s old new
       by count taken k links ks node_is row_is links_are least most alone up failing shown stood_there =
           let to : Doubted = noted_by note (crashed_as (halved d e s 0) s count taken) in
@@ -245,7 +245,7 @@ module _ {R : Type 0} {g : Ghosts R} (note : (ℕ → Node) → ℕ → Node) (s
                     role = role_off (record { links = ks; headers = d.world.headers s + 1; doubt = None }) (crashed k count) (to.world.nodes s) after stood_there (λ is_up. down_up is_up);
                   })
                   (noted_there Off x x' at noted facts
-                  ∙ ap (λ (q : Node). slice_set (facts_over start.world) s (down_facts (fact_of q (d.world.links s) d.world.sites))) here
+                  ∙ ap (λ (q : Node). slice_set (facts_over start.world) s (down_fact (fact_of q (d.world.links s) d.world.sites))) here
                   ∙ ap (slice_set (facts_over start.world) s) (sym shown)
                   ∙ sym (facts_there start to s (crashed k count) (to.world.links s) changes below alone node (λ j. refl)))
                   (λ a some. absurd (never_some (sym (worlds.fell_sure note s notes d e m h.row ls gathered h.effect h.kept h.sure count taken k links ks node_is row_is links_are least most) ∙ some)));

@@ -2,13 +2,13 @@
 use Rattle.std.proofs.Common.{◌≡◌, ◌≢◌, ◌∙◌, ℕ, ◌-◌, ◌≤◌, Bool, true, false, refl, sym, ap, arith}
 use Rattle.std.specs.Prelude.{◌&&◌, eqb, leb, if◌then◌else◌}
 use Rattle.std.proofs.lemmas.Bool.{and_parts, eqb-true, leb-true}
-use Rattle.vx_history.specs.Sending.{phase_logs}
+use Rattle.vx_history.specs.Sending.{phase_logs, phase_overtaken}
 use Rattle.vx_model.specs.declared.link.Link.{Link}
 use Rattle.vx_model.specs.declared.link.Phase.{Phase}
 use Rattle.vx_model.specs.declared.link.Phase.TheVariants.{Start, Regions, Done, Log as ByLogAgain}
 use Rattle.vx_model.specs.declared.link.Mode.{Mode}
 use Rattle.vx_model.specs.declared.link.Mode.TheVariants.{Log, Dcm, Replay, Fork, Stale}
-use Rattle.vx_replay.specs.Primary.{AtPrimary, acked, as_it_was, at_start, can_begin, copying, done_heard, end_in, ends_at, filling, id_in, in_mode, mode_fallen, mode_read, mode_sends, phase_copies, phase_ends, phase_sends, phase_starts, primary_step, region_heard, start_heard, start_in, told_stored}
+use Rattle.vx_replay.specs.Primary.{AtPrimary, acked, as_it_was, at_start, can_begin, copying, done_heard, end_in, ends_at, filling, id_in, in_mode, mode_fallen, mode_read, mode_sends, phase_copies, phase_ends, phase_sends, primary_step, region_heard, start_heard, start_in, told_stored}
 use Rattle.vx_replay.specs.declared.event.PEvent.{PEvent}
 use Rattle.vx_replay.specs.declared.event.PEvent.TheVariants.{Begin, Ack, Read, Stored, Pump, Restart}
 use Rattle.vx_replay.specs.declared.event.PAction.{PAction}
@@ -82,7 +82,7 @@ start_follows : (l : Link) (told id : ℕ) (mode : Mode) → Follows l told (sta
 start_follows l told id Log = alone l told Ignored refl
 start_follows l told id Dcm = alone l told Ignored refl
 start_follows l told id (Replay of phase left start end) =
-    choose (λ (r : AtPrimary). Follows l told r) (eqb id of && phase_starts phase) (in_mode l (copying of left start end) Nothing) (as_it_was l Ignored)
+    choose (λ (r : AtPrimary). Follows l told r) (eqb id of && phase_overtaken phase) (in_mode l (copying of left start end) Nothing) (as_it_was l Ignored)
     (λ _. moved l told (copying of left start end) Nothing (copying_no_log of left start end) refl refl) (λ _. alone l told Ignored refl)
 start_follows l told id (Fork maps) = alone l told Ignored refl
 start_follows l told id Stale = alone l told Ignored refl
@@ -206,8 +206,8 @@ start_earlier : (l : Link) (id : ℕ) (mode : Mode) → id ≢ id_in mode → (s
 start_earlier l id Log other = refl
 start_earlier l id Dcm other = refl
 start_earlier l id (Replay of phase left start end) other =
-    choose (λ (r : AtPrimary). r.action ≡ Ignored) (eqb id of && phase_starts phase) (in_mode l (copying of left start end) Nothing) (as_it_was l Ignored)
-    (λ both. absurd (other (eqb-true id of (and_parts (eqb id of) (phase_starts phase) both).0))) (λ _. refl)
+    choose (λ (r : AtPrimary). r.action ≡ Ignored) (eqb id of && phase_overtaken phase) (in_mode l (copying of left start end) Nothing) (as_it_was l Ignored)
+    (λ both. absurd (other (eqb-true id of (and_parts (eqb id of) (phase_overtaken phase) both).0))) (λ _. refl)
 start_earlier l id (Fork maps) other = refl
 start_earlier l id Stale other = refl
 

@@ -1,6 +1,6 @@
 -- What each event of a replay makes of a link at its sending end, and what then is to be done.
 use Rattle.std.specs.Prelude.{ℕ, ◌-◌, Bool, true, false, ◌&&◌, eqb, leb, if◌then◌else◌}
-use Rattle.vx_history.specs.Sending.{phase_logs}
+use Rattle.vx_history.specs.Sending.{phase_overtaken, phase_logs}
 use Rattle.vx_model.specs.declared.link.Link.{Link}
 use Rattle.vx_model.specs.declared.link.Phase.{Phase}
 use Rattle.vx_model.specs.declared.link.Phase.TheVariants.{Start, Regions, Done, Log as ByLogAgain}
@@ -33,12 +33,6 @@ can_begin Stale = true
 abbrev pub begun : Link → (id head regions : ℕ) → AtPrimary
 begun l id head regions = if can_begin l.mode then in_mode l (Replay id Start regions head head) SendStart else as_it_was l Nothing
 
-abbrev pub phase_starts : Phase → Bool
-phase_starts Start = true
-phase_starts Regions = false
-phase_starts Done = false
-phase_starts ByLogAgain = false
-
 abbrev pub phase_copies : Phase → Bool
 phase_copies Start = false
 phase_copies Regions = true
@@ -59,7 +53,7 @@ copying id left start end = if eqb left 0 then Replay id Done left start end els
 abbrev pub start_heard : Link → (id : ℕ) → Mode → AtPrimary
 start_heard l id Log = as_it_was l Ignored
 start_heard l id Dcm = as_it_was l Ignored
-start_heard l id (Replay of phase left start end) = if eqb id of && phase_starts phase then in_mode l (copying of left start end) Nothing else as_it_was l Ignored
+start_heard l id (Replay of phase left start end) = if eqb id of && phase_overtaken phase then in_mode l (copying of left start end) Nothing else as_it_was l Ignored
 start_heard l id (Fork maps) = as_it_was l Ignored
 start_heard l id Stale = as_it_was l Ignored
 

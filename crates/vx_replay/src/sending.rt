@@ -1,6 +1,7 @@
 // What the events of a replay make of the link at its sending end.
 ghost use Rattle.std.specs.Prelude.{◌≡◌};
-ghost use Rattle.vx_replay.specs.Primary.{acked, begun, can_begin as can_begin_is, copying as copying_is, done_heard, ends_at as ends_at_is, filling, mode_fallen, mode_read, mode_sends, phase_copies, phase_ends, phase_starts, primary_step, region_heard, start_heard, stored_up_to};
+ghost use Rattle.vx_replay.specs.Primary.{acked, begun, can_begin as can_begin_is, copying as copying_is, done_heard, ends_at as ends_at_is, filling, mode_fallen, mode_read, mode_sends, phase_copies, phase_ends, primary_step, region_heard, start_heard, stored_up_to};
+ghost use Rattle.vx_history.specs.Sending.{phase_overtaken};
 
 use crate::{PAction, PEvent};
 use vx_model::{Link, Mode, Phase};
@@ -138,7 +139,7 @@ fn hear_done(link: &mut Link, id: u64) -> PAction
 }
 
 fn is_start(phase: &Phase) -> bool
-    ensures { result ≡ phase_starts phase.now }
+    ensures { result ≡ phase_overtaken phase.now }
 {
     match phase {
         Phase::Start => true,

@@ -44,14 +44,13 @@ use Rattle.vx_events.specs.Lists.{Choice, events_of, writing_events}
 use Rattle.vx_events.specs.Sayings.{is_written}
 use Rattle.vx_events.specs.declared.said.Said.{Said}
 use Rattle.vx_events.specs.declared.said.Said.TheVariants.{DoneAt, Logged, Refused}
-use Rattle.vx_effects.specs.Facts.{fact_of, half_fact, logged_fact}
+use Rattle.vx_effects.specs.Facts.{fact_of, half_fact, logged_fact, down_fact}
 use Rattle.vx_effects.specs.Writes.{IsLetIn}
 use Rattle.vx_effects.proofs.Facts.{down_is}
 use Rattle.vx_effects.proofs.WriteLines.{line_cut, line_halted, line_written, worked_effect}
 use Rattle.vx_events.proofs.Places.{never_some, some_same}
 use Rattle.vx_linked.specs.Holds.{awaits, awaits_one, is_over, least_hold}
 use Rattle.vx_linked.proofs.LeastHolds.{awaits_same}
-use Rattle.vx_yard.specs.Changes.{down_facts}
 use Rattle.vx_yard.specs.Standing.{Leads, StandsFor}
 use Rattle.vx_yard.specs.Carries.{Carries}
 use Rattle.vx_yard.specs.Stands.{RoseAll}
@@ -121,7 +120,7 @@ line_done told d line name volume start bytes s v fails said new (OfPut is one) 
 
 -- what the tests see of a site whose fuse ran out in a write
 cut_fact : (d : Doubted) (s : ℕ) (x : Write) (count : ℕ) → LinksFit d → IsLetIn d.world s x → (d.world.nodes s).safe ≤ count → count ≤ length ((d.world.nodes s).log ++ x ∷ [])
-    → down_facts (linked_fact d.world s) ≡ linked_fact (cut_for d s x count).world s
+    → down_fact (linked_fact d.world s) ≡ linked_fact (cut_for d s x count).world s
 cut_fact d s x count fits can least most =
     let last : Doubted = cut_events d s x count in
     let e : Doubted = cut_for d s x count in
@@ -314,7 +313,7 @@ module _ {R : Type 0} {g : Ghosts R} where
 
     -- its fuse ran out, and the site is down
     cut_leads : (f f' : SiteFacts) → WroteAt (beside_of d s) n x before after (Err Off) → WritesUnder bytes (Refused Off) before after → slice_get old.facts.items s ≡ Some f
-        → f' ≡ down_facts f → new.facts.items ≡ slice_set old.facts.items s f' → LetsGo old new s → Leads d line (Refused Off) old new
+        → f' ≡ down_fact f → new.facts.items ≡ slice_set old.facts.items s f' → LetsGo old new s → Leads d line (Refused Off) old new
     cut_leads f f' wrote under at noted facts gone =
         ⊎_elim (λ own. by_own wrote.1.kept own wrote.1.count wrote.1.least wrote.1.most wrote.1.stands) (λ other. absurd (never_some (sym sure ∙ other))) wrote.1.is
       where
@@ -340,7 +339,7 @@ module _ {R : Type 0} {g : Ghosts R} where
             (stands_at d e old new s f' before after stands to.seat.below changed
             (cut_comes d s x count after stands.links can least most stays (fails_behind (beside_of d s) n before after stood (Refused Off) under.burns n refl fits))
             (fact_at e.world s f' (over_is (crashed (half_begun n x) count) (e.world.nodes s) eff.is.node to.apart)
-            (noted ∙ ap down_facts (some_same (sym at ∙ to.seat.fact)) ∙ cut_fact d s x count stands.links can least most)) facts)
+            (noted ∙ ap down_fact (some_same (sym at ∙ to.seat.fact)) ∙ cut_fact d s x count stands.links can least most)) facts)
             (carries_let s d e old new gone (omega (arith, to.seat.below, stands.disk_sets.few)) eff.site eff.sent eff.gathering (λ up. down_up (sym (ap (λ (q : Node). q.state) eff.is.node) ∙ up))
             (told_by old new s before after changed))
             (rose_still old new s before after changed.there changed.later changed.disk_sets))

@@ -55,7 +55,8 @@ use Rattle.vx_events.specs.Lists.{Choice}
 use Rattle.vx_events.specs.Sayings.{RepeatsSaid, Replies}
 use Rattle.vx_events.specs.declared.said.Said.{Said}
 use Rattle.vx_events.specs.declared.said.Said.TheVariants.{DoneAt, Refused}
-use Rattle.vx_yard.specs.Changes.{down_facts, halted_facts}
+use Rattle.vx_yard.specs.Changes.{halted_facts}
+use Rattle.vx_effects.specs.Facts.{down_fact}
 use Rattle.vx_yard.specs.Standing.{IsSameSite, Leads, StandsFor, crash_of}
 use Rattle.vx_yard.specs.Working.{IsFree}
 use Rattle.vx_yard.specs.Writes.{noted_facts}
@@ -244,7 +245,7 @@ module _ {R : Type 0} {g : Ghosts R} where
 
     -- its fuse ran out, and the site is down
     falls_off : (f f' : SiteFacts) → AppliedAt (beside_of d s) n to before after (Err Off) → LeavesFuse NoMore (Refused Off) before after → slice_get old.facts.items s ≡ Some f
-        → f' ≡ down_facts f → new.facts.items ≡ slice_set old.facts.items s f' → LetsGo old new s → Leads d (Apply name to) (Refused Off) old new
+        → f' ≡ down_fact f → new.facts.items ≡ slice_set old.facts.items s f' → LetsGo old new s → Leads d (Apply name to) (Refused Off) old new
     falls_off f f' is calls at noted facts lets = ⊎_elim (λ own. itself_by is.1.kept own is.1.count is.1.least is.1.most is.1.stands) (λ other. absurd (never_some (sym sure ∙ other))) is.1.is
       where
         sure : (beside_of d s).doubt ≡ None
@@ -289,7 +290,7 @@ module _ {R : Type 0} {g : Ghosts R} where
                     role = subst (λ (q : Node). RoleIs q after) same before_noted.role;
                     doubt = λ was a there. subst (λ (q : Node). IsSameSite q a.node) same (before_noted.doubt was a there);
                   })
-                  (noted ∙ ap down_facts (some_same (sym at ∙ fact_of d old s stands here.seat.below)) ∙ crash_fact d s count false n (d.world.links s) refl (λ j. refl) (λ _. refl) here.seat.below here.can.up least most refl refl refl refl
+                  (noted ∙ ap down_fact (some_same (sym at ∙ fact_of d old s stands here.seat.below)) ∙ crash_fact d s count false n (d.world.links s) refl (λ j. refl) (λ _. refl) here.seat.below here.can.up least most refl refl refl refl
                   ∙ over_same (e.world.nodes s) (h.world.nodes s) (h.world.links s) (h.world.links s) h.world.sites h.world.sites same (λ j. refl) refl)
                   facts;
               rose = rose_still old new s before after changed.there changed.later changed.disk_sets;

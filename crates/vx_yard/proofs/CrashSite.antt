@@ -53,7 +53,7 @@ use Rattle.vx_events.specs.declared.said.Said.TheVariants.{Done}
 use Rattle.vx_history.specs.declared.event.Event.{Event}
 use Rattle.vx_history.specs.declared.event.Said.{Said as EventSaid}
 use Rattle.vx_events.specs.LinksFit.{LinksFit}
-use Rattle.vx_yard.specs.Changes.{down_facts}
+use Rattle.vx_effects.specs.Facts.{down_fact}
 use Rattle.vx_yard.specs.Standing.{Falls, Leads, StandsFor, crash_of}
 use Rattle.vx_yard.specs.declared.yard.Yard.{Yard}
 use Rattle.vx_yard.proofs.Alike.{apart_place}
@@ -174,7 +174,7 @@ module _ (d : Doubted) (s count : ℕ) (taken : Bool) (m : Node) (row : ℕ → 
 
   -- what the tests see of it
   pub crash_fact : m.name ≡ (d.world.nodes s).name → m.disks ≡ (d.world.nodes s).disks → m.blocks ≡ (d.world.nodes s).blocks → m.volumes ≡ (d.world.nodes s).volumes
-      → down_facts (fact_over d.world s) ≡ fact_over e.world s
+      → down_fact (fact_over d.world s) ≡ fact_over e.world s
   crash_fact name disks blocks volumes =
       let n : Node = d.world.nodes s in
       let c : Node = crashed_node n m count in
@@ -208,14 +208,14 @@ module _ {R : Type 0} {g : Ghosts R} where
 
   -- the same of a yard
   pub falls : (d : Doubted) (old new : Yard R g) (s : ℕ) (f f' : SiteFacts) (before after : DiskSet R g) → StandsFor d old → s < d.world.sites → (d.world.nodes s).state ≡ Up → slice_get old.facts.items s ≡ Some f
-      → Changed old new s before after → CrashedAt (beside_of d s) (d.world.nodes s) after → SameFailing before after → f' ≡ down_facts f → new.facts.items ≡ slice_set old.facts.items s f' → LetsGo old new s → Falls d s old new
+      → Changed old new s before after → CrashedAt (beside_of d s) (d.world.nodes s) after → SameFailing before after → f' ≡ down_fact f → new.facts.items ≡ slice_set old.facts.items s f' → LetsGo old new s → Falls d s old new
   falls d old new s f f' before after stands below up at changed fell same is facts lets = ⊎_elim (λ own. itself_by fell.kept own fell.count fell.least fell.most fell.stands) (λ other. doubt_by (d.after s) refl fell.kept other fell.count fell.least fell.most fell.stands) fell.is
     where
       n : Node
       n = d.world.nodes s
 
-      was : down_facts f ≡ down_facts (fact_over d.world s)
-      was = ap down_facts (some_same (sym at ∙ fact_of d old s stands below))
+      was : down_fact f ≡ down_fact (fact_over d.world s)
+      was = ap down_fact (some_same (sym at ∙ fact_of d old s stands below))
 
       never : true ≡ false → ⊥
       never e = cc

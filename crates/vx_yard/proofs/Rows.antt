@@ -19,7 +19,7 @@ use Rattle.vx_events.specs.GroupNotes.{no_note, note_at}
 use Rattle.vx_events.specs.GroupViews.{noted_table}
 use Rattle.vx_events.specs.StepsOver.{fact_of_group}
 use Rattle.vx_events.specs.LinkedFacts.{needed_by, link_fact, link_facts, links_by}
-use Rattle.vx_yard.specs.Changes.{down_facts}
+use Rattle.vx_effects.specs.Facts.{down_fact}
 
 module _ (row new : ℕ → Link) (same : (k : ℕ) → new k ≡ row k) where
   in_place_same : (place n : ℕ) → link_in_place new place n ≡ link_in_place row place n
@@ -95,10 +95,10 @@ pub record IsDownOf (n c : Node) : Type 0 where
   pub state : c.state ≡ IsDown
 
 module _ (n c : Node) (row new : ℕ → Link) (sites many : ℕ) (is : IsDownOf n c) where
-  down_by : (b : Bool) → down_facts (if b then fact_of_group n (note_at n) else fact_from n row sites) ≡ (if b then fact_of_group c (note_at c) else fact_from c new many)
-  down_by true = facts_is (down_facts (fact_of_group n (note_at n))) (fact_of_group c (note_at c)) (sym is.name) (sym is.state) (sym is.disks) (sym is.blocks) refl
+  down_by : (b : Bool) → down_fact (if b then fact_of_group n (note_at n) else fact_from n row sites) ≡ (if b then fact_of_group c (note_at c) else fact_from c new many)
+  down_by true = facts_is (down_fact (fact_of_group n (note_at n))) (fact_of_group c (note_at c)) (sym is.name) (sym is.state) (sym is.disks) (sym is.blocks) refl
       (ap (λ (o : Option GroupNode). noted_table (unwrap_or o no_note)) (sym is.group)) refl refl
-  down_by false = facts_is (down_facts (fact_from n row sites)) (fact_from c new many) (sym is.name) (sym is.state) (sym is.disks) (sym is.blocks) refl
+  down_by false = facts_is (down_fact (fact_from n row sites)) (fact_from c new many) (sym is.name) (sym is.state) (sym is.disks) (sym is.blocks) refl
       (ap (λ (vs : List Volume). map volume_fact vs) (sym is.volumes))
       (ap (λ (t : SiteState). group_by t c) (sym is.state))
       (ap (λ (t : SiteState). links_by t (link_facts c new (linked_sites new many 0 many))) (sym is.state))
@@ -107,7 +107,7 @@ module _ (n c : Node) (row new : ℕ → Link) (sites many : ℕ) (is : IsDownOf
   over_down = ap (λ (o : Option GroupNode). is_some o && eqb (length c.volumes) 0) is.group ∙ ap (λ (vs : List Volume). is_some n.group && eqb (length vs) 0) is.volumes
 
   -- the tests see the same of it, but that it is down
-  pub down_over : down_facts (over_from n row sites) ≡ over_from c new many
+  pub down_over : down_fact (over_from n row sites) ≡ over_from c new many
   down_over = down_by (is_over_group n) ∙ ap (λ (b : Bool). if b then fact_of_group c (note_at c) else fact_from c new many) (sym over_down)
 
 -- another node, of which the tests see the same

@@ -4,7 +4,7 @@ use Rattle.vx_effects.specs.Facts.{halted_group, last_group}
 use Rattle.vx_model.specs.Sites.{first_line}
 use Rattle.vx_model.specs.Sizes.{ring_of}
 use Rattle.vx_model.specs.Sites.{no_line}
-use Rattle.vx_model.specs.declared.site.SiteState.TheVariants.{Bare, Up, Down}
+use Rattle.vx_model.specs.declared.site.SiteState.TheVariants.{Bare, Up}
 use Rattle.vx_model.specs.declared.state.State.{State}
 use Rattle.vx_model.specs.declared.site.Role.TheVariants.{Primary}
 use Rattle.vx_model.specs.declared.site.Mark.TheVariants.{Consistent}
@@ -40,10 +40,6 @@ last_facts number f = record f { rvg = last_group number f.rvg }
 
 abbrev pub halted_facts : ℕ → SiteFacts → SiteFacts
 halted_facts disk f = record f { rvg = halted_group disk f.rvg }
-
--- a site that went down shows no group and no link
-abbrev pub down_facts : SiteFacts → SiteFacts
-down_facts f = record f { state = Down; rvg = None; links = [] }
 
 -- the group of a site that came up with this state, up to this number, with this ring
 abbrev pub up_group : State → ℕ → ℕ → RvgFacts

@@ -9,21 +9,21 @@ use Rattle.vx_script.specs.declared.line.ScriptLine.{ScriptLine}
 use Rattle.vx_script.specs.declared.line.ScriptLine.TheVariants.{Write as WriteLine, Put as PutLine}
 use Rattle.vx_events.specs.declared.said.Said.{Said}
 use Rattle.vx_events.specs.declared.said.Said.TheVariants.{DoneAt, Logged}
-use Rattle.vx_effects.specs.Facts.{half_fact}
-use Rattle.vx_yard.specs.Changes.{halted_facts, down_facts}
+use Rattle.vx_effects.specs.Facts.{half_fact, down_fact}
+use Rattle.vx_yard.specs.Changes.{halted_facts}
 use Rattle.vx_yard.specs.Working.{IsFree}
 use Rattle.vx_yard.specs.declared.yard.Yard.{Yard}
 
 -- what the tests see of a site after a write was refused so
 abbrev pub noted_facts : No → SiteFacts → SiteFacts
 noted_facts (Device disk) f = halted_facts disk f
-noted_facts Down f = down_facts f
+noted_facts Down f = down_fact f
 noted_facts other f = f
 
 -- what the tests see of a site after a write of this number and so many blocks of the log was refused so: where a disk failed it may stand there
 abbrev pub unwritten_facts : No → (number blocks : ℕ) → SiteFacts → SiteFacts
 unwritten_facts (Device disk) number blocks f = half_fact disk number blocks f
-unwritten_facts Down number blocks f = down_facts f
+unwritten_facts Down number blocks f = down_fact f
 unwritten_facts other number blocks f = f
 
 -- a write that a link has to confirm is logged, and else it is done

@@ -1,7 +1,8 @@
 // What the tests of a line look at, as it changes.
 ghost use Rattle.std.specs.Prelude.{◌≡◌, ◌≤◌, ◌<◌, IfOk, map};
 ghost use Rattle.vx_history.specs.Steps.{raw_volumes};
-ghost use Rattle.vx_yard.specs.Changes.{bare_facts, raw_volume_fact, last_facts, halted_facts, raw_facts, down_facts, up_facts};
+ghost use Rattle.vx_yard.specs.Changes.{bare_facts, raw_volume_fact, last_facts, halted_facts, raw_facts, up_facts};
+ghost use Rattle.vx_effects.specs.Facts.{down_fact};
 ghost use Rattle.vx_events.specs.Facts.{volume_fact, place_of};
 
 use std::alloc::Global;
@@ -98,7 +99,7 @@ pub fn set_halted(facts: &mut SiteFacts, disk: u32)
 
 /// The site crashed.
 pub fn go_down(alloc: Global, facts: &mut SiteFacts)
-    ensures { facts.new ≡ down_facts facts.old }
+    ensures { facts.new ≡ down_fact facts.old }
 {
     facts.state = SiteState::Down;
     facts.rvg = None;
