@@ -1,6 +1,6 @@
 // Zeros on the plexes of a new volume.
 ghost use Rattle.std.specs.Prelude.{◌+◌, ◌*◌, ◌<◌, ◌≤◌, length, IsTrue, OnOk};
-ghost use Rattle.vx_config.specs.Checks.{blocks_of, is_sound};
+ghost use Rattle.vx_config.specs.Checks.{blocks_of as blocks_of_is, is_sound};
 ghost use Rattle.vx_disk.specs.Shelf.{Goes, Nothing};
 ghost use Rattle.vx_volume.specs.Plexes.{DisksFit, SomeActive};
 ghost use Rattle.vx_group.specs.Blames.{Blames};
@@ -22,12 +22,12 @@ fn zero_run<S: Shelf>(
 ) -> Result<(), ShelfError>
     requires checked { IsTrue (is_sound config.now) }
     requires volume { vol < length config.now.volumes }
-    requires within { block + count ≤ blocks_of config.now.volumes vol }
+    requires within { block + count ≤ blocks_of_is config.now.volumes vol }
     requires few { count ≤ MOST_CALL_BLOCKS }
     requires some { SomeActive config.now vol }
     requires disks { DisksFit config.now.disks (S.meaning shelf.old) }
     requires up { IsTrue (S.meaning shelf.old).down → ⊥ }
-    ensures within { block + count ≤ blocks_of config.now.volumes vol }
+    ensures within { block + count ≤ blocks_of_is config.now.volumes vol }
     ensures goes { Goes (ZerosOn config.now vol) (S.meaning shelf.old) (S.meaning shelf.new) }
     ensures ok { OnOk result (ZeroRun config.now vol block count (S.meaning shelf.old) (S.meaning shelf.new)) }
     ensures cause { Blames (S.meaning shelf.old) (S.meaning shelf.new) result }
@@ -52,7 +52,7 @@ fn zero_blocks<S: Shelf>(shelf: &mut S, config: &Config, vol: u32) -> Result<(),
     requires disks { DisksFit config.now.disks (S.meaning shelf.old) }
     requires up { IsTrue (S.meaning shelf.old).down → ⊥ }
     ensures goes { Goes (ZerosOn config.now vol) (S.meaning shelf.old) (S.meaning shelf.new) }
-    ensures ok { OnOk result (ZeroBelow config.now vol (blocks_of config.now.volumes vol) (S.meaning shelf.new)) }
+    ensures ok { OnOk result (ZeroBelow config.now vol (blocks_of_is config.now.volumes vol) (S.meaning shelf.new)) }
     ensures cause { Blames (S.meaning shelf.old) (S.meaning shelf.new) result }
 {
     let blocks = blocks_of(config, vol);

@@ -1,6 +1,6 @@
 // The tests of events, in their order. Each answers the refusal, or none.
 ghost use Rattle.std.specs.Prelude.{◌≡◌, ◌<◌, length, not, IsNone};
-ghost use Rattle.vx_model.specs.Sites.{is_origin};
+ghost use Rattle.vx_model.specs.Sites.{is_origin as is_origin_is};
 ghost use Rattle.vx_history.specs.Sends.{is_linked};
 ghost use Rattle.vx_history.specs.Refusals.{unless, at_site, at_work, both_at_work, on_link, on_link_if, when_live};
 ghost use Rattle.vx_model.specs.Sites.{is_up as up};
@@ -119,7 +119,7 @@ pub fn refuse_link(world: &World, from: u32, to: u32) -> Option<No>
 
 /// The same of a link of a site where writes arise.
 pub fn refuse_link_of_origin(world: &World, from: u32, to: u32) -> Option<No>
-    ensures refuses { let w = world_of world.now in Refuses result w (on_link_if is_origin w from to) }
+    ensures refuses { let w = world_of world.now in Refuses result w (on_link_if is_origin_is w from to) }
     ensures from { IsNone result → from < length world.now.nodes.items }
     ensures to { IsNone result → to < length world.now.nodes.items }
 {
