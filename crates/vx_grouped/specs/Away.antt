@@ -48,4 +48,3 @@ pub record IsDeportedAt (n : Node) (note : GroupNode) (last newest : Config) (m 
   pub frames : (v : ℕ) → frame_at newest v ≡ frame_at last v
   pub found : NotesFound note newest m
   pub lies : AwayLies n note last m
-
