@@ -1,5 +1,6 @@
 -- A plex that is detached beside logs.
-use Rattle.vx_logged.proofs.StandLemmas.{each_on, narrows_acts}
+use Rattle.vx_logged.proofs.StandLemmas.{each_on, narrows_acts, narrowed_acts}
+use Rattle.vx_disk.specs.Shelf.{Nothing}
 use Rattle.vx_logged.proofs.detaching.det_logged.Goals as goal
 
 pub returns-clause-logs : goal.returns-clause-logs
@@ -16,3 +17,7 @@ returns-clause-free g c = c.det_in.ensures.free
 
 pub returns-clause-stays : goal.returns-clause-stays
 returns-clause-stays g c = c.det_in.ensures.stays
+
+pub returns-clause-narrow : goal.returns-clause-narrow
+returns-clause-narrow g c = narrowed_acts Nothing c.args.core.now c.det_in.new.core (g.S.Shelf.meaning c.args.shelf.now) (g.S.Shelf.meaning c.det_in.new.shelf)
+    (narrows_acts c.args.core.now c.det_in.new.core (g.S.Shelf.meaning c.args.shelf.now) (g.S.Shelf.meaning c.det_in.new.shelf) c.requires.stands c.det_in.ensures.narrows)
