@@ -26,8 +26,8 @@ use vx_logs::Logs;
 use vx_volume::blocks_of;
 
 /// Takes all marks off the log of a volume where more than 64 regions were marked since, and answers whether the log may be gone by further.
-/// The caller says that of each block of the volume a crash leaves one value. A log of which the disk fails is committed as lost. All volumes
-/// read as before; whatever is answered, each log stands.
+/// The caller says that of each block of the volume a crash leaves one value. A log of which the disk fails is committed as lost,
+/// while serials are left. All volumes read as before; whatever is answered, each log stands.
 pub fn clear_group<S: Shelf>(
     shelf: &mut S,
     core: &mut GroupCore,

@@ -25,7 +25,8 @@ use vx_logs::Logs;
 /// Makes a volume durable, and takes the marks off its log where more than 64 regions were marked since. So it is only where logs are not
 /// stopped, and where the caller is sure that each block of the volume reads as one value on all plexes that are ACTIVE: else it is a flush
 /// and no more. A plex that fails in the flush has missed nothing: its map is empty then, unless no serial is left. So it is behind a refusal too,
-/// unless the shelf is down.
+/// unless the shelf is down. Behind an Ok a log of the volume that is in memory no more is held as lost, unless no serial is left to say so: where the
+/// caller is sure and the volume has blocks, and else where it was so before.
 pub fn flush_cleared<S: Shelf>(
     shelf: &mut S,
     core: &mut GroupCore,

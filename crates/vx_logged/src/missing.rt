@@ -116,7 +116,7 @@ fn miss_fallen<S: Shelf>(
 
 /// Makes a volume durable behind a write of a run of its blocks, as `flush_cleared` does. Where a plex falls out of use in that, logs go on and a
 /// serial is left, the regions of the run are marked: the plex has missed them then, and no others where the caller is sure. It has no others behind
-/// a refusal either, unless the shelf is down.
+/// a refusal either, unless the shelf is down. Logs that are in memory no more are held as lost, as `flush_cleared` has it.
 pub fn flush_behind<S: Shelf>(
     shelf: &mut S,
     core: &mut GroupCore,

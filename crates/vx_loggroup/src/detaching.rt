@@ -1,5 +1,5 @@
 // A plex of a group with logs that is detached, and whose map begins then.
-ghost use Rattle.vx_loggroup.specs.Keeping.{LogsKeep, LogsStay, logs_at};
+ghost use Rattle.vx_loggroup.specs.Keeping.{LogsKeep, LogsStay, logs_at, SureKept};
 ghost use Rattle.vx_kept.specs.Finds.{FindsFrom, NoConfiguration};
 ghost use Rattle.vx_group.specs.Finds.{GroupFinds};
 ghost use Rattle.std.specs.Prelude.{◌≡◌, ◌⊎◌, ◌<◌, ◌≤◌, ℕ, Err, false, IfErr, IsTrue, None, OnOk, Some, length, true};
@@ -15,7 +15,7 @@ ghost use Rattle.vx_loggroup.specs.Attaching.{fmr_at};
 ghost use Rattle.vx_group.specs.Stands.{inner_meaning};
 ghost use Rattle.vx_grouplogs.specs.Gone.{LogsDrop};
 ghost use Rattle.vx_groupmaps.specs.Missing.{OnMaps};
-ghost use Rattle.vx_logged.specs.Logged.{Known, LogOn, OthersOn, TrustsIn};
+ghost use Rattle.vx_logged.specs.Logged.{Known, LogOn, OthersOn, TrustsIn, Narrowed};
 ghost use Rattle.vx_loggroup.specs.Detaching.{LogsBegin, MapIsEmpty, MapsBegin, ReadsAlike};
 ghost use Rattle.vx_loggroup.specs.LoggedVolumes.{LoggedStands, is_alike as is_alike_is};
 ghost use Rattle.vx_model.specs.declared.limits.TheConstants.{MOST_VOLUMES};
@@ -23,6 +23,7 @@ ghost use Rattle.vx_model.specs.declared.errors.Stop.TheVariants.{No as Refused}
 ghost use Rattle.vx_model.specs.declared.no.No.{No as NoValue};
 ghost use Rattle.vx_model.specs.declared.no.No.TheVariants.{Down as DownNo};
 ghost use Rattle.vx_volume.specs.Plexes.{active};
+ghost use Rattle.vx_logged.specs.Behind.{MapSaid};
 
 use crate::alike::is_alike;
 use vx_disk::{Shelf, refusal};
@@ -120,6 +121,8 @@ fn keep_begun<S: Shelf>(
     ensures still { (w p : ℕ) → active core.new.inner.config w p ≡ active core.old.inner.config w p }
     ensures below { SameUnits (S.meaning shelf.old) (S.meaning shelf.new) }
     ensures trusts { TrustsIn vol (logs_at logs.now.items vol) core.old.inner.config core.new.inner.config }
+    ensures narrow { Narrowed core.old core.new }
+    ensures said { OnOk result (MapSaid core.new vol (logs_at logs.now.items vol)) }
     ensures trust { OnOk result (core.old.inner.committed ≡ true → core.new.inner.committed ≡ true) }
     ensures agreed { IfErr result (λ e. core.old.inner.committed ≡ true → core.new.inner.agreed ≡ true) }
     ensures finds { GroupFinds core.old core.new (S.meaning shelf.old) (S.meaning shelf.new) }
@@ -185,6 +188,8 @@ pub fn det_whole<S: Shelf>(
     ensures begins { OnOk result (stopped ≡ false → core.new.held ≡ None → is_alike_is alike.now vol ≡ true → IsTrue (active core.old.inner.config vol plex) → MapIsEmpty core.old.inner.config vol plex (fmr_at logs.new.items vol)) }
     ensures off { OnOk result (active core.new.inner.config vol plex ≡ false) }
     ensures stays { IfErr result (λ stop. IsTrue (S.meaning shelf.new).down ⊎ (active core.new.inner.config vol plex ≡ active core.old.inner.config vol plex) ⊎ MapIsEmpty core.old.inner.config vol plex (fmr_at logs.new.items vol)) }
+    ensures kept { OnOk result (SureKept core.old core.new logs.old.items logs.new.items) }
+    ensures said { IsTrue (active core.old.inner.config vol plex) → stopped ≡ false → is_alike_is alike.now vol ≡ true → OnOk result (MapSaid core.new vol (logs_at logs.new.items vol)) }
     ensures others { (w p : ℕ) → (w ≡ vol → p ≡ plex → ⊥) → active core.new.inner.config w p ≡ active core.old.inner.config w p }
     ensures maps { MapsBegin vol plex logs.old.items logs.new.items }
     ensures same { active core.old.inner.config vol plex ≡ false → logs.new.items ≡ logs.old.items }

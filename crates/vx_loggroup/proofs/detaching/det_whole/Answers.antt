@@ -24,6 +24,7 @@ use Rattle.vx_model.specs.declared.errors.Stop.TheVariants.{No as Refused}
 use Rattle.vx_volume.proofs.PlaceLemmas.{active_below}
 use Rattle.vx_group.proofs.FindingLemmas.{idle_group, then_group}
 use Rattle.vx_loggroup.proofs.KeepingLemmas.{frames_places, shape_places, stay_keeps, stays_in, stays_same, then_stays}
+use Rattle.vx_loggroup.proofs.SureLemmas.{begun_sure, narrow_kept}
 use Rattle.vx_loggroup.proofs.detaching.det_whole.Goals as goal
 
 pub det_logged-requires : goal.det_logged-requires
@@ -260,3 +261,21 @@ returns-in-Err-begin_missing-clause-stays g c = inl c.in-Err-begin_missing.ensur
 
 pub returns-clause-stays : goal.returns-clause-stays
 returns-clause-stays g c = err_any c.keep_begun.result (inr (inr (empty_later c.det_logged.new.core.inner.config c.args.core.now.inner.config c.args.vol c.args.plex (fmr_at c.begin_missing.new.logs.items c.args.vol) (λ b inside. inside_back c.det_logged.new.core.inner.config c.args.core.now.inner.config c.det_logged.ensures.narrows.shape c.args.vol b inside) c.in-Ok-begin_missing.ensures.empty)))
+
+pub returns-then-not-may_begin-clause-kept : goal.returns-then-not-may_begin-clause-kept
+returns-then-not-may_begin-clause-kept g c = narrow_kept c.args.core.now c.det_logged.new.core c.args.logs.now.items c.det_logged.ensures.narrow
+
+pub returns-clause-kept : goal.returns-clause-kept
+returns-clause-kept g c = ok_from c.keep_begun.result (begun_sure c.args.core.now c.det_logged.new.core c.keep_begun.new.core c.args.vol c.args.plex c.args.logs.now.items c.begin_missing.new.logs.items (let low = (active_low c.args.core.now.inner.config c.args.vol c.args.plex (sym c.is_active-was.ensures ∙ c.may_begin.ensures.was c.if-not-may_begin.false)) in let many = c.requires.stands.many in omega (arith, low, many)) c.det_logged.ensures.narrow c.keep_begun.ensures.narrow c.begin_missing.ensures.maps) c.keep_begun.ensures.said
+
+pub returns-in-Err-clause-said : goal.returns-in-Err-clause-said
+returns-in-Err-clause-said g c = λ on going same. tt
+
+pub returns-then-not-may_begin-clause-said : goal.returns-then-not-may_begin-clause-said
+returns-then-not-may_begin-clause-said g c = λ on going same. absurd (let clash : true ≡ false = sym (c.may_begin.ensures.all (c.is_active-was.ensures ∙ on) going (c.in-Ok.ensures.free on) same) ∙ c.if-not-may_begin.true in cc)
+
+pub returns-in-Err-begin_missing-clause-said : goal.returns-in-Err-begin_missing-clause-said
+returns-in-Err-begin_missing-clause-said g c = λ on going same. tt
+
+pub returns-clause-said : goal.returns-clause-said
+returns-clause-said g c = λ on going same. c.keep_begun.ensures.said
