@@ -1,5 +1,5 @@
 -- Logs of volumes that are in memory or held as lost, behind a flush and behind the calls of a detach.
-use Rattle.std.proofs.Common.{◌≡◌, ◌⊎◌, ◌∙◌, inl, inr, ℕ, ◌+◌, ◌<◌, ◌≤◌, true, false, Option, Some, None, List, length, refl, sym, ap, subst, arith}
+use Rattle.std.proofs.Common.{◌≡◌, ◌⊎◌, ◌∙◌, inl, inr, ℕ, ◌+◌, ◌<◌, ◌≤◌, Bool, true, false, IsTrue, Option, Some, None, List, length, refl, sym, ap, subst, arith}
 use Rattle.std.proofs.Math.ListN.{set}
 use Rattle.std.proofs.lemmas.Bool.{cases_eq}
 use Rattle.std.proofs.lemmas.List.{length-set}
@@ -15,14 +15,16 @@ use Rattle.vx_group.specs.Holding.{wide}
 use Rattle.vx_group.specs.declared.group_core.GroupCore.{GroupCore}
 use Rattle.vx_group.proofs.TrustingLemmas.{trusting_others}
 use Rattle.vx_grouplogs.specs.Gone.{has_log, is_there}
+use Rattle.vx_grouplogs.specs.On.{ReadsOne}
 use Rattle.vx_kept.specs.LogRuns.{log_trusted, trusted_or}
 use Rattle.vx_kept.specs.PlexActs.{PlexActs}
 use Rattle.vx_logged.specs.Behind.{AreKept, BothKept, MapSaid}
 use Rattle.vx_logged.specs.Logged.{Narrowed}
-use Rattle.vx_logged.proofs.KeptLemmas.{both_kept, both_later, log_later}
+use Rattle.vx_logged.proofs.KeptLemmas.{both_kept, both_later, log_later, map_later}
 use Rattle.vx_logged.proofs.StandLemmas.{narrowed_then}
 use Rattle.vx_logs.specs.declared.logs.Logs.{Logs}
-use Rattle.vx_loggroup.specs.Detaching.{MapsBegin}
+use Rattle.vx_volume.specs.Plexes.{active}
+use Rattle.vx_loggroup.specs.Detaching.{MapsBegin, ReadsAlike}
 use Rattle.vx_loggroup.specs.Fresh.{LogsFirst}
 use Rattle.vx_loggroup.specs.Keeping.{KeptOr, LogsKept, LogsSure, SaysLosses, SureKept, TrustsNew, logs_at, logs_or}
 use Rattle.vx_loggroup.proofs.KeepingLemmas.{kept_set}
@@ -193,3 +195,28 @@ sure_first v n c d ls ks first since w sure = record { each = λ k is. by k is (
 -- a call behind it
 pub first_sure : (v n : ℕ) (c d e : GroupCore) (ls ks js : List Logs) → LogsFirst v n ls ks → TrustsNew v (logs_at ks v) c d → SureKept d e ks js → SureKept c e ls js
 first_sure v n c d e ls ks js first since keeps = record { each = λ w sure. keeps.each w (sure_first v n c d ls ks first since w sure) }
+
+-- ---- a detach behind a beginning of its map
+
+pub ready_free : {P : Type 0} (done : Bool) (s : ℕ) → (done ≡ true → P) → (done ≡ false → greatest ≤ s) → s < greatest → P
+ready_free true s free full less = free refl
+ready_free false s free full less = absurd (let spent = full refl in omega (arith, spent, less))
+
+-- a plex that is ACTIVE reads what each one reads, where the volume reads as one value
+pub alike_here : (c : Config) (v p : ℕ) (m : Meaning) → IsTrue (active c v p) → ((IsTrue m.down → ⊥) → ReadsOne c v m) → ReadsAlike c v p m
+alike_here c v p m on one = record { so = λ up q b x y has is_on inside at_p at_q. (one up).one b x y (record { inside = inside; plex = p; is_on = on; value = at_p }) (record { inside = inside; plex = q; is_on = is_on; value = at_q }) }
+
+-- what is said before it is said behind it, where serials are left
+pub later_sure : (c d e : GroupCore) (ls ks : List Logs) → d.inner.config.serial + 9 < greatest → Narrowed d e → SureKept c d ls ks → SureKept c e ls ks
+later_sure c d e ls ks less narrow keeps = record {
+  each = λ v sure. elim (sure_or d ks v (keeps.each v sure)) [
+    | inl now ↦ sure_kept d e ks ks v narrow refl now
+    | inr spent ↦ absurd (omega (arith, spent, less))
+  ];
+}
+
+pub said_later : (c d : GroupCore) (v : ℕ) (l : Logs) → c.inner.config.serial + 9 < greatest → Narrowed c d → MapSaid c v l → MapSaid d v l
+said_later c d v l less narrow said = elim said [
+  | inl kept ↦ inl (map_later c d v l l narrow refl kept)
+  | inr spent ↦ absurd (omega (arith, spent, less))
+]

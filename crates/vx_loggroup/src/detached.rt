@@ -112,7 +112,7 @@ pub fn det_fresh<S: Shelf>(
     ensures on { (v p : ℕ) → IsTrue (active core.new.inner.config v p) → IsTrue (active core.old.inner.config v p) }
     ensures begins { OnOk result (stopped ≡ false → core.new.held ≡ None → is_alike_is alike.now vol ≡ true → IsTrue (active core.old.inner.config vol plex) → MapIsEmpty core.old.inner.config vol plex (fmr_at logs.new.items vol)) }
     ensures off { OnOk result (active core.new.inner.config vol plex ≡ false) }
-    ensures stays { IfErr result (λ stop. IsTrue (S.meaning shelf.new).down ⊎ (active core.new.inner.config vol plex ≡ active core.old.inner.config vol plex) ⊎ MapIsEmpty core.old.inner.config vol plex (fmr_at logs.new.items vol)) }
+    ensures stays { IfErr result (λ stop. IsTrue (S.meaning shelf.new).down ⊎ (active core.new.inner.config vol plex ≡ active core.old.inner.config vol plex)) }
     ensures kept { OnOk result (SureKept core.old core.new logs.old.items logs.new.items) }
     ensures said { IsTrue (active core.old.inner.config vol plex) → stopped ≡ false → is_alike_is alike.now vol ≡ true → OnOk result (MapSaid core.new vol (logs_at logs.new.items vol)) }
     ensures others { (w p : ℕ) → (w ≡ vol → p ≡ plex → ⊥) → active core.new.inner.config w p ≡ active core.old.inner.config w p }

@@ -69,3 +69,6 @@ returns-in-Err-clause-narrow g c = c.keep_map.ensures.narrow
 
 pub returns-in-Ok-clause-said : goal.returns-in-Ok-clause-said
 returns-in-Ok-clause-said g c = said_at c.keep_map.new.core c.args.vol c.args.logs.now.items c.index.result.now (item_of c.args.logs.now.items c.args.vol c.index.result.now c.index.ensures (let many = c.requires.stands.many in let there = c.requires.there in omega (arith, many, there))) (map_said c.keep_map.new.core c.args.vol c.index.result.now c.in-Ok.field-0 c.in-Ok.ensures.kept c.in-Ok.ensures.spent)
+
+pub returns-in-Ok-clause-few : goal.returns-in-Ok-clause-few
+returns-in-Ok-clause-few g c = c.in-Ok.ensures.few
