@@ -144,7 +144,7 @@ pub fn flush_behind<S: Shelf>(
     ensures narrow { Narrowed core.old core.new }
     ensures notes { MapsBut (fell_in core.old core.new vol) (are_off core.new vol) (first_region block) (last_region block count) logs.old logs.new }
     ensures begins { sure ≡ true → OnOk result (MapsOfRun (fell_in core.old core.new vol) (first_region block) (last_region block count) logs.new ⊎ (greatest ≤ core.new.inner.config.serial + 9)) }
-    ensures left { core.old.inner.config.serial < greatest → sure ≡ true → IfErr result (λ e. IsTrue (S.meaning shelf.new).down ⊎ MapsOfRun (fell_in core.old core.new vol) (first_region block) (last_region block count) logs.new) }
+    ensures left { sure ≡ true → IfErr result (λ e. IsTrue (S.meaning shelf.new).down ⊎ MapsOfRun (fell_in core.old core.new vol) (first_region block) (last_region block count) logs.new) }
     ensures kept { BothKept core.old vol logs.old → OnOk result (AreKept core.new vol logs.new) }
     ensures said { sure ≡ true → 0 < blocks_of_is (wide core.old).config.volumes vol → OnOk result (AreKept core.new vol logs.new) }
     ensures holds { going ≡ true → 0 < count → OnOk result (TheseHold (fell_in core.old core.new vol) (first_region block) (last_region block count) logs.new ⊎ (greatest ≤ core.new.inner.config.serial + 9)) }

@@ -69,7 +69,7 @@ pub fn flush_noted<S: Shelf>(
     ensures narrow { Narrowed core.old core.new }
     ensures notes { MapsBut (fell_in core.old core.new vol) (are_off core.new vol) (first_region block) (last_region block count) logs.old logs.new }
     ensures begins { sure ≡ true → OnOk result (MapsOfRun (fell_in core.old core.new vol) (first_region block) (last_region block count) logs.new) }
-    ensures left { core.old.inner.config.serial < greatest → sure ≡ true → IfErr result (λ e. IsTrue (S.meaning shelf.new).down ⊎ MapsOfRun (fell_in core.old core.new vol) (first_region block) (last_region block count) logs.new) }
+    ensures left { sure ≡ true → IfErr result (λ e. IsTrue (S.meaning shelf.new).down ⊎ MapsOfRun (fell_in core.old core.new vol) (first_region block) (last_region block count) logs.new) }
     ensures kept { BothKept core.old vol logs.old → OnOk result (AreKept core.new vol logs.new) }
     ensures said { sure ≡ true → 0 < blocks_of_is (wide core.old).config.volumes vol → OnOk result (AreKept core.new vol logs.new) }
     ensures holds { going ≡ true → 0 < count → OnOk result (TheseHold (fell_in core.old core.new vol) (first_region block) (last_region block count) logs.new) }
@@ -113,7 +113,7 @@ pub fn flush_spent<S: Shelf>(
     ensures narrow { Narrowed core.old core.new }
     ensures notes { MapsBut (fell_in core.old core.new vol) none_missing 0 0 logs.old logs.new }
     ensures begins { sure ≡ true → OnOk result (MapsOff (fell_in core.old core.new vol) logs.new) }
-    ensures left { core.old.inner.config.serial < greatest → sure ≡ true → IfErr result (λ e. IsTrue (S.meaning shelf.new).down ⊎ MapsOff (fell_in core.old core.new vol) logs.new) }
+    ensures left { sure ≡ true → IfErr result (λ e. IsTrue (S.meaning shelf.new).down ⊎ MapsOff (fell_in core.old core.new vol) logs.new) }
     ensures kept { BothKept core.old vol logs.old → OnOk result (AreKept core.new vol logs.new) }
     ensures said { sure ≡ true → 0 < blocks_of_is (wide core.old).config.volumes vol → OnOk result (AreKept core.new vol logs.new) }
     ensures drops { DropsBut core.old core.new vol logs.old logs.new (S.meaning shelf.old) (S.meaning shelf.new) }

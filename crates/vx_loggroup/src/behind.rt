@@ -2,7 +2,6 @@
 ghost use Rattle.vx_loggroup.specs.Keeping.{LogsKeep, logs_at, LogsKept, SaysLosses, SureKept};
 ghost use Rattle.vx_group.specs.Finds.{GroupFinds};
 ghost use Rattle.std.specs.Prelude.{◌≡◌, ◌⊎◌, ◌+◌, ◌<◌, ◌≤◌, IfErr, OnOk, true, false, ℕ, IsTrue, None};
-ghost use Rattle.vx_config.specs.Table.{greatest};
 ghost use Rattle.vx_disk.specs.Causes.{Cause};
 ghost use Rattle.vx_disk.specs.Shelf.{Flushed, Goes, Nothing};
 ghost use Rattle.vx_group.specs.Holding.{wide};
@@ -52,7 +51,7 @@ fn flush_run<S: Shelf>(
     ensures marks { MarksVolume (wide core.old).config vol (first_region block) (last_region block count) logs.old.items logs.new.items }
     ensures maps { NotesMaps (fell_in core.old core.new vol) (are_off core.new vol) vol (first_region block) (last_region block count) logs.old.items logs.new.items }
     ensures begins { is_alike_is alike.now vol ≡ true → stopped ≡ false → OnOk result (RunsMaps (fell_in core.old core.new vol) vol (first_region block) (last_region block count) logs.new.items) }
-    ensures left { core.old.inner.config.serial < greatest → is_alike_is alike.now vol ≡ true → stopped ≡ false → IfErr result (λ e. IsTrue (S.meaning shelf.new).down ⊎ RunsMaps (fell_in core.old core.new vol) vol (first_region block) (last_region block count) logs.new.items) }
+    ensures left { is_alike_is alike.now vol ≡ true → stopped ≡ false → IfErr result (λ e. IsTrue (S.meaning shelf.new).down ⊎ RunsMaps (fell_in core.old core.new vol) vol (first_region block) (last_region block count) logs.new.items) }
     ensures kept { OnOk result (SureKept core.old core.new logs.old.items logs.new.items) }
     ensures said { is_alike_is alike.now vol ≡ true → stopped ≡ false → 0 < blocks_of_is core.old.inner.config.volumes vol → OnOk result (LogsKept core.new logs.new.items vol) }
     ensures holds { stopped ≡ false → 0 < count → OnOk result (HoldMaps (fell_in core.old core.new vol) vol (first_region block) (last_region block count) logs.new.items) }
@@ -81,8 +80,8 @@ fn flush_run<S: Shelf>(
 impl<S: Shelf> LoggedGroup<S> {
     /// Flushes each plex that is ACTIVE, behind a write of a run of blocks of the volume, and takes marks off its log as a flush does. A plex that
     /// fails in it misses the regions of the run; and no others, where no write of the volume failed since the import. So it is while logs go
-    /// on; where no serial is left no map of the volume is in memory then. Where it is refused, while a serial is left and the shelf is not down, the
-    /// plex has missed no others either. A log that is in memory no more behind one that is done is held as lost: of each volume of which it was so
+    /// on; where no serial is left no map of the volume is in memory then. Where it is refused and the shelf is not down, the plex has missed no
+    /// others either. A log that is in memory no more behind one that is done is held as lost: of each volume of which it was so
     /// before, and of this one, where its plexes are alike and logs go on; unless no serial is left to say so.
     pub fn flush_run(&mut self, vol: u32, block: u64, count: u64) -> Result<(), ShelfError>
         requires there { vol < (inner_meaning (wide self.old.core) (S.meaning self.old.shelf)).units }
@@ -96,7 +95,7 @@ impl<S: Shelf> LoggedGroup<S> {
         ensures marks { MarksVolume (wide self.old.core).config vol (first_region block) (last_region block count) self.old.logs.items self.new.logs.items }
         ensures maps { NotesMaps (fell_in self.old.core self.new.core vol) (are_off self.new.core vol) vol (first_region block) (last_region block count) self.old.logs.items self.new.logs.items }
         ensures begins { is_alike_is self.old.alike vol ≡ true → self.old.stopped ≡ false → OnOk result (RunsMaps (fell_in self.old.core self.new.core vol) vol (first_region block) (last_region block count) self.new.logs.items) }
-        ensures left { self.old.core.inner.config.serial < greatest → is_alike_is self.old.alike vol ≡ true → self.old.stopped ≡ false → IfErr result (λ e. IsTrue (S.meaning self.new.shelf).down ⊎ RunsMaps (fell_in self.old.core self.new.core vol) vol (first_region block) (last_region block count) self.new.logs.items) }
+        ensures left { is_alike_is self.old.alike vol ≡ true → self.old.stopped ≡ false → IfErr result (λ e. IsTrue (S.meaning self.new.shelf).down ⊎ RunsMaps (fell_in self.old.core self.new.core vol) vol (first_region block) (last_region block count) self.new.logs.items) }
         ensures kept { OnOk result (SaysLosses self.old.core self.new.core self.old.logs.items self.new.logs.items) }
         ensures said { is_alike_is self.old.alike vol ≡ true → self.old.stopped ≡ false → 0 < blocks_of_is self.old.core.inner.config.volumes vol → OnOk result (LogsKept self.new.core self.new.logs.items vol) }
         ensures holds { self.old.stopped ≡ false → 0 < count → OnOk result (HoldMaps (fell_in self.old.core self.new.core vol) vol (first_region block) (last_region block count) self.new.logs.items) }

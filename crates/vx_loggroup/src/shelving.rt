@@ -138,7 +138,7 @@ impl<S: Shelf> Shelf for LoggedGroup<S> {
         ensures marks { ClearsVolume (wide self.old.core).config unit self.old.logs.items self.new.logs.items }
         ensures maps { NotesMaps (fell_in self.old.core self.new.core unit) none_missing unit 0 0 self.old.logs.items self.new.logs.items }
         ensures begins { is_alike self.old.alike unit ≡ true → self.old.stopped ≡ false → OnOk result (EmptyMaps (fell_in self.old.core self.new.core unit) unit self.new.logs.items) }
-        ensures left { self.old.core.inner.config.serial < greatest → is_alike self.old.alike unit ≡ true → self.old.stopped ≡ false → IfErr result (λ e. IsTrue (S.meaning self.new.shelf).down ⊎ EmptyMaps (fell_in self.old.core self.new.core unit) unit self.new.logs.items) }
+        ensures left { is_alike self.old.alike unit ≡ true → self.old.stopped ≡ false → IfErr result (λ e. IsTrue (S.meaning self.new.shelf).down ⊎ EmptyMaps (fell_in self.old.core self.new.core unit) unit self.new.logs.items) }
         ensures kept { OnOk result (SaysLosses self.old.core self.new.core self.old.logs.items self.new.logs.items) }
         ensures said { is_alike self.old.alike unit ≡ true → self.old.stopped ≡ false → 0 < blocks_of_is self.old.core.inner.config.volumes unit → OnOk result (LogsKept self.new.core self.new.logs.items unit) }
         ensures trust { OnOk result (self.old.core.inner.committed ≡ true → self.new.core.inner.committed ≡ true) }

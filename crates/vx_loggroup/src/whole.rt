@@ -87,8 +87,8 @@ pub fn write_whole<S: Shelf>(
 }
 
 /// Makes a volume durable, and takes marks off its log where more than 64 regions were marked since and its plexes are alike. A plex that fails in
-/// it has missed nothing then: its map is empty. Where no serial is left no map of the volume is in memory then. Where a flush is refused, while a
-/// serial is left and the shelf is not down, the map of a plex that fell out of use in it is empty too. Behind one that is done a log that is in memory
+/// it has missed nothing then: its map is empty. Where no serial is left no map of the volume is in memory then. Where a flush is refused and the
+/// shelf is not down, the map of a plex that fell out of use in it is empty too. Behind one that is done a log that is in memory
 /// no more is held as lost, of each volume of which it was so before; and of this one, where it is alike and logs go on.
 pub fn flush_whole<S: Shelf>(
     shelf: &mut S,
@@ -109,7 +109,7 @@ pub fn flush_whole<S: Shelf>(
     ensures marks { ClearsVolume (wide core.old).config vol logs.old.items logs.new.items }
     ensures maps { NotesMaps (fell_in core.old core.new vol) none_missing vol 0 0 logs.old.items logs.new.items }
     ensures begins { is_alike_is alike.now vol ≡ true → stopped ≡ false → OnOk result (EmptyMaps (fell_in core.old core.new vol) vol logs.new.items) }
-    ensures left { core.old.inner.config.serial < greatest → is_alike_is alike.now vol ≡ true → stopped ≡ false → IfErr result (λ e. IsTrue (S.meaning shelf.new).down ⊎ EmptyMaps (fell_in core.old core.new vol) vol logs.new.items) }
+    ensures left { is_alike_is alike.now vol ≡ true → stopped ≡ false → IfErr result (λ e. IsTrue (S.meaning shelf.new).down ⊎ EmptyMaps (fell_in core.old core.new vol) vol logs.new.items) }
     ensures kept { OnOk result (SureKept core.old core.new logs.old.items logs.new.items) }
     ensures said { is_alike_is alike.now vol ≡ true → stopped ≡ false → 0 < blocks_of_is core.old.inner.config.volumes vol → OnOk result (LogsKept core.new logs.new.items vol) }
     ensures trust { OnOk result (core.old.inner.committed ≡ true → core.new.inner.committed ≡ true) }

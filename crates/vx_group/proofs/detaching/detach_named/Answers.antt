@@ -188,3 +188,6 @@ returns-then-is_down-2-clause-logs g c = volumes_logs c.args.core.now.config c.c
 
 pub returns-else-is_down-2-clause-logs : goal.returns-else-is_down-2-clause-logs
 returns-else-is_down-2-clause-logs g c = volumes_logs c.args.core.now.config c.commit_stale.new.config c.in-Err.ensures.ends.volumes
+
+pub returns-else-is_down-clause-room : goal.returns-else-is_down-clause-room
+returns-else-is_down-clause-room g c = let later = c.in-Ok.ensures.ends.later in let top = c.commit_stale.ensures.can.serial in let was = (is_staled c.args.vol c.args.failed.set 8 c.args.core.now.config).serial in omega (arith, later, top, was)

@@ -132,13 +132,13 @@ pub returns-clause-rests : goal.returns-clause-rests
 returns-clause-rests g c = λ none w p is. narrow_inner c.args.core.now c.flush_cleared.new.core none (c.flush_cleared.ensures.finds.free none) c.flush_cleared.ensures.narrow w p (sym (c.miss_fallen.ensures.still w p) ∙ is)
 
 pub returns-in-Err-clause-left : goal.returns-in-Err-clause-left
-returns-in-Err-clause-left g c = λ less is. elim (c.in-Err.ensures.left less is) [
+returns-in-Err-clause-left g c = λ is. elim (c.in-Err.ensures.left is) [
   | inl down ↦ inl down
   | inr off ↦ inr (off_any (fell_in c.args.core.now c.flush_cleared.new.core c.args.vol) (first_region c.args.block) (last_region c.args.block c.args.count) c.flush_cleared.new.logs off)
 ]
 
 pub returns-clause-left : goal.returns-clause-left
-returns-clause-left g c = λ less is. err_from c.miss_fallen.result (λ run. inr (run_less (fell_in c.args.core.now c.miss_fallen.new.core c.args.vol) (fell_now c.actives-was.result c.miss_fallen.new.core c.args.vol) (first_region c.args.block) (last_region c.args.block c.args.count) c.miss_fallen.new.logs
+returns-clause-left g c = λ is. err_from c.miss_fallen.result (λ run. inr (run_less (fell_in c.args.core.now c.miss_fallen.new.core c.args.vol) (fell_now c.actives-was.result c.miss_fallen.new.core c.args.vol) (first_region c.args.block) (last_region c.args.block c.args.count) c.miss_fallen.new.logs
     (fell_all c.args.core.now c.miss_fallen.new.core c.args.vol c.actives-was.result (λ q on. c.actives-was.ensures.all q (active_few c.args.core.now.inner.config (narrow_sound c.args.core.now (g.S.Shelf.meaning c.args.shelf.now) c.requires.stands) c.args.vol q on) on)) run))
     (c.miss_fallen.ensures.left (elim (c.in-Ok.ensures.begins is) [
       | inl off ↦ inl (off_less (fell_now c.actives-was.result c.flush_cleared.new.core c.args.vol) (fell_in c.args.core.now c.flush_cleared.new.core c.args.vol) c.flush_cleared.new.logs (fell_some c.args.core.now c.flush_cleared.new.core c.args.vol c.actives-was.result c.actives-was.ensures.some) off)

@@ -132,7 +132,7 @@ pub returns-in-Err-clause-left : goal.returns-in-Err-clause-left
 returns-in-Err-clause-left g c = c.in-Err.ensures.left
 
 pub returns-clause-left : goal.returns-clause-left
-returns-clause-left g c = λ less is. tt
+returns-clause-left g c = λ is. tt
 
 pub returns-in-Err-clause-narrow : goal.returns-in-Err-clause-narrow
 returns-in-Err-clause-narrow g c = c.flush_behind.ensures.narrow

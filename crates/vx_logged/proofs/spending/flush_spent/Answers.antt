@@ -120,7 +120,7 @@ pub returns-in-Err-clause-left : goal.returns-in-Err-clause-left
 returns-in-Err-clause-left g c = c.in-Err.ensures.left
 
 pub returns-clause-left : goal.returns-clause-left
-returns-clause-left g c = λ less is. tt
+returns-clause-left g c = λ is. tt
 
 pub returns-in-Err-clause-kept : goal.returns-in-Err-clause-kept
 returns-in-Err-clause-kept g c = λ was. tt

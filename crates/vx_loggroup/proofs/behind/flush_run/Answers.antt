@@ -80,9 +80,9 @@ pub returns-clause-rests : goal.returns-clause-rests
 returns-clause-rests g c = c.flush_noted.ensures.rests
 
 pub returns-clause-left : goal.returns-clause-left
-returns-clause-left g c = λ less alike going.
+returns-clause-left g c = λ alike going.
     left_up c.flush_noted.result (g.S.Shelf.meaning c.args.shelf.now) (g.S.Shelf.meaning c.flush_noted.new.shelf) c.flush_noted.ensures.goes.falls
-    (λ up. c.flush_noted.ensures.left less (c.is_sure-sure.ensures.all (c.is_alike.ensures ∙ alike) going (c.is_down-down.ensures ∙ up_false (g.S.Shelf.meaning c.args.shelf.now).down up)))
+    (λ up. c.flush_noted.ensures.left (c.is_sure-sure.ensures.all (c.is_alike.ensures ∙ alike) going (c.is_down-down.ensures ∙ up_false (g.S.Shelf.meaning c.args.shelf.now).down up)))
     (λ none. runs_set (fell_in c.args.core.now c.flush_noted.new.core c.args.vol) c.args.vol (first_region c.args.block) (last_region c.args.block c.args.count) c.args.logs.now.items c.flush_noted.new.logs none)
 
 pub returns-clause-kept : goal.returns-clause-kept

@@ -49,9 +49,9 @@ returns-clause-begins g c = λ alike going.
     (λ none. off_set (fell_in c.args.core.now c.flush_spent.new.core c.args.vol) c.args.vol c.args.logs.now.items c.flush_spent.new.logs none)
 
 pub returns-clause-left : goal.returns-clause-left
-returns-clause-left g c = λ less alike going.
+returns-clause-left g c = λ alike going.
     left_up c.flush_spent.result (g.S.Shelf.meaning c.args.shelf.now) (g.S.Shelf.meaning c.flush_spent.new.shelf) c.flush_spent.ensures.goes.falls
-    (λ up. c.flush_spent.ensures.left less (c.is_sure-sure.ensures.all (c.is_alike.ensures ∙ alike) going (c.is_down-down.ensures ∙ up_false (g.S.Shelf.meaning c.args.shelf.now).down up)))
+    (λ up. c.flush_spent.ensures.left (c.is_sure-sure.ensures.all (c.is_alike.ensures ∙ alike) going (c.is_down-down.ensures ∙ up_false (g.S.Shelf.meaning c.args.shelf.now).down up)))
     (λ none. off_set (fell_in c.args.core.now c.flush_spent.new.core c.args.vol) c.args.vol c.args.logs.now.items c.flush_spent.new.logs none)
 
 pub returns-clause-kept : goal.returns-clause-kept
