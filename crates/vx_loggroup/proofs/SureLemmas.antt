@@ -1,7 +1,7 @@
 -- Logs of volumes that are in memory or held as lost, behind a flush and behind the calls of a detach.
-use Rattle.std.proofs.Common.{◌≡◌, ◌⊎◌, ◌∙◌, inl, inr, ℕ, ◌+◌, ◌<◌, ◌≤◌, Bool, true, false, IsTrue, Option, Some, None, List, length, refl, sym, ap, subst, arith}
+use Rattle.std.proofs.Common.{◌≡◌, ◌⊎◌, ◌∙◌, inl, inr, ℕ, ◌+◌, ◌<◌, ◌≤◌, Bool, true, false, IsTrue, Option, Some, None, List, ◌++◌, length, refl, sym, ap, subst, arith}
 use Rattle.std.proofs.Math.ListN.{set}
-use Rattle.std.proofs.lemmas.Bool.{cases_eq}
+use Rattle.std.proofs.lemmas.Bool.{cases_eq, cases_lt}
 use Rattle.std.proofs.lemmas.List.{length-set}
 use Rattle.std.proofs.lemmas.Option.{slice_get_within}
 use Rattle.std.specs.Prelude.{OnOk, Result, Ok, Err, slice_get}
@@ -11,23 +11,25 @@ use Rattle.vx_config.specs.declared.config.Config.{Config}
 use Rattle.vx_config.specs.declared.entry.VolumeLog.{VolumeLog}
 use Rattle.vx_config.specs.declared.entry.VolumeLog.TheVariants.{Drl, Fmr}
 use Rattle.vx_disk.specs.Shelf.{Meaning, Nothing}
-use Rattle.vx_group.specs.Holding.{wide}
+use Rattle.vx_group.specs.Holding.{GroupStands, wide}
 use Rattle.vx_group.specs.declared.group_core.GroupCore.{GroupCore}
+use Rattle.vx_group.proofs.HoldLemmas.{wide_shape}
 use Rattle.vx_group.proofs.TrustingLemmas.{trusting_others}
 use Rattle.vx_grouplogs.specs.Gone.{has_log, is_there}
 use Rattle.vx_grouplogs.specs.On.{ReadsOne}
+use Rattle.vx_kept.specs.Keeping.{Extends}
 use Rattle.vx_kept.specs.LogRuns.{log_trusted, trusted_or}
 use Rattle.vx_kept.specs.PlexActs.{PlexActs}
 use Rattle.vx_logged.specs.Behind.{AreKept, BothKept, MapSaid}
 use Rattle.vx_logged.specs.Logged.{Narrowed}
 use Rattle.vx_logged.proofs.KeptLemmas.{both_kept, both_later, log_later, map_later}
-use Rattle.vx_logged.proofs.StandLemmas.{narrowed_then}
+use Rattle.vx_logged.proofs.StandLemmas.{inner_wide, narrowed_then}
 use Rattle.vx_logs.specs.declared.logs.Logs.{Logs}
 use Rattle.vx_volume.specs.Plexes.{active}
 use Rattle.vx_loggroup.specs.Detaching.{MapsBegin, ReadsAlike}
 use Rattle.vx_loggroup.specs.Fresh.{LogsFirst}
 use Rattle.vx_loggroup.specs.Keeping.{KeptOr, LogsKept, LogsSure, SaysLosses, SureKept, TrustsNew, logs_at, logs_or}
-use Rattle.vx_loggroup.proofs.KeepingLemmas.{kept_set}
+use Rattle.vx_loggroup.proofs.KeepingLemmas.{appended, kept_set}
 use Rattle.vx_loggroup.proofs.SetLemmas.{item_at, set_here, set_other}
 
 -- ---- answers
@@ -220,3 +222,32 @@ said_later c d v l less narrow said = elim said [
   | inl kept ↦ inl (map_later c d v l l narrow refl kept)
   | inr spent ↦ absurd (omega (arith, spent, less))
 ]
+
+-- ---- a volume that is made
+
+-- behind it the volumes that stood have the logs that they had, and of one more no log is trusted
+pub made_sure : (c d : GroupCore) (ls ks : List Logs) (m : Meaning) → GroupStands c m → Extends d.inner.config c.inner.config → length ls ≡ length c.inner.config.volumes → ((v : ℕ) (k : Logs) → v < length ls → slice_get ks v ≡ Some k → slice_get ls v ≡ Some k) → SureKept c d ls ks
+made_sure c d ls ks m stands shape many same = record {
+  each = λ v sure. kept_each d ks v (λ k is. both_kept d v k (elim (cases_lt v (length c.inner.config.volumes)) [
+    | inl low ↦ here v k low (sure.each k (same v k (omega (arith, low, many)) is))
+    | inr past ↦ made v k past
+  ]));
+}
+  where
+    old : (v : ℕ) (log : VolumeLog) → v < length c.inner.config.volumes → log_trusted (wide d).config v log ≡ true → log_trusted (wide c).config v log ≡ true
+    old v log low told = (inner_wide c m stands).trusted v log (shape.trusted v log low ((wide_shape d).trusted v log told))
+
+    here : (v : ℕ) (k : Logs) → v < length c.inner.config.volumes → BothKept c v k → BothKept d v k
+    here v k low was = record { drl = λ told none. was.drl (old v Drl low told) none; fmr = λ told none. was.fmr (old v Fmr low told) none }
+
+    lost_new : (v : ℕ) (log : VolumeLog) → length c.inner.config.volumes ≤ v → log_trusted (wide d).config v log ≡ true → ⊥
+    lost_new v log past told = let clash : false ≡ true = sym (shape.beyond v log past) ∙ (wide_shape d).trusted v log told in cc
+
+    made : (v : ℕ) (k : Logs) → length c.inner.config.volumes ≤ v → BothKept d v k
+    made v k past = record { drl = λ told none. lost_new v Drl past told; fmr = λ told none. lost_new v Fmr past told }
+
+-- the logs behind those of a list
+pub front_item : (ls ks : List Logs) (v : ℕ) (k : Logs) → v < length ls → slice_get (ls ++ ks) v ≡ Some k → slice_get ls v ≡ Some k
+front_item ls ks v k low is =
+    let it = item_at ls v low in
+    subst (λ (x : Logs). slice_get ls v ≡ Some x) (same_item it.0 k (sym (appended ls ks v it.0 it.1) ∙ is)) it.1

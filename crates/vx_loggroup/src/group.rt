@@ -159,6 +159,7 @@ impl<S: Shelf> LoggedGroup<S> {
         ensures up { OnOk result (IsTrue (S.meaning self.new.shelf).down → ⊥) }
         ensures newest { OnOk result (IsCommitted self.new.core.inner.config (S.meaning self.new.shelf)) }
         ensures keeps { LogsKeep self.old.core self.new.core self.old.logs.items self.new.logs.items (S.meaning self.old.shelf) (S.meaning self.new.shelf) }
+        ensures kept { SaysLosses self.old.core self.new.core self.old.logs.items self.new.logs.items }
         ensures trust { OnOk result (self.old.core.inner.committed ≡ true → self.new.core.inner.committed ≡ true) }
         ensures whole { OnOk result ((self.new.core.inner.committed ≡ true) ⊎ HasFailed self.new.core.inner.config.disks) }
         ensures agreed { IfErr result (λ e. self.old.core.inner.committed ≡ true → self.new.core.inner.agreed ≡ true) }
