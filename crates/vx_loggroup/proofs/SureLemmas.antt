@@ -1,4 +1,4 @@
--- Logs of volumes that are in memory or held as lost, behind a flush and behind the calls of a detach.
+-- Logs of volumes that are in memory or held as lost, behind a flush, behind the calls of a detach and behind a volume that is made.
 use Rattle.std.proofs.Common.{◌≡◌, ◌⊎◌, ◌∙◌, inl, inr, ℕ, ◌+◌, ◌<◌, ◌≤◌, Bool, true, false, IsTrue, Option, Some, None, List, ◌++◌, length, refl, sym, ap, subst, arith}
 use Rattle.std.proofs.Math.ListN.{set}
 use Rattle.std.proofs.lemmas.Bool.{cases_eq, cases_lt}
