@@ -35,9 +35,9 @@ use Rattle.vx_loggroup.proofs.SetLemmas.{item_at, set_here, set_other}
 -- ---- answers
 
 -- what is promised behind an Ok under a premise
-pub ok_under : {T E A P : Type 0} (r : Result T E) → (A → OnOk r P) → OnOk r (A → P)
-ok_under (Ok x) f = f
-ok_under (Err e) f = tt
+pub ok_under : {T E A : Type 0} (P : Type 0) (r : Result T E) → (A → OnOk r P) → OnOk r (A → P)
+ok_under P (Ok x) f = f
+ok_under P (Err e) f = tt
 
 -- ---- one volume
 

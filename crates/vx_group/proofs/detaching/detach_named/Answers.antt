@@ -1,5 +1,5 @@
 -- `detach_named`: clauses stands, narrows, off, cause, sure, others, parts and 10 more; what `commit_stale` asks.
-use Rattle.std.proofs.Common.{inl, inr, false, true, length, ap, ◌∙◌, refl, sym, subst, Err}
+use Rattle.std.proofs.Common.{inl, inr, false, true, length, ap, ◌∙◌, refl, sym, subst, Err, arith}
 use Rattle.vx_disk.specs.declared.shelf.ShelfError.{ShelfError}
 use Rattle.vx_kept.specs.States.{staled}
 use Rattle.vx_kept.proofs.StateLemmas.{is_staled}

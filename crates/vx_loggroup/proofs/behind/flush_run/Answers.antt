@@ -86,7 +86,7 @@ returns-clause-left g c = λ alike going.
     (λ none. runs_set (fell_in c.args.core.now c.flush_noted.new.core c.args.vol) c.args.vol (first_region c.args.block) (last_region c.args.block c.args.count) c.args.logs.now.items c.flush_noted.new.logs none)
 
 pub returns-clause-kept : goal.returns-clause-kept
-returns-clause-kept g c = ok_from c.flush_noted.result (set_sure c.args.core.now c.flush_noted.new.core c.args.vol c.args.logs.now.items c.index_mut.result.now c.flush_noted.new.logs (item_of c.args.logs.now.items c.args.vol c.index_mut.result.now c.index_mut.ensures.value (index_low c.args.core.now c.args.logs.now.items c.args.alike.now c.args.stopped (g.S.Shelf.meaning c.args.shelf.now) c.args.vol c.requires.stands c.requires.there)) c.flush_noted.ensures.narrow) (ok_under c.flush_noted.result c.flush_noted.ensures.kept)
+returns-clause-kept g c = ok_from c.flush_noted.result (set_sure c.args.core.now c.flush_noted.new.core c.args.vol c.args.logs.now.items c.index_mut.result.now c.flush_noted.new.logs (item_of c.args.logs.now.items c.args.vol c.index_mut.result.now c.index_mut.ensures.value (index_low c.args.core.now c.args.logs.now.items c.args.alike.now c.args.stopped (g.S.Shelf.meaning c.args.shelf.now) c.args.vol c.requires.stands c.requires.there)) c.flush_noted.ensures.narrow) (ok_under _ c.flush_noted.result c.flush_noted.ensures.kept)
 
 pub returns-clause-said : goal.returns-clause-said
 returns-clause-said g c = λ alike going some.

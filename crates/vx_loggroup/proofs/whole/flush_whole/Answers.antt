@@ -55,7 +55,7 @@ returns-clause-left g c = λ alike going.
     (λ none. off_set (fell_in c.args.core.now c.flush_spent.new.core c.args.vol) c.args.vol c.args.logs.now.items c.flush_spent.new.logs none)
 
 pub returns-clause-kept : goal.returns-clause-kept
-returns-clause-kept g c = ok_from c.flush_spent.result (set_sure c.args.core.now c.flush_spent.new.core c.args.vol c.args.logs.now.items c.index_mut.result.now c.flush_spent.new.logs (item_of c.args.logs.now.items c.args.vol c.index_mut.result.now c.index_mut.ensures.value (index_low c.args.core.now c.args.logs.now.items c.args.alike.now c.args.stopped (g.S.Shelf.meaning c.args.shelf.now) c.args.vol c.requires.stands c.requires.there)) c.flush_spent.ensures.narrow) (ok_under c.flush_spent.result c.flush_spent.ensures.kept)
+returns-clause-kept g c = ok_from c.flush_spent.result (set_sure c.args.core.now c.flush_spent.new.core c.args.vol c.args.logs.now.items c.index_mut.result.now c.flush_spent.new.logs (item_of c.args.logs.now.items c.args.vol c.index_mut.result.now c.index_mut.ensures.value (index_low c.args.core.now c.args.logs.now.items c.args.alike.now c.args.stopped (g.S.Shelf.meaning c.args.shelf.now) c.args.vol c.requires.stands c.requires.there)) c.flush_spent.ensures.narrow) (ok_under _ c.flush_spent.result c.flush_spent.ensures.kept)
 
 pub returns-clause-said : goal.returns-clause-said
 returns-clause-said g c = λ alike going some.
