@@ -1,21 +1,24 @@
--- A call over the parts of a group of which no plex is held back, and the plex that is held back behind it.
-use Rattle.std.proofs.Common.{◌≡◌, None, Option, ℕ, List, ap, sym, ◌∙◌, subst}
-use Rattle.vx_disk.specs.Shelf.{Goes, Meaning, Nothing}
+-- A call over the parts of a group of which no plex is held back, and the plex that is held back behind it; a plex that is detached.
+use Rattle.std.proofs.Common.{◌≡◌, None, Option, ℕ, List, ap, sym, ◌∙◌, subst, arith}
+use Rattle.vx_disk.specs.Shelf.{Goes, Lawful, Meaning, Nothing}
 use Rattle.vx_config.specs.declared.config.Config.{Config}
 use Rattle.vx_config.specs.declared.entry.DiskEntry.{DiskEntry}
 use Rattle.vx_copies.specs.Commits.{MoreFailed}
 use Rattle.vx_fmr.specs.Missed.{Missed}
 use Rattle.vx_volume.specs.Plexes.{active}
-use Rattle.vx_kept.specs.Keeping.{SameShape}
+use Rattle.vx_kept.specs.Keeping.{Acts, SameShape, Sees}
 use Rattle.vx_kept.proofs.StateLemmas.{then_shape}
 use Rattle.vx_group.specs.Attaches.{Attaches}
-use Rattle.vx_group.specs.Calls.{GroupAttaches}
+use Rattle.vx_group.specs.Calls.{GroupAttaches, GroupNarrows, members_by}
 use Rattle.vx_group.specs.Finds.{CoreFinds}
-use Rattle.vx_group.specs.Holding.{HeldBack, wide}
+use Rattle.vx_group.specs.Holding.{GroupStands, HeldBack, config_by, wide}
 use Rattle.vx_group.specs.Loses.{SameParts}
-use Rattle.vx_group.specs.Stands.{inner_meaning}
+use Rattle.vx_group.specs.Moves.{Narrows}
+use Rattle.vx_group.specs.Stands.{inner_meaning, volume_faults}
 use Rattle.vx_group.specs.declared.group_core.GroupCore.{GroupCore}
+use Rattle.vx_group.specs.declared.group_core.Held.{Held}
 use Rattle.vx_group.specs.declared.inner.Inner.{Inner}
+use Rattle.vx_group.proofs.CallLemmas.{narrows_Goes}
 use Rattle.vx_group.proofs.HoldLemmas.{back_rest, wide_none}
 use Rattle.vx_group.proofs.LoseLemmas.{then_parts}
 
@@ -37,3 +40,22 @@ module _ (c d : GroupCore) (e : Inner) (m m' : Meaning) (none : c.held ≡ None)
 -- the disks are those of before
 pub back_failing : (v p : ℕ) (c d : GroupCore) → c.held ≡ None → HeldBack v p c d → (ds : List DiskEntry) (m m' : Meaning) → MoreFailed m m' ds c.inner.config.disks → MoreFailed m m' ds d.inner.config.disks
 back_failing v p c d none back ds m m' failing = subst (λ (xs : List DiskEntry). MoreFailed m m' ds xs) (sym (ap (λ (x : Config). x.disks) (back_rest v p c d none back))) failing
+
+-- ---- a commit that detaches a plex, where none is held back
+
+module _ (c d : GroupCore) (m m' : Meaning) (none : c.held ≡ None) (still : d.held ≡ None) (it : Narrows c.inner d.inner m m') where
+  pub alone_wide : Narrows (wide c) (wide d) m m'
+  alone_wide = subst (λ (i : Inner). Narrows i (wide d) m m') (sym (wide_none c none)) (subst (λ (i : Inner). Narrows c.inner i m m') (sym (wide_none d still)) it)
+
+  pub alone_goes : GroupStands c m → Lawful m' → Goes Nothing (inner_meaning (wide c) m) (inner_meaning (wide d) m')
+  alone_goes stands lawful = narrows_Goes (wide c) (wide d) m m' lawful stands.stands alone_wide (volume_faults c.inner.faults) (volume_faults d.inner.faults) (λ u. let same = ap (λ (f : List ℕ). volume_faults f u) it.faults in omega (arith, same))
+
+  pub alone_narrows : GroupNarrows c d m m'
+  alone_narrows = record {
+    acts = subst (λ (o : Option Held). Acts Nothing (Sees (config_by o c.inner.config) (members_by o c.inner.good m) m) m m') (sym none) it.acts;
+    shape = it.shape;
+    on = it.on;
+    wide_on = alone_wide.on;
+    faults = it.faults;
+    unsure = it.unsure;
+  }

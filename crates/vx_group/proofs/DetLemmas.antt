@@ -1,5 +1,5 @@
 -- A plex that may be detached.
-use Rattle.std.proofs.Common.{◌≡◌, ◌≢◌, ◌⊎◌, inl, inr, ℕ, zero, suc, ◌+◌, ◌-◌, ◌<◌, Bool, true, false, IsTrue, Some, None, List, [], ◌∷◌, length, set, get_or, get_or-set_same, get_or-set_other, Result, Ok, Err, OnOk, refl, ap, sym, ◌∙◌, subst, arith}
+use Rattle.std.proofs.Common.{◌≡◌, ◌≢◌, ◌⊎◌, inl, inr, ℕ, zero, suc, ◌+◌, ◌-◌, ◌<◌, ◌≤◌, Bool, true, false, IsTrue, Some, None, List, [], ◌∷◌, length, set, get_or, get_or-set_same, get_or-set_other, Result, Ok, Err, OnOk, refl, ap, sym, ◌∙◌, subst, arith}
 use Rattle.std.specs.Prelude.{◌&&◌, ◌||◌, ◌==◌, not, nat_le, nat_lt, if◌then◌else◌}
 use Rattle.std.proofs.lemmas.Bool.{and_parts, eq-eqb, cases_eq, cases_lt, lt-ltb}
 use Rattle.vx_config.specs.Checks.{plexes_of}
@@ -46,6 +46,13 @@ module _ (c : Config) (v p : ℕ) (may : det_refusal c v p ≡ None) where
   may_serial = elim (cases_lt (greatest - margin) c.serial) [
     | inl lt ↦ absurd (let clash : true ≡ false = sym (lt-ltb (greatest - margin) c.serial lt) ∙ (all_no (nat_le (length c.volumes) v) (nat_le (plexes_of c v) p) (active c v p && not (any_below (is_other c v p) (plexes_of c v))) (nat_lt (greatest - margin) c.serial) _ _ _ _ may).3 in cc)
     | inr le ↦ omega (arith, le)
+  ]
+
+  -- as many are left as the margin says
+  pub may_margin : c.serial ≤ greatest - margin
+  may_margin = elim (cases_lt (greatest - margin) c.serial) [
+    | inl lt ↦ absurd (let clash : true ≡ false = sym (lt-ltb (greatest - margin) c.serial lt) ∙ (all_no (nat_le (length c.volumes) v) (nat_le (plexes_of c v) p) (active c v p && not (any_below (is_other c v p) (plexes_of c v))) (nat_lt (greatest - margin) c.serial) _ _ _ _ may).3 in cc)
+    | inr le ↦ le
   ]
 
   -- so many serials are left that a commit uses less

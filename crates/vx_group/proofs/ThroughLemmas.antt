@@ -196,7 +196,7 @@ module _ (c0 mid c2 new : GroupCore) (x : Inner) (m m1 m2 : Meaning) (stands : G
   new_Stands it = again_Stands o c2 new m2 none again it
 
   -- no state changed
-  by_volumes : (k : Option Held) → o ≡ k → HeldAgain k c2 new → c2.inner.config.volumes ≡ x.config.volumes → new.inner.config.volumes ≡ mid.inner.config.volumes
+  pub by_volumes : (k : Option Held) → o ≡ k → HeldAgain k c2 new → c2.inner.config.volumes ≡ x.config.volumes → new.inner.config.volumes ≡ mid.inner.config.volumes
   by_volumes None is same kept = ap (λ (g : GroupCore). g.inner.config.volumes) same ∙ kept ∙ ap (λ (i : Inner). i.config.volumes) x_is ∙ ap (λ (i : Inner). i.config.volumes) (wide_none mid (sym held ∙ is))
   by_volumes (Some h) is back kept =
       e_volumes mid h m1 mid_stands (sym held ∙ is) x x_is c2.inner (λ w q apart. active_volumes c2.inner.config x.config kept w q) c2 new refl none back (inl kept)

@@ -1,6 +1,6 @@
 // A plex that is detached by its name.
 ghost use Rattle.vx_group.specs.Finds.{GroupFinds};
-ghost use Rattle.std.specs.Prelude.{◌≡◌, ◌⊎◌, ℕ, false, true, IsOk, IsTrue, Some, None, Err, OnOk, IfErr};
+ghost use Rattle.std.specs.Prelude.{◌≡◌, ◌⊎◌, ℕ, false, true, IsOk, IsTrue, Some, None, Err, OnOk, IfErr, ◌<◌};
 ghost use Rattle.vx_copies.specs.Commits.{MoreFailed};
 ghost use Rattle.vx_disk.specs.Shelf.{Goes, Nothing};
 ghost use Rattle.vx_group.specs.Dets.{DetStops, det_refusal};
@@ -12,6 +12,8 @@ ghost use Rattle.vx_model.specs.declared.errors.Stop.TheVariants.{No as Refused}
 ghost use Rattle.vx_model.specs.declared.no.No.{No as NoValue};
 ghost use Rattle.vx_volume.specs.Plexes.{active};
 ghost use Rattle.vx_group.specs.Loses.{SameParts, TrustsStill};
+ghost use Rattle.vx_group.specs.Attaches.{HasOther};
+ghost use Rattle.vx_config.specs.Table.{greatest};
 
 use crate::group_core::GroupCore;
 use crate::holding::has_other;
@@ -91,6 +93,45 @@ pub fn det_in<S: Shelf>(
     match release(shelf, core) {
         Ok(()) => {}
         Err(error) => return Err(Stop::No(refusal(error))),
+    }
+    match detach_plex(shelf, &mut core.inner, vol, plex) {
+        Ok(()) => Ok(()),
+        Err(error) => Err(Stop::No(refusal(error))),
+    }
+}
+
+/// Detaches a plex that is ACTIVE beside another one, where none is held back and a serial is left.
+///
+/// Answers 7 only where the count of the disk that it names rose, and 6 only where the shelf is then down. Where it is refused and the shelf is not
+/// down, each plex is in the state in which it was. It makes no device call but those of a commit, takes no memory, and touches no block of a plex.
+pub fn det_alone<S: Shelf>(
+    shelf: &mut S,
+    core: &mut GroupCore,
+    vol: u32,
+    plex: u32,
+) -> Result<(), Stop>
+    requires stands { GroupStands core.old (S.meaning shelf.old) }
+    requires none { core.old.held ≡ None }
+    requires is_on { IsTrue (active core.old.inner.config vol plex) }
+    requires other { HasOther core.old.inner.config vol plex }
+    requires more { core.old.inner.config.serial < greatest }
+    ensures stands { GroupStands core.new (S.meaning shelf.new) }
+    ensures goes { Goes Nothing (inner_meaning (wide core.old) (S.meaning shelf.old)) (inner_meaning (wide core.new) (S.meaning shelf.new)) }
+    ensures narrows { GroupNarrows core.old core.new (S.meaning shelf.old) (S.meaning shelf.new) }
+    ensures parts { SameParts core.old.inner.config core.new.inner.config }
+    ensures disks { MoreFailed (S.meaning shelf.old) (S.meaning shelf.new) core.old.inner.config.disks core.new.inner.config.disks }
+    ensures off { OnOk result (active core.new.inner.config vol plex ≡ false) }
+    ensures free { core.new.held ≡ None }
+    ensures others { (w p : ℕ) → (w ≡ vol → p ≡ plex → ⊥) → active core.new.inner.config w p ≡ active core.old.inner.config w p }
+    ensures stays { IfErr result (λ stop. IsTrue (S.meaning shelf.new).down ⊎ (core.new.inner.config.volumes ≡ core.old.inner.config.volumes)) }
+    ensures trust { OnOk result (core.old.inner.committed ≡ true → core.new.inner.committed ≡ true) }
+    ensures agreed { IfErr result (λ e. core.old.inner.committed ≡ true → core.new.inner.agreed ≡ true) }
+    ensures finds { GroupFinds core.old core.new (S.meaning shelf.old) (S.meaning shelf.new) }
+    ensures logs { TrustsStill core.old.inner.config core.new.inner.config }
+    ensures cause { DetStops (S.meaning shelf.old) (S.meaning shelf.new) result }
+{
+    if shelf.is_down() {
+        return Err(Stop::No(No::Down));
     }
     match detach_plex(shelf, &mut core.inner, vol, plex) {
         Ok(()) => Ok(()),

@@ -57,6 +57,7 @@ pub fn detach_named<S: Shelf>(
     ensures parts { SameParts core.old.config core.new.config }
     ensures failing { MoreFailed (S.meaning shelf.old) (S.meaning shelf.new) core.old.config.disks core.new.config.disks }
     ensures few { OnOk result (core.new.config.serial ≤ core.old.config.serial + 1 + length core.old.config.disks) }
+    ensures room { OnOk result (core.old.config.serial < greatest) }
     ensures good { core.new.unsettled ≡ true → core.new.good ≡ core.old.good }
     ensures kept { (core.new.config.volumes ≡ core.old.config.volumes) ⊎ (core.new.config.volumes ≡ (staled vol failed.set core.old.config MOST_PLEXES).volumes) }
     ensures none { failed.set ≡ 0 → core.new.config.volumes ≡ core.old.config.volumes }
@@ -121,6 +122,7 @@ pub fn detach<S: Shelf>(
     ensures parts { SameParts core.old.config core.new.config }
     ensures failing { MoreFailed (S.meaning shelf.old) (S.meaning shelf.new) core.old.config.disks core.new.config.disks }
     ensures few { OnOk result (core.new.config.serial ≤ core.old.config.serial + 1 + length core.old.config.disks) }
+    ensures room { OnOk result (core.old.config.serial < greatest) }
     ensures good { core.new.unsettled ≡ true → core.new.good ≡ core.old.good }
     ensures kept { (core.new.config.volumes ≡ core.old.config.volumes) ⊎ (core.new.config.volumes ≡ (staled vol failed.set core.old.config MOST_PLEXES).volumes) }
     ensures none { failed.set ≡ 0 → core.new.config.volumes ≡ core.old.config.volumes }

@@ -40,6 +40,7 @@ pub fn flush_plexes<S: Shelf>(shelf: &mut S, core: &mut Inner, vol: u32) -> Resu
     ensures faults { core.new.faults ≡ core.old.faults }
     ensures unsure { core.new.unsure ≡ core.old.unsure }
     ensures gave_up { GivesUp vol core.old core.new (S.meaning shelf.old) (S.meaning shelf.new) result }
+    ensures full { greatest ≤ core.old.config.serial → OnOk result (core.new.config.volumes ≡ core.old.config.volumes) }
     ensures trust { OnOk result (core.old.committed ≡ true → core.new.committed ≡ true) }
     ensures agreed { IfErr result (λ e. core.old.committed ≡ true → core.new.agreed ≡ true) }
     ensures finds { CoreFinds core.old core.new (S.meaning shelf.old) (S.meaning shelf.new) }
@@ -69,6 +70,7 @@ pub fn flush_in<S: Shelf>(shelf: &mut S, core: &mut Inner, vol: u32) -> Result<(
     ensures ok { OnOk result (Flushed vol (inner_meaning core.old (S.meaning shelf.old)) (inner_meaning core.new (S.meaning shelf.new))) }
     ensures acts { PlexActs Nothing core.old.config core.new.config (S.meaning shelf.old) (S.meaning shelf.new) }
     ensures gave_up { GivesUp vol core.old core.new (S.meaning shelf.old) (S.meaning shelf.new) result }
+    ensures full { greatest ≤ core.old.config.serial → OnOk result (core.new.config.volumes ≡ core.old.config.volumes) }
     ensures loses { LosesPlexes core.old.config core.new.config (S.meaning shelf.old) (S.meaning shelf.new) }
     ensures trust { OnOk result (core.old.committed ≡ true → core.new.committed ≡ true) }
     ensures agreed { IfErr result (λ e. core.old.committed ≡ true → core.new.agreed ≡ true) }
@@ -112,6 +114,7 @@ pub fn flush_group<S: Shelf>(
     ensures gave_up { GivesUp vol core.old.inner core.new.inner (S.meaning shelf.old) (S.meaning shelf.new) result }
     ensures loses { LosesPlexes core.old.inner.config core.new.inner.config (S.meaning shelf.old) (S.meaning shelf.new) }
     ensures clear { core.old.inner.config.serial < greatest → OnOk result (core.new.held ≡ None) }
+    ensures full { greatest ≤ core.old.inner.config.serial → OnOk result (core.new.inner.config.volumes ≡ core.old.inner.config.volumes) }
     ensures trust { OnOk result (core.old.inner.committed ≡ true → core.new.inner.committed ≡ true) }
     ensures agreed { IfErr result (λ e. core.old.inner.committed ≡ true → core.new.inner.agreed ≡ true) }
     ensures finds { GroupFinds core.old core.new (S.meaning shelf.old) (S.meaning shelf.new) }

@@ -45,7 +45,7 @@ pub use counting::{give_up, mark_unsure};
 pub use crashing::{crash_in, fall, revive};
 pub use create::start;
 pub use deporting::deport_in;
-pub use det::{det_in, refuse_det};
+pub use det::{det_alone, det_in, refuse_det};
 pub use finishing::renew;
 pub use flushing::flush_group;
 pub use group::Group;

@@ -1,6 +1,6 @@
 // A log that is lost, by one commit.
 ghost use Rattle.vx_group.specs.Finds.{CoreEnds, CoreFinds};
-ghost use Rattle.std.specs.Prelude.{◌≡◌, ◌<◌, ℕ, false, true, IfErr, IsTrue, OnOk};
+ghost use Rattle.std.specs.Prelude.{◌≡◌, ◌<◌, ℕ, false, true, IfErr, IsTrue, OnOk, ◌+◌, ◌≤◌, length};
 ghost use Rattle.vx_config.specs.Table.{greatest};
 ghost use Rattle.vx_config.specs.declared.entry.VolumeLog.{VolumeLog as VolumeLogValue};
 ghost use Rattle.vx_copies.specs.Commits.{MoreFailed};
@@ -39,6 +39,7 @@ fn lose_settled<S: Shelf>(
     ensures lost { OnOk result (log_trusted core.new.config vol log ≡ false) }
     ensures others { (w : ℕ) (k : VolumeLogValue) → (w ≡ vol → k ≡ log → ⊥) → log_of core.new.config w k ≡ log_of core.old.config w k }
     ensures settled { OnOk result (core.new.unsettled ≡ false) }
+    ensures few { OnOk result (core.new.config.serial ≤ core.old.config.serial + 1 + length core.old.config.disks) }
     ensures failing { MoreFailed (S.meaning shelf.old) (S.meaning shelf.new) core.old.config.disks core.new.config.disks }
     ensures parts { SameParts core.old.config core.new.config }
     ensures keeps { KeepsVolumes core.old.config core.new.config result }
@@ -91,6 +92,7 @@ pub fn lose_log<S: Shelf>(
     ensures lost { OnOk result (log_trusted core.new.config vol log ≡ false) }
     ensures others { (w : ℕ) (k : VolumeLogValue) → (w ≡ vol → k ≡ log → ⊥) → log_of core.new.config w k ≡ log_of core.old.config w k }
     ensures settled { OnOk result (core.new.unsettled ≡ false) }
+    ensures few { OnOk result (core.new.config.serial ≤ core.old.config.serial + 9) }
     ensures failing { MoreFailed (S.meaning shelf.old) (S.meaning shelf.new) core.old.config.disks core.new.config.disks }
     ensures parts { SameParts core.old.config core.new.config }
     ensures keeps { KeepsVolumes core.old.config core.new.config result }
@@ -106,5 +108,7 @@ pub fn lose_log<S: Shelf>(
         Ok(()) => {}
         Err(error) => return Err(error),
     }
+    // Read for their bound.
+    let _disks = core.config.disks.as_slice();
     lose_settled(shelf, core, vol, log)
 }

@@ -10,6 +10,7 @@ ghost use Rattle.vx_group.specs.Moves.{Narrows};
 ghost use Rattle.vx_group.specs.Quiesces.{AnyFailed};
 ghost use Rattle.vx_group.specs.Settled.{SameBut};
 ghost use Rattle.vx_group.specs.Stands.{InnerStands};
+ghost use Rattle.vx_config.specs.Table.{greatest};
 
 use crate::detaching::detach;
 use crate::inner::Inner;
@@ -111,6 +112,7 @@ pub fn make_ready<S: Shelf>(shelf: &mut S, core: &mut Inner) -> Result<(), Shelf
     ensures parts { SameParts core.old.config core.new.config }
     ensures failing { MoreFailed (S.meaning shelf.old) (S.meaning shelf.new) core.old.config.disks core.new.config.disks }
     ensures few { OnOk result (core.new.config.serial ≤ core.old.config.serial + 1 + length core.old.config.disks) }
+    ensures full { greatest ≤ core.old.config.serial → greatest ≤ core.new.config.serial }
     ensures good { core.new.unsettled ≡ true → core.new.good ≡ core.old.good }
     ensures missed { IfErr result (λ e. NoCommit core.new (S.meaning shelf.new)) }
     ensures trust { OnOk result (core.old.committed ≡ true → core.new.committed ≡ true) }

@@ -289,3 +289,12 @@ gave_off v c d a b m m' l (Fault disk) gave why = inr (record { none = λ f is p
     never true false same fell = let clash : false ≡ true = same in cc
     never false u same fell = let clash : false ≡ true = fell in cc
 gave_off v c d a b m m' l Down gave why = inl why
+
+-- nor do calls that leave each plex as it is
+pub still_off : (c d : GroupCore) (v : ℕ) (l : Logs) → ((p : ℕ) → active d.inner.config v p ≡ active c.inner.config v p) → MapsOff (fell_in c d v) l
+still_off c d v l still = record { none = λ f is p r low under fell. absurd (never (active c.inner.config v p) (active d.inner.config v p) (still p) fell) }
+  where
+    never : (t u : Bool) → u ≡ t → (t && not u) ≡ true → ⊥
+    never true true same fell = let clash : false ≡ true = fell in cc
+    never true false same fell = let clash : false ≡ true = same in cc
+    never false u same fell = let clash : false ≡ true = fell in cc

@@ -7,5 +7,6 @@ pub mod GoneLogs
 pub mod BeginLemmas
 pub mod FallenLemmas
 pub mod SpentLemmas
+pub mod KeptLemmas
 pub mod EmptyLemmas
 pub mod CopyLemmas

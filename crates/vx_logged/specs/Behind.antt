@@ -14,6 +14,11 @@ use Rattle.vx_logged.specs.Logged.{LogKept, MapKept, MayWrite, are_off}
 abbrev pub MapSaid : GroupCore → ℕ → Logs → Type 0
 MapSaid core v l = MapKept core v l ⊎ (greatest ≤ core.inner.config.serial + 9)
 
+-- each log of the volume is in memory, or held as lost
+pub record BothKept (core : GroupCore) (v : ℕ) (l : Logs) : Type 0 where
+  pub drl : LogKept core v l
+  pub fmr : MapKept core v l
+
 -- a log of the volume that is in memory no more is held as lost, unless no serial is left to say so
 pub record AreKept (core : GroupCore) (v : ℕ) (l : Logs) : Type 0 where
   pub so : (LogKept core v l × MapSaid core v l) ⊎ (greatest ≤ core.inner.config.serial + 9)

@@ -17,7 +17,7 @@ ghost use Rattle.vx_layout.specs.Places.{HasBlock};
 ghost use Rattle.vx_logged.specs.Begun.{MapsBut, MapsOff, MapsOfRun, ReadsBut, ReadsWhole, fell_now, was_on};
 ghost use Rattle.vx_logged.specs.Behind.{MapSaid, none_missing};
 ghost use Rattle.vx_logged.specs.Holds.{HoldsRun};
-ghost use Rattle.vx_logged.specs.Logged.{Known, KnownBy, LogOn, MayWrite, Narrowed, OthersOn, TrustsIn, are_off};
+ghost use Rattle.vx_logged.specs.Logged.{Known, KnownBy, LogOn, MapKept, MayWrite, Narrowed, OthersOn, TrustsIn, are_off};
 ghost use Rattle.vx_logs.specs.Noting.{this_plex};
 ghost use Rattle.vx_logs.specs.Writes.{first_region, last_region};
 ghost use Rattle.vx_model.specs.Sizes.{regions_of as regions_in};
@@ -202,6 +202,8 @@ pub fn keep_fallen<S: Shelf>(
     ensures notes { MapsBut (fell_now was.now core.new vol) none_missing 0 0 logs.old logs.new }
     ensures begins { IfOk result (λ done. done ≡ true → MapsOff (fell_now was.now core.new vol) logs.new) }
     ensures left { core.old.held ≡ None → IfErr result (λ e. IsTrue (S.meaning shelf.new).down ⊎ MapsOff (fell_now was.now core.new vol) logs.new) }
+    ensures kept { MapKept core.old vol logs.old → IfOk result (λ done. done ≡ true → MapKept core.new vol logs.new) }
+    ensures said { 0 < blocks_of_is (wide core.old).config.volumes vol → IfOk result (λ done. done ≡ true → MapKept core.new vol logs.new) }
     ensures spent { IfOk result (λ done. done ≡ false → greatest ≤ core.new.inner.config.serial + 9) }
     ensures drops { LogsDrop (wide core.old).config vol logs.old logs.new (S.meaning shelf.old) (S.meaning shelf.new) }
     ensures trusts { TrustsIn vol logs.new core.old.inner.config core.new.inner.config }

@@ -13,7 +13,7 @@ ghost use Rattle.vx_config.specs.Checks.{blocks_of as blocks_of_is};
 ghost use Rattle.vx_grouplogs.specs.Covering.{AllAlike};
 ghost use Rattle.vx_grouplogs.specs.Marking.{HoldsMany, MarksFewer, NoMarks};
 ghost use Rattle.vx_groupmaps.specs.Knowing.{MapsStay};
-ghost use Rattle.vx_logged.specs.Logged.{Known, LogOn, Narrowed, OthersOn, TrustsIn};
+ghost use Rattle.vx_logged.specs.Logged.{Known, LogKept, LogOn, Narrowed, OthersOn, TrustsIn};
 ghost use Rattle.vx_model.specs.Sizes.{regions_of as regions_in};
 ghost use Rattle.vx_volume.specs.Plexes.{active};
 
@@ -26,8 +26,8 @@ use vx_grouplogs::clear_run;
 use vx_logs::Logs;
 
 /// Takes all marks off the log of a volume where more than 64 regions were marked since, and answers whether the log may be gone by further.
-/// The caller says that of each block of the volume a crash leaves one value. A log of which the disk fails is committed as lost. All volumes
-/// read as before; whatever is answered, each log stands.
+/// The caller says that of each block of the volume a crash leaves one value. A log of which the disk fails is committed as lost,
+/// while serials are left. All volumes read as before; whatever is answered, each log stands.
 pub fn clear_group<S: Shelf>(
     shelf: &mut S,
     core: &mut GroupCore,
@@ -51,6 +51,10 @@ pub fn clear_group<S: Shelf>(
     ensures below { SameUnits (S.meaning shelf.old) (S.meaning shelf.new) }
     ensures off { IfOk result (λ done. done ≡ true → HoldsMany logs.old.drl → NoMarks (regions_in (blocks_of_is (wide core.old).config.volumes vol)) logs.new) }
     ensures full { IfOk result (λ done. done ≡ false → greatest ≤ core.old.inner.config.serial + 18) }
+    ensures spent { IfOk result (λ done. done ≡ false → greatest ≤ core.new.inner.config.serial + 9) }
+    ensures same { OnOk result (logs.new.fmr ≡ logs.old.fmr) }
+    ensures kept { LogKept core.old vol logs.old → IfOk result (λ done. done ≡ true → LogKept core.new vol logs.new) }
+    ensures said { 0 < blocks_of_is (wide core.old).config.volumes vol → IfOk result (λ done. done ≡ true → LogKept core.new vol logs.new) }
     ensures drops { LogsDrop (wide core.old).config vol logs.old logs.new (S.meaning shelf.old) (S.meaning shelf.new) }
     ensures trusts { TrustsIn vol logs.new core.old.inner.config core.new.inner.config }
     ensures trust { OnOk result (core.old.inner.committed ≡ true → core.new.inner.committed ≡ true) }

@@ -12,7 +12,7 @@ ghost use Rattle.vx_config.specs.Checks.{blocks_of as blocks_of_is};
 ghost use Rattle.vx_grouplogs.specs.Marking.{MarksFewer};
 ghost use Rattle.vx_grouplogs.specs.On.{ReadsOne};
 ghost use Rattle.vx_logged.specs.Begun.{MapsBut, MapsOff, fell_in};
-ghost use Rattle.vx_logged.specs.Behind.{none_missing};
+ghost use Rattle.vx_logged.specs.Behind.{AreKept, BothKept, none_missing};
 ghost use Rattle.vx_logged.specs.Logged.{Known, LogOn, Narrowed, OthersOn, TrustsIn};
 ghost use Rattle.vx_model.specs.Sizes.{regions_of as regions_in};
 
@@ -25,7 +25,8 @@ use vx_logs::Logs;
 /// Makes a volume durable, and takes the marks off its log where more than 64 regions were marked since. So it is only where logs are not
 /// stopped, and where the caller is sure that each block of the volume reads as one value on all plexes that are ACTIVE: else it is a flush
 /// and no more. A plex that fails in the flush has missed nothing: its map is empty then, unless no serial is left. So it is behind a refusal too,
-/// unless the shelf is down.
+/// unless the shelf is down. Behind an Ok a log of the volume that is in memory no more is held as lost, unless no serial is left to say so: where the
+/// caller is sure and the volume has blocks, and else where it was so before.
 pub fn flush_cleared<S: Shelf>(
     shelf: &mut S,
     core: &mut GroupCore,
@@ -48,7 +49,9 @@ pub fn flush_cleared<S: Shelf>(
     ensures narrow { Narrowed core.old core.new }
     ensures notes { MapsBut (fell_in core.old core.new vol) none_missing 0 0 logs.old logs.new }
     ensures begins { sure ≡ true → OnOk result (MapsOff (fell_in core.old core.new vol) logs.new ⊎ (greatest ≤ core.new.inner.config.serial + 9)) }
-    ensures left { core.old.inner.config.serial < greatest → sure ≡ true → IfErr result (λ e. IsTrue (S.meaning shelf.new).down ⊎ MapsOff (fell_in core.old core.new vol) logs.new) }
+    ensures left { sure ≡ true → IfErr result (λ e. IsTrue (S.meaning shelf.new).down ⊎ MapsOff (fell_in core.old core.new vol) logs.new) }
+    ensures kept { BothKept core.old vol logs.old → OnOk result (AreKept core.new vol logs.new) }
+    ensures said { sure ≡ true → 0 < blocks_of_is (wide core.old).config.volumes vol → OnOk result (AreKept core.new vol logs.new) }
     ensures drops { LogsDrop (wide core.old).config vol logs.old logs.new (S.meaning shelf.old) (S.meaning shelf.new) }
     ensures trusts { TrustsIn vol logs.new core.old.inner.config core.new.inner.config }
     ensures trust { OnOk result (core.old.inner.committed ≡ true → core.new.inner.committed ≡ true) }

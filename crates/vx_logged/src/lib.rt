@@ -22,7 +22,7 @@ mod writing;
 pub use clearing::clear_group;
 pub use copying::copy_plex;
 pub use crashing::{crash_logged, revive_logged};
-pub use detaching::det_logged;
+pub use detaching::det_beside;
 pub use flushing::flush_cleared;
 pub use keeping::{keep_logs, keep_map};
 pub use marking::mark_group;

@@ -13,8 +13,9 @@ ghost use Rattle.vx_grouplogs.specs.Marking.{MarksOnly};
 ghost use Rattle.vx_grouplogs.specs.On.{ReadsOne};
 ghost use Rattle.vx_groupmaps.specs.Knowing.{MapsNote};
 ghost use Rattle.vx_logged.specs.Begun.{MapsBut, MapsOff, MapsOfRun, fell_in, fell_now, was_on};
+ghost use Rattle.vx_logged.specs.Behind.{AreKept, BothKept};
 ghost use Rattle.vx_logged.specs.Holds.{NoneFell, TheseHold};
-ghost use Rattle.vx_logged.specs.Logged.{Known, LogOn, OthersOn, TrustsIn, are_off};
+ghost use Rattle.vx_logged.specs.Logged.{Known, LogOn, Narrowed, OthersOn, TrustsIn, are_off};
 ghost use Rattle.vx_logs.specs.Writes.{first_region, last_region};
 ghost use Rattle.vx_model.specs.Sizes.{regions_of as regions_in};
 ghost use Rattle.vx_model.specs.declared.limits.TheConstants.{MOST_PLEXES};
@@ -89,10 +90,12 @@ fn miss_fallen<S: Shelf>(
     ensures others { OthersOn vol core.old core.new (S.meaning shelf.old) (S.meaning shelf.new) }
     ensures adds { MarksOnly (regions_in (blocks_of_is (wide core.old).config.volumes vol)) (first_region block) (last_region block count) logs.old logs.new }
     ensures maps { Known core.old vol logs.old (S.meaning shelf.old) → Known core.new vol logs.new (S.meaning shelf.new) }
+    ensures narrow { Narrowed core.old core.new }
     ensures still { (w p : ℕ) → active core.new.inner.config w p ≡ active core.old.inner.config w p }
     ensures notes { MapsNote (are_off core.new vol) (first_region block) (last_region block count) logs.old logs.new }
     ensures begins { MapsOff (fell_now was.now core.old vol) logs.old ⊎ (greatest ≤ core.old.inner.config.serial + 9) → OnOk result (MapsOfRun (fell_now was.now core.new vol) (first_region block) (last_region block count) logs.new ⊎ (greatest ≤ core.new.inner.config.serial + 9)) }
     ensures left { MapsOff (fell_now was.now core.old vol) logs.old ⊎ (greatest ≤ core.old.inner.config.serial + 9) → IfErr result (λ e. MapsOfRun (fell_now was.now core.new vol) (first_region block) (last_region block count) logs.new) }
+    ensures kept { AreKept core.old vol logs.old → OnOk result (AreKept core.new vol logs.new) }
     ensures holds { going ≡ true → 0 < count → OnOk result (TheseHold (fell_now was.now core.new vol) (first_region block) (last_region block count) logs.new ⊎ (greatest ≤ core.new.inner.config.serial + 9)) }
     ensures drops { LogsDrop (wide core.old).config vol logs.old logs.new (S.meaning shelf.old) (S.meaning shelf.new) }
     ensures trusts { TrustsIn vol logs.new core.old.inner.config core.new.inner.config }
@@ -113,7 +116,7 @@ fn miss_fallen<S: Shelf>(
 
 /// Makes a volume durable behind a write of a run of its blocks, as `flush_cleared` does. Where a plex falls out of use in that, logs go on and a
 /// serial is left, the regions of the run are marked: the plex has missed them then, and no others where the caller is sure. It has no others behind
-/// a refusal either, unless the shelf is down.
+/// a refusal either, unless the shelf is down. Logs that are in memory no more are held as lost, as `flush_cleared` has it.
 pub fn flush_behind<S: Shelf>(
     shelf: &mut S,
     core: &mut GroupCore,
@@ -138,9 +141,12 @@ pub fn flush_behind<S: Shelf>(
     ensures others { OthersOn vol core.old core.new (S.meaning shelf.old) (S.meaning shelf.new) }
     ensures adds { MarksOnly (regions_in (blocks_of_is (wide core.old).config.volumes vol)) (first_region block) (last_region block count) logs.old logs.new }
     ensures maps { Known core.old vol logs.old (S.meaning shelf.old) → Known core.new vol logs.new (S.meaning shelf.new) }
+    ensures narrow { Narrowed core.old core.new }
     ensures notes { MapsBut (fell_in core.old core.new vol) (are_off core.new vol) (first_region block) (last_region block count) logs.old logs.new }
     ensures begins { sure ≡ true → OnOk result (MapsOfRun (fell_in core.old core.new vol) (first_region block) (last_region block count) logs.new ⊎ (greatest ≤ core.new.inner.config.serial + 9)) }
-    ensures left { core.old.inner.config.serial < greatest → sure ≡ true → IfErr result (λ e. IsTrue (S.meaning shelf.new).down ⊎ MapsOfRun (fell_in core.old core.new vol) (first_region block) (last_region block count) logs.new) }
+    ensures left { sure ≡ true → IfErr result (λ e. IsTrue (S.meaning shelf.new).down ⊎ MapsOfRun (fell_in core.old core.new vol) (first_region block) (last_region block count) logs.new) }
+    ensures kept { BothKept core.old vol logs.old → OnOk result (AreKept core.new vol logs.new) }
+    ensures said { sure ≡ true → 0 < blocks_of_is (wide core.old).config.volumes vol → OnOk result (AreKept core.new vol logs.new) }
     ensures holds { going ≡ true → 0 < count → OnOk result (TheseHold (fell_in core.old core.new vol) (first_region block) (last_region block count) logs.new ⊎ (greatest ≤ core.new.inner.config.serial + 9)) }
     ensures drops { LogsDrop (wide core.old).config vol logs.old logs.new (S.meaning shelf.old) (S.meaning shelf.new) }
     ensures trusts { TrustsIn vol logs.new core.old.inner.config core.new.inner.config }

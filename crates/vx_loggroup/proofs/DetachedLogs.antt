@@ -1,5 +1,5 @@
 -- The map of a plex that was detached, as it begins.
-use Rattle.std.proofs.Common.{◌≡◌, ◌⊎◌, ◌∙◌, inl, inr, ℕ, ◌/◌, ◌<◌, ◌≤◌, Bool, true, false, Option, Some, None, List, IsTrue, length, refl, sym, ap, subst, arith}
+use Rattle.std.proofs.Common.{◌≡◌, ◌∙◌, inl, inr, ℕ, ◌/◌, ◌<◌, ◌≤◌, Bool, true, false, Option, Some, None, List, IsTrue, length, refl, sym, ap, subst, arith}
 use Rattle.std.specs.Prelude.{IfErr, OnOk, Result, Ok, Err, slice_get}
 use Rattle.std.proofs.lemmas.Option.{slice_get_within}
 use Rattle.vx_config.specs.declared.entry.VolumeEntry.{VolumeEntry}
@@ -9,16 +9,12 @@ use Rattle.vx_config.specs.Checks.{blocks_of as blocks_in, is_sound}
 use Rattle.vx_config.specs.declared.config.Config.{Config}
 use Rattle.vx_disk.specs.Causes.{Cause, DeviceCause, refusal_of}
 use Rattle.vx_disk.specs.Counts.{Rose}
-use Rattle.vx_disk.specs.Shelf.{Goes, Meaning, Nothing}
+use Rattle.vx_disk.specs.Shelf.{Goes, Meaning}
 use Rattle.vx_disk.specs.declared.shelf.ShelfError.{ShelfError}
 use Rattle.vx_disk.specs.declared.shelf.ShelfError.TheVariants.{Fault, Down as Fell}
 use Rattle.vx_disk.proofs.Causing.{Rose_before}
 use Rattle.vx_fmr.specs.Missed.{FmrLoaded, Missed, OthersSame, has_missed}
-use Rattle.vx_group.specs.Calls.{GroupNarrows}
 use Rattle.vx_group.specs.Dets.{DetStops}
-use Rattle.vx_group.specs.Holding.{GroupStands, wide}
-use Rattle.vx_group.specs.declared.group_core.GroupCore.{GroupCore}
-use Rattle.vx_group.proofs.HoldLemmas.{narrow_sound, narrow_wider}
 use Rattle.vx_groupmaps.specs.Beginning.{EmptyAnswers, EmptyEnds, MapEmptied}
 use Rattle.vx_groupmaps.specs.Knowing.{MapsKnow, PlexesKnow}
 use Rattle.vx_groupmaps.specs.Missing.{OnMaps, none_spared, or_spared}
@@ -26,13 +22,9 @@ use Rattle.vx_groupmaps.proofs.BeginLemmas.{down_of}
 use Rattle.vx_groupmaps.proofs.BetweenLemmas.{goes_reads}
 use Rattle.vx_groupmaps.proofs.KnowLemmas.{plex_below, read_old}
 use Rattle.vx_groupmaps.proofs.MapPlaces.{region_low}
-use Rattle.vx_grouplogs.specs.On.{ReadsOne, VolumeOn}
+use Rattle.vx_grouplogs.specs.On.{VolumeOn}
 use Rattle.vx_grouplogs.proofs.KnowActs.{know_logs, logs_off_plex}
-use Rattle.vx_grouplogs.proofs.LogShape.{has_back}
 use Rattle.vx_grouplogs.proofs.MapLemmas.{goes_logs, maps_logs}
-use Rattle.vx_kept.specs.Groups.{OnSome}
-use Rattle.vx_kept.specs.Keeping.{SameShape}
-use Rattle.vx_kept.proofs.Steps.{inside_same}
 use Rattle.vx_layout.specs.Places.{HasBlock, place, plex_in}
 use Rattle.vx_logs.specs.declared.logs.Logs.{Logs}
 use Rattle.vx_model.specs.declared.errors.Stop.{Stop}
@@ -41,7 +33,6 @@ use Rattle.vx_model.specs.declared.no.No.{No}
 use Rattle.vx_model.specs.declared.no.No.TheVariants.{Device, Down as DownNo}
 use Rattle.vx_volume.specs.Plexes.{Inside, active, active_or}
 use Rattle.vx_volume.proofs.PlaceLemmas.{has_of}
-use Rattle.vx_logged.proofs.StandLemmas.{inner_wide}
 use Rattle.vx_loggroup.specs.Attaching.{fmr_at, fmr_or}
 use Rattle.vx_loggroup.specs.Detaching.{BeginsMap, LogsBegin, MapIsEmpty, MapsBegin, ReadsAlike}
 use Rattle.vx_loggroup.proofs.AlikeLemmas.{same_item}
@@ -162,32 +153,7 @@ empty_none c v plex o none = record { so = λ f is b inside. absurd (let within 
 pub empty_later : (c d : Config) (v plex : ℕ) (o : Option Missed) → ((b : ℕ) → Inside d v b → Inside c v b) → MapIsEmpty c v plex o → MapIsEmpty d v plex o
 empty_later c d v plex o back empty = record { so = λ f is b inside. empty.so f is b (back b inside) }
 
--- so it is of what a refused detach says, where the plex is ACTIVE as it was before the calls in front
-pub stays_later : {Q : Type 0} (c d e : Config) (v plex : ℕ) (o : Option Missed) → active c v plex ≡ active d v plex → ((b : ℕ) → Inside d v b → Inside c v b) → Q ⊎ (active e v plex ≡ active c v plex) ⊎ MapIsEmpty c v plex o → Q ⊎ (active e v plex ≡ active d v plex) ⊎ MapIsEmpty d v plex o
-stays_later c d e v plex o same back (inl q) = inl q
-stays_later c d e v plex o same back (inr (inl on)) = inr (inl (on ∙ same))
-stays_later c d e v plex o same back (inr (inr empty)) = inr (inr (empty_later c d v plex o back empty))
-
--- ---- a plex that was ACTIVE
-
-pub was_alike : (c d : GroupCore) (v p : ℕ) (m m' : Meaning) → GroupStands c m → GroupNarrows c d m m' → IsTrue (active c.inner.config v p) → ((IsTrue m.down → ⊥) → ReadsOne (wide c).config v m) → ReadsAlike d.inner.config v p m'
-was_alike c d v p m m' stands narrows was one = record {
-  so = λ up q b x y has on inside at_p at_q.
-      let shape = narrows.shape in
-      let wide_c = inner_wide c m stands in
-      let has_p = has_back c.inner.config d.inner.config v (shape.frames v) (shape.blocks v) p b has in
-      let inside_c = inside_same d.inner.config c.inner.config shape v b inside in
-      let on_c = narrows.on v q on in
-      let has_q = has_of c.inner.config v q b on_c inside_c in
-      (one (λ down. up (narrows.acts.falls down))).one b x y (some v p b x (inside_same c.inner.config (wide c).config wide_c v b inside_c) was (old up p b x has_p (subst (λ (s : ℕ × ℕ). m'.reads s.0 s.1 x) (shape.place v p b) at_p)))
-      (some v q b y (inside_same c.inner.config (wide c).config wide_c v b inside_c) on_c (old up q b y has_q (subst (λ (s : ℕ × ℕ). m'.reads s.0 s.1 y) (shape.place v q b) at_q)));
-}
-  where
-    old : (IsTrue m'.down → ⊥) → (r b : ℕ) (z : List ℕ) → HasBlock c.inner.config v r b → m'.reads (place c.inner.config v r b).0 (place c.inner.config v r b).1 z → m.reads (place c.inner.config v r b).0 (place c.inner.config v r b).1 z
-    old up r b z has read = read_old c.inner.config (narrow_sound c m stands) v Nothing m m' (record { so = narrows.acts.reads; falls = narrows.acts.falls }) up r b z has (λ none. none) read
-
-    some : (v r b : ℕ) (z : List ℕ) → Inside (wide c).config v b → IsTrue (active c.inner.config v r) → m.reads (place c.inner.config v r b).0 (place c.inner.config v r b).1 z → OnSome (wide c).config m.reads v b z
-    some v r b z inside on read = record { inside = inside; plex = r; is_on = narrow_wider c m stands v r on; value = subst (λ (s : ℕ × ℕ). m.reads s.0 s.1 z) ((inner_wide c m stands).place v r b) read }
+-- ---- why
 
 -- the only refusal
 pub down_stops : (m m1 m2 : Meaning) (r : Result (Unit {0}) Stop) → IfErr r (λ stop. (stop ≡ Refused DownNo) × IsTrue m2.down) → DetStops m m2 r

@@ -35,7 +35,7 @@ use Rattle.vx_loggroup.proofs.SetLemmas.{item_at}
 
 -- ---- logs that begin
 
-first_has : (n : ℕ) (log : VolumeLog) (l k : Logs) → FirstLogs n l k → has_log log l ≡ true → has_log log k ≡ true
+pub first_has : (n : ℕ) (log : VolumeLog) (l k : Logs) → FirstLogs n l k → has_log log l ≡ true → has_log log k ≡ true
 first_has n Drl l k first has = by l.drl refl
   where
     by : (o : Option Dirty) → l.drl ≡ o → is_there k.drl ≡ true

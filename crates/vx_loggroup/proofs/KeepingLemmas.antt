@@ -114,7 +114,7 @@ memory_item ls v log is = by (slice_get ls v) refl
 pub memory_logs : (ls : List Logs) (v : ℕ) (log : VolumeLog) → in_memory ls v log ≡ true → has_log log (logs_at ls v) ≡ true
 memory_logs ls v log is = let it = memory_item ls v log is in ap (λ (o : Option Logs). has_log log (logs_or o)) it.1 ∙ it.2
 
-appended : (ls ks : List Logs) (v : ℕ) (l : Logs) → slice_get ls v ≡ Some l → slice_get (ls ++ ks) v ≡ Some l
+pub appended : (ls ks : List Logs) (v : ℕ) (l : Logs) → slice_get ls v ≡ Some l → slice_get (ls ++ ks) v ≡ Some l
 appended [] ks v l at = absurd (let clash : None ≡ Some l = at in cc)
 appended (x ∷ ls) ks zero l at = at
 appended (x ∷ ls) ks (suc v) l at = appended ls ks v l at

@@ -30,6 +30,7 @@ pub mod HeldMaps
 pub mod MirrorLemmas
 pub mod KeepingLemmas
 pub mod KeepingCalls
+pub mod SureLemmas
 pub mod MovedLemmas
 pub mod VolumeMoves
 pub mod WroteMoves

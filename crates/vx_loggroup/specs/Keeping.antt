@@ -8,9 +8,10 @@ use Rattle.vx_copies.specs.Marks.{failed_at}
 use Rattle.vx_disk.specs.Counts.{Rose}
 use Rattle.vx_disk.specs.Shelf.{Meaning}
 use Rattle.vx_group.specs.declared.group_core.GroupCore.{GroupCore}
+use Rattle.vx_group.specs.Holding.{wide}
 use Rattle.vx_grouplogs.specs.Gone.{has_log}
 use Rattle.vx_kept.specs.LogRuns.{log_place, log_trusted}
-use Rattle.vx_logged.specs.Behind.{AreKept}
+use Rattle.vx_logged.specs.Behind.{AreKept, BothKept}
 use Rattle.vx_logs.specs.declared.logs.Logs.{Logs}
 
 abbrev pub has_or : VolumeLog → Option Logs → Bool
@@ -53,3 +54,19 @@ KeptOr core v (Some l) = AreKept core v l
 -- of volume v a log that is in memory no more is held as lost, unless no serial is left to say so
 abbrev pub LogsKept : GroupCore → List Logs → ℕ → Type 0
 LogsKept core logs v = KeptOr core v (slice_get logs v)
+
+-- each log of volume v is in memory, or held as lost
+pub record LogsSure (core : GroupCore) (logs : List Logs) (v : ℕ) : Type 0 where
+  pub each : (l : Logs) → slice_get logs v ≡ Some l → BothKept core v l
+
+-- A call behind which a log that is in memory no more is held as lost, of each volume of which it was so before, unless no serial is left to say so.
+pub record SureKept (c d : GroupCore) (l k : List Logs) : Type 0 where
+  pub each : (v : ℕ) → LogsSure c l v → LogsKept d k v
+
+-- the same, unless no serial was left before it
+pub record SaysLosses (c d : GroupCore) (l k : List Logs) : Type 0 where
+  pub each : (v : ℕ) → LogsKept c l v → LogsKept d k v ⊎ (greatest ≤ c.inner.config.serial + 9)
+
+-- A log that is trusted behind a call was so before it, or is one of volume v that is in memory then.
+pub record TrustsNew (v : ℕ) (k : Logs) (c d : GroupCore) : Type 0 where
+  pub each : (w : ℕ) (log : VolumeLog) → log_trusted (wide d).config w log ≡ true → (log_trusted (wide c).config w log ≡ true) ⊎ ((w ≡ v) × (has_log log k ≡ true))

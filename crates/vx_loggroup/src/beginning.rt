@@ -9,6 +9,7 @@ ghost use Rattle.vx_grouplogs.specs.On.{ReadsOne};
 ghost use Rattle.vx_logged.specs.Logged.{Known, LogOn};
 ghost use Rattle.vx_loggroup.specs.Fresh.{LogsStart, FirstLogs, NewMaps};
 ghost use Rattle.vx_loggroup.specs.Marks.{region_count};
+ghost use Rattle.vx_loggroup.specs.Keeping.{TrustsNew};
 
 use crate::trusting::trust_first;
 use std::alloc::Global;
@@ -51,6 +52,7 @@ fn begin_log<S: Shelf>(
     ensures begins { LogsStart vol core.old core.new (S.meaning shelf.old) (S.meaning shelf.new) }
     ensures first { FirstLogs (region_count (wide core.old).config vol) one.old one.new }
     ensures news { NewMaps core.old.inner.config vol one.old one.new }
+    ensures since { TrustsNew vol one.new core.old core.new }
     ensures log { LogOn core.new vol one.new (S.meaning shelf.new) }
     ensures maps { Known core.new vol one.new (S.meaning shelf.new) }
     ensures few { OnOk result (core.new.inner.config.serial ≤ core.old.inner.config.serial + 9) }
@@ -94,6 +96,7 @@ fn begin_map<S: Shelf>(
     ensures begins { LogsStart vol core.old core.new (S.meaning shelf.old) (S.meaning shelf.new) }
     ensures first { FirstLogs (region_count (wide core.old).config vol) one.old one.new }
     ensures news { NewMaps core.old.inner.config vol one.old one.new }
+    ensures since { TrustsNew vol one.new core.old core.new }
     ensures log { LogOn core.new vol one.new (S.meaning shelf.new) }
     ensures maps { Known core.new vol one.new (S.meaning shelf.new) }
     ensures few { OnOk result (core.new.inner.config.serial ≤ core.old.inner.config.serial + 9) }
@@ -132,6 +135,7 @@ fn begin_drl<S: Shelf>(
     ensures begins { LogsStart vol core.old core.new (S.meaning shelf.old) (S.meaning shelf.new) }
     ensures first { FirstLogs (region_count (wide core.old).config vol) one.old one.new }
     ensures news { NewMaps core.old.inner.config vol one.old one.new }
+    ensures since { TrustsNew vol one.new core.old core.new }
     ensures log { LogOn core.new vol one.new (S.meaning shelf.new) }
     ensures maps { Known core.new vol one.new (S.meaning shelf.new) }
     ensures few { OnOk result (core.new.inner.config.serial ≤ core.old.inner.config.serial + 9) }
@@ -173,6 +177,7 @@ fn begin_fmr<S: Shelf>(
     ensures begins { LogsStart vol core.old core.new (S.meaning shelf.old) (S.meaning shelf.new) }
     ensures first { FirstLogs (region_count (wide core.old).config vol) one.old one.new }
     ensures news { NewMaps core.old.inner.config vol one.old one.new }
+    ensures since { TrustsNew vol one.new core.old core.new }
     ensures log { LogOn core.new vol one.new (S.meaning shelf.new) }
     ensures maps { Known core.new vol one.new (S.meaning shelf.new) }
     ensures few { OnOk result (core.new.inner.config.serial ≤ core.old.inner.config.serial + 9) }
@@ -213,6 +218,7 @@ pub fn begin_both<S: Shelf>(
     ensures begins { LogsStart vol core.old core.new (S.meaning shelf.old) (S.meaning shelf.new) }
     ensures first { FirstLogs (region_count (wide core.old).config vol) one.old one.new }
     ensures news { NewMaps core.old.inner.config vol one.old one.new }
+    ensures since { TrustsNew vol one.new core.old core.new }
     ensures log { LogOn core.new vol one.new (S.meaning shelf.new) }
     ensures maps { Known core.new vol one.new (S.meaning shelf.new) }
     ensures few { OnOk result (core.new.inner.config.serial ≤ core.old.inner.config.serial + 18) }

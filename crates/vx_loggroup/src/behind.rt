@@ -1,8 +1,7 @@
 // A flush of a group with logs behind a write.
-ghost use Rattle.vx_loggroup.specs.Keeping.{LogsKeep, logs_at};
+ghost use Rattle.vx_loggroup.specs.Keeping.{LogsKeep, logs_at, LogsKept, SaysLosses, SureKept};
 ghost use Rattle.vx_group.specs.Finds.{GroupFinds};
 ghost use Rattle.std.specs.Prelude.{◌≡◌, ◌⊎◌, ◌+◌, ◌<◌, ◌≤◌, IfErr, OnOk, true, false, ℕ, IsTrue, None};
-ghost use Rattle.vx_config.specs.Table.{greatest};
 ghost use Rattle.vx_disk.specs.Causes.{Cause};
 ghost use Rattle.vx_disk.specs.Shelf.{Flushed, Goes, Nothing};
 ghost use Rattle.vx_group.specs.Holding.{wide};
@@ -18,6 +17,7 @@ ghost use Rattle.vx_loggroup.specs.Moving.{FollowsRun, MapsBeginIn, MapsEnd, no_
 ghost use Rattle.vx_logs.specs.Writes.{first_region, last_region};
 ghost use Rattle.vx_model.specs.declared.limits.TheConstants.{MOST_VOLUMES};
 ghost use Rattle.vx_volume.specs.Plexes.{active};
+ghost use Rattle.vx_config.specs.Checks.{blocks_of as blocks_of_is};
 
 use crate::alike::{is_alike, is_sure};
 use crate::group::LoggedGroup;
@@ -51,7 +51,9 @@ fn flush_run<S: Shelf>(
     ensures marks { MarksVolume (wide core.old).config vol (first_region block) (last_region block count) logs.old.items logs.new.items }
     ensures maps { NotesMaps (fell_in core.old core.new vol) (are_off core.new vol) vol (first_region block) (last_region block count) logs.old.items logs.new.items }
     ensures begins { is_alike_is alike.now vol ≡ true → stopped ≡ false → OnOk result (RunsMaps (fell_in core.old core.new vol) vol (first_region block) (last_region block count) logs.new.items) }
-    ensures left { core.old.inner.config.serial < greatest → is_alike_is alike.now vol ≡ true → stopped ≡ false → IfErr result (λ e. IsTrue (S.meaning shelf.new).down ⊎ RunsMaps (fell_in core.old core.new vol) vol (first_region block) (last_region block count) logs.new.items) }
+    ensures left { is_alike_is alike.now vol ≡ true → stopped ≡ false → IfErr result (λ e. IsTrue (S.meaning shelf.new).down ⊎ RunsMaps (fell_in core.old core.new vol) vol (first_region block) (last_region block count) logs.new.items) }
+    ensures kept { OnOk result (SureKept core.old core.new logs.old.items logs.new.items) }
+    ensures said { is_alike_is alike.now vol ≡ true → stopped ≡ false → 0 < blocks_of_is core.old.inner.config.volumes vol → OnOk result (LogsKept core.new logs.new.items vol) }
     ensures holds { stopped ≡ false → 0 < count → OnOk result (HoldMaps (fell_in core.old core.new vol) vol (first_region block) (last_region block count) logs.new.items) }
     ensures moves { stopped ≡ false → 0 < count → FollowsRun core.old.inner.config core.new.inner.config vol (first_region block) (last_region block count) (is_alike_is alike.now vol) logs.old.items logs.new.items result }
     ensures gone { fmr_at logs.old.items vol ≡ None → fmr_at logs.new.items vol ≡ None }
@@ -78,8 +80,9 @@ fn flush_run<S: Shelf>(
 impl<S: Shelf> LoggedGroup<S> {
     /// Flushes each plex that is ACTIVE, behind a write of a run of blocks of the volume, and takes marks off its log as a flush does. A plex that
     /// fails in it misses the regions of the run; and no others, where no write of the volume failed since the import. So it is while logs go
-    /// on; where no serial is left no map of the volume is in memory then. Where it is refused, while a serial is left and the shelf is not down, the
-    /// plex has missed no others either.
+    /// on; where no serial is left no map of the volume is in memory then. Where it is refused and the shelf is not down, the plex has missed no
+    /// others either. A log that is in memory no more behind one that is done is held as lost: of each volume of which it was so
+    /// before, and of this one, where its plexes are alike and logs go on; unless no serial is left to say so.
     pub fn flush_run(&mut self, vol: u32, block: u64, count: u64) -> Result<(), ShelfError>
         requires there { vol < (inner_meaning (wide self.old.core) (S.meaning self.old.shelf)).units }
         requires within { block + count ≤ (inner_meaning (wide self.old.core) (S.meaning self.old.shelf)).size vol }
@@ -92,7 +95,9 @@ impl<S: Shelf> LoggedGroup<S> {
         ensures marks { MarksVolume (wide self.old.core).config vol (first_region block) (last_region block count) self.old.logs.items self.new.logs.items }
         ensures maps { NotesMaps (fell_in self.old.core self.new.core vol) (are_off self.new.core vol) vol (first_region block) (last_region block count) self.old.logs.items self.new.logs.items }
         ensures begins { is_alike_is self.old.alike vol ≡ true → self.old.stopped ≡ false → OnOk result (RunsMaps (fell_in self.old.core self.new.core vol) vol (first_region block) (last_region block count) self.new.logs.items) }
-        ensures left { self.old.core.inner.config.serial < greatest → is_alike_is self.old.alike vol ≡ true → self.old.stopped ≡ false → IfErr result (λ e. IsTrue (S.meaning self.new.shelf).down ⊎ RunsMaps (fell_in self.old.core self.new.core vol) vol (first_region block) (last_region block count) self.new.logs.items) }
+        ensures left { is_alike_is self.old.alike vol ≡ true → self.old.stopped ≡ false → IfErr result (λ e. IsTrue (S.meaning self.new.shelf).down ⊎ RunsMaps (fell_in self.old.core self.new.core vol) vol (first_region block) (last_region block count) self.new.logs.items) }
+        ensures kept { OnOk result (SaysLosses self.old.core self.new.core self.old.logs.items self.new.logs.items) }
+        ensures said { is_alike_is self.old.alike vol ≡ true → self.old.stopped ≡ false → 0 < blocks_of_is self.old.core.inner.config.volumes vol → OnOk result (LogsKept self.new.core self.new.logs.items vol) }
         ensures holds { self.old.stopped ≡ false → 0 < count → OnOk result (HoldMaps (fell_in self.old.core self.new.core vol) vol (first_region block) (last_region block count) self.new.logs.items) }
         ensures moves { self.old.stopped ≡ false → 0 < count → FollowsRun self.old.core.inner.config self.new.core.inner.config vol (first_region block) (last_region block count) (is_alike_is self.old.alike vol) self.old.logs.items self.new.logs.items result }
         ensures comes { MapsBeginIn no_volume self.old.core.inner.config self.new.core.inner.config self.old.stopped self.new.stopped self.old.logs.items self.new.logs.items }

@@ -1,5 +1,5 @@
 // A plex of a volume whose logs may not have begun, that is detached.
-ghost use Rattle.vx_loggroup.specs.Keeping.{LogsKeep, LogsStay, logs_at};
+ghost use Rattle.vx_loggroup.specs.Keeping.{LogsKeep, LogsStay, logs_at, SureKept, TrustsNew};
 ghost use Rattle.vx_group.specs.Finds.{GroupFinds};
 ghost use Rattle.std.specs.Prelude.{◌≡◌, ◌⊎◌, ℕ, Err, false, IfErr, IsOk, IsTrue, List, None, OnOk, Some, true};
 ghost use Rattle.vx_copies.specs.Commits.{MoreFailed};
@@ -21,6 +21,7 @@ ghost use Rattle.vx_logs.specs.declared.logs.Logs.{Logs as LogsValue};
 ghost use Rattle.vx_model.specs.declared.errors.Stop.TheVariants.{No as Refused};
 ghost use Rattle.vx_model.specs.declared.no.No.{No as NoValue};
 ghost use Rattle.vx_volume.specs.Plexes.{active};
+ghost use Rattle.vx_logged.specs.Behind.{MapSaid};
 
 use crate::detaching::det_whole;
 use crate::first::begin_first;
@@ -57,6 +58,7 @@ fn begin_before<S: Shelf>(
     ensures below { SameUnits (S.meaning shelf.old) (S.meaning shelf.new) }
     ensures first { LogsFirst vol (region_count (wide core.old).config vol) logs.old.items logs.new.items }
     ensures news { ListMaps core.old.inner.config vol logs.old.items logs.new.items }
+    ensures since { TrustsNew vol (logs_at logs.new.items vol) core.old core.new }
     ensures trusts { TrustsStill core.old.inner.config core.new.inner.config }
     ensures refused { (no : NoValue) → det_refusal core.old.inner.config vol plex ≡ Some no → IsOk result × (core.new ≡ core.old) × (shelf.new ≡ shelf.old) }
     ensures may { det_refusal core.old.inner.config vol plex ≡ None → OnOk result (det_refusal core.new.inner.config vol plex ≡ None) }
@@ -110,7 +112,9 @@ pub fn det_fresh<S: Shelf>(
     ensures on { (v p : ℕ) → IsTrue (active core.new.inner.config v p) → IsTrue (active core.old.inner.config v p) }
     ensures begins { OnOk result (stopped ≡ false → core.new.held ≡ None → is_alike_is alike.now vol ≡ true → IsTrue (active core.old.inner.config vol plex) → MapIsEmpty core.old.inner.config vol plex (fmr_at logs.new.items vol)) }
     ensures off { OnOk result (active core.new.inner.config vol plex ≡ false) }
-    ensures stays { IfErr result (λ stop. IsTrue (S.meaning shelf.new).down ⊎ (active core.new.inner.config vol plex ≡ active core.old.inner.config vol plex) ⊎ MapIsEmpty core.old.inner.config vol plex (fmr_at logs.new.items vol)) }
+    ensures stays { IfErr result (λ stop. IsTrue (S.meaning shelf.new).down ⊎ (active core.new.inner.config vol plex ≡ active core.old.inner.config vol plex)) }
+    ensures kept { OnOk result (SureKept core.old core.new logs.old.items logs.new.items) }
+    ensures said { IsTrue (active core.old.inner.config vol plex) → stopped ≡ false → is_alike_is alike.now vol ≡ true → OnOk result (MapSaid core.new vol (logs_at logs.new.items vol)) }
     ensures others { (w p : ℕ) → (w ≡ vol → p ≡ plex → ⊥) → active core.new.inner.config w p ≡ active core.old.inner.config w p }
     ensures maps { (ls : List LogsValue) × LogsFirst vol (region_count (wide core.old).config vol) logs.old.items ls × MapsBegin vol plex ls logs.new.items }
     ensures moves { stopped ≡ false → MovesDet core.old.inner.config core.new.inner.config vol plex (is_alike_is alike.now vol) logs.old.items logs.new.items result }

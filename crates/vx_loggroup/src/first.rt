@@ -7,6 +7,7 @@ ghost use Rattle.vx_grouplogs.specs.Covering.{AllAlike};
 ghost use Rattle.vx_loggroup.specs.Fresh.{ListMaps, LogsStart, LogsFirst};
 ghost use Rattle.vx_loggroup.specs.LoggedVolumes.{LoggedStands};
 ghost use Rattle.vx_loggroup.specs.Marks.{region_count};
+ghost use Rattle.vx_loggroup.specs.Keeping.{TrustsNew, logs_at};
 
 use crate::beginning::begin_both;
 use vx_config::blocks_of;
@@ -32,6 +33,7 @@ pub fn begin_first<S: Shelf>(
     ensures begins { LogsStart vol core.old core.new (S.meaning shelf.old) (S.meaning shelf.new) }
     ensures first { LogsFirst vol (region_count (wide core.old).config vol) logs.old.items logs.new.items }
     ensures news { ListMaps core.old.inner.config vol logs.old.items logs.new.items }
+    ensures since { TrustsNew vol (logs_at logs.new.items vol) core.old core.new }
     ensures few { OnOk result (core.new.inner.config.serial ≤ core.old.inner.config.serial + 27) }
     ensures trust { OnOk result (core.old.inner.committed ≡ true → core.new.inner.committed ≡ true) }
     ensures agreed { IfErr result (λ e. core.old.inner.committed ≡ true → core.new.inner.agreed ≡ true) }

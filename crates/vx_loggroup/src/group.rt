@@ -1,5 +1,5 @@
 // A group that keeps the dirty region logs of its volumes.
-ghost use Rattle.vx_loggroup.specs.Keeping.{LogsKeep, logs_at};
+ghost use Rattle.vx_loggroup.specs.Keeping.{LogsKeep, logs_at, SaysLosses};
 ghost use Rattle.vx_logged.specs.Behind.{MapSaid};
 ghost use Rattle.vx_group.specs.Finds.{BackFinds, CoreFinds, GroupFinds};
 ghost use Rattle.std.specs.Prelude.{◌≡◌, ◌⊎◌, ◌-◌, ◌<◌, ◌≤◌, ℕ, Err, IfErr, IfOk, IfSome, IsTrue, List, None, Ok, OnOk, Some, true, false};
@@ -159,6 +159,7 @@ impl<S: Shelf> LoggedGroup<S> {
         ensures up { OnOk result (IsTrue (S.meaning self.new.shelf).down → ⊥) }
         ensures newest { OnOk result (IsCommitted self.new.core.inner.config (S.meaning self.new.shelf)) }
         ensures keeps { LogsKeep self.old.core self.new.core self.old.logs.items self.new.logs.items (S.meaning self.old.shelf) (S.meaning self.new.shelf) }
+        ensures kept { SaysLosses self.old.core self.new.core self.old.logs.items self.new.logs.items }
         ensures trust { OnOk result (self.old.core.inner.committed ≡ true → self.new.core.inner.committed ≡ true) }
         ensures whole { OnOk result ((self.new.core.inner.committed ≡ true) ⊎ HasFailed self.new.core.inner.config.disks) }
         ensures agreed { IfErr result (λ e. self.old.core.inner.committed ≡ true → self.new.core.inner.agreed ≡ true) }
@@ -187,7 +188,9 @@ impl<S: Shelf> LoggedGroup<S> {
     }
 
     /// Detaches a plex, as a group does without logs. Where no write of the volume failed since the import, the map of the plex begins then: it has
-    /// missed no region yet. Where it is refused and the shelf is not down, the plex is ACTIVE as before, or its map is empty.
+    /// missed no region yet. Where it is refused and the shelf is not down, the plex is in its state as before.
+    /// A log that is in memory no more behind one that is done is held as lost, of each volume of which it was so before; and of this one its log of
+    /// missed regions, where the plex was ACTIVE, the plexes of the volume are alike and logs go on; unless no serial is left to say so.
     pub fn det(&mut self, vol: u32, plex: u32) -> Result<(), Stop>
         ensures refused { (no : NoValue) → det_refusal self.old.core.inner.config vol plex ≡ Some no → (result ≡ Err (Refused no)) × (self.new.core ≡ self.old.core) × (self.new.shelf ≡ self.old.shelf) }
         ensures goes { Goes Nothing (inner_meaning (wide self.old.core) (S.meaning self.old.shelf)) (inner_meaning (wide self.new.core) (S.meaning self.new.shelf)) }
@@ -198,7 +201,9 @@ impl<S: Shelf> LoggedGroup<S> {
         ensures on { (v p : ℕ) → IsTrue (active self.new.core.inner.config v p) → IsTrue (active self.old.core.inner.config v p) }
         ensures begins { OnOk result (self.old.stopped ≡ false → self.new.core.held ≡ None → is_alike self.old.alike vol ≡ true → IsTrue (active self.old.core.inner.config vol plex) → MapIsEmpty self.old.core.inner.config vol plex (fmr_at self.new.logs.items vol)) }
         ensures off { OnOk result (active self.new.core.inner.config vol plex ≡ false) }
-        ensures stays { IfErr result (λ stop. IsTrue (S.meaning self.new.shelf).down ⊎ (active self.new.core.inner.config vol plex ≡ active self.old.core.inner.config vol plex) ⊎ MapIsEmpty self.old.core.inner.config vol plex (fmr_at self.new.logs.items vol)) }
+        ensures stays { IfErr result (λ stop. IsTrue (S.meaning self.new.shelf).down ⊎ (active self.new.core.inner.config vol plex ≡ active self.old.core.inner.config vol plex)) }
+        ensures kept { OnOk result (SaysLosses self.old.core self.new.core self.old.logs.items self.new.logs.items) }
+        ensures said { IsTrue (active self.old.core.inner.config vol plex) → self.old.stopped ≡ false → is_alike self.old.alike vol ≡ true → OnOk result (MapSaid self.new.core vol (logs_at self.new.logs.items vol)) }
         ensures others { (w p : ℕ) → (w ≡ vol → p ≡ plex → ⊥) → active self.new.core.inner.config w p ≡ active self.old.core.inner.config w p }
         ensures mirrors { MirrorsKeep (names_plex vol plex) self.old.core self.new.core (S.meaning self.old.shelf) (S.meaning self.new.shelf) }
         ensures maps { (ls : List LogsValue) × LogsFirst vol (region_count (wide self.old.core).config vol) self.old.logs.items ls × MapsBegin vol plex ls self.new.logs.items }

@@ -1,5 +1,5 @@
 // A group with logs as a shelf.
-ghost use Rattle.vx_loggroup.specs.Keeping.{LogsKeep, LogsKept};
+ghost use Rattle.vx_loggroup.specs.Keeping.{LogsKeep, LogsKept, SaysLosses};
 ghost use Rattle.vx_group.specs.Finds.{GroupFinds};
 ghost use Rattle.std.specs.Prelude.{◌≡◌, ◌+◌, ◌/◌, ◌<◌, ◌≤◌, IfErr, IsTrue, OnOk, true, false, length, ◌⊎◌, ℕ, None};
 ghost use Rattle.vx_config.specs.Table.{greatest};
@@ -19,6 +19,7 @@ ghost use Rattle.vx_loggroup.specs.Moving.{MapsBeginIn, MapsEnd, MovesRun, only_
 ghost use Rattle.vx_logs.specs.Writes.{first_region, last_region};
 ghost use Rattle.vx_loggroup.specs.Attaching.{fmr_at};
 ghost use Rattle.vx_volume.specs.Plexes.{active};
+ghost use Rattle.vx_config.specs.Checks.{blocks_of as blocks_of_is};
 
 use crate::fresh::write_fresh;
 use crate::group::LoggedGroup;
@@ -121,7 +122,9 @@ impl<S: Shelf> Shelf for LoggedGroup<S> {
         )
     }
 
-    /// Flushes each plex that is ACTIVE, and takes all marks off the log of the volume where more than 64 regions were marked since.
+    /// Flushes each plex that is ACTIVE, and takes all marks off the log of the volume where more than 64 regions were marked since. A log that is in
+    /// memory no more behind one that is done is held as lost: of each volume of which it was so before, and of this one, where its plexes are alike and
+    /// logs go on; unless no serial is left to say so.
     fn flush(&mut self, unit: u32) -> Result<(), ShelfError>
         requires { unit < (inner_meaning (wide self.old.core) (S.meaning self.old.shelf)).units }
         ensures goes { Goes Nothing (inner_meaning (wide self.old.core) (S.meaning self.old.shelf)) (inner_meaning (wide self.new.core) (S.meaning self.new.shelf)) }
@@ -136,7 +139,9 @@ impl<S: Shelf> Shelf for LoggedGroup<S> {
         ensures marks { ClearsVolume (wide self.old.core).config unit self.old.logs.items self.new.logs.items }
         ensures maps { NotesMaps (fell_in self.old.core self.new.core unit) none_missing unit 0 0 self.old.logs.items self.new.logs.items }
         ensures begins { is_alike self.old.alike unit ≡ true → self.old.stopped ≡ false → OnOk result (EmptyMaps (fell_in self.old.core self.new.core unit) unit self.new.logs.items) }
-        ensures left { self.old.core.inner.config.serial < greatest → is_alike self.old.alike unit ≡ true → self.old.stopped ≡ false → IfErr result (λ e. IsTrue (S.meaning self.new.shelf).down ⊎ EmptyMaps (fell_in self.old.core self.new.core unit) unit self.new.logs.items) }
+        ensures left { is_alike self.old.alike unit ≡ true → self.old.stopped ≡ false → IfErr result (λ e. IsTrue (S.meaning self.new.shelf).down ⊎ EmptyMaps (fell_in self.old.core self.new.core unit) unit self.new.logs.items) }
+        ensures kept { OnOk result (SaysLosses self.old.core self.new.core self.old.logs.items self.new.logs.items) }
+        ensures said { is_alike self.old.alike unit ≡ true → self.old.stopped ≡ false → 0 < blocks_of_is self.old.core.inner.config.volumes unit → OnOk result (LogsKept self.new.core self.new.logs.items unit) }
         ensures trust { OnOk result (self.old.core.inner.committed ≡ true → self.new.core.inner.committed ≡ true) }
         ensures agreed { IfErr result (λ e. self.old.core.inner.committed ≡ true → self.new.core.inner.agreed ≡ true) }
         ensures finds { GroupFinds self.old.core self.new.core (S.meaning self.old.shelf) (S.meaning self.new.shelf) }

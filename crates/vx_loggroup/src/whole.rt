@@ -1,6 +1,6 @@
 // Calls on a volume of a group with logs, and what they leave of all volumes.
 ghost use Rattle.vx_loggroup.specs.Attaching.{fmr_at};
-ghost use Rattle.vx_loggroup.specs.Keeping.{LogsKeep, LogsKept, logs_at};
+ghost use Rattle.vx_loggroup.specs.Keeping.{LogsKeep, LogsKept, logs_at, SureKept};
 ghost use Rattle.vx_loggroup.specs.Moving.{RunHolds};
 ghost use Rattle.vx_group.specs.Finds.{GroupFinds};
 ghost use Rattle.std.specs.Prelude.{◌≡◌, ◌+◌, ◌/◌, ◌<◌, ◌≤◌, false, length, true, IfErr, IsTrue, OnOk, ◌⊎◌, ℕ, None};
@@ -18,6 +18,7 @@ ghost use Rattle.vx_loggroup.specs.Marks.{ClearsVolume, EmptyMaps, MarksVolume, 
 ghost use Rattle.vx_logs.specs.Writes.{first_region, last_region};
 ghost use Rattle.vx_model.specs.declared.limits.TheConstants.{MOST_VOLUMES};
 ghost use Rattle.vx_volume.specs.Plexes.{active};
+ghost use Rattle.vx_config.specs.Checks.{blocks_of as blocks_of_is};
 
 use crate::alike::{is_alike, is_sure, set_alike};
 use vx_disk::{Shelf, ShelfError};
@@ -86,8 +87,9 @@ pub fn write_whole<S: Shelf>(
 }
 
 /// Makes a volume durable, and takes marks off its log where more than 64 regions were marked since and its plexes are alike. A plex that fails in
-/// it has missed nothing then: its map is empty. Where no serial is left no map of the volume is in memory then. Where a flush is refused, while a
-/// serial is left and the shelf is not down, the map of a plex that fell out of use in it is empty too.
+/// it has missed nothing then: its map is empty. Where no serial is left no map of the volume is in memory then. Where a flush is refused and the
+/// shelf is not down, the map of a plex that fell out of use in it is empty too. Behind one that is done a log that is in memory
+/// no more is held as lost, of each volume of which it was so before; and of this one, where it is alike and logs go on.
 pub fn flush_whole<S: Shelf>(
     shelf: &mut S,
     core: &mut GroupCore,
@@ -107,7 +109,9 @@ pub fn flush_whole<S: Shelf>(
     ensures marks { ClearsVolume (wide core.old).config vol logs.old.items logs.new.items }
     ensures maps { NotesMaps (fell_in core.old core.new vol) none_missing vol 0 0 logs.old.items logs.new.items }
     ensures begins { is_alike_is alike.now vol ≡ true → stopped ≡ false → OnOk result (EmptyMaps (fell_in core.old core.new vol) vol logs.new.items) }
-    ensures left { core.old.inner.config.serial < greatest → is_alike_is alike.now vol ≡ true → stopped ≡ false → IfErr result (λ e. IsTrue (S.meaning shelf.new).down ⊎ EmptyMaps (fell_in core.old core.new vol) vol logs.new.items) }
+    ensures left { is_alike_is alike.now vol ≡ true → stopped ≡ false → IfErr result (λ e. IsTrue (S.meaning shelf.new).down ⊎ EmptyMaps (fell_in core.old core.new vol) vol logs.new.items) }
+    ensures kept { OnOk result (SureKept core.old core.new logs.old.items logs.new.items) }
+    ensures said { is_alike_is alike.now vol ≡ true → stopped ≡ false → 0 < blocks_of_is core.old.inner.config.volumes vol → OnOk result (LogsKept core.new logs.new.items vol) }
     ensures trust { OnOk result (core.old.inner.committed ≡ true → core.new.inner.committed ≡ true) }
     ensures agreed { IfErr result (λ e. core.old.inner.committed ≡ true → core.new.inner.agreed ≡ true) }
     ensures cause { Cause (inner_meaning (wide core.old) (S.meaning shelf.old)) (inner_meaning (wide core.new) (S.meaning shelf.new)) vol result }

@@ -1,5 +1,5 @@
 -- `detach_named`: clauses stands, narrows, off, cause, sure, others, parts and 10 more; what `commit_stale` asks.
-use Rattle.std.proofs.Common.{inl, inr, false, true, length, ap, ◌∙◌, refl, sym, subst, Err}
+use Rattle.std.proofs.Common.{inl, inr, false, true, length, ap, ◌∙◌, refl, sym, subst, Err, arith}
 use Rattle.vx_disk.specs.declared.shelf.ShelfError.{ShelfError}
 use Rattle.vx_kept.specs.States.{staled}
 use Rattle.vx_kept.proofs.StateLemmas.{is_staled}
@@ -188,3 +188,6 @@ returns-then-is_down-2-clause-logs g c = volumes_logs c.args.core.now.config c.c
 
 pub returns-else-is_down-2-clause-logs : goal.returns-else-is_down-2-clause-logs
 returns-else-is_down-2-clause-logs g c = volumes_logs c.args.core.now.config c.commit_stale.new.config c.in-Err.ensures.ends.volumes
+
+pub returns-else-is_down-clause-room : goal.returns-else-is_down-clause-room
+returns-else-is_down-clause-room g c = let later = c.in-Ok.ensures.ends.later in let top = c.commit_stale.ensures.can.serial in let was = (is_staled c.args.vol c.args.failed.set 8 c.args.core.now.config).serial in omega (arith, later, top, was)

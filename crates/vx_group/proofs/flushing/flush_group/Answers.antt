@@ -1,5 +1,5 @@
 -- `flush_group`: clauses goes, loses, cause, stands, ok, gave_up, clear and acts.
-use Rattle.std.proofs.Common.{◌∙◌, ℕ, List, refl, ap, subst, arith}
+use Rattle.std.proofs.Common.{◌∙◌, ℕ, List, refl, ap, subst, arith, ◌≤◌, sym}
 use Rattle.vx_disk.specs.Shelf.{Flushed, Meaning, Nothing}
 use Rattle.vx_group.specs.Blames.{CountsRise}
 use Rattle.vx_group.specs.Holding.{wide}
@@ -7,7 +7,7 @@ use Rattle.vx_group.specs.Stands.{volume_faults}
 use Rattle.vx_group.proofs.CallLemmas.{cause_by, counts_less, narrows_Goes, not_down, nothing_Flushed}
 use Rattle.vx_group.proofs.LoseLemmas.{loses_none}
 use Rattle.vx_group.proofs.RegainLemmas.{all_holds}
-use Rattle.vx_group.proofs.ThroughLemmas.{again_none, new_Stands, new_wide, released_goes, through_cause, through_gives, through_goes, through_loses, through_ok}
+use Rattle.vx_group.proofs.ThroughLemmas.{again_none, new_Stands, new_wide, released_goes, through_cause, through_gives, through_goes, through_loses, through_ok, by_volumes}
 use Rattle.vx_group.proofs.TrustLemmas.{ok_from}
 use Rattle.vx_config.specs.declared.config.Config.{Config}
 use Rattle.vx_kept.proofs.PlexActing.{none_PlexActs}
@@ -15,6 +15,9 @@ use Rattle.vx_group.proofs.ActsLemmas.{narrow_PlexActs, through_PlexActs}
 use Rattle.vx_group.proofs.FindingLemmas.{still_group, as_finds}
 use Rattle.vx_group.proofs.FoundThrough.{through_finds}
 use Rattle.vx_group.proofs.TrustStillLemmas.{same_logs, through_logs}
+use Rattle.vx_config.specs.Table.{greatest}
+use Rattle.vx_group.specs.declared.group_core.GroupCore.{GroupCore}
+use Rattle.vx_group.specs.declared.inner.Inner.{Inner}
 use Rattle.vx_group.proofs.flushing.flush_group.Goals as goal
 
 pub returns-in-Err-clause-goes : goal.returns-in-Err-clause-goes
@@ -105,3 +108,14 @@ returns-in-Err-clause-logs g c = c.release.ensures.logs
 pub returns-clause-logs : goal.returns-clause-logs
 returns-clause-logs g c =
     through_logs c.args.core.now c.release.new.core (record { inner = c.flush_in-result.new.core; held = c.open_held-held.new.core.held }) c.close_held.new.core c.open_held-held.new.core.inner c.open_held-held.result c.open_held-held.ensures.inner c.close_held.ensures c.release.ensures.logs c.flush_in-result.ensures.logs
+
+pub returns-then-is_down-clause-full : goal.returns-then-is_down-clause-full
+returns-then-is_down-clause-full g c = λ full. tt
+
+pub returns-in-Err-clause-full : goal.returns-in-Err-clause-full
+returns-in-Err-clause-full g c = λ full. tt
+
+pub returns-clause-full : goal.returns-clause-full
+returns-clause-full g c = λ full.
+    ok_from c.flush_in-result.result (λ same. by_volumes c.args.core.now c.release.new.core (record { inner = c.flush_in-result.new.core; held = c.open_held-held.new.core.held }) c.close_held.new.core c.open_held-held.new.core.inner (g.S.Shelf.meaning c.args.shelf.now) (g.S.Shelf.meaning c.release.new.shelf) (g.S.Shelf.meaning c.flush_in-result.new.shelf) c.requires.stands c.release.ensures.stands c.release.ensures.narrows c.release.ensures.volumes c.open_held-held.result c.open_held-held.ensures.held c.open_held-held.ensures.inner c.open_held-held.ensures.none c.close_held.ensures c.open_held-held.result refl c.close_held.ensures same ∙ c.release.ensures.volumes)
+    (c.flush_in-result.ensures.full (subst (λ (i : Inner). greatest ≤ i.config.serial) (sym c.open_held-held.ensures.inner) (subst (λ (k : GroupCore). greatest ≤ k.inner.config.serial) (sym (c.release.ensures.full full).0) full)))

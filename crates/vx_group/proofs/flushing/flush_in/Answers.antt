@@ -129,3 +129,15 @@ returns-in-Ok-flush_plexes-clause-logs g c =
 pub returns-in-Err-flush_plexes-clause-logs : goal.returns-in-Err-flush_plexes-clause-logs
 returns-in-Err-flush_plexes-clause-logs g c =
     then_logs c.args.core.now.config c.make_ready.new.core.config c.flush_plexes.new.core.config (volumes_logs c.args.core.now.config c.make_ready.new.core.config c.make_ready.ensures.volumes) c.flush_plexes.ensures.logs
+
+pub returns-then-is_down-clause-full : goal.returns-then-is_down-clause-full
+returns-then-is_down-clause-full g c = λ full. tt
+
+pub returns-in-Err-clause-full : goal.returns-in-Err-clause-full
+returns-in-Err-clause-full g c = λ full. tt
+
+pub returns-in-Err-flush_plexes-clause-full : goal.returns-in-Err-flush_plexes-clause-full
+returns-in-Err-flush_plexes-clause-full g c = λ full. tt
+
+pub returns-in-Ok-flush_plexes-clause-full : goal.returns-in-Ok-flush_plexes-clause-full
+returns-in-Ok-flush_plexes-clause-full g c = λ full. c.in-Ok-flush_plexes.ensures.full (c.make_ready.ensures.full full) ∙ c.make_ready.ensures.volumes

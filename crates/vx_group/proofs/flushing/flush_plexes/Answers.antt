@@ -13,6 +13,7 @@ use Rattle.vx_group.proofs.Standing.{fit_of, some_active}
 use Rattle.vx_group.proofs.WriteLemmas.{no_commit, flushed_Goes, flushed_Stands, flushed_Flushed, flushed_Narrows, flushed_all, flushed_finds}
 use Rattle.vx_group.proofs.FindingLemmas.{stays_finds, before_ends, ends_finds}
 use Rattle.vx_group.proofs.TrustStillLemmas.{same_logs}
+use Rattle.vx_group.proofs.TrustLemmas.{ok_from}
 use Rattle.vx_group.proofs.flushing.flush_plexes.Goals as goal
 
 pub flush_all-requires-clause-some : goal.flush_all-requires-clause-some
@@ -146,3 +147,15 @@ returns-in-Err-clause-logs g c = same_logs c.args.core.now.config
 
 pub returns-else-core-clause-logs : goal.returns-else-core-clause-logs
 returns-else-core-clause-logs g c = c.detach.ensures.logs
+
+pub returns-then-failed-eq0-clause-full : goal.returns-then-failed-eq0-clause-full
+returns-then-failed-eq0-clause-full g c = λ full. refl
+
+pub returns-then-core-clause-full : goal.returns-then-core-clause-full
+returns-then-core-clause-full g c = λ full. tt
+
+pub returns-in-Err-clause-full : goal.returns-in-Err-clause-full
+returns-in-Err-clause-full g c = λ full. tt
+
+pub returns-else-core-clause-full : goal.returns-else-core-clause-full
+returns-else-core-clause-full g c = λ full. ok_from c.detach.result (λ less. absurd (omega (arith, full, less))) c.detach.ensures.room

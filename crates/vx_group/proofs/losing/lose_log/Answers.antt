@@ -1,8 +1,8 @@
 -- The commit of a log that is lost, behind headers that were written back.
-use Rattle.std.proofs.Common.{◌∙◌, arith}
+use Rattle.std.proofs.Common.{◌∙◌, arith, length}
 use Rattle.vx_kept.proofs.RunLemmas.{logs_volumes}
 use Rattle.vx_group.proofs.CallLemmas.{blames_later, both_Narrows}
-use Rattle.vx_group.proofs.FailingLemmas.{then_failing}
+use Rattle.vx_group.proofs.FailingLemmas.{then_failing, few_nine}
 use Rattle.vx_group.proofs.GiveLemmas.{keeps_volumes}
 use Rattle.vx_group.proofs.LoseLemmas.{but_parts, then_parts}
 use Rattle.vx_group.proofs.LostLemmas.{later_keeps, left_plexes}
@@ -81,3 +81,6 @@ returns-in-Err-clause-logs g c =
 pub returns-clause-logs : goal.returns-clause-logs
 returns-clause-logs g c =
     then_but c.args.vol c.args.log c.args.core.now.config c.settle_headers.new.core.config c.lose_settled.new.core.config (volumes_logs c.args.core.now.config c.settle_headers.new.core.config c.settle_headers.ensures.volumes) c.lose_settled.ensures.logs
+
+pub returns-clause-few : goal.returns-clause-few
+returns-clause-few g c = few_nine c.lose_settled.result c.args.core.now.config.serial c.settle_headers.new.core.config.serial c.lose_settled.new.core.config.serial (length c.settle_headers.new.core.config.disks) c.lose_settled.ensures.few c.settle_headers.ensures.serial c.as_slice-disks.ensures.few

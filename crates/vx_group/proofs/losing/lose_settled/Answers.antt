@@ -6,7 +6,7 @@ use Rattle.vx_kept.proofs.RunLemmas.{logs_volumes}
 use Rattle.vx_group.specs.Blames.{Blames}
 use Rattle.vx_group.proofs.CallLemmas.{not_down}
 use Rattle.vx_group.proofs.DetachLemmas.{left_Narrows, left_Stands, stop_sure}
-use Rattle.vx_group.proofs.FailingLemmas.{failing_from, no_failing}
+use Rattle.vx_group.proofs.FailingLemmas.{failing_from, no_failing, few_serial}
 use Rattle.vx_group.proofs.GiveLemmas.{keeps_volumes}
 use Rattle.vx_group.proofs.LostLemmas.{gone_Narrows, gone_Stands, gone_off, gone_others, gone_plexes, left_plexes}
 use Rattle.vx_group.proofs.Standing.{kept_of, tidy_of}
@@ -176,3 +176,6 @@ returns-else-is_down-clause-logs g c =
 pub returns-else-is_down-2-clause-logs : goal.returns-else-is_down-2-clause-logs
 returns-else-is_down-2-clause-logs g c =
     still_but c.args.vol c.args.log c.args.core.now.config c.commit_lost.new.config (volumes_logs c.args.core.now.config c.commit_lost.new.config c.in-Err.ensures.ends.volumes)
+
+pub returns-else-is_down-clause-few : goal.returns-else-is_down-clause-few
+returns-else-is_down-clause-few g c = few_serial c.args.core.now.config (lost c.args.vol c.args.log true c.args.core.now.config) c.commit_lost.new.config refl refl c.in-Ok.ensures.ends.few

@@ -1,5 +1,5 @@
 -- A log that is lost, behind the commit that detaches the plex that is held back.
-use Rattle.std.proofs.Common.{◌∙◌, ◌≤◌, ℕ, Bool, List, ap, refl, subst, arith}
+use Rattle.std.proofs.Common.{◌∙◌, ◌≤◌, ℕ, Bool, List, ap, refl, subst, arith, ◌≡◌}
 use Rattle.vx_config.specs.Table.{greatest}
 use Rattle.vx_config.specs.declared.config.Config.{Config}
 use Rattle.vx_disk.specs.Shelf.{Nothing}
@@ -18,6 +18,7 @@ use Rattle.vx_group.proofs.ThroughLemmas.{new_Stands, new_wide, released_goes, t
 use Rattle.vx_group.proofs.FindingLemmas.{still_group, as_finds}
 use Rattle.vx_group.proofs.FoundThrough.{through_finds}
 use Rattle.vx_group.proofs.TrustStillLemmas.{same_logs, still_but, through_but}
+use Rattle.vx_group.proofs.TrustLemmas.{ok_from}
 use Rattle.vx_group.proofs.losing_group.lose_group.Goals as goal
 
 pub returns-in-Err-clause-goes : goal.returns-in-Err-clause-goes
@@ -116,3 +117,10 @@ returns-in-Err-clause-logs g c = still_but c.args.vol c.args.log c.args.core.now
 pub returns-clause-logs : goal.returns-clause-logs
 returns-clause-logs g c =
     through_but c.args.core.now c.release.new.core (record { inner = c.lose_in-result.new.core; held = c.open_held-held.new.core.held }) c.close_held.new.core c.open_held-held.new.core.inner c.open_held-held.result c.open_held-held.ensures.inner c.close_held.ensures c.release.ensures.logs c.args.vol c.args.log c.lose_in-result.ensures.logs
+
+pub returns-clause-few : goal.returns-clause-few
+returns-clause-few g c = ok_from c.lose_in-result.result (λ two.
+    let one = c.in-Ok.ensures.few in
+    let last : (wide c.close_held.new.core).config.serial ≡ c.lose_in-result.new.core.config.serial = ap (λ (i : Inner). i.config.serial) (new_wide c.args.core.now c.release.new.core (record { inner = c.lose_in-result.new.core; held = c.open_held-held.new.core.held }) c.close_held.new.core c.open_held-held.new.core.inner (g.S.Shelf.meaning c.args.shelf.now) (g.S.Shelf.meaning c.release.new.shelf) (g.S.Shelf.meaning c.lose_in-result.new.shelf) c.requires.stands c.release.ensures.stands c.release.ensures.narrows c.release.ensures.volumes c.open_held-held.result c.open_held-held.ensures.held c.open_held-held.ensures.inner c.open_held-held.ensures.none c.close_held.ensures) in
+    let mid : c.open_held-held.new.core.inner.config.serial ≡ (wide c.release.new.core).config.serial = ap (λ (i : Inner). i.config.serial) c.open_held-held.ensures.inner in
+    omega (arith, one, two, last, mid)) c.lose_in-result.ensures.few

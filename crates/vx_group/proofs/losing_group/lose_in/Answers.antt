@@ -95,3 +95,9 @@ returns-in-Ok-clause-logs g c = c.lose_log.ensures.logs
 
 pub returns-in-Err-clause-logs : goal.returns-in-Err-clause-logs
 returns-in-Err-clause-logs g c = c.lose_log.ensures.logs
+
+pub returns-then-core-ge-MOST_NUMBER-clause-few : goal.returns-then-core-ge-MOST_NUMBER-clause-few
+returns-then-core-ge-MOST_NUMBER-clause-few g c = omega arith
+
+pub returns-in-Ok-clause-few : goal.returns-in-Ok-clause-few
+returns-in-Ok-clause-few g c = c.in-Ok.ensures.few

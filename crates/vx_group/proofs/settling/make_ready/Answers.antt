@@ -57,3 +57,9 @@ returns-in-Err-clause-agreed g c = λ is. c.settle_headers.ensures.agreed ∙ c.
 pub returns-clause-finds : goal.returns-clause-finds
 returns-clause-finds g c =
     behind_finds c.args.core.now c.settle_headers.new.core c.detach.new.core (g.S.Shelf.meaning c.args.shelf.now) (g.S.Shelf.meaning c.settle_headers.new.shelf) (g.S.Shelf.meaning c.detach.new.shelf) c.settle_headers.ensures.finds c.detach.ensures.finds
+
+pub returns-in-Err-clause-full : goal.returns-in-Err-clause-full
+returns-in-Err-clause-full g c = λ full. absurd (let less = c.if-core-ge-MOST_NUMBER.false in omega (arith, full, less))
+
+pub returns-clause-full : goal.returns-clause-full
+returns-clause-full g c = λ full. absurd (let less = c.if-core-ge-MOST_NUMBER.false in omega (arith, full, less))

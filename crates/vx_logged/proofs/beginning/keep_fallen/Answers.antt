@@ -20,6 +20,7 @@ use Rattle.vx_logged.proofs.BeginLemmas.{but_more, but_note, first_flag, plexes_
 use Rattle.vx_logged.proofs.FallenLemmas.{cause_from, fell_same, no_blocks, off_less, there_still}
 use Rattle.vx_logged.proofs.GoneLogs.{trusts_in, trusts_then}
 use Rattle.vx_logged.proofs.StandLemmas.{config_is, if_err_any, if_ok_any, narrowed_then, others_each, others_then}
+use Rattle.vx_logged.proofs.KeptLemmas.{map_later, some_blocks}
 use Rattle.vx_logged.proofs.beginning.keep_fallen.Goals as goal
 
 pub begin_fallen-requires-clause-none : goal.begin_fallen-requires-clause-none
@@ -167,3 +168,27 @@ returns-then-blocks-eq0-clause-left g c = λ none. tt
 pub returns-clause-left : goal.returns-clause-left
 returns-clause-left g c = λ none. if_err_any c.keep_map.result (inr
     (off_less (fell_now c.args.was.now c.keep_map.new.core c.args.vol) (fell_now c.args.was.now c.ready_group.new.core c.args.vol) c.begin_fallen.new.logs (λ p on. sym (fell_same c.ready_group.new.core c.keep_map.new.core c.args.vol c.args.was.now (c.keep_map.ensures.still (c.in-Ok.ensures.none c.if-not-ready.false)) p) ∙ on) (c.begin_fallen.ensures.begins refl)))
+
+pub returns-in-Err-clause-kept : goal.returns-in-Err-clause-kept
+returns-in-Err-clause-kept g c = λ was. tt
+
+pub returns-in-Err-clause-said : goal.returns-in-Err-clause-said
+returns-in-Err-clause-said g c = λ some. tt
+
+pub returns-then-not-ready-clause-kept : goal.returns-then-not-ready-clause-kept
+returns-then-not-ready-clause-kept g c = λ was is. absurd (let clash : false ≡ true = is in cc)
+
+pub returns-then-not-ready-clause-said : goal.returns-then-not-ready-clause-said
+returns-then-not-ready-clause-said g c = λ some is. absurd (let clash : false ≡ true = is in cc)
+
+pub returns-then-blocks-eq0-clause-kept : goal.returns-then-blocks-eq0-clause-kept
+returns-then-blocks-eq0-clause-kept g c = λ was is. map_later c.args.core.now c.ready_group.new.core c.args.vol c.args.logs.now c.args.logs.now c.ready_group.ensures.narrow refl was
+
+pub returns-then-blocks-eq0-clause-said : goal.returns-then-blocks-eq0-clause-said
+returns-then-blocks-eq0-clause-said g c = λ some is. absurd (some_blocks c.args.core.now c.ready_group.new.core c.args.vol c.blocks_of-blocks.result (g.S.Shelf.meaning c.args.shelf.now) (g.S.Shelf.meaning c.ready_group.new.shelf) (c.in-Ok.ensures.none c.if-not-ready.false) c.ready_group.ensures.goes c.blocks_of-blocks.ensures c.if-blocks-eq0.true some)
+
+pub returns-clause-kept : goal.returns-clause-kept
+returns-clause-kept g c = λ was. c.keep_map.ensures.kept
+
+pub returns-clause-said : goal.returns-clause-said
+returns-clause-said g c = λ some. c.keep_map.ensures.kept

@@ -18,6 +18,7 @@ use Rattle.vx_group.proofs.UnitLemmas.{goes_units, then_units}
 use Rattle.vx_group.proofs.FindingLemmas.{then_group, idle_group}
 use Rattle.vx_logged.proofs.GoneLogs.{inner_places, trusts_in, trusts_then}
 use Rattle.vx_grouplogs.proofs.GoneLemmas.{drop_before, drop_behind, drop_same}
+use Rattle.vx_logged.proofs.KeptLemmas.{log_later, some_blocks}
 use Rattle.vx_logged.proofs.clearing.clear_group.Goals as goal
 
 pub clear_run-requires-clause-checked : goal.clear_run-requires-clause-checked
@@ -306,3 +307,51 @@ returns-clause-trusts g c =
 
 pub returns-clause-still : goal.returns-clause-still
 returns-clause-still g c = λ w p. c.keep_log.ensures.still (c.in-Ok.ensures.none c.if-not-ready.false) w p ∙ c.ready_group.ensures.still w p
+
+pub returns-then-not-ready-clause-spent : goal.returns-then-not-ready-clause-spent
+returns-then-not-ready-clause-spent g c = λ is. let spent = c.in-Ok.ensures.spent c.if-not-ready.true in omega (arith, spent)
+
+pub returns-then-blocks-eq0-clause-spent : goal.returns-then-blocks-eq0-clause-spent
+returns-then-blocks-eq0-clause-spent g c = λ is. absurd (let clash : true ≡ false = is in cc)
+
+pub returns-clause-spent : goal.returns-clause-spent
+returns-clause-spent g c = c.keep_log.ensures.spent
+
+pub returns-then-not-ready-clause-same : goal.returns-then-not-ready-clause-same
+returns-then-not-ready-clause-same g c = refl
+
+pub returns-then-blocks-eq0-clause-same : goal.returns-then-blocks-eq0-clause-same
+returns-then-blocks-eq0-clause-same g c = refl
+
+pub returns-clause-same : goal.returns-clause-same
+returns-clause-same g c = ok_from c.keep_log.result (λ keeps. c.in-Ok-clear_run.ensures.same) c.keep_log.ensures.trust
+
+pub returns-in-Err-clause-kept : goal.returns-in-Err-clause-kept
+returns-in-Err-clause-kept g c = λ was. tt
+
+pub returns-in-Err-clause-said : goal.returns-in-Err-clause-said
+returns-in-Err-clause-said g c = λ some. tt
+
+pub returns-then-not-ready-clause-kept : goal.returns-then-not-ready-clause-kept
+returns-then-not-ready-clause-kept g c = λ was is. absurd (let clash : false ≡ true = is in cc)
+
+pub returns-then-not-ready-clause-said : goal.returns-then-not-ready-clause-said
+returns-then-not-ready-clause-said g c = λ some is. absurd (let clash : false ≡ true = is in cc)
+
+pub returns-then-blocks-eq0-clause-kept : goal.returns-then-blocks-eq0-clause-kept
+returns-then-blocks-eq0-clause-kept g c = λ was is. log_later c.args.core.now c.ready_group.new.core c.args.vol c.args.logs.now c.args.logs.now c.ready_group.ensures.narrow refl was
+
+pub returns-then-blocks-eq0-clause-said : goal.returns-then-blocks-eq0-clause-said
+returns-then-blocks-eq0-clause-said g c = λ some is. absurd (some_blocks c.args.core.now c.ready_group.new.core c.args.vol c.blocks_of-blocks.result (g.S.Shelf.meaning c.args.shelf.now) (g.S.Shelf.meaning c.ready_group.new.shelf) (c.in-Ok.ensures.none c.if-not-ready.false) c.ready_group.ensures.goes c.blocks_of-blocks.ensures c.if-blocks-eq0.true some)
+
+pub returns-in-Err-clear_run-clause-kept : goal.returns-in-Err-clear_run-clause-kept
+returns-in-Err-clear_run-clause-kept g c = λ was. tt
+
+pub returns-in-Err-clear_run-clause-said : goal.returns-in-Err-clear_run-clause-said
+returns-in-Err-clear_run-clause-said g c = λ some. tt
+
+pub returns-clause-kept : goal.returns-clause-kept
+returns-clause-kept g c = λ was. c.keep_log.ensures.kept
+
+pub returns-clause-said : goal.returns-clause-said
+returns-clause-said g c = λ some. c.keep_log.ensures.kept

@@ -1,5 +1,5 @@
 -- A flush, and maps and marks behind it.
-use Rattle.std.proofs.Common.{◌≡◌, ◌∙◌, inl, inr, Bool, true, false, Err, ap, refl, sym, arith}
+use Rattle.std.proofs.Common.{◌≡◌, ◌∙◌, inl, inr, Bool, true, false, Err, ap, refl, sym, arith, ◌<◌}
 use Rattle.std.specs.Prelude.{not}
 use Rattle.vx_disk.specs.Shelf.{Nothing}
 use Rattle.vx_disk.proofs.Causing.{Cause_both}
@@ -18,9 +18,14 @@ use Rattle.vx_volume.proofs.PlaceLemmas.{active_few}
 use Rattle.vx_logged.specs.Begun.{fell_in, fell_now, was_on}
 use Rattle.vx_logged.specs.Behind.{none_missing}
 use Rattle.vx_logged.proofs.BeginLemmas.{but_more, but_note, but_then, plexes_each, plexes_one, whole_of}
-use Rattle.vx_logged.proofs.FallenLemmas.{fell_all, fell_same, fell_some, fewer_before, fewer_drl, gave_off, off_less, off_stay, was_there}
+use Rattle.vx_logged.proofs.FallenLemmas.{fell_all, fell_same, fell_some, fewer_before, fewer_drl, gave_off, off_less, off_stay, was_there, still_off}
 use Rattle.vx_logged.proofs.GoneLogs.{trusts_in, trusts_less, trusts_then}
 use Rattle.vx_logged.proofs.StandLemmas.{alike_goes, cause_to, each_on, flushed_alike, flushed_then, narrowed_acts, narrowed_then, others_each, others_then, same_fewer}
+use Rattle.vx_config.specs.Checks.{blocks_of}
+use Rattle.vx_logged.proofs.KeptLemmas.{both_kept, both_later, kept_by, log_later, map_later}
+use Rattle.std.proofs.lemmas.Bool.{cases_lt}
+use Rattle.vx_config.specs.Table.{greatest}
+use Rattle.vx_kept.proofs.Chosen.{active_volumes}
 use Rattle.vx_logged.proofs.flushing.flush_cleared.Goals as goal
 
 pub returns-in-Err-clause-log : goal.returns-in-Err-clause-log
@@ -308,25 +313,73 @@ pub returns-in-Err-clear_group-clause-narrow : goal.returns-in-Err-clear_group-c
 returns-in-Err-clear_group-clause-narrow g c = narrowed_then c.args.core.now c.keep_fallen.new.core c.clear_group.new.core (narrowed_then c.args.core.now c.flush_group.new.core c.keep_fallen.new.core (narrowed_acts Nothing c.args.core.now c.flush_group.new.core (g.S.Shelf.meaning c.args.shelf.now) (g.S.Shelf.meaning c.flush_group.new.shelf) c.flush_group.ensures.acts) c.keep_fallen.ensures.narrow) c.clear_group.ensures.narrow
 
 pub returns-in-Err-clause-left : goal.returns-in-Err-clause-left
-returns-in-Err-clause-left g c = λ less is. gave_off c.args.vol c.args.core.now c.flush_group.new.core (inner_meaning (wide c.args.core.now) (g.S.Shelf.meaning c.args.shelf.now)) (inner_meaning (wide c.flush_group.new.core) (g.S.Shelf.meaning c.flush_group.new.shelf)) (g.S.Shelf.meaning c.args.shelf.now) (g.S.Shelf.meaning c.flush_group.new.shelf) c.args.logs.now c.in-Err.error c.in-Err.ensures.gave_up c.in-Err.ensures.cause
+returns-in-Err-clause-left g c = λ is. gave_off c.args.vol c.args.core.now c.flush_group.new.core (inner_meaning (wide c.args.core.now) (g.S.Shelf.meaning c.args.shelf.now)) (inner_meaning (wide c.flush_group.new.core) (g.S.Shelf.meaning c.flush_group.new.shelf)) (g.S.Shelf.meaning c.args.shelf.now) (g.S.Shelf.meaning c.flush_group.new.shelf) c.args.logs.now c.in-Err.error c.in-Err.ensures.gave_up c.in-Err.ensures.cause
 
 pub returns-then-not-sure-clause-left : goal.returns-then-not-sure-clause-left
-returns-then-not-sure-clause-left g c = λ less is. tt
+returns-then-not-sure-clause-left g c = λ is. tt
 
 pub returns-in-Err-keep_fallen-clause-left : goal.returns-in-Err-keep_fallen-clause-left
-returns-in-Err-keep_fallen-clause-left g c = λ less is. elim (c.in-Err-keep_fallen.ensures.left (c.in-Ok.ensures.clear less)) [
-  | inl down ↦ inl down
-  | inr off ↦ inr (off_less (fell_in c.args.core.now c.keep_fallen.new.core c.args.vol) (fell_now c.actives-was.result c.keep_fallen.new.core c.args.vol) c.keep_fallen.new.logs
-      (fell_all c.args.core.now c.keep_fallen.new.core c.args.vol c.actives-was.result (λ q is_on. c.actives-was.ensures.all q (active_few c.args.core.now.inner.config (narrow_sound c.args.core.now (g.S.Shelf.meaning c.args.shelf.now) c.requires.stands) c.args.vol q is_on) is_on)) off)
+returns-in-Err-keep_fallen-clause-left g c = λ is. elim (cases_lt c.args.core.now.inner.config.serial greatest) [
+  | inl less ↦ elim (c.in-Err-keep_fallen.ensures.left (c.in-Ok.ensures.clear less)) [
+    | inl down ↦ inl down
+    | inr off ↦ inr (off_less (fell_in c.args.core.now c.keep_fallen.new.core c.args.vol) (fell_now c.actives-was.result c.keep_fallen.new.core c.args.vol) c.keep_fallen.new.logs
+        (fell_all c.args.core.now c.keep_fallen.new.core c.args.vol c.actives-was.result (λ q is_on. c.actives-was.ensures.all q (active_few c.args.core.now.inner.config (narrow_sound c.args.core.now (g.S.Shelf.meaning c.args.shelf.now) c.requires.stands) c.args.vol q is_on) is_on)) off)
+  ]
+  | inr full ↦ inr (still_off c.args.core.now c.keep_fallen.new.core c.args.vol c.keep_fallen.new.logs (λ p. c.keep_fallen.ensures.still c.args.vol p ∙ active_volumes c.flush_group.new.core.inner.config c.args.core.now.inner.config (c.in-Ok.ensures.full full) c.args.vol p))
 ]
 
 pub returns-then-not-done-clause-left : goal.returns-then-not-done-clause-left
-returns-then-not-done-clause-left g c = λ less is. tt
+returns-then-not-done-clause-left g c = λ is. tt
 
 pub returns-in-Ok-clear_group-clause-left : goal.returns-in-Ok-clear_group-clause-left
-returns-in-Ok-clear_group-clause-left g c = λ less is. tt
+returns-in-Ok-clear_group-clause-left g c = λ is. tt
 
 pub returns-in-Err-clear_group-clause-left : goal.returns-in-Err-clear_group-clause-left
-returns-in-Err-clear_group-clause-left g c = λ less is. inr (off_less (fell_in c.args.core.now c.clear_group.new.core c.args.vol) (fell_now c.actives-was.result c.keep_fallen.new.core c.args.vol) c.clear_group.new.logs
+returns-in-Err-clear_group-clause-left g c = λ is. inr (off_less (fell_in c.args.core.now c.clear_group.new.core c.args.vol) (fell_now c.actives-was.result c.keep_fallen.new.core c.args.vol) c.clear_group.new.logs
     (λ p on. sym (fell_same c.keep_fallen.new.core c.clear_group.new.core c.args.vol c.actives-was.result c.clear_group.ensures.still p) ∙ fell_all c.args.core.now c.clear_group.new.core c.args.vol c.actives-was.result (λ q is_on. c.actives-was.ensures.all q (active_few c.args.core.now.inner.config (narrow_sound c.args.core.now (g.S.Shelf.meaning c.args.shelf.now) c.requires.stands) c.args.vol q is_on) is_on) p on)
     (off_stay (fell_now c.actives-was.result c.keep_fallen.new.core c.args.vol) c.keep_fallen.new.logs c.clear_group.new.logs (c.in-Ok-keep_fallen.ensures.begins c.if-not-done.false) c.clear_group.ensures.stay))
+
+pub returns-in-Err-clause-kept : goal.returns-in-Err-clause-kept
+returns-in-Err-clause-kept g c = λ was. tt
+
+pub returns-in-Err-clause-said : goal.returns-in-Err-clause-said
+returns-in-Err-clause-said g c = λ is some. tt
+
+pub returns-then-not-sure-clause-kept : goal.returns-then-not-sure-clause-kept
+returns-then-not-sure-clause-kept g c = λ was. both_kept c.flush_group.new.core c.args.vol c.args.logs.now (both_later c.args.core.now c.flush_group.new.core c.args.vol c.args.logs.now (narrowed_acts Nothing c.args.core.now c.flush_group.new.core (g.S.Shelf.meaning c.args.shelf.now) (g.S.Shelf.meaning c.flush_group.new.shelf) c.flush_group.ensures.acts) was)
+
+pub returns-then-not-sure-clause-said : goal.returns-then-not-sure-clause-said
+returns-then-not-sure-clause-said g c = λ is some. absurd (let clash : false ≡ true = sym c.if-not-sure.true ∙ is in cc)
+
+pub returns-in-Err-keep_fallen-clause-kept : goal.returns-in-Err-keep_fallen-clause-kept
+returns-in-Err-keep_fallen-clause-kept g c = λ was. tt
+
+pub returns-in-Err-keep_fallen-clause-said : goal.returns-in-Err-keep_fallen-clause-said
+returns-in-Err-keep_fallen-clause-said g c = λ is some. tt
+
+pub returns-then-not-done-clause-kept : goal.returns-then-not-done-clause-kept
+returns-then-not-done-clause-kept g c = λ was. record { so = inr (c.in-Ok-keep_fallen.ensures.spent c.if-not-done.true) }
+
+pub returns-then-not-done-clause-said : goal.returns-then-not-done-clause-said
+returns-then-not-done-clause-said g c = λ is some. record { so = inr (c.in-Ok-keep_fallen.ensures.spent c.if-not-done.true) }
+
+pub returns-in-Ok-clear_group-clause-kept : goal.returns-in-Ok-clear_group-clause-kept
+returns-in-Ok-clear_group-clause-kept g c = λ was. kept_by c.clear_group.new.core c.args.vol c.clear_group.new.logs c.in-Ok-clear_group.field-0
+    (c.in-Ok-clear_group.ensures.kept (log_later c.args.core.now c.keep_fallen.new.core c.args.vol c.args.logs.now c.keep_fallen.new.logs (narrowed_then c.args.core.now c.flush_group.new.core c.keep_fallen.new.core (narrowed_acts Nothing c.args.core.now c.flush_group.new.core (g.S.Shelf.meaning c.args.shelf.now) (g.S.Shelf.meaning c.flush_group.new.shelf) c.flush_group.ensures.acts) c.keep_fallen.ensures.narrow) c.keep_fallen.ensures.drl was.drl))
+    (map_later c.keep_fallen.new.core c.clear_group.new.core c.args.vol c.keep_fallen.new.logs c.clear_group.new.logs c.clear_group.ensures.narrow c.in-Ok-clear_group.ensures.same (c.in-Ok-keep_fallen.ensures.kept (map_later c.args.core.now c.flush_group.new.core c.args.vol c.args.logs.now c.args.logs.now (narrowed_acts Nothing c.args.core.now c.flush_group.new.core (g.S.Shelf.meaning c.args.shelf.now) (g.S.Shelf.meaning c.flush_group.new.shelf) c.flush_group.ensures.acts) refl was.fmr) c.if-not-done.false))
+    c.in-Ok-clear_group.ensures.spent
+
+pub returns-in-Ok-clear_group-clause-said : goal.returns-in-Ok-clear_group-clause-said
+returns-in-Ok-clear_group-clause-said g c = λ is some.
+    let flushed : 0 < blocks_of (wide c.flush_group.new.core).config.volumes c.args.vol = (let same = c.flush_group.ensures.goes.size c.args.vol in omega (arith, some, same)) in
+    let fallen : 0 < blocks_of (wide c.keep_fallen.new.core).config.volumes c.args.vol = (let same = c.keep_fallen.ensures.goes.size c.args.vol in omega (arith, flushed, same)) in
+    kept_by c.clear_group.new.core c.args.vol c.clear_group.new.logs c.in-Ok-clear_group.field-0
+    (c.in-Ok-clear_group.ensures.said fallen)
+    (map_later c.keep_fallen.new.core c.clear_group.new.core c.args.vol c.keep_fallen.new.logs c.clear_group.new.logs c.clear_group.ensures.narrow c.in-Ok-clear_group.ensures.same (c.in-Ok-keep_fallen.ensures.said flushed c.if-not-done.false))
+    c.in-Ok-clear_group.ensures.spent
+
+pub returns-in-Err-clear_group-clause-kept : goal.returns-in-Err-clear_group-clause-kept
+returns-in-Err-clear_group-clause-kept g c = λ was. tt
+
+pub returns-in-Err-clear_group-clause-said : goal.returns-in-Err-clear_group-clause-said
+returns-in-Err-clear_group-clause-said g c = λ is some. tt

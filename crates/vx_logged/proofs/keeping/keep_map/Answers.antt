@@ -17,3 +17,6 @@ returns-clause-trusts g c =
 pub returns-clause-spent : goal.returns-clause-spent
 returns-clause-spent g c =
     c.keep_one.ensures.spent
+
+pub returns-clause-few : goal.returns-clause-few
+returns-clause-few g c = c.keep_one.ensures.few

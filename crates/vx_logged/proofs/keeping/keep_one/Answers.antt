@@ -1,5 +1,5 @@
 -- A log that is committed as lost, where it is wanted.
-use Rattle.std.proofs.Common.{◌≡◌, ◌∙◌, Bool, true, false, refl, sym}
+use Rattle.std.proofs.Common.{◌≡◌, ◌∙◌, Bool, true, false, refl, sym, arith}
 use Rattle.vx_disk.specs.Shelf.{Nothing}
 use Rattle.vx_kept.specs.LogRuns.{log_trusted}
 use Rattle.vx_group.proofs.HoldLemmas.{wide_shape}
@@ -158,3 +158,15 @@ returns-then-core-clause-stays g c =
 pub returns-clause-stays : goal.returns-clause-stays
 returns-clause-stays g c =
     λ has. absurd (let clash : true ≡ false = sym has ∙ c.if-has.false in cc)
+
+pub returns-then-has-clause-few : goal.returns-then-has-clause-few
+returns-then-has-clause-few g c = omega arith
+
+pub returns-then-not-is_trusted-clause-few : goal.returns-then-not-is_trusted-clause-few
+returns-then-not-is_trusted-clause-few g c = omega arith
+
+pub returns-then-core-clause-few : goal.returns-then-core-clause-few
+returns-then-core-clause-few g c = omega arith
+
+pub returns-clause-few : goal.returns-clause-few
+returns-clause-few g c = c.lose_group.ensures.few

@@ -20,7 +20,7 @@ use Rattle.vx_logged.proofs.BeginLemmas.{but_any, but_more, but_note, but_then}
 use Rattle.vx_logged.proofs.FallenLemmas.{fell_all, fell_some, off_less, run_less}
 use Rattle.vx_logged.proofs.GoneLogs.{trusts_less, trusts_then}
 use Rattle.vx_logged.proofs.HoldsLemmas.{fell_still, fewer_only, inner_count, less_hold, narrow_inner, off_any, only_fewer}
-use Rattle.vx_logged.proofs.StandLemmas.{flushed_then, others_then}
+use Rattle.vx_logged.proofs.StandLemmas.{flushed_then, others_then, narrowed_then}
 use Rattle.vx_logged.proofs.missing.flush_behind.Goals as goal
 
 pub flush_cleared-requires-clause-log : goal.flush_cleared-requires-clause-log
@@ -132,15 +132,33 @@ pub returns-clause-rests : goal.returns-clause-rests
 returns-clause-rests g c = λ none w p is. narrow_inner c.args.core.now c.flush_cleared.new.core none (c.flush_cleared.ensures.finds.free none) c.flush_cleared.ensures.narrow w p (sym (c.miss_fallen.ensures.still w p) ∙ is)
 
 pub returns-in-Err-clause-left : goal.returns-in-Err-clause-left
-returns-in-Err-clause-left g c = λ less is. elim (c.in-Err.ensures.left less is) [
+returns-in-Err-clause-left g c = λ is. elim (c.in-Err.ensures.left is) [
   | inl down ↦ inl down
   | inr off ↦ inr (off_any (fell_in c.args.core.now c.flush_cleared.new.core c.args.vol) (first_region c.args.block) (last_region c.args.block c.args.count) c.flush_cleared.new.logs off)
 ]
 
 pub returns-clause-left : goal.returns-clause-left
-returns-clause-left g c = λ less is. err_from c.miss_fallen.result (λ run. inr (run_less (fell_in c.args.core.now c.miss_fallen.new.core c.args.vol) (fell_now c.actives-was.result c.miss_fallen.new.core c.args.vol) (first_region c.args.block) (last_region c.args.block c.args.count) c.miss_fallen.new.logs
+returns-clause-left g c = λ is. err_from c.miss_fallen.result (λ run. inr (run_less (fell_in c.args.core.now c.miss_fallen.new.core c.args.vol) (fell_now c.actives-was.result c.miss_fallen.new.core c.args.vol) (first_region c.args.block) (last_region c.args.block c.args.count) c.miss_fallen.new.logs
     (fell_all c.args.core.now c.miss_fallen.new.core c.args.vol c.actives-was.result (λ q on. c.actives-was.ensures.all q (active_few c.args.core.now.inner.config (narrow_sound c.args.core.now (g.S.Shelf.meaning c.args.shelf.now) c.requires.stands) c.args.vol q on) on)) run))
     (c.miss_fallen.ensures.left (elim (c.in-Ok.ensures.begins is) [
       | inl off ↦ inl (off_less (fell_now c.actives-was.result c.flush_cleared.new.core c.args.vol) (fell_in c.args.core.now c.flush_cleared.new.core c.args.vol) c.flush_cleared.new.logs (fell_some c.args.core.now c.flush_cleared.new.core c.args.vol c.actives-was.result c.actives-was.ensures.some) off)
       | inr spent ↦ inr spent
     ]))
+
+pub returns-in-Err-clause-narrow : goal.returns-in-Err-clause-narrow
+returns-in-Err-clause-narrow g c = c.flush_cleared.ensures.narrow
+
+pub returns-clause-narrow : goal.returns-clause-narrow
+returns-clause-narrow g c = narrowed_then c.args.core.now c.flush_cleared.new.core c.miss_fallen.new.core c.flush_cleared.ensures.narrow c.miss_fallen.ensures.narrow
+
+pub returns-in-Err-clause-kept : goal.returns-in-Err-clause-kept
+returns-in-Err-clause-kept g c = λ was. tt
+
+pub returns-in-Err-clause-said : goal.returns-in-Err-clause-said
+returns-in-Err-clause-said g c = λ is some. tt
+
+pub returns-clause-kept : goal.returns-clause-kept
+returns-clause-kept g c = λ was. c.miss_fallen.ensures.kept (c.in-Ok.ensures.kept was)
+
+pub returns-clause-said : goal.returns-clause-said
+returns-clause-said g c = λ is some. c.miss_fallen.ensures.kept (c.in-Ok.ensures.said is some)

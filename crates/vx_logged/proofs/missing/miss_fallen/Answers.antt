@@ -15,7 +15,8 @@ use Rattle.vx_logged.specs.Logged.{are_off}
 use Rattle.vx_logged.proofs.FallenLemmas.{fell_same, finds_none, off_run}
 use Rattle.vx_logged.proofs.GoneLogs.{trusts_in, trusts_same}
 use Rattle.vx_logged.proofs.HoldsLemmas.{either_way, inner_count, none_hold, off_any, these_hold}
-use Rattle.vx_logged.proofs.StandLemmas.{cause_to, each_same, others_each, same_only}
+use Rattle.vx_logged.proofs.StandLemmas.{cause_to, each_same, others_each, same_only, narrowed_same}
+use Rattle.vx_logged.proofs.KeptLemmas.{kept_said}
 use Rattle.vx_logged.proofs.missing.miss_fallen.Goals as goal
 
 pub mark_group-requires-clause-some : goal.mark_group-requires-clause-some
@@ -129,3 +130,21 @@ returns-in-Err-clause-left g c = λ before. elim before [
       (λ p on. sym (fell_same c.args.core.now c.mark_group.new.core c.args.vol c.args.was.now c.mark_group.ensures.still p) ∙ on) off c.mark_group.ensures.notes
   | inr spent ↦ absurd (let left = c.misses_any-misses.ensures.left c.if-not-misses.false in omega (arith, left, spent))
 ]
+
+pub returns-then-not-misses-clause-narrow : goal.returns-then-not-misses-clause-narrow
+returns-then-not-misses-clause-narrow g c = narrowed_same c.args.core.now
+
+pub returns-in-Ok-clause-narrow : goal.returns-in-Ok-clause-narrow
+returns-in-Ok-clause-narrow g c = c.mark_group.ensures.narrow
+
+pub returns-in-Err-clause-narrow : goal.returns-in-Err-clause-narrow
+returns-in-Err-clause-narrow g c = c.mark_group.ensures.narrow
+
+pub returns-then-not-misses-clause-kept : goal.returns-then-not-misses-clause-kept
+returns-then-not-misses-clause-kept g c = λ was. was
+
+pub returns-in-Ok-clause-kept : goal.returns-in-Ok-clause-kept
+returns-in-Ok-clause-kept g c = λ was. kept_said c.mark_group.new.core c.args.vol c.mark_group.new.logs c.in-Ok.field-0 (λ done. (c.in-Ok.ensures.may done).some) c.in-Ok.ensures.said c.in-Ok.ensures.spent
+
+pub returns-in-Err-clause-kept : goal.returns-in-Err-clause-kept
+returns-in-Err-clause-kept g c = λ was. tt

@@ -15,6 +15,7 @@ use Rattle.vx_logged.proofs.BeginLemmas.{but_none}
 use Rattle.vx_logged.proofs.FallenLemmas.{run_none}
 use Rattle.vx_logged.proofs.GoneLogs.{drops_so, no_map, trusts_less}
 use Rattle.vx_logged.proofs.SpentLemmas.{bare, bare_on, bare_only, by_spent, drops_by, none_these}
+use Rattle.vx_logged.specs.Behind.{AreKept}
 use Rattle.vx_logged.proofs.spending.flush_noted.Goals as goal
 
 pub returns-in-Err-clause-stands : goal.returns-in-Err-clause-stands
@@ -131,4 +132,22 @@ pub returns-in-Err-clause-left : goal.returns-in-Err-clause-left
 returns-in-Err-clause-left g c = c.in-Err.ensures.left
 
 pub returns-clause-left : goal.returns-clause-left
-returns-clause-left g c = λ less is. tt
+returns-clause-left g c = λ is. tt
+
+pub returns-in-Err-clause-narrow : goal.returns-in-Err-clause-narrow
+returns-in-Err-clause-narrow g c = c.flush_behind.ensures.narrow
+
+pub returns-clause-narrow : goal.returns-clause-narrow
+returns-clause-narrow g c = c.flush_behind.ensures.narrow
+
+pub returns-in-Err-clause-kept : goal.returns-in-Err-clause-kept
+returns-in-Err-clause-kept g c = λ was. tt
+
+pub returns-in-Err-clause-said : goal.returns-in-Err-clause-said
+returns-in-Err-clause-said g c = λ is some. tt
+
+pub returns-clause-kept : goal.returns-clause-kept
+returns-clause-kept g c = λ was. by_spent (λ (k : Logs). AreKept c.flush_behind.new.core c.args.vol k) c.flush_behind.new.logs c.drop_spent.new.logs c.drop_spent.ensures.drl c.drop_spent.ensures.kept (c.in-Ok.ensures.kept was) (λ spent. record { so = inr spent })
+
+pub returns-clause-said : goal.returns-clause-said
+returns-clause-said g c = λ is some. by_spent (λ (k : Logs). AreKept c.flush_behind.new.core c.args.vol k) c.flush_behind.new.logs c.drop_spent.new.logs c.drop_spent.ensures.drl c.drop_spent.ensures.kept (c.in-Ok.ensures.said is some) (λ spent. record { so = inr spent })

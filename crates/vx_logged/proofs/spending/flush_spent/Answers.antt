@@ -8,7 +8,7 @@ use Rattle.vx_groupmaps.specs.Missing.{none_spared}
 use Rattle.vx_logs.specs.declared.logs.Logs.{Logs}
 use Rattle.vx_model.specs.Sizes.{regions_of}
 use Rattle.vx_logged.specs.Begun.{MapsBut, MapsOff, fell_in}
-use Rattle.vx_logged.specs.Behind.{none_missing}
+use Rattle.vx_logged.specs.Behind.{none_missing, AreKept}
 use Rattle.vx_logged.specs.Logged.{Known, LogOn, TrustsIn}
 use Rattle.vx_logged.proofs.BeginLemmas.{but_none, off_none}
 use Rattle.vx_logged.proofs.GoneLogs.{drops_so, no_map, trusts_less}
@@ -120,4 +120,16 @@ pub returns-in-Err-clause-left : goal.returns-in-Err-clause-left
 returns-in-Err-clause-left g c = c.in-Err.ensures.left
 
 pub returns-clause-left : goal.returns-clause-left
-returns-clause-left g c = λ less is. tt
+returns-clause-left g c = λ is. tt
+
+pub returns-in-Err-clause-kept : goal.returns-in-Err-clause-kept
+returns-in-Err-clause-kept g c = λ was. tt
+
+pub returns-in-Err-clause-said : goal.returns-in-Err-clause-said
+returns-in-Err-clause-said g c = λ is some. tt
+
+pub returns-clause-kept : goal.returns-clause-kept
+returns-clause-kept g c = λ was. by_spent (λ (k : Logs). AreKept c.flush_cleared.new.core c.args.vol k) c.flush_cleared.new.logs c.drop_spent.new.logs c.drop_spent.ensures.drl c.drop_spent.ensures.kept (c.in-Ok.ensures.kept was) (λ spent. record { so = inr spent })
+
+pub returns-clause-said : goal.returns-clause-said
+returns-clause-said g c = λ is some. by_spent (λ (k : Logs). AreKept c.flush_cleared.new.core c.args.vol k) c.flush_cleared.new.logs c.drop_spent.new.logs c.drop_spent.ensures.drl c.drop_spent.ensures.kept (c.in-Ok.ensures.said is some) (λ spent. record { so = inr spent })

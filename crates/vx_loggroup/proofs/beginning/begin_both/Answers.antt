@@ -11,6 +11,8 @@ use Rattle.vx_loggroup.proofs.BegunLemmas.{blocks_later}
 use Rattle.vx_loggroup.proofs.FreshLemmas.{begins_then, first_then}
 use Rattle.vx_loggroup.proofs.NewLemmas.{news_start}
 use Rattle.vx_loggroup.proofs.OpenLemmas.{alike_reads}
+use Rattle.vx_loggroup.proofs.KeepingCalls.{first_has}
+use Rattle.vx_loggroup.proofs.SureLemmas.{since_then}
 use Rattle.vx_loggroup.proofs.beginning.begin_both.Goals as goal
 
 pub begin_fmr-requires-clause-up : goal.begin_fmr-requires-clause-up
@@ -48,3 +50,9 @@ returns-in-Err-clause-news g c = c.begin_drl.ensures.news
 
 pub returns-clause-news : goal.returns-clause-news
 returns-clause-news g c = news_start c.args.vol c.args.core.now c.begin_drl.new.core (g.S.Shelf.meaning c.args.shelf.now) (g.S.Shelf.meaning c.begin_drl.new.shelf) c.begin_drl.ensures.begins c.args.one.now c.begin_drl.new.one c.begin_fmr.new.one c.begin_fmr.ensures.first.fmr c.begin_drl.ensures.news c.begin_fmr.ensures.news
+
+pub returns-in-Err-clause-since : goal.returns-in-Err-clause-since
+returns-in-Err-clause-since g c = c.begin_drl.ensures.since
+
+pub returns-clause-since : goal.returns-clause-since
+returns-clause-since g c = since_then c.args.vol c.begin_drl.new.one c.begin_fmr.new.one c.args.core.now c.begin_drl.new.core c.begin_fmr.new.core (λ log has. first_has (region_count (wide c.begin_drl.new.core).config c.args.vol) log c.begin_drl.new.one c.begin_fmr.new.one c.begin_fmr.ensures.first has) c.begin_drl.ensures.since c.begin_fmr.ensures.since

@@ -4,6 +4,7 @@ use Rattle.vx_group.specs.Holding.{wide}
 use Rattle.vx_loggroup.specs.Marks.{region_count}
 use Rattle.vx_loggroup.proofs.FreshLemmas.{begins_none, first_none, none_of}
 use Rattle.vx_loggroup.proofs.NewLemmas.{news_same}
+use Rattle.vx_loggroup.proofs.SureLemmas.{since_same}
 use Rattle.vx_loggroup.proofs.beginning.begin_drl.Goals as goal
 
 pub returns-then-is_some-clause-begins : goal.returns-then-is_some-clause-begins
@@ -38,3 +39,15 @@ returns-then-not-is_waiting-clause-news g c = news_same c.args.core.now.inner.co
 
 pub returns-clause-news : goal.returns-clause-news
 returns-clause-news g c = c.begin_log.ensures.news
+
+pub returns-then-is_some-clause-since : goal.returns-then-is_some-clause-since
+returns-then-is_some-clause-since g c = since_same c.args.vol c.args.one.now c.args.core.now
+
+pub returns-then-is_some-2-clause-since : goal.returns-then-is_some-2-clause-since
+returns-then-is_some-2-clause-since g c = since_same c.args.vol c.args.one.now c.args.core.now
+
+pub returns-then-not-is_waiting-clause-since : goal.returns-then-not-is_waiting-clause-since
+returns-then-not-is_waiting-clause-since g c = since_same c.args.vol c.args.one.now c.args.core.now
+
+pub returns-clause-since : goal.returns-clause-since
+returns-clause-since g c = c.begin_log.ensures.since

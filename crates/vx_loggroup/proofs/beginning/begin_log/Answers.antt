@@ -1,5 +1,5 @@
 -- `begin_log`: its clauses; what `begin_run` and `trust_first` ask.
-use Rattle.std.proofs.Common.{◌∙◌, false, refl, subst, sym}
+use Rattle.std.proofs.Common.{◌∙◌, false, refl, subst, sym, ap}
 use Rattle.vx_config.specs.declared.config.Config.{Config}
 use Rattle.vx_config.specs.declared.entry.VolumeLog.TheVariants.{Drl}
 use Rattle.vx_config.proofs.Changed.{sound_lost}
@@ -22,6 +22,9 @@ use Rattle.vx_loggroup.proofs.FreshLemmas.{begins_then, first_begun}
 use Rattle.vx_loggroup.proofs.NewLemmas.{news_gone}
 use Rattle.vx_loggroup.proofs.TrustedLogs.{trusted_here, trusted_others}
 use Rattle.vx_group.proofs.FindingLemmas.{idle_group}
+use Rattle.std.specs.Prelude.{not}
+use Rattle.vx_logged.proofs.GoneLogs.{there_some}
+use Rattle.vx_loggroup.proofs.SureLemmas.{since_same, since_told}
 use Rattle.vx_loggroup.proofs.beginning.begin_log.Goals as goal
 
 pub begin_run-requires-clause-checked : goal.begin_run-requires-clause-checked
@@ -116,3 +119,12 @@ returns-then-is_none-clause-news g c = news_gone c.args.core.now.inner.config c.
 
 pub returns-clause-news : goal.returns-clause-news
 returns-clause-news g c = news_gone c.args.core.now.inner.config c.args.vol c.args.one.now c.begin_run.new.logs c.begin_run.ensures.plain
+
+pub returns-then-is_down-clause-since : goal.returns-then-is_down-clause-since
+returns-then-is_down-clause-since g c = since_same c.args.vol c.begin_run.new.logs c.args.core.now
+
+pub returns-then-is_none-clause-since : goal.returns-then-is_none-clause-since
+returns-then-is_none-clause-since g c = since_same c.args.vol c.begin_run.new.logs c.args.core.now
+
+pub returns-clause-since : goal.returns-clause-since
+returns-clause-since g c = since_told c.args.vol Drl c.args.core.now c.trust_first.new.core c.begin_run.new.logs (g.S.Shelf.meaning c.begin_run.new.shelf) (g.S.Shelf.meaning c.trust_first.new.shelf) c.trust_first.ensures.acts (sym (there_some c.begin_run.new.logs.drl) ∙ c.is_none.ensures ∙ ap not c.if-is_none.false)

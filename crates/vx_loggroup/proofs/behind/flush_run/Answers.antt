@@ -20,6 +20,9 @@ use Rattle.vx_logged.specs.Logged.{are_off}
 use Rattle.vx_logged.proofs.StandLemmas.{not_true}
 use Rattle.vx_logs.specs.Writes.{first_region, last_region}
 use Rattle.vx_loggroup.proofs.KeepingCalls.{marked_keeps}
+use Rattle.vx_group.proofs.HoldLemmas.{wide_shape}
+use Rattle.vx_loggroup.proofs.KeepingLemmas.{kept_set}
+use Rattle.vx_loggroup.proofs.SureLemmas.{ok_under, set_sure}
 use Rattle.vx_loggroup.proofs.behind.flush_run.Goals as goal
 
 pub index_mut-requires : goal.index_mut-requires
@@ -77,7 +80,16 @@ pub returns-clause-rests : goal.returns-clause-rests
 returns-clause-rests g c = c.flush_noted.ensures.rests
 
 pub returns-clause-left : goal.returns-clause-left
-returns-clause-left g c = λ less alike going.
+returns-clause-left g c = λ alike going.
     left_up c.flush_noted.result (g.S.Shelf.meaning c.args.shelf.now) (g.S.Shelf.meaning c.flush_noted.new.shelf) c.flush_noted.ensures.goes.falls
-    (λ up. c.flush_noted.ensures.left less (c.is_sure-sure.ensures.all (c.is_alike.ensures ∙ alike) going (c.is_down-down.ensures ∙ up_false (g.S.Shelf.meaning c.args.shelf.now).down up)))
+    (λ up. c.flush_noted.ensures.left (c.is_sure-sure.ensures.all (c.is_alike.ensures ∙ alike) going (c.is_down-down.ensures ∙ up_false (g.S.Shelf.meaning c.args.shelf.now).down up)))
     (λ none. runs_set (fell_in c.args.core.now c.flush_noted.new.core c.args.vol) c.args.vol (first_region c.args.block) (last_region c.args.block c.args.count) c.args.logs.now.items c.flush_noted.new.logs none)
+
+pub returns-clause-kept : goal.returns-clause-kept
+returns-clause-kept g c = ok_from c.flush_noted.result (set_sure c.args.core.now c.flush_noted.new.core c.args.vol c.args.logs.now.items c.index_mut.result.now c.flush_noted.new.logs (item_of c.args.logs.now.items c.args.vol c.index_mut.result.now c.index_mut.ensures.value (index_low c.args.core.now c.args.logs.now.items c.args.alike.now c.args.stopped (g.S.Shelf.meaning c.args.shelf.now) c.args.vol c.requires.stands c.requires.there)) c.flush_noted.ensures.narrow) (ok_under _ c.flush_noted.result c.flush_noted.ensures.kept)
+
+pub returns-clause-said : goal.returns-clause-said
+returns-clause-said g c = λ alike going some.
+    done_up c.flush_noted.result (inner_meaning (wide c.args.core.now) (g.S.Shelf.meaning c.args.shelf.now)) (inner_meaning (wide c.flush_noted.new.core) (g.S.Shelf.meaning c.flush_noted.new.shelf)) c.args.vol c.flush_noted.ensures.cause
+    (λ up. c.flush_noted.ensures.said (c.is_sure-sure.ensures.all (c.is_alike.ensures ∙ alike) going (c.is_down-down.ensures ∙ up_false (g.S.Shelf.meaning c.args.shelf.now).down up)) (let same = (wide_shape c.args.core.now).blocks c.args.vol in omega (arith, some, same)))
+    (λ kept. kept_set c.flush_noted.new.core c.args.logs.now.items c.args.vol c.flush_noted.new.logs kept)

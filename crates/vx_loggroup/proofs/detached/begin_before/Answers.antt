@@ -19,6 +19,8 @@ use Rattle.vx_loggroup.proofs.NewLemmas.{list_same}
 use Rattle.vx_group.proofs.FindingLemmas.{still_group}
 use Rattle.vx_loggroup.proofs.KeepingLemmas.{stays_none}
 use Rattle.vx_loggroup.proofs.KeepingCalls.{begins_stay}
+use Rattle.vx_loggroup.specs.Keeping.{logs_at}
+use Rattle.vx_loggroup.proofs.SureLemmas.{since_same}
 use Rattle.vx_loggroup.proofs.detached.begin_before.Goals as goal
 
 pub returns-then-is_some-clause-goes : goal.returns-then-is_some-clause-goes
@@ -197,3 +199,21 @@ returns-in-Err-clause-news g c = c.begin_first.ensures.news
 
 pub returns-in-Err-clause-trusts : goal.returns-in-Err-clause-trusts
 returns-in-Err-clause-trusts g c = c.begin_first.ensures.begins.trusts
+
+pub returns-then-is_some-clause-since : goal.returns-then-is_some-clause-since
+returns-then-is_some-clause-since g c = since_same c.args.vol (logs_at c.args.logs.now.items c.args.vol) c.args.core.now
+
+pub returns-then-core-clause-since : goal.returns-then-core-clause-since
+returns-then-core-clause-since g c = since_same c.args.vol (logs_at c.args.logs.now.items c.args.vol) c.args.core.now
+
+pub returns-then-not-is_active-clause-since : goal.returns-then-not-is_active-clause-since
+returns-then-not-is_active-clause-since g c = since_same c.args.vol (logs_at c.args.logs.now.items c.args.vol) c.args.core.now
+
+pub returns-then-not-takes_fresh-clause-since : goal.returns-then-not-takes_fresh-clause-since
+returns-then-not-takes_fresh-clause-since g c = since_same c.args.vol (logs_at c.args.logs.now.items c.args.vol) c.args.core.now
+
+pub returns-in-Ok-clause-since : goal.returns-in-Ok-clause-since
+returns-in-Ok-clause-since g c = c.begin_first.ensures.since
+
+pub returns-in-Err-clause-since : goal.returns-in-Err-clause-since
+returns-in-Err-clause-since g c = c.begin_first.ensures.since

@@ -18,10 +18,11 @@ use Rattle.vx_loggroup.specs.LoggedVolumes.{is_alike}
 use Rattle.vx_loggroup.specs.Marks.{region_count}
 use Rattle.vx_loggroup.proofs.DetFresh.{never_err}
 use Rattle.vx_loggroup.proofs.DetMoves.{first_moves, run_det}
-use Rattle.vx_loggroup.proofs.DetachedLogs.{begin_none, det_later, empty_later, stays_later}
+use Rattle.vx_loggroup.proofs.DetachedLogs.{begin_none, det_later, empty_later}
 use Rattle.vx_loggroup.proofs.FreshLemmas.{fresh_still}
 use Rattle.vx_group.proofs.FindingLemmas.{then_group}
 use Rattle.vx_loggroup.proofs.KeepingLemmas.{frames_places, stay_keeps, then_keeps}
+use Rattle.vx_loggroup.proofs.SureLemmas.{first_sure}
 use Rattle.vx_loggroup.proofs.detached.det_fresh.Goals as goal
 
 pub returns-in-Err-clause-refused : goal.returns-in-Err-clause-refused
@@ -133,9 +134,16 @@ pub returns-clause-trusts : goal.returns-clause-trusts
 returns-clause-trusts g c = record { each = λ w log has told. c.det_whole.ensures.trusts.each w log has (c.begin_before.ensures.trusts.each w log told) }
 
 pub returns-in-Err-clause-stays : goal.returns-in-Err-clause-stays
-returns-in-Err-clause-stays g c = inr (inl (c.begin_before.ensures.still c.args.vol c.args.plex))
+returns-in-Err-clause-stays g c = inr (c.begin_before.ensures.still c.args.vol c.args.plex)
 
 pub returns-clause-stays : goal.returns-clause-stays
-returns-clause-stays g c = err_from c.det_whole.result (stays_later c.begin_before.new.core.inner.config c.args.core.now.inner.config c.det_whole.new.core.inner.config c.args.vol c.args.plex (fmr_at c.det_whole.new.logs.items c.args.vol) (c.begin_before.ensures.still c.args.vol c.args.plex)
-    (λ b is. record { volume = let old = (wide_shape c.args.core.now).volumes in let new = (wide_shape c.begin_before.new.core).volumes in let units = c.begin_before.ensures.goes.units in let lt = is.volume in omega (arith, old, new, units, lt); within = let old = (wide_shape c.args.core.now).blocks c.args.vol in let new = (wide_shape c.begin_before.new.core).blocks c.args.vol in let size = c.begin_before.ensures.goes.size c.args.vol in let lt = is.within in omega (arith, old, new, size, lt) }))
-    c.det_whole.ensures.stays
+returns-clause-stays g c = err_from c.det_whole.result (λ either. elim either [ inl down ↦ inl down | inr same ↦ inr (same ∙ c.begin_before.ensures.still c.args.vol c.args.plex) ]) c.det_whole.ensures.stays
+
+pub returns-clause-kept : goal.returns-clause-kept
+returns-clause-kept g c = ok_from c.det_whole.result (first_sure c.args.vol (region_count (wide c.args.core.now).config c.args.vol) c.args.core.now c.begin_before.new.core c.det_whole.new.core c.args.logs.now.items c.begin_before.new.logs.items c.det_whole.new.logs.items c.begin_before.ensures.first c.begin_before.ensures.since) c.det_whole.ensures.kept
+
+pub returns-in-Err-clause-said : goal.returns-in-Err-clause-said
+returns-in-Err-clause-said g c = λ on going same. tt
+
+pub returns-clause-said : goal.returns-clause-said
+returns-clause-said g c = λ on going same. c.det_whole.ensures.said (c.begin_before.ensures.still c.args.vol c.args.plex ∙ on) going same

@@ -1,262 +1,304 @@
 -- `det_whole`: its clauses; what the calls ask.
-use Rattle.std.proofs.Common.{◌≡◌, ◌∙◌, ◌<◌, inl, inr, Bool, false, true, length, refl, subst, sym, arith}
-use Rattle.std.specs.Prelude.{Err}
+use Rattle.std.proofs.Common.{◌≡◌, ◌∙◌, inl, inr, false, true, refl, sym, arith}
+use Rattle.std.specs.Prelude.{None, Some}
 use Rattle.vx_disk.specs.Shelf.{Nothing}
 use Rattle.vx_disk.proofs.Runs.{then_nothing}
 use Rattle.vx_group.specs.Holding.{wide}
 use Rattle.vx_group.specs.Stands.{inner_meaning}
+use Rattle.vx_group.proofs.DetLemmas.{may_margin, may_serial}
 use Rattle.vx_group.proofs.FailingLemmas.{no_failing, then_failing}
-use Rattle.vx_group.proofs.HoldLemmas.{narrow_sound, wide_shape}
-use Rattle.vx_group.proofs.LoseLemmas.{then_parts}
+use Rattle.vx_group.proofs.FindingLemmas.{still_group, then_group}
+use Rattle.vx_group.proofs.HoldLemmas.{det_other}
+use Rattle.vx_group.proofs.LoseLemmas.{none_parts, then_parts}
+use Rattle.vx_group.proofs.MendLemmas.{same_Goes}
 use Rattle.vx_group.proofs.TrustLemmas.{err_from, ok_from}
-use Rattle.vx_group.proofs.UnitLemmas.{goes_units, then_units}
-use Rattle.vx_grouplogs.proofs.LogShape.{same_count}
-use Rattle.vx_groupmaps.specs.Missing.{OnMaps}
+use Rattle.vx_group.proofs.UnitLemmas.{same_units, then_units}
 use Rattle.vx_kept.proofs.Chosen.{active_volumes}
-use Rattle.vx_kept.proofs.Steps.{inside_back}
-use Rattle.vx_loggroup.specs.Attaching.{fmr_at}
-use Rattle.vx_loggroup.specs.LoggedVolumes.{LoggedStands}
+use Rattle.vx_logged.proofs.StandLemmas.{narrowed_same}
+use Rattle.vx_loggroup.specs.Keeping.{logs_at}
 use Rattle.vx_loggroup.proofs.AlikeLemmas.{all_whole}
-use Rattle.vx_loggroup.proofs.DetachedLogs.{active_low, begin_none, det_later, down_stops, empty_later, err_any, on_any, was_alike}
-use Rattle.vx_loggroup.proofs.MadeLogs.{ok_clash}
-use Rattle.vx_loggroup.proofs.SetLemmas.{item_at}
-use Rattle.vx_model.specs.declared.errors.Stop.TheVariants.{No as Refused}
-use Rattle.vx_volume.proofs.PlaceLemmas.{active_below}
-use Rattle.vx_group.proofs.FindingLemmas.{idle_group, then_group}
-use Rattle.vx_loggroup.proofs.KeepingLemmas.{frames_places, shape_places, stay_keeps, stays_in, stays_same, then_stays}
+use Rattle.vx_loggroup.proofs.DetachedLogs.{begin_none, det_later, on_any}
+use Rattle.vx_loggroup.proofs.KeepingLemmas.{frames_places, shape_places, stay_keeps, stays_none, stays_same, then_stays}
+use Rattle.vx_loggroup.proofs.SureLemmas.{later_sure, narrow_kept, said_later}
 use Rattle.vx_loggroup.proofs.detaching.det_whole.Goals as goal
 
-pub det_logged-requires : goal.det_logged-requires
-det_logged-requires g c = record { stands = c.requires.stands.group }
+pub begin_early-requires-clause-stands : goal.begin_early-requires-clause-stands
+begin_early-requires-clause-stands g c = c.requires.stands
 
-pub may_begin-requires : goal.may_begin-requires
-may_begin-requires g c = record {
-  few = λ was.
-      let low = active_low c.args.core.now.inner.config c.args.vol c.args.plex (sym c.is_active-was.ensures ∙ was) in
-      let few = c.requires.stands.group.stands.few in
-      let same = (wide_shape c.args.core.now).volumes in
-      omega (arith, low, few, same);
-}
+pub begin_early-requires-clause-is_on : goal.begin_early-requires-clause-is_on
+begin_early-requires-clause-is_on g c = sym c.is_active.ensures ∙ c.if-not-is_active.false
 
-pub begin_missing-requires-clause-stands : goal.begin_missing-requires-clause-stands
-begin_missing-requires-clause-stands g c = subst (λ (s : Bool). LoggedStands c.det_logged.new.core c.args.logs.now.items c.args.alike.now s (g.S.Shelf.meaning c.det_logged.new.shelf)) (c.may_begin.ensures.going c.if-not-may_begin.false) (all_whole c.args.core.now c.det_logged.new.core c.args.logs.now.items c.args.alike.now c.args.stopped (g.S.Shelf.meaning c.args.shelf.now) (g.S.Shelf.meaning c.det_logged.new.shelf) c.requires.stands c.det_logged.ensures.stands c.det_logged.ensures.goes c.det_logged.ensures.logs)
+pub begin_early-requires-clause-more : goal.begin_early-requires-clause-more
+begin_early-requires-clause-more g c = may_serial c.args.core.now.inner.config c.args.vol c.args.plex (sym c.refuse_det.ensures ∙ c.in_default.is)
 
-pub begin_missing-requires-clause-none : goal.begin_missing-requires-clause-none
-begin_missing-requires-clause-none g c = c.may_begin.ensures.none c.if-not-may_begin.false
+pub det_beside-requires-clause-stands : goal.det_beside-requires-clause-stands
+det_beside-requires-clause-stands g c = c.begin_early.ensures.stands.group
 
-pub begin_missing-requires-clause-there : goal.begin_missing-requires-clause-there
-begin_missing-requires-clause-there g c = let low = (active_low c.args.core.now.inner.config c.args.vol c.args.plex (sym c.is_active-was.ensures ∙ c.may_begin.ensures.was c.if-not-may_begin.false)) in
-    let same = c.det_logged.ensures.narrows.shape.volumes in
-    omega (arith, low, same)
+pub det_beside-requires-clause-none : goal.det_beside-requires-clause-none
+det_beside-requires-clause-none g c = c.in-Ok.ensures.free
 
-pub begin_missing-requires-clause-reads : goal.begin_missing-requires-clause-reads
-begin_missing-requires-clause-reads g c = was_alike c.args.core.now c.det_logged.new.core c.args.vol c.args.plex (g.S.Shelf.meaning c.args.shelf.now) (g.S.Shelf.meaning c.det_logged.new.shelf) c.requires.stands.group c.det_logged.ensures.narrows (sym c.is_active-was.ensures ∙ c.may_begin.ensures.was c.if-not-may_begin.false)
-    (λ up.
-    let it = item_at c.args.logs.now.items c.args.vol (let low = (active_low c.args.core.now.inner.config c.args.vol c.args.plex (sym c.is_active-was.ensures ∙ c.may_begin.ensures.was c.if-not-may_begin.false)) in let many = c.requires.stands.many in omega (arith, low, many)) in
-    (c.requires.stands.each c.args.vol it.0 it.1).alike (c.may_begin.ensures.alike c.if-not-may_begin.false) up)
+pub det_beside-requires-clause-is_on : goal.det_beside-requires-clause-is_on
+det_beside-requires-clause-is_on g c = c.begin_early.ensures.still c.args.vol c.args.plex ∙ sym c.is_active.ensures ∙ c.if-not-is_active.false
 
-pub begin_missing-requires-clause-exists : goal.begin_missing-requires-clause-exists
-begin_missing-requires-clause-exists g c = let low = active_below c.args.core.now.inner.config (narrow_sound c.args.core.now (g.S.Shelf.meaning c.args.shelf.now) c.requires.stands.group) c.args.vol c.args.plex (sym c.is_active-was.ensures ∙ c.may_begin.ensures.was c.if-not-may_begin.false) in let same = same_count c.args.core.now.inner.config c.det_logged.new.core.inner.config c.args.vol (c.det_logged.ensures.narrows.shape.frames c.args.vol) (c.det_logged.ensures.narrows.shape.blocks c.args.vol) in omega (arith, low, same)
+pub det_beside-requires-clause-other : goal.det_beside-requires-clause-other
+det_beside-requires-clause-other g c = let it = det_other c.args.core.now.inner.config c.args.core.now.inner.config c.args.vol c.args.plex refl (sym c.refuse_det.ensures ∙ c.in_default.is) (sym c.is_active.ensures ∙ c.if-not-is_active.false) in record { plex = it.plex; is_on = c.begin_early.ensures.still c.args.vol it.plex ∙ it.is_on; apart = it.apart }
 
-pub keep_begun-requires-clause-stands : goal.keep_begun-requires-clause-stands
-keep_begun-requires-clause-stands g c = c.begin_missing.ensures.stands
+pub det_beside-requires-clause-more : goal.det_beside-requires-clause-more
+det_beside-requires-clause-more g c = let few = c.in-Ok.ensures.few in let low = may_margin c.args.core.now.inner.config c.args.vol c.args.plex (sym c.refuse_det.ensures ∙ c.in_default.is) in omega (arith, few, low)
 
-pub keep_begun-requires-clause-none : goal.keep_begun-requires-clause-none
-keep_begun-requires-clause-none g c = c.may_begin.ensures.none c.if-not-may_begin.false
+pub returns-in-Some-clause-stands : goal.returns-in-Some-clause-stands
+returns-in-Some-clause-stands g c = c.requires.stands
 
-pub keep_begun-requires-clause-there : goal.keep_begun-requires-clause-there
-keep_begun-requires-clause-there g c = let low = (active_low c.args.core.now.inner.config c.args.vol c.args.plex (sym c.is_active-was.ensures ∙ c.may_begin.ensures.was c.if-not-may_begin.false)) in
-    let same = c.det_logged.ensures.narrows.shape.volumes in
-    omega (arith, low, same)
+pub returns-then-not-is_active-clause-stands : goal.returns-then-not-is_active-clause-stands
+returns-then-not-is_active-clause-stands g c = c.requires.stands
 
 pub returns-in-Err-clause-stands : goal.returns-in-Err-clause-stands
-returns-in-Err-clause-stands g c = (all_whole c.args.core.now c.det_logged.new.core c.args.logs.now.items c.args.alike.now c.args.stopped (g.S.Shelf.meaning c.args.shelf.now) (g.S.Shelf.meaning c.det_logged.new.shelf) c.requires.stands c.det_logged.ensures.stands c.det_logged.ensures.goes c.det_logged.ensures.logs)
-
-pub returns-in-Err-clause-frames : goal.returns-in-Err-clause-frames
-returns-in-Err-clause-frames g c = c.det_logged.ensures.narrows.shape.frames
-
-pub returns-in-Err-clause-on : goal.returns-in-Err-clause-on
-returns-in-Err-clause-on g c = c.det_logged.ensures.narrows.on
-
-pub returns-in-Err-clause-maps : goal.returns-in-Err-clause-maps
-returns-in-Err-clause-maps g c = begin_none c.args.vol c.args.plex c.args.logs.now.items
-
-pub returns-then-not-may_begin-clause-stands : goal.returns-then-not-may_begin-clause-stands
-returns-then-not-may_begin-clause-stands g c = (all_whole c.args.core.now c.det_logged.new.core c.args.logs.now.items c.args.alike.now c.args.stopped (g.S.Shelf.meaning c.args.shelf.now) (g.S.Shelf.meaning c.det_logged.new.shelf) c.requires.stands c.det_logged.ensures.stands c.det_logged.ensures.goes c.det_logged.ensures.logs)
-
-pub returns-then-not-may_begin-clause-refused : goal.returns-then-not-may_begin-clause-refused
-returns-then-not-may_begin-clause-refused g c = λ why is. absurd (ok_clash _ (Refused why) (sym c.in-Ok.is ∙ (c.det_logged.ensures.refused why is).0))
-
-pub returns-then-not-may_begin-clause-frames : goal.returns-then-not-may_begin-clause-frames
-returns-then-not-may_begin-clause-frames g c = c.det_logged.ensures.narrows.shape.frames
-
-pub returns-then-not-may_begin-clause-on : goal.returns-then-not-may_begin-clause-on
-returns-then-not-may_begin-clause-on g c = c.det_logged.ensures.narrows.on
-
-pub returns-then-not-may_begin-clause-maps : goal.returns-then-not-may_begin-clause-maps
-returns-then-not-may_begin-clause-maps g c = begin_none c.args.vol c.args.plex c.args.logs.now.items
-
-pub returns-then-not-may_begin-clause-begins : goal.returns-then-not-may_begin-clause-begins
-returns-then-not-may_begin-clause-begins g c = λ going none same on. absurd (let clash : true ≡ false = sym (c.may_begin.ensures.all (c.is_active-was.ensures ∙ on) going none same) ∙ c.if-not-may_begin.true in cc)
-
-pub returns-in-Err-begin_missing-clause-stands : goal.returns-in-Err-begin_missing-clause-stands
-returns-in-Err-begin_missing-clause-stands g c = subst (λ (s : Bool). LoggedStands c.det_logged.new.core c.begin_missing.new.logs.items c.args.alike.now s (g.S.Shelf.meaning c.begin_missing.new.shelf)) (sym (c.may_begin.ensures.going c.if-not-may_begin.false)) c.begin_missing.ensures.stands
-
-pub returns-in-Err-begin_missing-clause-refused : goal.returns-in-Err-begin_missing-clause-refused
-returns-in-Err-begin_missing-clause-refused g c = λ why is. absurd (ok_clash _ (Refused why) (sym c.in-Ok.is ∙ (c.det_logged.ensures.refused why is).0))
-
-pub returns-in-Err-begin_missing-clause-goes : goal.returns-in-Err-begin_missing-clause-goes
-returns-in-Err-begin_missing-clause-goes g c = then_nothing Nothing (inner_meaning (wide c.args.core.now) (g.S.Shelf.meaning c.args.shelf.now)) (inner_meaning (wide c.det_logged.new.core) (g.S.Shelf.meaning c.det_logged.new.shelf)) (inner_meaning (wide c.det_logged.new.core) (g.S.Shelf.meaning c.begin_missing.new.shelf)) c.det_logged.ensures.goes c.begin_missing.ensures.goes
-
-pub returns-in-Err-begin_missing-clause-disks : goal.returns-in-Err-begin_missing-clause-disks
-returns-in-Err-begin_missing-clause-disks g c = then_failing (g.S.Shelf.meaning c.args.shelf.now) (g.S.Shelf.meaning c.det_logged.new.shelf) (g.S.Shelf.meaning c.begin_missing.new.shelf) (λ u. c.det_logged.ensures.narrows.acts.faults u) (λ u. c.begin_missing.ensures.below.faults u) c.args.core.now.inner.config.disks c.det_logged.new.core.inner.config.disks c.det_logged.new.core.inner.config.disks c.det_logged.ensures.disks (no_failing (g.S.Shelf.meaning c.det_logged.new.shelf) (g.S.Shelf.meaning c.begin_missing.new.shelf) c.det_logged.new.core.inner.config.disks c.det_logged.new.core.inner.config.disks refl)
-
-pub returns-in-Err-begin_missing-clause-frames : goal.returns-in-Err-begin_missing-clause-frames
-returns-in-Err-begin_missing-clause-frames g c = c.det_logged.ensures.narrows.shape.frames
-
-pub returns-in-Err-begin_missing-clause-below : goal.returns-in-Err-begin_missing-clause-below
-returns-in-Err-begin_missing-clause-below g c = then_units (g.S.Shelf.meaning c.args.shelf.now) (g.S.Shelf.meaning c.det_logged.new.shelf) (g.S.Shelf.meaning c.begin_missing.new.shelf) c.det_logged.ensures.below (goes_units (OnMaps c.det_logged.new.core.inner.config c.args.vol) (g.S.Shelf.meaning c.det_logged.new.shelf) (g.S.Shelf.meaning c.begin_missing.new.shelf) c.begin_missing.ensures.below)
-
-pub returns-in-Err-begin_missing-clause-on : goal.returns-in-Err-begin_missing-clause-on
-returns-in-Err-begin_missing-clause-on g c = c.det_logged.ensures.narrows.on
-
-pub returns-in-Err-begin_missing-clause-agreed : goal.returns-in-Err-begin_missing-clause-agreed
-returns-in-Err-begin_missing-clause-agreed g c = λ is. c.det_logged.ensures.stands.stands.trusts.both (c.in-Ok.ensures.trust is)
-
-pub returns-in-Err-begin_missing-clause-cause : goal.returns-in-Err-begin_missing-clause-cause
-returns-in-Err-begin_missing-clause-cause g c = λ may. down_stops (g.S.Shelf.meaning c.args.shelf.now) (g.S.Shelf.meaning c.det_logged.new.shelf) (g.S.Shelf.meaning c.begin_missing.new.shelf) (Err c.in-Err-begin_missing.stop) c.in-Err-begin_missing.ensures.down
+returns-in-Err-clause-stands g c = c.begin_early.ensures.stands
 
 pub returns-clause-stands : goal.returns-clause-stands
-returns-clause-stands g c = subst (λ (s : Bool). LoggedStands c.keep_begun.new.core c.begin_missing.new.logs.items c.args.alike.now s (g.S.Shelf.meaning c.keep_begun.new.shelf)) (sym (c.may_begin.ensures.going c.if-not-may_begin.false)) c.keep_begun.ensures.stands
+returns-clause-stands g c = all_whole c.begin_early.new.core c.det_beside.new.core c.begin_early.new.logs.items c.args.alike.now c.args.stopped (g.S.Shelf.meaning c.begin_early.new.shelf) (g.S.Shelf.meaning c.det_beside.new.shelf) c.begin_early.ensures.stands c.det_beside.ensures.stands c.det_beside.ensures.goes c.det_beside.ensures.logs
+
+pub returns-then-not-is_active-clause-refused : goal.returns-then-not-is_active-clause-refused
+returns-then-not-is_active-clause-refused g c = λ why is. absurd (let clash : None ≡ Some why = sym (sym c.refuse_det.ensures ∙ c.in_default.is) ∙ is in cc)
+
+pub returns-in-Err-clause-refused : goal.returns-in-Err-clause-refused
+returns-in-Err-clause-refused g c = λ why is. absurd (let clash : None ≡ Some why = sym (sym c.refuse_det.ensures ∙ c.in_default.is) ∙ is in cc)
 
 pub returns-clause-refused : goal.returns-clause-refused
-returns-clause-refused g c = λ why is. absurd (ok_clash _ (Refused why) (sym c.in-Ok.is ∙ (c.det_logged.ensures.refused why is).0))
+returns-clause-refused g c = λ why is. absurd (let clash : None ≡ Some why = sym (sym c.refuse_det.ensures ∙ c.in_default.is) ∙ is in cc)
+
+pub returns-in-Some-clause-goes : goal.returns-in-Some-clause-goes
+returns-in-Some-clause-goes g c = same_Goes (inner_meaning (wide c.args.core.now) (g.S.Shelf.meaning c.args.shelf.now))
+
+pub returns-then-not-is_active-clause-goes : goal.returns-then-not-is_active-clause-goes
+returns-then-not-is_active-clause-goes g c = same_Goes (inner_meaning (wide c.args.core.now) (g.S.Shelf.meaning c.args.shelf.now))
+
+pub returns-in-Err-clause-goes : goal.returns-in-Err-clause-goes
+returns-in-Err-clause-goes g c = c.begin_early.ensures.goes
 
 pub returns-clause-goes : goal.returns-clause-goes
-returns-clause-goes g c = then_nothing Nothing (inner_meaning (wide c.args.core.now) (g.S.Shelf.meaning c.args.shelf.now)) (inner_meaning (wide c.det_logged.new.core) (g.S.Shelf.meaning c.begin_missing.new.shelf)) (inner_meaning (wide c.keep_begun.new.core) (g.S.Shelf.meaning c.keep_begun.new.shelf)) (then_nothing Nothing (inner_meaning (wide c.args.core.now) (g.S.Shelf.meaning c.args.shelf.now)) (inner_meaning (wide c.det_logged.new.core) (g.S.Shelf.meaning c.det_logged.new.shelf)) (inner_meaning (wide c.det_logged.new.core) (g.S.Shelf.meaning c.begin_missing.new.shelf)) c.det_logged.ensures.goes c.begin_missing.ensures.goes) c.keep_begun.ensures.goes
+returns-clause-goes g c = then_nothing Nothing (inner_meaning (wide c.args.core.now) (g.S.Shelf.meaning c.args.shelf.now)) (inner_meaning (wide c.begin_early.new.core) (g.S.Shelf.meaning c.begin_early.new.shelf)) (inner_meaning (wide c.det_beside.new.core) (g.S.Shelf.meaning c.det_beside.new.shelf)) c.begin_early.ensures.goes c.det_beside.ensures.goes
+
+pub returns-in-Some-clause-parts : goal.returns-in-Some-clause-parts
+returns-in-Some-clause-parts g c = none_parts c.args.core.now.inner.config
+
+pub returns-then-not-is_active-clause-parts : goal.returns-then-not-is_active-clause-parts
+returns-then-not-is_active-clause-parts g c = none_parts c.args.core.now.inner.config
+
+pub returns-in-Err-clause-parts : goal.returns-in-Err-clause-parts
+returns-in-Err-clause-parts g c = c.begin_early.ensures.loses.loses.parts
 
 pub returns-clause-parts : goal.returns-clause-parts
-returns-clause-parts g c = then_parts c.args.core.now.inner.config c.det_logged.new.core.inner.config c.keep_begun.new.core.inner.config c.det_logged.ensures.parts c.keep_begun.ensures.loses.parts
+returns-clause-parts g c = then_parts c.args.core.now.inner.config c.begin_early.new.core.inner.config c.det_beside.new.core.inner.config c.begin_early.ensures.loses.loses.parts c.det_beside.ensures.parts
+
+pub returns-in-Some-clause-disks : goal.returns-in-Some-clause-disks
+returns-in-Some-clause-disks g c = no_failing (g.S.Shelf.meaning c.args.shelf.now) (g.S.Shelf.meaning c.args.shelf.now) c.args.core.now.inner.config.disks c.args.core.now.inner.config.disks refl
+
+pub returns-then-not-is_active-clause-disks : goal.returns-then-not-is_active-clause-disks
+returns-then-not-is_active-clause-disks g c = no_failing (g.S.Shelf.meaning c.args.shelf.now) (g.S.Shelf.meaning c.args.shelf.now) c.args.core.now.inner.config.disks c.args.core.now.inner.config.disks refl
+
+pub returns-in-Err-clause-disks : goal.returns-in-Err-clause-disks
+returns-in-Err-clause-disks g c = c.begin_early.ensures.loses.loses.disks
 
 pub returns-clause-disks : goal.returns-clause-disks
-returns-clause-disks g c = then_failing (g.S.Shelf.meaning c.args.shelf.now) (g.S.Shelf.meaning c.begin_missing.new.shelf) (g.S.Shelf.meaning c.keep_begun.new.shelf) (λ u. let one = c.det_logged.ensures.narrows.acts.faults u in let two = c.begin_missing.ensures.below.faults u in omega (arith, one, two)) c.keep_begun.ensures.rises c.args.core.now.inner.config.disks c.det_logged.new.core.inner.config.disks c.keep_begun.new.core.inner.config.disks (then_failing (g.S.Shelf.meaning c.args.shelf.now) (g.S.Shelf.meaning c.det_logged.new.shelf) (g.S.Shelf.meaning c.begin_missing.new.shelf) (λ u. c.det_logged.ensures.narrows.acts.faults u) (λ u. c.begin_missing.ensures.below.faults u) c.args.core.now.inner.config.disks c.det_logged.new.core.inner.config.disks c.det_logged.new.core.inner.config.disks c.det_logged.ensures.disks (no_failing (g.S.Shelf.meaning c.det_logged.new.shelf) (g.S.Shelf.meaning c.begin_missing.new.shelf) c.det_logged.new.core.inner.config.disks c.det_logged.new.core.inner.config.disks refl)) c.keep_begun.ensures.loses.disks
+returns-clause-disks g c = then_failing (g.S.Shelf.meaning c.args.shelf.now) (g.S.Shelf.meaning c.begin_early.new.shelf) (g.S.Shelf.meaning c.det_beside.new.shelf) c.begin_early.ensures.loses.rises c.det_beside.ensures.narrows.acts.faults c.args.core.now.inner.config.disks c.begin_early.new.core.inner.config.disks c.det_beside.new.core.inner.config.disks c.begin_early.ensures.loses.loses.disks c.det_beside.ensures.disks
+
+pub returns-in-Some-clause-frames : goal.returns-in-Some-clause-frames
+returns-in-Some-clause-frames g c = λ v. refl
+
+pub returns-then-not-is_active-clause-frames : goal.returns-then-not-is_active-clause-frames
+returns-then-not-is_active-clause-frames g c = λ v. refl
+
+pub returns-in-Err-clause-frames : goal.returns-in-Err-clause-frames
+returns-in-Err-clause-frames g c = c.begin_early.ensures.loses.loses.frames
 
 pub returns-clause-frames : goal.returns-clause-frames
-returns-clause-frames g c = λ v. c.keep_begun.ensures.loses.frames v ∙ c.det_logged.ensures.narrows.shape.frames v
+returns-clause-frames g c = λ v. c.det_beside.ensures.narrows.shape.frames v ∙ c.begin_early.ensures.loses.loses.frames v
+
+pub returns-in-Some-clause-below : goal.returns-in-Some-clause-below
+returns-in-Some-clause-below g c = same_units (g.S.Shelf.meaning c.args.shelf.now)
+
+pub returns-then-not-is_active-clause-below : goal.returns-then-not-is_active-clause-below
+returns-then-not-is_active-clause-below g c = same_units (g.S.Shelf.meaning c.args.shelf.now)
+
+pub returns-in-Err-clause-below : goal.returns-in-Err-clause-below
+returns-in-Err-clause-below g c = c.begin_early.ensures.below
 
 pub returns-clause-below : goal.returns-clause-below
-returns-clause-below g c = then_units (g.S.Shelf.meaning c.args.shelf.now) (g.S.Shelf.meaning c.begin_missing.new.shelf) (g.S.Shelf.meaning c.keep_begun.new.shelf) (then_units (g.S.Shelf.meaning c.args.shelf.now) (g.S.Shelf.meaning c.det_logged.new.shelf) (g.S.Shelf.meaning c.begin_missing.new.shelf) c.det_logged.ensures.below (goes_units (OnMaps c.det_logged.new.core.inner.config c.args.vol) (g.S.Shelf.meaning c.det_logged.new.shelf) (g.S.Shelf.meaning c.begin_missing.new.shelf) c.begin_missing.ensures.below)) c.keep_begun.ensures.below
+returns-clause-below g c = then_units (g.S.Shelf.meaning c.args.shelf.now) (g.S.Shelf.meaning c.begin_early.new.shelf) (g.S.Shelf.meaning c.det_beside.new.shelf) c.begin_early.ensures.below c.det_beside.ensures.below
 
-pub returns-clause-on : goal.returns-clause-on
-returns-clause-on g c = λ v p is. c.det_logged.ensures.narrows.on v p (sym (c.keep_begun.ensures.still v p) ∙ is)
+pub returns-in-Some-clause-rises : goal.returns-in-Some-clause-rises
+returns-in-Some-clause-rises g c = λ u. omega arith
 
-pub returns-clause-off : goal.returns-clause-off
-returns-clause-off g c = on_any c.keep_begun.result (c.keep_begun.ensures.still c.args.vol c.args.plex ∙ c.in-Ok.ensures.off)
-
-pub returns-clause-others : goal.returns-clause-others
-returns-clause-others g c = λ w p apart. c.keep_begun.ensures.still w p ∙ c.det_logged.ensures.others w p apart
-
-pub returns-clause-begins : goal.returns-clause-begins
-returns-clause-begins g c = on_any c.keep_begun.result (λ going none same on. empty_later c.det_logged.new.core.inner.config c.args.core.now.inner.config c.args.vol c.args.plex (fmr_at c.begin_missing.new.logs.items c.args.vol) (λ b inside. inside_back c.det_logged.new.core.inner.config c.args.core.now.inner.config c.det_logged.ensures.narrows.shape c.args.vol b inside) c.in-Ok-begin_missing.ensures.empty)
-
-pub returns-clause-trust : goal.returns-clause-trust
-returns-clause-trust g c = ok_from c.keep_begun.result (λ keeps is. keeps (c.in-Ok.ensures.trust is)) c.keep_begun.ensures.trust
-
-pub returns-clause-agreed : goal.returns-clause-agreed
-returns-clause-agreed g c = err_from c.keep_begun.result (λ keeps is. keeps (c.in-Ok.ensures.trust is)) c.keep_begun.ensures.agreed
-
-pub returns-clause-cause : goal.returns-clause-cause
-returns-clause-cause g c = λ may. det_later (g.S.Shelf.meaning c.args.shelf.now) (g.S.Shelf.meaning c.begin_missing.new.shelf) (g.S.Shelf.meaning c.keep_begun.new.shelf) (λ u. let one = c.det_logged.ensures.narrows.acts.disk_faults u in let two = c.begin_missing.ensures.below.disk_faults u in omega (arith, one, two)) c.keep_begun.result c.keep_begun.ensures.cause
+pub returns-then-not-is_active-clause-rises : goal.returns-then-not-is_active-clause-rises
+returns-then-not-is_active-clause-rises g c = λ u. omega arith
 
 pub returns-in-Err-clause-rises : goal.returns-in-Err-clause-rises
-returns-in-Err-clause-rises g c = c.det_logged.ensures.narrows.acts.faults
-
-pub returns-then-not-may_begin-clause-rises : goal.returns-then-not-may_begin-clause-rises
-returns-then-not-may_begin-clause-rises g c = c.det_logged.ensures.narrows.acts.faults
-
-pub returns-in-Err-begin_missing-clause-rises : goal.returns-in-Err-begin_missing-clause-rises
-returns-in-Err-begin_missing-clause-rises g c = λ u. let one = c.det_logged.ensures.narrows.acts.faults u in let two = c.begin_missing.ensures.below.faults u in omega (arith, one, two)
+returns-in-Err-clause-rises g c = c.begin_early.ensures.loses.rises
 
 pub returns-clause-rises : goal.returns-clause-rises
-returns-clause-rises g c = λ u. let one = c.det_logged.ensures.narrows.acts.faults u in let two = c.begin_missing.ensures.below.faults u in let last = c.keep_begun.ensures.rises u in omega (arith, one, two, last)
+returns-clause-rises g c = λ u. let one = c.begin_early.ensures.loses.rises u in let two = c.det_beside.ensures.narrows.acts.faults u in omega (arith, one, two)
 
-pub returns-in-Err-clause-finds : goal.returns-in-Err-clause-finds
-returns-in-Err-clause-finds g c =
-    c.det_logged.ensures.finds
+pub returns-in-Some-clause-on : goal.returns-in-Some-clause-on
+returns-in-Some-clause-on g c = λ v p is. is
 
-pub returns-then-not-may_begin-clause-finds : goal.returns-then-not-may_begin-clause-finds
-returns-then-not-may_begin-clause-finds g c =
-    c.det_logged.ensures.finds
+pub returns-then-not-is_active-clause-on : goal.returns-then-not-is_active-clause-on
+returns-then-not-is_active-clause-on g c = λ v p is. is
 
-pub returns-in-Err-begin_missing-clause-finds : goal.returns-in-Err-begin_missing-clause-finds
-returns-in-Err-begin_missing-clause-finds g c =
-    then_group c.args.core.now c.det_logged.new.core c.det_logged.new.core (g.S.Shelf.meaning c.args.shelf.now) (g.S.Shelf.meaning c.det_logged.new.shelf) (g.S.Shelf.meaning c.begin_missing.new.shelf) c.det_logged.ensures.finds (idle_group c.det_logged.new.core (g.S.Shelf.meaning c.det_logged.new.shelf) (g.S.Shelf.meaning c.begin_missing.new.shelf) c.begin_missing.ensures.less)
+pub returns-in-Err-clause-on : goal.returns-in-Err-clause-on
+returns-in-Err-clause-on g c = λ v p is. sym (c.begin_early.ensures.still v p) ∙ is
 
-pub returns-clause-finds : goal.returns-clause-finds
-returns-clause-finds g c =
-    then_group c.args.core.now c.det_logged.new.core c.keep_begun.new.core (g.S.Shelf.meaning c.args.shelf.now) (g.S.Shelf.meaning c.begin_missing.new.shelf) (g.S.Shelf.meaning c.keep_begun.new.shelf)
-    (then_group c.args.core.now c.det_logged.new.core c.det_logged.new.core (g.S.Shelf.meaning c.args.shelf.now) (g.S.Shelf.meaning c.det_logged.new.shelf) (g.S.Shelf.meaning c.begin_missing.new.shelf) c.det_logged.ensures.finds (idle_group c.det_logged.new.core (g.S.Shelf.meaning c.det_logged.new.shelf) (g.S.Shelf.meaning c.begin_missing.new.shelf) c.begin_missing.ensures.less)) c.keep_begun.ensures.finds
+pub returns-clause-on : goal.returns-clause-on
+returns-clause-on g c = λ v p is. sym (c.begin_early.ensures.still v p) ∙ c.det_beside.ensures.narrows.on v p is
 
-pub returns-in-Err-clause-keeps : goal.returns-in-Err-clause-keeps
-returns-in-Err-clause-keeps g c = stay_keeps c.args.core.now c.det_logged.new.core c.args.logs.now.items c.args.logs.now.items (g.S.Shelf.meaning c.args.shelf.now) (g.S.Shelf.meaning c.det_logged.new.shelf) (stays_same c.args.core.now.inner.config c.det_logged.new.core.inner.config c.args.logs.now.items (g.S.Shelf.meaning c.args.shelf.now) (g.S.Shelf.meaning c.det_logged.new.shelf) (shape_places c.args.core.now.inner.config c.det_logged.new.core.inner.config c.det_logged.ensures.narrows.shape) c.det_logged.ensures.disks.blamed c.det_logged.ensures.trusts)
+pub returns-then-not-is_active-clause-begins : goal.returns-then-not-is_active-clause-begins
+returns-then-not-is_active-clause-begins g c = λ going none same on. absurd (let clash : false ≡ true = sym c.if-not-is_active.true ∙ c.is_active.ensures ∙ on in cc)
 
-pub returns-then-not-may_begin-clause-keeps : goal.returns-then-not-may_begin-clause-keeps
-returns-then-not-may_begin-clause-keeps g c = stay_keeps c.args.core.now c.det_logged.new.core c.args.logs.now.items c.args.logs.now.items (g.S.Shelf.meaning c.args.shelf.now) (g.S.Shelf.meaning c.det_logged.new.shelf) (stays_same c.args.core.now.inner.config c.det_logged.new.core.inner.config c.args.logs.now.items (g.S.Shelf.meaning c.args.shelf.now) (g.S.Shelf.meaning c.det_logged.new.shelf) (shape_places c.args.core.now.inner.config c.det_logged.new.core.inner.config c.det_logged.ensures.narrows.shape) c.det_logged.ensures.disks.blamed c.det_logged.ensures.trusts)
+pub returns-clause-begins : goal.returns-clause-begins
+returns-clause-begins g c = on_any c.det_beside.result (λ going none same on. c.in-Ok.ensures.begins going same)
 
-pub returns-in-Err-begin_missing-clause-keeps : goal.returns-in-Err-begin_missing-clause-keeps
-returns-in-Err-begin_missing-clause-keeps g c = stay_keeps c.args.core.now c.det_logged.new.core c.args.logs.now.items c.begin_missing.new.logs.items (g.S.Shelf.meaning c.args.shelf.now) (g.S.Shelf.meaning c.begin_missing.new.shelf) (then_stays c.args.core.now.inner.config c.det_logged.new.core.inner.config c.det_logged.new.core.inner.config c.args.logs.now.items c.args.logs.now.items c.begin_missing.new.logs.items (g.S.Shelf.meaning c.args.shelf.now) (g.S.Shelf.meaning c.det_logged.new.shelf) (g.S.Shelf.meaning c.begin_missing.new.shelf) (shape_places c.args.core.now.inner.config c.det_logged.new.core.inner.config c.det_logged.ensures.narrows.shape) (λ u. c.det_logged.ensures.narrows.acts.faults u) (λ u. c.begin_missing.ensures.below.faults u) c.begin_missing.ensures.below.falls (stays_same c.args.core.now.inner.config c.det_logged.new.core.inner.config c.args.logs.now.items (g.S.Shelf.meaning c.args.shelf.now) (g.S.Shelf.meaning c.det_logged.new.shelf) (shape_places c.args.core.now.inner.config c.det_logged.new.core.inner.config c.det_logged.ensures.narrows.shape) c.det_logged.ensures.disks.blamed c.det_logged.ensures.trusts) c.begin_missing.ensures.stays)
+pub returns-then-not-is_active-clause-off : goal.returns-then-not-is_active-clause-off
+returns-then-not-is_active-clause-off g c = sym c.is_active.ensures ∙ c.if-not-is_active.true
 
-pub returns-clause-keeps : goal.returns-clause-keeps
-returns-clause-keeps g c = stay_keeps c.args.core.now c.keep_begun.new.core c.args.logs.now.items c.begin_missing.new.logs.items (g.S.Shelf.meaning c.args.shelf.now) (g.S.Shelf.meaning c.keep_begun.new.shelf)
-    (then_stays c.args.core.now.inner.config c.det_logged.new.core.inner.config c.keep_begun.new.core.inner.config c.args.logs.now.items c.begin_missing.new.logs.items c.begin_missing.new.logs.items (g.S.Shelf.meaning c.args.shelf.now) (g.S.Shelf.meaning c.begin_missing.new.shelf) (g.S.Shelf.meaning c.keep_begun.new.shelf) (shape_places c.args.core.now.inner.config c.det_logged.new.core.inner.config c.det_logged.ensures.narrows.shape) (λ u. let one = c.det_logged.ensures.narrows.acts.faults u in let two = c.begin_missing.ensures.below.faults u in omega (arith, one, two)) c.keep_begun.ensures.rises c.keep_begun.ensures.goes.falls (then_stays c.args.core.now.inner.config c.det_logged.new.core.inner.config c.det_logged.new.core.inner.config c.args.logs.now.items c.args.logs.now.items c.begin_missing.new.logs.items (g.S.Shelf.meaning c.args.shelf.now) (g.S.Shelf.meaning c.det_logged.new.shelf) (g.S.Shelf.meaning c.begin_missing.new.shelf) (shape_places c.args.core.now.inner.config c.det_logged.new.core.inner.config c.det_logged.ensures.narrows.shape) (λ u. c.det_logged.ensures.narrows.acts.faults u) (λ u. c.begin_missing.ensures.below.faults u) c.begin_missing.ensures.below.falls (stays_same c.args.core.now.inner.config c.det_logged.new.core.inner.config c.args.logs.now.items (g.S.Shelf.meaning c.args.shelf.now) (g.S.Shelf.meaning c.det_logged.new.shelf) (shape_places c.args.core.now.inner.config c.det_logged.new.core.inner.config c.det_logged.ensures.narrows.shape) c.det_logged.ensures.disks.blamed c.det_logged.ensures.trusts) c.begin_missing.ensures.stays) (stays_in c.det_logged.new.core.inner.config c.keep_begun.new.core.inner.config c.args.vol c.begin_missing.new.logs.items (g.S.Shelf.meaning c.begin_missing.new.shelf) (g.S.Shelf.meaning c.keep_begun.new.shelf) (frames_places c.det_logged.new.core.inner.config c.keep_begun.new.core.inner.config c.keep_begun.ensures.loses.frames) c.keep_begun.ensures.loses.disks.blamed c.keep_begun.ensures.trusts))
+pub returns-clause-off : goal.returns-clause-off
+returns-clause-off g c = c.det_beside.ensures.off
+
+pub returns-in-Some-clause-stays : goal.returns-in-Some-clause-stays
+returns-in-Some-clause-stays g c = inr refl
+
+pub returns-in-Err-clause-stays : goal.returns-in-Err-clause-stays
+returns-in-Err-clause-stays g c = inr (c.begin_early.ensures.still c.args.vol c.args.plex)
+
+pub returns-clause-stays : goal.returns-clause-stays
+returns-clause-stays g c = err_from c.det_beside.result (λ either. elim either [ inl down ↦ inl down | inr same ↦ inr (active_volumes c.det_beside.new.core.inner.config c.begin_early.new.core.inner.config same c.args.vol c.args.plex ∙ c.begin_early.ensures.still c.args.vol c.args.plex) ]) c.det_beside.ensures.stays
+
+pub returns-then-not-is_active-clause-kept : goal.returns-then-not-is_active-clause-kept
+returns-then-not-is_active-clause-kept g c = narrow_kept c.args.core.now c.args.core.now c.args.logs.now.items (narrowed_same c.args.core.now)
+
+pub returns-clause-kept : goal.returns-clause-kept
+returns-clause-kept g c = on_any c.det_beside.result (later_sure c.args.core.now c.begin_early.new.core c.det_beside.new.core c.args.logs.now.items c.begin_early.new.logs.items (let few = c.in-Ok.ensures.few in let low = may_margin c.args.core.now.inner.config c.args.vol c.args.plex (sym c.refuse_det.ensures ∙ c.in_default.is) in omega (arith, few, low)) c.det_beside.ensures.narrow c.in-Ok.ensures.kept)
+
+pub returns-in-Some-clause-said : goal.returns-in-Some-clause-said
+returns-in-Some-clause-said g c = λ on going same. tt
+
+pub returns-then-not-is_active-clause-said : goal.returns-then-not-is_active-clause-said
+returns-then-not-is_active-clause-said g c = λ on going same. absurd (let clash : false ≡ true = sym c.if-not-is_active.true ∙ c.is_active.ensures ∙ on in cc)
+
+pub returns-in-Err-clause-said : goal.returns-in-Err-clause-said
+returns-in-Err-clause-said g c = λ on going same. tt
+
+pub returns-clause-said : goal.returns-clause-said
+returns-clause-said g c = λ on going same. on_any c.det_beside.result (said_later c.begin_early.new.core c.det_beside.new.core c.args.vol (logs_at c.begin_early.new.logs.items c.args.vol) (let few = c.in-Ok.ensures.few in let low = may_margin c.args.core.now.inner.config c.args.vol c.args.plex (sym c.refuse_det.ensures ∙ c.in_default.is) in omega (arith, few, low)) c.det_beside.ensures.narrow (c.in-Ok.ensures.said going same))
+
+pub returns-in-Some-clause-others : goal.returns-in-Some-clause-others
+returns-in-Some-clause-others g c = λ w p apart. refl
+
+pub returns-then-not-is_active-clause-others : goal.returns-then-not-is_active-clause-others
+returns-then-not-is_active-clause-others g c = λ w p apart. refl
+
+pub returns-in-Err-clause-others : goal.returns-in-Err-clause-others
+returns-in-Err-clause-others g c = λ w p apart. c.begin_early.ensures.still w p
+
+pub returns-clause-others : goal.returns-clause-others
+returns-clause-others g c = λ w p apart. c.det_beside.ensures.others w p apart ∙ c.begin_early.ensures.still w p
+
+pub returns-in-Some-clause-maps : goal.returns-in-Some-clause-maps
+returns-in-Some-clause-maps g c = begin_none c.args.vol c.args.plex c.args.logs.now.items
+
+pub returns-then-not-is_active-clause-maps : goal.returns-then-not-is_active-clause-maps
+returns-then-not-is_active-clause-maps g c = begin_none c.args.vol c.args.plex c.args.logs.now.items
+
+pub returns-in-Err-clause-maps : goal.returns-in-Err-clause-maps
+returns-in-Err-clause-maps g c = c.begin_early.ensures.maps
+
+pub returns-clause-maps : goal.returns-clause-maps
+returns-clause-maps g c = c.begin_early.ensures.maps
+
+pub returns-in-Some-clause-same : goal.returns-in-Some-clause-same
+returns-in-Some-clause-same g c = λ off. refl
+
+pub returns-then-not-is_active-clause-same : goal.returns-then-not-is_active-clause-same
+returns-then-not-is_active-clause-same g c = λ off. refl
 
 pub returns-in-Err-clause-same : goal.returns-in-Err-clause-same
-returns-in-Err-clause-same g c = λ off. refl
-
-pub returns-then-not-may_begin-clause-same : goal.returns-then-not-may_begin-clause-same
-returns-then-not-may_begin-clause-same g c = λ off. refl
-
-pub returns-in-Err-begin_missing-clause-same : goal.returns-in-Err-begin_missing-clause-same
-returns-in-Err-begin_missing-clause-same g c = λ off. absurd (let clash : false ≡ true = sym off ∙ sym c.is_active-was.ensures ∙ c.may_begin.ensures.was c.if-not-may_begin.false in cc)
+returns-in-Err-clause-same g c = λ off. absurd (let clash : false ≡ true = sym off ∙ sym c.is_active.ensures ∙ c.if-not-is_active.false in cc)
 
 pub returns-clause-same : goal.returns-clause-same
-returns-clause-same g c = λ off. absurd (let clash : false ≡ true = sym off ∙ sym c.is_active-was.ensures ∙ c.may_begin.ensures.was c.if-not-may_begin.false in cc)
+returns-clause-same g c = λ off. absurd (let clash : false ≡ true = sym off ∙ sym c.is_active.ensures ∙ c.if-not-is_active.false in cc)
+
+pub returns-in-Some-clause-free : goal.returns-in-Some-clause-free
+returns-in-Some-clause-free g c = λ on. tt
+
+pub returns-then-not-is_active-clause-free : goal.returns-then-not-is_active-clause-free
+returns-then-not-is_active-clause-free g c = λ on. absurd (let clash : false ≡ true = sym c.if-not-is_active.true ∙ c.is_active.ensures ∙ on in cc)
 
 pub returns-in-Err-clause-free : goal.returns-in-Err-clause-free
 returns-in-Err-clause-free g c = λ on. tt
 
-pub returns-then-not-may_begin-clause-free : goal.returns-then-not-may_begin-clause-free
-returns-then-not-may_begin-clause-free g c = c.in-Ok.ensures.free
-
-pub returns-in-Err-begin_missing-clause-free : goal.returns-in-Err-begin_missing-clause-free
-returns-in-Err-begin_missing-clause-free g c = λ on. tt
-
 pub returns-clause-free : goal.returns-clause-free
-returns-clause-free g c = λ on. on_any c.keep_begun.result (c.keep_begun.ensures.finds.free (c.may_begin.ensures.none c.if-not-may_begin.false))
+returns-clause-free g c = λ on. on_any c.det_beside.result c.det_beside.ensures.free
+
+pub returns-in-Some-clause-trusts : goal.returns-in-Some-clause-trusts
+returns-in-Some-clause-trusts g c = record { each = λ w log has told. told }
+
+pub returns-then-not-is_active-clause-trusts : goal.returns-then-not-is_active-clause-trusts
+returns-then-not-is_active-clause-trusts g c = record { each = λ w log has told. told }
 
 pub returns-in-Err-clause-trusts : goal.returns-in-Err-clause-trusts
-returns-in-Err-clause-trusts g c = record { each = λ w log has told. c.det_logged.ensures.trusts.each w log told }
-
-pub returns-then-not-may_begin-clause-trusts : goal.returns-then-not-may_begin-clause-trusts
-returns-then-not-may_begin-clause-trusts g c = record { each = λ w log has told. c.det_logged.ensures.trusts.each w log told }
-
-pub returns-in-Err-begin_missing-clause-trusts : goal.returns-in-Err-begin_missing-clause-trusts
-returns-in-Err-begin_missing-clause-trusts g c = record { each = λ w log has told. c.det_logged.ensures.trusts.each w log told }
+returns-in-Err-clause-trusts g c = c.begin_early.ensures.trusts
 
 pub returns-clause-trusts : goal.returns-clause-trusts
-returns-clause-trusts g c = record { each = λ w log has told. c.keep_begun.ensures.trusts.each w log has (c.det_logged.ensures.trusts.each w log told) }
+returns-clause-trusts g c = record { each = λ w log has told. c.det_beside.ensures.trusts.each w log (c.begin_early.ensures.trusts.each w log has told) }
 
-pub returns-in-Err-clause-stays : goal.returns-in-Err-clause-stays
-returns-in-Err-clause-stays g c = elim c.in-Err.ensures.stays [
-  | inl down ↦ inl down
-  | inr same ↦ inr (inl (active_volumes c.det_logged.new.core.inner.config c.args.core.now.inner.config same c.args.vol c.args.plex))
-]
+pub returns-in-Some-clause-keeps : goal.returns-in-Some-clause-keeps
+returns-in-Some-clause-keeps g c = stay_keeps c.args.core.now c.args.core.now c.args.logs.now.items c.args.logs.now.items (g.S.Shelf.meaning c.args.shelf.now) (g.S.Shelf.meaning c.args.shelf.now) (stays_none c.args.core.now.inner.config c.args.logs.now.items (g.S.Shelf.meaning c.args.shelf.now) (g.S.Shelf.meaning c.args.shelf.now))
 
-pub returns-then-not-may_begin-clause-stays : goal.returns-then-not-may_begin-clause-stays
-returns-then-not-may_begin-clause-stays g c = tt
+pub returns-then-not-is_active-clause-keeps : goal.returns-then-not-is_active-clause-keeps
+returns-then-not-is_active-clause-keeps g c = stay_keeps c.args.core.now c.args.core.now c.args.logs.now.items c.args.logs.now.items (g.S.Shelf.meaning c.args.shelf.now) (g.S.Shelf.meaning c.args.shelf.now) (stays_none c.args.core.now.inner.config c.args.logs.now.items (g.S.Shelf.meaning c.args.shelf.now) (g.S.Shelf.meaning c.args.shelf.now))
 
-pub returns-in-Err-begin_missing-clause-stays : goal.returns-in-Err-begin_missing-clause-stays
-returns-in-Err-begin_missing-clause-stays g c = inl c.in-Err-begin_missing.ensures.down.1
+pub returns-in-Err-clause-keeps : goal.returns-in-Err-clause-keeps
+returns-in-Err-clause-keeps g c = stay_keeps c.args.core.now c.begin_early.new.core c.args.logs.now.items c.begin_early.new.logs.items (g.S.Shelf.meaning c.args.shelf.now) (g.S.Shelf.meaning c.begin_early.new.shelf) c.begin_early.ensures.stays
 
-pub returns-clause-stays : goal.returns-clause-stays
-returns-clause-stays g c = err_any c.keep_begun.result (inr (inr (empty_later c.det_logged.new.core.inner.config c.args.core.now.inner.config c.args.vol c.args.plex (fmr_at c.begin_missing.new.logs.items c.args.vol) (λ b inside. inside_back c.det_logged.new.core.inner.config c.args.core.now.inner.config c.det_logged.ensures.narrows.shape c.args.vol b inside) c.in-Ok-begin_missing.ensures.empty)))
+pub returns-clause-keeps : goal.returns-clause-keeps
+returns-clause-keeps g c = stay_keeps c.args.core.now c.det_beside.new.core c.args.logs.now.items c.begin_early.new.logs.items (g.S.Shelf.meaning c.args.shelf.now) (g.S.Shelf.meaning c.det_beside.new.shelf)
+    (then_stays c.args.core.now.inner.config c.begin_early.new.core.inner.config c.det_beside.new.core.inner.config c.args.logs.now.items c.begin_early.new.logs.items c.begin_early.new.logs.items (g.S.Shelf.meaning c.args.shelf.now) (g.S.Shelf.meaning c.begin_early.new.shelf) (g.S.Shelf.meaning c.det_beside.new.shelf) (frames_places c.args.core.now.inner.config c.begin_early.new.core.inner.config c.begin_early.ensures.loses.loses.frames) c.begin_early.ensures.loses.rises c.det_beside.ensures.narrows.acts.faults c.det_beside.ensures.goes.falls c.begin_early.ensures.stays
+    (stays_same c.begin_early.new.core.inner.config c.det_beside.new.core.inner.config c.begin_early.new.logs.items (g.S.Shelf.meaning c.begin_early.new.shelf) (g.S.Shelf.meaning c.det_beside.new.shelf) (shape_places c.begin_early.new.core.inner.config c.det_beside.new.core.inner.config c.det_beside.ensures.narrows.shape) c.det_beside.ensures.disks.blamed c.det_beside.ensures.trusts))
+
+pub returns-then-not-is_active-clause-trust : goal.returns-then-not-is_active-clause-trust
+returns-then-not-is_active-clause-trust g c = λ is. is
+
+pub returns-clause-trust : goal.returns-clause-trust
+returns-clause-trust g c = ok_from c.det_beside.result (λ keeps is. keeps (c.in-Ok.ensures.trust is)) c.det_beside.ensures.trust
+
+pub returns-in-Some-clause-agreed : goal.returns-in-Some-clause-agreed
+returns-in-Some-clause-agreed g c = λ is. c.requires.stands.group.stands.trusts.both is
+
+pub returns-in-Err-clause-agreed : goal.returns-in-Err-clause-agreed
+returns-in-Err-clause-agreed g c = c.in-Err.ensures.agreed
+
+pub returns-clause-agreed : goal.returns-clause-agreed
+returns-clause-agreed g c = err_from c.det_beside.result (λ keeps is. keeps (c.in-Ok.ensures.trust is)) c.det_beside.ensures.agreed
+
+pub returns-in-Some-clause-finds : goal.returns-in-Some-clause-finds
+returns-in-Some-clause-finds g c = still_group c.args.core.now (g.S.Shelf.meaning c.args.shelf.now)
+
+pub returns-then-not-is_active-clause-finds : goal.returns-then-not-is_active-clause-finds
+returns-then-not-is_active-clause-finds g c = still_group c.args.core.now (g.S.Shelf.meaning c.args.shelf.now)
+
+pub returns-in-Err-clause-finds : goal.returns-in-Err-clause-finds
+returns-in-Err-clause-finds g c = c.begin_early.ensures.finds
+
+pub returns-clause-finds : goal.returns-clause-finds
+returns-clause-finds g c = then_group c.args.core.now c.begin_early.new.core c.det_beside.new.core (g.S.Shelf.meaning c.args.shelf.now) (g.S.Shelf.meaning c.begin_early.new.shelf) (g.S.Shelf.meaning c.det_beside.new.shelf) c.begin_early.ensures.finds c.det_beside.ensures.finds
+
+pub returns-in-Some-clause-cause : goal.returns-in-Some-clause-cause
+returns-in-Some-clause-cause g c = λ may. absurd (let clash : None ≡ Some c.in-Some.no = sym may ∙ sym c.refuse_det.ensures ∙ c.in-Some.is in cc)
+
+pub returns-then-not-is_active-clause-cause : goal.returns-then-not-is_active-clause-cause
+returns-then-not-is_active-clause-cause g c = λ may. tt
+
+pub returns-in-Err-clause-cause : goal.returns-in-Err-clause-cause
+returns-in-Err-clause-cause g c = λ may. c.in-Err.ensures.cause
+
+pub returns-clause-cause : goal.returns-clause-cause
+returns-clause-cause g c = λ may. det_later (g.S.Shelf.meaning c.args.shelf.now) (g.S.Shelf.meaning c.begin_early.new.shelf) (g.S.Shelf.meaning c.det_beside.new.shelf) c.begin_early.ensures.goes.disk_faults c.det_beside.result c.det_beside.ensures.cause

@@ -9,6 +9,8 @@ use Rattle.vx_loggroup.proofs.AlikeLemmas.{all_whole}
 use Rattle.vx_loggroup.proofs.DetachedLogs.{det_cause}
 use Rattle.vx_loggroup.proofs.KeepingLemmas.{here_trusts}
 use Rattle.vx_loggroup.proofs.SetLemmas.{item_of}
+use Rattle.vx_logged.proofs.RefuseLemmas.{map_said}
+use Rattle.vx_loggroup.proofs.SureLemmas.{said_at}
 use Rattle.vx_loggroup.proofs.detaching.keep_begun.Goals as goal
 
 pub keep_map-requires-clause-stands : goal.keep_map-requires-clause-stands
@@ -58,3 +60,15 @@ returns-in-Ok-clause-trusts g c = here_trusts c.args.vol c.args.logs.now.items c
 
 pub returns-in-Err-clause-trusts : goal.returns-in-Err-clause-trusts
 returns-in-Err-clause-trusts g c = here_trusts c.args.vol c.args.logs.now.items c.index.result.now (item_of c.args.logs.now.items c.args.vol c.index.result.now c.index.ensures (let many = c.requires.stands.many in let there = c.requires.there in omega (arith, many, there))) c.args.core.now.inner.config c.keep_map.new.core.inner.config c.keep_map.ensures.trusts
+
+pub returns-in-Ok-clause-narrow : goal.returns-in-Ok-clause-narrow
+returns-in-Ok-clause-narrow g c = c.keep_map.ensures.narrow
+
+pub returns-in-Err-clause-narrow : goal.returns-in-Err-clause-narrow
+returns-in-Err-clause-narrow g c = c.keep_map.ensures.narrow
+
+pub returns-in-Ok-clause-said : goal.returns-in-Ok-clause-said
+returns-in-Ok-clause-said g c = said_at c.keep_map.new.core c.args.vol c.args.logs.now.items c.index.result.now (item_of c.args.logs.now.items c.args.vol c.index.result.now c.index.ensures (let many = c.requires.stands.many in let there = c.requires.there in omega (arith, many, there))) (map_said c.keep_map.new.core c.args.vol c.index.result.now c.in-Ok.field-0 c.in-Ok.ensures.kept c.in-Ok.ensures.spent)
+
+pub returns-in-Ok-clause-few : goal.returns-in-Ok-clause-few
+returns-in-Ok-clause-few g c = c.in-Ok.ensures.few

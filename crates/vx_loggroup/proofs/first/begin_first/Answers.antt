@@ -16,6 +16,8 @@ use Rattle.vx_loggroup.proofs.AlikeLemmas.{all_whole, here_stands, index_low, se
 use Rattle.vx_loggroup.proofs.FreshLemmas.{begins_then, lists_none, lists_set}
 use Rattle.vx_loggroup.proofs.NewLemmas.{list_same, list_set, news_same, news_start}
 use Rattle.vx_loggroup.proofs.SetLemmas.{item_of}
+use Rattle.vx_loggroup.specs.Keeping.{logs_at}
+use Rattle.vx_loggroup.proofs.SureLemmas.{since_less, since_set, since_then}
 use Rattle.vx_loggroup.proofs.first.begin_first.Goals as goal
 
 pub index_mut-requires : goal.index_mut-requires
@@ -117,3 +119,16 @@ returns-then-blocks_of-eq0-clause-news g c = list_same c.args.core.now.inner.con
 pub returns-clause-news : goal.returns-clause-news
 returns-clause-news g c = list_set c.args.core.now.inner.config c.args.vol c.args.logs.now.items c.index_mut.result.now c.begin_both.new.one (item_of c.args.logs.now.items c.args.vol c.index_mut.result.now c.index_mut.ensures.value (index_low c.args.core.now c.args.logs.now.items c.args.alike.now false (g.S.Shelf.meaning c.args.shelf.now) c.args.vol c.requires.stands c.requires.there))
     (news_start c.args.vol c.args.core.now c.ready_group.new.core (g.S.Shelf.meaning c.args.shelf.now) (g.S.Shelf.meaning c.ready_group.new.shelf) (record { goes = c.ready_group.ensures.goes; loses = c.ready_group.ensures.loses; finds = c.ready_group.ensures.finds; trusts = c.ready_group.ensures.trusts; still = c.ready_group.ensures.still; on = c.ready_group.ensures.narrow.on; units = c.ready_group.ensures.below; others = others_each c.args.vol c.args.core.now c.ready_group.new.core (g.S.Shelf.meaning c.args.shelf.now) (g.S.Shelf.meaning c.ready_group.new.shelf) c.ready_group.ensures.logs }) c.index_mut.result.now c.index_mut.result.now c.begin_both.new.one c.begin_both.ensures.first.fmr (news_same c.args.core.now.inner.config c.args.vol c.index_mut.result.now) c.begin_both.ensures.news)
+
+pub returns-in-Err-clause-since : goal.returns-in-Err-clause-since
+returns-in-Err-clause-since g c = since_less c.args.vol (logs_at c.args.logs.now.items c.args.vol) c.args.core.now c.ready_group.new.core c.ready_group.ensures.narrow
+
+pub returns-then-not-ready-clause-since : goal.returns-then-not-ready-clause-since
+returns-then-not-ready-clause-since g c = since_less c.args.vol (logs_at c.args.logs.now.items c.args.vol) c.args.core.now c.ready_group.new.core c.ready_group.ensures.narrow
+
+pub returns-then-blocks_of-eq0-clause-since : goal.returns-then-blocks_of-eq0-clause-since
+returns-then-blocks_of-eq0-clause-since g c = since_less c.args.vol (logs_at c.args.logs.now.items c.args.vol) c.args.core.now c.ready_group.new.core c.ready_group.ensures.narrow
+
+pub returns-clause-since : goal.returns-clause-since
+returns-clause-since g c = since_set c.args.vol c.args.logs.now.items c.begin_both.new.one c.args.core.now c.begin_both.new.core (index_low c.args.core.now c.args.logs.now.items c.args.alike.now false (g.S.Shelf.meaning c.args.shelf.now) c.args.vol c.requires.stands c.requires.there)
+    (since_then c.args.vol c.begin_both.new.one c.begin_both.new.one c.args.core.now c.ready_group.new.core c.begin_both.new.core (λ log has. has) (since_less c.args.vol c.begin_both.new.one c.args.core.now c.ready_group.new.core c.ready_group.ensures.narrow) c.begin_both.ensures.since)

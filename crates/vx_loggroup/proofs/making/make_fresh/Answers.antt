@@ -18,7 +18,9 @@ use Rattle.vx_loggroup.proofs.FreshLemmas.{fresh_still}
 use Rattle.vx_loggroup.proofs.MadeLogs.{fresh_made, long_one, none_goes, none_made, one_made, refused_volumes, take_front, unmoved_by}
 use Rattle.vx_group.proofs.FindingLemmas.{still_group}
 use Rattle.vx_loggroup.proofs.KeepingLemmas.{extends_places, memory_more, stay_keeps, stays_more, stays_none, stays_same}
-use Rattle.vx_loggroup.specs.Keeping.{LogsKeep}
+use Rattle.vx_loggroup.specs.Keeping.{LogsKeep, SureKept}
+use Rattle.vx_logged.proofs.StandLemmas.{narrowed_same}
+use Rattle.vx_loggroup.proofs.SureLemmas.{front_item, made_sure, narrow_kept}
 use Rattle.vx_loggroup.proofs.making.make_fresh.Goals as goal
 
 pub make_in-requires-clause-stands : goal.make_in-requires-clause-stands
@@ -190,3 +192,17 @@ returns-in-Ok-make_in-clause-flags g c = λ w is. elim (cases_eq w c.in-Ok-make_
   | inl same ↦ ap (is_alike c.set_alike.new.alike) same ∙ c.set_alike.ensures.here
   | inr apart ↦ c.set_alike.ensures.others w apart ∙ is
 ]
+
+pub returns-in-Some-clause-kept : goal.returns-in-Some-clause-kept
+returns-in-Some-clause-kept g c = narrow_kept c.args.core.now c.args.core.now c.args.logs.now.items (narrowed_same c.args.core.now)
+
+pub returns-in-Err-clause-kept : goal.returns-in-Err-clause-kept
+returns-in-Err-clause-kept g c = subst (λ (ls : List Logs). SureKept c.args.core.now c.args.core.now c.args.logs.now.items ls) (sym c.in-Err.ensures.items) (narrow_kept c.args.core.now c.args.core.now c.args.logs.now.items (narrowed_same c.args.core.now))
+
+pub returns-in-Ok-make_in-clause-kept : goal.returns-in-Ok-make_in-clause-kept
+returns-in-Ok-make_in-clause-kept g c = subst (λ (ls : List Logs). SureKept c.args.core.now c.make_in.new.core c.args.logs.now.items ls) (sym c.in-Ok.ensures.items)
+    (made_sure c.args.core.now c.make_in.new.core c.args.logs.now.items (c.args.logs.now.items ++ ((record { drl = None; fmr = None }) ∷ [])) (g.S.Shelf.meaning c.args.shelf.now) c.requires.stands.group c.make_in.ensures.stays.shape c.requires.stands.many (λ v k low is. front_item c.args.logs.now.items ((record { drl = None; fmr = None }) ∷ []) v k low is))
+
+pub returns-in-Err-make_in-clause-kept : goal.returns-in-Err-make_in-clause-kept
+returns-in-Err-make_in-clause-kept g c = subst (λ (ls : List Logs). SureKept c.args.core.now c.make_in.new.core c.args.logs.now.items ls) (sym (c.pop.ensures.rest ∙ ap (take (vec_len c.push.new.self - 1)) c.in-Ok.ensures.items ∙ take_front c.args.logs.now.items ((record { drl = None; fmr = None }) ∷ []) (vec_len c.push.new.self - 1) (let long = ap length c.in-Ok.ensures.items ∙ long_one c.args.logs.now.items (record { drl = None; fmr = None }) in omega (arith, c.push.new.self.ok, long))))
+    (made_sure c.args.core.now c.make_in.new.core c.args.logs.now.items c.args.logs.now.items (g.S.Shelf.meaning c.args.shelf.now) c.requires.stands.group c.make_in.ensures.stays.shape c.requires.stands.many (λ v k low is. is))

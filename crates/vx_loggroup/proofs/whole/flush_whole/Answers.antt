@@ -10,6 +10,10 @@ use Rattle.vx_loggroup.proofs.SetLemmas.{item_of}
 use Rattle.vx_logged.specs.Begun.{fell_in}
 use Rattle.vx_logged.specs.Behind.{none_missing}
 use Rattle.vx_loggroup.proofs.KeepingCalls.{marked_keeps}
+use Rattle.vx_group.proofs.HoldLemmas.{wide_shape}
+use Rattle.vx_group.proofs.TrustLemmas.{ok_from}
+use Rattle.vx_loggroup.proofs.KeepingLemmas.{kept_set}
+use Rattle.vx_loggroup.proofs.SureLemmas.{ok_under, set_sure}
 use Rattle.vx_loggroup.proofs.whole.flush_whole.Goals as goal
 
 pub index_mut-requires : goal.index_mut-requires
@@ -45,7 +49,16 @@ returns-clause-begins g c = λ alike going.
     (λ none. off_set (fell_in c.args.core.now c.flush_spent.new.core c.args.vol) c.args.vol c.args.logs.now.items c.flush_spent.new.logs none)
 
 pub returns-clause-left : goal.returns-clause-left
-returns-clause-left g c = λ less alike going.
+returns-clause-left g c = λ alike going.
     left_up c.flush_spent.result (g.S.Shelf.meaning c.args.shelf.now) (g.S.Shelf.meaning c.flush_spent.new.shelf) c.flush_spent.ensures.goes.falls
-    (λ up. c.flush_spent.ensures.left less (c.is_sure-sure.ensures.all (c.is_alike.ensures ∙ alike) going (c.is_down-down.ensures ∙ up_false (g.S.Shelf.meaning c.args.shelf.now).down up)))
+    (λ up. c.flush_spent.ensures.left (c.is_sure-sure.ensures.all (c.is_alike.ensures ∙ alike) going (c.is_down-down.ensures ∙ up_false (g.S.Shelf.meaning c.args.shelf.now).down up)))
     (λ none. off_set (fell_in c.args.core.now c.flush_spent.new.core c.args.vol) c.args.vol c.args.logs.now.items c.flush_spent.new.logs none)
+
+pub returns-clause-kept : goal.returns-clause-kept
+returns-clause-kept g c = ok_from c.flush_spent.result (set_sure c.args.core.now c.flush_spent.new.core c.args.vol c.args.logs.now.items c.index_mut.result.now c.flush_spent.new.logs (item_of c.args.logs.now.items c.args.vol c.index_mut.result.now c.index_mut.ensures.value (index_low c.args.core.now c.args.logs.now.items c.args.alike.now c.args.stopped (g.S.Shelf.meaning c.args.shelf.now) c.args.vol c.requires.stands c.requires.there)) c.flush_spent.ensures.narrow) (ok_under _ c.flush_spent.result c.flush_spent.ensures.kept)
+
+pub returns-clause-said : goal.returns-clause-said
+returns-clause-said g c = λ alike going some.
+    done_up c.flush_spent.result (inner_meaning (wide c.args.core.now) (g.S.Shelf.meaning c.args.shelf.now)) (inner_meaning (wide c.flush_spent.new.core) (g.S.Shelf.meaning c.flush_spent.new.shelf)) c.args.vol c.flush_spent.ensures.cause
+    (λ up. c.flush_spent.ensures.said (c.is_sure-sure.ensures.all (c.is_alike.ensures ∙ alike) going (c.is_down-down.ensures ∙ up_false (g.S.Shelf.meaning c.args.shelf.now).down up)) (let same = (wide_shape c.args.core.now).blocks c.args.vol in omega (arith, some, same)))
+    (λ kept. kept_set c.flush_spent.new.core c.args.logs.now.items c.args.vol c.flush_spent.new.logs kept)

@@ -7,6 +7,8 @@ use Rattle.vx_loggroup.proofs.EndedLemmas.{maps_end}
 use Rattle.vx_loggroup.proofs.FactLemmas.{from_logged, to_logged}
 use Rattle.vx_loggroup.proofs.KeepingLemmas.{frames_places}
 use Rattle.vx_loggroup.proofs.MirrorLemmas.{keep_det}
+use Rattle.vx_group.proofs.TrustLemmas.{ok_from}
+use Rattle.vx_loggroup.proofs.SureLemmas.{says_losses}
 use Rattle.vx_loggroup.proofs.group.LoggedGroup.det.Goals as goal
 
 pub det_fresh-requires-clause-stands : goal.det_fresh-requires-clause-stands
@@ -40,3 +42,9 @@ returns-clause-flags g c = (refl, refl)
 
 pub returns-clause-stays : goal.returns-clause-stays
 returns-clause-stays g c = c.det_fresh.ensures.stays
+
+pub returns-clause-kept : goal.returns-clause-kept
+returns-clause-kept g c = ok_from c.det_fresh.result (says_losses c.args.self.now.core c.det_fresh.new.core c.args.self.now.logs.items c.det_fresh.new.logs.items) c.det_fresh.ensures.kept
+
+pub returns-clause-said : goal.returns-clause-said
+returns-clause-said g c = c.det_fresh.ensures.said

@@ -10,6 +10,8 @@ use Rattle.vx_loggroup.proofs.KeepingLemmas.{frames_places}
 use Rattle.vx_loggroup.proofs.FreshLemmas.{fresh_still}
 use Rattle.vx_loggroup.specs.Mirrors.{names_none}
 use Rattle.vx_loggroup.proofs.MirrorLemmas.{keep_loses}
+use Rattle.vx_group.proofs.TrustLemmas.{ok_from}
+use Rattle.vx_loggroup.proofs.SureLemmas.{says_losses}
 use Rattle.vx_loggroup.proofs.group.LoggedGroup.flush_run.Goals as goal
 
 pub flush_run-requires-clause-stands : goal.flush_run-requires-clause-stands
@@ -49,3 +51,9 @@ returns-clause-rests g c = c.flush_run.ensures.rests
 
 pub returns-clause-left : goal.returns-clause-left
 returns-clause-left g c = c.flush_run.ensures.left
+
+pub returns-clause-kept : goal.returns-clause-kept
+returns-clause-kept g c = ok_from c.flush_run.result (says_losses c.args.self.now.core c.flush_run.new.core c.args.self.now.logs.items c.flush_run.new.logs.items) c.flush_run.ensures.kept
+
+pub returns-clause-said : goal.returns-clause-said
+returns-clause-said g c = c.flush_run.ensures.said

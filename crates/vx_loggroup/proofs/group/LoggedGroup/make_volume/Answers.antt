@@ -8,6 +8,7 @@ use Rattle.vx_loggroup.proofs.FactLemmas.{from_logged, to_logged}
 use Rattle.vx_loggroup.proofs.KeepingLemmas.{extends_places}
 use Rattle.vx_loggroup.proofs.MovedLemmas.{move_none}
 use Rattle.vx_loggroup.proofs.MirrorLemmas.{keep_make}
+use Rattle.vx_loggroup.proofs.SureLemmas.{says_losses}
 use Rattle.vx_loggroup.proofs.group.LoggedGroup.make_volume.Goals as goal
 
 pub make_fresh-requires-clause-stands : goal.make_fresh-requires-clause-stands
@@ -44,3 +45,6 @@ returns-clause-alike g c = c.make_fresh.ensures.alike
 
 pub returns-clause-flags : goal.returns-clause-flags
 returns-clause-flags g c = c.make_fresh.ensures.flags
+
+pub returns-clause-kept : goal.returns-clause-kept
+returns-clause-kept g c = says_losses c.args.self.now.core c.make_fresh.new.core c.args.self.now.logs.items c.make_fresh.new.logs.items c.make_fresh.ensures.kept

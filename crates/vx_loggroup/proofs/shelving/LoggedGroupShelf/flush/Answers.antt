@@ -3,6 +3,8 @@ use Rattle.vx_loggroup.proofs.FactLemmas.{from_logged, to_logged}
 use Rattle.vx_loggroup.proofs.FreshLemmas.{fresh_still}
 use Rattle.vx_loggroup.specs.Mirrors.{names_none}
 use Rattle.vx_loggroup.proofs.MirrorLemmas.{keep_loses}
+use Rattle.vx_group.proofs.TrustLemmas.{ok_from}
+use Rattle.vx_loggroup.proofs.SureLemmas.{says_losses}
 use Rattle.vx_loggroup.proofs.shelving.LoggedGroupShelf.flush.Goals as goal
 
 pub flush_whole-requires-clause-stands : goal.flush_whole-requires-clause-stands
@@ -22,3 +24,9 @@ returns-clause-keeps g c = c.flush_whole.ensures.keeps
 
 pub returns-clause-left : goal.returns-clause-left
 returns-clause-left g c = c.flush_whole.ensures.left
+
+pub returns-clause-kept : goal.returns-clause-kept
+returns-clause-kept g c = ok_from c.flush_whole.result (says_losses c.args.self.now.core c.flush_whole.new.core c.args.self.now.logs.items c.flush_whole.new.logs.items) c.flush_whole.ensures.kept
+
+pub returns-clause-said : goal.returns-clause-said
+returns-clause-said g c = c.flush_whole.ensures.said
