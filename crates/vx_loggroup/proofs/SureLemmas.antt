@@ -18,13 +18,14 @@ use Rattle.vx_group.proofs.TrustingLemmas.{trusting_others}
 use Rattle.vx_grouplogs.specs.Gone.{has_log, is_there}
 use Rattle.vx_grouplogs.specs.On.{ReadsOne}
 use Rattle.vx_kept.specs.Keeping.{Extends}
-use Rattle.vx_kept.specs.LogRuns.{log_trusted, trusted_or}
+use Rattle.vx_kept.specs.LogRuns.{log_trusted}
 use Rattle.vx_kept.specs.PlexActs.{PlexActs}
 use Rattle.vx_logged.specs.Behind.{AreKept, BothKept, MapSaid}
 use Rattle.vx_logged.specs.Logged.{Narrowed}
 use Rattle.vx_logged.proofs.KeptLemmas.{both_kept, both_later, log_later, map_later}
 use Rattle.vx_logged.proofs.StandLemmas.{inner_wide, narrowed_then}
 use Rattle.vx_logs.specs.declared.logs.Logs.{Logs}
+use Rattle.vx_maplog.specs.Logs.{used_or}
 use Rattle.vx_volume.specs.Plexes.{active}
 use Rattle.vx_loggroup.specs.Detaching.{MapsBegin, ReadsAlike}
 use Rattle.vx_loggroup.specs.Fresh.{LogsFirst}
@@ -126,7 +127,7 @@ since_then v k j c d e more one two = record {
 
 other_trusted : (v : ℕ) (log : VolumeLog) (c : Config) (w : ℕ) (k : VolumeLog) → (w ≡ v → k ≡ log → ⊥) → log_trusted (lost v log false c) w k ≡ true → log_trusted c w k ≡ true
 unfolding log_trusted
-other_trusted v log c w k apart is = sym (ap trusted_or (trusting_others v log c w k apart)) ∙ is
+other_trusted v log c w k apart is = sym (ap used_or (trusting_others v log c w k apart)) ∙ is
 
 same_log : (a b : VolumeLog) → (a ≡ b) ⊎ (a ≡ b → ⊥)
 same_log Drl Drl = inl refl
