@@ -68,6 +68,39 @@ impl Srl {
         self.used += need;
     }
 
+    // Writes the blocks of a record that has room and a number. `disk` is room for them as they stand on disk.
+    fn stage_in<S: Shelf>(
+        &mut self,
+        shelf: &mut S,
+        vol: u32,
+        block: u64,
+        bytes: &[u8],
+        disk: &mut [u8],
+    ) -> Result<u64, SrlNo>
+        requires lies { RingLies self.old.unit self.old.ring (S.meaning shelf.old) }
+        requires blocks { IsBlocks bytes.now }
+        requires size { length disk.old ≡ length bytes.now }
+        requires room { blocks_needed bytes.now ≤ free_of self.old }
+        requires number { next_of self.old ≤ most_number }
+        ensures stages { StagesRecord self.old (kept_record self.old vol block bytes.now) (S.meaning shelf.old) (S.meaning shelf.new) self.new result }
+        ensures goes { RingGoes self.old (staging (record_next self.old vol block bytes.now)) (S.meaning shelf.old) (S.meaning shelf.new) }
+        ensures leads { OnOk result (LeadsTo self.old (staging (record_next self.old vol block bytes.now)) self.new (S.meaning shelf.old) (S.meaning shelf.new)) }
+        ensures calls { OnOk result (BodyFits self.old bytes.now → MakesCalls 1 (S.meaning shelf.old) (S.meaning shelf.new)) }
+        ensures short { BodyFits self.old bytes.now → FallsShort 1 (S.meaning shelf.old) (S.meaning shelf.new) }
+        ensures blames { IfErr result (BlamesLog (S.meaning shelf.old).disks self.old.unit) }
+        ensures least { OnOk result (MakesAtLeast 1 (S.meaning shelf.old) (S.meaning shelf.new)) }
+        ensures spends { Spends (S.meaning shelf.old) (S.meaning shelf.new) }
+        ensures works { OnOk result (Works (S.meaning shelf.old).disks self.old.unit) }
+    {
+        let number = self.header.low + self.records.len() as u64;
+        let head = self.next_front(vol, block, bytes, disk);
+        if let Err(error) = write_body(shelf, self.unit, self.ring, self.end as u64 + 1, disk) {
+            return Err(SrlNo::Other(refusal(error)));
+        }
+        self.keep(vol, block, bytes, head);
+        Ok(number)
+    }
+
     /// Writes the 1 to 16 blocks of a record, which becomes part of the log by the next `seal`. Answers its number. It is one call on
     /// the shelf, or two where the blocks pass the ring's end.
     ///
@@ -101,17 +134,14 @@ impl Srl {
         if free < need {
             return Err(SrlNo::NoRoom { need, free });
         }
-        let number = self.header.low + self.records.len() as u64;
-        if number > MOST_NUMBER {
+        if self.header.low + self.records.len() as u64 > MOST_NUMBER {
             return Err(no_number_left());
         }
-        let mut room = [0; MOST_CALL_BYTES];
-        let disk = &mut room[..bytes.len()];
-        let head = self.next_front(vol, block, bytes, disk);
-        if let Err(error) = write_body(shelf, self.unit, self.ring, self.end as u64 + 1, disk) {
-            return Err(SrlNo::Other(refusal(error)));
+        if bytes.len() == BLOCK {
+            let mut room = [0; BLOCK];
+            return self.stage_in(shelf, vol, block, bytes, &mut room[..]);
         }
-        self.keep(vol, block, bytes, head);
-        Ok(number)
+        let mut room = [0; MOST_CALL_BYTES];
+        self.stage_in(shelf, vol, block, bytes, &mut room[..bytes.len()])
     }
 }
