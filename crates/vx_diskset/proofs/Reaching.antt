@@ -12,6 +12,7 @@ use Rattle.vx_secondary.specs.declared.secondary.Secondary.{Secondary}
 use Rattle.vx_history.specs.declared.receiver.REvent.TheVariants.{Applied}
 use Rattle.vx_history.specs.declared.receiver.RAction.TheVariants.{Nothing as DoesNothing, DataAck}
 use Rattle.vx_history.specs.declared.receiver.RAction.{RAction}
+use Rattle.vx_history.specs.Events.{logged_blocks}
 use Rattle.vx_history.specs.Receiving.{Received, received_step, with_applied}
 use Rattle.vx_history.specs.LinkForms.{plain_receiver}
 use Rattle.vx_history.specs.Steps.{burned, half_begun, logged, spent, write_calls}
@@ -39,7 +40,6 @@ use Rattle.vx_srl.specs.Views.{most_number}
 use Rattle.vx_diskset.specs.Rooms.{AppliedAs, HasNumbers, IsMore, NeverLimit}
 use Rattle.vx_diskset.proofs.LeavesNumbers.{lacks_them}
 use Rattle.vx_diskset.specs.Stands.{IsHeldAt, IsReceiverAt, IsUpAt, CutAt, SiteStands}
-use Rattle.vx_events.specs.Fuses.{ring_taken}
 use Rattle.vx_diskset.proofs.BesideLemmas.{never_besides, site_map}
 use Rattle.vx_ringio.specs.Spends.{Spends}
 use Rattle.vx_ringio.proofs.Spending.{spends_none, then_spends}
@@ -269,7 +269,7 @@ module _ {beside : KeptBeside} (n : Node) (c : Core) (us rest : List Update) (u 
   room_next able hold is = record {
     unneeded = needs_less beside.links (length n.log) hold (omega (arith, is, r.most)) can.unneeded;
     room =
-        let none = ap (λ (k : ℕ). ring_taken (drop k (take n.safe n.log))) (is ∙ r.head can.running) ∙ ap (λ (ws : List Write). ring_taken ws) (drop-take_none n.safe n.log) in
+        let none = ap (λ (k : ℕ). logged_blocks (drop k (take n.safe n.log))) (is ∙ r.head can.running) ∙ ap (λ (ws : List Write). logged_blocks ws) (drop-take_none n.safe n.log) in
         omega (arith, none, able.fits);
   }
 

@@ -4,13 +4,13 @@ ghost use Rattle.vx_events.specs.GroupLines.{is_over_group};
 ghost use Rattle.vx_model.specs.Content.{blocks_in};
 ghost use Rattle.vx_model.specs.declared.limits.TheConstants.{MOST_CALL_BLOCKS, MOST_CALL_BYTES};
 ghost use Rattle.vx_diskset.specs.Holds.{KeptBeside, site_alone};
+ghost use Rattle.vx_history.specs.Events.{logged_blocks};
 ghost use Rattle.vx_history.specs.World.{Node};
 ghost use Rattle.vx_model.specs.declared.call.Update.{Update};
 ghost use Rattle.vx_secondary.specs.Receivers.{Wait};
 ghost use Rattle.vx_ringio.specs.Spends.{Spends};
 ghost use Rattle.vx_disk.specs.Burns.{RackIsShort};
 ghost use Rattle.vx_model.specs.declared.no.No.TheVariants.{Down as IsOff};
-ghost use Rattle.vx_events.specs.Fuses.{ring_taken};
 ghost use Rattle.vx_srl.specs.Views.{BodyFits, free_of};
 ghost use Rattle.vx_diskset.specs.Asked.{LeavesFuse, WritesUnder};
 ghost use Rattle.vx_diskset.specs.Blames.{BlamesGroup, BlamesSite};
@@ -62,7 +62,7 @@ fn reclaim_group<R: Rack>(rvg: &mut Rvg<R>, to: u64) -> Result<(), No>
     ensures made { (beside : KeptBeside) (n : Node) → IsUpAt beside n rvg.old.core (R.meaning rvg.old.shelf) → n.halted ≡ None → NoneNeeds beside.links to
         → free_of rvg.old.core.log ≤ MOST_CALL_BLOCKS → RoomIs beside n (R.meaning rvg.old.shelf) rvg.new.core (R.meaning rvg.new.shelf) result }
     ensures room { (beside : KeptBeside) (n : Node) (count : ℕ) → IsUpAt beside n rvg.old.core (R.meaning rvg.old.shelf) → n.halted ≡ None → NoneNeeds beside.links to
-        → free_of rvg.old.core.log ≤ MOST_CALL_BLOCKS → count + 1 + ring_taken (drop to n.log) ≤ n.ring → OnOk result (count < free_of rvg.new.core.log) }
+        → free_of rvg.old.core.log ≤ MOST_CALL_BLOCKS → count + 1 + logged_blocks (drop to n.log) ≤ n.ring → OnOk result (count < free_of rvg.new.core.log) }
     ensures takes { TakesOne rvg.old.core rvg.new.core result }
     ensures units { rvg.new.core.units ≡ rvg.old.core.units }
     ensures group { IsMore 0 rvg.old.core rvg.new.core }

@@ -3,12 +3,12 @@ use Rattle.std.proofs.Common.{◌≡◌, ◌∙◌, ◌<◌, ◌≤◌, ◌+◌,
 use Rattle.std.specs.Prelude.{Option, Some, None, ◌&&◌, drop, if◌then◌else◌, slice_get, slice_set, IfSome, IsSome}
 use Rattle.std.proofs.lemmas.Bool.{cases_eq}
 use Rattle.std.proofs.lemmas.Option.{slice_get_within}
+use Rattle.vx_history.specs.Events.{logged_blocks}
 use Rattle.vx_history.specs.World.{Node}
 use Rattle.vx_model.specs.declared.state.KeptLink.{KeptLink}
 use Rattle.vx_model.specs.declared.state.KeptMode.{KeptMode}
 use Rattle.vx_model.specs.declared.state.KeptMode.TheVariants.{Log, Dcm, Replay, Fork, Stale}
 use Rattle.vx_diskset.specs.Needs.{hold_of, is_needing}
-use Rattle.vx_events.specs.Fuses.{ring_taken}
 use Rattle.vx_events.proofs.Places.{some_same}
 use Rattle.vx_model.specs.declared.state.State.{State}
 use Rattle.vx_diskset.specs.Holds.{state_with}
@@ -22,12 +22,12 @@ use Rattle.vx_model.specs.declared.limits.TheConstants.{LINK_PLACES}
 
 -- one that needs nothing, and one that needs what is above its hold
 pub need_none : (n : Node) (l : KeptLink) (b : Bool) → b ≡ (l.attached && is_by_log l.mode) → b ≡ false → IsNeed n l 0
-need_none n l b is none = record { is = sym (ap (λ (x : Bool). if x then ring_taken (drop l.stored n.log) else 0) (sym is ∙ none)) }
+need_none n l b is none = record { is = sym (ap (λ (x : Bool). if x then logged_blocks (drop l.stored n.log) else 0) (sym is ∙ none)) }
 
-pub need_some : (n : Node) (l : KeptLink) (b : Bool) (blocks : ℕ) → b ≡ (l.attached && is_by_log l.mode) → b ≡ true → blocks ≡ ring_taken (drop l.stored n.log) → blocks ≡ link_needs n l
-need_some n l b blocks is some used = used ∙ sym (ap (λ (x : Bool). if x then ring_taken (drop l.stored n.log) else 0) (sym is ∙ some))
+pub need_some : (n : Node) (l : KeptLink) (b : Bool) (blocks : ℕ) → b ≡ (l.attached && is_by_log l.mode) → b ≡ true → blocks ≡ logged_blocks (drop l.stored n.log) → blocks ≡ link_needs n l
+need_some n l b blocks is some used = used ∙ sym (ap (λ (x : Bool). if x then logged_blocks (drop l.stored n.log) else 0) (sym is ∙ some))
 
-pub need_if : (n : Node) (l : KeptLink) (b : Bool) (r : Option ℕ) → b ≡ (l.attached && is_by_log l.mode) → b ≡ true → IfSome r (λ blocks. blocks ≡ ring_taken (drop l.stored n.log))
+pub need_if : (n : Node) (l : KeptLink) (b : Bool) (r : Option ℕ) → b ≡ (l.attached && is_by_log l.mode) → b ≡ true → IfSome r (λ blocks. blocks ≡ logged_blocks (drop l.stored n.log))
     → IfSome r (λ blocks. IsNeed n l blocks)
 need_if n l b None is some used = tt
 need_if n l b (Some blocks) is some used = record { is = need_some n l b blocks is some used }
