@@ -1,16 +1,16 @@
 -- What an import asks, and its fact, are one.
-use Rattle.std.proofs.Common.{◌≡◌, ℕ, Bool, true, false, Option, Some, None, refl, ap, sym, ◌∙◌}
+use Rattle.std.proofs.Common.{◌≡◌, ℕ, Bool, true, false, Option, Some, None, refl, ap, sym, ◌∙◌, is_some}
 use Rattle.vx_disk.specs.Shelf.{Each, Image, Meaning}
 use Rattle.vx_config.specs.declared.config.Config.{Config}
 use Rattle.vx_copyfmt.specs.Copies.{copy_at}
 use Rattle.vx_copyfmt.specs.Imports.{Damaged, Format, Found, Missing, NoConfig, ImportOutcome}
 use Rattle.vx_copies.specs.Looking.{on_shelf}
-use Rattle.vx_kept.specs.Facts.{has_one, is_found}
+use Rattle.vx_kept.specs.Facts.{is_found}
 use Rattle.vx_kept.specs.Groups.{found}
 use Rattle.vx_group.specs.Resumes.{CanImport}
 use Rattle.vx_grouped.specs.ImportFacts.{ImportFact}
 
-one_there : {A : Type 0} (o : Option A) → has_one o ≡ true → (x : A) × (o ≡ Some x)
+one_there : {A : Type 0} (o : Option A) → is_some o ≡ true → (x : A) × (o ≡ Some x)
 one_there None is = absurd (let clash : false ≡ true = is in cc)
 one_there (Some x) is = (x, refl)
 
@@ -27,7 +27,7 @@ found_one x y is = cc
 pub import_fact : (m : Meaning) → CanImport m → ImportFact m
 import_fact m can = record {
   below = λ i x each is. (can.base i x each is).below;
-  counts = λ i x u d a h each is lt block among top. ap has_one ((can.base i x each is).counts u lt d a h block among top).1;
+  counts = λ i x u d a h each is lt block among top. ap is_some ((can.base i x each is).counts u lt d a h block among top).1;
   labels = λ i x each is. (can.base i x each is).labels;
   finds = λ i j R x each_i each_j is. ap is_found (can.one i j R x each_i each_j is);
   one = λ i j R x y each_i each_j is now. found_one x y (sym now ∙ can.one i j R x each_i each_j is);

@@ -9,7 +9,7 @@ use Rattle.vx_config.specs.declared.entry.Subdisk.{Subdisk}
 use Rattle.vx_config.specs.declared.entry.VolumeLog.TheVariants.{Fmr}
 use Rattle.vx_copies.specs.Marks.{failed_at}
 use Rattle.vx_fmr.specs.Missed.{Missed}
-use Rattle.vx_grouplogs.specs.Gone.{has_log, is_there}
+use Rattle.vx_grouplogs.specs.Gone.{has_log}
 use Rattle.vx_groupmaps.specs.Loading.{failed_under, held_failed, on_failed_disk}
 use Rattle.vx_kept.specs.LogRuns.{log_place, log_trusted}
 use Rattle.vx_logged.specs.Logged.{TrustsIn}
@@ -44,13 +44,9 @@ trusted_from c v e at kept = ap used_or at ∙ ap not kept
 pub trusts_maps : (v : ℕ) (c d : Config) (k : List Logs) → TrustsIn v (logs_at k v) c d → (w : ℕ) → is_some (fmr_at k w) ≡ true → log_trusted c w Fmr ≡ true → log_trusted d w Fmr ≡ true
 trusts_maps v c d k trusts w some told = trusts.each w Fmr (λ same. has (slice_get k v) refl (ap (λ (x : ℕ). is_some (fmr_at k x)) (sym same) ∙ some)) told
   where
-    there : (o : Option Missed) → is_some o ≡ true → is_there o ≡ true
-    there None is = is
-    there (Some f) is = refl
-
     has : (o : Option Logs) → slice_get k v ≡ o → is_some (fmr_at k v) ≡ true → has_log Fmr (logs_at k v) ≡ true
     has None at is = absurd (let clash : false ≡ true = sym (ap (λ (x : Option Logs). is_some (fmr_or x)) at) ∙ is in cc)
-    has (Some l) at is = ap (λ (x : Option Logs). has_log Fmr (logs_or x)) at ∙ there l.fmr (sym (ap (λ (x : Option Logs). is_some (fmr_or x)) at) ∙ is)
+    has (Some l) at is = ap (λ (x : Option Logs). has_log Fmr (logs_or x)) at ∙ sym (ap (λ (x : Option Logs). is_some (fmr_or x)) at) ∙ is
 
 module _ (c d : Config) (k : List Logs) (places : (v : ℕ) (r : Subdisk) → log_place c v Fmr ≡ Some r → log_place d v Fmr ≡ Some r) (fails : (u : ℕ) → failed_at c.disks u ≡ true → failed_at d.disks u ≡ true)
     (trusts : (v : ℕ) → is_some (fmr_at k v) ≡ true → log_trusted c v Fmr ≡ true → log_trusted d v Fmr ≡ true) where

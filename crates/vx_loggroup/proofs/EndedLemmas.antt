@@ -10,10 +10,8 @@ use Rattle.vx_config.specs.declared.entry.VolumeLog.TheVariants.{Fmr}
 use Rattle.vx_copies.specs.Marks.{failed_at}
 use Rattle.vx_disk.specs.Counts.{Rose}
 use Rattle.vx_disk.specs.Shelf.{Meaning}
-use Rattle.vx_fmr.specs.Missed.{Missed}
 use Rattle.vx_group.specs.declared.group_core.GroupCore.{GroupCore}
 use Rattle.vx_groupmaps.specs.Loading.{failed_under, held_failed, on_failed_disk}
-use Rattle.vx_grouplogs.specs.Gone.{is_there}
 use Rattle.vx_kept.specs.LogRuns.{log_place, log_trusted, run_or}
 use Rattle.vx_logs.specs.declared.logs.Logs.{Logs}
 use Rattle.vx_maplog.specs.Logs.{log_of, used_or}
@@ -44,11 +42,7 @@ none_b false y is off = is
 
 map_there_is : (o : Option Logs) → is_some (fmr_or o) ≡ has_or Fmr o
 map_there_is None = refl
-map_there_is (Some l) = by l.fmr
-  where
-    by : (f : Option Missed) → is_some f ≡ is_there f
-    by None = refl
-    by (Some f) = refl
+map_there_is (Some l) = refl
 
 -- the maps are in memory
 pub memory_is : (logs : List Logs) (v : ℕ) → is_some (fmr_at logs v) ≡ in_memory logs v Fmr

@@ -23,7 +23,6 @@ use Rattle.vx_loggroup.proofs.NewLemmas.{news_gone}
 use Rattle.vx_loggroup.proofs.TrustedLogs.{trusted_here, trusted_others}
 use Rattle.vx_group.proofs.FindingLemmas.{idle_group}
 use Rattle.std.specs.Prelude.{not}
-use Rattle.vx_logged.proofs.GoneLogs.{there_some}
 use Rattle.vx_loggroup.proofs.SureLemmas.{since_same, since_told}
 use Rattle.vx_loggroup.proofs.beginning.begin_log.Goals as goal
 
@@ -127,4 +126,4 @@ pub returns-then-is_none-clause-since : goal.returns-then-is_none-clause-since
 returns-then-is_none-clause-since g c = since_same c.args.vol c.begin_run.new.logs c.args.core.now
 
 pub returns-clause-since : goal.returns-clause-since
-returns-clause-since g c = since_told c.args.vol Drl c.args.core.now c.trust_first.new.core c.begin_run.new.logs (g.S.Shelf.meaning c.begin_run.new.shelf) (g.S.Shelf.meaning c.trust_first.new.shelf) c.trust_first.ensures.acts (sym (there_some c.begin_run.new.logs.drl) ∙ c.is_none.ensures ∙ ap not c.if-is_none.false)
+returns-clause-since g c = since_told c.args.vol Drl c.args.core.now c.trust_first.new.core c.begin_run.new.logs (g.S.Shelf.meaning c.begin_run.new.shelf) (g.S.Shelf.meaning c.trust_first.new.shelf) c.trust_first.ensures.acts (c.is_none.ensures ∙ ap not c.if-is_none.false)
