@@ -26,7 +26,7 @@ use Rattle.vx_kept.specs.Keeping.{SameShape}
 use Rattle.vx_kept.proofs.Chosen.{active_volumes, place_volumes}
 use Rattle.vx_kept.proofs.Narrower.{stand_apart}
 use Rattle.vx_kept.proofs.Steps.{inside_back, inside_same}
-use Rattle.vx_group.specs.Attaches.{KnowsMissed, OnMissed, attached, copied_regions, missed_regions}
+use Rattle.vx_group.specs.Attaches.{KnowsMissed, OnMissed, attached, missed_regions, region_count}
 use Rattle.vx_group.specs.Blames.{Blames, fault_of}
 use Rattle.vx_group.specs.Moves.{Narrows}
 use Rattle.vx_group.specs.declared.inner.Inner.{Inner}
@@ -41,7 +41,7 @@ all_regions : (p n : ℕ) → picked_below (missed_or p None) n ≡ n
 all_regions p zero = refl
 all_regions p (suc n) = let same = all_regions p n in omega (arith, same)
 
-pub count_all : (c : Config) (v p : ℕ) → missed_regions c v p None ≡ copied_regions c v
+pub count_all : (c : Config) (v p : ℕ) → missed_regions c v p None ≡ region_count c v
 count_all c v p = all_regions p (regions_of (blocks_of c.volumes v))
 
 -- ---- another configuration with the same places

@@ -7,7 +7,7 @@ use Rattle.vx_config.specs.declared.entry.LogEntry.{LogEntry}
 use Rattle.vx_config.specs.declared.entry.VolumeLog.TheVariants.{Fmr}
 use Rattle.vx_disk.specs.Shelf.{Meaning}
 use Rattle.vx_fmr.specs.Missed.{Missed}
-use Rattle.vx_group.specs.Attaches.{copied_regions, missed_regions}
+use Rattle.vx_group.specs.Attaches.{missed_regions, region_count}
 use Rattle.vx_group.specs.Holding.{wide}
 use Rattle.vx_group.specs.declared.group_core.GroupCore.{GroupCore}
 use Rattle.vx_group.proofs.HoldLemmas.{wide_shape}
@@ -62,7 +62,7 @@ module _ (core : GroupCore) (logs : List Logs) (alike : List Bool) (stopped : Bo
 pub copies_missed : (core : GroupCore) (logs : List Logs) (alike : List Bool) (stopped : Bool) (m : Meaning) → LoggedFact core logs alike stopped m → (v p n : ℕ) → n ≡ missed_regions core.inner.config v p (map_by logs core.inner.config stopped m.down v p)
     → CopiesRegions core.inner.config v n
 copies_missed core logs alike stopped m fact v p n is = record {
-  few = let less = few_picked (missed_or p (map_by logs core.inner.config stopped m.down v p)) (copied_regions core.inner.config v) in omega (arith, is, less);
+  few = let less = few_picked (missed_or p (map_by logs core.inner.config stopped m.down v p)) (region_count core.inner.config v) in omega (arith, is, less);
   all = λ none. is ∙ ap (missed_regions core.inner.config v p) (map_none core logs alike stopped m fact v p none) ∙ count_all core.inner.config v p;
 }
 

@@ -11,7 +11,6 @@ use Rattle.vx_copies.specs.Marks.{failed_at}
 use Rattle.vx_disk.specs.Counts.{Rose}
 use Rattle.vx_disk.specs.Shelf.{Each, Image, Meaning}
 use Rattle.vx_fmr.specs.Missed.{Missed, has_missed}
-use Rattle.vx_group.specs.Attaches.{copied_regions}
 use Rattle.vx_groupmaps.specs.Loading.{on_failed_disk}
 use Rattle.vx_copyfmt.specs.Imports.{Found}
 use Rattle.vx_kept.specs.Groups.{found}
@@ -24,6 +23,7 @@ use Rattle.vx_logs.specs.declared.logs.Logs.{Logs}
 use Rattle.vx_maplog.specs.Logs.{log_of}
 use Rattle.vx_model.specs.declared.errors.Stop.{Stop}
 use Rattle.vx_volume.specs.Plexes.{active}
+use Rattle.vx_group.specs.Attaches.{region_count}
 use Rattle.vx_logged.specs.Holds.{HoldsRun}
 use Rattle.vx_loggroup.specs.Attaching.{fmr_at}
 use Rattle.vx_loggroup.specs.LoggedVolumes.{is_alike}
@@ -47,7 +47,7 @@ in_run vol first last v r = (v == vol) && is_among first last r
 -- a plex and a region of a volume
 pub record IsThere (c : Config) (v p r : ℕ) : Type 0 where
   pub plex : p < plexes_of c v
-  pub region : r < copied_regions c v
+  pub region : r < region_count c v
 
 -- A call in which those regions were written, from configuration c to d. A plex that takes no part behind it has noted them; one that took none before has what
 -- it had. What a map has besides it had before, and nothing of that where it begins anew: those say of a plex that goes off whether its map does.

@@ -1,12 +1,12 @@
 // The logs of a volume that begin in its first write, or before a plex of it is first detached.
 ghost use Rattle.std.specs.Prelude.{◌≡◌, ◌+◌, ◌<◌, ◌≤◌, false, true, IfErr, OnOk};
 ghost use Rattle.vx_disk.specs.Causes.{Cause};
+ghost use Rattle.vx_group.specs.Attaches.{region_count};
 ghost use Rattle.vx_group.specs.Holding.{wide};
 ghost use Rattle.vx_group.specs.Stands.{inner_meaning};
 ghost use Rattle.vx_grouplogs.specs.Covering.{AllAlike};
 ghost use Rattle.vx_loggroup.specs.Fresh.{ListMaps, LogsStart, LogsFirst};
 ghost use Rattle.vx_loggroup.specs.LoggedVolumes.{LoggedStands};
-ghost use Rattle.vx_loggroup.specs.Marks.{region_count};
 ghost use Rattle.vx_loggroup.specs.Keeping.{TrustsNew, logs_at};
 
 use crate::beginning::begin_both;

@@ -5,6 +5,7 @@ use Rattle.vx_config.specs.declared.entry.VolumeLog.TheVariants.{Drl}
 use Rattle.vx_config.proofs.Changed.{sound_lost}
 use Rattle.vx_disk.specs.Shelf.{Nothing}
 use Rattle.vx_disk.proofs.Causing.{Cause_both}
+use Rattle.vx_group.specs.Attaches.{region_count}
 use Rattle.vx_group.specs.Holding.{wide}
 use Rattle.vx_group.specs.Stands.{inner_meaning}
 use Rattle.vx_group.proofs.CallLemmas.{not_down}
@@ -17,7 +18,6 @@ use Rattle.vx_grouplogs.specs.Covering.{AllAlike}
 use Rattle.vx_grouplogs.specs.Marking.{NoMarks}
 use Rattle.vx_grouplogs.proofs.KnowActs.{know_none}
 use Rattle.vx_logged.proofs.StandLemmas.{alike_goes, config_is, inner_fit, inner_others, inner_sound, logs_Stands, logs_goes, to_wide, logs_finds}
-use Rattle.vx_loggroup.specs.Marks.{region_count}
 use Rattle.vx_loggroup.proofs.FreshLemmas.{begins_then, first_begun}
 use Rattle.vx_loggroup.proofs.NewLemmas.{news_gone}
 use Rattle.vx_loggroup.proofs.TrustedLogs.{trusted_here, trusted_others}

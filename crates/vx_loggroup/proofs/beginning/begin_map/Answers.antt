@@ -5,6 +5,7 @@ use Rattle.vx_config.specs.declared.entry.VolumeLog.TheVariants.{Drl, Fmr}
 use Rattle.vx_config.proofs.Changed.{sound_lost}
 use Rattle.vx_disk.specs.Shelf.{Nothing}
 use Rattle.vx_disk.proofs.Causing.{Cause_both}
+use Rattle.vx_group.specs.Attaches.{region_count}
 use Rattle.vx_group.specs.Holding.{wide}
 use Rattle.vx_group.specs.Stands.{inner_meaning}
 use Rattle.vx_group.proofs.CallLemmas.{not_down}
@@ -17,7 +18,6 @@ use Rattle.vx_grouplogs.proofs.MapLemmas.{goes_logs}
 use Rattle.vx_groupmaps.specs.Missing.{none_spared}
 use Rattle.vx_kept.specs.Keeping.{AllOn}
 use Rattle.vx_logged.proofs.StandLemmas.{config_is, inner_fit, inner_others, inner_sound, know_wide, logs_Stands, logs_goes, others_each, to_inner, to_wide, logs_finds}
-use Rattle.vx_loggroup.specs.Marks.{region_count}
 use Rattle.vx_loggroup.proofs.FreshLemmas.{begins_then, first_mapped}
 use Rattle.vx_loggroup.proofs.TrustedLogs.{mapped_each}
 use Rattle.vx_group.proofs.FindingLemmas.{idle_group}

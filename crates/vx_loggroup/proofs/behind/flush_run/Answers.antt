@@ -3,6 +3,7 @@ use Rattle.std.proofs.Common.{◌∙◌, ap, refl, sym, arith}
 use Rattle.std.specs.Prelude.{not}
 use Rattle.std.proofs.Math.ListN.{set}
 use Rattle.vx_disk.specs.Shelf.{Nothing}
+use Rattle.vx_group.specs.Attaches.{region_count}
 use Rattle.vx_group.specs.Holding.{wide}
 use Rattle.vx_group.specs.Stands.{inner_meaning}
 use Rattle.vx_group.proofs.CallLemmas.{not_down}
@@ -14,7 +15,6 @@ use Rattle.vx_loggroup.proofs.NewLemmas.{list_same}
 use Rattle.vx_loggroup.proofs.SetLemmas.{item_of, set_other}
 use Rattle.vx_loggroup.proofs.WroteMoves.{gone_set, run_follows, trusts_set}
 use Rattle.vx_loggroup.specs.Attaching.{fmr_or}
-use Rattle.vx_loggroup.specs.Marks.{region_count}
 use Rattle.vx_logged.specs.Begun.{fell_in}
 use Rattle.vx_logged.specs.Logged.{are_off}
 use Rattle.vx_logged.proofs.StandLemmas.{not_true}
