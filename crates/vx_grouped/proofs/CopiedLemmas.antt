@@ -56,7 +56,7 @@ module _ (core : GroupCore) (logs : List Logs) (alike : List Bool) (stopped : Bo
   gone_by false false false false is = no_map (slice_get logs v) refl is
 
   map_none : map_by logs core.inner.config stopped m.down v p ≡ None
-  map_none = gone_by stopped m.down (nat_le (plexes_of core.inner.config v) p) (on_failed_disk core.inner.config v) refl
+  map_none = gone_by stopped m.down (nat_le (plexes_of core.inner.config v) p) (on_failed_disk core.inner.config v Fmr) refl
 
 -- so many are copied as the plex has missed by the map in memory
 pub copies_missed : (core : GroupCore) (logs : List Logs) (alike : List Bool) (stopped : Bool) (m : Meaning) → LoggedFact core logs alike stopped m → (v p n : ℕ) → n ≡ missed_regions core.inner.config v p (map_by logs core.inner.config stopped m.down v p)

@@ -9,6 +9,7 @@ use Rattle.vx_config.specs.Checks.{blocks_of as blocks_in, plexes_of}
 use Rattle.vx_config.specs.declared.config.Config.{Config}
 use Rattle.vx_config.specs.declared.entry.Subdisk.{Subdisk}
 use Rattle.vx_config.specs.declared.entry.VolumeLog.{VolumeLog}
+use Rattle.vx_config.specs.declared.entry.VolumeLog.TheVariants.{Fmr}
 use Rattle.vx_disk.specs.Shelf.{Goes, Lawful, Meaning, Nothing, Or}
 use Rattle.vx_disk.proofs.Causing.{Rose_after, Rose_before}
 use Rattle.vx_disk.proofs.Runs.{then_nothing}
@@ -302,8 +303,8 @@ held_follows c v to old mid new held it = record {
         let middle = item_at mid v (let long = it.takes.many in omega (arith, low, long)) in
         none_at middle.0 k middle.1 at none
 
-    gone_here : (w : ℕ) → w ≡ v → on_failed_disk c w ≡ true → fmr_at new w ≡ None
-    gone_here w is on = ap (fmr_at new) is ∙ by (slice_get new v) refl (held.gone v (sym (ap (on_failed_disk c) is) ∙ on))
+    gone_here : (w : ℕ) → w ≡ v → on_failed_disk c w Fmr ≡ true → fmr_at new w ≡ None
+    gone_here w is on = ap (fmr_at new) is ∙ by (slice_get new v) refl (held.gone v (sym (ap (λ (x : ℕ). on_failed_disk c x Fmr) is) ∙ on))
 
 -- ---- the first plex that is ACTIVE
 

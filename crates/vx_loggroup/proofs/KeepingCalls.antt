@@ -76,7 +76,7 @@ and_off true b is = is
 and_off false b is = refl
 
 -- the maps lie on no failed disk where their log lies on a good one
-good_disk : (c : Config) (v : ℕ) (s : Subdisk) → log_place c v Fmr ≡ Some s → failed_at c.disks s.disk ≡ false → on_failed_disk c v ≡ false
+good_disk : (c : Config) (v : ℕ) (s : Subdisk) → log_place c v Fmr ≡ Some s → failed_at c.disks s.disk ≡ false → on_failed_disk c v Fmr ≡ false
 unfolding log_place
 good_disk c v s place good = by (log_of c v Fmr) refl
   where
@@ -84,7 +84,7 @@ good_disk c v s place good = by (log_of c v Fmr) refl
     held e None is off = refl
     held e (Some d) is off = and_off (not e.lost) d.failed (sym (failed_get c.disks e.disk d is) ∙ off)
 
-    by : (o : Option LogEntry) → log_of c v Fmr ≡ o → on_failed_disk c v ≡ false
+    by : (o : Option LogEntry) → log_of c v Fmr ≡ o → on_failed_disk c v Fmr ≡ false
     by None is = ap (failed_under c.disks) is
     by (Some e) is =
         let both : run_or (Some e) ≡ Some s = sym (ap run_or is) ∙ place in
@@ -105,7 +105,7 @@ held_stays c ls ks m held =
         let new = item_at ks v (let many = held.many in omega (arith, low, many)) in
         ap (has_or Drl) new.1 ∙ ap (λ (x : Option Dirty). is_some x) (held.drl v it.0 new.0 it.1 new.1) ∙ it.2
 
-    same_there : (v : ℕ) (log : VolumeLog) → on_failed_disk c v ≡ false → in_memory ls v log ≡ true → in_memory ks v log ≡ true
+    same_there : (v : ℕ) (log : VolumeLog) → on_failed_disk c v Fmr ≡ false → in_memory ls v log ≡ true → in_memory ks v log ≡ true
     same_there v log off has = ap (has_or log) (held.same v off) ∙ has
 
     stays : (v : ℕ) (log : VolumeLog) (s : Subdisk) → log_place c v log ≡ Some s → LogUsed c ls v log s → in_memory ks v log ≡ true

@@ -30,7 +30,7 @@ use Rattle.vx_loggroup.specs.LoggedVolumes.{is_alike}
 
 -- whether attaches of the plexes of a volume go by its maps in memory
 abbrev pub goes_by : List Logs → Config → Bool → ℕ → Bool
-goes_by logs c stopped v = not stopped && (not (on_failed_disk c v) && is_some (fmr_at logs v))
+goes_by logs c stopped v = not stopped && (not (on_failed_disk c v Fmr) && is_some (fmr_at logs v))
 
 abbrev pub missed_by : Option Missed → Bool → ℕ → ℕ → Bool
 missed_by None on p r = not on
