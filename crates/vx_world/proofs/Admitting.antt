@@ -8,12 +8,12 @@ use Rattle.std.proofs.Math.ListN.{set}
 use Rattle.vx_model.specs.Content.{Write, blocks_in}
 use Rattle.vx_model.specs.declared.link.Link.{Link as PlainLink}
 use Rattle.vx_history.specs.World.{World, Node, Link}
-use Rattle.vx_history.specs.Admission.{Admitted, Held_by, Goes, Held, Link_is_down, Log_is_full, Log_stalls, or_else, unless_held, blocks, is_holding, held_by_room, held_when_full, full_log_of, change, change_by, changes, first_down, first_full, admit}
+use Rattle.vx_history.specs.Admission.{Admitted, Held_by, Goes, Held, or_else, unless_held, blocks, is_holding, held_by_room, held_when_full, full_log_of, change, change_by, changes, first_down, first_full, admit}
 use Rattle.vx_history.specs.LinkForms.{plain_link}
 use Rattle.vx_history.specs.declared.admission.Change.{Change}
 use Rattle.vx_history.specs.declared.admission.Change.TheVariants.{Stays}
-use Rattle.vx_policy.specs.Verdicts.{refusal, verdict}
-use Rattle.vx_history.specs.Refusals.{refused, unless_at_most, why_held}
+use Rattle.vx_policy.specs.Verdicts.{verdict}
+use Rattle.vx_history.specs.Refusals.{unless_at_most, why_held}
 use Rattle.vx_history.specs.Events.{link_in_place, put_before, linked_sites, plain_links, log_uses, admitted, links_changed, put_in, written_if}
 use Rattle.vx_model.specs.declared.no.No.{No}
 use Rattle.vx_sites.specs.Refusing.{unless_refused}
@@ -122,19 +122,13 @@ counted_as log was links at u d e lt same is =
 
 -- why a write is not let in
 abbrev pub held_by : Admitted → Option No
-held_by (Held_by why) = Some (refusal why)
+held_by (Held_by why) = Some (why_held why)
 held_by (Goes changes) = None
-
-same_refusal : (why : Held) → refusal why ≡ why_held why
-same_refusal (Link_is_down site) = refl
-same_refusal (Log_is_full site) = refl
-same_refusal (Log_stalls site) = refl
 
 pub held_write : (a : Admitted) (w : World) (p : ℕ) (x : Write) (fails : Option ℕ) (answer : Option No) → answer ≡ held_by a
     → unless_refused answer w (unless_at_most (w.nodes p).safe w (put_in (links_changed w p x) p x fails)) ≡ written_if a w p x fails
 held_write (Held_by why) w p x fails answer is =
-    ap (λ (n : Option No). unless_refused n w (unless_at_most (w.nodes p).safe w (put_in (links_changed w p x) p x fails))) is ∙ ap
-    (λ (n : No). refused w n) (same_refusal why)
+    ap (λ (n : Option No). unless_refused n w (unless_at_most (w.nodes p).safe w (put_in (links_changed w p x) p x fails))) is
 held_write (Goes changes) w p x fails answer is =
     ap (λ (n : Option No). unless_refused n w (unless_at_most (w.nodes p).safe w (put_in (links_changed w p x) p x fails))) is
 
