@@ -24,9 +24,10 @@ use Rattle.vx_disk.specs.declared.shelf.Shelf.{Ghosts}
 use Rattle.vx_diskset.specs.declared.disk_set.DiskSet.{DiskSet}
 use Rattle.vx_diskset.specs.declared.disk_set.DiskSet.TheVariants.{Up, Down}
 use Rattle.vx_rvg.specs.declared.group.Rvg.{Rvg}
-use Rattle.vx_diskset.specs.DiskSets.{CrashedAt, WroteUp, WroteAt, AppliedUp, AppliedAt, is_off}
+use Rattle.vx_diskset.specs.DiskSets.{CrashedAt, WroteUp, WroteAt, AppliedUp, AppliedAt}
 use Rattle.vx_model.specs.declared.no.No.{No}
 use Rattle.vx_model.specs.declared.no.No.TheVariants.{Device, Limit, Down as Off}
+use Rattle.vx_grouped.specs.SiteEnds.{is_off}
 use Rattle.vx_events.specs.Facts.{values_from}
 use Rattle.vx_diskset.specs.Lasts.{FoundWith, LeftWith}
 use Rattle.vx_diskset.specs.Holds.{HasDoubted, HasWrites, KeptSite, itself, state_with, sure_of}

@@ -29,8 +29,9 @@ use Rattle.vx_disk.specs.declared.shelf.Shelf.{Ghosts}
 use Rattle.vx_rvg.specs.declared.group.Rvg.{Rvg}
 use Rattle.vx_diskset.specs.declared.disk_set.DiskSet.{DiskSet}
 use Rattle.vx_diskset.specs.declared.disk_set.DiskSet.TheVariants.{Up}
-use Rattle.vx_diskset.specs.DiskSets.{CrashedAt, halted_at, is_off, no_number, worked}
+use Rattle.vx_diskset.specs.DiskSets.{CrashedAt, halted_at, no_number, worked}
 use Rattle.vx_grouped.specs.SetFuses.{HasFuse}
+use Rattle.vx_grouped.specs.SiteEnds.{is_off}
 use Rattle.vx_diskset.specs.Holds.{KeptBeside, HasSite, HasWrites, KeptSite, MayBe, most_header, most_with, state_with, sure_of}
 use Rattle.vx_diskset.specs.Keeps.{CanKeep, KeptAt, KeptUp, doubting, kept_anew, restated}
 use Rattle.vx_diskset.specs.Lasts.{StandsHolding}

@@ -27,8 +27,9 @@ use Rattle.vx_secondary.proofs.Writings.{can_parts}
 use Rattle.vx_diskset.specs.declared.receivers.Reached.{Reached}
 use Rattle.vx_diskset.specs.declared.disk_set.DiskSet.{DiskSet}
 use Rattle.vx_diskset.specs.declared.disk_set.DiskSet.TheVariants.{Up, Receives}
-use Rattle.vx_diskset.specs.DiskSets.{CanLog, LoggedUp, halted_at, halted_with, worked, CrashedAt, is_off}
+use Rattle.vx_diskset.specs.DiskSets.{CanLog, LoggedUp, halted_at, halted_with, worked, CrashedAt}
 use Rattle.vx_grouped.specs.SetFuses.{HasFuse}
+use Rattle.vx_grouped.specs.SiteEnds.{is_off}
 use Rattle.vx_diskset.specs.Holds.{KeptBeside, HasWrites, most_with, state_with}
 use Rattle.vx_diskset.specs.Lasts.{FoundWith}
 use Rattle.vx_diskset.specs.Layouts.{units_of}

@@ -1,5 +1,5 @@
 -- What the calls on the disks of a site promise.
-use Rattle.std.specs.Prelude.{◌≡◌, ℕ, ◌+◌, ◌*◌, ◌<◌, ◌≤◌, ◌++◌, ◌∷◌, [], ◌⊎◌, min, length, Option, Some, None, Result, Ok, Err, List, IsTrue, Bool, true, false}
+use Rattle.std.specs.Prelude.{◌≡◌, ℕ, ◌+◌, ◌*◌, ◌<◌, ◌≤◌, ◌++◌, ◌∷◌, [], ◌⊎◌, min, length, Option, Some, None, Result, Ok, Err, List, IsTrue, true}
 use Rattle.vx_disk.specs.Maps.{maps_of}
 use Rattle.vx_model.specs.declared.limits.TheConstants.{LEAST_BLOCKS, LINK_PLACES, MOST_DISKS}
 use Rattle.vx_model.specs.Content.{Write}
@@ -66,11 +66,6 @@ worked n = record n { fuse = burned n.fuse }
 
 abbrev pub no_number : No
 no_number = Limit Number most_number
-
--- whether a shelf that is down refused so
-abbrev pub is_off : No → Bool
-is_off IsDown = true
-is_off other = false
 
 -- an apply that nothing but a failing disk can refuse
 pub record CanApply (n : Node) : Type 0 where

@@ -15,7 +15,7 @@ ghost use Rattle.vx_srl.specs.Views.{BodyFits, free_of};
 ghost use Rattle.vx_diskset.specs.Asked.{LeavesFuse, WritesUnder};
 ghost use Rattle.vx_diskset.specs.Blames.{BlamesGroup, BlamesSite};
 ghost use Rattle.vx_diskset.specs.Burning.{NoMore, IsLogged, OffIf, said_by};
-ghost use Rattle.vx_diskset.specs.DiskSets.{Later, CanLog, CanWrite, LoggedUp, WroteUp, is_off};
+ghost use Rattle.vx_diskset.specs.DiskSets.{Later, CanLog, CanWrite, LoggedUp, WroteUp};
 ghost use Rattle.vx_diskset.specs.Needs.{HasRoom, NoneNeeds};
 ghost use Rattle.vx_diskset.specs.Rooms.{AppliedAs, IsMore, NeverLimit, RoomIs, TakesOne, logged_count};
 ghost use Rattle.vx_diskset.specs.Stands.{IsUpAt, KeepsRole, StandsAlone, SiteStands};
@@ -23,16 +23,10 @@ ghost use Rattle.vx_diskset.specs.Stands.{IsUpAt, KeepsRole, StandsAlone, SiteSt
 use crate::DiskSet;
 use std::mem;
 use vx_disk::Rack;
+use vx_grouped::is_off;
 use vx_model::limits::{BLOCK, MOST_NUMBER};
 use vx_model::{Counted, No};
 use vx_rvg::Rvg;
-
-/// Whether the shelf was found down.
-pub fn is_off(no: &No) -> bool
-    ensures { result ≡ is_off no.now }
-{
-    matches!(no, No::Down)
-}
 
 // Brings logged writes into their volumes. A shelf that is down behind it answers so.
 pub(crate) fn apply_group<R: Rack>(rvg: &mut Rvg<R>, to: u64) -> Result<u64, No>

@@ -37,9 +37,9 @@ abbrev pub burned_site : Node → Node
 burned_site n = record n { fuse = burned n.fuse }
 
 -- whether it says that the disks are down
-abbrev pub answers_down : No → Bool
-answers_down IsOff = true
-answers_down other = false
+abbrev pub is_off : No → Bool
+is_off IsOff = true
+is_off other = false
 
 abbrev pub stops_down : Stop → Bool
 stops_down (Refused IsOff) = true
