@@ -5,7 +5,7 @@ use Rattle.std.proofs.lemmas.Bool.Decides.{nat_tests}
 use Rattle.std.proofs.lemmas.List.{length-drop}
 use Rattle.vx_history.specs.Events.{logged_blocks}
 use Rattle.vx_history.specs.World.{Node, Fuse}
-use Rattle.vx_history.specs.Steps.{burned}
+use Rattle.vx_history.specs.Steps.{burned, worked}
 use Rattle.vx_model.specs.declared.no.No.{No}
 use Rattle.vx_model.specs.declared.no.No.TheVariants.{Device, Limit, Down}
 use Rattle.vx_srl.specs.Calls.{saved}
@@ -28,7 +28,7 @@ use Rattle.vx_rvg.specs.Holdings.{blocks_taken}
 use Rattle.vx_rvg.specs.Stands.{Retains, Saving}
 use Rattle.vx_rvg.proofs.FetchGives.{free_beside}
 use Rattle.vx_rvg.specs.Views.{Core, IsSound}
-use Rattle.vx_diskset.specs.DiskSets.{no_number, halted_at, worked}
+use Rattle.vx_diskset.specs.DiskSets.{no_number, halted_at}
 use Rattle.vx_diskset.specs.Holds.{HasSite, HasWrites}
 use Rattle.vx_diskset.specs.Rooms.{AppliedAs, IsRoomy, RoomIs}
 use Rattle.vx_grouped.specs.SetFuses.{HasFuse}

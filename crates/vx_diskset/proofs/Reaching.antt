@@ -15,7 +15,7 @@ use Rattle.vx_history.specs.declared.receiver.RAction.{RAction}
 use Rattle.vx_history.specs.Events.{logged_blocks}
 use Rattle.vx_history.specs.Receiving.{Received, received_step, with_applied}
 use Rattle.vx_history.specs.LinkForms.{plain_receiver}
-use Rattle.vx_history.specs.Steps.{burned, half_begun, logged, spent, write_calls}
+use Rattle.vx_history.specs.Steps.{burned, half_begun, logged, spent, worked, write_calls}
 use Rattle.vx_history.specs.World.{Node, Fuse, NoFuse, FuseSet, FuseLit}
 use Rattle.vx_disk.specs.Shelf.{Image, Meaning}
 use Rattle.vx_disk.specs.declared.shelf.Shelf.{Ghosts}
@@ -27,7 +27,7 @@ use Rattle.vx_secondary.proofs.Writings.{can_parts}
 use Rattle.vx_diskset.specs.declared.receivers.Reached.{Reached}
 use Rattle.vx_diskset.specs.declared.disk_set.DiskSet.{DiskSet}
 use Rattle.vx_diskset.specs.declared.disk_set.DiskSet.TheVariants.{Up, Receives}
-use Rattle.vx_diskset.specs.DiskSets.{CanLog, LoggedUp, halted_at, halted_with, worked, CrashedAt}
+use Rattle.vx_diskset.specs.DiskSets.{CanLog, LoggedUp, halted_at, halted_with, CrashedAt}
 use Rattle.vx_grouped.specs.SetFuses.{HasFuse}
 use Rattle.vx_grouped.specs.SiteEnds.{is_off}
 use Rattle.vx_diskset.specs.Holds.{KeptBeside, HasWrites, most_with, state_with}

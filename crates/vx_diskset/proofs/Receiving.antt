@@ -38,14 +38,14 @@ use Rattle.vx_diskset.specs.Layouts.{units_of}
 use Rattle.vx_diskset.specs.Needs.{TakesAs}
 use Rattle.vx_diskset.specs.Stands.{IsHeldAt, IsReceiverAt, IsUpAt, RoleIs, SiteStands, IsToldAt}
 use Rattle.vx_diskset.specs.Rooms.{AppliedAs}
-use Rattle.vx_diskset.specs.DiskSets.{AppliedUp, ReadAt, halted_at, worked, BareUp, BareUpBy, CameUp, CameUpBy, CanRead}
+use Rattle.vx_diskset.specs.DiskSets.{AppliedUp, ReadAt, halted_at, BareUp, BareUpBy, CameUp, CameUpBy, CanRead}
 use Rattle.vx_diskset.specs.Keeps.{KeptUp, doubting, restated}
 use Rattle.vx_diskset.specs.declared.disk_set.DiskSet.{DiskSet}
 use Rattle.vx_diskset.specs.declared.disk_set.DiskSet.TheVariants.{Up, Receives}
 use Rattle.vx_disk.specs.declared.shelf.Shelf.{Ghosts}
 use Rattle.vx_secondary.specs.declared.secondary.Secondary.{Secondary}
 use Rattle.vx_events.proofs.Places.{some_same}
-use Rattle.vx_history.specs.Steps.{burned}
+use Rattle.vx_history.specs.Steps.{burned, worked}
 use Rattle.vx_diskset.proofs.ApplyGroup.{applied_log, ended_log}
 use Rattle.vx_diskset.proofs.BesideLemmas.{may_same, never_besides, site_map}
 use Rattle.vx_diskset.proofs.FuseGroup.{alike_stands, lets_by}

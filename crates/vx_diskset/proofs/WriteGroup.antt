@@ -6,7 +6,7 @@ use Rattle.vx_model.specs.Answer.{is_too_large}
 use Rattle.vx_model.specs.Sites.{is_origin}
 use Rattle.vx_model.specs.Content.{Write, blocks_in}
 use Rattle.vx_history.specs.Events.{logged_blocks}
-use Rattle.vx_history.specs.Steps.{logged, half_begun, burned}
+use Rattle.vx_history.specs.Steps.{logged, half_begun, burned, worked}
 use Rattle.vx_history.specs.World.{Node, Fuse}
 use Rattle.vx_model.specs.declared.no.No.{No}
 use Rattle.vx_model.specs.declared.no.No.TheVariants.{Device, Limit, Down, Size, Range}
@@ -25,7 +25,7 @@ use Rattle.vx_rvg.specs.Groups.{halted_or, write_refusal, WriteIs, Writes, core_
 use Rattle.vx_rvg.specs.Holdings.{Holding, with_writes}
 use Rattle.vx_rvg.specs.Stands.{Writing, Stands}
 use Rattle.vx_rvg.specs.Views.{Core, IsSound, last_of, unit_of}
-use Rattle.vx_diskset.specs.DiskSets.{CanLog, halted_with, LoggedUp, no_number, worked, WroteUp}
+use Rattle.vx_diskset.specs.DiskSets.{CanLog, halted_with, LoggedUp, no_number, WroteUp}
 use Rattle.vx_diskset.specs.Holds.{HasWrites}
 use Rattle.vx_diskset.specs.Layouts.{LiesOn}
 use Rattle.vx_diskset.specs.Holds.{most_header}

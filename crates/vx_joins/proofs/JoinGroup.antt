@@ -9,7 +9,7 @@ use Rattle.vx_model.specs.declared.no.No.{No}
 use Rattle.vx_model.specs.declared.no.No.TheVariants.{Device, Limit, Down as IsOff}
 use Rattle.vx_model.specs.declared.state.KeptLink.{KeptLink}
 use Rattle.vx_history.specs.Events.{joined, logged_blocks}
-use Rattle.vx_history.specs.Steps.{burned}
+use Rattle.vx_history.specs.Steps.{burned, worked}
 use Rattle.vx_history.specs.Stops.{IsFused}
 use Rattle.vx_history.specs.World.{Node}
 use Rattle.vx_srlfmt.specs.declared.header.Header.{Header}
@@ -28,7 +28,7 @@ use Rattle.vx_rvg.specs.Stands.{FoundAs, Retains, Saving}
 use Rattle.vx_rvg.specs.Views.{Core, last_of}
 use Rattle.vx_events.proofs.Places.{some_same}
 use Rattle.vx_secondary.specs.Receivers.{Wait}
-use Rattle.vx_diskset.specs.DiskSets.{halted_at, no_number, worked}
+use Rattle.vx_diskset.specs.DiskSets.{halted_at, no_number}
 use Rattle.vx_grouped.specs.SetFuses.{HasFuse}
 use Rattle.vx_diskset.specs.Holds.{KeptBeside, HasSite, HasWrites, KeptSite, MayBe, most_with, state_with, sure_of}
 use Rattle.vx_diskset.specs.Lasts.{HasLast, StandsHolding}

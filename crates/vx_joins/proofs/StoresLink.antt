@@ -26,6 +26,7 @@ use Rattle.vx_history.specs.World.{DataAck, Hello, Link, Message, NetAck, Node, 
 use Rattle.vx_history.specs.declared.event.Said.{Said}
 use Rattle.vx_history.specs.declared.sender.SFacts.{SFacts}
 use Rattle.vx_history.specs.Doubts.{Doubted}
+use Rattle.vx_history.specs.Steps.{worked}
 use Rattle.vx_history.proofs.Updates.{all_updated, and_right, at_place, by_test, eqb_equal}
 use Rattle.vx_courier.specs.UnderWay.{FlightStands}
 use Rattle.vx_net.specs.Flights.{Flying}
@@ -39,7 +40,6 @@ use Rattle.vx_disk.specs.declared.shelf.Shelf.{Ghosts}
 use Rattle.vx_packet.specs.Assemblies.{Assembled}
 use Rattle.vx_peers.specs.Answers.{AnsweredAt, Listens, PartAnsweredAt, is_answer}
 use Rattle.vx_peers.proofs.Hears.{event_for, outcome_is}
-use Rattle.vx_diskset.specs.DiskSets.{worked}
 use Rattle.vx_diskset.specs.Holds.{KeptBeside, beside_of, header_links, row_links, state_with, sure_of}
 use Rattle.vx_diskset.specs.Keeps.{CanKeep, KeptAt, kept_anew, restated}
 use Rattle.vx_diskset.specs.Needs.{hold_of, is_needing, kept_mode_hold}

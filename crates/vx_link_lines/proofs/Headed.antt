@@ -3,7 +3,7 @@ use Rattle.std.proofs.Common.{◌≡◌, ◌∙◌, ⊎_elim, ◌+◌, ◌<◌, 
 use Rattle.std.specs.Prelude.{Option, Some, None, slice_get, slice_set, Ok, Err}
 use Rattle.vx_history.proofs.Updates.{at_place}
 use Rattle.vx_history.specs.Doubts.{After, Doubted, crashed_as, halved, resolved_at}
-use Rattle.vx_history.specs.Steps.{burned, crashed}
+use Rattle.vx_history.specs.Steps.{burned, crashed, worked}
 use Rattle.vx_history.specs.World.{Gathering, Link, Node, Volume}
 use Rattle.vx_history.specs.declared.event.Event.{Event}
 use Rattle.vx_model.specs.declared.limits.TheConstants.{MOST_SITES}
@@ -19,7 +19,7 @@ use Rattle.vx_order.specs.declared.facts.RvgFacts.{RvgFacts}
 use Rattle.vx_order.specs.declared.facts.SiteFacts.{SiteFacts}
 use Rattle.vx_diskset.specs.Asked.{FailsAs, FusedAs, LeavesFuse, size_in}
 use Rattle.vx_diskset.specs.Burning.{Burnt, NoMore}
-use Rattle.vx_diskset.specs.DiskSets.{CrashedAt, halted_at, worked}
+use Rattle.vx_diskset.specs.DiskSets.{CrashedAt, halted_at}
 use Rattle.vx_diskset.specs.Fuses.{LeftAs}
 use Rattle.vx_diskset.specs.Holds.{KeptBeside, KeptSite, beside_of, itself, header_links, row_links, sure_of}
 use Rattle.vx_diskset.specs.Stands.{RoleIs, SiteStands}

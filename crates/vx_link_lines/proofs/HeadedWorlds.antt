@@ -5,12 +5,11 @@ use Rattle.std.proofs.lemmas.Option.{slice_get_within}
 use Rattle.vx_history.proofs.Updates.{at_place}
 use Rattle.vx_history.specs.Doubts.{After, Doubted, crashed_as, halved, resolved_at, taken_up}
 use Rattle.vx_history.specs.Events.{kept_of, lost_touch}
-use Rattle.vx_history.specs.Steps.{burned, crashed}
+use Rattle.vx_history.specs.Steps.{burned, crashed, worked}
 use Rattle.vx_history.specs.Stops.{IsFused}
 use Rattle.vx_history.specs.World.{Fuse, FuseLit, FuseSet, Gathering, Link, NoFuse, Node, Packet, World}
 use Rattle.vx_history.specs.declared.event.Event.{Event}
 use Rattle.vx_model.specs.declared.state.KeptLink.{KeptLink}
-use Rattle.vx_diskset.specs.DiskSets.{worked}
 use Rattle.vx_diskset.specs.Holds.{KeptBeside, KeptSite, beside_of, doubt_of, header_links, row_links}
 use Rattle.vx_effects.proofs.Effects.{changes_then}
 use Rattle.vx_effects.proofs.Notes.{burned_twice}

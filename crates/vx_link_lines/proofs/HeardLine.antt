@@ -17,7 +17,7 @@ use Rattle.vx_history.specs.Events.{delivered, handed, packet_at}
 use Rattle.vx_history.specs.Headers.{heard_headers}
 use Rattle.vx_history.specs.Refusals.{Outcome, says}
 use Rattle.vx_history.specs.Step.{headers_counted, step}
-use Rattle.vx_history.specs.Steps.{burned, worked_on}
+use Rattle.vx_history.specs.Steps.{burned, worked, worked_on}
 use Rattle.vx_history.specs.Stops.{IsFused, IsOpen}
 use Rattle.vx_history.specs.World.{Fuse, FuseLit, FuseSet, NoFuse, Node, Packet, World}
 use Rattle.vx_history.specs.declared.event.Event.{Event}
@@ -36,7 +36,7 @@ use Rattle.vx_diskset.proofs.Roles.{role_like}
 use Rattle.vx_diskset.proofs.Worked.{stands_worked}
 use Rattle.vx_diskset.specs.Asked.{FailsAs, FusedAs, LeavesFuse, size_in}
 use Rattle.vx_diskset.specs.Burning.{Burnt, NoMore}
-use Rattle.vx_diskset.specs.DiskSets.{CrashedAt, halted_at, worked}
+use Rattle.vx_diskset.specs.DiskSets.{CrashedAt, halted_at}
 use Rattle.vx_diskset.specs.Holds.{KeptBeside, beside_of, doubt_of, header_links, row_links, state_with}
 use Rattle.vx_diskset.specs.Keeps.{KeptAt}
 use Rattle.vx_diskset.specs.Stands.{KeepsRole, RoleIs, SiteStands}

@@ -22,12 +22,13 @@ use Rattle.vx_history.specs.declared.event.Event.{Event}
 use Rattle.vx_history.specs.declared.event.Event.TheVariants.{Link as LinkAt}
 use Rattle.vx_history.specs.declared.event.LinkPart.TheVariants.{Joins}
 use Rattle.vx_history.specs.declared.event.Said.TheVariants.{Done as IsDone}
+use Rattle.vx_history.specs.Steps.{worked}
 use Rattle.vx_order.specs.declared.facts.SiteFacts.{SiteFacts}
 use Rattle.vx_disk.specs.declared.shelf.Shelf.{Ghosts}
 use Rattle.vx_diskset.proofs.Roles.{role_like, role_origin}
 use Rattle.vx_diskset.specs.Asked.{HeadUnder, LeavesFuse}
 use Rattle.vx_diskset.specs.Burning.{NoMore}
-use Rattle.vx_diskset.specs.DiskSets.{CrashedAt, worked}
+use Rattle.vx_diskset.specs.DiskSets.{CrashedAt}
 use Rattle.vx_diskset.specs.Holds.{KeptBeside, beside_of, header_links, state_with}
 use Rattle.vx_diskset.specs.Keeps.{done_by}
 use Rattle.vx_diskset.specs.Stands.{SiteStands}

@@ -6,11 +6,10 @@ use Rattle.vx_model.specs.declared.no.No.{No}
 use Rattle.vx_history.proofs.Updates.{eqb_equal}
 use Rattle.vx_history.specs.Doubts.{Doubted}
 use Rattle.vx_history.specs.Settling.{settling}
-use Rattle.vx_history.specs.Steps.{worked_on}
+use Rattle.vx_history.specs.Steps.{worked, worked_on}
 use Rattle.vx_history.specs.World.{Node, World, updated}
 use Rattle.vx_history.specs.declared.event.Event.{Event}
 use Rattle.vx_disk.specs.declared.shelf.Shelf.{Ghosts}
-use Rattle.vx_diskset.specs.DiskSets.{worked}
 use Rattle.vx_diskset.specs.declared.disk_set.DiskSet.{DiskSet}
 use Rattle.vx_events.specs.Facts.{site_number}
 use Rattle.vx_events.specs.LinkEnds.{AreLeft}
