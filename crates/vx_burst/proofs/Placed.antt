@@ -3,6 +3,7 @@ use Rattle.std.proofs.Common.{◌≡◌, ◌⊎◌, ℕ, zero, suc, ◌+◌, ◌
 use Rattle.std.proofs.lemmas.Option.{get_or_from_slice_get}
 use Rattle.atomic_table.specs.Seated.{TableId}
 use Rattle.vx_model.specs.declared.call.Call.{Call}
+use Rattle.vx_model.specs.Numbers.{one_if}
 use Rattle.vx_turn.specs.declared.ask.Ask.{Ask}
 use Rattle.vx_turn.specs.declared.ask.Ask.TheVariants.{Ordered, Charged}
 use Rattle.vx_turn.specs.declared.ask.Said.{Said}
@@ -37,7 +38,6 @@ use Rattle.vx_burst.proofs.Placings.{once-same}
 use Rattle.vx_burst.proofs.Underways.{get-some, job_entry}
 use Rattle.vx_burst.proofs.Ends.{classify, of-plan, IsMadeAt, IsOpen, IsIdle}
 use Rattle.vx_burst.specs.Setting.{AreBlank}
-use Rattle.vx_burst.specs.Setting.{one_if}
 use Rattle.vx_burst.specs.Finishing.{IsLeftOut, IsCallAsk, Stay, IsAskedAgain, unplaced, BurstUnderway, IsPlaced, BurstStage}
 use Rattle.vx_burst.proofs.Ends.{Joined, begins-of}
 

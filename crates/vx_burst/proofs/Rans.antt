@@ -1,6 +1,7 @@
 -- The whole of a burst, from its parts.
 use Rattle.std.proofs.Common.{◌≡◌, ℕ, zero, suc, ◌<◌, ◌==◌, List, [], ◌∷◌, ◌++◌, length, take, drop, refl, ap, sym, subst, arith, ne_eqb}
 use Rattle.atomic_table.specs.Seated.{TableId}
+use Rattle.vx_model.specs.Numbers.{one_if}
 use Rattle.vx_turn.specs.declared.meaning.Entry.{Entry}
 use Rattle.vx_turn.specs.declared.meaning.State.{State}
 use Rattle.vx_settle.specs.declared.peer.Stand.{Stand}
@@ -8,7 +9,7 @@ use Rattle.vx_settle.specs.Bringing.{Events, HaveLinks}
 use Rattle.vx_settle.proofs.ManyPeers.{some-one, get-inside}
 use Rattle.vx_burst_threads.specs.declared.plan.Planned.{Planned}
 use Rattle.vx_burst_threads.specs.declared.plan.Answered.{Answered}
-use Rattle.vx_burst.specs.Setting.{AreBlank, one_if}
+use Rattle.vx_burst.specs.Setting.{AreBlank}
 use Rattle.vx_burst.specs.Placing.{Renumbered}
 use Rattle.vx_burst.specs.Finishing.{BurstStage, StagesOn, ArePlaced, IsAskedAgain, unplaced, WaitsOn}
 use Rattle.vx_burst.specs.Ending.{HasJoined, Ran}

@@ -3,6 +3,7 @@ use Rattle.std.proofs.Common.{◌≡◌, ◌≢◌, ◌⊎◌, ℕ, zero, suc, �
 use Rattle.std.proofs.lemmas.List.{append-nil}
 use mathlib.Core.List.{map-append}
 use Rattle.vx_model.specs.declared.call.Call.{Call}
+use Rattle.vx_model.specs.Numbers.{one_if}
 use Rattle.vx_turn.specs.declared.ask.Ask.{Ask}
 use Rattle.vx_turn.specs.declared.ask.Ask.TheVariants.{Ordered, Charged}
 use Rattle.vx_turn.specs.declared.ask.Said.{Said}
@@ -24,7 +25,6 @@ use Rattle.vx_settle.proofs.ManyPeers.{some-one, get-set, set-long, get-inside}
 use Rattle.vx_burst_threads.specs.declared.plan.Planned.{Planned}
 use Rattle.vx_burst_threads.specs.declared.plan.Answered.{Answered}
 use Rattle.vx_burst_threads.specs.Planning.{call_for}
-use Rattle.vx_burst.specs.Setting.{one_if}
 use Rattle.vx_burst.specs.Finishing.{AckWithin, Went, BurstUnderway, IsSoundRun, PeersApart, Excused, IsCalm, Splits, head_behind, IsLeftOut, IsCallAsk, IsOfPlan, Stay, IsAskedAgain, AreBefore, unplaced, ArePlaced, HasExcuse, IsPlaced, BurstStage, StagesOn, AskedOne}
 use Rattle.vx_burst.proofs.Underways.{job_entry, jobs-among, asked-jobs, get-some, underway-brings, underway-acts}
 

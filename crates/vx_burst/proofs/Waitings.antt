@@ -7,6 +7,7 @@ use Rattle.vx_model.specs.declared.call.Call.{Call}
 use Rattle.vx_model.specs.declared.call.Reply.{Reply}
 use Rattle.vx_model.specs.declared.call.Reply.TheVariants as reply
 use Rattle.vx_model.specs.declared.no.No.TheVariants as no
+use Rattle.vx_model.specs.Numbers.{one_if}
 use Rattle.vx_turn.specs.declared.ask.Ask.{Ask}
 use Rattle.vx_turn.specs.declared.ask.Ask.TheVariants.{Ordered, Charged}
 use Rattle.vx_turn.specs.declared.ask.Said.{Said}
@@ -34,7 +35,6 @@ use Rattle.vx_burst_threads.specs.declared.plan.Told.TheVariants as told
 use Rattle.vx_burst_threads.specs.declared.plan.Waited.{Waited}
 use Rattle.vx_burst_threads.specs.declared.plan.Waited.TheVariants as waited
 use Rattle.vx_burst_threads.specs.Planning.{call_for, IsToldAs, IsStalled}
-use Rattle.vx_burst.specs.Setting.{one_if}
 use Rattle.vx_burst.specs.Finishing.{head_behind, IsNothing, AckWithin, BurstUnderway, IsLeftOut, IsCallAsk, Stay, IsAskedAgain, AreBefore, unplaced, HasExcuse, BurstStage, IsWaited, waiting_end, WaitedOne, WaitedOn}
 use Rattle.vx_burst.proofs.Underways.{job_entry, asked-jobs, get-some, underway-brings, underway-moves}
 use Rattle.vx_burst.proofs.Stages.{job-of-plan, stay-jobs, stay-as, again-same, excuse-later, halted-not, brought-excuse}

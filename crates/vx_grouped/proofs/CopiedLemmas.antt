@@ -18,11 +18,12 @@ use Rattle.vx_loggroup.specs.Attaching.{fmr_at, fmr_or, map_by}
 use Rattle.vx_loggroup.specs.Facts.{LoggedFact}
 use Rattle.vx_logs.specs.declared.logs.Logs.{Logs}
 use Rattle.vx_model.specs.declared.errors.Stop.{Stop}
+use Rattle.vx_model.specs.Numbers.{one_if}
 use Rattle.vx_maplog.specs.Logs.{log_of}
-use Rattle.vx_resync.specs.Picks.{as_one, missed_or, picked_below}
+use Rattle.vx_resync.specs.Picks.{missed_or, picked_below}
 use Rattle.vx_grouped.specs.Copied.{CopiesRegions}
 
-few_one : (t : Bool) → as_one t ≤ 1
+few_one : (t : Bool) → one_if t ≤ 1
 few_one true = omega arith
 few_one false = omega arith
 
