@@ -14,7 +14,8 @@ use Rattle.vx_volume.specs.Plexes.{InRun, Inside}
 use Rattle.vx_volume.specs.Volumes.{AllBut, LastPlexFailed, OnPlexes, PlexFlushed, PlexWrote}
 use Rattle.vx_volume.specs.declared.sets.Failed.{Failed}
 use Rattle.vx_group.specs.Blames.{Blames}
-use Rattle.vx_group.specs.Makes.{AreZero, EachFlushed, ZeroBelow, ZeroLoop, ZeroRun, ZerosOn}
+use Rattle.vx_group.specs.Makes.{AreZero, ZeroBelow, ZeroLoop, ZeroRun, ZerosOn}
+use Rattle.vx_group.specs.Moves.{AllFlushed}
 use Rattle.vx_group.proofs.DetachLemmas.{zero_bit}
 
 -- ---- a run
@@ -60,7 +61,7 @@ module _ (c : Config) (v block count : ℕ) (bytes : List ℕ) (old new : Meanin
 pub some_failed : (failed : Failed) (old new : Meaning) → (failed.set ≡ 0 → ⊥) → LastPlexFailed failed old new → (IsTrue new.down → ⊥) → Blames {T = Unit {0}} old new (Err (Fault failed.disk))
 some_failed failed old new some last up = (last.rose (omega (arith, some)), up)
 
-pub each_flushed : (c : Config) (v : ℕ) (failed : Failed) (old new : Meaning) → failed.set ≡ 0 → AllBut c v (bit_at failed.set) (λ p. PlexFlushed c v p old new) old new → EachFlushed c v old new
+pub each_flushed : (c : Config) (v : ℕ) (failed : Failed) (old new : Meaning) → failed.set ≡ 0 → AllBut c v (bit_at failed.set) (λ p. PlexFlushed c v p old new) old new → AllFlushed c v old new
 each_flushed c v failed old new none all = record { each = λ p is_on. all.is_done p is_on (zero_bit failed.set p none) }
 
 -- ---- all runs
@@ -98,12 +99,12 @@ zero_end c v done blocks n old m loop is le = record { each = λ p k x is_on in_
 
 -- ---- zeros that a crash leaves
 
-pub all_zero : (c : Config) (v : ℕ) (m m' : Meaning) → ZeroBelow c v (blocks_of c.volumes v) m → EachFlushed c v m m' → AreZero c v m'
+pub all_zero : (c : Config) (v : ℕ) (m m' : Meaning) → ZeroBelow c v (blocks_of c.volumes v) m → AllFlushed c v m m' → AreZero c v m'
 all_zero c v m m' below flushed = record { each = λ p k x is_on in_it left. below.each p k x is_on in_it in_it.within ((flushed.each p is_on).each k x in_it left) }
 
 pub zero_flushed : (c : Config) (v : ℕ) (old m m' : Meaning) → Goes (ZerosOn c v) old m → Goes Nothing m m' → Goes (ZerosOn c v) old m'
 zero_flushed c v old m m' goes flush = weaker (Or (ZerosOn c v) Nothing) (ZerosOn c v) old m' (both_Goes (ZerosOn c v) Nothing old m m' goes flush) (λ u b x. ⊎_elim (λ put. put) (λ none. absurd none))
 
-pub zero_all : {T E : Type 0} (c : Config) (v : ℕ) (m m' : Meaning) → ZeroBelow c v (blocks_of c.volumes v) m → (r : Result T E) → OnOk r (EachFlushed c v m m') → OnOk r (AreZero c v m')
+pub zero_all : {T E : Type 0} (c : Config) (v : ℕ) (m m' : Meaning) → ZeroBelow c v (blocks_of c.volumes v) m → (r : Result T E) → OnOk r (AllFlushed c v m m') → OnOk r (AreZero c v m')
 zero_all c v m m' below (Ok x) flushed = all_zero c v m m' below flushed
 zero_all c v m m' below (Err e) flushed = tt

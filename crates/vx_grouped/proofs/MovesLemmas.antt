@@ -17,9 +17,9 @@ use Rattle.vx_config.specs.declared.entry.Subdisk.{Subdisk}
 use Rattle.vx_config.specs.declared.entry.VolumeEntry.{VolumeEntry}
 use Rattle.vx_copies.specs.Commits.{MoreFailed}
 use Rattle.vx_copies.specs.Marks.{blocks_at, failed_at}
-use Rattle.vx_layout.specs.Places.{disk_blocks, plex_at, plex_in}
+use Rattle.vx_layout.specs.Places.{disk_blocks, lies_on, plex_at, plex_in}
 use Rattle.vx_layout.proofs.Placing.{region_of, subdisk_region}
-use Rattle.vx_volume.specs.Plexes.{lies_on, uses, uses_or}
+use Rattle.vx_volume.specs.Plexes.{uses, uses_or}
 use Rattle.vx_volume.specs.Volumes.{PlexBlamed}
 use Rattle.vx_kept.specs.Keeping.{frame_at}
 use Rattle.vx_kept.proofs.Chosen.{frames_volumes}

@@ -16,10 +16,10 @@ use Rattle.vx_disk.specs.declared.shelf.ShelfError.{ShelfError}
 use Rattle.vx_disk.specs.declared.shelf.ShelfError.TheVariants.{Fault}
 use Rattle.vx_disk.proofs.Causing.{Rose_after, Rose_before}
 use Rattle.vx_disk.proofs.Runs.{same_Goes}
-use Rattle.vx_layout.specs.Places.{disk_blocks, linear, located, place, place_in, place_or, plex_at, plex_in, subdisk_blocks}
+use Rattle.vx_layout.specs.Places.{disk_blocks, lies_on, linear, located, place, place_in, place_or, plex_at, plex_in, subdisk_blocks}
 use Rattle.vx_layout.proofs.Pairs.{all_at}
 use Rattle.vx_layout.proofs.Placing.{filled, from_sound, linear_within, region_of, subdisk_region}
-use Rattle.vx_volume.specs.Plexes.{Inside, lies_on, uses, uses_or}
+use Rattle.vx_volume.specs.Plexes.{Inside, uses, uses_or}
 use Rattle.vx_volume.specs.Sets.{bits}
 use Rattle.vx_volume.specs.Steps.{FlushedBelow, in_set}
 use Rattle.vx_volume.specs.Volumes.{PlexBlamed, PlexCause, PlexFlushed}

@@ -10,10 +10,10 @@ use Rattle.vx_config.specs.declared.config.Config.{Config}
 use Rattle.vx_config.specs.declared.entry.PlexEntry.{PlexEntry}
 use Rattle.vx_config.specs.declared.entry.Subdisk.{Subdisk}
 use Rattle.vx_config.specs.declared.entry.VolumeEntry.{VolumeEntry}
-use Rattle.vx_layout.specs.Places.{disk_blocks, has_plex, linear, located, place, place_in, place_or, plex_at, plex_in, subdisk_blocks}
+use Rattle.vx_layout.specs.Places.{disk_blocks, has_plex, lies_on, linear, located, place, place_in, place_or, plex_at, plex_in, subdisk_blocks}
 use Rattle.vx_layout.proofs.Pairs.{all_at}
 use Rattle.vx_layout.proofs.Placing.{filled, from_sound, linear_within, region_of, subdisk_region}
-use Rattle.vx_volume.specs.Plexes.{Inside, lies_on, uses, uses_or}
+use Rattle.vx_volume.specs.Plexes.{Inside, uses, uses_or}
 
 -- a plex that is there
 record TherePlex (c : Config) (v p : ℕ) : Type 0 where

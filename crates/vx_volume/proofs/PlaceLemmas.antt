@@ -11,10 +11,10 @@ use Rattle.vx_config.specs.declared.entry.PlexEntry.{PlexEntry}
 use Rattle.vx_config.specs.declared.entry.Subdisk.{Subdisk}
 use Rattle.vx_config.specs.declared.entry.VolumeEntry.{VolumeEntry}
 use Rattle.vx_config.specs.Checks.{blocks_of, blocks_or_none, column_blocks, has_logs, has_plexes, has_shape, in_region, is_live, is_sound, is_volume, plex_fills, preferred_is, plexes_of, plexes_or, blocks_or}
-use Rattle.vx_layout.specs.Places.{HasBlock, subdisk_blocks, disk_blocks, has_plex, linear, located, place, place_in, place_or, plex_at, plex_in}
+use Rattle.vx_layout.specs.Places.{HasBlock, subdisk_blocks, disk_blocks, has_plex, linear, located, place, place_in, place_or, plex_at, plex_in, lies_on}
 use Rattle.vx_layout.proofs.Pairs.{all_at, and_left, and_right}
 use Rattle.vx_layout.proofs.Placing.{filled, from_sound, linear_within, region_of, sound_apart, subdisk_region}
-use Rattle.vx_volume.specs.Plexes.{Apart, DisksFit, InRun, Inside, OneEach, RunFits, VolumeFits, active, active_or, lies_on, uses, uses_or}
+use Rattle.vx_volume.specs.Plexes.{Apart, DisksFit, InRun, Inside, OneEach, RunFits, VolumeFits, active, active_or, uses, uses_or}
 
 -- a plex that is ACTIVE is there
 record There (c : Config) (v p : ℕ) : Type 0 where
