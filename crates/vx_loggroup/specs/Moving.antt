@@ -22,6 +22,7 @@ use Rattle.vx_logs.specs.Marks.{stride_of}
 use Rattle.vx_logs.specs.declared.logs.Logs.{Logs}
 use Rattle.vx_maplog.specs.Logs.{log_of}
 use Rattle.vx_model.specs.declared.errors.Stop.{Stop}
+use Rattle.vx_model.specs.declared.limits.TheConstants.{COMMIT_SERIALS}
 use Rattle.vx_volume.specs.Plexes.{active}
 use Rattle.vx_group.specs.Attaches.{region_count}
 use Rattle.vx_logged.specs.Holds.{HoldsRun}
@@ -134,7 +135,7 @@ pub record MapsBeginIn (may : ℕ → Bool) (c d : Config) (s t : Bool) (l k : L
 pub record MapsEnd (c d : Config) (s t : Bool) (l k : List Logs) (old new : Meaning) : Type 0 where
   pub so : (v : ℕ) → goes_by l c s v ≡ true → goes_by k d t v ≡ false
       → ((e : LogEntry) × (log_of c v Fmr ≡ Some e) × Rose (old.faults e.disk) (new.faults e.disk)) ⊎ (log_trusted c v Fmr ≡ false) ⊎ IsTrue new.down
-      ⊎ (greatest ≤ c.serial + 54) ⊎ (greatest ≤ d.serial + 9)
+      ⊎ (greatest ≤ c.serial + 6 * COMMIT_SERIALS) ⊎ (greatest ≤ d.serial + COMMIT_SERIALS)
 
 -- The map that an import took up is that of an image: its log is in use there by the configuration x, on a disk that this holds as good.
 pub record MapTaken (x d : Config) (v : ℕ) (f : Missed) (i : Image) : Type 0 where

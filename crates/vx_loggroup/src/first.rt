@@ -15,7 +15,7 @@ use vx_disk::{Shelf, ShelfError};
 use vx_group::GroupCore;
 use vx_logged::ready_group;
 use vx_logs::Logs;
-use vx_model::limits::MOST_VOLUMES;
+use vx_model::limits::{COMMIT_SERIALS, MOST_VOLUMES};
 
 /// Begins the logs of a volume that are held as lost, where of each block of it a crash leaves one value. No plex is called, and none changes its
 /// state. Where a log cannot begin it stays lost; a commit that is refused is the answer. It takes the memory of the logs, where there is some.
@@ -34,7 +34,7 @@ pub fn begin_first<S: Shelf>(
     ensures first { LogsFirst vol (region_count (wide core.old).config vol) logs.old.items logs.new.items }
     ensures news { ListMaps core.old.inner.config vol logs.old.items logs.new.items }
     ensures since { TrustsNew vol (logs_at logs.new.items vol) core.old core.new }
-    ensures few { OnOk result (core.new.inner.config.serial ≤ core.old.inner.config.serial + 27) }
+    ensures few { OnOk result (core.new.inner.config.serial ≤ core.old.inner.config.serial + 3 * COMMIT_SERIALS) }
     ensures trust { OnOk result (core.old.inner.committed ≡ true → core.new.inner.committed ≡ true) }
     ensures agreed { IfErr result (λ e. core.old.inner.committed ≡ true → core.new.inner.agreed ≡ true) }
     ensures cause { Cause (inner_meaning (wide core.old) (S.meaning shelf.old)) (inner_meaning (wide core.new) (S.meaning shelf.new)) vol result }
