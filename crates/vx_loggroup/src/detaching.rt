@@ -96,8 +96,6 @@ fn begin_missing<S: Shelf>(
     ensures stays { LogsStay core.now.inner.config core.now.inner.config logs.old.items logs.new.items (S.meaning shelf.old) (S.meaning shelf.new) }
     ensures down { IfErr result (λ stop. (stop ≡ Refused DownNo) × IsTrue (S.meaning shelf.new).down) }
 {
-    // What is known of the plexes stays as it is.
-    let _kept = alike.len();
     if blocks_of(&core.inner.config, vol) == 0 {
         return Ok(());
     }
@@ -130,8 +128,6 @@ fn keep_begun<S: Shelf>(
     ensures finds { GroupFinds core.old core.new (S.meaning shelf.old) (S.meaning shelf.new) }
     ensures cause { DetStops (S.meaning shelf.old) (S.meaning shelf.new) result }
 {
-    // What is known of the plexes stays as it is.
-    let _kept = alike.len();
     match keep_map(shelf, core, &logs[vol as usize], vol) {
         Ok(_) => Ok(()),
         Err(error) => Err(Stop::No(refusal(error))),

@@ -43,8 +43,6 @@ fn give_up<S: Shelf>(
     ensures stands { LoggedStands core.now logs.new.items alike.now stopped (S.meaning shelf.now) }
     ensures held { MapHeld core.now.inner.config vol logs.old.items logs.new.items }
 {
-    // The volumes stand as they did.
-    let _kept = (shelf.is_down(), alike.len(), stopped);
     if !on_failed_disk(&core.inner.config, vol, VolumeLog::Fmr) {
         return;
     }

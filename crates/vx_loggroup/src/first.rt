@@ -39,8 +39,6 @@ pub fn begin_first<S: Shelf>(
     ensures agreed { IfErr result (λ e. core.old.inner.committed ≡ true → core.new.inner.agreed ≡ true) }
     ensures cause { Cause (inner_meaning (wide core.old) (S.meaning shelf.old)) (inner_meaning (wide core.new) (S.meaning shelf.new)) vol result }
 {
-    // What is known of the plexes stays as it is.
-    let _kept = alike.len();
     let ready = match ready_group(shelf, core, vol) {
         Ok(ready) => ready,
         Err(error) => return Err(error),

@@ -66,8 +66,6 @@ pub fn lose_gone<S: Shelf>(
     ensures free { OnOk result (core.new.held ≡ None) }
     ensures cause { DetStops (S.meaning shelf.old) (S.meaning shelf.new) result }
 {
-    // What is kept of the volumes stays as it is.
-    let _kept = (logs.len(), alike.len());
     if !is_gone(&core.inner.config, logs.as_slice(), vol) {
         return Ok(());
     }
