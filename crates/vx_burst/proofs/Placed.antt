@@ -1,5 +1,6 @@
 -- The calls that were made, by their places.
 use Rattle.std.proofs.Common.{◌≡◌, ◌⊎◌, ℕ, zero, suc, ◌+◌, ◌-◌, ◌<◌, ◌≤◌, ◌==◌, List, [], ◌∷◌, ◌++◌, length, map, take, refl, ap, sym, ◌∙◌, subst, ⊎_elim, inl, inr, arith, ne_eqb, Some, slice_get, slice_index_or}
+use Rattle.std.proofs.lemmas.List.{length-map}
 use Rattle.std.proofs.lemmas.Option.{get_or_from_slice_get}
 use Rattle.atomic_table.specs.Seated.{TableId}
 use Rattle.vx_model.specs.declared.call.Call.{Call}
@@ -126,10 +127,6 @@ map-get : {A B : Type 0} (f : A → B) (xs : List A) (i : ℕ) (b : B) → slice
 map-get f [] i b at = absurd (cc at)
 map-get f (y ∷ ys) zero b at = (y, refl, some-one at)
 map-get f (y ∷ ys) (suc i) b at = map-get f ys i b at
-
-map-long : {A B : Type 0} (f : A → B) (xs : List A) → length (map f xs) ≡ length xs
-map-long f [] = refl
-map-long f (x ∷ xs) = ap suc (map-long f xs)
 
 rising-of : (n : ℕ) (xs : List Spot) → ((i : ℕ) (s : Spot) → slice_get xs i ≡ Some s → n < s.place) → ((i k : ℕ) (s t : Spot) → i < k → slice_get xs i ≡ Some s → slice_get xs k ≡ Some t → s.place < t.place) → Rising n (map (λ (s : Spot). s.place) xs)
 rising-of n [] low up = tt
@@ -292,7 +289,7 @@ module _ {P : Type 0} (stand : P → Stand) (root : P → P) (z : TableId) (star
           underway = under;
           left = stay-picked (IsAskedAgain plan news) 0 ev 0 log ps (rising-of 0 spots (λ i t at. (let n = noted.each i t at in let a = n.1.2 in let b = n.1.3 in omega (arith, a, b))) spots-rise) top ordered is class;
           calls = λ e m. of-plan stand root z start callers plan firsts p q out log j e m.0 (classify stand root z start callers plan firsts p q out log j m.0 e m.1);
-          count = map-long ev ps ∙ map-long (λ (t : Spot). t.place) spots;
+          count = length-map ps ev ∙ length-map spots (λ (t : Spot). t.place);
           rest = let c = noted.count in let u = unplaced-ext olds news numbered.long kept in let w = ap unplaced (take-whole olds) in let l = laid.long in omega (arith, c, u, w, l, long);
           long = numbered.long ∙ (laid.long ∙ long);
           each = λ k pl b get at some. let o = news-spot k b at some in let f = spot-info o.0 o.1 o.2 in let m = made-info f.made f.by in

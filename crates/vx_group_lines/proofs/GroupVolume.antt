@@ -2,7 +2,7 @@
 use Rattle.std.proofs.Common.{◌≡◌, ◌∙◌, ◌⊎◌, ◌+◌, ◌-◌, ◌^◌, ◌<◌, ◌≤◌, ℕ, Bool, true, false, List, [], ◌∷◌, map, length, ap, sym, subst, refl, arith, inl, inr, ⊎_elim}
 use Rattle.std.specs.Prelude.{Option, Some, None, find, not, ◌&&◌, ◌||◌, ◌==◌, nat_le, nat_lt, bytes_eq, if◌then◌else◌, slice_get, slice_set, Result, Ok, Err}
 use Rattle.std.specs.List.{list_any}
-use Rattle.std.proofs.lemmas.Bool.{eqb-true}
+use Rattle.std.proofs.lemmas.Bool.{both_ways, eqb-true}
 use Rattle.std.proofs.lemmas.Bool.Decides.{nat_tests}
 use Rattle.std.proofs.lemmas.List.{length-map}
 use Rattle.vx_model.specs.declared.errors.OutOfMemory.{OutOfMemory}
@@ -95,9 +95,6 @@ both_of : (a b : Bool) → (a && b) ≡ true → (a ≡ true) × (b ≡ true)
 both_of true b is = (refl, is)
 both_of false b is = absurd (let no_one : false ≡ true = is in cc)
 
-never_both : (b : Bool) → b ≡ true → b ≡ false → ⊥
-never_both b on off = let no_one : true ≡ false = sym on ∙ off in cc
-
 past_of : (n v : ℕ) → v < n → nat_le n v ≡ true → ⊥
 past_of n v below past = grind (arith, nat_tests)
 
@@ -151,7 +148,7 @@ none_named name (v ∷ vs) none =
 volume_why : (c : Config) (name : List ℕ) (want : Shape) (why : No) → list_any (has_name name) c.volumes ≡ false → length c.volumes < MOST_VOLUMES → want.mirrors ≤ MOST_PLEXES → is_shape want ≡ true
     → make_refusal c name want ≡ Some why → why ≡ Limit Numbers MOST_NUMBER
 volume_why c name want why free few plexes shape is = ⊎_elim
-    (λ first. absurd (never_both (list_any (has_name name) c.volumes) first.0 free))
+    (λ first. absurd (both_ways (list_any (has_name name) c.volumes) free first.0))
     (λ one. ⊎_elim
     (λ full. absurd (past_of MOST_VOLUMES (length c.volumes) few full.0))
     (λ two. ⊎_elim

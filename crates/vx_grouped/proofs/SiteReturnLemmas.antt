@@ -1,5 +1,6 @@
 -- A recovery of a site's group, by its note.
 use Rattle.std.proofs.Common.{⊎_elim, ◌≡◌, ◌⊎◌, inl, inr, ℕ, zero, suc, ◌<◌, Bool, true, false, List, [], ◌∷◌, length, IsTrue, IsFalse, refl, sym, ◌∙◌, ap, subst, arith, not}
+use Rattle.std.proofs.lemmas.Bool.{both_ways}
 use Rattle.std.specs.Prelude.{if◌then◌else◌, slice_get, Option, Some, None, Ok, Err}
 use Rattle.std.proofs.lemmas.Option.{slice_get_within}
 use Rattle.vx_model.specs.declared.errors.Stop.{Stop}
@@ -134,10 +135,6 @@ frames_long [] (u ∷ us) same = absurd (let no_one : Some (frame u) ≡ None = 
 frames_long (v ∷ vs) [] same = absurd (let no_one : None ≡ Some (frame v) = same 0 in cc)
 frames_long (v ∷ vs) (u ∷ us) same = let rest = frames_long vs us (λ k. same (suc k)) in omega (arith, rest)
 
-up_not_down : (down : Bool) → IsFalse down → IsTrue down → ⊥
-up_not_down true up is = let clash : true ≡ false = up in cc
-up_not_down false up is = let clash : false ≡ true = is in cc
-
 unarmed_any : (f : Fuse) (m : Meaning) → IsFalse m.armed → HasFuse (burned f) m
 unarmed_any NoFuse m none = none
 unarmed_any (FuseSet calls) m none = tt
@@ -227,7 +224,7 @@ module _ (n : Node) (note : GroupNode) (last : Config) (m m' m3 : Meaning) (law 
 
 -- a site that crashed has no fuse that could run out
 never_off : (m m' : Meaning) (stop : Stop) → IsFalse m.down → IsFalse m.armed → CalledSince m m' → ImportStops m m' stop → stop ≡ Refused IsOff → ⊥
-never_off m m' stop up unarmed since stops is = up_not_down m.down up (since.safe unarmed (down_of m m' stop (ap stops_down is) stops))
+never_off m m' stop up unarmed since stops is = both_ways m.down up (since.safe unarmed (down_of m m' stop (ap stops_down is) stops))
 
 module _ {R : Type 0} {g : Ghosts R} (n : Node) (note : GroupNode) (racks : (s : Shade R) → IsRack (shade_meaning g.meaning s)) (laws : (s : Shade R) → Lawful (shade_meaning g.meaning s)) where
   -- ---- a site that crashed
@@ -414,7 +411,7 @@ module _ {R : Type 0} {g : Ghosts R} (n : Node) (note : GroupNode) (racks : (s :
               away_as_is (not (stops_early stop)) idle.agreed (g.meaning (rack_of new)).tells (shade_meaning g.meaning new)
                   (less_away n note (shade_meaning g.meaning fallen) (shade_meaning g.meaning new) alike.contents.units alike.contents.size alike.contents.leaves away.last (lies_fell (stops_early stop) refl))
                   (less_noted note away.newest (shade_meaning g.meaning fallen) (shade_meaning g.meaning new) (less_from (shade_meaning g.meaning fallen) (shade_meaning g.meaning new) alike.contents.units alike.contents.size alike.contents.leaves) (found_fell (stops_early stop) refl))
-                  (up_not_down (shade_meaning g.meaning new).down up) (unarmed_any n.fuse (shade_meaning g.meaning new) (armed ∙ fell.unarmed))
+                  (both_ways (shade_meaning g.meaning new).down up) (unarmed_any n.fuse (shade_meaning g.meaning new) (armed ∙ fell.unarmed))
                   (λ bright told. alike.contents.tells ∙ lit_fell (stops_early stop) refl bright (rises told)) agreed,
               inl (armed ∙ fell.unarmed),
               why_away new (is_up (shade_meaning g.meaning rack).down away.up) (λ d. alike.counts.disk_faults d ∙ counts d) (λ tells. tells_rack (sym alike.contents.tells ∙ tells)) (never_stops off),

@@ -1,5 +1,6 @@
 -- What the maps of missed regions know of a volume of a group beside marks, and behind a write.
 use Rattle.std.proofs.Common.{◌≡◌, ◌∙◌, ◌⊎◌, inl, inr, ℕ, ◌+◌, ◌/◌, ◌≤◌, Bool, true, false, Some, None, List, IsTrue, length, refl, sym, ap, subst, arith}
+use Rattle.std.proofs.lemmas.Bool.{not-false}
 use Rattle.std.specs.Prelude.{◌&&◌, ◌||◌, ◌-◌, not}
 use Rattle.vx_bitmap.specs.Bits.{is_among}
 use Rattle.vx_config.specs.declared.config.Config.{Config}
@@ -100,10 +101,6 @@ split_or : (a b : Bool) → a || b ≡ false → (a ≡ false) × (b ≡ false)
 split_or true b is = absurd (let clash : true ≡ false = is in cc)
 split_or false b is = (refl, is)
 
-not_off : (b : Bool) → not b ≡ false → b ≡ true
-not_off true is = refl
-not_off false is = absurd (let clash : true ≡ false = is in cc)
-
 module _ (c d : GroupCore) (v block : ℕ) (bytes : List ℕ) (m m' : Meaning) (stands : GroupStands c m) (fits : Fits (inner_meaning (wide c) m) v block (length bytes))
     (acts : PlexActs (OnPlexes (wide c).config v block (length bytes / 512) bytes) (wide c).config (wide d).config m m') where
   -- what a plex reads out of the run
@@ -154,7 +151,7 @@ module _ (c d : GroupCore) (v block : ℕ) (bytes : List ℕ) (m m' : Meaning) (
           let one = split_or ((not (active (wide d).config v p) && is_among (first_region block) (last_region block n) (b / 64)) || false) (has_missed f p (b / 64)) clear in
           let two = split_or (not (active (wide d).config v p) && is_among (first_region block) (last_region block n) (b / 64)) false one.0 in
           elim (and_false (not (active (wide d).config v p)) (is_among (first_region block) (last_region block n) (b / 64)) two.0) [
-            | inl off ↦ both f is up p q b x y has (not_off (active (wide d).config v p) off) on inside one.1 at_p at_q
+            | inl off ↦ both f is up p q b x y has (not-false (active (wide d).config v p) off) on inside one.1 at_p at_q
             | inr out ↦ know_out f is up p q b x y has on inside one.1 (out_of block n b out) at_p at_q
           ];
     };

@@ -1,7 +1,7 @@
 -- Every event leaves what lines hold, what was answered, sent and promised.
 use Rattle.std.proofs.Common.{◌≡◌, ℕ, ◌+◌, ◌-◌, ◌≤◌, List, [], ◌∷◌, ◌++◌, take, refl, ap, sym, ◌∙◌, subst, arith, append_assoc, Bool, true, false}
 use Rattle.std.specs.Prelude.{leb, not, if◌then◌else◌, Option, Some, None, eqb, ltb, ◌&&◌, ◌||◌, bytes_eq}
-use Rattle.std.proofs.lemmas.List.{take-take}
+use Rattle.std.proofs.lemmas.List.{append-nil, take-take}
 use Rattle.vx_model.specs.Content.{Write, Content, IsPrefixOf, blocks_in}
 use Rattle.vx_model.specs.Answer.{is_too_large}
 use Rattle.vx_history.specs.Admission.{Admitted, Held_by, Goes}
@@ -49,10 +49,6 @@ use Rattle.vx_world.proofs.Guards
 use Rattle.vx_world.proofs.Nodes
 use Rattle.vx_world.proofs.Changes.{links_changed_keeps}
 use Rattle.vx_world.proofs.Stays.{step_keeps}
-
-append-nil : {A : Type 0} (xs : List A) → xs ++ [] ≡ xs
-append-nil [] = refl
-append-nil (x ∷ xs) = ap (λ t. x ∷ t) (append-nil xs)
 
 pub grown_same : (w : World) → GrownWorld w w
 grown_same w = record {

@@ -3,6 +3,7 @@ use Rattle.std.proofs.Common.{◌≡◌, ◌∙◌, ℕ, zero, suc, ◌+◌, ◌
 use Rattle.std.specs.Prelude.{Option, Some, None, ◌||◌, eqb, leb, if◌then◌else◌, slice_get}
 use Rattle.std.specs.List.{AllByRecursion}
 use Rattle.std.proofs.lemmas.Bool.Decides.{nat_tests}
+use Rattle.std.proofs.lemmas.List.{append-nil}
 use Rattle.vx_model.specs.Content.{Write, Content, blocks_in, put, fold_writes}
 use Rattle.vx_model.specs.declared.history.Line.{Line}
 use Rattle.vx_model.specs.declared.site.SiteState.TheVariants.{Bare, Up}
@@ -17,7 +18,6 @@ use Rattle.vx_history.specs.Refusals.{agree}
 use Rattle.vx_history.specs.Fits.{WriteFits, Fitting, IsSized, IsAlike, blocks_of_volume}
 use Rattle.vx_history.specs.GoodGatherings.{IsPart, Gathers, MayGather}
 use Rattle.vx_world.proofs.Lists.{each_append, each_weaker}
-use Rattle.vx_world.proofs.Told.{append-nil}
 
 -- the links of each site have their places
 abbrev pub ArePlaced : World → Type 0
