@@ -5,6 +5,7 @@ use Rattle.std.proofs.lemmas.Option.{get_or_from_slice_get}
 use Rattle.atomic_table.specs.Seated.{TableId}
 use Rattle.vx_model.specs.declared.call.Call.{Call}
 use Rattle.vx_model.specs.Numbers.{one_if}
+use Rattle.vx_model.proofs.Lists.{get_there}
 use Rattle.vx_turn.specs.declared.ask.Ask.{Ask}
 use Rattle.vx_turn.specs.declared.ask.Ask.TheVariants.{Ordered, Charged}
 use Rattle.vx_turn.specs.declared.ask.Said.{Said}
@@ -36,7 +37,7 @@ use Rattle.vx_burst_threads.specs.Laying.{LaidWith, answered_as}
 use Rattle.vx_burst.specs.declared.placing.Spot.{Spot}
 use Rattle.vx_burst.specs.Placing.{SpotsNoted, SpotsNumbered}
 use Rattle.vx_burst.proofs.Placings.{once-same}
-use Rattle.vx_burst.proofs.Underways.{get-some, job_entry}
+use Rattle.vx_burst.proofs.Underways.{job_entry}
 use Rattle.vx_burst.proofs.Ends.{classify, of-plan, IsMadeAt, IsOpen, IsIdle}
 use Rattle.vx_burst.specs.Setting.{AreBlank}
 use Rattle.vx_burst.specs.Finishing.{IsLeftOut, IsCallAsk, Stay, IsAskedAgain, unplaced, BurstUnderway, IsPlaced, BurstStage}
@@ -263,7 +264,7 @@ module _ {P : Type 0} (stand : P → Stand) (root : P → P) (z : TableId) (star
     -- each call that was made has its spot
     pub made-spot : (m : Made) → IsMadeBy j.xs m → (s : Spot) × LiesAmong s spots × (s.at ≡ m.at) × (s.place ≡ m.place)
     made-spot m by = let info = made-info m by in let inside = get-inside plan m.at info.is.planned info.is.is in let l = laid.long in
-        let a = get-some olds m.at (omega (arith, inside, l, long)) in ⊎_elim
+        let a = get_there olds m.at (omega (arith, inside, l, long)) in ⊎_elim
         (λ (o : (slice_get blanks m.at ≡ Some a.0) × ((d : Made) → IsMadeBy j.xs d → d.at ≡ m.at → ⊥)). absurd (o.1 m by refl))
         (λ (o : (d : Made) × IsMadeBy j.xs d × (d.at ≡ m.at) × (a.0 ≡ answered_as d)).
         let same = made-at o.0 m (made-info o.0 o.1) info o.2 in let pl : a.0.place ≡ o.0.place = ap (λ (y : Answered). y.place) o.3 in let up = info.place in
@@ -342,7 +343,7 @@ module _ {P : Type 0} (stand : P → Stand) (root : P → P) (z : TableId) (star
           ordered n m = let t = map-get (λ (t : Spot). t.place) spots m.0 n m.1 in subst (λ (y : Ask × Said). IsCallAsk y.0) (sym (event m.0 t.0 t.1) ∙ ap ev t.2) tt
 
           open-again : (m : ℕ) (call : Call) → IsOpen stand root z start callers plan firsts p q out log j 0 call → IsAskedAgain plan news m call
-          open-again m call (k, pl, is, same, none) = let inside = get-inside plan k pl is in let l = numbered.long ∙ (laid.long ∙ long) in let b = get-some news k (omega (arith, inside, l)) in (
+          open-again m call (k, pl, is, same, none) = let inside = get-inside plan k pl is in let l = numbered.long ∙ (laid.long ∙ long) in let b = get_there news k (omega (arith, inside, l)) in (
             k,
             pl,
             b.0,

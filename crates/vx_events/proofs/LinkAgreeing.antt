@@ -1,5 +1,5 @@
 -- Where no test of a line on a link refuses, its event does not either.
-use Rattle.std.proofs.Common.{◌≡◌, ◌∙◌, ◌+◌, ◌<◌, ℕ, zero, suc, List, [], ◌∷◌, length, Bool, true, false, ap, subst, refl, arith}
+use Rattle.std.proofs.Common.{◌≡◌, ◌∙◌, ◌+◌, ◌<◌, ℕ, zero, suc, List, [], length, Bool, true, false, ap, subst, refl, arith}
 use Rattle.std.specs.Prelude.{Option, Some, None, slice_get, not, ◌&&◌, ◌||◌, ◌==◌, nat_lt, nat_le, if◌then◌else◌}
 use Rattle.std.proofs.lemmas.Bool.Decides.{nat_tests}
 use Rattle.vx_model.specs.Sites.{is_origin}
@@ -10,6 +10,7 @@ use Rattle.vx_model.specs.declared.no.Named.TheVariants.{Number as ByNumber}
 use Rattle.vx_model.specs.declared.no.No.TheVariants.{Unknown, Role as WrongRole, LinkDown, Paused}
 use Rattle.vx_model.specs.declared.no.SiteName.TheVariants.{Number as SiteNumber}
 use Rattle.vx_model.specs.declared.site.Role.{Role}
+use Rattle.vx_model.proofs.Lists.{get_there}
 use Rattle.vx_history.specs.Events.{packet_at}
 use Rattle.vx_history.specs.Refusals.{Outcome, unless, at_site, at_work, on_link_if, keeps_links, when_live}
 use Rattle.vx_history.specs.Sends.{is_linked}
@@ -118,11 +119,6 @@ module _ (w : World) (files : Bool) (p s : List ℕ) where
 
 -- ---- packets
 
-get_below : {A : Type 0} (xs : List A) (k : ℕ) → k < length xs → (x : A) × (slice_get xs k ≡ Some x)
-get_below [] k h = absurd (omega (arith, h))
-get_below (x ∷ xs) zero h = (x, refl)
-get_below (x ∷ xs) (suc k) h = get_below xs k (omega (arith, h))
-
 le_fails : (m n : ℕ) → nat_le m n ≡ false → n < m
 le_fails m n e = grind (arith, nat_tests)
 
@@ -131,5 +127,5 @@ packet_agrees w files zero free = absurd (cc)
 packet_agrees w files (suc k) free =
     let tests = neither (suc k == 0) (nat_lt (length w.packets) (suc k) || nat_le (suc k + MOST_PACKETS) (length w.packets)) (when_none (suc k == 0 || (nat_lt (length w.packets) (suc k) || nat_le (suc k + MOST_PACKETS) (length w.packets))) _ free) in
     let bounds = neither (nat_lt (length w.packets) (suc k)) (nat_le (suc k + MOST_PACKETS) (length w.packets)) tests.1 in
-    let there = get_below w.packets k (omega (arith, lt_false (length w.packets) (suc k) bounds.0)) in
+    let there = get_there w.packets k (omega (arith, lt_false (length w.packets) (suc k) bounds.0)) in
     (there.0, ap (λ (c : Bool). if c then None else slice_get w.packets k) (above (suc k + MOST_PACKETS) (length w.packets) (le_fails (suc k + MOST_PACKETS) (length w.packets) bounds.1)) ∙ there.1)

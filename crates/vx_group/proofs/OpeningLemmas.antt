@@ -1,11 +1,12 @@
 -- A configuration in which one plex more is ACTIVE, over the core of a group.
-use Rattle.std.proofs.Common.{◌≡◌, ◌⊎◌, inl, inr, ℕ, zero, suc, ◌+◌, ◌-◌, ◌<◌, ◌≤◌, Bool, true, false, IsTrue, Option, Some, None, List, [], ◌∷◌, length, refl, ap, sym, ◌∙◌, subst, arith}
+use Rattle.std.proofs.Common.{◌≡◌, ◌⊎◌, inl, inr, ℕ, ◌+◌, ◌-◌, ◌<◌, ◌≤◌, Bool, true, false, IsTrue, Option, Some, None, List, [], length, refl, ap, sym, ◌∙◌, subst, arith}
 use Rattle.std.specs.Prelude.{nat_le, nat_lt, if◌then◌else◌, slice_get}
 use Rattle.std.proofs.lemmas.Bool.{and_from, and_parts, cases_eq, cases_lt, le-leb, lt-ltb}
 use Rattle.vx_disk.specs.Shelf.{Meaning}
 use Rattle.vx_model.specs.declared.no.No.{No}
 use Rattle.vx_model.specs.declared.site.PlexState.{PlexState}
 use Rattle.vx_model.specs.declared.site.PlexState.TheVariants.{Active, Clean, Stale}
+use Rattle.vx_model.proofs.Lists.{get_there}
 use Rattle.vx_config.specs.Changes.{stated, with_state}
 use Rattle.vx_config.specs.Checks.{is_live, is_sound, plexes_of, plexes_or}
 use Rattle.vx_config.specs.Table.{greatest}
@@ -44,11 +45,6 @@ less_of n k is = elim (cases_lt k n) [
   | inl lt ↦ lt
   | inr le ↦ absurd (let clash : true ≡ false = sym (le-leb n k le) ∙ is in cc)
 ]
-
-some_at : {A : Type 0} (xs : List A) (k : ℕ) → k < length xs → (x : A) × (slice_get xs k ≡ Some x)
-some_at [] k lt = absurd (omega (arith, lt))
-some_at (x ∷ xs) zero lt = (x, refl)
-some_at (x ∷ xs) (suc k) lt = some_at xs k (omega (arith, lt))
 
 -- there is such a plex
 pub record Present (c : Config) (v p : ℕ) : Type 0 where
@@ -91,9 +87,9 @@ later_may c d v p may volumes few = may_behind c d v p (may_attach c v p may) (l
 
 pub present : (c : Config) (v p : ℕ) → MayAttach c v p → Present c v p
 present c v p may =
-    let one = some_at c.volumes v may.volume in
+    let one = get_there c.volumes v may.volume in
     let count : plexes_of c v ≡ length (one.0).plexes = ap plexes_or one.1 in
-    let two = some_at (one.0).plexes p (let less = may.plex in omega (arith, count, less)) in
+    let two = get_there (one.0).plexes p (let less = may.plex in omega (arith, count, less)) in
     record { volume = one.0; plex = two.0; at_v = one.1; at_p = two.1 }
 
 -- what may be attached hangs on volumes and serial

@@ -9,6 +9,7 @@ use Rattle.vx_model.specs.declared.errors.Stop.{Stop}
 use Rattle.vx_model.specs.declared.errors.Stop.TheVariants.{No as Refused, OutOfMemory}
 use Rattle.vx_model.specs.declared.no.No.{No}
 use Rattle.vx_model.specs.declared.no.No.TheVariants as refusal
+use Rattle.vx_model.proofs.Lists.{get_end}
 use Rattle.vx_disk.specs.Shelf.{Goes, Lawful, Meaning, Nothing}
 use Rattle.vx_disk.proofs.Runs.{then_nothing}
 use Rattle.vx_history.specs.Groups.{BlockMay, GroupNode}
@@ -28,7 +29,6 @@ use Rattle.vx_group.specs.declared.group_core.GroupCore.{GroupCore}
 use Rattle.vx_group.specs.declared.group_core.Held.{Held}
 use Rattle.vx_group.specs.declared.inner.Inner.{Inner}
 use Rattle.vx_group.proofs.HoldLemmas.{active_at_volumes, wide_none, wide_shape}
-use Rattle.vx_group.proofs.LongerLemmas.{get_end}
 use Rattle.vx_group.proofs.MakeLemmas.{volumes_Goes}
 use Rattle.vx_group.proofs.Standing.{apart_of_core}
 use Rattle.vx_grouped.specs.Added.{VolumeLeaves, note_added}

@@ -20,6 +20,7 @@ use Rattle.vx_disk.specs.Racks.{IsRack}
 use Rattle.vx_disk.specs.declared.shelf.Shelf.{Ghosts}
 use Rattle.vx_model.specs.declared.site.Mark.TheVariants.{Consistent}
 use Rattle.vx_model.specs.declared.state.State.{State}
+use Rattle.vx_model.proofs.Lists.{get_there}
 use Rattle.vx_diskset.specs.Asked.{HeadUnder}
 use Rattle.vx_diskset.specs.Holds.{beside_of, header_links, state_with}
 use Rattle.vx_diskset.specs.Stands.{SiteStands}
@@ -48,7 +49,6 @@ use Rattle.vx_link_lines.proofs.LinkChain as chain
 use Rattle.vx_link_lines.proofs.NotedBoth.{carries_both, note_both, notes_both, stands_both}
 use Rattle.vx_yard.proofs.BothSites.{UnderJoined, UnderMade, UnderMarked, UnderOpened, link_burns, stops_joined, stops_made, stops_marked, stops_opened, under_joined, under_made, under_marked, under_opened}
 use Rattle.vx_yard.proofs.HeadNeeds.{head_passes, head_works, refused_undone}
-use Rattle.vx_yard.proofs.WriteLine.{get_there}
 
 -- counts that rose by nothing, and then by so much
 rose_more : (n a b c : ℕ) → RoseBy 0 a b → RoseBy n b c → RoseBy n a c

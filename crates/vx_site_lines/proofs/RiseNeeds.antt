@@ -1,5 +1,5 @@
 -- The blocks of a log that the links need which its header keeps.
-use Rattle.std.proofs.Common.{◌≡◌, ◌∙◌, ◌<◌, ◌≤◌, ◌+◌, ◌⊎◌, ℕ, zero, suc, Bool, true, false, List, [], ◌∷◌, length, slice_index_or, ap, sym, subst, refl, arith, inl, inr, ⊎_elim}
+use Rattle.std.proofs.Common.{◌≡◌, ◌∙◌, ◌<◌, ◌≤◌, ◌+◌, ◌⊎◌, ℕ, Bool, true, false, List, [], ◌∷◌, length, ap, sym, subst, refl, arith, inl, inr, ⊎_elim}
 use Rattle.std.specs.Prelude.{Option, Some, None, ◌&&◌, drop, if◌then◌else◌, slice_get, slice_set, IfSome, IsSome}
 use Rattle.std.proofs.lemmas.Bool.{cases_eq}
 use Rattle.std.proofs.lemmas.Option.{slice_get_within}
@@ -87,12 +87,6 @@ needs_all n links used k all below = record { each = λ j l at. below.each j l (
 pub need_got : (n : Node) (l : KeptLink) (r : Option ℕ) (blocks : ℕ) → r ≡ Some blocks → IfSome r (λ b. IsNeed n l b) → IsNeed n l blocks
 need_got n l r blocks is h = subst (λ (x : Option ℕ). IfSome x (λ b. IsNeed n l b)) is h
 
--- an element of a list, at its place
-pub got : {A : Type 0} (xs : List A) (k : ℕ) (d : A) → k < length xs → slice_get xs k ≡ Some (slice_index_or xs k d)
-got [] k d h = absurd (omega (arith, h))
-got (x ∷ xs) zero d h = refl
-got (x ∷ xs) (suc k) d h = got xs k d (omega (arith, h))
-
 -- a site may rise with what its log keeps where it may with the links that it has
 pub rises_with : (s sites : ℕ) (n : Node) (links : List KeptLink) (state : State) → state ≡ state_with n state.links → state.links ≡ links → can_rise s sites (state_with n links) ≡ true → can_rise s sites state ≡ true
 rises_with s sites n links state is same may = ap (λ st. can_rise s sites st) (is ∙ ap (λ ls. state_with n ls) same) ∙ may
@@ -118,12 +112,6 @@ noted_risen fs s f before stood again state last ring used links below at first 
     ∙ ap (λ (x : SiteFacts). slice_set fs s (record x { links = links }))
     (some_same (sym second ∙ get-set_same fs s stood below) ∙ is ∙ ap (λ (x : SiteFacts). up_facts state last ring x) (some_same (sym first ∙ at)))
     ∙ ap (λ (ls : List LinkFacts). slice_set fs s (record (up_facts state last ring f) { links = ls })) found
-
--- a place of a list has an element
-pub some_at : {A : Type 0} (xs : List A) (i : ℕ) → i < length xs → (x : A) × (slice_get xs i ≡ Some x)
-some_at [] i h = absurd (omega (arith, h))
-some_at (x ∷ xs) zero h = (x, refl)
-some_at (x ∷ xs) (suc i) h = some_at xs i (omega (arith, h))
 
 few_again : (ls : List KeptLink) (us : List ℕ) → length (facts_again ls us) ≤ length ls
 few_again [] us = omega arith

@@ -29,4 +29,3 @@ pub mod Rows
 pub mod Seats
 pub mod SettleCalls
 pub mod SiteEvents
-pub mod WriteLine
