@@ -6,8 +6,6 @@ use Rattle.vx_model.specs.Sites.{is_origin, is_up}
 use Rattle.vx_model.specs.declared.no.Named.TheVariants.{Number as ByNumber}
 use Rattle.vx_model.specs.declared.no.No.TheVariants.{Down as NotUp, LinkDown, Paused, Role as WrongRole, Unknown}
 use Rattle.vx_model.specs.declared.no.SiteName.TheVariants.{Number as SiteNumber}
-use Rattle.vx_model.specs.declared.site.Role.{Role}
-use Rattle.vx_model.specs.declared.site.Role.TheVariants.{Primary, Secondary, Handing, Bunker}
 use Rattle.vx_history.specs.Doubts.{Doubted, Runs}
 use Rattle.vx_history.specs.Events.{greeting_back, link_event, ticked_at}
 use Rattle.vx_history.specs.GoodWorld.{GoodWorld}
@@ -20,6 +18,7 @@ use Rattle.vx_history.specs.declared.event.Event.{Event}
 use Rattle.vx_history.specs.declared.event.Event.TheVariants.{Connect, Pump, Tick}
 use Rattle.vx_history.specs.declared.event.Said.TheVariants.{Done as IsDone}
 use Rattle.vx_history.specs.declared.sender.SEvent.TheVariants.{Connect as ConnectLink, Pump as PumpLink}
+use Rattle.vx_history.proofs.States.{origin_keeps}
 use Rattle.vx_script.specs.declared.line.ScriptLine.TheVariants.{Settle}
 use Rattle.vx_events.specs.Facts.{head_of, site_number}
 use Rattle.vx_events.specs.LinkEnds.{AreLeft, LinkEnds, LinkReplies, LinksDone}
@@ -35,12 +34,6 @@ use Rattle.vx_settling.specs.Kinds.{StaysAs}
 use Rattle.vx_settling.proofs.Running.{are_all, no_fails, run_stays, runs_only}
 
 -- ---- tests that are passed
-
-origin_keeps : (r : Role) → is_origin r ≡ true → keeps_links r ≡ true
-origin_keeps Primary e = refl
-origin_keeps Secondary e = absurd (cc)
-origin_keeps (Handing to) e = refl
-origin_keeps Bunker e = absurd (cc)
 
 not_past : (a b : ℕ) → b < a → leb a b ≡ false
 not_past a b h = grind (arith, nat_tests)

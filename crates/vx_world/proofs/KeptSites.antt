@@ -1,5 +1,6 @@
 -- Crashes, recoveries, and sites that are made or join keep all that holds of the world.
 use Rattle.std.proofs.Common.{◌≡◌, ◌∙◌, ◌⊎◌, inl, inr, ℕ, zero, suc, ◌+◌, ◌-◌, ◌<◌, List, [], ◌∷◌, length, take, drop, refl, ap, sym, subst, arith, Bool, true, false}
+use Rattle.std.proofs.lemmas.Bool.{not-false}
 use Rattle.std.specs.Prelude.{leb, not, if◌then◌else◌, Option, Some, None, eqb, ltb, ◌&&◌, ◌||◌}
 use Rattle.std.specs.List.{AllByRecursion}
 use Rattle.std.proofs.lemmas.Bool.Decides.{nat_tests}
@@ -33,7 +34,7 @@ use Rattle.vx_history.specs.GoodGatherings.{IsPart, MayGather}
 use Rattle.vx_history.specs.Sound.{Sound, is_at_rest}
 use Rattle.vx_history.specs.declared.event.LinkPart.{LinkPart}
 use Rattle.vx_history.specs.declared.event.LinkPart.TheVariants.{Joins, Made, Marked, Opened}
-use Rattle.vx_world.proofs.Lists.{each_weaker, not_false}
+use Rattle.vx_world.proofs.Lists.{each_weaker}
 use Rattle.vx_world.proofs.Guards
 use Rattle.vx_world.proofs.Guards.{rest_bare}
 use Rattle.vx_world.proofs.Nodes
@@ -266,11 +267,11 @@ link_part_leaves Joins w p q sync s up there =
     (λ _. Guards.unless_holds (Keeps w) (leb MOST_LINKS (count_links_of w p)) (Limit Links MOST_LINKS) w fits (keeps_same w)
     (λ _. Guards.unless_holds (Keeps w) (not fit) Size w o (keeps_same w)
     (λ sizes. join_leaves w p q
-    ((s.good.nodes p).own_line (up_is_made a up) (Guards.primary_origin a.role (and_left (is_primary a.role) _ (not_false (may_link w p q) may))))
+    ((s.good.nodes p).own_line (up_is_made a up) (Guards.primary_origin a.role (and_left (is_primary a.role) _ (not-false (may_link w p q) may))))
     (record {
-      volumes = and_left (agree a.volumes (w.nodes q).volumes) (rings_fit a (w.nodes q)) (not_false fit sizes);
+      volumes = and_left (agree a.volumes (w.nodes q).volumes) (rings_fit a (w.nodes q)) (not-false fit sizes);
       rings = and_right
-          (agree a.volumes (w.nodes q).volumes) (rings_fit a (w.nodes q)) (not_false fit sizes);
+          (agree a.volumes (w.nodes q).volumes) (rings_fit a (w.nodes q)) (not-false fit sizes);
     })))))
 link_part_leaves Made w p q sync s up there =
     let l : LinkRecord = Events.new_link (count_links_of w p) sync (w.nodes q) in
