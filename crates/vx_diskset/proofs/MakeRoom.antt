@@ -33,12 +33,13 @@ use Rattle.vx_diskset.specs.Holds.{HasSite, HasWrites}
 use Rattle.vx_diskset.specs.Rooms.{AppliedAs, IsRoomy, RoomIs}
 use Rattle.vx_grouped.specs.SetFuses.{HasFuse}
 use Rattle.vx_history.specs.Stops.{IsFused}
+use Rattle.vx_history.proofs.Fuses.{burned_twice, fused_before}
 use Rattle.vx_diskset.specs.Stands.{IsUpAt, IsHeldAt}
 use Rattle.vx_diskset.proofs.ApplyGroup.{ended_log}
 use Rattle.vx_diskset.proofs.BesideLemmas.{site_map}
 use Rattle.vx_diskset.proofs.Laying.{lies_moved}
 use Rattle.vx_diskset.proofs.LastWrites.{retains_with, saving_with}
-use Rattle.vx_diskset.proofs.StaysUp.{told_now, never_both, left_moved, kept_whole, up_found, writes_found, up_with, up_worked, held_moved, fused_by, fuse_moved, fuse_burned, burned_twice, fused_before}
+use Rattle.vx_diskset.proofs.StaysUp.{told_now, never_both, left_moved, kept_whole, up_found, writes_found, up_with, up_worked, held_moved, fused_by, fuse_moved, fuse_burned}
 
 -- a log that uses no stamp
 pub roomy_now : {beside : KeptBeside} (n : Node) (c : Core) (m : Meaning) → IsUpAt beside n c m → n.halted ≡ None → IsRoomy beside n c m

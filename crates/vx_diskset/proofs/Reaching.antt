@@ -17,6 +17,7 @@ use Rattle.vx_history.specs.Receiving.{Received, received_step, with_applied}
 use Rattle.vx_history.specs.LinkForms.{plain_receiver}
 use Rattle.vx_history.specs.Steps.{burned, half_begun, logged, spent, worked, write_calls}
 use Rattle.vx_history.specs.World.{Node, Fuse, NoFuse, FuseSet, FuseLit}
+use Rattle.vx_history.proofs.Fuses.{burned_twice, fused_before}
 use Rattle.vx_disk.specs.Shelf.{Image, Meaning}
 use Rattle.vx_disk.specs.declared.shelf.Shelf.{Ghosts}
 use Rattle.vx_rvg.specs.Contents.{write_of_update}
@@ -50,7 +51,7 @@ use Rattle.vx_diskset.proofs.Laying.{lies_sized}
 use Rattle.vx_diskset.proofs.CrashGroup.{folded_size}
 use Rattle.vx_diskset.proofs.NeedLemmas.{needs_less}
 use Rattle.vx_diskset.proofs.Receiving.{as_held, as_receiver, durable_of, never_some, receiver_volumes, up_receiver}
-use Rattle.vx_diskset.proofs.StaysUp.{burned_twice, durable_content, drop-take_none, fuse_burned, fused_before, up_worked}
+use Rattle.vx_diskset.proofs.StaysUp.{durable_content, drop-take_none, fuse_burned, up_worked}
 
 -- ---- lists
 

@@ -84,16 +84,6 @@ fuse_spent n NoFuse m has = has
 fuse_spent n (FuseSet calls) m has = tt
 fuse_spent n (FuseLit most) m has = tt
 
-pub burned_twice : (f : Fuse) → burned (burned f) ≡ burned f
-burned_twice NoFuse = refl
-burned_twice (FuseSet calls) = refl
-burned_twice (FuseLit most) = refl
-
-pub fused_before : (f : Fuse) → IsFused (burned f) → IsFused f
-fused_before NoFuse is = is
-fused_before (FuseSet calls) is = tt
-fused_before (FuseLit most) is = tt
-
 -- ---- an image with the group's content has the site's
 
 -- a greater stamp is one that no header has either

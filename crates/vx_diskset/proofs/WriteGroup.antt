@@ -34,6 +34,7 @@ use Rattle.vx_diskset.specs.Rooms.{IsRoomy, RoomIs}
 use Rattle.vx_diskset.specs.Fuses.{IsFirstLog}
 use Rattle.vx_grouped.specs.SetFuses.{HasFuse}
 use Rattle.vx_history.specs.Stops.{IsFused}
+use Rattle.vx_history.proofs.Fuses.{burned_twice, fused_before}
 use Rattle.vx_events.specs.Fuses.{IsExact}
 use Rattle.vx_diskset.specs.Stands.{IsUpAt, IsHeldAt}
 use Rattle.vx_diskset.proofs.ApplyGroup.{ended_log}
@@ -44,7 +45,7 @@ use Rattle.vx_diskset.proofs.Laying.{lies_moved}
 use Rattle.vx_diskset.proofs.LastWrites.{stands_with, write_with, writing_found}
 use Rattle.vx_diskset.proofs.MakeRoom.{rose_later}
 use Rattle.vx_diskset.proofs.NeedLemmas.{takes_push}
-use Rattle.vx_diskset.proofs.StaysUp.{told_now, up_worked, never_both, left_moved, fused_by, fuse_moved, burned_twice, fused_before}
+use Rattle.vx_diskset.proofs.StaysUp.{told_now, up_worked, never_both, left_moved, fused_by, fuse_moved}
 
 -- what a write answers of a site
 abbrev pub WroteAs : KeptBeside → Node → Write → Meaning → Core → Meaning → Result ℕ No → Type 0

@@ -3,6 +3,7 @@ use Rattle.std.proofs.Common.{◌≡◌, ◌∙◌, ℕ, ◌+◌, ◌≤◌, ◌
 use Rattle.std.proofs.lemmas.Bool.{not-false}
 use Rattle.std.proofs.lemmas.Bool.Decides.{nat_tests}
 use Rattle.std.specs.Prelude.{not, ◌&&◌, ◌||◌, eqb, leb, ltb, Option, Some, None, bytes_eq}
+pub use Rattle.vx_history.proofs.Updates.{updated_other}
 use Rattle.vx_model.specs.Sites.{is_origin, is_up}
 use Rattle.vx_model.specs.declared.limits.TheConstants.{LEAST_BLOCKS, MOST_DISKS, MOST_SITES}
 use Rattle.vx_model.specs.declared.link.SyncMode.{SyncMode}
@@ -36,9 +37,6 @@ use Rattle.vx_effects.proofs.Outcomes.{IsSettled, crash_moves, deported_moves, o
 use Rattle.vx_effects.proofs.Tests
 
 -- ---- sites in doubt
-
-pub updated_other : {A : Type 0} (f : ℕ → A) (i j : ℕ) (x : A) → (j ≡ i → ⊥) → updated f i x j ≡ f j
-updated_other f i j x apart = by_test (λ y. y ≡ f j) (eqb j i) x (f j) (λ e. absurd (apart (eqb_equal j i e))) (λ _. refl)
 
 pub apart_by : (p s : ℕ) → eqb p s ≡ false → p ≡ s → ⊥
 apart_by p s e same = grind (arith, nat_tests)

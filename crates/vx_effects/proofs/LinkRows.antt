@@ -1,12 +1,11 @@
 -- What the tests of a line see, and the header of a log keeps, of a row in which a link changed or was made, and of a site that joined a line.
 use Rattle.std.proofs.Common.{◌≡◌, ◌∙◌, inl, inr, ◌⊎◌, ⊎_elim, ◌+◌, ◌<◌, ◌≤◌, ℕ, zero, suc, List, [], ◌∷◌, ◌++◌, Bool, true, false, ap, sym, refl, arith}
-use Rattle.std.proofs.lemmas.Bool.Decides.{nat_tests}
-use Rattle.std.specs.Prelude.{Option, Some, None, eqb, nat_lt, if◌then◌else◌}
+use Rattle.std.specs.Prelude.{Option, Some, None, eqb, if◌then◌else◌}
 use Rattle.vx_model.specs.declared.site.Mark.{Mark}
 use Rattle.vx_model.specs.declared.site.SiteState.{SiteState}
 use Rattle.vx_model.specs.declared.site.SiteState.TheVariants.{Bare, Up, Deported, Down}
 use Rattle.vx_model.specs.declared.state.KeptLink.{KeptLink}
-use Rattle.vx_history.proofs.Places.{count_most, places_made}
+use Rattle.vx_history.proofs.Places.{before_more, count_most, places_made, split_at}
 use Rattle.vx_history.proofs.Updates.{all_updated, at_place, by_test, eqb_equal, eqb_self}
 use Rattle.vx_history.specs.Events.{is_in_place, joined, link_in_place, linked_sites, put_before}
 use Rattle.vx_history.specs.KeptLinks.{kept_link, kept_links}
@@ -60,18 +59,11 @@ place_apart a b apart = by (eqb a b) (λ e. sym (eqb_equal a b e))
     by true same = absurd (apart (same refl))
     by false same = refl
 
-split_at : (a b : ℕ) → (a < b) ⊎ (b ≤ a)
-split_at a b = by_test (λ (m : ℕ). (a < b) ⊎ (b ≤ a)) (nat_lt a b) 0 0 (λ e. inl (grind (arith, nat_tests))) (λ e. inr (grind (arith, nat_tests)))
-
 -- where no place from here on has a link
 none_listed : (row : ℕ → Link) (sites place k : ℕ) → ((j : ℕ) → place ≤ j → link_in_place row j sites ≡ None) → linked_sites row sites place k ≡ []
 none_listed row sites place zero none = refl
 none_listed row sites place (suc k) none =
     ap (λ (o : Option ℕ). put_before o (linked_sites row sites (place + 1) k)) (none place (omega arith)) ∙ none_listed row sites (place + 1) k (λ j least. none j (omega (arith, least)))
-
-before_more : (o : Option ℕ) (xs ys : List ℕ) → put_before o (xs ++ ys) ≡ put_before o xs ++ ys
-before_more None xs ys = refl
-before_more (Some s) xs ys = refl
 
 module _ (sites : ℕ) (row : ℕ → Link) (s : ℕ) (l : Link) (has : HasPlaces sites row) (below : s < sites) (free : is_linked (row s) ≡ false) (made : l.made ≡ Some (links_in sites row)) where
   abbrev new : ℕ → Link

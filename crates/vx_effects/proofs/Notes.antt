@@ -2,11 +2,12 @@
 use Rattle.std.proofs.Common.{◌≡◌, ◌∙◌, inl, inr, ◌⊎◌, ⊎_elim, ◌+◌, ℕ, zero, suc, List, [], ◌∷◌, refl, ap, sym}
 use Rattle.std.specs.Prelude.{Option, if◌then◌else◌}
 use Rattle.std.proofs.lemmas.Bool.{cases_eq}
+use Rattle.vx_history.proofs.Fuses.{worked_twice}
 use Rattle.vx_history.proofs.Updates.{all_updated, at_place}
 use Rattle.vx_history.specs.Doubts.{After, Doubted}
 use Rattle.vx_history.specs.Events.{linked_sites}
-use Rattle.vx_history.specs.Steps.{burned, worked, worked_on}
-use Rattle.vx_history.specs.World.{Fuse, FuseLit, FuseSet, Gathering, Link, NoFuse, Node, Packet, World, updated}
+use Rattle.vx_history.specs.Steps.{worked, worked_on}
+use Rattle.vx_history.specs.World.{Gathering, Link, Node, Packet, World, updated}
 use Rattle.vx_order.specs.declared.facts.LinkFacts.{LinkFacts}
 use Rattle.vx_order.specs.declared.facts.RvgFacts.{RvgFacts}
 use Rattle.vx_order.specs.declared.facts.SiteFacts.{SiteFacts}
@@ -23,15 +24,6 @@ use Rattle.vx_effects.specs.Facts.{fact_of, over_of}
 use Rattle.vx_effects.specs.LinkParts.{noted_both}
 use Rattle.vx_effects.proofs.Fitting.{updated_other}
 use Rattle.vx_effects.proofs.Leaving.{fit_worked}
-
--- a fuse that may have let calls pass stays so
-pub burned_twice : (f : Fuse) → burned (burned f) ≡ burned f
-burned_twice NoFuse = refl
-burned_twice (FuseSet calls) = refl
-burned_twice (FuseLit most) = refl
-
-pub burnt_twice : (n : Node) → worked (worked n) ≡ worked n
-burnt_twice n = ap (λ (f : Fuse). let m : Node = record n { fuse = f } in m) (burned_twice n.fuse)
 
 -- ---- what the tests see
 
@@ -85,7 +77,7 @@ module _ (nodes : ℕ → Node) (a b : ℕ) where
   first_here s same = ap first same ∙ at_place nodes a (worked (nodes a)) ∙ ap (λ (i : ℕ). worked (nodes i)) (sym same)
 
   by_first : (s : ℕ) → worked (first s) ≡ worked (nodes s)
-  by_first s = ⊎_elim (λ (same : s ≡ a). ap worked (first_here s same) ∙ burnt_twice (nodes s)) (λ apart. ap worked (updated_other nodes a s (worked (nodes a)) apart)) (cases_eq s a)
+  by_first s = ⊎_elim (λ (same : s ≡ a). ap worked (first_here s same) ∙ worked_twice (nodes s)) (λ apart. ap worked (updated_other nodes a s (worked (nodes a)) apart)) (cases_eq s a)
 
   second_here : (s : ℕ) → s ≡ b → both s ≡ worked (nodes s)
   second_here s same = ap both same ∙ at_place first b (worked (first b)) ∙ ap (λ (i : ℕ). worked (first i)) (sym same) ∙ by_first s

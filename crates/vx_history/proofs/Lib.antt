@@ -4,3 +4,5 @@ pub mod GroupLemmas
 pub mod Places
 pub mod Updates
 pub mod States
+pub mod Fuses
+pub mod Behind

@@ -1,10 +1,10 @@
 -- What the tests of a state and of a role tell.
-use Rattle.std.proofs.Common.{refl, true, ◌≡◌}
+use Rattle.std.proofs.Common.{◌≡◌, refl, true}
+use Rattle.vx_model.specs.Sites.{is_bare, is_origin, is_up}
 use Rattle.vx_model.specs.declared.site.Role.{Role}
 use Rattle.vx_model.specs.declared.site.Role.TheVariants.{Bunker, Handing, Primary, Secondary}
 use Rattle.vx_model.specs.declared.site.SiteState.{SiteState}
 use Rattle.vx_model.specs.declared.site.SiteState.TheVariants.{Bare, Deported, Down, Up}
-use Rattle.vx_model.specs.Sites.{is_bare, is_origin, is_up}
 use Rattle.vx_history.specs.Refusals.{is_primary, keeps_links}
 
 pub bare_is : (s : SiteState) → is_bare s ≡ true → s ≡ Bare

@@ -59,3 +59,6 @@ at_line f l x = ap (λ b. if b then x else f l) (same_line_self l)
 
 pub at_place : {A : Type 0} (f : ℕ → A) (i : ℕ) (x : A) → updated f i x i ≡ x
 at_place f i x = ap (λ b. if b then x else f i) (eqb_self i)
+
+pub updated_other : {A : Type 0} (f : ℕ → A) (i j : ℕ) (x : A) → (j ≡ i → ⊥) → updated f i x j ≡ f j
+updated_other f i j x apart = by_test (λ y. y ≡ f j) (eqb j i) x (f j) (λ e. absurd (apart (eqb_equal j i e))) (λ _. refl)

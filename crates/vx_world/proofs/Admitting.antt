@@ -15,15 +15,12 @@ use Rattle.vx_history.specs.declared.admission.Change.TheVariants.{Stays}
 use Rattle.vx_policy.specs.Verdicts.{verdict}
 use Rattle.vx_history.specs.Refusals.{unless_at_most, why_held}
 use Rattle.vx_history.specs.Events.{link_in_place, put_before, linked_sites, plain_links, log_uses, admitted, links_changed, put_in, written_if}
+use Rattle.vx_history.proofs.Places.{before_more}
 use Rattle.vx_model.specs.declared.no.No.{No}
 use Rattle.vx_sites.specs.Refusing.{unless_refused}
 use Rattle.vx_world.specs.Counted.{AreCounted, taken_above, most_counted, refusal_by}
 
 -- ## The links in their order
-
-before_append : (o : Option ℕ) (xs ys : List ℕ) → put_before o (xs ++ ys) ≡ put_before o xs ++ ys
-before_append None xs ys = refl
-before_append (Some s) xs ys = refl
 
 -- one more place, behind the others
 pub linked_on : (row : ℕ → Link) (sites place k : ℕ)
@@ -32,7 +29,7 @@ linked_on row sites place zero = ap (λ (p : ℕ). put_before (link_in_place row
 linked_on row sites place (suc k) =
     let there : place + 1 + k ≡ place + suc k = omega arith in
     ap (λ (xs : List ℕ). put_before (link_in_place row place sites) xs) (linked_on row sites (place + 1) k)
-    ∙ before_append (link_in_place row place sites) (linked_sites row sites (place + 1) k) (put_before (link_in_place row (place + 1 + k) sites) [])
+    ∙ before_more (link_in_place row place sites) (linked_sites row sites (place + 1) k) (put_before (link_in_place row (place + 1 + k) sites) [])
     ∙ ap (λ (p : ℕ). put_before (link_in_place row place sites) (linked_sites row sites (place + 1) k) ++ put_before (link_in_place row p sites) []) there
 
 pub plain_append : (row : ℕ → Link) (xs ys : List ℕ) → plain_links row (xs ++ ys) ≡ plain_links row xs ++ plain_links row ys
