@@ -37,6 +37,7 @@ use Rattle.vx_diskset.specs.Layouts.{units_of}
 use Rattle.vx_diskset.specs.Needs.{HasRoom}
 use Rattle.vx_diskset.specs.Received.{CanReceive, LoggedTo, reached, ReachedAt, ReachedBy, ReachedTo, ReachedUp}
 use Rattle.vx_model.specs.declared.no.Counted.TheVariants.{Number}
+use Rattle.vx_model.proofs.Contents.{folded_size}
 use Rattle.vx_rvg.specs.Groups.{has_numbers}
 use Rattle.vx_srl.specs.Views.{most_number}
 use Rattle.vx_diskset.specs.Rooms.{AppliedAs, HasNumbers, IsMore, NeverLimit}
@@ -48,7 +49,6 @@ use Rattle.vx_ringio.proofs.Spending.{spends_none, then_spends}
 use Rattle.vx_diskset.proofs.MakeRoom.{rose_later}
 use Rattle.vx_diskset.proofs.Mores.{more_none, more_then, wait_more}
 use Rattle.vx_diskset.proofs.Laying.{lies_sized}
-use Rattle.vx_diskset.proofs.CrashGroup.{folded_size}
 use Rattle.vx_diskset.proofs.NeedLemmas.{needs_less}
 use Rattle.vx_diskset.proofs.Receiving.{as_held, as_receiver, durable_of, never_some, receiver_volumes, up_receiver}
 use Rattle.vx_diskset.proofs.StaysUp.{durable_content, drop-take_none, fuse_burned, up_worked}

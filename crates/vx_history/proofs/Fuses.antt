@@ -4,6 +4,7 @@ use Rattle.vx_history.specs.Steps.{burned, worked}
 use Rattle.vx_history.specs.Stops.{IsFused}
 use Rattle.vx_history.specs.World.{Fuse, FuseLit, FuseSet, NoFuse, Node}
 
+-- a fuse that may have let calls pass stays so
 pub burned_twice : (f : Fuse) → burned (burned f) ≡ burned f
 burned_twice NoFuse = refl
 burned_twice (FuseSet calls) = refl

@@ -46,11 +46,6 @@ or_there : (later here : Option (List ℕ)) (old : List ℕ) → unwrap_or later
 or_there (Some bytes) here old = refl
 or_there None here old = refl
 
--- writes leave the sizes of volumes
-pub fold_size : (c : Content) (xs : List Write) → (fold_writes c xs).size ≡ c.size
-fold_size c [] = refl
-fold_size c (x ∷ xs) = fold_size (put c x) xs
-
 -- a block after writes
 pub fold_newest : (c : Content) (xs : List Write) (v b : ℕ) → (fold_writes c xs).block v b ≡ unwrap_or (newest_of c.size xs v b) (c.block v b)
 fold_newest c [] v b = refl

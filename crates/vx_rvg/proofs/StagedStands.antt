@@ -5,6 +5,7 @@ use Rattle.std.proofs.lemmas.List.{append_assoc, drop-append-le}
 use Rattle.std.proofs.lemmas.List.Elements.{All-nil, All-push, All-append}
 use Rattle.std.proofs.lemmas.Nat.{div-add-mod'}
 use Rattle.vx_model.specs.Content.{Content, Write, blocks_in, fold_writes, put}
+use Rattle.vx_model.proofs.Contents.{fold_size}
 use Rattle.vx_srlfmt.specs.declared.header.Header.{Header}
 use Rattle.vx_disk.specs.Moves.{Beside, Moves, Run, Says}
 use Rattle.vx_disk.specs.Shelf.{Image, Keeps, Meaning}
@@ -13,7 +14,7 @@ use Rattle.vx_overlay.specs.declared.entry.Entry.{Entry}
 use Rattle.vx_overlay.specs.Pending.{newest}
 use Rattle.vx_overlay.specs.Writes.{IsWholeWrite, entries_at, entries_of, newest_of}
 use Rattle.vx_overlay.proofs.Newest.{newest-append}
-use Rattle.vx_overlay.proofs.WriteLemmas.{entries_append, fold_newest, fold_size, newest_entries}
+use Rattle.vx_overlay.proofs.WriteLemmas.{entries_append, fold_newest, newest_entries}
 use Rattle.vx_ringlog.specs.Cells as cells
 use Rattle.vx_ringlog.specs.Chain.{Recovers}
 use Rattle.vx_ringlog.specs.Logs.{Found, Seal, Stage, State, behind_call}

@@ -4,7 +4,7 @@ use Rattle.std.specs.Prelude.{Option, Some, None, ◌||◌, eqb, leb, if◌then�
 use Rattle.std.specs.List.{AllByRecursion}
 use Rattle.std.proofs.lemmas.Bool.Decides.{nat_tests}
 use Rattle.std.proofs.lemmas.List.{append-nil}
-use Rattle.vx_model.specs.Content.{Write, Content, blocks_in, put, fold_writes}
+use Rattle.vx_model.specs.Content.{Write, blocks_in}
 use Rattle.vx_model.specs.declared.history.Line.{Line}
 use Rattle.vx_model.specs.declared.site.SiteState.TheVariants.{Bare, Up}
 use Rattle.vx_model.specs.declared.limits.TheConstants.{MOST_CALL_BLOCKS}
@@ -101,10 +101,6 @@ alike_there o n p m ov or nv nr h = record {
   volumes = ap (λ (vs : List Volume). agree vs m.volumes) ov ∙ ap (λ (vs : List Volume). agree o.volumes vs) nv ∙ h.volumes;
   rings = ap (λ (k : ℕ). leb 17 m.ring || leb k m.ring) or ∙ ap (λ (k : ℕ). leb 17 k || leb o.ring k) nr ∙ h.rings;
 }
-
-pub fold_size : (c : Content) (xs : List Write) (v : ℕ) → (fold_writes c xs).size v ≡ c.size v
-fold_size c [] v = refl
-fold_size c (x ∷ xs) v = fold_size (put c x) xs v
 
 pub each_take : {A : Type 0} (P : A → Type 0) (n : ℕ) (xs : List A) → AllByRecursion P xs → AllByRecursion P (take n xs)
 each_take P zero xs h = tt

@@ -15,6 +15,7 @@ use Rattle.vx_model.specs.declared.no.Counted.TheVariants.{Links}
 use Rattle.vx_model.specs.declared.site.Mark.TheVariants.{Consistent}
 use Rattle.vx_model.specs.declared.site.SiteState.{SiteState}
 use Rattle.vx_model.specs.declared.site.SiteState.TheVariants.{Bare, Up, Deported, Down}
+use Rattle.vx_model.proofs.Contents.{folded_size}
 use Rattle.vx_history.proofs.Updates.{all_updated, all_lines, by_test, at_place, and_left, and_right}
 use Rattle.vx_history.proofs.CrashLemmas.{crash_state}
 use Rattle.vx_history.proofs.GoodLemmas.{up_is_made, made_is_given}
@@ -38,7 +39,7 @@ use Rattle.vx_world.proofs.Lists.{each_weaker}
 use Rattle.vx_world.proofs.Guards
 use Rattle.vx_world.proofs.Guards.{rest_bare}
 use Rattle.vx_world.proofs.Nodes
-use Rattle.vx_world.proofs.Keeping.{Keeps, keeps_same, keeps_trans, keeps_links, made_link, made_rows, ArePlaced, keeps_sending, keeps_node, keeps_crash, IsFitted, fold_size, each_take, fits_there, alike_there, gather_up, all_parts}
+use Rattle.vx_world.proofs.Keeping.{Keeps, keeps_same, keeps_trans, keeps_links, made_link, made_rows, ArePlaced, keeps_sending, keeps_node, keeps_crash, IsFitted, each_take, fits_there, alike_there, gather_up, all_parts}
 use Rattle.vx_world.proofs.KeptWrites.{Leaves, like_fitted, bare_same}
 
 -- ## Crashes and recoveries
@@ -53,7 +54,7 @@ crash_leaves w q k s up =
       line = refl;
       made = λ _ e. let g : Up ≡ Bare = sym up ∙ e in cc;
       start = λ v. refl;
-      base = fold_size n.base (drop n.safe (take k n.log));
+      base = folded_size n.base (drop n.safe (take k n.log));
       log = each_take (WriteFits n) k n.log;
     } in
     let bare : Fitting w → (crashed n k).state ≡ Bare → n.ring ≡ 0 = λ f e. absurd (let g : Down ≡ Bare = e in cc) in

@@ -12,6 +12,7 @@ use Rattle.vx_model.specs.declared.limits.TheConstants.{MOST_CALL_BLOCKS}
 use Rattle.vx_model.specs.declared.no.No.TheVariants.{Size, Range, Role as WrongRole, Unknown}
 use Rattle.vx_model.specs.declared.no.Named.TheVariants.{Number as ByNumber}
 use Rattle.vx_model.specs.declared.site.SiteState.TheVariants.{Bare, Up}
+use Rattle.vx_model.proofs.Contents.{folded_size}
 use Rattle.vx_history.proofs.Updates.{by_test}
 use Rattle.vx_history.proofs.GoodLemmas.{up_is_made}
 use Rattle.vx_history.specs.Admission.{Admitted, Held_by, Goes}
@@ -34,7 +35,7 @@ use Rattle.vx_history.specs.declared.receiver.RAction.{RAction}
 use Rattle.vx_history.specs.declared.receiver.RAction.TheVariants.{Nothing as DoesNothing, Ignored as Ignores, IgnoredAck, Take, DataAck as AcksFromDisk}
 use Rattle.vx_world.proofs.Lists.{each_append}
 use Rattle.vx_world.proofs.Guards
-use Rattle.vx_world.proofs.Keeping.{Keeps, keeps_same, keeps_trans, keeps_links, made_link, made_rows, keeps_sending, keeps_node, keeps_history, IsFitted, fold_size, all_parts}
+use Rattle.vx_world.proofs.Keeping.{Keeps, keeps_same, keeps_trans, keeps_links, made_link, made_rows, keeps_sending, keeps_node, keeps_history, IsFitted, all_parts}
 
 abbrev pub Leaves : World → Outcome → Type 0
 Leaves w o = Keeps w o.world
@@ -200,7 +201,7 @@ applied_leaves w q r (AcksFromDisk number) =
       line = refl;
       made = λ made. made;
       start = λ v. refl;
-      base = fold_size b.base
+      base = folded_size b.base
           (drop b.safe (take number b.log));
       log = λ h. h;
     })
