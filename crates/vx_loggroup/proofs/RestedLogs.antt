@@ -51,10 +51,10 @@ use Rattle.vx_logs.specs.declared.logs.Logs.{Logs}
 use Rattle.vx_model.specs.Content.{block_of}
 use Rattle.vx_volume.specs.Plexes.{Inside, active, active_or, uses}
 use Rattle.vx_volume.proofs.ReadRuns.{leaves_before, reads_before}
+use Rattle.vx_volume.proofs.UsesLemmas.{has_disk, has_uses}
 use Rattle.vx_loggroup.specs.LoggedVolumes.{LoggedStands, VolumeStands, is_alike}
 use Rattle.vx_loggroup.specs.Resting.{DisksSettle, NoneTouched, VolumeRests, in_disks}
 use Rattle.vx_loggroup.proofs.DeportedLogs.{at_shape, on_at}
-use Rattle.vx_loggroup.proofs.UsesLemmas.{has_disk, has_uses}
 
 active_same : (x y : Config) (v q : ℕ) → plex_at x v q ≡ plex_at y v q → active x v q ≡ active y v q
 unfolding active
