@@ -17,6 +17,7 @@ use Rattle.vx_order.specs.declared.facts.RvgFacts.{RvgFacts}
 use Rattle.vx_order.specs.declared.facts.SiteFacts.{SiteFacts}
 use Rattle.vx_events.specs.Facts.{group_by, site_fact}
 use Rattle.vx_events.specs.LinkedFacts.{link_fact, link_facts, links_by}
+use Rattle.vx_events.proofs.Steps.{not_made}
 use Rattle.vx_effects.specs.Facts.{fact_of, marked_fact, marked_group}
 use Rattle.vx_effects.specs.LinkParts.{further_fact, joined_fact, joined_group, kept_over}
 use Rattle.vx_effects.proofs.Fitting.{updated_other}
@@ -43,10 +44,6 @@ changed_kept row sites s l same =
     ap (kept_links (updated row s l)) (sites_same row (updated row s l) (made_same row s l same) sites 0 sites) ∙ each_over row s l (linked_sites row sites 0 sites)
 
 -- ---- a link that was made
-
-none_in : (made : Option ℕ) (place : ℕ) → is_made made ≡ false → is_in_place made place ≡ false
-none_in None place e = refl
-none_in (Some k) place e = absurd (cc)
 
 in_own : (made : Option ℕ) (place : ℕ) → is_in_place made place ≡ true → made ≡ Some place
 in_own None place e = absurd (cc)
@@ -91,7 +88,7 @@ module _ (sites : ℕ) (row : ℕ → Link) (s : ℕ) (l : Link) (has : HasPlace
       ap (λ (b : Bool). if b then Some k else link_in_place new place k) (same k) ∙ ap (λ (o : Option ℕ). if is_in_place (row k).made place then Some k else o) (place_other k place apart)
     where
       here : is_in_place l.made place ≡ is_in_place (row s).made place
-      here = ap (λ (m : Option ℕ). is_in_place m place) made ∙ place_apart count place apart ∙ sym (none_in (row s).made place free)
+      here = ap (λ (m : Option ℕ). is_in_place m place) made ∙ place_apart count place apart ∙ sym (not_made (row s).made place free)
 
       same : (j : ℕ) → is_in_place (new j).made place ≡ is_in_place (row j).made place
       same = all_updated (λ (j : ℕ) (x : Link). is_in_place x.made place ≡ is_in_place (row j).made place) row s l here (λ j _. refl)
@@ -187,7 +184,7 @@ further_is n row sites s l up has below free made = further_fact_here sites row 
 no_place : (row : ℕ → Link) (place n : ℕ) → ((k : ℕ) → k < n → is_linked (row k) ≡ false) → link_in_place row place n ≡ None
 no_place row place zero free = refl
 no_place row place (suc k) free =
-    ap (λ (b : Bool). if b then Some k else link_in_place row place k) (none_in (row k).made place (free k (omega arith))) ∙ no_place row place k (λ j less. free j (omega (arith, less)))
+    ap (λ (b : Bool). if b then Some k else link_in_place row place k) (not_made (row k).made place (free k (omega arith))) ∙ no_place row place k (λ j less. free j (omega (arith, less)))
 
 joins_group : (a n : Node) (p : ℕ) (t : SiteState) → group_by t (joined a p n) ≡ joined_group a.line a.parent (group_by t n)
 joins_group a n p Bare = refl

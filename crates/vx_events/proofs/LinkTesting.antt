@@ -100,7 +100,7 @@ found_link n row (s ∷ ss) t l all e = by (s == t) (same_number s t) (λ is. fo
 
 -- ---- a line on a link
 
-linked_none : (o : Option LinkFacts) (site : SiteFacts) → not_linked o (Some site) ≡ None → (l : LinkFacts) × (o ≡ Some l)
+pub linked_none : (o : Option LinkFacts) (site : SiteFacts) → not_linked o (Some site) ≡ None → (l : LinkFacts) × (o ≡ Some l)
 linked_none None site e = absurd (cc)
 linked_none (Some l) site e = (l, refl)
 
@@ -163,7 +163,7 @@ on_link_by w p s tests test same none known other up running role link =
 
 -- ---- worlds without links
 
-nothing_shown : (state : SiteState) → links_by state [] ≡ []
+pub nothing_shown : (state : SiteState) → links_by state [] ≡ []
 nothing_shown Bare = refl
 nothing_shown Up = refl
 nothing_shown Deported = refl

@@ -10,9 +10,10 @@ use Rattle.vx_disk.proofs.Runs.{both_Goes, same_Goes, weaker}
 use Rattle.vx_wire.specs.Fields.{zero_bytes}
 use Rattle.vx_config.specs.Checks.{blocks_of}
 use Rattle.vx_config.specs.declared.config.Config.{Config}
-use Rattle.vx_volume.specs.Plexes.{InRun, Inside}
+use Rattle.vx_volume.specs.Plexes.{InRun}
 use Rattle.vx_volume.specs.Volumes.{AllBut, LastPlexFailed, OnPlexes, PlexFlushed, PlexWrote}
 use Rattle.vx_volume.specs.declared.sets.Failed.{Failed}
+use Rattle.vx_volume.proofs.CopyLemmas.{run_inside}
 use Rattle.vx_group.specs.Blames.{Blames}
 use Rattle.vx_group.specs.Makes.{AreZero, ZeroBelow, ZeroLoop, ZeroRun, ZerosOn}
 use Rattle.vx_group.specs.Moves.{AllFlushed}
@@ -23,9 +24,6 @@ use Rattle.vx_group.proofs.DetachLemmas.{zero_bit}
 piece_zero : (block count k : ℕ) → block ≤ k → k < block + count → piece block (zero_bytes (512 * count)) k ≡ zero_bytes 512
 piece_zero block count k first last =
     ap (take 512) (drop-replicate (512 * (k - block)) (512 * count) 0) ∙ take-replicate 512 (512 * count - 512 * (k - block)) 0 (omega (arith, first, last))
-
-pub inside_run : (c : Config) (v block count k : ℕ) → v < length c.volumes → block + count ≤ blocks_of c.volumes v → InRun block count k → Inside c v k
-inside_run c v block count k volume within run = record { volume = volume; within = let last : k < block + count = run.last in omega (arith, last, within) }
 
 pub run_is : (count : ℕ) → count ≤ 16 → take (512 * count) (replicate 8192 0) ≡ zero_bytes (512 * count)
 run_is count few = take-replicate (512 * count) 8192 0 (omega (arith, few))
@@ -44,7 +42,7 @@ module _ (c : Config) (v block count : ℕ) (bytes : List ℕ) (old new : Meanin
     plex = put.plex;
     number = put.put.number;
     is_on = put.is_on;
-    inside = inside_run c v block count put.put.number volume within (record { first = put.put.run.first; last = let last : put.put.number < block + length bytes / 512 = put.put.run.last in omega (arith, last, n) });
+    inside = run_inside c v block count put.put.number volume within (record { first = put.put.run.first; last = let last : put.put.number < block + length bytes / 512 = put.put.run.last in omega (arith, last, n) });
     at = put.put.at;
     value = value_of put.put.number x put.put.run put.put.value;
   })

@@ -9,11 +9,11 @@ use Rattle.vx_kept.specs.Facts.{KeptFact, TidyFact, is_found}
 use Rattle.vx_kept.specs.Groups.{found}
 use Rattle.vx_kept.specs.Keeping.{IsTidy, Kept, Kin}
 
-the_one : {A : Type 0} (o : Option A) → is_some o ≡ true → (x : A) × (o ≡ Some x)
+pub the_one : {A : Type 0} (o : Option A) → is_some o ≡ true → (x : A) × (o ≡ Some x)
 the_one None is = absurd (let clash : false ≡ true = is in cc)
 the_one (Some x) is = (x, refl)
 
-the_config : (o : ImportOutcome Config) → is_found o ≡ true → (x : Config) × (o ≡ Found x)
+pub the_config : (o : ImportOutcome Config) → is_found o ≡ true → (x : Config) × (o ≡ Found x)
 the_config (Found x) is = (x, refl)
 the_config (Missing disk) is = absurd (let clash : false ≡ true = is in cc)
 the_config NoConfig is = absurd (let clash : false ≡ true = is in cc)

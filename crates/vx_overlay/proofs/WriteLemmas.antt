@@ -110,7 +110,7 @@ dropped size k xs v b = ap (λ (l : List Write). newest_of size l v b) (sym (tak
 pub newest_drop : (size : ℕ → ℕ) (k : ℕ) (xs : List Write) (v b : ℕ) (bytes : List ℕ) → newest_of size (drop k xs) v b ≡ Some bytes → newest_of size xs v b ≡ Some bytes
 newest_drop size k xs v b bytes h = dropped size k xs v b ∙ ap (λ (o : Option (List ℕ)). newer_or o (newest_of size (take k xs) v b)) h
 
-neither : (later here : Option (List ℕ)) → newer_or later here ≡ None → (later ≡ None) × (here ≡ None)
+pub neither : (later here : Option (List ℕ)) → newer_or later here ≡ None → (later ≡ None) × (here ≡ None)
 neither (Some bytes) here h = absurd (none-some bytes (sym h))
 neither None here h = (refl, h)
 

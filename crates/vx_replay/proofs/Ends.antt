@@ -4,6 +4,7 @@ use Rattle.std.specs.Prelude.{◌&&◌, eqb, leb, if◌then◌else◌}
 use Rattle.std.proofs.lemmas.Bool.{and_parts, eqb-true, leb-true}
 use Rattle.vx_history.specs.KeptLinks.{kept_start}
 use Rattle.vx_history.specs.Sending.{phase_logs, phase_overtaken}
+use Rattle.vx_history.proofs.Updates.{by_test as choose}
 use Rattle.vx_model.specs.declared.link.Link.{Link}
 use Rattle.vx_model.specs.declared.link.Phase.{Phase}
 use Rattle.vx_model.specs.declared.link.Phase.TheVariants.{Start, Regions, Done, Log as ByLogAgain}
@@ -14,11 +15,6 @@ use Rattle.vx_replay.specs.declared.event.PEvent.{PEvent}
 use Rattle.vx_replay.specs.declared.event.PEvent.TheVariants.{Begin, Ack, Read, Stored, Pump, Restart}
 use Rattle.vx_replay.specs.declared.event.PAction.{PAction}
 use Rattle.vx_replay.specs.declared.event.PAction.TheVariants.{Nothing, Ignored, SendStart, SendDone, Finished}
-
--- what both ways of a choice have
-pub choose : {A : Type 0} (P : A → Type 0) (b : Bool) (x y : A) → (b ≡ true → P x) → (b ≡ false → P y) → P (if b then x else y)
-choose P true x y one other = one refl
-choose P false x y one other = other refl
 
 -- ---- modes and actions that differ
 

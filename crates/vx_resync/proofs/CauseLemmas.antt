@@ -51,7 +51,7 @@ source_refused T c v source None old new error why is cause = tt
 source_refused T c v source (Some p) old new (Fault disk) why is cause = subst (λ (no : No). CopyRefused {T = T} c v source (Some p) old new (Err no)) (sym is) (inl cause.0, cause.1, cause.2)
 source_refused T c v source (Some p) old new Down why is down = subst (λ (no : No). CopyRefused {T = T} c v source (Some p) old new (Err no)) (sym is) down
 
-blamed_since : (c : Config) (v p : ℕ) (old mid new : Meaning) → ((u : ℕ) → old.faults u ≤ mid.faults u) → PlexBlamed c v p mid new → PlexBlamed c v p old new
+pub blamed_since : (c : Config) (v p : ℕ) (old mid new : Meaning) → ((u : ℕ) → old.faults u ≤ mid.faults u) → PlexBlamed c v p mid new → PlexBlamed c v p old new
 blamed_since c v p old mid new less blamed = record { disk = blamed.disk; is_its = blamed.is_its; rose = Rose_before (old.faults blamed.disk) (mid.faults blamed.disk) (new.faults blamed.disk) (less blamed.disk) blamed.rose }
 
 -- a call on the plex that is copied to, behind others

@@ -40,7 +40,7 @@ rest_sound core m m' goes sound =
     ended_sound core core.log core.halted m m' (rest_sizes m m' goes) sound (record { unit = refl; ring = refl; header = refl; held = refl })
     (λ running up. sound.idle running (still_up m m' goes up))
 
-keeps_rest : (m m' : Meaning) → Goes Nothing m m' → (u b : ℕ) (y : List ℕ) → Keeps m u b y → Keeps m' u b y
+pub keeps_rest : (m m' : Meaning) → Goes Nothing m m' → (u b : ℕ) (y : List ℕ) → Keeps m u b y → Keeps m' u b y
 keeps_rest m m' goes u b y keeps = record { only = λ v left. keeps.only v (at_rest m u b v (goes.leaves u b v left)) }
 
 keeps_each : (m m' : Meaning) → Goes Nothing m m' → (o : Option (List ℕ)) (u b : ℕ) (y : List ℕ) → MatchOption o (Keeps m u b y) (λ bytes. bytes ≡ y) → MatchOption o (Keeps m' u b y) (λ bytes. bytes ≡ y)
