@@ -4,6 +4,7 @@ use Rattle.std.specs.Prelude.{Option, Some, None, slice_get, slice_index_or}
 use Rattle.std.specs.Option.{is_some}
 use Rattle.vx_model.specs.Content.{Write}
 use Rattle.vx_model.specs.declared.history.Line.{Line}
+use Rattle.vx_model.proofs.Lists.{found_more}
 use Rattle.vx_history.specs.Gatherings.{came_after, completes, key_of as world_key, left_by}
 use Rattle.vx_history.specs.Sends.{parts_of as parts_in}
 use Rattle.vx_history.specs.World.{DataAck, Gathering, Hello, Key as WorldKey, Message, NetAck, Packet, Update}
@@ -190,11 +191,6 @@ module _ (ps : List Packet) (site place : ℕ) (p : Packet) (one : AreOne ps) (t
   pub put_together : (t : Taken) (new : Assembled) → TakesPart a (part_carried p) (payload_in (part_carried p) (carrier p)) t new → IsPutTo ps site g p t new
   put_together t new takes = by_taken t new (subst (λ (bs : List ℕ). TakesPart a (part_carried p) bs t new) (payload_in-packet_of e m p.part) takes)
 
-stays : (qs rs : List Packet) (i : ℕ) (q : Packet) → slice_get qs i ≡ Some q → slice_get (qs ++ rs) i ≡ Some q
-stays [] rs i q is = absurd (cc)
-stays (r ∷ qs) rs zero q is = is
-stays (r ∷ qs) rs (suc i) q is = stays qs rs i q is
-
 -- what stands in assembly stands there whatever is sent
 pub stands_later : (ps more : List Packet) (site : ℕ) (g : Option Gathering) (a : Assembled) → AssemblyStands ps site g a → AssemblyStands (ps ++ more) site g a
 stands_later ps more site g a was = record {
@@ -202,7 +198,7 @@ stands_later ps more site g a was = record {
   each = λ h some. let from = was.each h some in record {
     place = from.place;
     packet = from.packet;
-    there = stays ps more from.place from.packet from.there;
+    there = found_more ps more from.place from.packet from.there;
     target = from.target;
     key = from.key;
     some = from.some;

@@ -1,6 +1,6 @@
 -- What each event keeps of links, of the states of sites and of sites in doubt, but for those that make a site or a link, or crash a site.
 use Rattle.std.proofs.Common.{◌≡◌, ◌∙◌, ℕ, zero, suc, ◌+◌, ◌<◌, [], ◌∷◌, ◌++◌, length, Bool, true, false, refl, ap, sym, subst, arith}
-use Rattle.std.proofs.lemmas.Bool.{not-false, not-true}
+use Rattle.std.proofs.lemmas.Bool.{not-false, not-true, or_parts}
 use Rattle.std.proofs.lemmas.Bool.Decides.{nat_tests}
 use Rattle.std.specs.Prelude.{not, ◌&&◌, ◌||◌, eqb, leb, ltb, Option, Some, None, if◌then◌else◌}
 use Rattle.vx_model.specs.Answer.{is_too_large}
@@ -113,14 +113,10 @@ awake n m up quiet = record { quiet = quiet; rests = λ _ down. let f : Up ≡ D
 less_than : (k n : ℕ) → k < suc n → eqb k n ≡ false → k < n
 less_than k n less e = grind (arith, nat_tests)
 
-neither : (a b : Bool) → (a || b) ≡ false → (a ≡ false) × (b ≡ false)
-neither true b e = absurd (cc)
-neither false b e = (refl, e)
-
 none_in : (n : ℕ) (test : ℕ → Bool) → some_below n test ≡ false → (k : ℕ) → k < n → test k ≡ false
 none_in zero test none k less = absurd (omega (arith, less))
 none_in (suc n) test none k less =
-    let split = neither (test n) (some_below n test) none in by_place split.0 (none_in n test split.1 k) (eqb k n) refl
+    let split = or_parts (test n) (some_below n test) none in by_place split.0 (none_in n test split.1 k) (eqb k n) refl
   where
     by_place : test n ≡ false → (k < n → test k ≡ false) → (b : Bool) → eqb k n ≡ b → test k ≡ false
     by_place last rest true e = subst (λ (i : ℕ). test i ≡ false) (sym (eqb_equal k n e)) last

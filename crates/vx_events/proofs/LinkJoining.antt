@@ -1,6 +1,7 @@
 -- Where no test of a line that makes a link refuses, its first event is not refused; and where none of a line that waits does, the write is
 -- confirmed or pending.
 use Rattle.std.proofs.Common.{◌≡◌, ◌∙◌, inl, inr, ◌<◌, ◌≤◌, ℕ, suc, List, [], ◌∷◌, length, Bool, true, false, ap, sym, subst, refl, arith}
+use Rattle.std.proofs.lemmas.Bool.{or_parts}
 use Rattle.std.specs.Prelude.{Option, Some, None, not, ◌&&◌, ◌||◌, ◌==◌, cond, eqb, leb, nat_le, map, if◌then◌else◌}
 use Rattle.std.specs.List.{find}
 use Rattle.std.proofs.lemmas.Bool.Decides.{nat_tests}
@@ -45,7 +46,7 @@ use Rattle.vx_history.proofs.States.{up_is}
 use Rattle.vx_events.proofs.LinkTesting.{Seat, seat_at, shown}
 use Rattle.vx_events.proofs.OverSeats.{apart_shown, fact_apart}
 use Rattle.vx_events.proofs.Passing.{off, is_site, above}
-use Rattle.vx_events.proofs.Refused.{passes, when_none, neither, not_false, running_by}
+use Rattle.vx_events.proofs.Refused.{passes, when_none, not_false, running_by}
 use Rattle.vx_events.proofs.Testing.{none_under}
 
 pub all_of : (a b : Bool) → (a && b) ≡ true → (a ≡ true) × (b ≡ true)
@@ -268,7 +269,7 @@ join_agrees w files p s sync prot whole listed free =
     let apart = join_apart w files p s sync prot free in
     let first : site_named (facts_over w) p ≡ Some (linked_fact w a) = one.found ∙ ap (λ (f : SiteFacts). Some f) (fact_apart w a apart.0) in
     let second : site_named (facts_over w) s ≡ Some (linked_fact w b) = two.found ∙ ap (λ (f : SiteFacts). Some f) (fact_apart w b apart.1) in
-    let ups = neither (not (is_up (w.nodes a).state)) (not (is_up (w.nodes b).state))
+    let ups = or_parts (not (is_up (w.nodes a).state)) (not (is_up (w.nodes b).state))
     (when_none (not (is_up (w.nodes a).state) || not (is_up (w.nodes b).state)) _
     (subst (λ (o : Option SiteFacts). when (not (is_up (w.nodes a).state) || site_off o) NotUp ≡ None) second (subst (λ (o : Option SiteFacts). when (site_off o || site_off (site_named (facts_over w) s)) NotUp ≡ None) first t.up))) in
     let halts = first_halt (halted_one (Some (linked_fact w a))) (halted_one (Some (linked_fact w b)))

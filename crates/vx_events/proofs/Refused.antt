@@ -1,5 +1,6 @@
 -- What is known of a line that is not refused before it works.
 use Rattle.std.proofs.Common.{◌≡◌, ◌∙◌, ◌+◌, ◌<◌, ◌≤◌, ℕ, suc, List, [], ◌∷◌, length, ap, subst, refl, arith, Bool, true, false}
+use Rattle.std.proofs.lemmas.Bool.{or_parts}
 use Rattle.std.specs.Prelude.{◌-◌, ◌*◌, Option, Some, None, slice_get, cond, not, ◌&&◌, ◌||◌, ◌==◌, nat_lt, nat_le, if◌then◌else◌}
 use Rattle.std.specs.List.{find, position, position_from}
 use Rattle.std.specs.Str.{bytes_eq}
@@ -142,10 +143,6 @@ pub not_false : (b : Bool) → not b ≡ false → b ≡ true
 not_false true e = refl
 not_false false e = absurd (cc)
 
-pub neither : (a b : Bool) → (a || b) ≡ false → (a ≡ false) × (b ≡ false)
-neither true b e = absurd (cc)
-neither false b e = (refl, e)
-
 both : (a b : Bool) → (a && b) ≡ true → (a ≡ true) × (b ≡ true)
 both true b e = (refl, e)
 both false b e = absurd (cc)
@@ -218,7 +215,7 @@ site_may sites files name disks blocks e =
     let p = passes sites files (Site name disks blocks) e in
     let limits = limit_none (length sites) files disks blocks p.limit in
     let sizes : (disks == 0 || nat_lt blocks 8) ≡ false = when_none (disks == 0 || nat_lt blocks 8) _ p.size in
-    let parts = neither (disks == 0) (nat_lt blocks 8) sizes in
+    let parts = or_parts (disks == 0) (nat_lt blocks 8) sizes in
     record { few_sites = limits.0; few_disks = limits.1; few_blocks = limits.2; some_disks = some_of disks parts.0; some_blocks = lt_false blocks 8 parts.1 }
 
 raw_role_none : (site : SiteFacts) → raw_role (Some site) ≡ None → site.state ≡ Bare

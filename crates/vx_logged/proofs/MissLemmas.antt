@@ -1,6 +1,6 @@
 -- What the maps of missed regions know of a volume of a group beside marks, and behind a write.
 use Rattle.std.proofs.Common.{◌≡◌, ◌∙◌, ◌⊎◌, inl, inr, ℕ, ◌/◌, Bool, true, false, Some, None, List, IsTrue, length, refl, sym, ap, subst, arith}
-use Rattle.std.proofs.lemmas.Bool.{not-false}
+use Rattle.std.proofs.lemmas.Bool.{not-false, or_parts}
 use Rattle.std.specs.Prelude.{◌&&◌, ◌||◌, not}
 use Rattle.vx_bitmap.specs.Bits.{is_among}
 use Rattle.vx_config.specs.declared.config.Config.{Config}
@@ -90,10 +90,6 @@ and_false : (a b : Bool) → (a && b) ≡ false → (a ≡ false) ⊎ (b ≡ fal
 and_false true b is = inr is
 and_false false b is = inl refl
 
-split_or : (a b : Bool) → a || b ≡ false → (a ≡ false) × (b ≡ false)
-split_or true b is = absurd (let clash : true ≡ false = is in cc)
-split_or false b is = (refl, is)
-
 module _ (c d : GroupCore) (v block : ℕ) (bytes : List ℕ) (m m' : Meaning) (stands : GroupStands c m) (fits : Fits (inner_meaning (wide c) m) v block (length bytes))
     (acts : PlexActs (OnPlexes (wide c).config v block (length bytes / 512) bytes) (wide c).config (wide d).config m m') where
   -- what a plex reads out of the run
@@ -108,7 +104,7 @@ module _ (c d : GroupCore) (v block : ℕ) (bytes : List ℕ) (m m' : Meaning) (
   pub plexes_wrote : (missed : ℕ → ℕ → Bool) → (IsTrue m'.down → ⊥) → PlexesKnow (wide c).config v missed m.reads → PlexesKnow (wide d).config v (or_run (first_region block) (last_region block (length bytes / 512)) missed) m'.reads
   plexes_wrote missed up know = record {
     so = λ p q b x y has on inside clear at_p at_q.
-        let free = split_or (is_among (first_region block) (last_region block (length bytes / 512)) (b / 64)) (missed p (b / 64)) clear in
+        let free = or_parts (is_among (first_region block) (last_region block (length bytes / 512)) (b / 64)) (missed p (b / 64)) clear in
         know.so p q b x y (has_back (wide c).config (wide d).config v (acts.shape.frames v) (acts.shape.blocks v) p b has) (acts.on v q on) (inside_same (wide d).config (wide c).config acts.shape v b inside) free.1
         (old_read up p b x has (out_of_run block (length bytes / 512) b free.0) at_p) (old_read up q b y (has_of (wide d).config v q b on inside) (out_of_run block (length bytes / 512) b free.0) at_q);
   }
@@ -130,8 +126,8 @@ module _ (c d : GroupCore) (v block : ℕ) (bytes : List ℕ) (m m' : Meaning) (
   know_refused = record {
     so = λ f is up. record {
       so = λ p q b x y has on inside clear at_p at_q.
-          let one = split_or (is_among (first_region block) (last_region block n) (b / 64) || false) (has_missed f p (b / 64)) clear in
-          let two = split_or (is_among (first_region block) (last_region block n) (b / 64)) false one.0 in
+          let one = or_parts (is_among (first_region block) (last_region block n) (b / 64) || false) (has_missed f p (b / 64)) clear in
+          let two = or_parts (is_among (first_region block) (last_region block n) (b / 64)) false one.0 in
           know_out f is up p q b x y has on inside one.1 (out_of_run block n b two.0) at_p at_q;
     };
   }
@@ -141,8 +137,8 @@ module _ (c d : GroupCore) (v block : ℕ) (bytes : List ℕ) (m m' : Meaning) (
   know_wrote wrote = record {
     so = λ f is up. record {
       so = λ p q b x y has on inside clear at_p at_q.
-          let one = split_or ((not (active (wide d).config v p) && is_among (first_region block) (last_region block n) (b / 64)) || false) (has_missed f p (b / 64)) clear in
-          let two = split_or (not (active (wide d).config v p) && is_among (first_region block) (last_region block n) (b / 64)) false one.0 in
+          let one = or_parts ((not (active (wide d).config v p) && is_among (first_region block) (last_region block n) (b / 64)) || false) (has_missed f p (b / 64)) clear in
+          let two = or_parts (not (active (wide d).config v p) && is_among (first_region block) (last_region block n) (b / 64)) false one.0 in
           elim (and_false (not (active (wide d).config v p)) (is_among (first_region block) (last_region block n) (b / 64)) two.0) [
             | inl off ↦ both f is up p q b x y has (not-false (active (wide d).config v p) off) on inside one.1 at_p at_q
             | inr out ↦ know_out f is up p q b x y has on inside one.1 (out_of_run block n b out) at_p at_q

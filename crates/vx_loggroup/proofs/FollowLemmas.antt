@@ -1,7 +1,7 @@
 -- The map of a plex that is attached as it becomes that of another one: what the plexes read then, and what is kept beside it.
 use Rattle.std.proofs.Common.{◌≡◌, ◌∙◌, inl, inr, ℕ, ◌+◌, ◌*◌, ◌/◌, ◌<◌, ◌≤◌, Bool, true, false, Option, Some, None, List, IsTrue, length, refl, sym, ap, subst, arith}
 use Rattle.std.proofs.Math.ListN.{set}
-use Rattle.std.proofs.lemmas.Bool.{cases_eq, eqb-true}
+use Rattle.std.proofs.lemmas.Bool.{cases_eq, eqb-true, or_parts}
 use Rattle.std.proofs.lemmas.List.{length-set}
 use Rattle.std.proofs.lemmas.Option.{slice_get_within}
 use Rattle.std.specs.Prelude.{◌||◌, not, Result, Ok, Err, is_some, slice_get}
@@ -319,10 +319,6 @@ pub first_none : (c : Config) (v n : ℕ) → 8 ≤ n → NoneBelow c v n → (q
 first_none c v n all none q lt on = sym (none q (omega (arith, lt, all))) ∙ on
 
 -- ---- which maps an attach leaves
-
-pub or_parts : (a b : Bool) → a || b ≡ false → (a ≡ false) × (b ≡ false)
-or_parts true b is = absurd (let clash : true ≡ false = is in cc)
-or_parts false b is = (refl, is)
 
 pub or_none : (a b : Bool) → a ≡ false → b ≡ false → a || b ≡ false
 or_none true b one two = absurd (let clash : true ≡ false = one in cc)

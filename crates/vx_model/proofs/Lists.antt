@@ -1,6 +1,8 @@
 -- Places of lists: what stands there, behind another element at one place and in front of more.
-use Rattle.std.proofs.Common.{◌≡◌, ◌<◌, ℕ, zero, suc, List, [], ◌∷◌, ◌++◌, length, get_or, ap, sym, refl, arith}
+use Rattle.std.proofs.Common.{◌≡◌, ◌∙◌, ◌<◌, ℕ, zero, suc, Bool, true, List, [], ◌∷◌, ◌++◌, length, get_or, ap, sym, refl, arith}
 use Rattle.std.specs.Prelude.{Some, slice_get, slice_index_or, slice_set}
+use Rattle.std.specs.List.{list_all}
+use Rattle.vx_model.proofs.Tests.{and_left, and_right}
 
 pub get_there : {A : Type 0} (xs : List A) (i : ℕ) → i < length xs → (x : A) × (slice_get xs i ≡ Some x)
 get_there [] i below = absurd (omega (arith, below))
@@ -43,3 +45,13 @@ get_front (x ∷ xs) ys (suc n) lt = get_front xs ys n (omega (arith, lt))
 pub get_end : {A : Type 0} (xs : List A) (y : A) → slice_get (xs ++ (y ∷ [])) (length xs) ≡ Some y
 get_end [] y = refl
 get_end (x ∷ xs) y = get_end xs y
+
+pub all_at : {A : Type 0} (p : A → Bool) (xs : List A) (i : ℕ) (x : A) → list_all p xs ≡ true → slice_get xs i ≡ Some x → p x ≡ true
+all_at p [] i x all at = absurd cc
+all_at p (y ∷ xs) zero x all at = let same : y ≡ x = cc in ap p (sym same) ∙ and_left (p y) (list_all p xs) all
+all_at p (y ∷ xs) (suc i) x all at = all_at p xs i x (and_right (p y) (list_all p xs) all) at
+
+pub found_more : {A : Type 0} (xs more : List A) (k : ℕ) (x : A) → slice_get xs k ≡ Some x → slice_get (xs ++ more) k ≡ Some x
+found_more [] more k x e = absurd (cc)
+found_more (y ∷ xs) more zero x e = e
+found_more (y ∷ xs) more (suc k) x e = found_more xs more k x e

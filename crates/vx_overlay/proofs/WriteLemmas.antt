@@ -7,17 +7,11 @@ use Rattle.std.proofs.lemmas.Option.{none-some}
 use Rattle.std.proofs.lemmas.List.{take-append-drop, drop-drop, drop_at}
 use Rattle.std.proofs.lemmas.List.Elements.{All-nil, All-cons, All-head, All-tail, All-contains, All-contains_itself, All-weaker}
 use Rattle.vx_model.specs.Content.{Write, Content, blocks_in, block_of, touches, put, fold_writes}
+use Rattle.vx_model.proofs.Tests.{shows, tells}
 use Rattle.vx_overlay.specs.declared.entry.Entry.{Entry}
 use Rattle.vx_overlay.specs.Pending.{newest, newer_or, bytes_for, entry_of}
 use Rattle.vx_overlay.specs.Writes.{IsWholeWrite, put_there, newest_of, entries_at, entries_of, blocks_within_of}
 use Rattle.vx_overlay.proofs.Newest.{or-assoc, or-none, newest-append, bytes-same, bytes-other}
-
--- the test that a block lies among some
-tells : (w v b k p q : ℕ) → (eqb w v && (leb b k && ltb p q)) ≡ true → (w ≡ v) × (b ≤ k) × (p < q)
-tells w v b k p q h = (grind (arith, nat_tests), grind (arith, nat_tests), grind (arith, nat_tests))
-
-shows : (w v b k p q : ℕ) → w ≡ v → b ≤ k → p < q → (eqb w v && (leb b k && ltb p q)) ≡ true
-shows w v b k p q same low high = grind (arith, nat_tests)
 
 misses : (t : Bool) → t ≡ false → t ≡ true → ⊥
 misses t wrong right = let e : true ≡ false = sym right ∙ wrong in cc

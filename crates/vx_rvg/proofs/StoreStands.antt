@@ -1,10 +1,11 @@
 -- A group over a call that puts blocks into a volume without the log.
-use Rattle.std.proofs.Common.{◌≡◌, ◌⊎◌, inl, inr, ⊎_elim, ℕ, ◌+◌, ◌-◌, ◌*◌, ◌<◌, ◌≤◌, ◌&&◌, Bool, true, false, List, [], length, eqb, leb, ltb, IsTrue, refl, sym, ◌∙◌, ap, subst, arith}
+use Rattle.std.proofs.Common.{◌≡◌, ◌⊎◌, inl, inr, ⊎_elim, ℕ, ◌+◌, ◌-◌, ◌*◌, ◌<◌, ◌≤◌, Bool, true, false, List, [], length, leb, IsTrue, refl, sym, ◌∙◌, ap, subst, arith}
 use Rattle.std.specs.Prelude.{if◌then◌else◌, Err}
 use Rattle.std.proofs.lemmas.Bool.Decides.{nat_tests}
 use Rattle.std.proofs.lemmas.List.{nil_from_length}
 use Rattle.vx_model.specs.Content.{Content, Write, put, block_of, blocks_in, touches}
 use Rattle.vx_model.specs.declared.no.No.{No}
+use Rattle.vx_model.proofs.Tests.{shows, tells}
 use Rattle.vx_disk.specs.Causes.{Cause}
 use Rattle.vx_disk.specs.declared.shelf.ShelfError.{ShelfError}
 use Rattle.vx_disk.specs.declared.shelf.ShelfError.TheVariants.{Down, Fault}
@@ -27,13 +28,6 @@ use Rattle.vx_rvg.specs.Views.{Core, IsSound, last_of, unit_of, volume_size}
 use Rattle.vx_rvg.proofs.ContentFacts.{found_held, found_with, has_maps_beside, held_length, maps_moved, volume_there}
 use Rattle.vx_rvg.proofs.WriteSound.{failed_sound, moved_sizes}
 use Rattle.vx_rvg.proofs.WriteStands.{volume_size_is, write_at}
-
--- the test that a block is one of the write
-tells : (w v b k p q : ℕ) → (eqb w v && (leb b k && ltb p q)) ≡ true → (w ≡ v) × (b ≤ k) × (p < q)
-tells w v b k p q h = (grind (arith, nat_tests), grind (arith, nat_tests), grind (arith, nat_tests))
-
-shows : (w v b k p q : ℕ) → w ≡ v → b ≤ k → p < q → (eqb w v && (leb b k && ltb p q)) ≡ true
-shows w v b k p q same low high = grind (arith, nat_tests)
 
 misses : (t : Bool) → t ≡ false → t ≡ true → ⊥
 misses t wrong right = let e : true ≡ false = sym right ∙ wrong in cc

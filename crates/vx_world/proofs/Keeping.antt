@@ -1,6 +1,6 @@
 -- The ways in which an event changes the world, by what they make of messages in assembly, of the sizes of writes and of the places of links.
 use Rattle.std.proofs.Common.{◌≡◌, ◌∙◌, ℕ, zero, suc, ◌+◌, ◌≤◌, List, [], ◌∷◌, ◌++◌, take, refl, ap, sym, subst, arith, Bool, true, false}
-use Rattle.std.specs.Prelude.{Option, Some, None, ◌||◌, eqb, leb, if◌then◌else◌, slice_get}
+use Rattle.std.specs.Prelude.{Option, Some, None, ◌||◌, eqb, leb, if◌then◌else◌}
 use Rattle.std.specs.List.{AllByRecursion}
 use Rattle.std.proofs.lemmas.Bool.Decides.{nat_tests}
 use Rattle.std.proofs.lemmas.List.{append-nil}
@@ -8,6 +8,7 @@ use Rattle.vx_model.specs.Content.{Write, blocks_in}
 use Rattle.vx_model.specs.declared.history.Line.{Line}
 use Rattle.vx_model.specs.declared.site.SiteState.TheVariants.{Bare, Up}
 use Rattle.vx_model.specs.declared.limits.TheConstants.{MOST_CALL_BLOCKS}
+use Rattle.vx_model.proofs.Lists.{found_more}
 use Rattle.vx_history.proofs.Places.{places_same}
 use Rattle.vx_history.proofs.Updates.{all_updated, all_lines, eqb_equal, and_left, and_right}
 use Rattle.vx_history.specs.World.{World, Node, Link, History, Packet, Promise, Message, Gathering, Volume, with_node, with_history, updated, line_updated}
@@ -36,11 +37,6 @@ pub keeps_trans : (u v w : World) → Keeps u v → Keeps v w → Keeps u w
 keeps_trans u v w h k = record { gathers = λ g. k.gathers (h.gathers g); fits = λ f. k.fits (h.fits f); places = λ a. k.places (h.places a) }
 
 -- ## Messages in assembly
-
-found_more : (ps more : List Packet) (k : ℕ) (q : Packet) → slice_get ps k ≡ Some q → slice_get (ps ++ more) k ≡ Some q
-found_more [] more k q e = absurd (cc)
-found_more (p ∷ ps) more zero q e = e
-found_more (p ∷ ps) more (suc k) q e = found_more ps more k q e
 
 -- more is sent, and the site is up still
 pub gather_later : (i : ℕ) (n m : Node) (ps more : List Packet) (g : Option Gathering) → (n.state ≡ Up → m.state ≡ Up) → MayGather i n ps g

@@ -1,11 +1,12 @@
 -- Packets that are delivered keep all that holds of the world.
-use Rattle.std.proofs.Common.{◌≡◌, ◌∙◌, ℕ, zero, suc, ◌+◌, List, [], ◌∷◌, ◌++◌, length, refl, ap, sym, subst, Bool, true, false}
+use Rattle.std.proofs.Common.{◌≡◌, ◌∙◌, ℕ, zero, suc, ◌+◌, List, [], length, refl, ap, sym, subst, Bool, true, false}
 use Rattle.std.specs.Prelude.{leb, if◌then◌else◌, Option, Some, None, eqb, ltb, ◌&&◌, slice_get}
 use Rattle.vx_model.specs.Content.{Write, IsNumber}
 use Rattle.vx_model.specs.Sites.{is_origin, is_up, same_line}
 use Rattle.vx_model.specs.declared.history.Line.{Line}
 use Rattle.vx_model.specs.declared.limits.TheConstants.{MOST_PACKETS}
 use Rattle.vx_model.specs.declared.site.SiteState.TheVariants.{Up}
+use Rattle.vx_model.proofs.Lists.{found_more}
 use Rattle.vx_history.proofs.Updates.{all_updated, by_test, at_place, same_line_equal, and_left}
 use Rattle.vx_history.proofs.GoodLemmas.{up_is_made}
 use Rattle.vx_history.proofs.States.{up_is}
@@ -113,11 +114,6 @@ heard_up w p (Update number x) up =
     (λ _. taken_up w p x (received_step (plain_receiver (w.nodes p.target)) (HearUpdate p.line number)).action up)
 heard_up w p (NetAck session number) up = link_up w p (HearNetAck session number) up
 heard_up w p (DataAck number) up = link_up w p (HearDataAck number) up
-
-pub found_more : (ps more : List Packet) (k : ℕ) (q : Packet) → slice_get ps k ≡ Some q → slice_get (ps ++ more) k ≡ Some q
-found_more [] more k q e = absurd (cc)
-found_more (p ∷ ps) more zero q e = e
-found_more (p ∷ ps) more (suc k) q e = found_more ps more k q e
 
 module _ (w : World) (k : ℕ) (p : Packet) (found : slice_get w.packets k ≡ Some p) (good : GoodPacket w.nodes w.links w.lines p) where
   abbrev pub heard_world : World

@@ -4,6 +4,7 @@ use Rattle.std.proofs.lemmas.List.{append-nil}
 use Rattle.std.specs.Prelude.{slice_get, Some, pred, ◌||◌, not}
 use Rattle.std.specs.List.{AllByRecursion}
 use Rattle.vx_model.specs.Content.{Write, IsPrefixOf, IsNumber}
+use Rattle.vx_model.proofs.Lists.{found_more}
 
 pub prefix_refl : (xs : List Write) → IsPrefixOf xs xs
 unfolding IsPrefixOf
@@ -34,14 +35,9 @@ prefix_take n xs = (drop n xs, take_drop n xs)
     take_drop (suc n) [] = refl
     take_drop (suc n) (x ∷ xs) = ap (λ t. x ∷ t) (take_drop n xs)
 
-front_get : (xs rest : List Write) (k : ℕ) (x : Write) → slice_get xs k ≡ Some x → slice_get (xs ++ rest) k ≡ Some x
-front_get [] rest k x h = absurd (cc)
-front_get (y ∷ xs) rest zero x h = h
-front_get (y ∷ xs) rest (suc k) x h = front_get xs rest k x h
-
 pub prefix_get : (xs ys : List Write) (k : ℕ) (x : Write) → IsPrefixOf xs ys → slice_get xs k ≡ Some x → slice_get ys k ≡ Some x
 unfolding IsPrefixOf
-prefix_get xs ys k x (r, e) h = subst (λ t. slice_get t k ≡ Some x) e (front_get xs r k x h)
+prefix_get xs ys k x (r, e) h = subst (λ t. slice_get t k ≡ Some x) e (found_more xs r k x h)
 
 pub prefix_number : (xs ys : List Write) (n : ℕ) (x : Write) → IsPrefixOf xs ys → IsNumber xs n x → IsNumber ys n x
 prefix_number xs ys n x p (h, e) = (h, prefix_get xs ys (pred n) x p e)
