@@ -1,5 +1,6 @@
 -- A packet that is put to what is in assembly at its target.
-use Rattle.std.proofs.Common.{◌≡◌, ◌∙◌, ◌⊎◌, inl, inr, ◌<◌, ℕ, zero, suc, List, [], ◌∷◌, ◌++◌, length, map, ap, sym, subst, refl, arith, Bool, true, false}
+use Rattle.std.proofs.Common.{◌≡◌, ◌∙◌, ◌⊎◌, inl, inr, ◌<◌, ℕ, zero, suc, List, [], ◌∷◌, ◌++◌, length, map, ap, sym, subst, refl, arith, true, false}
+use Rattle.std.proofs.lemmas.Bool.{cases_Bool}
 use Rattle.std.specs.Prelude.{Option, Some, None, slice_get, slice_index_or}
 use Rattle.std.specs.Option.{is_some}
 use Rattle.vx_model.specs.Content.{Write}
@@ -30,10 +31,6 @@ use Rattle.vx_courier.specs.UnderWay.{CanFly, carrier, part_carried, way_of}
 
 some_same : {A : Type 0} (x y : A) → Some x ≡ Some y → x ≡ y
 some_same x y e = cc
-
-true_or_false : (b : Bool) → (b ≡ true) ⊎ (b ≡ false)
-true_or_false true = inl refl
-true_or_false false = inr refl
 
 -- ---- keys, field by field
 
@@ -139,7 +136,7 @@ module _ (ps : List Packet) (site place : ℕ) (p : Packet) (one : AreOne ps) (t
     where
       by_held : (o : Option HeldParts) → a.held ≡ o → HoldsSome e m a
       by_held None is = fresh e m a (λ h some same. absurd (cc))
-      by_held (Some h) is = elim (true_or_false (same_part_key h.key (key_of_message e m))) [
+      by_held (Some h) is = elim (cases_Bool (same_part_key h.key (key_of_message e m))) [
         | inl same ↦ by_key h (stands.each h is) (same_key-is h.key (key_of_message e m) same)
         | inr apart ↦ fresh e m a (λ k some same.
             let both : h ≡ k = some_same h k (sym is ∙ some) in

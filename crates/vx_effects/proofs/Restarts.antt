@@ -1,6 +1,6 @@
 -- The links of a header that fit are those of a row that fits, and the other way round.
 use Rattle.std.proofs.Common.{◌≡◌, ◌∙◌, inl, inr, ◌⊎◌, ◌+◌, ◌<◌, ◌≤◌, ℕ, zero, suc, List, [], ◌∷◌, ◌++◌, Bool, true, false, ap, sym, subst, refl, arith, append_assoc}
-use Rattle.std.proofs.lemmas.Bool.{or_parts}
+use Rattle.std.proofs.lemmas.Bool.{not-true, or_parts}
 use Rattle.std.specs.Prelude.{Option, Some, None, not, ◌&&◌, ◌||◌, eqb, ltb, if◌then◌else◌}
 use Rattle.std.specs.List.{list_any}
 use Rattle.std.proofs.lemmas.Bool.Decides.{nat_tests}
@@ -42,10 +42,6 @@ both false b e f = absurd (cc)
 
 never : {A : Type 0} → true ≡ false → A
 never e = absurd (cc)
-
-not_true : (b : Bool) → not b ≡ true → b ≡ false
-not_true true e = absurd (cc)
-not_true false e = refl
 
 prot_is : (p : Prot) → is_failing_prot p ≡ true → p ≡ Fail
 prot_is Off e = absurd (cc)
@@ -118,9 +114,9 @@ fine_is p sites l e =
     record {
       prot = prot_is l.prot (and_left (is_failing_prot l.prot) _ e);
       mode = and_left (is_plain_kept l.mode) _ e1;
-      bunker = not_true l.bunker (and_left (not l.bunker) _ e2);
+      bunker = not-true l.bunker (and_left (not l.bunker) _ e2);
       start = eqb_equal l.start 0 (and_left (eqb l.start 0) last e3);
-      other = eqb_apart l.site p (not_true (eqb l.site p) (and_left (not (eqb l.site p)) (ltb l.site sites) e4));
+      other = eqb_apart l.site p (not-true (eqb l.site p) (and_left (not (eqb l.site p)) (ltb l.site sites) e4));
       below = below_is l.site sites (and_right (not (eqb l.site p)) (ltb l.site sites) e4);
     }
 

@@ -1,7 +1,7 @@
 -- Where no test of a line that makes a link refuses, its first event is not refused; and where none of a line that waits does, the write is
 -- confirmed or pending.
 use Rattle.std.proofs.Common.{◌≡◌, ◌∙◌, inl, inr, ◌<◌, ◌≤◌, ℕ, suc, List, [], ◌∷◌, length, Bool, true, false, ap, sym, subst, refl, arith}
-use Rattle.std.proofs.lemmas.Bool.{or_parts}
+use Rattle.std.proofs.lemmas.Bool.{and_parts, false_from_ne_true, or_parts}
 use Rattle.std.specs.Prelude.{Option, Some, None, not, ◌&&◌, ◌||◌, ◌==◌, cond, eqb, leb, nat_le, map, if◌then◌else◌}
 use Rattle.std.specs.List.{find}
 use Rattle.std.proofs.lemmas.Bool.Decides.{nat_tests}
@@ -49,10 +49,6 @@ use Rattle.vx_events.proofs.Passing.{off, is_site, above}
 use Rattle.vx_events.proofs.Refused.{passes, when_none, not_false, running_by}
 use Rattle.vx_events.proofs.Testing.{none_under}
 
-pub all_of : (a b : Bool) → (a && b) ≡ true → (a ≡ true) × (b ≡ true)
-all_of true b e = (refl, e)
-all_of false b e = absurd (cc)
-
 none_of : (k : ℕ) → (k == 0) ≡ true → k ≡ 0
 none_of k e = grind (arith, nat_tests)
 
@@ -70,7 +66,7 @@ record IsUnused (n : Node) : Type 0 where
 unused_of : (w : World) → AreDurable w → (i : ℕ) → i < w.sites → IsHere w i → is_unused (Some (group_fact (w.nodes i))) ≡ true → IsUnused (w.nodes i)
 unused_of w whole i below here e =
     let n : Node = w.nodes i in
-    let parts = all_of (is_primary n.role) (head_of n == 0) e in
+    let parts = and_parts (is_primary n.role) (head_of n == 0) e in
     let role : n.role ≡ Primary = primary_is n.role parts.0 in
     let origin : is_origin n.role ≡ true = ap is_origin role in
     let head : head_of n ≡ n.safe = ap (λ (b : Bool). if b then n.safe else length n.log) origin in
@@ -103,10 +99,6 @@ among_found n row s (t ∷ ts) (inr more) e = by (t == s) (λ none. among_found 
     by : (b : Bool) → (find (λ (x : LinkFacts). x.link.site == s) (link_facts n row ts) ≡ None → ⊥) → cond b (Some (link_fact n t (row t))) (find (λ (x : LinkFacts). x.link.site == s) (link_facts n row ts)) ≡ None → ⊥
     by true rest none = absurd (cc)
     by false rest none = rest none
-
-pub by_test : (b : Bool) → (b ≡ true → ⊥) → b ≡ false
-by_test true never = absurd (never refl)
-by_test false never = refl
 
 length-link_facts : (n : Node) (row : ℕ → LinkOf) (ss : List ℕ) → length (link_facts n row ss) ≡ length ss
 length-link_facts n row [] = refl
@@ -196,17 +188,17 @@ module _ (w : World) (whole : AreDurable w) (listed : AreListed w) (p s : List �
   fresh : link_count (Some (linked_fact w b)) ≡ 0 → some_below w.sites (λ k. is_linked (w.links b k)) ≡ false
   fresh e =
       none_under w.sites (λ k. is_linked (w.links b k))
-      (λ k below. by_test (is_linked (w.links b k)) (λ is. some_among k (row_of b) (listed.each b k below is) (sym (counted_here b there.up) ∙ e)))
+      (λ k below. false_from_ne_true (is_linked (w.links b k)) (λ is. some_among k (row_of b) (listed.each b k below is) (sym (counted_here b there.up) ∙ e)))
 
   can : can_link (Some a) (Some b) (Some (linked_fact w a)) (Some (linked_fact w b)) ≡ true → may_link w a b ≡ true
   can e =
       let at_a : is_unused (Some (group_fact (w.nodes a))) && (on_first (Some a) (Some (group_fact (w.nodes a))) && (are_two (Some a) (Some b) && (is_unused (Some (group_fact (w.nodes b))) && link_count (Some (linked_fact w b)) == 0))) ≡ true =
       subst (λ (o : Option RvgFacts). is_unused o && (on_first (Some a) o && (are_two (Some a) (Some b) && (is_unused (Some (group_fact (w.nodes b))) && link_count (Some (linked_fact w b)) == 0))) ≡ true) here.group
       (subst (λ (o : Option RvgFacts). is_unused (rvg_of (Some (linked_fact w a))) && (on_first (Some a) (rvg_of (Some (linked_fact w a))) && (are_two (Some a) (Some b) && (is_unused o && link_count (Some (linked_fact w b)) == 0))) ≡ true) there.group e) in
-      let q = all_of (is_unused (Some (group_fact (w.nodes a)))) _ at_a in
-      let r = all_of (on_first (Some a) (Some (group_fact (w.nodes a)))) _ q.1 in
-      let t = all_of (are_two (Some a) (Some b)) _ r.1 in
-      let u = all_of (is_unused (Some (group_fact (w.nodes b)))) _ t.1 in
+      let q = and_parts (is_unused (Some (group_fact (w.nodes a)))) _ at_a in
+      let r = and_parts (on_first (Some a) (Some (group_fact (w.nodes a)))) _ q.1 in
+      let t = and_parts (are_two (Some a) (Some b)) _ r.1 in
+      let u = and_parts (is_unused (Some (group_fact (w.nodes b)))) _ t.1 in
       let first = unused_of w whole a one.below here q.0 in
       let second = unused_of w whole b two.below there u.0 in
       let none : link_count (Some (linked_fact w b)) ≡ 0 = none_of (link_count (Some (linked_fact w b))) u.1 in
@@ -219,7 +211,7 @@ module _ (w : World) (whole : AreDurable w) (listed : AreListed w) (p s : List �
 
   free_here : link_towards (Some (linked_fact w a)) (Some b) ≡ None → is_linked (w.links a b) ≡ false
   free_here e =
-      by_test (is_linked (w.links a b))
+      false_from_ne_true (is_linked (w.links a b))
       (λ is. among_found (w.nodes a) (w.links a) b (row_of a) (listed.each a b two.below is)
       (sym (ap (λ (t : SiteState). if is_up t then link_to (links_by t (links_of_site w a)) (Some b) else None) here.up) ∙ e))
 
@@ -233,10 +225,10 @@ module _ (w : World) (whole : AreDurable w) (listed : AreListed w) (p s : List �
 -- both sites of a link that may be made have logged nothing
 both_unused : (first second : Option SiteFacts) (here there : Option ℕ) → can_link here there first second ≡ true → (is_unused (rvg_of first) ≡ true) × (is_unused (rvg_of second) ≡ true)
 both_unused first second here there e =
-    let q = all_of (is_unused (rvg_of first)) _ e in
-    let r = all_of (on_first here (rvg_of first)) _ q.1 in
-    let t = all_of (are_two here there) _ r.1 in
-    let u = all_of (is_unused (rvg_of second)) _ t.1 in
+    let q = and_parts (is_unused (rvg_of first)) _ e in
+    let r = and_parts (on_first here (rvg_of first)) _ q.1 in
+    let t = and_parts (are_two here there) _ r.1 in
+    let u = and_parts (is_unused (rvg_of second)) _ t.1 in
     (q.0, u.0)
 
 -- neither of the sites of a link that may be made is over a group

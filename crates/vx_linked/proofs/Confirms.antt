@@ -1,5 +1,6 @@
 -- A line that waits for a write, as an event of the world.
 use Rattle.std.proofs.Common.{◌≡◌, ◌∙◌, ◌⊎◌, ⊎_elim, inl, inr, ◌+◌, ◌<◌, ℕ, zero, suc, List, [], ◌∷◌, Bool, true, false, ap, sym, subst, refl, arith}
+use Rattle.std.proofs.lemmas.Bool.{and_parts}
 use Rattle.std.specs.Prelude.{Option, Some, None, IsSome, not, ◌&&◌, ◌||◌, eqb, leb, ltb, if◌then◌else◌}
 use Rattle.std.specs.List.{list_any}
 use Rattle.vx_history.specs.Events.{linked_sites, link_in_place, put_before, is_in_place, promises_of, waited}
@@ -130,10 +131,6 @@ all_below row sites place (suc k) = by (link_in_place row place sites) (λ s is.
     by None there more = more
     by (Some s) there more = (there s refl, more)
 
-pub all_of : (a b : Bool) → (a && b) ≡ true → (a ≡ true) × (b ≡ true)
-all_of true b e = (refl, e)
-all_of false b e = absurd (cc)
-
 module _ (n : Node) (row : ℕ → Link) (number sites : ℕ) where
   abbrev holds : ℕ → Bool
   holds k = holds_back number k (row k)
@@ -164,7 +161,7 @@ holds_same w listed p number =
     both_ways _ _
     (λ back.
     let k = below_of w.sites (holds n row number w.sites) back in
-    let parts = all_of (is_linked (row k.0)) (held n row number w.sites k.0) k.2 in
+    let parts = and_parts (is_linked (row k.0)) (held n row number w.sites k.0) k.2 in
     among_any n row number w.sites k.0 ss (listed.each p k.0 k.1 parts.0) parts.1)
     (λ up. holding n row number w.sites ss (all_linked row w.sites 0 w.sites) (all_below row w.sites 0 w.sites) up)
 

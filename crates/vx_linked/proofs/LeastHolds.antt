@@ -1,5 +1,6 @@
 -- The numbers that the links of a site need, and those that a write waits for.
 use Rattle.std.proofs.Common.{◌≡◌, ◌∙◌, ◌⊎◌, inl, inr, ⊎_elim, ◌≤◌, ℕ, zero, suc, List, [], ◌∷◌, Bool, true, false, ap, subst, refl, arith}
+use Rattle.std.proofs.lemmas.Bool.{and_parts}
 use Rattle.std.specs.Prelude.{◌&&◌, ◌||◌, min, Some, slice_get, if◌then◌else◌}
 use Rattle.std.specs.List.{list_any}
 use Rattle.vx_order.specs.Sending.{last_number}
@@ -15,7 +16,7 @@ use Rattle.vx_events.proofs.LinkTesting.{AllLinked, all_linked}
 use Rattle.vx_events.proofs.Places.{some_same}
 use Rattle.vx_events.specs.LinkedFacts.{link_fact, link_facts, links_of_site}
 use Rattle.vx_linked.specs.Holds.{HeldBy, awaits, held_from, least_hold, lesser_hold}
-use Rattle.vx_linked.proofs.Confirms.{AllBelow, all_below, all_of, below_at, below_of, both_ways, or_right}
+use Rattle.vx_linked.proofs.Confirms.{AllBelow, all_below, below_at, below_of, both_ways, or_right}
 
 -- ---- the least hold
 
@@ -116,6 +117,6 @@ awaits_same w listed p =
     both_ways _ _
     (λ back.
     let k = below_of w.sites (waited n row w.sites) back in
-    let parts = all_of (is_linked (row k.0)) (held n row w.sites k.0) k.2 in
+    let parts = and_parts (is_linked (row k.0)) (held n row w.sites k.0) k.2 in
     among n row w.sites k.0 ss (listed.each p k.0 k.1 parts.0) parts.1)
     (λ up. awaiting n row w.sites ss (all_linked row w.sites 0 w.sites) (all_below row w.sites 0 w.sites) up)

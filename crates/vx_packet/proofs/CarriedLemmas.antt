@@ -1,8 +1,8 @@
 -- What was put together is cut into the same packets again.
-use Rattle.std.proofs.Common.{◌≡◌, ◌≤◌, ◌<◌, ℕ, zero, suc, ◌+◌, ◌*◌, ◌-◌, Bool, true, false, List, [], ◌∷◌, ◌++◌, length, take, drop, get_or, replicate, refl, ap, sym, subst, ◌∙◌, arith, Option, Some, None, inl, inr, get_or-set_same, get_or-set_other, length-append}
+use Rattle.std.proofs.Common.{◌≡◌, ◌≤◌, ◌<◌, ℕ, zero, suc, ◌+◌, ◌*◌, ◌-◌, true, List, [], ◌∷◌, ◌++◌, length, take, drop, get_or, replicate, refl, ap, sym, subst, ◌∙◌, arith, Option, Some, None, inl, inr, get_or-set_same, get_or-set_other, length-append}
 use Rattle.std.specs.Prelude.{◌⊎◌}
 use Rattle.std.proofs.lemmas.List.{take_all, take_at, length-set, length-replicate, length-take, length-drop, append-nil, get_or-replicate, get_or_past}
-use Rattle.std.proofs.lemmas.Bool.{cases_eq, cases_lt}
+use Rattle.std.proofs.lemmas.Bool.{cases_Bool, cases_eq, cases_lt}
 use Rattle.std.proofs.Math.Seq.{drop-append-add}
 use Rattle.vx_packet.specs.Assemblies.{HeldParts, Assembled, key_in_part, same_part_key, parts_before, parts_after, TakesPart}
 use Rattle.vx_packet.specs.Carried.{IsCarried, MayCarry, CameInPackets, envelope_of}
@@ -20,10 +20,6 @@ use Rattle.vx_packet.proofs.MessageAgain.{some_same}
 use Rattle.vx_packet.proofs.Numbers.{not_both}
 use Rattle.vx_packet.proofs.PacketLemmas.{same_parts, packet_of-is}
 use Rattle.vx_packet.proofs.TakingLemmas.{payload-few}
-
-is_or_not : (b : Bool) → (b ≡ true) ⊎ (b ≡ false)
-is_or_not true = inl refl
-is_or_not false = inr refl
 
 none_is : {o : Option HeldParts} {h : HeldParts} → o ≡ None → o ≡ Some h → ⊥
 none_is none some = absurd cc
@@ -121,7 +117,7 @@ Carries-none n = record {
 
 Carries-before : (o : Option HeldParts) (key : Key) → ((h : HeldParts) → o ≡ Some h → Carries h.key.parts h.parts) → Carries key.parts (parts_before o key)
 Carries-before None key held = Carries-none key.parts
-Carries-before (Some h) key held = elim (is_or_not (same_part_key h.key key)) [
+Carries-before (Some h) key held = elim (cases_Bool (same_part_key h.key key)) [
   | inl same ↦
       let one : h.key ≡ key = same_key-is h.key key same in
       let now : parts_before (Some h) key ≡ h.parts = rw same refl in

@@ -3,7 +3,7 @@ use Rattle.std.proofs.Common.{◌≡◌, ℕ, zero, suc, ◌+◌, ◌-◌, ◌<�
 use Rattle.std.specs.Prelude.{◌⊎◌}
 use Rattle.std.specs.List.{list_all}
 use Rattle.std.proofs.Math.Dec.{eqb-suc-zero}
-use Rattle.std.proofs.lemmas.Bool.{ltb-true}
+use Rattle.std.proofs.lemmas.Bool.{cases_Bool, ltb-true}
 use Rattle.vx_script.specs.Words.{WordReading, and_then, placed, is_visible, after_spaces, word_of, after_word}
 use Rattle.vx_script.specs.Tokens.{Token, Key, is_in_word}
 use Rattle.vx_script.specs.Keywords.{keyword_text, keyword_of}
@@ -14,7 +14,7 @@ use Rattle.vx_script.specs.declared.keyword.Keyword.{Keyword}
 use Rattle.vx_script.specs.declared.keyword.Keyword.TheVariants.{End as EndKey}
 use Rattle.vx_script.specs.declared.line.ScriptLine.{ScriptLine}
 use Rattle.vx_script.specs.declared.line.ScriptLine.TheVariants.{End}
-use Rattle.vx_script.proofs.FormatLemmas.{Faithful, either}
+use Rattle.vx_script.proofs.FormatLemmas.{Faithful}
 use Rattle.vx_script.proofs.KindLemmas.{faithful, line_only, line_found}
 use Rattle.vx_script.proofs.SpotLemmas.{after_led, after_kept, word_then, tail_then, Blank, At, spot}
 
@@ -358,7 +358,7 @@ line_stops bytes left e = ⊎_elim
     (λ (none : NoKeyword a.word). line_unknown a.count a.word a.tail left a.shown a.some a.ends none (sym (ap line_after_spaces a.is) ∙ e))
     (λ (of : OfKeyword a.word). line_known a.count a.word a.tail left a.shown a.some a.ends of (sym (ap line_after_spaces a.is) ∙ e))
     (loud_word a.word loud))
-    (either (is_silent a.word))))
+    (cases_Bool (is_silent a.word))))
     (spot bytes)
 
 -- the column of a line that is not too long
@@ -394,4 +394,4 @@ column_exact bytes column e = ⊎_elim
     (λ (t : ltb 4096 (length bytes) ≡ false).
     let a = at_err bytes (length bytes) column (line_after_spaces bytes) (sym (ap (λ (b : Bool). cond b (Err 4097) (at_column (length bytes) (line_after_spaces bytes))) t) ∙ e) in
     inr (subst (WrongAt bytes) a.2 (column_of bytes a.0 a.1)))
-    (either (ltb 4096 (length bytes)))
+    (cases_Bool (ltb 4096 (length bytes)))

@@ -1,7 +1,7 @@
 -- What a line says.
 use Rattle.std.proofs.Common.{◌≡◌, ◌≤◌, false, ℕ, ◌<◌, List, [], ◌∷◌, length, Err, refl, arith, ap, cond, true, Bool, ltb, sym, subst, ◌∙◌, ⊎_elim}
 use Rattle.std.specs.Prelude.{◌↔◌, Option, Some, None, Ok}
-use Rattle.std.proofs.lemmas.Bool.{ltb-false, le-ltb}
+use Rattle.std.proofs.lemmas.Bool.{ltb-false, le-ltb, cases_Bool}
 use Rattle.vx_script.specs.Words.{WordReading, after_spaces, word_of, after_word}
 use Rattle.vx_script.specs.Keywords.{keyword_of}
 use Rattle.vx_script.specs.Formats.{format_of, read_by}
@@ -10,7 +10,6 @@ use Rattle.vx_script.specs.Tokens.{IsWord, words_of}
 use Rattle.vx_script.specs.declared.keyword.Keyword.{Keyword}
 use Rattle.vx_script.specs.declared.line.ScriptLine.{ScriptLine}
 use Rattle.vx_script.proofs.WordLemmas.{FirstWord, NoWord, first_word}
-use Rattle.vx_script.proofs.FormatLemmas.{either}
 use Rattle.vx_script.proofs.KindLemmas.{line_only, line_found}
 use Rattle.vx_script.proofs.PrintLemmas.{spelling_again}
 use Rattle.vx_script.proofs.FitLemmas.{AllWords, words_are, printed_short, read_fits}
@@ -66,7 +65,7 @@ unfolding line_by
 silent_is word rest left e = ⊎_elim
     (λ (t : is_silent word ≡ true). t)
     (λ (t : is_silent word ≡ false). absurd (no_keyword (keyword_of word) rest left (sym (ap (λ (b : Bool). cond b (Ok None) (line_of_keyword (keyword_of word) rest left)) t) ∙ e)))
-    (either (is_silent word))
+    (cases_Bool (is_silent word))
 
 silent_gives : (word rest : List ℕ) (left : ℕ) → is_silent word ≡ true → line_by word rest left ≡ Ok None
 unfolding line_by

@@ -1,5 +1,6 @@
 -- What is sent on links, and what is delivered, keeps what holds of the world.
 use Rattle.std.proofs.Common.{◌≡◌, ℕ, ◌+◌, ◌≤◌, [], ◌∷◌, length, refl, ap, sym, ◌∙◌, subst, arith, take, Bool, true, false, length-append}
+use Rattle.std.proofs.lemmas.Bool.{not-true}
 use Rattle.std.specs.Prelude.{leb, ltb, if◌then◌else◌, eqb, min, max, slice_get, Some, None, Option, ◌&&◌, ◌||◌, not, zero, suc}
 use Rattle.std.specs.List.{AllByRecursion}
 use Rattle.vx_model.specs.Content.{Write, IsNumber, IsPrefixOf}
@@ -31,7 +32,7 @@ use Rattle.vx_history.specs.Events
 use Rattle.vx_history.specs.Gatherings.{completes}
 use Rattle.vx_model.specs.declared.limits.TheConstants.{MOST_AHEAD, MOST_PACKETS}
 use Rattle.vx_history.specs.Sound.{GoodLink, GoodMessage, GoodPacket, IsStranger, StrangerSays, Sound}
-use Rattle.vx_world.proofs.Lists.{prefix_refl, prefix_trans, prefix_take, each_found, not_true, not_both}
+use Rattle.vx_world.proofs.Lists.{prefix_refl, prefix_trans, prefix_take, each_found, not_both}
 use Rattle.vx_world.proofs.Moves.{sound_gathering, sound_sending, sound_promising, sound_with_link, sound_with_node, good_later, stranger_of_links, still_linked, stays_fed}
 use Rattle.vx_world.proofs.Tests.{Keeps, unless_keeps}
 use Rattle.vx_world.proofs.Guards.{runs_is}
@@ -119,7 +120,7 @@ greets_is a b g =
     let rest : (is_running b.halted && (not (is_origin b.role) && same_line b.line a.line)) ≡ true = and_right (is_up b.state)
     (is_running b.halted && (not (is_origin b.role) && same_line b.line a.line)) g in (
       up_is b.state (and_left (is_up b.state) (is_running b.halted && (not (is_origin b.role) && same_line b.line a.line)) g),
-      not_true (is_origin b.role) (and_left (not (is_origin b.role)) (same_line b.line a.line)
+      not-true (is_origin b.role) (and_left (not (is_origin b.role)) (same_line b.line a.line)
           (and_right (is_running b.halted) (not (is_origin b.role) && same_line b.line a.line) rest)),
       runs_is b.halted (and_left (is_running b.halted) (not (is_origin b.role) && same_line b.line a.line) rest),
     )

@@ -1,5 +1,6 @@
 -- Worlds that differ in notes alone are good together.
-use Rattle.std.proofs.Common.{◌≡◌, ◌∙◌, ◌⊎◌, inl, inr, ℕ, ◌≤◌, List, length, ap, sym, subst, refl, arith, Bool, true, false}
+use Rattle.std.proofs.Common.{◌≡◌, ◌∙◌, ◌⊎◌, inl, inr, ℕ, ◌≤◌, List, length, ap, sym, subst, refl, arith, true, false}
+use Rattle.std.proofs.lemmas.Bool.{cases_Bool}
 use Rattle.std.specs.Prelude.{Option, Some, None}
 use Rattle.std.specs.List.{AllByRecursion}
 use Rattle.vx_model.specs.Content.{Write, IsPrefixOf}
@@ -53,10 +54,6 @@ good_note h i a b g = record {
   content = g.content;
 }
 
-true_or_false : (b : Bool) → (b ≡ true) ⊎ (b ≡ false)
-true_or_false true = inl refl
-true_or_false false = inr refl
-
 module _ (w v : World) (s : Sound w) (like : IsLike w v) where
   at : (P : Node → Type 0) (i : ℕ) → P (with_notes (w.nodes i) (v.nodes i)) → P (v.nodes i)
   at P i h = subst P (sym (like.nodes i)) h
@@ -94,7 +91,7 @@ module _ (w v : World) (s : Sound w) (like : IsLike w v) where
   held_by x p = (x.lines (x.nodes p).line).held
 
   link_good : (p q : ℕ) → GoodLink (held_by v p) p q (v.nodes p) (v.nodes q) (v.links p q)
-  link_good p q = elim (true_or_false (is_linked (w.links p q))) [
+  link_good p q = elim (cases_Bool (is_linked (w.links p q))) [
     | inl is ↦
         subst (λ (l : Link). GoodLink (held_by v p) p q (v.nodes p) (v.nodes q) l) (sym ((like.links p q).same is))
         (link_later (held_by w p) (held_by v p) p q (w.nodes p) (w.nodes q) (v.nodes p) (v.nodes q) (w.links p q) (later p) (later q)
