@@ -43,6 +43,7 @@ use Rattle.vx_model.specs.Content.{block_of}
 use Rattle.vx_volume.specs.Plexes.{DisksFit, Inside, active}
 use Rattle.vx_loggroup.specs.LoggedVolumes.{LoggedStands}
 use Rattle.vx_loggroup.specs.Taking.{MapWas, MapsMay, MapsShrink, MapsWere, MapsWhy, SameDrls, TakesMap}
+use Rattle.vx_loggroup.proofs.HeldMaps.{same_drls}
 use Rattle.vx_loggroup.proofs.SetLemmas.{item_at, set_here, set_other}
 
 -- ---- what a log that was read knows
@@ -180,14 +181,11 @@ pub record TakenSoFar (c : GroupCore) (a : List Bool) (good : ℕ) (st : List Bo
   pub why : MapsWhy good c.inner.config st r ls
   pub were : MapsWere c.inner.config ls m0
 
-same_drl : (o : Option Logs) (l k : Logs) → o ≡ Some l → o ≡ Some k → k.drl ≡ l.drl
-same_drl o l k one two = let both : Some l ≡ Some k = sym one ∙ two in let same : l ≡ k = cc in ap (λ (x : Logs). x.drl) (sym same)
-
 pub none_taken : (c : GroupCore) (a : List Bool) (good : ℕ) (st : List Bool) (r : Rested) (ls : List Logs) (m : Meaning) → LoggedStands c ls a false m → ((v : ℕ) (l : Logs) → slice_get ls v ≡ Some l → l.fmr ≡ None) → TakenSoFar c a good st r ls m 0 ls m
 none_taken c a good st r ls m stands plain = record {
   stands = stands;
   goes = same_Goes m;
-  drls = record { each = λ v l k was now. same_drl (slice_get ls v) l k was now };
+  drls = record { each = λ v l k was now. same_drls (slice_get ls v) l k was now };
   rest = λ v le. refl;
   long = refl;
   why = record { each = λ v l is some. absurd (some (plain v l is)) };

@@ -1,5 +1,5 @@
 -- The writes of a log are taken up, one after another.
-use Rattle.std.proofs.Common.{◌≡◌, ℕ, zero, suc, ◌+◌, ◌-◌, ◌≤◌, Bool, true, false, List, [], ◌∷◌, ◌++◌, length, take, drop, Some, None, IsTrue, sym, ◌∙◌, ap, subst, arith, length-append}
+use Rattle.std.proofs.Common.{◌≡◌, ℕ, zero, suc, ◌+◌, ◌-◌, ◌≤◌, Bool, List, [], ◌∷◌, ◌++◌, length, take, drop, Some, None, IsTrue, sym, ◌∙◌, ap, subst, arith, length-append}
 use Rattle.std.specs.Prelude.{if◌then◌else◌, leb, slice_get, All}
 use Rattle.std.proofs.lemmas.List.{map-append, take-append-drop}
 use Rattle.std.proofs.lemmas.List.Elements.{All-nil, All-push}
@@ -30,6 +30,7 @@ use Rattle.vx_rvg.specs.Fills.{FillCause, IsFilledTo, NamesOne}
 use Rattle.vx_rvg.specs.Groups.{no_of}
 use Rattle.vx_rvg.specs.Stands.{IsWholeRecord}
 use Rattle.vx_rvg.specs.Views.{blocks_within, volume_size}
+use Rattle.vx_rvg.proofs.ApplyAll.{within_few}
 use Rattle.vx_rvg.proofs.WriteLog.{cause_from}
 use Rattle.vx_rvg.proofs.WriteSound.{SameSizes, volume_same, within_append}
 
@@ -55,15 +56,6 @@ head_at (a ∷ rs) (b ∷ ks) zero r kept same at there =
 head_at (a ∷ rs) (b ∷ ks) (suc k) r kept same at there = head_at rs ks k r kept same.2 at there
 
 -- ---- sums
-
-at_most : (t : Bool) (n : ℕ) → (if t then n else 0) ≤ n
-at_most true n = omega arith
-at_most false n = omega arith
-
--- records take more than the blocks that they put
-within_widths : (size : ℕ → ℕ) (ks : List Kept) → blocks_within size ks ≤ widths ks
-within_widths size [] = omega arith
-within_widths size (k ∷ ks) = omega (arith, at_most (leb (k.head.block + k.head.count) (size k.head.vol)) k.head.count, within_widths size ks)
 
 take_widths : (k : ℕ) (ks : List Kept) → widths (take k ks) ≤ widths ks
 take_widths k ks =
@@ -122,7 +114,7 @@ module _ (l : Log) (vols : List ℕ) (old mid new : Meaning) (k room : ℕ) (pen
       omega (
         arith,
         so.filled.count,
-        within_widths size (take k l.held),
+        within_few size (take k l.held),
         more,
         widths_append (take k l.held) (agrees.front.kept ∷ []),
         take_widths (suc k) l.held,

@@ -13,13 +13,10 @@ use Rattle.vx_script.specs.Grammar.{line_after_spaces, tokens, spelling}
 use Rattle.vx_script.specs.Tokens.{Token, Key, Named, Number, Hex, NameList, Spells, SpellAll, words_of, before_word, is_in_word, printed, spaced, joined_words, IsWord, FitsToken, FitAll}
 use Rattle.vx_script.specs.declared.line.ScriptLine.{ScriptLine}
 use Rattle.vx_script.proofs.KindLemmas.{line_only}
-use Rattle.vx_script.proofs.SpellLemmas.{word_from, word_cons, visible, labelled_again, hex_word, hex_again}
+use Rattle.vx_script.proofs.SpellLemmas.{word_from, word_cons, visible, labelled_again, hex_word, hex_again, cond_true}
 
 cond_false : {A : Type 0} (t : Bool) (x y : A) → t ≡ false → cond t x y ≡ y
 cond_false t x y e = ap (λ (b : Bool). cond b x y) e
-
-cond_true : {A : Type 0} (t : Bool) (x y : A) → t ≡ true → cond t x y ≡ x
-cond_true t x y e = ap (λ (b : Bool). cond b x y) e
 
 goes : (c : ℕ) (bytes : List ℕ) → IsWord (c ∷ bytes) → cond (eqb c 32) false true ≡ true
 goes c [] is = cond_false (eqb c 32) false true is

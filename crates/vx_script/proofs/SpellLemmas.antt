@@ -11,7 +11,7 @@ use Rattle.hex.proofs.HexLemmas.{length-encode_with, decode_sized-twice, decode_
 use Rattle.vx_script.specs.Words.{is_visible, labelled}
 use Rattle.vx_script.specs.Tokens.{IsWord}
 
-cond_true : {A : Type 0} (t : Bool) (x y : A) → t ≡ true → cond t x y ≡ x
+pub cond_true : {A : Type 0} (t : Bool) (x y : A) → t ≡ true → cond t x y ≡ x
 cond_true t x y e = ap (λ (b : Bool). cond b x y) e
 
 -- bytes that are all of a kind without the space are a word

@@ -6,9 +6,7 @@ use Rattle.std.proofs.Math.Dec.{eqb-suc-zero}
 use Rattle.std.specs.List.{position_or_len}
 use Rattle.vx_script.specs.Words.{is_space, is_visible, after_spaces, word_of, after_word, placed, next_word, words_end}
 use Rattle.vx_script.specs.Tokens.{before_word, is_in_word, words_of}
-
-cond_true : {A : Type 0} (t : Bool) (x y : A) → t ≡ true → cond t x y ≡ x
-cond_true t x y e = ap (λ (b : Bool). cond b x y) e
+use Rattle.vx_script.proofs.SpellLemmas.{cond_true}
 
 cond_false : {A : Type 0} (t : Bool) (x y : A) → t ≡ false → cond t x y ≡ y
 cond_false t x y e = ap (λ (b : Bool). cond b x y) e
