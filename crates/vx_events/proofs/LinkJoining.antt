@@ -15,6 +15,7 @@ use Rattle.vx_model.specs.declared.no.No.TheVariants.{Exists, Size, Role as Wron
 use Rattle.vx_model.specs.declared.site.Role.TheVariants.{Primary}
 use Rattle.vx_model.specs.declared.site.SiteState.{SiteState}
 use Rattle.vx_model.specs.declared.site.SiteState.TheVariants.{Up}
+use Rattle.vx_model.proofs.Tests.{both_true}
 use Rattle.vx_history.specs.Events.{linked_sites, joined}
 use Rattle.vx_history.specs.Gatherings.{emptied}
 use Rattle.vx_history.specs.Refusals as history
@@ -166,10 +167,6 @@ joins_step w a b sync m =
     ∙ off (leb MOST_LINKS (count_links_of w a)) (Limit Links MOST_LINKS) w sized (above MOST_LINKS (count_links_of w a) m.few)
     ∙ off (not (agree (w.nodes a).volumes (w.nodes b).volumes && history.rings_fit (w.nodes a) (w.nodes b))) Size w o (ap not m.fits)
 
-pub both_hold : (x y : Bool) → x ≡ true → y ≡ true → (x && y) ≡ true
-both_hold true y e f = f
-both_hold false y e f = absurd (cc)
-
 -- by what the one order says of the sites
 module _ (w : World) (whole : AreDurable w) (listed : AreListed w) (p s : List ℕ) (one : Seat w p) (two : Seat w s)
     (here : IsHere w (site_number w p)) (there : IsHere w (site_number w s)) where
@@ -202,12 +199,12 @@ module _ (w : World) (whole : AreDurable w) (listed : AreListed w) (p s : List �
       let first = unused_of w whole a one.below here q.0 in
       let second = unused_of w whole b two.below there u.0 in
       let none : link_count (Some (linked_fact w b)) ≡ 0 = none_of (link_count (Some (linked_fact w b))) u.1 in
-      both_hold (history.is_primary (w.nodes a).role) _ (ap history.is_primary first.role)
-      (both_hold (not (eqb b a)) _ t.0
-      (both_hold (is_empty (w.nodes a).log) _ first.empty
-      (both_hold (same_line (w.nodes a).line (first_line a)) _ r.0
-      (both_hold (history.is_primary (w.nodes b).role) _ (ap history.is_primary second.role)
-      (both_hold (is_empty (w.nodes b).log) _ second.empty (ap not (fresh none)))))))
+      both_true (history.is_primary (w.nodes a).role) _ (ap history.is_primary first.role)
+      (both_true (not (eqb b a)) _ t.0
+      (both_true (is_empty (w.nodes a).log) _ first.empty
+      (both_true (same_line (w.nodes a).line (first_line a)) _ r.0
+      (both_true (history.is_primary (w.nodes b).role) _ (ap history.is_primary second.role)
+      (both_true (is_empty (w.nodes b).log) _ second.empty (ap not (fresh none)))))))
 
   free_here : link_towards (Some (linked_fact w a)) (Some b) ≡ None → is_linked (w.links a b) ≡ false
   free_here e =

@@ -7,6 +7,7 @@ use Rattle.vx_model.specs.Sites.{is_up, is_origin}
 use Rattle.vx_model.specs.declared.no.Named.TheVariants.{Number as ByNumber}
 use Rattle.vx_model.specs.declared.no.No.TheVariants.{Unknown, Role as WrongRole, Down as NotUp, Unconfirmed}
 use Rattle.vx_model.specs.declared.site.SiteState.{SiteState}
+use Rattle.vx_model.proofs.Tests.{both_true}
 use Rattle.vx_history.specs.Admission.{is_fail}
 use Rattle.vx_history.specs.Events.{linked_sites, waited, promises_of}
 use Rattle.vx_history.specs.Refusals.{Outcome, says, unless, at_work, some_below, is_unconfirmed, holds_back, goes}
@@ -28,7 +29,7 @@ use Rattle.vx_events.specs.GroupLines.{is_over_group}
 use Rattle.vx_events.specs.LinkedFacts.{link_fact, link_facts, links_by, links_of_site, linked_fact}
 use Rattle.vx_events.specs.StepsOver.{fact_over, facts_over, refused_over}
 use Rattle.vx_history.specs.Listed.{IsAmong, AreListed}
-use Rattle.vx_events.proofs.LinkJoining.{IsHere, here_by, both_hold}
+use Rattle.vx_events.proofs.LinkJoining.{IsHere, here_by}
 use Rattle.vx_events.proofs.LinkTesting.{seat_at}
 use Rattle.vx_events.proofs.OverSeats.{apart_shown, fact_apart}
 use Rattle.vx_events.proofs.Passing.{off, is_site, is_at_work}
@@ -54,8 +55,8 @@ lacking number n k l e =
     let fails = and_parts (is_fail l.sync) _ attached.1 in
     let below = and_parts (nat_lt l.net number) _ fails.1 in (
       linked.0,
-      both_hold (l.attached && (is_fail l.sync && not (goes k l))) (nat_lt l.net number)
-          (both_hold l.attached (is_fail l.sync && not (goes k l)) attached.0 (both_hold (is_fail l.sync) (not (goes k l)) fails.0 below.1)) below.0,
+      both_true (l.attached && (is_fail l.sync && not (goes k l))) (nat_lt l.net number)
+          (both_true l.attached (is_fail l.sync && not (goes k l)) attached.0 (both_true (is_fail l.sync) (not (goes k l)) fails.0 below.1)) below.0,
     )
 
 never_both : (b : Bool) → b ≡ true → b ≡ false → ⊥

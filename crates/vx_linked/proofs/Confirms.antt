@@ -18,6 +18,7 @@ use Rattle.vx_model.specs.declared.no.No.{No}
 use Rattle.vx_model.specs.declared.no.No.TheVariants.{Down as NotUp, Role as WrongRole, Unconfirmed, Unknown}
 use Rattle.vx_model.specs.declared.site.SiteState.{SiteState}
 use Rattle.vx_model.specs.declared.site.SiteState.TheVariants.{Up}
+use Rattle.vx_model.proofs.Tests.{or_true}
 use Rattle.vx_order.specs.Asks.{ask_of}
 use Rattle.vx_order.specs.Sites.{site_named, site_off}
 use Rattle.vx_order.specs.Subject.{first_name, halt_of, need_of, second_name}
@@ -87,10 +88,6 @@ both_ways true b f g = sym (f refl)
 both_ways false true f g = g refl
 both_ways false false f g = refl
 
-pub or_right : (a b : Bool) → b ≡ true → (a || b) ≡ true
-or_right true b e = refl
-or_right false b e = e
-
 split : (k n : ℕ) → k < suc n → (k ≡ n) ⊎ (k < n)
 split zero zero h = inl refl
 split zero (suc n) h = inr (omega arith)
@@ -101,7 +98,7 @@ pub below_at : (n : ℕ) (test : ℕ → Bool) (k : ℕ) → k < n → test k �
 below_at zero test k h e = absurd (omega (arith, h))
 below_at (suc n) test k h e =
     ⊎_elim (λ (is : k ≡ n). ap (λ (b : Bool). b || some_below n test) (subst (λ (j : ℕ). test j ≡ true) is e))
-    (λ (less : k < n). or_right (test n) (some_below n test) (below_at n test k less e)) (split k n h)
+    (λ (less : k < n). or_true (test n) (some_below n test) (below_at n test k less e)) (split k n h)
 
 pub below_of : (n : ℕ) (test : ℕ → Bool) → some_below n test ≡ true → (k : ℕ) × (k < n) × (test k ≡ true)
 below_of zero test e = absurd (cc)
@@ -151,7 +148,7 @@ module _ (n : Node) (row : ℕ → Link) (number sites : ℕ) where
   among_any : (k : ℕ) (ss : List ℕ) → IsAmong k ss → held k ≡ true → list_any (holds_up number) (link_facts n row ss) ≡ true
   among_any k [] h e = absurd h
   among_any k (t ∷ ts) (inl same) e = ap (λ (b : Bool). b || list_any (holds_up number) (link_facts n row ts)) (subst (λ (j : ℕ). held j ≡ true) same e)
-  among_any k (t ∷ ts) (inr more) e = or_right (held t) _ (among_any k ts more e)
+  among_any k (t ∷ ts) (inr more) e = or_true (held t) _ (among_any k ts more e)
 
 pub holds_same : (w : World) → AreListed w → (p number : ℕ) → some_below w.sites (λ k. holds_back number k (w.links p k)) ≡ list_any (holds_up number) (links_of_site w p)
 holds_same w listed p number =

@@ -1,5 +1,5 @@
 -- What a line leads to that starts the group of a site which is down.
-use Rattle.std.proofs.Common.{◌≡◌, ◌∙◌, ◌<◌, ◌≤◌, ◌++◌, ◌+◌, ◌⊎◌, ℕ, zero, suc, Bool, true, false, List, [], ◌∷◌, length, ap, sym, subst, refl, arith, inl, inr, ⊎_elim, IsTrue}
+use Rattle.std.proofs.Common.{◌≡◌, ◌∙◌, ◌<◌, ◌++◌, ◌⊎◌, ℕ, zero, suc, Bool, true, false, List, [], ◌∷◌, length, ap, sym, subst, refl, arith, inl, inr, ⊎_elim, IsTrue}
 use Rattle.std.specs.Prelude.{Option, Some, None, Result, Ok, Err, not, ◌&&◌, ◌||◌, map, slice_get, slice_set}
 use Rattle.std.proofs.lemmas.Option.{slice_get_within}
 use Rattle.vx_model.specs.Sites.{is_origin}
@@ -13,6 +13,7 @@ use Rattle.vx_model.specs.declared.site.SiteState.TheVariants.{Bare as IsBare, U
 use Rattle.vx_model.specs.declared.state.KeptLink.{KeptLink}
 use Rattle.vx_model.specs.declared.state.State.{State}
 use Rattle.vx_model.specs.Refusals.{IsNoDevice}
+use Rattle.vx_model.proofs.Tests.{both_true}
 use Rattle.vx_disk.specs.Shelf.{Lawful}
 use Rattle.vx_disk.specs.declared.shelf.Shelf.{Ghosts}
 use Rattle.vx_diskset.specs.Asked.{FailsAs, FusedAs, SameFailing}
@@ -76,10 +77,6 @@ quiet_is ForkKept e = absurd (cc)
 or_left : (a b : Bool) → a ≡ true → (a || b) ≡ true
 or_left true b e = refl
 or_left false b e = absurd (cc)
-
-and_both : (a b : Bool) → a ≡ true → b ≡ true → (a && b) ≡ true
-and_both true b e f = f
-and_both false b e f = absurd (cc)
 
 -- a node without the disks that were made to fail since
 own_same : (b : Bool) (was n k : Node) → SameDisks (own_node b was n) k → SameDisks n (record k { failing = n.failing; group = n.group })
@@ -324,9 +321,9 @@ module _ {R : Type 0} {g : Ghosts R} where
       told_may =
           let ss : List ℕ = linked_sites (mid.world.links s) mid.world.sites 0 mid.world.sites in
           let ls : List KeptLink = header_links mid.world s in
-          and_both (is_quiet k.phase) (are_fine s mid.world.sites ls && (is_origin k.role || is_none ls))
+          both_true (is_quiet k.phase) (are_fine s mid.world.sites ls && (is_origin k.role || is_none ls))
           (ap (λ (n : Node). is_quiet n.phase) (came.is told) ∙ ap is_quiet (stands.links.quiet s))
-          (and_both (are_fine s mid.world.sites ls) (is_origin k.role || is_none ls) (kept_fine s mid.world.sites (mid.world.links s) (stands.links.rows s))
+          (both_true (are_fine s mid.world.sites ls) (is_origin k.role || is_none ls) (kept_fine s mid.world.sites (mid.world.links s) (stands.links.rows s))
           (ap (λ (n : Node). is_origin n.role || is_none ls) (came.is told)
           ∙ none_or (mid.world.links s) (is_origin m.role) (stands.links.starts s) ss (all_linked (mid.world.links s) mid.world.sites 0 mid.world.sites)))
 
