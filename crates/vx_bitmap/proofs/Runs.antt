@@ -3,6 +3,8 @@ use Rattle.std.proofs.Common.{◌≡◌, ◌∙◌, ◌⊎◌, inl, inr, ⊎_eli
 use Rattle.std.specs.Prelude.{◌&&◌, ◌==◌, leb, ltb, if◌then◌else◌, min, max, Err}
 use Rattle.std.proofs.lemmas.Bool.{and_parts, and_from, cases_lt, lt-ltb, le-leb, leb-true}
 use Rattle.std.proofs.lemmas.Bool.Decides.{nat_tests}
+use Rattle.std.proofs.lemmas.Nat.{mul-le}
+use Rattle.std.proofs.Math.Nat.{add-mul}
 use Rattle.vx_disk.specs.Causes.{Cause, DeviceCause, refusal_of}
 use Rattle.vx_disk.specs.Counts.{Rose}
 use Rattle.vx_disk.specs.Moves.{Moves, Run}
@@ -201,3 +203,7 @@ module _ (unit first start end n from to : ℕ) (value : Bool) (old mid_bytes : 
         ∙ ap (λ (b : Bool). if b then value else is_marked old r) (ap (λ (b : Bool). is_among start end r && b) (not_below r n (omega (arith, low, from_is))) ∙ and_no (is_among start end r))
         ∙ all.each r (omega (arith, low, from_is)) (omega (arith, high, to_is));
   }
+
+-- a slot ends where a later one begins
+pub slot_before : (k s stride : ℕ) → k < s → k * stride + stride ≤ s * stride
+slot_before k s stride lt = let one = mul-le (k + 1) stride s stride (omega (arith, lt)) (omega arith) in let two : (k + 1) * stride ≡ k * stride + 1 * stride = add-mul k 1 stride in omega (arith, one, two)

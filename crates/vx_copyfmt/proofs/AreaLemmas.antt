@@ -8,10 +8,9 @@ use Rattle.vx_wire.specs.Numbers.{be_bytes, number_at}
 use Rattle.vx_wire.specs.Places.{cut}
 use Rattle.vx_wire.specs.Seals.{sealed, filled, digest_of, IsSealed}
 use Rattle.vx_wire.proofs.NumberLemmas.{reads_back}
-use Rattle.vx_wire.proofs.SealLemmas.{take-sealed, IsSealed-sealed, length-sealed}
+use Rattle.vx_wire.proofs.SealLemmas.{take-sealed, IsSealed-sealed, length-sealed, alike, same_bytes}
 use Rattle.vx_copyfmt.specs.Areas.{area_table, area_fields, area_block, CanSpellArea, IsTypedArea, IsArea, area_in, is_area, header_of}
 use Rattle.vx_copyfmt.specs.declared.area.AreaHeader.{AreaHeader}
-use Rattle.vx_copyfmt.proofs.Told.{same_bytes, alike}
 
 pub length-area_table : (h : AreaHeader) → length (spelled (area_table h)) ≡ 20
 unfolding spelled be_bytes area_table

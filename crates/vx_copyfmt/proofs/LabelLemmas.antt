@@ -6,11 +6,11 @@ use Rattle.vx_wire.specs.Fields.{spelled, zero_bytes}
 use Rattle.vx_wire.specs.Numbers.{be_bytes, number_at}
 use Rattle.vx_wire.specs.Seals.{sealed, filled, digest_of, IsSealed}
 use Rattle.vx_wire.proofs.NumberLemmas.{reads_back}
-use Rattle.vx_wire.proofs.SealLemmas.{take-sealed, IsSealed-sealed, length-sealed}
+use Rattle.vx_wire.proofs.SealLemmas.{take-sealed, IsSealed-sealed, length-sealed, alike, same_bytes}
 use Rattle.vx_copyfmt.specs.Labels.{label_magic, label_version, label_table, label_fields, label_block, IsTypedLabel, IsLabel, label_in, begins_label, is_spelled, seen_in}
 use Rattle.vx_copyfmt.specs.declared.label.Label.{Label}
 use Rattle.vx_copyfmt.specs.declared.label.LabelSeen.TheVariants as seen
-use Rattle.vx_copyfmt.proofs.Told.{not_both, same_bytes, alike}
+use Rattle.vx_copyfmt.proofs.Told.{not_both}
 
 pub length-label_table : (l : Label) → length (label_fields l) ≡ 28
 unfolding spelled be_bytes label_table

@@ -49,7 +49,7 @@ some_lost : (o : Option LogEntry) → is_some (lost_as false o) ≡ is_some o
 some_lost None = refl
 some_lost (Some l) = refl
 
-heads_of : (p q : PlexEntry) (ps qs : List PlexEntry) → q ∷ qs ≡ p ∷ ps → (q ≡ p) × (qs ≡ ps)
+pub heads_of : (p q : PlexEntry) (ps qs : List PlexEntry) → q ∷ qs ≡ p ∷ ps → (q ≡ p) × (qs ≡ ps)
 heads_of p q ps qs is = (cc is, cc is)
 
 subdisks_of : (p q : PlexEntry) → with_state Stale false q ≡ with_state Stale false p → q.subdisks ≡ p.subdisks
@@ -75,7 +75,7 @@ frame_same v u is = record {
   plexes = same_plexes v.plexes u.plexes (ap (λ (x : VolumeEntry). x.plexes) is);
 }
 
-one_frame : (a b : VolumeEntry) → Some b ≡ Some a → b ≡ a
+pub one_frame : (a b : VolumeEntry) → Some b ≡ Some a → b ≡ a
 one_frame a b is = cc is
 
 pub same_of : (o p : Option VolumeEntry) → frame_or p ≡ frame_or o → SameOne o p

@@ -14,7 +14,7 @@ use Rattle.vx_history.specs.World.{Link, Node, Packet, World, updated}
 use Rattle.vx_history.specs.declared.event.Event.TheVariants.{Deliver as DeliverAt}
 use Rattle.vx_history.specs.declared.event.Said.TheVariants.{Ignored as IsIgnored}
 use Rattle.vx_history.specs.declared.sender.SEvent.{SEvent}
-use Rattle.vx_history.proofs.States.{up_is}
+use Rattle.vx_history.proofs.States.{runs_is, up_is}
 use Rattle.vx_history.proofs.Updates.{at_place}
 use Rattle.vx_model.specs.Sites.{is_up}
 use Rattle.vx_model.specs.declared.site.SiteState.{SiteState}
@@ -105,10 +105,6 @@ listens_up Down n = refl
 pub listens_is : (w : World) (i : ℕ) → listens (Some (linked_fact w i)) ≡ (is_up (w.nodes i).state && (is_running (w.nodes i).halted && keeps_links (w.nodes i).role))
 listens_is w i = listens_up (w.nodes i).state (w.nodes i)
 
-runs : (h : Option ℕ) → is_running h ≡ true → h ≡ None
-runs None e = refl
-runs (Some disk) e = absurd (cc)
-
 picks : (b : Bool) (o : Option LinkFacts) (l : LinkFacts) → (if b then o else None) ≡ Some l → (b ≡ true) × (o ≡ Some l)
 picks true o l e = (refl, e)
 picks false o l e = absurd (never_some e)
@@ -132,7 +128,7 @@ hears_so w sites target source l facts is =
     = sym (listens_is w target) ∙ ap listens (sym (site_apart w target link.below link.apart)) ∙ found.0 in
     let up = and_parts (is_up (w.nodes target).state) _ listening in
     let running = and_parts (is_running (w.nodes target).halted) _ up.1 in
-    record { site = record { up = link.up; running = runs (w.nodes target).halted running.0; keeps = running.1 }; link = link }
+    record { site = record { up = link.up; running = runs_is (w.nodes target).halted running.0; keeps = running.1 }; link = link }
 
 -- ---- where nothing hears
 

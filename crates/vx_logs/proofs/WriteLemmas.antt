@@ -7,6 +7,7 @@ use Rattle.vx_model.specs.Sizes.{map_blocks, regions_of as regions_in}
 use Rattle.vx_model.specs.declared.no.No.{No}
 use Rattle.vx_model.specs.declared.no.No.TheVariants as refusal
 use Rattle.vx_bitmap.proofs.Blocks.{by_block}
+use Rattle.vx_bitmap.proofs.Runs.{slot_before}
 use Rattle.vx_bitmap.specs.Bits.{AllAre, is_among, is_marked}
 use Rattle.vx_bitmap.specs.Maps.{Map, MapOn, map_block_count, marks_with, regions_mapped}
 use Rattle.vx_config.specs.Checks.{blocks_of as blocks_in, is_sound, is_stale, plexes_of}
@@ -27,7 +28,6 @@ use Rattle.vx_drl.specs.Dirty.{Dirty, is_dirty}
 use Rattle.vx_fmr.specs.Missed.{FmrLoaded, Missed, has_missed, missed_place}
 use Rattle.vx_drl.proofs.Keeping.{kept_of as drl_kept}
 use Rattle.vx_fmr.proofs.Keeping.{kept_of as fmr_kept}
-use Rattle.vx_fmr.proofs.Places.{before}
 use Rattle.vx_layout.specs.Places.{place, plex_at}
 use Rattle.vx_maplog.specs.Logs.{log_of}
 use Rattle.vx_volume.specs.Plexes.{DisksFit, Inside, active, active_or, is_active}
@@ -243,7 +243,7 @@ module _ (c : Config) (sound : is_sound c ≡ true) (v block n : ℕ) (bytes : L
         let kept = fmr_kept c v now.new.map (blocks_in c.volumes v) now.new.plexes now.new.stride now.new.regions fits.log refl some fits.plexes fits.stride fits.regions in
         let lt : p < now.new.plexes = omega (arith, stale_below c v p stale_is, fits.plexes) in
         let narrow : r < now.new.stride = omega (arith, high, inside, kept.fit, fits.regions) in
-        let few : missed_place now.new p r < regions_mapped now.new.map = omega (arith, narrow, before p now.new.plexes now.new.stride lt, kept.all) in
+        let few : missed_place now.new p r < regions_mapped now.new.map = omega (arith, narrow, slot_before p now.new.plexes now.new.stride lt, kept.all) in
         let block_low : missed_place now.new p r / 4096 < map_block_count now.new.map = omega (arith, few, fits.log.run.long) in
         let is : has_missed now.new p r ≡ true =
         now.noted.notes.each p r (omega (arith, lt, now.noted.same.shape.plexes)) (omega (arith, narrow, now.noted.same.shape.stride))

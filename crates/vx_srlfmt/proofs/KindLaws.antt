@@ -2,15 +2,14 @@
 use Rattle.std.proofs.Common.{◌≡◌, ◌≤◌, ℕ, ◌-◌, ◌^◌, ◌<◌, Bool, true, false, ◌&&◌, not, List, [], ◌∷◌, length, take, drop, refl, ap, sym, ◌∙◌, arith}
 use Rattle.std.specs.Prelude.{◌==◌, nat_lt, slice_index, bytes_eq, if◌then◌else◌}
 use Rattle.std.specs.List.{list_all, AllByRecursion}
-use Rattle.std.specs.Cmp.Lexicographic.{same_text}
 use Rattle.std.proofs.lemmas.Bool.{and_parts, and_from, ltb-true, lt-ltb, eqb-true, eq-eqb, false_from_ne_true}
-use Rattle.std.proofs.lemmas.Cmp.{nat_list_eq_equiv}
 use Rattle.std.proofs.lemmas.List.{get_or-take}
 use Rattle.std.proofs.lemmas.List.Elements.{All-from_recursion, recursion_from_All}
 use Rattle.vx_model.specs.declared.state.KeptLink.{KeptLink}
 use Rattle.vx_wire.specs.Fields.{zero_bytes}
 use Rattle.vx_wire.specs.Numbers.{be_bytes}
 use Rattle.vx_wire.specs.Seals.{digest_of}
+use Rattle.vx_wire.proofs.SealLemmas.{alike, same_bytes}
 use Rattle.vx_srlfmt.specs.HeaderReading.{header_in}
 use Rattle.vx_srlfmt.specs.Headers.{header_magic, header_block, Agrees, IsHeader, CanSpellLink}
 use Rattle.vx_srlfmt.specs.RecordReading.{head_in}
@@ -24,12 +23,6 @@ use Rattle.vx_srlfmt.proofs.RecordLaws.{front_record}
 use Rattle.vx_srlfmt.proofs.Told.{not_both}
 
 -- ---- tests and facts
-
-same_bytes : (xs ys : List ℕ) → bytes_eq xs ys ≡ true → xs ≡ ys
-same_bytes xs ys h = same_text xs ys (sym h)
-
-alike : (xs ys : List ℕ) → xs ≡ ys → bytes_eq xs ys ≡ true
-alike xs ys e = ap (λ (t : List ℕ). bytes_eq t ys) e ∙ nat_list_eq_equiv.refl ys
 
 below_from : (pairs : List (ℕ × ℕ)) → all_below pairs ≡ true → AllByRecursion (λ p. p.0 < p.1) pairs
 below_from [] h = tt
@@ -165,11 +158,11 @@ not_body block m begins letter body =
     let same : slice_index (take 8 block) 0 ≡ slice_index (be_bytes 8 m) 0 = ap (λ (b : List ℕ). slice_index b 0) begins in
     absurd (omega (arith, first, same, letter, body))
 
-header_letter : slice_index (be_bytes 8 header_magic) 0 ≡ 0x56
+pub header_letter : slice_index (be_bytes 8 header_magic) 0 ≡ 0x56
 unfolding be_bytes
 header_letter = refl
 
-record_letter : slice_index (be_bytes 8 record_magic) 0 ≡ 0x56
+pub record_letter : slice_index (be_bytes 8 record_magic) 0 ≡ 0x56
 unfolding be_bytes
 record_letter = refl
 

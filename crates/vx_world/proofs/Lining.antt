@@ -3,6 +3,7 @@ use Rattle.std.proofs.Common.{◌≡◌, ◌∙◌, inl, inr, ℕ, ◌<◌, List
 use Rattle.std.specs.Prelude.{Option, Some, None, eqb, if◌then◌else◌}
 use Rattle.std.proofs.lemmas.Bool.{cases_eq}
 use Rattle.vx_model.specs.declared.site.SiteState.TheVariants.{Up}
+use Rattle.vx_history.proofs.Behind.{after_of}
 use Rattle.vx_history.proofs.Updates.{all_updated, at_place, eqb_equal}
 use Rattle.vx_history.specs.Doubts.{After, Doubted, resolved, resolved_at, taken_up, crashed_as, halved}
 use Rattle.vx_history.specs.Events.{kept_of, crash_at}
@@ -18,7 +19,7 @@ use Rattle.vx_history.specs.declared.event.Event.TheVariants.{Site, Raw, Group, 
 use Rattle.vx_world.specs.Lines.{IsDoubt, GoodDoubted, node_as, row_as, resolved_as}
 use Rattle.vx_world.specs.Twins.{GoodTwin, IsElsewhere}
 use Rattle.vx_world.proofs.Crashed.{not_past, crash_is}
-use Rattle.vx_world.proofs.Halted.{halved_good, after_of, like_counted}
+use Rattle.vx_world.proofs.Halted.{halved_good, like_counted}
 use Rattle.vx_world.proofs.Halving.{aside, half}
 use Rattle.vx_world.proofs.Likely.{noted, link_self}
 use Rattle.vx_world.proofs.Liking.{good_like}
