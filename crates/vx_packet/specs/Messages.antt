@@ -1,6 +1,6 @@
 -- Messages, as the table of kinds spells them.
 use Rattle.std.specs.Prelude.{◌≡◌, ℕ, ◌+◌, ◌*◌, ◌/◌, ◌%◌, ◌^◌, ◌<◌, ◌≤◌, ◌≢◌, max, List, [], ◌∷◌, ◌++◌, length, slice_index}
-use Rattle.vx_model.specs.declared.limits.TheConstants.{BLOCK, MOST_CALL_BLOCKS}
+use Rattle.vx_model.specs.declared.limits.TheConstants.{BLOCK, MOST_CALL_BLOCKS, REGION}
 use Rattle.vx_model.specs.Numbers.{number_bound}
 use Rattle.vx_wire.specs.declared.field.Field.{Field}
 use Rattle.vx_wire.specs.declared.field.Field.TheVariants.{U8, U32, U64}
@@ -58,7 +58,7 @@ CanSpellMessage (Update number vol block bytes) = IsCounted number × AreWholeBl
 CanSpellMessage (NetAck session number) = IsCounted session × IsCounted number
 CanSpellMessage (DataAck number) = IsCounted number
 CanSpellMessage (ReplayStart id start) = IsCounted id × IsCounted start
-CanSpellMessage (Region id vol region bytes) = IsCounted id × AreWholeBlocks 64 bytes
+CanSpellMessage (Region id vol region bytes) = IsCounted id × AreWholeBlocks REGION bytes
 CanSpellMessage (RegionsDone id start end) = IsCounted id × IsCounted start × IsCounted end
 CanSpellMessage (RegionAck id vol region kind) = IsCounted id × IsAck kind vol region
 CanSpellMessage (Fork fork parent) = IsCounted fork × IsCounted parent.generation
