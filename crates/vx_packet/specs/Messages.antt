@@ -1,6 +1,6 @@
 -- Messages, as the table of kinds spells them.
-use Rattle.std.specs.Prelude.{◌≡◌, ℕ, ◌+◌, ◌*◌, ◌/◌, ◌%◌, ◌^◌, ◌<◌, ◌≤◌, ◌≢◌, max, List, [], ◌∷◌, ◌++◌, length, slice_index}
-use Rattle.vx_model.specs.declared.limits.TheConstants.{BLOCK, MOST_CALL_BLOCKS, REGION}
+use Rattle.std.specs.Prelude.{◌≡◌, ℕ, ◌+◌, ◌-◌, ◌*◌, ◌/◌, ◌%◌, ◌^◌, ◌<◌, ◌≤◌, ◌≢◌, max, List, [], ◌∷◌, ◌++◌, length, slice_index}
+use Rattle.vx_model.specs.declared.limits.TheConstants.{BLOCK, MOST_CALL_BLOCKS, PART_BYTES, REGION}
 use Rattle.vx_model.specs.Numbers.{number_bound}
 use Rattle.vx_wire.specs.declared.field.Field.{Field}
 use Rattle.vx_wire.specs.declared.field.Field.TheVariants.{U8, U32, U64}
@@ -87,7 +87,7 @@ payload_of m = spelled (row m).numbers ++ (row m).bytes
 
 -- in how many parts a payload of so many bytes goes
 abbrev pub part_count : ℕ → ℕ
-part_count n = max 1 ((n + 1023) / 1024)
+part_count n = max 1 ((n + (PART_BYTES - 1)) / PART_BYTES)
 
 -- in how many parts a message goes
 unfoldable pub count_of_parts : Message → ℕ
@@ -95,7 +95,7 @@ count_of_parts m = part_count (length (payload_of m))
 
 -- a part of a payload
 abbrev pub chunk : ℕ → List ℕ → List ℕ
-chunk k payload = cut (1024 * k) 1024 payload
+chunk k payload = cut (PART_BYTES * k) PART_BYTES payload
 
 -- a message is spelled by this kind, these fields of the header and this payload
 pub record IsSpelled (kind session number : ℕ) (payload : List ℕ) (m : Message) : Type 0 where

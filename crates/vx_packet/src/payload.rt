@@ -5,10 +5,8 @@ ghost use Rattle.vx_wire.specs.Places.{put_at};
 
 use crate::Message;
 use crate::row::row_of;
+use vx_model::limits::PART_BYTES;
 use vx_wire::put_bytes;
-
-/// The most bytes of a payload that a packet carries.
-pub const PART_BYTES: usize = 1024;
 
 /// In how many parts a payload of so many bytes goes.
 pub fn part_count(len: usize) -> u32
@@ -22,8 +20,8 @@ pub fn part_count(len: usize) -> u32
 pub fn put_chunk(into: &mut [u8], at: usize, front: &[u8], bytes: &[u8], part: usize)
     requires front { length front.now ≤ 24 }
     requires few { length bytes.now ≤ 65536 }
-    requires part { 1024 * part ≤ length front.now + length bytes.now }
-    requires room { at + 1024 ≤ length into.old }
+    requires part { PART_BYTES * part ≤ length front.now + length bytes.now }
+    requires room { at + PART_BYTES ≤ length into.old }
     ensures { into.new ≡ put_at at (chunk part (front.now ++ bytes.now)) into.old }
 {
     if part == 0 {
