@@ -1,6 +1,6 @@
 -- Messages, as the table of kinds spells them.
 use Rattle.std.specs.Prelude.{◌≡◌, ℕ, ◌+◌, ◌-◌, ◌*◌, ◌/◌, ◌%◌, ◌^◌, ◌<◌, ◌≤◌, ◌≢◌, max, List, [], ◌∷◌, ◌++◌, length, slice_index}
-use Rattle.vx_model.specs.declared.limits.TheConstants.{BLOCK, MOST_CALL_BLOCKS, PART_BYTES, REGION}
+use Rattle.vx_model.specs.declared.limits.TheConstants.{BLOCK, MOST_CALL_BLOCKS, MOST_MAP_BYTES, PART_BYTES, REGION}
 use Rattle.vx_model.specs.Numbers.{number_bound}
 use Rattle.vx_wire.specs.declared.field.Field.{Field}
 use Rattle.vx_wire.specs.declared.field.Field.TheVariants.{U8, U32, U64}
@@ -48,7 +48,7 @@ IsAck kind vol region = (kind ≤ 2) × (kind ≢ 1 → vol ≡ 0) × (kind ≢ 
 -- a bit for each of so many regions, and zeros behind them in the last byte
 pub record IsMap (regions : ℕ) (bytes : List ℕ) : Type 0 where
   pub whole : length bytes ≡ (regions + 7) / 8
-  pub few : length bytes ≤ 65536
+  pub few : length bytes ≤ MOST_MAP_BYTES
   pub unused : slice_index bytes (regions / 8) / 2 ^ (regions % 8) ≡ 0
 
 -- a message that the table can spell
