@@ -26,13 +26,14 @@ pub struct Bitmap {
 
 impl Model for Bitmap {
     ghost use Rattle.std.specs.Prelude.{◌≡◌, ◌%◌, length};
+    ghost use Rattle.vx_model.specs.declared.limits.TheConstants.{BLOCK};
     ghost use Rattle.vx_bitmap.specs.Maps.{Map};
 
     ghost Value = { Map };
 
     ghost view = { λ b. record { unit = b.unit; first = b.first; bytes = b.bytes.items } };
 
-    ghost invariant = { λ b. length b.bytes.items % 512 ≡ 0 };
+    ghost invariant = { λ b. length b.bytes.items % BLOCK ≡ 0 };
 }
 
 impl Bitmap {
