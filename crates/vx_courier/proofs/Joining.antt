@@ -1,6 +1,7 @@
 -- A packet that is put to what is in assembly at its target.
 use Rattle.std.proofs.Common.{◌≡◌, ◌∙◌, ◌⊎◌, inl, inr, ◌<◌, ℕ, zero, suc, List, [], ◌∷◌, ◌++◌, length, map, ap, sym, subst, refl, arith, true, false}
 use Rattle.std.proofs.lemmas.Bool.{cases_Bool}
+use Rattle.std.proofs.lemmas.Option.{same_Some}
 use Rattle.std.specs.Prelude.{Option, Some, None, slice_get, slice_index_or}
 use Rattle.std.specs.Option.{is_some}
 use Rattle.vx_model.specs.Content.{Write}
@@ -28,9 +29,6 @@ use Rattle.vx_parts.proofs.Counting.{key_is, parts_are}
 use Rattle.vx_parts.proofs.Wholes.{after_same, whole_same}
 use Rattle.vx_courier.specs.Together.{AreOne, AssemblyStands, ComesFrom, IsPutTo}
 use Rattle.vx_courier.specs.UnderWay.{CanFly, carrier, part_carried, way_of}
-
-some_same : {A : Type 0} (x y : A) → Some x ≡ Some y → x ≡ y
-some_same x y e = cc
 
 -- ---- keys, field by field
 
@@ -139,7 +137,7 @@ module _ (ps : List Packet) (site place : ℕ) (p : Packet) (one : AreOne ps) (t
       by_held (Some h) is = elim (cases_Bool (same_part_key h.key (key_of_message e m))) [
         | inl same ↦ by_key h (stands.each h is) (same_key-is h.key (key_of_message e m) same)
         | inr apart ↦ fresh e m a (λ k some same.
-            let both : h ≡ k = some_same h k (sym is ∙ some) in
+            let both : h ≡ k = same_Some h k (sym is ∙ some) in
             let key : h.key ≡ key_of_message e m = ap (λ (i : HeldParts). i.key) both ∙ same in
             let self : same_part_key (key_of_message e m) (key_of_message e m) ≡ true = same_key-refl (key_of_message e m) in
             let other : same_part_key (key_of_message e m) (key_of_message e m) ≡ false = sym (ap (λ (i : Key). same_part_key i (key_of_message e m)) key) ∙ apart in
@@ -168,7 +166,7 @@ module _ (ps : List Packet) (site place : ℕ) (p : Packet) (one : AreOne ps) (t
             packet = p;
             there = there;
             target = target;
-            key = ap (λ (i : HeldParts). i.key) (some_same h _ (sym some ∙ is.held)) ∙ key-part e m p.part;
+            key = ap (λ (i : HeldParts). i.key) (same_Some h _ (sym some ∙ is.held)) ∙ key-part e m p.part;
             some = step-kept e m a new p.part fly.can within holds is;
           };
         },

@@ -2,6 +2,7 @@
 use Rattle.std.proofs.Common.{◌≡◌, ◌⊎◌, inl, inr, ℕ, Bool, true, false, IsTrue, Option, Some, None, refl, sym, ◌∙◌, ap, subst}
 use Rattle.std.specs.Prelude.{slice_get}
 use Rattle.std.proofs.lemmas.Bool.{cases_eq}
+use Rattle.std.proofs.lemmas.Option.{same_Some}
 use Rattle.vx_model.specs.declared.site.PlexState.{PlexState}
 use Rattle.vx_model.specs.declared.site.PlexState.TheVariants.{Active, Clean, Stale}
 use Rattle.vx_disk.specs.Shelf.{Meaning}
@@ -45,12 +46,9 @@ active_state Clean on = let clash : false ≡ true = on in cc
 pub on_by : (c : Config) → AllOn c → (v k : ℕ) (p : PlexEntry) → plex_at c v k ≡ Some p → live_state p.state ≡ true → on_state p.state ≡ true
 on_by c all v k p at live = sym (on_there c v k p at) ∙ all.each v k (live_there c v k p at ∙ live)
 
-one_plex : (p q : PlexEntry) → Some p ≡ Some q → p ≡ q
-one_plex p q is = cc is
-
 state_same : (s : PlexState) (w : Bool) (o : Option PlexEntry) (p : PlexEntry) → map_one (with_state s w) o ≡ Some p → p.state ≡ s
 state_same s w None p is = absurd (let no_one : None ≡ Some p = is in cc)
-state_same s w (Some x) p is = sym (ap (λ (e : PlexEntry). e.state) (one_plex (with_state s w x) p is))
+state_same s w (Some x) p is = sym (ap (λ (e : PlexEntry). e.state) (same_Some (with_state s w x) p is))
 
 -- either it is this plex, or another one
 this_plex : (v p w q : ℕ) → ((w ≡ v) × (q ≡ p)) ⊎ (w ≡ v → q ≡ p → ⊥)

@@ -1,5 +1,6 @@
 -- A configuration that differs from one with a spelling in flags, states and serials alone has one.
 use Rattle.std.proofs.Common.{◌≡◌, ℕ, zero, suc, Bool, true, false, Option, Some, None, List, [], ◌∷◌, length, refl, sym, ap, subst, arith}
+use Rattle.std.proofs.lemmas.Option.{same_Some}
 use Rattle.std.specs.Prelude.{is_some, map, slice_get}
 use Rattle.std.specs.List.{AllByRecursion}
 use Rattle.vx_model.specs.declared.limits.TheConstants.{MOST_DISKS, MOST_VOLUMES}
@@ -16,7 +17,7 @@ use Rattle.vx_config.specs.declared.entry.VolumeEntry.{VolumeEntry}
 use Rattle.vx_copies.specs.Marks.{blocks_at}
 use Rattle.vx_kept.specs.Cleans.{at_serial}
 use Rattle.vx_kept.specs.Keeping.{frame, frame_at, frame_or}
-use Rattle.vx_kept.proofs.Frames.{heads_of, one_frame}
+use Rattle.vx_kept.proofs.Frames.{heads_of}
 use Rattle.vx_group.specs.Loses.{SameParts}
 
 -- ---- disks
@@ -100,7 +101,7 @@ volumes_like [] (u ∷ us) same fits = absurd (let no_one : Some (frame u) ≡ N
 volumes_like (v ∷ vs) [] same fits = absurd (let no_one : None ≡ Some (frame v) = same 0 in cc)
 volumes_like (v ∷ vs) (u ∷ us) same fits =
     let rest = volumes_like vs us (λ k. same (suc k)) fits.1 in
-    ((volume_like v u (one_frame (frame v) (frame u) (same 0)) fits.0, rest.0), let long = rest.1 in omega (arith, long))
+    ((volume_like v u (same_Some (frame u) (frame v) (same 0)) fits.0, rest.0), let long = rest.1 in omega (arith, long))
 
 -- ---- configurations
 

@@ -1,5 +1,6 @@
 -- Why an import is refused.
 use Rattle.std.proofs.Common.{◌≡◌, ◌⊎◌, inl, inr, ℕ, zero, suc, ◌<◌, Bool, true, false, IsTrue, IsFalse, List, refl, sym, ◌∙◌, ap, subst, arith}
+use Rattle.std.proofs.lemmas.Option.{same_Some}
 use Rattle.std.specs.Prelude.{◌||◌, Option, Some, None, Result, Ok, Err, if◌then◌else◌}
 use Rattle.vx_model.specs.declared.errors.Stop.{Stop}
 use Rattle.vx_model.specs.declared.errors.Stop.TheVariants.{No as Refused, OutOfMemory}
@@ -30,16 +31,13 @@ or_off : (a b : Bool) → a || b ≡ false → b ≡ false
 or_off true b is = let clash : true ≡ false = is in cc
 or_off false b is = is
 
-some_is : (a b : ℕ) → Some a ≡ Some b → a ≡ b
-some_is a b is = cc
-
 missing_unread : (failed readable : ℕ → Bool) (n d : ℕ) → missing failed readable n ≡ Some d → (d < n) × (readable d ≡ false)
 missing_unread failed readable zero d is = absurd (let no_one : None ≡ Some d = is in cc)
 missing_unread failed readable (suc n) d is = by (missing_unread failed readable n d) (missing failed readable n) refl is
   where
     last : (t : Bool) → failed n || readable n ≡ t → (if t then None else Some n) ≡ Some d → (d < suc n) × (readable d ≡ false)
     last true on same = absurd (let no_one : None ≡ Some d = same in cc)
-    last false off same = let here : n ≡ d = some_is n d same in (omega (arith, here), subst (λ (k : ℕ). readable k ≡ false) here (or_off (failed n) (readable n) off))
+    last false off same = let here : n ≡ d = same_Some n d same in (omega (arith, here), subst (λ (k : ℕ). readable k ≡ false) here (or_off (failed n) (readable n) off))
 
     by : (missing failed readable n ≡ Some d → (d < n) × (readable d ≡ false)) → (o : Option ℕ) → missing failed readable n ≡ o → first_of o (if failed n || readable n then None else Some n) ≡ Some d → (d < suc n) × (readable d ≡ false)
     by rest None none same = last (failed n || readable n) refl same

@@ -3,7 +3,7 @@ use Rattle.std.proofs.Common.{◌≡◌, ◌∙◌, ℕ, ◌*◌, ◌≤◌, Opt
 use Rattle.std.specs.Prelude.{is_some, map, slice_get}
 use Rattle.std.specs.Option.{option_map}
 use Rattle.std.proofs.lemmas.List.{length-map}
-use Rattle.std.proofs.lemmas.Option.{slice_get-map}
+use Rattle.std.proofs.lemmas.Option.{same_Some, slice_get-map}
 use Rattle.vx_config.specs.Changes.{with_state}
 use Rattle.vx_config.specs.Checks.{blocks_of as blocks_in, plexes_of, plexes_or}
 use Rattle.vx_config.specs.declared.config.Config.{Config}
@@ -35,16 +35,13 @@ pub record SameRun (o : Option LogEntry) (e : LogEntry) : Type 0 where
   pub start : entry.start ≡ e.start
   pub blocks : entry.blocks ≡ e.blocks
 
-one_run : (s t : Subdisk) → Some s ≡ Some t → s ≡ t
-one_run s t is = cc
-
 same_run : (o p : Option LogEntry) (e : LogEntry) → run_or o ≡ run_or p → p ≡ Some e → SameRun o e
 same_run o p e same at = by o refl (same ∙ ap run_or at)
   where
     by : (q : Option LogEntry) → o ≡ q → run_or q ≡ run_or (Some e) → SameRun o e
     by None is none = absurd cc
     by (Some f) is run =
-        let one = one_run (record { disk = f.disk; start = f.start; blocks = f.blocks }) (record { disk = e.disk; start = e.start; blocks = e.blocks }) run in
+        let one = same_Some {A = Subdisk} (record { disk = f.disk; start = f.start; blocks = f.blocks }) (record { disk = e.disk; start = e.start; blocks = e.blocks }) run in
         record { entry = f; is = is; disk = ap (λ (s : Subdisk). s.disk) one; start = ap (λ (s : Subdisk). s.start) one; blocks = ap (λ (s : Subdisk). s.blocks) one }
 
 pub run_in : (c d : Config) (v : ℕ) (log : VolumeLog) → log_place d v log ≡ log_place c v log → (e : LogEntry) → log_of c v log ≡ Some e → SameRun (log_of d v log) e

@@ -51,9 +51,6 @@ zeros_maps c v e m m' is goes = weaker (ZerosIn e.disk e.start e.blocks) (OnMaps
 entry_one : (o : Option LogEntry) (e f : LogEntry) → o ≡ Some e → o ≡ Some f → e ≡ f
 entry_one o e f one two = let both : Some e ≡ Some f = sym one ∙ two in cc
 
-pub some_one : {A : Type 0} (x y : A) → Some x ≡ Some y → x ≡ y
-some_one x y is = cc
-
 -- behind them a crash leaves one value of each block of it
 pub maps_settled : (c : Config) (v : ℕ) (e : LogEntry) (f : Missed) (m : Meaning) → log_of c v FmrLog ≡ Some e → map_block_count f.map ≤ e.blocks → FmrLoaded c v f → AreZeros e.disk e.start e.blocks m → Settled m (Run f.map.unit f.map.first (map_block_count f.map))
 maps_settled c v e f m is low loaded zeros = record {

@@ -4,7 +4,7 @@ use Rattle.std.specs.Prelude.{◌-◌, slice_get}
 use Rattle.std.proofs.Math.ListN.{set}
 use Rattle.std.proofs.lemmas.Bool.{cases_eq}
 use Rattle.std.proofs.lemmas.List.{length-set}
-use Rattle.std.proofs.lemmas.Option.{slice_get_within}
+use Rattle.std.proofs.lemmas.Option.{same_Some, slice_get_within}
 use Rattle.vx_bitmap.specs.Bits.{is_marked}
 use Rattle.vx_bitmap.specs.Maps.{MapOn, map_block_count}
 use Rattle.vx_bitmap.proofs.Blocks.{by_block}
@@ -105,9 +105,6 @@ module _ (c : Config) (sound : is_sound c ≡ true) (v : ℕ) (some : 0 < blocks
           left (subst (λ (n : ℕ). is_marked z (n % 4096) ≡ false) (sym (bit_is p b)) off) left_p left_q;
     }
 
-some_one : (f g : Missed) → Some f ≡ Some g → f ≡ g
-some_one f g is = cc
-
 -- logs without maps
 pub none_same : (l : Logs) → l.fmr ≡ None → record { drl = l.drl; fmr = None } ≡ l
 none_same l plain = ap (λ (o : Option Missed). record { drl = l.drl; fmr = o }) (sym plain)
@@ -121,14 +118,14 @@ module _ (c : Config) (sound : is_sound c ≡ true) (v : ℕ) (some : 0 < blocks
   taken_log None gone takes = none_on
   taken_log (Some f) true takes = absurd (let clash : Some f ≡ None = takes.0 in cc)
   taken_log (Some f) false takes =
-      on_mapped c sound v some m m' fit (none_written _ m m' goes) l (Some f) (λ g is. subst (λ (h : Missed). FmrLoaded c v h) (some_one f g is) takes.0.1)
-      (λ g is. subst (λ (h : Missed). MapOn h.map m') (some_one f g is) (taken_on c sound v some m m' law fit goes tells f takes.0)) on
+      on_mapped c sound v some m m' fit (none_written _ m m' goes) l (Some f) (λ g is. subst (λ (h : Missed). FmrLoaded c v h) (same_Some f g is) takes.0.1)
+      (λ g is. subst (λ (h : Missed). MapOn h.map m') (same_Some f g is) (taken_on c sound v some m m' law fit goes tells f takes.0)) on
 
   pub taken_known : (o : Option Missed) (gone : Bool) → TakesMaps c v o gone m m' → MapsKnow c v (record { drl = l.drl; fmr = o }) m'
   taken_known None gone takes = know_none c v none_spared (record { drl = l.drl; fmr = None }) m' refl
   taken_known (Some f) true takes = absurd (let clash : Some f ≡ None = takes.0 in cc)
   taken_known (Some f) false takes = record {
-    so = λ g is up. subst (λ (h : Missed). PlexesKnow c v (has_missed h) m'.reads) (some_one f g is) (taken_knows c sound v some m m' law fit goes tells f takes.0 up);
+    so = λ g is up. subst (λ (h : Missed). PlexesKnow c v (has_missed h) m'.reads) (same_Some f g is) (taken_knows c sound v some m m' law fit goes tells f takes.0 up);
   }
 
 -- what was read is in use
@@ -141,7 +138,7 @@ taken_used c v (Some f) false m m' takes some = takes.0.0
 pub taken_was : (c : Config) (v : ℕ) (o : Option Missed) (gone : Bool) (m m' : Meaning) → Lawful m → 0 < blocks_in c.volumes v → TakesMaps c v o gone m m' → (f : Missed) → o ≡ Some f → MapWas c v f m
 taken_was c v None gone m m' law some takes f at = absurd (let clash : None ≡ Some f = at in cc)
 taken_was c v (Some g) true m m' law some takes f at = absurd (let clash : Some g ≡ None = takes.0 in cc)
-taken_was c v (Some g) false m m' law some takes f at = subst (λ (h : Missed). MapWas c v h m) (some_one g f at) (record {
+taken_was c v (Some g) false m m' law some takes f at = subst (λ (h : Missed). MapWas c v h m) (same_Some g f at) (record {
   some = some;
   used = takes.0.0;
   fits = takes.0.1;

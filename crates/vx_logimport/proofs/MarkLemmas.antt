@@ -1,5 +1,6 @@
 -- What logs that were read tell of the plexes.
 use Rattle.std.proofs.Common.{◌≡◌, ◌⊎◌, inl, inr, ⊎_elim, ℕ, ◌+◌, ◌/◌, ◌%◌, ◌<◌, ◌≤◌, Bool, true, false, IsTrue, IsFalse, Option, Some, None, List, length, refl, ap, sym, ◌∙◌, subst, arith}
+use Rattle.std.proofs.lemmas.Option.{same_Some}
 use Rattle.std.specs.Prelude.{not, slice_get}
 use Rattle.vx_bitmap.specs.Bits.{is_marked}
 use Rattle.vx_bitmap.specs.Maps.{MapOn, map_block_count}
@@ -48,9 +49,6 @@ not_lost o e is used = by e.lost (sym (ap used_or is) ∙ used)
 trusted_used : (c : Config) (v : ℕ) → log_trusted c v Drl ≡ true → used_or (log_of c v Drl) ≡ true
 unfolding log_trusted
 trusted_used c v is = is
-
-some_is : (d e : Dirty) → Some d ≡ Some e → d ≡ e
-some_is d e is = cc
 
 -- a plan behind calls that changed nothing
 pub taken_later : (old m1 m2 : Meaning) (plan : Plan) → IsTaken old m1 plan → Goes Nothing m1 m2 → Lawful m1 → Lawful m2 → IsTaken old m2 plan
@@ -184,9 +182,9 @@ module _ (old m1 : Meaning) (plan : Plan) (taken : IsTaken old m1 plan) (law : L
   on_read : (good v : ℕ) (o : Option Dirty) (m2 : Meaning) → LogRead good opened v o old m2 → VolumeOn opened v (dirty_logs o) m1
   on_read good v None m2 read = on_none v
   on_read good v (Some g) m2 read = record {
-    fits = record { drl = λ d is. subst (λ (h : Dirty). DrlFits opened v h) (some_is g d is) read.1; fmr = λ f is. absurd (let clash : None ≡ Some f = is in cc) };
-    stands = record { drl = λ d is. subst (λ (h : Dirty). MapOn h.map m1) (some_is g d is) (map_of good v g m2 read); fmr = λ f is. absurd (let clash : None ≡ Some f = is in cc) };
-    memory = record { so = λ d is. subst (λ (h : Dirty). AlikeBut opened v (is_dirty h) m1) (some_is g d is) (alike_of good v g m2 read) };
+    fits = record { drl = λ d is. subst (λ (h : Dirty). DrlFits opened v h) (same_Some g d is) read.1; fmr = λ f is. absurd (let clash : None ≡ Some f = is in cc) };
+    stands = record { drl = λ d is. subst (λ (h : Dirty). MapOn h.map m1) (same_Some g d is) (map_of good v g m2 read); fmr = λ f is. absurd (let clash : None ≡ Some f = is in cc) };
+    memory = record { so = λ d is. subst (λ (h : Dirty). AlikeBut opened v (is_dirty h) m1) (same_Some g d is) (alike_of good v g m2 read) };
     disk = disk_of v;
   }
 

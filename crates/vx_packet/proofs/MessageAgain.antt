@@ -78,6 +78,3 @@ message_in-row (Trim number) can typed = refl
 pub message_in-is : (kind session number : ℕ) (payload : List ℕ) (m : Message) → IsMessage kind session number payload m → message_in kind session number payload ≡ Some m
 message_in-is kind session number payload m is =
     rw (← is.spelled.kind_is, ← is.spelled.session_is, ← is.spelled.number_is, ← is.spelled.payload_is) (message_in-row m is.can is.typed)
-
-pub some_same : (a b : Message) → Some a ≡ Some b → a ≡ b
-some_same a b h = cc

@@ -8,12 +8,12 @@ use Rattle.std.proofs.lemmas.Bool.{and_parts, cases_Bool, ltb-true}
 use Rattle.std.proofs.lemmas.Fmt.{length-decimal-le}
 use Rattle.std.proofs.lemmas.List.{take-append-drop}
 use Rattle.std.proofs.lemmas.List.Splits.{join_with_byte-slice_split}
+use Rattle.std.proofs.lemmas.Option.{same_Some}
 use Rattle.std.proofs.lemmas.Slice.Eq.{bytes_eq-Decides}
 use Rattle.hex.specs.Hex.{lower_digits}
 use Rattle.hex.proofs.HexLemmas.{length-encode_with, decode_sized-twice, decode_sized-ok, decode_of-ok}
 use Rattle.vx_script.specs.Words.{is_visible, is_digit, is_name, word_name, digits_after, is_number, word_number, labelled, is_comma, both_names, all_names, names_of}
 use Rattle.vx_script.specs.Tokens.{Token, Key, Named, Number, Hex, NameList, Spells, SpellAll, words_of, before_word, is_in_word, printed, spaced, joined_words, IsWord, FitsToken, FitAll}
-use Rattle.vx_script.proofs.FormatLemmas.{some_same}
 
 -- all of these are words
 abbrev pub AllWords : List (List ℕ) → Type 0
@@ -101,7 +101,7 @@ label_visible label word is e = front_visible label (drop (length label) word) (
 name_is : (word name : List ℕ) → word_name word ≡ Some name → (word ≡ name) × (is_name word ≡ true)
 unfolding word_name
 name_is word name e = ⊎_elim
-    (λ (t : is_name word ≡ true). (some_same word name (sym (ap (λ (b : Bool). cond b (Some word) None) t) ∙ e), t))
+    (λ (t : is_name word ≡ true). (same_Some word name (sym (ap (λ (b : Bool). cond b (Some word) None) t) ∙ e), t))
     (λ (t : is_name word ≡ false). let f = sym (ap (λ (b : Bool). cond b (Some word) None) t) ∙ e in absurd (cc))
     (cases_Bool (is_name word))
 
@@ -136,7 +136,7 @@ number_fits word e =
 number_is : (word : List ℕ) (n : ℕ) → word_number word ≡ Some n → IsNumber n word
 unfolding word_number
 number_is word n e = ⊎_elim
-    (λ (t : is_number word ≡ true). subst (λ (m : ℕ). IsNumber m word) (some_same (digits_after 0 word) n (sym (ap (λ (b : Bool). cond b (Some (digits_after 0 word)) None) t) ∙ e)) (number_fits word t))
+    (λ (t : is_number word ≡ true). subst (λ (m : ℕ). IsNumber m word) (same_Some (digits_after 0 word) n (sym (ap (λ (b : Bool). cond b (Some (digits_after 0 word)) None) t) ∙ e)) (number_fits word t))
     (λ (t : is_number word ≡ false). let f = sym (ap (λ (b : Bool). cond b (Some (digits_after 0 word)) None) t) ∙ e in absurd (cc))
     (cases_Bool (is_number word))
 
@@ -144,10 +144,10 @@ number_is word n e = ⊎_elim
 both_is : (o : Option (List ℕ)) (os : Option (List (List ℕ))) (names : List (List ℕ)) → both_names o os ≡ Some names → (name : List ℕ) × (others : List (List ℕ)) × (o ≡ Some name) × (os ≡ Some others) × (name ∷ others ≡ names)
 both_is None os names e = absurd (cc)
 both_is (Some name) None names e = absurd (cc)
-both_is (Some name) (Some others) names e = (name, others, refl, refl, some_same (name ∷ others) names e)
+both_is (Some name) (Some others) names e = (name, others, refl, refl, same_Some (name ∷ others) names e)
 
 all_names_are : (parts names : List (List ℕ)) → all_names parts ≡ Some names → (parts ≡ names) × (list_all is_name names ≡ true)
-all_names_are [] names e = let same = some_same [] names e in (same, ap (list_all is_name) (sym same))
+all_names_are [] names e = let same = same_Some [] names e in (same, ap (list_all is_name) (sym same))
 all_names_are (part ∷ parts) names e =
     let a = both_is (word_name part) (all_names parts) names e in
     let n = name_is part a.0 a.2 in

@@ -1,6 +1,7 @@
 -- The laws of the places that take one of a few words or digits, and of the keywords.
 use Rattle.std.proofs.Common.{◌≡◌, ℕ, zero, suc, ◌<◌, Bool, true, false, not, cond, List, [], ◌∷◌, length, replicate, Option, Some, None, Result, Ok, Err, refl, arith, ap, sym, subst, ◌∙◌, ⊎_elim}
 use Rattle.std.proofs.lemmas.Bool.{and_parts, cases_Bool, not-true}
+use Rattle.std.proofs.lemmas.Option.{same_Some}
 use Rattle.std.specs.Prelude.{codes}
 use Rattle.std.specs.List.{list_all, find}
 use Rattle.std.specs.Str.{bytes_eq}
@@ -44,7 +45,7 @@ use Rattle.vx_script.specs.declared.keyword.NumberVerb.TheVariants.{Crash, Apply
 use Rattle.vx_script.specs.declared.keyword.SpanVerb.TheVariants.{Read, Show}
 use Rattle.vx_script.specs.declared.keyword.LinkVerb.TheVariants.{Link, Set, Bunker}
 use Rattle.vx_script.specs.declared.keyword.PairVerb.TheVariants.{Attach, Detach, Pause, Resume, Connect, Cut, Pump, Tick, Settle, Resync, Migrate, Failback, Activate}
-use Rattle.vx_script.proofs.FormatLemmas.{IsPlace, pick_place, picked, labelled_empty, some_same, no_number}
+use Rattle.vx_script.proofs.FormatLemmas.{IsPlace, pick_place, picked, labelled_empty, no_number}
 
 disk_state_again : (x : DiskState) → pick_of disk_state_text DISK_STATES (disk_state_text x) ≡ Some x
 disk_state_again Fail = refl
@@ -117,12 +118,12 @@ call_place = pick_place call_text CALL_VERBS CallsWrite call_again refl refl
 -- digits
 only_byte_is : (r : Result (List ℕ) FromHexError) (b : ℕ) → only_byte r ≡ Some b → r ≡ Ok (b ∷ [])
 only_byte_is (Ok []) b e = absurd (cc)
-only_byte_is (Ok (c ∷ [])) b e = ap (λ (x : ℕ). Ok (x ∷ [])) (some_same c b e)
+only_byte_is (Ok (c ∷ [])) b e = ap (λ (x : ℕ). Ok (x ∷ [])) (same_Some c b e)
 only_byte_is (Ok (c ∷ d ∷ bytes)) b e = absurd (cc)
 only_byte_is (Err x) b e = absurd (cc)
 
 decoded_is : (r : Result (List ℕ) FromHexError) (bytes : List ℕ) → decoded r ≡ Some bytes → r ≡ Ok bytes
-decoded_is (Ok x) bytes e = ap (λ (y : List ℕ). Ok y) (some_same x bytes e)
+decoded_is (Ok x) bytes e = ap (λ (y : List ℕ). Ok y) (same_Some x bytes e)
 decoded_is (Err x) bytes e = absurd (cc)
 
 zero_byte : only_byte (decode_sized (codes "00") 1) ≡ Some 0
@@ -203,7 +204,7 @@ passes p q [] x all e = absurd (cc)
 passes p q (v ∷ vs) x all e =
     let a = and_parts (q v) (list_all q vs) all in
     ⊎_elim
-    (λ (t : p v ≡ true). subst (λ y. q y ≡ true) (some_same v x (sym (ap (λ (b : Bool). cond b (Some v) (find p vs)) t) ∙ e)) a.0)
+    (λ (t : p v ≡ true). subst (λ y. q y ≡ true) (same_Some v x (sym (ap (λ (b : Bool). cond b (Some v) (find p vs)) t) ∙ e)) a.0)
     (λ (t : p v ≡ false). passes p q vs x a.1 (sym (ap (λ (b : Bool). cond b (Some v) (find p vs)) t) ∙ e))
     (cases_Bool (p v))
 
@@ -228,7 +229,7 @@ keyword_some k = some_byte (keyword_text k) (keyword_loud k)
 -- the reading policy
 preferred_is : (o : Option ℕ) (x : ReadPolicy) → preferred_policy o ≡ Some x → (n : ℕ) × (o ≡ Some n) × (x ≡ Prefer n)
 preferred_is None x e = absurd (cc)
-preferred_is (Some n) x e = (n, refl, sym (some_same (Prefer n) x e))
+preferred_is (Some n) x e = (n, refl, sym (same_Some (Prefer n) x e))
 
 round_no_prefer : labelled (codes "rdpol=prefer:") word_number (codes "rdpol=round") ≡ None
 unfolding labelled
@@ -248,7 +249,7 @@ unfolding policy_of
 policy_found word x e =
     ⊎_elim
     (λ (t : bytes_eq word (codes "rdpol=round") ≡ true).
-    let same : Round ≡ x = some_same Round x (sym (ap (λ (b : Bool). cond b (Some Round) (preferred_policy (labelled (codes "rdpol=prefer:") word_number word))) t) ∙ e) in
+    let same : Round ≡ x = same_Some Round x (sym (ap (λ (b : Bool). cond b (Some Round) (preferred_policy (labelled (codes "rdpol=prefer:") word_number word))) t) ∙ e) in
     subst (λ (y : ReadPolicy). Spells (policy_token y) word) same ((bytes_eq-Decides word (codes "rdpol=round")).0 t))
     (λ (t : bytes_eq word (codes "rdpol=round") ≡ false).
     let a = preferred_is (labelled (codes "rdpol=prefer:") word_number word) x (sym (ap (λ (b : Bool). cond b (Some Round) (preferred_policy (labelled (codes "rdpol=prefer:") word_number word))) t) ∙ e) in

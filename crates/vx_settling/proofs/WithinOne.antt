@@ -155,9 +155,6 @@ number_burnt fuses w name =
 
 -- ---- packets
 
-pub some_is : (x y : Packet) → Some x ≡ Some y → x ≡ y
-some_is x y e = cc
-
 one_is : (x y : Bool) → (x || y) ≡ true → (x ≡ true) ⊎ (y ≡ true)
 one_is true y e = inl refl
 one_is false y e = inr e
