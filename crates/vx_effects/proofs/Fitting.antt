@@ -30,18 +30,13 @@ use Rattle.vx_history.specs.declared.event.Event.TheVariants.{Site, Raw, Group, 
 use Rattle.vx_history.specs.declared.event.LinkPart.TheVariants.{Joins, Made, Marked, Opened}
 use Rattle.vx_events.specs.Doubts.{run_as}
 use Rattle.vx_events.specs.LinksFit.{DoubtFits, IsBlank, IsPlain, IsRested, LinksFit, RowFits, StartsAt}
+use Rattle.vx_events.proofs.Places.{never_some}
 use Rattle.vx_effects.proofs.Headers.{bare_none}
 use Rattle.vx_effects.proofs.Moves.{All, fit_moves, moves_like, moves_same}
 use Rattle.vx_effects.proofs.Outcomes.{IsSettled, crash_moves, deported_moves, outcome_moves}
 use Rattle.vx_effects.proofs.Tests
 
 -- ---- sites in doubt
-
-pub some_one : {A : Type 0} {a b : A} → Some a ≡ Some b → a ≡ b
-some_one e = cc
-
-pub never_some : {A : Type 0} {a : A} → None ≡ Some a → ⊥
-never_some e = cc
 
 -- of other sites nothing is in doubt but what was
 left_doubts : (after : ℕ → Option After) (s : ℕ) (p : ℕ) (a : After) → updated after s None p ≡ Some a → (after p ≡ Some a) × (p ≡ s → ⊥)

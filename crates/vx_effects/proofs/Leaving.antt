@@ -28,7 +28,8 @@ use Rattle.vx_events.specs.Facts.{site_number}
 use Rattle.vx_events.specs.Failing.{is_failing, made_fail}
 use Rattle.vx_events.specs.LinkEnds.{AreLeft, link_noted, target_noted}
 use Rattle.vx_events.specs.LinksFit.{DoubtFits, IsBlank, IsRested, LinksFit, RowFits, StartsAt}
-use Rattle.vx_effects.proofs.Fitting.{fit_crashed, fit_happened, fit_resolved, never_some, none_more, some_one, updated_other}
+use Rattle.vx_events.proofs.Places.{never_some, some_same}
+use Rattle.vx_effects.proofs.Fitting.{fit_crashed, fit_happened, fit_resolved, none_more, updated_other}
 use Rattle.vx_effects.proofs.Headers.{bare_none}
 use Rattle.vx_effects.proofs.Moves.{All, Moves, Rests, fit_moves, moves_alike, moves_like}
 use Rattle.vx_effects.proofs.Outcomes.{outcome_moves, stopped_moves}
@@ -46,7 +47,7 @@ fit_doubt d s a doubt fit = record {
   quiet = fit.quiet;
   rests = fit.rests;
   doubts = all_updated (λ (p : ℕ) (o : Option After). (b : After) → o ≡ Some b → DoubtFits d.world p b) d.after s (Some a)
-      (λ b e. subst (λ (c : After). DoubtFits d.world s c) (some_one e) doubt) (λ p _. fit.doubts p);
+      (λ b e. subst (λ (c : After). DoubtFits d.world s c) (some_same e) doubt) (λ p _. fit.doubts p);
 }
 
 -- an event that writes a header of a log, or a record that a disk ends, makes no site, and its site stays up

@@ -26,11 +26,12 @@ use Rattle.vx_history.specs.Sends.{is_linked, is_made}
 use Rattle.vx_history.specs.World.{Link, Node, no_link, updated}
 use Rattle.vx_order.specs.declared.facts.LinkFacts.{LinkFacts}
 use Rattle.vx_events.proofs.LinkTesting.{AllLinked, all_linked}
+use Rattle.vx_events.proofs.Places.{never_some}
 use Rattle.vx_events.proofs.Steps.{no_sites}
 use Rattle.vx_events.specs.LinkedFacts.{link_facts, needed_by}
 use Rattle.vx_events.specs.LinksFit.{IsPlain, RowFits, is_plain_mode}
 use Rattle.vx_effects.specs.Restarts.{IsAgain, are_fine, fact_again, facts_again, is_failing_prot, is_fine, is_plain_kept, leads_there, link_again, link_found, mode_again, needs_of, row_of_kept, row_with}
-use Rattle.vx_effects.proofs.Fitting.{never_some, updated_other}
+use Rattle.vx_effects.proofs.Fitting.{updated_other}
 use Rattle.vx_effects.proofs.Headers.{count_none}
 use Rattle.vx_effects.proofs.Links.{restarted_plain}
 use Rattle.vx_effects.proofs.Rows.{AreApart, apart}

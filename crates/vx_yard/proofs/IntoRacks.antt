@@ -30,6 +30,7 @@ use Rattle.vx_grouped.specs.declared.group_site.GroupSite.{GroupSite}
 use Rattle.vx_grouped.specs.declared.group_site.GroupSite.TheVariants.{Up as GroupUp, Deported as GroupAway, Down as GroupDown, Marked, Gone as GroupGone}
 use Rattle.vx_history.specs.Groups.{GroupNode}
 use Rattle.vx_events.specs.GroupLines.{is_over_group}
+use Rattle.vx_events.proofs.Places.{some_same}
 use Rattle.vx_diskset.specs.Stands.{IsGroupSet, IsUnused, IsBareAt, IsUpAt, IsReceiverAt, IsDownAt, IsToldAt, SiteStands}
 use Rattle.vx_yard.specs.Standing.{SitesAgree}
 use Rattle.vx_diskset.proofs.CrashGroup.{left_with}
@@ -71,9 +72,6 @@ bare_has n m state = record {
 
 bare_holds : {beside : KeptBeside} (n : Node) (m : Meaning) → IsBareAt n m → HoldsSite beside n m
 bare_holds n m bare = bare_has n m (ap (λ (k : Node). k.state) bare.is)
-
-some_same : {A : Type 0} {a b : A} → Some a ≡ Some b → a ≡ b
-some_same e = cc
 
 bright_as : (k note : GroupNode) → Some k ≡ Some note → note.dark ≡ false → k.dark ≡ false
 bright_as k note same bright = ap (λ (x : GroupNode). x.dark) (some_same same) ∙ bright
