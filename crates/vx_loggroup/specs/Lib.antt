@@ -9,3 +9,4 @@ pub mod Fresh
 pub mod Resting
 pub mod Mirrors
 pub mod Keeping
+pub mod Moving

@@ -1,0 +1,63 @@
+-- What a call makes of the maps of missed regions in memory, plex by plex.
+use Rattle.std.specs.Prelude.{◌≡◌, ◌⊎◌, ◌+◌, ◌<◌, ◌≤◌, ◌==◌, ℕ, Bool, true, false, not, ◌&&◌, IsTrue, is_some, Option, Some, None, List}
+use Rattle.vx_bitmap.specs.Bits.{is_among}
+use Rattle.vx_config.specs.Checks.{plexes_of}
+use Rattle.vx_config.specs.Table.{greatest}
+use Rattle.vx_config.specs.declared.config.Config.{Config}
+use Rattle.vx_config.specs.declared.entry.LogEntry.{LogEntry}
+use Rattle.vx_config.specs.declared.entry.VolumeLog.TheVariants.{Fmr}
+use Rattle.vx_disk.specs.Counts.{Rose}
+use Rattle.vx_disk.specs.Shelf.{Meaning}
+use Rattle.vx_fmr.specs.Missed.{Missed, has_missed}
+use Rattle.vx_group.specs.Attaches.{copied_regions}
+use Rattle.vx_groupmaps.specs.Loading.{on_failed_disk}
+use Rattle.vx_kept.specs.LogRuns.{log_trusted}
+use Rattle.vx_logs.specs.declared.logs.Logs.{Logs}
+use Rattle.vx_maplog.specs.Logs.{log_of}
+use Rattle.vx_volume.specs.Plexes.{active}
+use Rattle.vx_loggroup.specs.Attaching.{fmr_at}
+
+-- whether attaches of the plexes of a volume go by its maps in memory
+abbrev pub goes_by : List Logs → Config → Bool → ℕ → Bool
+goes_by logs c stopped v = not stopped && (not (on_failed_disk c v) && is_some (fmr_at logs v))
+
+abbrev pub missed_by : Option Missed → Bool → ℕ → ℕ → Bool
+missed_by None on p r = not on
+missed_by (Some f) on p r = has_missed f p r
+
+-- What a plex has missed by the maps in memory. Where there are none, it is as they begin: nothing of a plex that is ACTIVE, and all of each other one.
+abbrev pub missed_in : List Logs → Config → ℕ → ℕ → ℕ → Bool
+missed_in logs c v p r = missed_by (fmr_at logs v) (active c v p) p r
+
+-- the regions of a run of one volume
+abbrev pub in_run : (vol first last : ℕ) → ℕ → ℕ → Bool
+in_run vol first last v r = (v == vol) && is_among first last r
+
+-- a plex and a region of a volume
+pub record IsThere (c : Config) (v p r : ℕ) : Type 0 where
+  pub plex : p < plexes_of c v
+  pub region : r < copied_regions c v
+
+-- A call in which those regions were written, from configuration c to d. A plex that takes no part behind it has noted them; one that took none before has what
+-- it had. What a map has besides it had before, and nothing of that where it begins anew: those say of a plex that is ACTIVE whether its map does.
+pub record MapsMove (c d : Config) (these : ℕ → ℕ → Bool) (anew : ℕ → ℕ → Bool) (l k : List Logs) : Type 0 where
+  pub most : (v p r : ℕ) (g : Missed) → fmr_at k v ≡ Some g → IsThere c v p r → has_missed g p r ≡ true
+      → ((active d v p ≡ false) × (these v r ≡ true)) ⊎ ((active c v p ≡ true → anew v p ≡ false) × (missed_in l c v p r ≡ true))
+  pub least : (v p r : ℕ) (g : Missed) → fmr_at k v ≡ Some g → IsThere c v p r → active d v p ≡ false → these v r ≡ true → has_missed g p r ≡ true
+  pub stay : (v p r : ℕ) (g : Missed) → fmr_at k v ≡ Some g → IsThere c v p r → active c v p ≡ false → active d v p ≡ false → missed_in l c v p r ≡ true → has_missed g p r ≡ true
+
+-- A write of those regions that was refused: each plex may have noted them, and one that took no part before it has what it had.
+pub record MapsDoubt (c d : Config) (these : ℕ → ℕ → Bool) (l k : List Logs) : Type 0 where
+  pub most : (v p r : ℕ) (g : Missed) → fmr_at k v ≡ Some g → IsThere c v p r → has_missed g p r ≡ true → (these v r ≡ true) ⊎ (missed_in l c v p r ≡ true)
+  pub stay : (v p r : ℕ) (g : Missed) → fmr_at k v ≡ Some g → IsThere c v p r → active c v p ≡ false → active d v p ≡ false → missed_in l c v p r ≡ true → has_missed g p r ≡ true
+
+-- Maps come to memory in a call of one volume alone; where they were there and are gone by no more, they are.
+pub record MapsBeginIn (may : ℕ → Bool) (c d : Config) (s t : Bool) (l k : List Logs) : Type 0 where
+  pub so : (v : ℕ) → goes_by l c s v ≡ false → goes_by k d t v ≡ true → (may v ≡ true) × (fmr_at l v ≡ None)
+
+-- Why the maps of a volume are gone by no more: the count of their disk rose; or the log was held as lost, though it was in memory; the shelf is down; or no
+-- serial is left to commit that a log is lost.
+pub record MapsEnd (c d : Config) (s t : Bool) (l k : List Logs) (old new : Meaning) : Type 0 where
+  pub so : (v : ℕ) → goes_by l c s v ≡ true → goes_by k d t v ≡ false
+      → ((e : LogEntry) × (log_of c v Fmr ≡ Some e) × Rose (old.faults e.disk) (new.faults e.disk)) ⊎ (log_trusted c v Fmr ≡ false) ⊎ IsTrue new.down
+      ⊎ (greatest ≤ c.serial + 45) ⊎ (greatest ≤ d.serial + 9)
