@@ -1,11 +1,10 @@
 -- What a line at a site over a group makes of the regions that plexes missed, as the site notes them.
-use Rattle.std.specs.Prelude.{◌≡◌, ◌≢◌, ◌⊎◌, ◌+◌, ◌<◌, ◌≤◌, ◌==◌, ℕ, Bool, true, false, List, [], length, Option, Some, None, Contains, if◌then◌else◌}
-use Rattle.vx_model.specs.declared.limits.TheConstants.{MOST_NUMBER}
+use Rattle.std.specs.Prelude.{◌≡◌, ◌≢◌, ◌⊎◌, ℕ, Bool, true, false, [], length, Option, Some, None, Contains, if◌then◌else◌, slice_get}
 use Rattle.vx_model.specs.declared.site.PlexState.{PlexState}
 use Rattle.vx_model.specs.declared.site.PlexState.TheVariants.{Active, Clean, Stale}
-use Rattle.std.specs.Prelude.{slice_get}
 use Rattle.vx_history.specs.Groups.{GroupNode, MissedNote}
-use Rattle.vx_history.specs.Missing.{each_anew, in_write, missed_then, no_plex, none_missed, one_anew, perhaps_then, this_volume, with_maps}
+use Rattle.vx_history.specs.MapChanges.{InNoVolume, InVolume, MapsBack, MapsFailed, MapsWritten, StayKnown}
+use Rattle.vx_history.specs.Missing.{each_anew, in_write, no_plex, none_missed, one_anew, with_maps}
 use Rattle.vx_model.specs.Content.{Write}
 use Rattle.vx_config.specs.declared.config.Config.{Config}
 use Rattle.vx_config.specs.declared.entry.LogEntry.{LogEntry}
@@ -46,95 +45,63 @@ map_disk c v = maps_disk (slice_get c.volumes v)
 pub record StoppedClean (c : Config) (v : ℕ) : Type 0 where
   pub each : (p : ℕ) (plex : PlexEntry) → plex_at c v p ≡ Some plex → plex.state ≢ Active
 
--- ---- changes
+-- ---- calls
 
--- Why the maps of a volume are known no more: a call on the disk of their log failed; or the log was held as lost; or no serial is left to commit that it is.
-abbrev pub MapsGone : (s : ℕ) → Fails → Config → (w new : MissedNote) → ℕ → Type 0
-MapsGone s fails c w new v = ((k : ℕ) × (map_disk c v ≡ Some k) × Contains fails (s, k)) ⊎ (map_disk c v ≡ None) ⊎ (MOST_NUMBER ≤ w.serial + 45) ⊎ (MOST_NUMBER ≤ new.serial + 9)
-
--- where a log may begin, and where it may be lost for another reason: in no volume, and in this one alone
-abbrev pub InNoVolume : ℕ → Type 0
-InNoVolume v = ⊥
-
-abbrev pub InVolume : ℕ → ℕ → Type 0
-InVolume vol v = v ≡ vol
-
--- Of which volumes the maps are known behind a call.
-pub record KeepsMaps (s : ℕ) (fails : Fails) (Lost Begins : ℕ → Type 0) (c : Config) (w new : MissedNote) : Type 0 where
-  pub stays : (v : ℕ) → w.mapped v ≡ true → (new.mapped v ≡ true) ⊎ MapsGone s fails c w new v ⊎ Lost v
-  pub begins : (v : ℕ) → new.mapped v ≡ true → (w.mapped v ≡ true) ⊎ Begins v
-
--- A call in which those regions were written, from configuration c to d: what each plex has missed then, where that is known.
-pub record MapsWritten (anew these : ℕ → ℕ → Bool) (c d : Config) (w new : MissedNote) : Type 0 where
-  pub missed : (v p r : ℕ) → new.mapped v ≡ true → new.missed v p r ≡ missed_then w (takes_part c) (takes_part d) anew these v p r
-  pub perhaps : (v p r : ℕ) → new.mapped v ≡ true → new.perhaps v p r ≡ perhaps_then w (takes_part c) (takes_part d) anew v p r
-  pub doubt : (v : ℕ) → v < length c.volumes → new.doubt v ≡ w.doubt v
-
--- A write of those regions of a volume that failed: any plex of it may have missed them.
-pub record MapsFailed (vol : ℕ) (these : ℕ → ℕ → Bool) (c d : Config) (w new : MissedNote) : Type 0 where
-  pub missed : (v p r : ℕ) → new.mapped v ≡ true → new.missed v p r ≡ missed_then w (takes_part c) (takes_part d) no_plex none_missed v p r
-  pub perhaps : (v p r : ℕ) → new.mapped v ≡ true → new.perhaps v p r ≡ true → (these v r ≡ true) ⊎ (perhaps_then w (takes_part c) (takes_part d) no_plex v p r ≡ true)
-  pub doubt : (v : ℕ) → v ≢ vol → new.doubt v ≡ w.doubt v
-
--- ---- lines
+-- a call on this disk of the site failed
+abbrev pub FailedIn : ℕ → Fails → ℕ → Type 0
+FailedIn s fails k = Contains fails (s, k)
 
 -- no region was written, and no log begins
 pub record MapsCalled (s : ℕ) (fails : Fails) (c d : Config) (w new : MissedNote) : Type 0 where
-  pub stay : KeepsMaps s fails InNoVolume InNoVolume c w new
-  pub written : MapsWritten no_plex none_missed c d w new
+  pub known : StayKnown (FailedIn s fails) InNoVolume InNoVolume (map_disk c) w new
+  pub written : MapsWritten (length c.volumes) (takes_part c) (takes_part d) no_plex none_missed w new
 
 -- the same where the fuse ran out in a call of this volume
 pub record MapsCut (s : ℕ) (fails : Fails) (vol : ℕ) (c d : Config) (w new : MissedNote) : Type 0 where
-  pub stay : KeepsMaps s fails (InVolume vol) (InVolume vol) c w new
-  pub written : MapsWritten no_plex none_missed c d w new
+  pub known : StayKnown (FailedIn s fails) (InVolume vol) (InVolume vol) (map_disk c) w new
+  pub written : MapsWritten (length c.volumes) (takes_part c) (takes_part d) no_plex none_missed w new
 
 -- a plex was detached: its map begins anew, unless a write of the volume failed
 pub record MapsDetached (s : ℕ) (fails : Fails) (vol plex : ℕ) (c d : Config) (w new : MissedNote) : Type 0 where
-  pub stay : KeepsMaps s fails InNoVolume (InVolume vol) c w new
-  pub written : MapsWritten (one_anew w vol plex) none_missed c d w new
+  pub known : StayKnown (FailedIn s fails) InNoVolume (InVolume vol) (map_disk c) w new
+  pub written : MapsWritten (length c.volumes) (takes_part c) (takes_part d) (one_anew w vol plex) none_missed w new
 
 -- or it was not, as a disk failed
 pub record MapsUndetached (s : ℕ) (fails : Fails) (vol : ℕ) (c d : Config) (w new : MissedNote) : Type 0 where
-  pub stay : KeepsMaps s fails InNoVolume (InVolume vol) c w new
-  pub written : MapsWritten no_plex none_missed c d w new
+  pub known : StayKnown (FailedIn s fails) InNoVolume (InVolume vol) (map_disk c) w new
+  pub written : MapsWritten (length c.volumes) (takes_part c) (takes_part d) no_plex none_missed w new
 
 -- a write was done
 pub record MapsOfWrite (s : ℕ) (fails : Fails) (x : Write) (c d : Config) (w new : MissedNote) : Type 0 where
-  pub stay : KeepsMaps s fails InNoVolume (InVolume x.volume) c w new
-  pub written : MapsWritten (each_anew w x.volume) (in_write x) c d w new
+  pub known : StayKnown (FailedIn s fails) InNoVolume (InVolume x.volume) (map_disk c) w new
+  pub written : MapsWritten (length c.volumes) (takes_part c) (takes_part d) (each_anew w x.volume) (in_write x) w new
 
 -- it failed
 pub record MapsOfDoubt (s : ℕ) (fails : Fails) (x : Write) (c d : Config) (w new : MissedNote) : Type 0 where
-  pub stay : KeepsMaps s fails InNoVolume (InVolume x.volume) c w new
-  pub failed : MapsFailed x.volume (in_write x) c d w new
+  pub known : StayKnown (FailedIn s fails) InNoVolume (InVolume x.volume) (map_disk c) w new
+  pub failed : MapsFailed x.volume (takes_part c) (takes_part d) (in_write x) w new
 
 -- the fuse ran out in it
 pub record MapsOfCut (s : ℕ) (fails : Fails) (x : Write) (c d : Config) (w new : MissedNote) : Type 0 where
-  pub stay : KeepsMaps s fails (InVolume x.volume) (InVolume x.volume) c w new
-  pub failed : MapsFailed x.volume (in_write x) c d w new
+  pub known : StayKnown (FailedIn s fails) (InVolume x.volume) (InVolume x.volume) (map_disk c) w new
+  pub failed : MapsFailed x.volume (takes_part c) (takes_part d) (in_write x) w new
 
 -- a volume was made, of which no write failed
 pub record MapsAdded (s : ℕ) (fails : Fails) (c d : Config) (w new : MissedNote) : Type 0 where
-  pub stay : KeepsMaps s fails InNoVolume InNoVolume c w new
-  pub written : MapsWritten no_plex none_missed c d w new
+  pub called : MapsCalled s fails c d w new
   pub doubt : new.doubt (length c.volumes) ≡ false
 
 -- ---- recoveries
 
--- A group that was deported came up. The maps of a volume that stopped cleanly are known as they were, but where a call on the disk of their log failed, or memory
--- is wanting for them; those of each other volume are not.
-pub record MapsBack (s : ℕ) (fails : Fails) (wanting : Type 0) (c : Config) (w new : MissedNote) : Type 0 where
-  pub stays : (v : ℕ) → w.mapped v ≡ true → StoppedClean c v → (new.mapped v ≡ true) ⊎ MapsGone s fails c w new v ⊎ wanting
-  pub only : (v : ℕ) → new.mapped v ≡ true → (w.mapped v ≡ true) × StoppedClean c v
-  pub missed : (v p r : ℕ) → new.mapped v ≡ true → new.missed v p r ≡ w.missed v p r
-  pub perhaps : (v p r : ℕ) → new.mapped v ≡ true → new.perhaps v p r ≡ w.perhaps v p r
-  pub doubt : (v : ℕ) → new.doubt v ≡ true → (w.doubt v ≡ true) × StoppedClean c v
+-- want of memory, of which nothing tells
+abbrev pub WantsMemory : Type 0
+WantsMemory = Unit {0}
 
 -- so it is by the configuration that was noted
 pub record MapsImported (s : ℕ) (fails : Fails) (note new : GroupNode) : Type 0 where
   pub old : Config
   pub was : config_of note.config ≡ Some old
-  pub back : MapsBack s fails (Unit {0}) old note.maps new.maps
+  pub back : MapsBack (FailedIn s fails) WantsMemory (StoppedClean old) (map_disk old) note.maps new.maps
 
 -- One that crashed came up: every volume stopped uncleanly, and the next attach of each plex that takes no part copies all. Where further configurations may have
 -- stood on the disks it may be that a volume stopped cleanly; then too its maps are not known.

@@ -10,6 +10,7 @@ pub mod GroupNotes
 pub mod GroupSites
 pub mod ImportFacts
 pub mod Keepings
+pub mod MapsNoted
 pub mod Plain
 pub mod Readies
 pub mod Returns
@@ -17,6 +18,7 @@ pub mod SetFuses
 pub mod SiteAdds
 pub mod SiteEnds
 pub mod SiteKeeps
+pub mod SiteMaps
 pub mod SiteReturns
 pub mod StateChanges
 pub mod Tracings

@@ -76,9 +76,12 @@ maps_doubted mapped serial was now vol these w = record {
 abbrev pub maps_returned : (mapped : ℕ → Bool) (serial : ℕ) (doubt : ℕ → Bool) → MissedNote → MissedNote
 maps_returned mapped serial doubt w = record { mapped = mapped; missed = w.missed; perhaps = λ v p r. mapped v && w.perhaps v p r; doubt = doubt; serial = serial }
 
--- nothing is known of any plex
+-- nothing is known of any plex of a configuration with this serial
+abbrev pub maps_none : ℕ → MissedNote
+maps_none serial = record { mapped = λ v. false; missed = λ v p r. false; perhaps = λ v p r. false; doubt = λ v. false; serial = serial }
+
 abbrev pub no_maps : MissedNote
-no_maps = record { mapped = λ v. false; missed = λ v p r. false; perhaps = λ v p r. false; doubt = λ v. false; serial = 0 }
+no_maps = maps_none 0
 
 -- ---- how many regions an attach copies
 

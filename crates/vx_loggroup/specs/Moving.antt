@@ -60,4 +60,4 @@ pub record MapsBeginIn (may : ℕ → Bool) (c d : Config) (s t : Bool) (l k : L
 pub record MapsEnd (c d : Config) (s t : Bool) (l k : List Logs) (old new : Meaning) : Type 0 where
   pub so : (v : ℕ) → goes_by l c s v ≡ true → goes_by k d t v ≡ false
       → ((e : LogEntry) × (log_of c v Fmr ≡ Some e) × Rose (old.faults e.disk) (new.faults e.disk)) ⊎ (log_trusted c v Fmr ≡ false) ⊎ IsTrue new.down
-      ⊎ (greatest ≤ c.serial + 45) ⊎ (greatest ≤ d.serial + 9)
+      ⊎ (greatest ≤ c.serial + 54) ⊎ (greatest ≤ d.serial + 9)
