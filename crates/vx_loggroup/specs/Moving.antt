@@ -61,3 +61,9 @@ pub record MapsEnd (c d : Config) (s t : Bool) (l k : List Logs) (old new : Mean
   pub so : (v : ℕ) → goes_by l c s v ≡ true → goes_by k d t v ≡ false
       → ((e : LogEntry) × (log_of c v Fmr ≡ Some e) × Rose (old.faults e.disk) (new.faults e.disk)) ⊎ (log_trusted c v Fmr ≡ false) ⊎ IsTrue new.down
       ⊎ (greatest ≤ c.serial + 54) ⊎ (greatest ≤ d.serial + 9)
+
+-- The maps of a volume as those of its plexes that are ACTIVE were emptied; or they are in memory no more.
+pub record LogsEmptied (c : Config) (v : ℕ) (l k : Logs) : Type 0 where
+  pub gone : l.fmr ≡ None → k.fmr ≡ None
+  pub off : (f g : Missed) (p r : ℕ) → l.fmr ≡ Some f → k.fmr ≡ Some g → p < f.plexes → r < f.stride → active c v p ≡ false → has_missed g p r ≡ has_missed f p r
+  pub on : (g : Missed) (p r : ℕ) → k.fmr ≡ Some g → IsTrue (active c v p) → r < g.stride → has_missed g p r ≡ false
