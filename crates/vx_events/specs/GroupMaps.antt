@@ -1,11 +1,11 @@
 -- What a line at a site over a group makes of the regions that plexes missed, as the site notes them.
 use Rattle.std.specs.Prelude.{◌≡◌, ◌≢◌, ◌⊎◌, ℕ, Bool, true, false, [], length, Option, Some, None, Contains, if◌then◌else◌, slice_get}
-use Rattle.vx_model.specs.declared.site.PlexState.{PlexState}
-use Rattle.vx_model.specs.declared.site.PlexState.TheVariants.{Active, Clean, Stale}
+use Rattle.vx_model.specs.declared.site.PlexState.TheVariants.{Active}
 use Rattle.vx_history.specs.Groups.{GroupNode, MissedNote}
 use Rattle.vx_history.specs.MapChanges.{InNoVolume, InVolume, MapsBack, MapsFailed, MapsWritten, StayKnown}
 use Rattle.vx_history.specs.Missing.{each_anew, in_write, no_plex, none_missed, one_anew, with_maps}
 use Rattle.vx_model.specs.Content.{Write}
+use Rattle.vx_config.specs.Checks.{is_live}
 use Rattle.vx_config.specs.declared.config.Config.{Config}
 use Rattle.vx_config.specs.declared.entry.LogEntry.{LogEntry}
 use Rattle.vx_config.specs.declared.entry.PlexEntry.{PlexEntry}
@@ -17,14 +17,9 @@ use Rattle.vx_events.specs.GroupViews.{config_of}
 -- ---- what a configuration says of a plex and of a log
 
 -- a plex takes part, or stopped cleanly
-abbrev pub state_takes : PlexState → Bool
-state_takes Active = true
-state_takes Clean = true
-state_takes Stale = false
-
 abbrev pub entry_takes : Option PlexEntry → Bool
 entry_takes None = false
-entry_takes (Some plex) = state_takes plex.state
+entry_takes (Some plex) = is_live plex
 
 abbrev pub takes_part : Config → ℕ → ℕ → Bool
 takes_part c v p = entry_takes (plex_at c v p)

@@ -32,3 +32,4 @@ pub mod Recovering
 pub mod Founding
 pub mod GroupPlex
 pub mod GroupAttach
+pub mod MapLines

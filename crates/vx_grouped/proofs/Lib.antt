@@ -41,3 +41,7 @@ pub mod ReadyLemmas
 pub mod FindLemmas
 pub mod TraceLemmas
 pub mod LitLemmas
+pub mod MapStandLemmas
+pub mod NotedMapLemmas
+pub mod CountedLemmas
+pub mod DiskMapLemmas

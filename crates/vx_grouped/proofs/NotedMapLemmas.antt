@@ -97,12 +97,20 @@ has_some (Some f) is = (f, refl)
 pub map_in : (logs : List Logs) (c : Config) (s : Bool) (v : ℕ) → goes_by logs c s v ≡ true → (f : Missed) × (fmr_at logs v ≡ Some f)
 map_in logs c s v on = has_some (fmr_at logs v) (by_three s (on_failed_disk c v) (is_some (fmr_at logs v)) on)
 
+-- and logs go on
+going_b : (s rest : Bool) → (not s && rest) ≡ true → s ≡ false
+going_b true rest is = let clash : false ≡ true = is in cc
+going_b false rest is = refl
+
+pub going : (logs : List Logs) (c : Config) (s : Bool) (v : ℕ) → goes_by logs c s v ≡ true → s ≡ false
+going logs c s v on = going_b s (not (on_failed_disk c v) && is_some (fmr_at logs v)) on
+
 -- ---- behind a call
 
 module _ (w : MissedNote) (c d : Config) (l k : List Logs) (s t : Bool) (a b : List Bool) (may : ℕ → Bool) (noted : MapsNoted w c l a s)
-    (plexes : (v : ℕ) → plexes_of d v ≡ plexes_of c v) (regions : (v : ℕ) → copied_regions d v ≡ copied_regions c v) (begins : MapsBeginIn may c d s t l k) where
-  there : (v p r : ℕ) → IsThere d v p r → IsThere c v p r
-  there v p r it = record { plex = subst (λ (n : ℕ). p < n) (plexes v) it.plex; region = subst (λ (n : ℕ). r < n) (regions v) it.region }
+    (same : (v : ℕ) → goes_by k d t v ≡ true → (plexes_of d v ≡ plexes_of c v) × (copied_regions d v ≡ copied_regions c v)) (begins : MapsBeginIn may c d s t l k) where
+  there : (v p r : ℕ) → goes_by k d t v ≡ true → IsThere d v p r → IsThere c v p r
+  there v p r on it = record { plex = subst (λ (n : ℕ). p < n) (same v on).0 it.plex; region = subst (λ (n : ℕ). r < n) (same v on).1 it.region }
 
   -- where none were gone by they begin
   first_none : (v p r : ℕ) → w.mapped v ≡ false → goes_by k d t v ≡ true → missed_in l c v p r ≡ not (active c v p)
@@ -130,13 +138,13 @@ module _ (w : MissedNote) (c d : Config) (l k : List Logs) (s t : Bool) (a b : L
           ap (λ (o : Option Missed). missed_by o (active c v p) p r) f.1 ∙ noted.least v p r f.0 is f.1 at had.off (had.noted is)
       by false is = first_none v p r is on ∙ ap (λ (x : Bool). not x) had.off
 
-  -- a call that is done
-  module _ (these anew : ℕ → ℕ → Bool) (moves : MapsMove c d these anew l k) (alike : (v : ℕ) → v < length d.volumes → w.doubt v ≡ false → is_alike b v ≡ true) where
-    pub noted_moved : MapsNoted (maps_written (goes_by k d t) d.serial (active c) (active d) anew these w) d k b t
+  -- a call that is done; of these volumes a write may have failed
+  module _ (these anew : ℕ → ℕ → Bool) (doubt : ℕ → Bool) (moves : t ≡ false → MapsMove c d these anew l k) (alike : (v : ℕ) → v < length d.volumes → doubt v ≡ false → is_alike b v ≡ true) where
+    pub noted_moved : MapsNoted (record (maps_written (goes_by k d t) d.serial (active c) (active d) anew these w) { doubt = doubt }) d k b t
     noted_moved = record {
       mapped = λ v. refl;
-      most = λ v p r g on at it has. by_most v p r on (there v p r it) (moves.most v p r g at (there v p r it) has);
-      least = λ v p r g on at it off has. by_least v p r g on at (there v p r it) off
+      most = λ v p r g on at it has. by_most v p r on (there v p r on it) ((moves (going k d t v on)).most v p r g at (there v p r on it) has);
+      least = λ v p r g on at it off has. by_least v p r g on at (there v p r on it) off
           (had_b (active c v p) (anew v p) (w.mapped v) (w.missed v p r) (these v r)
           (subst (λ (x : Bool). missed_b (active c v p) x (anew v p) (w.mapped v) (w.missed v p r) (these v r) ≡ true) off has));
       alike = alike;
@@ -150,16 +158,16 @@ module _ (w : MissedNote) (c d : Config) (l k : List Logs) (s t : Bool) (a b : L
 
         by_least : (v p r : ℕ) (g : Missed) → goes_by k d t v ≡ true → fmr_at k v ≡ Some g → IsThere c v p r → active d v p ≡ false → (these v r ≡ true) ⊎ HadMissed (active c v p) (w.mapped v) (w.missed v p r)
             → has_missed g p r ≡ true
-        by_least v p r g on at it off (inl here) = moves.least v p r g at it off here
-        by_least v p r g on at it off (inr had) = moves.stay v p r g at it had.off off (first_least v p r on it had)
+        by_least v p r g on at it off (inl here) = (moves (going k d t v on)).least v p r g at it off here
+        by_least v p r g on at it off (inr had) = (moves (going k d t v on)).stay v p r g at it had.off off (first_least v p r on it had)
 
   -- a write that was refused
-  module _ (vol : ℕ) (these : ℕ → ℕ → Bool) (moves : MapsDoubt c d these l k) (alike : (v : ℕ) → v < length d.volumes → this_volume vol v ≡ false → w.doubt v ≡ false → is_alike b v ≡ true) where
+  module _ (vol : ℕ) (these : ℕ → ℕ → Bool) (moves : t ≡ false → MapsDoubt c d these l k) (alike : (v : ℕ) → v < length d.volumes → this_volume vol v ≡ false → w.doubt v ≡ false → is_alike b v ≡ true) where
     pub noted_doubted : MapsNoted (maps_doubted (goes_by k d t) d.serial (active c) (active d) vol these w) d k b t
     noted_doubted = record {
       mapped = λ v. refl;
-      most = λ v p r g on at it has. by_most v p r on (there v p r it) (moves.most v p r g at (there v p r it) has);
-      least = λ v p r g on at it off has. by_least v p r g on at (there v p r it) off
+      most = λ v p r g on at it has. by_most v p r on (there v p r on it) ((moves (going k d t v on)).most v p r g at (there v p r on it) has);
+      least = λ v p r g on at it off has. by_least v p r g on at (there v p r on it) off
           (had_b (active c v p) false (w.mapped v) (w.missed v p r) false
           (subst (λ (x : Bool). missed_b (active c v p) x false (w.mapped v) (w.missed v p r) false ≡ true) off has));
       alike = λ v low sure. alike v low (or_none (this_volume vol v) (w.doubt v) sure).0 (or_none (this_volume vol v) (w.doubt v) sure).1;
@@ -178,4 +186,4 @@ module _ (w : MissedNote) (c d : Config) (l k : List Logs) (s t : Bool) (a b : L
 
         by_least : (v p r : ℕ) (g : Missed) → goes_by k d t v ≡ true → fmr_at k v ≡ Some g → IsThere c v p r → active d v p ≡ false → (false ≡ true) ⊎ HadMissed (active c v p) (w.mapped v) (w.missed v p r) → has_missed g p r ≡ true
         by_least v p r g on at it off (inl here) = let clash : false ≡ true = here in cc
-        by_least v p r g on at it off (inr had) = moves.stay v p r g at it had.off off (first_least v p r on it had)
+        by_least v p r g on at it off (inr had) = (moves (going k d t v on)).stay v p r g at it had.off off (first_least v p r on it had)

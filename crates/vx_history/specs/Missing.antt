@@ -62,6 +62,10 @@ maps_written mapped serial was now anew these w = record {
   serial = serial;
 }
 
+-- behind one that made a volume
+abbrev pub maps_added : (mapped : ℕ → Bool) (serial : ℕ) (was now : ℕ → ℕ → Bool) (vol : ℕ) → MissedNote → MissedNote
+maps_added mapped serial was now vol w = record (maps_written mapped serial was now no_plex none_missed w) { doubt = λ v. not (this_volume vol v) && w.doubt v }
+
 -- Behind a write of those regions of a volume that failed: any plex of it may have missed them, and from then on no map of it begins anew.
 abbrev pub maps_doubted : (mapped : ℕ → Bool) (serial : ℕ) (was now : ℕ → ℕ → Bool) (vol : ℕ) (these : ℕ → ℕ → Bool) → MissedNote → MissedNote
 maps_doubted mapped serial was now vol these w = record {

@@ -1,0 +1,78 @@
+-- How what a call makes of the regions that plexes missed is seen in the world, whose lines name the failed calls.
+use Rattle.std.proofs.Common.{◌≡◌, ◌⊎◌, ◌≤◌, ◌<◌, ◌&&◌, ◌||◌, ℕ, Bool, true, false, List, length, refl, sym, ◌∙◌, ap, subst, inl, inr}
+use Rattle.std.specs.Prelude.{Contains, Option, Some, None, if◌then◌else◌, not, slice_get}
+use Rattle.vx_config.specs.declared.config.Config.{Config}
+use Rattle.vx_config.specs.declared.entry.LogEntry.{LogEntry}
+use Rattle.vx_config.specs.declared.entry.PlexEntry.{PlexEntry}
+use Rattle.vx_config.specs.declared.entry.VolumeEntry.{VolumeEntry}
+use Rattle.vx_config.specs.declared.entry.VolumeLog.TheVariants.{Fmr}
+use Rattle.vx_disk.specs.Shelf.{Meaning}
+use Rattle.vx_history.specs.Groups.{MissedNote}
+use Rattle.vx_history.specs.MapChanges.{MapsGone, MapsWritten, StayKnown}
+use Rattle.vx_history.specs.Missing.{missed_then, perhaps_then}
+use Rattle.vx_kept.specs.Choice.{live, live_or}
+use Rattle.vx_kept.specs.Cleans.{at_serial}
+use Rattle.vx_layout.specs.Places.{plex_at}
+use Rattle.vx_maplog.specs.Logs.{log_or}
+use Rattle.vx_grouped.specs.SiteMaps.{FailedAt, map_disk_of, map_disk_or}
+use Rattle.vx_events.specs.Fails.{Fails}
+use Rattle.vx_events.specs.GroupMaps.{FailedIn, entry_takes, kept_disk, map_disk, maps_disk, takes_part}
+use Rattle.vx_group_lines.proofs.Losing.{Names}
+
+-- ---- what configurations say
+
+takes_or : (o : Option PlexEntry) → live_or o ≡ entry_takes o
+takes_or None = refl
+takes_or (Some p) = refl
+
+pub takes_is : (c : Config) (v p : ℕ) → live c v p ≡ takes_part (at_serial 0 c) v p
+unfolding live
+takes_is c v p = takes_or (plex_at c v p)
+
+kept_or : (e : Option LogEntry) → map_disk_or e ≡ kept_disk e
+kept_or None = refl
+kept_or (Some e) = refl
+
+disk_or : (o : Option VolumeEntry) → map_disk_or (log_or Fmr o) ≡ maps_disk o
+disk_or None = refl
+disk_or (Some volume) = kept_or volume.fmr
+
+pub disk_is : (c : Config) (v : ℕ) → map_disk_of c v ≡ map_disk (at_serial 0 c) v
+disk_is c v = disk_or (slice_get c.volumes v)
+
+-- ---- which maps are known
+
+module _ (s many : ℕ) (fails : Fails) (o e : Meaning) (names : Names s many fails o e) (c : Config) (low : (v k : ℕ) → map_disk_of c v ≡ Some k → k < many) (w next : MissedNote) where
+  gone_named : (v : ℕ) → MapsGone (FailedAt o e) (map_disk_of c) w next v → MapsGone (FailedIn s fails) (map_disk (at_serial 0 c)) w next v
+  gone_named v (inl (k, at, rose)) = inl (k, sym (disk_is c v) ∙ at, names.each k (low v k at) rose)
+  gone_named v (inr (inl none)) = inr (inl (sym (disk_is c v) ∙ none))
+  gone_named v (inr (inr far)) = inr (inr far)
+
+  pub known_named : (Lost Begins : ℕ → Type 0) → StayKnown (FailedAt o e) Lost Begins (map_disk_of c) w next → StayKnown (FailedIn s fails) Lost Begins (map_disk (at_serial 0 c)) w next
+  known_named Lost Begins it = record { stays = λ v on. by v (it.stays v on); begins = it.begins }
+    where
+      by : (v : ℕ) → (next.mapped v ≡ true) ⊎ MapsGone (FailedAt o e) (map_disk_of c) w next v ⊎ Lost v → (next.mapped v ≡ true) ⊎ MapsGone (FailedIn s fails) (map_disk (at_serial 0 c)) w next v ⊎ Lost v
+      by v (inl on) = inl on
+      by v (inr (inl gone)) = inr (inl (gone_named v gone))
+      by v (inr (inr lost)) = inr (inr lost)
+
+-- ---- what plexes missed
+
+-- by plexes that take part as those do
+module _ (w next : MissedNote) (was now was' now' anew these : ℕ → ℕ → Bool) (before : (v p : ℕ) → was v p ≡ was' v p) (behind : (v p : ℕ) → now v p ≡ now' v p) where
+  missed_as : (v p r : ℕ) → missed_then w was now anew these v p r ≡ missed_then w was' now' anew these v p r
+  missed_as v p r =
+      ap (λ (x : Bool). if x && not (now v p) then these v r else ((not (x && anew v p) && (if w.mapped v then w.missed v p r else not x)) || (not (now v p) && these v r))) (before v p)
+      ∙ ap (λ (y : Bool). if was' v p && not y then these v r else ((not (was' v p && anew v p) && (if w.mapped v then w.missed v p r else not (was' v p))) || (not y && these v r))) (behind v p)
+
+  perhaps_as : (v p r : ℕ) → perhaps_then w was now anew v p r ≡ perhaps_then w was' now' anew v p r
+  perhaps_as v p r =
+      ap (λ (x : Bool). (not (x && anew v p) && (w.mapped v && w.perhaps v p r)) || ((x && not (now v p)) && (not (x && anew v p) && (if w.mapped v then w.missed v p r else not x)))) (before v p)
+      ∙ ap (λ (y : Bool). (not (was' v p && anew v p) && (w.mapped v && w.perhaps v p r)) || ((was' v p && not y) && (not (was' v p && anew v p) && (if w.mapped v then w.missed v p r else not (was' v p))))) (behind v p)
+
+  pub written_as : (count : ℕ) → MapsWritten count was now anew these w next → MapsWritten count was' now' anew these w next
+  written_as count it = record {
+    missed = λ v p r on. it.missed v p r on ∙ missed_as v p r;
+    perhaps = λ v p r on. it.perhaps v p r on ∙ perhaps_as v p r;
+    doubt = it.doubt;
+  }
