@@ -263,11 +263,11 @@ module _ {R : Type 0} {g : Ghosts R} (n : Node) (note : GroupNode) (racks : (s :
           early_lies n note down.last (shade_meaning g.meaning first) (shade_meaning g.meaning middle) (shade_meaning g.meaning fallen) (laws first) lies can stop stops it stopped.units stopped.size stopped.leaves
       lies_by false it = dark_away n note down.last (shade_meaning g.meaning first) (shade_meaning g.meaning fallen) (kept.units ∙ since.units) (λ u. kept.size u ∙ since.size u) (dark it) lies
 
-      found_by : (t : Bool) → stops_early stop ≡ t → NotesFound note down.last (shade_meaning g.meaning fallen)
-      found_by true it =
+      fallen_found : (t : Bool) → stops_early stop ≡ t → NotesFound note down.last (shade_meaning g.meaning fallen)
+      fallen_found true it =
           let stopped = early it in
           early_noted n note down.last (shade_meaning g.meaning first) (shade_meaning g.meaning middle) (shade_meaning g.meaning fallen) (laws first) lies can stop stops it stopped.units stopped.size stopped.leaves down.last found_first
-      found_by false it = none_noted note down.last (shade_meaning g.meaning fallen) (dark it).leaves
+      fallen_found false it = none_noted note down.last (shade_meaning g.meaning fallen) (dark it).leaves
 
       lit_by : (t : Bool) → stops_early stop ≡ t → IsLit (note_dimmed (not t) note) (g.meaning (rack_of fallen)).tells (shade_meaning g.meaning fallen)
       lit_by true it = λ bright told. (early it).tells ∙ since.tells ∙ lit_first bright (rises (goes (falls told)))
@@ -285,7 +285,7 @@ module _ {R : Type 0} {g : Ghosts R} (n : Node) (note : GroupNode) (racks : (s :
         away = record {
           state = down.away.state;
           config = down.away.config;
-          found = noted_as note (note_dimmed (not t) note) down.last (shade_meaning g.meaning fallen) refl refl (found_by t it);
+          found = noted_as note (note_dimmed (not t) note) down.last (shade_meaning g.meaning fallen) refl refl (fallen_found t it);
           lies = away_dimmed (not t) n (dimmed_site (not t) note n) note down.last (shade_meaning g.meaning fallen) refl refl (lies_by t it);
         };
       }
