@@ -9,11 +9,13 @@ use Rattle.vx_config.specs.declared.entry.VolumeLog.TheVariants.{Fmr}
 use Rattle.vx_disk.specs.Shelf.{Meaning}
 use Rattle.vx_history.specs.Groups.{MissedNote}
 use Rattle.vx_history.specs.MapChanges.{MapsGone, MapsWritten, StayKnown}
-use Rattle.vx_history.specs.Missing.{missed_then, perhaps_then}
+use Rattle.vx_group.specs.Attaches.{copied_regions}
+use Rattle.vx_history.specs.Missing.{CopiesMissed, missed_then, perhaps_then}
 use Rattle.vx_kept.specs.Choice.{live, live_or}
 use Rattle.vx_kept.specs.Cleans.{at_serial}
 use Rattle.vx_layout.specs.Places.{plex_at}
 use Rattle.vx_maplog.specs.Logs.{log_or}
+use Rattle.vx_grouped.specs.MapsNoted.{CopiesNoted}
 use Rattle.vx_grouped.specs.SiteMaps.{FailedAt, map_disk_of, map_disk_or}
 use Rattle.vx_events.specs.Fails.{Fails}
 use Rattle.vx_events.specs.GroupMaps.{FailedIn, entry_takes, kept_disk, map_disk, maps_disk, takes_part}
@@ -76,3 +78,12 @@ module _ (w next : MissedNote) (was now was' now' anew these : ℕ → ℕ → B
     perhaps = λ v p r on. it.perhaps v p r on ∙ perhaps_as v p r;
     doubt = it.doubt;
   }
+
+-- ---- how many regions an attach copies
+
+module _ (w : MissedNote) (c : Config) (v p n many : ℕ) (same : copied_regions c v ≡ many) (it : CopiesNoted w c v p n) where
+  pub copies_unknown : w.mapped v ≡ false → n ≡ many
+  copies_unknown off = it.unknown off ∙ same
+
+  pub copies_known : w.mapped v ≡ true → CopiesMissed w v p many n
+  copies_known on = subst (λ (k : ℕ). CopiesMissed w v p k n) same (it.missed on)

@@ -15,7 +15,7 @@ use Rattle.vx_resync.specs.Picks.{as_one, picked_below}
 use Rattle.vx_volume.specs.Plexes.{active}
 use Rattle.vx_loggroup.specs.Attaching.{fmr_at, map_by}
 use Rattle.vx_loggroup.specs.Moving.{IsThere, goes_by}
-use Rattle.vx_grouped.specs.MapsNoted.{MapsNoted}
+use Rattle.vx_grouped.specs.MapsNoted.{CopiesNoted, MapsNoted}
 use Rattle.vx_grouped.proofs.NotedMapLemmas.{map_in}
 
 one_or : (b : Bool) → as_one b ≡ (if b then 1 else 0)
@@ -58,3 +58,6 @@ module _ (w : MissedNote) (c : Config) (logs : List Logs) (alike : List Bool) (s
         most = λ r below has. noted.most v p r f.0 on f.1 (record { plex = low; region = below }) has;
         count_is = is ∙ ap (missed_regions c v p) (by_four s (nat_le (plexes_of c v) p) (on_failed_disk c v) (fmr_at logs v) (lt-leb (plexes_of c v) p low) goes ∙ f.1) ∙ counts_same (has_missed f.0 p) (copied_regions c v);
       }
+
+  pub counts_noted : p < plexes_of c v → active c v p ≡ false → CopiesNoted w c v p n
+  counts_noted low off = record { unknown = copies_all; missed = copies_noted low off }

@@ -22,7 +22,7 @@ use Rattle.vx_maplog.specs.Logs.{log_of}
 use Rattle.vx_volume.specs.Plexes.{active}
 use Rattle.vx_loggroup.specs.Attaching.{fmr_at}
 use Rattle.vx_loggroup.specs.LoggedVolumes.{is_alike}
-use Rattle.vx_loggroup.specs.Moving.{IsThere, goes_by}
+use Rattle.vx_loggroup.specs.Moving.{IsThere, MapTaken, goes_by}
 use Rattle.vx_grouped.specs.MapsNoted.{MapsNoted, MapsOnDisk}
 use Rattle.vx_grouped.proofs.NotedMapLemmas.{going, map_in}
 
@@ -114,14 +114,8 @@ module _ (w : MissedNote) (c x : Config) (logs : List Logs) (alike : List Bool) 
 
 -- ---- behind an import
 
--- the map that an import took up is that of an image in which its log is in use, by configuration x
-pub record MapTaken (x : Config) (c : Config) (v : ℕ) (f : Missed) (i : Image) : Type 0 where
-  pub entry : LogEntry
-  pub used : InUse x v Fmr entry
-  pub same : (p r : ℕ) → IsThere c v p r → has_missed f p r ≡ logged_in entry i (p * stride_of c v + r)
-
-module _ (w : MissedNote) (c x d : Config) (logs : List Logs) (alike : List Bool) (t : Bool) (i : Image) (disk : MapsOnDisk w c x i) (plexes : (v p r : ℕ) → goes_by logs d t v ≡ true → IsThere d v p r → IsThere c v p r)
-    (taken : (v : ℕ) (f : Missed) → goes_by logs d t v ≡ true → fmr_at logs v ≡ Some f → (w.mapped v ≡ true) × MapTaken x c v f i) (off : (v p r : ℕ) → IsThere d v p r → active d v p ≡ false → stale c v p ≡ true) where
+module _ (w : MissedNote) (c x d : Config) (logs : List Logs) (alike : List Bool) (t : Bool) (i : Image) (disk : MapsOnDisk w c x i) (plexes : (v p r : ℕ) → goes_by logs d t v ≡ true → IsThere d v p r → IsThere c v p r) (strides : (v : ℕ) → goes_by logs d t v ≡ true → stride_of d v ≡ stride_of c v)
+    (taken : (v : ℕ) (f : Missed) → goes_by logs d t v ≡ true → fmr_at logs v ≡ Some f → (w.mapped v ≡ true) × MapTaken x d v f i) (off : (v p r : ℕ) → IsThere d v p r → active d v p ≡ false → stale c v p ≡ true) where
   -- it is known still
   kept_either : (v p r : ℕ) → goes_by logs d t v ≡ true → (w.missed v p r ≡ true) ⊎ (w.perhaps v p r ≡ true) → (w.missed v p r ≡ true) ⊎ ((goes_by logs d t v && w.perhaps v p r) ≡ true)
   kept_either v p r on (inl is) = inl is
@@ -133,11 +127,11 @@ module _ (w : MissedNote) (c x d : Config) (logs : List Logs) (alike : List Bool
     most = λ v p r f on at it has.
         let here = taken v f on at in
         let low = plexes v p r on it in
-        kept_either v p r on (disk.most here.1.entry v p r here.0 here.1.used low (sym (here.1.same p r low) ∙ has));
+        kept_either v p r on (disk.most here.1.entry v p r here.0 here.1.used low (sym (ap (λ (n : ℕ). logged_in here.1.entry i (p * n + r)) (strides v on)) ∙ sym (here.1.same p r it) ∙ has));
     least = λ v p r f on at it none has.
         let here = taken v f on at in
         let low = plexes v p r on it in
-        here.1.same p r low ∙ disk.least here.1.entry v p r here.0 here.1.used low (off v p r it none) has;
+        here.1.same p r it ∙ ap (λ (n : ℕ). logged_in here.1.entry i (p * n + r)) (strides v on) ∙ disk.least here.1.entry v p r here.0 here.1.used low (off v p r it none) has;
     alike = λ v low sure. not_false (is_alike alike v) sure;
     serial = refl;
   }

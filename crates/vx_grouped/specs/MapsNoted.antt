@@ -6,7 +6,9 @@ use Rattle.vx_config.specs.declared.entry.LogEntry.{LogEntry}
 use Rattle.vx_config.specs.declared.entry.VolumeLog.TheVariants.{Fmr}
 use Rattle.vx_disk.specs.Shelf.{Image}
 use Rattle.vx_fmr.specs.Missed.{Missed, has_missed}
+use Rattle.vx_group.specs.Attaches.{copied_regions}
 use Rattle.vx_history.specs.Groups.{MissedNote}
+use Rattle.vx_history.specs.Missing.{CopiesMissed}
 use Rattle.vx_logs.specs.Held.{InUse, logged_in, stale}
 use Rattle.vx_logs.specs.Marks.{stride_of}
 use Rattle.vx_logs.specs.declared.logs.Logs.{Logs}
@@ -29,3 +31,8 @@ pub record MapsNoted (w : MissedNote) (c : Config) (logs : List Logs) (flags : L
 pub record MapsOnDisk (w : MissedNote) (c x : Config) (i : Image) : Type 0 where
   pub most : (e : LogEntry) (v p r : ℕ) → w.mapped v ≡ true → InUse x v Fmr e → IsThere c v p r → logged_in e i (p * stride_of c v + r) ≡ true → (w.missed v p r ≡ true) ⊎ (w.perhaps v p r ≡ true)
   pub least : (e : LogEntry) (v p r : ℕ) → w.mapped v ≡ true → InUse x v Fmr e → IsThere c v p r → stale c v p ≡ true → w.missed v p r ≡ true → logged_in e i (p * stride_of c v + r) ≡ true
+
+-- So many regions are copied to a plex: all, where the maps of its volume are not known, and else those that it has missed, and perhaps more.
+pub record CopiesNoted (w : MissedNote) (c : Config) (v p n : ℕ) : Type 0 where
+  pub unknown : w.mapped v ≡ false → n ≡ copied_regions c v
+  pub missed : w.mapped v ≡ true → CopiesMissed w v p (copied_regions c v) n

@@ -30,3 +30,4 @@ pub mod KeepingLemmas
 pub mod KeepingCalls
 pub mod EmptiedLogs
 pub mod MovedLemmas
+pub mod EndedLemmas

@@ -1,17 +1,22 @@
 -- What a call makes of the maps of missed regions in memory, plex by plex.
-use Rattle.std.specs.Prelude.{◌≡◌, ◌⊎◌, ◌+◌, ◌<◌, ◌≤◌, ◌==◌, ℕ, Bool, true, false, not, ◌&&◌, IsTrue, is_some, Option, Some, None, List}
+use Rattle.std.specs.Prelude.{◌≡◌, ◌⊎◌, ◌+◌, ◌*◌, ◌<◌, ◌≤◌, ◌==◌, ℕ, Bool, true, false, not, ◌&&◌, IsTrue, is_some, Option, Some, None, List}
 use Rattle.vx_bitmap.specs.Bits.{is_among}
+use Rattle.vx_bitmap.specs.Maps.{MapOn}
 use Rattle.vx_config.specs.Checks.{plexes_of}
 use Rattle.vx_config.specs.Table.{greatest}
 use Rattle.vx_config.specs.declared.config.Config.{Config}
 use Rattle.vx_config.specs.declared.entry.LogEntry.{LogEntry}
 use Rattle.vx_config.specs.declared.entry.VolumeLog.TheVariants.{Fmr}
 use Rattle.vx_disk.specs.Counts.{Rose}
-use Rattle.vx_disk.specs.Shelf.{Meaning}
+use Rattle.vx_disk.specs.Shelf.{Each, Image, Meaning}
 use Rattle.vx_fmr.specs.Missed.{Missed, has_missed}
 use Rattle.vx_group.specs.Attaches.{copied_regions}
 use Rattle.vx_groupmaps.specs.Loading.{on_failed_disk}
+use Rattle.vx_copyfmt.specs.Imports.{Found}
+use Rattle.vx_kept.specs.Groups.{found}
 use Rattle.vx_kept.specs.LogRuns.{log_trusted}
+use Rattle.vx_logs.specs.Held.{InUse, logged_in}
+use Rattle.vx_logs.specs.Marks.{stride_of}
 use Rattle.vx_logs.specs.declared.logs.Logs.{Logs}
 use Rattle.vx_maplog.specs.Logs.{log_of}
 use Rattle.vx_volume.specs.Plexes.{active}
@@ -67,3 +72,17 @@ pub record LogsEmptied (c : Config) (v : ℕ) (l k : Logs) : Type 0 where
   pub gone : l.fmr ≡ None → k.fmr ≡ None
   pub off : (f g : Missed) (p r : ℕ) → l.fmr ≡ Some f → k.fmr ≡ Some g → p < f.plexes → r < f.stride → active c v p ≡ false → has_missed g p r ≡ has_missed f p r
   pub on : (g : Missed) (p r : ℕ) → k.fmr ≡ Some g → IsTrue (active c v p) → r < g.stride → has_missed g p r ≡ false
+
+-- The map that an import took up is that of an image: its log is in use there by the configuration x.
+pub record MapTaken (x d : Config) (v : ℕ) (f : Missed) (i : Image) : Type 0 where
+  pub entry : LogEntry
+  pub used : InUse x v Fmr entry
+  pub same : (p r : ℕ) → IsThere d v p r → has_missed f p r ≡ logged_in entry i (p * stride_of d v + r)
+
+-- so it is of each volume, and of whatever image was on the disks
+pub record MapsTaken (old : Meaning) (d : Config) (logs : List Logs) : Type 0 where
+  pub each : (v : ℕ) (f : Missed) (i : Image) (x : Config) → fmr_at logs v ≡ Some f → Each old.leaves i → found old i ≡ Found x → MapTaken x d v f i
+
+-- What the disks have of the maps that were in memory as a group was deported, whatever a crash leaves.
+pub record MapsStand (logs : List Logs) (m : Meaning) : Type 0 where
+  pub each : (v : ℕ) (f : Missed) → fmr_at logs v ≡ Some f → MapOn f.map m
