@@ -25,7 +25,7 @@ use Rattle.vx_events.specs.Ends.{IsNoDevice}
 use Rattle.vx_events.specs.Fails.{Fails}
 use Rattle.vx_events.specs.GroupConfigs.{ConfigLoses, ConfigLosesBut, PutsPlex, lies_on_disk, opened_again}
 use Rattle.vx_events.specs.GroupLines.{cut_events, fuse_lost, group_events, group_noted, noting, plain_number, refused_events, shape_of, unread_events}
-use Rattle.vx_events.specs.GroupMaps.{MapsCalled, MapsCut, MapsDetached, MapsImported, MapsRecovered, MapsUndetached, WithMaps}
+use Rattle.vx_events.specs.GroupMaps.{MapsCalled, MapsDetached, MapsImported, MapsLost, MapsRecovered, MapsUndetached, WithMaps}
 use Rattle.vx_events.specs.GroupNotes.{FirstNote, IsKnown, NotesBack, NotesCut, NotesDoubt, NotesRefused, NotesUnread, NotesVolume, NotesWrite, Reconfigures, note_at}
 use Rattle.vx_events.specs.GroupReplies.{AttachCopies, GivesPlain, IsLastPlex, SaysBack}
 use Rattle.vx_events.specs.GroupViews.{config_of, grouped_view}
@@ -115,19 +115,19 @@ GroupSpoils s note other fails next = ⊥
 
 -- and a fuse that ran out in it
 abbrev pub GroupCuts : (s : ℕ) → GroupNode → ScriptLine → Fails → GroupNode → Type 0
-GroupCuts s note (GroupDeport site) fails next = WithMaps (Reconfigures (ConfigLoses s fails) NoteUnsettles) (MapsCalled s fails) note next
+GroupCuts s note (GroupDeport site) fails next = WithMaps (Reconfigures (ConfigLoses s fails) NoteUnsettles) MapsLost note next
 GroupCuts s note (GroupImport site) fails next = NotesRefused note next
-GroupCuts s note (Volume site volume blocks mirrors layout log map policy) fails next = WithMaps (Reconfigures (ConfigLoses s fails) NoteUnsettles) (MapsCalled s fails) note next
+GroupCuts s note (Volume site volume blocks mirrors layout log map policy) fails next = WithMaps (Reconfigures (ConfigLoses s fails) NoteUnsettles) MapsLost note next
 GroupCuts s note (PlexDetach site volume plex) fails next =
     WithMaps (Reconfigures (λ c d. ConfigLoses s fails c d ⊎ ((x : Config) × PutsPlex (plain_number note volume) plex Stale c x × ConfigLoses s fails x d)) NoteUnsettles)
-    (MapsCut s fails (plain_number note volume)) note next
+    MapsLost note next
 GroupCuts s note (PlexAttach site volume plex) fails next =
     WithMaps
     (Reconfigures
     (λ c d. ConfigLosesBut (lies_on_disk c (plain_number note volume) plex) s fails c d
     ⊎ ((x : Config) × PutsPlex (plain_number note volume) plex Active c x × ConfigLosesBut (lies_on_disk c (plain_number note volume) plex) s fails x d))
     NoteUnsettles)
-    (MapsCut s fails (plain_number note volume)) note next
+    MapsLost note next
 GroupCuts s note (WriteLine site volume start count fill) fails next = NotesCut s fails (write_to note volume start (replicate (512 * count) fill)) note next
 GroupCuts s note (Put site volume start bytes) fails next = NotesCut s fails (write_to note volume start bytes) note next
 GroupCuts s note other fails next = ⊥

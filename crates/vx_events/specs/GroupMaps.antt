@@ -51,10 +51,9 @@ pub record MapsCalled (s : ℕ) (fails : Fails) (c d : Config) (w new : MissedNo
   pub known : StayKnown (FailedIn s fails) InNoVolume InNoVolume (map_disk c) w new
   pub written : MapsWritten (length c.volumes) (takes_part c) (takes_part d) no_plex none_missed w new
 
--- the same where the fuse ran out in a call of this volume
-pub record MapsCut (s : ℕ) (fails : Fails) (vol : ℕ) (c d : Config) (w new : MissedNote) : Type 0 where
-  pub known : StayKnown (FailedIn s fails) (InVolume vol) (InVolume vol) (map_disk c) w new
-  pub written : MapsWritten (length c.volumes) (takes_part c) (takes_part d) no_plex none_missed w new
+-- The fuse ran out: nothing is said of the maps any more. The next recovery knows none.
+pub record MapsLost (c d : Config) (w new : MissedNote) : Type 0 where
+  pub none : (v : ℕ) → new.mapped v ≡ false
 
 -- a plex was detached: its map begins anew, unless a write of the volume failed
 pub record MapsDetached (s : ℕ) (fails : Fails) (vol plex : ℕ) (c d : Config) (w new : MissedNote) : Type 0 where
@@ -74,11 +73,6 @@ pub record MapsOfWrite (s : ℕ) (fails : Fails) (x : Write) (c d : Config) (w n
 -- it failed
 pub record MapsOfDoubt (s : ℕ) (fails : Fails) (x : Write) (c d : Config) (w new : MissedNote) : Type 0 where
   pub known : StayKnown (FailedIn s fails) InNoVolume (InVolume x.volume) (map_disk c) w new
-  pub failed : MapsFailed x.volume (takes_part c) (takes_part d) (in_write x) w new
-
--- the fuse ran out in it
-pub record MapsOfCut (s : ℕ) (fails : Fails) (x : Write) (c d : Config) (w new : MissedNote) : Type 0 where
-  pub known : StayKnown (FailedIn s fails) (InVolume x.volume) (InVolume x.volume) (map_disk c) w new
   pub failed : MapsFailed x.volume (takes_part c) (takes_part d) (in_write x) w new
 
 -- a volume was made, of which no write failed

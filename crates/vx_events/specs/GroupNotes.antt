@@ -11,7 +11,7 @@ use Rattle.vx_config.specs.declared.entry.VolumeEntry.{VolumeEntry}
 use Rattle.vx_layout.specs.declared.shape.Shape.{Shape}
 use Rattle.vx_events.specs.Fails.{Fails}
 use Rattle.vx_events.specs.GroupConfigs.{AddsVolume, ConfigLoses, Matched, VolumeStays}
-use Rattle.vx_events.specs.GroupMaps.{MapsAdded, MapsFirst, MapsOfCut, MapsOfDoubt, MapsOfWrite, MapsRecovered, WithMaps}
+use Rattle.vx_events.specs.GroupMaps.{MapsAdded, MapsFirst, MapsLost, MapsOfDoubt, MapsOfWrite, MapsRecovered, WithMaps}
 use Rattle.vx_events.specs.GroupViews.{config_of}
 
 -- nothing is noted of a group yet
@@ -107,7 +107,7 @@ pub record NotesDoubt (s : ℕ) (fails : Fails) (x : Write) (note new : GroupNod
 -- the fuse ran out in a write
 pub record NotesCut (s : ℕ) (fails : Fails) (x : Write) (note new : GroupNode) : Type 0 where
   pub middle : GroupNode
-  pub moves : WithMaps (Reconfigures (ConfigLoses s fails) NoteUnsettles) (MapsOfCut s fails x) note middle
+  pub moves : WithMaps (Reconfigures (ConfigLoses s fails) NoteUnsettles) MapsLost note middle
   pub is : new ≡ note_cut x middle
 
 -- ---- recoveries

@@ -1,8 +1,8 @@
 -- What a call makes of the maps of missed regions in memory, plex by plex.
-use Rattle.std.specs.Prelude.{◌≡◌, ◌⊎◌, ◌+◌, ◌*◌, ◌<◌, ◌≤◌, ◌==◌, ℕ, Bool, true, false, not, ◌&&◌, IsTrue, is_some, Option, Some, None, List}
+use Rattle.std.specs.Prelude.{◌≡◌, ◌⊎◌, ◌+◌, ◌*◌, ◌<◌, ◌≤◌, ◌==◌, ℕ, Bool, true, false, not, ◌&&◌, IsTrue, is_some, Option, Some, None, List, slice_get}
 use Rattle.vx_bitmap.specs.Bits.{is_among}
 use Rattle.vx_bitmap.specs.Maps.{MapOn}
-use Rattle.vx_config.specs.Checks.{plexes_of}
+use Rattle.vx_config.specs.Checks.{blocks_of, plexes_of}
 use Rattle.vx_config.specs.Table.{greatest}
 use Rattle.vx_config.specs.declared.config.Config.{Config}
 use Rattle.vx_config.specs.declared.entry.LogEntry.{LogEntry}
@@ -67,11 +67,18 @@ pub record MapsEnd (c d : Config) (s t : Bool) (l k : List Logs) (old new : Mean
       → ((e : LogEntry) × (log_of c v Fmr ≡ Some e) × Rose (old.faults e.disk) (new.faults e.disk)) ⊎ (log_trusted c v Fmr ≡ false) ⊎ IsTrue new.down
       ⊎ (greatest ≤ c.serial + 54) ⊎ (greatest ≤ d.serial + 9)
 
--- The maps of a volume as those of its plexes that are ACTIVE were emptied; or they are in memory no more.
+-- The maps of a volume as those of its plexes that are ACTIVE are emptied: no region comes to one, and that of each other plex is as it was. They may be in memory no
+-- more.
 pub record LogsEmptied (c : Config) (v : ℕ) (l k : Logs) : Type 0 where
+  pub drl : k.drl ≡ l.drl
   pub gone : l.fmr ≡ None → k.fmr ≡ None
   pub off : (f g : Missed) (p r : ℕ) → l.fmr ≡ Some f → k.fmr ≡ Some g → p < f.plexes → r < f.stride → active c v p ≡ false → has_missed g p r ≡ has_missed f p r
   pub on : (g : Missed) (p r : ℕ) → k.fmr ≡ Some g → IsTrue (active c v p) → r < g.stride → has_missed g p r ≡ false
+
+-- so it is of volume v among the logs of all; the logs of the others are as they were
+pub record MapsEmptied (c : Config) (v : ℕ) (old new : List Logs) : Type 0 where
+  pub here : (l k : Logs) → slice_get old v ≡ Some l → slice_get new v ≡ Some k → 0 < blocks_of c.volumes v → LogsEmptied c v l k
+  pub others : (w : ℕ) → (w ≡ v → ⊥) → slice_get new w ≡ slice_get old w
 
 -- The map that an import took up is that of an image: its log is in use there by the configuration x.
 pub record MapTaken (x d : Config) (v : ℕ) (f : Missed) (i : Image) : Type 0 where

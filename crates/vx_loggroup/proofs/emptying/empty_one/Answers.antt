@@ -9,7 +9,8 @@ use Rattle.vx_grouplogs.proofs.OnCalls.{on_others}
 use Rattle.vx_groupmaps.specs.Missing.{none_spared}
 use Rattle.vx_logged.proofs.StandLemmas.{inner_fit, inner_others, inner_sound, know_inner, know_wide, logs_Stands, logs_finds, logs_goes, to_inner, to_wide}
 use Rattle.vx_loggroup.proofs.DetachedLogs.{as_logs}
-use Rattle.vx_loggroup.proofs.EmptiedLogs.{emptied_knows, emptied_logs, ready_down}
+use Rattle.vx_loggroup.proofs.EmptiedLogs.{emptied_knows, emptied_logs, ready_down, ready_drops}
+use Rattle.vx_loggroup.proofs.KeepingCalls.{none_drops}
 use Rattle.vx_loggroup.proofs.emptying.empty_one.Goals as goal
 
 pub ready_maps-requires-clause-checked : goal.ready_maps-requires-clause-checked
@@ -69,7 +70,7 @@ returns-in-Ok-clause-known g c =
 
 pub returns-in-Ok-clause-empties : goal.returns-in-Ok-clause-empties
 returns-in-Ok-clause-empties g c =
-    emptied_logs c.args.core.now.inner.config (inner_sound c.args.core.now c.args.vol (g.S.Shelf.meaning c.args.shelf.now) (g.S.Shelf.meaning c.args.shelf.now) c.requires.none c.requires.stands) c.args.vol c.requires.some c.args.one.now c.ready_maps.new.logs (g.S.Shelf.meaning c.args.shelf.now) (g.S.Shelf.meaning c.ready_maps.new.shelf) c.ready_maps.ensures.goes (to_inner c.args.core.now c.args.vol (g.S.Shelf.meaning c.args.shelf.now) (g.S.Shelf.meaning c.args.shelf.now) c.requires.none c.requires.stands c.args.vol c.args.one.now c.requires.log).fits.fmr _ c.in-Ok.ensures.answers.0 c.in-Ok.ensures.ready
+    emptied_logs c.args.core.now.inner.config (inner_sound c.args.core.now c.args.vol (g.S.Shelf.meaning c.args.shelf.now) (g.S.Shelf.meaning c.args.shelf.now) c.requires.none c.requires.stands) c.args.vol c.requires.some c.args.one.now c.ready_maps.new.logs (g.S.Shelf.meaning c.args.shelf.now) (g.S.Shelf.meaning c.ready_maps.new.shelf) c.ready_maps.ensures.goes (to_inner c.args.core.now c.args.vol (g.S.Shelf.meaning c.args.shelf.now) (g.S.Shelf.meaning c.args.shelf.now) c.requires.none c.requires.stands c.args.vol c.args.one.now c.requires.log).fits.fmr _ c.in-Ok.ensures.answers.0 c.ready_maps.ensures.drl c.in-Ok.ensures.ready
 
 pub returns-in-Err-clause-log : goal.returns-in-Err-clause-log
 returns-in-Err-clause-log g c =
@@ -84,3 +85,15 @@ returns-in-Err-clause-known g c =
 pub returns-in-Err-clause-down : goal.returns-in-Err-clause-down
 returns-in-Err-clause-down g c =
     (refl, ready_down c.args.core.now.inner.config c.args.vol c.args.one.now c.ready_maps.new.logs (g.S.Shelf.meaning c.args.shelf.now) (g.S.Shelf.meaning c.ready_maps.new.shelf) c.in-Err.field-0 c.in-Err.ensures.answers)
+
+pub returns-in-Ok-clause-drops : goal.returns-in-Ok-clause-drops
+returns-in-Ok-clause-drops g c =
+    ready_drops c.args.core.now.inner.config c.args.vol c.args.one.now c.ready_maps.new.logs _ (g.S.Shelf.meaning c.args.shelf.now) (g.S.Shelf.meaning c.ready_maps.new.shelf) (to_inner c.args.core.now c.args.vol (g.S.Shelf.meaning c.args.shelf.now) (g.S.Shelf.meaning c.args.shelf.now) c.requires.none c.requires.stands c.args.vol c.args.one.now c.requires.log).fits c.ready_maps.ensures.drl c.in-Ok.ensures.answers.0
+
+pub returns-in-Err-clause-drops : goal.returns-in-Err-clause-drops
+returns-in-Err-clause-drops g c =
+    none_drops c.args.core.now.inner.config c.args.vol c.args.one.now (record { drl = c.ready_maps.new.logs.drl; fmr = None }) (g.S.Shelf.meaning c.args.shelf.now) (g.S.Shelf.meaning c.ready_maps.new.shelf) c.ready_maps.ensures.drl refl
+    (ready_down c.args.core.now.inner.config c.args.vol c.args.one.now c.ready_maps.new.logs (g.S.Shelf.meaning c.args.shelf.now) (g.S.Shelf.meaning c.ready_maps.new.shelf) c.in-Err.field-0 c.in-Err.ensures.answers)
+
+pub returns-in-Ok-clause-falls : goal.returns-in-Ok-clause-falls
+returns-in-Ok-clause-falls g c = c.in-Ok.ensures.answers.1
