@@ -1,6 +1,6 @@
 -- How what a call makes of the regions that plexes missed is seen in the world, whose lines name the failed calls.
-use Rattle.std.proofs.Common.{◌≡◌, ◌⊎◌, ◌≤◌, ◌<◌, ◌&&◌, ◌||◌, ℕ, Bool, true, false, List, length, refl, sym, ◌∙◌, ap, subst, inl, inr}
-use Rattle.std.specs.Prelude.{Contains, Option, Some, None, if◌then◌else◌, not, slice_get}
+use Rattle.std.proofs.Common.{◌≡◌, ◌⊎◌, ◌<◌, ℕ, true, false, refl, sym, ◌∙◌, subst, inl, inr}
+use Rattle.std.specs.Prelude.{Option, Some, None, slice_get}
 use Rattle.vx_config.specs.declared.config.Config.{Config}
 use Rattle.vx_config.specs.declared.entry.LogEntry.{LogEntry}
 use Rattle.vx_config.specs.declared.entry.PlexEntry.{PlexEntry}
@@ -8,9 +8,9 @@ use Rattle.vx_config.specs.declared.entry.VolumeEntry.{VolumeEntry}
 use Rattle.vx_config.specs.declared.entry.VolumeLog.TheVariants.{Fmr}
 use Rattle.vx_disk.specs.Shelf.{Meaning}
 use Rattle.vx_history.specs.Groups.{MissedNote}
-use Rattle.vx_history.specs.MapChanges.{MapsGone, MapsWritten, StayKnown}
+use Rattle.vx_history.specs.MapChanges.{MapsGone, StayKnown}
 use Rattle.vx_group.specs.Attaches.{copied_regions}
-use Rattle.vx_history.specs.Missing.{CopiesMissed, missed_then, perhaps_then}
+use Rattle.vx_history.specs.Missing.{CopiesMissed}
 use Rattle.vx_kept.specs.Choice.{live, live_or}
 use Rattle.vx_kept.specs.Cleans.{at_serial}
 use Rattle.vx_layout.specs.Places.{plex_at}
@@ -57,27 +57,6 @@ module _ (s many : ℕ) (fails : Fails) (o e : Meaning) (names : Names s many fa
       by v (inl on) = inl on
       by v (inr (inl gone)) = inr (inl (gone_named v gone))
       by v (inr (inr lost)) = inr (inr lost)
-
--- ---- what plexes missed
-
--- by plexes that take part as those do
-module _ (w next : MissedNote) (was now was' now' anew these : ℕ → ℕ → Bool) (before : (v p : ℕ) → was v p ≡ was' v p) (behind : (v p : ℕ) → now v p ≡ now' v p) where
-  missed_as : (v p r : ℕ) → missed_then w was now anew these v p r ≡ missed_then w was' now' anew these v p r
-  missed_as v p r =
-      ap (λ (x : Bool). if x && not (now v p) then these v r else ((not (x && anew v p) && (if w.mapped v then w.missed v p r else not x)) || (not (now v p) && these v r))) (before v p)
-      ∙ ap (λ (y : Bool). if was' v p && not y then these v r else ((not (was' v p && anew v p) && (if w.mapped v then w.missed v p r else not (was' v p))) || (not y && these v r))) (behind v p)
-
-  perhaps_as : (v p r : ℕ) → perhaps_then w was now anew v p r ≡ perhaps_then w was' now' anew v p r
-  perhaps_as v p r =
-      ap (λ (x : Bool). (not (x && anew v p) && (w.mapped v && w.perhaps v p r)) || ((x && not (now v p)) && (not (x && anew v p) && (if w.mapped v then w.missed v p r else not x)))) (before v p)
-      ∙ ap (λ (y : Bool). (not (was' v p && anew v p) && (w.mapped v && w.perhaps v p r)) || ((was' v p && not y) && (not (was' v p && anew v p) && (if w.mapped v then w.missed v p r else not (was' v p))))) (behind v p)
-
-  pub written_as : (count : ℕ) → MapsWritten count was now anew these w next → MapsWritten count was' now' anew these w next
-  written_as count it = record {
-    missed = λ v p r on. it.missed v p r on ∙ missed_as v p r;
-    perhaps = λ v p r on. it.perhaps v p r on ∙ perhaps_as v p r;
-    doubt = it.doubt;
-  }
 
 -- ---- how many regions an attach copies
 

@@ -45,3 +45,5 @@ pub mod MapStandLemmas
 pub mod NotedMapLemmas
 pub mod CountedLemmas
 pub mod DiskMapLemmas
+pub mod WrittenMapLemmas
+pub mod SiteMapLemmas

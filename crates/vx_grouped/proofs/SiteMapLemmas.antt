@@ -1,0 +1,90 @@
+-- What calls of a group make of the regions that plexes missed, as its site notes them, by what they make of the maps in memory.
+use Rattle.std.proofs.Common.{◌≡◌, ◌⊎◌, ◌<◌, ◌&&◌, ℕ, Bool, true, false, List, length, refl, sym, ◌∙◌, ap, subst, IsTrue, inl, inr}
+use Rattle.std.specs.Prelude.{not, ◌==◌}
+use Rattle.std.proofs.lemmas.Bool.{eqb-true}
+use Rattle.vx_model.specs.Content.{Write}
+use Rattle.vx_config.specs.Checks.{plexes_of}
+use Rattle.vx_config.specs.declared.config.Config.{Config}
+use Rattle.vx_disk.specs.Counts.{Rose}
+use Rattle.vx_disk.specs.Shelf.{Meaning}
+use Rattle.vx_group.specs.Attaches.{copied_regions}
+use Rattle.vx_history.specs.Groups.{MissedNote}
+use Rattle.vx_history.specs.MapChanges.{InNoVolume, InVolume, MapsWritten, StayKnown}
+use Rattle.vx_history.specs.Missing.{each_anew, in_write, maps_doubted, maps_written, no_plex, none_missed, one_anew, this_volume}
+use Rattle.vx_kept.specs.Choice.{live}
+use Rattle.vx_kept.specs.Keeping.{AllOn}
+use Rattle.vx_logs.specs.declared.logs.Logs.{Logs}
+use Rattle.vx_volume.specs.Plexes.{active}
+use Rattle.vx_loggroup.specs.LoggedVolumes.{is_alike}
+use Rattle.vx_loggroup.specs.Moving.{MapsBeginIn, MapsDoubt, MapsEnd, MapsMove, goes_by}
+use Rattle.vx_grouped.specs.MapsNoted.{MapsNoted}
+use Rattle.vx_grouped.specs.SiteMaps.{DetMapsDone, DoubtMaps, FailedAt, MapsLike, WriteMaps, map_disk_of}
+use Rattle.vx_grouped.proofs.NotedMapLemmas.{noted_doubted, noted_moved}
+use Rattle.vx_grouped.proofs.WrittenMapLemmas.{live_active, perhaps_as, missed_as, stay_known, written_as}
+
+-- fewer maps that are said to begin anew
+pub move_weaker : (c d : Config) (these anew less : ℕ → ℕ → Bool) (l k : List Logs) → ((v p : ℕ) → less v p ≡ true → anew v p ≡ true) → MapsMove c d these anew l k → MapsMove c d these less l k
+move_weaker c d these anew less l k fewer it = record {
+  most = λ v p r g at there has. by v p r (it.most v p r g at there has);
+  least = it.least;
+  stay = it.stay;
+}
+  where
+    off : (v p : ℕ) → anew v p ≡ false → (b : Bool) → less v p ≡ b → less v p ≡ false
+    off v p none true is = absurd (let clash : true ≡ false = sym (fewer v p is) ∙ none in cc)
+    off v p none false is = is
+
+    by : (v p r : ℕ) → ((active d v p ≡ false) × (these v r ≡ true)) ⊎ ((active c v p ≡ true → anew v p ≡ false) × _) → ((active d v p ≡ false) × (these v r ≡ true)) ⊎ ((active c v p ≡ true → less v p ≡ false) × _)
+    by v p r (inl here) = inl here
+    by v p r (inr (keeps, has)) = inr ((λ on. off v p (keeps on) (less v p) refl), has)
+
+module _ (w : MissedNote) (c d : Config) (l k : List Logs) (s t : Bool) (a b : List Bool) (m m' : Meaning) (noted : MapsNoted w c l a s) (all_c : AllOn c) (all_d : AllOn d)
+    (same : (v : ℕ) → goes_by k d t v ≡ true → (plexes_of d v ≡ plexes_of c v) × (copied_regions d v ≡ copied_regions c v)) (many : length d.volumes ≡ length c.volumes)
+    (up : IsTrue m'.down → ⊥) (rack : (u : ℕ) → Rose (m.faults u) (m'.faults u) → Rose (m.disk_faults u) (m'.disk_faults u)) (ends : MapsEnd c d s t l k m m') where
+  was_low : (v : ℕ) → v < length d.volumes → v < length c.volumes
+  was_low v low = subst (λ (n : ℕ). v < n) many low
+
+  -- by plexes that are ACTIVE or CLEAN
+  lives : (anew these : ℕ → ℕ → Bool) (next : MissedNote) → MapsWritten (length c.volumes) (active c) (active d) anew these w next → MapsWritten (length c.volumes) (live c) (live d) anew these w next
+  lives anew these next it = written_as w next (active c) (active d) (live c) (live d) anew these (live_active c all_c) (live_active d all_d) (length c.volumes) it
+
+  -- a write that was done
+  module _ (x : Write) (begins : MapsBeginIn (this_volume x.volume) c d s t l k) (moves : t ≡ false → MapsMove c d (in_write x) (λ v p. this_volume x.volume v && is_alike a x.volume) l k)
+      (low : x.volume < length c.volumes) (alike : (v : ℕ) → is_alike b v ≡ is_alike a v) where
+    sure_anew : (v p : ℕ) → each_anew w x.volume v p ≡ true → (this_volume x.volume v && is_alike a x.volume) ≡ true
+    sure_anew v p is = by (this_volume x.volume v) refl (w.doubt v) refl is
+      where
+        by : (y : Bool) → this_volume x.volume v ≡ y → (z : Bool) → w.doubt v ≡ z → (y && not z) ≡ true → (this_volume x.volume v && is_alike a x.volume) ≡ true
+        by true here false none is =
+            ap (λ (q : Bool). q && is_alike a x.volume) here ∙ noted.alike x.volume low (subst (λ (u : ℕ). w.doubt u ≡ false) (eqb-true v x.volume here) none)
+        by true here true none is = let clash : false ≡ true = is in cc
+        by false here z none is = let clash : false ≡ true = is in cc
+
+    abbrev next : MissedNote
+    next = record (maps_written (goes_by k d t) d.serial (active c) (active d) (each_anew w x.volume) (in_write x) w) { doubt = w.doubt }
+
+    pub write_noted : MapsNoted next d k b t
+    write_noted =
+        noted_moved w c d l k s t a b (this_volume x.volume) noted same begins (in_write x) (each_anew w x.volume) w.doubt
+        (λ going. move_weaker c d (in_write x) (λ v p. this_volume x.volume v && is_alike a x.volume) (each_anew w x.volume) l k sure_anew (moves going))
+        (λ v lt sure. alike v ∙ noted.alike v (was_low v lt) sure)
+
+    pub write_maps : WriteMaps x m m' c d w next
+    write_maps = record {
+      known = stay_known w next c d l k s t a m m' noted (λ v. refl) refl up rack ends InNoVolume (InVolume x.volume) (λ v off on. eqb-true v x.volume (begins.so v off on).0);
+      written = lives (each_anew w x.volume) (in_write x) next (record { missed = λ v p r on. refl; perhaps = λ v p r on. refl; doubt = λ v lt. refl });
+    }
+
+  -- a call that writes no region, and in which no log begins
+  module _ (begins : MapsBeginIn (λ v. false) c d s t l k) (moves : t ≡ false → MapsMove c d none_missed no_plex l k) (alike : (v : ℕ) → is_alike b v ≡ is_alike a v) where
+    abbrev like : MissedNote
+    like = record (maps_written (goes_by k d t) d.serial (active c) (active d) no_plex none_missed w) { doubt = w.doubt }
+
+    pub like_noted : MapsNoted like d k b t
+    like_noted = noted_moved w c d l k s t a b (λ v. false) noted same begins none_missed no_plex w.doubt moves (λ v lt sure. alike v ∙ noted.alike v (was_low v lt) sure)
+
+    pub like_maps : MapsLike m m' c d w like
+    like_maps = record {
+      known = stay_known w like c d l k s t a m m' noted (λ v. refl) refl up rack ends InNoVolume InNoVolume (λ v off on. let clash : false ≡ true = (begins.so v off on).0 in cc);
+      written = lives no_plex none_missed like (record { missed = λ v p r on. refl; perhaps = λ v p r on. refl; doubt = λ v lt. refl });
+    }
