@@ -23,15 +23,15 @@ use Rattle.vx_volume.specs.Plexes.{active}
 
 -- by plexes that take part as those do
 module _ (w next : MissedNote) (was now was' now' anew these : ℕ → ℕ → Bool) (before : (v p : ℕ) → was v p ≡ was' v p) (behind : (v p : ℕ) → now v p ≡ now' v p) where
-  pub missed_as : (v p r : ℕ) → missed_then w was now anew these v p r ≡ missed_then w was' now' anew these v p r
+  pub missed_as : (v p r : ℕ) → missed_then w was now these v p r ≡ missed_then w was' now' these v p r
   missed_as v p r =
-      ap (λ (x : Bool). if x && not (now v p) then these v r else ((not (x && anew v p) && (if w.mapped v then w.missed v p r else not x)) || (not (now v p) && these v r))) (before v p)
-      ∙ ap (λ (y : Bool). if was' v p && not y then these v r else ((not (was' v p && anew v p) && (if w.mapped v then w.missed v p r else not (was' v p))) || (not y && these v r))) (behind v p)
+      ap (λ (x : Bool). if x && not (now v p) then these v r else ((if w.mapped v then w.missed v p r else not x) || (not (now v p) && these v r))) (before v p)
+      ∙ ap (λ (y : Bool). if was' v p && not y then these v r else ((if w.mapped v then w.missed v p r else not (was' v p)) || (not y && these v r))) (behind v p)
 
   pub perhaps_as : (v p r : ℕ) → perhaps_then w was now anew v p r ≡ perhaps_then w was' now' anew v p r
   perhaps_as v p r =
-      ap (λ (x : Bool). (not (x && anew v p) && (w.mapped v && w.perhaps v p r)) || ((x && not (now v p)) && (not (x && anew v p) && (if w.mapped v then w.missed v p r else not x)))) (before v p)
-      ∙ ap (λ (y : Bool). (not (was' v p && anew v p) && (w.mapped v && w.perhaps v p r)) || ((was' v p && not y) && (not (was' v p && anew v p) && (if w.mapped v then w.missed v p r else not (was' v p))))) (behind v p)
+      ap (λ (x : Bool). not ((x && not (now v p)) && anew v p) && ((w.mapped v && w.perhaps v p r) || ((x && not (now v p)) && (if w.mapped v then w.missed v p r else not x)))) (before v p)
+      ∙ ap (λ (y : Bool). not ((was' v p && not y) && anew v p) && ((w.mapped v && w.perhaps v p r) || ((was' v p && not y) && (if w.mapped v then w.missed v p r else not (was' v p))))) (behind v p)
 
   pub written_as : (count : ℕ) → MapsWritten count was now anew these w next → MapsWritten count was' now' anew these w next
   written_as count it = record {

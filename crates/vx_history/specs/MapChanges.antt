@@ -23,13 +23,13 @@ pub record StayKnown (Failed Lost Begins : ℕ → Type 0) (disk : ℕ → Optio
 
 -- A call in which those regions were written: what each plex has missed then, where that is known. So many volumes there were.
 pub record MapsWritten (count : ℕ) (was now anew these : ℕ → ℕ → Bool) (w new : MissedNote) : Type 0 where
-  pub missed : (v p r : ℕ) → new.mapped v ≡ true → new.missed v p r ≡ missed_then w was now anew these v p r
+  pub missed : (v p r : ℕ) → new.mapped v ≡ true → new.missed v p r ≡ missed_then w was now these v p r
   pub perhaps : (v p r : ℕ) → new.mapped v ≡ true → new.perhaps v p r ≡ perhaps_then w was now anew v p r
   pub doubt : (v : ℕ) → v < count → new.doubt v ≡ w.doubt v
 
 -- A write of those regions of a volume that failed: any plex of it may have missed them.
 pub record MapsFailed (vol : ℕ) (was now these : ℕ → ℕ → Bool) (w new : MissedNote) : Type 0 where
-  pub missed : (v p r : ℕ) → new.mapped v ≡ true → new.missed v p r ≡ missed_then w was now no_plex none_missed v p r
+  pub missed : (v p r : ℕ) → new.mapped v ≡ true → new.missed v p r ≡ missed_then w was now none_missed v p r
   pub perhaps : (v p r : ℕ) → new.mapped v ≡ true → new.perhaps v p r ≡ true → (these v r ≡ true) ⊎ (perhaps_then w was now no_plex v p r ≡ true)
   pub doubt : (v : ℕ) → v ≢ vol → new.doubt v ≡ w.doubt v
 

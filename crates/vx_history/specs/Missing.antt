@@ -15,7 +15,7 @@ in_write x v r = eqb v x.volume && (leb (x.start / REGION) r && leb r ((x.start 
 abbrev pub this_volume : ℕ → ℕ → Bool
 this_volume vol v = v == vol
 
--- ---- whose maps begin anew in a call
+-- ---- whose maps begin anew, where they go off in a call
 
 -- none
 abbrev pub no_plex : ℕ → ℕ → Bool
@@ -35,28 +35,29 @@ one_anew w vol plex v p = this_volume vol v && (p == plex && not (w.doubt v))
 abbrev pub goes_off : (was now : ℕ → ℕ → Bool) → ℕ → ℕ → Bool
 goes_off was now v p = was v p && not (now v p)
 
--- What is left in the map of a plex: nothing, where it took part and its map begins anew; what is noted, where that is known; and else, as its map begins in the
--- call, all where it took no part, and nothing where it did.
-abbrev pub missed_first : MissedNote → (was anew : ℕ → ℕ → Bool) → ℕ → ℕ → ℕ → Bool
-missed_first w was anew v p r = not (was v p && anew v p) && (if w.mapped v then w.missed v p r else not (was v p))
+-- What is in the map of a plex before the call: what is noted, where that is known; else, as its map begins in the call, all where it took no part, and nothing
+-- where it did.
+abbrev pub missed_first : MissedNote → (was : ℕ → ℕ → Bool) → ℕ → ℕ → ℕ → Bool
+missed_first w was v p r = if w.mapped v then w.missed v p r else not (was v p)
 
-abbrev pub perhaps_first : MissedNote → (was anew : ℕ → ℕ → Bool) → ℕ → ℕ → ℕ → Bool
-perhaps_first w was anew v p r = not (was v p && anew v p) && (w.mapped v && w.perhaps v p r)
+abbrev pub perhaps_first : MissedNote → ℕ → ℕ → ℕ → Bool
+perhaps_first w v p r = w.mapped v && w.perhaps v p r
 
--- What it has missed behind the call, in which those regions were written: these, where it goes off; these beside what was left, where it takes no part; and
--- else what was left.
-abbrev pub missed_then : MissedNote → (was now anew : ℕ → ℕ → Bool) → (these : ℕ → ℕ → Bool) → ℕ → ℕ → ℕ → Bool
-missed_then w was now anew these v p r = if goes_off was now v p then these v r else (missed_first w was anew v p r || (not (now v p) && these v r))
+-- What it has missed behind the call, in which those regions were written: these, where it goes off; these beside what it had, where it takes no part; and else
+-- what was left in its map.
+abbrev pub missed_then : MissedNote → (was now : ℕ → ℕ → Bool) → (these : ℕ → ℕ → Bool) → ℕ → ℕ → ℕ → Bool
+missed_then w was now these v p r = if goes_off was now v p then these v r else (missed_first w was v p r || (not (now v p) && these v r))
 
--- What it may have missed beside that: what it might before, and what was left in the map of one that goes off.
+-- What it may have missed beside that: what it might before, and what was left in the map of one that goes off; nothing where the map of one that goes off begins
+-- anew.
 abbrev pub perhaps_then : MissedNote → (was now anew : ℕ → ℕ → Bool) → ℕ → ℕ → ℕ → Bool
-perhaps_then w was now anew v p r = perhaps_first w was anew v p r || (goes_off was now v p && missed_first w was anew v p r)
+perhaps_then w was now anew v p r = not (goes_off was now v p && anew v p) && (perhaps_first w v p r || (goes_off was now v p && missed_first w was v p r))
 
 -- Behind a call in which those regions were written. The maps of these volumes are known behind it, and the configuration has this serial.
 abbrev pub maps_written : (mapped : ℕ → Bool) (serial : ℕ) (was now anew : ℕ → ℕ → Bool) (these : ℕ → ℕ → Bool) → MissedNote → MissedNote
 maps_written mapped serial was now anew these w = record {
   mapped = mapped;
-  missed = missed_then w was now anew these;
+  missed = missed_then w was now these;
   perhaps = perhaps_then w was now anew;
   doubt = w.doubt;
   serial = serial;
@@ -70,7 +71,7 @@ maps_added mapped serial was now vol w = record (maps_written mapped serial was 
 abbrev pub maps_doubted : (mapped : ℕ → Bool) (serial : ℕ) (was now : ℕ → ℕ → Bool) (vol : ℕ) (these : ℕ → ℕ → Bool) → MissedNote → MissedNote
 maps_doubted mapped serial was now vol these w = record {
   mapped = mapped;
-  missed = missed_then w was now no_plex none_missed;
+  missed = missed_then w was now none_missed;
   perhaps = λ v p r. these v r || perhaps_then w was now no_plex v p r;
   doubt = λ v. this_volume vol v || w.doubt v;
   serial = serial;

@@ -28,6 +28,5 @@ pub mod HeldMaps
 pub mod MirrorLemmas
 pub mod KeepingLemmas
 pub mod KeepingCalls
-pub mod EmptiedLogs
 pub mod MovedLemmas
 pub mod EndedLemmas

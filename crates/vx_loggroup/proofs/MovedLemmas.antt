@@ -56,14 +56,14 @@ module _ (c : Config) (l k : List Logs) (v : ℕ) (same : fmr_at k v ≡ fmr_at 
 module _ (c d : Config) (vol first last : ℕ) (sure : Bool) (l k : List Logs) (others : (w : ℕ) → (w ≡ vol → ⊥) → fmr_at k w ≡ fmr_at l w) where
   -- a write that is done, by what it makes of the volume
   pub move_run : ((p r : ℕ) (g : Missed) → fmr_at k vol ≡ Some g → IsThere c vol p r → has_missed g p r ≡ true
-          → ((active d vol p ≡ false) × (first ≤ r) × (r ≤ last)) ⊎ ((active c vol p ≡ true → sure ≡ false) × (missed_in l c vol p r ≡ true)))
+          → ((active d vol p ≡ false) × (first ≤ r) × (r ≤ last)) ⊎ ((active c vol p ≡ true → active d vol p ≡ false → sure ≡ false) × (missed_in l c vol p r ≡ true)))
       → ((p r : ℕ) (g : Missed) → fmr_at k vol ≡ Some g → IsThere c vol p r → active d vol p ≡ false → first ≤ r → r ≤ last → has_missed g p r ≡ true)
       → ((p r : ℕ) (g : Missed) → fmr_at k vol ≡ Some g → IsThere c vol p r → active c vol p ≡ false → active d vol p ≡ false → missed_in l c vol p r ≡ true → has_missed g p r ≡ true)
       → MapsMove c d (in_run vol first last) (λ v p. (v == vol) && sure) l k
   move_run only hold stay = record {
     most = λ v p r g at it has. elim (cases_eq v vol) [
       | inl here ↦ most_here v here p r g at it has
-      | inr other ↦ inr ((λ on. false_left (v == vol) sure (apart_eq v vol other)), same_missed c l k v (others v other) p r g at ∙ has)
+      | inr other ↦ inr ((λ on away. false_left (v == vol) sure (apart_eq v vol other)), same_missed c l k v (others v other) p r g at ∙ has)
     ];
     least = λ v p r g at it off has.
         let here = run_volume vol first last v r has in
@@ -77,10 +77,10 @@ module _ (c d : Config) (vol first last : ℕ) (sure : Bool) (l k : List Logs) (
   }
     where
       most_here : (v : ℕ) → v ≡ vol → (p r : ℕ) (g : Missed) → fmr_at k v ≡ Some g → IsThere c v p r → has_missed g p r ≡ true
-          → ((active d v p ≡ false) × (in_run vol first last v r ≡ true)) ⊎ ((active c v p ≡ true → ((v == vol) && sure) ≡ false) × (missed_in l c v p r ≡ true))
+          → ((active d v p ≡ false) × (in_run vol first last v r ≡ true)) ⊎ ((active c v p ≡ true → active d v p ≡ false → ((v == vol) && sure) ≡ false) × (missed_in l c v p r ≡ true))
       most_here v here p r g at it has = elim (only p r g (subst (λ (w : ℕ). fmr_at k w ≡ Some g) here at) (subst (λ (w : ℕ). IsThere c w p r) here it) has) [
         | inl (off, low, high) ↦ inl (subst (λ (w : ℕ). active d w p ≡ false) (sym here) off, subst (λ (w : ℕ). in_run vol first last w r ≡ true) (sym here) (run_here vol first last r low high))
-        | inr (keeps, missed) ↦ inr ((λ on. right_false (v == vol) sure (keeps (subst (λ (w : ℕ). active c w p ≡ true) here on))), subst (λ (w : ℕ). missed_in l c w p r ≡ true) (sym here) missed)
+        | inr (keeps, missed) ↦ inr ((λ on away. right_false (v == vol) sure (keeps (subst (λ (w : ℕ). active c w p ≡ true) here on) (subst (λ (w : ℕ). active d w p ≡ false) here away))), subst (λ (w : ℕ). missed_in l c w p r ≡ true) (sym here) missed)
       ]
         where
           right_false : (x y : Bool) → y ≡ false → (x && y) ≡ false
@@ -112,7 +112,7 @@ module _ (c d : Config) (vol first last : ℕ) (sure : Bool) (l k : List Logs) (
 -- a call that changes no map, as one that reads or attaches, whatever becomes of plexes
 pub move_none : (c d : Config) (l k : List Logs) → ((v : ℕ) → (fmr_at k v ≡ fmr_at l v) ⊎ (fmr_at k v ≡ None)) → MapsMove c d (λ v r. false) (λ v p. false) l k
 move_none c d l k same = record {
-  most = λ v p r g at it has. inr ((λ on. refl), as_was v p r g at ∙ has);
+  most = λ v p r g at it has. inr ((λ on away. refl), as_was v p r g at ∙ has);
   least = λ v p r g at it off has. let clash : false ≡ true = has in cc;
   stay = λ v p r g at it was off has. sym (as_was v p r g at) ∙ has;
 }

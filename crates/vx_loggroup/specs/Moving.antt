@@ -1,8 +1,8 @@
 -- What a call makes of the maps of missed regions in memory, plex by plex.
-use Rattle.std.specs.Prelude.{◌≡◌, ◌⊎◌, ◌+◌, ◌*◌, ◌<◌, ◌≤◌, ◌==◌, ℕ, Bool, true, false, not, ◌&&◌, IsTrue, is_some, Option, Some, None, List, slice_get}
+use Rattle.std.specs.Prelude.{◌≡◌, ◌⊎◌, ◌+◌, ◌*◌, ◌<◌, ◌≤◌, ◌==◌, ℕ, Bool, true, false, not, ◌&&◌, IsTrue, is_some, Option, Some, None, List}
 use Rattle.vx_bitmap.specs.Bits.{is_among}
 use Rattle.vx_bitmap.specs.Maps.{MapOn}
-use Rattle.vx_config.specs.Checks.{blocks_of, plexes_of}
+use Rattle.vx_config.specs.Checks.{plexes_of}
 use Rattle.vx_config.specs.Table.{greatest}
 use Rattle.vx_config.specs.declared.config.Config.{Config}
 use Rattle.vx_config.specs.declared.entry.LogEntry.{LogEntry}
@@ -44,10 +44,10 @@ pub record IsThere (c : Config) (v p r : ℕ) : Type 0 where
   pub region : r < copied_regions c v
 
 -- A call in which those regions were written, from configuration c to d. A plex that takes no part behind it has noted them; one that took none before has what
--- it had. What a map has besides it had before, and nothing of that where it begins anew: those say of a plex that is ACTIVE whether its map does.
+-- it had. What a map has besides it had before, and nothing of that where it begins anew: those say of a plex that goes off whether its map does.
 pub record MapsMove (c d : Config) (these : ℕ → ℕ → Bool) (anew : ℕ → ℕ → Bool) (l k : List Logs) : Type 0 where
   pub most : (v p r : ℕ) (g : Missed) → fmr_at k v ≡ Some g → IsThere c v p r → has_missed g p r ≡ true
-      → ((active d v p ≡ false) × (these v r ≡ true)) ⊎ ((active c v p ≡ true → anew v p ≡ false) × (missed_in l c v p r ≡ true))
+      → ((active d v p ≡ false) × (these v r ≡ true)) ⊎ ((active c v p ≡ true → active d v p ≡ false → anew v p ≡ false) × (missed_in l c v p r ≡ true))
   pub least : (v p r : ℕ) (g : Missed) → fmr_at k v ≡ Some g → IsThere c v p r → active d v p ≡ false → these v r ≡ true → has_missed g p r ≡ true
   pub stay : (v p r : ℕ) (g : Missed) → fmr_at k v ≡ Some g → IsThere c v p r → active c v p ≡ false → active d v p ≡ false → missed_in l c v p r ≡ true → has_missed g p r ≡ true
 
@@ -66,19 +66,6 @@ pub record MapsEnd (c d : Config) (s t : Bool) (l k : List Logs) (old new : Mean
   pub so : (v : ℕ) → goes_by l c s v ≡ true → goes_by k d t v ≡ false
       → ((e : LogEntry) × (log_of c v Fmr ≡ Some e) × Rose (old.faults e.disk) (new.faults e.disk)) ⊎ (log_trusted c v Fmr ≡ false) ⊎ IsTrue new.down
       ⊎ (greatest ≤ c.serial + 54) ⊎ (greatest ≤ d.serial + 9)
-
--- The maps of a volume as those of its plexes that are ACTIVE are emptied: no region comes to one, and that of each other plex is as it was. They may be in memory no
--- more.
-pub record LogsEmptied (c : Config) (v : ℕ) (l k : Logs) : Type 0 where
-  pub drl : k.drl ≡ l.drl
-  pub gone : l.fmr ≡ None → k.fmr ≡ None
-  pub off : (f g : Missed) (p r : ℕ) → l.fmr ≡ Some f → k.fmr ≡ Some g → p < f.plexes → r < f.stride → active c v p ≡ false → has_missed g p r ≡ has_missed f p r
-  pub on : (g : Missed) (p r : ℕ) → k.fmr ≡ Some g → IsTrue (active c v p) → r < g.stride → has_missed g p r ≡ false
-
--- so it is of volume v among the logs of all; the logs of the others are as they were
-pub record MapsEmptied (c : Config) (v : ℕ) (old new : List Logs) : Type 0 where
-  pub here : (l k : Logs) → slice_get old v ≡ Some l → slice_get new v ≡ Some k → 0 < blocks_of c.volumes v → LogsEmptied c v l k
-  pub others : (w : ℕ) → (w ≡ v → ⊥) → slice_get new w ≡ slice_get old w
 
 -- The map that an import took up is that of an image: its log is in use there by the configuration x.
 pub record MapTaken (x d : Config) (v : ℕ) (f : Missed) (i : Image) : Type 0 where
