@@ -29,4 +29,5 @@ pub mod MirrorLemmas
 pub mod KeepingLemmas
 pub mod KeepingCalls
 pub mod MovedLemmas
+pub mod VolumeMoves
 pub mod EndedLemmas

@@ -79,8 +79,8 @@ module _ (c d : Config) (vol first last : ℕ) (sure : Bool) (l k : List Logs) (
       most_here : (v : ℕ) → v ≡ vol → (p r : ℕ) (g : Missed) → fmr_at k v ≡ Some g → IsThere c v p r → has_missed g p r ≡ true
           → ((active d v p ≡ false) × (in_run vol first last v r ≡ true)) ⊎ ((active c v p ≡ true → active d v p ≡ false → ((v == vol) && sure) ≡ false) × (missed_in l c v p r ≡ true))
       most_here v here p r g at it has = elim (only p r g (subst (λ (w : ℕ). fmr_at k w ≡ Some g) here at) (subst (λ (w : ℕ). IsThere c w p r) here it) has) [
-        | inl (off, low, high) ↦ inl (subst (λ (w : ℕ). active d w p ≡ false) (sym here) off, subst (λ (w : ℕ). in_run vol first last w r ≡ true) (sym here) (run_here vol first last r low high))
-        | inr (keeps, missed) ↦ inr ((λ on away. right_false (v == vol) sure (keeps (subst (λ (w : ℕ). active c w p ≡ true) here on) (subst (λ (w : ℕ). active d w p ≡ false) here away))), subst (λ (w : ℕ). missed_in l c w p r ≡ true) (sym here) missed)
+        | inl run ↦ inl (subst (λ (w : ℕ). active d w p ≡ false) (sym here) run.0, subst (λ (w : ℕ). in_run vol first last w r ≡ true) (sym here) (run_here vol first last r run.1.0 run.1.1))
+        | inr was ↦ inr ((λ on away. right_false (v == vol) sure (was.0 (subst (λ (w : ℕ). active c w p ≡ true) here on) (subst (λ (w : ℕ). active d w p ≡ false) here away))), subst (λ (w : ℕ). missed_in l c w p r ≡ true) (sym here) was.1)
       ]
         where
           right_false : (x y : Bool) → y ≡ false → (x && y) ≡ false
@@ -105,7 +105,7 @@ module _ (c d : Config) (vol first last : ℕ) (sure : Bool) (l k : List Logs) (
     where
       most_here : (v : ℕ) → v ≡ vol → (p r : ℕ) (g : Missed) → fmr_at k v ≡ Some g → IsThere c v p r → has_missed g p r ≡ true → (in_run vol first last v r ≡ true) ⊎ (missed_in l c v p r ≡ true)
       most_here v here p r g at it has = elim (only p r g (subst (λ (w : ℕ). fmr_at k w ≡ Some g) here at) (subst (λ (w : ℕ). IsThere c w p r) here it) has) [
-        | inl (low, high) ↦ inl (subst (λ (w : ℕ). in_run vol first last w r ≡ true) (sym here) (run_here vol first last r low high))
+        | inl run ↦ inl (subst (λ (w : ℕ). in_run vol first last w r ≡ true) (sym here) (run_here vol first last r run.0 run.1))
         | inr missed ↦ inr (subst (λ (w : ℕ). missed_in l c w p r ≡ true) (sym here) missed)
       ]
 
