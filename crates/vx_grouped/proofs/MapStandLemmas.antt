@@ -1,10 +1,9 @@
 -- What the disks of a group with logs have of the regions that plexes missed, by what is noted of its maps in memory.
-use Rattle.std.proofs.Common.{◌≡◌, ◌<◌, ◌+◌, ◌/◌, ℕ, Bool, true, false, List, length, refl, sym, ◌∙◌, ap, subst, arith}
+use Rattle.std.proofs.Common.{◌≡◌, ◌<◌, ◌+◌, ◌/◌, ℕ, Bool, false, List, length, refl, sym, arith}
 use Rattle.std.specs.Prelude.{Option, Some, None, slice_get}
 use Rattle.std.proofs.lemmas.Option.{slice_get_within}
 use Rattle.vx_config.specs.Checks.{blocks_of, plexes_of, plexes_or}
 use Rattle.vx_config.specs.declared.config.Config.{Config}
-use Rattle.vx_config.specs.declared.entry.LogEntry.{LogEntry}
 use Rattle.vx_config.specs.declared.entry.VolumeEntry.{VolumeEntry}
 use Rattle.vx_config.specs.declared.entry.VolumeLog.TheVariants.{Fmr}
 use Rattle.vx_disk.specs.Shelf.{Each, Image, Meaning}
@@ -16,12 +15,11 @@ use Rattle.vx_grouplogs.proofs.LogShape.{fits_same}
 use Rattle.vx_history.specs.Groups.{MissedNote}
 use Rattle.vx_kept.specs.LogRuns.{log_place}
 use Rattle.vx_logs.specs.declared.logs.Logs.{Logs}
-use Rattle.vx_maplog.specs.Logs.{log_of}
 use Rattle.vx_loggroup.specs.Attaching.{fmr_at, fmr_or}
 use Rattle.vx_loggroup.specs.LoggedVolumes.{LoggedStands}
 use Rattle.vx_loggroup.specs.Moving.{IsThere}
 use Rattle.vx_grouped.specs.MapsNoted.{MapsNoted, MapsOnDisk}
-use Rattle.vx_grouped.proofs.DiskMapLemmas.{LogThere, MapLies, disk_noted, log_there, map_lies}
+use Rattle.vx_grouped.proofs.DiskMapLemmas.{MapLies, disk_noted, log_there, map_lies}
 
 -- the logs of a volume whose maps are in memory
 pub record LogsOf (logs : List Logs) (v : ℕ) (f : Missed) : Type 0 where

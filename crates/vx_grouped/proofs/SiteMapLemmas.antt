@@ -9,7 +9,7 @@ use Rattle.vx_disk.specs.Counts.{Rose}
 use Rattle.vx_disk.specs.Shelf.{Meaning}
 use Rattle.vx_group.specs.Attaches.{copied_regions}
 use Rattle.vx_history.specs.Groups.{MissedNote}
-use Rattle.vx_history.specs.MapChanges.{InNoVolume, InVolume, MapsWritten, StayKnown}
+use Rattle.vx_history.specs.MapChanges.{InNoVolume, InVolume, MapsWritten}
 use Rattle.vx_history.specs.Missing.{each_anew, in_write, maps_doubted, maps_written, no_plex, none_missed, one_anew, this_volume}
 use Rattle.vx_kept.specs.Choice.{live}
 use Rattle.vx_kept.specs.Keeping.{AllOn}
@@ -18,7 +18,7 @@ use Rattle.vx_volume.specs.Plexes.{active}
 use Rattle.vx_loggroup.specs.LoggedVolumes.{is_alike}
 use Rattle.vx_loggroup.specs.Moving.{MapsBeginIn, MapsDoubt, MapsEnd, MapsMove, goes_by, missed_in}
 use Rattle.vx_grouped.specs.MapsNoted.{MapsNoted}
-use Rattle.vx_grouped.specs.SiteMaps.{DetMapsDone, DoubtMaps, FailedAt, MapsLike, WriteMaps, map_disk_of}
+use Rattle.vx_grouped.specs.SiteMaps.{DetMapsDone, DoubtMaps, MapsLike, WriteMaps}
 use Rattle.vx_grouped.proofs.NotedMapLemmas.{noted_doubted, noted_moved}
 use Rattle.vx_grouped.proofs.WrittenMapLemmas.{live_active, perhaps_as, missed_as, stay_known, written_as}
 

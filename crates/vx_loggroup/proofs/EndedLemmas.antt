@@ -20,7 +20,7 @@ use Rattle.vx_maplog.specs.Logs.{log_of}
 use Rattle.vx_loggroup.specs.Attaching.{fmr_at, fmr_or}
 use Rattle.vx_loggroup.specs.Keeping.{LogsKeep, has_or, in_memory, uses_log}
 use Rattle.vx_loggroup.specs.Moving.{MapsEnd, goes_by}
-use Rattle.vx_loggroup.proofs.KeepingLemmas.{LogUsed, used_from, used_parts}
+use Rattle.vx_loggroup.proofs.KeepingLemmas.{used_from, used_parts}
 
 -- ---- parts of the test
 
