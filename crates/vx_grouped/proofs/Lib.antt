@@ -41,6 +41,7 @@ pub mod ReadyLemmas
 pub mod FindLemmas
 pub mod TraceLemmas
 pub mod LitLemmas
+pub mod MapNoteLemmas
 pub mod MapStandLemmas
 pub mod NotedMapLemmas
 pub mod CountedLemmas
