@@ -1,6 +1,7 @@
 -- What calls on a site's group make of the regions that plexes missed, as the site notes them.
 use Rattle.std.specs.Prelude.{◌≡◌, ℕ, Bool, false, if◌then◌else◌, IsTrue, length, Option, Some, None, Result, Ok, Err}
 use Rattle.vx_model.specs.Content.{Write}
+use Rattle.vx_config.specs.Configs.{HasSpelling}
 use Rattle.vx_config.specs.declared.config.Config.{Config}
 use Rattle.vx_config.specs.declared.entry.LogEntry.{LogEntry}
 use Rattle.vx_config.specs.declared.entry.VolumeLog.TheVariants.{Fmr}
@@ -8,16 +9,18 @@ use Rattle.vx_copyfmt.specs.Imports.{Found}
 use Rattle.vx_disk.specs.Counts.{Rose}
 use Rattle.vx_disk.specs.Shelf.{Each, Image, Meaning}
 use Rattle.vx_disk.specs.declared.shelf.Shelf.{Ghosts}
-use Rattle.vx_history.specs.Groups.{MissedNote}
+use Rattle.vx_history.specs.Groups.{GroupNode, MissedNote}
 use Rattle.vx_history.specs.MapChanges.{InNoVolume, InVolume, MapsBack, MapsFailed, MapsWritten, StayKnown}
 use Rattle.vx_history.specs.Missing.{each_anew, in_write, no_plex, none_missed, one_anew}
 use Rattle.vx_kept.specs.Choice.{live}
+use Rattle.vx_kept.specs.Cleans.{at_serial}
 use Rattle.vx_kept.specs.Groups.{found}
 use Rattle.vx_maplog.specs.Logs.{log_of}
 use Rattle.vx_model.specs.declared.errors.Stop.{Stop}
 use Rattle.vx_model.specs.declared.no.No.{No}
 use Rattle.vx_volume.specs.Plexes.{active}
 use Rattle.vx_grouped.specs.Away.{AllHave}
+use Rattle.vx_grouped.specs.GroupNotes.{noted_config}
 use Rattle.vx_grouped.specs.GroupSites.{idle_disks, site_config, site_disks}
 use Rattle.vx_grouped.specs.MapsNoted.{CopiesNoted, MapsNoted, MapsOnDisk}
 use Rattle.vx_grouped.specs.declared.group_site.GroupSite.{GroupSite}
@@ -87,6 +90,13 @@ module _ {R : Type 0} {g : Ghosts R} where
   MapsOf w c (Deported idle) = DiskMaps w c (idle_disks idle)
   MapsOf w c (Down idle) = DiskMaps w c (idle_disks idle)
   MapsOf w c other = Unit {0}
+
+  -- a site stands for what it notes of its maps, by the configuration that it notes
+  pub record StandMaps (note : GroupNode) (e : GroupSite R g) : Type 0 where
+    pub config : Config
+    pub is : note.config ≡ noted_config config
+    pub spells : HasSpelling (at_serial 0 config)
+    pub maps : MapsOf note.maps config e
 
   -- whatever was noted of the maps of a site, its note goes on so by a call
   pub record MapsMoved (By : MissedNote → MissedNote → Type 0) (c d : Config) (old new : GroupSite R g) : Type 0 where
