@@ -30,4 +30,5 @@ pub mod KeepingLemmas
 pub mod KeepingCalls
 pub mod MovedLemmas
 pub mod VolumeMoves
+pub mod ThenMoves
 pub mod EndedLemmas
