@@ -48,3 +48,4 @@ pub mod CountedLemmas
 pub mod DiskMapLemmas
 pub mod WrittenMapLemmas
 pub mod SiteMapLemmas
+pub mod MoreMapLemmas

@@ -106,7 +106,7 @@ same_disk c d v e at places is = by (log_of d v Fmr) refl is (places _ (ap run_o
     by (Some f) some is run =
         let both : Some (record { disk = f.disk; start = f.start; blocks = f.blocks }) ≡ Some (record { disk = e.disk; start = e.start; blocks = e.blocks }) = sym (ap run_or some) ∙ run in
         let disk : f.disk ≡ e.disk = ap (λ (r : Option Subdisk). disk_of r) both in
-        sym (ap (λ (u : ℕ). failed_at d.disks u) (sym disk)) ∙ failed_entry d.disks f.disk f is
+        ap (λ (u : ℕ). failed_at d.disks u) (sym disk) ∙ failed_entry d.disks f.disk f is
       where
         disk_of : Option Subdisk → ℕ
         disk_of None = 0
