@@ -1,7 +1,7 @@
 -- What a detach that was refused, and a volume that was made, make of what a site notes of missed regions.
-use Rattle.std.proofs.Common.{◌≡◌, ◌<◌, ◌+◌, ◌&&◌, ℕ, Bool, true, false, List, length, refl, sym, ◌∙◌, ap, subst, IsTrue, arith}
+use Rattle.std.proofs.Common.{◌≡◌, ◌<◌, ◌+◌, ◌&&◌, ℕ, Bool, true, false, List, length, refl, sym, ◌∙◌, ap, subst, IsTrue, inl, inr, arith}
 use Rattle.std.specs.Prelude.{not, ◌==◌}
-use Rattle.std.proofs.lemmas.Bool.{eq-eqb, eqb-true}
+use Rattle.std.proofs.lemmas.Bool.{cases_lt, eq-eqb, eqb-true}
 use Rattle.vx_config.specs.Checks.{plexes_of}
 use Rattle.vx_config.specs.declared.config.Config.{Config}
 use Rattle.vx_disk.specs.Counts.{Rose}
@@ -48,7 +48,7 @@ module _ (w : MissedNote) (c d : Config) (l k : List Logs) (s t : Bool) (a b : L
     added = maps_added (goes_by k d t) d.serial (active c) (active d) (length c.volumes) w
 
     low_or : (v n many_d : ℕ) → v < many_d → many_d ≡ n + 1 → (v ≡ n → ⊥) → v < n
-    low_or v n many_d lt is apart = omega (arith, lt, is, apart)
+    low_or v n many_d lt is apart = elim (cases_lt v n) [ inl low ↦ low | inr high ↦ absurd (apart (omega (arith, lt, is, high))) ]
 
     apart_by : (v n : ℕ) → (v == n) ≡ false → v ≡ n → ⊥
     apart_by v n off is = let clash : false ≡ true = sym off ∙ eq-eqb v n is in cc

@@ -91,12 +91,20 @@ module _ {R : Type 0} {g : Ghosts R} where
   MapsOf w c (Down idle) = DiskMaps w c (idle_disks idle)
   MapsOf w c other = Unit {0}
 
+  -- the same of what a site notes: of disks by themselves only where it is known what they hold
+  abbrev pub MapsFor : GroupNode → Config → GroupSite R g → Type 0
+  MapsFor note c (Up group) = MapsNoted note.maps c group.logs.items group.alike group.stopped
+  MapsFor note c (Deported idle) = note.dark ≡ false → DiskMaps note.maps c (idle_disks idle)
+  MapsFor note c (Down idle) = note.dark ≡ false → DiskMaps note.maps c (idle_disks idle)
+  MapsFor note c other = Unit {0}
+
   -- a site stands for what it notes of its maps, by the configuration that it notes
   pub record StandMaps (note : GroupNode) (e : GroupSite R g) : Type 0 where
     pub config : Config
     pub is : note.config ≡ noted_config config
     pub spells : HasSpelling (at_serial 0 config)
-    pub maps : MapsOf note.maps config e
+    pub up : (c : Config) → site_config e ≡ Some c → c ≡ config
+    pub maps : MapsFor note config e
 
   -- whatever was noted of the maps of a site, its note goes on so by a call
   pub record MapsMoved (By : MissedNote → MissedNote → Type 0) (c d : Config) (old new : GroupSite R g) : Type 0 where
