@@ -49,3 +49,4 @@ pub mod DiskMapLemmas
 pub mod WrittenMapLemmas
 pub mod SiteMapLemmas
 pub mod MoreMapLemmas
+pub mod BackMapLemmas

@@ -1,5 +1,5 @@
 -- What calls on a site's group make of the regions that plexes missed, as the site notes them.
-use Rattle.std.specs.Prelude.{◌≡◌, ℕ, Bool, false, if◌then◌else◌, IsTrue, length, Option, Some, None, Result, Ok, Err}
+use Rattle.std.specs.Prelude.{◌≡◌, ◌<◌, ℕ, true, Bool, false, if◌then◌else◌, IsTrue, length, Option, Some, None, Result, Ok, Err}
 use Rattle.vx_model.specs.Content.{Write}
 use Rattle.vx_config.specs.Configs.{HasSpelling}
 use Rattle.vx_config.specs.declared.config.Config.{Config}
@@ -15,6 +15,8 @@ use Rattle.vx_history.specs.Missing.{each_anew, in_write, no_plex, none_missed, 
 use Rattle.vx_kept.specs.Choice.{live}
 use Rattle.vx_kept.specs.Cleans.{at_serial}
 use Rattle.vx_kept.specs.Groups.{found}
+use Rattle.vx_logimport.specs.Rests.{rests}
+use Rattle.vx_logimport.specs.declared.rested.Rested.{Rested}
 use Rattle.vx_maplog.specs.Logs.{log_of}
 use Rattle.vx_model.specs.declared.errors.Stop.{Stop}
 use Rattle.vx_model.specs.declared.no.No.{No}
@@ -29,6 +31,12 @@ use Rattle.vx_grouped.specs.declared.group_site.GroupSite.TheVariants.{Up, Depor
 -- in each image that a crash may leave the logs have what is noted
 pub record DiskMaps (w : MissedNote) (c : Config) (m : Meaning) : Type 0 where
   pub each : (i : Image) (x : Config) → Each m.leaves i → found m i ≡ Found x → MapsOnDisk w c x i
+
+-- The disks of a group that was deported have what is noted; and a value says which volumes rest.
+pub record IdleMaps (w : MissedNote) (c : Config) (rested : Option Rested) (m : Meaning) : Type 0 where
+  pub disks : DiskMaps w c m
+  pub alike : (r : Rested) → rested ≡ Some r → (v : ℕ) → v < length c.volumes → w.doubt v ≡ false → rests r.alike v ≡ true
+  pub maps : (r : Rested) → rested ≡ Some r → (v : ℕ) → w.mapped v ≡ true → rests r.maps v ≡ true
 
 abbrev pub map_disk_or : Option LogEntry → Option ℕ
 map_disk_or None = None
@@ -87,14 +95,14 @@ module _ {R : Type 0} {g : Ghosts R} where
   -- What is noted is so of the maps in memory, or on the disks by themselves; c is the configuration that is noted.
   abbrev pub MapsOf : MissedNote → Config → GroupSite R g → Type 0
   MapsOf w c (Up group) = MapsNoted w c group.logs.items group.alike group.stopped
-  MapsOf w c (Deported idle) = DiskMaps w c (idle_disks idle)
+  MapsOf w c (Deported idle) = IdleMaps w c idle.rested (idle_disks idle)
   MapsOf w c (Down idle) = DiskMaps w c (idle_disks idle)
   MapsOf w c other = Unit {0}
 
   -- the same of what a site notes: of disks by themselves only where it is known what they hold
   abbrev pub MapsFor : GroupNode → Config → GroupSite R g → Type 0
   MapsFor note c (Up group) = MapsNoted note.maps c group.logs.items group.alike group.stopped
-  MapsFor note c (Deported idle) = note.dark ≡ false → DiskMaps note.maps c (idle_disks idle)
+  MapsFor note c (Deported idle) = note.dark ≡ false → IdleMaps note.maps c idle.rested (idle_disks idle)
   MapsFor note c (Down idle) = note.dark ≡ false → DiskMaps note.maps c (idle_disks idle)
   MapsFor note c other = Unit {0}
 
