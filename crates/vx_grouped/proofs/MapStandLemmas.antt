@@ -15,6 +15,7 @@ use Rattle.vx_grouplogs.proofs.LogShape.{fits_same}
 use Rattle.vx_history.specs.Groups.{MissedNote}
 use Rattle.vx_kept.specs.LogRuns.{log_place}
 use Rattle.vx_logs.specs.declared.logs.Logs.{Logs}
+use Rattle.vx_model.specs.Sizes.{regions_of}
 use Rattle.vx_loggroup.specs.Attaching.{fmr_at, fmr_or}
 use Rattle.vx_loggroup.specs.LoggedVolumes.{LoggedStands}
 use Rattle.vx_loggroup.specs.Moving.{IsThere}
@@ -42,7 +43,7 @@ volume_there c v p low = by (slice_get c.volumes v) refl low
     by None none low = absurd (omega (arith, low))
     by (Some x) is low = slice_get_within c.volumes v x is
 
-some_blocks : (blocks r : ℕ) → r < (blocks + 63) / 64 → 0 < blocks
+some_blocks : (blocks r : ℕ) → r < regions_of blocks → 0 < blocks
 some_blocks blocks r low = omega (arith, low)
 
 module _ (core : GroupCore) (logs : List Logs) (flags : List Bool) (stopped : Bool) (m : Meaning) (stands : LoggedStands core logs flags stopped m) where
