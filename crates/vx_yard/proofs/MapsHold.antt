@@ -1,12 +1,10 @@
 -- What the disks of a site over a group have of the regions that its plexes missed, in the image that they have now.
-use Rattle.std.proofs.Common.{◌≡◌, ◌<◌, ℕ, Bool, List, sym, ◌∙◌, subst}
+use Rattle.std.proofs.Common.{◌≡◌, ℕ, Bool, List, subst}
 use Rattle.vx_config.specs.declared.config.Config.{Config}
-use Rattle.vx_config.specs.declared.entry.VolumeLog.TheVariants.{Fmr}
 use Rattle.vx_copyfmt.specs.Imports.{Found}
 use Rattle.vx_disk.specs.Shelf.{Image, Lawful, Meaning}
-use Rattle.vx_group.proofs.HoldLemmas.{wide_shape}
 use Rattle.vx_group.specs.declared.group_core.GroupCore.{GroupCore}
-use Rattle.vx_grouped.proofs.MapStandLemmas.{up_disk}
+use Rattle.vx_grouped.proofs.MapStandLemmas.{up_found}
 use Rattle.vx_grouped.specs.MapsNoted.{MapsNoted, MapsOnDisk}
 use Rattle.vx_grouped.specs.SiteMaps.{DiskMaps}
 use Rattle.vx_history.specs.Groups.{MissedNote}
@@ -32,12 +30,7 @@ disk_at w k x i it = record {
 pub up_maps_hold : (w : MissedNote) (core : GroupCore) (logs : List Logs) (flags : List Bool) (stopped : Bool) (m : Meaning) → LoggedStands core logs flags stopped m → Lawful m → MapsNoted w core.inner.config logs flags stopped
     → (c x : Config) (i : Image) → at_serial 0 core.inner.config ≡ c → m.now i → found m i ≡ Found x → MapsOnDisk w c x i
 up_maps_hold w core logs flags stopped m stands lawful noted c x i same now is =
-    let each = lawful.within i now in
-    let shape = wide_shape core in
-    let kin = stands.group.stands.kept.kin i x each is in
-    subst (λ (k : Config). MapsOnDisk w k x i) same
-    (disk_at w core.inner.config x i
-    (up_disk core logs flags stopped m stands w x i noted each (λ v low. kin.shape.logs v Fmr (subst (λ (n : ℕ). v < n) (sym shape.volumes) low) ∙ shape.logs v Fmr)))
+    subst (λ (k : Config). MapsOnDisk w k x i) same (disk_at w core.inner.config x i (up_found core logs flags stopped m stands w x i noted (lawful.within i now) is))
 
 -- and of one whose disks are by themselves
 pub away_maps_hold : (w : MissedNote) (k : Config) (m : Meaning) → Lawful m → DiskMaps w k m → (c x : Config) (i : Image) → at_serial 0 k ≡ c → m.now i → found m i ≡ Found x → MapsOnDisk w c x i
