@@ -81,8 +81,8 @@ module _ (core : GroupCore) (logs : List Logs) (flags : List Bool) (stopped : Bo
 pub none_noted : (c : Config) (logs : List Logs) (flags : List Bool) (stopped : Bool) → ((v : ℕ) → goes_by logs c stopped v ≡ false) → MapsNoted (record (maps_none c.serial) { doubt = λ v. not (is_alike flags v) }) c logs flags stopped
 none_noted c logs flags stopped none = record {
   mapped = λ v. sym (none v);
-  most = λ v p r f on. let clash : false ≡ true = on in cc;
-  least = λ v p r f on. let clash : false ≡ true = on in cc;
+  most = λ v p r f on at it has. let clash : false ≡ true = on in cc;
+  least = λ v p r f on at it off has. let clash : false ≡ true = on in cc;
   alike = λ v low sure. not_false (is_alike flags v) sure;
   serial = refl;
 }
@@ -95,7 +95,7 @@ none_noted c logs flags stopped none = record {
 pub none_on_disks : (serial : ℕ) (c : Config) (m : Meaning) → DiskMaps (maps_none serial) c m
 none_on_disks serial c m = record {
   each = λ i x each at. record {
-    most = λ e v p r on. let clash : false ≡ true = on in cc;
-    least = λ e v p r on. let clash : false ≡ true = on in cc;
+    most = λ e v p r on used it has. let clash : false ≡ true = on in cc;
+    least = λ e v p r on used it old has. let clash : false ≡ true = on in cc;
   };
 }
