@@ -1,3 +1,4 @@
+pub mod HoldsLemmas
 pub mod StandLemmas
 pub mod TellLemmas
 pub mod MissLemmas

@@ -1,3 +1,4 @@
+pub mod Holds
 pub mod Logged
 pub mod Tells
 pub mod Behind
