@@ -33,3 +33,4 @@ pub mod Founding
 pub mod GroupPlex
 pub mod GroupAttach
 pub mod MapLines
+pub mod MapReturns

@@ -45,7 +45,7 @@ disk_is c v = disk_or (slice_get c.volumes v)
 -- ---- which maps are known
 
 module _ (s many : ℕ) (fails : Fails) (o e : Meaning) (names : Names s many fails o e) (c : Config) (low : (v k : ℕ) → map_disk_of c v ≡ Some k → k < many) (w next : MissedNote) where
-  gone_named : (v : ℕ) → MapsGone (FailedAt o e) (map_disk_of c) w next v → MapsGone (FailedIn s fails) (map_disk (at_serial 0 c)) w next v
+  pub gone_named : (v : ℕ) → MapsGone (FailedAt o e) (map_disk_of c) w next v → MapsGone (FailedIn s fails) (map_disk (at_serial 0 c)) w next v
   gone_named v (inl (k, at, rose)) = inl (k, sym (disk_is c v) ∙ at, names.each k (low v k at) rose)
   gone_named v (inr (inl none)) = inr (inl (sym (disk_is c v) ∙ none))
   gone_named v (inr (inr far)) = inr (inr far)
