@@ -2,3 +2,4 @@ pub mod Holds
 pub mod Logged
 pub mod Tells
 pub mod Behind
+pub mod Begun
