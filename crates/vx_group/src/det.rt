@@ -72,6 +72,7 @@ pub fn det_in<S: Shelf>(
     ensures already { det_refusal core.old.inner.config vol plex ≡ None → active core.old.inner.config vol plex ≡ false → IsOk result × (core.new ≡ core.old) × (shelf.new ≡ shelf.old) }
     ensures newest { IsTrue (active core.old.inner.config vol plex) → OnOk result (IsCommitted core.new.inner.config (S.meaning shelf.new)) }
     ensures off { OnOk result (active core.new.inner.config vol plex ≡ false) }
+    ensures free { IsTrue (active core.old.inner.config vol plex) → OnOk result (core.new.held ≡ None) }
     ensures others { (w p : ℕ) → (w ≡ vol → p ≡ plex → ⊥) → active core.new.inner.config w p ≡ active core.old.inner.config w p }
     ensures trust { OnOk result (core.old.inner.committed ≡ true → core.new.inner.committed ≡ true) }
     ensures agreed { IfErr result (λ e. core.old.inner.committed ≡ true → core.new.inner.agreed ≡ true) }

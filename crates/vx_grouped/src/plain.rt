@@ -40,7 +40,7 @@ pub fn write_plain<S: Shelf>(
         Ok(()) => {}
         Err(error) => return Err(refusal(error)),
     }
-    match group.flush(vol) {
+    match group.flush_run(vol, block, (bytes.len() / 512) as u64) {
         Ok(()) => Ok(()),
         Err(error) => Err(refusal(error)),
     }

@@ -2,6 +2,7 @@ pub mod LogPlaces
 pub mod LogShape
 pub mod KnowActs
 pub mod FreshLemmas
+pub mod BegunMaps
 pub mod MapLemmas
 pub mod CoverLemmas
 pub mod GroupLemmas

@@ -5,7 +5,7 @@ ghost use Rattle.vx_config.specs.Checks.{blocks_of as blocks_of_is, is_sound};
 ghost use Rattle.vx_disk.specs.Shelf.{Goes};
 ghost use Rattle.vx_fmr.specs.Missed.{FmrLoaded, Missed};
 ghost use Rattle.vx_grouplogs.specs.Keeps.{KeepsGroup};
-ghost use Rattle.vx_grouplogs.specs.Mapping.{map_logs};
+ghost use Rattle.vx_grouplogs.specs.Mapping.{AreBegun, map_logs};
 ghost use Rattle.vx_grouplogs.specs.On.{ReadsOne, VolumeOn};
 ghost use Rattle.vx_groupmaps.specs.Knowing.{MapsKnow};
 ghost use Rattle.vx_groupmaps.specs.Missing.{HoldMissed, MapsReady, OnMaps};
@@ -101,6 +101,7 @@ pub fn begin_maps<S: Shelf>(
     ensures others { (w : ℕ) (l : LogsValue) → (w ≡ vol → ⊥) → VolumeOn config.now w l (S.meaning shelf.old) → VolumeOn config.now w l (S.meaning shelf.new) }
     ensures knows { MapsKnow config.now vol logs.new (S.meaning shelf.new) }
     ensures ready { MapsReady config.now vol logs.new }
+    ensures begun { AreBegun config.now vol logs.new }
 {
     logs.fmr = new_map(alloc, config, vol, shelf);
 }

@@ -55,7 +55,7 @@ pub record Fallen (core : GroupCore) (v n : ℕ) (was : List Bool) (l l' : Logs)
   pub notes : MapsBut (fell_now was core v) none_missing 0 0 l l'
   pub begins : (f : Missed) → l'.fmr ≡ Some f → (p r : ℕ) → p < n → p < f.plexes → r < f.stride → fell_now was core v p ≡ true → has_missed f p r ≡ false
 
-finds_none : (m : Meaning) → FindsFrom NoConfiguration m m
+pub finds_none : (m : Meaning) → FindsFrom NoConfiguration m m
 finds_none m = record { each = λ i x leaves is. inl (record { image = i; left = leaves; found = is }) }
 
 finds_both : (m m1 m2 : Meaning) → FindsFrom NoConfiguration m m1 → FindsFrom NoConfiguration m1 m2 → FindsFrom NoConfiguration m m2

@@ -6,3 +6,4 @@ pub mod RefuseLemmas
 pub mod GoneLogs
 pub mod BeginLemmas
 pub mod FallenLemmas
+pub mod SpentLemmas

@@ -16,6 +16,7 @@ ghost use Rattle.vx_groupmaps.specs.Missing.{OnMaps, none_spared, or_run};
 ghost use Rattle.vx_layout.specs.Places.{HasBlock};
 ghost use Rattle.vx_logged.specs.Begun.{MapsBut, MapsOff, MapsOfRun, ReadsBut, ReadsWhole, fell_now, was_on};
 ghost use Rattle.vx_logged.specs.Behind.{MapSaid, none_missing};
+ghost use Rattle.vx_logged.specs.Holds.{HoldsRun};
 ghost use Rattle.vx_logged.specs.Logged.{Known, KnownBy, LogOn, MayWrite, Narrowed, OthersOn, TrustsIn, are_off};
 ghost use Rattle.vx_logs.specs.Noting.{this_plex};
 ghost use Rattle.vx_logs.specs.Writes.{first_region, last_region};
@@ -46,8 +47,8 @@ pub fn actives(config: &Config, vol: u32) -> [bool; MOST_PLEXES]
     was
 }
 
-// Whether a plex is one of a list, and is not ACTIVE.
-fn fell(core: &GroupCore, was: &[bool; MOST_PLEXES], vol: u32, plex: u32) -> bool
+/// Whether a plex is one of a list, and is not ACTIVE.
+pub fn fell(core: &GroupCore, was: &[bool; MOST_PLEXES], vol: u32, plex: u32) -> bool
     requires few { plex < MOST_PLEXES }
     ensures { result ≡ fell_now was.now core.now vol plex }
 {
@@ -151,6 +152,8 @@ pub fn mark_fallen<S: Shelf>(
     ensures notes { MapsBut (fell_now was.now core.new vol) (are_off core.new vol) (first_region block) (last_region block count) logs.old logs.new }
     ensures begins { sure ≡ true → IfOk result (λ done. done ≡ true → MapsOfRun (fell_now was.now core.new vol) (first_region block) (last_region block count) logs.new) }
     ensures said { IfOk result (λ done. done ≡ true → MapSaid core.new vol logs.new) }
+    ensures free { IfOk result (λ done. done ≡ true → core.new.held ≡ None) }
+    ensures holds { IfOk result (λ done. done ≡ true → HoldsRun core.new.inner.config vol (first_region block) (last_region block count) logs.new) }
     ensures may { IfOk result (λ done. done ≡ true → MayWrite core.new vol (first_region block) (last_region block count) logs.new) }
     ensures spent { IfOk result (λ done. done ≡ false → greatest ≤ core.new.inner.config.serial + 9) }
     ensures drops { LogsDrop (wide core.old).config vol logs.old logs.new (S.meaning shelf.old) (S.meaning shelf.new) }

@@ -1,6 +1,6 @@
 // A plex of a group with logs that is detached.
 ghost use Rattle.vx_group.specs.Finds.{GroupFinds};
-ghost use Rattle.std.specs.Prelude.{◌≡◌, ℕ, Err, false, IfErr, IsOk, None, OnOk, Some, true};
+ghost use Rattle.std.specs.Prelude.{◌≡◌, ℕ, Err, false, IfErr, IsOk, IsTrue, None, OnOk, Some, true};
 ghost use Rattle.vx_copies.specs.Commits.{MoreFailed};
 ghost use Rattle.vx_disk.specs.Shelf.{Goes, Nothing};
 ghost use Rattle.vx_group.specs.Calls.{GroupNarrows};
@@ -36,6 +36,7 @@ pub fn det_logged<S: Shelf>(
     ensures already { det_refusal core.old.inner.config vol plex ≡ None → active core.old.inner.config vol plex ≡ false → IsOk result × (core.new ≡ core.old) × (shelf.new ≡ shelf.old) }
     ensures logs { EachOn core.old core.new (S.meaning shelf.old) (S.meaning shelf.new) }
     ensures off { OnOk result (active core.new.inner.config vol plex ≡ false) }
+    ensures free { IsTrue (active core.old.inner.config vol plex) → OnOk result (core.new.held ≡ None) }
     ensures others { (w p : ℕ) → (w ≡ vol → p ≡ plex → ⊥) → active core.new.inner.config w p ≡ active core.old.inner.config w p }
     ensures trusts { TrustsStill core.old.inner.config core.new.inner.config }
     ensures trust { OnOk result (core.old.inner.committed ≡ true → core.new.inner.committed ≡ true) }

@@ -13,7 +13,7 @@ ghost use Rattle.vx_grouplogs.specs.Marking.{MarksFewer};
 ghost use Rattle.vx_grouplogs.specs.On.{ReadsOne};
 ghost use Rattle.vx_logged.specs.Begun.{MapsBut, MapsOff, fell_in};
 ghost use Rattle.vx_logged.specs.Behind.{none_missing};
-ghost use Rattle.vx_logged.specs.Logged.{Known, LogOn, OthersOn, TrustsIn};
+ghost use Rattle.vx_logged.specs.Logged.{Known, LogOn, Narrowed, OthersOn, TrustsIn};
 ghost use Rattle.vx_model.specs.Sizes.{regions_of as regions_in};
 
 use crate::beginning::{actives, keep_fallen};
@@ -44,6 +44,7 @@ pub fn flush_cleared<S: Shelf>(
     ensures others { OthersOn vol core.old core.new (S.meaning shelf.old) (S.meaning shelf.new) }
     ensures fewer { MarksFewer (regions_in (blocks_of_is (wide core.old).config.volumes vol)) logs.old logs.new }
     ensures maps { Known core.old vol logs.old (S.meaning shelf.old) → Known core.new vol logs.new (S.meaning shelf.new) }
+    ensures narrow { Narrowed core.old core.new }
     ensures notes { MapsBut (fell_in core.old core.new vol) none_missing 0 0 logs.old logs.new }
     ensures begins { sure ≡ true → OnOk result (MapsOff (fell_in core.old core.new vol) logs.new ⊎ (greatest ≤ core.new.inner.config.serial + 9)) }
     ensures drops { LogsDrop (wide core.old).config vol logs.old logs.new (S.meaning shelf.old) (S.meaning shelf.new) }

@@ -11,8 +11,10 @@ mod detaching;
 mod flushing;
 mod keeping;
 mod marking;
+mod missing;
 mod readying;
 mod refusing;
+mod spending;
 mod writing;
 
 pub use clearing::clear_group;
@@ -21,5 +23,7 @@ pub use detaching::det_logged;
 pub use flushing::flush_cleared;
 pub use keeping::{keep_logs, keep_map};
 pub use marking::mark_group;
+pub use missing::flush_behind;
 pub use readying::ready_group;
+pub use spending::flush_noted;
 pub use writing::write_marked;

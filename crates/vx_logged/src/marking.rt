@@ -1,7 +1,7 @@
 // Marks of a group before a write.
 ghost use Rattle.vx_grouplogs.specs.Gone.{LogsDrop};
 ghost use Rattle.vx_group.specs.Finds.{GroupFinds};
-ghost use Rattle.std.specs.Prelude.{◌≡◌, ◌+◌, ◌<◌, ◌≤◌, ℕ, Bool, false, true, IfErr, IfOk, IsTrue, OnOk};
+ghost use Rattle.std.specs.Prelude.{◌≡◌, ◌+◌, ◌<◌, ◌≤◌, ℕ, Bool, false, true, IfErr, IfOk, IsTrue, None, OnOk};
 ghost use Rattle.vx_config.specs.Table.{greatest};
 ghost use Rattle.vx_config.specs.Checks.{blocks_of as blocks_of_is};
 ghost use Rattle.vx_disk.specs.Causes.{Cause};
@@ -13,6 +13,7 @@ ghost use Rattle.vx_grouplogs.specs.Marking.{MarksOnly};
 ghost use Rattle.vx_groupmaps.specs.Knowing.{MapsNote, PlexesKnow, or_off};
 ghost use Rattle.vx_groupmaps.specs.Missing.{HoldMissed};
 ghost use Rattle.vx_logged.specs.Behind.{MapSaid};
+ghost use Rattle.vx_logged.specs.Holds.{HoldsRun};
 ghost use Rattle.vx_logged.specs.Logged.{KnownBy, LogOn, MayWrite, Narrowed, OthersOn, TrustsIn, are_off};
 ghost use Rattle.vx_logs.specs.Writes.{first_region, last_region};
 ghost use Rattle.vx_model.specs.Sizes.{regions_of as regions_in};
@@ -54,7 +55,9 @@ pub fn mark_group<S: Shelf>(
     ensures knows { (spare : ℕ → ℕ → Bool) → KnownBy core.old vol (or_off (wide core.old).config vol (first_region block) (last_region block count) spare) logs.old (S.meaning shelf.old) → IfOk result (λ done. done ≡ true → KnownBy core.new vol spare logs.new (S.meaning shelf.new)) }
     ensures notes { MapsNote (are_off core.new vol) (first_region block) (last_region block count) logs.old logs.new }
     ensures said { IfOk result (λ done. done ≡ true → MapSaid core.new vol logs.new) }
+    ensures free { IfOk result (λ done. done ≡ true → core.new.held ≡ None) }
     ensures missed { IfOk result (λ done. done ≡ true → HoldMissed (wide core.old).config vol (first_region block) (last_region block count) logs.new) }
+    ensures holds { IfOk result (λ done. done ≡ true → HoldsRun core.new.inner.config vol (first_region block) (last_region block count) logs.new) }
     ensures may { IfOk result (λ done. done ≡ true → MayWrite core.new vol (first_region block) (last_region block count) logs.new) }
     ensures full { IfOk result (λ done. done ≡ false → greatest ≤ core.old.inner.config.serial + 18) }
     ensures spent { IfOk result (λ done. done ≡ false → greatest ≤ core.new.inner.config.serial + 9) }

@@ -1,7 +1,7 @@
 // A write of a group that is marked first.
 ghost use Rattle.vx_grouplogs.specs.Gone.{LogsDrop};
 ghost use Rattle.vx_group.specs.Finds.{GroupFinds};
-ghost use Rattle.std.specs.Prelude.{◌≡◌, ◌+◌, ◌/◌, ◌≤◌, false, length, true, IfErr, OnOk};
+ghost use Rattle.std.specs.Prelude.{◌≡◌, ◌⊎◌, ◌+◌, ◌/◌, ◌≤◌, ℕ, false, length, true, IfErr, IsTrue, None, OnOk};
 ghost use Rattle.vx_config.specs.Table.{greatest};
 ghost use Rattle.vx_disk.specs.Causes.{Cause};
 ghost use Rattle.vx_disk.specs.Shelf.{Fits, Goes, Written, Wrote};
@@ -15,6 +15,7 @@ ghost use Rattle.vx_groupmaps.specs.Knowing.{MapsNote, or_off};
 ghost use Rattle.vx_groupmaps.specs.Missing.{none_spared, or_run};
 ghost use Rattle.vx_logged.specs.Begun.{MapsBut, MapsOfRun, ReadsBut, fell_in};
 ghost use Rattle.vx_logged.specs.Behind.{AreKept, MarkedBefore, those_missing};
+ghost use Rattle.vx_logged.specs.Holds.{HoldsRun};
 ghost use Rattle.vx_logged.specs.Logged.{DropsBut, Known, KnownBy, LogOn, Narrowed, OthersOn, TrustsIn, are_off};
 ghost use Rattle.vx_logs.specs.Writes.{first_region, last_region};
 ghost use Rattle.vx_model.specs.Sizes.{regions_of as regions_in};
@@ -54,6 +55,7 @@ fn write_first<S: Shelf>(
     ensures alike { stopped.new ≡ false → OnOk result (ReadsOne (wide core.old).config vol (S.meaning shelf.old) → ReadsBut (wide core.new).config vol (active (wide core.old).config vol) (first_region block) (last_region block (length bytes.now / 512)) (S.meaning shelf.new)) }
     ensures marked { stopped.new ≡ false → MarkedBefore (λ s. S.meaning s) vol block bytes.now (first_region block) (last_region block (length bytes.now / 512)) core.old core.new (S.meaning shelf.old) (S.meaning shelf.new) }
     ensures stays { stopped.old ≡ true → stopped.new ≡ true }
+    ensures rests { stopped.new ≡ false → (w p : ℕ) → IsTrue (active core.new.inner.config w p) → IsTrue (active core.old.inner.config w p) }
     ensures full { stopped.old ≡ false → stopped.new ≡ true → greatest ≤ core.old.inner.config.serial + 18 }
     ensures drops { LogsDrop (wide core.old).config vol logs.old logs.new (S.meaning shelf.old) (S.meaning shelf.new) }
     ensures trusts { TrustsIn vol logs.new core.old.inner.config core.new.inner.config }
@@ -106,8 +108,11 @@ pub fn write_marked<S: Shelf>(
     ensures maps { stopped.new ≡ false → Known core.old vol logs.old (S.meaning shelf.old) → Known core.new vol logs.new (S.meaning shelf.new) }
     ensures notes { MapsBut (fell_in core.old core.new vol) (those_missing core.new vol result) (first_region block) (last_region block (length bytes.now / 512)) logs.old logs.new }
     ensures begins { sure ≡ true → stopped.new ≡ false → OnOk result (MapsOfRun (fell_in core.old core.new vol) (first_region block) (last_region block (length bytes.now / 512)) logs.new) }
+    ensures holds { stopped.new ≡ false → OnOk result (HoldsRun core.new.inner.config vol (first_region block) (last_region block (length bytes.now / 512)) logs.new) }
     ensures marked { stopped.new ≡ false → MarkedBefore (λ s. S.meaning s) vol block bytes.now (first_region block) (last_region block (length bytes.now / 512)) core.old core.new (S.meaning shelf.old) (S.meaning shelf.new) }
     ensures stays { stopped.old ≡ true → stopped.new ≡ true }
+    ensures rests { stopped.new ≡ false → (w p : ℕ) → IsTrue (active core.new.inner.config w p) → IsTrue (active core.old.inner.config w p) }
+    ensures free { stopped.new ≡ false → OnOk result ((core.new.held ≡ None) ⊎ (logs.new.fmr ≡ None)) }
     ensures full { stopped.old ≡ false → stopped.new ≡ true → greatest ≤ core.old.inner.config.serial + 18 }
     ensures drops { DropsBut core.old core.new vol logs.old logs.new (S.meaning shelf.old) (S.meaning shelf.new) }
     ensures trusts { TrustsIn vol logs.new core.old.inner.config core.new.inner.config }

@@ -20,11 +20,12 @@ use Rattle.vx_grouplogs.specs.Marking.{MarksFewer, MarksOnly}
 use Rattle.vx_grouplogs.specs.On.{ReadsOne}
 use Rattle.vx_groupmaps.specs.Missing.{none_spared}
 use Rattle.vx_logged.specs.Begun.{MapsBut, MapsOff, MapsOfRun}
+use Rattle.vx_logged.specs.Holds.{TheseHold}
 use Rattle.vx_logged.specs.Logged.{EachOn, Known, LogOn, OthersOn}
 use Rattle.vx_logged.proofs.StandLemmas.{each_on, same_fewer, same_only}
 use Rattle.vx_logs.specs.declared.logs.Logs.{Logs}
 use Rattle.vx_loggroup.specs.LoggedVolumes.{LoggedStands, OthersStand, VolumeStands, is_alike}
-use Rattle.vx_loggroup.specs.Marks.{ClearsVolume, EmptyMaps, MarksVolume, NotesMaps, RunsMaps, region_count}
+use Rattle.vx_loggroup.specs.Marks.{ClearsVolume, EmptyMaps, HoldMaps, MarksVolume, NotesMaps, RunsMaps, region_count}
 use Rattle.vx_loggroup.proofs.SetLemmas.{set_each, set_here, set_other}
 
 module _ (W : Values) (c d : GroupCore) (m m' : Meaning) (goes : Goes W (inner_meaning (wide c) m) (inner_meaning (wide d) m')) where
@@ -162,6 +163,9 @@ notes_set fell those v first last ls l k is notes = record {
 
 pub runs_set : (these : ℕ → Bool) (v first last : ℕ) (ls : List Logs) (k : Logs) → MapsOfRun these first last k → RunsMaps these v first last (set ls v k)
 runs_set these v first last ls k run = record { here = λ y now. subst (λ (z : Logs). MapsOfRun these first last z) (set_here ls v k y now) run }
+
+pub hold_set : (these : ℕ → Bool) (v first last : ℕ) (ls : List Logs) (k : Logs) → TheseHold these first last k → HoldMaps these v first last (set ls v k)
+hold_set these v first last ls k held = record { here = λ y now. subst (λ (z : Logs). TheseHold these first last z) (set_here ls v k y now) held }
 
 pub off_set : (these : ℕ → Bool) (v : ℕ) (ls : List Logs) (k : Logs) → MapsOff these k → EmptyMaps these v (set ls v k)
 off_set these v ls k off = record { here = λ y now. subst (λ (z : Logs). MapsOff these z) (set_here ls v k y now) off }

@@ -24,21 +24,21 @@ use Rattle.vx_loggroup.proofs.KeepingLemmas.{used_from, used_parts}
 
 -- ---- parts of the test
 
-first_b : (s x y : Bool) → (not s && (not x && y)) ≡ true → s ≡ false
+pub first_b : (s x y : Bool) → (not s && (not x && y)) ≡ true → s ≡ false
 first_b true x y is = let clash : false ≡ true = is in cc
 first_b false x y is = refl
 
-second_b : (s x y : Bool) → (not s && (not x && y)) ≡ true → x ≡ false
+pub second_b : (s x y : Bool) → (not s && (not x && y)) ≡ true → x ≡ false
 second_b true x y is = let clash : false ≡ true = is in cc
 second_b false true y is = let clash : false ≡ true = is in cc
 second_b false false y is = refl
 
-third_b : (s x y : Bool) → (not s && (not x && y)) ≡ true → y ≡ true
+pub third_b : (s x y : Bool) → (not s && (not x && y)) ≡ true → y ≡ true
 third_b true x y is = let clash : false ≡ true = is in cc
 third_b false true y is = let clash : false ≡ true = is in cc
 third_b false false y is = is
 
-none_b : (x y : Bool) → (not x && y) ≡ false → x ≡ false → y ≡ false
+pub none_b : (x y : Bool) → (not x && y) ≡ false → x ≡ false → y ≡ false
 none_b true y is off = let clash : true ≡ false = off in cc
 none_b false y is off = is
 
@@ -51,7 +51,7 @@ map_there_is (Some l) = by l.fmr
     by (Some f) = refl
 
 -- the maps are in memory
-memory_is : (logs : List Logs) (v : ℕ) → is_some (fmr_at logs v) ≡ in_memory logs v Fmr
+pub memory_is : (logs : List Logs) (v : ℕ) → is_some (fmr_at logs v) ≡ in_memory logs v Fmr
 memory_is logs v = map_there_is (slice_get logs v)
 
 -- ---- the log and its disk
@@ -62,7 +62,7 @@ pub record KeptLog (c : Config) (v : ℕ) : Type 0 where
   pub is : log_of c v Fmr ≡ Some entry
   pub kept : entry.lost ≡ false
 
-kept_log : (c : Config) (v : ℕ) → log_trusted c v Fmr ≡ true → KeptLog c v
+pub kept_log : (c : Config) (v : ℕ) → log_trusted c v Fmr ≡ true → KeptLog c v
 unfolding log_trusted
 kept_log c v is = by (log_of c v Fmr) refl is
   where
@@ -74,12 +74,12 @@ kept_log c v is = by (log_of c v Fmr) refl is
     by None at is = let clash : false ≡ true = is in cc
     by (Some e) at is = record { entry = e; is = at; kept = not_true e.lost is }
 
-place_of : (c : Config) (v : ℕ) (e : LogEntry) → log_of c v Fmr ≡ Some e → log_place c v Fmr ≡ Some (record { disk = e.disk; start = e.start; blocks = e.blocks })
+pub place_of : (c : Config) (v : ℕ) (e : LogEntry) → log_of c v Fmr ≡ Some e → log_place c v Fmr ≡ Some (record { disk = e.disk; start = e.start; blocks = e.blocks })
 unfolding log_place
 place_of c v e at = ap run_or at
 
 -- a disk is held as failed by its entry
-failed_entry : (disks : List DiskEntry) (u : ℕ) (e : LogEntry) → held_failed e (slice_get disks u) ≡ true → failed_at disks u ≡ true
+pub failed_entry : (disks : List DiskEntry) (u : ℕ) (e : LogEntry) → held_failed e (slice_get disks u) ≡ true → failed_at disks u ≡ true
 failed_entry [] u e is = let clash : false ≡ true = is in cc
 failed_entry (d ∷ disks) zero e is = right e.lost d.failed is
   where

@@ -13,8 +13,10 @@ pub mod DetachedLogs
 pub mod MadeLogs
 pub mod StillLemmas
 pub mod TakenMaps
+pub mod TookLemmas
 pub mod SettleLemmas
 pub mod FreshLemmas
+pub mod NewLemmas
 pub mod RackLemmas
 pub mod DetFresh
 pub mod RestingLemmas
@@ -30,5 +32,9 @@ pub mod KeepingLemmas
 pub mod KeepingCalls
 pub mod MovedLemmas
 pub mod VolumeMoves
+pub mod WroteMoves
+pub mod DetMoves
+pub mod RestMaps
 pub mod ThenMoves
 pub mod EndedLemmas
+pub mod ComesLemmas

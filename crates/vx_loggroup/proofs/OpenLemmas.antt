@@ -22,7 +22,9 @@ use Rattle.vx_group.specs.Stands.{inner_meaning}
 use Rattle.vx_group.specs.declared.group_core.GroupCore.{GroupCore}
 use Rattle.vx_group.specs.declared.inner.Inner.{Inner}
 use Rattle.vx_group.proofs.CreateLemmas.{cause_before}
+use Rattle.vx_config.specs.Checks.{blocks_of}
 use Rattle.vx_group.proofs.HoldLemmas.{whole_Stands, wide_none, wide_shape}
+use Rattle.vx_grouplogs.proofs.LogShape.{same_count}
 use Rattle.vx_group.proofs.LoseLemmas.{along_same, then_along}
 use Rattle.vx_group.proofs.UnitLemmas.{goes_units, then_units}
 use Rattle.vx_grouplogs.specs.Covering.{AllAlike}
@@ -47,11 +49,12 @@ use Rattle.vx_loggroup.specs.Fresh.{FreshStands}
 use Rattle.vx_loggroup.specs.LoggedVolumes.{LoggedStands, is_alike}
 use Rattle.vx_loggroup.specs.Marks.{MarksAreOff}
 use Rattle.vx_loggroup.specs.Opens.{NotSettled, OpensLogged, SettlesLogs}
-use Rattle.vx_loggroup.specs.Taking.{LogsSettle, MapsWhy, SameDrls}
+use Rattle.vx_loggroup.specs.Taking.{LogsSettle, MapsWere, MapsWhy, SameDrls}
 use Rattle.vx_loggroup.specs.declared.opening.Opened.{Opened}
 use Rattle.vx_loggroup.proofs.StillLemmas.{core_goes}
 use Rattle.vx_loggroup.proofs.SetLemmas.{item_at}
 use Rattle.vx_loggroup.proofs.TakenMaps.{shrink_why}
+use Rattle.vx_loggroup.proofs.TookLemmas.{maps_taken}
 
 -- of which a crash leaves one value, that reads as one
 pub alike_reads : (c : Config) (v : ℕ) (m : Meaning) → Lawful m → AllAlike c v m → ReadsOne c v m
@@ -136,6 +139,9 @@ module _ (old m1 : Meaning) (k : Marked) (law0 : Lawful old) (law : Lawful m1) (
       pub settled_loses : LosesAlong k.core.config core.inner.config m1 new
       settled_loses = then_along k.core.config k.core.config core.inner.config m1 m2 new (along_same k.core.config m1 m2 goes.faults) settles.loses
 
+      settled_size : (v : ℕ) → blocks_of core.inner.config.volumes v ≡ blocks_of k.core.config.volumes v
+      settled_size v = let size = settled_goes.size v in let same = (wide_shape core).blocks v in omega (arith, size, same)
+
       pub settled_units : SameUnits m1 new
       settled_units = then_units m1 m2 new (goes_units Nothing m1 m2 goes) settles.below
 
@@ -186,8 +192,8 @@ opened_newest old m1 k law it m2 new goes law2 core finds is =
 -- how an import ends
 pub opens_by : {S : Type 0} (meaning : S → Meaning) (moment : S) (old : Meaning) (k : Marked) (law0 : Lawful old) (law : Lawful (meaning moment)) (can : CanImport old) (it : ResumedBy old k (meaning moment)) (r : Rested) (tells : LogsTell r old) (a : List Bool)
     → ((v : ℕ) → v < 32 → is_unsure k.stopped v ≡ true → is_alike a v ≡ true) → ((v : ℕ) → v < 32 → rests r.alike v ≡ true → is_alike a v ≡ true) → (ls : List Logs) (m2 new : Meaning) → SameDrls k.logs.items ls → length ls ≡ length k.logs.items → Goes Nothing (meaning moment) m2 → Lawful m2
-    → (res : Result Opened Stop) → SettlesLogs (record { inner = k.core; held = None }) ls a m2 new res → MapsWhy k.good k.core.config k.stopped r ls → OpensLogged meaning r old new res
-opens_by meaning moment old k law0 law can it r tells a mended resting ls m2 new drls long goes law2 (Ok o) fin why = (
+    → (res : Result Opened Stop) → SettlesLogs (record { inner = k.core; held = None }) ls a m2 new res → MapsWhy k.good k.core.config k.stopped r ls → MapsWere k.core.config ls (meaning moment) → OpensLogged meaning r old new res
+opens_by meaning moment old k law0 law can it r tells a mended resting ls m2 new drls long goes law2 (Ok o) fin why were = (
   record {
     moment = moment;
     marked = k;
@@ -205,11 +211,15 @@ opens_by meaning moment old k law0 law can it r tells a mended resting ls m2 new
     resting = λ v lt is. ap (λ (f : List Bool). is_alike f v) fin.same ∙ resting v (let few = it.resumed.stands.few in omega (arith, lt, few)) is;
     off = λ going. subst (λ (f : List Bool). MarksAreOff k.core.config f (length o.logs.items) o.logs.items) (sym fin.same) (fin.off going);
     maps = shrink_why k.good k.core.config k.stopped r ls o.logs.items fin.shrink why;
+    took = maps_taken old (meaning moment) k law0 can it r tells ls o.logs.items why were fin.shrink o.core.inner.config
+        (λ v. same_count k.core.config o.core.inner.config v ((settled_loses old (meaning moment) k law0 law can it r tells ls m2 new drls long goes law2 o.core fin.settles).loses.frames v) (settled_size old (meaning moment) k law0 law can it r tells ls m2 new drls long goes law2 o.core fin.settles v))
+        (settled_size old (meaning moment) k law0 law can it r tells ls m2 new drls long goes law2 o.core fin.settles)
+        (λ v l at. let low = slice_get_within ls v l at in let many = it.logs.many in omega (arith, low, long, many));
   },
   fin.stands,
   fin.begins,
 )
-opens_by meaning moment old k law0 law can it r tells a mended resting ls m2 new drls long goes law2 (Err stop) fin why = opened_late old (meaning moment) k law0 law can it r tells ls m2 new drls long goes law2 stop fin
+opens_by meaning moment old k law0 law can it r tells a mended resting ls m2 new drls long goes law2 (Err stop) fin why were = opened_late old (meaning moment) k law0 law can it r tells ls m2 new drls long goes law2 stop fin
 
 pub settled_below : (c : GroupCore) (ls : List Logs) (a : List Bool) (m m' : Meaning) (res : Result Opened Stop) → SettlesLogs c ls a m m' res → SameUnits m m'
 settled_below c ls a m m' (Ok o) fin = fin.settles.below

@@ -1,5 +1,5 @@
 -- Logs of missed regions that an import reads.
-use Rattle.std.proofs.Common.{◌≡◌, ◌∙◌, ◌⊎◌, inl, inr, ℕ, ◌+◌, ◌*◌, ◌/◌, ◌%◌, ◌<◌, ◌≤◌, Bool, true, false, IsTrue, IsFalse, Option, Some, None, List, length, refl, sym, ap, subst, arith}
+use Rattle.std.proofs.Common.{◌≡◌, ◌∙◌, ◌⊎◌, inl, inr, ℕ, ◌+◌, ◌*◌, ◌/◌, ◌%◌, ◌<◌, ◌≤◌, Bool, true, false, IsTrue, IsFalse, Option, Some, None, List, length, ⊎_elim, refl, sym, ap, subst, arith}
 use Rattle.std.specs.Prelude.{◌-◌, slice_get}
 use Rattle.std.proofs.Math.ListN.{set}
 use Rattle.std.proofs.lemmas.Bool.{cases_eq}
@@ -19,10 +19,10 @@ use Rattle.vx_volume.proofs.ReadRuns.{still}
 use Rattle.vx_fmr.specs.Missed.{FmrLoaded, Missed, has_missed, missed_place}
 use Rattle.vx_group.specs.declared.group_core.GroupCore.{GroupCore}
 use Rattle.vx_group.proofs.MendLemmas.{same_Goes}
-use Rattle.vx_groupmaps.specs.Knowing.{MapsKnow, PlexesKnow}
+use Rattle.vx_groupmaps.specs.Knowing.{MapsKnow, MapsStay, PlexesKnow}
 use Rattle.vx_groupmaps.specs.Loading.{TakesMaps}
 use Rattle.vx_groupmaps.specs.Missing.{bit_in_maps, none_spared}
-use Rattle.vx_groupmaps.proofs.KnowLemmas.{plex_below}
+use Rattle.vx_groupmaps.proofs.KnowLemmas.{note_same, note_then, plex_below}
 use Rattle.vx_groupmaps.proofs.MapPlaces.{bit_low, region_low}
 use Rattle.vx_grouplogs.specs.On.{VolumeOn}
 use Rattle.vx_grouplogs.proofs.KnowActs.{know_none}
@@ -41,7 +41,7 @@ use Rattle.vx_logs.specs.declared.logs.Logs.{Logs}
 use Rattle.vx_model.specs.Content.{block_of}
 use Rattle.vx_volume.specs.Plexes.{DisksFit, Inside, active}
 use Rattle.vx_loggroup.specs.LoggedVolumes.{LoggedStands}
-use Rattle.vx_loggroup.specs.Taking.{MapsMay, MapsShrink, MapsWhy, SameDrls, TakesMap}
+use Rattle.vx_loggroup.specs.Taking.{MapWas, MapsMay, MapsShrink, MapsWere, MapsWhy, SameDrls, TakesMap}
 use Rattle.vx_loggroup.proofs.SetLemmas.{item_at, set_here, set_other}
 
 -- ---- what a log that was read knows
@@ -135,6 +135,20 @@ taken_used c v None gone m m' takes some = absurd (some refl)
 taken_used c v (Some f) true m m' takes some = absurd (some takes.0)
 taken_used c v (Some f) false m m' takes some = takes.0.0
 
+-- what was read is what a crash may leave
+pub taken_was : (c : Config) (v : ℕ) (o : Option Missed) (gone : Bool) (m m' : Meaning) → Lawful m → 0 < blocks_in c.volumes v → TakesMaps c v o gone m m' → (f : Missed) → o ≡ Some f → MapWas c v f m
+taken_was c v None gone m m' law some takes f at = absurd (let clash : None ≡ Some f = at in cc)
+taken_was c v (Some g) true m m' law some takes f at = absurd (let clash : Some g ≡ None = takes.0 in cc)
+taken_was c v (Some g) false m m' law some takes f at = subst (λ (h : Missed). MapWas c v h m) (some_one g f at) (record {
+  some = some;
+  used = takes.0.0;
+  fits = takes.0.1;
+  left = λ tell k low. law.shown g.map.unit (g.map.first + k) (block_of g.map.bytes k) (takes.0.2.each tell k low);
+})
+
+pub were_set : (c : Config) (v : ℕ) (ls : List Logs) (k : Logs) (m : Meaning) → ((f : Missed) → k.fmr ≡ Some f → MapWas c v f m) → (y : Logs) (f : Missed) → slice_get (set ls v k) v ≡ Some y → y.fmr ≡ Some f → MapWas c v f m
+were_set c v ls k m was y f now at = was f (ap (λ (z : Logs). z.fmr) (set_here ls v k y now) ∙ at)
+
 -- ---- one log that was taken up
 
 pub takes_none : (c : Config) (may : Bool) (v : ℕ) (ls : List Logs) → ((l : Logs) → slice_get ls v ≡ Some l → l.fmr ≡ None) → TakesMap c may v ls ls
@@ -163,6 +177,7 @@ pub record TakenSoFar (c : GroupCore) (a : List Bool) (good : ℕ) (st : List Bo
   pub rest : (v : ℕ) → n ≤ v → slice_get ls v ≡ slice_get ls0 v
   pub long : length ls ≡ length ls0
   pub why : MapsWhy good c.inner.config st r ls
+  pub were : MapsWere c.inner.config ls m0
 
 same_drl : (o : Option Logs) (l k : Logs) → o ≡ Some l → o ≡ Some k → k.drl ≡ l.drl
 same_drl o l k one two = let both : Some l ≡ Some k = sym one ∙ two in let same : l ≡ k = cc in ap (λ (x : Logs). x.drl) (sym same)
@@ -175,6 +190,7 @@ none_taken c a good st r ls m stands plain = record {
   rest = λ v le. refl;
   long = refl;
   why = record { each = λ v l is some. absurd (some (plain v l is)) };
+  were = record { each = λ v l f is at. absurd (let clash : None ≡ Some f = sym (plain v l is) ∙ at in cc) };
 }
 
 module _ (c : GroupCore) (a : List Bool) (good : ℕ) (st : List Bool) (r : Rested) (ls0 : List Logs) (m0 : Meaning) (n : ℕ) (ls : List Logs) (m : Meaning) (was : TakenSoFar c a good st r ls0 m0 n ls m) where
@@ -188,8 +204,19 @@ module _ (c : GroupCore) (a : List Bool) (good : ℕ) (st : List Bool) (r : Rest
         let why = takes.why l (sym (ap (slice_get ls') same) ∙ is) some in
         subst (λ (w : ℕ). MapsMay good c.inner.config st r w) (sym same) (record { clean = clean why.0; maps = maps why.0; within = within why.0; used = why.1 })
 
-    pub one_taken : (ls' : List Logs) (m' : Meaning) → LoggedStands c ls' a false m' → Goes Nothing m m' → TakesMap c.inner.config may n ls ls' → TakenSoFar c a good st r ls0 m0 (n + 1) ls' m'
-    one_taken ls' m' stands goes takes = record {
+    -- a map that was taken up is one of the disks as they were
+    were_here : (ls' : List Logs) → ((k : Logs) (f : Missed) → slice_get ls' n ≡ Some k → k.fmr ≡ Some f → MapWas c.inner.config n f m) → (v : ℕ) (l : Logs) (f : Missed) → v ≡ n → slice_get ls' v ≡ Some l → l.fmr ≡ Some f → MapWas c.inner.config v f m0
+    were_here ls' taken v l f same is at =
+        let now = taken l f (sym (ap (slice_get ls') same) ∙ is) at in
+        subst (λ (w : ℕ). MapWas c.inner.config w f m0) (sym same) (record {
+          some = now.some;
+          used = now.used;
+          fits = now.fits;
+          left = λ tell k low. ⊎_elim (λ old. old) (λ none. absurd none) (was.goes.leaves f.map.unit (f.map.first + k) (block_of f.map.bytes k) (now.left (was.goes.tells ∙ tell) k low));
+        })
+
+    pub one_taken : (ls' : List Logs) (m' : Meaning) → LoggedStands c ls' a false m' → Goes Nothing m m' → TakesMap c.inner.config may n ls ls' → ((k : Logs) (f : Missed) → slice_get ls' n ≡ Some k → k.fmr ≡ Some f → MapWas c.inner.config n f m) → TakenSoFar c a good st r ls0 m0 (n + 1) ls' m'
+    one_taken ls' m' stands goes takes taken = record {
       stands = stands;
       goes = still m0 m m' was.goes goes;
       drls = record {
@@ -206,6 +233,12 @@ module _ (c : GroupCore) (a : List Bool) (good : ℕ) (st : List Bool) (r : Rest
           | inr apart ↦ was.why.each v l (sym (takes.others v apart) ∙ is) some
         ];
       };
+      were = record {
+        each = λ v l f is at. elim (cases_eq v n) [
+          | inl same ↦ were_here ls' taken v l f same is at
+          | inr apart ↦ was.were.each v l f (sym (takes.others v apart) ∙ is) at
+        ];
+      };
     }
       where
         here : (v : ℕ) (l k : Logs) → v ≡ n → slice_get ls0 v ≡ Some l → slice_get ls' v ≡ Some k → k.drl ≡ l.drl
@@ -217,26 +250,34 @@ module _ (c : GroupCore) (a : List Bool) (good : ℕ) (st : List Bool) (r : Rest
 -- ---- logs that are in memory no more
 
 pub shrink_none : (ls : List Logs) → MapsShrink ls ls
-shrink_none ls = record { many = refl; each = λ v l k was now none. ap (λ (x : Logs). x.fmr) (sym (one_log (slice_get ls v) l k was now)) ∙ none }
+shrink_none ls = record {
+  many = refl;
+  each = λ v l k was now none. ap (λ (x : Logs). x.fmr) (sym (one_log (slice_get ls v) l k was now)) ∙ none;
+  stay = λ v l k was now. note_same (λ p. false) 0 0 l k (ap (λ (x : Logs). x.fmr) (sym (one_log (slice_get ls v) l k was now)));
+}
   where
     one_log : (o : Option Logs) (l k : Logs) → o ≡ Some l → o ≡ Some k → l ≡ k
     one_log o l k one two = let both : Some l ≡ Some k = sym one ∙ two in cc
 
-pub shrink_set : (v : ℕ) (ls : List Logs) (l k : Logs) → slice_get ls v ≡ Some l → (l.fmr ≡ None → k.fmr ≡ None) → MapsShrink ls (set ls v k)
-shrink_set v ls l k is gone = record {
+pub shrink_set : (v : ℕ) (ls : List Logs) (l k : Logs) → slice_get ls v ≡ Some l → MapsStay l k → MapsShrink ls (set ls v k)
+shrink_set v ls l k is stay = record {
   many = length-set ls v k;
-  each = λ w x y was now none. elim (cases_eq w v) [
-    | inl same ↦ here w x y same was now none
-    | inr apart ↦ (shrink_none ls).each w x y was (sym (set_other ls v k w apart) ∙ now) none
-  ];
+  each = λ w x y was now none. (stays w x y was now).gone none;
+  stay = stays;
 }
   where
-    here : (w : ℕ) (x y : Logs) → w ≡ v → slice_get ls w ≡ Some x → slice_get (set ls v k) w ≡ Some y → x.fmr ≡ None → y.fmr ≡ None
-    here w x y same was now none =
+    here : (w : ℕ) (x y : Logs) → w ≡ v → slice_get ls w ≡ Some x → slice_get (set ls v k) w ≡ Some y → MapsStay x y
+    here w x y same was now =
         let new : k ≡ y = set_here ls v k y (sym (ap (slice_get (set ls v k)) same) ∙ now) in
         let both : Some l ≡ Some x = sym is ∙ sym (ap (slice_get ls) same) ∙ was in
         let old : l ≡ x = cc in
-        ap (λ (z : Logs). z.fmr) (sym new) ∙ gone (ap (λ (z : Logs). z.fmr) old ∙ none)
+        subst (λ (z : Logs). MapsStay x z) new (subst (λ (z : Logs). MapsStay z k) old stay)
+
+    stays : (w : ℕ) (x y : Logs) → slice_get ls w ≡ Some x → slice_get (set ls v k) w ≡ Some y → MapsStay x y
+    stays w x y was now = elim (cases_eq w v) [
+      | inl same ↦ here w x y same was now
+      | inr apart ↦ (shrink_none ls).stay w x y was (sym (set_other ls v k w apart) ∙ now)
+    ]
 
 pub shrink_then : (ls0 ls1 ls2 : List Logs) → MapsShrink ls0 ls1 → MapsShrink ls1 ls2 → MapsShrink ls0 ls2
 shrink_then ls0 ls1 ls2 one two = record {
@@ -245,6 +286,10 @@ shrink_then ls0 ls1 ls2 one two = record {
       let low = slice_get_within ls0 v l was in
       let middle = item_at ls1 v (let long = one.many in omega (arith, low, long)) in
       two.each v middle.0 k middle.1 now (one.each v l middle.0 was middle.1 none);
+  stay = λ v l k was now.
+      let low = slice_get_within ls0 v l was in
+      let middle = item_at ls1 v (let long = one.many in omega (arith, low, long)) in
+      note_then (λ p. false) 0 0 l middle.0 k (one.stay v l middle.0 was middle.1) (two.stay v middle.0 k middle.1 now);
 }
 
 -- why one is in memory still

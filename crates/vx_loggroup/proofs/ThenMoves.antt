@@ -1,5 +1,5 @@
 -- What two calls in a row make of the maps of missed regions in memory: a write, and the flush that makes it durable.
-use Rattle.std.proofs.Common.{◌≡◌, ◌⊎◌, ◌≤◌, ◌+◌, ℕ, Bool, true, false, List, sym, ◌∙◌, ap, IsTrue, inl, inr, arith}
+use Rattle.std.proofs.Common.{◌≡◌, ◌⊎◌, ◌≤◌, ◌+◌, ℕ, Bool, true, false, List, refl, sym, ◌∙◌, ap, IsTrue, inl, inr, arith}
 use Rattle.std.specs.Prelude.{Option, Some, None}
 use Rattle.vx_config.specs.Table.{greatest}
 use Rattle.vx_config.specs.declared.config.Config.{Config}
@@ -15,13 +15,13 @@ use Rattle.vx_logs.specs.declared.logs.Logs.{Logs}
 use Rattle.vx_volume.specs.Plexes.{active}
 use Rattle.vx_loggroup.specs.Attaching.{fmr_at}
 use Rattle.vx_loggroup.specs.Keeping.{LogsKeep, uses_log}
-use Rattle.vx_loggroup.specs.Moving.{IsThere, MapsBeginIn, MapsDoubt, MapsMove, goes_by, missed_by, missed_in}
+use Rattle.vx_loggroup.specs.Moving.{IsThere, MapsBeginIn, MapsDoubt, MapsFollow, MapsMove, goes_by, missed_by, missed_in}
 
 -- ---- what the maps have
 
 -- from configuration c over e to d; no map begins in the second call, and in neither a plex comes to take part
 module _ (c e d : Config) (these anew : ℕ → ℕ → Bool) (l j k : List Logs) (there : (v p r : ℕ) → IsThere c v p r → IsThere e v p r) (middle : (v : ℕ) (g : Missed) → fmr_at k v ≡ Some g → (f : Missed) × (fmr_at j v ≡ Some f))
-    (stays : (v p : ℕ) → active c v p ≡ false → active e v p ≡ false) (rests : (v p : ℕ) → active e v p ≡ false → active d v p ≡ false) where
+    (stays : (v p : ℕ) → active c v p ≡ false → active e v p ≡ false) (rests : (v p r : ℕ) (g : Missed) → fmr_at k v ≡ Some g → these v r ≡ true → active e v p ≡ false → active d v p ≡ false) where
   -- the maps between them
   had_then : (v p r : ℕ) (f : Missed) → fmr_at j v ≡ Some f → missed_in j e v p r ≡ has_missed f p r
   had_then v p r f at = ap (λ (o : Option Missed). missed_by o (active e v p) p r) at
@@ -35,14 +35,14 @@ module _ (c e d : Config) (these anew : ℕ → ℕ → Bool) (l j k : List Logs
       by false is = first on is
 
   -- both are done
-  module _ (first : MapsMove c e these anew l j) (second : MapsMove e d these anew j k) where
+  module _ (first : MapsMove c e these anew l j) (second : MapsFollow e d these anew j k) where
     most_then : (v p r : ℕ) (g : Missed) → fmr_at k v ≡ Some g → IsThere c v p r → has_missed g p r ≡ true
         → ((active d v p ≡ false) × (these v r ≡ true)) ⊎ ((active c v p ≡ true → active d v p ≡ false → anew v p ≡ false) × (missed_in l c v p r ≡ true))
     most_then v p r g at it has = by (second.most v p r g at (there v p r it) has)
       where
         before : (active e v p ≡ true → active d v p ≡ false → anew v p ≡ false) → ((active e v p ≡ false) × (these v r ≡ true)) ⊎ ((active c v p ≡ true → active e v p ≡ false → anew v p ≡ false) × (missed_in l c v p r ≡ true))
             → ((active d v p ≡ false) × (these v r ≡ true)) ⊎ ((active c v p ≡ true → active d v p ≡ false → anew v p ≡ false) × (missed_in l c v p r ≡ true))
-        before later (inl (off, here)) = inl (rests v p off, here)
+        before later (inl (off, here)) = inl (rests v p r g at here off, here)
         before later (inr (keeps, was)) = inr (off_by v p keeps later, was)
 
         by : ((active d v p ≡ false) × (these v r ≡ true)) ⊎ ((active e v p ≡ true → active d v p ≡ false → anew v p ≡ false) × (missed_in j e v p r ≡ true))
@@ -56,8 +56,15 @@ module _ (c e d : Config) (these anew : ℕ → ℕ → Bool) (l j k : List Logs
         let away = stays v p was in
         second.stay v p r g at (there v p r it) away off (had_then v p r f.0 f.1 ∙ first.stay v p r f.0 f.1 it was away has)
 
+    least_then : (v p r : ℕ) (g : Missed) → fmr_at k v ≡ Some g → IsThere c v p r → active d v p ≡ false → these v r ≡ true → has_missed g p r ≡ true
+    least_then v p r g at it off here = by (active e v p) refl
+      where
+        by : (x : Bool) → active e v p ≡ x → has_missed g p r ≡ true
+        by true on = second.least v p r g at (there v p r it) on off here
+        by false away = let f = middle v g at in second.stay v p r g at (there v p r it) away off (had_then v p r f.0 f.1 ∙ first.least v p r f.0 f.1 it away here)
+
     pub moves_then : MapsMove c d these anew l k
-    moves_then = record { most = most_then; least = λ v p r g at it off here. second.least v p r g at (there v p r it) off here; stay = stay_then }
+    moves_then = record { most = most_then; least = least_then; stay = stay_then }
 
   -- the second was refused
   module _ (first : MapsMove c e these anew l j) (second : MapsDoubt e d these j k) where

@@ -4,6 +4,7 @@ use Rattle.std.specs.Prelude.{not, slice_get}
 use Rattle.std.proofs.lemmas.Bool.{cases_eq}
 use Rattle.vx_config.specs.declared.config.Config.{Config}
 use Rattle.vx_config.specs.declared.entry.VolumeLog.TheVariants.{Drl, Fmr}
+use Rattle.vx_fmr.specs.Missed.{Missed}
 use Rattle.vx_group.specs.Blames.{MarkedUnsure}
 use Rattle.vx_kept.specs.Cleans.{is_unsure}
 use Rattle.vx_kept.specs.LogRuns.{log_trusted}
@@ -43,17 +44,18 @@ touch_more c v n failed was here = record {
 pub record RestsSoFar (c : Config) (ls : List Logs) (failed unsure0 : List Bool) (n : ℕ) (unsure maps : List Bool) : Type 0 where
   pub marks : SomeUnsure unsure0 unsure failed
   pub so : (v : ℕ) (l : Logs) → v < n → slice_get ls v ≡ Some l → rests maps v ≡ true → VolumeRests c unsure v l failed
+  pub has : (v : ℕ) (l : Logs) (f : Missed) → v < n → slice_get ls v ≡ Some l → l.fmr ≡ Some f → rests maps v ≡ true
   pub long : length maps ≡ 32
 
 pub same_unsure : (unsure failed : List Bool) → SomeUnsure unsure unsure failed
 same_unsure unsure failed = record { more = λ v is. is; none = λ off. refl }
 
 pub no_rests : (c : Config) (ls : List Logs) (failed unsure maps : List Bool) → length maps ≡ 32 → RestsSoFar c ls failed unsure 0 unsure maps
-no_rests c ls failed unsure maps long = record { marks = same_unsure unsure failed; so = λ v l lt is flag. absurd (omega (arith, lt)); long = long }
+no_rests c ls failed unsure maps long = record { marks = same_unsure unsure failed; so = λ v l lt is flag. absurd (omega (arith, lt)); has = λ v l f lt is at. absurd (omega (arith, lt)); long = long }
 
 pub one_rest : (c : Config) (ls : List Logs) (failed unsure0 : List Bool) (n : ℕ) (unsure maps unsure' : List Bool) (flag : Bool) (l : Logs) → RestsSoFar c ls failed unsure0 n unsure maps → n < 32 → slice_get ls n ≡ Some l → (flag ≡ true → VolumeRests c unsure' n l failed)
-    → SomeUnsure unsure unsure' failed → ((w : ℕ) → (w ≡ n → ⊥) → is_unsure unsure' w ≡ is_unsure unsure w) → RestsSoFar c ls failed unsure0 (n + 1) unsure' (set maps n flag)
-one_rest c ls failed unsure0 n unsure maps unsure' flag l was lt is rest marks others = record {
+    → SomeUnsure unsure unsure' failed → ((w : ℕ) → (w ≡ n → ⊥) → is_unsure unsure' w ≡ is_unsure unsure w) → ((f : Missed) → l.fmr ≡ Some f → flag ≡ true) → RestsSoFar c ls failed unsure0 (n + 1) unsure' (set maps n flag)
+one_rest c ls failed unsure0 n unsure maps unsure' flag l was lt is rest marks others maps_flag = record {
   marks = record { more = λ v off. was.marks.more v (marks.more v off); none = λ off. marks.none off ∙ was.marks.none off };
   so = λ v k below at up. elim (cases_eq v n) [
     | inl same ↦ here v k same at up
@@ -61,11 +63,22 @@ one_rest c ls failed unsure0 n unsure maps unsure' flag l was lt is rest marks o
         let old = was.so v k (omega (arith, below, apart)) at (sym (get_or-set_other maps n v flag false apart) ∙ up) in
         record { has = old.has; off = λ f has off. old.off f has (sym (others v apart) ∙ off) }
   ];
+  has = λ v k f below at has. elim (cases_eq v n) [
+    | inl same ↦ flag_at v k f same at has
+    | inr apart ↦ get_or-set_other maps n v flag false apart ∙ was.has v k f (omega (arith, below, apart)) at has
+  ];
   long = length-set maps n flag ∙ was.long;
 }
   where
     flag_here : rests (set maps n flag) n ≡ flag
     flag_here = get_or-set_same maps n flag false (let long = was.long in omega (arith, lt, long))
+
+    flag_at : (v : ℕ) (k : Logs) (f : Missed) → v ≡ n → slice_get ls v ≡ Some k → k.fmr ≡ Some f → rests (set maps n flag) v ≡ true
+    flag_at v k f same at has =
+        let at_n : slice_get ls n ≡ Some k = subst (λ (w : ℕ). slice_get ls w ≡ Some k) same at in
+        let both : Some l ≡ Some k = sym is ∙ at_n in
+        let one : l ≡ k = cc in
+        subst (λ (w : ℕ). rests (set maps n flag) w ≡ true) (sym same) (flag_here ∙ maps_flag f (ap (λ (x : Logs). x.fmr) one ∙ has))
 
     here : (v : ℕ) (k : Logs) → v ≡ n → slice_get ls v ≡ Some k → rests (set maps n flag) v ≡ true → VolumeRests c unsure' v k failed
     here v k same at up =

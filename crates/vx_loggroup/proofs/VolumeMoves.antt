@@ -9,8 +9,8 @@ use Rattle.vx_group.specs.Attaches.{copied_regions}
 use Rattle.vx_logs.specs.declared.logs.Logs.{Logs}
 use Rattle.vx_volume.specs.Plexes.{active}
 use Rattle.vx_loggroup.specs.Attaching.{fmr_at}
-use Rattle.vx_loggroup.specs.Moving.{IsThere, MapsDoubt, MapsMove, in_run, missed_in}
-use Rattle.vx_loggroup.proofs.MovedLemmas.{doubt_run, move_run, same_missed}
+use Rattle.vx_loggroup.specs.Moving.{IsThere, MapsDoubt, MapsFollow, MapsMove, all_anew, in_none, in_run, missed_in, this_anew}
+use Rattle.vx_loggroup.proofs.MovedLemmas.{doubt_run, follow_run, move_run, same_missed}
 
 -- ---- plexes that took part, and do no more
 
@@ -53,14 +53,13 @@ pub record MapFrom (c d : Config) (vol first last : ℕ) (those : ℕ → Bool) 
 module _ (c d : Config) (vol first last : ℕ) (l k : List Logs) (others : (w : ℕ) → (w ≡ vol → ⊥) → fmr_at k w ≡ fmr_at l w) where
   -- one that is done, of a volume of which it is sure, or not, that its plexes are alike
   module _ (sure : Bool) (those : ℕ → Bool) (off : (p : ℕ) → those p ≡ true → active d vol p ≡ false) (from : (g : Missed) → fmr_at k vol ≡ Some g → MapFrom c d vol first last those l g)
-      (runs : sure ≡ true → (g : Missed) → fmr_at k vol ≡ Some g → (p r : ℕ) → p < g.plexes → r < g.stride → (active c vol p && not (active d vol p)) ≡ true → has_missed g p r ≡ true → (first ≤ r) × (r ≤ last))
-      (holds : (p r : ℕ) (g : Missed) → fmr_at k vol ≡ Some g → IsThere c vol p r → active d vol p ≡ false → first ≤ r → r ≤ last → has_missed g p r ≡ true) where
+      (runs : sure ≡ true → (g : Missed) → fmr_at k vol ≡ Some g → (p r : ℕ) → p < g.plexes → r < g.stride → (active c vol p && not (active d vol p)) ≡ true → has_missed g p r ≡ true → (first ≤ r) × (r ≤ last)) where
     had : (p r : ℕ) (g : Missed) → fmr_at k vol ≡ Some g → IsThere c vol p r → has_missed g p r ≡ true → ((active d vol p ≡ false) × (first ≤ r) × (r ≤ last)) ⊎ (missed_in l c vol p r ≡ true)
     had p r g at it has =
         let f = from g at in
         elim (f.only p r (low_old p (plexes_of c vol) f.map.plexes it.plex f.begun.plexes) (low_old r (copied_regions c vol) f.map.stride it.region f.begun.stride) has) [
           | inl was ↦ inr (sym (f.begun.same p r it) ∙ was)
-          | inr run ↦ inl (off p run.0, run.1)
+          | inr run ↦ inl (off p run.0, run.1, run.2)
         ]
 
     only : (p r : ℕ) (g : Missed) → fmr_at k vol ≡ Some g → IsThere c vol p r → has_missed g p r ≡ true
@@ -74,18 +73,21 @@ module _ (c d : Config) (vol first last : ℕ) (l k : List Logs) (others : (w : 
         by false is true here (inr was) = inr ((λ on away. (let clash : true ≡ false = sym (fell_is (active c vol p) (active d vol p) on away) ∙ is in cc)), was)
         by true is true here (inr was) =
             let f = from g at in
-            inl (
-              fell_off (active c vol p) (active d vol p) is,
-              runs here g at p r (low_new p (plexes_of c vol) f.map.plexes g.plexes it.plex f.begun.plexes f.shape.plexes) (low_new r (copied_regions c vol) f.map.stride g.stride it.region f.begun.stride f.shape.stride) is has
-            )
+            let run = runs here g at p r (low_new p (plexes_of c vol) f.map.plexes g.plexes it.plex f.begun.plexes f.shape.plexes) (low_new r (copied_regions c vol) f.map.stride g.stride it.region f.begun.stride f.shape.stride) is has in
+            inl (fell_off (active c vol p) (active d vol p) is, run.0, run.1)
 
     stay : (p r : ℕ) (g : Missed) → fmr_at k vol ≡ Some g → IsThere c vol p r → active c vol p ≡ false → active d vol p ≡ false → missed_in l c vol p r ≡ true → has_missed g p r ≡ true
     stay p r g at it was away has =
         let f = from g at in
         f.stay p r (low_old p (plexes_of c vol) f.map.plexes it.plex f.begun.plexes) (low_old r (copied_regions c vol) f.map.stride it.region f.begun.stride) (fell_none (active c vol p) (active d vol p) was) (f.begun.same p r it ∙ has)
 
-    pub write_moves : MapsMove c d (in_run vol first last) (λ v p. (v == vol) && sure) l k
-    write_moves = move_run c d vol first last sure l k others only holds stay
+    -- each plex that is not ACTIVE has the run
+    pub write_moves : ((p r : ℕ) (g : Missed) → fmr_at k vol ≡ Some g → IsThere c vol p r → active d vol p ≡ false → first ≤ r → r ≤ last → has_missed g p r ≡ true) → MapsMove c d (in_run vol first last) (all_anew vol sure) l k
+    write_moves holds = move_run c d vol first last sure l k others only holds stay
+
+    -- or each that falls out of use in the call
+    pub flush_moves : ((p r : ℕ) (g : Missed) → fmr_at k vol ≡ Some g → IsThere c vol p r → active c vol p ≡ true → active d vol p ≡ false → first ≤ r → r ≤ last → has_missed g p r ≡ true) → MapsFollow c d (in_run vol first last) (all_anew vol sure) l k
+    flush_moves holds = follow_run c d vol first last sure l k others only holds stay
 
   -- one that was refused: any plex may have noted its run
   module _ (from : (g : Missed) → fmr_at k vol ≡ Some g → MapFrom c d vol first last (λ p. true) l g) where
@@ -93,14 +95,14 @@ module _ (c d : Config) (vol first last : ℕ) (l k : List Logs) (others : (w : 
     write_doubts =
         doubt_run c d vol first last false l k others
         (λ p r g at it has.
-            let f = from g at in
-            elim (f.only p r (low_old p (plexes_of c vol) f.map.plexes it.plex f.begun.plexes) (low_old r (copied_regions c vol) f.map.stride it.region f.begun.stride) has) [
-              | inl was ↦ inr (sym (f.begun.same p r it) ∙ was)
-              | inr run ↦ inl run.1
-            ])
+        let f = from g at in
+        elim (f.only p r (low_old p (plexes_of c vol) f.map.plexes it.plex f.begun.plexes) (low_old r (copied_regions c vol) f.map.stride it.region f.begun.stride) has) [
+          | inl was ↦ inr (sym (f.begun.same p r it) ∙ was)
+          | inr run ↦ inl (run.1, run.2)
+        ])
         (λ p r g at it was away has.
-            let f = from g at in
-            f.stay p r (low_old p (plexes_of c vol) f.map.plexes it.plex f.begun.plexes) (low_old r (copied_regions c vol) f.map.stride it.region f.begun.stride) (fell_none (active c vol p) (active d vol p) was) (f.begun.same p r it ∙ has))
+        let f = from g at in
+        f.stay p r (low_old p (plexes_of c vol) f.map.plexes it.plex f.begun.plexes) (low_old r (copied_regions c vol) f.map.stride it.region f.begun.stride) (fell_none (active c vol p) (active d vol p) was) (f.begun.same p r it ∙ has))
 
 -- ---- a detach
 
@@ -122,8 +124,8 @@ module _ (c d : Config) (vol plex : ℕ) (sure : Bool) (l k : List Logs) (others
       let region = low_old r (copied_regions c vol) f.map.stride it.region f.begun.stride in
       elim (cases_eq p plex) [
         | inl same ↦
-          sym (f.begun.same p r it) ∙ ap (λ (q : ℕ). has_missed f.map q r) same
-          ∙ f.fewer r (subst (λ (q : ℕ). q < f.map.plexes) same low) region (subst (λ (q : ℕ). has_missed g q r ≡ true) same has)
+            sym (f.begun.same p r it) ∙ ap (λ (q : ℕ). has_missed f.map q r) same
+            ∙ f.fewer r (subst (λ (q : ℕ). q < f.map.plexes) same low) region (subst (λ (q : ℕ). has_missed g q r ≡ true) same has)
         | inr apart ↦ sym (f.begun.same p r it) ∙ sym (f.others.each p r low region apart) ∙ has
       ]
 
@@ -134,8 +136,8 @@ module _ (c d : Config) (vol plex : ℕ) (sure : Bool) (l k : List Logs) (others
       let region = low_old r (copied_regions c vol) f.map.stride it.region f.begun.stride in
       elim (cases_eq p plex) [
         | inl same ↦
-          ap (λ (q : ℕ). has_missed g q r) same
-          ∙ f.still (subst (λ (q : ℕ). active c vol q ≡ false) same was) r region (subst (λ (q : ℕ). has_missed f.map q r ≡ true) same (f.begun.same p r it ∙ has))
+            ap (λ (q : ℕ). has_missed g q r) same
+            ∙ f.still (subst (λ (q : ℕ). active c vol q ≡ false) same was) r region (subst (λ (q : ℕ). has_missed f.map q r ≡ true) same (f.begun.same p r it ∙ has))
         | inr apart ↦ f.others.each p r low region apart ∙ f.begun.same p r it ∙ has
       ]
 
@@ -157,7 +159,7 @@ module _ (c d : Config) (vol plex : ℕ) (sure : Bool) (l k : List Logs) (others
           let clash : true ≡ false = sym (subst (λ (q : ℕ). has_missed g q r ≡ true) same has) ∙ none in
           cc
 
-  pub det_moves : MapsMove c d (λ v r. false) (λ v p. (v == vol) && ((p == plex) && sure)) l k
+  pub det_moves : MapsMove c d in_none (this_anew vol plex sure) l k
   det_moves = record {
     most = λ v p r g at it has. inr ((λ on away. none_anew v p r g at it has on away), was v p r g at it has);
     least = λ v p r g at it off has. let clash : false ≡ true = has in cc;
@@ -167,14 +169,14 @@ module _ (c d : Config) (vol plex : ℕ) (sure : Bool) (l k : List Logs) (others
       was : (v p r : ℕ) (g : Missed) → fmr_at k v ≡ Some g → IsThere c v p r → has_missed g p r ≡ true → missed_in l c v p r ≡ true
       was v p r g at it has = elim (cases_eq v vol) [
         | inl here ↦
-          subst (λ (w : ℕ). missed_in l c w p r ≡ true) (sym here) (was_here p r g (subst (λ (w : ℕ). fmr_at k w ≡ Some g) here at) (subst (λ (w : ℕ). IsThere c w p r) here it) has)
+            subst (λ (w : ℕ). missed_in l c w p r ≡ true) (sym here) (was_here p r g (subst (λ (w : ℕ). fmr_at k w ≡ Some g) here at) (subst (λ (w : ℕ). IsThere c w p r) here it) has)
         | inr other ↦ same_missed c l k v (others v other) p r g at ∙ has
       ]
 
       stays : (v p r : ℕ) (g : Missed) → fmr_at k v ≡ Some g → IsThere c v p r → active c v p ≡ false → missed_in l c v p r ≡ true → has_missed g p r ≡ true
       stays v p r g at it gone has = elim (cases_eq v vol) [
         | inl here ↦
-          stays_here p r g (subst (λ (w : ℕ). fmr_at k w ≡ Some g) here at) (subst (λ (w : ℕ). IsThere c w p r) here it) (subst (λ (w : ℕ). active c w p ≡ false) here gone)
-          (subst (λ (w : ℕ). missed_in l c w p r ≡ true) here has)
+            stays_here p r g (subst (λ (w : ℕ). fmr_at k w ≡ Some g) here at) (subst (λ (w : ℕ). IsThere c w p r) here it) (subst (λ (w : ℕ). active c w p ≡ false) here gone)
+            (subst (λ (w : ℕ). missed_in l c w p r ≡ true) here has)
         | inr other ↦ sym (same_missed c l k v (others v other) p r g at) ∙ has
       ]

@@ -1,6 +1,7 @@
 -- Volumes whose logs have not begun: what is known of their plexes, and what a beginning makes of the logs in memory.
 use Rattle.std.specs.Prelude.{◌≡◌, ℕ, true, IsTrue, None, Some, List, Bool, length, slice_get}
 use Rattle.vx_disk.specs.Shelf.{Goes, Meaning, Nothing}
+use Rattle.vx_config.specs.declared.config.Config.{Config}
 use Rattle.vx_drl.specs.Dirty.{Dirty}
 use Rattle.vx_fmr.specs.Missed.{Missed}
 use Rattle.vx_group.specs.Finds.{GroupFinds}
@@ -10,6 +11,7 @@ use Rattle.vx_group.specs.Loses.{LosesAlong, TrustsStill}
 use Rattle.vx_group.specs.Stands.{inner_meaning}
 use Rattle.vx_group.specs.declared.group_core.GroupCore.{GroupCore}
 use Rattle.vx_grouplogs.specs.Covering.{AllAlike}
+use Rattle.vx_grouplogs.specs.Mapping.{AreBegun}
 use Rattle.vx_grouplogs.specs.Marking.{NoMarks}
 use Rattle.vx_logged.specs.Logged.{OthersOn}
 use Rattle.vx_logs.specs.declared.logs.Logs.{Logs}
@@ -31,6 +33,14 @@ pub record LogsFirst (v n : ℕ) (old new : List Logs) : Type 0 where
   pub many : length new ≡ length old
   pub here : (l k : Logs) → slice_get old v ≡ Some l → slice_get new v ≡ Some k → FirstLogs n l k
   pub others : (w : ℕ) → (w ≡ v → ⊥) → slice_get new w ≡ slice_get old w
+
+-- Maps of volume v that were not in memory are, where they are now, as maps begin.
+pub record NewMaps (c : Config) (v : ℕ) (l k : Logs) : Type 0 where
+  pub begun : l.fmr ≡ None → AreBegun c v k
+
+-- so it is in the list
+pub record ListMaps (c : Config) (v : ℕ) (old new : List Logs) : Type 0 where
+  pub here : (l k : Logs) → slice_get old v ≡ Some l → slice_get new v ≡ Some k → NewMaps c v l k
 
 -- What the beginning of logs of volume v makes of a group: all volumes read as before, and each plex is in the state that it was in.
 pub record LogsStart (v : ℕ) (c d : GroupCore) (old new : Meaning) : Type 0 where

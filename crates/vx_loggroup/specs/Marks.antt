@@ -5,6 +5,7 @@ use Rattle.vx_config.specs.declared.config.Config.{Config}
 use Rattle.vx_fmr.specs.Missed.{Missed}
 use Rattle.vx_grouplogs.specs.Marking.{MarksFewer, MarksOnly, NoMarks}
 use Rattle.vx_logged.specs.Begun.{MapsOff, MapsOfRun, NotesBut}
+use Rattle.vx_logged.specs.Holds.{TheseHold}
 use Rattle.vx_logs.specs.declared.logs.Logs.{Logs}
 use Rattle.vx_model.specs.Sizes.{regions_of}
 use Rattle.vx_loggroup.specs.LoggedVolumes.{is_alike}
@@ -31,6 +32,10 @@ pub record NotesMaps (fell those : ℕ → Bool) (v first last : ℕ) (old new :
 -- the maps of these plexes of volume v have regions from first to last alone
 pub record RunsMaps (these : ℕ → Bool) (v first last : ℕ) (logs : List Logs) : Type 0 where
   pub here : (l : Logs) → slice_get logs v ≡ Some l → MapsOfRun these first last l
+
+-- they have each of these regions
+pub record HoldMaps (these : ℕ → Bool) (v first last : ℕ) (logs : List Logs) : Type 0 where
+  pub here : (l : Logs) → slice_get logs v ≡ Some l → TheseHold these first last l
 
 -- they have no region
 pub record EmptyMaps (these : ℕ → Bool) (v : ℕ) (logs : List Logs) : Type 0 where

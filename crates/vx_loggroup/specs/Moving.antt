@@ -1,5 +1,5 @@
 -- What a call makes of the maps of missed regions in memory, plex by plex.
-use Rattle.std.specs.Prelude.{◌≡◌, ◌⊎◌, ◌+◌, ◌*◌, ◌<◌, ◌≤◌, ◌==◌, ℕ, Bool, true, false, not, ◌&&◌, IsTrue, is_some, Option, Some, None, List}
+use Rattle.std.specs.Prelude.{◌≡◌, ◌⊎◌, ◌+◌, ◌*◌, ◌<◌, ◌≤◌, ◌==◌, ℕ, Bool, true, false, not, ◌&&◌, IsTrue, is_some, Option, Some, None, List, Result, Ok, Err, slice_get}
 use Rattle.vx_bitmap.specs.Bits.{is_among}
 use Rattle.vx_bitmap.specs.Maps.{MapOn}
 use Rattle.vx_config.specs.Checks.{plexes_of}
@@ -15,12 +15,17 @@ use Rattle.vx_groupmaps.specs.Loading.{on_failed_disk}
 use Rattle.vx_copyfmt.specs.Imports.{Found}
 use Rattle.vx_kept.specs.Groups.{found}
 use Rattle.vx_kept.specs.LogRuns.{log_trusted}
+use Rattle.vx_logimport.specs.Rests.{rests}
+use Rattle.vx_logimport.specs.declared.rested.Rested.{Rested}
 use Rattle.vx_logs.specs.Held.{InUse, logged_in}
 use Rattle.vx_logs.specs.Marks.{stride_of}
 use Rattle.vx_logs.specs.declared.logs.Logs.{Logs}
 use Rattle.vx_maplog.specs.Logs.{log_of}
+use Rattle.vx_model.specs.declared.errors.Stop.{Stop}
 use Rattle.vx_volume.specs.Plexes.{active}
+use Rattle.vx_logged.specs.Holds.{HoldsRun}
 use Rattle.vx_loggroup.specs.Attaching.{fmr_at}
+use Rattle.vx_loggroup.specs.LoggedVolumes.{is_alike}
 
 -- whether attaches of the plexes of a volume go by its maps in memory
 abbrev pub goes_by : List Logs → Config → Bool → ℕ → Bool
@@ -56,6 +61,51 @@ pub record MapsDoubt (c d : Config) (these : ℕ → ℕ → Bool) (l k : List L
   pub most : (v p r : ℕ) (g : Missed) → fmr_at k v ≡ Some g → IsThere c v p r → has_missed g p r ≡ true → (these v r ≡ true) ⊎ (missed_in l c v p r ≡ true)
   pub stay : (v p r : ℕ) (g : Missed) → fmr_at k v ≡ Some g → IsThere c v p r → active c v p ≡ false → active d v p ≡ false → missed_in l c v p r ≡ true → has_missed g p r ≡ true
 
+-- A flush behind a write of those regions: the same, but that only a plex that falls out of use in it has noted them.
+pub record MapsFollow (c d : Config) (these : ℕ → ℕ → Bool) (anew : ℕ → ℕ → Bool) (l k : List Logs) : Type 0 where
+  pub most : (v p r : ℕ) (g : Missed) → fmr_at k v ≡ Some g → IsThere c v p r → has_missed g p r ≡ true
+      → ((active d v p ≡ false) × (these v r ≡ true)) ⊎ ((active c v p ≡ true → active d v p ≡ false → anew v p ≡ false) × (missed_in l c v p r ≡ true))
+  pub least : (v p r : ℕ) (g : Missed) → fmr_at k v ≡ Some g → IsThere c v p r → active c v p ≡ true → active d v p ≡ false → these v r ≡ true → has_missed g p r ≡ true
+  pub stay : (v p r : ℕ) (g : Missed) → fmr_at k v ≡ Some g → IsThere c v p r → active c v p ≡ false → active d v p ≡ false → missed_in l c v p r ≡ true → has_missed g p r ≡ true
+
+-- the plexes of one volume, where it is sure that they were alike
+abbrev pub all_anew : (vol : ℕ) → Bool → ℕ → ℕ → Bool
+all_anew vol sure v p = (v == vol) && sure
+
+-- this plex of it
+abbrev pub this_anew : (vol plex : ℕ) → Bool → ℕ → ℕ → Bool
+this_anew vol plex sure v p = (v == vol) && ((p == plex) && sure)
+
+-- one volume, and none
+abbrev pub only_volume : ℕ → ℕ → Bool
+only_volume vol v = v == vol
+
+abbrev pub no_volume : ℕ → Bool
+no_volume v = false
+
+-- no region, and no plex
+abbrev pub in_none : ℕ → ℕ → Bool
+in_none v r = false
+
+-- what a write of a run of one volume makes of the maps
+abbrev pub MovesRun : {T E : Type 0} → Config → Config → (vol first last : ℕ) → Bool → List Logs → List Logs → Result T E → Type 0
+MovesRun c d vol first last sure l k (Ok x) = MapsMove c d (in_run vol first last) (all_anew vol sure) l k
+MovesRun c d vol first last sure l k (Err e) = MapsDoubt c d (in_run vol first last) l k
+
+-- and the flush behind it
+abbrev pub FollowsRun : {T E : Type 0} → Config → Config → (vol first last : ℕ) → Bool → List Logs → List Logs → Result T E → Type 0
+FollowsRun c d vol first last sure l k (Ok x) = MapsFollow c d (in_run vol first last) (all_anew vol sure) l k
+FollowsRun c d vol first last sure l k (Err e) = MapsDoubt c d (in_run vol first last) l k
+
+-- what the detach of a plex makes of them
+abbrev pub MovesDet : {T E : Type 0} → Config → Config → (vol plex : ℕ) → Bool → List Logs → List Logs → Result T E → Type 0
+MovesDet c d vol plex sure l k (Ok x) = MapsMove c d in_none (this_anew vol plex sure) l k
+MovesDet c d vol plex sure l k (Err e) = MapsMove c d in_none in_none l k
+
+-- the maps of a volume, where they are in memory, have a run of each plex that is not ACTIVE
+pub record RunHolds (c : Config) (v first last : ℕ) (logs : List Logs) : Type 0 where
+  pub here : (l : Logs) → slice_get logs v ≡ Some l → HoldsRun c v first last l
+
 -- Maps come to memory in a call of one volume alone; where they were there and are gone by no more, they are.
 pub record MapsBeginIn (may : ℕ → Bool) (c d : Config) (s t : Bool) (l k : List Logs) : Type 0 where
   pub so : (v : ℕ) → goes_by l c s v ≡ false → goes_by k d t v ≡ true → (may v ≡ true) × (fmr_at l v ≡ None)
@@ -80,3 +130,17 @@ pub record MapsTaken (old : Meaning) (d : Config) (logs : List Logs) : Type 0 wh
 -- What the disks have of the maps that were in memory as a group was deported, whatever a crash leaves.
 pub record MapsStand (logs : List Logs) (m : Meaning) : Type 0 where
   pub each : (v : ℕ) (f : Missed) → fmr_at logs v ≡ Some f → MapOn f.map m
+
+-- What a deport answers of volumes whose maps are in memory, and of those whose plexes are alike.
+pub record RestsMaps (logs : List Logs) (alike : List Bool) (r : Rested) : Type 0 where
+  pub maps : (v : ℕ) (f : Missed) → fmr_at logs v ≡ Some f → rests r.maps v ≡ true
+  pub same : (v : ℕ) → is_alike alike v ≡ true → rests r.alike v ≡ true
+
+abbrev pub RestsOr : List Logs → List Bool → Option Rested → Type 0
+RestsOr logs alike None = Unit {0}
+RestsOr logs alike (Some r) = RestsMaps logs alike r
+
+-- of a group that is handed out
+abbrev pub DeportMaps : {S G : Type 0} → (S → Meaning) → List Logs → List Bool → Bool → Result (S × Option Rested) (G × Stop) → Type 0
+DeportMaps meaning logs alike stopped (Ok x) = (stopped ≡ false → MapsStand logs (meaning x.0)) × RestsOr logs alike x.1
+DeportMaps meaning logs alike stopped (Err e) = Unit {0}

@@ -20,6 +20,7 @@ use Rattle.vx_logs.specs.declared.logs.Logs.{Logs}
 use Rattle.vx_loggroup.specs.Fresh.{FreshStands}
 use Rattle.vx_loggroup.specs.LoggedVolumes.{LoggedStands, is_alike}
 use Rattle.vx_loggroup.specs.Marks.{MarksAreOff}
+use Rattle.vx_loggroup.specs.Moving.{MapsTaken}
 use Rattle.vx_loggroup.specs.Taking.{LogsSettle, MapsShrink, MapsWhy}
 use Rattle.vx_loggroup.specs.declared.opening.Opened.{Opened}
 
@@ -52,7 +53,8 @@ SettlesLogs c logs alike old new (Err stop) = NotSettled c old new stop
 
 -- There was a moment at which the group was one that was imported by its logs; since then its volumes read as then, and only logs were written, and lost
 -- by commits. Of the volumes that stopped uncleanly, and of those of which the disks told that they are alike, no log has a region, unless logs are stopped.
--- A log of missed regions is in memory only of a volume that stopped cleanly, where it was not held as lost, nor its disk as failed.
+-- A log of missed regions is in memory only of a volume that stopped cleanly, where it was not held as lost, nor its disk as failed; and it has what the
+-- disks had of it.
 pub record IsOpened {S : Type 0} (meaning : S → Meaning) (rested : Rested) (old : Meaning) (core : GroupCore) (logs : List Logs) (flags : List Bool) (ended : Bool) (new : Meaning) : Type 0 where
   pub moment : S
   pub marked : Marked
@@ -70,6 +72,7 @@ pub record IsOpened {S : Type 0} (meaning : S → Meaning) (rested : Rested) (ol
   pub resting : (v : ℕ) → v < length marked.core.config.volumes → rests rested.alike v ≡ true → is_alike flags v ≡ true
   pub off : ended ≡ false → MarksAreOff marked.core.config flags (length logs) logs
   pub maps : MapsWhy marked.good marked.core.config marked.stopped rested logs
+  pub took : MapsTaken old core.inner.config logs
 
 -- how it ends, with each log standing
 abbrev pub OpensLogged : {S : Type 0} → (S → Meaning) → Rested → Meaning → Meaning → Result Opened Stop → Type 0

@@ -1,14 +1,18 @@
 -- Logs of missed regions that an import takes up, and logs that are lost as it ends.
-use Rattle.std.specs.Prelude.{◌≡◌, ℕ, Bool, true, false, Some, None, List, length, slice_get}
+use Rattle.std.specs.Prelude.{◌≡◌, ◌+◌, ◌<◌, ℕ, Bool, true, false, IsTrue, Some, None, List, length, slice_get}
+use Rattle.vx_bitmap.specs.Maps.{map_block_count}
+use Rattle.vx_config.specs.Checks.{blocks_of}
 use Rattle.vx_config.specs.declared.config.Config.{Config}
 use Rattle.vx_config.specs.declared.entry.VolumeLog.TheVariants.{Fmr}
 use Rattle.vx_disk.specs.Shelf.{Goes, Meaning, Nothing}
+use Rattle.vx_fmr.specs.Missed.{FmrLoaded, Missed}
 use Rattle.vx_group.specs.Finds.{GroupFinds}
 use Rattle.vx_group.specs.Creates.{SameUnits}
 use Rattle.vx_group.specs.Holding.{wide}
 use Rattle.vx_group.specs.Loses.{LosesAlong}
 use Rattle.vx_group.specs.Stands.{inner_meaning}
 use Rattle.vx_group.specs.declared.group_core.GroupCore.{GroupCore}
+use Rattle.vx_groupmaps.specs.Knowing.{MapsStay}
 use Rattle.vx_kept.specs.Cleans.{is_unsure}
 use Rattle.vx_logged.specs.Logged.{Narrowed}
 use Rattle.vx_logimport.specs.Marked.{log_within}
@@ -16,10 +20,22 @@ use Rattle.vx_logimport.specs.Rests.{rests}
 use Rattle.vx_logimport.specs.declared.rested.Rested.{Rested}
 use Rattle.vx_logs.specs.Held.{is_used}
 use Rattle.vx_logs.specs.declared.logs.Logs.{Logs}
+use Rattle.vx_model.specs.Content.{block_of}
 
 -- the dirty region log of each volume is the one that it was
 pub record SameDrls (old new : List Logs) : Type 0 where
   pub each : (v : ℕ) (l k : Logs) → slice_get old v ≡ Some l → slice_get new v ≡ Some k → k.drl ≡ l.drl
+
+-- A log of missed regions in memory is one that is in use, with bytes that a crash may leave of its blocks.
+pub record MapWas (c : Config) (v : ℕ) (f : Missed) (m : Meaning) : Type 0 where
+  pub some : 0 < blocks_of c.volumes v
+  pub used : is_used c v Fmr ≡ true
+  pub fits : FmrLoaded c v f
+  pub left : IsTrue m.tells → (k : ℕ) → k < map_block_count f.map → m.leaves f.map.unit (f.map.first + k) (block_of f.map.bytes k)
+
+-- so is each
+pub record MapsWere (c : Config) (logs : List Logs) (m : Meaning) : Type 0 where
+  pub each : (v : ℕ) (l : Logs) (f : Missed) → slice_get logs v ≡ Some l → l.fmr ≡ Some f → MapWas c v f m
 
 -- Only the log of missed regions of volume v changed; it is in memory only where it may be taken up, and is in use.
 pub record TakesMap (c : Config) (may : Bool) (v : ℕ) (old new : List Logs) : Type 0 where
@@ -39,10 +55,11 @@ pub record MapsMay (good : ℕ) (c : Config) (stopped : List Bool) (r : Rested) 
 pub record MapsWhy (good : ℕ) (c : Config) (stopped : List Bool) (r : Rested) (logs : List Logs) : Type 0 where
   pub each : (v : ℕ) (l : Logs) → slice_get logs v ≡ Some l → (l.fmr ≡ None → ⊥) → MapsMay good c stopped r v
 
--- no log of missed regions is in memory that was not
+-- no log of missed regions is in memory that was not, and each one has what it had
 pub record MapsShrink (old new : List Logs) : Type 0 where
   pub many : length new ≡ length old
   pub each : (v : ℕ) (l k : Logs) → slice_get old v ≡ Some l → slice_get new v ≡ Some k → l.fmr ≡ None → k.fmr ≡ None
+  pub stay : (v : ℕ) (l k : Logs) → slice_get old v ≡ Some l → slice_get new v ≡ Some k → MapsStay l k
 
 -- Commits that lose logs: all volumes read as before, and no plex is ACTIVE that was not.
 pub record LogsSettle (c d : GroupCore) (old new : Meaning) : Type 0 where

@@ -7,7 +7,7 @@ ghost use Rattle.vx_group.specs.Stands.{inner_meaning};
 ghost use Rattle.vx_grouplogs.specs.Covering.{AllAlike};
 ghost use Rattle.vx_grouplogs.specs.On.{ReadsOne};
 ghost use Rattle.vx_logged.specs.Logged.{Known, LogOn};
-ghost use Rattle.vx_loggroup.specs.Fresh.{LogsStart, FirstLogs};
+ghost use Rattle.vx_loggroup.specs.Fresh.{LogsStart, FirstLogs, NewMaps};
 ghost use Rattle.vx_loggroup.specs.Marks.{region_count};
 
 use crate::trusting::trust_first;
@@ -50,6 +50,7 @@ fn begin_log<S: Shelf>(
     ensures none { core.new.held ≡ None }
     ensures begins { LogsStart vol core.old core.new (S.meaning shelf.old) (S.meaning shelf.new) }
     ensures first { FirstLogs (region_count (wide core.old).config vol) one.old one.new }
+    ensures news { NewMaps core.old.inner.config vol one.old one.new }
     ensures log { LogOn core.new vol one.new (S.meaning shelf.new) }
     ensures maps { Known core.new vol one.new (S.meaning shelf.new) }
     ensures few { OnOk result (core.new.inner.config.serial ≤ core.old.inner.config.serial + 9) }
@@ -92,6 +93,7 @@ fn begin_map<S: Shelf>(
     ensures none { core.new.held ≡ None }
     ensures begins { LogsStart vol core.old core.new (S.meaning shelf.old) (S.meaning shelf.new) }
     ensures first { FirstLogs (region_count (wide core.old).config vol) one.old one.new }
+    ensures news { NewMaps core.old.inner.config vol one.old one.new }
     ensures log { LogOn core.new vol one.new (S.meaning shelf.new) }
     ensures maps { Known core.new vol one.new (S.meaning shelf.new) }
     ensures few { OnOk result (core.new.inner.config.serial ≤ core.old.inner.config.serial + 9) }
@@ -129,6 +131,7 @@ fn begin_drl<S: Shelf>(
     ensures none { core.new.held ≡ None }
     ensures begins { LogsStart vol core.old core.new (S.meaning shelf.old) (S.meaning shelf.new) }
     ensures first { FirstLogs (region_count (wide core.old).config vol) one.old one.new }
+    ensures news { NewMaps core.old.inner.config vol one.old one.new }
     ensures log { LogOn core.new vol one.new (S.meaning shelf.new) }
     ensures maps { Known core.new vol one.new (S.meaning shelf.new) }
     ensures few { OnOk result (core.new.inner.config.serial ≤ core.old.inner.config.serial + 9) }
@@ -169,6 +172,7 @@ fn begin_fmr<S: Shelf>(
     ensures none { core.new.held ≡ None }
     ensures begins { LogsStart vol core.old core.new (S.meaning shelf.old) (S.meaning shelf.new) }
     ensures first { FirstLogs (region_count (wide core.old).config vol) one.old one.new }
+    ensures news { NewMaps core.old.inner.config vol one.old one.new }
     ensures log { LogOn core.new vol one.new (S.meaning shelf.new) }
     ensures maps { Known core.new vol one.new (S.meaning shelf.new) }
     ensures few { OnOk result (core.new.inner.config.serial ≤ core.old.inner.config.serial + 9) }
@@ -208,6 +212,7 @@ pub fn begin_both<S: Shelf>(
     ensures none { core.new.held ≡ None }
     ensures begins { LogsStart vol core.old core.new (S.meaning shelf.old) (S.meaning shelf.new) }
     ensures first { FirstLogs (region_count (wide core.old).config vol) one.old one.new }
+    ensures news { NewMaps core.old.inner.config vol one.old one.new }
     ensures log { LogOn core.new vol one.new (S.meaning shelf.new) }
     ensures maps { Known core.new vol one.new (S.meaning shelf.new) }
     ensures few { OnOk result (core.new.inner.config.serial ≤ core.old.inner.config.serial + 18) }

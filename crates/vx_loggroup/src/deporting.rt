@@ -8,6 +8,7 @@ ghost use Rattle.vx_group.specs.Dets.{DetStops, margin};
 ghost use Rattle.vx_group.specs.Holding.{wide};
 ghost use Rattle.vx_group.specs.Stands.{inner_meaning};
 ghost use Rattle.vx_loggroup.specs.LoggedVolumes.{LoggedStands};
+ghost use Rattle.vx_loggroup.specs.Moving.{MapsStand, RestsOr};
 ghost use Rattle.vx_loggroup.specs.Opens.{RestTells};
 ghost use Rattle.vx_model.specs.declared.errors.Stop.TheVariants.{No as Refused};
 ghost use Rattle.vx_model.specs.declared.no.Counted.TheVariants.{Number as Numbers};
@@ -59,6 +60,8 @@ fn deport_rested<S: Shelf>(
     ensures up { OnOk result (IsTrue (S.meaning shelf.new).down → ⊥) }
     ensures back { IfErr result (λ e. Goes Nothing (inner_meaning (wide core.old) (S.meaning shelf.old)) (inner_meaning (wide core.new) (S.meaning shelf.new))) }
     ensures tells { IfOk result (λ r. RestTells r (S.meaning shelf.new)) }
+    ensures maps { OnOk result (MapsStand logs.now.items (S.meaning shelf.new)) }
+    ensures rests { IfOk result (λ r. RestsOr logs.now.items alike.now r) }
     ensures finds { IfErr result (λ e. GroupFinds core.old core.new (S.meaning shelf.old) (S.meaning shelf.new)) }
     ensures cause { DetStops (S.meaning shelf.old) (S.meaning shelf.new) result }
 {
@@ -99,6 +102,8 @@ pub fn deport_whole<S: Shelf>(
     ensures up { OnOk result (IsTrue (S.meaning shelf.new).down → ⊥) }
     ensures back { IfErr result (λ e. Goes Nothing (inner_meaning (wide core.old) (S.meaning shelf.old)) (inner_meaning (wide core.new) (S.meaning shelf.new))) }
     ensures tells { IfOk result (λ r. RestTells r (S.meaning shelf.new)) }
+    ensures maps { stopped ≡ false → OnOk result (MapsStand logs.now.items (S.meaning shelf.new)) }
+    ensures rests { IfOk result (λ r. RestsOr logs.now.items alike.now r) }
     ensures finds { IfErr result (λ e. GroupFinds core.old core.new (S.meaning shelf.old) (S.meaning shelf.new)) }
     ensures cause { core.old.inner.config.serial ≤ greatest - margin → DetStops (S.meaning shelf.old) (S.meaning shelf.new) result }
 {

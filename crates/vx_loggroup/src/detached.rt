@@ -1,5 +1,5 @@
 // A plex of a volume whose logs may not have begun, that is detached.
-ghost use Rattle.vx_loggroup.specs.Keeping.{LogsKeep, LogsStay};
+ghost use Rattle.vx_loggroup.specs.Keeping.{LogsKeep, LogsStay, logs_at};
 ghost use Rattle.vx_group.specs.Finds.{GroupFinds};
 ghost use Rattle.std.specs.Prelude.{◌≡◌, ℕ, Err, false, IfErr, IsOk, IsTrue, List, None, OnOk, Some, true};
 ghost use Rattle.vx_copies.specs.Commits.{MoreFailed};
@@ -7,14 +7,16 @@ ghost use Rattle.vx_disk.specs.Shelf.{Goes, Nothing};
 ghost use Rattle.vx_group.specs.Creates.{SameUnits};
 ghost use Rattle.vx_group.specs.Dets.{DetStops, det_refusal};
 ghost use Rattle.vx_group.specs.Holding.{wide};
-ghost use Rattle.vx_group.specs.Loses.{LosesAlong, SameParts};
+ghost use Rattle.vx_group.specs.Loses.{LosesAlong, SameParts, TrustsStill};
 ghost use Rattle.vx_group.specs.Stands.{inner_meaning};
 ghost use Rattle.vx_kept.specs.Keeping.{frame_at};
 ghost use Rattle.vx_loggroup.specs.Attaching.{fmr_at};
 ghost use Rattle.vx_loggroup.specs.Detaching.{MapIsEmpty, MapsBegin};
-ghost use Rattle.vx_loggroup.specs.Fresh.{FreshStands, LogsFirst};
+ghost use Rattle.vx_loggroup.specs.Fresh.{FreshStands, ListMaps, LogsFirst};
 ghost use Rattle.vx_loggroup.specs.LoggedVolumes.{LoggedStands, is_alike as is_alike_is};
 ghost use Rattle.vx_loggroup.specs.Marks.{region_count};
+ghost use Rattle.vx_loggroup.specs.Moving.{MovesDet};
+ghost use Rattle.vx_logged.specs.Logged.{TrustsIn};
 ghost use Rattle.vx_logs.specs.declared.logs.Logs.{Logs as LogsValue};
 ghost use Rattle.vx_model.specs.declared.errors.Stop.TheVariants.{No as Refused};
 ghost use Rattle.vx_model.specs.declared.no.No.{No as NoValue};
@@ -54,6 +56,8 @@ fn begin_before<S: Shelf>(
     ensures still { (w p : ℕ) → active core.new.inner.config w p ≡ active core.old.inner.config w p }
     ensures below { SameUnits (S.meaning shelf.old) (S.meaning shelf.new) }
     ensures first { LogsFirst vol (region_count (wide core.old).config vol) logs.old.items logs.new.items }
+    ensures news { ListMaps core.old.inner.config vol logs.old.items logs.new.items }
+    ensures trusts { TrustsStill core.old.inner.config core.new.inner.config }
     ensures refused { (no : NoValue) → det_refusal core.old.inner.config vol plex ≡ Some no → IsOk result × (core.new ≡ core.old) × (shelf.new ≡ shelf.old) }
     ensures may { det_refusal core.old.inner.config vol plex ≡ None → OnOk result (det_refusal core.new.inner.config vol plex ≡ None) }
     ensures stays { LogsStay core.old.inner.config core.new.inner.config logs.old.items logs.new.items (S.meaning shelf.old) (S.meaning shelf.new) }
@@ -108,6 +112,9 @@ pub fn det_fresh<S: Shelf>(
     ensures off { OnOk result (active core.new.inner.config vol plex ≡ false) }
     ensures others { (w p : ℕ) → (w ≡ vol → p ≡ plex → ⊥) → active core.new.inner.config w p ≡ active core.old.inner.config w p }
     ensures maps { (ls : List LogsValue) × LogsFirst vol (region_count (wide core.old).config vol) logs.old.items ls × MapsBegin vol plex ls logs.new.items }
+    ensures moves { stopped ≡ false → MovesDet core.old.inner.config core.new.inner.config vol plex (is_alike_is alike.now vol) logs.old.items logs.new.items result }
+    ensures left { (w : ℕ) → (w ≡ vol → ⊥) → fmr_at logs.new.items w ≡ fmr_at logs.old.items w }
+    ensures trusts { TrustsIn vol (logs_at logs.new.items vol) core.old.inner.config core.new.inner.config }
     ensures keeps { LogsKeep core.old core.new logs.old.items logs.new.items (S.meaning shelf.old) (S.meaning shelf.new) }
     ensures trust { OnOk result (core.old.inner.committed ≡ true → core.new.inner.committed ≡ true) }
     ensures agreed { IfErr result (λ e. core.old.inner.committed ≡ true → core.new.inner.agreed ≡ true) }

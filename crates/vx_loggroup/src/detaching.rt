@@ -185,6 +185,9 @@ pub fn det_whole<S: Shelf>(
     ensures off { OnOk result (active core.new.inner.config vol plex ≡ false) }
     ensures others { (w p : ℕ) → (w ≡ vol → p ≡ plex → ⊥) → active core.new.inner.config w p ≡ active core.old.inner.config w p }
     ensures maps { MapsBegin vol plex logs.old.items logs.new.items }
+    ensures same { active core.old.inner.config vol plex ≡ false → logs.new.items ≡ logs.old.items }
+    ensures free { IsTrue (active core.old.inner.config vol plex) → OnOk result (core.new.held ≡ None) }
+    ensures trusts { TrustsIn vol (logs_at logs.new.items vol) core.old.inner.config core.new.inner.config }
     ensures keeps { LogsKeep core.old core.new logs.old.items logs.new.items (S.meaning shelf.old) (S.meaning shelf.new) }
     ensures trust { OnOk result (core.old.inner.committed ≡ true → core.new.inner.committed ≡ true) }
     ensures agreed { IfErr result (λ e. core.old.inner.committed ≡ true → core.new.inner.agreed ≡ true) }

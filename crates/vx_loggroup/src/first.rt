@@ -4,7 +4,7 @@ ghost use Rattle.vx_disk.specs.Causes.{Cause};
 ghost use Rattle.vx_group.specs.Holding.{wide};
 ghost use Rattle.vx_group.specs.Stands.{inner_meaning};
 ghost use Rattle.vx_grouplogs.specs.Covering.{AllAlike};
-ghost use Rattle.vx_loggroup.specs.Fresh.{LogsStart, LogsFirst};
+ghost use Rattle.vx_loggroup.specs.Fresh.{ListMaps, LogsStart, LogsFirst};
 ghost use Rattle.vx_loggroup.specs.LoggedVolumes.{LoggedStands};
 ghost use Rattle.vx_loggroup.specs.Marks.{region_count};
 
@@ -31,6 +31,7 @@ pub fn begin_first<S: Shelf>(
     ensures stands { LoggedStands core.new logs.new.items alike.now false (S.meaning shelf.new) }
     ensures begins { LogsStart vol core.old core.new (S.meaning shelf.old) (S.meaning shelf.new) }
     ensures first { LogsFirst vol (region_count (wide core.old).config vol) logs.old.items logs.new.items }
+    ensures news { ListMaps core.old.inner.config vol logs.old.items logs.new.items }
     ensures few { OnOk result (core.new.inner.config.serial ≤ core.old.inner.config.serial + 27) }
     ensures trust { OnOk result (core.old.inner.committed ≡ true → core.new.inner.committed ≡ true) }
     ensures agreed { IfErr result (λ e. core.old.inner.committed ≡ true → core.new.inner.agreed ≡ true) }

@@ -1,7 +1,10 @@
 // A write of a volume whose logs may not have begun.
-ghost use Rattle.vx_loggroup.specs.Keeping.{LogsKeep, LogsKept};
+ghost use Rattle.vx_loggroup.specs.Attaching.{fmr_at};
+ghost use Rattle.vx_loggroup.specs.Keeping.{LogsKeep, LogsKept, logs_at};
+ghost use Rattle.vx_loggroup.specs.Moving.{MovesRun};
+ghost use Rattle.vx_logged.specs.Logged.{TrustsIn};
 ghost use Rattle.vx_group.specs.Finds.{GroupFinds};
-ghost use Rattle.std.specs.Prelude.{◌≡◌, ◌+◌, ◌/◌, ◌<◌, ◌≤◌, ℕ, false, length, true, IfErr, OnOk};
+ghost use Rattle.std.specs.Prelude.{◌≡◌, ◌⊎◌, ◌+◌, ◌/◌, ◌<◌, ◌≤◌, ℕ, None, false, length, true, IfErr, IsTrue, OnOk};
 ghost use Rattle.vx_config.specs.Table.{greatest};
 ghost use Rattle.vx_disk.specs.Causes.{Cause};
 ghost use Rattle.vx_disk.specs.Shelf.{Fits, Goes, Written, Wrote};
@@ -15,6 +18,7 @@ ghost use Rattle.vx_loggroup.specs.LoggedVolumes.{LoggedStands, is_alike as is_a
 ghost use Rattle.vx_loggroup.specs.Marks.{MarksVolume, NotesMaps, RunsMaps};
 ghost use Rattle.vx_logs.specs.Writes.{first_region, last_region};
 ghost use Rattle.vx_model.specs.declared.limits.TheConstants.{MOST_VOLUMES};
+ghost use Rattle.vx_volume.specs.Plexes.{active};
 
 use crate::alike::{is_alike, set_alike};
 use crate::first::begin_first;
@@ -67,6 +71,13 @@ pub fn write_fresh<S: Shelf>(
     ensures marks { MarksVolume (wide core.old).config vol (first_region block) (last_region block (length bytes.now / 512)) logs.old.items logs.new.items }
     ensures notes { NotesMaps (fell_in core.old core.new vol) (those_missing core.new vol result) vol (first_region block) (last_region block (length bytes.now / 512)) logs.old.items logs.new.items }
     ensures begins { is_alike_is alike.old vol ≡ true → stopped.new ≡ false → OnOk result (RunsMaps (fell_in core.old core.new vol) vol (first_region block) (last_region block (length bytes.now / 512)) logs.new.items) }
+    ensures moves { stopped.new ≡ false → MovesRun core.old.inner.config core.new.inner.config vol (first_region block) (last_region block (length bytes.now / 512)) (is_alike_is alike.old vol) logs.old.items logs.new.items result }
+    ensures trusts { TrustsIn vol (logs_at logs.new.items vol) core.old.inner.config core.new.inner.config }
+    ensures stays { stopped.old ≡ true → stopped.new ≡ true }
+    ensures rests { stopped.new ≡ false → (w p : ℕ) → IsTrue (active core.new.inner.config w p) → IsTrue (active core.old.inner.config w p) }
+    ensures free { stopped.new ≡ false → OnOk result ((core.new.held ≡ None) ⊎ (fmr_at logs.new.items vol ≡ None)) }
+    ensures alike { OnOk result (alike.new ≡ alike.old) }
+    ensures flags { (w : ℕ) → (w ≡ vol → ⊥) → is_alike_is alike.new w ≡ is_alike_is alike.old w }
     ensures marked { stopped.new ≡ false → MarkedBefore (λ s. S.meaning s) vol block bytes.now (first_region block) (last_region block (length bytes.now / 512)) core.old core.new (S.meaning shelf.old) (S.meaning shelf.new) }
     ensures full { stopped.old ≡ false → stopped.new ≡ true → greatest ≤ core.old.inner.config.serial + 45 }
     ensures trust { OnOk result (core.old.inner.committed ≡ true → core.new.inner.committed ≡ true) }

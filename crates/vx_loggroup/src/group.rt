@@ -27,6 +27,7 @@ ghost use Rattle.vx_loggroup.specs.LoggedVolumes.{LoggedStands, is_alike};
 ghost use Rattle.vx_loggroup.specs.Fresh.{FreshStands, LogsFirst};
 ghost use Rattle.vx_loggroup.specs.Marks.{region_count};
 ghost use Rattle.vx_loggroup.specs.Mirrors.{MirrorsKeep, names_none, names_plex};
+ghost use Rattle.vx_loggroup.specs.Moving.{DeportMaps, MapsBeginIn, MapsEnd, MapsMove, MovesDet, in_none, no_volume, only_volume};
 ghost use Rattle.vx_loggroup.specs.Opens.{DeportTells, LoggedImported};
 ghost use Rattle.vx_logimport.specs.Rests.{LogsTell};
 ghost use Rattle.vx_logs.specs.declared.logs.Logs.{Logs as LogsValue};
@@ -163,6 +164,13 @@ impl<S: Shelf> LoggedGroup<S> {
         ensures finds { GroupFinds self.old.core self.new.core (S.meaning self.old.shelf) (S.meaning self.new.shelf) }
         ensures mirrors { MirrorsKeep names_none self.old.core self.new.core (S.meaning self.old.shelf) (S.meaning self.new.shelf) }
         ensures unmoved { Unmoved result ((self.new.core ≡ self.old.core) × (self.new.shelf ≡ self.old.shelf)) }
+        ensures moves { MapsMove self.old.core.inner.config self.new.core.inner.config in_none in_none self.old.logs.items self.new.logs.items }
+        ensures comes { MapsBeginIn no_volume self.old.core.inner.config self.new.core.inner.config self.old.stopped self.new.stopped self.old.logs.items self.new.logs.items }
+        ensures ends_maps { MapsEnd self.old.core.inner.config self.new.core.inner.config self.old.stopped self.new.stopped self.old.logs.items self.new.logs.items (S.meaning self.old.shelf) (S.meaning self.new.shelf) }
+        ensures left { (v : ℕ) → fmr_at self.new.logs.items v ≡ fmr_at self.old.logs.items v }
+        ensures alike { IfOk result (λ n. is_alike self.new.alike n ≡ true) }
+        ensures flags { (w : ℕ) → is_alike self.old.alike w ≡ true → is_alike self.new.alike w ≡ true }
+        ensures stopped { self.new.stopped ≡ self.old.stopped }
     {
         make_fresh(
             alloc,
@@ -192,6 +200,10 @@ impl<S: Shelf> LoggedGroup<S> {
         ensures others { (w p : ℕ) → (w ≡ vol → p ≡ plex → ⊥) → active self.new.core.inner.config w p ≡ active self.old.core.inner.config w p }
         ensures mirrors { MirrorsKeep (names_plex vol plex) self.old.core self.new.core (S.meaning self.old.shelf) (S.meaning self.new.shelf) }
         ensures maps { (ls : List LogsValue) × LogsFirst vol (region_count (wide self.old.core).config vol) self.old.logs.items ls × MapsBegin vol plex ls self.new.logs.items }
+        ensures moves { self.old.stopped ≡ false → MovesDet self.old.core.inner.config self.new.core.inner.config vol plex (is_alike self.old.alike vol) self.old.logs.items self.new.logs.items result }
+        ensures comes { MapsBeginIn (only_volume vol) self.old.core.inner.config self.new.core.inner.config self.old.stopped self.new.stopped self.old.logs.items self.new.logs.items }
+        ensures ends_maps { MapsEnd self.old.core.inner.config self.new.core.inner.config self.old.stopped self.new.stopped self.old.logs.items self.new.logs.items (S.meaning self.old.shelf) (S.meaning self.new.shelf) }
+        ensures flags { (self.new.alike ≡ self.old.alike) × (self.new.stopped ≡ self.old.stopped) }
         ensures keeps { LogsKeep self.old.core self.new.core self.old.logs.items self.new.logs.items (S.meaning self.old.shelf) (S.meaning self.new.shelf) }
         ensures trust { OnOk result (self.old.core.inner.committed ≡ true → self.new.core.inner.committed ≡ true) }
         ensures agreed { IfErr result (λ e. self.old.core.inner.committed ≡ true → self.new.core.inner.agreed ≡ true) }
@@ -223,6 +235,10 @@ impl<S: Shelf> LoggedGroup<S> {
         ensures held { active self.old.core.inner.config vol plex ≡ false → OnOk result (HoldsPlex (λ s. S.meaning s) self.old.core.inner.config self.new.core.inner.config vol plex self.new.shelf) }
         ensures mirrors { MirrorsKeep (names_plex vol plex) self.old.core self.new.core (S.meaning self.old.shelf) (S.meaning self.new.shelf) }
         ensures logs { MapsHeld self.old.core.inner.config self.old.logs.items self.new.logs.items }
+        ensures moves { MapsMove self.old.core.inner.config self.new.core.inner.config in_none in_none self.old.logs.items self.new.logs.items }
+        ensures comes { MapsBeginIn no_volume self.old.core.inner.config self.new.core.inner.config self.old.stopped self.new.stopped self.old.logs.items self.new.logs.items }
+        ensures ends_maps { MapsEnd self.old.core.inner.config self.new.core.inner.config self.old.stopped self.new.stopped self.old.logs.items self.new.logs.items (S.meaning self.old.shelf) (S.meaning self.new.shelf) }
+        ensures flags { (self.new.alike ≡ self.old.alike) × (self.new.stopped ≡ self.old.stopped) }
         ensures keeps { LogsKeep self.old.core self.new.core self.old.logs.items self.new.logs.items (S.meaning self.old.shelf) (S.meaning self.new.shelf) }
         ensures trust { OnOk result (self.old.core.inner.committed ≡ true → self.new.core.inner.committed ≡ true) }
         ensures finds { CoreFinds (wide self.old.core) (wide self.new.core) (S.meaning self.old.shelf) (S.meaning self.new.shelf) }
@@ -250,6 +266,7 @@ impl<S: Shelf> LoggedGroup<S> {
         ensures back { GivesBack self.core (S.meaning self.shelf) (λ s. S.meaning s.0) (λ g. g.core) (λ g. (g.shelf, None)) result }
         ensures can { GroupCanImport self.core.inner (λ s. S.meaning s.0) result }
         ensures tells { DeportTells (λ s. S.meaning s) result }
+        ensures maps { DeportMaps (λ s. S.meaning s) self.logs.items self.alike self.stopped result }
         ensures finds { BackFinds self.core (S.meaning self.shelf) (λ g. g.core) (λ g. S.meaning g.shelf) result }
         ensures cause { self.core.inner.config.serial ≤ greatest - margin → DeportStops (S.meaning self.shelf) (λ s. S.meaning s.0) (λ g. (g.shelf, None)) result }
     {

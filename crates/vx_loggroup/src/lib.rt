@@ -8,6 +8,7 @@
 mod alike;
 mod attaching;
 mod beginning;
+mod behind;
 mod clearing;
 mod crashing;
 mod deporting;

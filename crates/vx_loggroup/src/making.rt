@@ -1,16 +1,17 @@
 // A volume of a group with logs that is made.
 ghost use Rattle.vx_loggroup.specs.Keeping.{LogsKeep};
 ghost use Rattle.vx_group.specs.Finds.{GroupFinds};
-ghost use Rattle.std.specs.Prelude.{◌≡◌, ◌⊎◌, ◌<◌, ℕ, true, IfErr, IfSome, IsTrue, None, OnOk, Some, Err};
+ghost use Rattle.std.specs.Prelude.{◌≡◌, ◌⊎◌, ◌<◌, ℕ, true, IfErr, IfOk, IfSome, IsTrue, None, OnOk, Some, Err};
 ghost use Rattle.vx_copies.specs.Commits.{MoreFailed};
 ghost use Rattle.vx_group.specs.Calls.{GroupStays};
 ghost use Rattle.vx_group.specs.Creates.{SameUnits};
-ghost use Rattle.vx_group.specs.Loses.{SameParts};
+ghost use Rattle.vx_group.specs.Loses.{SameParts, TrustsStill};
 ghost use Rattle.vx_group.specs.Makes.{MakeEnds, Unmoved, make_refusal};
 ghost use Rattle.vx_kept.specs.Commits.{IsCommitted};
 ghost use Rattle.vx_kept.specs.Trusts.{HasFailed};
 ghost use Rattle.vx_loggroup.specs.Fresh.{FreshStands};
-ghost use Rattle.vx_loggroup.specs.LoggedVolumes.{LoggedStands};
+ghost use Rattle.vx_loggroup.specs.Attaching.{fmr_at};
+ghost use Rattle.vx_loggroup.specs.LoggedVolumes.{LoggedStands, is_alike};
 ghost use Rattle.vx_model.specs.declared.errors.Stop.TheVariants.{No as Refused};
 ghost use Rattle.vx_model.specs.declared.no.No.{No as NoValue};
 
@@ -57,6 +58,10 @@ pub fn make_fresh<S: Shelf>(
     ensures whole { OnOk result ((core.new.inner.committed ≡ true) ⊎ HasFailed core.new.inner.config.disks) }
     ensures agreed { IfErr result (λ e. core.old.inner.committed ≡ true → core.new.inner.agreed ≡ true) }
     ensures unmoved { Unmoved result ((core.new ≡ core.old) × (shelf.new ≡ shelf.old)) }
+    ensures left { (v : ℕ) → fmr_at logs.new.items v ≡ fmr_at logs.old.items v }
+    ensures trusts { TrustsStill core.old.inner.config core.new.inner.config }
+    ensures alike { IfOk result (λ n. is_alike alike.new n ≡ true) }
+    ensures flags { (w : ℕ) → is_alike alike.old w ≡ true → is_alike alike.new w ≡ true }
     ensures finds { GroupFinds core.old core.new (S.meaning shelf.old) (S.meaning shelf.new) }
 {
     if let Some(no) = refuse_volume(&core.inner.config, name, want) {

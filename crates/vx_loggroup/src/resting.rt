@@ -3,9 +3,11 @@ ghost use Rattle.std.specs.Prelude.{◌≡◌, ◌<◌, ◌≤◌, ℕ, false, I
 ghost use Rattle.vx_config.specs.declared.entry.VolumeLog.{VolumeLog as VolumeLogValue};
 ghost use Rattle.vx_config.specs.declared.entry.VolumeLog.TheVariants.{Drl as DrlLog};
 ghost use Rattle.vx_disk.specs.Shelf.{Goes, Nothing};
+ghost use Rattle.vx_fmr.specs.Missed.{Missed};
 ghost use Rattle.vx_group.specs.Blames.{MarkedUnsure};
 ghost use Rattle.vx_kept.specs.Cleans.{is_unsure};
 ghost use Rattle.vx_kept.specs.LogRuns.{log_trusted};
+ghost use Rattle.vx_loggroup.specs.Attaching.{fmr_at};
 ghost use Rattle.vx_loggroup.specs.Resting.{DiskEnds, DisksSettle, NoneTouched, SomeUnsure, UsesNone, VolumeRests, in_disks};
 ghost use Rattle.vx_logimport.specs.Rests.{rests};
 ghost use Rattle.vx_logs.specs.declared.logs.Logs.{Logs as LogsValue};
@@ -128,6 +130,7 @@ fn rest_one(
 ) -> bool
     requires inside { vol < MOST_VOLUMES }
     ensures rests { result ≡ true → VolumeRests config.now unsure.new vol one.now failed.now }
+    ensures has { (f : Missed) → one.now.fmr ≡ Some f → result ≡ true }
     ensures unsure { SomeUnsure unsure.old unsure.new failed.now }
     ensures others { (w : ℕ) → (w ≡ vol → ⊥) → is_unsure unsure.new w ≡ is_unsure unsure.old w }
 {
@@ -150,6 +153,7 @@ pub fn rest_all(
 ) -> [bool; MOST_VOLUMES]
     requires few { length logs.now.items ≤ MOST_VOLUMES }
     ensures rests { (v : ℕ) (l : LogsValue) → slice_get logs.now.items v ≡ Some l → rests result v ≡ true → VolumeRests config.now unsure.new v l failed.now }
+    ensures has { (v : ℕ) (f : Missed) → fmr_at logs.now.items v ≡ Some f → rests result v ≡ true }
     ensures unsure { SomeUnsure unsure.old unsure.new failed.now }
 {
     let mut maps = [false; MOST_VOLUMES];

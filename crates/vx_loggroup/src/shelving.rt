@@ -1,7 +1,7 @@
 // A group with logs as a shelf.
 ghost use Rattle.vx_loggroup.specs.Keeping.{LogsKeep, LogsKept};
 ghost use Rattle.vx_group.specs.Finds.{GroupFinds};
-ghost use Rattle.std.specs.Prelude.{◌≡◌, ◌⊎◌, ◌+◌, ◌/◌, ◌<◌, ◌≤◌, IfErr, OnOk, true, false, length};
+ghost use Rattle.std.specs.Prelude.{◌≡◌, ◌⊎◌, ◌+◌, ◌/◌, ◌<◌, ◌≤◌, ℕ, IfErr, IsTrue, None, OnOk, true, false, length};
 ghost use Rattle.vx_config.specs.Table.{greatest};
 ghost use Rattle.vx_disk.specs.Causes.{Calls, Cause, CountsOnly, Names, OnDisks, Works};
 ghost use Rattle.vx_disk.specs.Disks.{Untouched};
@@ -15,7 +15,10 @@ ghost use Rattle.vx_logged.specs.Begun.{fell_in};
 ghost use Rattle.vx_logged.specs.Behind.{MarkedBefore, none_missing, those_missing};
 ghost use Rattle.vx_loggroup.specs.Marks.{ClearsVolume, EmptyMaps, MarksVolume, NotesMaps, RunsMaps};
 ghost use Rattle.vx_loggroup.specs.Mirrors.{MirrorsKeep, names_none};
+ghost use Rattle.vx_loggroup.specs.Moving.{MapsBeginIn, MapsEnd, MovesRun, only_volume};
 ghost use Rattle.vx_logs.specs.Writes.{first_region, last_region};
+ghost use Rattle.vx_loggroup.specs.Attaching.{fmr_at};
+ghost use Rattle.vx_volume.specs.Plexes.{active};
 
 use crate::fresh::write_fresh;
 use crate::group::LoggedGroup;
@@ -54,6 +57,8 @@ impl<S: Shelf> Shelf for LoggedGroup<S> {
         ensures keeps { LogsKeep self.old.core self.new.core self.old.logs.items self.new.logs.items (S.meaning self.old.shelf) (S.meaning self.new.shelf) }
         ensures mirrors { MirrorsKeep names_none self.old.core self.new.core (S.meaning self.old.shelf) (S.meaning self.new.shelf) }
         ensures logs { self.new.logs.items ≡ self.old.logs.items }
+        ensures alike { self.new.alike ≡ self.old.alike }
+        ensures stopped { self.new.stopped ≡ self.old.stopped }
     {
         read_whole(
             &mut self.shelf,
@@ -86,6 +91,14 @@ impl<S: Shelf> Shelf for LoggedGroup<S> {
         ensures marks { MarksVolume (wide self.old.core).config unit (first_region block) (last_region block (length bytes.now / 512)) self.old.logs.items self.new.logs.items }
         ensures notes { NotesMaps (fell_in self.old.core self.new.core unit) (those_missing self.new.core unit result) unit (first_region block) (last_region block (length bytes.now / 512)) self.old.logs.items self.new.logs.items }
         ensures begins { is_alike self.old.alike unit ≡ true → self.new.stopped ≡ false → OnOk result (RunsMaps (fell_in self.old.core self.new.core unit) unit (first_region block) (last_region block (length bytes.now / 512)) self.new.logs.items) }
+        ensures moves { self.new.stopped ≡ false → MovesRun self.old.core.inner.config self.new.core.inner.config unit (first_region block) (last_region block (length bytes.now / 512)) (is_alike self.old.alike unit) self.old.logs.items self.new.logs.items result }
+        ensures comes { MapsBeginIn (only_volume unit) self.old.core.inner.config self.new.core.inner.config self.old.stopped self.new.stopped self.old.logs.items self.new.logs.items }
+        ensures ends_maps { MapsEnd self.old.core.inner.config self.new.core.inner.config self.old.stopped self.new.stopped self.old.logs.items self.new.logs.items (S.meaning self.old.shelf) (S.meaning self.new.shelf) }
+        ensures stays { self.old.stopped ≡ true → self.new.stopped ≡ true }
+        ensures rests { self.new.stopped ≡ false → (w p : ℕ) → IsTrue (active self.new.core.inner.config w p) → IsTrue (active self.old.core.inner.config w p) }
+        ensures free { self.new.stopped ≡ false → OnOk result ((self.new.core.held ≡ None) ⊎ (fmr_at self.new.logs.items unit ≡ None)) }
+        ensures alike { OnOk result (self.new.alike ≡ self.old.alike) }
+        ensures flags { (w : ℕ) → (w ≡ unit → ⊥) → is_alike self.new.alike w ≡ is_alike self.old.alike w }
         ensures marked { self.new.stopped ≡ false → MarkedBefore (λ s. S.meaning s) unit block bytes.now (first_region block) (last_region block (length bytes.now / 512)) self.old.core self.new.core (S.meaning self.old.shelf) (S.meaning self.new.shelf) }
         ensures full { self.old.stopped ≡ false → self.new.stopped ≡ true → greatest ≤ self.old.core.inner.config.serial + 45 }
         ensures trust { OnOk result (self.old.core.inner.committed ≡ true → self.new.core.inner.committed ≡ true) }

@@ -6,7 +6,8 @@ ghost use Rattle.vx_group.specs.Holding.{GroupStands};
 ghost use Rattle.vx_kept.specs.Cleans.{is_unsure};
 ghost use Rattle.vx_logged.specs.Logged.{Known, LogOn};
 ghost use Rattle.vx_loggroup.specs.LoggedVolumes.{LoggedStands, is_alike as is_alike_is};
-ghost use Rattle.vx_loggroup.specs.Taking.{MapsWhy, SameDrls, TakesMap};
+ghost use Rattle.vx_loggroup.specs.Taking.{MapWas, MapsWere, MapsWhy, SameDrls, TakesMap};
+ghost use Rattle.vx_fmr.specs.Missed.{Missed};
 ghost use Rattle.vx_logimport.specs.Marked.{log_within};
 ghost use Rattle.vx_logimport.specs.Rests.{MapsTell, rests};
 ghost use Rattle.vx_logs.specs.Held.{is_used};
@@ -35,6 +36,7 @@ fn take_one<S: Shelf>(alloc: Global, shelf: &mut S, core: &GroupCore, one: &mut 
     ensures known { Known core.now vol one.new (S.meaning shelf.new) }
     ensures drl { one.new.drl ≡ one.old.drl }
     ensures used { (one.new.fmr ≡ None → ⊥) → is_used core.now.inner.config vol FmrLog ≡ true }
+    ensures was { (f : Missed) → one.new.fmr ≡ Some f → MapWas core.now.inner.config vol f (S.meaning shelf.old) }
 {
     if blocks_of(&core.inner.config, vol) == 0 {
         return;
@@ -69,6 +71,7 @@ fn take_at<S: Shelf>(
     ensures stands { LoggedStands core.now logs.new.items alike.now false (S.meaning shelf.new) }
     ensures goes { Goes Nothing (S.meaning shelf.old) (S.meaning shelf.new) }
     ensures takes { TakesMap core.now.inner.config may vol logs.old.items logs.new.items }
+    ensures was { (k : LogsValue) (f : Missed) → slice_get logs.new.items vol ≡ Some k → k.fmr ≡ Some f → MapWas core.now.inner.config vol f (S.meaning shelf.old) }
 {
     // What is known of the plexes stays as it is.
     let _kept = alike.len();
@@ -121,6 +124,7 @@ pub fn take_all<S: Shelf>(
     ensures goes { Goes Nothing (S.meaning shelf.old) (S.meaning shelf.new) }
     ensures drls { SameDrls logs.old.items logs.new.items }
     ensures why { MapsWhy good core.now.inner.config stopped.now rested.now logs.new.items }
+    ensures were { MapsWere core.now.inner.config logs.new.items (S.meaning shelf.old) }
 {
     for vol in 0..logs.len() {
         let may = may_take(&core.inner.config, good, stopped, rested, vol as u32);

@@ -212,6 +212,44 @@ fn a_plex_that_fails_behind_an_attach_misses_that_write_alone(rt: HostRuntime) -
     Ok(())
 }
 
+// Flushes behind a write of one block, and answers whether that is done.
+fn settle(group: &mut LoggedGroup<Disks>, block: u64) -> bool {
+    if group.units() == 0 || block >= group.size(0) {
+        return false;
+    }
+    group.flush_run(0, block, 1).is_ok()
+}
+
+// Writes a block and flushes behind it, as this call fails. Answers how many regions an attach of the second plex copies then, where it failed in
+// the flush alone.
+fn missed_behind(alloc: Global, call: u64) -> Result<Option<u64>, OutOfMemory> {
+    let mut group = group_of(alloc, &[call], &MAPPED)?;
+    if !put(&mut group, 70, 0xbb) || !is_active(group.config(), 1) {
+        return Ok(None);
+    }
+    if !settle(&mut group, 70) || is_active(group.config(), 1) {
+        return Ok(None);
+    }
+    Ok(att(&mut group, 1))
+}
+
+#[test]
+fn a_plex_that_fails_in_the_flush_behind_a_write_misses_it(rt: HostRuntime) -> Result<(), Fail> {
+    let alloc = rt.alloc();
+    let mut seen: u64 = 0;
+    for call in 100..140 {
+        match missed_behind(alloc, call)? {
+            Some(copied) => {
+                seen = seen.wrapping_add(1);
+                assert_eq!(rt; copied, 1);
+            }
+            None => {}
+        }
+    }
+    assert_eq!(rt; seen, 1);
+    Ok(())
+}
+
 // Writes a block while the third plex is detached, as this call fails, and attaches the plex then. Answers how many regions were copied; none,
 // where the detach or the attach is refused.
 fn failing(alloc: Global, call: u64) -> Result<Option<u64>, OutOfMemory> {

@@ -135,7 +135,7 @@ module _ (old new : Meaning) (k : Marked) (law : Lawful old) (can : CanImport ol
     pub start : entry.start ≡ e.start
     pub blocks : entry.blocks ≡ e.blocks
 
-  was_entry : (e : LogEntry) → InUse d v Fmr e → WasEntry e
+  pub was_entry : (e : LogEntry) → InUse d v Fmr e → WasEntry e
   was_entry e in_use =
       let run = run_back opened d v Fmr (it.shape.logs v Fmr) e in_use.is in
       let used = trusted_in_use opened v run.entry run.is (it.shape.trusted v Fmr (in_use_trusts d v e in_use)) in
@@ -192,3 +192,15 @@ module _ (old new : Meaning) (k : Marked) (law : Lawful old) (can : CanImport ol
         let tell = told was.entry.disk (was.entry.start + n) y at_y in
         (rests.each i x (image_left tell) (is_found tell) clean).one was.entry n y z was.used (some_x some) (let same = was.blocks in omega (arith, low, same)) at_y at_z;
   }
+
+  -- each image has the configuration that was found
+  pub image_config : (j : Image) → Each old.leaves j → found old j ≡ Found x
+  image_config j each = can.one it.taken.image j it.taken.readable x (image_left (told 0 0 (j 0 0) (each 0 0))) each it.taken.is
+
+  -- and the block of its log that is left
+  pub image_block : MapsRest v old → (e : LogEntry) (in_use : InUse d v Fmr e) → 0 < blocks_of d.volumes v → (n : ℕ) (y : List ℕ) → n < e.blocks → new.leaves e.disk (e.start + n) y → (j : Image) → Each old.leaves j
+      → j (was_entry e in_use).entry.disk ((was_entry e in_use).entry.start + n) ≡ y
+  image_block rests e in_use some n y low left j each =
+      let was = was_entry e in_use in
+      (rests.each j x each (image_config j each) clean).one was.entry n (j was.entry.disk (was.entry.start + n)) y was.used (some_x some) (let same = was.blocks in omega (arith, low, same)) (each was.entry.disk (was.entry.start + n))
+      (log_x e was n y (left_log e n y in_use low left))

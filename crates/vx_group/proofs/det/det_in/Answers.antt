@@ -1,5 +1,5 @@
 -- `det_in`: clauses goes, narrows, parts, others and stands; what `detach_plex` asks.
-use Rattle.std.proofs.Common.{ℕ, List, ap, sym, ◌∙◌, arith}
+use Rattle.std.proofs.Common.{◌≡◌, ℕ, false, true, List, ap, sym, ◌∙◌, arith}
 use Rattle.vx_disk.specs.Shelf.{Nothing}
 use Rattle.vx_group.specs.Stands.{volume_faults}
 use Rattle.vx_group.proofs.CallLemmas.{narrows_Goes}
@@ -129,3 +129,21 @@ returns-in-Ok-detach_plex-clause-logs g c = then_logs c.args.core.now.inner.conf
 
 pub returns-in-Err-detach_plex-clause-logs : goal.returns-in-Err-detach_plex-clause-logs
 returns-in-Err-detach_plex-clause-logs g c = then_logs c.args.core.now.inner.config c.release.new.core.inner.config c.detach_plex.new.core.config c.release.ensures.logs c.detach_plex.ensures.logs
+
+pub returns-then-not-is_active-clause-free : goal.returns-then-not-is_active-clause-free
+returns-then-not-is_active-clause-free g c = λ on. absurd (let clash : false ≡ true = sym c.if-not-is_active.true ∙ c.is_active.ensures ∙ on in cc)
+
+pub returns-in-Ok-detach_plex-clause-free : goal.returns-in-Ok-detach_plex-clause-free
+returns-in-Ok-detach_plex-clause-free g c = λ on. c.in-Ok.ensures.done (may_serial c.args.core.now.inner.config c.args.vol c.args.plex (sym c.refuse_det.ensures ∙ c.in_default.is))
+
+pub returns-in-Some-clause-free : goal.returns-in-Some-clause-free
+returns-in-Some-clause-free g c = λ on. tt
+
+pub returns-then-is_down-clause-free : goal.returns-then-is_down-clause-free
+returns-then-is_down-clause-free g c = λ on. tt
+
+pub returns-in-Err-clause-free : goal.returns-in-Err-clause-free
+returns-in-Err-clause-free g c = λ on. tt
+
+pub returns-in-Err-detach_plex-clause-free : goal.returns-in-Err-detach_plex-clause-free
+returns-in-Err-detach_plex-clause-free g c = λ on. tt

@@ -1,4 +1,5 @@
 -- A write that is made durable: what it leaves, and which plexes it takes out of use.
+use Rattle.std.proofs.Common.{arith}
 use Rattle.vx_disk.specs.Shelf.{Written}
 use Rattle.vx_disk.proofs.Runs.{then_nothing}
 use Rattle.vx_group.proofs.FindingLemmas.{then_group}
@@ -9,51 +10,57 @@ use Rattle.vx_grouped.proofs.WriteLemmas.{both_lose, write_done, write_failed}
 use Rattle.vx_grouped.proofs.BothLemmas.{both_on}
 use Rattle.vx_grouped.proofs.plain.write_plain.Goals as goal
 
+pub flush_run-requires-clause-there : goal.flush_run-requires-clause-there
+flush_run-requires-clause-there g c = omega (arith, c.requires.fits.exists, c.write.ensures.goes.units)
+
+pub flush_run-requires-clause-within : goal.flush_run-requires-clause-within
+flush_run-requires-clause-within g c = let same = c.write.ensures.goes.size c.args.vol in omega (arith, c.requires.fits.within, same)
+
 pub returns-in-Err-clause-leaves : goal.returns-in-Err-clause-leaves
 returns-in-Err-clause-leaves g c = λ n note at.
     write_failed n note c.args.vol c.args.block c.args.bytes.now c.args.group.now.core c.write.new.self.core (g.S.Shelf.meaning c.args.group.now.shelf) (g.S.Shelf.meaning c.write.new.self.shelf) at c.args.group.now.stands.group c.write.new.self.stands.group
     c.write.ensures.loses c.write.ensures.finds (Unit {0}) (Unit {0}) c.in-Err.error c.refusal.result c.refusal.ensures c.write.ensures.goes (inner_meaning (wide c.args.group.now.core) (g.S.Shelf.meaning c.args.group.now.shelf)) c.in-Err.ensures.cause
 
-pub returns-in-Ok-flush-clause-loses : goal.returns-in-Ok-flush-clause-loses
-returns-in-Ok-flush-clause-loses g c =
+pub returns-in-Ok-flush_run-clause-loses : goal.returns-in-Ok-flush_run-clause-loses
+returns-in-Ok-flush_run-clause-loses g c =
     let is_rack = c.requires.rack in
-    both_lose (g.S.Shelf.meaning c.args.group.now.shelf) (g.S.Shelf.meaning c.write.new.self.shelf) (g.S.Shelf.meaning c.flush.new.self.shelf) (is_rack c.args.group.now.shelf) (is_rack c.write.new.self.shelf) (is_rack c.flush.new.self.shelf)
-    c.write.ensures.goes.disk_faults c.flush.ensures.goes.disk_faults c.args.group.now.core.inner.config c.write.new.self.core.inner.config c.flush.new.self.core.inner.config c.write.ensures.loses c.flush.ensures.loses
+    both_lose (g.S.Shelf.meaning c.args.group.now.shelf) (g.S.Shelf.meaning c.write.new.self.shelf) (g.S.Shelf.meaning c.flush_run.new.self.shelf) (is_rack c.args.group.now.shelf) (is_rack c.write.new.self.shelf) (is_rack c.flush_run.new.self.shelf)
+    c.write.ensures.goes.disk_faults c.flush_run.ensures.goes.disk_faults c.args.group.now.core.inner.config c.write.new.self.core.inner.config c.flush_run.new.self.core.inner.config c.write.ensures.loses c.flush_run.ensures.loses
 
-pub returns-in-Err-flush-clause-loses : goal.returns-in-Err-flush-clause-loses
-returns-in-Err-flush-clause-loses g c =
+pub returns-in-Err-flush_run-clause-loses : goal.returns-in-Err-flush_run-clause-loses
+returns-in-Err-flush_run-clause-loses g c =
     let is_rack = c.requires.rack in
-    both_lose (g.S.Shelf.meaning c.args.group.now.shelf) (g.S.Shelf.meaning c.write.new.self.shelf) (g.S.Shelf.meaning c.flush.new.self.shelf) (is_rack c.args.group.now.shelf) (is_rack c.write.new.self.shelf) (is_rack c.flush.new.self.shelf)
-    c.write.ensures.goes.disk_faults c.flush.ensures.goes.disk_faults c.args.group.now.core.inner.config c.write.new.self.core.inner.config c.flush.new.self.core.inner.config c.write.ensures.loses c.flush.ensures.loses
+    both_lose (g.S.Shelf.meaning c.args.group.now.shelf) (g.S.Shelf.meaning c.write.new.self.shelf) (g.S.Shelf.meaning c.flush_run.new.self.shelf) (is_rack c.args.group.now.shelf) (is_rack c.write.new.self.shelf) (is_rack c.flush_run.new.self.shelf)
+    c.write.ensures.goes.disk_faults c.flush_run.ensures.goes.disk_faults c.args.group.now.core.inner.config c.write.new.self.core.inner.config c.flush_run.new.self.core.inner.config c.write.ensures.loses c.flush_run.ensures.loses
 
-pub returns-in-Ok-flush-clause-leaves : goal.returns-in-Ok-flush-clause-leaves
-returns-in-Ok-flush-clause-leaves g c = λ n note at.
+pub returns-in-Ok-flush_run-clause-leaves : goal.returns-in-Ok-flush_run-clause-leaves
+returns-in-Ok-flush_run-clause-leaves g c = λ n note at.
     let is_rack = c.requires.rack in
     let lawful = g.met.S.Shelf.lawful in
-    write_done n note c.args.vol c.args.block c.args.bytes.now c.args.group.now.core c.flush.new.self.core (g.S.Shelf.meaning c.args.group.now.shelf) (g.S.Shelf.meaning c.flush.new.self.shelf) at c.args.group.now.stands.group c.flush.new.self.stands.group
-    (both_lose (g.S.Shelf.meaning c.args.group.now.shelf) (g.S.Shelf.meaning c.write.new.self.shelf) (g.S.Shelf.meaning c.flush.new.self.shelf) (is_rack c.args.group.now.shelf) (is_rack c.write.new.self.shelf) (is_rack c.flush.new.self.shelf)
-    c.write.ensures.goes.disk_faults c.flush.ensures.goes.disk_faults c.args.group.now.core.inner.config c.write.new.self.core.inner.config c.flush.new.self.core.inner.config c.write.ensures.loses c.flush.ensures.loses)
-    (then_group c.args.group.now.core c.write.new.self.core c.flush.new.self.core (g.S.Shelf.meaning c.args.group.now.shelf) (g.S.Shelf.meaning c.write.new.self.shelf) (g.S.Shelf.meaning c.flush.new.self.shelf) c.write.ensures.finds c.flush.ensures.finds)
+    write_done n note c.args.vol c.args.block c.args.bytes.now c.args.group.now.core c.flush_run.new.self.core (g.S.Shelf.meaning c.args.group.now.shelf) (g.S.Shelf.meaning c.flush_run.new.self.shelf) at c.args.group.now.stands.group c.flush_run.new.self.stands.group
+    (both_lose (g.S.Shelf.meaning c.args.group.now.shelf) (g.S.Shelf.meaning c.write.new.self.shelf) (g.S.Shelf.meaning c.flush_run.new.self.shelf) (is_rack c.args.group.now.shelf) (is_rack c.write.new.self.shelf) (is_rack c.flush_run.new.self.shelf)
+    c.write.ensures.goes.disk_faults c.flush_run.ensures.goes.disk_faults c.args.group.now.core.inner.config c.write.new.self.core.inner.config c.flush_run.new.self.core.inner.config c.write.ensures.loses c.flush_run.ensures.loses)
+    (then_group c.args.group.now.core c.write.new.self.core c.flush_run.new.self.core (g.S.Shelf.meaning c.args.group.now.shelf) (g.S.Shelf.meaning c.write.new.self.shelf) (g.S.Shelf.meaning c.flush_run.new.self.shelf) c.write.ensures.finds c.flush_run.ensures.finds)
     (inner_meaning (wide c.write.new.self.core) (g.S.Shelf.meaning c.write.new.self.shelf))
     (group_lawful (wide c.args.group.now.core) (g.S.Shelf.meaning c.args.group.now.shelf) (lawful c.args.group.now.shelf) c.args.group.now.stands.group.stands)
-    c.requires.fits c.write.ensures.goes c.in-Ok.ensures.ok c.flush.ensures.goes c.in-Ok-flush.ensures.ok c.in-Ok-flush.ensures.cause (λ is. c.in-Ok-flush.ensures.trust (c.in-Ok.ensures.trust is))
+    c.requires.fits c.write.ensures.goes c.in-Ok.ensures.ok c.flush_run.ensures.goes c.in-Ok-flush_run.ensures.ok c.in-Ok-flush_run.ensures.cause (λ is. c.in-Ok-flush_run.ensures.trust (c.in-Ok.ensures.trust is))
 
-pub returns-in-Err-flush-clause-leaves : goal.returns-in-Err-flush-clause-leaves
-returns-in-Err-flush-clause-leaves g c = λ n note at.
+pub returns-in-Err-flush_run-clause-leaves : goal.returns-in-Err-flush_run-clause-leaves
+returns-in-Err-flush_run-clause-leaves g c = λ n note at.
     let is_rack = c.requires.rack in
-    write_failed n note c.args.vol c.args.block c.args.bytes.now c.args.group.now.core c.flush.new.self.core (g.S.Shelf.meaning c.args.group.now.shelf) (g.S.Shelf.meaning c.flush.new.self.shelf) at c.args.group.now.stands.group c.flush.new.self.stands.group
-    (both_lose (g.S.Shelf.meaning c.args.group.now.shelf) (g.S.Shelf.meaning c.write.new.self.shelf) (g.S.Shelf.meaning c.flush.new.self.shelf) (is_rack c.args.group.now.shelf) (is_rack c.write.new.self.shelf) (is_rack c.flush.new.self.shelf)
-    c.write.ensures.goes.disk_faults c.flush.ensures.goes.disk_faults c.args.group.now.core.inner.config c.write.new.self.core.inner.config c.flush.new.self.core.inner.config c.write.ensures.loses c.flush.ensures.loses)
-    (then_group c.args.group.now.core c.write.new.self.core c.flush.new.self.core (g.S.Shelf.meaning c.args.group.now.shelf) (g.S.Shelf.meaning c.write.new.self.shelf) (g.S.Shelf.meaning c.flush.new.self.shelf) c.write.ensures.finds c.flush.ensures.finds)
-    (Unit {0}) (Unit {0}) c.in-Err-flush.error c.refusal-in-Err-flush.result c.refusal-in-Err-flush.ensures
-    (then_nothing (Written c.args.vol c.args.block c.args.bytes.now) (inner_meaning (wide c.args.group.now.core) (g.S.Shelf.meaning c.args.group.now.shelf)) (inner_meaning (wide c.write.new.self.core) (g.S.Shelf.meaning c.write.new.self.shelf)) (inner_meaning (wide c.flush.new.self.core) (g.S.Shelf.meaning c.flush.new.self.shelf)) c.write.ensures.goes c.flush.ensures.goes)
-    (inner_meaning (wide c.write.new.self.core) (g.S.Shelf.meaning c.write.new.self.shelf)) c.in-Err-flush.ensures.cause
+    write_failed n note c.args.vol c.args.block c.args.bytes.now c.args.group.now.core c.flush_run.new.self.core (g.S.Shelf.meaning c.args.group.now.shelf) (g.S.Shelf.meaning c.flush_run.new.self.shelf) at c.args.group.now.stands.group c.flush_run.new.self.stands.group
+    (both_lose (g.S.Shelf.meaning c.args.group.now.shelf) (g.S.Shelf.meaning c.write.new.self.shelf) (g.S.Shelf.meaning c.flush_run.new.self.shelf) (is_rack c.args.group.now.shelf) (is_rack c.write.new.self.shelf) (is_rack c.flush_run.new.self.shelf)
+    c.write.ensures.goes.disk_faults c.flush_run.ensures.goes.disk_faults c.args.group.now.core.inner.config c.write.new.self.core.inner.config c.flush_run.new.self.core.inner.config c.write.ensures.loses c.flush_run.ensures.loses)
+    (then_group c.args.group.now.core c.write.new.self.core c.flush_run.new.self.core (g.S.Shelf.meaning c.args.group.now.shelf) (g.S.Shelf.meaning c.write.new.self.shelf) (g.S.Shelf.meaning c.flush_run.new.self.shelf) c.write.ensures.finds c.flush_run.ensures.finds)
+    (Unit {0}) (Unit {0}) c.in-Err-flush_run.error c.refusal-in-Err-flush_run.result c.refusal-in-Err-flush_run.ensures
+    (then_nothing (Written c.args.vol c.args.block c.args.bytes.now) (inner_meaning (wide c.args.group.now.core) (g.S.Shelf.meaning c.args.group.now.shelf)) (inner_meaning (wide c.write.new.self.core) (g.S.Shelf.meaning c.write.new.self.shelf)) (inner_meaning (wide c.flush_run.new.self.core) (g.S.Shelf.meaning c.flush_run.new.self.shelf)) c.write.ensures.goes c.flush_run.ensures.goes)
+    (inner_meaning (wide c.write.new.self.core) (g.S.Shelf.meaning c.write.new.self.shelf)) c.in-Err-flush_run.ensures.cause
 
-pub returns-in-Ok-flush-clause-on : goal.returns-in-Ok-flush-clause-on
-returns-in-Ok-flush-clause-on g c = both_on c.args.group.now.core c.flush.new.self.core (g.S.Shelf.meaning c.args.group.now.shelf) (g.S.Shelf.meaning c.flush.new.self.shelf) c.args.group.now.stands.group c.flush.new.self.stands.group
+pub returns-in-Ok-flush_run-clause-on : goal.returns-in-Ok-flush_run-clause-on
+returns-in-Ok-flush_run-clause-on g c = both_on c.args.group.now.core c.flush_run.new.self.core (g.S.Shelf.meaning c.args.group.now.shelf) (g.S.Shelf.meaning c.flush_run.new.self.shelf) c.args.group.now.stands.group c.flush_run.new.self.stands.group
 
-pub returns-in-Err-flush-clause-on : goal.returns-in-Err-flush-clause-on
-returns-in-Err-flush-clause-on g c = both_on c.args.group.now.core c.flush.new.self.core (g.S.Shelf.meaning c.args.group.now.shelf) (g.S.Shelf.meaning c.flush.new.self.shelf) c.args.group.now.stands.group c.flush.new.self.stands.group
+pub returns-in-Err-flush_run-clause-on : goal.returns-in-Err-flush_run-clause-on
+returns-in-Err-flush_run-clause-on g c = both_on c.args.group.now.core c.flush_run.new.self.core (g.S.Shelf.meaning c.args.group.now.shelf) (g.S.Shelf.meaning c.flush_run.new.self.shelf) c.args.group.now.stands.group c.flush_run.new.self.stands.group
 
 pub returns-in-Err-clause-on : goal.returns-in-Err-clause-on
 returns-in-Err-clause-on g c = both_on c.args.group.now.core c.write.new.self.core (g.S.Shelf.meaning c.args.group.now.shelf) (g.S.Shelf.meaning c.write.new.self.shelf) c.args.group.now.stands.group c.write.new.self.stands.group

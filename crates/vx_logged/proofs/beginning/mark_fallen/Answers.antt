@@ -167,3 +167,18 @@ returns-clause-finds g c = then_group c.args.core.now c.ready_group.new.core c.m
 
 pub returns-clause-cause : goal.returns-clause-cause
 returns-clause-cause g c = cause_from (inner_meaning (wide c.args.core.now) (g.S.Shelf.meaning c.args.shelf.now)) (inner_meaning (wide c.ready_group.new.core) (g.S.Shelf.meaning c.begin_fallen.new.shelf)) (inner_meaning (wide c.mark_group.new.core) (g.S.Shelf.meaning c.mark_group.new.shelf)) c.args.vol c.mark_group.result (then_nothing Nothing (inner_meaning (wide c.args.core.now) (g.S.Shelf.meaning c.args.shelf.now)) (inner_meaning (wide c.ready_group.new.core) (g.S.Shelf.meaning c.ready_group.new.shelf)) (inner_meaning (wide c.ready_group.new.core) (g.S.Shelf.meaning c.begin_fallen.new.shelf)) c.ready_group.ensures.goes c.begin_fallen.ensures.goes).falls (then_nothing Nothing (inner_meaning (wide c.args.core.now) (g.S.Shelf.meaning c.args.shelf.now)) (inner_meaning (wide c.ready_group.new.core) (g.S.Shelf.meaning c.ready_group.new.shelf)) (inner_meaning (wide c.ready_group.new.core) (g.S.Shelf.meaning c.begin_fallen.new.shelf)) c.ready_group.ensures.goes c.begin_fallen.ensures.goes).faults (then_nothing Nothing (inner_meaning (wide c.args.core.now) (g.S.Shelf.meaning c.args.shelf.now)) (inner_meaning (wide c.ready_group.new.core) (g.S.Shelf.meaning c.ready_group.new.shelf)) (inner_meaning (wide c.ready_group.new.core) (g.S.Shelf.meaning c.begin_fallen.new.shelf)) c.ready_group.ensures.goes c.begin_fallen.ensures.goes).disk_faults c.mark_group.ensures.cause
+
+pub returns-then-not-ready-clause-holds : goal.returns-then-not-ready-clause-holds
+returns-then-not-ready-clause-holds g c = λ is. absurd (let clash : false ≡ true = is in cc)
+
+pub returns-clause-holds : goal.returns-clause-holds
+returns-clause-holds g c = c.mark_group.ensures.holds
+
+pub returns-in-Err-clause-free : goal.returns-in-Err-clause-free
+returns-in-Err-clause-free g c = tt
+
+pub returns-then-not-ready-clause-free : goal.returns-then-not-ready-clause-free
+returns-then-not-ready-clause-free g c = λ is. absurd (let clash : false ≡ true = is in cc)
+
+pub returns-clause-free : goal.returns-clause-free
+returns-clause-free g c = c.mark_group.ensures.free

@@ -10,3 +10,6 @@ returns-clause-logs g c =
 pub returns-clause-trusts : goal.returns-clause-trusts
 returns-clause-trusts g c =
     c.det_in.ensures.logs
+
+pub returns-clause-free : goal.returns-clause-free
+returns-clause-free g c = c.det_in.ensures.free

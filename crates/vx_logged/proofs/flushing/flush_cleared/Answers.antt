@@ -20,7 +20,7 @@ use Rattle.vx_logged.specs.Behind.{none_missing}
 use Rattle.vx_logged.proofs.BeginLemmas.{but_more, but_note, but_then, plexes_each, plexes_one, whole_of}
 use Rattle.vx_logged.proofs.FallenLemmas.{fell_all, fell_same, fell_some, fewer_before, fewer_drl, off_less, off_stay, was_there}
 use Rattle.vx_logged.proofs.GoneLogs.{trusts_in, trusts_less, trusts_then}
-use Rattle.vx_logged.proofs.StandLemmas.{alike_goes, cause_to, each_on, flushed_alike, flushed_then, narrowed_acts, others_each, others_then, same_fewer}
+use Rattle.vx_logged.proofs.StandLemmas.{alike_goes, cause_to, each_on, flushed_alike, flushed_then, narrowed_acts, narrowed_then, others_each, others_then, same_fewer}
 use Rattle.vx_logged.proofs.flushing.flush_cleared.Goals as goal
 
 pub returns-in-Err-clause-log : goal.returns-in-Err-clause-log
@@ -288,3 +288,21 @@ returns-in-Ok-clear_group-clause-cause g c = record { before = c.in-Ok.ensures.c
 pub returns-in-Err-clear_group-clause-cause : goal.returns-in-Err-clear_group-clause-cause
 returns-in-Err-clear_group-clause-cause g c = Cause_both {T = Unit {0}} (inner_meaning (wide c.args.core.now) (g.S.Shelf.meaning c.args.shelf.now)) (inner_meaning (wide c.keep_fallen.new.core) (g.S.Shelf.meaning c.keep_fallen.new.shelf)) (inner_meaning (wide c.clear_group.new.core) (g.S.Shelf.meaning c.clear_group.new.shelf)) c.args.vol (Err c.in-Err-clear_group.error) (record { before = c.in-Ok.ensures.cause.before; after = c.in-Ok-keep_fallen.ensures.cause.after }) (then_nothing Nothing (inner_meaning (wide c.args.core.now) (g.S.Shelf.meaning c.args.shelf.now)) (inner_meaning (wide c.flush_group.new.core) (g.S.Shelf.meaning c.flush_group.new.shelf)) (inner_meaning (wide c.keep_fallen.new.core) (g.S.Shelf.meaning c.keep_fallen.new.shelf)) c.flush_group.ensures.goes c.keep_fallen.ensures.goes).faults (then_nothing Nothing (inner_meaning (wide c.args.core.now) (g.S.Shelf.meaning c.args.shelf.now)) (inner_meaning (wide c.flush_group.new.core) (g.S.Shelf.meaning c.flush_group.new.shelf)) (inner_meaning (wide c.keep_fallen.new.core) (g.S.Shelf.meaning c.keep_fallen.new.shelf)) c.flush_group.ensures.goes c.keep_fallen.ensures.goes).disk_faults
     (cause_to Bool (Unit {0}) c.args.vol c.in-Err-clear_group.error (inner_meaning (wide c.keep_fallen.new.core) (g.S.Shelf.meaning c.keep_fallen.new.shelf)) (inner_meaning (wide c.clear_group.new.core) (g.S.Shelf.meaning c.clear_group.new.shelf)) c.in-Err-clear_group.ensures.cause)
+
+pub returns-in-Err-clause-narrow : goal.returns-in-Err-clause-narrow
+returns-in-Err-clause-narrow g c = narrowed_acts Nothing c.args.core.now c.flush_group.new.core (g.S.Shelf.meaning c.args.shelf.now) (g.S.Shelf.meaning c.flush_group.new.shelf) c.flush_group.ensures.acts
+
+pub returns-then-not-sure-clause-narrow : goal.returns-then-not-sure-clause-narrow
+returns-then-not-sure-clause-narrow g c = narrowed_acts Nothing c.args.core.now c.flush_group.new.core (g.S.Shelf.meaning c.args.shelf.now) (g.S.Shelf.meaning c.flush_group.new.shelf) c.flush_group.ensures.acts
+
+pub returns-in-Err-keep_fallen-clause-narrow : goal.returns-in-Err-keep_fallen-clause-narrow
+returns-in-Err-keep_fallen-clause-narrow g c = narrowed_then c.args.core.now c.flush_group.new.core c.keep_fallen.new.core (narrowed_acts Nothing c.args.core.now c.flush_group.new.core (g.S.Shelf.meaning c.args.shelf.now) (g.S.Shelf.meaning c.flush_group.new.shelf) c.flush_group.ensures.acts) c.keep_fallen.ensures.narrow
+
+pub returns-then-not-done-clause-narrow : goal.returns-then-not-done-clause-narrow
+returns-then-not-done-clause-narrow g c = narrowed_then c.args.core.now c.flush_group.new.core c.keep_fallen.new.core (narrowed_acts Nothing c.args.core.now c.flush_group.new.core (g.S.Shelf.meaning c.args.shelf.now) (g.S.Shelf.meaning c.flush_group.new.shelf) c.flush_group.ensures.acts) c.keep_fallen.ensures.narrow
+
+pub returns-in-Ok-clear_group-clause-narrow : goal.returns-in-Ok-clear_group-clause-narrow
+returns-in-Ok-clear_group-clause-narrow g c = narrowed_then c.args.core.now c.keep_fallen.new.core c.clear_group.new.core (narrowed_then c.args.core.now c.flush_group.new.core c.keep_fallen.new.core (narrowed_acts Nothing c.args.core.now c.flush_group.new.core (g.S.Shelf.meaning c.args.shelf.now) (g.S.Shelf.meaning c.flush_group.new.shelf) c.flush_group.ensures.acts) c.keep_fallen.ensures.narrow) c.clear_group.ensures.narrow
+
+pub returns-in-Err-clear_group-clause-narrow : goal.returns-in-Err-clear_group-clause-narrow
+returns-in-Err-clear_group-clause-narrow g c = narrowed_then c.args.core.now c.keep_fallen.new.core c.clear_group.new.core (narrowed_then c.args.core.now c.flush_group.new.core c.keep_fallen.new.core (narrowed_acts Nothing c.args.core.now c.flush_group.new.core (g.S.Shelf.meaning c.args.shelf.now) (g.S.Shelf.meaning c.flush_group.new.shelf) c.flush_group.ensures.acts) c.keep_fallen.ensures.narrow) c.clear_group.ensures.narrow

@@ -1,5 +1,5 @@
 -- Marks of a group before a write.
-use Rattle.std.proofs.Common.{IsTrue, ◌≡◌, ◌+◌, ◌≤◌, ℕ, Bool, false, true, refl, subst, sym, arith}
+use Rattle.std.proofs.Common.{IsTrue, ◌≡◌, ◌+◌, ◌<◌, ◌≤◌, ℕ, Bool, false, true, refl, subst, sym, arith}
 use Rattle.vx_config.specs.Checks.{blocks_of}
 use Rattle.vx_config.specs.declared.config.Config.{Config}
 use Rattle.vx_disk.specs.Shelf.{Nothing}
@@ -13,9 +13,11 @@ use Rattle.vx_group.proofs.LostLemmas.{if_ok_from}
 use Rattle.vx_group.proofs.TrustLemmas.{err_from, ok_from}
 use Rattle.vx_groupmaps.specs.Knowing.{PlexesKnow, or_off}
 use Rattle.vx_groupmaps.proofs.KnowLemmas.{note_more, note_same}
+use Rattle.vx_kept.specs.Keeping.{AllOn}
 use Rattle.vx_logs.specs.Held.{stale}
 use Rattle.vx_logged.specs.Logged.{are_off}
 use Rattle.vx_logged.proofs.BeginLemmas.{plexes_each, plexes_logs}
+use Rattle.vx_logged.proofs.HoldsLemmas.{holds_run, holds_same, inner_count}
 use Rattle.vx_logged.proofs.MissLemmas.{know_stale, know_wider, stale_are_off}
 use Rattle.vx_logged.proofs.RefuseLemmas.{hold_older}
 use Rattle.vx_logged.proofs.StandLemmas.{config_is, if_ok_any, inner_fit, inner_others, inner_sound, know_inner, know_wide, logs_Stands, logs_goes, narrowed_same, narrowed_then, others_each, others_then, same_only, same_regions, to_inner, to_wide, logs_finds}
@@ -307,3 +309,28 @@ returns-clause-plexes g c = λ missed up know.
     (subst (λ (x : Config). PlexesKnow x c.args.vol missed (g.S.Shelf.meaning c.ready_group.new.shelf).reads) same ready) in
     plexes_each c.ready_group.new.core c.keep_logs.new.core c.args.vol (g.S.Shelf.meaning c.guard_run.new.shelf) (g.S.Shelf.meaning c.keep_logs.new.shelf) c.keep_logs.ensures.logs missed up
     (subst (λ (x : Config). PlexesKnow x c.args.vol missed (g.S.Shelf.meaning c.guard_run.new.shelf).reads) (sym same) guarded)
+
+pub returns-then-not-ready-clause-holds : goal.returns-then-not-ready-clause-holds
+returns-then-not-ready-clause-holds g c = λ is. absurd (let clash : false ≡ true = is in cc)
+
+pub returns-clause-holds : goal.returns-clause-holds
+returns-clause-holds g c = if_ok_any c.keep_logs.result (λ (done : Bool) is.
+    let none = c.in-Ok.ensures.none c.if-not-ready.false in
+    let same = config_is c.ready_group.new.core c.args.vol (g.S.Shelf.meaning c.ready_group.new.shelf) (g.S.Shelf.meaning c.ready_group.new.shelf) none c.ready_group.ensures.stands in
+    let size = c.ready_group.ensures.goes.size c.args.vol in
+    holds_same c.ready_group.new.core.inner.config c.keep_logs.new.core.inner.config c.args.vol (first_region c.args.block) (last_region c.args.block c.args.count) c.guard_run.new.logs
+    (inner_count c.ready_group.new.core c.keep_logs.new.core c.args.vol (c.keep_logs.ensures.loses.loses.frames c.args.vol) (c.keep_logs.ensures.goes.size c.args.vol)) (c.keep_logs.ensures.still none c.args.vol)
+    (holds_run c.ready_group.new.core.inner.config c.args.vol (first_region c.args.block) (last_region c.args.block c.args.count) c.guard_run.new.logs
+    (subst (λ (x : Config). AllOn x) same c.ready_group.ensures.stands.stands.on) (subst (λ (x : Config). 0 < blocks_of x.volumes c.args.vol) same (omega (arith, size, c.requires.some, c.requires.within))) c.in-Ok-guard_run.ensures.missed))
+
+pub returns-in-Err-clause-free : goal.returns-in-Err-clause-free
+returns-in-Err-clause-free g c = tt
+
+pub returns-then-not-ready-clause-free : goal.returns-then-not-ready-clause-free
+returns-then-not-ready-clause-free g c = λ is. absurd (let clash : false ≡ true = is in cc)
+
+pub returns-in-Err-guard_run-clause-free : goal.returns-in-Err-guard_run-clause-free
+returns-in-Err-guard_run-clause-free g c = tt
+
+pub returns-clause-free : goal.returns-clause-free
+returns-clause-free g c = if_ok_any c.keep_logs.result (λ (done : Bool) is. c.keep_logs.ensures.finds.free (c.in-Ok.ensures.none c.if-not-ready.false))

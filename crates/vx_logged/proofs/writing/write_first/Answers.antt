@@ -13,6 +13,7 @@ use Rattle.vx_groupmaps.proofs.KnowLemmas.{note_more, note_same}
 use Rattle.vx_logs.specs.Writes.{first_region, last_region}
 use Rattle.vx_logged.specs.Logged.{are_off}
 use Rattle.vx_logged.proofs.BeginLemmas.{but_of, plexes_one}
+use Rattle.vx_logged.proofs.HoldsLemmas.{narrow_inner}
 use Rattle.vx_logged.proofs.MissLemmas.{know_refused, know_run, know_wrote, more_off, plexes_wrote}
 use Rattle.vx_volume.specs.Plexes.{active}
 use Rattle.vx_logged.proofs.StandLemmas.{fits_later, narrowed_acts, narrowed_then, not_false, not_true, others_then, same_only, write_here, write_others}
@@ -243,3 +244,14 @@ returns-clause-alike g c = λ off. ok_from c.write_group-2.result (λ wrote one.
     (fits_later c.args.core.now c.mark_group.new.core c.args.vol c.args.block (length c.args.bytes.now) (g.S.Shelf.meaning c.args.shelf.now) (g.S.Shelf.meaning c.mark_group.new.shelf) c.mark_group.ensures.goes c.requires.fits) c.write_group-2.ensures.acts
     (λ p r. not (active (wide c.args.core.now).config c.args.vol p)) up
     (c.mark_group.ensures.plexes (λ p r. not (active (wide c.args.core.now).config c.args.vol p)) (λ down. up (c.write_group-2.ensures.acts.acts.falls down)) (plexes_one (wide c.args.core.now).config c.args.vol (g.S.Shelf.meaning c.args.shelf.now) one)))) c.write_group-2.ensures.ok
+
+pub returns-then-stopped-clause-rests : goal.returns-then-stopped-clause-rests
+returns-then-stopped-clause-rests g c = λ off. absurd (let clash : true ≡ false = sym c.if-stopped.true ∙ off in cc)
+
+pub returns-in-Err-clause-rests : goal.returns-in-Err-clause-rests
+returns-in-Err-clause-rests g c = λ off w p is. sym (c.mark_group.ensures.still w p) ∙ is
+
+pub returns-clause-rests : goal.returns-clause-rests
+returns-clause-rests g c = λ off w p is.
+    let none = c.in-Ok.ensures.free (not_false c.in-Ok.done off) in
+    sym (c.mark_group.ensures.still w p) ∙ narrow_inner c.mark_group.new.core c.write_group-2.new.core none (c.write_group-2.ensures.finds.free none) (narrowed_acts _ c.mark_group.new.core c.write_group-2.new.core (g.S.Shelf.meaning c.mark_group.new.shelf) (g.S.Shelf.meaning c.write_group-2.new.shelf) c.write_group-2.ensures.acts) w p is

@@ -17,6 +17,7 @@ use Rattle.vx_logged.specs.Behind.{all_those}
 use Rattle.vx_logged.specs.Logged.{are_off}
 use Rattle.vx_logged.proofs.BeginLemmas.{but_less, but_more, but_none, but_note, but_then}
 use Rattle.vx_logged.proofs.FallenLemmas.{fell_all, fell_some, run_less, run_none, was_there}
+use Rattle.vx_logged.proofs.HoldsLemmas.{holds_none}
 use Rattle.vx_logged.proofs.MissLemmas.{more_off}
 use Rattle.vx_logged.proofs.RefuseLemmas.{cause_refused, marks_later, only_same, those_any}
 use Rattle.vx_logged.proofs.StandLemmas.{cause_to, only_then, others_then, wrote_nothing, narrowed_then}
@@ -272,3 +273,48 @@ pub returns-else-not-done-clause-begins : goal.returns-else-not-done-clause-begi
 returns-else-not-done-clause-begins g c = λ is off. run_less (fell_in c.args.core.now c.mark_fallen.new.core c.args.vol) (fell_now c.actives-was.result c.mark_fallen.new.core c.args.vol) (first_region c.args.block) (last_region c.args.block (length c.args.bytes.now / 512)) c.mark_fallen.new.logs
     (fell_all c.args.core.now c.mark_fallen.new.core c.args.vol c.actives-was.result (λ p on. c.actives-was.ensures.all p (active_few c.args.core.now.inner.config (narrow_sound c.args.core.now (g.S.Shelf.meaning c.args.shelf.now) c.requires.stands) c.args.vol p on) on))
     (c.in-Ok-mark_fallen.ensures.begins is c.if-not-done.false)
+
+pub returns-in-Err-clause-holds : goal.returns-in-Err-clause-holds
+returns-in-Err-clause-holds g c = λ off. tt
+
+pub returns-in-Err-mark_fallen-clause-holds : goal.returns-in-Err-mark_fallen-clause-holds
+returns-in-Err-mark_fallen-clause-holds g c = λ off. tt
+
+pub returns-then-stopped-clause-holds : goal.returns-then-stopped-clause-holds
+returns-then-stopped-clause-holds g c = λ off. absurd (let clash : true ≡ false = sym c.if-stopped.true ∙ off in cc)
+
+pub returns-then-not-done-clause-holds : goal.returns-then-not-done-clause-holds
+returns-then-not-done-clause-holds g c = λ off. holds_none c.mark_fallen.new.core.inner.config c.args.vol (first_region c.args.block) (last_region c.args.block (length c.args.bytes.now / 512)) (record { drl = c.mark_fallen.new.logs.drl; fmr = None }) refl
+
+pub returns-else-not-done-clause-holds : goal.returns-else-not-done-clause-holds
+returns-else-not-done-clause-holds g c = λ off. c.in-Ok-mark_fallen.ensures.holds c.if-not-done.false
+
+pub returns-in-Err-clause-rests : goal.returns-in-Err-clause-rests
+returns-in-Err-clause-rests g c = c.write_first.ensures.rests
+
+pub returns-then-stopped-clause-rests : goal.returns-then-stopped-clause-rests
+returns-then-stopped-clause-rests g c = c.write_first.ensures.rests
+
+pub returns-then-not-done-clause-rests : goal.returns-then-not-done-clause-rests
+returns-then-not-done-clause-rests g c = λ off w p is. c.write_first.ensures.rests off w p (sym (c.mark_fallen.ensures.still w p) ∙ is)
+
+pub returns-else-not-done-clause-rests : goal.returns-else-not-done-clause-rests
+returns-else-not-done-clause-rests g c = λ off w p is. c.write_first.ensures.rests off w p (sym (c.mark_fallen.ensures.still w p) ∙ is)
+
+pub returns-in-Err-mark_fallen-clause-rests : goal.returns-in-Err-mark_fallen-clause-rests
+returns-in-Err-mark_fallen-clause-rests g c = λ off w p is. c.write_first.ensures.rests off w p (sym (c.mark_fallen.ensures.still w p) ∙ is)
+
+pub returns-in-Err-clause-free : goal.returns-in-Err-clause-free
+returns-in-Err-clause-free g c = λ off. tt
+
+pub returns-in-Err-mark_fallen-clause-free : goal.returns-in-Err-mark_fallen-clause-free
+returns-in-Err-mark_fallen-clause-free g c = λ off. tt
+
+pub returns-then-stopped-clause-free : goal.returns-then-stopped-clause-free
+returns-then-stopped-clause-free g c = λ off. absurd (let clash : true ≡ false = sym c.if-stopped.true ∙ off in cc)
+
+pub returns-then-not-done-clause-free : goal.returns-then-not-done-clause-free
+returns-then-not-done-clause-free g c = λ off. inr refl
+
+pub returns-else-not-done-clause-free : goal.returns-else-not-done-clause-free
+returns-else-not-done-clause-free g c = λ off. inl (c.in-Ok-mark_fallen.ensures.free c.if-not-done.false)

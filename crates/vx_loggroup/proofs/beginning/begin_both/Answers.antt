@@ -9,6 +9,7 @@ use Rattle.vx_model.specs.Sizes.{regions_of}
 use Rattle.vx_loggroup.specs.Marks.{region_count}
 use Rattle.vx_loggroup.proofs.BegunLemmas.{blocks_later}
 use Rattle.vx_loggroup.proofs.FreshLemmas.{begins_then, first_then}
+use Rattle.vx_loggroup.proofs.NewLemmas.{news_start}
 use Rattle.vx_loggroup.proofs.OpenLemmas.{alike_reads}
 use Rattle.vx_loggroup.proofs.beginning.begin_both.Goals as goal
 
@@ -41,3 +42,9 @@ returns-clause-agreed g c = err_from c.begin_fmr.result (λ keeps is. keeps (c.i
 
 pub returns-clause-cause : goal.returns-clause-cause
 returns-clause-cause g c = Cause_both (inner_meaning (wide c.args.core.now) (g.S.Shelf.meaning c.args.shelf.now)) (inner_meaning (wide c.begin_drl.new.core) (g.S.Shelf.meaning c.begin_drl.new.shelf)) (inner_meaning (wide c.begin_fmr.new.core) (g.S.Shelf.meaning c.begin_fmr.new.shelf)) c.args.vol c.begin_fmr.result c.in-Ok.ensures.cause c.begin_drl.ensures.begins.goes.faults c.begin_drl.ensures.begins.goes.disk_faults c.begin_fmr.ensures.cause
+
+pub returns-in-Err-clause-news : goal.returns-in-Err-clause-news
+returns-in-Err-clause-news g c = c.begin_drl.ensures.news
+
+pub returns-clause-news : goal.returns-clause-news
+returns-clause-news g c = news_start c.args.vol c.args.core.now c.begin_drl.new.core (g.S.Shelf.meaning c.args.shelf.now) (g.S.Shelf.meaning c.begin_drl.new.shelf) c.begin_drl.ensures.begins c.args.one.now c.begin_drl.new.one c.begin_fmr.new.one c.begin_fmr.ensures.first.fmr c.begin_drl.ensures.news c.begin_fmr.ensures.news

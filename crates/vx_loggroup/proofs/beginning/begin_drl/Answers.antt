@@ -3,6 +3,7 @@ use Rattle.std.proofs.Common.{◌∙◌, sym}
 use Rattle.vx_group.specs.Holding.{wide}
 use Rattle.vx_loggroup.specs.Marks.{region_count}
 use Rattle.vx_loggroup.proofs.FreshLemmas.{begins_none, first_none, none_of}
+use Rattle.vx_loggroup.proofs.NewLemmas.{news_same}
 use Rattle.vx_loggroup.proofs.beginning.begin_drl.Goals as goal
 
 pub returns-then-is_some-clause-begins : goal.returns-then-is_some-clause-begins
@@ -25,3 +26,15 @@ returns-then-not-is_waiting-clause-first g c = first_none (region_count (wide c.
 
 pub begin_log-requires-clause-waits : goal.begin_log-requires-clause-waits
 begin_log-requires-clause-waits g c = (none_of c.args.one.now.drl (sym c.is_some.ensures ∙ c.if-is_some.false), none_of c.args.one.now.fmr (sym c.is_some-2.ensures ∙ c.if-is_some-2.false))
+
+pub returns-then-is_some-clause-news : goal.returns-then-is_some-clause-news
+returns-then-is_some-clause-news g c = news_same c.args.core.now.inner.config c.args.vol c.args.one.now
+
+pub returns-then-is_some-2-clause-news : goal.returns-then-is_some-2-clause-news
+returns-then-is_some-2-clause-news g c = news_same c.args.core.now.inner.config c.args.vol c.args.one.now
+
+pub returns-then-not-is_waiting-clause-news : goal.returns-then-not-is_waiting-clause-news
+returns-then-not-is_waiting-clause-news g c = news_same c.args.core.now.inner.config c.args.vol c.args.one.now
+
+pub returns-clause-news : goal.returns-clause-news
+returns-clause-news g c = c.begin_log.ensures.news

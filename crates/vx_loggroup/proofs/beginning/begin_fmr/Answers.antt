@@ -3,6 +3,7 @@ use Rattle.std.proofs.Common.{◌∙◌, sym}
 use Rattle.vx_group.specs.Holding.{wide}
 use Rattle.vx_loggroup.specs.Marks.{region_count}
 use Rattle.vx_loggroup.proofs.FreshLemmas.{begins_none, first_none, none_of}
+use Rattle.vx_loggroup.proofs.NewLemmas.{news_same}
 use Rattle.vx_loggroup.proofs.beginning.begin_fmr.Goals as goal
 
 pub returns-then-is_some-clause-begins : goal.returns-then-is_some-clause-begins
@@ -19,3 +20,12 @@ returns-then-not-is_waiting-clause-first g c = first_none (region_count (wide c.
 
 pub begin_map-requires-clause-waits : goal.begin_map-requires-clause-waits
 begin_map-requires-clause-waits g c = none_of c.args.one.now.fmr (sym c.is_some.ensures ∙ c.if-is_some.false)
+
+pub returns-then-is_some-clause-news : goal.returns-then-is_some-clause-news
+returns-then-is_some-clause-news g c = news_same c.args.core.now.inner.config c.args.vol c.args.one.now
+
+pub returns-then-not-is_waiting-clause-news : goal.returns-then-not-is_waiting-clause-news
+returns-then-not-is_waiting-clause-news g c = news_same c.args.core.now.inner.config c.args.vol c.args.one.now
+
+pub returns-clause-news : goal.returns-clause-news
+returns-clause-news g c = c.begin_map.ensures.news

@@ -19,6 +19,7 @@ use Rattle.vx_grouplogs.proofs.KnowActs.{know_none}
 use Rattle.vx_logged.proofs.StandLemmas.{alike_goes, config_is, inner_fit, inner_others, inner_sound, logs_Stands, logs_goes, to_wide, logs_finds}
 use Rattle.vx_loggroup.specs.Marks.{region_count}
 use Rattle.vx_loggroup.proofs.FreshLemmas.{begins_then, first_begun}
+use Rattle.vx_loggroup.proofs.NewLemmas.{news_gone}
 use Rattle.vx_loggroup.proofs.TrustedLogs.{trusted_here, trusted_others}
 use Rattle.vx_group.proofs.FindingLemmas.{idle_group}
 use Rattle.vx_loggroup.proofs.beginning.begin_log.Goals as goal
@@ -106,3 +107,12 @@ returns-clause-alike g c = alike_goes c.args.core.now c.trust_first.new.core c.a
 pub returns-clause-cause : goal.returns-clause-cause
 returns-clause-cause g c = Cause_both (inner_meaning (wide c.args.core.now) (g.S.Shelf.meaning c.args.shelf.now)) (inner_meaning (wide c.args.core.now) (g.S.Shelf.meaning c.begin_run.new.shelf)) (inner_meaning (wide c.trust_first.new.core) (g.S.Shelf.meaning c.trust_first.new.shelf)) c.args.vol c.trust_first.result (record { before = c.requires.up; after = not_down c.is_down.result (g.S.Shelf.meaning c.begin_run.new.shelf).down c.is_down.ensures c.if-is_down.false })
     (logs_goes c.args.core.now c.args.vol (g.S.Shelf.meaning c.args.shelf.now) (g.S.Shelf.meaning c.begin_run.new.shelf) c.requires.none c.requires.stands c.begin_run.ensures.group).faults (logs_goes c.args.core.now c.args.vol (g.S.Shelf.meaning c.args.shelf.now) (g.S.Shelf.meaning c.begin_run.new.shelf) c.requires.none c.requires.stands c.begin_run.ensures.group).disk_faults c.trust_first.ensures.cause
+
+pub returns-then-is_down-clause-news : goal.returns-then-is_down-clause-news
+returns-then-is_down-clause-news g c = news_gone c.args.core.now.inner.config c.args.vol c.args.one.now c.begin_run.new.logs c.begin_run.ensures.plain
+
+pub returns-then-is_none-clause-news : goal.returns-then-is_none-clause-news
+returns-then-is_none-clause-news g c = news_gone c.args.core.now.inner.config c.args.vol c.args.one.now c.begin_run.new.logs c.begin_run.ensures.plain
+
+pub returns-clause-news : goal.returns-clause-news
+returns-clause-news g c = news_gone c.args.core.now.inner.config c.args.vol c.args.one.now c.begin_run.new.logs c.begin_run.ensures.plain

@@ -103,3 +103,12 @@ returns-clause-maps g c = (mapped_each c.args.vol Fmr c.args.core.now c.trust_fi
 pub returns-clause-cause : goal.returns-clause-cause
 returns-clause-cause g c = Cause_both (inner_meaning (wide c.args.core.now) (g.S.Shelf.meaning c.args.shelf.now)) (inner_meaning (wide c.args.core.now) (g.S.Shelf.meaning c.begin_maps.new.shelf)) (inner_meaning (wide c.trust_first.new.core) (g.S.Shelf.meaning c.trust_first.new.shelf)) c.args.vol c.trust_first.result (record { before = c.requires.up; after = not_down c.is_down.result (g.S.Shelf.meaning c.begin_maps.new.shelf).down c.is_down.ensures c.if-is_down.false })
     (logs_goes c.args.core.now c.args.vol (g.S.Shelf.meaning c.args.shelf.now) (g.S.Shelf.meaning c.begin_maps.new.shelf) c.requires.none c.requires.stands c.begin_maps.ensures.group).faults (logs_goes c.args.core.now c.args.vol (g.S.Shelf.meaning c.args.shelf.now) (g.S.Shelf.meaning c.begin_maps.new.shelf) c.requires.none c.requires.stands c.begin_maps.ensures.group).disk_faults c.trust_first.ensures.cause
+
+pub returns-then-is_down-clause-news : goal.returns-then-is_down-clause-news
+returns-then-is_down-clause-news g c = record { begun = λ none. c.begin_maps.ensures.begun }
+
+pub returns-then-is_none-clause-news : goal.returns-then-is_none-clause-news
+returns-then-is_none-clause-news g c = record { begun = λ none. c.begin_maps.ensures.begun }
+
+pub returns-clause-news : goal.returns-clause-news
+returns-clause-news g c = record { begun = λ none. c.begin_maps.ensures.begun }

@@ -51,4 +51,4 @@ pub returns-then-not-is_alike-clause-shrink : goal.returns-then-not-is_alike-cla
 returns-then-not-is_alike-clause-shrink g c = shrink_none c.args.logs.now.items
 
 pub returns-clause-shrink : goal.returns-clause-shrink
-returns-clause-shrink g c = shrink_set c.args.vol c.args.logs.now.items c.index_mut.result.now c.clear_group.new.logs (item_of c.args.logs.now.items c.args.vol c.index_mut.result.now c.index_mut.ensures.value (index_low c.args.core.now c.args.logs.now.items c.args.alike.now false (g.S.Shelf.meaning c.args.shelf.now) c.args.vol c.requires.stands c.requires.there)) c.clear_group.ensures.stay.gone
+returns-clause-shrink g c = shrink_set c.args.vol c.args.logs.now.items c.index_mut.result.now c.clear_group.new.logs (item_of c.args.logs.now.items c.args.vol c.index_mut.result.now c.index_mut.ensures.value (index_low c.args.core.now c.args.logs.now.items c.args.alike.now false (g.S.Shelf.meaning c.args.shelf.now) c.args.vol c.requires.stands c.requires.there)) c.clear_group.ensures.stay

@@ -11,6 +11,7 @@ use Rattle.vx_group.proofs.Standing.{fit_of}
 use Rattle.vx_model.specs.declared.errors.Stop.{Stop}
 use Rattle.vx_loggroup.proofs.CloseLemmas.{closes_later, det_before, down_back, still_stands, unsure_stands, with_unsure}
 use Rattle.vx_loggroup.proofs.DeportedLogs.{deport_stands}
+use Rattle.vx_loggroup.proofs.RestMaps.{maps_stand}
 use Rattle.vx_loggroup.proofs.RestTells.{rest_tells}
 use Rattle.vx_loggroup.proofs.RestingLemmas.{some_failed}
 use Rattle.vx_loggroup.proofs.StillLemmas.{core_goes}
@@ -71,3 +72,27 @@ pub returns-in-Err-deport_in-clause-finds : goal.returns-in-Err-deport_in-clause
 returns-in-Err-deport_in-clause-finds g c =
     then_group c.args.core.now (with_unsure c.rest_all-maps.new.unsure c.args.core.now) c.deport_in.new.core (g.S.Shelf.meaning c.args.shelf.now) (g.S.Shelf.meaning c.flush_disks.new.shelf) (g.S.Shelf.meaning c.deport_in.new.shelf)
     (marked_group c.args.core.now (with_unsure c.rest_all-maps.new.unsure c.args.core.now) (g.S.Shelf.meaning c.args.shelf.now) (g.S.Shelf.meaning c.flush_disks.new.shelf) refl refl refl refl (quiet_finds (g.S.Shelf.meaning c.args.shelf.now) (g.S.Shelf.meaning c.flush_disks.new.shelf) (g.met.S.Shelf.lawful c.args.shelf.now) (g.met.S.Shelf.lawful c.flush_disks.new.shelf) c.flush_disks.ensures.goes)) c.in-Err-deport_in.ensures.finds
+
+pub returns-then-not-kept-clause-maps : goal.returns-then-not-kept-clause-maps
+returns-then-not-kept-clause-maps g c = maps_stand (with_unsure c.rest_all-maps.new.unsure c.args.core.now) c.args.logs.now.items c.args.alike.now (g.S.Shelf.meaning c.flush_disks.new.shelf) (g.S.Shelf.meaning c.deport_in.new.shelf) (unsure_stands c.args.core.now c.rest_all-maps.new.unsure c.args.logs.now.items c.args.alike.now false (g.S.Shelf.meaning c.flush_disks.new.shelf) (still_stands c.args.core.now c.args.logs.now.items c.args.alike.now false (g.S.Shelf.meaning c.args.shelf.now) (g.S.Shelf.meaning c.flush_disks.new.shelf) (g.met.S.Shelf.lawful c.args.shelf.now) (g.met.S.Shelf.lawful c.flush_disks.new.shelf) c.requires.stands c.flush_disks.ensures.goes)) c.in-Ok-deport_in.ensures.ends
+
+pub returns-clause-maps : goal.returns-clause-maps
+returns-clause-maps g c = maps_stand (with_unsure c.rest_all-maps.new.unsure c.args.core.now) c.args.logs.now.items c.args.alike.now (g.S.Shelf.meaning c.flush_disks.new.shelf) (g.S.Shelf.meaning c.deport_in.new.shelf) (unsure_stands c.args.core.now c.rest_all-maps.new.unsure c.args.logs.now.items c.args.alike.now false (g.S.Shelf.meaning c.flush_disks.new.shelf) (still_stands c.args.core.now c.args.logs.now.items c.args.alike.now false (g.S.Shelf.meaning c.args.shelf.now) (g.S.Shelf.meaning c.flush_disks.new.shelf) (g.met.S.Shelf.lawful c.args.shelf.now) (g.met.S.Shelf.lawful c.flush_disks.new.shelf) c.requires.stands c.flush_disks.ensures.goes)) c.in-Ok-deport_in.ensures.ends
+
+pub returns-in-Err-clause-maps : goal.returns-in-Err-clause-maps
+returns-in-Err-clause-maps g c = tt
+
+pub returns-in-Err-clause-rests : goal.returns-in-Err-clause-rests
+returns-in-Err-clause-rests g c = tt
+
+pub returns-in-Err-deport_in-clause-maps : goal.returns-in-Err-deport_in-clause-maps
+returns-in-Err-deport_in-clause-maps g c = tt
+
+pub returns-in-Err-deport_in-clause-rests : goal.returns-in-Err-deport_in-clause-rests
+returns-in-Err-deport_in-clause-rests g c = tt
+
+pub returns-then-not-kept-clause-rests : goal.returns-then-not-kept-clause-rests
+returns-then-not-kept-clause-rests g c = tt
+
+pub returns-clause-rests : goal.returns-clause-rests
+returns-clause-rests g c = record { maps = c.rest_all-maps.ensures.has; same = λ v is. is }

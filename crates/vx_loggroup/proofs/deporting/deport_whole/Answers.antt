@@ -4,6 +4,7 @@ use Rattle.std.specs.Prelude.{Err}
 use Rattle.vx_loggroup.specs.LoggedVolumes.{LoggedStands}
 use Rattle.vx_loggroup.proofs.AlikeLemmas.{stop_stands}
 use Rattle.vx_loggroup.proofs.DeportedLogs.{deport_stands}
+use Rattle.vx_loggroup.proofs.RestMaps.{maps_stand}
 use Rattle.vx_group.proofs.CallLemmas.{not_down}
 use Rattle.vx_group.proofs.TrustLemmas.{err_from}
 use Rattle.vx_loggroup.proofs.deporting.deport_whole.Goals as goal
@@ -42,3 +43,21 @@ returns-then-may_rest-clause-finds g c =
 pub returns-in-Err-clause-finds : goal.returns-in-Err-clause-finds
 returns-in-Err-clause-finds g c =
     c.in-Err.ensures.finds
+
+pub returns-then-may_rest-clause-maps : goal.returns-then-may_rest-clause-maps
+returns-then-may_rest-clause-maps g c = λ going. c.deport_rested.ensures.maps
+
+pub returns-then-may_rest-clause-rests : goal.returns-then-may_rest-clause-rests
+returns-then-may_rest-clause-rests g c = c.deport_rested.ensures.rests
+
+pub returns-in-Ok-clause-maps : goal.returns-in-Ok-clause-maps
+returns-in-Ok-clause-maps g c = λ going. maps_stand c.args.core.now c.args.logs.now.items c.args.alike.now (g.S.Shelf.meaning c.args.shelf.now) (g.S.Shelf.meaning c.deport_in.new.shelf) (subst (λ (s : Bool). LoggedStands c.args.core.now c.args.logs.now.items c.args.alike.now s (g.S.Shelf.meaning c.args.shelf.now)) going c.requires.stands) c.in-Ok.ensures.ends
+
+pub returns-in-Ok-clause-rests : goal.returns-in-Ok-clause-rests
+returns-in-Ok-clause-rests g c = tt
+
+pub returns-in-Err-clause-maps : goal.returns-in-Err-clause-maps
+returns-in-Err-clause-maps g c = λ going. tt
+
+pub returns-in-Err-clause-rests : goal.returns-in-Err-clause-rests
+returns-in-Err-clause-rests g c = tt

@@ -15,6 +15,7 @@ use Rattle.vx_loggroup.specs.Marks.{region_count}
 use Rattle.vx_loggroup.proofs.DetFresh.{begins_may, some_of}
 use Rattle.vx_loggroup.proofs.DetachedLogs.{active_low, det_cause}
 use Rattle.vx_loggroup.proofs.FreshLemmas.{fresh_still, fresh_taken, lists_none, none_of}
+use Rattle.vx_loggroup.proofs.NewLemmas.{list_same}
 use Rattle.vx_group.proofs.FindingLemmas.{still_group}
 use Rattle.vx_loggroup.proofs.KeepingLemmas.{stays_none}
 use Rattle.vx_loggroup.proofs.KeepingCalls.{begins_stay}
@@ -160,3 +161,39 @@ returns-in-Ok-clause-stays g c = begins_stay c.args.vol (region_count (wide c.ar
 
 pub returns-in-Err-clause-stays : goal.returns-in-Err-clause-stays
 returns-in-Err-clause-stays g c = begins_stay c.args.vol (region_count (wide c.args.core.now).config c.args.vol) c.args.core.now c.begin_first.new.core c.args.logs.now.items c.begin_first.new.logs.items (g.S.Shelf.meaning c.args.shelf.now) (g.S.Shelf.meaning c.begin_first.new.shelf) c.begin_first.ensures.begins c.begin_first.ensures.first
+
+pub returns-then-is_some-clause-news : goal.returns-then-is_some-clause-news
+returns-then-is_some-clause-news g c = list_same c.args.core.now.inner.config c.args.vol c.args.logs.now.items
+
+pub returns-then-is_some-clause-trusts : goal.returns-then-is_some-clause-trusts
+returns-then-is_some-clause-trusts g c = record { each = λ w log told. told }
+
+pub returns-then-core-clause-news : goal.returns-then-core-clause-news
+returns-then-core-clause-news g c = list_same c.args.core.now.inner.config c.args.vol c.args.logs.now.items
+
+pub returns-then-core-clause-trusts : goal.returns-then-core-clause-trusts
+returns-then-core-clause-trusts g c = record { each = λ w log told. told }
+
+pub returns-then-not-is_active-clause-news : goal.returns-then-not-is_active-clause-news
+returns-then-not-is_active-clause-news g c = list_same c.args.core.now.inner.config c.args.vol c.args.logs.now.items
+
+pub returns-then-not-is_active-clause-trusts : goal.returns-then-not-is_active-clause-trusts
+returns-then-not-is_active-clause-trusts g c = record { each = λ w log told. told }
+
+pub returns-then-not-takes_fresh-clause-news : goal.returns-then-not-takes_fresh-clause-news
+returns-then-not-takes_fresh-clause-news g c = list_same c.args.core.now.inner.config c.args.vol c.args.logs.now.items
+
+pub returns-then-not-takes_fresh-clause-trusts : goal.returns-then-not-takes_fresh-clause-trusts
+returns-then-not-takes_fresh-clause-trusts g c = record { each = λ w log told. told }
+
+pub returns-in-Ok-clause-news : goal.returns-in-Ok-clause-news
+returns-in-Ok-clause-news g c = c.begin_first.ensures.news
+
+pub returns-in-Ok-clause-trusts : goal.returns-in-Ok-clause-trusts
+returns-in-Ok-clause-trusts g c = c.begin_first.ensures.begins.trusts
+
+pub returns-in-Err-clause-news : goal.returns-in-Err-clause-news
+returns-in-Err-clause-news g c = c.begin_first.ensures.news
+
+pub returns-in-Err-clause-trusts : goal.returns-in-Err-clause-trusts
+returns-in-Err-clause-trusts g c = c.begin_first.ensures.begins.trusts

@@ -1,5 +1,6 @@
 -- `det_fresh`: its clauses.
-use Rattle.std.proofs.Common.{◌∙◌, ap, arith, refl, subst, sym}
+use Rattle.std.proofs.Common.{◌≡◌, ◌∙◌, ap, arith, refl, subst, sym}
+use Rattle.vx_config.specs.Checks.{blocks_of}
 use Rattle.vx_disk.specs.Shelf.{Nothing}
 use Rattle.vx_disk.proofs.Runs.{then_nothing}
 use Rattle.vx_group.specs.Dets.{det_refusal}
@@ -11,7 +12,12 @@ use Rattle.vx_group.proofs.LoseLemmas.{then_parts}
 use Rattle.vx_group.proofs.TrustLemmas.{err_from, ok_from}
 use Rattle.vx_group.proofs.UnitLemmas.{then_units}
 use Rattle.vx_group.specs.declared.group_core.GroupCore.{GroupCore}
+use Rattle.vx_grouplogs.proofs.LogShape.{same_count}
+use Rattle.vx_loggroup.specs.Attaching.{fmr_or}
+use Rattle.vx_loggroup.specs.LoggedVolumes.{is_alike}
+use Rattle.vx_loggroup.specs.Marks.{region_count}
 use Rattle.vx_loggroup.proofs.DetFresh.{never_err}
+use Rattle.vx_loggroup.proofs.DetMoves.{first_moves, run_det}
 use Rattle.vx_loggroup.proofs.DetachedLogs.{begin_none, det_later, empty_later}
 use Rattle.vx_loggroup.proofs.FreshLemmas.{fresh_still}
 use Rattle.vx_group.proofs.FindingLemmas.{then_group}
@@ -99,3 +105,29 @@ returns-in-Err-clause-keeps g c = stay_keeps c.args.core.now c.begin_before.new.
 
 pub returns-clause-keeps : goal.returns-clause-keeps
 returns-clause-keeps g c = then_keeps c.args.core.now c.begin_before.new.core c.det_whole.new.core c.args.logs.now.items c.begin_before.new.logs.items c.det_whole.new.logs.items (g.S.Shelf.meaning c.args.shelf.now) (g.S.Shelf.meaning c.begin_before.new.shelf) (g.S.Shelf.meaning c.det_whole.new.shelf) (frames_places c.args.core.now.inner.config c.begin_before.new.core.inner.config c.begin_before.ensures.loses.loses.frames) c.begin_before.ensures.loses.rises c.det_whole.ensures.rises c.det_whole.ensures.goes.falls c.begin_before.ensures.stays c.det_whole.ensures.keeps
+
+pub returns-in-Err-clause-moves : goal.returns-in-Err-clause-moves
+returns-in-Err-clause-moves g c = λ off. first_moves c.args.core.now.inner.config c.begin_before.new.core.inner.config c.args.vol (region_count (wide c.args.core.now).config c.args.vol) c.args.logs.now.items c.begin_before.new.logs.items c.begin_before.ensures.first c.begin_before.ensures.news
+
+pub returns-clause-moves : goal.returns-clause-moves
+returns-clause-moves g c = λ off.
+    let blocks : blocks_of c.begin_before.new.core.inner.config.volumes c.args.vol ≡ blocks_of c.args.core.now.inner.config.volumes c.args.vol =
+    (let old = (wide_shape c.args.core.now).blocks c.args.vol in let new = (wide_shape c.begin_before.new.core).blocks c.args.vol in let size = c.begin_before.ensures.goes.size c.args.vol in omega (arith, old, new, size)) in
+    run_det c.args.core.now c.begin_before.new.core c.det_whole.new.core c.args.vol c.args.plex (region_count (wide c.args.core.now).config c.args.vol) c.args.logs.now.items c.begin_before.new.logs.items c.det_whole.new.logs.items c.begin_before.ensures.still
+    (same_count c.args.core.now.inner.config c.begin_before.new.core.inner.config c.args.vol (c.begin_before.ensures.loses.loses.frames c.args.vol) blocks) blocks c.begin_before.ensures.first c.begin_before.ensures.news
+    (λ k at f is. ((c.begin_before.ensures.stands.each c.args.vol k at).on off).fits.fmr f is) c.det_whole.ensures.maps
+    (let one = c.begin_before.ensures.stands.many in let two = c.det_whole.ensures.stands.many in let old = (wide_shape c.begin_before.new.core).volumes in let new = (wide_shape c.det_whole.new.core).volumes in let units = c.det_whole.ensures.goes.units in omega (arith, one, two, old, new, units))
+    (λ away. c.det_whole.ensures.same (c.begin_before.ensures.still c.args.vol c.args.plex ∙ away))
+    (is_alike c.args.alike.now c.args.vol) c.args.stopped c.det_whole.new.core.held c.det_whole.result off (λ on. c.det_whole.ensures.free (c.begin_before.ensures.still c.args.vol c.args.plex ∙ on)) (returns-clause-begins g c)
+
+pub returns-in-Err-clause-left : goal.returns-in-Err-clause-left
+returns-in-Err-clause-left g c = λ w apart. ap fmr_or (c.begin_before.ensures.first.others w apart)
+
+pub returns-clause-left : goal.returns-clause-left
+returns-clause-left g c = λ w apart. ap fmr_or (c.det_whole.ensures.maps.others w apart ∙ c.begin_before.ensures.first.others w apart)
+
+pub returns-in-Err-clause-trusts : goal.returns-in-Err-clause-trusts
+returns-in-Err-clause-trusts g c = record { each = λ w log has told. c.begin_before.ensures.trusts.each w log told }
+
+pub returns-clause-trusts : goal.returns-clause-trusts
+returns-clause-trusts g c = record { each = λ w log has told. c.det_whole.ensures.trusts.each w log has (c.begin_before.ensures.trusts.each w log told) }

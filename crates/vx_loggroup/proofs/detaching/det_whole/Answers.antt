@@ -208,3 +208,39 @@ returns-in-Err-begin_missing-clause-keeps g c = stay_keeps c.args.core.now c.det
 pub returns-clause-keeps : goal.returns-clause-keeps
 returns-clause-keeps g c = stay_keeps c.args.core.now c.keep_begun.new.core c.args.logs.now.items c.begin_missing.new.logs.items (g.S.Shelf.meaning c.args.shelf.now) (g.S.Shelf.meaning c.keep_begun.new.shelf)
     (then_stays c.args.core.now.inner.config c.det_logged.new.core.inner.config c.keep_begun.new.core.inner.config c.args.logs.now.items c.begin_missing.new.logs.items c.begin_missing.new.logs.items (g.S.Shelf.meaning c.args.shelf.now) (g.S.Shelf.meaning c.begin_missing.new.shelf) (g.S.Shelf.meaning c.keep_begun.new.shelf) (shape_places c.args.core.now.inner.config c.det_logged.new.core.inner.config c.det_logged.ensures.narrows.shape) (λ u. let one = c.det_logged.ensures.narrows.acts.faults u in let two = c.begin_missing.ensures.below.faults u in omega (arith, one, two)) c.keep_begun.ensures.rises c.keep_begun.ensures.goes.falls (then_stays c.args.core.now.inner.config c.det_logged.new.core.inner.config c.det_logged.new.core.inner.config c.args.logs.now.items c.args.logs.now.items c.begin_missing.new.logs.items (g.S.Shelf.meaning c.args.shelf.now) (g.S.Shelf.meaning c.det_logged.new.shelf) (g.S.Shelf.meaning c.begin_missing.new.shelf) (shape_places c.args.core.now.inner.config c.det_logged.new.core.inner.config c.det_logged.ensures.narrows.shape) (λ u. c.det_logged.ensures.narrows.acts.faults u) (λ u. c.begin_missing.ensures.below.faults u) c.begin_missing.ensures.below.falls (stays_same c.args.core.now.inner.config c.det_logged.new.core.inner.config c.args.logs.now.items (g.S.Shelf.meaning c.args.shelf.now) (g.S.Shelf.meaning c.det_logged.new.shelf) (shape_places c.args.core.now.inner.config c.det_logged.new.core.inner.config c.det_logged.ensures.narrows.shape) c.det_logged.ensures.disks.blamed c.det_logged.ensures.trusts) c.begin_missing.ensures.stays) (stays_in c.det_logged.new.core.inner.config c.keep_begun.new.core.inner.config c.args.vol c.begin_missing.new.logs.items (g.S.Shelf.meaning c.begin_missing.new.shelf) (g.S.Shelf.meaning c.keep_begun.new.shelf) (frames_places c.det_logged.new.core.inner.config c.keep_begun.new.core.inner.config c.keep_begun.ensures.loses.frames) c.keep_begun.ensures.loses.disks.blamed c.keep_begun.ensures.trusts))
+
+pub returns-in-Err-clause-same : goal.returns-in-Err-clause-same
+returns-in-Err-clause-same g c = λ off. refl
+
+pub returns-then-not-may_begin-clause-same : goal.returns-then-not-may_begin-clause-same
+returns-then-not-may_begin-clause-same g c = λ off. refl
+
+pub returns-in-Err-begin_missing-clause-same : goal.returns-in-Err-begin_missing-clause-same
+returns-in-Err-begin_missing-clause-same g c = λ off. absurd (let clash : false ≡ true = sym off ∙ sym c.is_active-was.ensures ∙ c.may_begin.ensures.was c.if-not-may_begin.false in cc)
+
+pub returns-clause-same : goal.returns-clause-same
+returns-clause-same g c = λ off. absurd (let clash : false ≡ true = sym off ∙ sym c.is_active-was.ensures ∙ c.may_begin.ensures.was c.if-not-may_begin.false in cc)
+
+pub returns-in-Err-clause-free : goal.returns-in-Err-clause-free
+returns-in-Err-clause-free g c = λ on. tt
+
+pub returns-then-not-may_begin-clause-free : goal.returns-then-not-may_begin-clause-free
+returns-then-not-may_begin-clause-free g c = c.in-Ok.ensures.free
+
+pub returns-in-Err-begin_missing-clause-free : goal.returns-in-Err-begin_missing-clause-free
+returns-in-Err-begin_missing-clause-free g c = λ on. tt
+
+pub returns-clause-free : goal.returns-clause-free
+returns-clause-free g c = λ on. on_any c.keep_begun.result (c.keep_begun.ensures.finds.free (c.may_begin.ensures.none c.if-not-may_begin.false))
+
+pub returns-in-Err-clause-trusts : goal.returns-in-Err-clause-trusts
+returns-in-Err-clause-trusts g c = record { each = λ w log has told. c.det_logged.ensures.trusts.each w log told }
+
+pub returns-then-not-may_begin-clause-trusts : goal.returns-then-not-may_begin-clause-trusts
+returns-then-not-may_begin-clause-trusts g c = record { each = λ w log has told. c.det_logged.ensures.trusts.each w log told }
+
+pub returns-in-Err-begin_missing-clause-trusts : goal.returns-in-Err-begin_missing-clause-trusts
+returns-in-Err-begin_missing-clause-trusts g c = record { each = λ w log has told. c.det_logged.ensures.trusts.each w log told }
+
+pub returns-clause-trusts : goal.returns-clause-trusts
+returns-clause-trusts g c = record { each = λ w log has told. c.keep_begun.ensures.trusts.each w log has (c.det_logged.ensures.trusts.each w log told) }

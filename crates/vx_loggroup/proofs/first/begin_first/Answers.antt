@@ -14,6 +14,7 @@ use Rattle.vx_loggroup.specs.LoggedVolumes.{is_alike}
 use Rattle.vx_loggroup.specs.Marks.{region_count}
 use Rattle.vx_loggroup.proofs.AlikeLemmas.{all_whole, here_stands, index_low, set_stands}
 use Rattle.vx_loggroup.proofs.FreshLemmas.{begins_then, lists_none, lists_set}
+use Rattle.vx_loggroup.proofs.NewLemmas.{list_same, list_set, news_same, news_start}
 use Rattle.vx_loggroup.proofs.SetLemmas.{item_of}
 use Rattle.vx_loggroup.proofs.first.begin_first.Goals as goal
 
@@ -103,3 +104,16 @@ returns-then-blocks_of-eq0-clause-cause g c = record { before = c.in-Ok.ensures.
 
 pub returns-clause-cause : goal.returns-clause-cause
 returns-clause-cause g c = Cause_both (inner_meaning (wide c.args.core.now) (g.S.Shelf.meaning c.args.shelf.now)) (inner_meaning (wide c.ready_group.new.core) (g.S.Shelf.meaning c.ready_group.new.shelf)) (inner_meaning (wide c.begin_both.new.core) (g.S.Shelf.meaning c.begin_both.new.shelf)) c.args.vol c.begin_both.result (record { before = c.in-Ok.ensures.cause.before; after = c.in-Ok.ensures.cause.after }) c.ready_group.ensures.goes.faults c.ready_group.ensures.goes.disk_faults c.begin_both.ensures.cause
+
+pub returns-in-Err-clause-news : goal.returns-in-Err-clause-news
+returns-in-Err-clause-news g c = list_same c.args.core.now.inner.config c.args.vol c.args.logs.now.items
+
+pub returns-then-not-ready-clause-news : goal.returns-then-not-ready-clause-news
+returns-then-not-ready-clause-news g c = list_same c.args.core.now.inner.config c.args.vol c.args.logs.now.items
+
+pub returns-then-blocks_of-eq0-clause-news : goal.returns-then-blocks_of-eq0-clause-news
+returns-then-blocks_of-eq0-clause-news g c = list_same c.args.core.now.inner.config c.args.vol c.args.logs.now.items
+
+pub returns-clause-news : goal.returns-clause-news
+returns-clause-news g c = list_set c.args.core.now.inner.config c.args.vol c.args.logs.now.items c.index_mut.result.now c.begin_both.new.one (item_of c.args.logs.now.items c.args.vol c.index_mut.result.now c.index_mut.ensures.value (index_low c.args.core.now c.args.logs.now.items c.args.alike.now false (g.S.Shelf.meaning c.args.shelf.now) c.args.vol c.requires.stands c.requires.there))
+    (news_start c.args.vol c.args.core.now c.ready_group.new.core (g.S.Shelf.meaning c.args.shelf.now) (g.S.Shelf.meaning c.ready_group.new.shelf) (record { goes = c.ready_group.ensures.goes; loses = c.ready_group.ensures.loses; finds = c.ready_group.ensures.finds; trusts = c.ready_group.ensures.trusts; still = c.ready_group.ensures.still; on = c.ready_group.ensures.narrow.on; units = c.ready_group.ensures.below; others = others_each c.args.vol c.args.core.now c.ready_group.new.core (g.S.Shelf.meaning c.args.shelf.now) (g.S.Shelf.meaning c.ready_group.new.shelf) c.ready_group.ensures.logs }) c.index_mut.result.now c.index_mut.result.now c.begin_both.new.one c.begin_both.ensures.first.fmr (news_same c.args.core.now.inner.config c.args.vol c.index_mut.result.now) c.begin_both.ensures.news)

@@ -1,5 +1,5 @@
 -- `write_fresh`: its clauses; what the calls ask.
-use Rattle.std.proofs.Common.{◌/◌, ◌∙◌, ℕ, List, inl, true, false, length, refl, subst, sym, arith, ◌≡◌}
+use Rattle.std.proofs.Common.{◌/◌, ◌∙◌, ap, ℕ, List, inl, true, false, length, refl, subst, sym, arith, ◌≡◌}
 use Rattle.vx_disk.specs.Shelf.{Written}
 use Rattle.vx_disk.proofs.Causing.{Cause_both}
 use Rattle.vx_disk.proofs.Runs.{none_written, nothing_then}
@@ -13,8 +13,12 @@ use Rattle.vx_logs.specs.Writes.{first_region, last_region}
 use Rattle.vx_logged.specs.Behind.{those_missing}
 use Rattle.vx_logged.proofs.RefuseLemmas.{marks_sooner}
 use Rattle.vx_logged.proofs.StandLemmas.{fits_later}
-use Rattle.vx_loggroup.specs.LoggedVolumes.{LoggedStands}
-use Rattle.vx_loggroup.proofs.FreshLemmas.{begins_stale, fresh_goes, fresh_still, fresh_taken, lists_marks, lists_notes, lists_only, lists_same, fell_first, runs_same}
+use Rattle.vx_loggroup.specs.Attaching.{fmr_or}
+use Rattle.vx_loggroup.specs.LoggedVolumes.{LoggedStands, is_alike}
+use Rattle.vx_loggroup.proofs.AlikeLemmas.{going_back}
+use Rattle.vx_loggroup.proofs.NewLemmas.{list_same, start_blocks, start_count}
+use Rattle.vx_loggroup.proofs.WroteMoves.{first_doubts, run_moves}
+use Rattle.vx_loggroup.proofs.FreshLemmas.{begins_stale, fresh_goes, fresh_still, fresh_taken, lists_marks, lists_none, lists_notes, lists_only, lists_same, fell_first, runs_same}
 use Rattle.vx_logged.specs.Begun.{fell_in}
 use Rattle.vx_group.proofs.FindingLemmas.{then_group}
 use Rattle.vx_loggroup.proofs.KeepingLemmas.{frames_places, stay_keeps, then_keeps}
@@ -134,3 +138,76 @@ returns-in-Err-clause-begins g c = λ alike going. tt
 
 pub returns-clause-begins : goal.returns-clause-begins
 returns-clause-begins g c = λ alike going. ok_from c.write_whole-2.result (λ runs. runs_same (fell_in c.begin_first.new.core c.write_whole-2.new.core c.args.vol) (fell_in c.args.core.now c.write_whole-2.new.core c.args.vol) c.args.vol (first_region c.args.block) (last_region c.args.block (length c.args.bytes.now / 512)) c.write_whole-2.new.logs.items (fell_first c.args.core.now c.begin_first.new.core c.write_whole-2.new.core c.args.vol c.begin_first.ensures.begins.still) runs) (c.write_whole-2.ensures.begins alike going)
+
+pub returns-then-not-takes_fresh-clause-moves : goal.returns-then-not-takes_fresh-clause-moves
+returns-then-not-takes_fresh-clause-moves g c = λ off.
+    run_moves c.args.core.now c.args.core.now c.write_whole.new.core c.args.vol (region_count (wide c.args.core.now).config c.args.vol) c.args.logs.now.items c.args.logs.now.items c.write_whole.new.logs.items (λ w p. refl) refl refl
+    (lists_none c.args.vol (region_count (wide c.args.core.now).config c.args.vol) c.args.logs.now.items) (list_same c.args.core.now.inner.config c.args.vol c.args.logs.now.items)
+    (λ k at f is. ((c.requires.stands.each c.args.vol k at).on (going_back c.args.stopped.now c.write_whole.new.stopped c.write_whole.ensures.stays off)).fits.fmr f is)
+    (first_region c.args.block) (last_region c.args.block (length c.args.bytes.now / 512)) (is_alike c.args.alike.now c.args.vol) c.write_whole.result (g.S.Shelf.meaning c.write_whole.new.shelf) c.write_whole.ensures.stands.group (c.write_whole.ensures.loses.loses.frames c.args.vol) (c.write_whole.ensures.goes.size c.args.vol)
+    (λ w apart. ap fmr_or (c.write_whole.ensures.marks.others w apart)) c.write_whole.ensures.gone (λ alike. c.write_whole.ensures.begins alike off) c.write_whole.ensures.notes (c.write_whole.ensures.holds off)
+
+pub returns-in-Err-clause-moves : goal.returns-in-Err-clause-moves
+returns-in-Err-clause-moves g c = λ off. first_doubts c.args.core.now.inner.config c.begin_first.new.core.inner.config c.args.vol (first_region c.args.block) (last_region c.args.block (length c.args.bytes.now / 512)) (region_count (wide c.args.core.now).config c.args.vol) c.args.logs.now.items c.begin_first.new.logs.items c.begin_first.ensures.first c.begin_first.ensures.news
+
+pub returns-clause-moves : goal.returns-clause-moves
+returns-clause-moves g c = λ off.
+    run_moves c.args.core.now c.begin_first.new.core c.write_whole-2.new.core c.args.vol (region_count (wide c.args.core.now).config c.args.vol) c.args.logs.now.items c.begin_first.new.logs.items c.write_whole-2.new.logs.items c.begin_first.ensures.begins.still
+    (start_count c.args.vol c.args.core.now c.begin_first.new.core (g.S.Shelf.meaning c.args.shelf.now) (g.S.Shelf.meaning c.begin_first.new.shelf) c.begin_first.ensures.begins)
+    (start_blocks c.args.vol c.args.core.now c.begin_first.new.core (g.S.Shelf.meaning c.args.shelf.now) (g.S.Shelf.meaning c.begin_first.new.shelf) c.begin_first.ensures.begins) c.begin_first.ensures.first c.begin_first.ensures.news (λ k at f is. ((c.begin_first.ensures.stands.each c.args.vol k at).on refl).fits.fmr f is)
+    (first_region c.args.block) (last_region c.args.block (length c.args.bytes.now / 512)) (is_alike c.args.alike.now c.args.vol) c.write_whole-2.result (g.S.Shelf.meaning c.write_whole-2.new.shelf) c.write_whole-2.ensures.stands.group (c.write_whole-2.ensures.loses.loses.frames c.args.vol) (c.write_whole-2.ensures.goes.size c.args.vol)
+    (λ w apart. ap fmr_or (c.write_whole-2.ensures.marks.others w apart ∙ c.begin_first.ensures.first.others w apart)) c.write_whole-2.ensures.gone (λ alike. c.write_whole-2.ensures.begins alike off) c.write_whole-2.ensures.notes (c.write_whole-2.ensures.holds off)
+
+pub returns-then-not-takes_fresh-clause-trusts : goal.returns-then-not-takes_fresh-clause-trusts
+returns-then-not-takes_fresh-clause-trusts g c = c.write_whole.ensures.trusts
+
+pub returns-in-Err-clause-trusts : goal.returns-in-Err-clause-trusts
+returns-in-Err-clause-trusts g c = record { each = λ w log has told. c.begin_first.ensures.begins.trusts.each w log told }
+
+pub returns-clause-trusts : goal.returns-clause-trusts
+returns-clause-trusts g c = record { each = λ w log has told. c.write_whole-2.ensures.trusts.each w log has (c.begin_first.ensures.begins.trusts.each w log told) }
+
+pub returns-then-not-takes_fresh-clause-stays : goal.returns-then-not-takes_fresh-clause-stays
+returns-then-not-takes_fresh-clause-stays g c = c.write_whole.ensures.stays
+
+pub returns-in-Err-clause-stays : goal.returns-in-Err-clause-stays
+returns-in-Err-clause-stays g c = λ on. on
+
+pub returns-clause-stays : goal.returns-clause-stays
+returns-clause-stays g c = c.write_whole-2.ensures.stays
+
+pub returns-then-not-takes_fresh-clause-alike : goal.returns-then-not-takes_fresh-clause-alike
+returns-then-not-takes_fresh-clause-alike g c = c.write_whole.ensures.alike
+
+pub returns-in-Err-clause-alike : goal.returns-in-Err-clause-alike
+returns-in-Err-clause-alike g c = tt
+
+pub returns-clause-alike : goal.returns-clause-alike
+returns-clause-alike g c = c.write_whole-2.ensures.alike
+
+pub returns-then-not-takes_fresh-clause-flags : goal.returns-then-not-takes_fresh-clause-flags
+returns-then-not-takes_fresh-clause-flags g c = c.write_whole.ensures.flags
+
+pub returns-in-Err-clause-flags : goal.returns-in-Err-clause-flags
+returns-in-Err-clause-flags g c = λ w apart. refl
+
+pub returns-clause-flags : goal.returns-clause-flags
+returns-clause-flags g c = c.write_whole-2.ensures.flags
+
+pub returns-then-not-takes_fresh-clause-rests : goal.returns-then-not-takes_fresh-clause-rests
+returns-then-not-takes_fresh-clause-rests g c = c.write_whole.ensures.rests
+
+pub returns-in-Err-clause-rests : goal.returns-in-Err-clause-rests
+returns-in-Err-clause-rests g c = λ off w p is. sym (c.begin_first.ensures.begins.still w p) ∙ is
+
+pub returns-clause-rests : goal.returns-clause-rests
+returns-clause-rests g c = λ off w p is. sym (c.begin_first.ensures.begins.still w p) ∙ c.write_whole-2.ensures.rests off w p is
+
+pub returns-then-not-takes_fresh-clause-free : goal.returns-then-not-takes_fresh-clause-free
+returns-then-not-takes_fresh-clause-free g c = c.write_whole.ensures.free
+
+pub returns-in-Err-clause-free : goal.returns-in-Err-clause-free
+returns-in-Err-clause-free g c = λ off. tt
+
+pub returns-clause-free : goal.returns-clause-free
+returns-clause-free g c = c.write_whole-2.ensures.free

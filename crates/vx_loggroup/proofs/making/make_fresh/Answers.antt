@@ -1,6 +1,7 @@
 -- `make_fresh`: its clauses; what the calls ask.
 use Rattle.std.proofs.Common.{◌≡◌, ◌∙◌, ◌-◌, inl, inr, ℕ, None, true, List, [], ◌∷◌, ◌++◌, length, refl, ap, sym, subst, arith, vec_len}
 use Rattle.std.specs.Prelude.{Some, take}
+use Rattle.std.proofs.lemmas.Bool.{cases_eq}
 use Rattle.vx_config.specs.declared.entry.VolumeLog.TheVariants.{Drl}
 use Rattle.vx_group.specs.Makes.{AreZero}
 use Rattle.vx_group.proofs.BehindLemmas.{no_stays}
@@ -10,7 +11,9 @@ use Rattle.vx_group.proofs.LoseLemmas.{none_parts}
 use Rattle.vx_group.proofs.UnitLemmas.{beside_units, same_units}
 use Rattle.vx_logs.specs.declared.logs.Logs.{Logs}
 use Rattle.vx_model.specs.declared.errors.Stop.TheVariants.{No as Refused}
+use Rattle.vx_loggroup.specs.Attaching.{fmr_at}
 use Rattle.vx_loggroup.specs.LoggedVolumes.{LoggedStands, is_alike}
+use Rattle.vx_loggroup.proofs.ComesLemmas.{more_maps}
 use Rattle.vx_loggroup.proofs.FreshLemmas.{fresh_still}
 use Rattle.vx_loggroup.proofs.MadeLogs.{fresh_made, long_one, none_goes, none_made, one_made, refused_volumes, take_front, unmoved_by}
 use Rattle.vx_group.proofs.FindingLemmas.{still_group}
@@ -136,3 +139,54 @@ returns-in-Err-make_in-clause-keeps g c =
     subst (λ (ls : List Logs). LogsKeep c.args.core.now c.make_in.new.core c.args.logs.now.items ls (g.S.Shelf.meaning c.args.shelf.now) (g.S.Shelf.meaning c.make_in.new.shelf)) (sym (c.pop.ensures.rest ∙ ap (take (vec_len c.push.new.self - 1)) c.in-Ok.ensures.items ∙ take_front c.args.logs.now.items ((record { drl = None; fmr = None }) ∷ []) (vec_len c.push.new.self - 1) (let long = ap length c.in-Ok.ensures.items ∙ long_one c.args.logs.now.items (record { drl = None; fmr = None }) in omega (arith, c.push.new.self.ok, long))))
     (stay_keeps c.args.core.now c.make_in.new.core c.args.logs.now.items c.args.logs.now.items (g.S.Shelf.meaning c.args.shelf.now) (g.S.Shelf.meaning c.make_in.new.shelf)
     (stays_same c.args.core.now.inner.config c.make_in.new.core.inner.config c.args.logs.now.items (g.S.Shelf.meaning c.args.shelf.now) (g.S.Shelf.meaning c.make_in.new.shelf) (extends_places c.args.core.now.inner.config c.make_in.new.core.inner.config c.make_in.ensures.stays.shape) c.make_in.ensures.disks.blamed c.make_in.ensures.logs))
+
+pub returns-in-Some-clause-left : goal.returns-in-Some-clause-left
+returns-in-Some-clause-left g c = λ v. refl
+
+pub returns-in-Err-clause-left : goal.returns-in-Err-clause-left
+returns-in-Err-clause-left g c = λ v. ap (λ (ls : List Logs). fmr_at ls v) c.in-Err.ensures.items
+
+pub returns-in-Ok-make_in-clause-left : goal.returns-in-Ok-make_in-clause-left
+returns-in-Ok-make_in-clause-left g c = λ v. ap (λ (ls : List Logs). fmr_at ls v) c.in-Ok.ensures.items ∙ more_maps c.args.logs.now.items (record { drl = None; fmr = None }) refl v
+
+pub returns-in-Err-make_in-clause-left : goal.returns-in-Err-make_in-clause-left
+returns-in-Err-make_in-clause-left g c = λ v. ap (λ (ls : List Logs). fmr_at ls v) (c.pop.ensures.rest ∙ ap (take (vec_len c.push.new.self - 1)) c.in-Ok.ensures.items ∙ take_front c.args.logs.now.items ((record { drl = None; fmr = None }) ∷ []) (vec_len c.push.new.self - 1) (let long = ap length c.in-Ok.ensures.items ∙ long_one c.args.logs.now.items (record { drl = None; fmr = None }) in omega (arith, c.push.new.self.ok, long)))
+
+pub returns-in-Some-clause-trusts : goal.returns-in-Some-clause-trusts
+returns-in-Some-clause-trusts g c = record { each = λ w log told. told }
+
+pub returns-in-Err-clause-trusts : goal.returns-in-Err-clause-trusts
+returns-in-Err-clause-trusts g c = record { each = λ w log told. told }
+
+pub returns-in-Ok-make_in-clause-trusts : goal.returns-in-Ok-make_in-clause-trusts
+returns-in-Ok-make_in-clause-trusts g c = c.make_in.ensures.logs
+
+pub returns-in-Err-make_in-clause-trusts : goal.returns-in-Err-make_in-clause-trusts
+returns-in-Err-make_in-clause-trusts g c = c.make_in.ensures.logs
+
+pub returns-in-Some-clause-alike : goal.returns-in-Some-clause-alike
+returns-in-Some-clause-alike g c = tt
+
+pub returns-in-Some-clause-flags : goal.returns-in-Some-clause-flags
+returns-in-Some-clause-flags g c = λ w is. is
+
+pub returns-in-Err-clause-alike : goal.returns-in-Err-clause-alike
+returns-in-Err-clause-alike g c = tt
+
+pub returns-in-Err-clause-flags : goal.returns-in-Err-clause-flags
+returns-in-Err-clause-flags g c = λ w is. is
+
+pub returns-in-Err-make_in-clause-alike : goal.returns-in-Err-make_in-clause-alike
+returns-in-Err-make_in-clause-alike g c = tt
+
+pub returns-in-Err-make_in-clause-flags : goal.returns-in-Err-make_in-clause-flags
+returns-in-Err-make_in-clause-flags g c = λ w is. is
+
+pub returns-in-Ok-make_in-clause-alike : goal.returns-in-Ok-make_in-clause-alike
+returns-in-Ok-make_in-clause-alike g c = c.set_alike.ensures.here
+
+pub returns-in-Ok-make_in-clause-flags : goal.returns-in-Ok-make_in-clause-flags
+returns-in-Ok-make_in-clause-flags g c = λ w is. elim (cases_eq w c.in-Ok-make_in.vol) [
+  | inl same ↦ ap (is_alike c.set_alike.new.alike) same ∙ c.set_alike.ensures.here
+  | inr apart ↦ c.set_alike.ensures.others w apart ∙ is
+]

@@ -36,7 +36,7 @@ pub returns-in-Ok-clause-ends : goal.returns-in-Ok-clause-ends
 returns-in-Ok-clause-ends g c =
     opens_by (λ s. g.S.Shelf.meaning s) c.import_marked.new.shelf (g.S.Shelf.meaning c.args.shelf.now) c.in-Ok.marked (g.met.S.Shelf.lawful c.args.shelf.now) (g.met.S.Shelf.lawful c.import_marked.new.shelf) c.requires.can c.in-Ok.ensures.ends c.args.rested.now c.requires.tells
     c.alike_of-alike.result c.alike_of-alike.ensures.stopped c.alike_of-alike.ensures.rested c.take_all.new.logs.items (g.S.Shelf.meaning c.take_all.new.shelf) (g.S.Shelf.meaning c.settle_logs.new.shelf) c.take_all.ensures.drls (let one = c.take_all.ensures.stands.many in let two = c.in-Ok.ensures.ends.logs.many in omega (arith, one, two))
-    c.take_all.ensures.goes (g.met.S.Shelf.lawful c.take_all.new.shelf) c.settle_logs.result c.settle_logs.ensures c.take_all.ensures.why
+    c.take_all.ensures.goes (g.met.S.Shelf.lawful c.take_all.new.shelf) c.settle_logs.result c.settle_logs.ensures c.take_all.ensures.why c.take_all.ensures.were
 
 pub returns-in-Ok-clause-same : goal.returns-in-Ok-clause-same
 returns-in-Ok-clause-same g c =

@@ -1,6 +1,7 @@
 -- `rest_one`: its clauses.
-use Rattle.std.proofs.Common.{◌≡◌, ◌∙◌, Option, None, Some, Bool, true, false, sym, ap}
-use Rattle.std.specs.Prelude.{is_some}
+use Rattle.std.proofs.Common.{◌≡◌, ◌∙◌, Option, None, Some, Bool, true, false, refl, sym, ap}
+use Rattle.std.specs.Prelude.{is_some, not}
+use Rattle.vx_fmr.specs.Missed.{Missed}
 use Rattle.vx_loggroup.proofs.TouchLemmas.{has_rests, marked_unsure, none_rests, same_unsure}
 use Rattle.vx_loggroup.proofs.resting.rest_one.Goals as goal
 
@@ -15,3 +16,12 @@ returns-clause-unsure c = marked_unsure c.args.vol c.args.unsure.now c.mark.new.
 
 pub returns-clause-others : goal.returns-clause-others
 returns-clause-others c = c.mark.ensures.others
+
+pub returns-then-is_none-clause-has : goal.returns-then-is_none-clause-has
+returns-then-is_none-clause-has c = λ f at. absurd (let clash : false ≡ true = sym (ap not c.if-is_none.true) ∙ sym c.is_none.ensures ∙ ap (λ (o : Option Missed). is_some o) at in cc)
+
+pub returns-then-not-touches-clause-has : goal.returns-then-not-touches-clause-has
+returns-then-not-touches-clause-has c = λ f at. refl
+
+pub returns-clause-has : goal.returns-clause-has
+returns-clause-has c = λ f at. refl

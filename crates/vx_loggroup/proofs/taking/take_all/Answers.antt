@@ -48,7 +48,7 @@ take_at-requires-clause-tells g c = λ may.
 
 pub loop-vol-preserved : goal.loop-vol-preserved
 loop-vol-preserved g c =
-    one_taken c.args.core.now c.args.alike.now c.args.good c.args.stopped.now c.args.rested.now c.args.logs.now.items (g.S.Shelf.meaning c.args.shelf.now) c.loop-vol.vol c.loop-vol.logs.items (g.S.Shelf.meaning c.loop-vol.shelf) c.loop-vol.invariant c.may_take-may.result c.may_take-may.ensures.clean c.may_take-may.ensures.maps c.may_take-may.ensures.within c.take_at.new.logs.items (g.S.Shelf.meaning c.take_at.new.shelf) c.take_at.ensures.stands c.take_at.ensures.goes c.take_at.ensures.takes
+    one_taken c.args.core.now c.args.alike.now c.args.good c.args.stopped.now c.args.rested.now c.args.logs.now.items (g.S.Shelf.meaning c.args.shelf.now) c.loop-vol.vol c.loop-vol.logs.items (g.S.Shelf.meaning c.loop-vol.shelf) c.loop-vol.invariant c.may_take-may.result c.may_take-may.ensures.clean c.may_take-may.ensures.maps c.may_take-may.ensures.within c.take_at.new.logs.items (g.S.Shelf.meaning c.take_at.new.shelf) c.take_at.ensures.stands c.take_at.ensures.goes c.take_at.ensures.takes c.take_at.ensures.was
 
 pub returns-clause-stands : goal.returns-clause-stands
 returns-clause-stands g c = c.loop-vol.invariant.stands
@@ -61,3 +61,6 @@ returns-clause-drls g c = c.loop-vol.invariant.drls
 
 pub returns-clause-why : goal.returns-clause-why
 returns-clause-why g c = c.loop-vol.invariant.why
+
+pub returns-clause-were : goal.returns-clause-were
+returns-clause-were g c = c.loop-vol.invariant.were

@@ -1,5 +1,5 @@
 -- `take_at`: its clauses; what `take_one` asks.
-use Rattle.std.proofs.Common.{◌≡◌, false, refl, arith}
+use Rattle.std.proofs.Common.{◌≡◌, ◌∙◌, None, Some, false, refl, sym, arith}
 use Rattle.vx_disk.specs.Shelf.{Nothing}
 use Rattle.vx_group.specs.Holding.{wide}
 use Rattle.vx_group.specs.Stands.{inner_meaning}
@@ -8,7 +8,7 @@ use Rattle.vx_loggroup.specs.LoggedVolumes.{is_alike}
 use Rattle.vx_loggroup.proofs.AlikeLemmas.{here_stands, set_stands}
 use Rattle.vx_loggroup.proofs.SetLemmas.{item_of}
 use Rattle.vx_loggroup.proofs.StillLemmas.{core_goes, core_others, core_stands}
-use Rattle.vx_loggroup.proofs.TakenMaps.{takes_none, takes_set}
+use Rattle.vx_loggroup.proofs.TakenMaps.{takes_none, takes_set, were_set}
 use Rattle.vx_loggroup.proofs.taking.take_at.Goals as goal
 
 pub index_mut-requires : goal.index_mut-requires
@@ -45,3 +45,9 @@ returns-clause-stands g c =
 
 pub returns-clause-takes : goal.returns-clause-takes
 returns-clause-takes g c = takes_set c.args.core.now.inner.config c.args.may c.args.vol c.args.logs.now.items c.index_mut.result.now c.take_one.new.one (item_of c.args.logs.now.items c.args.vol c.index_mut.result.now c.index_mut.ensures.value (let many = c.requires.stands.many in let there = c.requires.there in omega (arith, many, there))) c.take_one.ensures.drl c.if-not-may.false c.take_one.ensures.used
+
+pub returns-then-not-may-clause-was : goal.returns-then-not-may-clause-was
+returns-then-not-may-clause-was g c = λ k f is at. absurd (let clash : None ≡ Some f = sym (c.requires.plain k is) ∙ at in cc)
+
+pub returns-clause-was : goal.returns-clause-was
+returns-clause-was g c = were_set c.args.core.now.inner.config c.args.vol c.args.logs.now.items c.take_one.new.one (g.S.Shelf.meaning c.args.shelf.now) c.take_one.ensures.was

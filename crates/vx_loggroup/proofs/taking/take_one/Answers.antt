@@ -1,5 +1,5 @@
 -- `take_one`: its clauses; what `load_maps` asks.
-use Rattle.std.proofs.Common.{◌≡◌, ◌∙◌, Option, None, refl, sym, ap, subst, arith}
+use Rattle.std.proofs.Common.{◌≡◌, ◌∙◌, Option, None, Some, refl, sym, ap, subst, arith}
 use Rattle.vx_fmr.specs.Missed.{Missed}
 use Rattle.vx_group.proofs.MendLemmas.{same_Goes}
 use Rattle.vx_grouplogs.proofs.KnowActs.{know_none}
@@ -8,7 +8,7 @@ use Rattle.vx_group.specs.Holding.{wide}
 use Rattle.vx_logged.proofs.StandLemmas.{inner_fit, inner_sound, know_wide, to_inner, to_wide}
 use Rattle.vx_logged.specs.Logged.{LogOn}
 use Rattle.vx_logs.specs.declared.logs.Logs.{Logs}
-use Rattle.vx_loggroup.proofs.TakenMaps.{none_on, none_same, taken_known, taken_log, taken_used}
+use Rattle.vx_loggroup.proofs.TakenMaps.{none_on, none_same, taken_known, taken_log, taken_used, taken_was}
 use Rattle.vx_loggroup.proofs.taking.take_one.Goals as goal
 
 pub load_maps-requires-clause-checked : goal.load_maps-requires-clause-checked
@@ -74,3 +74,16 @@ returns-in-Ok-clause-used g c = taken_used c.args.core.now.inner.config c.args.v
 
 pub returns-in-Err-clause-used : goal.returns-in-Err-clause-used
 returns-in-Err-clause-used g c = λ some. absurd (some c.requires.plain)
+
+pub returns-then-blocks_of-eq0-clause-was : goal.returns-then-blocks_of-eq0-clause-was
+returns-then-blocks_of-eq0-clause-was g c = λ f at. absurd (let clash : None ≡ Some f = sym c.requires.plain ∙ at in cc)
+
+pub returns-then-is_down-clause-was : goal.returns-then-is_down-clause-was
+returns-then-is_down-clause-was g c = λ f at. absurd (let clash : None ≡ Some f = sym c.requires.plain ∙ at in cc)
+
+pub returns-in-Err-clause-was : goal.returns-in-Err-clause-was
+returns-in-Err-clause-was g c = λ f at. absurd (let clash : None ≡ Some f = sym c.requires.plain ∙ at in cc)
+
+pub returns-in-Ok-clause-was : goal.returns-in-Ok-clause-was
+returns-in-Ok-clause-was g c = taken_was c.args.core.now.inner.config c.args.vol c.in-Ok.loaded.fmr c.in-Ok.loaded.gone (g.S.Shelf.meaning c.args.shelf.now) (g.S.Shelf.meaning c.load_maps.new.shelf) (g.met.S.Shelf.lawful c.args.shelf.now)
+    (let is = c.blocks_of.ensures in let off = c.if-blocks_of-eq0.false in omega (arith, is, off)) c.in-Ok.ensures.takes

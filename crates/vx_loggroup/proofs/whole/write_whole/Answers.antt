@@ -1,5 +1,5 @@
 -- `write_whole`: clauses stands and marks; what `write_marked` asks.
-use Rattle.std.proofs.Common.{◌≡◌, ◌∙◌, ◌/◌, true, false, length, refl, sym, arith}
+use Rattle.std.proofs.Common.{◌≡◌, ◌∙◌, ◌/◌, inl, inr, true, false, length, refl, sym, arith}
 use Rattle.vx_disk.specs.Shelf.{Written}
 use Rattle.vx_group.specs.Holding.{wide}
 use Rattle.vx_logs.specs.Writes.{first_region, last_region}
@@ -11,6 +11,7 @@ use Rattle.vx_logged.specs.Logged.{are_off}
 use Rattle.vx_loggroup.proofs.SetLemmas.{item_of}
 use Rattle.vx_loggroup.proofs.KeepingLemmas.{kept_set}
 use Rattle.vx_loggroup.proofs.KeepingCalls.{marked_keeps}
+use Rattle.vx_loggroup.proofs.WroteMoves.{gone_set, holds_set, none_set, trusts_set}
 use Rattle.vx_loggroup.proofs.whole.write_whole.Goals as goal
 
 pub index_mut-requires : goal.index_mut-requires
@@ -77,3 +78,54 @@ returns-in-Ok-clause-begins g c = λ alike going. runs_set (fell_in c.args.core.
 
 pub returns-in-Err-clause-begins : goal.returns-in-Err-clause-begins
 returns-in-Err-clause-begins g c = λ alike going. tt
+
+pub returns-in-Ok-clause-holds : goal.returns-in-Ok-clause-holds
+returns-in-Ok-clause-holds g c = λ off. holds_set c.write_marked.new.core.inner.config c.args.vol (first_region c.args.block) (last_region c.args.block (length c.args.bytes.now / 512)) c.args.logs.now.items c.write_marked.new.logs (c.in-Ok.ensures.holds off)
+
+pub returns-in-Err-clause-holds : goal.returns-in-Err-clause-holds
+returns-in-Err-clause-holds g c = λ off. tt
+
+pub returns-in-Ok-clause-gone : goal.returns-in-Ok-clause-gone
+returns-in-Ok-clause-gone g c = gone_set c.args.vol c.args.logs.now.items c.index_mut.result.now c.write_marked.new.logs (item_of c.args.logs.now.items c.args.vol c.index_mut.result.now c.index_mut.ensures.value (index_low c.args.core.now c.args.logs.now.items c.args.alike.now c.args.stopped.now (g.S.Shelf.meaning c.args.shelf.now) c.args.vol c.requires.stands c.requires.fits.exists)) c.in-Ok.ensures.notes.gone
+
+pub returns-in-Err-clause-gone : goal.returns-in-Err-clause-gone
+returns-in-Err-clause-gone g c = gone_set c.args.vol c.args.logs.now.items c.index_mut.result.now c.write_marked.new.logs (item_of c.args.logs.now.items c.args.vol c.index_mut.result.now c.index_mut.ensures.value (index_low c.args.core.now c.args.logs.now.items c.args.alike.now c.args.stopped.now (g.S.Shelf.meaning c.args.shelf.now) c.args.vol c.requires.stands c.requires.fits.exists)) c.in-Err.ensures.notes.gone
+
+pub returns-in-Ok-clause-trusts : goal.returns-in-Ok-clause-trusts
+returns-in-Ok-clause-trusts g c = trusts_set c.args.vol c.args.logs.now.items c.write_marked.new.logs c.args.core.now.inner.config c.write_marked.new.core.inner.config c.write_marked.ensures.trusts
+
+pub returns-in-Err-clause-trusts : goal.returns-in-Err-clause-trusts
+returns-in-Err-clause-trusts g c = trusts_set c.args.vol c.args.logs.now.items c.write_marked.new.logs c.args.core.now.inner.config c.write_marked.new.core.inner.config c.write_marked.ensures.trusts
+
+pub returns-in-Ok-clause-stays : goal.returns-in-Ok-clause-stays
+returns-in-Ok-clause-stays g c = c.write_marked.ensures.stays
+
+pub returns-in-Err-clause-stays : goal.returns-in-Err-clause-stays
+returns-in-Err-clause-stays g c = c.write_marked.ensures.stays
+
+pub returns-in-Ok-clause-alike : goal.returns-in-Ok-clause-alike
+returns-in-Ok-clause-alike g c = refl
+
+pub returns-in-Err-clause-alike : goal.returns-in-Err-clause-alike
+returns-in-Err-clause-alike g c = tt
+
+pub returns-in-Ok-clause-flags : goal.returns-in-Ok-clause-flags
+returns-in-Ok-clause-flags g c = λ w apart. refl
+
+pub returns-in-Err-clause-flags : goal.returns-in-Err-clause-flags
+returns-in-Err-clause-flags g c = c.set_alike.ensures.others
+
+pub returns-in-Ok-clause-rests : goal.returns-in-Ok-clause-rests
+returns-in-Ok-clause-rests g c = c.write_marked.ensures.rests
+
+pub returns-in-Err-clause-rests : goal.returns-in-Err-clause-rests
+returns-in-Err-clause-rests g c = c.write_marked.ensures.rests
+
+pub returns-in-Err-clause-free : goal.returns-in-Err-clause-free
+returns-in-Err-clause-free g c = λ off. tt
+
+pub returns-in-Ok-clause-free : goal.returns-in-Ok-clause-free
+returns-in-Ok-clause-free g c = λ off. elim (c.in-Ok.ensures.free off) [
+  | inl none ↦ inl none
+  | inr gone ↦ inr (none_set c.args.vol c.args.logs.now.items c.write_marked.new.logs gone)
+]

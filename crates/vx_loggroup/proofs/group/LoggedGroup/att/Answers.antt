@@ -1,5 +1,10 @@
 -- `att`: what `att_held` asks, and what stands then.
+use Rattle.std.proofs.Common.{◌≡◌, ◌∙◌, false, true, refl, sym}
+use Rattle.vx_config.specs.declared.entry.VolumeLog.TheVariants.{Fmr}
+use Rattle.vx_loggroup.proofs.ComesLemmas.{held_comes, held_moves}
+use Rattle.vx_loggroup.proofs.EndedLemmas.{maps_end}
 use Rattle.vx_loggroup.proofs.FactLemmas.{from_logged, to_logged}
+use Rattle.vx_loggroup.proofs.KeepingLemmas.{shape_places}
 use Rattle.vx_loggroup.proofs.FreshLemmas.{fresh_still}
 use Rattle.vx_loggroup.specs.Attaching.{map_by}
 use Rattle.vx_loggroup.proofs.MirrorLemmas.{keep_att}
@@ -16,3 +21,16 @@ returns-clause-mirrors g c = keep_att c.args.vol c.args.plex (map_by c.args.self
 
 pub returns-clause-keeps : goal.returns-clause-keeps
 returns-clause-keeps g c = c.att_held.ensures.keeps
+
+pub returns-clause-moves : goal.returns-clause-moves
+returns-clause-moves g c = held_moves c.args.self.now.core.inner.config c.att_held.new.core.inner.config c.args.self.now.logs.items c.att_held.new.logs.items c.att_held.ensures.maps
+
+pub returns-clause-comes : goal.returns-clause-comes
+returns-clause-comes g c = held_comes c.args.self.now.core.inner.config c.att_held.new.core.inner.config c.args.self.now.logs.items c.att_held.new.logs.items c.att_held.ensures.maps c.args.self.now.stopped
+
+pub returns-clause-ends_maps : goal.returns-clause-ends_maps
+returns-clause-ends_maps g c = maps_end c.args.self.now.core c.att_held.new.core c.args.self.now.logs.items c.att_held.new.logs.items c.args.self.now.stopped c.args.self.now.stopped (g.S.Shelf.meaning c.args.self.now.shelf) (g.S.Shelf.meaning c.att_held.new.shelf) c.att_held.ensures.keeps
+    c.att_held.ensures.regains.blamed (λ off on. absurd (let clash : false ≡ true = sym off ∙ on in cc)) (λ v r at. shape_places c.args.self.now.core.inner.config c.att_held.new.core.inner.config c.att_held.ensures.attaches.shape v Fmr r at)
+
+pub returns-clause-flags : goal.returns-clause-flags
+returns-clause-flags g c = (refl, refl)

@@ -16,3 +16,9 @@ returns-in-Ok-clause-can g c = group_can (wide c.args.self.core).config c.args.s
 
 pub returns-in-Ok-clause-tells : goal.returns-in-Ok-clause-tells
 returns-in-Ok-clause-tells g c = c.in-Ok.ensures.tells
+
+pub returns-in-Ok-clause-maps : goal.returns-in-Ok-clause-maps
+returns-in-Ok-clause-maps g c = (c.in-Ok.ensures.maps, c.in-Ok.ensures.rests)
+
+pub returns-in-Err-clause-maps : goal.returns-in-Err-clause-maps
+returns-in-Err-clause-maps g c = tt

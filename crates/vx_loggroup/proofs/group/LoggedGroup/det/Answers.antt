@@ -1,5 +1,11 @@
 -- `det`: what `det_fresh` asks, and what stands then.
+use Rattle.std.proofs.Common.{◌≡◌, ◌∙◌, false, true, refl, sym}
+use Rattle.vx_config.specs.declared.entry.VolumeLog.TheVariants.{Fmr}
+use Rattle.vx_loggroup.specs.Moving.{only_volume}
+use Rattle.vx_loggroup.proofs.ComesLemmas.{maps_come, new_here, trusts_maps}
+use Rattle.vx_loggroup.proofs.EndedLemmas.{maps_end}
 use Rattle.vx_loggroup.proofs.FactLemmas.{from_logged, to_logged}
+use Rattle.vx_loggroup.proofs.KeepingLemmas.{frames_places}
 use Rattle.vx_loggroup.proofs.MirrorLemmas.{keep_det}
 use Rattle.vx_loggroup.proofs.group.LoggedGroup.det.Goals as goal
 
@@ -17,3 +23,17 @@ returns-clause-mirrors g c = keep_det c.args.vol c.args.plex c.args.self.now.cor
 
 pub returns-clause-keeps : goal.returns-clause-keeps
 returns-clause-keeps g c = c.det_fresh.ensures.keeps
+
+pub returns-clause-moves : goal.returns-clause-moves
+returns-clause-moves g c = c.det_fresh.ensures.moves
+
+pub returns-clause-comes : goal.returns-clause-comes
+returns-clause-comes g c = maps_come c.args.self.now.core.inner.config c.det_fresh.new.core.inner.config c.det_fresh.new.logs.items (λ v r at. frames_places c.args.self.now.core.inner.config c.det_fresh.new.core.inner.config c.det_fresh.ensures.frames v Fmr r at) c.det_fresh.ensures.disks.stays (trusts_maps c.args.vol c.args.self.now.core.inner.config c.det_fresh.new.core.inner.config c.det_fresh.new.logs.items c.det_fresh.ensures.trusts)
+    (only_volume c.args.vol) c.args.self.now.logs.items c.args.self.now.stopped c.args.self.now.stopped (λ on. on) (new_here c.args.vol c.args.self.now.logs.items c.det_fresh.new.logs.items c.det_fresh.ensures.left)
+
+pub returns-clause-ends_maps : goal.returns-clause-ends_maps
+returns-clause-ends_maps g c = maps_end c.args.self.now.core c.det_fresh.new.core c.args.self.now.logs.items c.det_fresh.new.logs.items c.args.self.now.stopped c.args.self.now.stopped (g.S.Shelf.meaning c.args.self.now.shelf) (g.S.Shelf.meaning c.det_fresh.new.shelf) c.det_fresh.ensures.keeps
+    c.det_fresh.ensures.disks.blamed (λ off on. absurd (let clash : false ≡ true = sym off ∙ on in cc)) (λ v r at. frames_places c.args.self.now.core.inner.config c.det_fresh.new.core.inner.config c.det_fresh.ensures.frames v Fmr r at)
+
+pub returns-clause-flags : goal.returns-clause-flags
+returns-clause-flags g c = (refl, refl)

@@ -1,5 +1,12 @@
 -- `make_volume`: what `make_fresh` asks, and what stands then.
+use Rattle.std.proofs.Common.{◌≡◌, ◌∙◌, false, true, inl, sym}
+use Rattle.vx_config.specs.declared.entry.VolumeLog.TheVariants.{Fmr}
+use Rattle.vx_loggroup.specs.Moving.{no_volume}
+use Rattle.vx_loggroup.proofs.ComesLemmas.{maps_come, new_same}
+use Rattle.vx_loggroup.proofs.EndedLemmas.{maps_end}
 use Rattle.vx_loggroup.proofs.FactLemmas.{from_logged, to_logged}
+use Rattle.vx_loggroup.proofs.KeepingLemmas.{extends_places}
+use Rattle.vx_loggroup.proofs.MovedLemmas.{move_none}
 use Rattle.vx_loggroup.proofs.MirrorLemmas.{keep_make}
 use Rattle.vx_loggroup.proofs.group.LoggedGroup.make_volume.Goals as goal
 
@@ -17,3 +24,23 @@ returns-clause-mirrors g c = keep_make c.args.self.now.core c.make_fresh.new.cor
 
 pub returns-clause-keeps : goal.returns-clause-keeps
 returns-clause-keeps g c = c.make_fresh.ensures.keeps
+
+pub returns-clause-moves : goal.returns-clause-moves
+returns-clause-moves g c = move_none c.args.self.now.core.inner.config c.make_fresh.new.core.inner.config c.args.self.now.logs.items c.make_fresh.new.logs.items (λ v. inl (c.make_fresh.ensures.left v))
+
+pub returns-clause-comes : goal.returns-clause-comes
+returns-clause-comes g c = maps_come c.args.self.now.core.inner.config c.make_fresh.new.core.inner.config c.make_fresh.new.logs.items (λ v r at. extends_places c.args.self.now.core.inner.config c.make_fresh.new.core.inner.config c.make_fresh.ensures.stays.shape v Fmr r at) c.make_fresh.ensures.disks.stays (λ v some told. c.make_fresh.ensures.trusts.each v Fmr told)
+    no_volume c.args.self.now.logs.items c.args.self.now.stopped c.args.self.now.stopped (λ on. on) (new_same c.args.self.now.logs.items c.make_fresh.new.logs.items c.make_fresh.ensures.left)
+
+pub returns-clause-ends_maps : goal.returns-clause-ends_maps
+returns-clause-ends_maps g c = maps_end c.args.self.now.core c.make_fresh.new.core c.args.self.now.logs.items c.make_fresh.new.logs.items c.args.self.now.stopped c.args.self.now.stopped (g.S.Shelf.meaning c.args.self.now.shelf) (g.S.Shelf.meaning c.make_fresh.new.shelf) c.make_fresh.ensures.keeps
+    c.make_fresh.ensures.disks.blamed (λ off on. absurd (let clash : false ≡ true = sym off ∙ on in cc)) (λ v r at. extends_places c.args.self.now.core.inner.config c.make_fresh.new.core.inner.config c.make_fresh.ensures.stays.shape v Fmr r at)
+
+pub returns-clause-left : goal.returns-clause-left
+returns-clause-left g c = c.make_fresh.ensures.left
+
+pub returns-clause-alike : goal.returns-clause-alike
+returns-clause-alike g c = c.make_fresh.ensures.alike
+
+pub returns-clause-flags : goal.returns-clause-flags
+returns-clause-flags g c = c.make_fresh.ensures.flags

@@ -1,6 +1,13 @@
 -- `write`: what `write_fresh` asks, and what stands then.
+use Rattle.std.proofs.Common.{ap, arith}
+use Rattle.vx_config.specs.declared.entry.VolumeLog.TheVariants.{Fmr}
+use Rattle.vx_loggroup.specs.Attaching.{fmr_or}
+use Rattle.vx_loggroup.specs.Moving.{only_volume}
+use Rattle.vx_loggroup.proofs.ComesLemmas.{maps_come, new_here, trusts_maps}
+use Rattle.vx_loggroup.proofs.EndedLemmas.{maps_end}
 use Rattle.vx_loggroup.proofs.FactLemmas.{from_logged, to_logged}
 use Rattle.vx_loggroup.specs.Mirrors.{names_none}
+use Rattle.vx_loggroup.proofs.KeepingLemmas.{frames_places}
 use Rattle.vx_loggroup.proofs.MirrorLemmas.{keep_loses}
 use Rattle.vx_loggroup.proofs.shelving.LoggedGroupShelf.write.Goals as goal
 
@@ -24,3 +31,30 @@ returns-clause-keeps g c = c.write_fresh.ensures.keeps
 
 pub returns-clause-kept : goal.returns-clause-kept
 returns-clause-kept g c = c.write_fresh.ensures.kept
+
+pub returns-clause-moves : goal.returns-clause-moves
+returns-clause-moves g c = c.write_fresh.ensures.moves
+
+pub returns-clause-comes : goal.returns-clause-comes
+returns-clause-comes g c = maps_come c.args.self.now.core.inner.config c.write_fresh.new.core.inner.config c.write_fresh.new.logs.items (λ v r at. frames_places c.args.self.now.core.inner.config c.write_fresh.new.core.inner.config c.write_fresh.ensures.loses.loses.frames v Fmr r at) c.write_fresh.ensures.loses.loses.disks.stays (trusts_maps c.args.unit c.args.self.now.core.inner.config c.write_fresh.new.core.inner.config c.write_fresh.new.logs.items c.write_fresh.ensures.trusts)
+    (only_volume c.args.unit) c.args.self.now.logs.items c.args.self.now.stopped c.write_fresh.new.stopped c.write_fresh.ensures.stays
+    (new_here c.args.unit c.args.self.now.logs.items c.write_fresh.new.logs.items (λ w apart. ap fmr_or (c.write_fresh.ensures.marks.others w apart)))
+
+pub returns-clause-ends_maps : goal.returns-clause-ends_maps
+returns-clause-ends_maps g c = maps_end c.args.self.now.core c.write_fresh.new.core c.args.self.now.logs.items c.write_fresh.new.logs.items c.args.self.now.stopped c.write_fresh.new.stopped (g.S.Shelf.meaning c.args.self.now.shelf) (g.S.Shelf.meaning c.write_fresh.new.shelf) c.write_fresh.ensures.keeps
+    c.write_fresh.ensures.loses.loses.disks.blamed (λ off on. let full = c.write_fresh.ensures.full off on in omega (arith, full)) (λ v r at. frames_places c.args.self.now.core.inner.config c.write_fresh.new.core.inner.config c.write_fresh.ensures.loses.loses.frames v Fmr r at)
+
+pub returns-clause-stays : goal.returns-clause-stays
+returns-clause-stays g c = c.write_fresh.ensures.stays
+
+pub returns-clause-alike : goal.returns-clause-alike
+returns-clause-alike g c = c.write_fresh.ensures.alike
+
+pub returns-clause-flags : goal.returns-clause-flags
+returns-clause-flags g c = c.write_fresh.ensures.flags
+
+pub returns-clause-rests : goal.returns-clause-rests
+returns-clause-rests g c = c.write_fresh.ensures.rests
+
+pub returns-clause-free : goal.returns-clause-free
+returns-clause-free g c = c.write_fresh.ensures.free

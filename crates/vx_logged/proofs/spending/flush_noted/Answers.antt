@@ -1,0 +1,128 @@
+-- `flush_noted`: its clauses.
+use Rattle.std.proofs.Common.{ℕ, inl, inr, refl}
+use Rattle.vx_config.specs.Checks.{blocks_of}
+use Rattle.vx_group.specs.Holding.{wide}
+use Rattle.vx_grouplogs.specs.Marking.{MarksOnly}
+use Rattle.vx_grouplogs.proofs.KnowActs.{know_none}
+use Rattle.vx_groupmaps.specs.Missing.{none_spared}
+use Rattle.vx_logs.specs.Writes.{first_region, last_region}
+use Rattle.vx_logs.specs.declared.logs.Logs.{Logs}
+use Rattle.vx_model.specs.Sizes.{regions_of}
+use Rattle.vx_logged.specs.Begun.{MapsBut, MapsOfRun, fell_in}
+use Rattle.vx_logged.specs.Holds.{TheseHold}
+use Rattle.vx_logged.specs.Logged.{Known, LogOn, TrustsIn, are_off}
+use Rattle.vx_logged.proofs.BeginLemmas.{but_none}
+use Rattle.vx_logged.proofs.FallenLemmas.{run_none}
+use Rattle.vx_logged.proofs.GoneLogs.{drops_so, no_map, trusts_less}
+use Rattle.vx_logged.proofs.SpentLemmas.{bare, bare_on, bare_only, by_spent, drops_by, none_these}
+use Rattle.vx_logged.proofs.spending.flush_noted.Goals as goal
+
+pub returns-in-Err-clause-stands : goal.returns-in-Err-clause-stands
+returns-in-Err-clause-stands g c = c.flush_behind.ensures.stands
+
+pub returns-in-Err-clause-goes : goal.returns-in-Err-clause-goes
+returns-in-Err-clause-goes g c = c.flush_behind.ensures.goes
+
+pub returns-in-Err-clause-loses : goal.returns-in-Err-clause-loses
+returns-in-Err-clause-loses g c = c.flush_behind.ensures.loses
+
+pub returns-in-Err-clause-log : goal.returns-in-Err-clause-log
+returns-in-Err-clause-log g c = c.flush_behind.ensures.log
+
+pub returns-in-Err-clause-others : goal.returns-in-Err-clause-others
+returns-in-Err-clause-others g c = c.flush_behind.ensures.others
+
+pub returns-in-Err-clause-adds : goal.returns-in-Err-clause-adds
+returns-in-Err-clause-adds g c = c.flush_behind.ensures.adds
+
+pub returns-in-Err-clause-maps : goal.returns-in-Err-clause-maps
+returns-in-Err-clause-maps g c = c.flush_behind.ensures.maps
+
+pub returns-in-Err-clause-notes : goal.returns-in-Err-clause-notes
+returns-in-Err-clause-notes g c = c.flush_behind.ensures.notes
+
+pub returns-in-Err-clause-trusts : goal.returns-in-Err-clause-trusts
+returns-in-Err-clause-trusts g c = c.flush_behind.ensures.trusts
+
+pub returns-in-Err-clause-finds : goal.returns-in-Err-clause-finds
+returns-in-Err-clause-finds g c = c.flush_behind.ensures.finds
+
+pub returns-in-Err-clause-begins : goal.returns-in-Err-clause-begins
+returns-in-Err-clause-begins g c = λ is. tt
+
+pub returns-in-Err-clause-holds : goal.returns-in-Err-clause-holds
+returns-in-Err-clause-holds g c = λ going some. tt
+
+pub returns-in-Err-clause-drops : goal.returns-in-Err-clause-drops
+returns-in-Err-clause-drops g c = drops_so c.args.core.now c.flush_behind.new.core c.args.vol c.args.logs.now c.flush_behind.new.logs (g.S.Shelf.meaning c.args.shelf.now) (g.S.Shelf.meaning c.flush_behind.new.shelf) c.flush_behind.ensures.drops
+
+pub returns-in-Err-clause-agreed : goal.returns-in-Err-clause-agreed
+returns-in-Err-clause-agreed g c = c.in-Err.ensures.agreed
+
+pub returns-in-Err-clause-cause : goal.returns-in-Err-clause-cause
+returns-in-Err-clause-cause g c = c.in-Err.ensures.cause
+
+pub returns-clause-stands : goal.returns-clause-stands
+returns-clause-stands g c = c.flush_behind.ensures.stands
+
+pub returns-clause-goes : goal.returns-clause-goes
+returns-clause-goes g c = c.flush_behind.ensures.goes
+
+pub returns-clause-loses : goal.returns-clause-loses
+returns-clause-loses g c = c.flush_behind.ensures.loses
+
+pub returns-clause-others : goal.returns-clause-others
+returns-clause-others g c = c.flush_behind.ensures.others
+
+pub returns-clause-finds : goal.returns-clause-finds
+returns-clause-finds g c = c.flush_behind.ensures.finds
+
+pub returns-clause-ok : goal.returns-clause-ok
+returns-clause-ok g c = c.in-Ok.ensures.ok
+
+pub returns-clause-trust : goal.returns-clause-trust
+returns-clause-trust g c = c.in-Ok.ensures.trust
+
+pub returns-clause-cause : goal.returns-clause-cause
+returns-clause-cause g c = c.in-Ok.ensures.cause
+
+pub returns-clause-agreed : goal.returns-clause-agreed
+returns-clause-agreed g c = tt
+
+pub returns-clause-log : goal.returns-clause-log
+returns-clause-log g c = λ on. by_spent (λ (k : Logs). LogOn c.flush_behind.new.core c.args.vol k (g.S.Shelf.meaning c.flush_behind.new.shelf)) c.flush_behind.new.logs c.drop_spent.new.logs c.drop_spent.ensures.drl c.drop_spent.ensures.kept (c.flush_behind.ensures.log on) (λ spent. bare_on (wide c.flush_behind.new.core).config c.args.vol c.flush_behind.new.logs (g.S.Shelf.meaning c.flush_behind.new.shelf) (c.flush_behind.ensures.log on))
+
+pub returns-clause-adds : goal.returns-clause-adds
+returns-clause-adds g c = by_spent (λ (k : Logs). MarksOnly (regions_of (blocks_of (wide c.args.core.now).config.volumes c.args.vol)) (first_region c.args.block) (last_region c.args.block c.args.count) c.args.logs.now k) c.flush_behind.new.logs c.drop_spent.new.logs c.drop_spent.ensures.drl c.drop_spent.ensures.kept c.flush_behind.ensures.adds
+    (λ spent. bare_only (regions_of (blocks_of (wide c.args.core.now).config.volumes c.args.vol)) (first_region c.args.block) (last_region c.args.block c.args.count) c.args.logs.now c.flush_behind.new.logs c.flush_behind.ensures.adds)
+
+pub returns-clause-maps : goal.returns-clause-maps
+returns-clause-maps g c = λ know. by_spent (λ (k : Logs). Known c.flush_behind.new.core c.args.vol k (g.S.Shelf.meaning c.flush_behind.new.shelf)) c.flush_behind.new.logs c.drop_spent.new.logs c.drop_spent.ensures.drl c.drop_spent.ensures.kept (c.flush_behind.ensures.maps know) (λ spent. know_none (wide c.flush_behind.new.core).config c.args.vol none_spared (bare c.flush_behind.new.logs) (g.S.Shelf.meaning c.flush_behind.new.shelf) refl)
+
+pub returns-clause-notes : goal.returns-clause-notes
+returns-clause-notes g c = by_spent (λ (k : Logs). MapsBut (fell_in c.args.core.now c.flush_behind.new.core c.args.vol) (are_off c.flush_behind.new.core c.args.vol) (first_region c.args.block) (last_region c.args.block c.args.count) c.args.logs.now k) c.flush_behind.new.logs c.drop_spent.new.logs c.drop_spent.ensures.drl c.drop_spent.ensures.kept c.flush_behind.ensures.notes (λ spent. but_none (fell_in c.args.core.now c.flush_behind.new.core c.args.vol) (are_off c.flush_behind.new.core c.args.vol) (first_region c.args.block) (last_region c.args.block c.args.count) c.args.logs.now (bare c.flush_behind.new.logs) refl)
+
+pub returns-clause-begins : goal.returns-clause-begins
+returns-clause-begins g c = λ is. elim (c.in-Ok.ensures.begins is) [
+  | inl runs ↦ by_spent (λ (k : Logs). MapsOfRun (fell_in c.args.core.now c.flush_behind.new.core c.args.vol) (first_region c.args.block) (last_region c.args.block c.args.count) k) c.flush_behind.new.logs c.drop_spent.new.logs c.drop_spent.ensures.drl c.drop_spent.ensures.kept runs (λ spent. run_none (fell_in c.args.core.now c.flush_behind.new.core c.args.vol) (first_region c.args.block) (last_region c.args.block c.args.count) (bare c.flush_behind.new.logs) refl)
+  | inr spent ↦ run_none (fell_in c.args.core.now c.flush_behind.new.core c.args.vol) (first_region c.args.block) (last_region c.args.block c.args.count) c.drop_spent.new.logs (c.drop_spent.ensures.spent (c.requires.sure is) spent)
+]
+
+pub returns-clause-holds : goal.returns-clause-holds
+returns-clause-holds g c = λ going some. elim (c.in-Ok.ensures.holds going some) [
+  | inl these ↦ by_spent (λ (k : Logs). TheseHold (fell_in c.args.core.now c.flush_behind.new.core c.args.vol) (first_region c.args.block) (last_region c.args.block c.args.count) k) c.flush_behind.new.logs c.drop_spent.new.logs c.drop_spent.ensures.drl c.drop_spent.ensures.kept these (λ spent. none_these (fell_in c.args.core.now c.flush_behind.new.core c.args.vol) (first_region c.args.block) (last_region c.args.block c.args.count) (bare c.flush_behind.new.logs) refl)
+  | inr spent ↦ none_these (fell_in c.args.core.now c.flush_behind.new.core c.args.vol) (first_region c.args.block) (last_region c.args.block c.args.count) c.drop_spent.new.logs (c.drop_spent.ensures.spent going spent)
+]
+
+pub returns-clause-drops : goal.returns-clause-drops
+returns-clause-drops g c = drops_by c.args.core.now c.flush_behind.new.core c.args.vol c.args.logs.now c.flush_behind.new.logs c.drop_spent.new.logs (g.S.Shelf.meaning c.args.shelf.now) (g.S.Shelf.meaning c.flush_behind.new.shelf) c.drop_spent.ensures.drl c.drop_spent.ensures.kept c.flush_behind.ensures.drops
+
+pub returns-clause-trusts : goal.returns-clause-trusts
+returns-clause-trusts g c = by_spent (λ (k : Logs). TrustsIn c.args.vol k c.args.core.now.inner.config c.flush_behind.new.core.inner.config) c.flush_behind.new.logs c.drop_spent.new.logs c.drop_spent.ensures.drl c.drop_spent.ensures.kept c.flush_behind.ensures.trusts
+    (λ spent. trusts_less c.args.vol c.flush_behind.new.logs (bare c.flush_behind.new.logs) c.args.core.now.inner.config c.flush_behind.new.core.inner.config (no_map c.flush_behind.new.logs) c.flush_behind.ensures.trusts)
+
+pub returns-in-Err-clause-rests : goal.returns-in-Err-clause-rests
+returns-in-Err-clause-rests g c = c.flush_behind.ensures.rests
+
+pub returns-clause-rests : goal.returns-clause-rests
+returns-clause-rests g c = c.flush_behind.ensures.rests

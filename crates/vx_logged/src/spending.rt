@@ -1,0 +1,84 @@
+// A flush behind a write: where no serial is left to commit that a log is lost, no map of missed regions is gone by.
+ghost use Rattle.vx_group.specs.Finds.{GroupFinds};
+ghost use Rattle.std.specs.Prelude.{◌≡◌, ◌⊎◌, ◌+◌, ◌<◌, ◌≤◌, ℕ, None, true, IfErr, IsTrue, OnOk};
+ghost use Rattle.vx_config.specs.Checks.{blocks_of as blocks_of_is};
+ghost use Rattle.vx_config.specs.Table.{greatest};
+ghost use Rattle.vx_disk.specs.Causes.{Cause};
+ghost use Rattle.vx_disk.specs.Shelf.{Flushed, Goes, Nothing};
+ghost use Rattle.vx_group.specs.Holding.{GroupStands, wide};
+ghost use Rattle.vx_group.specs.Loses.{LosesAlong};
+ghost use Rattle.vx_group.specs.Stands.{inner_meaning};
+ghost use Rattle.vx_grouplogs.specs.Marking.{MarksOnly};
+ghost use Rattle.vx_grouplogs.specs.On.{ReadsOne};
+ghost use Rattle.vx_logged.specs.Begun.{MapsBut, MapsOfRun, fell_in};
+ghost use Rattle.vx_logged.specs.Holds.{TheseHold};
+ghost use Rattle.vx_logged.specs.Logged.{DropsBut, Known, LogOn, OthersOn, TrustsIn, are_off};
+ghost use Rattle.vx_logs.specs.Writes.{first_region, last_region};
+ghost use Rattle.vx_model.specs.Sizes.{regions_of as regions_in};
+ghost use Rattle.vx_volume.specs.Plexes.{active};
+
+use crate::missing::flush_behind;
+use vx_disk::{Shelf, ShelfError};
+use vx_group::GroupCore;
+use vx_logs::Logs;
+use vx_model::limits::MOST_NUMBER;
+
+// Takes the maps of a volume out of memory, where logs go on and no serial is left.
+fn drop_spent(core: &GroupCore, logs: &mut Logs, going: bool)
+    ensures drl { logs.new.drl ≡ logs.old.drl }
+    ensures kept { (logs.new ≡ logs.old) ⊎ ((logs.new.fmr ≡ None) × (greatest ≤ core.now.inner.config.serial + 9)) }
+    ensures spent { going ≡ true → greatest ≤ core.now.inner.config.serial + 9 → logs.new.fmr ≡ None }
+{
+    if !going {
+        return;
+    }
+    if core.inner.config.serial < MOST_NUMBER - 9 {
+        return;
+    }
+    logs.fmr = None;
+}
+
+/// Makes a volume durable behind a write of a run of its blocks, as `flush_behind` does. Where logs go on and no serial is left then, no map of the
+/// volume is in memory: so what is, has the regions of the run of each plex that fell out of use, and no others where the caller is sure.
+pub fn flush_noted<S: Shelf>(
+    shelf: &mut S,
+    core: &mut GroupCore,
+    logs: &mut Logs,
+    going: bool,
+    sure: bool,
+    vol: u32,
+    block: u64,
+    count: u64,
+) -> Result<(), ShelfError>
+    requires stands { GroupStands core.old (S.meaning shelf.old) }
+    requires there { vol < (inner_meaning (wide core.old) (S.meaning shelf.old)).units }
+    requires within { block + count ≤ blocks_of_is (wide core.old).config.volumes vol }
+    requires sure { sure ≡ true → going ≡ true }
+    requires log { going ≡ true → LogOn core.old vol logs.old (S.meaning shelf.old) }
+    requires one { sure ≡ true → ReadsOne (wide core.old).config vol (S.meaning shelf.old) }
+    ensures stands { GroupStands core.new (S.meaning shelf.new) }
+    ensures goes { Goes Nothing (inner_meaning (wide core.old) (S.meaning shelf.old)) (inner_meaning (wide core.new) (S.meaning shelf.new)) }
+    ensures loses { LosesAlong core.old.inner.config core.new.inner.config (S.meaning shelf.old) (S.meaning shelf.new) }
+    ensures ok { OnOk result (Flushed vol (inner_meaning (wide core.old) (S.meaning shelf.old)) (inner_meaning (wide core.new) (S.meaning shelf.new))) }
+    ensures log { LogOn core.old vol logs.old (S.meaning shelf.old) → LogOn core.new vol logs.new (S.meaning shelf.new) }
+    ensures others { OthersOn vol core.old core.new (S.meaning shelf.old) (S.meaning shelf.new) }
+    ensures adds { MarksOnly (regions_in (blocks_of_is (wide core.old).config.volumes vol)) (first_region block) (last_region block count) logs.old logs.new }
+    ensures maps { Known core.old vol logs.old (S.meaning shelf.old) → Known core.new vol logs.new (S.meaning shelf.new) }
+    ensures notes { MapsBut (fell_in core.old core.new vol) (are_off core.new vol) (first_region block) (last_region block count) logs.old logs.new }
+    ensures begins { sure ≡ true → OnOk result (MapsOfRun (fell_in core.old core.new vol) (first_region block) (last_region block count) logs.new) }
+    ensures holds { going ≡ true → 0 < count → OnOk result (TheseHold (fell_in core.old core.new vol) (first_region block) (last_region block count) logs.new) }
+    ensures drops { DropsBut core.old core.new vol logs.old logs.new (S.meaning shelf.old) (S.meaning shelf.new) }
+    ensures trusts { TrustsIn vol logs.new core.old.inner.config core.new.inner.config }
+    ensures trust { OnOk result (core.old.inner.committed ≡ true → core.new.inner.committed ≡ true) }
+    ensures agreed { IfErr result (λ e. core.old.inner.committed ≡ true → core.new.inner.agreed ≡ true) }
+    ensures rests { core.old.held ≡ None → (w p : ℕ) → IsTrue (active core.new.inner.config w p) → IsTrue (active core.old.inner.config w p) }
+    ensures finds { GroupFinds core.old core.new (S.meaning shelf.old) (S.meaning shelf.new) }
+    ensures cause { Cause (inner_meaning (wide core.old) (S.meaning shelf.old)) (inner_meaning (wide core.new) (S.meaning shelf.new)) vol result }
+{
+    match flush_behind(shelf, core, logs, going, sure, vol, block, count) {
+        Ok(()) => {}
+        Err(error) => return Err(error),
+    }
+    drop_spent(core, logs, going);
+    Ok(())
+}
