@@ -50,3 +50,5 @@ pub mod WrittenMapLemmas
 pub mod SiteMapLemmas
 pub mod MoreMapLemmas
 pub mod BackMapLemmas
+pub mod PlainMapLemmas
+pub mod UpMapLemmas

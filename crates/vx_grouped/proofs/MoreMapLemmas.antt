@@ -29,12 +29,12 @@ module _ (w : MissedNote) (c d : Config) (l k : List Logs) (s t : Bool) (a b : L
   none_written next it = written_as w next (active c) (active d) (live c) (live d) no_plex none_missed (live_active c all_c) (live_active d all_d) (length c.volumes) it
 
   -- a plex that was not detached: the logs of its volume may have begun
-  module _ (vol : ℕ) (begins : MapsBeginIn (this_volume vol) c d s t l k) (many : length d.volumes ≡ length c.volumes) (alike : (v : ℕ) → is_alike b v ≡ is_alike a v) where
+  module _ (vol : ℕ) (begins : MapsBeginIn (this_volume vol) c d s t l k) (many : length d.volumes ≡ length c.volumes) (alike : (v : ℕ) → is_alike a v ≡ true → is_alike b v ≡ true) where
     abbrev undetached : MissedNote
     undetached = record (maps_written (goes_by k d t) d.serial (active c) (active d) no_plex none_missed w) { doubt = w.doubt }
 
     pub undet_noted : MapsNoted undetached d k b t
-    undet_noted = noted_moved w c d l k s t a b (this_volume vol) noted same begins none_missed no_plex w.doubt moves (λ v lt sure. alike v ∙ noted.alike v (subst (λ (n : ℕ). v < n) many lt) sure)
+    undet_noted = noted_moved w c d l k s t a b (this_volume vol) noted same begins none_missed no_plex w.doubt moves (λ v lt sure. alike v (noted.alike v (subst (λ (n : ℕ). v < n) many lt) sure))
 
     pub undet_maps : DetMapsFailed vol m m' c d w undetached
     undet_maps = record {
@@ -42,8 +42,11 @@ module _ (w : MissedNote) (c d : Config) (l k : List Logs) (s t : Bool) (a b : L
       written = none_written undetached (record { missed = λ v p r on. refl; perhaps = λ v p r on. refl; doubt = λ v lt. refl });
     }
 
+    pub undet_goes : (after : MissedNote) × DetMapsFailed vol m m' c d w after × MapsNoted after d k b t
+    undet_goes = (undetached, undet_maps, undet_noted)
+
   -- a volume that was made: its plexes are alike, and its logs have not begun
-  module _ (begins : MapsBeginIn (λ v. false) c d s t l k) (many : length d.volumes ≡ length c.volumes + 1) (alike : (v : ℕ) → v < length c.volumes → is_alike b v ≡ is_alike a v) (fresh : is_alike b (length c.volumes) ≡ true) where
+  module _ (begins : MapsBeginIn (λ v. false) c d s t l k) (many : length d.volumes ≡ length c.volumes + 1) (alike : (v : ℕ) → v < length c.volumes → is_alike a v ≡ true → is_alike b v ≡ true) (fresh : is_alike b (length c.volumes) ≡ true) where
     abbrev added : MissedNote
     added = maps_added (goes_by k d t) d.serial (active c) (active d) (length c.volumes) w
 
@@ -67,7 +70,7 @@ module _ (w : MissedNote) (c d : Config) (l k : List Logs) (s t : Bool) (a b : L
         by true is = subst (λ (n : ℕ). is_alike b n ≡ true) (sym (eqb-true v (length c.volumes) is)) fresh
         by false is =
             let low = low_or v (length c.volumes) (length d.volumes) lt many (apart_by v (length c.volumes) is) in
-            alike v low ∙ noted.alike v low (sym (ap (λ (q : Bool). not q && w.doubt v) is) ∙ sure)
+            alike v low (noted.alike v low (sym (ap (λ (q : Bool). not q && w.doubt v) is) ∙ sure))
 
     pub added_noted : MapsNoted added d k b t
     added_noted = noted_moved w c d l k s t a b (λ v. false) noted same begins none_missed no_plex (λ v. not (this_volume (length c.volumes) v) && w.doubt v) moves added_alike
@@ -80,3 +83,6 @@ module _ (w : MissedNote) (c d : Config) (l k : List Logs) (s t : Bool) (a b : L
       };
       doubt = ap (λ (q : Bool). not q && w.doubt (length c.volumes)) (eq-eqb (length c.volumes) (length c.volumes) refl);
     }
+
+    pub added_goes : (after : MissedNote) × AddMaps m m' c d w after × MapsNoted after d k b t
+    added_goes = (added, added_maps, added_noted)

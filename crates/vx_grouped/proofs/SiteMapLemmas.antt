@@ -50,7 +50,7 @@ module _ (w : MissedNote) (c d : Config) (l k : List Logs) (s t : Bool) (a b : L
 
   -- a write that was done
   module _ (x : Write) (begins : MapsBeginIn (this_volume x.volume) c d s t l k) (moves : t ≡ false → MapsMove c d (in_write x) (λ v p. this_volume x.volume v && is_alike a x.volume) l k)
-      (low : x.volume < length c.volumes) (alike : (v : ℕ) → is_alike b v ≡ is_alike a v) where
+      (low : x.volume < length c.volumes) (alike : (v : ℕ) → is_alike a v ≡ true → is_alike b v ≡ true) where
     sure_anew : (v p : ℕ) → each_anew w x.volume v p ≡ true → (this_volume x.volume v && is_alike a x.volume) ≡ true
     sure_anew v p is = by (this_volume x.volume v) refl (w.doubt v) refl is
       where
@@ -67,7 +67,7 @@ module _ (w : MissedNote) (c d : Config) (l k : List Logs) (s t : Bool) (a b : L
     write_noted =
         noted_moved w c d l k s t a b (this_volume x.volume) noted same begins (in_write x) (each_anew w x.volume) w.doubt
         (λ going. move_weaker c d (in_write x) (λ v p. this_volume x.volume v && is_alike a x.volume) (each_anew w x.volume) l k sure_anew (moves going))
-        (λ v lt sure. alike v ∙ noted.alike v (was_low v lt) sure)
+        (λ v lt sure. alike v (noted.alike v (was_low v lt) sure))
 
     pub write_maps : WriteMaps x m m' c d w next
     write_maps = record {
@@ -75,13 +75,16 @@ module _ (w : MissedNote) (c d : Config) (l k : List Logs) (s t : Bool) (a b : L
       written = lives (each_anew w x.volume) (in_write x) next (record { missed = λ v p r on. refl; perhaps = λ v p r on. refl; doubt = λ v lt. refl });
     }
 
+    pub write_goes : (after : MissedNote) × WriteMaps x m m' c d w after × MapsNoted after d k b t
+    write_goes = (next, write_maps, write_noted)
+
   -- a call that writes no region, and in which no log begins
-  module _ (begins : MapsBeginIn (λ v. false) c d s t l k) (moves : t ≡ false → MapsMove c d none_missed no_plex l k) (alike : (v : ℕ) → is_alike b v ≡ is_alike a v) where
+  module _ (begins : MapsBeginIn (λ v. false) c d s t l k) (moves : t ≡ false → MapsMove c d none_missed no_plex l k) (alike : (v : ℕ) → is_alike a v ≡ true → is_alike b v ≡ true) where
     abbrev like : MissedNote
     like = record (maps_written (goes_by k d t) d.serial (active c) (active d) no_plex none_missed w) { doubt = w.doubt }
 
     pub like_noted : MapsNoted like d k b t
-    like_noted = noted_moved w c d l k s t a b (λ v. false) noted same begins none_missed no_plex w.doubt moves (λ v lt sure. alike v ∙ noted.alike v (was_low v lt) sure)
+    like_noted = noted_moved w c d l k s t a b (λ v. false) noted same begins none_missed no_plex w.doubt moves (λ v lt sure. alike v (noted.alike v (was_low v lt) sure))
 
     pub like_maps : MapsLike m m' c d w like
     like_maps = record {
@@ -89,9 +92,12 @@ module _ (w : MissedNote) (c d : Config) (l k : List Logs) (s t : Bool) (a b : L
       written = lives no_plex none_missed like (record { missed = λ v p r on. refl; perhaps = λ v p r on. refl; doubt = λ v lt. refl });
     }
 
+    pub like_goes : (after : MissedNote) × MapsLike m m' c d w after × MapsNoted after d k b t
+    like_goes = (like, like_maps, like_noted)
+
   -- a plex that was detached
   module _ (vol plex : ℕ) (begins : MapsBeginIn (this_volume vol) c d s t l k) (moves : t ≡ false → MapsMove c d none_missed (λ v p. this_volume vol v && (p == plex && is_alike a vol)) l k)
-      (low : vol < length c.volumes) (alike : (v : ℕ) → is_alike b v ≡ is_alike a v) where
+      (low : vol < length c.volumes) (alike : (v : ℕ) → is_alike a v ≡ true → is_alike b v ≡ true) where
     plex_anew : (v p : ℕ) → one_anew w vol plex v p ≡ true → (this_volume vol v && (p == plex && is_alike a vol)) ≡ true
     plex_anew v p is = by (this_volume vol v) refl (p == plex) refl (w.doubt v) refl is
       where
@@ -109,7 +115,7 @@ module _ (w : MissedNote) (c d : Config) (l k : List Logs) (s t : Bool) (a b : L
     det_noted =
         noted_moved w c d l k s t a b (this_volume vol) noted same begins none_missed (one_anew w vol plex) w.doubt
         (λ going. move_weaker c d none_missed (λ v p. this_volume vol v && (p == plex && is_alike a vol)) (one_anew w vol plex) l k plex_anew (moves going))
-        (λ v lt sure. alike v ∙ noted.alike v (was_low v lt) sure)
+        (λ v lt sure. alike v (noted.alike v (was_low v lt) sure))
 
     pub det_maps : DetMapsDone vol plex m m' c d w without
     det_maps = record {
@@ -117,13 +123,16 @@ module _ (w : MissedNote) (c d : Config) (l k : List Logs) (s t : Bool) (a b : L
       written = lives (one_anew w vol plex) none_missed without (record { missed = λ v p r on. refl; perhaps = λ v p r on. refl; doubt = λ v lt. refl });
     }
 
+    pub det_goes : (after : MissedNote) × DetMapsDone vol plex m m' c d w after × MapsNoted after d k b t
+    det_goes = (without, det_maps, det_noted)
+
   -- a write that was refused
-  module _ (x : Write) (begins : MapsBeginIn (this_volume x.volume) c d s t l k) (moves : t ≡ false → MapsDoubt c d (in_write x) l k) (alike : (v : ℕ) → this_volume x.volume v ≡ false → is_alike b v ≡ is_alike a v) where
+  module _ (x : Write) (begins : MapsBeginIn (this_volume x.volume) c d s t l k) (moves : t ≡ false → MapsDoubt c d (in_write x) l k) (alike : (v : ℕ) → this_volume x.volume v ≡ false → is_alike a v ≡ true → is_alike b v ≡ true) where
     abbrev doubted : MissedNote
     doubted = maps_doubted (goes_by k d t) d.serial (active c) (active d) x.volume (in_write x) w
 
     pub doubt_noted : MapsNoted doubted d k b t
-    doubt_noted = noted_doubted w c d l k s t a b (this_volume x.volume) noted same begins x.volume (in_write x) moves (λ v lt apart sure. alike v apart ∙ noted.alike v (was_low v lt) sure)
+    doubt_noted = noted_doubted w c d l k s t a b (this_volume x.volume) noted same begins x.volume (in_write x) moves (λ v lt apart sure. alike v apart (noted.alike v (was_low v lt) sure))
 
     either : (y z u : Bool) → z ≡ u → (y || z) ≡ true → (y ≡ true) ⊎ (u ≡ true)
     either true z u same is = inl refl
@@ -145,3 +154,6 @@ module _ (w : MissedNote) (c d : Config) (l k : List Logs) (s t : Bool) (a b : L
         doubt = λ v apart. none_of v apart;
       };
     }
+
+    pub doubt_goes : (after : MissedNote) × DoubtMaps x m m' c d w after × MapsNoted after d k b t
+    doubt_goes = (doubted, doubt_maps, doubt_noted)

@@ -12,6 +12,7 @@ pub mod ImportFacts
 pub mod Keepings
 pub mod MapsNoted
 pub mod Plain
+pub mod PlainMaps
 pub mod Readies
 pub mod Returns
 pub mod SetFuses

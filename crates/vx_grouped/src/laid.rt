@@ -57,6 +57,9 @@ impl<R: Rack> Laid<R> {
     pub fn of(group: LoggedGroup<Shade<R>>) -> Laid<R>
         ensures shelf { result.shelf ≡ group.shelf }
         ensures core { result.core ≡ group.core }
+        ensures logs { result.logs ≡ group.logs }
+        ensures alike { result.alike ≡ group.alike }
+        ensures stopped { result.stopped ≡ group.stopped }
     {
         let (shelf, rest) = group.apart();
         let Opened {
@@ -80,6 +83,9 @@ impl<R: Rack> Laid<R> {
     pub fn together(self) -> LoggedGroup<Shade<R>>
         ensures shelf { result.shelf ≡ self.shelf }
         ensures core { result.core ≡ self.core }
+        ensures logs { result.logs ≡ self.logs }
+        ensures alike { result.alike ≡ self.alike }
+        ensures stopped { result.stopped ≡ self.stopped }
     {
         LoggedGroup::together(
             self.shelf,

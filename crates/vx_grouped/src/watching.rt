@@ -1,8 +1,10 @@
 // Calls of a group over a rack that keeps an account of what is done to its disks.
-ghost use Rattle.std.specs.Prelude.{IsTrue, length};
+ghost use Rattle.std.specs.Prelude.{◌≡◌, IsTrue, length};
 ghost use Rattle.vx_disk.specs.Shelf.{Fits};
 ghost use Rattle.vx_group.specs.Holding.{wide};
 ghost use Rattle.vx_group.specs.Stands.{inner_meaning};
+ghost use Rattle.vx_grouped.specs.Ends.{plain_write};
+ghost use Rattle.vx_grouped.specs.PlainMaps.{WritesMaps, parts_of};
 ghost use Rattle.vx_grouped.specs.Watches.{PlainReads, PlainWrites, PlexAtts, PlexDets};
 ghost use Rattle.vx_untold.specs.Shades.{rack_of, shade_meaning};
 ghost use Rattle.vx_watched.specs.Since.{CalledSince};
@@ -28,6 +30,7 @@ fn write_from<B: Begun, R: Rack>(
     requires fits { Fits (inner_meaning (wide group.core) (R.meaning group.shelf)) vol block (length bytes.now) }
     requires since { CalledSince B.first (R.meaning group.shelf) }
     ensures works { PlainWrites vol block bytes.now group.core (R.meaning group.shelf) result.0.core (R.meaning result.0.shelf) result.1 }
+    ensures maps { WritesMaps (plain_write vol block bytes.now) (parts_of group.core.inner.config group.logs.items group.alike group.stopped) (R.meaning group.shelf) (parts_of result.0.core.inner.config result.0.logs.items result.0.alike result.0.stopped) (R.meaning result.0.shelf) result.1 }
     ensures since { CalledSince B.first (R.meaning result.0.shelf) }
 {
     let (rack, rest) = group.apart();
@@ -49,6 +52,7 @@ fn write_traced<C: Begun, R: Rack>(
     requires fits { Fits (inner_meaning (wide laid.core) (shade_meaning (λ s. R.meaning s) laid.shelf)) vol block (length bytes.now) }
     requires told { TellsLess C.first (R.meaning (rack_of laid.shelf)) }
     ensures works { PlainWrites vol block bytes.now laid.core (shade_meaning (λ s. R.meaning s) laid.shelf) result.0.core (shade_meaning (λ s. R.meaning s) result.0.shelf) result.1 }
+    ensures maps { WritesMaps (plain_write vol block bytes.now) (parts_of laid.core.inner.config laid.logs.items laid.alike laid.stopped) (shade_meaning (λ s. R.meaning s) laid.shelf) (parts_of result.0.core.inner.config result.0.logs.items result.0.alike result.0.stopped) (shade_meaning (λ s. R.meaning s) result.0.shelf) result.1 }
     ensures since { CalledSince (shade_meaning (λ s. R.meaning s) laid.shelf) (shade_meaning (λ s. R.meaning s) result.0.shelf) }
     ensures told { TellsLess C.first (R.meaning (rack_of result.0.shelf)) }
 {
@@ -70,6 +74,7 @@ pub fn write_watched<R: Rack>(
 ) -> (Laid<R>, Result<(), No>)
     requires { Fits (inner_meaning (wide laid.core) (shade_meaning (λ s. R.meaning s) laid.shelf)) vol block (length bytes.now) }
     ensures works { PlainWrites vol block bytes.now laid.core (shade_meaning (λ s. R.meaning s) laid.shelf) result.0.core (shade_meaning (λ s. R.meaning s) result.0.shelf) result.1 }
+    ensures maps { WritesMaps (plain_write vol block bytes.now) (parts_of laid.core.inner.config laid.logs.items laid.alike laid.stopped) (shade_meaning (λ s. R.meaning s) laid.shelf) (parts_of result.0.core.inner.config result.0.logs.items result.0.alike result.0.stopped) (shade_meaning (λ s. R.meaning s) result.0.shelf) result.1 }
     ensures since { CalledSince (shade_meaning (λ s. R.meaning s) laid.shelf) (shade_meaning (λ s. R.meaning s) result.0.shelf) }
     ensures told { TellsLess (R.meaning (rack_of laid.shelf)) (R.meaning (rack_of result.0.shelf)) }
 {
@@ -85,6 +90,7 @@ fn read_from<B: Begun, R: Rack>(
     requires fits { Fits (inner_meaning (wide group.core) (R.meaning group.shelf)) vol block (length into.old) }
     requires since { CalledSince B.first (R.meaning group.shelf) }
     ensures works { PlainReads vol block into.new group.core (R.meaning group.shelf) result.0.core (R.meaning result.0.shelf) result.1 }
+    ensures maps { parts_of result.0.core.inner.config result.0.logs.items result.0.alike result.0.stopped ≡ parts_of group.core.inner.config group.logs.items group.alike group.stopped }
     ensures since { CalledSince B.first (R.meaning result.0.shelf) }
 {
     let (rack, rest) = group.apart();
@@ -106,6 +112,7 @@ fn read_traced<C: Begun, R: Rack>(
     requires fits { Fits (inner_meaning (wide laid.core) (shade_meaning (λ s. R.meaning s) laid.shelf)) vol block (length into.old) }
     requires told { TellsLess C.first (R.meaning (rack_of laid.shelf)) }
     ensures works { PlainReads vol block into.new laid.core (shade_meaning (λ s. R.meaning s) laid.shelf) result.0.core (shade_meaning (λ s. R.meaning s) result.0.shelf) result.1 }
+    ensures maps { parts_of result.0.core.inner.config result.0.logs.items result.0.alike result.0.stopped ≡ parts_of laid.core.inner.config laid.logs.items laid.alike laid.stopped }
     ensures since { CalledSince (shade_meaning (λ s. R.meaning s) laid.shelf) (shade_meaning (λ s. R.meaning s) result.0.shelf) }
     ensures told { TellsLess C.first (R.meaning (rack_of result.0.shelf)) }
 {
@@ -127,6 +134,7 @@ pub fn read_watched<R: Rack>(
 ) -> (Laid<R>, Result<(), No>)
     requires { Fits (inner_meaning (wide laid.core) (shade_meaning (λ s. R.meaning s) laid.shelf)) vol block (length into.old) }
     ensures works { PlainReads vol block into.new laid.core (shade_meaning (λ s. R.meaning s) laid.shelf) result.0.core (shade_meaning (λ s. R.meaning s) result.0.shelf) result.1 }
+    ensures maps { parts_of result.0.core.inner.config result.0.logs.items result.0.alike result.0.stopped ≡ parts_of laid.core.inner.config laid.logs.items laid.alike laid.stopped }
     ensures since { CalledSince (shade_meaning (λ s. R.meaning s) laid.shelf) (shade_meaning (λ s. R.meaning s) result.0.shelf) }
     ensures told { TellsLess (R.meaning (rack_of laid.shelf)) (R.meaning (rack_of result.0.shelf)) }
 {
