@@ -52,3 +52,4 @@ pub mod MoreMapLemmas
 pub mod BackMapLemmas
 pub mod PlainMapLemmas
 pub mod UpMapLemmas
+pub mod PlexMapLemmas

@@ -1,5 +1,5 @@
 -- What calls of a group that is up make of what its site notes of its maps.
-use Rattle.std.proofs.Common.{◌≡◌, refl, sym, subst, false, IsTrue}
+use Rattle.std.proofs.Common.{◌≡◌, ℕ, sym, subst, false, IsTrue}
 use Rattle.std.specs.Prelude.{None, Some, Err}
 use Rattle.vx_config.specs.declared.config.Config.{Config}
 use Rattle.vx_disk.specs.Shelf.{Meaning}
@@ -10,12 +10,13 @@ use Rattle.vx_history.specs.World.{Node}
 use Rattle.vx_model.specs.Content.{Write}
 use Rattle.vx_model.specs.declared.no.No.{No}
 use Rattle.vx_model.specs.declared.no.No.TheVariants.{Device, Down as IsOff}
+use Rattle.vx_volume.specs.Plexes.{active}
 use Rattle.vx_grouped.specs.Ends.{WriteLeaves}
-use Rattle.vx_grouped.specs.GroupSites.{laid_disks}
-use Rattle.vx_grouped.specs.MapsNoted.{MapsNoted}
+use Rattle.vx_grouped.specs.GroupSites.{laid_disks, site_config}
+use Rattle.vx_grouped.specs.MapsNoted.{CopiesNoted, MapsNoted}
 use Rattle.vx_grouped.specs.PlainMaps.{MapParts, PartsMoved, PartsNoted, laid_parts}
 use Rattle.vx_grouped.specs.SiteEnds.{answers_down}
-use Rattle.vx_grouped.specs.SiteMaps.{MapsMoved, ReadMapped, UpMaps}
+use Rattle.vx_grouped.specs.SiteMaps.{MapsMoved, MapsOf, ReadMapped, UpMaps}
 use Rattle.vx_grouped.specs.declared.group_site.GroupSite.TheVariants.{Down, Up}
 use Rattle.vx_grouped.specs.declared.idle.Idle.{Idle}
 use Rattle.vx_grouped.specs.declared.laid.Laid.{Laid}
@@ -41,6 +42,12 @@ module _ {R : Type 0} {g : Ghosts R} where
   -- it crashed
   pub down_maps : (By : Meaning → Meaning → Config → Config → MissedNote → MissedNote → Type 0) (old : Laid R g) (idle : Idle R g) → UpMaps By (Up old) (Down idle)
   down_maps By old idle = λ c d was none. absurd (let clash : None ≡ Some d = none in cc)
+
+  -- so many regions are copied to a plex, by what is noted
+  pub copies_up : (old : Laid R g) (vol plex count : ℕ) → ((w : MissedNote) → PartsNoted w (laid_parts old) → active old.core.inner.config vol plex ≡ false → CopiesNoted w old.core.inner.config vol plex count)
+      → (c : Config) (w : MissedNote) → site_config (Up old) ≡ Some c → MapsOf w c (Up old) → active c vol plex ≡ false → CopiesNoted w c vol plex count
+  copies_up old vol plex count copies = λ c w was.
+      subst (λ (x : Config). MapsOf w x (Up old) → active x vol plex ≡ false → CopiesNoted w x vol plex count) (one_config old.core.inner.config c was) (λ noted off. copies w noted off)
 
   -- its parts are as they were
   pub read_maps : (old new : Laid R g) → laid_parts new ≡ laid_parts old → ReadMapped (Up old) (Up new)

@@ -1,5 +1,5 @@
 -- What calls of a group make of the regions that plexes missed, as its site notes them, by the parts of the group before and behind them.
-use Rattle.std.specs.Prelude.{ℕ, Bool, IsTrue, List, Result, Ok, Err}
+use Rattle.std.specs.Prelude.{◌≡◌, ℕ, Bool, false, IsTrue, List, Result, Ok, Err}
 use Rattle.vx_config.specs.declared.config.Config.{Config}
 use Rattle.vx_disk.specs.Shelf.{Meaning}
 use Rattle.vx_disk.specs.declared.shelf.Shelf.{Ghosts}
@@ -8,7 +8,8 @@ use Rattle.vx_logs.specs.declared.logs.Logs.{Logs}
 use Rattle.vx_model.specs.Content.{Write}
 use Rattle.vx_model.specs.declared.errors.Stop.{Stop}
 use Rattle.vx_model.specs.declared.no.No.{No}
-use Rattle.vx_grouped.specs.MapsNoted.{MapsNoted}
+use Rattle.vx_volume.specs.Plexes.{active}
+use Rattle.vx_grouped.specs.MapsNoted.{CopiesNoted, MapsNoted}
 use Rattle.vx_grouped.specs.declared.laid.Laid.{Laid}
 use Rattle.vx_grouped.specs.SiteMaps.{AddMaps, DetMapsDone, DetMapsFailed, DoubtMaps, MapsLike, WriteMaps}
 
@@ -42,10 +43,11 @@ abbrev pub DetsMaps : (vol plex : ℕ) → MapParts → Meaning → MapParts →
 DetsMaps vol plex x m y m' (Ok done) = PartsMoved (DetMapsDone vol plex m m') x y m'
 DetsMaps vol plex x m y m' (Err stop) = PartsMoved (DetMapsFailed vol m m') x y m'
 
+-- an attach: so many regions are copied
+abbrev pub AttsMaps : (vol plex : ℕ) → MapParts → Meaning → MapParts → Meaning → Result ℕ Stop → Type 0
+AttsMaps vol plex x m y m' (Ok count) = PartsMoved (MapsLike m m') x y m' × ((w : MissedNote) → PartsNoted w x → active x.config vol plex ≡ false → CopiesNoted w x.config vol plex count)
+AttsMaps vol plex x m y m' (Err stop) = PartsMoved (MapsLike m m') x y m'
+
 abbrev pub AddsMaps : MapParts → Meaning → MapParts → Meaning → Result ℕ Stop → Type 0
 AddsMaps x m y m' (Ok vol) = PartsMoved (AddMaps m m') x y m'
 AddsMaps x m y m' (Err stop) = PartsMoved (MapsLike m m') x y m'
-
--- a call that writes no region, and in which no log begins
-abbrev pub LikesMaps : MapParts → Meaning → MapParts → Meaning → Type 0
-LikesMaps x m y m' = PartsMoved (MapsLike m m') x y m'

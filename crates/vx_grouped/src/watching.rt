@@ -1,10 +1,11 @@
 // Calls of a group over a rack that keeps an account of what is done to its disks.
 ghost use Rattle.std.specs.Prelude.{◌≡◌, IsTrue, length};
+ghost use Rattle.vx_disk.specs.Racks.{IsRack};
 ghost use Rattle.vx_disk.specs.Shelf.{Fits};
 ghost use Rattle.vx_group.specs.Holding.{wide};
 ghost use Rattle.vx_group.specs.Stands.{inner_meaning};
 ghost use Rattle.vx_grouped.specs.Ends.{plain_write};
-ghost use Rattle.vx_grouped.specs.PlainMaps.{WritesMaps, parts_of};
+ghost use Rattle.vx_grouped.specs.PlainMaps.{AttsMaps, DetsMaps, WritesMaps, parts_of};
 ghost use Rattle.vx_grouped.specs.Watches.{PlainReads, PlainWrites, PlexAtts, PlexDets};
 ghost use Rattle.vx_untold.specs.Shades.{rack_of, shade_meaning};
 ghost use Rattle.vx_watched.specs.Since.{CalledSince};
@@ -149,6 +150,7 @@ fn det_from<B: Begun, R: Rack>(
     requires up { IsTrue (R.meaning group.shelf).down → ⊥ }
     requires since { CalledSince B.first (R.meaning group.shelf) }
     ensures works { PlexDets vol plex group.core (R.meaning group.shelf) result.0.core (R.meaning result.0.shelf) result.1 }
+    ensures maps { IsRack (R.meaning group.shelf) → IsRack (R.meaning result.0.shelf) → DetsMaps vol plex (parts_of group.core.inner.config group.logs.items group.alike group.stopped) (R.meaning group.shelf) (parts_of result.0.core.inner.config result.0.logs.items result.0.alike result.0.stopped) (R.meaning result.0.shelf) result.1 }
     ensures since { CalledSince B.first (R.meaning result.0.shelf) }
 {
     let (rack, rest) = group.apart();
@@ -165,6 +167,7 @@ fn det_traced<C: Begun, R: Rack>(laid: Laid<R>, vol: u32, plex: u32) -> (Laid<R>
     requires up { IsTrue (shade_meaning (λ s. R.meaning s) laid.shelf).down → ⊥ }
     requires told { TellsLess C.first (R.meaning (rack_of laid.shelf)) }
     ensures works { PlexDets vol plex laid.core (shade_meaning (λ s. R.meaning s) laid.shelf) result.0.core (shade_meaning (λ s. R.meaning s) result.0.shelf) result.1 }
+    ensures maps { IsRack (shade_meaning (λ s. R.meaning s) laid.shelf) → IsRack (shade_meaning (λ s. R.meaning s) result.0.shelf) → DetsMaps vol plex (parts_of laid.core.inner.config laid.logs.items laid.alike laid.stopped) (shade_meaning (λ s. R.meaning s) laid.shelf) (parts_of result.0.core.inner.config result.0.logs.items result.0.alike result.0.stopped) (shade_meaning (λ s. R.meaning s) result.0.shelf) result.1 }
     ensures since { CalledSince (shade_meaning (λ s. R.meaning s) laid.shelf) (shade_meaning (λ s. R.meaning s) result.0.shelf) }
     ensures told { TellsLess C.first (R.meaning (rack_of result.0.shelf)) }
 {
@@ -176,6 +179,7 @@ fn det_traced<C: Begun, R: Rack>(laid: Laid<R>, vol: u32, plex: u32) -> (Laid<R>
 pub fn det_watched<R: Rack>(laid: Laid<R>, vol: u32, plex: u32) -> (Laid<R>, Result<(), Stop>)
     requires { IsTrue (shade_meaning (λ s. R.meaning s) laid.shelf).down → ⊥ }
     ensures works { PlexDets vol plex laid.core (shade_meaning (λ s. R.meaning s) laid.shelf) result.0.core (shade_meaning (λ s. R.meaning s) result.0.shelf) result.1 }
+    ensures maps { IsRack (shade_meaning (λ s. R.meaning s) laid.shelf) → IsRack (shade_meaning (λ s. R.meaning s) result.0.shelf) → DetsMaps vol plex (parts_of laid.core.inner.config laid.logs.items laid.alike laid.stopped) (shade_meaning (λ s. R.meaning s) laid.shelf) (parts_of result.0.core.inner.config result.0.logs.items result.0.alike result.0.stopped) (shade_meaning (λ s. R.meaning s) result.0.shelf) result.1 }
     ensures since { CalledSince (shade_meaning (λ s. R.meaning s) laid.shelf) (shade_meaning (λ s. R.meaning s) result.0.shelf) }
     ensures told { TellsLess (R.meaning (rack_of laid.shelf)) (R.meaning (rack_of result.0.shelf)) }
 {
@@ -190,6 +194,7 @@ fn att_from<B: Begun, R: Rack>(
     requires up { IsTrue (R.meaning group.shelf).down → ⊥ }
     requires since { CalledSince B.first (R.meaning group.shelf) }
     ensures works { PlexAtts vol plex group.core (R.meaning group.shelf) result.0.core (R.meaning result.0.shelf) result.1 }
+    ensures maps { IsRack (R.meaning group.shelf) → IsRack (R.meaning result.0.shelf) → AttsMaps vol plex (parts_of group.core.inner.config group.logs.items group.alike group.stopped) (R.meaning group.shelf) (parts_of result.0.core.inner.config result.0.logs.items result.0.alike result.0.stopped) (R.meaning result.0.shelf) result.1 }
     ensures since { CalledSince B.first (R.meaning result.0.shelf) }
 {
     let (rack, rest) = group.apart();
@@ -206,6 +211,7 @@ fn att_traced<C: Begun, R: Rack>(laid: Laid<R>, vol: u32, plex: u32) -> (Laid<R>
     requires up { IsTrue (shade_meaning (λ s. R.meaning s) laid.shelf).down → ⊥ }
     requires told { TellsLess C.first (R.meaning (rack_of laid.shelf)) }
     ensures works { PlexAtts vol plex laid.core (shade_meaning (λ s. R.meaning s) laid.shelf) result.0.core (shade_meaning (λ s. R.meaning s) result.0.shelf) result.1 }
+    ensures maps { IsRack (shade_meaning (λ s. R.meaning s) laid.shelf) → IsRack (shade_meaning (λ s. R.meaning s) result.0.shelf) → AttsMaps vol plex (parts_of laid.core.inner.config laid.logs.items laid.alike laid.stopped) (shade_meaning (λ s. R.meaning s) laid.shelf) (parts_of result.0.core.inner.config result.0.logs.items result.0.alike result.0.stopped) (shade_meaning (λ s. R.meaning s) result.0.shelf) result.1 }
     ensures since { CalledSince (shade_meaning (λ s. R.meaning s) laid.shelf) (shade_meaning (λ s. R.meaning s) result.0.shelf) }
     ensures told { TellsLess C.first (R.meaning (rack_of result.0.shelf)) }
 {
@@ -217,6 +223,7 @@ fn att_traced<C: Begun, R: Rack>(laid: Laid<R>, vol: u32, plex: u32) -> (Laid<R>
 pub fn att_watched<R: Rack>(laid: Laid<R>, vol: u32, plex: u32) -> (Laid<R>, Result<u64, Stop>)
     requires { IsTrue (shade_meaning (λ s. R.meaning s) laid.shelf).down → ⊥ }
     ensures works { PlexAtts vol plex laid.core (shade_meaning (λ s. R.meaning s) laid.shelf) result.0.core (shade_meaning (λ s. R.meaning s) result.0.shelf) result.1 }
+    ensures maps { IsRack (shade_meaning (λ s. R.meaning s) laid.shelf) → IsRack (shade_meaning (λ s. R.meaning s) result.0.shelf) → AttsMaps vol plex (parts_of laid.core.inner.config laid.logs.items laid.alike laid.stopped) (shade_meaning (λ s. R.meaning s) laid.shelf) (parts_of result.0.core.inner.config result.0.logs.items result.0.alike result.0.stopped) (shade_meaning (λ s. R.meaning s) result.0.shelf) result.1 }
     ensures since { CalledSince (shade_meaning (λ s. R.meaning s) laid.shelf) (shade_meaning (λ s. R.meaning s) result.0.shelf) }
     ensures told { TellsLess (R.meaning (rack_of laid.shelf)) (R.meaning (rack_of result.0.shelf)) }
 {
