@@ -13,7 +13,7 @@ use Rattle.vx_group.specs.declared.group_core.GroupCore.{GroupCore}
 use Rattle.vx_group.proofs.HoldLemmas.{narrow_on}
 use Rattle.vx_group.proofs.OpeningLemmas.{may_attach}
 use Rattle.vx_grouplogs.proofs.LogShape.{same_count}
-use Rattle.vx_history.specs.Groups.{GroupNode, MissedNote}
+use Rattle.vx_history.specs.Groups.{GroupNode}
 use Rattle.vx_history.specs.World.{Node}
 use Rattle.vx_kept.specs.Keeping.{frame_at}
 use Rattle.vx_loggroup.specs.Attaching.{map_by}
@@ -27,7 +27,6 @@ use Rattle.vx_model.specs.declared.no.No.{No}
 use Rattle.vx_model.specs.declared.no.No.TheVariants.{Device, Down as IsOff}
 use Rattle.vx_volume.specs.Plexes.{active}
 use Rattle.vx_grouped.specs.Ends.{CallLeaves}
-use Rattle.vx_grouped.specs.MapsNoted.{CopiesNoted, MapsNoted}
 use Rattle.vx_grouped.specs.PlainMaps.{AttsMaps, DetsMaps, PartsMoved, parts_of}
 use Rattle.vx_grouped.specs.SiteEnds.{stops_down}
 use Rattle.vx_grouped.specs.SiteMaps.{MapsLike}
