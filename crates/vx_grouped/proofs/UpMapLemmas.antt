@@ -12,11 +12,11 @@ use Rattle.vx_model.specs.declared.no.No.{No}
 use Rattle.vx_model.specs.declared.no.No.TheVariants.{Device, Down as IsOff}
 use Rattle.vx_volume.specs.Plexes.{active}
 use Rattle.vx_grouped.specs.Ends.{WriteLeaves}
-use Rattle.vx_grouped.specs.GroupSites.{laid_disks, site_config}
+use Rattle.vx_grouped.specs.GroupSites.{idle_disks, laid_disks, site_config}
 use Rattle.vx_grouped.specs.MapsNoted.{CopiesNoted, MapsNoted}
 use Rattle.vx_grouped.specs.PlainMaps.{MapParts, PartsMoved, PartsNoted, laid_parts}
 use Rattle.vx_grouped.specs.SiteEnds.{answers_down}
-use Rattle.vx_grouped.specs.SiteMaps.{MapsMoved, MapsOf, ReadMapped, UpMaps}
+use Rattle.vx_grouped.specs.SiteMaps.{CrashMapped, DiskMaps, MapsMoved, MapsOf, ReadMapped, UpMaps}
 use Rattle.vx_grouped.specs.declared.group_site.GroupSite.TheVariants.{Down, Up}
 use Rattle.vx_grouped.specs.declared.idle.Idle.{Idle}
 use Rattle.vx_grouped.specs.declared.laid.Laid.{Laid}
@@ -42,6 +42,10 @@ module _ {R : Type 0} {g : Ghosts R} where
   -- it crashed
   pub down_maps : (By : Meaning → Meaning → Config → Config → MissedNote → MissedNote → Type 0) (old : Laid R g) (idle : Idle R g) → UpMaps By (Up old) (Down idle)
   down_maps By old idle = λ c d was none. absurd (let clash : None ≡ Some d = none in cc)
+
+  -- the disks of a group that crashed have what was in memory
+  pub crash_up : (old : Laid R g) (idle : Idle R g) → ((w : MissedNote) → PartsNoted w (laid_parts old) → DiskMaps w old.core.inner.config (idle_disks idle)) → CrashMapped (Up old) (Down idle)
+  crash_up old idle maps = λ c w was. subst (λ (x : Config). MapsOf w x (Up old) → DiskMaps w x (idle_disks idle)) (one_config old.core.inner.config c was) (λ noted. maps w noted)
 
   -- so many regions are copied to a plex, by what is noted
   pub copies_up : (old : Laid R g) (vol plex count : ℕ) → ((w : MissedNote) → PartsNoted w (laid_parts old) → active old.core.inner.config vol plex ≡ false → CopiesNoted w old.core.inner.config vol plex count)
