@@ -79,7 +79,7 @@ returns-in-Ok-flush_run-clause-maps g c =
     c.args.group.now.stopped c.write.new.self.stopped c.flush_run.new.self.stopped c.args.group.now.alike c.write.new.self.alike c.flush_run.new.self.alike (g.S.Shelf.meaning c.args.group.now.shelf) (g.S.Shelf.meaning c.write.new.self.shelf) (g.S.Shelf.meaning c.flush_run.new.self.shelf)
     (c.requires.rack c.args.group.now.shelf) (c.requires.rack c.write.new.self.shelf) (c.requires.rack c.flush_run.new.self.shelf) c.args.group.now.stands.group c.flush_run.new.self.stands.group
     c.write.ensures.loses c.flush_run.ensures.loses c.write.ensures.goes.disk_faults c.flush_run.ensures.goes.disk_faults c.write.ensures.goes.units c.flush_run.ensures.goes.units c.write.ensures.goes.size c.flush_run.ensures.goes.size c.requires.fits.exists
-    c.flush_run.ensures.goes.falls c.flush_run.ensures.later c.write.ensures.full c.write.ensures.keeps c.flush_run.ensures.keeps c.write.ensures.comes c.flush_run.ensures.comes
+    c.flush_run.ensures.goes.falls c.flush_run.ensures.loses.parts.later c.write.ensures.full c.write.ensures.keeps c.flush_run.ensures.keeps c.write.ensures.comes c.flush_run.ensures.comes
     c.flush_run.ensures.gone c.write.ensures.rests c.in-Ok.ensures.free c.flush_run.ensures.rests c.flush_run.ensures.flags c.in-Ok.ensures.alike
     c.in-Ok.ensures.moves (λ going. c.in-Ok-flush_run.ensures.moves going (let some = c.requires.fits.some in let whole = c.requires.fits.whole in omega (arith, some, whole)))
 
@@ -89,6 +89,6 @@ returns-in-Err-flush_run-clause-maps g c =
     c.args.group.now.stopped c.write.new.self.stopped c.flush_run.new.self.stopped c.args.group.now.alike c.write.new.self.alike c.flush_run.new.self.alike (g.S.Shelf.meaning c.args.group.now.shelf) (g.S.Shelf.meaning c.write.new.self.shelf) (g.S.Shelf.meaning c.flush_run.new.self.shelf)
     (c.requires.rack c.args.group.now.shelf) (c.requires.rack c.write.new.self.shelf) (c.requires.rack c.flush_run.new.self.shelf) c.args.group.now.stands.group c.flush_run.new.self.stands.group
     c.write.ensures.loses c.flush_run.ensures.loses c.write.ensures.goes.disk_faults c.flush_run.ensures.goes.disk_faults c.write.ensures.goes.units c.flush_run.ensures.goes.units c.write.ensures.goes.size c.flush_run.ensures.goes.size c.requires.fits.exists
-    c.flush_run.ensures.goes.falls c.flush_run.ensures.later c.write.ensures.full c.write.ensures.keeps c.flush_run.ensures.keeps c.write.ensures.comes c.flush_run.ensures.comes
+    c.flush_run.ensures.goes.falls c.flush_run.ensures.loses.parts.later c.write.ensures.full c.write.ensures.keeps c.flush_run.ensures.keeps c.write.ensures.comes c.flush_run.ensures.comes
     c.flush_run.ensures.gone c.write.ensures.rests c.in-Ok.ensures.free c.flush_run.ensures.rests c.flush_run.ensures.flags c.in-Ok.ensures.alike
     c.in-Ok.ensures.moves (λ going. c.in-Err-flush_run.ensures.moves going (let some = c.requires.fits.some in let whole = c.requires.fits.whole in omega (arith, some, whole)))
