@@ -1,5 +1,5 @@
 -- What a detach and an attach of a plex make of what is noted of the maps of a group.
-use Rattle.std.proofs.Common.{◌≡◌, ◌∙◌, ◌<◌, ℕ, Bool, true, false, List, length, refl, sym, ap, IsTrue, Result, Ok, Err, IfOk}
+use Rattle.std.proofs.Common.{◌≡◌, ◌∙◌, ◌<◌, inl, inr, ℕ, Bool, true, false, List, length, refl, sym, ap, IsTrue, Result, Ok, Err, IfOk}
 use Rattle.std.specs.Prelude.{None, Option, Some, if◌then◌else◌, nat_le}
 use Rattle.std.proofs.lemmas.Bool.{cases_lt, le-leb}
 use Rattle.vx_config.specs.Checks.{blocks_of, plexes_of}
