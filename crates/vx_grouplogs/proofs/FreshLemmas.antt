@@ -1,5 +1,5 @@
 -- Plexes that are not STALE, where each one that takes part is ACTIVE.
-use Rattle.std.proofs.Common.{◌≡◌, ◌∙◌, ◌<◌, ℕ, Bool, true, false, Option, Some, None, List, IsTrue, length, refl, sym, ap, arith}
+use Rattle.std.proofs.Common.{◌≡◌, ◌∙◌, ◌<◌, inl, inr, ℕ, Bool, true, false, Option, Some, None, List, IsTrue, length, refl, sym, ap, arith}
 use Rattle.std.specs.Prelude.{is_some, slice_get}
 use Rattle.std.proofs.lemmas.Option.{slice_get_cases}
 use Rattle.vx_config.specs.Checks.{blocks_of, is_stale, plexes_of, plexes_or}
