@@ -189,9 +189,9 @@ module _ (own : Write) (c e d : GroupCore) (l j k : List Logs) (s u t : Bool) (a
   both_wrote moves follows =
       wrote_parts own c d l k s t a b m o first last one two frames_both (as_many ∙ units) sizes_both low ends_both begins_both
       (λ off.
-          let on = going_on off in
-          both_move c e d own.volume from_region to_region l j k counts_first blocks_first gone (rests on) (free on) behind (is_alike a own.volume) (moves on)
-          (subst (λ (z : List Bool). MapsFollow e.inner.config d.inner.config (in_run own.volume from_region to_region) (all_anew own.volume (is_alike z own.volume)) j k) alike (follows on)))
+      let on = going_on off in
+      both_move c e d own.volume from_region to_region l j k counts_first blocks_first gone (rests on) (free on) behind (is_alike a own.volume) (moves on)
+      (subst (λ (z : List Bool). MapsFollow e.inner.config d.inner.config (in_run own.volume from_region to_region) (all_anew own.volume (is_alike z own.volume)) j k) alike (follows on)))
       flags_both
 
   -- the flush was refused
@@ -200,6 +200,6 @@ module _ (own : Write) (c e d : GroupCore) (l j k : List Logs) (s u t : Bool) (a
   both_doubted moves doubts =
       doubted_parts own c d l k s t a b m o first last one two frames_both (as_many ∙ units) sizes_both low ends_both begins_both
       (λ off.
-          let on = going_on off in
-          both_doubt c e d own.volume from_region to_region l j k counts_first blocks_first gone (rests on) (free on) behind (is_alike a own.volume) (moves on) (doubts on))
+      let on = going_on off in
+      both_doubt c e d own.volume from_region to_region l j k counts_first blocks_first gone (rests on) (free on) behind (is_alike a own.volume) (moves on) (doubts on))
       (λ v apart. flags_both v)

@@ -27,7 +27,7 @@ read_from-group-requires-clause-fits g c = λ κs within.
 pub returns-clause-maps : goal.returns-clause-maps
 returns-clause-maps g c =
     (parts_same c.read_from-group.result.0.core.inner.config c.untrace.result.core.inner.config c.read_from-group.result.0.logs.items c.untrace.result.logs.items c.read_from-group.result.0.alike c.untrace.result.alike c.read_from-group.result.0.stopped c.untrace.result.stopped
-        (ap (λ x. x.inner.config) (c.untrace.ensures.core)) (ap (λ x. x.items) (c.untrace.ensures.logs)) (c.untrace.ensures.alike) (c.untrace.ensures.stopped))
+    (ap (λ x. x.inner.config) (c.untrace.ensures.core)) (ap (λ x. x.items) (c.untrace.ensures.logs)) (c.untrace.ensures.alike) (c.untrace.ensures.stopped))
     ∙ c.read_from-group.ensures.maps
     ∙ (parts_same c.args.laid.core.inner.config c.trace.result.core.inner.config c.args.laid.logs.items c.trace.result.logs.items c.args.laid.alike c.trace.result.alike c.args.laid.stopped c.trace.result.stopped
-        (ap (λ x. x.inner.config) (c.trace.ensures.core)) (ap (λ x. x.items) (c.trace.ensures.logs)) (c.trace.ensures.alike) (c.trace.ensures.stopped))
+    (ap (λ x. x.inner.config) (c.trace.ensures.core)) (ap (λ x. x.items) (c.trace.ensures.logs)) (c.trace.ensures.alike) (c.trace.ensures.stopped))
