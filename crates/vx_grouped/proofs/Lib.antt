@@ -53,3 +53,4 @@ pub mod BackMapLemmas
 pub mod PlainMapLemmas
 pub mod UpMapLemmas
 pub mod PlexMapLemmas
+pub mod AddMapLemmas
