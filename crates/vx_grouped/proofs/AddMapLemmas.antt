@@ -1,9 +1,9 @@
 -- What the making of a volume makes of what is noted of the maps of a group.
 use Rattle.std.proofs.Common.{◌≡◌, ◌∙◌, ◌+◌, ◌<◌, ℕ, Bool, true, false, List, [], ◌∷◌, ◌++◌, length, refl, sym, ap, subst, IsTrue, Err, arith}
+use Rattle.std.proofs.lemmas.List.{length-append}
 use Rattle.std.proofs.lemmas.Option.{slice_get_within}
 use Rattle.std.specs.Prelude.{None, Option, Some, is_some, slice_get}
-use Rattle.std.proofs.Math.ListN.{length-append}
-use Rattle.vx_config.specs.Checks.{blocks_of, plexes_of}
+use Rattle.vx_config.specs.Checks.{plexes_of}
 use Rattle.vx_config.specs.declared.config.Config.{Config}
 use Rattle.vx_config.specs.declared.entry.LogEntry.{LogEntry}
 use Rattle.vx_config.specs.declared.entry.VolumeEntry.{VolumeEntry}
@@ -24,6 +24,7 @@ use Rattle.vx_loggroup.specs.LoggedVolumes.{LoggedStands, is_alike}
 use Rattle.vx_loggroup.specs.Moving.{MapsBeginIn, MapsEnd, MapsMove, goes_by, in_none, no_volume}
 use Rattle.vx_loggroup.proofs.EndedLemmas.{first_b, third_b}
 use Rattle.vx_loggroup.proofs.NewLemmas.{HasMaps, has_maps}
+use Rattle.vx_layout.specs.declared.shape.Shape.{Shape}
 use Rattle.vx_logs.specs.declared.logs.Logs.{Logs}
 use Rattle.vx_maplog.specs.Logs.{log_of, log_or}
 use Rattle.vx_model.specs.Sizes.{regions_of}
@@ -35,7 +36,6 @@ use Rattle.vx_grouped.specs.Added.{VolumeLeaves}
 use Rattle.vx_grouped.specs.PlainMaps.{PartsMoved, parts_of}
 use Rattle.vx_grouped.specs.SiteEnds.{stops_down}
 use Rattle.vx_grouped.specs.SiteMaps.{AddMaps, MapsLike}
-use Rattle.vx_group.specs.Shapes.{Shape}
 use Rattle.vx_grouped.proofs.MoreMapLemmas.{added_goes}
 use Rattle.vx_grouped.proofs.PlainMapLemmas.{rack_rose}
 use Rattle.vx_grouped.proofs.PlexMapLemmas.{call_still}
@@ -60,7 +60,10 @@ volumes_kept None none some = none refl
 volumes_kept (Some why) none some = some why refl
 
 one_longer : (vs us : List VolumeEntry) (x : VolumeEntry) → us ≡ vs ++ (x ∷ []) → length us ≡ length vs + 1
-one_longer vs us x is = ap (λ (ys : List VolumeEntry). length ys) is ∙ length-append vs (x ∷ [])
+one_longer vs us x is =
+    let same : length us ≡ length (vs ++ (x ∷ [])) = ap (λ (ys : List VolumeEntry). length ys) is in
+    let long = length-append vs (x ∷ []) in
+    omega (arith, same, long)
 
 module _ (c d : GroupCore) (l k : List Logs) (s t : Bool) (a b : List Bool) (m m' : Meaning) (was : IsRack m) (now : IsRack m') (stands : LoggedStands c l a s m) (two : GroupStands d m') (shape : Extends d.inner.config c.inner.config)
     (ends : MapsEnd c.inner.config d.inner.config s t l k m m') (begins : MapsBeginIn no_volume c.inner.config d.inner.config s t l k) (moves : MapsMove c.inner.config d.inner.config in_none in_none l k) (left : (v : ℕ) → fmr_at k v ≡ fmr_at l v)

@@ -66,8 +66,8 @@ returns-else-is_down-clause-still g c = still_by ℕ ℕ c.in-Err.stop _ c.in-Er
 pub returns-in-Ok-clause-maps : goal.returns-in-Ok-clause-maps
 returns-in-Ok-clause-maps g c = λ was now.
     let made =
-        made_by (VolumeMade c.args.name.now c.args.want.now c.in-Ok.vol c.args.group.now.core.inner c.make_volume.new.self.core.inner (g.S.Shelf.meaning c.make_volume.new.self.shelf)) _ c.in-Ok.vol (make_refusal c.args.group.now.core.inner.config c.args.name.now c.args.want.now) refl c.in-Ok.ensures.ends
-        (λ why is. (c.in-Ok.ensures.refused why is).0) in
+    made_by (VolumeMade c.args.name.now c.args.want.now c.in-Ok.vol c.args.group.now.core.inner c.make_volume.new.self.core.inner (g.S.Shelf.meaning c.make_volume.new.self.shelf)) _ c.in-Ok.vol (make_refusal c.args.group.now.core.inner.config c.args.name.now c.args.want.now) refl c.in-Ok.ensures.ends
+    (λ why is. (c.in-Ok.ensures.refused why is).0) in
     added_parts c.args.group.now.core c.make_volume.new.self.core c.args.group.now.logs.items c.make_volume.new.self.logs.items c.args.group.now.stopped c.make_volume.new.self.stopped c.args.group.now.alike c.make_volume.new.self.alike (g.S.Shelf.meaning c.args.group.now.shelf) (g.S.Shelf.meaning c.make_volume.new.self.shelf) was now
     (from_logged c.args.group.now.core c.args.group.now.logs.items c.args.group.now.alike c.args.group.now.stopped (g.S.Shelf.meaning c.args.group.now.shelf) c.args.group.now.stands) c.make_volume.new.self.stands.group c.make_volume.ensures.stays.shape c.make_volume.ensures.ends_maps c.make_volume.ensures.comes c.make_volume.ensures.moves c.make_volume.ensures.left
     c.make_volume.ensures.flags c.make_volume.ensures.stopped
@@ -82,4 +82,4 @@ returns-else-is_down-clause-maps g c = λ was now.
     (from_logged c.args.group.now.core c.args.group.now.logs.items c.args.group.now.alike c.args.group.now.stopped (g.S.Shelf.meaning c.args.group.now.shelf) c.args.group.now.stands) c.make_volume.new.self.stands.group c.make_volume.ensures.stays.shape c.make_volume.ensures.ends_maps c.make_volume.ensures.comes c.make_volume.ensures.moves c.make_volume.ensures.left
     c.make_volume.ensures.flags c.make_volume.ensures.stopped
     (volumes_kept (make_refusal c.args.group.now.core.inner.config c.args.name.now c.args.want.now)
-        (λ none. stop_volumes c.args.name.now c.args.want.now c.args.group.now.core.inner c.make_volume.new.self.core.inner (g.S.Shelf.meaning c.args.group.now.shelf) (g.S.Shelf.meaning c.make_volume.new.self.shelf) c.in-Err.stop (c.in-Err.ensures.ends none)) (λ why is. ap (λ x. x.inner.config.volumes) (c.make_volume.ensures.refused why is).1))
+    (λ none. stop_volumes c.args.name.now c.args.want.now c.args.group.now.core.inner c.make_volume.new.self.core.inner (g.S.Shelf.meaning c.args.group.now.shelf) (g.S.Shelf.meaning c.make_volume.new.self.shelf) c.in-Err.stop (c.in-Err.ensures.ends none)) (λ why is. ap (λ x. x.inner.config.volumes) (c.make_volume.ensures.refused why is).1))

@@ -30,9 +30,9 @@ returns-clause-maps g c =
     parts_carried (λ x m y n. IsRack m → IsRack n → AddsMaps x m y n c.make_volume_of-answer.result)
     (parts_of c.args.group.core.inner.config c.args.group.logs.items c.args.group.alike c.args.group.stopped) (parts_of c.together-group.result.core.inner.config c.together-group.result.logs.items c.together-group.result.alike c.together-group.result.stopped) (parts_of c.together.result.core.inner.config c.together.result.logs.items c.together.result.alike c.together.result.stopped) (parts_of c.make_volume_of-answer.new.group.core.inner.config c.make_volume_of-answer.new.group.logs.items c.make_volume_of-answer.new.group.alike c.make_volume_of-answer.new.group.stopped) (g.R.Shelf.meaning c.args.group.shelf) (g.R.Shelf.meaning c.together-group.result.shelf.shelf) (g.R.Shelf.meaning c.together.result.shelf) (g.R.Shelf.meaning c.make_volume_of-answer.new.group.shelf.shelf)
     (parts_same c.args.group.core.inner.config c.together-group.result.core.inner.config c.args.group.logs.items c.together-group.result.logs.items c.args.group.alike c.together-group.result.alike c.args.group.stopped c.together-group.result.stopped
-        (ap (λ x. x.inner.config) (c.together-group.ensures.core ∙ c.apart-rack.ensures.core)) (ap (λ x. x.items) (c.together-group.ensures.logs ∙ c.apart-rack.ensures.logs)) (c.together-group.ensures.alike ∙ c.apart-rack.ensures.alike) (c.together-group.ensures.stopped ∙ c.apart-rack.ensures.stopped))
+    (ap (λ x. x.inner.config) (c.together-group.ensures.core ∙ c.apart-rack.ensures.core)) (ap (λ x. x.items) (c.together-group.ensures.logs ∙ c.apart-rack.ensures.logs)) (c.together-group.ensures.alike ∙ c.apart-rack.ensures.alike) (c.together-group.ensures.stopped ∙ c.apart-rack.ensures.stopped))
     (ap (λ s. g.R.Shelf.meaning s) (shelf_of _ _ c.together-group.ensures.shelf ∙ c.over-watched.ensures ∙ c.apart-rack.ensures.shelf))
     (parts_same c.make_volume_of-answer.new.group.core.inner.config c.together.result.core.inner.config c.make_volume_of-answer.new.group.logs.items c.together.result.logs.items c.make_volume_of-answer.new.group.alike c.together.result.alike c.make_volume_of-answer.new.group.stopped c.together.result.stopped
-        (ap (λ x. x.inner.config) (c.together.ensures.core ∙ c.apart-watched.ensures.core)) (ap (λ x. x.items) (c.together.ensures.logs ∙ c.apart-watched.ensures.logs)) (c.together.ensures.alike ∙ c.apart-watched.ensures.alike) (c.together.ensures.stopped ∙ c.apart-watched.ensures.stopped))
+    (ap (λ x. x.inner.config) (c.together.ensures.core ∙ c.apart-watched.ensures.core)) (ap (λ x. x.items) (c.together.ensures.logs ∙ c.apart-watched.ensures.logs)) (c.together.ensures.alike ∙ c.apart-watched.ensures.alike) (c.together.ensures.stopped ∙ c.apart-watched.ensures.stopped))
     (ap (λ s. g.R.Shelf.meaning s) (c.together.ensures.shelf ∙ c.into_shelf-rack.ensures.shelf ∙ shelf_of _ _ c.apart-watched.ensures.shelf))
     c.make_volume_of-answer.ensures.maps

@@ -33,9 +33,9 @@ returns-clause-maps g c =
     parts_carried (λ x m y n. IsRack m → IsRack n → AddsMaps x m y n c.make_from-group.result.1)
     (parts_of c.args.laid.core.inner.config c.args.laid.logs.items c.args.laid.alike c.args.laid.stopped) (parts_of c.trace.result.core.inner.config c.trace.result.logs.items c.trace.result.alike c.trace.result.stopped) (parts_of c.untrace.result.core.inner.config c.untrace.result.logs.items c.untrace.result.alike c.untrace.result.stopped) (parts_of c.make_from-group.result.0.core.inner.config c.make_from-group.result.0.logs.items c.make_from-group.result.0.alike c.make_from-group.result.0.stopped) (shade_meaning g.R.Shelf.meaning c.args.laid.shelf) (shade_meaning (λ t. g.R.Shelf.meaning t.rack) c.trace.result.shelf) (shade_meaning g.R.Shelf.meaning c.untrace.result.shelf) (shade_meaning (λ t. g.R.Shelf.meaning t.rack) c.make_from-group.result.0.shelf)
     (parts_same c.args.laid.core.inner.config c.trace.result.core.inner.config c.args.laid.logs.items c.trace.result.logs.items c.args.laid.alike c.trace.result.alike c.args.laid.stopped c.trace.result.stopped
-        (ap (λ x. x.inner.config) (c.trace.ensures.core)) (ap (λ x. x.items) (c.trace.ensures.logs)) (c.trace.ensures.alike) (c.trace.ensures.stopped))
+    (ap (λ x. x.inner.config) (c.trace.ensures.core)) (ap (λ x. x.items) (c.trace.ensures.logs)) (c.trace.ensures.alike) (c.trace.ensures.stopped))
     (off_means c.args.laid.shelf c.trace.result.shelf c.trace.ensures.shelf)
     (parts_same c.make_from-group.result.0.core.inner.config c.untrace.result.core.inner.config c.make_from-group.result.0.logs.items c.untrace.result.logs.items c.make_from-group.result.0.alike c.untrace.result.alike c.make_from-group.result.0.stopped c.untrace.result.stopped
-        (ap (λ x. x.inner.config) (c.untrace.ensures.core)) (ap (λ x. x.items) (c.untrace.ensures.logs)) (c.untrace.ensures.alike) (c.untrace.ensures.stopped))
+    (ap (λ x. x.inner.config) (c.untrace.ensures.core)) (ap (λ x. x.items) (c.untrace.ensures.logs)) (c.untrace.ensures.alike) (c.untrace.ensures.stopped))
     (sym (off_means c.untrace.result.shelf c.make_from-group.result.0.shelf c.untrace.ensures.shelf))
     c.make_from-group.ensures.maps
