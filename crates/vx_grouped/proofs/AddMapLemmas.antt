@@ -33,7 +33,7 @@ use Rattle.vx_model.specs.declared.errors.Stop.TheVariants.{No as Refused, OutOf
 use Rattle.vx_model.specs.declared.no.No.{No}
 use Rattle.vx_groupmaps.specs.Loading.{on_failed_disk}
 use Rattle.vx_grouped.specs.Added.{VolumeLeaves}
-use Rattle.vx_grouped.specs.PlainMaps.{PartsMoved, parts_of}
+use Rattle.vx_grouped.specs.PlainMaps.{PartsMoved, map_parts}
 use Rattle.vx_grouped.specs.SiteEnds.{stops_down}
 use Rattle.vx_grouped.specs.SiteMaps.{AddMaps, MapsLike}
 use Rattle.vx_grouped.proofs.MoreMapLemmas.{added_goes}
@@ -90,7 +90,7 @@ module _ (c d : GroupCore) (l k : List Logs) (s t : Bool) (a b : List Bool) (m m
 
   -- it was made
   pub added_parts : (volume : VolumeEntry) → d.inner.config.volumes ≡ c.inner.config.volumes ++ (volume ∷ []) → is_alike b (length c.inner.config.volumes) ≡ true
-      → PartsMoved (AddMaps m m') (parts_of c.inner.config l a s) (parts_of d.inner.config k b t) m'
+      → PartsMoved (AddMaps m m') (map_parts c.inner.config l a s) (map_parts d.inner.config k b t) m'
   added_parts volume more fresh = record {
     so = λ w up noted.
         added_goes w c.inner.config d.inner.config l k s t a b m m' noted (narrow_on c m stands.group) (narrow_on d m' two) same up (rack_rose m m' was now) ends (λ off. moves) begins
@@ -98,7 +98,7 @@ module _ (c d : GroupCore) (l k : List Logs) (s t : Bool) (a b : List Bool) (m m
   }
 
   -- it was not
-  pub none_parts : d.inner.config.volumes ≡ c.inner.config.volumes → PartsMoved (MapsLike m m') (parts_of c.inner.config l a s) (parts_of d.inner.config k b t) m'
+  pub none_parts : d.inner.config.volumes ≡ c.inner.config.volumes → PartsMoved (MapsLike m m') (map_parts c.inner.config l a s) (map_parts d.inner.config k b t) m'
   none_parts as_many = record {
     so = λ w up noted.
         like_goes w c.inner.config d.inner.config l k s t a b m m' noted (narrow_on c m stands.group) (narrow_on d m' two) same (ap (λ (vs : List VolumeEntry). length vs) as_many) up (rack_rose m m' was now) ends begins (λ off. moves) flags;

@@ -31,16 +31,16 @@ use Rattle.vx_logs.specs.declared.logs.Logs.{Logs}
 use Rattle.vx_model.specs.Content.{Write, blocks_in}
 use Rattle.vx_model.specs.Sizes.{regions_of}
 use Rattle.vx_volume.specs.Plexes.{active}
-use Rattle.vx_grouped.specs.PlainMaps.{MapParts, PartsMoved, parts_of}
+use Rattle.vx_grouped.specs.PlainMaps.{MapParts, PartsMoved, map_parts}
 use Rattle.vx_grouped.specs.SiteMaps.{DoubtMaps, WriteMaps}
 use Rattle.vx_grouped.proofs.SiteMapLemmas.{doubt_goes, write_goes}
 use Rattle.vx_grouped.proofs.WriteLemmas.{both_lose, rack_rises}
 
 -- ---- equal parts
 
-pub parts_same : (c d : Config) (l k : List Logs) (a b : List Bool) (s t : Bool) → d ≡ c → k ≡ l → b ≡ a → t ≡ s → parts_of d k b t ≡ parts_of c l a s
+pub parts_same : (c d : Config) (l k : List Logs) (a b : List Bool) (s t : Bool) → d ≡ c → k ≡ l → b ≡ a → t ≡ s → map_parts d k b t ≡ map_parts c l a s
 parts_same c d l k a b s t config logs flags stopped =
-    ap (λ (x : Config). parts_of x k b t) config ∙ ap (λ (x : List Logs). parts_of c x b t) logs ∙ ap (λ (x : List Bool). parts_of c l x t) flags ∙ ap (λ (x : Bool). parts_of c l a x) stopped
+    ap (λ (x : Config). map_parts x k b t) config ∙ ap (λ (x : List Logs). map_parts c x b t) logs ∙ ap (λ (x : List Bool). map_parts c l x t) flags ∙ ap (λ (x : Bool). map_parts c l a x) stopped
 
 -- what a call does, carried along them
 pub parts_carried : (P : MapParts → Meaning → MapParts → Meaning → Type 0) (x x' y y' : MapParts) (m m' n n' : Meaning) → x' ≡ x → m' ≡ m → y ≡ y' → n ≡ n' → P x' m' y' n' → P x m y n
@@ -124,7 +124,7 @@ module _ (own : Write) (c d : GroupCore) (l k : List Logs) (s t : Bool) (a b : L
 
   -- it was done
   pub wrote_parts : (t ≡ false → MapsMove c.inner.config d.inner.config (in_write own) (all_anew own.volume (is_alike a own.volume)) l k) → ((v : ℕ) → is_alike a v ≡ true → is_alike b v ≡ true)
-      → PartsMoved (WriteMaps own m m') (parts_of c.inner.config l a s) (parts_of d.inner.config k b t) m'
+      → PartsMoved (WriteMaps own m m') (map_parts c.inner.config l a s) (map_parts d.inner.config k b t) m'
   wrote_parts moves alike = record {
     so = λ w up noted.
         write_goes w c.inner.config d.inner.config l k s t a b m m' noted (narrow_on c m one) (narrow_on d m' two) same many up (rack_rose m m' was now) ends own begins moves there alike;
@@ -135,7 +135,7 @@ module _ (own : Write) (c d : GroupCore) (l k : List Logs) (s t : Bool) (a b : L
 
   -- it was refused
   pub doubted_parts : (t ≡ false → MapsDoubt c.inner.config d.inner.config (in_write own) l k) → ((v : ℕ) → (v ≡ own.volume → ⊥) → is_alike a v ≡ true → is_alike b v ≡ true)
-      → PartsMoved (DoubtMaps own m m') (parts_of c.inner.config l a s) (parts_of d.inner.config k b t) m'
+      → PartsMoved (DoubtMaps own m m') (map_parts c.inner.config l a s) (map_parts d.inner.config k b t) m'
   doubted_parts moves alike = record {
     so = λ w up noted.
         doubt_goes w c.inner.config d.inner.config l k s t a b m m' noted (narrow_on c m one) (narrow_on d m' two) same many up (rack_rose m m' was now) ends own begins moves (λ v off. alike v (apart_by v off));
@@ -185,7 +185,7 @@ module _ (own : Write) (c e d : GroupCore) (l j k : List Logs) (s u t : Bool) (a
 
   -- both are done
   pub both_wrote : (u ≡ false → MapsMove c.inner.config e.inner.config (in_run own.volume from_region to_region) (all_anew own.volume (is_alike a own.volume)) l j)
-      → (u ≡ false → MapsFollow e.inner.config d.inner.config (in_run own.volume from_region to_region) (all_anew own.volume (is_alike mid own.volume)) j k) → PartsMoved (WriteMaps own m o) (parts_of c.inner.config l a s) (parts_of d.inner.config k b t) o
+      → (u ≡ false → MapsFollow e.inner.config d.inner.config (in_run own.volume from_region to_region) (all_anew own.volume (is_alike mid own.volume)) j k) → PartsMoved (WriteMaps own m o) (map_parts c.inner.config l a s) (map_parts d.inner.config k b t) o
   both_wrote moves follows =
       wrote_parts own c d l k s t a b m o first last one two frames_both (as_many ∙ units) sizes_both low ends_both begins_both
       (λ off.
@@ -196,7 +196,7 @@ module _ (own : Write) (c e d : GroupCore) (l j k : List Logs) (s u t : Bool) (a
 
   -- the flush was refused
   pub both_doubted : (u ≡ false → MapsMove c.inner.config e.inner.config (in_run own.volume from_region to_region) (all_anew own.volume (is_alike a own.volume)) l j) → (u ≡ false → MapsDoubt e.inner.config d.inner.config (in_run own.volume from_region to_region) j k)
-      → PartsMoved (DoubtMaps own m o) (parts_of c.inner.config l a s) (parts_of d.inner.config k b t) o
+      → PartsMoved (DoubtMaps own m o) (map_parts c.inner.config l a s) (map_parts d.inner.config k b t) o
   both_doubted moves doubts =
       doubted_parts own c d l k s t a b m o first last one two frames_both (as_many ∙ units) sizes_both low ends_both begins_both
       (λ off.

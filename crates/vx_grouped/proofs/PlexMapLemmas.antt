@@ -27,7 +27,7 @@ use Rattle.vx_model.specs.declared.no.No.{No}
 use Rattle.vx_model.specs.declared.no.No.TheVariants.{Device, Down as IsOff}
 use Rattle.vx_volume.specs.Plexes.{active}
 use Rattle.vx_grouped.specs.Ends.{CallLeaves}
-use Rattle.vx_grouped.specs.PlainMaps.{AttsMaps, DetsMaps, PartsMoved, parts_of}
+use Rattle.vx_grouped.specs.PlainMaps.{AttsMaps, DetsMaps, PartsMoved, map_parts}
 use Rattle.vx_grouped.specs.SiteEnds.{stops_down}
 use Rattle.vx_grouped.specs.SiteMaps.{MapsLike}
 use Rattle.vx_grouped.proofs.CountedLemmas.{copies_all, copies_noted}
@@ -76,7 +76,7 @@ module _ (c d : GroupCore) (l k : List Logs) (s t : Bool) (a b : List Bool) (m m
 
   -- a plex is detached
   pub det_parts : (vol plex : ℕ) (r : Result (Unit {0}) Stop) → MapsBeginIn (only_volume vol) c.inner.config d.inner.config s t l k → (s ≡ false → MovesDet c.inner.config d.inner.config vol plex (is_alike a vol) l k r)
-      → ((no : No) → det_refusal c.inner.config vol plex ≡ Some no → r ≡ Err (Refused no)) → DetsMaps vol plex (parts_of c.inner.config l a s) m (parts_of d.inner.config k b t) m' r
+      → ((no : No) → det_refusal c.inner.config vol plex ≡ Some no → r ≡ Err (Refused no)) → DetsMaps vol plex (map_parts c.inner.config l a s) m (map_parts d.inner.config k b t) m' r
   det_parts vol plex (Ok done) begins moves refused = record {
     so = λ w up noted.
         det_goes w c.inner.config d.inner.config l k s t a b m m' noted (narrow_on c m one) (narrow_on d m' two) same many up (rack_rose m m' was now) ends vol plex begins (λ off. moves (going_on off))
@@ -88,7 +88,7 @@ module _ (c d : GroupCore) (l k : List Logs) (s t : Bool) (a b : List Bool) (m m
   }
 
   -- a call that writes no region, and in which no log begins
-  pub like_parts : MapsBeginIn no_volume c.inner.config d.inner.config s t l k → MapsMove c.inner.config d.inner.config in_none in_none l k → PartsMoved (MapsLike m m') (parts_of c.inner.config l a s) (parts_of d.inner.config k b t) m'
+  pub like_parts : MapsBeginIn no_volume c.inner.config d.inner.config s t l k → MapsMove c.inner.config d.inner.config in_none in_none l k → PartsMoved (MapsLike m m') (map_parts c.inner.config l a s) (map_parts d.inner.config k b t) m'
   like_parts begins moves = record {
     so = λ w up noted.
         like_goes w c.inner.config d.inner.config l k s t a b m m' noted (narrow_on c m one) (narrow_on d m' two) same many up (rack_rose m m' was now) ends begins (λ off. moves) alike;
@@ -96,7 +96,7 @@ module _ (c d : GroupCore) (l k : List Logs) (s t : Bool) (a b : List Bool) (m m
 
   -- a plex is attached
   pub att_parts : (vol plex : ℕ) (r : Result ℕ Stop) → MapsBeginIn no_volume c.inner.config d.inner.config s t l k → MapsMove c.inner.config d.inner.config in_none in_none l k → ((no : No) → att_refusal c.inner.config vol plex ≡ Some no → r ≡ Err (Refused no))
-      → (active c.inner.config vol plex ≡ false → IfOk r (λ n. n ≡ missed_regions c.inner.config vol plex (map_by l c.inner.config s false vol plex))) → AttsMaps vol plex (parts_of c.inner.config l a s) m (parts_of d.inner.config k b t) m' r
+      → (active c.inner.config vol plex ≡ false → IfOk r (λ n. n ≡ missed_regions c.inner.config vol plex (map_by l c.inner.config s false vol plex))) → AttsMaps vol plex (map_parts c.inner.config l a s) m (map_parts d.inner.config k b t) m' r
   att_parts vol plex (Ok count) begins moves refused counts = (
     like_parts begins moves,
     λ w noted off. record {

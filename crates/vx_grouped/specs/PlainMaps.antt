@@ -20,11 +20,11 @@ pub record MapParts : Type 0 where
   pub flags : List Bool
   pub stopped : Bool
 
-abbrev pub parts_of : Config → List Logs → List Bool → Bool → MapParts
-parts_of config logs flags stopped = record { config = config; logs = logs; flags = flags; stopped = stopped }
+abbrev pub map_parts : Config → List Logs → List Bool → Bool → MapParts
+map_parts config logs flags stopped = record { config = config; logs = logs; flags = flags; stopped = stopped }
 
 abbrev pub laid_parts : {R : Type 0} {g : Ghosts R} → Laid R g → MapParts
-laid_parts group = parts_of group.core.inner.config group.logs.items group.alike group.stopped
+laid_parts group = map_parts group.core.inner.config group.logs.items group.alike group.stopped
 
 abbrev pub PartsNoted : MissedNote → MapParts → Type 0
 PartsNoted w x = MapsNoted w x.config x.logs x.flags x.stopped

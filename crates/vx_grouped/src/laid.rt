@@ -47,7 +47,7 @@ impl<R: Rack> Laid<R> {
     ghost use Rattle.vx_grouped.specs.Away.{IsAwayAt};
     ghost use Rattle.vx_grouped.specs.GroupSites.{FitsPlain};
     ghost use Rattle.vx_grouped.specs.Plain.{HoldsPlain};
-    ghost use Rattle.vx_grouped.specs.PlainMaps.{PartsNoted, parts_of};
+    ghost use Rattle.vx_grouped.specs.PlainMaps.{PartsNoted, map_parts};
     ghost use Rattle.vx_grouped.specs.SiteMaps.{DiskMaps};
     ghost use Rattle.vx_history.specs.Groups.{GroupNode, MissedNote};
     ghost use Rattle.vx_history.specs.World.{Node};
@@ -185,7 +185,7 @@ impl<R: Rack> Laid<R> {
         ensures stopped { Stopped (shade_meaning (λ s. R.meaning s) self.shelf) (shade_meaning (λ s. R.meaning s) result.rack) }
         ensures agreed { result.agreed ≡ self.core.inner.agreed }
         ensures disks { OnDisks (shade_meaning (λ s. R.meaning s) self.shelf).disks (shade_meaning (λ s. R.meaning s) result.rack).disks (Crashed (shade_meaning (λ s. R.meaning s) self.shelf).size pick) }
-        ensures maps { (w : MissedNote) → PartsNoted w (parts_of self.core.inner.config self.logs.items self.alike self.stopped) → DiskMaps w self.core.inner.config (shade_meaning (λ s. R.meaning s) result.rack) }
+        ensures maps { (w : MissedNote) → PartsNoted w (map_parts self.core.inner.config self.logs.items self.alike self.stopped) → DiskMaps w self.core.inner.config (shade_meaning (λ s. R.meaning s) result.rack) }
         ensures told { TellsLess (R.meaning (rack_of self.shelf)) (R.meaning (rack_of result.rack)) }
     {
         crash_laid::<Brand, R>(self, pick)

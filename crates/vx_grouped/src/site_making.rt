@@ -7,7 +7,7 @@ ghost use Rattle.vx_model.specs.declared.no.No.{No as NoValue};
 ghost use Rattle.vx_grouped.specs.Added.{IsUnmoved};
 ghost use Rattle.vx_grouped.specs.GroupSites.{GroupUp, UpNoted, site_below, site_disks};
 ghost use Rattle.vx_disk.specs.Racks.{IsRack};
-ghost use Rattle.vx_grouped.specs.PlainMaps.{AddsMaps, parts_of};
+ghost use Rattle.vx_grouped.specs.PlainMaps.{AddsMaps, map_parts};
 ghost use Rattle.vx_grouped.specs.SiteMaps.{AddedMapped};
 ghost use Rattle.vx_grouped.specs.SiteAdds.{MakesVolume, SiteAdded, VolumeIn, refuses_volume};
 ghost use Rattle.vx_untold.specs.Shades.{rack_of, shade_meaning};
@@ -38,7 +38,7 @@ fn make_from<B: Begun, R: Rack>(
     requires prefer { IfSome want.now.prefer (λ p. p < want.now.mirrors) }
     requires since { CalledSince B.first (R.meaning group.shelf) }
     ensures works { MakesVolume name.now want.now group.core (R.meaning group.shelf) result.0.core (R.meaning result.0.shelf) result.1 }
-    ensures maps { IsRack (R.meaning group.shelf) → IsRack (R.meaning result.0.shelf) → AddsMaps (parts_of group.core.inner.config group.logs.items group.alike group.stopped) (R.meaning group.shelf) (parts_of result.0.core.inner.config result.0.logs.items result.0.alike result.0.stopped) (R.meaning result.0.shelf) result.1 }
+    ensures maps { IsRack (R.meaning group.shelf) → IsRack (R.meaning result.0.shelf) → AddsMaps (map_parts group.core.inner.config group.logs.items group.alike group.stopped) (R.meaning group.shelf) (map_parts result.0.core.inner.config result.0.logs.items result.0.alike result.0.stopped) (R.meaning result.0.shelf) result.1 }
     ensures still { IsUnmoved result.1 ((result.0.core ≡ group.core) × (result.0.shelf ≡ group.shelf)) }
     ensures since { CalledSince B.first (R.meaning result.0.shelf) }
 {
@@ -62,7 +62,7 @@ fn make_traced<C: Begun, R: Rack>(
     requires prefer { IfSome want.now.prefer (λ p. p < want.now.mirrors) }
     requires told { TellsLess C.first (R.meaning (rack_of laid.shelf)) }
     ensures works { MakesVolume name.now want.now laid.core (shade_meaning (λ s. R.meaning s) laid.shelf) result.0.core (shade_meaning (λ s. R.meaning s) result.0.shelf) result.1 }
-    ensures maps { IsRack (shade_meaning (λ s. R.meaning s) laid.shelf) → IsRack (shade_meaning (λ s. R.meaning s) result.0.shelf) → AddsMaps (parts_of laid.core.inner.config laid.logs.items laid.alike laid.stopped) (shade_meaning (λ s. R.meaning s) laid.shelf) (parts_of result.0.core.inner.config result.0.logs.items result.0.alike result.0.stopped) (shade_meaning (λ s. R.meaning s) result.0.shelf) result.1 }
+    ensures maps { IsRack (shade_meaning (λ s. R.meaning s) laid.shelf) → IsRack (shade_meaning (λ s. R.meaning s) result.0.shelf) → AddsMaps (map_parts laid.core.inner.config laid.logs.items laid.alike laid.stopped) (shade_meaning (λ s. R.meaning s) laid.shelf) (map_parts result.0.core.inner.config result.0.logs.items result.0.alike result.0.stopped) (shade_meaning (λ s. R.meaning s) result.0.shelf) result.1 }
     ensures still { IsUnmoved result.1 ((result.0.core ≡ laid.core) × (result.0.shelf ≡ laid.shelf)) }
     ensures since { CalledSince (shade_meaning (λ s. R.meaning s) laid.shelf) (shade_meaning (λ s. R.meaning s) result.0.shelf) }
     ensures told { TellsLess C.first (R.meaning (rack_of result.0.shelf)) }
@@ -86,7 +86,7 @@ fn make_watched<R: Rack>(
     requires up { IsTrue (shade_meaning (λ s. R.meaning s) laid.shelf).down → ⊥ }
     requires prefer { IfSome want.now.prefer (λ p. p < want.now.mirrors) }
     ensures works { MakesVolume name.now want.now laid.core (shade_meaning (λ s. R.meaning s) laid.shelf) result.0.core (shade_meaning (λ s. R.meaning s) result.0.shelf) result.1 }
-    ensures maps { IsRack (shade_meaning (λ s. R.meaning s) laid.shelf) → IsRack (shade_meaning (λ s. R.meaning s) result.0.shelf) → AddsMaps (parts_of laid.core.inner.config laid.logs.items laid.alike laid.stopped) (shade_meaning (λ s. R.meaning s) laid.shelf) (parts_of result.0.core.inner.config result.0.logs.items result.0.alike result.0.stopped) (shade_meaning (λ s. R.meaning s) result.0.shelf) result.1 }
+    ensures maps { IsRack (shade_meaning (λ s. R.meaning s) laid.shelf) → IsRack (shade_meaning (λ s. R.meaning s) result.0.shelf) → AddsMaps (map_parts laid.core.inner.config laid.logs.items laid.alike laid.stopped) (shade_meaning (λ s. R.meaning s) laid.shelf) (map_parts result.0.core.inner.config result.0.logs.items result.0.alike result.0.stopped) (shade_meaning (λ s. R.meaning s) result.0.shelf) result.1 }
     ensures still { IsUnmoved result.1 ((result.0.core ≡ laid.core) × (result.0.shelf ≡ laid.shelf)) }
     ensures since { CalledSince (shade_meaning (λ s. R.meaning s) laid.shelf) (shade_meaning (λ s. R.meaning s) result.0.shelf) }
     ensures told { TellsLess (R.meaning (rack_of laid.shelf)) (R.meaning (rack_of result.0.shelf)) }

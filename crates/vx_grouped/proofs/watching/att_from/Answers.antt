@@ -3,7 +3,7 @@ use Rattle.std.proofs.Common.{◌∙◌, ap}
 use Rattle.vx_disk.specs.Racks.{IsRack}
 use Rattle.vx_grouped.specs.Watches.{PlexAtts}
 use Rattle.vx_grouped.proofs.CarryLemmas.{carried, shelf_of}
-use Rattle.vx_grouped.specs.PlainMaps.{AttsMaps, parts_of}
+use Rattle.vx_grouped.specs.PlainMaps.{AttsMaps, map_parts}
 use Rattle.vx_grouped.proofs.PlainMapLemmas.{parts_carried, parts_same}
 use Rattle.vx_grouped.proofs.watching.att_from.Goals as goal
 
@@ -18,7 +18,7 @@ returns-clause-works g c =
 pub returns-clause-maps : goal.returns-clause-maps
 returns-clause-maps g c =
     parts_carried (λ x m y n. IsRack m → IsRack n → AttsMaps c.args.vol c.args.plex x m y n c.att_plex-answer.result)
-    (parts_of c.args.group.core.inner.config c.args.group.logs.items c.args.group.alike c.args.group.stopped) (parts_of c.together-group.result.core.inner.config c.together-group.result.logs.items c.together-group.result.alike c.together-group.result.stopped) (parts_of c.together.result.core.inner.config c.together.result.logs.items c.together.result.alike c.together.result.stopped) (parts_of c.att_plex-answer.new.group.core.inner.config c.att_plex-answer.new.group.logs.items c.att_plex-answer.new.group.alike c.att_plex-answer.new.group.stopped) (g.R.Shelf.meaning c.args.group.shelf) (g.R.Shelf.meaning c.together-group.result.shelf.shelf) (g.R.Shelf.meaning c.together.result.shelf) (g.R.Shelf.meaning c.att_plex-answer.new.group.shelf.shelf)
+    (map_parts c.args.group.core.inner.config c.args.group.logs.items c.args.group.alike c.args.group.stopped) (map_parts c.together-group.result.core.inner.config c.together-group.result.logs.items c.together-group.result.alike c.together-group.result.stopped) (map_parts c.together.result.core.inner.config c.together.result.logs.items c.together.result.alike c.together.result.stopped) (map_parts c.att_plex-answer.new.group.core.inner.config c.att_plex-answer.new.group.logs.items c.att_plex-answer.new.group.alike c.att_plex-answer.new.group.stopped) (g.R.Shelf.meaning c.args.group.shelf) (g.R.Shelf.meaning c.together-group.result.shelf.shelf) (g.R.Shelf.meaning c.together.result.shelf) (g.R.Shelf.meaning c.att_plex-answer.new.group.shelf.shelf)
     (parts_same c.args.group.core.inner.config c.together-group.result.core.inner.config c.args.group.logs.items c.together-group.result.logs.items c.args.group.alike c.together-group.result.alike c.args.group.stopped c.together-group.result.stopped
     (ap (λ x. x.inner.config) (c.together-group.ensures.core ∙ c.apart-rack.ensures.core)) (ap (λ x. x.items) (c.together-group.ensures.logs ∙ c.apart-rack.ensures.logs)) (c.together-group.ensures.alike ∙ c.apart-rack.ensures.alike) (c.together-group.ensures.stopped ∙ c.apart-rack.ensures.stopped))
     (ap (λ s. g.R.Shelf.meaning s) (shelf_of _ _ c.together-group.ensures.shelf ∙ c.over-watched.ensures ∙ c.apart-rack.ensures.shelf))

@@ -9,7 +9,7 @@ use Rattle.vx_watched.specs.Since.{CalledSince}
 use Rattle.vx_grouped.specs.Watches.{PlainWrites}
 use Rattle.vx_grouped.proofs.TraceLemmas.{carried_both, carried_in, carried_one, off_means}
 use Rattle.vx_grouped.specs.Ends.{plain_write}
-use Rattle.vx_grouped.specs.PlainMaps.{WritesMaps, parts_of}
+use Rattle.vx_grouped.specs.PlainMaps.{WritesMaps, map_parts}
 use Rattle.vx_grouped.proofs.PlainMapLemmas.{parts_carried, parts_same}
 use Rattle.vx_grouped.proofs.watching.write_traced.Goals as goal
 
@@ -30,7 +30,7 @@ write_from-group-requires-clause-fits g c = λ κs within.
 pub returns-clause-maps : goal.returns-clause-maps
 returns-clause-maps g c =
     parts_carried (λ x m y n. WritesMaps (plain_write c.args.vol c.args.block c.args.bytes.now) x m y n c.write_from-group.result.1)
-    (parts_of c.args.laid.core.inner.config c.args.laid.logs.items c.args.laid.alike c.args.laid.stopped) (parts_of c.trace.result.core.inner.config c.trace.result.logs.items c.trace.result.alike c.trace.result.stopped) (parts_of c.untrace.result.core.inner.config c.untrace.result.logs.items c.untrace.result.alike c.untrace.result.stopped) (parts_of c.write_from-group.result.0.core.inner.config c.write_from-group.result.0.logs.items c.write_from-group.result.0.alike c.write_from-group.result.0.stopped) (shade_meaning g.R.Shelf.meaning c.args.laid.shelf) (shade_meaning (λ t. g.R.Shelf.meaning t.rack) c.trace.result.shelf) (shade_meaning g.R.Shelf.meaning c.untrace.result.shelf) (shade_meaning (λ t. g.R.Shelf.meaning t.rack) c.write_from-group.result.0.shelf)
+    (map_parts c.args.laid.core.inner.config c.args.laid.logs.items c.args.laid.alike c.args.laid.stopped) (map_parts c.trace.result.core.inner.config c.trace.result.logs.items c.trace.result.alike c.trace.result.stopped) (map_parts c.untrace.result.core.inner.config c.untrace.result.logs.items c.untrace.result.alike c.untrace.result.stopped) (map_parts c.write_from-group.result.0.core.inner.config c.write_from-group.result.0.logs.items c.write_from-group.result.0.alike c.write_from-group.result.0.stopped) (shade_meaning g.R.Shelf.meaning c.args.laid.shelf) (shade_meaning (λ t. g.R.Shelf.meaning t.rack) c.trace.result.shelf) (shade_meaning g.R.Shelf.meaning c.untrace.result.shelf) (shade_meaning (λ t. g.R.Shelf.meaning t.rack) c.write_from-group.result.0.shelf)
     (parts_same c.args.laid.core.inner.config c.trace.result.core.inner.config c.args.laid.logs.items c.trace.result.logs.items c.args.laid.alike c.trace.result.alike c.args.laid.stopped c.trace.result.stopped
     (ap (λ x. x.inner.config) (c.trace.ensures.core)) (ap (λ x. x.items) (c.trace.ensures.logs)) (c.trace.ensures.alike) (c.trace.ensures.stopped))
     (off_means c.args.laid.shelf c.trace.result.shelf c.trace.ensures.shelf)
