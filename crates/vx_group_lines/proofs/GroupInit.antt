@@ -15,7 +15,7 @@ use Rattle.vx_copyio.specs.Labelling.{least_blocks}
 use Rattle.vx_disk.specs.Counts.{Rose}
 use Rattle.vx_disk.specs.declared.shelf.Shelf.{Ghosts}
 use Rattle.vx_history.specs.Doubts.{Doubted, happened}
-use Rattle.vx_history.specs.Groups.{GroupNode}
+use Rattle.vx_history.specs.Groups.{GroupNode, MissedNote}
 use Rattle.vx_history.specs.Steps.{group_set}
 use Rattle.vx_history.specs.World.{Node, NoFuse, World}
 use Rattle.vx_history.specs.declared.event.Event.TheVariants.{Group as MakeGroup}
@@ -114,7 +114,7 @@ module _ {R : Type 0} {g : Ghosts R} where
           others = first.others;
           cut = first.cut;
           dark = first.dark;
-          perhaps = first.perhaps;
+          maps = record { none = λ v. ap (λ (w : MissedNote). w.mapped v) first.maps; doubt = λ v. ap (λ (w : MissedNote). w.doubt v) first.maps };
         },
         table_is note c is ∙ ap (λ (vs : List VolumeEntry). map plain_fact vs) empty.volumes,
       )

@@ -32,3 +32,5 @@ pub mod Recovering
 pub mod Founding
 pub mod GroupPlex
 pub mod GroupAttach
+pub mod MapLines
+pub mod MapReturns

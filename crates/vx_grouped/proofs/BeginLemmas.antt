@@ -10,6 +10,7 @@ use Rattle.vx_disk.specs.Causes.{DeviceCause}
 use Rattle.vx_disk.specs.Shelf.{Meaning}
 use Rattle.vx_disk.specs.declared.shelf.Shelf.{Ghosts}
 use Rattle.vx_history.specs.Groups.{GroupNode}
+use Rattle.vx_history.specs.Missing.{maps_none}
 use Rattle.vx_history.specs.World.{Fuse, Node, NoFuse, no_volumes}
 use Rattle.vx_config.specs.Checks.{blocks_of}
 use Rattle.vx_config.specs.Configs.{HasSpelling}
@@ -55,8 +56,7 @@ first_note core = record {
   bytes = no_volumes;
   others = λ v b. [];
   cut = None;
-  missed = λ v p. None;
-  perhaps = λ v p r. false;
+  maps = maps_none core.config.serial;
 }
 
 was_kept : (kept : Bool) → not kept ≡ false → kept ≡ true
@@ -155,7 +155,7 @@ module _ (m m' : Meaning) (n : Node) (can : CanBegin n m) (since : CalledSince m
     }
 
     first : IsFirstNote (first_note core.inner)
-    first = record { begun = refl; size = λ v. refl; others = λ v b. refl; cut = refl; dark = refl; perhaps = λ v p r. refl }
+    first = record { begun = refl; size = λ v. refl; others = λ v b. refl; cut = refl; dark = refl; serial = core.inner.config.serial; maps = refl }
 
     trusted : (P : Type 0) → (HasFailed core.inner.config.disks → P) → ((first_note core.inner).loose ≡ false) ⊎ P
     trusted P failed = elim new.trust [

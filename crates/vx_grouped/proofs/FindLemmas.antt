@@ -9,6 +9,7 @@ use Rattle.vx_disk.specs.Racks.{IsRack}
 use Rattle.vx_disk.specs.Shelf.{Meaning}
 use Rattle.vx_disk.specs.declared.shelf.Shelf.{Ghosts}
 use Rattle.vx_history.specs.Groups.{GroupNode}
+use Rattle.vx_history.specs.Missing.{maps_none}
 use Rattle.vx_history.specs.World.{Fuse, Node, NoFuse, no_volumes}
 use Rattle.vx_config.specs.Checks.{blocks_of}
 use Rattle.vx_config.specs.Configs.{HasSpelling}
@@ -55,8 +56,7 @@ seen_note last = record {
   bytes = record no_volumes { size = λ v. blocks_of last.volumes v };
   others = λ v b. [];
   cut = None;
-  missed = λ v p. None;
-  perhaps = λ v p r. false;
+  maps = maps_none last.serial;
 }
 
 seen_lies : (n : Node) (m : Meaning) (can : CanFind n m) (last : Config) → AwayLies n (seen_note last) last (untold m)
@@ -98,7 +98,8 @@ module _ {R : Type 0} {g : Ghosts R} (site : ℕ) (n : Node) (m : Meaning) (can 
     dark = refl;
     size = λ v. refl;
     cut = refl;
-    perhaps = λ v p r. refl;
+    serial = last.serial;
+    maps = refl;
   }
 
   pub found_up : (S : Type 0) → FindsUp {S = S} site n (Ok (Up group))

@@ -41,3 +41,16 @@ pub mod ReadyLemmas
 pub mod FindLemmas
 pub mod TraceLemmas
 pub mod LitLemmas
+pub mod MapNoteLemmas
+pub mod MapStandLemmas
+pub mod NotedMapLemmas
+pub mod CountedLemmas
+pub mod DiskMapLemmas
+pub mod WrittenMapLemmas
+pub mod SiteMapLemmas
+pub mod MoreMapLemmas
+pub mod BackMapLemmas
+pub mod PlainMapLemmas
+pub mod UpMapLemmas
+pub mod PlexMapLemmas
+pub mod AddMapLemmas

@@ -10,6 +10,7 @@ use Rattle.vx_disk.specs.Counts.{Rose}
 use Rattle.vx_disk.specs.Shelf.{Meaning}
 use Rattle.vx_disk.specs.declared.shelf.Shelf.{Ghosts}
 use Rattle.vx_history.specs.Groups.{GroupNode}
+use Rattle.vx_history.specs.Missing.{maps_none}
 use Rattle.vx_history.specs.Steps.{group_set}
 use Rattle.vx_history.specs.World.{Node, NoFuse}
 use Rattle.vx_config.specs.declared.config.Config.{Config}
@@ -40,7 +41,8 @@ pub record IsFirstNote (note : GroupNode) : Type 0 where
   pub others : (v b : ℕ) → note.others v b ≡ []
   pub cut : note.cut ≡ None
   pub dark : note.dark ≡ false
-  pub perhaps : (v p r : ℕ) → note.perhaps v p r ≡ false
+  pub serial : ℕ
+  pub maps : note.maps ≡ maps_none serial
 
 -- a bare site as a group with this note
 abbrev pub group_begun : GroupNode → ℕ → Node → Node

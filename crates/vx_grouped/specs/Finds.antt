@@ -5,6 +5,7 @@ use Rattle.vx_model.specs.declared.site.SiteState.TheVariants.{Bare}
 use Rattle.vx_disk.specs.Shelf.{Meaning}
 use Rattle.vx_disk.specs.declared.shelf.Shelf.{Ghosts}
 use Rattle.vx_history.specs.Groups.{GroupNode}
+use Rattle.vx_history.specs.Missing.{maps_none}
 use Rattle.vx_history.specs.World.{Node, NoFuse}
 use Rattle.vx_config.specs.Checks.{blocks_of}
 use Rattle.vx_config.specs.declared.config.Config.{Config}
@@ -36,7 +37,8 @@ pub record IsFoundNote (note : GroupNode) (c : Config) : Type 0 where
   pub dark : note.dark ≡ true
   pub size : (v : ℕ) → note.bytes.size v ≡ blocks_of c.volumes v
   pub cut : note.cut ≡ None
-  pub perhaps : (v p r : ℕ) → note.perhaps v p r ≡ false
+  pub serial : ℕ
+  pub maps : note.maps ≡ maps_none serial
 
 -- the disks behind it: those of the group, or those that are handed back
 abbrev pub FoundSince : {S G : Type 0} → Meaning → (S → Meaning) → (G → Meaning) → Result G (S × Stop) → Type 0

@@ -47,7 +47,9 @@ impl<R: Rack> Laid<R> {
     ghost use Rattle.vx_grouped.specs.Away.{IsAwayAt};
     ghost use Rattle.vx_grouped.specs.GroupSites.{FitsPlain};
     ghost use Rattle.vx_grouped.specs.Plain.{HoldsPlain};
-    ghost use Rattle.vx_history.specs.Groups.{GroupNode};
+    ghost use Rattle.vx_grouped.specs.PlainMaps.{PartsNoted, map_parts};
+    ghost use Rattle.vx_grouped.specs.SiteMaps.{DiskMaps};
+    ghost use Rattle.vx_history.specs.Groups.{GroupNode, MissedNote};
     ghost use Rattle.vx_history.specs.World.{Node};
     ghost use Rattle.vx_model.specs.declared.site.SiteState.TheVariants.{Down as DownState};
     ghost use Rattle.vx_untold.specs.Shades.{rack_of};
@@ -57,6 +59,9 @@ impl<R: Rack> Laid<R> {
     pub fn of(group: LoggedGroup<Shade<R>>) -> Laid<R>
         ensures shelf { result.shelf ≡ group.shelf }
         ensures core { result.core ≡ group.core }
+        ensures logs { result.logs ≡ group.logs }
+        ensures alike { result.alike ≡ group.alike }
+        ensures stopped { result.stopped ≡ group.stopped }
     {
         let (shelf, rest) = group.apart();
         let Opened {
@@ -80,6 +85,9 @@ impl<R: Rack> Laid<R> {
     pub fn together(self) -> LoggedGroup<Shade<R>>
         ensures shelf { result.shelf ≡ self.shelf }
         ensures core { result.core ≡ self.core }
+        ensures logs { result.logs ≡ self.logs }
+        ensures alike { result.alike ≡ self.alike }
+        ensures stopped { result.stopped ≡ self.stopped }
     {
         LoggedGroup::together(
             self.shelf,
@@ -177,6 +185,7 @@ impl<R: Rack> Laid<R> {
         ensures stopped { Stopped (shade_meaning (λ s. R.meaning s) self.shelf) (shade_meaning (λ s. R.meaning s) result.rack) }
         ensures agreed { result.agreed ≡ self.core.inner.agreed }
         ensures disks { OnDisks (shade_meaning (λ s. R.meaning s) self.shelf).disks (shade_meaning (λ s. R.meaning s) result.rack).disks (Crashed (shade_meaning (λ s. R.meaning s) self.shelf).size pick) }
+        ensures maps { (w : MissedNote) → PartsNoted w (map_parts self.core.inner.config self.logs.items self.alike self.stopped) → DiskMaps w self.core.inner.config (shade_meaning (λ s. R.meaning s) result.rack) }
         ensures told { TellsLess (R.meaning (rack_of self.shelf)) (R.meaning (rack_of result.rack)) }
     {
         crash_laid::<Brand, R>(self, pick)

@@ -1,5 +1,5 @@
 -- A crash of the disks of a group, as its site notes it.
-use Rattle.std.proofs.Common.{◌≡◌, ◌∙◌, IsTrue, ap, refl, sym, subst}
+use Rattle.std.proofs.Common.{◌≡◌, ◌∙◌, IsTrue, true, ap, refl, sym, subst}
 use Rattle.vx_model.specs.declared.site.SiteState.TheVariants.{Down as IsDown}
 use Rattle.vx_disk.specs.Causes.{OnDisks}
 use Rattle.vx_disk.specs.Disks.{Crashed}
@@ -11,6 +11,9 @@ use Rattle.vx_untold.specs.Shades.{rack_of, shade_meaning}
 use Rattle.vx_grouped.specs.Away.{IsAwayAt}
 use Rattle.vx_grouped.specs.GroupNotes.{GroupLies}
 use Rattle.vx_grouped.proofs.AwayLemmas.{crash_away}
+use Rattle.vx_kept.proofs.Low.{found_same}
+use Rattle.vx_loggroup.proofs.FactLemmas.{from_logged}
+use Rattle.vx_grouped.proofs.MapStandLemmas.{crash_maps}
 use Rattle.vx_grouped.proofs.TraceLemmas.{carried_both, carried_in, carried_off, off}
 use Rattle.vx_grouped.proofs.racking.crash_laid.Goals as goal
 
@@ -39,3 +42,11 @@ pub of-requires-clause-tells : goal.of-requires-clause-tells
 of-requires-clause-tells g c = λ κs within r agreed is.
     let it = c.rested_of.ensures.none r is in
     carried_off (λ m. LogsTell r m) c.untraced.result c.crash_whole.new.rack c.untraced.ensures.shade (c.crash_whole.ensures.tells it.0 r it.1)
+
+pub returns-clause-maps : goal.returns-clause-maps
+returns-clause-maps g c = λ w noted.
+    let fell = returns-clause-stopped g c in
+    crash_maps c.args.laid.core c.args.laid.logs.items c.args.laid.alike c.args.laid.stopped (shade_meaning g.R.Shelf.meaning c.args.laid.shelf)
+    (from_logged c.args.laid.core c.args.laid.logs.items c.args.laid.alike c.args.laid.stopped (shade_meaning g.R.Shelf.meaning c.args.laid.shelf) c.args.laid.stands)
+    w (shade_meaning g.R.Shelf.meaning c.of.result.rack) noted (λ i each u b. fell.leaves u b (i u b) (each u b))
+    (λ i. found_same (shade_meaning g.R.Shelf.meaning c.args.laid.shelf) (shade_meaning g.R.Shelf.meaning c.of.result.rack) fell.units fell.size (λ u. true) i)

@@ -1,0 +1,53 @@
+-- What calls of a group make of the regions that plexes missed, as its site notes them, by the parts of the group before and behind them.
+use Rattle.std.specs.Prelude.{◌≡◌, ℕ, Bool, false, IsTrue, List, Result, Ok, Err}
+use Rattle.vx_config.specs.declared.config.Config.{Config}
+use Rattle.vx_disk.specs.Shelf.{Meaning}
+use Rattle.vx_disk.specs.declared.shelf.Shelf.{Ghosts}
+use Rattle.vx_history.specs.Groups.{MissedNote}
+use Rattle.vx_logs.specs.declared.logs.Logs.{Logs}
+use Rattle.vx_model.specs.Content.{Write}
+use Rattle.vx_model.specs.declared.errors.Stop.{Stop}
+use Rattle.vx_model.specs.declared.no.No.{No}
+use Rattle.vx_volume.specs.Plexes.{active}
+use Rattle.vx_grouped.specs.MapsNoted.{CopiesNoted, MapsNoted}
+use Rattle.vx_grouped.specs.declared.laid.Laid.{Laid}
+use Rattle.vx_grouped.specs.SiteMaps.{AddMaps, DetMapsDone, DetMapsFailed, DoubtMaps, MapsLike, WriteMaps}
+
+-- what a group has beside its disks: its configuration, the logs of its volumes, which of them are alike, and whether logs are stopped
+pub record MapParts : Type 0 where
+  pub config : Config
+  pub logs : List Logs
+  pub flags : List Bool
+  pub stopped : Bool
+
+abbrev pub map_parts : Config → List Logs → List Bool → Bool → MapParts
+map_parts config logs flags stopped = record { config = config; logs = logs; flags = flags; stopped = stopped }
+
+abbrev pub laid_parts : {R : Type 0} {g : Ghosts R} → Laid R g → MapParts
+laid_parts group = map_parts group.core.inner.config group.logs.items group.alike group.stopped
+
+abbrev pub PartsNoted : MissedNote → MapParts → Type 0
+PartsNoted w x = MapsNoted w x.config x.logs x.flags x.stopped
+
+-- Whatever was noted of the maps, the note goes on so by a call behind which the disks are not down.
+pub record PartsMoved (By : Config → Config → MissedNote → MissedNote → Type 0) (x y : MapParts) (new : Meaning) : Type 0 where
+  pub so : (w : MissedNote) → (IsTrue new.down → ⊥) → PartsNoted w x → (next : MissedNote) × By x.config y.config w next × PartsNoted next y
+
+-- ---- calls, by their answers
+
+abbrev pub WritesMaps : Write → MapParts → Meaning → MapParts → Meaning → Result (Unit {0}) No → Type 0
+WritesMaps own x m y m' (Ok done) = PartsMoved (WriteMaps own m m') x y m'
+WritesMaps own x m y m' (Err why) = PartsMoved (DoubtMaps own m m') x y m'
+
+abbrev pub DetsMaps : (vol plex : ℕ) → MapParts → Meaning → MapParts → Meaning → Result (Unit {0}) Stop → Type 0
+DetsMaps vol plex x m y m' (Ok done) = PartsMoved (DetMapsDone vol plex m m') x y m'
+DetsMaps vol plex x m y m' (Err stop) = PartsMoved (DetMapsFailed vol m m') x y m'
+
+-- an attach: so many regions are copied
+abbrev pub AttsMaps : (vol plex : ℕ) → MapParts → Meaning → MapParts → Meaning → Result ℕ Stop → Type 0
+AttsMaps vol plex x m y m' (Ok count) = PartsMoved (MapsLike m m') x y m' × ((w : MissedNote) → PartsNoted w x → active x.config vol plex ≡ false → CopiesNoted w x.config vol plex count)
+AttsMaps vol plex x m y m' (Err stop) = PartsMoved (MapsLike m m') x y m'
+
+abbrev pub AddsMaps : MapParts → Meaning → MapParts → Meaning → Result ℕ Stop → Type 0
+AddsMaps x m y m' (Ok vol) = PartsMoved (AddMaps m m') x y m'
+AddsMaps x m y m' (Err stop) = PartsMoved (MapsLike m m') x y m'
