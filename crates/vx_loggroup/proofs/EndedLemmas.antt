@@ -160,3 +160,28 @@ module _ (c d : GroupCore) (l k : List Logs) (s t : Bool) (m m' : Meaning) (keep
 
   pub maps_end : MapsEnd c.inner.config d.inner.config s t l k m m'
   maps_end = record { so = λ v on off. by_trust v on off (log_trusted c.inner.config v Fmr) refl }
+
+-- ---- behind one that leaves all logs as they are
+
+module _ (c d : Config) (l : List Logs) (s : Bool) (m m' : Meaning) (disks : (u : ℕ) → failed_at c.disks u ≡ false → failed_at d.disks u ≡ true → Rose (m.faults u) (m'.faults u))
+    (places : (v : ℕ) (r : Subdisk) → log_place c v Fmr ≡ Some r → log_place d v Fmr ≡ Some r) where
+  lies_off : (v : ℕ) → goes_by l c s v ≡ true → goes_by l d s v ≡ false → on_failed_disk d v ≡ true
+  lies_off v on off = by s (on_failed_disk c v) (on_failed_disk d v) (is_some (fmr_at l v)) on off
+    where
+      by : (s x y z : Bool) → (not s && (not x && z)) ≡ true → (not s && (not y && z)) ≡ false → y ≡ true
+      by true x y z on off = let clash : false ≡ true = on in cc
+      by false true y z on off = let clash : false ≡ true = on in cc
+      by false false true z on off = refl
+      by false false false z on off = let clash : true ≡ false = sym on ∙ off in cc
+
+  pub same_end : MapsEnd c d s s l l m m'
+  same_end = record { so = λ v on off. by_log v on (lies_off v on off) (log_trusted c v Fmr) refl }
+    where
+      by_log : (v : ℕ) → goes_by l c s v ≡ true → on_failed_disk d v ≡ true → (x : Bool) → log_trusted c v Fmr ≡ x
+          → ((e : LogEntry) × (log_of c v Fmr ≡ Some e) × Rose (m.faults e.disk) (m'.faults e.disk)) ⊎ (log_trusted c v Fmr ≡ false) ⊎ IsTrue m'.down
+          ⊎ (greatest ≤ c.serial + 54) ⊎ (greatest ≤ d.serial + 9)
+      by_log v on failed false is = inr (inl is)
+      by_log v on failed true is =
+          let e : KeptLog c v = kept_log c v is in
+          let good : failed_at c.disks e.entry.disk ≡ false = good_entry c.disks e.entry.disk e.entry e.kept (sym (ap (failed_under c.disks) e.is) ∙ second_b s (on_failed_disk c v) (is_some (fmr_at l v)) on) in
+          inl (e.entry, e.is, disks e.entry.disk good (same_disk c d v e.entry e.is (places v) failed))

@@ -144,3 +144,16 @@ RestsOr logs alike (Some r) = RestsMaps logs alike r
 abbrev pub DeportMaps : {S G : Type 0} → (S → Meaning) → List Logs → List Bool → Bool → Result (S × Option Rested) (G × Stop) → Type 0
 DeportMaps meaning logs alike stopped (Ok x) = (stopped ≡ false → MapsStand logs (meaning x.0)) × RestsOr logs alike x.1
 DeportMaps meaning logs alike stopped (Err e) = Unit {0}
+
+-- A group that a refused deport gives back has the logs that it had, and its maps are gone by no more for the same reasons as behind any call.
+pub record MapsBackIn (c d : Config) (s t : Bool) (l k : List Logs) (a b : List Bool) (old new : Meaning) : Type 0 where
+  pub logs : k ≡ l
+  pub alike : b ≡ a
+  pub stopped : t ≡ s
+  pub comes : MapsBeginIn no_volume c d s t l k
+  pub ends : MapsEnd c d s t l k old new
+
+-- where a deport is refused
+abbrev pub DeportKeeps : {S G : Type 0} → Config → Bool → List Logs → List Bool → Meaning → (G → Config) → (G → Bool) → (G → List Logs) → (G → List Bool) → (G → Meaning) → Result (S × Option Rested) (G × Stop) → Type 0
+DeportKeeps c s l a old config stopped logs alike meaning (Ok x) = Unit {0}
+DeportKeeps c s l a old config stopped logs alike meaning (Err (g, stop)) = MapsBackIn c (config g) s (stopped g) l (logs g) a (alike g) old (meaning g)

@@ -6,6 +6,7 @@ ghost use Rattle.vx_disk.specs.Shelf.{Goes, Nothing};
 ghost use Rattle.vx_group.specs.Calls.{GroupCloses};
 ghost use Rattle.vx_group.specs.Dets.{DetStops, margin};
 ghost use Rattle.vx_group.specs.Holding.{wide};
+ghost use Rattle.vx_group.specs.Loses.{TrustsStill};
 ghost use Rattle.vx_group.specs.Stands.{inner_meaning};
 ghost use Rattle.vx_loggroup.specs.LoggedVolumes.{LoggedStands};
 ghost use Rattle.vx_loggroup.specs.Moving.{MapsStand, RestsOr};
@@ -62,6 +63,7 @@ fn deport_rested<S: Shelf>(
     ensures tells { IfOk result (λ r. RestTells r (S.meaning shelf.new)) }
     ensures maps { OnOk result (MapsStand logs.now.items (S.meaning shelf.new)) }
     ensures rests { IfOk result (λ r. RestsOr logs.now.items alike.now r) }
+    ensures trusts { IfErr result (λ e. TrustsStill core.old.inner.config core.new.inner.config) }
     ensures finds { IfErr result (λ e. GroupFinds core.old core.new (S.meaning shelf.old) (S.meaning shelf.new)) }
     ensures cause { DetStops (S.meaning shelf.old) (S.meaning shelf.new) result }
 {
@@ -104,6 +106,7 @@ pub fn deport_whole<S: Shelf>(
     ensures tells { IfOk result (λ r. RestTells r (S.meaning shelf.new)) }
     ensures maps { stopped ≡ false → OnOk result (MapsStand logs.now.items (S.meaning shelf.new)) }
     ensures rests { IfOk result (λ r. RestsOr logs.now.items alike.now r) }
+    ensures trusts { IfErr result (λ e. TrustsStill core.old.inner.config core.new.inner.config) }
     ensures finds { IfErr result (λ e. GroupFinds core.old core.new (S.meaning shelf.old) (S.meaning shelf.new)) }
     ensures cause { core.old.inner.config.serial ≤ greatest - margin → DetStops (S.meaning shelf.old) (S.meaning shelf.new) result }
 {

@@ -27,7 +27,7 @@ ghost use Rattle.vx_loggroup.specs.LoggedVolumes.{LoggedStands, is_alike};
 ghost use Rattle.vx_loggroup.specs.Fresh.{FreshStands, LogsFirst};
 ghost use Rattle.vx_loggroup.specs.Marks.{region_count};
 ghost use Rattle.vx_loggroup.specs.Mirrors.{MirrorsKeep, names_none, names_plex};
-ghost use Rattle.vx_loggroup.specs.Moving.{DeportMaps, MapsBeginIn, MapsEnd, MapsMove, MovesDet, in_none, no_volume, only_volume};
+ghost use Rattle.vx_loggroup.specs.Moving.{DeportKeeps, DeportMaps, MapsBeginIn, MapsEnd, MapsMove, MovesDet, in_none, no_volume, only_volume};
 ghost use Rattle.vx_loggroup.specs.Opens.{DeportTells, LoggedImported};
 ghost use Rattle.vx_logimport.specs.Rests.{LogsTell};
 ghost use Rattle.vx_logs.specs.declared.logs.Logs.{Logs as LogsValue};
@@ -267,6 +267,7 @@ impl<S: Shelf> LoggedGroup<S> {
         ensures can { GroupCanImport self.core.inner (λ s. S.meaning s.0) result }
         ensures tells { DeportTells (λ s. S.meaning s) result }
         ensures maps { DeportMaps (λ s. S.meaning s) self.logs.items self.alike self.stopped result }
+        ensures kept { DeportKeeps self.core.inner.config self.stopped self.logs.items self.alike (S.meaning self.shelf) (λ g. g.core.inner.config) (λ g. g.stopped) (λ g. g.logs.items) (λ g. g.alike) (λ g. S.meaning g.shelf) result }
         ensures finds { BackFinds self.core (S.meaning self.shelf) (λ g. g.core) (λ g. S.meaning g.shelf) result }
         ensures cause { self.core.inner.config.serial ≤ greatest - margin → DeportStops (S.meaning self.shelf) (λ s. S.meaning s.0) (λ g. (g.shelf, None)) result }
     {

@@ -96,3 +96,15 @@ returns-then-not-kept-clause-rests g c = tt
 
 pub returns-clause-rests : goal.returns-clause-rests
 returns-clause-rests g c = record { maps = c.rest_all-maps.ensures.has; same = λ v is. is }
+
+pub returns-in-Err-clause-trusts : goal.returns-in-Err-clause-trusts
+returns-in-Err-clause-trusts g c = record { each = λ v log told. told }
+
+pub returns-in-Err-deport_in-clause-trusts : goal.returns-in-Err-deport_in-clause-trusts
+returns-in-Err-deport_in-clause-trusts g c = record { each = λ v log told. c.in-Err-deport_in.ensures.logs.each v log told }
+
+pub returns-then-not-kept-clause-trusts : goal.returns-then-not-kept-clause-trusts
+returns-then-not-kept-clause-trusts g c = tt
+
+pub returns-clause-trusts : goal.returns-clause-trusts
+returns-clause-trusts g c = tt

@@ -61,3 +61,12 @@ returns-in-Err-clause-maps g c = λ going. tt
 
 pub returns-in-Err-clause-rests : goal.returns-in-Err-clause-rests
 returns-in-Err-clause-rests g c = tt
+
+pub returns-then-may_rest-clause-trusts : goal.returns-then-may_rest-clause-trusts
+returns-then-may_rest-clause-trusts g c = c.deport_rested.ensures.trusts
+
+pub returns-in-Ok-clause-trusts : goal.returns-in-Ok-clause-trusts
+returns-in-Ok-clause-trusts g c = tt
+
+pub returns-in-Err-clause-trusts : goal.returns-in-Err-clause-trusts
+returns-in-Err-clause-trusts g c = c.in-Err.ensures.logs

@@ -1,8 +1,14 @@
 -- `deport`: clauses can and tells; what `deport_whole` asks, and what stands then.
+use Rattle.std.proofs.Common.{refl}
+use Rattle.vx_config.specs.declared.entry.VolumeLog.TheVariants.{Fmr}
 use Rattle.vx_group.specs.Holding.{wide}
 use Rattle.vx_group.proofs.CrashLemmas.{group_can}
+use Rattle.vx_loggroup.specs.Moving.{no_volume}
+use Rattle.vx_loggroup.proofs.ComesLemmas.{maps_come, new_none}
+use Rattle.vx_loggroup.proofs.EndedLemmas.{same_end}
 use Rattle.vx_loggroup.proofs.FactLemmas.{from_logged, to_logged}
 use Rattle.vx_loggroup.proofs.FreshLemmas.{fresh_still}
+use Rattle.vx_loggroup.proofs.KeepingLemmas.{frames_places}
 use Rattle.vx_loggroup.proofs.group.LoggedGroup.deport.Goals as goal
 
 pub deport_whole-requires : goal.deport_whole-requires
@@ -22,3 +28,19 @@ returns-in-Ok-clause-maps g c = (c.in-Ok.ensures.maps, c.in-Ok.ensures.rests)
 
 pub returns-in-Err-clause-maps : goal.returns-in-Err-clause-maps
 returns-in-Err-clause-maps g c = tt
+
+pub returns-in-Ok-clause-kept : goal.returns-in-Ok-clause-kept
+returns-in-Ok-clause-kept g c = tt
+
+pub returns-in-Err-clause-kept : goal.returns-in-Err-clause-kept
+returns-in-Err-clause-kept g c = record {
+  logs = refl;
+  alike = refl;
+  stopped = refl;
+  comes =
+      maps_come c.args.self.core.inner.config c.deport_whole.new.core.inner.config c.args.self.logs.items (λ v r at. frames_places c.args.self.core.inner.config c.deport_whole.new.core.inner.config c.in-Err.ensures.ends.quiesces.loses.frames v Fmr r at) c.in-Err.ensures.ends.quiesces.loses.disks.stays
+      (λ v some told. c.in-Err.ensures.trusts.each v Fmr told) no_volume c.args.self.logs.items c.args.self.stopped c.args.self.stopped (λ on. on) (new_none c.args.self.logs.items c.args.self.logs.items (λ w none. none));
+  ends =
+      same_end c.args.self.core.inner.config c.deport_whole.new.core.inner.config c.args.self.logs.items c.args.self.stopped (g.S.Shelf.meaning c.args.self.shelf) (g.S.Shelf.meaning c.deport_whole.new.shelf) c.in-Err.ensures.ends.quiesces.loses.disks.blamed
+      (λ v r at. frames_places c.args.self.core.inner.config c.deport_whole.new.core.inner.config c.in-Err.ensures.ends.quiesces.loses.frames v Fmr r at);
+}
