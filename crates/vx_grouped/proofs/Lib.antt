@@ -54,3 +54,4 @@ pub mod PlainMapLemmas
 pub mod UpMapLemmas
 pub mod PlexMapLemmas
 pub mod AddMapLemmas
+pub mod LeaveMapLemmas

@@ -18,13 +18,13 @@ use Rattle.vx_grouped.specs.MapsNoted.{MapsNoted}
 -- ---- one region of one plex
 
 -- what was in its map, what is missed, and what may be
-abbrev left_b : (was mapped missed : Bool) → Bool
+abbrev pub left_b : (was mapped missed : Bool) → Bool
 left_b was mapped missed = if mapped then missed else not was
 
-abbrev missed_b : (was now mapped missed these : Bool) → Bool
+abbrev pub missed_b : (was now mapped missed these : Bool) → Bool
 missed_b was now mapped missed these = if was && not now then these else (left_b was mapped missed || (not now && these))
 
-abbrev perhaps_b : (was now anew mapped missed perhaps : Bool) → Bool
+abbrev pub perhaps_b : (was now anew mapped missed perhaps : Bool) → Bool
 perhaps_b was now anew mapped missed perhaps = not ((was && not now) && anew) && ((mapped && perhaps) || ((was && not now) && left_b was mapped missed))
 
 -- one of the call
@@ -37,7 +37,7 @@ run_b was true mapped missed these off here = let clash : true ≡ false = off i
 run_b was false mapped missed false off here = let clash : false ≡ true = here in cc
 
 -- one that was in the map, where it is left
-noted_b : (was now anew mapped missed perhaps these : Bool) → (was ≡ true → now ≡ false → anew ≡ false) → mapped ≡ true → (missed ≡ true) ⊎ (perhaps ≡ true)
+pub noted_b : (was now anew mapped missed perhaps these : Bool) → (was ≡ true → now ≡ false → anew ≡ false) → mapped ≡ true → (missed ≡ true) ⊎ (perhaps ≡ true)
     → (missed_b was now mapped missed these ≡ true) ⊎ (perhaps_b was now anew mapped missed perhaps ≡ true)
 noted_b was now anew false missed perhaps these keeps on has = let clash : false ≡ true = on in cc
 noted_b true false true true missed perhaps these keeps on has = let clash : true ≡ false = keeps refl refl in cc
@@ -66,7 +66,7 @@ pub record HadMissed (was mapped missed : Bool) : Type 0 where
   pub off : was ≡ false
   pub noted : mapped ≡ true → missed ≡ true
 
-had_b : (was mapped missed these : Bool) → missed_b was false mapped missed these ≡ true → (these ≡ true) ⊎ HadMissed was mapped missed
+pub had_b : (was mapped missed these : Bool) → missed_b was false mapped missed these ≡ true → (these ≡ true) ⊎ HadMissed was mapped missed
 had_b true mapped missed these has = inl has
 had_b false true true these has = inr (record { off = refl; noted = λ _. refl })
 had_b false true false these has = inl has

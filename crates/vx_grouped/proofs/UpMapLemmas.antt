@@ -1,6 +1,6 @@
 -- What calls of a group that is up make of what its site notes of its maps.
 use Rattle.std.proofs.Common.{◌≡◌, ℕ, sym, subst, false, IsTrue}
-use Rattle.std.specs.Prelude.{None, Some, Err}
+use Rattle.std.specs.Prelude.{None, Some, Err, Ok}
 use Rattle.vx_config.specs.declared.config.Config.{Config}
 use Rattle.vx_disk.specs.Shelf.{Meaning}
 use Rattle.vx_disk.specs.declared.shelf.Shelf.{Ghosts}
@@ -14,10 +14,10 @@ use Rattle.vx_volume.specs.Plexes.{active}
 use Rattle.vx_grouped.specs.Ends.{WriteLeaves}
 use Rattle.vx_grouped.specs.GroupSites.{idle_disks, laid_disks, site_config}
 use Rattle.vx_grouped.specs.MapsNoted.{CopiesNoted, MapsNoted}
-use Rattle.vx_grouped.specs.PlainMaps.{MapParts, PartsMoved, PartsNoted, laid_parts}
+use Rattle.vx_grouped.specs.PlainMaps.{MapParts, PartsLeft, PartsMoved, PartsNoted, laid_parts}
 use Rattle.vx_grouped.specs.SiteEnds.{answers_down}
-use Rattle.vx_grouped.specs.SiteMaps.{CrashMapped, DiskMaps, MapsMoved, MapsOf, ReadMapped, UpMaps}
-use Rattle.vx_grouped.specs.declared.group_site.GroupSite.TheVariants.{Down, Up}
+use Rattle.vx_grouped.specs.SiteMaps.{CrashMapped, DeportMapped, DiskMaps, MapsLike, MapsMoved, MapsOf, ReadMapped, UpMaps}
+use Rattle.vx_grouped.specs.declared.group_site.GroupSite.TheVariants.{Deported, Down, Up}
 use Rattle.vx_grouped.specs.declared.idle.Idle.{Idle}
 use Rattle.vx_grouped.specs.declared.laid.Laid.{Laid}
 
@@ -58,3 +58,8 @@ module _ {R : Type 0} {g : Ghosts R} where
   read_maps old new same = λ c d w was now noted.
       subst (λ (y : Config). MapsNoted w y new.logs.items new.alike new.stopped) (one_config new.core.inner.config d now)
       (subst (λ (x : MapParts). PartsNoted w x) (sym same) (subst (λ (x : Config). MapsNoted w x old.logs.items old.alike old.stopped) (sym (one_config old.core.inner.config c was)) noted))
+
+  -- it was deported: its disks have what was in memory
+  pub left_maps : (old : Laid R g) (idle : Idle R g) → PartsLeft (laid_parts old) idle.rested (laid_disks old) (idle_disks idle) → DeportMapped (Up old) (Deported idle) (Ok tt)
+  left_maps old idle left = λ c d was all.
+      subst (λ (x : Config). MapsMoved (MapsLike (laid_disks old) (idle_disks idle) x d) x d (Up old) (Deported idle)) (one_config old.core.inner.config c was) (record { so = λ w noted. left.so w d noted all })

@@ -1,17 +1,20 @@
 -- What calls of a group make of the regions that plexes missed, as its site notes them, by the parts of the group before and behind them.
-use Rattle.std.specs.Prelude.{◌≡◌, ℕ, Bool, false, IsTrue, List, Result, Ok, Err}
+use Rattle.std.specs.Prelude.{◌≡◌, ℕ, Bool, false, IsTrue, List, Option, Result, Ok, Err}
 use Rattle.vx_config.specs.declared.config.Config.{Config}
+use Rattle.vx_disk.specs.Racks.{IsRack}
 use Rattle.vx_disk.specs.Shelf.{Meaning}
 use Rattle.vx_disk.specs.declared.shelf.Shelf.{Ghosts}
 use Rattle.vx_history.specs.Groups.{MissedNote}
+use Rattle.vx_logimport.specs.declared.rested.Rested.{Rested}
 use Rattle.vx_logs.specs.declared.logs.Logs.{Logs}
 use Rattle.vx_model.specs.Content.{Write}
 use Rattle.vx_model.specs.declared.errors.Stop.{Stop}
 use Rattle.vx_model.specs.declared.no.No.{No}
 use Rattle.vx_volume.specs.Plexes.{active}
+use Rattle.vx_grouped.specs.Away.{AllHave}
 use Rattle.vx_grouped.specs.MapsNoted.{CopiesNoted, MapsNoted}
 use Rattle.vx_grouped.specs.declared.laid.Laid.{Laid}
-use Rattle.vx_grouped.specs.SiteMaps.{AddMaps, DetMapsDone, DetMapsFailed, DoubtMaps, MapsLike, WriteMaps}
+use Rattle.vx_grouped.specs.SiteMaps.{AddMaps, DetMapsDone, DetMapsFailed, DoubtMaps, IdleMaps, MapsLike, WriteMaps}
 
 -- what a group has beside its disks: its configuration, the logs of its volumes, which of them are alike, and whether logs are stopped
 pub record MapParts : Type 0 where
@@ -51,3 +54,12 @@ AttsMaps vol plex x m y m' (Err stop) = PartsMoved (MapsLike m m') x y m'
 abbrev pub AddsMaps : MapParts → Meaning → MapParts → Meaning → Result ℕ Stop → Type 0
 AddsMaps x m y m' (Ok vol) = PartsMoved (AddMaps m m') x y m'
 AddsMaps x m y m' (Err stop) = PartsMoved (MapsLike m m') x y m'
+
+-- A deport: whatever was noted of the maps, the disks have it, by the configuration that each image has.
+pub record PartsLeft (x : MapParts) (rested : Option Rested) (old new : Meaning) : Type 0 where
+  pub so : (w : MissedNote) (d : Config) → PartsNoted w x → AllHave d new → (next : MissedNote) × MapsLike old new x.config d w next × IdleMaps next d rested new
+
+-- or it is refused, and the group is given back
+abbrev pub LeavesMaps : {S G : Type 0} → MapParts → Meaning → (S → Meaning) → (G → MapParts) → (G → Meaning) → Result (S × Option Rested) (G × Stop) → Type 0
+LeavesMaps x m meaning parts back (Ok s) = PartsLeft x s.1 m (meaning s.0)
+LeavesMaps x m meaning parts back (Err (g, stop)) = IsRack m → IsRack (back g) → PartsMoved (MapsLike m (back g)) x (parts g) (back g)
