@@ -1,15 +1,20 @@
 -- The maps of missed regions that an import took up are those of the disks as they were.
-use Rattle.std.proofs.Common.{◌≡◌, ◌∙◌, inl, inr, ℕ, ◌+◌, ◌*◌, ◌/◌, ◌%◌, ◌<◌, Bool, true, false, IsTrue, Option, Some, None, List, length, refl, sym, ap, subst, arith}
-use Rattle.std.specs.Prelude.{slice_get}
+use Rattle.std.proofs.Common.{◌≡◌, ◌∙◌, inl, inr, ℕ, zero, suc, ◌+◌, ◌*◌, ◌/◌, ◌%◌, ◌<◌, Bool, true, false, IsTrue, Option, Some, None, List, [], ◌∷◌, length, refl, sym, ap, subst, arith}
+use Rattle.std.specs.Prelude.{not, slice_get}
 use Rattle.std.proofs.lemmas.Option.{slice_get_within}
 use Rattle.vx_bitmap.specs.Bits.{is_marked}
 use Rattle.vx_bitmap.specs.Maps.{map_block_count}
 use Rattle.vx_bitmap.proofs.Blocks.{by_block}
 use Rattle.vx_config.specs.Checks.{blocks_of, is_sound, plexes_of}
 use Rattle.vx_config.specs.declared.config.Config.{Config}
+use Rattle.vx_config.specs.declared.entry.DiskEntry.{DiskEntry}
 use Rattle.vx_config.specs.declared.entry.LogEntry.{LogEntry}
 use Rattle.vx_config.specs.declared.entry.VolumeLog.TheVariants.{Fmr}
+use Rattle.vx_copies.specs.Answers.{good_set}
+use Rattle.vx_copies.specs.Marks.{failed_at}
+use Rattle.vx_copies.proofs.Goods.{good_bit}
 use Rattle.vx_copyfmt.specs.Imports.{Found}
+use Rattle.vx_disk.specs.Blocks.{bit_at}
 use Rattle.vx_disk.specs.Shelf.{Each, Image, Lawful, Meaning}
 use Rattle.vx_fmr.specs.Missed.{Missed, has_missed, missed_place}
 use Rattle.vx_group.specs.Resumes.{CanImport, stopped}
@@ -18,7 +23,7 @@ use Rattle.vx_groupmaps.specs.Knowing.{NotesMore}
 use Rattle.vx_groupmaps.proofs.MapPlaces.{bit_low, last_low}
 use Rattle.vx_grouplogs.proofs.MapLemmas.{map_low}
 use Rattle.vx_kept.specs.Groups.{found}
-use Rattle.vx_logimport.specs.Marked.{ResumedBy}
+use Rattle.vx_logimport.specs.Marked.{ResumedBy, log_within, within_or}
 use Rattle.vx_logimport.specs.Rests.{LogsTell, MapsRest}
 use Rattle.vx_logimport.specs.declared.importing.Marked.{Marked}
 use Rattle.vx_logimport.specs.declared.rested.Rested.{Rested}
@@ -32,6 +37,19 @@ use Rattle.vx_loggroup.specs.Moving.{IsThere, MapTaken, MapsTaken}
 use Rattle.vx_loggroup.specs.Taking.{MapWas, MapsShrink, MapsWere, MapsWhy}
 use Rattle.vx_loggroup.proofs.NewLemmas.{HasMaps, has_maps}
 use Rattle.vx_loggroup.proofs.SetLemmas.{item_at}
+
+-- a disk of the set of those that are held as good
+failed_low : (ds : List DiskEntry) (u : ℕ) → failed_at ds u ≡ true → u < length ds
+failed_low [] u is = absurd (let clash : false ≡ true = is in cc)
+failed_low (d ∷ ds) zero is = omega arith
+failed_low (d ∷ ds) (suc u) is = let low = failed_low ds u is in omega (arith, low)
+
+good_held : (ds : List DiskEntry) (u : ℕ) → bit_at (good_set ds) u ≡ true → failed_at ds u ≡ false
+good_held ds u on = by (failed_at ds u) refl
+  where
+    by : (x : Bool) → failed_at ds u ≡ x → failed_at ds u ≡ false
+    by false is = is
+    by true is = absurd (let clash : true ≡ false = sym on ∙ good_bit ds u (failed_low ds u is) ∙ ap not is in cc)
 
 -- a map that is as it was
 same_map : (f g : Missed) (p r : ℕ) → NotesMore (λ q. false) 0 0 f g → p < f.plexes → r < f.stride → has_missed g p r ≡ has_missed f p r
@@ -89,8 +107,19 @@ module _ (old m1 : Meaning) (k : Marked) (law0 : Lawful old) (can : CanImport ol
         by_block f.map.bytes n ∙ ap (λ (x : List ℕ). is_marked x (n % 4096)) (sym (block_is (n / 4096) (bit_low d sound v was.some f was.fits p r plex region)))
         ∙ ap (λ (s : ℕ). logged_in entry.entry i (p * s + r)) was.fits.stride
 
-    pub map_taken : (x : Config) → it.config ≡ x → MapTaken x d v f i
-    map_taken x same = record { entry = entry.entry; used = subst (λ (y : Config). InUse y v Fmr entry.entry) same entry.used; same = bit_is }
+    -- the disk of the log was held as good
+    is_good : log_within k.good d v Fmr ≡ true → failed_at it.config.disks entry.entry.disk ≡ false
+    is_good within =
+        good_held it.config.disks entry.entry.disk
+        (ap (λ (u : ℕ). bit_at (good_set it.config.disks) u) entry.disk ∙ ap (λ (g : ℕ). bit_at g e.disk) (sym it.good) ∙ sym (ap (within_or k.good) was.fits.log.is) ∙ within)
+
+    pub map_taken : log_within k.good d v Fmr ≡ true → (x : Config) → it.config ≡ x → MapTaken x d v f i
+    map_taken within x same = record {
+      entry = entry.entry;
+      used = subst (λ (y : Config). InUse y v Fmr entry.entry) same entry.used;
+      good = subst (λ (y : Config). failed_at y.disks entry.entry.disk ≡ false) same (is_good within);
+      same = bit_is;
+    }
 
   module _ (r : Rested) (tells : LogsTell r old) (ls js : List Logs) (why : MapsWhy k.good d k.stopped r ls) (were : MapsWere d ls m1) (shrink : MapsShrink ls js) (to : Config) (count : (v : ℕ) → plexes_of to v ≡ plexes_of d v) (blocks : (v : ℕ) → blocks_of to.volumes v ≡ blocks_of d.volumes v)
       (many : (v : ℕ) (l : Logs) → slice_get ls v ≡ Some l → v < length d.volumes) where
@@ -103,6 +132,9 @@ module _ (old m1 : Meaning) (k : Marked) (law0 : Lawful old) (can : CanImport ol
     rest_of : (v : ℕ) (l : Logs) (f : Missed) → slice_get ls v ≡ Some l → l.fmr ≡ Some f → MapsRest v old
     rest_of v l f at has = tells.maps v (why.each v l at (λ none. let clash : None ≡ Some f = sym none ∙ has in cc)).maps
 
+    within_of : (v : ℕ) (l : Logs) (f : Missed) → slice_get ls v ≡ Some l → l.fmr ≡ Some f → log_within k.good d v Fmr ≡ true
+    within_of v l f at has = (why.each v l at (λ none. let clash : None ≡ Some f = sym none ∙ has in cc)).within
+
     config_is : (v : ℕ) → stopped it.config v ≡ false → (i : Image) (x : Config) → Each old.leaves i → found old i ≡ Found x → it.config ≡ x
     config_is v clean i x each is = let both : Found it.config ≡ Found x = sym (image_config old m1 k law0 can it v clean i each) ∙ is in cc
 
@@ -111,10 +143,11 @@ module _ (old m1 : Meaning) (k : Marked) (law0 : Lawful old) (can : CanImport ol
     took_one v g i x each is j now has l at (Some f) had =
         let was = were.each v l f at had in
         let clean = clean_of v l f at had in
-        let taken = map_taken v f was clean (rest_of v l f at had) i each x (config_is v clean i x each is) in
+        let taken = map_taken v f was clean (rest_of v l f at had) i each (within_of v l f at had) x (config_is v clean i x each is) in
         record {
           entry = taken.entry;
           used = taken.used;
+          good = taken.good;
           same = λ p n there.
               let old_there = there_was v p n there in
               let plex : p < f.plexes = (let low = old_there.plex in let many = was.fits.plexes in omega (arith, low, many)) in

@@ -7,6 +7,7 @@ use Rattle.vx_config.specs.Table.{greatest}
 use Rattle.vx_config.specs.declared.config.Config.{Config}
 use Rattle.vx_config.specs.declared.entry.LogEntry.{LogEntry}
 use Rattle.vx_config.specs.declared.entry.VolumeLog.TheVariants.{Fmr}
+use Rattle.vx_copies.specs.Marks.{failed_at}
 use Rattle.vx_disk.specs.Counts.{Rose}
 use Rattle.vx_disk.specs.Shelf.{Each, Image, Meaning}
 use Rattle.vx_fmr.specs.Missed.{Missed, has_missed}
@@ -117,10 +118,11 @@ pub record MapsEnd (c d : Config) (s t : Bool) (l k : List Logs) (old new : Mean
       → ((e : LogEntry) × (log_of c v Fmr ≡ Some e) × Rose (old.faults e.disk) (new.faults e.disk)) ⊎ (log_trusted c v Fmr ≡ false) ⊎ IsTrue new.down
       ⊎ (greatest ≤ c.serial + 54) ⊎ (greatest ≤ d.serial + 9)
 
--- The map that an import took up is that of an image: its log is in use there by the configuration x.
+-- The map that an import took up is that of an image: its log is in use there by the configuration x, on a disk that this holds as good.
 pub record MapTaken (x d : Config) (v : ℕ) (f : Missed) (i : Image) : Type 0 where
   pub entry : LogEntry
   pub used : InUse x v Fmr entry
+  pub good : failed_at x.disks entry.disk ≡ false
   pub same : (p r : ℕ) → IsThere d v p r → has_missed f p r ≡ logged_in entry i (p * stride_of d v + r)
 
 -- so it is of each volume, and of whatever image was on the disks
@@ -131,19 +133,22 @@ pub record MapsTaken (old : Meaning) (d : Config) (logs : List Logs) : Type 0 wh
 pub record MapsStand (logs : List Logs) (m : Meaning) : Type 0 where
   pub each : (v : ℕ) (f : Missed) → fmr_at logs v ≡ Some f → MapOn f.map m
 
--- What a deport answers of volumes whose maps are in memory, and of those whose plexes are alike.
-pub record RestsMaps (logs : List Logs) (alike : List Bool) (r : Rested) : Type 0 where
+-- What a deport answers, while logs go on: volumes whose maps are in memory rest, and no others of which the log is not held as lost; and those whose
+-- plexes are alike.
+pub record RestsMaps (c : Config) (s : Bool) (logs : List Logs) (alike : List Bool) (r : Rested) : Type 0 where
+  pub going : s ≡ false
   pub maps : (v : ℕ) (f : Missed) → fmr_at logs v ≡ Some f → rests r.maps v ≡ true
+  pub there : (v : ℕ) (l : Logs) → slice_get logs v ≡ Some l → rests r.maps v ≡ true → log_trusted c v Fmr ≡ true → l.fmr ≡ None → ⊥
   pub same : (v : ℕ) → is_alike alike v ≡ true → rests r.alike v ≡ true
 
-abbrev pub RestsOr : List Logs → List Bool → Option Rested → Type 0
-RestsOr logs alike None = Unit {0}
-RestsOr logs alike (Some r) = RestsMaps logs alike r
+abbrev pub RestsOr : Config → Bool → List Logs → List Bool → Option Rested → Type 0
+RestsOr c s logs alike None = Unit {0}
+RestsOr c s logs alike (Some r) = RestsMaps c s logs alike r
 
 -- of a group that is handed out
-abbrev pub DeportMaps : {S G : Type 0} → (S → Meaning) → List Logs → List Bool → Bool → Result (S × Option Rested) (G × Stop) → Type 0
-DeportMaps meaning logs alike stopped (Ok x) = (stopped ≡ false → MapsStand logs (meaning x.0)) × RestsOr logs alike x.1
-DeportMaps meaning logs alike stopped (Err e) = Unit {0}
+abbrev pub DeportMaps : {S G : Type 0} → Config → Bool → (S → Meaning) → List Logs → List Bool → Result (S × Option Rested) (G × Stop) → Type 0
+DeportMaps c stopped meaning logs alike (Ok x) = (stopped ≡ false → MapsStand logs (meaning x.0)) × RestsOr c stopped logs alike x.1
+DeportMaps c stopped meaning logs alike (Err e) = Unit {0}
 
 -- A group that a refused deport gives back has the logs that it had, and its maps are gone by no more for the same reasons as behind any call.
 pub record MapsBackIn (c d : Config) (s t : Bool) (l k : List Logs) (a b : List Bool) (old new : Meaning) : Type 0 where

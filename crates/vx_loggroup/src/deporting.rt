@@ -62,7 +62,7 @@ fn deport_rested<S: Shelf>(
     ensures back { IfErr result (λ e. Goes Nothing (inner_meaning (wide core.old) (S.meaning shelf.old)) (inner_meaning (wide core.new) (S.meaning shelf.new))) }
     ensures tells { IfOk result (λ r. RestTells r (S.meaning shelf.new)) }
     ensures maps { OnOk result (MapsStand logs.now.items (S.meaning shelf.new)) }
-    ensures rests { IfOk result (λ r. RestsOr logs.now.items alike.now r) }
+    ensures rests { IfOk result (λ r. RestsOr core.old.inner.config false logs.now.items alike.now r) }
     ensures trusts { IfErr result (λ e. TrustsStill core.old.inner.config core.new.inner.config) }
     ensures finds { IfErr result (λ e. GroupFinds core.old core.new (S.meaning shelf.old) (S.meaning shelf.new)) }
     ensures cause { DetStops (S.meaning shelf.old) (S.meaning shelf.new) result }
@@ -105,7 +105,7 @@ pub fn deport_whole<S: Shelf>(
     ensures back { IfErr result (λ e. Goes Nothing (inner_meaning (wide core.old) (S.meaning shelf.old)) (inner_meaning (wide core.new) (S.meaning shelf.new))) }
     ensures tells { IfOk result (λ r. RestTells r (S.meaning shelf.new)) }
     ensures maps { stopped ≡ false → OnOk result (MapsStand logs.now.items (S.meaning shelf.new)) }
-    ensures rests { IfOk result (λ r. RestsOr logs.now.items alike.now r) }
+    ensures rests { IfOk result (λ r. RestsOr core.old.inner.config stopped logs.now.items alike.now r) }
     ensures trusts { IfErr result (λ e. TrustsStill core.old.inner.config core.new.inner.config) }
     ensures finds { IfErr result (λ e. GroupFinds core.old core.new (S.meaning shelf.old) (S.meaning shelf.new)) }
     ensures cause { core.old.inner.config.serial ≤ greatest - margin → DetStops (S.meaning shelf.old) (S.meaning shelf.new) result }

@@ -266,7 +266,7 @@ impl<S: Shelf> LoggedGroup<S> {
         ensures back { GivesBack self.core (S.meaning self.shelf) (λ s. S.meaning s.0) (λ g. g.core) (λ g. (g.shelf, None)) result }
         ensures can { GroupCanImport self.core.inner (λ s. S.meaning s.0) result }
         ensures tells { DeportTells (λ s. S.meaning s) result }
-        ensures maps { DeportMaps (λ s. S.meaning s) self.logs.items self.alike self.stopped result }
+        ensures maps { DeportMaps self.core.inner.config self.stopped (λ s. S.meaning s) self.logs.items self.alike result }
         ensures kept { DeportKeeps self.core.inner.config self.stopped self.logs.items self.alike (S.meaning self.shelf) (λ g. g.core.inner.config) (λ g. g.stopped) (λ g. g.logs.items) (λ g. g.alike) (λ g. S.meaning g.shelf) result }
         ensures finds { BackFinds self.core (S.meaning self.shelf) (λ g. g.core) (λ g. S.meaning g.shelf) result }
         ensures cause { self.core.inner.config.serial ≤ greatest - margin → DeportStops (S.meaning self.shelf) (λ s. S.meaning s.0) (λ g. (g.shelf, None)) result }

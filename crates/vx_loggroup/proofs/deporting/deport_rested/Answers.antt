@@ -95,7 +95,7 @@ pub returns-then-not-kept-clause-rests : goal.returns-then-not-kept-clause-rests
 returns-then-not-kept-clause-rests g c = tt
 
 pub returns-clause-rests : goal.returns-clause-rests
-returns-clause-rests g c = record { maps = c.rest_all-maps.ensures.has; same = λ v is. is }
+returns-clause-rests g c = record { going = refl; maps = c.rest_all-maps.ensures.has; there = λ v l at on told. (c.rest_all-maps.ensures.rests v l at on).has told; same = λ v is. is }
 
 pub returns-in-Err-clause-trusts : goal.returns-in-Err-clause-trusts
 returns-in-Err-clause-trusts g c = record { each = λ v log told. told }

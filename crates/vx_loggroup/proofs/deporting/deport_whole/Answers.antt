@@ -1,7 +1,8 @@
 -- `deport_whole`: its clauses; what the calls ask.
 use Rattle.std.proofs.Common.{◌∙◌, Bool, true, false, length, refl, sym, ap, subst, arith}
-use Rattle.std.specs.Prelude.{Err}
+use Rattle.std.specs.Prelude.{Err, IfOk}
 use Rattle.vx_loggroup.specs.LoggedVolumes.{LoggedStands}
+use Rattle.vx_loggroup.specs.Moving.{RestsOr}
 use Rattle.vx_loggroup.proofs.AlikeLemmas.{stop_stands}
 use Rattle.vx_loggroup.proofs.DeportedLogs.{deport_stands}
 use Rattle.vx_loggroup.proofs.RestMaps.{maps_stand}
@@ -48,7 +49,7 @@ pub returns-then-may_rest-clause-maps : goal.returns-then-may_rest-clause-maps
 returns-then-may_rest-clause-maps g c = λ going. c.deport_rested.ensures.maps
 
 pub returns-then-may_rest-clause-rests : goal.returns-then-may_rest-clause-rests
-returns-then-may_rest-clause-rests g c = c.deport_rested.ensures.rests
+returns-then-may_rest-clause-rests g c = subst (λ (s : Bool). IfOk c.deport_rested.result (λ r. RestsOr c.args.core.now.inner.config s c.args.logs.now.items c.args.alike.now r)) (sym (c.may_rest.ensures.going c.if-may_rest.true)) c.deport_rested.ensures.rests
 
 pub returns-in-Ok-clause-maps : goal.returns-in-Ok-clause-maps
 returns-in-Ok-clause-maps g c = λ going. maps_stand c.args.core.now c.args.logs.now.items c.args.alike.now (g.S.Shelf.meaning c.args.shelf.now) (g.S.Shelf.meaning c.deport_in.new.shelf) (subst (λ (s : Bool). LoggedStands c.args.core.now c.args.logs.now.items c.args.alike.now s (g.S.Shelf.meaning c.args.shelf.now)) going c.requires.stands) c.in-Ok.ensures.ends
