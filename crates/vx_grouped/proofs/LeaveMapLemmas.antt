@@ -1,6 +1,6 @@
 -- What a deport makes of what is noted of the maps of a group, and of the logs on its disks.
-use Rattle.std.proofs.Common.{◌≡◌, ◌⊎◌, ◌∙◌, ◌<◌, ◌||◌, ◌+◌, ◌*◌, inl, inr, ℕ, Bool, true, false, List, length, refl, sym, ap, subst, IsTrue}
-use Rattle.std.specs.Prelude.{Option, None, Some, ltb, not}
+use Rattle.std.proofs.Common.{◌≡◌, ◌⊎◌, ◌∙◌, ◌<◌, ◌||◌, ◌+◌, ◌*◌, inl, inr, ℕ, Bool, true, false, List, length, refl, sym, ap, subst, IsTrue, ◌&&◌, arith}
+use Rattle.std.specs.Prelude.{Option, None, Some, ltb, not, is_some, slice_get}
 use Rattle.std.proofs.lemmas.Bool.{lt-ltb, ltb-true}
 use Rattle.vx_config.specs.Checks.{blocks_of, plexes_of}
 use Rattle.vx_config.specs.declared.config.Config.{Config}
@@ -25,14 +25,14 @@ use Rattle.vx_kept.specs.Choice.{live, live_or}
 use Rattle.vx_kept.specs.Cleans.{cleaned}
 use Rattle.vx_kept.specs.Groups.{found}
 use Rattle.vx_kept.specs.Keeping.{frame_at}
-use Rattle.vx_kept.specs.LogRuns.{log_place}
+use Rattle.vx_kept.specs.LogRuns.{log_place, log_trusted, trusted_or}
 use Rattle.vx_kept.proofs.Chosen.{frames_volumes}
 use Rattle.vx_kept.proofs.CleanLemmas.{all_clean}
 use Rattle.vx_kept.proofs.Narrower.{on_live}
 use Rattle.vx_layout.specs.Places.{plex_at}
 use Rattle.vx_logimport.specs.Rests.{rests}
 use Rattle.vx_logimport.specs.declared.rested.Rested.{Rested}
-use Rattle.vx_loggroup.specs.Attaching.{fmr_at}
+use Rattle.vx_loggroup.specs.Attaching.{fmr_at, fmr_or}
 use Rattle.vx_loggroup.specs.LoggedVolumes.{LoggedStands, is_alike}
 use Rattle.vx_loggroup.specs.Moving.{IsThere, MapsBackIn, MapsStand, RestsMaps, RestsOr}
 use Rattle.vx_loggroup.proofs.KeepingLemmas.{frames_places}
@@ -47,10 +47,17 @@ use Rattle.vx_grouped.specs.Away.{AllHave}
 use Rattle.vx_grouped.specs.MapsNoted.{MapsNoted, MapsOnDisk}
 use Rattle.vx_grouped.specs.PlainMaps.{PartsLeft, PartsMoved, map_parts}
 use Rattle.vx_grouped.specs.SiteMaps.{DiskMaps, IdleMaps, MapsLike}
-use Rattle.vx_grouped.proofs.DiskMapLemmas.{MapLies, log_there, missed_logged}
+use Rattle.vx_grouped.proofs.DiskMapLemmas.{MapLies, log_there, missed_logged, LogThere}
 use Rattle.vx_grouped.proofs.MapStandLemmas.{lies_at}
 use Rattle.vx_grouped.proofs.NotedMapLemmas.{going, had_b, map_in, missed_b, noted_b}
 use Rattle.vx_grouped.proofs.PlexMapLemmas.{like_parts}
+use Rattle.vx_copies.specs.Marks.{failed_at}
+use Rattle.vx_group.proofs.HoldLemmas.{wide_shape}
+use Rattle.vx_groupmaps.specs.Loading.{failed_under, on_failed_disk}
+use Rattle.vx_logimport.proofs.RestLemmas.{in_use_trusts}
+use Rattle.vx_loggroup.proofs.EndedLemmas.{failed_entry}
+use Rattle.vx_loggroup.proofs.SetLemmas.{item_at}
+use Rattle.vx_maplog.specs.Logs.{log_or}
 
 -- ---- states of plexes
 
@@ -74,6 +81,20 @@ same_run None None there back = refl
 same_run None (Some r) there back = let clash : None ≡ Some r = back r refl in cc
 same_run (Some r) q there back = there r refl
 
+-- logs are trusted by volumes alone
+trusted_same : (x y : Config) → x.volumes ≡ y.volumes → (v : ℕ) → log_trusted x v Fmr ≡ true → log_trusted y v Fmr ≡ true
+unfolding log_trusted
+trusted_same x y same v is = ap (λ (vs : List VolumeEntry). trusted_or (log_or Fmr (slice_get vs v))) (sym same) ∙ is
+
+some_of : (o : Option Missed) → (o ≡ None → ⊥) → is_some o ≡ true
+some_of None none = absurd (none refl)
+some_of (Some f) none = refl
+
+all_three : (s x y : Bool) → s ≡ false → x ≡ false → y ≡ true → (not s && (not x && y)) ≡ true
+all_three false false y going good some = some
+all_three false true y going good some = let clash : true ≡ false = good in cc
+all_three true x y going good some = let clash : true ≡ false = going in cc
+
 -- ---- volumes of which no write failed
 
 no_more : (x y : Bool) → y ≡ true → (x || not y) ≡ x
@@ -87,9 +108,9 @@ sure_of false false is = let clash : true ≡ false = is in cc
 sure_of true y is = let clash : true ≡ false = is in cc
 
 -- what a deport answers says no more of a group of which it answers nothing
-rests_of : (logs : List Logs) (flags : List Bool) (o : Option Rested) (r : Rested) → RestsOr logs flags o → o ≡ Some r → RestsMaps logs flags r
-rests_of logs flags None r it is = absurd (let clash : None ≡ Some r = is in cc)
-rests_of logs flags (Some x) r it is = subst (λ (y : Rested). RestsMaps logs flags y) (one x r is) it
+rests_of : (c : Config) (s : Bool) (logs : List Logs) (flags : List Bool) (o : Option Rested) (r : Rested) → RestsOr c s logs flags o → o ≡ Some r → RestsMaps c s logs flags r
+rests_of c s logs flags None r it is = absurd (let clash : None ≡ Some r = is in cc)
+rests_of c s logs flags (Some x) r it is = subst (λ (y : Rested). RestsMaps c s logs flags y) (one x r is) it
   where
     one : (x y : Rested) → Some x ≡ Some y → x ≡ y
     one x y same = cc
@@ -98,7 +119,7 @@ found_same : (x y : Config) → Found x ≡ Found y → y ≡ x
 found_same x y is = cc
 
 module _ (core : GroupCore) (logs : List Logs) (flags : List Bool) (s : Bool) (m m' : Meaning) (stands : LoggedStands core logs flags s m) (left : DeportedBy (wide core).config core.inner m m') (rested : Option Rested) (maps : s ≡ false → MapsStand logs m')
-    (rest : RestsOr logs flags rested) where
+    (rest : RestsOr core.inner.config s logs flags rested) where
   -- ---- the configuration that the disks have
 
   closed_frames : (v : ℕ) → frame_at left.config v ≡ frame_at core.inner.config v
@@ -115,6 +136,15 @@ module _ (core : GroupCore) (logs : List Logs) (flags : List Bool) (s : Bool) (m
   closed_places v =
       same_run (log_place core.inner.config v Fmr) (log_place left.config v Fmr) (λ r at. frames_places core.inner.config left.config closed_frames v Fmr r at)
       (λ r at. frames_places left.config core.inner.config (λ w. sym (closed_frames w)) v Fmr r at)
+
+  -- a log that it trusts was trusted
+  closed_trusted : (v : ℕ) → log_trusted left.config v Fmr ≡ true → log_trusted core.inner.config v Fmr ≡ true
+  closed_trusted v is =
+      left.quiesces.shape.trusted v Fmr
+      ((all_clean left.behind.unsure (length core.inner.config.volumes) left.behind.config).alike.shape.trusted v Fmr (trusted_same left.config (cleaned left.behind.unsure left.behind.config (length core.inner.config.volumes)) left.volumes v is))
+
+  closed_many : length left.config.volumes ≡ length core.inner.config.volumes
+  closed_many = ap length left.volumes ∙ (all_clean left.behind.unsure (length core.inner.config.volumes) left.behind.config).alike.shape.volumes ∙ left.quiesces.shape.volumes
 
   module _ (w : MissedNote) (noted : MapsNoted w core.inner.config logs flags s) (d : Config) where
     abbrev left_note : MissedNote
@@ -180,6 +210,31 @@ module _ (core : GroupCore) (logs : List Logs) (flags : List Bool) (s : Bool) (m
           off_has : (now : Bool) → now ≡ false → (v p r : ℕ) → missed_b (live core.inner.config v p) now (w.mapped v) (w.missed v p r) false ≡ true → missed_b (live core.inner.config v p) false (w.mapped v) (w.missed v p r) false ≡ true
           off_has now is v p r has = subst (λ (x : Bool). missed_b (live core.inner.config v p) x (w.mapped v) (w.missed v p r) false ≡ true) is has
 
+      -- a map that rests was known, where its log is in use on a good disk
+      good_disk : (v : ℕ) (e : LogEntry) → InUse d v Fmr e → failed_at d.disks e.disk ≡ false → on_failed_disk core.inner.config v ≡ false
+      good_disk v e used good = by (on_failed_disk core.inner.config v) refl
+        where
+          at : LogThere core.inner.config v e
+          at = log_there core.inner.config d v (ap (λ (x : Config). log_place x v Fmr) same ∙ closed_places v) e used.is
+
+          by : (x : Bool) → on_failed_disk core.inner.config v ≡ x → on_failed_disk core.inner.config v ≡ false
+          by false is = is
+          by true is = absurd (
+              let was : failed_at core.inner.config.disks at.entry.disk ≡ true = failed_entry core.inner.config.disks at.entry.disk at.entry (sym (ap (failed_under core.inner.config.disks) at.is) ∙ is) in
+              let now : failed_at left.config.disks e.disk ≡ true = left.failing.stays e.disk (subst (λ (u : ℕ). failed_at core.inner.config.disks u ≡ true) at.disk was) in
+              let clash : false ≡ true = sym good ∙ ap (λ (x : Config). failed_at x.disks e.disk) same ∙ now in
+              cc
+              )
+
+      was_known : (r : Rested) (v : ℕ) (e : LogEntry) → rested ≡ Some r → rests r.maps v ≡ true → v < length d.volumes → InUse d v Fmr e → failed_at d.disks e.disk ≡ false → w.mapped v ≡ true
+      was_known r v e is on low used good =
+          let told : RestsMaps core.inner.config s logs flags r = rests_of core.inner.config s logs flags rested r rest is in
+          let trusted : log_trusted core.inner.config v Fmr ≡ true = closed_trusted v (ap (λ (x : Config). log_trusted x v Fmr) (sym same) ∙ in_use_trusts d v e used) in
+          let one = item_at logs v (let many = stands.many in let wide = (wide_shape core).volumes in let count = closed_many in let here = ap (λ (x : Config). length x.volumes) same in omega (arith, low, many, wide, count, here)) in
+          noted.mapped v
+          ∙ all_three s (on_failed_disk core.inner.config v) (is_some (fmr_at logs v)) told.going (good_disk v e used good)
+          (some_of (fmr_at logs v) (λ none. told.there v one.0 one.1 on trusted (sym (ap fmr_or one.1) ∙ none)))
+
     left_like : MapsLike m m' core.inner.config d w left_note
     left_like = record {
       known = record { stays = λ v on. inl on; begins = λ v on. inl on };
@@ -193,12 +248,12 @@ module _ (core : GroupCore) (logs : List Logs) (flags : List Bool) (s : Bool) (m
     left_alike : (r : Rested) → rested ≡ Some r → (v : ℕ) → v < length d.volumes → left_note.doubt v ≡ false → rests r.alike v ≡ true
     left_alike r is v low sure =
         let both = sure_of (w.doubt v) (ltb v (length core.inner.config.volumes)) sure in
-        (rests_of logs flags rested r rest is).same v (noted.alike v (ltb-true v (length core.inner.config.volumes) both.1) both.0)
+        (rests_of core.inner.config s logs flags rested r rest is).same v (noted.alike v (ltb-true v (length core.inner.config.volumes) both.1) both.0)
 
     left_mapped : (r : Rested) → rested ≡ Some r → (v : ℕ) → w.mapped v ≡ true → rests r.maps v ≡ true
     left_mapped r is v on =
         let f = map_in logs core.inner.config s v (sym (noted.mapped v) ∙ on) in
-        (rests_of logs flags rested r rest is).maps v f.0 f.1
+        (rests_of core.inner.config s logs flags rested r rest is).maps v f.0 f.1
 
     left_disks : AllHave d m' → DiskMaps left_note d m'
     left_disks all = record {
@@ -207,12 +262,15 @@ module _ (core : GroupCore) (logs : List Logs) (flags : List Bool) (s : Bool) (m
           subst (λ (y : Config). MapsOnDisk left_note d y i) (sym one) (on_disk (found_same left.config d (sym (left.finds i each) ∙ all.finds i each)) i each);
     }
 
+    left_known : AllHave d m' → (i : Image) → Each m'.leaves i → (r : Rested) (v : ℕ) (e : LogEntry) → rested ≡ Some r → rests r.maps v ≡ true → v < length d.volumes → InUse d v Fmr e → failed_at d.disks e.disk ≡ false → w.mapped v ≡ true
+    left_known all i each = was_known (found_same left.config d (sym (left.finds i each) ∙ all.finds i each))
+
   pub parts_left : PartsLeft (map_parts core.inner.config logs flags s) rested m m'
   parts_left = record {
     so = λ w d noted all. (
       left_note w noted d,
       left_like w noted d,
-      record { disks = left_disks w noted d all; alike = λ r is v low sure. left_alike w noted d r is v low sure; maps = λ r is v on. left_mapped w noted d r is v on },
+      record { disks = left_disks w noted d all; alike = λ r is v low sure. left_alike w noted d r is v low sure; maps = λ r is v on. left_mapped w noted d r is v on; known = λ i r v e each is on low used good. left_known w noted d all i each r v e is on low used good },
     );
   }
 

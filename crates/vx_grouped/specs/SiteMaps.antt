@@ -5,6 +5,7 @@ use Rattle.vx_config.specs.Configs.{HasSpelling}
 use Rattle.vx_config.specs.declared.config.Config.{Config}
 use Rattle.vx_config.specs.declared.entry.LogEntry.{LogEntry}
 use Rattle.vx_config.specs.declared.entry.VolumeLog.TheVariants.{Fmr}
+use Rattle.vx_copies.specs.Marks.{failed_at}
 use Rattle.vx_copyfmt.specs.Imports.{Found}
 use Rattle.vx_disk.specs.Counts.{Rose}
 use Rattle.vx_disk.specs.Shelf.{Each, Image, Meaning}
@@ -17,6 +18,7 @@ use Rattle.vx_kept.specs.Cleans.{at_serial}
 use Rattle.vx_kept.specs.Groups.{found}
 use Rattle.vx_logimport.specs.Rests.{rests}
 use Rattle.vx_logimport.specs.declared.rested.Rested.{Rested}
+use Rattle.vx_logs.specs.Held.{InUse}
 use Rattle.vx_maplog.specs.Logs.{log_of}
 use Rattle.vx_model.specs.declared.errors.Stop.{Stop}
 use Rattle.vx_model.specs.declared.no.No.{No}
@@ -32,11 +34,13 @@ use Rattle.vx_grouped.specs.declared.group_site.GroupSite.TheVariants.{Up, Depor
 pub record DiskMaps (w : MissedNote) (c : Config) (m : Meaning) : Type 0 where
   pub each : (i : Image) (x : Config) → Each m.leaves i → found m i ≡ Found x → MapsOnDisk w c x i
 
--- The disks of a group that was deported have what is noted; and a value says which volumes rest.
+-- The disks of a group that was deported have what is noted; and a value says which volumes rest: of those the maps are known, where the log is in use and its
+-- disk held as good.
 pub record IdleMaps (w : MissedNote) (c : Config) (rested : Option Rested) (m : Meaning) : Type 0 where
   pub disks : DiskMaps w c m
   pub alike : (r : Rested) → rested ≡ Some r → (v : ℕ) → v < length c.volumes → w.doubt v ≡ false → rests r.alike v ≡ true
   pub maps : (r : Rested) → rested ≡ Some r → (v : ℕ) → w.mapped v ≡ true → rests r.maps v ≡ true
+  pub known : (i : Image) (r : Rested) (v : ℕ) (e : LogEntry) → Each m.leaves i → rested ≡ Some r → rests r.maps v ≡ true → v < length c.volumes → InUse c v Fmr e → failed_at c.disks e.disk ≡ false → w.mapped v ≡ true
 
 abbrev pub map_disk_or : Option LogEntry → Option ℕ
 map_disk_or None = None
