@@ -39,7 +39,7 @@ some_at plexes p low = elim (slice_get_cases plexes p).1 [
 ]
 
 -- a plex that is counted is there
-has_low : (c : Config) (v p : ℕ) → p < plexes_of c v → has_plex c v p ≡ true
+pub has_low : (c : Config) (v p : ℕ) → p < plexes_of c v → has_plex c v p ≡ true
 unfolding has_plex
 has_low c v p low = by (slice_get c.volumes v) low
   where
