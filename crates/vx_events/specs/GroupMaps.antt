@@ -86,11 +86,13 @@ pub record MapsAdded (s : ℕ) (fails : Fails) (c d : Config) (w new : MissedNot
 abbrev pub WantsMemory : Type 0
 WantsMemory = Unit {0}
 
--- so it is by the configuration that was noted
+-- so it is by the configuration that was noted, and the one that is
 pub record MapsImported (s : ℕ) (fails : Fails) (note new : GroupNode) : Type 0 where
   pub old : Config
+  pub now : Config
   pub was : config_of note.config ≡ Some old
-  pub back : MapsBack (FailedIn s fails) WantsMemory (StoppedClean old) (map_disk old) note.maps new.maps
+  pub now_is : config_of new.config ≡ Some now
+  pub back : MapsBack (FailedIn s fails) WantsMemory (StoppedClean old) (map_disk old) (takes_part old) (takes_part now) note.maps new.maps
 
 -- One that crashed came up: every volume stopped uncleanly, and the next attach of each plex that takes no part copies all. Where further configurations may have
 -- stood on the disks it may be that a volume stopped cleanly; then too its maps are not known.

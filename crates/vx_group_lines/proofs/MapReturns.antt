@@ -8,14 +8,17 @@ use Rattle.vx_config.specs.declared.entry.PlexEntry.{PlexEntry}
 use Rattle.vx_disk.specs.Shelf.{Meaning}
 use Rattle.vx_history.specs.Groups.{MissedNote}
 use Rattle.vx_history.specs.MapChanges.{MapsBack, MapsGone}
+use Rattle.vx_history.specs.Missing.{no_plex, none_missed}
+use Rattle.vx_kept.specs.Choice.{live}
 use Rattle.vx_kept.specs.Cleans.{at_serial}
 use Rattle.vx_layout.specs.Places.{plex_at}
 use Rattle.vx_volume.specs.Plexes.{active, active_or, is_active}
 use Rattle.vx_grouped.specs.SiteMaps.{BackMaps, FailedAt, StopsClean, map_disk_of}
+use Rattle.vx_grouped.proofs.WrittenMapLemmas.{missed_as, perhaps_as}
 use Rattle.vx_events.specs.Fails.{Fails}
-use Rattle.vx_events.specs.GroupMaps.{FailedIn, StoppedClean, WantsMemory, map_disk}
+use Rattle.vx_events.specs.GroupMaps.{FailedIn, StoppedClean, WantsMemory, map_disk, takes_part}
 use Rattle.vx_group_lines.proofs.Losing.{Names}
-use Rattle.vx_group_lines.proofs.MapLines.{gone_named}
+use Rattle.vx_group_lines.proofs.MapLines.{gone_named, takes_is}
 
 -- ---- volumes that stopped cleanly
 
@@ -41,13 +44,13 @@ clean_from c v it = record { each = λ p. by p (plex_at c v p) refl }
 
 -- ---- behind an import
 
-module _ (s many : ℕ) (fails : Fails) (o e : Meaning) (names : Names s many fails o e) (c : Config) (low : (v k : ℕ) → map_disk_of c v ≡ Some k → k < many) (w next : MissedNote) where
-  pub back_named : BackMaps o e c w next → MapsBack (FailedIn s fails) WantsMemory (StoppedClean (at_serial 0 c)) (map_disk (at_serial 0 c)) w next
+module _ (s many : ℕ) (fails : Fails) (o e : Meaning) (names : Names s many fails o e) (c d : Config) (low : (v k : ℕ) → map_disk_of c v ≡ Some k → k < many) (w next : MissedNote) where
+  pub back_named : BackMaps o e c d w next → MapsBack (FailedIn s fails) WantsMemory (StoppedClean (at_serial 0 c)) (map_disk (at_serial 0 c)) (takes_part (at_serial 0 c)) (takes_part (at_serial 0 d)) w next
   back_named it = record {
     stays = λ v on clean. by v (it.back.stays v on (clean_from c v clean));
     only = λ v on. ((it.back.only v on).0, clean_to c v (it.back.only v on).1);
-    missed = it.back.missed;
-    perhaps = it.back.perhaps;
+    missed = λ v p r on. it.back.missed v p r on ∙ missed_as w next (live c) (live d) (takes_part (at_serial 0 c)) (takes_part (at_serial 0 d)) no_plex none_missed (takes_is c) (takes_is d) v p r;
+    perhaps = λ v p r on. it.back.perhaps v p r on ∙ perhaps_as w next (live c) (live d) (takes_part (at_serial 0 c)) (takes_part (at_serial 0 d)) no_plex none_missed (takes_is c) (takes_is d) v p r;
     doubt = λ v on. ((it.back.doubt v on).0, clean_to c v (it.back.doubt v on).1);
   }
     where

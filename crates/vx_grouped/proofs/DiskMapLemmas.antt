@@ -1,10 +1,10 @@
 -- The regions that plexes missed, as the logs on the disks of a site have them, by its note.
 use Rattle.std.proofs.Common.{◌≡◌, ◌⊎◌, ◌<◌, ◌+◌, ◌*◌, ◌/◌, ◌%◌, ◌&&◌, ℕ, Bool, true, false, List, refl, sym, ◌∙◌, ap, subst, inl, inr}
-use Rattle.std.specs.Prelude.{Option, Some, None, not}
+use Rattle.std.specs.Prelude.{Option, Some, None, not, is_some}
 use Rattle.vx_bitmap.specs.Bits.{is_marked}
 use Rattle.vx_bitmap.specs.Maps.{Map, MapOn, map_block_count}
 use Rattle.vx_bitmap.proofs.Blocks.{by_block}
-use Rattle.vx_config.specs.Checks.{blocks_of, is_sound}
+use Rattle.vx_config.specs.Checks.{blocks_of, is_sound, is_stale, plexes_of}
 use Rattle.vx_config.specs.declared.config.Config.{Config}
 use Rattle.vx_config.specs.declared.entry.LogEntry.{LogEntry}
 use Rattle.vx_config.specs.declared.entry.Subdisk.{Subdisk}
@@ -14,7 +14,7 @@ use Rattle.vx_fmr.specs.Missed.{FmrLoaded, Missed, has_missed}
 use Rattle.vx_history.specs.Groups.{MissedNote}
 use Rattle.vx_history.specs.Missing.{maps_returned}
 use Rattle.vx_groupmaps.proofs.MapPlaces.{bit_low, last_low, stale_off}
-use Rattle.vx_logs.specs.Held.{InUse, logged_in, stale}
+use Rattle.vx_logs.specs.Held.{InUse, logged_in, stale, stale_or}
 use Rattle.vx_logs.specs.Marks.{stride_of}
 use Rattle.vx_logs.specs.declared.logs.Logs.{Logs}
 use Rattle.vx_kept.specs.LogRuns.{log_place, run_or}
@@ -24,7 +24,13 @@ use Rattle.vx_loggroup.specs.Attaching.{fmr_at}
 use Rattle.vx_loggroup.specs.LoggedVolumes.{is_alike}
 use Rattle.vx_loggroup.specs.Moving.{IsThere, MapTaken, goes_by}
 use Rattle.vx_grouped.specs.MapsNoted.{MapsNoted, MapsOnDisk}
-use Rattle.vx_grouped.proofs.NotedMapLemmas.{going, map_in}
+use Rattle.vx_grouped.proofs.NotedMapLemmas.{going, map_in, had_b, missed_b, noted_b}
+use Rattle.vx_config.specs.declared.entry.PlexEntry.{PlexEntry}
+use Rattle.vx_grouplogs.proofs.FreshLemmas.{has_low}
+use Rattle.vx_kept.specs.Choice.{live, live_or}
+use Rattle.vx_kept.specs.Keeping.{AllOn}
+use Rattle.vx_layout.specs.Places.{has_plex, plex_at}
+use Rattle.vx_grouped.proofs.WrittenMapLemmas.{live_active}
 
 both_true : (x y : Bool) → x ≡ true → y ≡ true → (x && y) ≡ true
 both_true true y on is = is
@@ -114,24 +120,40 @@ module _ (w : MissedNote) (c x : Config) (logs : List Logs) (alike : List Bool) 
 
 -- ---- behind an import
 
-module _ (w : MissedNote) (c x d : Config) (logs : List Logs) (alike : List Bool) (t : Bool) (i : Image) (disk : MapsOnDisk w c x i) (plexes : (v p r : ℕ) → goes_by logs d t v ≡ true → IsThere d v p r → IsThere c v p r) (strides : (v : ℕ) → goes_by logs d t v ≡ true → stride_of d v ≡ stride_of c v)
-    (taken : (v : ℕ) (f : Missed) → goes_by logs d t v ≡ true → fmr_at logs v ≡ Some f → (w.mapped v ≡ true) × MapTaken x d v f i) (off : (v p r : ℕ) → IsThere d v p r → active d v p ≡ false → stale c v p ≡ true) where
-  -- it is known still
-  kept_either : (v p r : ℕ) → goes_by logs d t v ≡ true → (w.missed v p r ≡ true) ⊎ (w.perhaps v p r ≡ true) → (w.missed v p r ≡ true) ⊎ ((goes_by logs d t v && w.perhaps v p r) ≡ true)
-  kept_either v p r on (inl is) = inl is
-  kept_either v p r on (inr is) = inr (both_true (goes_by logs d t v) (w.perhaps v p r) on is)
+-- a plex that is there and takes no part is STALE
+gone_stale : (c : Config) (v p : ℕ) → p < plexes_of c v → live c v p ≡ false → stale c v p ≡ true
+unfolding stale live has_plex
+gone_stale c v p low off = by (plex_at c v p) (has_low c v p low) off
+  where
+    by_state : (x : Bool) → not x ≡ false → x ≡ true
+    by_state true is = refl
+    by_state false is = let clash : true ≡ false = is in cc
 
-  pub noted_returned : MapsNoted (maps_returned (goes_by logs d t) d.serial (λ v. not (is_alike alike v)) w) d logs alike t
+    by : (o : Option PlexEntry) → is_some o ≡ true → live_or o ≡ false → stale_or o ≡ true
+    by None none off = let clash : false ≡ true = none in cc
+    by (Some a) some off = by_state (is_stale a.state) off
+
+-- The image i had the configuration x, where c was noted; d is in memory now.
+module _ (w : MissedNote) (c x d : Config) (logs : List Logs) (alike : List Bool) (t : Bool) (i : Image) (disk : MapsOnDisk w c x i) (plexes : (v p r : ℕ) → goes_by logs d t v ≡ true → IsThere d v p r → IsThere c v p r) (strides : (v : ℕ) → goes_by logs d t v ≡ true → stride_of d v ≡ stride_of c v)
+    (taken : (v : ℕ) (f : Missed) → goes_by logs d t v ≡ true → fmr_at logs v ≡ Some f → (w.mapped v ≡ true) × MapTaken x d v f i) (all : AllOn d) where
+  -- one that goes off has missed nothing, but perhaps what was left in its map
+  pub noted_returned : MapsNoted (maps_returned (goes_by logs d t) d.serial (live c) (live d) (λ v. not (is_alike alike v)) w) d logs alike t
   noted_returned = record {
     mapped = λ v. refl;
     most = λ v p r f on at it has.
         let here = taken v f on at in
         let low = plexes v p r on it in
-        kept_either v p r on (disk.most here.1.entry v p r here.0 here.1.used low (sym (ap (λ (n : ℕ). logged_in here.1.entry i (p * n + r)) (strides v on)) ∙ sym (here.1.same p r it) ∙ has));
+        noted_b (live c v p) (live d v p) false (w.mapped v) (w.missed v p r) (w.perhaps v p r) false (λ was gone. refl) here.0
+        (disk.most here.1.entry v p r here.0 here.1.used low (sym (ap (λ (n : ℕ). logged_in here.1.entry i (p * n + r)) (strides v on)) ∙ sym (here.1.same p r it) ∙ has));
     least = λ v p r f on at it none has.
         let here = taken v f on at in
         let low = plexes v p r on it in
-        here.1.same p r it ∙ ap (λ (n : ℕ). logged_in here.1.entry i (p * n + r)) (strides v on) ∙ disk.least here.1.entry v p r here.0 here.1.used low (off v p r it none) has;
+        elim (had_b (live c v p) (w.mapped v) (w.missed v p r) false (subst (λ (y : Bool). missed_b (live c v p) y (w.mapped v) (w.missed v p r) false ≡ true) (sym (live_active d all v p) ∙ none) has)) [
+          | inl run ↦ absurd (let clash : false ≡ true = run in cc)
+          | inr had ↦
+              here.1.same p r it ∙ ap (λ (n : ℕ). logged_in here.1.entry i (p * n + r)) (strides v on)
+              ∙ disk.least here.1.entry v p r here.0 here.1.used low (gone_stale c v p low.plex had.off) (had.noted here.0)
+        ];
     alike = λ v low sure. not_false (is_alike alike v) sure;
     serial = refl;
   }

@@ -55,3 +55,4 @@ pub mod UpMapLemmas
 pub mod PlexMapLemmas
 pub mod AddMapLemmas
 pub mod LeaveMapLemmas
+pub mod ImportMapLemmas

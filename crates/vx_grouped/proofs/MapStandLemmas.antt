@@ -32,7 +32,7 @@ pub record LogsOf (logs : List Logs) (v : ℕ) (f : Missed) : Type 0 where
   pub at : slice_get logs v ≡ Some one
   pub has : one.fmr ≡ Some f
 
-logs_of : (logs : List Logs) (v : ℕ) (f : Missed) → fmr_at logs v ≡ Some f → LogsOf logs v f
+pub logs_of : (logs : List Logs) (v : ℕ) (f : Missed) → fmr_at logs v ≡ Some f → LogsOf logs v f
 logs_of logs v f is = by (slice_get logs v) refl is
   where
     by : (o : Option Logs) → slice_get logs v ≡ o → fmr_or o ≡ Some f → LogsOf logs v f

@@ -92,8 +92,8 @@ pub record AddMaps (old new : Meaning) (c d : Config) (w next : MissedNote) : Ty
   pub doubt : next.doubt (length c.volumes) ≡ false
 
 -- A group that was deported came up: the maps of a volume that stopped cleanly may be taken up, and are as they were then.
-pub record BackMaps (old new : Meaning) (c : Config) (w next : MissedNote) : Type 0 where
-  pub back : MapsBack (FailedAt old new) (Unit {0}) (StopsClean c) (map_disk_of c) w next
+pub record BackMaps (old new : Meaning) (c d : Config) (w next : MissedNote) : Type 0 where
+  pub back : MapsBack (FailedAt old new) (Unit {0}) (StopsClean c) (map_disk_of c) (live c) (live d) w next
 
 module _ {R : Type 0} {g : Ghosts R} where
   -- What is noted is so of the maps in memory, or on the disks by themselves; c is the configuration that is noted.
@@ -162,7 +162,7 @@ module _ {R : Type 0} {g : Ghosts R} where
   -- An import of disks that were deported, or a recovery: of disks of which contents are told, on which all images had configuration c.
   abbrev pub ImportMapped : GroupSite R g → GroupSite R g → Result (Unit {0}) Stop → Type 0
   ImportMapped old new (Ok done) =
-      ((c d : Config) → IsTrue (site_disks new).tells → AllHave c (site_disks old) → site_config new ≡ Some d → MapsMoved (BackMaps (site_disks old) (site_disks new) c) c d old new)
+      ((c d : Config) → IsTrue (site_disks new).tells → AllHave c (site_disks old) → site_config new ≡ Some d → MapsMoved (BackMaps (site_disks old) (site_disks new) c d) c d old new)
       × ((d : Config) → site_config new ≡ Some d → (w : MissedNote) × MapsOf w d new)
   ImportMapped old new (Err stop) = Unit {0}
 

@@ -34,10 +34,10 @@ pub record MapsFailed (vol : ℕ) (was now these : ℕ → ℕ → Bool) (w new 
   pub doubt : (v : ℕ) → v ≢ vol → new.doubt v ≡ w.doubt v
 
 -- A group that was deported came up. The maps of a volume that stopped cleanly are known as they were, but where they are gone, or memory is wanting for them; those
--- of each other volume are not.
-pub record MapsBack (Failed : ℕ → Type 0) (wanting : Type 0) (clean : ℕ → Type 0) (disk : ℕ → Option ℕ) (w new : MissedNote) : Type 0 where
+-- of each other volume are not. A plex that goes off in it misses nothing, but perhaps what was left in its map.
+pub record MapsBack (Failed : ℕ → Type 0) (wanting : Type 0) (clean : ℕ → Type 0) (disk : ℕ → Option ℕ) (was now : ℕ → ℕ → Bool) (w new : MissedNote) : Type 0 where
   pub stays : (v : ℕ) → w.mapped v ≡ true → clean v → (new.mapped v ≡ true) ⊎ MapsGone Failed disk w new v ⊎ wanting
   pub only : (v : ℕ) → new.mapped v ≡ true → (w.mapped v ≡ true) × clean v
-  pub missed : (v p r : ℕ) → new.mapped v ≡ true → new.missed v p r ≡ w.missed v p r
-  pub perhaps : (v p r : ℕ) → new.mapped v ≡ true → new.perhaps v p r ≡ w.perhaps v p r
+  pub missed : (v p r : ℕ) → new.mapped v ≡ true → new.missed v p r ≡ missed_then w was now none_missed v p r
+  pub perhaps : (v p r : ℕ) → new.mapped v ≡ true → new.perhaps v p r ≡ perhaps_then w was now no_plex v p r
   pub doubt : (v : ℕ) → new.doubt v ≡ true → (w.doubt v ≡ true) × clean v

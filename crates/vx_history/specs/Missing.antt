@@ -78,8 +78,8 @@ maps_doubted mapped serial was now vol these w = record {
 }
 
 -- behind an import that takes up the maps of these volumes
-abbrev pub maps_returned : (mapped : ℕ → Bool) (serial : ℕ) (doubt : ℕ → Bool) → MissedNote → MissedNote
-maps_returned mapped serial doubt w = record { mapped = mapped; missed = w.missed; perhaps = λ v p r. mapped v && w.perhaps v p r; doubt = doubt; serial = serial }
+abbrev pub maps_returned : (mapped : ℕ → Bool) (serial : ℕ) (was now : ℕ → ℕ → Bool) (doubt : ℕ → Bool) → MissedNote → MissedNote
+maps_returned mapped serial was now doubt w = record (maps_written mapped serial was now no_plex none_missed w) { doubt = doubt }
 
 -- nothing is known of any plex of a configuration with this serial
 abbrev pub maps_none : ℕ → MissedNote
