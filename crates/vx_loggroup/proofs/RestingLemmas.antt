@@ -80,7 +80,7 @@ module _ (n : ℕ) (failed : List Bool) (old m m' : Meaning) (loop : DisksSoFar 
       fresh = λ u le. other u (λ same. omega (arith, le, same)) ∙ loop.fresh u (omega (arith, le));
     }
 
-none_below : (test : ℕ → Bool) (n : ℕ) → any_below test n ≡ false → (k : ℕ) → k < n → test k ≡ false
+pub none_below : (test : ℕ → Bool) (n : ℕ) → any_below test n ≡ false → (k : ℕ) → k < n → test k ≡ false
 none_below test zero is k lt = absurd (omega (arith, lt))
 none_below test (suc n) is k lt = by (any_below test n) refl (test n) refl (λ off apart. none_below test n off k (omega (arith, lt, apart)))
   where
