@@ -41,8 +41,8 @@ use Rattle.vx_model.specs.declared.limits.TheConstants.{MAP_REGIONS}
 use Rattle.vx_volume.specs.Plexes.{active, active_or}
 use Rattle.vx_grouped.specs.Away.{AllHave}
 use Rattle.vx_grouped.specs.MapsNoted.{MapsNoted, MapsOnDisk}
-use Rattle.vx_grouped.specs.PlainMaps.{PartsBack, PartsRisen, map_parts}
-use Rattle.vx_grouped.specs.SiteMaps.{BackMaps, IdleMaps, StopsClean}
+use Rattle.vx_grouped.specs.PlainMaps.{PartsBack, map_parts}
+use Rattle.vx_grouped.specs.SiteMaps.{BackMaps, IdleMaps, RisenMaps, StopsClean}
 use Rattle.vx_grouped.proofs.BackMapLemmas.{back_maps, back_note, back_noted}
 use Rattle.vx_grouped.proofs.MapStandLemmas.{logs_of}
 use Rattle.vx_grouped.proofs.NotedMapLemmas.{map_in}
@@ -244,14 +244,13 @@ module _ {S : Type 0} (meaning : S → Meaning) (rested : Rested) (old : Meaning
       serial = refl;
     }
 
-    crashed_risen : PartsRisen old crashed_note (map_parts core.inner.config logs flags ended) new
+    crashed_risen : RisenMaps old new crashed_note
     crashed_risen = record {
       mapped = λ v. refl;
       doubt = λ v is c tells all.
           let flag = left_flag (ltb v (length core.inner.config.volumes)) (is_alike flags v) is in
           let low = ltb-true v (length core.inner.config.volumes) flag.0 in
           (clean_c c tells all v low flag.1, low_c c tells all v low);
-      noted = crashed_noted;
     }
 
   -- ---- what memory has, whatever was noted
@@ -269,5 +268,5 @@ module _ {S : Type 0} (meaning : S → Meaning) (rested : Rested) (old : Meaning
   parts_came = record {
     so = λ w c tells all idle. (back_note w c core.inner.config logs flags ended, came_maps c tells all w idle, came_noted c tells all w idle);
     some = (memory_note core.inner.config logs flags ended, memory_noted);
-    none = λ none. (crashed_note none, crashed_risen none);
+    none = λ none. (crashed_note none, crashed_risen none, crashed_noted none);
   }

@@ -56,3 +56,4 @@ pub mod PlexMapLemmas
 pub mod AddMapLemmas
 pub mod LeaveMapLemmas
 pub mod ImportMapLemmas
+pub mod ReturnMapLemmas

@@ -16,7 +16,7 @@ use Rattle.vx_grouped.specs.GroupSites.{idle_disks, laid_disks, site_config}
 use Rattle.vx_grouped.specs.MapsNoted.{CopiesNoted, MapsNoted}
 use Rattle.vx_grouped.specs.PlainMaps.{MapParts, PartsLeft, PartsMoved, PartsNoted, laid_parts}
 use Rattle.vx_grouped.specs.SiteEnds.{answers_down}
-use Rattle.vx_grouped.specs.SiteMaps.{CrashMapped, DeportMapped, DiskMaps, MapsLike, MapsMoved, MapsOf, ReadMapped, UpMaps}
+use Rattle.vx_grouped.specs.SiteMaps.{CrashMapped, DeportMapped, DiskMaps, DownMaps, RestsNot, MapsLike, MapsMoved, MapsOf, ReadMapped, UpMaps}
 use Rattle.vx_grouped.specs.declared.group_site.GroupSite.TheVariants.{Deported, Down, Up}
 use Rattle.vx_grouped.specs.declared.idle.Idle.{Idle}
 use Rattle.vx_grouped.specs.declared.laid.Laid.{Laid}
@@ -34,18 +34,22 @@ module _ {R : Type 0} {g : Ghosts R} where
   -- the group is up behind the call
   pub up_maps : (By : Meaning → Meaning → Config → Config → MissedNote → MissedNote → Type 0) (old new : Laid R g) → (IsTrue (laid_disks new).down → ⊥)
       → PartsMoved (By (laid_disks old) (laid_disks new)) (laid_parts old) (laid_parts new) (laid_disks new) → UpMaps By (Up old) (Up new)
-  up_maps By old new up moved = λ c d was now.
-      subst (λ (x : Config). MapsMoved (By (laid_disks old) (laid_disks new) x d) x d (Up old) (Up new)) (one_config old.core.inner.config c was)
-      (subst (λ (y : Config). MapsMoved (By (laid_disks old) (laid_disks new) old.core.inner.config y) old.core.inner.config y (Up old) (Up new)) (one_config new.core.inner.config d now)
-      (record { so = λ w noted. moved.so w up noted }))
+  up_maps By old new up moved = (
+    λ c d was now.
+        subst (λ (x : Config). MapsMoved (By (laid_disks old) (laid_disks new) x d) x d (Up old) (Up new)) (one_config old.core.inner.config c was)
+        (subst (λ (y : Config). MapsMoved (By (laid_disks old) (laid_disks new) old.core.inner.config y) old.core.inner.config y (Up old) (Up new)) (one_config new.core.inner.config d now)
+        (record { so = λ w noted. moved.so w up noted })),
+    tt,
+  )
 
   -- it crashed
-  pub down_maps : (By : Meaning → Meaning → Config → Config → MissedNote → MissedNote → Type 0) (old : Laid R g) (idle : Idle R g) → UpMaps By (Up old) (Down idle)
-  down_maps By old idle = λ c d was none. absurd (let clash : None ≡ Some d = none in cc)
+  pub down_maps : (By : Meaning → Meaning → Config → Config → MissedNote → MissedNote → Type 0) (old : Laid R g) (idle : Idle R g) → RestsNot idle.rested → UpMaps By (Up old) (Down idle)
+  down_maps By old idle rests = (λ c d was none. absurd (let clash : None ≡ Some d = none in cc), rests)
 
   -- the disks of a group that crashed have what was in memory
-  pub crash_up : (old : Laid R g) (idle : Idle R g) → ((w : MissedNote) → PartsNoted w (laid_parts old) → DiskMaps w old.core.inner.config (idle_disks idle)) → CrashMapped (Up old) (Down idle)
-  crash_up old idle maps = λ c w was. subst (λ (x : Config). MapsOf w x (Up old) → DiskMaps w x (idle_disks idle)) (one_config old.core.inner.config c was) (λ noted. maps w noted)
+  pub crash_up : (old : Laid R g) (idle : Idle R g) → ((w : MissedNote) → PartsNoted w (laid_parts old) → DiskMaps w old.core.inner.config (idle_disks idle)) → RestsNot idle.rested → CrashMapped (Up old) (Down idle)
+  crash_up old idle maps rests = λ c w was.
+      subst (λ (x : Config). MapsOf w x (Up old) → DownMaps w x idle.rested (idle_disks idle)) (one_config old.core.inner.config c was) (λ noted. record { disks = maps w noted; rests = rests })
 
   -- so many regions are copied to a plex, by what is noted
   pub copies_up : (old : Laid R g) (vol plex count : ℕ) → ((w : MissedNote) → PartsNoted w (laid_parts old) → active old.core.inner.config vol plex ≡ false → CopiesNoted w old.core.inner.config vol plex count)

@@ -1,5 +1,5 @@
 -- What calls of a group make of the regions that plexes missed, as its site notes them, by the parts of the group before and behind them.
-use Rattle.std.specs.Prelude.{◌≡◌, ◌<◌, ℕ, Bool, true, false, IsTrue, List, Option, Some, length, Result, Ok, Err}
+use Rattle.std.specs.Prelude.{◌≡◌, ℕ, Bool, false, IsTrue, List, Option, Some, Result, Ok, Err}
 use Rattle.vx_config.specs.declared.config.Config.{Config}
 use Rattle.vx_disk.specs.Racks.{IsRack}
 use Rattle.vx_disk.specs.Shelf.{Meaning}
@@ -15,7 +15,7 @@ use Rattle.vx_volume.specs.Plexes.{active}
 use Rattle.vx_grouped.specs.Away.{AllHave}
 use Rattle.vx_grouped.specs.MapsNoted.{CopiesNoted, MapsNoted}
 use Rattle.vx_grouped.specs.declared.laid.Laid.{Laid}
-use Rattle.vx_grouped.specs.SiteMaps.{AddMaps, BackMaps, DetMapsDone, DetMapsFailed, DoubtMaps, IdleMaps, MapsLike, StopsClean, WriteMaps}
+use Rattle.vx_grouped.specs.SiteMaps.{AddMaps, BackMaps, DetMapsDone, DetMapsFailed, DoubtMaps, IdleMaps, MapsLike, RisenMaps, WriteMaps}
 
 -- what a group has beside its disks: its configuration, the logs of its volumes, which of them are alike, and whether logs are stopped
 pub record MapParts : Type 0 where
@@ -65,17 +65,11 @@ abbrev pub LeavesMaps : {S G : Type 0} → MapParts → Meaning → (S → Meani
 LeavesMaps x m meaning parts back (Ok s) = PartsLeft x s.1 m (meaning s.0)
 LeavesMaps x m meaning parts back (Err (g, stop)) = IsRack m → IsRack (back g) → PartsMoved (MapsLike m (back g)) x (parts g) (back g)
 
--- A group that came up from a crash: no map of it is known, and a volume that is not alike stopped cleanly by the configuration that all images had.
-pub record PartsRisen (old : Meaning) (next : MissedNote) (y : MapParts) (new : Meaning) : Type 0 where
-  pub mapped : (v : ℕ) → next.mapped v ≡ false
-  pub doubt : (v : ℕ) → next.doubt v ≡ true → (c : Config) → IsTrue new.tells → AllHave c old → StopsClean c v × (v < length c.volumes)
-  pub noted : PartsNoted next y
-
 -- An import: of disks that have what was noted, and of others; and of disks of which a value says that no volume rests.
 pub record PartsBack (r : Rested) (old : Meaning) (y : MapParts) (new : Meaning) : Type 0 where
   pub so : (w : MissedNote) (c : Config) → IsTrue new.tells → AllHave c old → IdleMaps w c (Some r) old → (next : MissedNote) × BackMaps old new c y.config w next × PartsNoted next y
   pub some : (w : MissedNote) × PartsNoted w y
-  pub none : RestsNone r → (next : MissedNote) × PartsRisen old next y new
+  pub none : RestsNone r → (next : MissedNote) × RisenMaps old new next × PartsNoted next y
 
 abbrev pub ComesMaps : {S G : Type 0} → Rested → Meaning → (G → MapParts) → (G → Meaning) → Result G (S × Stop) → Type 0
 ComesMaps r old parts new (Ok g) = PartsBack r old (parts g) (new g)

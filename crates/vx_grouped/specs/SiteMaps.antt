@@ -16,7 +16,7 @@ use Rattle.vx_history.specs.Missing.{each_anew, in_write, no_plex, none_missed, 
 use Rattle.vx_kept.specs.Choice.{live}
 use Rattle.vx_kept.specs.Cleans.{at_serial}
 use Rattle.vx_kept.specs.Groups.{found}
-use Rattle.vx_logimport.specs.Rests.{rests}
+use Rattle.vx_logimport.specs.Rests.{RestsNone, rests}
 use Rattle.vx_logimport.specs.declared.rested.Rested.{Rested}
 use Rattle.vx_logs.specs.Held.{InUse}
 use Rattle.vx_maplog.specs.Logs.{log_of}
@@ -26,6 +26,7 @@ use Rattle.vx_volume.specs.Plexes.{active}
 use Rattle.vx_grouped.specs.Away.{AllHave}
 use Rattle.vx_grouped.specs.GroupNotes.{noted_config}
 use Rattle.vx_grouped.specs.GroupSites.{idle_disks, site_config, site_disks}
+use Rattle.vx_grouped.specs.SiteReturns.{stops_early}
 use Rattle.vx_grouped.specs.MapsNoted.{CopiesNoted, MapsNoted, MapsOnDisk}
 use Rattle.vx_grouped.specs.declared.group_site.GroupSite.{GroupSite}
 use Rattle.vx_grouped.specs.declared.group_site.GroupSite.TheVariants.{Up, Deported, Down}
@@ -46,13 +47,28 @@ abbrev pub map_disk_or : Option LogEntry → Option ℕ
 map_disk_or None = None
 map_disk_or (Some e) = if e.lost then None else Some e.disk
 
--- the disk of the log of missed regions of a volume, where it has one that is not lost
-abbrev pub map_disk_of : Config → ℕ → Option ℕ
-map_disk_of c v = map_disk_or (log_of c v Fmr)
+-- where a value says which volumes rest, it says so of none
+pub record RestsNot (rested : Option Rested) : Type 0 where
+  pub none : (r : Rested) → rested ≡ Some r → RestsNone r
+
+-- The disks of a group that crashed have what is noted, and no volume rests.
+pub record DownMaps (w : MissedNote) (c : Config) (rested : Option Rested) (m : Meaning) : Type 0 where
+  pub disks : DiskMaps w c m
+  pub rests : RestsNot rested
 
 -- a volume stopped cleanly: none of its plexes is ACTIVE
 pub record StopsClean (c : Config) (v : ℕ) : Type 0 where
   pub each : (p : ℕ) → active c v p ≡ false
+
+-- A group that came up from disks, of which a value says which volumes rest: on which all images had configuration c, if contents are told. Where it says so of
+-- none, no map is known, and a volume of which a write failed stopped cleanly.
+pub record RisenMaps (old new : Meaning) (next : MissedNote) : Type 0 where
+  pub mapped : (v : ℕ) → next.mapped v ≡ false
+  pub doubt : (v : ℕ) → next.doubt v ≡ true → (c : Config) → IsTrue new.tells → AllHave c old → StopsClean c v × (v < length c.volumes)
+
+-- the disk of the log of missed regions of a volume, where it has one that is not lost
+abbrev pub map_disk_of : Config → ℕ → Option ℕ
+map_disk_of c v = map_disk_or (log_of c v Fmr)
 
 -- a call on this disk failed
 abbrev pub FailedAt : Meaning → Meaning → ℕ → Type 0
@@ -100,14 +116,14 @@ module _ {R : Type 0} {g : Ghosts R} where
   abbrev pub MapsOf : MissedNote → Config → GroupSite R g → Type 0
   MapsOf w c (Up group) = MapsNoted w c group.logs.items group.alike group.stopped
   MapsOf w c (Deported idle) = IdleMaps w c idle.rested (idle_disks idle)
-  MapsOf w c (Down idle) = DiskMaps w c (idle_disks idle)
+  MapsOf w c (Down idle) = DownMaps w c idle.rested (idle_disks idle)
   MapsOf w c other = Unit {0}
 
   -- the same of what a site notes: of disks by themselves only where it is known what they hold
   abbrev pub MapsFor : GroupNode → Config → GroupSite R g → Type 0
   MapsFor note c (Up group) = MapsNoted note.maps c group.logs.items group.alike group.stopped
   MapsFor note c (Deported idle) = note.dark ≡ false → IdleMaps note.maps c idle.rested (idle_disks idle)
-  MapsFor note c (Down idle) = note.dark ≡ false → DiskMaps note.maps c (idle_disks idle)
+  MapsFor note c (Down idle) = note.dark ≡ false → DownMaps note.maps c idle.rested (idle_disks idle)
   MapsFor note c other = Unit {0}
 
   -- a site stands for what it notes of its maps, by the configuration that it notes
@@ -122,9 +138,14 @@ module _ {R : Type 0} {g : Ghosts R} where
   pub record MapsMoved (By : MissedNote → MissedNote → Type 0) (c d : Config) (old new : GroupSite R g) : Type 0 where
     pub so : (w : MissedNote) → MapsOf w c old → (next : MissedNote) × By w next × MapsOf next d new
 
-  -- so it is of a group that is up, and goes on
+  -- of disks on which a group crashed no volume rests
+  abbrev pub DownRests : GroupSite R g → Type 0
+  DownRests (Down idle) = RestsNot idle.rested
+  DownRests other = Unit {0}
+
+  -- so it is of a group that is up, and goes on; or its fuse ran out
   abbrev pub UpMaps : (Meaning → Meaning → Config → Config → MissedNote → MissedNote → Type 0) → GroupSite R g → GroupSite R g → Type 0
-  UpMaps By old new = (c d : Config) → site_config old ≡ Some c → site_config new ≡ Some d → MapsMoved (By (site_disks old) (site_disks new) c d) c d old new
+  UpMaps By old new = ((c d : Config) → site_config old ≡ Some c → site_config new ≡ Some d → MapsMoved (By (site_disks old) (site_disks new) c d) c d old new) × DownRests new
 
   -- ---- calls, by their answers; a call in which the fuse ran out leaves nothing that is said of maps
 
@@ -159,14 +180,27 @@ module _ {R : Type 0} {g : Ghosts R} where
   abbrev pub CrashMapped : GroupSite R g → GroupSite R g → Type 0
   CrashMapped old new = (c : Config) (w : MissedNote) → site_config old ≡ Some c → MapsOf w c old → MapsOf w c new
 
-  -- An import of disks that were deported, or a recovery: of disks of which contents are told, on which all images had configuration c.
-  abbrev pub ImportMapped : GroupSite R g → GroupSite R g → Result (Unit {0}) Stop → Type 0
-  ImportMapped old new (Ok done) =
-      ((c d : Config) → IsTrue (site_disks new).tells → AllHave c (site_disks old) → site_config new ≡ Some d → MapsMoved (BackMaps (site_disks old) (site_disks new) c d) c d old new)
-      × ((d : Config) → site_config new ≡ Some d → (w : MissedNote) × MapsOf w d new)
-  ImportMapped old new (Err stop) = Unit {0}
+  -- an import of disks, with a value that says which volumes rest: what is noted goes on; and something may be noted, whatever the disks were
+  pub record CameUp (rested : Option Rested) (old : Meaning) (new : GroupSite R g) : Type 0 where
+    pub so : (w : MissedNote) (c d : Config) → IsTrue (site_disks new).tells → AllHave c old → site_config new ≡ Some d → IdleMaps w c rested old → (next : MissedNote) × BackMaps old (site_disks new) c d w next × MapsOf next d new
+    pub some : (d : Config) → site_config new ≡ Some d → (w : MissedNote) × MapsOf w d new
+    pub none : (d : Config) → site_config new ≡ Some d → RestsNot rested → (next : MissedNote) × RisenMaps old (site_disks new) next × MapsOf next d new
 
-  -- a recovery, of a site that crashed: it knows no map
-  abbrev pub RecoverMapped : GroupSite R g → Result (Unit {0}) Stop → Type 0
-  RecoverMapped new (Ok done) = (d : Config) → site_config new ≡ Some d → (w : MissedNote) × ((v : ℕ) → w.mapped v ≡ false) × MapsOf w d new
-  RecoverMapped new (Err stop) = Unit {0}
+  -- refused before it wrote, the disks have what they had
+  abbrev pub ImportMapped : Option Rested → Meaning → GroupSite R g → Result (Unit {0}) Stop → Type 0
+  ImportMapped rested old new (Ok done) = CameUp rested old new
+  ImportMapped rested old new (Err stop) = stops_early stop ≡ true → (w : MissedNote) (c : Config) → IdleMaps w c rested old → MapsOf w c new
+
+  abbrev pub RecoverMapped : Option Rested → Meaning → GroupSite R g → Result (Unit {0}) Stop → Type 0
+  RecoverMapped rested old new (Ok done) = CameUp rested old new
+  RecoverMapped rested old new (Err stop) = stops_early stop ≡ true → (w : MissedNote) (c : Config) → DownMaps w c rested old → MapsOf w c new
+
+  -- either, of a site
+  abbrev pub CameMapped : GroupSite R g → GroupSite R g → Result (Unit {0}) Stop → Type 0
+  CameMapped (Deported idle) new r = ImportMapped idle.rested (idle_disks idle) new r
+  CameMapped (Down idle) new r = RecoverMapped idle.rested (idle_disks idle) new r
+  CameMapped other new r = Unit {0}
+
+  -- a call that leaves all as it is, as one that makes calls on a disk fail
+  abbrev pub StaysMapped : GroupSite R g → GroupSite R g → Type 0
+  StaysMapped old new = (w : MissedNote) (c : Config) → MapsOf w c old → MapsOf w c new

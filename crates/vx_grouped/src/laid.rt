@@ -48,7 +48,7 @@ impl<R: Rack> Laid<R> {
     ghost use Rattle.vx_grouped.specs.GroupSites.{FitsPlain};
     ghost use Rattle.vx_grouped.specs.Plain.{HoldsPlain};
     ghost use Rattle.vx_grouped.specs.PlainMaps.{PartsNoted, map_parts};
-    ghost use Rattle.vx_grouped.specs.SiteMaps.{DiskMaps};
+    ghost use Rattle.vx_grouped.specs.SiteMaps.{DiskMaps, RestsNot};
     ghost use Rattle.vx_history.specs.Groups.{GroupNode, MissedNote};
     ghost use Rattle.vx_history.specs.World.{Node};
     ghost use Rattle.vx_model.specs.declared.site.SiteState.TheVariants.{Down as DownState};
@@ -186,6 +186,7 @@ impl<R: Rack> Laid<R> {
         ensures agreed { result.agreed ≡ self.core.inner.agreed }
         ensures disks { OnDisks (shade_meaning (λ s. R.meaning s) self.shelf).disks (shade_meaning (λ s. R.meaning s) result.rack).disks (Crashed (shade_meaning (λ s. R.meaning s) self.shelf).size pick) }
         ensures maps { (w : MissedNote) → PartsNoted w (map_parts self.core.inner.config self.logs.items self.alike self.stopped) → DiskMaps w self.core.inner.config (shade_meaning (λ s. R.meaning s) result.rack) }
+        ensures rests { RestsNot result.rested }
         ensures told { TellsLess (R.meaning (rack_of self.shelf)) (R.meaning (rack_of result.rack)) }
     {
         crash_laid::<Brand, R>(self, pick)

@@ -13,7 +13,7 @@ ghost use Rattle.vx_logimport.specs.declared.rested.Rested.{Rested as RestedValu
 ghost use Rattle.vx_logimport.specs.Rests.{RestsNone};
 ghost use Rattle.vx_model.specs.declared.site.SiteState.TheVariants.{Down as DownState};
 ghost use Rattle.vx_grouped.specs.PlainMaps.{PartsNoted, map_parts};
-ghost use Rattle.vx_grouped.specs.SiteMaps.{DiskMaps};
+ghost use Rattle.vx_grouped.specs.SiteMaps.{DiskMaps, RestsNot};
 ghost use Rattle.vx_untold.specs.Shades.{rack_of, shade_meaning};
 ghost use Rattle.vx_watched.specs.Traces.{TellsLess};
 
@@ -92,6 +92,7 @@ pub(crate) fn crash_laid<C: Begun, R: Rack>(laid: Laid<R>, pick: u64) -> Idle<R>
     ensures agreed { result.agreed ≡ laid.core.inner.agreed }
     ensures disks { OnDisks (shade_meaning (λ s. R.meaning s) laid.shelf).disks (shade_meaning (λ s. R.meaning s) result.rack).disks (Crashed (shade_meaning (λ s. R.meaning s) laid.shelf).size pick) }
     ensures maps { (w : MissedNote) → PartsNoted w (map_parts laid.core.inner.config laid.logs.items laid.alike laid.stopped) → DiskMaps w laid.core.inner.config (shade_meaning (λ s. R.meaning s) result.rack) }
+    ensures rests { RestsNot result.rested }
     ensures told { TellsLess C.first (R.meaning (rack_of result.rack)) }
 {
     let (mut shelf, rest) = trace::<C, R>(laid).apart();

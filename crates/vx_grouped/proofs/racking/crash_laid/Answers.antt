@@ -50,3 +50,6 @@ returns-clause-maps g c = λ w noted.
     (from_logged c.args.laid.core c.args.laid.logs.items c.args.laid.alike c.args.laid.stopped (shade_meaning g.R.Shelf.meaning c.args.laid.shelf) c.args.laid.stands)
     w (shade_meaning g.R.Shelf.meaning c.of.result.rack) noted (λ i each u b. fell.leaves u b (i u b) (each u b))
     (λ i. found_same (shade_meaning g.R.Shelf.meaning c.args.laid.shelf) (shade_meaning g.R.Shelf.meaning c.of.result.rack) fell.units fell.size (λ u. true) i)
+
+pub returns-clause-rests : goal.returns-clause-rests
+returns-clause-rests g c = record { none = λ r is. (c.rested_of.ensures.none r (sym c.of.ensures.rested ∙ is)).1 }

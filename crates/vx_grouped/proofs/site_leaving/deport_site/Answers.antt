@@ -60,7 +60,7 @@ returns-in-Ok-clause-maps g c = λ n note up.
     (subst (λ s. PartsLeft (laid_parts c.args.laid) c.in-Ok.rested (shade_meaning g.R.Shelf.meaning c.args.laid.shelf) (shade_meaning g.R.Shelf.meaning s)) (sym c.of.ensures.rack) c.in-Ok.ensures.maps))
 
 pub returns-then-is_down_stop-clause-maps : goal.returns-then-is_down_stop-clause-maps
-returns-then-is_down_stop-clause-maps g c = λ n note up. down_maps MapsLike c.args.laid c.crash.result
+returns-then-is_down_stop-clause-maps g c = λ n note up. down_maps MapsLike c.args.laid c.crash.result c.crash.ensures.rests
 
 pub returns-else-is_down_stop-clause-maps : goal.returns-else-is_down_stop-clause-maps
 returns-else-is_down_stop-clause-maps g c = λ n note up.

@@ -53,7 +53,7 @@ returns-in-Ok-clause-maps g c = λ n note up.
     up_maps AddMaps c.args.laid c.make_watched-laid.result.0 (works.leaves n note up.at).1.up (subst (λ r. AddsMaps (laid_parts c.args.laid) (shade_meaning g.R.Shelf.meaning c.args.laid.shelf) (laid_parts c.make_watched-laid.result.0) (shade_meaning g.R.Shelf.meaning c.make_watched-laid.result.0.shelf) r) c.in-Ok.is (c.make_watched-laid.ensures.maps (racks c.args.laid.shelf) (racks c.make_watched-laid.result.0.shelf)))
 
 pub returns-then-is_down_stop-clause-maps : goal.returns-then-is_down_stop-clause-maps
-returns-then-is_down_stop-clause-maps g c = λ n note up. down_maps MapsLike c.args.laid c.crash.result
+returns-then-is_down_stop-clause-maps g c = λ n note up. down_maps MapsLike c.args.laid c.crash.result c.crash.ensures.rests
 
 pub returns-else-is_down_stop-clause-maps : goal.returns-else-is_down_stop-clause-maps
 returns-else-is_down_stop-clause-maps g c = λ n note up.

@@ -47,7 +47,7 @@ returns-in-Ok-clause-maps g c = λ n note up fits.
     up_maps (WriteMaps (plain_write c.args.vol c.args.block c.args.bytes.now)) c.args.laid c.write_watched-laid.result.0 (works.leaves n note up.at).1.up (subst (λ r. WritesMaps (plain_write c.args.vol c.args.block c.args.bytes.now) (laid_parts c.args.laid) (shade_meaning g.R.Shelf.meaning c.args.laid.shelf) (laid_parts c.write_watched-laid.result.0) (shade_meaning g.R.Shelf.meaning c.write_watched-laid.result.0.shelf) r) c.in-Ok.is c.write_watched-laid.ensures.maps)
 
 pub returns-then-is_down_no-clause-maps : goal.returns-then-is_down_no-clause-maps
-returns-then-is_down_no-clause-maps g c = λ n note up fits. down_maps (DoubtMaps (plain_write c.args.vol c.args.block c.args.bytes.now)) c.args.laid c.crash.result
+returns-then-is_down_no-clause-maps g c = λ n note up fits. down_maps (DoubtMaps (plain_write c.args.vol c.args.block c.args.bytes.now)) c.args.laid c.crash.result c.crash.ensures.rests
 
 pub returns-else-is_down_no-clause-maps : goal.returns-else-is_down_no-clause-maps
 returns-else-is_down_no-clause-maps g c = λ n note up fits.

@@ -52,7 +52,7 @@ returns-in-Ok-clause-maps g c = λ n note up.
     (up_maps MapsLike c.args.laid c.att_watched-laid.result.0 (works.leaves n note up.at).1.up maps.0, copies_up c.args.laid c.args.vol c.args.plex c.in-Ok.count maps.1)
 
 pub returns-then-is_down_stop-clause-maps : goal.returns-then-is_down_stop-clause-maps
-returns-then-is_down_stop-clause-maps g c = λ n note up. down_maps MapsLike c.args.laid c.crash.result
+returns-then-is_down_stop-clause-maps g c = λ n note up. down_maps MapsLike c.args.laid c.crash.result c.crash.ensures.rests
 
 pub returns-else-is_down_stop-clause-maps : goal.returns-else-is_down_stop-clause-maps
 returns-else-is_down_stop-clause-maps g c = λ n note up.

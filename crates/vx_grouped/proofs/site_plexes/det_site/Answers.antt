@@ -51,7 +51,7 @@ returns-in-Ok-clause-maps g c = λ n note up.
     up_maps (DetMapsDone c.args.vol c.args.plex) c.args.laid c.det_watched-laid.result.0 (works.leaves n note up.at).1.up (subst (λ r. DetsMaps c.args.vol c.args.plex (laid_parts c.args.laid) (shade_meaning g.R.Shelf.meaning c.args.laid.shelf) (laid_parts c.det_watched-laid.result.0) (shade_meaning g.R.Shelf.meaning c.det_watched-laid.result.0.shelf) r) c.in-Ok.is (c.det_watched-laid.ensures.maps (racks c.args.laid.shelf) (racks c.det_watched-laid.result.0.shelf)))
 
 pub returns-then-is_down_stop-clause-maps : goal.returns-then-is_down_stop-clause-maps
-returns-then-is_down_stop-clause-maps g c = λ n note up. down_maps (DetMapsFailed c.args.vol) c.args.laid c.crash.result
+returns-then-is_down_stop-clause-maps g c = λ n note up. down_maps (DetMapsFailed c.args.vol) c.args.laid c.crash.result c.crash.ensures.rests
 
 pub returns-else-is_down_stop-clause-maps : goal.returns-else-is_down_stop-clause-maps
 returns-else-is_down_stop-clause-maps g c = λ n note up.

@@ -23,4 +23,4 @@ returns-in-Up-clause-cut g c = λ n note it.
     (λ tight. c.crash.ensures.agreed ∙ fallen.cut.lies.agreed tight) (record { down = c.crash.ensures.stopped.down; unarmed = c.crash.ensures.stopped.unarmed }) fallen.spells (c.crash.ensures.away n note fallen.cut.lies)
 
 pub returns-in-Up-clause-maps : goal.returns-in-Up-clause-maps
-returns-in-Up-clause-maps g c = λ d w was noted. crash_up c.in-Up.group c.crash.result c.crash.ensures.maps d w (subst (λ e. site_config e ≡ Some d) c.in-Up.is was) (subst (λ e. MapsOf w d e) c.in-Up.is noted)
+returns-in-Up-clause-maps g c = λ d w was noted. crash_up c.in-Up.group c.crash.result c.crash.ensures.maps c.crash.ensures.rests d w (subst (λ e. site_config e ≡ Some d) c.in-Up.is was) (subst (λ e. MapsOf w d e) c.in-Up.is noted)
