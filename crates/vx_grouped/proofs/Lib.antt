@@ -57,3 +57,4 @@ pub mod AddMapLemmas
 pub mod LeaveMapLemmas
 pub mod ImportMapLemmas
 pub mod ReturnMapLemmas
+pub mod StayMapLemmas

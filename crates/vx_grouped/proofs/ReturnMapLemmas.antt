@@ -1,6 +1,6 @@
 -- What is noted of the maps of disks by themselves, and of a group that came up from them.
 use Rattle.std.proofs.Common.{◌≡◌, ◌⊎◌, ◌∙◌, inl, inr, ℕ, Bool, true, false, List, refl, sym, subst, IsTrue}
-use Rattle.std.specs.Prelude.{Err, Ok, Option, None, Some}
+use Rattle.std.specs.Prelude.{Err, Ok, Option, None, Result, Some}
 use Rattle.vx_config.specs.declared.config.Config.{Config}
 use Rattle.vx_copyfmt.specs.Imports.{Found}
 use Rattle.vx_disk.specs.Counts.{Rose}
@@ -16,16 +16,20 @@ use Rattle.vx_model.specs.declared.errors.Stop.TheVariants.{No as Refused, OutOf
 use Rattle.vx_model.specs.declared.no.No.TheVariants.{Down as IsOff}
 use Rattle.vx_untold.specs.Shades.{shade_meaning}
 use Rattle.vx_untold.specs.declared.shade.Shade.{Shade}
+use Rattle.vx_untold.specs.declared.shade.Shade.TheVariants.{Bright, Dark}
 use Rattle.vx_grouped.specs.Away.{AllHave}
-use Rattle.vx_grouped.specs.GroupSites.{idle_disks, laid_disks}
+use Rattle.vx_grouped.specs.GroupSites.{idle_disks, laid_disks, site_disks}
 use Rattle.vx_grouped.specs.MapsNoted.{MapsNoted}
 use Rattle.vx_grouped.specs.PlainMaps.{PartsBack, laid_parts}
+use Rattle.vx_grouped.specs.Readies.{ready_of}
 use Rattle.vx_grouped.specs.SiteEnds.{stops_down}
-use Rattle.vx_grouped.specs.SiteMaps.{BackMaps, CameUp, DiskMaps, DownMaps, FailedAt, IdleMaps, MapsOf, RisenMaps, map_disk_of}
+use Rattle.vx_grouped.specs.SiteMaps.{BackMaps, CameUp, DiskMaps, DownMaps, FailedAt, IdleMaps, ImportMapped, MapsOf, RecoverMapped, RisenMaps, map_disk_of}
 use Rattle.vx_grouped.specs.SiteReturns.{stops_early}
+use Rattle.vx_grouped.specs.declared.group_site.GroupSite.{GroupSite}
 use Rattle.vx_grouped.specs.declared.group_site.GroupSite.TheVariants.{Deported, Down, Up}
 use Rattle.vx_grouped.specs.declared.idle.Idle.{Idle}
 use Rattle.vx_grouped.specs.declared.laid.Laid.{Laid}
+use Rattle.vx_grouped.proofs.SinceReturns.{dark_none}
 
 -- ---- disks that keep no more
 
@@ -93,22 +97,22 @@ module _ {R : Type 0} {g : Ghosts R} where
 
   -- ---- a group that came up
 
-  module _ (old m1 : Meaning) (laid : Laid R g) (units : m1.units ≡ old.units) (size : (u : ℕ) → m1.size u ≡ old.size u) (leaves : (u b : ℕ) (v : List ℕ) → m1.leaves u b v → old.leaves u b v) (counts : (k : ℕ) → m1.disk_faults k ≡ old.disk_faults k) where
-    came_risen : (next : MissedNote) → RisenMaps m1 (laid_disks laid) next → RisenMaps old (laid_disks laid) next
-    came_risen next it = record { mapped = it.mapped; doubt = λ v is c tells all. it.doubt v is c tells (less_all old m1 units size leaves c all) }
+  module _ (old m1 : Meaning) (units : m1.units ≡ old.units) (size : (u : ℕ) → m1.size u ≡ old.size u) (leaves : (u b : ℕ) (v : List ℕ) → m1.leaves u b v → old.leaves u b v) (counts : (k : ℕ) → m1.disk_faults k ≡ old.disk_faults k) where
+    came_risen : (new : Meaning) (next : MissedNote) → RisenMaps m1 new next → RisenMaps old new next
+    came_risen new next it = record { mapped = it.mapped; doubt = λ v is c tells all. it.doubt v is c tells (less_all old m1 units size leaves c all) }
 
     -- by disks that keep no more
-    pub came_from : (o : Option Rested) → CameUp o m1 (Up laid) → CameUp o old (Up laid)
-    came_from o it = record {
+    pub came_from : (o : Option Rested) (new : GroupSite R g) → CameUp o m1 new → CameUp o old new
+    came_from o new it = record {
       so = λ w c d tells all now idle.
           let b = it.so w c d tells (less_all old m1 units size leaves c all) now (less_idle old m1 units size leaves w c o idle) in
-          (b.0, from_back old m1 (laid_disks laid) counts c d w b.0 b.1, b.2);
+          (b.0, from_back old m1 (site_disks new) counts c d w b.0 b.1, b.2);
       some = it.some;
-      none = λ d now not. let b = it.none d now not in (b.0, came_risen b.0 b.1, b.2);
+      none = λ d now not. let b = it.none d now not in (b.0, came_risen (site_disks new) b.0 b.1, b.2);
     }
 
-    pub came_up : (rested : Rested) → PartsBack rested m1 (laid_parts laid) (laid_disks laid) → CameUp (Some rested) old (Up laid)
-    came_up rested it = record {
+    pub came_up : (laid : Laid R g) (rested : Rested) → PartsBack rested m1 (laid_parts laid) (laid_disks laid) → CameUp (Some rested) old (Up laid)
+    came_up laid rested it = record {
       so = λ w c d tells all now idle.
           let b = it.so w c tells (less_all old m1 units size leaves c all) (less_idle old m1 units size leaves w c (Some rested) idle) in
           subst (λ (y : Config). (next : MissedNote) × BackMaps old (laid_disks laid) c y w next × MapsNoted next y laid.logs.items laid.alike laid.stopped) (one_config laid.core.inner.config d now)
@@ -116,5 +120,36 @@ module _ {R : Type 0} {g : Ghosts R} where
       some = λ d now. subst (λ (y : Config). (w : MissedNote) × MapsNoted w y laid.logs.items laid.alike laid.stopped) (one_config laid.core.inner.config d now) it.some;
       none = λ d now not.
           let b = it.none (not.none rested refl) in
-          subst (λ (y : Config). (next : MissedNote) × RisenMaps old (laid_disks laid) next × MapsNoted next y laid.logs.items laid.alike laid.stopped) (one_config laid.core.inner.config d now) (b.0, came_risen b.0 b.1, b.2);
+          subst (λ (y : Config). (next : MissedNote) × RisenMaps old (laid_disks laid) next × MapsNoted next y laid.logs.items laid.alike laid.stopped) (one_config laid.core.inner.config d now) (b.0, came_risen (laid_disks laid) b.0 b.1, b.2);
     }
+
+  -- ---- disks as an import takes them
+
+  pub record ReadyLess (old new : Meaning) : Type 0 where
+    pub units : new.units ≡ old.units
+    pub size : (u : ℕ) → new.size u ≡ old.size u
+    pub leaves : (u b : ℕ) (v : List ℕ) → new.leaves u b v → old.leaves u b v
+    pub counts : (k : ℕ) → new.disk_faults k ≡ old.disk_faults k
+
+  ready_less : (agreed : Bool) (s : Shade R) → ReadyLess (shade_meaning g.meaning s) (shade_meaning g.meaning (ready_of agreed s))
+  ready_less true s = record { units = refl; size = λ u. refl; leaves = λ u b v left. left; counts = λ k. refl }
+  ready_less false (Dark r) = record { units = refl; size = λ u. refl; leaves = λ u b v left. left; counts = λ k. refl }
+  ready_less false (Bright r) = record { units = refl; size = λ u. refl; leaves = λ u b v left. absurd ((dark_none g.meaning (Bright r)).leaves u b v left); counts = λ k. refl }
+
+  module _ (idle : Idle R g) (ready : Shade R) (is : ready ≡ ready_of idle.agreed idle.rack) (rested : Rested) (at : idle.rested ≡ Some rested) (new : GroupSite R g) where
+    less : ReadyLess (idle_disks idle) (shade_meaning g.meaning ready)
+    less = subst (λ (s : Shade R). ReadyLess (idle_disks idle) (shade_meaning g.meaning s)) (sym is) (ready_less idle.agreed idle.rack)
+
+    came_ready : CameUp (Some rested) (shade_meaning g.meaning ready) new → CameUp idle.rested (idle_disks idle) new
+    came_ready it =
+        subst (λ (o : Option Rested). CameUp o (idle_disks idle) new) (sym at) (came_from (idle_disks idle) (shade_meaning g.meaning ready) less.units less.size less.leaves less.counts (Some rested) new it)
+
+    pub imported_maps : (r : Result (Unit {0}) Stop) → ImportMapped (Some rested) (shade_meaning g.meaning ready) new r → ImportMapped idle.rested (idle_disks idle) new r
+    imported_maps (Ok done) it = came_ready it
+    imported_maps (Err stop) it = λ early w c maps.
+        it early w c (less_idle (idle_disks idle) (shade_meaning g.meaning ready) less.units less.size less.leaves w c (Some rested) (subst (λ (o : Option Rested). IdleMaps w c o (idle_disks idle)) at maps))
+
+    pub recovered_maps : (r : Result (Unit {0}) Stop) → RecoverMapped (Some rested) (shade_meaning g.meaning ready) new r → RecoverMapped idle.rested (idle_disks idle) new r
+    recovered_maps (Ok done) it = came_ready it
+    recovered_maps (Err stop) it = λ early w c maps.
+        it early w c (less_down (idle_disks idle) (shade_meaning g.meaning ready) less.units less.size less.leaves w c (Some rested) (subst (λ (o : Option Rested). DownMaps w c o (idle_disks idle)) at maps))

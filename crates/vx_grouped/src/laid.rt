@@ -157,6 +157,9 @@ impl<R: Rack> Laid<R> {
     pub fn fail(self, disk: u32, on: bool) -> Laid<R>
         requires { disk < (shade_meaning (λ s. R.meaning s) self.shelf).units }
         ensures core { result.core ≡ self.core }
+        ensures logs { result.logs ≡ self.logs }
+        ensures flags { result.alike ≡ self.alike }
+        ensures ended { result.stopped ≡ self.stopped }
         ensures alike { Alike (shade_meaning (λ s. R.meaning s) self.shelf) (shade_meaning (λ s. R.meaning s) result.shelf) }
         ensures down { (shade_meaning (λ s. R.meaning s) result.shelf).down ≡ (shade_meaning (λ s. R.meaning s) self.shelf).down }
         ensures armed { (shade_meaning (λ s. R.meaning s) result.shelf).armed ≡ (shade_meaning (λ s. R.meaning s) self.shelf).armed }
@@ -170,6 +173,9 @@ impl<R: Rack> Laid<R> {
     /// Lets that many writes and flushes of the disks pass; the next is a crash.
     pub fn fuse(self, calls: u64, pick: u64) -> Laid<R>
         ensures core { result.core ≡ self.core }
+        ensures logs { result.logs ≡ self.logs }
+        ensures flags { result.alike ≡ self.alike }
+        ensures ended { result.stopped ≡ self.stopped }
         ensures alike { Alike (shade_meaning (λ s. R.meaning s) self.shelf) (shade_meaning (λ s. R.meaning s) result.shelf) }
         ensures down { (shade_meaning (λ s. R.meaning s) result.shelf).down ≡ (shade_meaning (λ s. R.meaning s) self.shelf).down }
         ensures disks { OnDisks (shade_meaning (λ s. R.meaning s) self.shelf).disks (shade_meaning (λ s. R.meaning s) result.shelf).disks (λ o n. SameBlocks o n × (n.fuse ≡ Some (calls, pick))) }

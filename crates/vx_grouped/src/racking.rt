@@ -39,6 +39,9 @@ pub(crate) fn fail_laid<C: Begun, R: Rack>(laid: Laid<R>, disk: u32, on: bool) -
     requires disk { disk < (shade_meaning (λ s. R.meaning s) laid.shelf).units }
     requires told { TellsLess C.first (R.meaning (rack_of laid.shelf)) }
     ensures core { result.core ≡ laid.core }
+    ensures logs { result.logs ≡ laid.logs }
+    ensures flags { result.alike ≡ laid.alike }
+    ensures ended { result.stopped ≡ laid.stopped }
     ensures alike { Alike (shade_meaning (λ s. R.meaning s) laid.shelf) (shade_meaning (λ s. R.meaning s) result.shelf) }
     ensures down { (shade_meaning (λ s. R.meaning s) result.shelf).down ≡ (shade_meaning (λ s. R.meaning s) laid.shelf).down }
     ensures armed { (shade_meaning (λ s. R.meaning s) result.shelf).armed ≡ (shade_meaning (λ s. R.meaning s) laid.shelf).armed }
@@ -64,6 +67,9 @@ pub(crate) fn fail_laid<C: Begun, R: Rack>(laid: Laid<R>, disk: u32, on: bool) -
 pub(crate) fn fuse_laid<C: Begun, R: Rack>(laid: Laid<R>, calls: u64, pick: u64) -> Laid<R>
     requires { TellsLess C.first (R.meaning (rack_of laid.shelf)) }
     ensures core { result.core ≡ laid.core }
+    ensures logs { result.logs ≡ laid.logs }
+    ensures flags { result.alike ≡ laid.alike }
+    ensures ended { result.stopped ≡ laid.stopped }
     ensures alike { Alike (shade_meaning (λ s. R.meaning s) laid.shelf) (shade_meaning (λ s. R.meaning s) result.shelf) }
     ensures down { (shade_meaning (λ s. R.meaning s) result.shelf).down ≡ (shade_meaning (λ s. R.meaning s) laid.shelf).down }
     ensures disks { OnDisks (shade_meaning (λ s. R.meaning s) laid.shelf).disks (shade_meaning (λ s. R.meaning s) result.shelf).disks (λ o n. SameBlocks o n × (n.fuse ≡ Some (calls, pick))) }

@@ -105,7 +105,7 @@ pub returns-then-is_down-clause-maps : goal.returns-then-is_down-clause-maps
 returns-then-is_down-clause-maps g c = λ early w x it. idle_of c.of.result c.args.rack (Some c.args.rested) c.of.ensures.rack c.of.ensures.rested w x it
 
 pub returns-in-Ok-clause-maps : goal.returns-in-Ok-clause-maps
-returns-in-Ok-clause-maps g c = came_up (shade_meaning g.R.Shelf.meaning c.args.rack) (shade_meaning g.R.Shelf.meaning c.args.rack) c.in-Ok.laid refl (λ u. refl) (λ u b v left. left) (λ k. refl) c.args.rested c.in-Ok.ensures.maps
+returns-in-Ok-clause-maps g c = came_up (shade_meaning g.R.Shelf.meaning c.args.rack) (shade_meaning g.R.Shelf.meaning c.args.rack) refl (λ u. refl) (λ u b v left. left) (λ k. refl) c.in-Ok.laid c.args.rested c.in-Ok.ensures.maps
 
 pub returns-then-not-is_down-clause-maps : goal.returns-then-not-is_down-clause-maps
 returns-then-not-is_down-clause-maps g c = λ early w x it.

@@ -70,7 +70,7 @@ returns-then-not-is_down-clause-maps g c = λ early w x it. down_of c.of.result 
 
 pub returns-in-Ok-clause-maps : goal.returns-in-Ok-clause-maps
 returns-in-Ok-clause-maps g c =
-    came_up (shade_meaning g.R.Shelf.meaning c.args.rack) (shade_meaning g.R.Shelf.meaning c.risen.result) c.in-Ok.laid c.risen.ensures.alike.contents.units c.risen.ensures.alike.contents.size c.risen.ensures.alike.contents.leaves c.risen.ensures.alike.counts.disk_faults c.args.rested c.in-Ok.ensures.maps
+    came_up (shade_meaning g.R.Shelf.meaning c.args.rack) (shade_meaning g.R.Shelf.meaning c.risen.result) c.risen.ensures.alike.contents.units c.risen.ensures.alike.contents.size c.risen.ensures.alike.contents.leaves c.risen.ensures.alike.counts.disk_faults c.in-Ok.laid c.args.rested c.in-Ok.ensures.maps
 
 pub returns-in-Err-clause-maps : goal.returns-in-Err-clause-maps
 returns-in-Err-clause-maps g c = λ early w x it.
