@@ -15,4 +15,4 @@ returns-in-Up-clause-fused g c = λ n note it.
     (subst (λ e. UpNoted n note e) (sym c.replace.ensures.value ∙ c.in-Up.is) it)
 
 pub returns-in-Up-clause-maps : goal.returns-in-Up-clause-maps
-returns-in-Up-clause-maps g c = up_same c.args.self.now c.in-Up.group c.fuse.result (sym (sym c.replace.ensures.value ∙ c.in-Up.is)) c.fuse.ensures.logs c.fuse.ensures.flags c.fuse.ensures.ended
+returns-in-Up-clause-maps g c = up_same c.args.self.now c.in-Up.group c.fuse.result (sym c.replace.ensures.value ∙ c.in-Up.is) c.fuse.ensures.logs c.fuse.ensures.flags c.fuse.ensures.ended
