@@ -9,3 +9,4 @@ pub mod FlushLemmas
 pub mod FillLemmas
 pub mod KnowLemmas
 pub mod RefusedLemmas
+pub mod CopyRows

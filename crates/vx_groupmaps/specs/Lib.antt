@@ -7,3 +7,4 @@ pub mod Flushing
 pub mod Filling
 pub mod Knowing
 pub mod Refusing
+pub mod Copying

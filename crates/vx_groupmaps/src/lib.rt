@@ -5,6 +5,7 @@
 #![tactic(auto)]
 
 mod beginning;
+mod copying;
 mod filling;
 mod flushing;
 pub mod laws;
@@ -14,6 +15,7 @@ mod readying;
 mod refusing;
 
 pub use beginning::begin_map;
+pub use copying::copy_map;
 pub use filling::fill_maps;
 pub use flushing::{flush_mapped, goes_by_map};
 pub use loading::{LoadedMaps, load_maps};

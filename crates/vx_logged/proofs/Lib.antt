@@ -8,3 +8,4 @@ pub mod BeginLemmas
 pub mod FallenLemmas
 pub mod SpentLemmas
 pub mod EmptyLemmas
+pub mod CopyLemmas

@@ -3,3 +3,4 @@ pub mod Logged
 pub mod Tells
 pub mod Behind
 pub mod Begun
+pub mod Copied

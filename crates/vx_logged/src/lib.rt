@@ -6,6 +6,7 @@
 
 mod beginning;
 mod clearing;
+mod copying;
 mod crashing;
 mod detaching;
 mod emptying;
@@ -19,6 +20,7 @@ mod spending;
 mod writing;
 
 pub use clearing::clear_group;
+pub use copying::copy_plex;
 pub use crashing::{crash_logged, revive_logged};
 pub use detaching::det_logged;
 pub use flushing::flush_cleared;

@@ -111,6 +111,27 @@ gone_by vol l k here others w none = elim (cases_eq w vol) [
 
 -- ---- an attach
 
+-- where none are in memory of which the disk is held as failed, and no others that were not
+module _ (c d : Config) (l k : List Logs) (gone : (v : ℕ) → on_failed_disk c v ≡ true → fmr_at k v ≡ None) (same : (v : ℕ) → on_failed_disk c v ≡ false → fmr_at l v ≡ None → fmr_at k v ≡ None) where
+  pub att_comes : (s : Bool) → MapsBeginIn no_volume c d s s l k
+  att_comes s = record { so = λ v off on. absurd (by v off on (on_failed_disk c v) refl) }
+    where
+      goes_all : (x y z : Bool) → x ≡ false → y ≡ false → z ≡ true → (not x && (not y && z)) ≡ true
+      goes_all false false z going good some = some
+      goes_all false true z going good some = let clash : true ≡ false = good in cc
+      goes_all true y z going good some = let clash : true ≡ false = going in cc
+
+      some_of : (o q : Option Missed) → (o ≡ None → q ≡ None) → is_some q ≡ true → is_some o ≡ true
+      some_of None q none is = absurd (let clash : false ≡ true = sym (ap (λ (x : Option Missed). is_some x) (none refl)) ∙ is in cc)
+      some_of (Some f) q none is = refl
+
+      by : (v : ℕ) → goes_by l c s v ≡ false → goes_by k d s v ≡ true → (x : Bool) → on_failed_disk c v ≡ x → ⊥
+      by v off on true is = let clash : false ≡ true = sym (ap (λ (o : Option Missed). is_some o) (gone v is)) ∙ third_b s (on_failed_disk d v) (is_some (fmr_at k v)) on in cc
+      by v off on false is =
+          let some : is_some (fmr_at l v) ≡ true = some_of (fmr_at l v) (fmr_at k v) (same v is) (third_b s (on_failed_disk d v) (is_some (fmr_at k v)) on) in
+          let clash : false ≡ true = sym off ∙ goes_all s (on_failed_disk c v) (is_some (fmr_at l v)) (first_b s (on_failed_disk d v) (is_some (fmr_at k v)) on) is some in
+          cc
+
 module _ (c d : Config) (l k : List Logs) (held : MapsHeld c l k) where
   held_same : (v : ℕ) (x : Bool) → on_failed_disk c v ≡ x → (fmr_at k v ≡ fmr_at l v) ⊎ (fmr_at k v ≡ None)
   held_same v true is = inr (held.gone v is)
@@ -120,19 +141,7 @@ module _ (c d : Config) (l k : List Logs) (held : MapsHeld c l k) where
   held_moves = move_none c d l k (λ v. held_same v (on_failed_disk c v) refl)
 
   pub held_comes : (s : Bool) → MapsBeginIn no_volume c d s s l k
-  held_comes s = record { so = λ v off on. absurd (by v off on (on_failed_disk c v) refl) }
-    where
-      goes_all : (x y z : Bool) → x ≡ false → y ≡ false → z ≡ true → (not x && (not y && z)) ≡ true
-      goes_all false false z going good some = some
-      goes_all false true z going good some = let clash : true ≡ false = good in cc
-      goes_all true y z going good some = let clash : true ≡ false = going in cc
-
-      by : (v : ℕ) → goes_by l c s v ≡ false → goes_by k d s v ≡ true → (x : Bool) → on_failed_disk c v ≡ x → ⊥
-      by v off on true is = let clash : false ≡ true = sym (ap (λ (o : Option Missed). is_some o) (held.gone v is)) ∙ third_b s (on_failed_disk d v) (is_some (fmr_at k v)) on in cc
-      by v off on false is =
-          let some : is_some (fmr_at l v) ≡ true = sym (ap (λ (o : Option Logs). is_some (fmr_or o)) (held.same v is)) ∙ third_b s (on_failed_disk d v) (is_some (fmr_at k v)) on in
-          let clash : false ≡ true = sym off ∙ goes_all s (on_failed_disk c v) (is_some (fmr_at l v)) (first_b s (on_failed_disk d v) (is_some (fmr_at k v)) on) is some in
-          cc
+  held_comes = att_comes c d l k held.gone (λ v good none. ap fmr_or (held.same v good) ∙ none)
 
 -- ---- a volume that is made
 

@@ -38,3 +38,5 @@ pub mod RestMaps
 pub mod ThenMoves
 pub mod EndedLemmas
 pub mod ComesLemmas
+pub mod FollowLemmas
+pub mod AttMoves

@@ -1,5 +1,5 @@
 -- What the calls of a group keep of its plexes and disks.
-use Rattle.std.proofs.Common.{◌≡◌, ◌∙◌, inl, inr, ℕ, ◌<◌, true, false, IsTrue, Option, List, length, sym, ap}
+use Rattle.std.proofs.Common.{◌≡◌, ◌∙◌, inl, inr, ℕ, ◌<◌, Bool, true, false, IsTrue, Option, List, length, sym, ap}
 use Rattle.std.proofs.lemmas.Bool.{cases_lt}
 use Rattle.std.proofs.lemmas.Option.{slice_get_past}
 use Rattle.vx_config.specs.declared.config.Config.{Config}
@@ -7,7 +7,7 @@ use Rattle.vx_copies.specs.Commits.{MoreFailed}
 use Rattle.vx_copies.specs.Marks.{failed_at}
 use Rattle.vx_disk.specs.Shelf.{Meaning}
 use Rattle.vx_fmr.specs.Missed.{Missed}
-use Rattle.vx_group.specs.Calls.{GroupAttaches, GroupStays}
+use Rattle.vx_group.specs.Calls.{GroupStays}
 use Rattle.vx_group.specs.Holding.{wide}
 use Rattle.vx_group.specs.Loses.{LosesPlexes}
 use Rattle.vx_group.specs.Regains.{Regains}
@@ -15,10 +15,11 @@ use Rattle.vx_group.specs.Stands.{inner_meaning}
 use Rattle.vx_group.specs.declared.group_core.GroupCore.{GroupCore}
 use Rattle.vx_layout.specs.Places.{place, plex_in}
 use Rattle.vx_volume.specs.Plexes.{Inside, active, active_or}
+use Rattle.vx_loggroup.specs.Attaching.{LoggedAttaches}
 use Rattle.vx_loggroup.specs.Mirrors.{MirrorsKeep, names_none, names_plex}
 
 -- a plex that is ACTIVE is one of a volume
-active_low : (c : Config) (v p : ℕ) → IsTrue (active c v p) → v < length c.volumes
+pub active_low : (c : Config) (v p : ℕ) → IsTrue (active c v p) → v < length c.volumes
 unfolding active
 active_low c v p is = elim (cases_lt v (length c.volumes)) [
   | inl lt ↦ lt
@@ -53,8 +54,8 @@ keep_det v p c d m m' others disks = record {
 }
 
 -- an attach
-pub keep_att : (v p : ℕ) (f : Option Missed) (c d : GroupCore) (m m' : Meaning) → GroupAttaches v p f c d m m' → Regains c.inner.config d.inner.config v p m m' → MirrorsKeep (names_plex v p) c d m m'
-keep_att v p f c d m m' it regains = record {
+pub keep_att : (leaves : Bool) (v p : ℕ) (f : Option Missed) (c d : GroupCore) (m m' : Meaning) → LoggedAttaches leaves v p f c d m m' → Regains c.inner.config d.inner.config v p m m' → MirrorsKeep (names_plex v p) c d m m'
+keep_att leaves v p f c d m m' it regains = record {
   plexes = λ w q on not. inl (it.others w q (λ one two. not (one, two)) ∙ on);
   disks = λ u was is. regains.blamed u was is;
   reads = reads_on d m';

@@ -8,7 +8,7 @@ use Rattle.vx_fmr.specs.Missed.{Missed, has_missed}
 use Rattle.vx_logs.specs.declared.logs.Logs.{Logs}
 use Rattle.vx_volume.specs.Plexes.{active}
 use Rattle.vx_loggroup.specs.Attaching.{fmr_at}
-use Rattle.vx_loggroup.specs.Moving.{IsThere, MapsDoubt, MapsFollow, MapsMove, all_anew, in_none, in_run, missed_by, missed_in}
+use Rattle.vx_loggroup.specs.Moving.{IsThere, MapsDoubt, MapsFlushed, MapsMove, all_anew, in_none, in_run, missed_by, missed_in}
 
 both_left : (x y : Bool) → (x && y) ≡ true → x ≡ true
 both_left true y is = refl
@@ -104,7 +104,7 @@ module _ (c d : Config) (vol first last : ℕ) (sure : Bool) (l k : List Logs) (
       → ((active d vol p ≡ false) × (first ≤ r) × (r ≤ last)) ⊎ ((active c vol p ≡ true → active d vol p ≡ false → sure ≡ false) × (missed_in l c vol p r ≡ true)))
       → ((p r : ℕ) (g : Missed) → fmr_at k vol ≡ Some g → IsThere c vol p r → active c vol p ≡ true → active d vol p ≡ false → first ≤ r → r ≤ last → has_missed g p r ≡ true)
       → ((p r : ℕ) (g : Missed) → fmr_at k vol ≡ Some g → IsThere c vol p r → active c vol p ≡ false → active d vol p ≡ false → missed_in l c vol p r ≡ true → has_missed g p r ≡ true)
-      → MapsFollow c d (in_run vol first last) (all_anew vol sure) l k
+      → MapsFlushed c d (in_run vol first last) (all_anew vol sure) l k
   follow_run only hold stay = record {
     most = most_run only;
     least = λ v p r g at it on off has.

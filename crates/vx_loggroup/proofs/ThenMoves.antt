@@ -15,7 +15,7 @@ use Rattle.vx_logs.specs.declared.logs.Logs.{Logs}
 use Rattle.vx_volume.specs.Plexes.{active}
 use Rattle.vx_loggroup.specs.Attaching.{fmr_at}
 use Rattle.vx_loggroup.specs.Keeping.{LogsKeep, uses_log}
-use Rattle.vx_loggroup.specs.Moving.{IsThere, MapsBeginIn, MapsDoubt, MapsFollow, MapsMove, goes_by, missed_by, missed_in}
+use Rattle.vx_loggroup.specs.Moving.{IsThere, MapsBeginIn, MapsDoubt, MapsFlushed, MapsMove, goes_by, missed_by, missed_in}
 
 -- ---- what the maps have
 
@@ -35,7 +35,7 @@ module _ (c e d : Config) (these anew : ℕ → ℕ → Bool) (l j k : List Logs
       by false is = first on is
 
   -- both are done
-  module _ (first : MapsMove c e these anew l j) (second : MapsFollow e d these anew j k) where
+  module _ (first : MapsMove c e these anew l j) (second : MapsFlushed e d these anew j k) where
     most_then : (v p r : ℕ) (g : Missed) → fmr_at k v ≡ Some g → IsThere c v p r → has_missed g p r ≡ true
         → ((active d v p ≡ false) × (these v r ≡ true)) ⊎ ((active c v p ≡ true → active d v p ≡ false → anew v p ≡ false) × (missed_in l c v p r ≡ true))
     most_then v p r g at it has = by (second.most v p r g at (there v p r it) has)

@@ -9,7 +9,7 @@ use Rattle.vx_group.specs.Attaches.{copied_regions}
 use Rattle.vx_logs.specs.declared.logs.Logs.{Logs}
 use Rattle.vx_volume.specs.Plexes.{active}
 use Rattle.vx_loggroup.specs.Attaching.{fmr_at}
-use Rattle.vx_loggroup.specs.Moving.{IsThere, MapsDoubt, MapsFollow, MapsMove, all_anew, in_none, in_run, missed_in, this_anew}
+use Rattle.vx_loggroup.specs.Moving.{IsThere, MapsDoubt, MapsFlushed, MapsMove, all_anew, in_none, in_run, missed_in, this_anew}
 use Rattle.vx_loggroup.proofs.MovedLemmas.{doubt_run, follow_run, move_run, same_missed}
 
 -- ---- plexes that took part, and do no more
@@ -82,7 +82,7 @@ module _ (c d : Config) (vol first last : ℕ) (l k : List Logs) (others : (w : 
     write_moves holds = move_run c d vol first last sure l k others only holds stay
 
     -- or each that falls out of use in the call
-    pub flush_moves : ((p r : ℕ) (g : Missed) → fmr_at k vol ≡ Some g → IsThere c vol p r → active c vol p ≡ true → active d vol p ≡ false → first ≤ r → r ≤ last → has_missed g p r ≡ true) → MapsFollow c d (in_run vol first last) (all_anew vol sure) l k
+    pub flush_moves : ((p r : ℕ) (g : Missed) → fmr_at k vol ≡ Some g → IsThere c vol p r → active c vol p ≡ true → active d vol p ≡ false → first ≤ r → r ≤ last → has_missed g p r ≡ true) → MapsFlushed c d (in_run vol first last) (all_anew vol sure) l k
     flush_moves holds = follow_run c d vol first last sure l k others only holds stay
 
   -- one that was refused: any plex may have noted its run

@@ -1,10 +1,21 @@
--- Which map of missed regions an attach goes by.
-use Rattle.std.specs.Prelude.{◌≡◌, ℕ, Bool, true, false, nat_le, if◌then◌else◌, Option, Some, None, List, length, slice_get}
+-- Which map of missed regions an attach goes by, and which maps it leaves.
+use Rattle.std.specs.Prelude.{◌≡◌, ◌||◌, ℕ, Bool, true, false, nat_le, if◌then◌else◌, IsTrue, Option, Some, None, List, Result, Ok, Err, length, slice_get}
 use Rattle.vx_config.specs.Checks.{plexes_of}
 use Rattle.vx_config.specs.declared.config.Config.{Config}
+use Rattle.vx_disk.specs.Shelf.{Goes, Meaning, Nothing, Or, Values}
 use Rattle.vx_fmr.specs.Missed.{Missed}
+use Rattle.vx_group.specs.Attaches.{AnyImage, OnMissed}
+use Rattle.vx_group.specs.Holding.{wide}
+use Rattle.vx_group.specs.Loses.{SameParts}
+use Rattle.vx_group.specs.Stands.{inner_meaning}
+use Rattle.vx_group.specs.declared.group_core.GroupCore.{GroupCore}
 use Rattle.vx_groupmaps.specs.Loading.{on_failed_disk}
+use Rattle.vx_groupmaps.specs.Missing.{OnMaps}
+use Rattle.vx_kept.specs.Keeping.{Acts, SameShape}
+use Rattle.vx_logged.specs.Copied.{MapsTake}
 use Rattle.vx_logs.specs.declared.logs.Logs.{Logs}
+use Rattle.vx_volume.specs.Plexes.{active}
+use Rattle.vx_loggroup.specs.LoggedVolumes.{is_alike}
 
 abbrev pub fmr_or : Option Logs → Option Missed
 fmr_or None = None
@@ -34,5 +45,58 @@ pub record MapHeld (c : Config) (v : ℕ) (old new : List Logs) : Type 0 where
 pub record MapsHeld (c : Config) (old new : List Logs) : Type 0 where
   pub many : length new ≡ length old
   pub same : (w : ℕ) → on_failed_disk c w ≡ false → slice_get new w ≡ slice_get old w
+  pub gone : (w : ℕ) → on_failed_disk c w ≡ true → fmr_at new w ≡ None
+  pub drl : (w : ℕ) (l k : Logs) → slice_get old w ≡ Some l → slice_get new w ≡ Some k → k.drl ≡ l.drl
+
+-- ---- a volume of which a write was refused since the import
+
+-- whether an attach leaves the maps as they are: where it is refused, the plexes of the volume are alike, or logs are stopped
+abbrev pub leaves_maps : {T E : Type 0} → Bool → Bool → Result T E → Bool
+leaves_maps same stopped (Ok x) = same || stopped
+leaves_maps same stopped (Err e) = true
+
+-- a plex that is ACTIVE, of which an attach copies the map: this one is not, logs go on, and the plexes of the volume are not alike
+pub record IsSource (c : Config) (alike : List Bool) (stopped : Bool) (v p q : ℕ) : Type 0 where
+  pub on : IsTrue (active c v q)
+  pub off : active c v p ≡ false
+  pub going : stopped ≡ false
+  pub apart : is_alike alike v ≡ false
+
+-- what an attach writes of plexes and logs: blocks of the plex in regions that it has missed, and else of the maps of its volume
+abbrev pub OnAttached : Bool → Config → ℕ → ℕ → Option Missed → Values
+OnAttached true c v p f = OnMissed c v p f
+OnAttached false c v p f = Or (OnMissed c v p f) (OnMaps c v)
+
+-- As an attach of a group without logs: each volume reads as before, at every moment and in every image; only such blocks were written beside those of the
+-- configuration, and no other plex changed its state.
+pub record LoggedAttaches (leaves : Bool) (v p : ℕ) (f : Option Missed) (c d : GroupCore) (old new : Meaning) : Type 0 where
+  pub goes : Goes Nothing (inner_meaning (wide c) old) (inner_meaning (wide d) new)
+  pub acts : Acts (OnAttached leaves c.inner.config v p f) AnyImage old new
+  pub shape : SameShape d.inner.config c.inner.config
+  pub others : (w q : ℕ) → (w ≡ v → q ≡ p → ⊥) → active d.inner.config w q ≡ active c.inner.config w q
+  pub parts : SameParts c.inner.config d.inner.config
+  pub faults : d.inner.faults ≡ c.inner.faults
+  pub unsure : d.inner.unsure ≡ c.inner.unsure
+
+-- In the maps of volume v that of one plex has the regions that another one's had, and no others; the other maps and logs are as they were.
+pub record VolumeTakes (v to from : ℕ) (old new : List Logs) : Type 0 where
+  pub many : length new ≡ length old
+  pub here : (l k : Logs) → slice_get old v ≡ Some l → slice_get new v ≡ Some k → MapsTake to from l k
+  pub drl : (w : ℕ) (l k : Logs) → slice_get old w ≡ Some l → slice_get new w ≡ Some k → k.drl ≡ l.drl
+  pub others : (w : ℕ) → (w ≡ v → ⊥) → slice_get new w ≡ slice_get old w
+
+-- so it is of a plex that was ACTIVE
+pub record TakesActive (c : Config) (v to : ℕ) (old new : List Logs) : Type 0 where
+  pub from : ℕ
+  pub is_on : IsTrue (active c v from)
+  pub takes : VolumeTakes v to from old new
+
+-- The same, but that maps are in memory no more of which the disk is held as failed.
+pub record MapsFollow (c : Config) (v to : ℕ) (old new : List Logs) : Type 0 where
+  pub many : length new ≡ length old
+  pub from : ℕ
+  pub is_on : IsTrue (active c v from)
+  pub here : on_failed_disk c v ≡ false → (l k : Logs) → slice_get old v ≡ Some l → slice_get new v ≡ Some k → MapsTake to from l k
+  pub same : (w : ℕ) → (w ≡ v → ⊥) → on_failed_disk c w ≡ false → slice_get new w ≡ slice_get old w
   pub gone : (w : ℕ) → on_failed_disk c w ≡ true → fmr_at new w ≡ None
   pub drl : (w : ℕ) (l k : Logs) → slice_get old w ≡ Some l → slice_get new w ≡ Some k → k.drl ≡ l.drl

@@ -63,7 +63,7 @@ pub record MapsDoubt (c d : Config) (these : ℕ → ℕ → Bool) (l k : List L
   pub stay : (v p r : ℕ) (g : Missed) → fmr_at k v ≡ Some g → IsThere c v p r → active c v p ≡ false → active d v p ≡ false → missed_in l c v p r ≡ true → has_missed g p r ≡ true
 
 -- A flush behind a write of those regions: the same, but that only a plex that falls out of use in it has noted them.
-pub record MapsFollow (c d : Config) (these : ℕ → ℕ → Bool) (anew : ℕ → ℕ → Bool) (l k : List Logs) : Type 0 where
+pub record MapsFlushed (c d : Config) (these : ℕ → ℕ → Bool) (anew : ℕ → ℕ → Bool) (l k : List Logs) : Type 0 where
   pub most : (v p r : ℕ) (g : Missed) → fmr_at k v ≡ Some g → IsThere c v p r → has_missed g p r ≡ true
       → ((active d v p ≡ false) × (these v r ≡ true)) ⊎ ((active c v p ≡ true → active d v p ≡ false → anew v p ≡ false) × (missed_in l c v p r ≡ true))
   pub least : (v p r : ℕ) (g : Missed) → fmr_at k v ≡ Some g → IsThere c v p r → active c v p ≡ true → active d v p ≡ false → these v r ≡ true → has_missed g p r ≡ true
@@ -95,13 +95,26 @@ MovesRun c d vol first last sure l k (Err e) = MapsDoubt c d (in_run vol first l
 
 -- and the flush behind it
 abbrev pub FollowsRun : {T E : Type 0} → Config → Config → (vol first last : ℕ) → Bool → List Logs → List Logs → Result T E → Type 0
-FollowsRun c d vol first last sure l k (Ok x) = MapsFollow c d (in_run vol first last) (all_anew vol sure) l k
+FollowsRun c d vol first last sure l k (Ok x) = MapsFlushed c d (in_run vol first last) (all_anew vol sure) l k
 FollowsRun c d vol first last sure l k (Err e) = MapsDoubt c d (in_run vol first last) l k
 
 -- what the detach of a plex makes of them
 abbrev pub MovesDet : {T E : Type 0} → Config → Config → (vol plex : ℕ) → Bool → List Logs → List Logs → Result T E → Type 0
 MovesDet c d vol plex sure l k (Ok x) = MapsMove c d in_none (this_anew vol plex sure) l k
 MovesDet c d vol plex sure l k (Err e) = MapsMove c d in_none in_none l k
+
+-- An attach by which the map of its plex becomes that of one that was ACTIVE: a map has what it had, or that of the plex what the other one had; one that takes
+-- no part has what it had.
+pub record MapsAttach (c d : Config) (vol plex : ℕ) (l k : List Logs) : Type 0 where
+  pub from : ℕ
+  pub is_on : IsTrue (active c vol from)
+  pub most : (v p r : ℕ) (g : Missed) → fmr_at k v ≡ Some g → IsThere c v p r → has_missed g p r ≡ true → (missed_in l c v p r ≡ true) ⊎ ((v ≡ vol) × (p ≡ plex) × (missed_in l c vol from r ≡ true))
+  pub stay : (v p r : ℕ) (g : Missed) → fmr_at k v ≡ Some g → IsThere c v p r → active c v p ≡ false → active d v p ≡ false → missed_in l c v p r ≡ true → has_missed g p r ≡ true
+
+-- what an attach makes of the maps, by whether it leaves them as they are
+abbrev pub MovesAtt : Bool → Config → Config → (vol plex : ℕ) → List Logs → List Logs → Type 0
+MovesAtt true c d vol plex l k = MapsMove c d in_none in_none l k
+MovesAtt false c d vol plex l k = MapsAttach c d vol plex l k
 
 -- the maps of a volume, where they are in memory, have a run of each plex that is not ACTIVE
 pub record RunHolds (c : Config) (v first last : ℕ) (logs : List Logs) : Type 0 where

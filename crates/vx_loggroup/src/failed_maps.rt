@@ -2,19 +2,18 @@
 ghost use Rattle.vx_loggroup.specs.Keeping.{LogsKeep};
 ghost use Rattle.std.specs.Prelude.{◌≡◌, ◌<◌, IfOk, IsTrue, None, Ok, OnOk, Some, Err, false, length, true};
 ghost use Rattle.vx_group.specs.Attaches.{GroupAttachEnds, att_refusal, missed_regions};
-ghost use Rattle.vx_group.specs.Calls.{GroupAttaches};
 ghost use Rattle.vx_group.specs.Dets.{DetStops};
 ghost use Rattle.vx_group.specs.Finds.{CoreFinds};
 ghost use Rattle.vx_group.specs.Holding.{wide};
 ghost use Rattle.vx_group.specs.Regains.{HoldsPlex, Regains};
 ghost use Rattle.vx_groupmaps.specs.Loading.{on_failed_disk};
-ghost use Rattle.vx_loggroup.specs.Attaching.{MapHeld, MapsHeld, map_by};
-ghost use Rattle.vx_loggroup.specs.LoggedVolumes.{LoggedStands};
+ghost use Rattle.vx_loggroup.specs.Attaching.{LoggedAttaches, MapHeld, MapsFollow, MapsHeld, leaves_maps, map_by};
+ghost use Rattle.vx_loggroup.specs.LoggedVolumes.{LoggedStands, is_alike};
 ghost use Rattle.vx_model.specs.declared.errors.Stop.TheVariants.{No as Refused};
 ghost use Rattle.vx_model.specs.declared.no.No.{No as NoValue};
 ghost use Rattle.vx_volume.specs.Plexes.{active};
 
-use crate::attaching::att_whole;
+use crate::following::att_following;
 use vx_config::{Config, VolumeLog};
 use vx_disk::Shelf;
 use vx_group::GroupCore;
@@ -84,7 +83,8 @@ fn give_up_all<S: Shelf>(
 
 /// Attaches a plex, as a group does without logs, and answers how many regions were copied: those that it has missed by its map, or all of the
 /// volume where no map is in memory, or where its disk is held as failed; all maps on such disks are in memory no more, as the attach may hold one as
-/// good again. It writes blocks of these regions of the plex alone, and no map changes.
+/// good again. Of the plex it writes blocks of these regions alone. No other map changes, but where a write of the volume was refused since the import:
+/// then the map of a plex that is attached has the regions that the map of a plex has that was ACTIVE.
 pub fn att_held<S: Shelf>(
     shelf: &mut S,
     core: &mut GroupCore,
@@ -99,11 +99,12 @@ pub fn att_held<S: Shelf>(
     ensures refused { (no : NoValue) → att_refusal core.old.inner.config vol plex ≡ Some no → (result ≡ Err (Refused no)) × (core.new ≡ core.old) × (shelf.new ≡ shelf.old) }
     ensures already { att_refusal core.old.inner.config vol plex ≡ None → IsTrue (active core.old.inner.config vol plex) → (result ≡ Ok 0) × (core.new ≡ core.old) × (shelf.new ≡ shelf.old) }
     ensures count { active core.old.inner.config vol plex ≡ false → IfOk result (λ n. n ≡ missed_regions core.old.inner.config vol plex (map_by logs.old.items core.old.inner.config stopped (S.meaning shelf.old).down vol plex)) }
-    ensures attaches { GroupAttaches vol plex (map_by logs.old.items core.old.inner.config stopped (S.meaning shelf.old).down vol plex) core.old core.new (S.meaning shelf.old) (S.meaning shelf.new) }
+    ensures attaches { LoggedAttaches (leaves_maps (is_alike alike.now vol) stopped result) vol plex (map_by logs.old.items core.old.inner.config stopped (S.meaning shelf.old).down vol plex) core.old core.new (S.meaning shelf.old) (S.meaning shelf.new) }
     ensures ends { active core.old.inner.config vol plex ≡ false → GroupAttachEnds vol plex core.new.inner.config (S.meaning shelf.new) result }
     ensures regains { Regains core.old.inner.config core.new.inner.config vol plex (S.meaning shelf.old) (S.meaning shelf.new) }
     ensures held { active core.old.inner.config vol plex ≡ false → OnOk result (HoldsPlex (λ s. S.meaning s) core.old.inner.config core.new.inner.config vol plex shelf.new) }
-    ensures maps { MapsHeld core.old.inner.config logs.old.items logs.new.items }
+    ensures maps { leaves_maps (is_alike alike.now vol) stopped result ≡ true → MapsHeld core.old.inner.config logs.old.items logs.new.items }
+    ensures follows { leaves_maps (is_alike alike.now vol) stopped result ≡ false → MapsFollow core.old.inner.config vol plex logs.old.items logs.new.items }
     ensures keeps { LogsKeep core.old core.new logs.old.items logs.new.items (S.meaning shelf.old) (S.meaning shelf.new) }
     ensures trust { OnOk result (core.old.inner.committed ≡ true → core.new.inner.committed ≡ true) }
     ensures finds { CoreFinds (wide core.old) (wide core.new) (S.meaning shelf.old) (S.meaning shelf.new) }
@@ -111,5 +112,5 @@ pub fn att_held<S: Shelf>(
     ensures cause { att_refusal core.old.inner.config vol plex ≡ None → DetStops (S.meaning shelf.old) (S.meaning shelf.new) result }
 {
     give_up_all(shelf, core, logs, alike, stopped);
-    att_whole(shelf, core, logs, alike, stopped, vol, plex)
+    att_following(shelf, core, logs, alike, stopped, vol, plex)
 }

@@ -6,7 +6,7 @@ ghost use Rattle.vx_config.specs.Table.{greatest};
 ghost use Rattle.vx_copyio.specs.Labelling.{HasSmall};
 ghost use Rattle.vx_disk.specs.Shelf.{Goes, Nothing};
 ghost use Rattle.vx_group.specs.Attaches.{GroupAttachEnds, att_refusal, missed_regions};
-ghost use Rattle.vx_group.specs.Calls.{GivesBack, GroupAttaches, GroupCreated, GroupDeported, GroupStays, ImportsAgain, IsFull, KeepsUnits};
+ghost use Rattle.vx_group.specs.Calls.{GivesBack, GroupCreated, GroupDeported, GroupStays, ImportsAgain, IsFull, KeepsUnits};
 ghost use Rattle.vx_group.specs.Deports.{DeportStops, GroupCanImport};
 ghost use Rattle.vx_copies.specs.Commits.{MoreFailed};
 ghost use Rattle.vx_group.specs.Creates.{SameUnits};
@@ -20,14 +20,14 @@ ghost use Rattle.vx_group.specs.Makes.{MakeEnds, Unmoved, make_refusal};
 ghost use Rattle.vx_group.specs.Regains.{HoldsPlex, Regains};
 ghost use Rattle.vx_group.specs.Resumes.{CanImport};
 ghost use Rattle.vx_group.specs.Stands.{inner_meaning};
-ghost use Rattle.vx_loggroup.specs.Attaching.{MapsHeld, fmr_at, map_by};
+ghost use Rattle.vx_loggroup.specs.Attaching.{LoggedAttaches, MapsFollow, MapsHeld, fmr_at, leaves_maps, map_by};
 ghost use Rattle.vx_loggroup.specs.Detaching.{MapIsEmpty, MapsBegin};
 ghost use Rattle.vx_loggroup.specs.Facts.{LoggedFact};
 ghost use Rattle.vx_loggroup.specs.LoggedVolumes.{LoggedStands, is_alike};
 ghost use Rattle.vx_loggroup.specs.Fresh.{FreshStands, LogsFirst};
 ghost use Rattle.vx_loggroup.specs.Marks.{region_count};
 ghost use Rattle.vx_loggroup.specs.Mirrors.{MirrorsKeep, names_none, names_plex};
-ghost use Rattle.vx_loggroup.specs.Moving.{DeportKeeps, DeportMaps, MapsBeginIn, MapsEnd, MapsMove, MovesDet, in_none, no_volume, only_volume};
+ghost use Rattle.vx_loggroup.specs.Moving.{DeportKeeps, DeportMaps, MapsBeginIn, MapsEnd, MapsMove, MovesAtt, MovesDet, in_none, no_volume, only_volume};
 ghost use Rattle.vx_loggroup.specs.Opens.{DeportTells, LoggedImported};
 ghost use Rattle.vx_logimport.specs.Rests.{LogsTell};
 ghost use Rattle.vx_logs.specs.declared.logs.Logs.{Logs as LogsValue};
@@ -224,18 +224,20 @@ impl<S: Shelf> LoggedGroup<S> {
 
     /// Attaches a plex, as a group does without logs, and answers how many regions were copied: those that the plex has missed by its map, or all of
     /// the volume where no map is in memory or its disk is held as failed, and none where the plex is ACTIVE already. Of the plex it writes blocks of
-    /// these regions alone, and whatever it answers, no map changes; one on a disk that is held as failed is in memory no more.
+    /// these regions alone. A map on a disk that is held as failed is in memory no more. No other one changes where it is refused, and where no write of
+    /// the volume failed since the import; else the map of the plex has the regions then that the map of a plex had that was ACTIVE.
     pub fn att(&mut self, vol: u32, plex: u32) -> Result<u64, Stop>
         ensures refused { (no : NoValue) → att_refusal self.old.core.inner.config vol plex ≡ Some no → (result ≡ Err (Refused no)) × (self.new.core ≡ self.old.core) × (self.new.shelf ≡ self.old.shelf) }
         ensures already { att_refusal self.old.core.inner.config vol plex ≡ None → IsTrue (active self.old.core.inner.config vol plex) → (result ≡ Ok 0) × (self.new.core ≡ self.old.core) × (self.new.shelf ≡ self.old.shelf) }
         ensures count { active self.old.core.inner.config vol plex ≡ false → IfOk result (λ n. n ≡ missed_regions self.old.core.inner.config vol plex (map_by self.old.logs.items self.old.core.inner.config self.old.stopped (S.meaning self.old.shelf).down vol plex)) }
-        ensures attaches { GroupAttaches vol plex (map_by self.old.logs.items self.old.core.inner.config self.old.stopped (S.meaning self.old.shelf).down vol plex) self.old.core self.new.core (S.meaning self.old.shelf) (S.meaning self.new.shelf) }
+        ensures attaches { LoggedAttaches (leaves_maps (is_alike self.old.alike vol) self.old.stopped result) vol plex (map_by self.old.logs.items self.old.core.inner.config self.old.stopped (S.meaning self.old.shelf).down vol plex) self.old.core self.new.core (S.meaning self.old.shelf) (S.meaning self.new.shelf) }
         ensures ends { active self.old.core.inner.config vol plex ≡ false → GroupAttachEnds vol plex self.new.core.inner.config (S.meaning self.new.shelf) result }
         ensures regains { Regains self.old.core.inner.config self.new.core.inner.config vol plex (S.meaning self.old.shelf) (S.meaning self.new.shelf) }
         ensures held { active self.old.core.inner.config vol plex ≡ false → OnOk result (HoldsPlex (λ s. S.meaning s) self.old.core.inner.config self.new.core.inner.config vol plex self.new.shelf) }
         ensures mirrors { MirrorsKeep (names_plex vol plex) self.old.core self.new.core (S.meaning self.old.shelf) (S.meaning self.new.shelf) }
-        ensures logs { MapsHeld self.old.core.inner.config self.old.logs.items self.new.logs.items }
-        ensures moves { MapsMove self.old.core.inner.config self.new.core.inner.config in_none in_none self.old.logs.items self.new.logs.items }
+        ensures logs { leaves_maps (is_alike self.old.alike vol) self.old.stopped result ≡ true → MapsHeld self.old.core.inner.config self.old.logs.items self.new.logs.items }
+        ensures follows { leaves_maps (is_alike self.old.alike vol) self.old.stopped result ≡ false → MapsFollow self.old.core.inner.config vol plex self.old.logs.items self.new.logs.items }
+        ensures moves { MovesAtt (leaves_maps (is_alike self.old.alike vol) self.old.stopped result) self.old.core.inner.config self.new.core.inner.config vol plex self.old.logs.items self.new.logs.items }
         ensures comes { MapsBeginIn no_volume self.old.core.inner.config self.new.core.inner.config self.old.stopped self.new.stopped self.old.logs.items self.new.logs.items }
         ensures ends_maps { MapsEnd self.old.core.inner.config self.new.core.inner.config self.old.stopped self.new.stopped self.old.logs.items self.new.logs.items (S.meaning self.old.shelf) (S.meaning self.new.shelf) }
         ensures flags { (self.new.alike ≡ self.old.alike) × (self.new.stopped ≡ self.old.stopped) }

@@ -16,6 +16,7 @@ mod detached;
 mod detaching;
 mod failed_maps;
 mod first;
+mod following;
 mod fresh;
 mod group;
 mod keeping;

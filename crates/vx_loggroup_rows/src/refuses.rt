@@ -36,3 +36,41 @@ fn a_refused_write_leaves_its_own_regions_alone(rt: HostRuntime) -> Result<(), F
     assert_eq!(rt; seen, 1);
     Ok(())
 }
+
+// Writes a block, and another one as this call fails and the next; behind that detaches the second plex, writes a block that it misses, attaches it,
+// and writes a third one, as this later call fails. Answers how many regions an attach of the plex copies then, where it fell out of use in that.
+fn refused_before(alloc: Global, call: u64, later: u64) -> Result<Option<u64>, OutOfMemory> {
+    let mut group = group_of(alloc, &[call, call.wrapping_add(1), later], &MAPPED)?;
+    if !put(&mut group, 10, 0xaa) || put(&mut group, 70, 0xbb) {
+        return Ok(None);
+    }
+    if group.det(0, 1).is_err() || !put(&mut group, 10, 0xcc) {
+        return Ok(None);
+    }
+    if att(&mut group, 1) != Some(2) || !is_active(group.config(), 1) {
+        return Ok(None);
+    }
+    if !put(&mut group, 200, 0xdd) || is_active(group.config(), 1) {
+        return Ok(None);
+    }
+    Ok(att(&mut group, 1))
+}
+
+#[test]
+fn an_attach_leaves_the_regions_of_refused_writes_alone(rt: HostRuntime) -> Result<(), Fail> {
+    let alloc = rt.alloc();
+    let mut seen: u64 = 0;
+    for call in 100..130 {
+        for later in 100..260 {
+            match refused_before(alloc, call, later)? {
+                Some(copied) => {
+                    seen = seen.wrapping_add(1);
+                    assert_eq!(rt; copied, 2);
+                }
+                None => {}
+            }
+        }
+    }
+    assert!(rt; seen > 0);
+    Ok(())
+}

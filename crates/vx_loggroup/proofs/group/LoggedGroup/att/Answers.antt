@@ -1,12 +1,13 @@
 -- `att`: what `att_held` asks, and what stands then.
 use Rattle.std.proofs.Common.{◌≡◌, ◌∙◌, false, true, refl, sym}
 use Rattle.vx_config.specs.declared.entry.VolumeLog.TheVariants.{Fmr}
-use Rattle.vx_loggroup.proofs.ComesLemmas.{held_comes, held_moves}
+use Rattle.vx_loggroup.proofs.AttMoves.{att_begins, att_moves, attached_on, going_on}
 use Rattle.vx_loggroup.proofs.EndedLemmas.{maps_end}
 use Rattle.vx_loggroup.proofs.FactLemmas.{from_logged, to_logged}
 use Rattle.vx_loggroup.proofs.KeepingLemmas.{shape_places}
 use Rattle.vx_loggroup.proofs.FreshLemmas.{fresh_still}
-use Rattle.vx_loggroup.specs.Attaching.{map_by}
+use Rattle.vx_loggroup.specs.Attaching.{leaves_maps, map_by}
+use Rattle.vx_loggroup.specs.LoggedVolumes.{is_alike}
 use Rattle.vx_loggroup.proofs.MirrorLemmas.{keep_att}
 use Rattle.vx_loggroup.proofs.group.LoggedGroup.att.Goals as goal
 
@@ -17,16 +18,19 @@ pub invariant_of-self : goal.invariant_of-self
 invariant_of-self g c = record { stands = to_logged c.att_held.new.core c.att_held.new.logs.items c.args.self.now.alike c.args.self.now.stopped (g.S.Shelf.meaning c.att_held.new.shelf) c.att_held.ensures.stands; begins = fresh_still c.args.self.now.core c.att_held.new.core c.args.self.now.fresh (g.S.Shelf.meaning c.args.self.now.shelf) (g.S.Shelf.meaning c.att_held.new.shelf) c.att_held.ensures.attaches.goes c.args.self.now.begins }
 
 pub returns-clause-mirrors : goal.returns-clause-mirrors
-returns-clause-mirrors g c = keep_att c.args.vol c.args.plex (map_by c.args.self.now.logs.items c.args.self.now.core.inner.config c.args.self.now.stopped (g.S.Shelf.meaning c.args.self.now.shelf).down c.args.vol c.args.plex) c.args.self.now.core c.att_held.new.core (g.S.Shelf.meaning c.args.self.now.shelf) (g.S.Shelf.meaning c.att_held.new.shelf) c.att_held.ensures.attaches c.att_held.ensures.regains
+returns-clause-mirrors g c = keep_att _ c.args.vol c.args.plex (map_by c.args.self.now.logs.items c.args.self.now.core.inner.config c.args.self.now.stopped (g.S.Shelf.meaning c.args.self.now.shelf).down c.args.vol c.args.plex) c.args.self.now.core c.att_held.new.core (g.S.Shelf.meaning c.args.self.now.shelf) (g.S.Shelf.meaning c.att_held.new.shelf) c.att_held.ensures.attaches c.att_held.ensures.regains
 
 pub returns-clause-keeps : goal.returns-clause-keeps
 returns-clause-keeps g c = c.att_held.ensures.keeps
 
 pub returns-clause-moves : goal.returns-clause-moves
-returns-clause-moves g c = held_moves c.args.self.now.core.inner.config c.att_held.new.core.inner.config c.args.self.now.logs.items c.att_held.new.logs.items c.att_held.ensures.maps
+returns-clause-moves g c =
+    att_moves (leaves_maps (is_alike c.args.self.now.alike c.args.vol) c.args.self.now.stopped c.att_held.result) c.args.self.now.core c.att_held.new.core c.args.vol c.args.plex c.args.self.now.logs.items c.att_held.new.logs.items c.att_held.ensures.maps c.att_held.ensures.follows
+    (λ leaves l at f has. (((from_logged c.args.self.now.core c.args.self.now.logs.items c.args.self.now.alike c.args.self.now.stopped (g.S.Shelf.meaning c.args.self.now.shelf) c.args.self.now.stands).each c.args.vol l at).on (going_on (is_alike c.args.self.now.alike c.args.vol) c.args.self.now.stopped c.att_held.result leaves)).fits.fmr f has)
+    (λ leaves. attached_on (is_alike c.args.self.now.alike c.args.vol) c.args.self.now.stopped c.att_held.result c.args.self.now.core c.att_held.new.core c.args.vol c.args.plex (g.S.Shelf.meaning c.att_held.new.shelf) leaves (λ no is. (c.att_held.ensures.refused no is).0) (λ none on. (c.att_held.ensures.already none on).1) c.att_held.ensures.ends)
 
 pub returns-clause-comes : goal.returns-clause-comes
-returns-clause-comes g c = held_comes c.args.self.now.core.inner.config c.att_held.new.core.inner.config c.args.self.now.logs.items c.att_held.new.logs.items c.att_held.ensures.maps c.args.self.now.stopped
+returns-clause-comes g c = att_begins (leaves_maps (is_alike c.args.self.now.alike c.args.vol) c.args.self.now.stopped c.att_held.result) c.args.self.now.core c.att_held.new.core c.args.vol c.args.plex c.args.self.now.logs.items c.att_held.new.logs.items c.args.self.now.stopped c.att_held.ensures.maps c.att_held.ensures.follows
 
 pub returns-clause-ends_maps : goal.returns-clause-ends_maps
 returns-clause-ends_maps g c = maps_end c.args.self.now.core c.att_held.new.core c.args.self.now.logs.items c.att_held.new.logs.items c.args.self.now.stopped c.args.self.now.stopped (g.S.Shelf.meaning c.args.self.now.shelf) (g.S.Shelf.meaning c.att_held.new.shelf) c.att_held.ensures.keeps
