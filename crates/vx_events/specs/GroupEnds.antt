@@ -25,7 +25,7 @@ use Rattle.vx_events.specs.Ends.{IsNoDevice}
 use Rattle.vx_events.specs.Fails.{Fails}
 use Rattle.vx_events.specs.GroupConfigs.{ConfigLoses, ConfigLosesBut, PutsPlex, lies_on_disk, opened_again}
 use Rattle.vx_events.specs.GroupLines.{cut_events, fuse_lost, group_events, group_noted, noting, plain_number, refused_events, shape_of, unread_events}
-use Rattle.vx_events.specs.GroupMaps.{MapsCalled, MapsDetached, MapsImported, MapsLost, MapsRecovered, MapsUndetached, WithMaps}
+use Rattle.vx_events.specs.GroupMaps.{MapsAttached, MapsCalled, MapsDetached, MapsImported, MapsLost, MapsRecovered, MapsUndetached, WithMaps}
 use Rattle.vx_events.specs.GroupNotes.{FirstNote, IsKnown, NotesBack, NotesCut, NotesDoubt, NotesRefused, NotesUnread, NotesVolume, NotesWrite, Reconfigures, note_at}
 use Rattle.vx_events.specs.GroupReplies.{AttachCopies, GivesPlain, IsLastPlex, SaysBack}
 use Rattle.vx_events.specs.GroupViews.{config_of, grouped_view}
@@ -53,7 +53,7 @@ GroupDoes told s n note (PlexDetach site volume plex) fails said next =
     × (said ≡ Done)
 GroupDoes told s n note (PlexAttach site volume plex) fails said next =
     WithMaps (Reconfigures (λ c d. (x : Config) × PutsPlex (plain_number note volume) plex Active c x × ConfigLosesBut (lies_on_disk c (plain_number note volume) plex) s fails x d) NoteSettles)
-    (MapsCalled s fails) note next
+    (MapsAttached s fails (plain_number note volume) plex) note next
     × AttachCopies note (plain_number note volume) plex said
 GroupDoes told s n note (WriteLine site volume start count fill) fails said next =
     NotesWrite s fails (write_to note volume start (replicate (512 * count) fill)) note next × (said ≡ Done)

@@ -2,7 +2,7 @@
 use Rattle.std.specs.Prelude.{◌≡◌, ◌≢◌, ◌⊎◌, ℕ, Bool, true, false, [], length, Option, Some, None, Contains, if◌then◌else◌, slice_get}
 use Rattle.vx_model.specs.declared.site.PlexState.TheVariants.{Active}
 use Rattle.vx_history.specs.Groups.{GroupNode, MissedNote}
-use Rattle.vx_history.specs.MapChanges.{InNoVolume, InVolume, MapsBack, MapsFailed, MapsWritten, StayKnown}
+use Rattle.vx_history.specs.MapChanges.{InNoVolume, InVolume, MapsBack, MapsFailed, MapsJoined, MapsWritten, StayKnown}
 use Rattle.vx_history.specs.Missing.{each_anew, in_write, no_plex, none_missed, one_anew, with_maps}
 use Rattle.vx_model.specs.Content.{Write}
 use Rattle.vx_config.specs.Checks.{is_live}
@@ -60,7 +60,12 @@ pub record MapsDetached (s : ℕ) (fails : Fails) (vol plex : ℕ) (c d : Config
   pub known : StayKnown (FailedIn s fails) InNoVolume (InVolume vol) (map_disk c) w new
   pub written : MapsWritten (length c.volumes) (takes_part c) (takes_part d) (one_anew w vol plex) none_missed w new
 
--- or it was not, as a disk failed
+-- a plex was attached
+pub record MapsAttached (s : ℕ) (fails : Fails) (vol plex : ℕ) (c d : Config) (w new : MissedNote) : Type 0 where
+  pub known : StayKnown (FailedIn s fails) InNoVolume InNoVolume (map_disk c) w new
+  pub joined : MapsJoined (length c.volumes) vol plex (takes_part c) (takes_part d) w new
+
+-- or a plex was not detached, as a disk failed
 pub record MapsUndetached (s : ℕ) (fails : Fails) (vol : ℕ) (c d : Config) (w new : MissedNote) : Type 0 where
   pub known : StayKnown (FailedIn s fails) InNoVolume (InVolume vol) (map_disk c) w new
   pub written : MapsWritten (length c.volumes) (takes_part c) (takes_part d) no_plex none_missed w new

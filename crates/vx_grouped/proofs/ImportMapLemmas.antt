@@ -3,10 +3,9 @@ use Rattle.std.proofs.Common.{◌≡◌, ◌∙◌, ◌<◌, ◌*◌, ◌&&◌, 
 use Rattle.std.specs.Prelude.{Option, None, Some, ltb, not, slice_get}
 use Rattle.std.proofs.lemmas.Bool.{lt-ltb, ltb-true}
 use Rattle.std.proofs.lemmas.Option.{slice_get_within}
-use Rattle.vx_config.specs.Checks.{blocks_of, plexes_of, plexes_or}
+use Rattle.vx_config.specs.Checks.{blocks_of, plexes_of}
 use Rattle.vx_config.specs.declared.config.Config.{Config}
 use Rattle.vx_config.specs.declared.entry.LogEntry.{LogEntry}
-use Rattle.vx_config.specs.declared.entry.PlexEntry.{PlexEntry}
 use Rattle.vx_config.specs.declared.entry.VolumeEntry.{VolumeEntry}
 use Rattle.vx_config.specs.declared.entry.VolumeLog.TheVariants.{Fmr}
 use Rattle.vx_copies.specs.Answers.{returned}
@@ -24,7 +23,6 @@ use Rattle.vx_history.specs.Missing.{maps_none}
 use Rattle.vx_kept.specs.Groups.{found}
 use Rattle.vx_kept.specs.Keeping.{frame_at}
 use Rattle.vx_kept.proofs.Chosen.{frames_volumes}
-use Rattle.vx_layout.specs.Places.{plex_in}
 use Rattle.vx_logimport.specs.Rests.{RestsNone, rests}
 use Rattle.vx_logimport.specs.declared.rested.Rested.{Rested}
 use Rattle.vx_loggroup.specs.Attaching.{fmr_at}
@@ -38,7 +36,7 @@ use Rattle.vx_logs.specs.declared.logs.Logs.{Logs}
 use Rattle.vx_maplog.specs.Logs.{log_of, log_or}
 use Rattle.vx_model.specs.Sizes.{map_blocks, regions_of}
 use Rattle.vx_model.specs.declared.limits.TheConstants.{MAP_REGIONS}
-use Rattle.vx_volume.specs.Plexes.{active, active_or}
+use Rattle.vx_volume.specs.Plexes.{active}
 use Rattle.vx_grouped.specs.Away.{AllHave}
 use Rattle.vx_grouped.specs.MapsNoted.{MapsNoted, MapsOnDisk}
 use Rattle.vx_grouped.specs.PlainMaps.{PartsBack, map_parts}
@@ -46,21 +44,9 @@ use Rattle.vx_grouped.specs.SiteMaps.{BackMaps, IdleMaps, RisenMaps, StopsClean}
 use Rattle.vx_grouped.proofs.BackMapLemmas.{back_maps, back_note, back_noted}
 use Rattle.vx_grouped.proofs.MapStandLemmas.{logs_of}
 use Rattle.vx_grouped.proofs.NotedMapLemmas.{map_in}
+use Rattle.vx_grouped.proofs.WrittenMapLemmas.{on_count}
 
 -- ---- volumes that stopped cleanly
-
--- a plex that is ACTIVE is counted
-on_count : (c : Config) (v p : ℕ) → active c v p ≡ true → p < plexes_of c v
-unfolding active
-on_count c v p on = by (slice_get c.volumes v) on
-  where
-    in_list : (plexes : List PlexEntry) (o : Option PlexEntry) → slice_get plexes p ≡ o → active_or o ≡ true → p < length plexes
-    in_list plexes None is on = let clash : false ≡ true = on in cc
-    in_list plexes (Some a) is on = slice_get_within plexes p a is
-
-    by : (o : Option VolumeEntry) → active_or (plex_in o p) ≡ true → p < plexes_or o
-    by None on = absurd (let clash : false ≡ true = on in cc)
-    by (Some x) on = in_list x.plexes (slice_get x.plexes p) refl on
 
 -- none of its plexes is ACTIVE
 clean_of : (c : Config) (v : ℕ) → stopped c v ≡ false → StopsClean c v

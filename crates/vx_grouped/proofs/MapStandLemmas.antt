@@ -40,7 +40,7 @@ logs_of logs v f is = by (slice_get logs v) refl is
     by (Some l) at is = record { one = l; at = at; has = is }
 
 -- a volume with a plex is there
-volume_there : (c : Config) (v p : ℕ) → p < plexes_of c v → v < length c.volumes
+pub volume_there : (c : Config) (v p : ℕ) → p < plexes_of c v → v < length c.volumes
 volume_there c v p low = by (slice_get c.volumes v) refl low
   where
     by : (o : Option VolumeEntry) → slice_get c.volumes v ≡ o → p < plexes_or o → v < length c.volumes

@@ -1,19 +1,20 @@
 -- What a site notes of the regions that plexes missed, behind a call by what it makes of the maps in memory.
 use Rattle.std.proofs.Common.{◌≡◌, ◌⊎◌, ◌<◌, ◌&&◌, ◌||◌, ℕ, Bool, true, false, List, length, refl, sym, ◌∙◌, ap, subst, inl, inr}
-use Rattle.std.specs.Prelude.{Option, Some, None, if◌then◌else◌, is_some, not}
+use Rattle.std.specs.Prelude.{Option, Some, None, if◌then◌else◌, is_some, not, ◌==◌}
 use Rattle.vx_config.specs.Checks.{plexes_of}
 use Rattle.vx_config.specs.declared.config.Config.{Config}
 use Rattle.vx_fmr.specs.Missed.{Missed, has_missed}
 use Rattle.vx_group.specs.Attaches.{copied_regions}
 use Rattle.vx_groupmaps.specs.Loading.{on_failed_disk}
 use Rattle.vx_history.specs.Groups.{MissedNote}
-use Rattle.vx_history.specs.Missing.{maps_doubted, maps_written, this_volume}
+use Rattle.vx_history.specs.Missing.{maps_doubted, maps_written, this_volume, missed_then, no_plex, none_missed, perhaps_then}
 use Rattle.vx_logs.specs.declared.logs.Logs.{Logs}
 use Rattle.vx_volume.specs.Plexes.{active}
 use Rattle.vx_loggroup.specs.Attaching.{fmr_at}
 use Rattle.vx_loggroup.specs.LoggedVolumes.{is_alike}
-use Rattle.vx_loggroup.specs.Moving.{IsThere, MapsBeginIn, MapsDoubt, MapsMove, goes_by, missed_by, missed_in}
+use Rattle.vx_loggroup.specs.Moving.{IsThere, MapsBeginIn, MapsDoubt, MapsMove, goes_by, missed_by, missed_in, MapsAttach}
 use Rattle.vx_grouped.specs.MapsNoted.{MapsNoted}
+use Rattle.std.proofs.lemmas.Bool.{eq-eqb}
 
 -- ---- one region of one plex
 
@@ -162,6 +163,48 @@ module _ (w : MissedNote) (c d : Config) (l k : List Logs) (s t : Bool) (a b : L
             → has_missed g p r ≡ true
         by_least v p r g on at it off (inl here) = (moves (going k d t v on)).least v p r g at it off here
         by_least v p r g on at it off (inr had) = (moves (going k d t v on)).stay v p r g at it had.off off (first_least v p r on it had)
+
+  -- an attach by which the map of a plex becomes that of another one, of which these regions are noted
+  module _ (vol plex : ℕ) (row : ℕ → Bool) (moves : MapsAttach c d vol plex l k) (noted_row : goes_by k d t vol ≡ true → (r : ℕ) → r < copied_regions c vol → missed_in l c vol moves.from r ≡ true → row r ≡ true)
+      (alike : (v : ℕ) → v < length d.volumes → w.doubt v ≡ false → is_alike b v ≡ true) where
+    abbrev pub joined_note : MissedNote
+    joined_note = record {
+      mapped = goes_by k d t;
+      missed = missed_then w (active c) (active d) none_missed;
+      perhaps = λ v p r. perhaps_then w (active c) (active d) no_plex v p r || ((v == vol) && ((p == plex) && row r));
+      doubt = w.doubt;
+      serial = d.serial;
+    }
+
+    pub noted_joined : MapsNoted joined_note d k b t
+    noted_joined = record {
+      mapped = λ v. refl;
+      most = λ v p r g on at it has. by_most v p r on (there v p r on it) (moves.most v p r g at (there v p r on it) has);
+      least = λ v p r g on at it off has. by_least v p r g on at (there v p r on it) off
+          (had_b (active c v p) (w.mapped v) (w.missed v p r) false
+          (subst (λ (x : Bool). missed_b (active c v p) x (w.mapped v) (w.missed v p r) false ≡ true) off has));
+      alike = alike;
+      serial = refl;
+    }
+      where
+        either_way : (v p r : ℕ) → (missed_b (active c v p) (active d v p) (w.mapped v) (w.missed v p r) false ≡ true) ⊎ (perhaps_b (active c v p) (active d v p) false (w.mapped v) (w.missed v p r) (w.perhaps v p r) ≡ true)
+            → (missed_b (active c v p) (active d v p) (w.mapped v) (w.missed v p r) false ≡ true) ⊎ ((perhaps_b (active c v p) (active d v p) false (w.mapped v) (w.missed v p r) (w.perhaps v p r) || ((v == vol) && ((p == plex) && row r))) ≡ true)
+        either_way v p r (inl is) = inl is
+        either_way v p r (inr is) = inr (or_left _ ((v == vol) && ((p == plex) && row r)) is)
+
+        row_here : (v p r : ℕ) → goes_by k d t v ≡ true → IsThere c v p r → v ≡ vol → p ≡ plex → missed_in l c vol moves.from r ≡ true → ((v == vol) && ((p == plex) && row r)) ≡ true
+        row_here v p r on it here same has =
+            ap (λ (x : Bool). x && ((p == plex) && row r)) (eq-eqb v vol here) ∙ ap (λ (x : Bool). x && row r) (eq-eqb p plex same)
+            ∙ noted_row (subst (λ (u : ℕ). goes_by k d t u ≡ true) here on) r (subst (λ (u : ℕ). r < copied_regions c u) here it.region) has
+
+        by_most : (v p r : ℕ) → goes_by k d t v ≡ true → IsThere c v p r → (missed_in l c v p r ≡ true) ⊎ ((v ≡ vol) × (p ≡ plex) × (missed_in l c vol moves.from r ≡ true))
+            → (missed_b (active c v p) (active d v p) (w.mapped v) (w.missed v p r) false ≡ true) ⊎ ((perhaps_b (active c v p) (active d v p) false (w.mapped v) (w.missed v p r) (w.perhaps v p r) || ((v == vol) && ((p == plex) && row r))) ≡ true)
+        by_most v p r on it (inl has) = either_way v p r (first_most v p r false (active d v p) false on it (λ _ _. refl) has)
+        by_most v p r on it (inr (here, same, has)) = inr (or_right _ ((v == vol) && ((p == plex) && row r)) (row_here v p r on it here same has))
+
+        by_least : (v p r : ℕ) (g : Missed) → goes_by k d t v ≡ true → fmr_at k v ≡ Some g → IsThere c v p r → active d v p ≡ false → (false ≡ true) ⊎ HadMissed (active c v p) (w.mapped v) (w.missed v p r) → has_missed g p r ≡ true
+        by_least v p r g on at it off (inl here) = let clash : false ≡ true = here in cc
+        by_least v p r g on at it off (inr had) = moves.stay v p r g at it had.off off (first_least v p r on it had)
 
   -- a write that was refused
   module _ (vol : ℕ) (these : ℕ → ℕ → Bool) (moves : t ≡ false → MapsDoubt c d these l k) (alike : (v : ℕ) → v < length d.volumes → this_volume vol v ≡ false → w.doubt v ≡ false → is_alike b v ≡ true) where

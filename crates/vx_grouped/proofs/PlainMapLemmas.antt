@@ -25,7 +25,7 @@ use Rattle.vx_loggroup.proofs.ThenMoves.{begins_then, doubts_then, keeps_then, m
 use Rattle.vx_loggroup.specs.Attaching.{fmr_at}
 use Rattle.vx_loggroup.specs.Keeping.{LogsKeep}
 use Rattle.vx_loggroup.specs.LoggedVolumes.{is_alike}
-use Rattle.vx_loggroup.specs.Moving.{IsThere, MapsBeginIn, MapsDoubt, MapsEnd, MapsFollow, MapsMove, all_anew, goes_by, in_run, no_volume, only_volume}
+use Rattle.vx_loggroup.specs.Moving.{IsThere, MapsBeginIn, MapsDoubt, MapsEnd, MapsFlushed, MapsMove, all_anew, goes_by, in_run, no_volume, only_volume}
 use Rattle.vx_logs.specs.Writes.{first_region, last_region}
 use Rattle.vx_logs.specs.declared.logs.Logs.{Logs}
 use Rattle.vx_model.specs.Content.{Write, blocks_in}
@@ -92,7 +92,7 @@ module _ (c e d : GroupCore) (vol first last : ℕ) (l j k : List Logs)
       by (inl none) = none
       by (inr none) = absurd (let same = here_is v r here in let clash : None ≡ Some g = sym (gone vol none) ∙ ap (λ (u : ℕ). fmr_at k u) (sym same) ∙ at in cc)
 
-  pub both_move : (sure : Bool) → MapsMove c.inner.config e.inner.config (in_run vol first last) (all_anew vol sure) l j → MapsFollow e.inner.config d.inner.config (in_run vol first last) (all_anew vol sure) j k
+  pub both_move : (sure : Bool) → MapsMove c.inner.config e.inner.config (in_run vol first last) (all_anew vol sure) l j → MapsFlushed e.inner.config d.inner.config (in_run vol first last) (all_anew vol sure) j k
       → MapsMove c.inner.config d.inner.config (in_run vol first last) (all_anew vol sure) l k
   both_move sure one two = moves_then c.inner.config e.inner.config d.inner.config (in_run vol first last) (all_anew vol sure) l j k there_then middle_then stays_then rests_then one two
 
@@ -185,13 +185,13 @@ module _ (own : Write) (c e d : GroupCore) (l j k : List Logs) (s u t : Bool) (a
 
   -- both are done
   pub both_wrote : (u ≡ false → MapsMove c.inner.config e.inner.config (in_run own.volume from_region to_region) (all_anew own.volume (is_alike a own.volume)) l j)
-      → (u ≡ false → MapsFollow e.inner.config d.inner.config (in_run own.volume from_region to_region) (all_anew own.volume (is_alike mid own.volume)) j k) → PartsMoved (WriteMaps own m o) (map_parts c.inner.config l a s) (map_parts d.inner.config k b t) o
+      → (u ≡ false → MapsFlushed e.inner.config d.inner.config (in_run own.volume from_region to_region) (all_anew own.volume (is_alike mid own.volume)) j k) → PartsMoved (WriteMaps own m o) (map_parts c.inner.config l a s) (map_parts d.inner.config k b t) o
   both_wrote moves follows =
       wrote_parts own c d l k s t a b m o first last one two frames_both (as_many ∙ units) sizes_both low ends_both begins_both
       (λ off.
       let on = going_on off in
       both_move c e d own.volume from_region to_region l j k counts_first blocks_first gone (rests on) (free on) behind (is_alike a own.volume) (moves on)
-      (subst (λ (z : List Bool). MapsFollow e.inner.config d.inner.config (in_run own.volume from_region to_region) (all_anew own.volume (is_alike z own.volume)) j k) alike (follows on)))
+      (subst (λ (z : List Bool). MapsFlushed e.inner.config d.inner.config (in_run own.volume from_region to_region) (all_anew own.volume (is_alike z own.volume)) j k) alike (follows on)))
       flags_both
 
   -- the flush was refused

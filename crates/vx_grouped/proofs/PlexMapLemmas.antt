@@ -1,5 +1,5 @@
 -- What a detach and an attach of a plex make of what is noted of the maps of a group.
-use Rattle.std.proofs.Common.{◌≡◌, ◌∙◌, ◌<◌, inl, inr, ℕ, Bool, true, false, List, length, refl, sym, ap, IsTrue, Result, Ok, Err, IfOk}
+use Rattle.std.proofs.Common.{◌≡◌, ◌∙◌, ◌<◌, inl, inr, ℕ, Bool, true, false, List, length, refl, sym, ap, IsTrue, Result, Ok, Err, IfOk, ◌||◌}
 use Rattle.std.specs.Prelude.{None, Option, Some, if◌then◌else◌, nat_le}
 use Rattle.std.proofs.lemmas.Bool.{cases_lt, le-leb}
 use Rattle.vx_config.specs.Checks.{blocks_of, plexes_of}
@@ -16,9 +16,9 @@ use Rattle.vx_grouplogs.proofs.LogShape.{same_count}
 use Rattle.vx_history.specs.Groups.{GroupNode}
 use Rattle.vx_history.specs.World.{Node}
 use Rattle.vx_kept.specs.Keeping.{frame_at}
-use Rattle.vx_loggroup.specs.Attaching.{map_by}
+use Rattle.vx_loggroup.specs.Attaching.{map_by, leaves_maps}
 use Rattle.vx_loggroup.specs.LoggedVolumes.{is_alike}
-use Rattle.vx_loggroup.specs.Moving.{MapsBeginIn, MapsEnd, MapsMove, MovesDet, goes_by, in_none, no_volume, only_volume}
+use Rattle.vx_loggroup.specs.Moving.{MapsBeginIn, MapsEnd, MapsMove, MovesDet, goes_by, in_none, no_volume, only_volume, MovesAtt}
 use Rattle.vx_logs.specs.declared.logs.Logs.{Logs}
 use Rattle.vx_model.specs.Sizes.{regions_of}
 use Rattle.vx_model.specs.declared.errors.Stop.{Stop}
@@ -33,7 +33,8 @@ use Rattle.vx_grouped.specs.SiteMaps.{MapsLike}
 use Rattle.vx_grouped.proofs.CountedLemmas.{copies_all, copies_noted}
 use Rattle.vx_grouped.proofs.MoreMapLemmas.{undet_goes}
 use Rattle.vx_grouped.proofs.PlainMapLemmas.{rack_rose}
-use Rattle.vx_grouped.proofs.SiteMapLemmas.{det_goes, like_goes}
+use Rattle.vx_grouped.proofs.SiteMapLemmas.{det_goes, like_goes, att_goes}
+use Rattle.vx_grouped.proofs.MapStandLemmas.{volume_there}
 
 -- ---- what is there, where nothing is refused
 
@@ -54,6 +55,10 @@ none_by (Some no) x refused = absurd (let clash : Ok x ≡ Err (Refused no) = re
 pub ok_each : {T E : Type 0} {P Q : T → Type 0} (r : Result T E) → ((x : T) → P x → Q x) → IfOk r P → IfOk r Q
 ok_each (Ok x) more it = more x it
 ok_each (Err e) more it = tt
+
+first_off : (x y : Bool) → (x || y) ≡ false → x ≡ false
+first_off true y is = let clash : true ≡ false = is in cc
+first_off false y is = refl
 
 -- behind a call that answers no 6 the disks are up
 pub call_still : {T : Type 0} (n : Node) (note : GroupNode) (core : GroupCore) (m : Meaning) (stop : Stop) → stops_down stop ≡ false → CallLeaves {T = T} n note core m (Err stop) → IsTrue m.down → ⊥
@@ -95,10 +100,14 @@ module _ (c d : GroupCore) (l k : List Logs) (s t : Bool) (a b : List Bool) (m m
   }
 
   -- a plex is attached
-  pub att_parts : (vol plex : ℕ) (r : Result ℕ Stop) → MapsBeginIn no_volume c.inner.config d.inner.config s t l k → MapsMove c.inner.config d.inner.config in_none in_none l k → ((no : No) → att_refusal c.inner.config vol plex ≡ Some no → r ≡ Err (Refused no))
+  pub att_parts : (vol plex : ℕ) (r : Result ℕ Stop) → MapsBeginIn no_volume c.inner.config d.inner.config s t l k → MovesAtt (leaves_maps (is_alike a vol) s r) c.inner.config d.inner.config vol plex l k → ((no : No) → att_refusal c.inner.config vol plex ≡ Some no → r ≡ Err (Refused no))
       → (active c.inner.config vol plex ≡ false → IfOk r (λ n. n ≡ missed_regions c.inner.config vol plex (map_by l c.inner.config s false vol plex))) → AttsMaps vol plex (map_parts c.inner.config l a s) m (map_parts d.inner.config k b t) m' r
   att_parts vol plex (Ok count) begins moves refused counts = (
-    like_parts begins moves,
+    record {
+      so = λ w up noted.
+          att_goes w c.inner.config d.inner.config l k s t a b m m' noted (narrow_on c m one) (narrow_on d m' two) same many up (rack_rose m m' was now) ends vol plex begins alike (is_alike a vol || s) moves
+          (λ leaves. (volume_there c.inner.config vol plex (may_attach c.inner.config vol plex (none_by (att_refusal c.inner.config vol plex) count refused)).plex, first_off (is_alike a vol) s leaves));
+    },
     λ w noted off. record {
       unknown = λ none. copies_all w c.inner.config l a s noted vol plex count (counts off) none;
       missed = λ known. copies_noted w c.inner.config l a s noted vol plex count (counts off) (may_attach c.inner.config vol plex (none_by (att_refusal c.inner.config vol plex) count refused)).plex off known;

@@ -1,6 +1,6 @@
 -- What calls of a group make of the regions that plexes missed, as its site notes them, by what they make of the maps in memory.
 use Rattle.std.proofs.Common.{◌≡◌, ◌⊎◌, ◌<◌, ◌&&◌, ◌||◌, ℕ, Bool, true, false, List, length, refl, sym, ◌∙◌, ap, subst, IsTrue, inl, inr}
-use Rattle.std.specs.Prelude.{not, ◌==◌}
+use Rattle.std.specs.Prelude.{not, ◌==◌, Option}
 use Rattle.std.proofs.lemmas.Bool.{eqb-true}
 use Rattle.vx_model.specs.Content.{Write}
 use Rattle.vx_config.specs.Checks.{plexes_of}
@@ -9,18 +9,19 @@ use Rattle.vx_disk.specs.Counts.{Rose}
 use Rattle.vx_disk.specs.Shelf.{Meaning}
 use Rattle.vx_group.specs.Attaches.{copied_regions}
 use Rattle.vx_history.specs.Groups.{MissedNote}
-use Rattle.vx_history.specs.MapChanges.{InNoVolume, InVolume, MapsWritten}
-use Rattle.vx_history.specs.Missing.{each_anew, in_write, maps_doubted, maps_written, no_plex, none_missed, one_anew, this_volume}
+use Rattle.vx_history.specs.MapChanges.{InNoVolume, InVolume, MapsWritten, TookRow}
+use Rattle.vx_history.specs.Missing.{each_anew, in_write, maps_doubted, maps_written, no_plex, none_missed, one_anew, this_volume, perhaps_then}
 use Rattle.vx_kept.specs.Choice.{live}
 use Rattle.vx_kept.specs.Keeping.{AllOn}
 use Rattle.vx_logs.specs.declared.logs.Logs.{Logs}
 use Rattle.vx_volume.specs.Plexes.{active}
 use Rattle.vx_loggroup.specs.LoggedVolumes.{is_alike}
-use Rattle.vx_loggroup.specs.Moving.{MapsBeginIn, MapsDoubt, MapsEnd, MapsMove, goes_by, missed_in}
+use Rattle.vx_loggroup.specs.Moving.{MapsBeginIn, MapsDoubt, MapsEnd, MapsMove, goes_by, missed_in, MapsAttach, MovesAtt, missed_by}
 use Rattle.vx_grouped.specs.MapsNoted.{MapsNoted}
-use Rattle.vx_grouped.specs.SiteMaps.{DetMapsDone, DoubtMaps, MapsLike, WriteMaps}
-use Rattle.vx_grouped.proofs.NotedMapLemmas.{noted_doubted, noted_moved}
-use Rattle.vx_grouped.proofs.WrittenMapLemmas.{live_active, perhaps_as, missed_as, stay_known, written_as}
+use Rattle.vx_grouped.specs.SiteMaps.{DetMapsDone, DoubtMaps, MapsLike, WriteMaps, AttMaps}
+use Rattle.vx_grouped.proofs.NotedMapLemmas.{noted_doubted, noted_moved, joined_note, map_in, noted_joined}
+use Rattle.vx_grouped.proofs.WrittenMapLemmas.{live_active, perhaps_as, missed_as, stay_known, written_as, on_count}
+use Rattle.vx_fmr.specs.Missed.{Missed}
 
 -- fewer maps that are said to begin anew
 pub move_weaker : (c d : Config) (these anew less : ℕ → ℕ → Bool) (l k : List Logs) → ((v p : ℕ) → less v p ≡ true → anew v p ≡ true) → MapsMove c d these anew l k → MapsMove c d these less l k
@@ -94,6 +95,84 @@ module _ (w : MissedNote) (c d : Config) (l k : List Logs) (s t : Bool) (a b : L
 
     pub like_goes : (after : MissedNote) × MapsLike m m' c d w after × MapsNoted after d k b t
     like_goes = (like, like_maps, like_noted)
+
+  -- a plex that was attached, by whether that leaves the maps as they are
+  module _ (vol plex : ℕ) (begins : MapsBeginIn (λ v. false) c d s t l k) (alike : (v : ℕ) → is_alike a v ≡ true → is_alike b v ≡ true) where
+    abbrev held : MissedNote
+    held = record (maps_written (goes_by k d t) d.serial (active c) (active d) no_plex none_missed w) { doubt = w.doubt }
+
+    like_att : MapsLike m m' c d w held → AttMaps vol plex m m' c d w held
+    like_att it = record {
+      known = it.known;
+      joined = record { missed = it.written.missed; perhaps = λ v p r on is. inl (sym (it.written.perhaps v p r on) ∙ is); doubt = it.written.doubt };
+    }
+
+    module _ (moves : MapsAttach c d vol plex l k) (low : vol < length c.volumes) (off : is_alike a vol ≡ false) where
+      row : ℕ → Bool
+      row r = w.missed vol moves.from r || w.perhaps vol moves.from r
+
+      or_either : (x y : Bool) → (x ≡ true) ⊎ (y ≡ true) → (x || y) ≡ true
+      or_either true y is = refl
+      or_either false y (inl is) = let clash : false ≡ true = is in cc
+      or_either false y (inr is) = is
+
+      one_of : (x y : Bool) → (x || y) ≡ true → (x ≡ true) ⊎ (y ≡ true)
+      one_of true y is = inl refl
+      one_of false y is = inr is
+
+      -- no maps begin
+      was_mapped : goes_by k d t vol ≡ true → (x : Bool) → goes_by l c s vol ≡ x → goes_by l c s vol ≡ true
+      was_mapped on true is = is
+      was_mapped on false is = absurd (let clash : false ≡ true = (begins.so vol is on).0 in cc)
+
+      noted_row : goes_by k d t vol ≡ true → (r : ℕ) → r < copied_regions c vol → missed_in l c vol moves.from r ≡ true → row r ≡ true
+      noted_row on r lt has =
+          let goes = was_mapped on (goes_by l c s vol) refl in
+          let f = map_in l c s vol goes in
+          or_either (w.missed vol moves.from r) (w.perhaps vol moves.from r)
+          (noted.most vol moves.from r f.0 (noted.mapped vol ∙ goes) f.1 (record { plex = on_count c vol moves.from moves.is_on; region = lt }) (sym (ap (λ (o : Option Missed). missed_by o (active c vol moves.from) moves.from r) f.1) ∙ has))
+
+      abbrev joined : MissedNote
+      joined = joined_note w c d l k s t a b (λ v. false) noted same begins vol plex row moves noted_row (λ v lt sure. alike v (noted.alike v (was_low v lt) sure))
+
+      in_doubt : (x : Bool) → w.doubt vol ≡ x → w.doubt vol ≡ true
+      in_doubt true is = is
+      in_doubt false is = absurd (let clash : false ≡ true = sym off ∙ noted.alike vol low is in cc)
+
+      took : (v p r : ℕ) → ((v == vol) && ((p == plex) && row r)) ≡ true → TookRow w vol plex v p r
+      took v p r is = by (v == vol) refl (p == plex) refl is
+        where
+          by : (x : Bool) → (v == vol) ≡ x → (y : Bool) → (p == plex) ≡ y → (x && (y && row r)) ≡ true → TookRow w vol plex v p r
+          by false here y one is = absurd (let clash : false ≡ true = is in cc)
+          by true here false one is = absurd (let clash : false ≡ true = is in cc)
+          by true here true one is = record {
+            here = eqb-true v vol here;
+            same = eqb-true p plex one;
+            doubt = in_doubt (w.doubt vol) refl;
+            from = moves.from;
+            has = one_of (w.missed vol moves.from r) (w.perhaps vol moves.from r) is;
+          }
+
+      joined_maps : AttMaps vol plex m m' c d w joined
+      joined_maps = record {
+        known = stay_known w joined c d l k s t a m m' noted (λ v. refl) refl up rack ends InNoVolume InNoVolume (λ v off on. let clash : false ≡ true = (begins.so v off on).0 in cc);
+        joined = record {
+          missed = λ v p r on. missed_as w joined (active c) (active d) (live c) (live d) no_plex none_missed (live_active c all_c) (live_active d all_d) v p r;
+          perhaps = λ v p r on is. perhaps_of v p r (one_of (perhaps_then w (active c) (active d) no_plex v p r) ((v == vol) && ((p == plex) && row r)) is);
+          doubt = λ v lt. refl;
+        };
+      }
+        where
+          perhaps_of : (v p r : ℕ) → (perhaps_then w (active c) (active d) no_plex v p r ≡ true) ⊎ (((v == vol) && ((p == plex) && row r)) ≡ true) → (perhaps_then w (live c) (live d) no_plex v p r ≡ true) ⊎ TookRow w vol plex v p r
+          perhaps_of v p r (inl is) = inl (sym (perhaps_as w joined (active c) (active d) (live c) (live d) no_plex none_missed (live_active c all_c) (live_active d all_d) v p r) ∙ is)
+          perhaps_of v p r (inr is) = inr (took v p r is)
+
+      joined_goes : (after : MissedNote) × AttMaps vol plex m m' c d w after × MapsNoted after d k b t
+      joined_goes = (joined, joined_maps, noted_joined w c d l k s t a b (λ v. false) noted same begins vol plex row moves noted_row (λ v lt sure. alike v (noted.alike v (was_low v lt) sure)))
+
+    pub att_goes : (x : Bool) → MovesAtt x c d vol plex l k → (x ≡ false → (vol < length c.volumes) × (is_alike a vol ≡ false)) → (after : MissedNote) × AttMaps vol plex m m' c d w after × MapsNoted after d k b t
+    att_goes true moves sure = (held, like_att (like_maps begins (λ off. moves) alike), like_noted begins (λ off. moves) alike)
+    att_goes false moves sure = joined_goes moves (sure refl).0 (sure refl).1
 
   -- a plex that was detached
   module _ (vol plex : ℕ) (begins : MapsBeginIn (this_volume vol) c d s t l k) (moves : t ≡ false → MapsMove c d none_missed (λ v p. this_volume vol v && (p == plex && is_alike a vol)) l k)

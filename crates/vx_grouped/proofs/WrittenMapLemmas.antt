@@ -1,6 +1,6 @@
 -- What plexes missed behind a call, by which of them took part before and behind it.
-use Rattle.std.proofs.Common.{◌≡◌, ◌⊎◌, ◌≤◌, ◌+◌, ◌&&◌, ◌||◌, ℕ, Bool, true, false, List, refl, sym, ◌∙◌, ap, IsTrue, inl, inr, arith}
-use Rattle.std.specs.Prelude.{Option, Some, None, if◌then◌else◌, not}
+use Rattle.std.proofs.Common.{◌≡◌, ◌⊎◌, ◌≤◌, ◌+◌, ◌&&◌, ◌||◌, ℕ, Bool, true, false, List, refl, sym, ◌∙◌, ap, IsTrue, inl, inr, arith, ◌<◌, length}
+use Rattle.std.specs.Prelude.{Option, Some, None, if◌then◌else◌, not, slice_get}
 use Rattle.vx_config.specs.Table.{greatest}
 use Rattle.vx_config.specs.declared.config.Config.{Config}
 use Rattle.vx_history.specs.Groups.{MissedNote}
@@ -19,7 +19,12 @@ use Rattle.vx_grouped.specs.SiteMaps.{FailedAt, map_disk_of, map_disk_or}
 use Rattle.vx_kept.specs.Choice.{live}
 use Rattle.vx_kept.specs.Keeping.{AllOn}
 use Rattle.vx_kept.proofs.Narrower.{on_live}
-use Rattle.vx_volume.specs.Plexes.{active}
+use Rattle.vx_volume.specs.Plexes.{active, active_or}
+use Rattle.vx_config.specs.Checks.{plexes_of, plexes_or}
+use Rattle.vx_config.specs.declared.entry.PlexEntry.{PlexEntry}
+use Rattle.vx_config.specs.declared.entry.VolumeEntry.{VolumeEntry}
+use Rattle.vx_layout.specs.Places.{plex_in}
+use Rattle.std.proofs.lemmas.Option.{slice_get_within}
 
 -- by plexes that take part as those do
 module _ (w next : MissedNote) (was now was' now' anew these : ℕ → ℕ → Bool) (before : (v p : ℕ) → was v p ≡ was' v p) (behind : (v p : ℕ) → now v p ≡ now' v p) where
@@ -48,6 +53,19 @@ live_active c all v p = by (active c v p) (live c v p) (λ on. on_live c v p on)
     by true y there back = sym (there refl)
     by false true there back = back refl
     by false false there back = refl
+
+-- a plex that is ACTIVE is counted
+pub on_count : (c : Config) (v p : ℕ) → active c v p ≡ true → p < plexes_of c v
+unfolding active
+on_count c v p on = by (slice_get c.volumes v) on
+  where
+    in_list : (plexes : List PlexEntry) (o : Option PlexEntry) → slice_get plexes p ≡ o → active_or o ≡ true → p < length plexes
+    in_list plexes None is on = let clash : false ≡ true = on in cc
+    in_list plexes (Some a) is on = slice_get_within plexes p a is
+
+    by : (o : Option VolumeEntry) → active_or (plex_in o p) ≡ true → p < plexes_or o
+    by None on = absurd (let clash : false ≡ true = on in cc)
+    by (Some x) on = in_list x.plexes (slice_get x.plexes p) refl on
 
 -- ---- which maps are known
 

@@ -15,7 +15,7 @@ use Rattle.vx_volume.specs.Plexes.{active}
 use Rattle.vx_grouped.specs.Away.{AllHave}
 use Rattle.vx_grouped.specs.MapsNoted.{CopiesNoted, MapsNoted}
 use Rattle.vx_grouped.specs.declared.laid.Laid.{Laid}
-use Rattle.vx_grouped.specs.SiteMaps.{AddMaps, BackMaps, DetMapsDone, DetMapsFailed, DoubtMaps, IdleMaps, MapsLike, RisenMaps, WriteMaps}
+use Rattle.vx_grouped.specs.SiteMaps.{AddMaps, AttMaps, BackMaps, DetMapsDone, DetMapsFailed, DoubtMaps, IdleMaps, MapsLike, RisenMaps, WriteMaps}
 
 -- what a group has beside its disks: its configuration, the logs of its volumes, which of them are alike, and whether logs are stopped
 pub record MapParts : Type 0 where
@@ -49,7 +49,7 @@ DetsMaps vol plex x m y m' (Err stop) = PartsMoved (DetMapsFailed vol m m') x y 
 
 -- an attach: so many regions are copied
 abbrev pub AttsMaps : (vol plex : ℕ) → MapParts → Meaning → MapParts → Meaning → Result ℕ Stop → Type 0
-AttsMaps vol plex x m y m' (Ok count) = PartsMoved (MapsLike m m') x y m' × ((w : MissedNote) → PartsNoted w x → active x.config vol plex ≡ false → CopiesNoted w x.config vol plex count)
+AttsMaps vol plex x m y m' (Ok count) = PartsMoved (AttMaps vol plex m m') x y m' × ((w : MissedNote) → PartsNoted w x → active x.config vol plex ≡ false → CopiesNoted w x.config vol plex count)
 AttsMaps vol plex x m y m' (Err stop) = PartsMoved (MapsLike m m') x y m'
 
 abbrev pub AddsMaps : MapParts → Meaning → MapParts → Meaning → Result ℕ Stop → Type 0

@@ -11,7 +11,7 @@ use Rattle.vx_disk.specs.Counts.{Rose}
 use Rattle.vx_disk.specs.Shelf.{Each, Image, Meaning}
 use Rattle.vx_disk.specs.declared.shelf.Shelf.{Ghosts}
 use Rattle.vx_history.specs.Groups.{GroupNode, MissedNote}
-use Rattle.vx_history.specs.MapChanges.{InNoVolume, InVolume, MapsBack, MapsFailed, MapsWritten, StayKnown}
+use Rattle.vx_history.specs.MapChanges.{InNoVolume, InVolume, MapsBack, MapsFailed, MapsJoined, MapsWritten, StayKnown}
 use Rattle.vx_history.specs.Missing.{each_anew, in_write, no_plex, none_missed, one_anew}
 use Rattle.vx_kept.specs.Choice.{live}
 use Rattle.vx_kept.specs.Cleans.{at_serial}
@@ -92,6 +92,11 @@ DetMapsDone vol plex old new c d = DetMaps (λ w. one_anew w vol plex) vol old n
 abbrev pub DetMapsFailed : (vol : ℕ) → Meaning → Meaning → Config → Config → MissedNote → MissedNote → Type 0
 DetMapsFailed vol old new c d = DetMaps (λ w. no_plex) vol old new c d
 
+-- a plex was attached
+pub record AttMaps (vol plex : ℕ) (old new : Meaning) (c d : Config) (w next : MissedNote) : Type 0 where
+  pub known : StayKnown (FailedAt old new) InNoVolume InNoVolume (map_disk_of c) w next
+  pub joined : MapsJoined (length c.volumes) vol plex (live c) (live d) w next
+
 -- a write was done
 pub record WriteMaps (x : Write) (old new : Meaning) (c d : Config) (w next : MissedNote) : Type 0 where
   pub known : StayKnown (FailedAt old new) InNoVolume (InVolume x.volume) (map_disk_of c) w next
@@ -164,7 +169,7 @@ module _ {R : Type 0} {g : Ghosts R} where
   -- and so many regions are copied
   abbrev pub AttMapped : (vol plex : ℕ) → GroupSite R g → GroupSite R g → Result ℕ Stop → Type 0
   AttMapped vol plex old new (Ok count) =
-      UpMaps MapsLike old new × ((c : Config) (w : MissedNote) → site_config old ≡ Some c → MapsOf w c old → active c vol plex ≡ false → CopiesNoted w c vol plex count)
+      UpMaps (AttMaps vol plex) old new × ((c : Config) (w : MissedNote) → site_config old ≡ Some c → MapsOf w c old → active c vol plex ≡ false → CopiesNoted w c vol plex count)
   AttMapped vol plex old new (Err stop) = UpMaps MapsLike old new
 
   -- a read

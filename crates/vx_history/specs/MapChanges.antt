@@ -33,6 +33,20 @@ pub record MapsFailed (vol : ℕ) (was now these : ℕ → ℕ → Bool) (w new 
   pub perhaps : (v p r : ℕ) → new.mapped v ≡ true → new.perhaps v p r ≡ true → (these v r ≡ true) ⊎ (perhaps_then w was now no_plex v p r ≡ true)
   pub doubt : (v : ℕ) → v ≢ vol → new.doubt v ≡ w.doubt v
 
+-- a region that a plex of volume v may have missed, as its map becomes that of another one: only in a volume of which a write failed
+pub record TookRow (w : MissedNote) (vol plex v p r : ℕ) : Type 0 where
+  pub here : v ≡ vol
+  pub same : p ≡ plex
+  pub doubt : w.doubt vol ≡ true
+  pub from : ℕ
+  pub has : (w.missed vol from r ≡ true) ⊎ (w.perhaps vol from r ≡ true)
+
+-- An attach of a plex, in which no region was written. So many volumes there were.
+pub record MapsJoined (count vol plex : ℕ) (was now : ℕ → ℕ → Bool) (w new : MissedNote) : Type 0 where
+  pub missed : (v p r : ℕ) → new.mapped v ≡ true → new.missed v p r ≡ missed_then w was now none_missed v p r
+  pub perhaps : (v p r : ℕ) → new.mapped v ≡ true → new.perhaps v p r ≡ true → (perhaps_then w was now no_plex v p r ≡ true) ⊎ TookRow w vol plex v p r
+  pub doubt : (v : ℕ) → v < count → new.doubt v ≡ w.doubt v
+
 -- A group that was deported came up. The maps of a volume that stopped cleanly are known as they were, but where they are gone, or memory is wanting for them; those
 -- of each other volume are not. A plex that goes off in it misses nothing, but perhaps what was left in its map.
 pub record MapsBack (Failed : ℕ → Type 0) (wanting : Type 0) (clean : ℕ → Type 0) (disk : ℕ → Option ℕ) (was now : ℕ → ℕ → Bool) (w new : MissedNote) : Type 0 where

@@ -8,7 +8,7 @@ use Rattle.vx_grouped.specs.Watches.{PlexAtts}
 use Rattle.vx_grouped.proofs.CalledLemmas.{down_by_stop}
 use Rattle.vx_grouped.proofs.SitePlexLemmas.{att_never_off, att_site_cut, att_site_done, att_site_up}
 use Rattle.vx_grouped.specs.PlainMaps.{AttsMaps, laid_parts}
-use Rattle.vx_grouped.specs.SiteMaps.{MapsLike}
+use Rattle.vx_grouped.specs.SiteMaps.{MapsLike, AttMaps}
 use Rattle.vx_grouped.proofs.PlexMapLemmas.{call_still}
 use Rattle.vx_grouped.proofs.UpMapLemmas.{copies_up, down_maps, up_maps}
 use Rattle.vx_grouped.proofs.site_plexes.att_site.Goals as goal
@@ -49,7 +49,7 @@ returns-in-Ok-clause-maps g c = λ n note up.
     let racks = shade_rack g.R.Shelf.meaning is_rack in
     let works = (subst (λ r. PlexAtts c.args.vol c.args.plex c.args.laid.core (shade_meaning g.R.Shelf.meaning c.args.laid.shelf) c.att_watched-laid.result.0.core (shade_meaning g.R.Shelf.meaning c.att_watched-laid.result.0.shelf) r) c.in-Ok.is c.att_watched-laid.ensures.works) in
     let maps = (subst (λ r. AttsMaps c.args.vol c.args.plex (laid_parts c.args.laid) (shade_meaning g.R.Shelf.meaning c.args.laid.shelf) (laid_parts c.att_watched-laid.result.0) (shade_meaning g.R.Shelf.meaning c.att_watched-laid.result.0.shelf) r) c.in-Ok.is (c.att_watched-laid.ensures.maps (racks c.args.laid.shelf) (racks c.att_watched-laid.result.0.shelf))) in
-    (up_maps MapsLike c.args.laid c.att_watched-laid.result.0 (works.leaves n note up.at).1.up maps.0, copies_up c.args.laid c.args.vol c.args.plex c.in-Ok.count maps.1)
+    (up_maps (AttMaps c.args.vol c.args.plex) c.args.laid c.att_watched-laid.result.0 (works.leaves n note up.at).1.up maps.0, copies_up c.args.laid c.args.vol c.args.plex c.in-Ok.count maps.1)
 
 pub returns-then-is_down_stop-clause-maps : goal.returns-then-is_down_stop-clause-maps
 returns-then-is_down_stop-clause-maps g c = λ n note up. down_maps MapsLike c.args.laid c.crash.result c.crash.ensures.rests
