@@ -23,7 +23,7 @@ use Rattle.vx_grouped.specs.MapsNoted.{MapsNoted}
 use Rattle.vx_grouped.specs.PlainMaps.{PartsBack, laid_parts}
 use Rattle.vx_grouped.specs.Readies.{ready_of}
 use Rattle.vx_grouped.specs.SiteEnds.{stops_down}
-use Rattle.vx_grouped.specs.SiteMaps.{BackMaps, CameUp, DiskMaps, DownMaps, FailedAt, IdleMaps, ImportMapped, MapsOf, RecoverMapped, RisenMaps, map_disk_of}
+use Rattle.vx_grouped.specs.SiteMaps.{BackMaps, CameBack, DiskMaps, DownMaps, FailedAt, IdleMaps, ImportMapped, MapsOf, RecoverMapped, RisenMaps, map_disk_of}
 use Rattle.vx_grouped.specs.SiteReturns.{stops_early}
 use Rattle.vx_grouped.specs.declared.group_site.GroupSite.{GroupSite}
 use Rattle.vx_grouped.specs.declared.group_site.GroupSite.TheVariants.{Deported, Down, Up}
@@ -102,7 +102,7 @@ module _ {R : Type 0} {g : Ghosts R} where
     came_risen new next it = record { mapped = it.mapped; doubt = λ v is c tells all. it.doubt v is c tells (less_all old m1 units size leaves c all) }
 
     -- by disks that keep no more
-    pub came_from : (o : Option Rested) (new : GroupSite R g) → CameUp o m1 new → CameUp o old new
+    pub came_from : (o : Option Rested) (new : GroupSite R g) → CameBack o m1 new → CameBack o old new
     came_from o new it = record {
       so = λ w c d tells all now idle.
           let b = it.so w c d tells (less_all old m1 units size leaves c all) now (less_idle old m1 units size leaves w c o idle) in
@@ -111,7 +111,7 @@ module _ {R : Type 0} {g : Ghosts R} where
       none = λ d now not. let b = it.none d now not in (b.0, came_risen (site_disks new) b.0 b.1, b.2);
     }
 
-    pub came_up : (laid : Laid R g) (rested : Rested) → PartsBack rested m1 (laid_parts laid) (laid_disks laid) → CameUp (Some rested) old (Up laid)
+    pub came_up : (laid : Laid R g) (rested : Rested) → PartsBack rested m1 (laid_parts laid) (laid_disks laid) → CameBack (Some rested) old (Up laid)
     came_up laid rested it = record {
       so = λ w c d tells all now idle.
           let b = it.so w c tells (less_all old m1 units size leaves c all) (less_idle old m1 units size leaves w c (Some rested) idle) in
@@ -140,9 +140,9 @@ module _ {R : Type 0} {g : Ghosts R} where
     less : ReadyLess (idle_disks idle) (shade_meaning g.meaning ready)
     less = subst (λ (s : Shade R). ReadyLess (idle_disks idle) (shade_meaning g.meaning s)) (sym is) (ready_less idle.agreed idle.rack)
 
-    came_ready : CameUp (Some rested) (shade_meaning g.meaning ready) new → CameUp idle.rested (idle_disks idle) new
+    came_ready : CameBack (Some rested) (shade_meaning g.meaning ready) new → CameBack idle.rested (idle_disks idle) new
     came_ready it =
-        subst (λ (o : Option Rested). CameUp o (idle_disks idle) new) (sym at) (came_from (idle_disks idle) (shade_meaning g.meaning ready) less.units less.size less.leaves less.counts (Some rested) new it)
+        subst (λ (o : Option Rested). CameBack o (idle_disks idle) new) (sym at) (came_from (idle_disks idle) (shade_meaning g.meaning ready) less.units less.size less.leaves less.counts (Some rested) new it)
 
     pub imported_maps : (r : Result (Unit {0}) Stop) → ImportMapped (Some rested) (shade_meaning g.meaning ready) new r → ImportMapped idle.rested (idle_disks idle) new r
     imported_maps (Ok done) it = came_ready it

@@ -186,18 +186,18 @@ module _ {R : Type 0} {g : Ghosts R} where
   CrashMapped old new = (c : Config) (w : MissedNote) → site_config old ≡ Some c → MapsOf w c old → MapsOf w c new
 
   -- an import of disks, with a value that says which volumes rest: what is noted goes on; and something may be noted, whatever the disks were
-  pub record CameUp (rested : Option Rested) (old : Meaning) (new : GroupSite R g) : Type 0 where
+  pub record CameBack (rested : Option Rested) (old : Meaning) (new : GroupSite R g) : Type 0 where
     pub so : (w : MissedNote) (c d : Config) → IsTrue (site_disks new).tells → AllHave c old → site_config new ≡ Some d → IdleMaps w c rested old → (next : MissedNote) × BackMaps old (site_disks new) c d w next × MapsOf next d new
     pub some : (d : Config) → site_config new ≡ Some d → (w : MissedNote) × MapsOf w d new
     pub none : (d : Config) → site_config new ≡ Some d → RestsNot rested → (next : MissedNote) × RisenMaps old (site_disks new) next × MapsOf next d new
 
   -- refused before it wrote, the disks have what they had
   abbrev pub ImportMapped : Option Rested → Meaning → GroupSite R g → Result (Unit {0}) Stop → Type 0
-  ImportMapped rested old new (Ok done) = CameUp rested old new
+  ImportMapped rested old new (Ok done) = CameBack rested old new
   ImportMapped rested old new (Err stop) = stops_early stop ≡ true → (w : MissedNote) (c : Config) → IdleMaps w c rested old → MapsOf w c new
 
   abbrev pub RecoverMapped : Option Rested → Meaning → GroupSite R g → Result (Unit {0}) Stop → Type 0
-  RecoverMapped rested old new (Ok done) = CameUp rested old new
+  RecoverMapped rested old new (Ok done) = CameBack rested old new
   RecoverMapped rested old new (Err stop) = stops_early stop ≡ true → (w : MissedNote) (c : Config) → DownMaps w c rested old → MapsOf w c new
 
   -- either, of a site
