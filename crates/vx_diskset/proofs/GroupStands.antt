@@ -106,6 +106,7 @@ module _ (n k : Node) (like : IsLikeGroup n k) where
       state = sym like.state ∙ it.away.state;
       config = it.away.config;
       found = it.away.found;
+      runs = it.away.runs;
       lies = lies_like n k note it.last m like.disks like.blocks it.away.lies;
     };
   }

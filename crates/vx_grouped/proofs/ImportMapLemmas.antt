@@ -151,21 +151,24 @@ module _ {S : Type 0} (meaning : S → Meaning) (rested : Rested) (old : Meaning
 
   -- ---- the image that was read
 
-  module _ (c : Config) (tells : IsTrue new.tells) (all : AllHave c old) where
-    tell : IsTrue old.tells
-    tell = sym it.resumed.goes.tells ∙ sym it.goes.tells ∙ tells
+  each_told : IsTrue new.tells → Each old.leaves it.resumed.taken.image
+  each_told tells = λ u b. law.shown u b (it.resumed.taken.image u b) (it.resumed.taken.read (sym it.resumed.goes.tells ∙ sym it.goes.tells ∙ tells) u b)
 
+  finds_x : IsTrue new.tells → found old it.resumed.taken.image ≡ Found x
+  finds_x tells = can.one it.resumed.taken.image it.resumed.taken.image it.resumed.taken.readable x (each_told tells) (each_told tells) it.resumed.taken.is
+
+  low_x : (v : ℕ) → v < length core.inner.config.volumes → v < length x.volumes
+  low_x v low = subst (λ (n : ℕ). v < n) many_x low
+
+  module _ (c : Config) (tells : IsTrue new.tells) (all : AllHave c old) where
     each : Each old.leaves it.resumed.taken.image
-    each = λ u b. law.shown u b (it.resumed.taken.image u b) (it.resumed.taken.read tell u b)
+    each = each_told tells
 
     one : x ≡ c
-    one = found_is x c (sym (can.one it.resumed.taken.image it.resumed.taken.image it.resumed.taken.readable x each each it.resumed.taken.is) ∙ all.finds it.resumed.taken.image each)
+    one = found_is x c (sym (finds_x tells) ∙ all.finds it.resumed.taken.image each)
 
     low_c : (v : ℕ) → v < length core.inner.config.volumes → v < length c.volumes
-    low_c v low = subst (λ (n : ℕ). v < n) (many_x ∙ ap (λ (y : Config). length y.volumes) one) low
-
-    clean_c : (v : ℕ) → v < length core.inner.config.volumes → is_alike flags v ≡ false → StopsClean c v
-    clean_c v low off = subst (λ (y : Config). StopsClean y v) one (clean_x v (not_alike v low off))
+    low_c v low = subst (λ (y : Config). v < length y.volumes) one (low_x v low)
 
     -- ---- an import of a group that was deported
 
@@ -194,7 +197,7 @@ module _ {S : Type 0} (meaning : S → Meaning) (rested : Rested) (old : Meaning
       clean v on = let f = map_in logs core.inner.config ended v on in subst (λ (y : Config). StopsClean y v) one (clean_x v (clean_map v f.0 f.1))
 
       doubts : (v : ℕ) → v < length core.inner.config.volumes → is_alike flags v ≡ false → (w.doubt v ≡ true) × StopsClean c v
-      doubts v low off = (by (w.doubt v) refl, clean_c v low off)
+      doubts v low off = (by (w.doubt v) refl, subst (λ (y : Config). StopsClean y v) one (clean_x v (not_alike v low off)))
         where
           by : (b : Bool) → w.doubt v ≡ b → w.doubt v ≡ true
           by true is = is
@@ -233,10 +236,10 @@ module _ {S : Type 0} (meaning : S → Meaning) (rested : Rested) (old : Meaning
     crashed_risen : RisenMaps old new crashed_note
     crashed_risen = record {
       mapped = λ v. refl;
-      doubt = λ v is c tells all.
+      doubt = λ v is tells.
           let flag = left_flag (ltb v (length core.inner.config.volumes)) (is_alike flags v) is in
           let low = ltb-true v (length core.inner.config.volumes) flag.0 in
-          (clean_c c tells all v low flag.1, low_c c tells all v low);
+          record { image = it.resumed.taken.image; config = x; each = each_told tells; finds = finds_x tells; clean = clean_x v (not_alike v low flag.1); low = low_x v low };
     }
 
   -- ---- what memory has, whatever was noted

@@ -58,3 +58,4 @@ pub mod LeaveMapLemmas
 pub mod ImportMapLemmas
 pub mod ReturnMapLemmas
 pub mod StayMapLemmas
+pub mod RunMapLemmas

@@ -68,7 +68,7 @@ module _ (w : MissedNote) (n : Node) (note : GroupNode) where
     stopped = it.stopped;
     last = it.last;
     spells = it.spells;
-    away = record { state = it.away.state; config = it.away.config; found = found_so it.last m it.away.found; lies = away_so it.last m it.away.lies };
+    away = record { state = it.away.state; config = it.away.config; found = found_so it.last m it.away.found; runs = it.away.runs; lies = away_so it.last m it.away.lies };
   }
 
   deported_so : (agreed told : Bool) (m : Meaning) → GroupAway n note agreed told m → GroupAway (site_maps w note n) (with_maps w note) agreed told m

@@ -99,7 +99,19 @@ module _ {R : Type 0} {g : Ghosts R} where
 
   module _ (old m1 : Meaning) (units : m1.units ≡ old.units) (size : (u : ℕ) → m1.size u ≡ old.size u) (leaves : (u b : ℕ) (v : List ℕ) → m1.leaves u b v → old.leaves u b v) (counts : (k : ℕ) → m1.disk_faults k ≡ old.disk_faults k) where
     came_risen : (new : Meaning) (next : MissedNote) → RisenMaps m1 new next → RisenMaps old new next
-    came_risen new next it = record { mapped = it.mapped; doubt = λ v is c tells all. it.doubt v is c tells (less_all old m1 units size leaves c all) }
+    came_risen new next it = record {
+      mapped = it.mapped;
+      doubt = λ v is tells.
+          let some = it.doubt v is tells in
+          record {
+            image = some.image;
+            config = some.config;
+            each = less_each old m1 units size leaves some.image some.each;
+            finds = sym (less_found old m1 units size leaves some.image) ∙ some.finds;
+            clean = some.clean;
+            low = some.low;
+          };
+    }
 
     -- by disks that keep no more
     pub came_from : (o : Option Rested) (new : GroupSite R g) → CameBack o m1 new → CameBack o old new

@@ -60,11 +60,20 @@ pub record DownMaps (w : MissedNote) (c : Config) (rested : Option Rested) (m : 
 pub record StopsClean (c : Config) (v : ℕ) : Type 0 where
   pub each : (p : ℕ) → active c v p ≡ false
 
--- A group that came up from disks, of which a value says which volumes rest: on which all images had configuration c, if contents are told. Where it says so of
--- none, no map is known, and a volume of which a write failed stopped cleanly.
+-- of disks that a crash may leave as in this image, with a configuration by which a volume stopped cleanly
+pub record StoppedSome (m : Meaning) (v : ℕ) : Type 0 where
+  pub image : Image
+  pub config : Config
+  pub each : Each m.leaves image
+  pub finds : found m image ≡ Found config
+  pub clean : StopsClean config v
+  pub low : v < length config.volumes
+
+-- A group came up from disks of which a value says that no volume rests: no map is known, and, where contents are told, a volume of which a write failed stopped
+-- cleanly by what may have been on them.
 pub record RisenMaps (old new : Meaning) (next : MissedNote) : Type 0 where
   pub mapped : (v : ℕ) → next.mapped v ≡ false
-  pub doubt : (v : ℕ) → next.doubt v ≡ true → (c : Config) → IsTrue new.tells → AllHave c old → StopsClean c v × (v < length c.volumes)
+  pub doubt : (v : ℕ) → next.doubt v ≡ true → IsTrue new.tells → StoppedSome old v
 
 -- the disk of the log of missed regions of a volume, where it has one that is not lost
 abbrev pub map_disk_of : Config → ℕ → Option ℕ
