@@ -1,5 +1,5 @@
 -- How many regions an attach copies, by what a site notes of the regions that plexes missed.
-use Rattle.std.proofs.Common.{◌≡◌, ◌⊎◌, ◌<◌, ◌+◌, ◌&&◌, ℕ, zero, suc, Bool, true, false, List, refl, sym, ◌∙◌, ap, arith}
+use Rattle.std.proofs.Common.{◌≡◌, ◌<◌, ◌&&◌, ℕ, zero, suc, Bool, true, false, List, refl, sym, ◌∙◌, ap, arith}
 use Rattle.std.proofs.lemmas.Bool.{lt-leb}
 use Rattle.std.specs.Prelude.{Option, Some, None, if◌then◌else◌, is_some, not, nat_le}
 use Rattle.vx_config.specs.Checks.{plexes_of}
@@ -14,7 +14,6 @@ use Rattle.vx_logs.specs.declared.logs.Logs.{Logs}
 use Rattle.vx_resync.specs.Picks.{as_one, picked_below}
 use Rattle.vx_volume.specs.Plexes.{active}
 use Rattle.vx_loggroup.specs.Attaching.{fmr_at, map_by}
-use Rattle.vx_loggroup.specs.Moving.{IsThere, goes_by}
 use Rattle.vx_grouped.specs.MapsNoted.{CopiesNoted, MapsNoted}
 use Rattle.vx_grouped.proofs.NotedMapLemmas.{map_in}
 

@@ -1,5 +1,5 @@
 -- The regions that plexes missed, as the logs on the disks of a site have them, by its note.
-use Rattle.std.proofs.Common.{◌≡◌, ◌⊎◌, ◌<◌, ◌+◌, ◌*◌, ◌/◌, ◌%◌, ◌&&◌, ℕ, Bool, true, false, List, refl, sym, ◌∙◌, ap, subst, inl, inr}
+use Rattle.std.proofs.Common.{◌≡◌, ◌<◌, ◌+◌, ◌*◌, ◌/◌, ◌%◌, ◌&&◌, ℕ, Bool, true, false, List, refl, sym, ◌∙◌, ap, subst, inl, inr}
 use Rattle.std.specs.Prelude.{Option, Some, None, not, is_some}
 use Rattle.vx_bitmap.specs.Bits.{is_marked}
 use Rattle.vx_bitmap.specs.Maps.{Map, MapOn, map_block_count}
@@ -97,7 +97,7 @@ log_there c x v same e is = by (log_of c v Fmr) refl (sym (ap run_or is) ∙ sam
         start_of None = 0
         start_of (Some r) = r.start
 
-missed_logged : (c : Config) (v p r : ℕ) (f : Missed) (m : Meaning) (i : Image) (e : LogEntry) → MapLies c v f m → LogThere c v e → Each m.leaves i → IsThere c v p r → logged_in e i (p * stride_of c v + r) ≡ has_missed f p r
+pub missed_logged : (c : Config) (v p r : ℕ) (f : Missed) (m : Meaning) (i : Image) (e : LogEntry) → MapLies c v f m → LogThere c v e → Each m.leaves i → IsThere c v p r → logged_in e i (p * stride_of c v + r) ≡ has_missed f p r
 missed_logged c v p r f m i e lies at each it =
     ap (λ (n : ℕ). logged_in e i (p * n + r)) (sym lies.stride)
     ∙ logged_is f.map m i (p * f.stride + r) e (lies.there at.entry at.is ∙ at.disk) (lies.begins at.entry at.is ∙ at.start) lies.on each (lies.fit p r it)

@@ -10,9 +10,8 @@ use Rattle.vx_config.specs.declared.entry.VolumeEntry.{VolumeEntry}
 use Rattle.vx_config.specs.declared.entry.VolumeLog.TheVariants.{Fmr}
 use Rattle.vx_copies.specs.Answers.{returned}
 use Rattle.vx_copyfmt.specs.Imports.{Found}
-use Rattle.vx_disk.specs.Shelf.{Each, Image, Lawful, Meaning}
-use Rattle.vx_fmr.specs.Missed.{Missed, has_missed}
-use Rattle.vx_group.specs.Attaches.{copied_regions}
+use Rattle.vx_disk.specs.Shelf.{Each, Lawful, Meaning}
+use Rattle.vx_fmr.specs.Missed.{Missed}
 use Rattle.vx_group.specs.Holding.{wide}
 use Rattle.vx_group.specs.Resumes.{CanImport, stopped}
 use Rattle.vx_group.specs.declared.group_core.GroupCore.{GroupCore}
@@ -23,7 +22,7 @@ use Rattle.vx_history.specs.Missing.{maps_none}
 use Rattle.vx_kept.specs.Groups.{found}
 use Rattle.vx_kept.specs.Keeping.{frame_at}
 use Rattle.vx_kept.proofs.Chosen.{frames_volumes}
-use Rattle.vx_logimport.specs.Rests.{RestsNone, rests}
+use Rattle.vx_logimport.specs.Rests.{RestsNone}
 use Rattle.vx_logimport.specs.declared.rested.Rested.{Rested}
 use Rattle.vx_loggroup.specs.Attaching.{fmr_at}
 use Rattle.vx_loggroup.specs.LoggedVolumes.{LoggedStands, is_alike}
@@ -38,7 +37,7 @@ use Rattle.vx_model.specs.Sizes.{map_blocks, regions_of}
 use Rattle.vx_model.specs.declared.limits.TheConstants.{MAP_REGIONS}
 use Rattle.vx_volume.specs.Plexes.{active}
 use Rattle.vx_grouped.specs.Away.{AllHave}
-use Rattle.vx_grouped.specs.MapsNoted.{MapsNoted, MapsOnDisk}
+use Rattle.vx_grouped.specs.MapsNoted.{MapsNoted}
 use Rattle.vx_grouped.specs.PlainMaps.{PartsBack, map_parts}
 use Rattle.vx_grouped.specs.SiteMaps.{BackMaps, IdleMaps, RisenMaps, StopsClean}
 use Rattle.vx_grouped.proofs.BackMapLemmas.{back_maps, back_note, back_noted}

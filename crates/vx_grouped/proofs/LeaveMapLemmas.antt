@@ -1,5 +1,5 @@
 -- What a deport makes of what is noted of the maps of a group, and of the logs on its disks.
-use Rattle.std.proofs.Common.{◌≡◌, ◌⊎◌, ◌∙◌, ◌<◌, ◌||◌, ◌+◌, ◌*◌, inl, inr, ℕ, Bool, true, false, List, length, refl, sym, ap, subst, IsTrue, ◌&&◌, arith}
+use Rattle.std.proofs.Common.{◌≡◌, ◌∙◌, ◌<◌, ◌||◌, ◌+◌, ◌*◌, inl, inr, ℕ, Bool, true, false, List, length, refl, sym, ap, subst, ◌&&◌, arith}
 use Rattle.std.specs.Prelude.{Option, None, Some, ltb, not, is_some, slice_get}
 use Rattle.std.proofs.lemmas.Bool.{lt-ltb, ltb-true}
 use Rattle.vx_config.specs.Checks.{blocks_of, plexes_of}
@@ -13,7 +13,6 @@ use Rattle.vx_copyfmt.specs.Imports.{Found}
 use Rattle.vx_disk.specs.Racks.{IsRack}
 use Rattle.vx_disk.specs.Shelf.{Each, Image, Meaning}
 use Rattle.vx_fmr.specs.Missed.{Missed, has_missed}
-use Rattle.vx_group.specs.Attaches.{copied_regions}
 use Rattle.vx_group.specs.Calls.{GroupBack}
 use Rattle.vx_group.specs.Deports.{DeportedBy}
 use Rattle.vx_group.specs.Holding.{GroupStands, wide}
@@ -33,7 +32,7 @@ use Rattle.vx_layout.specs.Places.{plex_at}
 use Rattle.vx_logimport.specs.Rests.{rests}
 use Rattle.vx_logimport.specs.declared.rested.Rested.{Rested}
 use Rattle.vx_loggroup.specs.Attaching.{fmr_at, fmr_or}
-use Rattle.vx_loggroup.specs.LoggedVolumes.{LoggedStands, is_alike}
+use Rattle.vx_loggroup.specs.LoggedVolumes.{LoggedStands}
 use Rattle.vx_loggroup.specs.Moving.{IsThere, MapsBackIn, MapsStand, RestsMaps, RestsOr}
 use Rattle.vx_loggroup.proofs.KeepingLemmas.{frames_places}
 use Rattle.vx_loggroup.proofs.MovedLemmas.{move_none}
@@ -46,9 +45,9 @@ use Rattle.vx_volume.specs.Plexes.{active}
 use Rattle.vx_grouped.specs.Away.{AllHave}
 use Rattle.vx_grouped.specs.MapsNoted.{MapsNoted, MapsOnDisk}
 use Rattle.vx_grouped.specs.PlainMaps.{PartsLeft, PartsMoved, map_parts}
-use Rattle.vx_grouped.specs.SiteMaps.{DiskMaps, IdleMaps, MapsLike}
+use Rattle.vx_grouped.specs.SiteMaps.{DiskMaps, MapsLike}
 use Rattle.vx_grouped.proofs.DiskMapLemmas.{MapLies, log_there, missed_logged, LogThere}
-use Rattle.vx_grouped.proofs.MapStandLemmas.{lies_at}
+use Rattle.vx_grouped.proofs.MapStandLemmas.{stood_lies}
 use Rattle.vx_grouped.proofs.NotedMapLemmas.{going, had_b, map_in, missed_b, noted_b}
 use Rattle.vx_grouped.proofs.PlexMapLemmas.{like_parts}
 use Rattle.vx_copies.specs.Marks.{failed_at}
@@ -183,7 +182,7 @@ module _ (core : GroupCore) (logs : List Logs) (flags : List Bool) (s : Bool) (m
           let goes = sym (noted.mapped v) ∙ on in
           let f = map_in logs core.inner.config s v goes in
           let runs = going logs core.inner.config s v goes in
-          let was = lies_at core logs flags s m stands v p r f.0 runs f.1 (was_there v p r it) in
+          let was = stood_lies core logs flags s m stands v p r f.0 runs f.1 (was_there v p r it) in
           let lies : MapLies core.inner.config v f.0 m' = (record { there = was.there; begins = was.begins; stride = was.stride; fit = was.fit; on = (maps runs).each v f.0 f.1 }) in
           let at = log_there core.inner.config d v (ap (λ (x : Config). log_place x v Fmr) same ∙ closed_places v) e used.is in
           record {

@@ -51,8 +51,8 @@ some_blocks : (blocks r : ℕ) → r < regions_of blocks → 0 < blocks
 some_blocks blocks r low = omega (arith, low)
 
 module _ (core : GroupCore) (logs : List Logs) (flags : List Bool) (stopped : Bool) (m : Meaning) (stands : LoggedStands core logs flags stopped m) where
-  lies_at : (v p r : ℕ) (f : Missed) → stopped ≡ false → fmr_at logs v ≡ Some f → IsThere core.inner.config v p r → MapLies core.inner.config v f m
-  lies_at v p r f going at it =
+  pub stood_lies : (v p r : ℕ) (f : Missed) → stopped ≡ false → fmr_at logs v ≡ Some f → IsThere core.inner.config v p r → MapLies core.inner.config v f m
+  stood_lies v p r f going at it =
       let l = logs_of logs v f at in
       let on = (stands.each v l.one l.at).on going in
       let shape = wide_shape core in
@@ -63,7 +63,7 @@ module _ (core : GroupCore) (logs : List Logs) (flags : List Bool) (stopped : Bo
   pub up_disk : (w : MissedNote) (x : Config) (i : Image) → MapsNoted w core.inner.config logs flags stopped → Each m.leaves i → ((v : ℕ) → v < length core.inner.config.volumes → log_place x v Fmr ≡ log_place core.inner.config v Fmr)
       → MapsOnDisk w core.inner.config x i
   up_disk w x i noted each same =
-      disk_noted w core.inner.config x logs flags stopped m i noted (λ v p r f going at it. lies_at v p r f going at it)
+      disk_noted w core.inner.config x logs flags stopped m i noted (λ v p r f going at it. stood_lies v p r f going at it)
       (λ v p r e it is. log_there core.inner.config x v (same v (volume_there core.inner.config v p it.plex)) e is) each
 
   -- so it is of each image that a crash may leave, by the configuration that is found in it

@@ -1,8 +1,7 @@
 -- What is noted of the maps of disks by themselves, and of a group that came up from them.
-use Rattle.std.proofs.Common.{◌≡◌, ◌⊎◌, ◌∙◌, inl, inr, ℕ, Bool, true, false, List, refl, sym, subst, IsTrue}
-use Rattle.std.specs.Prelude.{Err, Ok, Option, None, Result, Some}
+use Rattle.std.proofs.Common.{◌≡◌, ◌⊎◌, ◌∙◌, inl, inr, ℕ, Bool, true, false, List, refl, sym, subst}
+use Rattle.std.specs.Prelude.{Err, Ok, Option, Result, Some}
 use Rattle.vx_config.specs.declared.config.Config.{Config}
-use Rattle.vx_copyfmt.specs.Imports.{Found}
 use Rattle.vx_disk.specs.Counts.{Rose}
 use Rattle.vx_disk.specs.Shelf.{Each, Image, Meaning}
 use Rattle.vx_disk.specs.declared.shelf.Shelf.{Ghosts}

@@ -1,5 +1,5 @@
 -- A crash of the disks of a group, as its site notes it.
-use Rattle.std.proofs.Common.{◌≡◌, ◌∙◌, ◌<◌, ℕ, IsTrue, true, ap, length, refl, sym, subst}
+use Rattle.std.proofs.Common.{◌∙◌, ◌<◌, ℕ, IsTrue, true, ap, length, refl, sym, subst}
 use Rattle.vx_model.specs.declared.site.SiteState.TheVariants.{Down as IsDown}
 use Rattle.vx_disk.specs.Causes.{OnDisks}
 use Rattle.vx_disk.specs.Disks.{Crashed}

@@ -1,5 +1,5 @@
 -- A plex of a site's group that is detached.
-use Rattle.std.proofs.Common.{◌∙◌, ℕ, subst, sym}
+use Rattle.std.proofs.Common.{◌∙◌, subst, sym}
 use Rattle.vx_disk.specs.Disks.{Crashed}
 use Rattle.vx_group.specs.Dets.{det_refusal}
 use Rattle.vx_untold.specs.Shades.{shade_meaning, shade_rack}
