@@ -1,5 +1,5 @@
 -- What calls of a group that is up make of what its site notes of its maps.
-use Rattle.std.proofs.Common.{◌≡◌, ℕ, sym, subst, false, IsTrue}
+use Rattle.std.proofs.Common.{◌≡◌, ◌∙◌, ℕ, ap, refl, sym, subst, false, IsTrue}
 use Rattle.std.specs.Prelude.{None, Some, Err, Ok}
 use Rattle.vx_config.specs.declared.config.Config.{Config}
 use Rattle.vx_disk.specs.Shelf.{Meaning}
@@ -16,7 +16,7 @@ use Rattle.vx_grouped.specs.GroupSites.{idle_disks, laid_disks, site_config}
 use Rattle.vx_grouped.specs.MapsNoted.{CopiesNoted, MapsNoted}
 use Rattle.vx_grouped.specs.PlainMaps.{MapParts, PartsLeft, PartsMoved, PartsNoted, laid_parts}
 use Rattle.vx_grouped.specs.SiteEnds.{answers_down}
-use Rattle.vx_grouped.specs.SiteMaps.{CrashMapped, DeportMapped, DiskMaps, DownMaps, RestsNot, MapsLike, MapsMoved, MapsOf, ReadMapped, UpMaps}
+use Rattle.vx_grouped.specs.SiteMaps.{DeportMapped, DiskMaps, MapsLike, MapsMoved, MapsOf, RestsNot, StaysMapped, UpMaps}
 use Rattle.vx_grouped.specs.declared.group_site.GroupSite.TheVariants.{Deported, Down, Up}
 use Rattle.vx_grouped.specs.declared.idle.Idle.{Idle}
 use Rattle.vx_grouped.specs.declared.laid.Laid.{Laid}
@@ -47,9 +47,17 @@ module _ {R : Type 0} {g : Ghosts R} where
   down_maps By old idle rests = (λ c d was none. absurd (let clash : None ≡ Some d = none in cc), rests)
 
   -- the disks of a group that crashed have what was in memory
-  pub crash_up : (old : Laid R g) (idle : Idle R g) → ((w : MissedNote) → PartsNoted w (laid_parts old) → DiskMaps w old.core.inner.config (idle_disks idle)) → RestsNot idle.rested → CrashMapped (Up old) (Down idle)
-  crash_up old idle maps rests = λ c w was.
-      subst (λ (x : Config). MapsOf w x (Up old) → DownMaps w x idle.rested (idle_disks idle)) (one_config old.core.inner.config c was) (λ noted. record { disks = maps w noted; rests = rests })
+  pub crash_up : (old : Laid R g) (idle : Idle R g) → ((w : MissedNote) → PartsNoted w (laid_parts old) → DiskMaps w old.core.inner.config (idle_disks idle)) → RestsNot idle.rested → StaysMapped (Up old) (Down idle)
+  crash_up old idle maps rests = λ note it.
+      let same : old.core.inner.config ≡ it.config = it.up old.core.inner.config refl in
+      let noted = subst (λ (x : Config). MapsNoted note.maps x old.logs.items old.alike old.stopped) (sym same) it.maps in
+      record {
+        config = it.config;
+        is = it.is;
+        spells = it.spells;
+        up = λ c is. absurd (let clash : None ≡ Some c = is in cc);
+        maps = λ bright. record { disks = subst (λ (x : Config). DiskMaps note.maps x (idle_disks idle)) same (maps note.maps noted); rests = rests };
+      }
 
   -- so many regions are copied to a plex, by what is noted
   pub copies_up : (old : Laid R g) (vol plex count : ℕ) → ((w : MissedNote) → PartsNoted w (laid_parts old) → active old.core.inner.config vol plex ≡ false → CopiesNoted w old.core.inner.config vol plex count)
@@ -58,10 +66,14 @@ module _ {R : Type 0} {g : Ghosts R} where
       subst (λ (x : Config). MapsOf w x (Up old) → active x vol plex ≡ false → CopiesNoted w x vol plex count) (one_config old.core.inner.config c was) (λ noted off. copies w noted off)
 
   -- its parts are as they were
-  pub read_maps : (old new : Laid R g) → laid_parts new ≡ laid_parts old → ReadMapped (Up old) (Up new)
-  read_maps old new same = λ c d w was now noted.
-      subst (λ (y : Config). MapsNoted w y new.logs.items new.alike new.stopped) (one_config new.core.inner.config d now)
-      (subst (λ (x : MapParts). PartsNoted w x) (sym same) (subst (λ (x : Config). MapsNoted w x old.logs.items old.alike old.stopped) (sym (one_config old.core.inner.config c was)) noted))
+  pub read_maps : (old new : Laid R g) → laid_parts new ≡ laid_parts old → StaysMapped (Up old) (Up new)
+  read_maps old new same = λ note it. record {
+    config = it.config;
+    is = it.is;
+    spells = it.spells;
+    up = λ c is. it.up c (ap (λ (x : MapParts). Some x.config) (sym same) ∙ is);
+    maps = subst (λ (x : MapParts). MapsNoted note.maps it.config x.logs x.flags x.stopped) (sym same) it.maps;
+  }
 
   -- it was deported: its disks have what was in memory
   pub left_maps : (old : Laid R g) (idle : Idle R g) → PartsLeft (laid_parts old) idle.rested (laid_disks old) (idle_disks idle) → DeportMapped (Up old) (Deported idle) (Ok tt)

@@ -181,18 +181,10 @@ module _ {R : Type 0} {g : Ghosts R} where
       UpMaps (AttMaps vol plex) old new × ((c : Config) (w : MissedNote) → site_config old ≡ Some c → MapsOf w c old → active c vol plex ≡ false → CopiesNoted w c vol plex count)
   AttMapped vol plex old new (Err stop) = UpMaps MapsLike old new
 
-  -- a read
-  abbrev pub ReadMapped : GroupSite R g → GroupSite R g → Type 0
-  ReadMapped old new = (c d : Config) (w : MissedNote) → site_config old ≡ Some c → site_config new ≡ Some d → MapsOf w c old → MapsOf w d new
-
   -- a deport: the disks have what was in memory; or it was refused
   abbrev pub DeportMapped : GroupSite R g → GroupSite R g → Result (Unit {0}) Stop → Type 0
   DeportMapped old new (Ok done) = (c d : Config) → site_config old ≡ Some c → AllHave d (site_disks new) → MapsMoved (MapsLike (site_disks old) (site_disks new) c d) c d old new
   DeportMapped old new (Err stop) = UpMaps MapsLike old new
-
-  -- a crash: the disks have what was in memory
-  abbrev pub CrashMapped : GroupSite R g → GroupSite R g → Type 0
-  CrashMapped old new = (c : Config) (w : MissedNote) → site_config old ≡ Some c → MapsOf w c old → MapsOf w c new
 
   -- an import of disks, with a value that says which volumes rest: what is noted goes on; and something may be noted, whatever the disks were
   pub record CameBack (rested : Option Rested) (old : Meaning) (new : GroupSite R g) : Type 0 where
@@ -215,6 +207,7 @@ module _ {R : Type 0} {g : Ghosts R} where
   CameMapped (Down idle) new r = RecoverMapped idle.rested (idle_disks idle) new r
   CameMapped other new r = Unit {0}
 
-  -- a call that leaves all as it is, as one that makes calls on a disk fail
+  -- whatever is noted of the maps of a site, it stands for that still: behind a read; behind a crash, as the disks have what was in memory; and where calls on a
+  -- disk are made to fail, or a fuse is set
   abbrev pub StaysMapped : GroupSite R g → GroupSite R g → Type 0
-  StaysMapped old new = (w : MissedNote) (c : Config) → MapsOf w c old → MapsOf w c new
+  StaysMapped old new = (note : GroupNode) → StandMaps note old → StandMaps note new

@@ -27,7 +27,7 @@ pub enum GroupSite<R: Rack> {
 
 impl<R: Rack> GroupSite<R> {
     ghost use Rattle.vx_grouped.specs.GroupSites.{CutNoted, DownNoted, GroupSiteStands, UpNoted, site_agrees, site_below, site_config, site_disks};
-    ghost use Rattle.vx_grouped.specs.SiteMaps.{CrashMapped, StaysMapped};
+    ghost use Rattle.vx_grouped.specs.SiteMaps.{StaysMapped};
     ghost use Rattle.vx_watched.specs.Traces.{TellsLess};
     ghost use Rattle.vx_grouped.specs.SiteEnds.{CountsAlike, MayCrashSite, StaysAlike};
 
@@ -122,7 +122,7 @@ impl<R: Rack> GroupSite<R> {
         ensures crashed { (n : Node) (note : GroupNode) → UpNoted n note self → DownNoted (crashed n 0) note result }
         ensures cut { (n : Node) (note : GroupNode) → CutNoted n note self → DownNoted (crashed n 0) note result }
         ensures asked { (n : Node) (note : GroupNode) → UpNoted n note self → OnDisks (site_disks self).disks (site_disks result).disks (Crashed (site_disks self).size pick) }
-        ensures maps { CrashMapped self result }
+        ensures maps { StaysMapped self result }
         ensures stopped { MayCrashSite pick self result }
         ensures told { TellsLess (site_below self) (site_below result) }
     {

@@ -1,7 +1,8 @@
 -- `crash`: the site is down, with the note that it had.
-use Rattle.std.proofs.Common.{◌≡◌, ◌∙◌, Some, refl, subst}
-use Rattle.vx_grouped.specs.GroupSites.{CutNoted, UpNoted, site_config}
-use Rattle.vx_grouped.specs.SiteMaps.{MapsOf}
+use Rattle.std.proofs.Common.{◌∙◌, refl, subst, sym}
+use Rattle.vx_grouped.specs.GroupSites.{CutNoted, UpNoted}
+use Rattle.vx_grouped.specs.SiteMaps.{StaysMapped}
+use Rattle.vx_grouped.specs.declared.group_site.GroupSite.TheVariants.{Down}
 use Rattle.vx_untold.specs.Shades.{shade_meaning, rack_of}
 use Rattle.vx_grouped.proofs.SiteLemmas.{down_noted}
 use Rattle.vx_grouped.proofs.TraceLemmas.{lit_since}
@@ -23,4 +24,4 @@ returns-in-Up-clause-cut g c = λ n note it.
     (λ tight. c.crash.ensures.agreed ∙ fallen.cut.lies.agreed tight) (record { down = c.crash.ensures.stopped.down; unarmed = c.crash.ensures.stopped.unarmed }) fallen.spells (c.crash.ensures.away n note fallen.cut.lies)
 
 pub returns-in-Up-clause-maps : goal.returns-in-Up-clause-maps
-returns-in-Up-clause-maps g c = λ d w was noted. crash_up c.in-Up.group c.crash.result c.crash.ensures.maps c.crash.ensures.rests d w (subst (λ e. site_config e ≡ Some d) c.in-Up.is was) (subst (λ e. MapsOf w d e) c.in-Up.is noted)
+returns-in-Up-clause-maps g c = subst (λ e. StaysMapped e (Down c.crash.result)) (sym c.in-Up.is) (crash_up c.in-Up.group c.crash.result c.crash.ensures.maps c.crash.ensures.rests)

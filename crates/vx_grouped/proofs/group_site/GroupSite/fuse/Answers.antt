@@ -3,7 +3,7 @@ use Rattle.std.proofs.Common.{subst, sym, ◌∙◌}
 use Rattle.vx_grouped.specs.GroupSites.{UpNoted}
 use Rattle.vx_untold.specs.Shades.{shade_meaning, shade_rack, rack_of}
 use Rattle.vx_grouped.proofs.AlikeLemmas.{fuse_now, fused_up}
-use Rattle.vx_grouped.proofs.StayMapLemmas.{up_same}
+use Rattle.vx_grouped.proofs.StayMapLemmas.{as_was, up_same}
 use Rattle.vx_grouped.proofs.group_site.GroupSite.fuse.Goals as goal
 
 pub returns-in-Up-clause-fused : goal.returns-in-Up-clause-fused
@@ -15,4 +15,7 @@ returns-in-Up-clause-fused g c = λ n note it.
     (subst (λ e. UpNoted n note e) (sym c.replace.ensures.value ∙ c.in-Up.is) it)
 
 pub returns-in-Up-clause-maps : goal.returns-in-Up-clause-maps
-returns-in-Up-clause-maps g c = up_same c.args.self.now c.in-Up.group c.fuse.result (sym c.replace.ensures.value ∙ c.in-Up.is) c.fuse.ensures.logs c.fuse.ensures.flags c.fuse.ensures.ended
+returns-in-Up-clause-maps g c = up_same c.args.self.now c.in-Up.group c.fuse.result (sym c.replace.ensures.value ∙ c.in-Up.is) c.fuse.ensures.core c.fuse.ensures.logs c.fuse.ensures.flags c.fuse.ensures.ended
+
+pub returns-in_default-clause-maps : goal.returns-in_default-clause-maps
+returns-in_default-clause-maps g c = as_was c.args.self.now c.replace.result (sym c.replace.ensures.value)
