@@ -1,9 +1,9 @@
 -- The map of a plex that becomes that of another one.
-use Rattle.std.proofs.Common.{◌≡◌, ◌∙◌, ◌⊎◌, inl, inr, ℕ, ◌+◌, ◌-◌, ◌/◌, ◌<◌, ◌≤◌, Bool, true, false, Option, Some, None, List, IsTrue, refl, sym, ap, subst, arith}
+use Rattle.std.proofs.Common.{◌≡◌, ◌∙◌, ◌⊎◌, inl, inr, ℕ, ◌+◌, ◌-◌, ◌<◌, ◌≤◌, Bool, true, false, Option, Some, None, List, IsTrue, refl, sym, ap, subst, arith}
 use Rattle.std.specs.Prelude.{◌&&◌, leb, IfErr, OnOk, Result, Ok, Err, if◌then◌else◌}
 use Rattle.std.proofs.lemmas.Bool.{cases_eq, leb-true}
 use Rattle.vx_bitmap.specs.Bits.{Changed, is_among}
-use Rattle.vx_bitmap.specs.Maps.{ChangedAt, Lies, MapOn, SamePlace, UnitCause}
+use Rattle.vx_bitmap.specs.Maps.{ChangedAt, MapOn, SamePlace, UnitCause}
 use Rattle.vx_config.specs.Checks.{blocks_of as blocks_in, is_sound, plexes_of}
 use Rattle.vx_config.specs.declared.config.Config.{Config}
 use Rattle.vx_config.specs.declared.entry.VolumeLog.TheVariants.{Fmr as FmrLog}
@@ -215,12 +215,9 @@ copied_ok to from count f g h m m1 m2 has place shape others writes changed stan
 pub copied_some : (to from : ℕ) (o : Option Missed) (f g : Missed) (m m' : Meaning) → o ≡ Some f → MapCopied to from f g m m' → CopyEnds to from false o (Some g) m m'
 copied_some to from o f g m m' is done = subst (λ (x : Option Missed). CopyEnds to from false x (Some g) m m') (sym is) (refl, done)
 
--- what a copy asks of a map in memory, and which blocks are its
+-- what a copy asks of a map in memory
 pub has_both : (to from count : ℕ) (o : Option Missed) (f : Missed) (m : Meaning) → o ≡ Some f → HasBothMaps to from count o m → HasBoth to from count f m
 has_both to from count o f m is has = subst (λ (x : Option Missed). HasBothMaps to from count x m) is has
-
-pub some_blocks : (o : Option Missed) (f : Missed) (m m' : Meaning) → o ≡ Some f → Goes (MapBlocks (Some f)) m m' → Goes (MapBlocks o) m m'
-some_blocks o f m m' is goes = subst (λ (x : Option Missed). Goes (MapBlocks x) m m') (sym is) goes
 
 module _ (c : Config) (sound : is_sound c ≡ true) (v : ℕ) (some : 0 < blocks_in c.volumes v) (l : Logs) (fits : LogsFit c v l) (m : Meaning) (fit : DisksFit c.disks m) where
   pub both_there : (to from count : ℕ) → count ≡ regions_in (blocks_in c.volumes v) → to < plexes_of c v → from < plexes_of c v → (to ≡ from → ⊥) → HasBothMaps to from count l.fmr m

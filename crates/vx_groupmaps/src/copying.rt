@@ -1,6 +1,6 @@
 // The map of a plex that becomes that of another one.
-ghost use Rattle.std.specs.Prelude.{◌≡◌, ◌<◌, ◌≤◌, IfErr, IsTrue, OnOk, Some};
-ghost use Rattle.vx_bitmap.specs.Maps.{Lies, UnitCause};
+ghost use Rattle.std.specs.Prelude.{◌≡◌, ◌<◌, IfErr, IsTrue, OnOk, Some};
+ghost use Rattle.vx_bitmap.specs.Maps.{UnitCause};
 ghost use Rattle.vx_config.specs.Checks.{blocks_of as blocks_of_is, is_sound, plexes_of};
 ghost use Rattle.vx_disk.specs.Causes.{DeviceCause};
 ghost use Rattle.vx_disk.specs.Shelf.{Goes};

@@ -1,5 +1,5 @@
 -- The map of a plex that becomes that of another one: what it knows then.
-use Rattle.std.proofs.Common.{◌≡◌, ◌∙◌, ◌⊎◌, inl, inr, ℕ, ◌+◌, ◌/◌, ◌<◌, Bool, true, false, Option, Some, None, List, IsTrue, refl, sym, ap, subst, arith}
+use Rattle.std.proofs.Common.{◌≡◌, ◌∙◌, ◌⊎◌, inl, inr, ℕ, ◌/◌, ◌<◌, Bool, true, false, Option, Some, None, List, IsTrue, refl, sym, ap, subst, arith}
 use Rattle.std.specs.Prelude.{◌||◌, not}
 use Rattle.std.proofs.lemmas.Bool.{cases_eq, eq-eqb}
 use Rattle.vx_config.specs.Checks.{blocks_of as blocks_in, is_sound}
@@ -21,12 +21,11 @@ use Rattle.vx_groupmaps.proofs.KnowLemmas.{plex_below, read_old}
 use Rattle.vx_groupmaps.proofs.MapPlaces.{region_low}
 use Rattle.vx_layout.specs.Places.{HasBlock, place}
 use Rattle.vx_logs.specs.Held.{LogsFit}
-use Rattle.vx_logs.specs.Noting.{this_plex}
 use Rattle.vx_logs.specs.declared.logs.Logs.{Logs}
 use Rattle.vx_model.specs.Sizes.{regions_of as regions_in}
-use Rattle.vx_volume.specs.Plexes.{Inside, active}
+use Rattle.vx_volume.specs.Plexes.{Inside}
 use Rattle.vx_volume.proofs.PlaceLemmas.{has_of}
-use Rattle.vx_logged.specs.Copied.{MapsTake, ReadsRow, TakesRow, off_row}
+use Rattle.vx_logged.specs.Copied.{MapsTake, ReadsRow, TakesRow}
 use Rattle.vx_logged.proofs.EmptyLemmas.{maps_alike}
 use Rattle.vx_logged.proofs.StandLemmas.{inner_wide}
 

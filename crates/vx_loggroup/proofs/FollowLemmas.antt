@@ -1,5 +1,5 @@
 -- The map of a plex that is attached as it becomes that of another one: what the plexes read then, and what is kept beside it.
-use Rattle.std.proofs.Common.{◌≡◌, ◌∙◌, ◌⊎◌, inl, inr, ℕ, ◌+◌, ◌*◌, ◌/◌, ◌<◌, ◌≤◌, Bool, true, false, Option, Some, None, List, IsTrue, length, refl, sym, ap, subst, arith}
+use Rattle.std.proofs.Common.{◌≡◌, ◌∙◌, inl, inr, ℕ, ◌+◌, ◌*◌, ◌/◌, ◌<◌, ◌≤◌, Bool, true, false, Option, Some, None, List, IsTrue, length, refl, sym, ap, subst, arith}
 use Rattle.std.proofs.Math.ListN.{set}
 use Rattle.std.proofs.lemmas.Bool.{cases_eq, eqb-true}
 use Rattle.std.proofs.lemmas.List.{length-set}
@@ -23,7 +23,7 @@ use Rattle.vx_group.specs.declared.group_core.GroupCore.{GroupCore}
 use Rattle.vx_group.proofs.FindingLemmas.{stays_finds, then_finds}
 use Rattle.vx_group.proofs.HoldLemmas.{narrow_some, narrow_sound, narrow_wider, wide_shape}
 use Rattle.vx_group.proofs.OpeningLemmas.{may_attach}
-use Rattle.vx_group.proofs.Standing.{kept_of}
+use Rattle.vx_group.proofs.Standing.{kept_of, sound_of}
 use Rattle.vx_grouplogs.specs.Gone.{LogsDrop}
 use Rattle.vx_groupmaps.specs.Loading.{on_failed_disk}
 use Rattle.vx_groupmaps.specs.Missing.{OnMaps}
@@ -46,7 +46,7 @@ use Rattle.vx_volume.specs.Plexes.{Inside, active}
 use Rattle.vx_volume.proofs.PlaceLemmas.{active_below, active_few, has_of}
 use Rattle.vx_logged.specs.Copied.{MapsTake, ReadsRow, TakesRow}
 use Rattle.vx_logged.proofs.EmptyLemmas.{maps_alike}
-use Rattle.vx_loggroup.specs.Attaching.{IsSource, LoggedAttaches, MapsFollow, MapsHeld, OnAttached, TakesActive, VolumeTakes, fmr_at, fmr_or}
+use Rattle.vx_loggroup.specs.Attaching.{LoggedAttaches, MapSource, MapsFollow, MapsHeld, OnAttached, TakesActive, VolumeTakes, fmr_at, fmr_or}
 use Rattle.vx_loggroup.specs.Keeping.{LogsKeep, LogsStay, logs_at, logs_or}
 use Rattle.vx_loggroup.specs.LoggedVolumes.{LoggedStands}
 use Rattle.vx_loggroup.proofs.AlikeLemmas.{inside_back, same_item}
@@ -111,13 +111,13 @@ pub record Followed (d : GroupCore) (ls : List Logs) (a : List Bool) (m : Meanin
   pub apart : p ≡ q → ⊥
   pub reads : ReadsRow (wide d).config v p q (logs_at ls v) m
 
-pub followed : (c d : GroupCore) (ls : List Logs) (a : List Bool) (s : Bool) (v p q : ℕ) (f : Option Missed) (m m' : Meaning) → Lawful m → LoggedStands c ls a s m → LoggedStands d ls a s m' → IsSource c.inner.config a s v p q → GroupAttaches v p f c d m m'
+pub followed : (c d : GroupCore) (ls : List Logs) (a : List Bool) (s : Bool) (v p q : ℕ) (f : Option Missed) (m m' : Meaning) → Lawful m → LoggedStands c ls a s m → LoggedStands d ls a s m' → MapSource c.inner.config a s v p q → GroupAttaches v p f c d m m'
     → IsTrue (active d.inner.config v p) → Followed d ls a m' v p q
 followed c d ls a s v p q f m m' lawful before after source it on = record {
   stands = subst (λ (b : Bool). LoggedStands d ls a b m') source.going after;
   there = active_low d.inner.config v p on;
-  low = active_below (wide d).config v p (narrow_wider d m' after.group v p on);
-  under = active_below (wide d).config v q (narrow_wider d m' after.group v q (it.others v q (λ one same. other (sym same)) ∙ source.on));
+  low = active_below (wide d).config (sound_of (wide d) m' after.group.stands) v p (narrow_wider d m' after.group v p on);
+  under = active_below (wide d).config (sound_of (wide d) m' after.group.stands) v q (narrow_wider d m' after.group v q (it.others v q (λ one same. other (sym same)) ∙ source.on));
   apart = other;
   reads = attached_row c d ls a m m' lawful (subst (λ (b : Bool). LoggedStands c ls a b m) source.going before) after.group it.goes v p q (narrow_wider c m before.group v q source.on) on;
 }
@@ -170,7 +170,7 @@ pub take_empty : (c : GroupCore) (ls : List Logs) (a : List Bool) (m : Meaning) 
 take_empty c ls a m v to from stands zero = take_same v to from ls (λ l at. each_map to from l (λ f is. row f ((((stands.each v l at).on refl).fits.fmr f is).stride) ((((stands.each v l at).on refl).fits.fmr f is).regions)))
   where
     none : blocks_in (wide c).config.volumes v ≡ 0
-    none = sym ((wide_shape c).blocks v) ∙ zero
+    none = (wide_shape c).blocks v ∙ zero
 
     row : (f : Missed) → f.stride ≡ 4096 * map_blocks (blocks_in (wide c).config.volumes v) → f.regions ≡ regions_in (blocks_in (wide c).config.volumes v) → TakesRow to from f f
     row f stride regions = record {
@@ -343,4 +343,4 @@ attached_low c v p r x is refused = by (att_refusal c v p) refl
   where
     by : (o : Option No) → att_refusal c v p ≡ o → v < length c.volumes
     by None may = (may_attach c v p may).volume
-    by (Some no) at = absurd (let clash : Ok x ≡ Err (Refused no) = sym is ∙ refused no at in cc)
+    by (Some why) at = absurd (let clash : Ok x ≡ Err (Refused why) = sym is ∙ refused why at in cc)

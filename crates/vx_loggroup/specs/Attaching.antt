@@ -56,7 +56,7 @@ leaves_maps same stopped (Ok x) = same || stopped
 leaves_maps same stopped (Err e) = true
 
 -- a plex that is ACTIVE, of which an attach copies the map: this one is not, logs go on, and the plexes of the volume are not alike
-pub record IsSource (c : Config) (alike : List Bool) (stopped : Bool) (v p q : ℕ) : Type 0 where
+pub record MapSource (c : Config) (alike : List Bool) (stopped : Bool) (v p q : ℕ) : Type 0 where
   pub on : IsTrue (active c v q)
   pub off : active c v p ≡ false
   pub going : stopped ≡ false

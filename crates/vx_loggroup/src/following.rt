@@ -3,7 +3,7 @@ ghost use Rattle.vx_loggroup.specs.Keeping.{LogsKeep, LogsStay, logs_at};
 ghost use Rattle.vx_kept.specs.Finds.{FindsFrom, NoConfiguration};
 ghost use Rattle.vx_group.specs.Finds.{CoreFinds};
 ghost use Rattle.std.specs.Prelude.{◌≡◌, ◌<◌, ◌≤◌, ℕ, IfOk, IfSome, IsTrue, None, Ok, OnOk, Some, Err, false, is_some, length, true};
-ghost use Rattle.vx_config.specs.Checks.{blocks_of as blocks_of_is, plexes_of};
+ghost use Rattle.vx_config.specs.Checks.{plexes_of};
 ghost use Rattle.vx_disk.specs.Shelf.{Goes, Nothing};
 ghost use Rattle.vx_group.specs.Attaches.{GroupAttachEnds, att_refusal, missed_regions};
 ghost use Rattle.vx_group.specs.Dets.{DetStops};
@@ -12,7 +12,7 @@ ghost use Rattle.vx_group.specs.Regains.{HoldsPlex, Regains};
 ghost use Rattle.vx_group.specs.Stands.{inner_meaning};
 ghost use Rattle.vx_groupmaps.specs.Missing.{OnMaps};
 ghost use Rattle.vx_logged.specs.Copied.{ReadsRow};
-ghost use Rattle.vx_loggroup.specs.Attaching.{IsSource, LoggedAttaches, TakesActive, VolumeTakes, leaves_maps, map_there};
+ghost use Rattle.vx_loggroup.specs.Attaching.{LoggedAttaches, MapSource, TakesActive, VolumeTakes, leaves_maps, map_there};
 ghost use Rattle.vx_loggroup.specs.LoggedVolumes.{LoggedStands, is_alike as is_alike_is};
 ghost use Rattle.vx_model.specs.declared.errors.Stop.TheVariants.{No as Refused};
 ghost use Rattle.vx_model.specs.declared.limits.TheConstants.{MOST_PLEXES, MOST_VOLUMES};
@@ -78,7 +78,7 @@ fn source_of(
     plex: u32,
 ) -> Option<u32>
     requires few { length config.now.volumes ≤ MOST_VOLUMES }
-    ensures is { IfSome result (IsSource config.now alike.now stopped vol plex) }
+    ensures is { IfSome result (MapSource config.now alike.now stopped vol plex) }
     ensures all { vol < length config.now.volumes → active config.now vol plex ≡ false → stopped ≡ false → is_alike_is alike.now vol ≡ false → (q : ℕ) → q < MOST_PLEXES → IsTrue (active config.now vol q) → is_some result ≡ true }
 {
     if !may_follow(config, alike, stopped, vol, plex) {

@@ -1,5 +1,5 @@
 -- The map of a plex that becomes another one's, or its log that is lost.
-use Rattle.vx_groupmaps.proofs.CopyRows.{copied_some, has_both, some_blocks}
+use Rattle.vx_groupmaps.proofs.CopyRows.{copied_some, has_both}
 use Rattle.vx_groupmaps.proofs.copying.copy_one.Goals as goal
 
 pub copy_row-requires : goal.copy_row-requires

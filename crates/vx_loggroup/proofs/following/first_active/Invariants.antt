@@ -4,4 +4,4 @@ use Rattle.vx_volume.specs.Plexes.{active}
 use Rattle.vx_loggroup.proofs.following.first_active.Given as goal
 
 abbrev pub invariant-loop-plex : goal.invariant-loop-plex
-invariant-loop-plex g l = (q : ℕ) → q < l.plex → active l.config l.vol q ≡ false
+invariant-loop-plex l = (q : ℕ) → q < l.plex → active l.config l.vol q ≡ false
