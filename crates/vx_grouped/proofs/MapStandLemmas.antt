@@ -1,5 +1,5 @@
 -- What the disks of a group with logs have of the regions that plexes missed, by what is noted of its maps in memory.
-use Rattle.std.proofs.Common.{◌≡◌, ◌<◌, ℕ, Bool, true, false, List, length, refl, sym, ◌∙◌, subst, arith}
+use Rattle.std.proofs.Common.{◌≡◌, ◌<◌, ℕ, Bool, true, false, List, [], ap, length, refl, sym, ◌∙◌, subst, arith}
 use Rattle.std.specs.Prelude.{Option, Some, None, not, slice_get}
 use Rattle.std.proofs.lemmas.Option.{slice_get_within}
 use Rattle.vx_config.specs.Checks.{blocks_of, plexes_of, plexes_or}
@@ -25,6 +25,7 @@ use Rattle.vx_loggroup.specs.Moving.{IsThere, goes_by}
 use Rattle.vx_grouped.specs.MapsNoted.{MapsNoted, MapsOnDisk}
 use Rattle.vx_grouped.specs.SiteMaps.{DiskMaps}
 use Rattle.vx_grouped.proofs.DiskMapLemmas.{MapLies, disk_noted, log_there, map_lies}
+use Rattle.vx_grouped.proofs.NotedMapLemmas.{map_in}
 
 -- the logs of a volume whose maps are in memory
 pub record LogsOf (logs : List Logs) (v : ℕ) (f : Missed) : Type 0 where
@@ -99,3 +100,23 @@ none_on_disks serial c m = record {
     least = λ e v p r on used it old has. let clash : false ≡ true = on in cc;
   };
 }
+
+-- A group without volumes has no map.
+pub empty_noted : (c : Config) (logs : List Logs) (flags : List Bool) (stopped : Bool) → c.volumes ≡ [] → length logs ≡ length c.volumes → MapsNoted (maps_none c.serial) c logs flags stopped
+empty_noted c logs flags stopped none many = record {
+  mapped = λ v. sym (goes v);
+  most = λ v p r f on at it has. let clash : false ≡ true = on in cc;
+  least = λ v p r f on at it off has. let clash : false ≡ true = on in cc;
+  alike = λ v low sure. absurd (omega (arith, low, count));
+  serial = refl;
+}
+  where
+    count : length c.volumes ≡ 0
+    count = ap (λ (vs : List VolumeEntry). length vs) none
+
+    by : (v : ℕ) (x : Bool) → goes_by logs c stopped v ≡ x → goes_by logs c stopped v ≡ false
+    by v false is = is
+    by v true is = let f = map_in logs c stopped v is in let one = logs_of logs v f.0 f.1 in let low = slice_get_within logs v one.one one.at in absurd (omega (arith, low, many, count))
+
+    goes : (v : ℕ) → goes_by logs c stopped v ≡ false
+    goes v = by v (goes_by logs c stopped v) refl

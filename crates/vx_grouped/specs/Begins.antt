@@ -19,6 +19,7 @@ use Rattle.vx_copyio.specs.Labelling.{HasSmall, least_blocks}
 use Rattle.vx_kept.specs.Trusts.{HasFailed}
 use Rattle.vx_watched.specs.Since.{CalledSince}
 use Rattle.vx_grouped.specs.GroupSites.{GroupSiteStands, UpNoted, site_disks}
+use Rattle.vx_grouped.specs.SiteMaps.{StandMaps}
 use Rattle.vx_grouped.specs.declared.group_site.GroupSite.{GroupSite}
 use Rattle.vx_grouped.specs.declared.group_site.GroupSite.TheVariants.{Up}
 
@@ -79,7 +80,7 @@ module _ {R : Type 0} {g : Ghosts R} where
 
   -- the site with a group whose imports agree unless a disk is held as failed; or bare, where a disk failed, or memory was wanted
   abbrev pub BeginsGroup : ℕ → Node → Meaning → GroupSite R g → Result (Unit {0}) Stop → Type 0
-  BeginsGroup site n old new (Ok done) = (note : GroupNode) × IsFirstNote note × UpNoted (group_begun note site n) note new × IsEmptyGroup site n new × ((note.loose ≡ false) ⊎ HoldsFailed new)
+  BeginsGroup site n old new (Ok done) = (note : GroupNode) × IsFirstNote note × UpNoted (group_begun note site n) note new × IsEmptyGroup site n new × ((note.loose ≡ false) ⊎ HoldsFailed new) × StandMaps note new
   BeginsGroup site n old new (Err (Refused (Device disk))) = GroupSiteStands n new × Rose (old.disk_faults disk) ((site_disks new).disk_faults disk)
   BeginsGroup site n old new (Err OutOfMemory) = GroupSiteStands n new
   BeginsGroup site n old new (Err (Refused other)) = ⊥
