@@ -45,7 +45,7 @@ abbrev pub GroupDoes : (told : Type 0) (s : ℕ) → Node → GroupNode → Scri
 GroupDoes told s n note (GroupInit site) fails said next = FirstNote s n.disks n.blocks next × (said ≡ Done)
 GroupDoes told s n note (GroupDeport site) fails said next =
     WithMaps (Reconfigures (λ c d. ConfigLoses s fails (opened_again c) (opened_again d)) NoteSettles) (MapsCalled s fails) note next × (said ≡ Done)
-GroupDoes told s n note (GroupImport site) fails said next = NotesBack told s n fails note next × (IsKnown told next → note.loose ≡ false → MapsImported s fails note next) × (said ≡ Done)
+GroupDoes told s n note (GroupImport site) fails said next = NotesBack told s n fails note next × (IsKnown told next → MapsImported s fails note next) × (said ≡ Done)
 GroupDoes told s n note (Volume site volume blocks mirrors layout log map policy) fails said next =
     NotesVolume s fails volume (shape_of blocks mirrors layout log map policy) note next × (said ≡ Done)
 GroupDoes told s n note (PlexDetach site volume plex) fails said next =

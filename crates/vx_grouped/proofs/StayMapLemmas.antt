@@ -31,9 +31,9 @@ module _ {R : Type 0} {g : Ghosts R} where
         is = it.is;
         spells = it.spells;
         up = it.up;
-        maps = λ bright tight.
+        maps = λ bright.
             subst (λ o. IdleMaps note.maps it.config o (idle_disks new)) (sym rested)
-            (less_idle (idle_disks old) (idle_disks new) alike.contents.units alike.contents.size alike.contents.leaves note.maps it.config old.rested (it.maps bright tight));
+            (less_idle (idle_disks old) (idle_disks new) alike.contents.units alike.contents.size alike.contents.leaves note.maps it.config old.rested (it.maps bright));
       })
 
   pub down_same : (e : GroupSite R g) (old new : Idle R g) → e ≡ Down old → new.rested ≡ old.rested → Alike (idle_disks old) (idle_disks new) → StaysMapped e (Down new)

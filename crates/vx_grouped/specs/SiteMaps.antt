@@ -133,10 +133,10 @@ module _ {R : Type 0} {g : Ghosts R} where
   MapsOf w c (Down idle) = DownMaps w c idle.rested (idle_disks idle)
   MapsOf w c other = Unit {0}
 
-  -- the same of what a site notes: of disks by themselves only where it is known what they hold, and of deported ones where they agree
+  -- the same of what a site notes: of disks by themselves only where it is known what they hold
   abbrev pub MapsFor : GroupNode → Config → GroupSite R g → Type 0
   MapsFor note c (Up group) = MapsNoted note.maps c group.logs.items group.alike group.stopped
-  MapsFor note c (Deported idle) = note.dark ≡ false → note.loose ≡ false → IdleMaps note.maps c idle.rested (idle_disks idle)
+  MapsFor note c (Deported idle) = note.dark ≡ false → IdleMaps note.maps c idle.rested (idle_disks idle)
   MapsFor note c (Down idle) = note.dark ≡ false → DownMaps note.maps c idle.rested (idle_disks idle)
   MapsFor note c other = Unit {0}
 
