@@ -254,7 +254,7 @@ module _ {S : Type 0} (meaning : S → Meaning) (rested : Rested) (old : Meaning
 
   pub parts_came : PartsBack rested old (map_parts core.inner.config logs flags ended) new
   parts_came = record {
-    so = λ w c tells all idle. (back_note w c core.inner.config logs flags ended, came_maps c tells all w idle, came_noted c tells all w idle);
+    so = λ w c tells idle. (back_note w c core.inner.config logs flags ended, came_maps c tells idle.all w idle, came_noted c tells idle.all w idle);
     some = (memory_note core.inner.config logs flags ended, memory_noted);
     none = λ none. (crashed_note none, crashed_risen none, crashed_noted none);
   }

@@ -269,7 +269,7 @@ module _ (core : GroupCore) (logs : List Logs) (flags : List Bool) (s : Bool) (m
     so = λ w d noted all. (
       left_note w noted d,
       left_like w noted d,
-      record { disks = left_disks w noted d all; alike = λ r is v low sure. left_alike w noted d r is v low sure; maps = λ r is v on. left_mapped w noted d r is v on; known = λ i r v e each is on low used good. left_known w noted d all i each r v e is on low used good },
+      record { all = all; disks = left_disks w noted d all; alike = λ r is v low sure. left_alike w noted d r is v low sure; maps = λ r is v on. left_mapped w noted d r is v on; known = λ i r v e each is on low used good. left_known w noted d all i each r v e is on low used good },
     );
   }
 

@@ -47,6 +47,7 @@ module _ (m m' : Meaning) (units : m'.units ≡ m.units) (size : (u : ℕ) → m
 
   pub less_idle : (w : MissedNote) (c : Config) (o : Option Rested) → IdleMaps w c o m → IdleMaps w c o m'
   less_idle w c o it = record {
+    all = less_all c it.all;
     disks = less_disks w c it.disks;
     alike = it.alike;
     maps = it.maps;
@@ -115,8 +116,8 @@ module _ {R : Type 0} {g : Ghosts R} where
     -- by disks that keep no more
     pub came_from : (o : Option Rested) (new : GroupSite R g) → CameBack o m1 new → CameBack o old new
     came_from o new it = record {
-      so = λ w c d tells all now idle.
-          let b = it.so w c d tells (less_all old m1 units size leaves c all) now (less_idle old m1 units size leaves w c o idle) in
+      so = λ w c d tells now idle.
+          let b = it.so w c d tells now (less_idle old m1 units size leaves w c o idle) in
           (b.0, from_back old m1 (site_disks new) counts c d w b.0 b.1, b.2);
       some = it.some;
       none = λ d now not. let b = it.none d now not in (b.0, came_risen (site_disks new) b.0 b.1, b.2);
@@ -124,8 +125,8 @@ module _ {R : Type 0} {g : Ghosts R} where
 
     pub came_up : (laid : Laid R g) (rested : Rested) → PartsBack rested m1 (laid_parts laid) (laid_disks laid) → CameBack (Some rested) old (Up laid)
     came_up laid rested it = record {
-      so = λ w c d tells all now idle.
-          let b = it.so w c tells (less_all old m1 units size leaves c all) (less_idle old m1 units size leaves w c (Some rested) idle) in
+      so = λ w c d tells now idle.
+          let b = it.so w c tells (less_idle old m1 units size leaves w c (Some rested) idle) in
           subst (λ (y : Config). (next : MissedNote) × BackMaps old (laid_disks laid) c y w next × MapsNoted next y laid.logs.items laid.alike laid.stopped) (one_config laid.core.inner.config d now)
           (b.0, from_back old m1 (laid_disks laid) counts c laid.core.inner.config w b.0 b.1, b.2);
       some = λ d now. subst (λ (y : Config). (w : MissedNote) × MapsNoted w y laid.logs.items laid.alike laid.stopped) (one_config laid.core.inner.config d now) it.some;

@@ -67,7 +67,7 @@ LeavesMaps x m meaning parts back (Err (g, stop)) = IsRack m → IsRack (back g)
 
 -- An import: of disks that have what was noted, and of others; and of disks of which a value says that no volume rests.
 pub record PartsBack (r : Rested) (old : Meaning) (y : MapParts) (new : Meaning) : Type 0 where
-  pub so : (w : MissedNote) (c : Config) → IsTrue new.tells → AllHave c old → IdleMaps w c (Some r) old → (next : MissedNote) × BackMaps old new c y.config w next × PartsNoted next y
+  pub so : (w : MissedNote) (c : Config) → IsTrue new.tells → IdleMaps w c (Some r) old → (next : MissedNote) × BackMaps old new c y.config w next × PartsNoted next y
   pub some : (w : MissedNote) × PartsNoted w y
   pub none : RestsNone r → (next : MissedNote) × RisenMaps old new next × PartsNoted next y
 

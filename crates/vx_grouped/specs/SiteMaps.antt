@@ -35,9 +35,10 @@ use Rattle.vx_grouped.specs.declared.group_site.GroupSite.TheVariants.{Up, Depor
 pub record DiskMaps (w : MissedNote) (c : Config) (m : Meaning) : Type 0 where
   pub each : (i : Image) (x : Config) → Each m.leaves i → found m i ≡ Found x → MapsOnDisk w c x i
 
--- The disks of a group that was deported have what is noted; and a value says which volumes rest: of those the maps are known, where the log is in use and its
+-- The disks of a group that was deported have what is noted, by the configuration that each image has; and a value says which volumes rest: of those the maps are known, where the log is in use and its
 -- disk held as good.
 pub record IdleMaps (w : MissedNote) (c : Config) (rested : Option Rested) (m : Meaning) : Type 0 where
+  pub all : AllHave c m
   pub disks : DiskMaps w c m
   pub alike : (r : Rested) → rested ≡ Some r → (v : ℕ) → v < length c.volumes → w.doubt v ≡ false → rests r.alike v ≡ true
   pub maps : (r : Rested) → rested ≡ Some r → (v : ℕ) → w.mapped v ≡ true → rests r.maps v ≡ true
@@ -188,7 +189,7 @@ module _ {R : Type 0} {g : Ghosts R} where
 
   -- an import of disks, with a value that says which volumes rest: what is noted goes on; and something may be noted, whatever the disks were
   pub record CameBack (rested : Option Rested) (old : Meaning) (new : GroupSite R g) : Type 0 where
-    pub so : (w : MissedNote) (c d : Config) → IsTrue (site_disks new).tells → AllHave c old → site_config new ≡ Some d → IdleMaps w c rested old → (next : MissedNote) × BackMaps old (site_disks new) c d w next × MapsOf next d new
+    pub so : (w : MissedNote) (c d : Config) → IsTrue (site_disks new).tells → site_config new ≡ Some d → IdleMaps w c rested old → (next : MissedNote) × BackMaps old (site_disks new) c d w next × MapsOf next d new
     pub some : (d : Config) → site_config new ≡ Some d → (w : MissedNote) × MapsOf w d new
     pub none : (d : Config) → site_config new ≡ Some d → RestsNot rested → (next : MissedNote) × RisenMaps old (site_disks new) next × MapsOf next d new
 
