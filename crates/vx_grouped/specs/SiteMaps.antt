@@ -35,8 +35,8 @@ use Rattle.vx_grouped.specs.declared.group_site.GroupSite.TheVariants.{Up, Depor
 pub record DiskMaps (w : MissedNote) (c : Config) (m : Meaning) : Type 0 where
   pub each : (i : Image) (x : Config) → Each m.leaves i → found m i ≡ Found x → MapsOnDisk w c x i
 
--- The disks of a group that was deported have what is noted, by the configuration that each image has; and a value says which volumes rest: of those the maps are known, where the log is in use and its
--- disk held as good.
+-- The disks of a group that was deported have what is noted, by the configuration that each image has; and a value says which volumes rest: of those the maps are
+-- known, where the log is in use and its disk held as good.
 pub record IdleMaps (w : MissedNote) (c : Config) (rested : Option Rested) (m : Meaning) : Type 0 where
   pub all : AllHave c m
   pub disks : DiskMaps w c m
