@@ -1,7 +1,7 @@
 -- What a deport makes of what is noted of the maps of a group, and of the logs on its disks.
-use Rattle.std.proofs.Common.{◌≡◌, ◌∙◌, ◌<◌, ◌||◌, ◌+◌, ◌*◌, inl, inr, ℕ, Bool, true, false, List, length, refl, sym, ap, subst, ◌&&◌, arith}
-use Rattle.std.specs.Prelude.{Option, None, Some, ltb, not, is_some, slice_get}
-use Rattle.std.proofs.lemmas.Bool.{lt-ltb, ltb-true}
+use Rattle.std.proofs.Common.{◌≡◌, ◌∙◌, ◌<◌, ◌||◌, ◌+◌, ◌*◌, inl, inr, ℕ, Bool, true, false, List, length, refl, sym, ap, subst, ◌&&◌, arith, ◌≤◌, ◌-◌}
+use Rattle.std.specs.Prelude.{Option, None, Some, ltb, not, is_some, slice_get, Err}
+use Rattle.std.proofs.lemmas.Bool.{lt-ltb, ltb-true, cases_lt}
 use Rattle.vx_config.specs.Checks.{blocks_of, plexes_of}
 use Rattle.vx_config.specs.declared.config.Config.{Config}
 use Rattle.vx_config.specs.declared.entry.LogEntry.{LogEntry}
@@ -44,8 +44,8 @@ use Rattle.vx_model.specs.declared.limits.TheConstants.{MAP_REGIONS}
 use Rattle.vx_volume.specs.Plexes.{active}
 use Rattle.vx_grouped.specs.Away.{AllHave}
 use Rattle.vx_grouped.specs.MapsNoted.{MapsNoted, MapsOnDisk}
-use Rattle.vx_grouped.specs.PlainMaps.{PartsLeft, PartsMoved, map_parts}
-use Rattle.vx_grouped.specs.SiteMaps.{DiskMaps, MapsLike}
+use Rattle.vx_grouped.specs.PlainMaps.{PartsLeft, PartsMoved, map_parts, PartsStay}
+use Rattle.vx_grouped.specs.SiteMaps.{DiskMaps, MapsLike, MapsQuiet}
 use Rattle.vx_grouped.proofs.DiskMapLemmas.{MapLies, log_there, missed_logged, LogThere}
 use Rattle.vx_grouped.proofs.MapStandLemmas.{stood_lies}
 use Rattle.vx_grouped.proofs.NotedMapLemmas.{going, had_b, map_in, missed_b, noted_b}
@@ -56,6 +56,11 @@ use Rattle.vx_groupmaps.specs.Loading.{failed_under, on_failed_disk}
 use Rattle.vx_logimport.proofs.RestLemmas.{in_use_trusts}
 use Rattle.vx_loggroup.proofs.EndedLemmas.{failed_entry}
 use Rattle.vx_loggroup.proofs.SetLemmas.{item_at}
+use Rattle.vx_grouped.proofs.StayPartLemmas.{quiet_serial, stay_same}
+use Rattle.vx_group.specs.Dets.{DetStops, margin}
+use Rattle.vx_config.specs.Table.{greatest}
+use Rattle.vx_model.specs.declared.errors.Stop.{Stop}
+use Rattle.vx_model.specs.declared.errors.Stop.TheVariants.{No as Refused, OutOfMemory}
 use Rattle.vx_maplog.specs.Logs.{log_or}
 
 -- ---- states of plexes
@@ -280,3 +285,14 @@ pub parts_back : (c d : GroupCore) (l k : List Logs) (s t : Bool) (a b : List Bo
 parts_back c d l k s t a b m m' was now stands back kept =
     like_parts c d l k s t a b m m' was now stands back.stands back.quiesces.loses.frames back.quiesces.shape.volumes back.quiesces.shape.blocks kept.ends (kept.alike, kept.stopped) kept.comes
     (move_none c.inner.config d.inner.config l k (λ v. inl (ap (λ (ls : List Logs). fmr_at ls v) kept.logs)))
+
+-- for want of serials it is as it was
+pub quiet_back : (c d : GroupCore) (l k : List Logs) (s t : Bool) (a b : List Bool) (m m' : Meaning) (stop : Stop) → MapsBackIn c.inner.config d.inner.config s t l k a b m m' → (greatest - margin < c.inner.config.serial → d ≡ c)
+    → (c.inner.config.serial ≤ greatest - margin → DetStops {T = Unit {0}} m m' (Err stop)) → MapsQuiet stop (PartsStay (map_parts c.inner.config l a s) (map_parts d.inner.config k b t))
+quiet_back c d l k s t a b m m' (Refused why) kept full cause =
+    quiet_serial (PartsStay (map_parts c.inner.config l a s) (map_parts d.inner.config k b t)) m m' c.inner.config.serial why
+    (λ lt. stay_same c.inner.config d.inner.config l k a b s t kept.logs kept.alike kept.stopped (ap (λ (x : GroupCore). x.inner.config) (full lt))) cause
+quiet_back c d l k s t a b m m' OutOfMemory kept full cause = elim (cases_lt (greatest - margin) c.inner.config.serial) [
+  | inl lt ↦ stay_same c.inner.config d.inner.config l k a b s t kept.logs kept.alike kept.stopped (ap (λ (x : GroupCore). x.inner.config) (full lt))
+  | inr le ↦ absurd (cause le)
+]

@@ -59,3 +59,4 @@ pub mod ImportMapLemmas
 pub mod ReturnMapLemmas
 pub mod StayMapLemmas
 pub mod RunMapLemmas
+pub mod StayPartLemmas

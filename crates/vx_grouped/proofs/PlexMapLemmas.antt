@@ -7,7 +7,7 @@ use Rattle.vx_config.specs.declared.config.Config.{Config}
 use Rattle.vx_disk.specs.Racks.{IsRack}
 use Rattle.vx_disk.specs.Shelf.{Meaning}
 use Rattle.vx_group.specs.Attaches.{att_refusal, copied_regions, missed_regions}
-use Rattle.vx_group.specs.Dets.{det_refusal}
+use Rattle.vx_group.specs.Dets.{DetStops, det_refusal}
 use Rattle.vx_group.specs.Holding.{GroupStands}
 use Rattle.vx_group.specs.declared.group_core.GroupCore.{GroupCore}
 use Rattle.vx_group.proofs.HoldLemmas.{narrow_on}
@@ -27,13 +27,14 @@ use Rattle.vx_model.specs.declared.no.No.{No}
 use Rattle.vx_model.specs.declared.no.No.TheVariants.{Device, Down as IsOff}
 use Rattle.vx_volume.specs.Plexes.{active}
 use Rattle.vx_grouped.specs.Ends.{CallLeaves}
-use Rattle.vx_grouped.specs.PlainMaps.{AttsMaps, DetsMaps, PartsMoved, map_parts}
+use Rattle.vx_grouped.specs.PlainMaps.{AttsMaps, DetsMaps, PartsMoved, map_parts, PartsStay}
 use Rattle.vx_grouped.specs.SiteEnds.{stops_down}
-use Rattle.vx_grouped.specs.SiteMaps.{MapsLike}
+use Rattle.vx_grouped.specs.SiteMaps.{MapsLike, MapsQuiet}
 use Rattle.vx_grouped.proofs.CountedLemmas.{copies_all, copies_noted}
 use Rattle.vx_grouped.proofs.MoreMapLemmas.{undet_goes}
 use Rattle.vx_grouped.proofs.PlainMapLemmas.{rack_rose}
 use Rattle.vx_grouped.proofs.SiteMapLemmas.{det_goes, like_goes, att_goes}
+use Rattle.vx_grouped.proofs.StayPartLemmas.{quiet_test}
 use Rattle.vx_grouped.proofs.MapStandLemmas.{volume_there}
 
 -- ---- what is there, where nothing is refused
@@ -55,6 +56,12 @@ none_by (Some no) x refused = absurd (let clash : Ok x ≡ Err (Refused no) = re
 pub ok_each : {T E : Type 0} {P Q : T → Type 0} (r : Result T E) → ((x : T) → P x → Q x) → IfOk r P → IfOk r Q
 ok_each (Ok x) more it = more x it
 ok_each (Err e) more it = tt
+
+-- a call that is refused by no test names a disk, or says that the disks are down
+quiet_stop : (T P : Type 0) (m m' : Meaning) (o : Option No) (stop : Stop) → ((no : No) → o ≡ Some no → P) → (o ≡ None → DetStops {T = T} m m' (Err stop)) → MapsQuiet stop P
+quiet_stop T P m m' o (Refused why) stays cause = quiet_test P m m' o why stays cause
+quiet_stop T P m m' None OutOfMemory stays cause = absurd (cause refl)
+quiet_stop T P m m' (Some no) OutOfMemory stays cause = stays no refl
 
 first_off : (x y : Bool) → (x || y) ≡ false → x ≡ false
 first_off true y is = let clash : true ≡ false = is in cc
@@ -81,16 +88,20 @@ module _ (c d : GroupCore) (l k : List Logs) (s t : Bool) (a b : List Bool) (m m
 
   -- a plex is detached
   pub det_parts : (vol plex : ℕ) (r : Result (Unit {0}) Stop) → MapsBeginIn (only_volume vol) c.inner.config d.inner.config s t l k → (s ≡ false → MovesDet c.inner.config d.inner.config vol plex (is_alike a vol) l k r)
-      → ((no : No) → det_refusal c.inner.config vol plex ≡ Some no → r ≡ Err (Refused no)) → DetsMaps vol plex (map_parts c.inner.config l a s) m (map_parts d.inner.config k b t) m' r
-  det_parts vol plex (Ok done) begins moves refused = record {
+      → ((no : No) → det_refusal c.inner.config vol plex ≡ Some no → r ≡ Err (Refused no)) → ((no : No) → det_refusal c.inner.config vol plex ≡ Some no → PartsStay (map_parts c.inner.config l a s) (map_parts d.inner.config k b t))
+      → (det_refusal c.inner.config vol plex ≡ None → DetStops m m' r) → DetsMaps vol plex (map_parts c.inner.config l a s) m (map_parts d.inner.config k b t) m' r
+  det_parts vol plex (Ok done) begins moves refused stays cause = record {
     so = λ w up noted.
         det_goes w c.inner.config d.inner.config l k s t a b m m' noted (narrow_on c m one) (narrow_on d m' two) same many up (rack_rose m m' was now) ends vol plex begins (λ off. moves (going_on off))
         (det_there c.inner.config vol plex (none_by (det_refusal c.inner.config vol plex) done refused)) alike;
   }
-  det_parts vol plex (Err stop) begins moves refused = record {
-    so = λ w up noted.
-        undet_goes w c.inner.config d.inner.config l k s t a b m m' noted (narrow_on c m one) (narrow_on d m' two) same up (rack_rose m m' was now) ends (λ off. moves (going_on off)) vol begins many alike;
-  }
+  det_parts vol plex (Err stop) begins moves refused stays cause = (
+    record {
+      so = λ w up noted.
+          undet_goes w c.inner.config d.inner.config l k s t a b m m' noted (narrow_on c m one) (narrow_on d m' two) same up (rack_rose m m' was now) ends (λ off. moves (going_on off)) vol begins many alike;
+    },
+    quiet_stop (Unit {0}) (PartsStay (map_parts c.inner.config l a s) (map_parts d.inner.config k b t)) m m' (det_refusal c.inner.config vol plex) stop stays cause,
+  )
 
   -- a call that writes no region, and in which no log begins
   pub like_parts : MapsBeginIn no_volume c.inner.config d.inner.config s t l k → MapsMove c.inner.config d.inner.config in_none in_none l k → PartsMoved (MapsLike m m') (map_parts c.inner.config l a s) (map_parts d.inner.config k b t) m'
@@ -101,8 +112,9 @@ module _ (c d : GroupCore) (l k : List Logs) (s t : Bool) (a b : List Bool) (m m
 
   -- a plex is attached
   pub att_parts : (vol plex : ℕ) (r : Result ℕ Stop) → MapsBeginIn no_volume c.inner.config d.inner.config s t l k → MovesAtt (leaves_maps (is_alike a vol) s r) c.inner.config d.inner.config vol plex l k → ((no : No) → att_refusal c.inner.config vol plex ≡ Some no → r ≡ Err (Refused no))
-      → (active c.inner.config vol plex ≡ false → IfOk r (λ n. n ≡ missed_regions c.inner.config vol plex (map_by l c.inner.config s false vol plex))) → AttsMaps vol plex (map_parts c.inner.config l a s) m (map_parts d.inner.config k b t) m' r
-  att_parts vol plex (Ok count) begins moves refused counts = (
+      → (active c.inner.config vol plex ≡ false → IfOk r (λ n. n ≡ missed_regions c.inner.config vol plex (map_by l c.inner.config s false vol plex))) → ((no : No) → att_refusal c.inner.config vol plex ≡ Some no → PartsStay (map_parts c.inner.config l a s) (map_parts d.inner.config k b t)) → (att_refusal c.inner.config vol plex ≡ None → DetStops m m' r)
+      → AttsMaps vol plex (map_parts c.inner.config l a s) m (map_parts d.inner.config k b t) m' r
+  att_parts vol plex (Ok count) begins moves refused counts stays cause = (
     record {
       so = λ w up noted.
           att_goes w c.inner.config d.inner.config l k s t a b m m' noted (narrow_on c m one) (narrow_on d m' two) same many up (rack_rose m m' was now) ends vol plex begins alike (is_alike a vol || s) moves
@@ -113,4 +125,5 @@ module _ (c d : GroupCore) (l k : List Logs) (s t : Bool) (a b : List Bool) (m m
       missed = λ known. copies_noted w c.inner.config l a s noted vol plex count (counts off) (may_attach c.inner.config vol plex (none_by (att_refusal c.inner.config vol plex) count refused)).plex off known;
     },
   )
-  att_parts vol plex (Err stop) begins moves refused counts = like_parts begins moves
+  att_parts vol plex (Err stop) begins moves refused counts stays cause =
+      (like_parts begins moves, quiet_stop ℕ (PartsStay (map_parts c.inner.config l a s) (map_parts d.inner.config k b t)) m m' (att_refusal c.inner.config vol plex) stop stays cause)

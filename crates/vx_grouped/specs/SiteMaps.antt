@@ -21,7 +21,9 @@ use Rattle.vx_logimport.specs.declared.rested.Rested.{Rested}
 use Rattle.vx_logs.specs.Held.{InUse}
 use Rattle.vx_maplog.specs.Logs.{log_of}
 use Rattle.vx_model.specs.declared.errors.Stop.{Stop}
+use Rattle.vx_model.specs.declared.errors.Stop.TheVariants.{No as Refused, OutOfMemory}
 use Rattle.vx_model.specs.declared.no.No.{No}
+use Rattle.vx_model.specs.declared.no.No.TheVariants.{Device, Down as IsOff}
 use Rattle.vx_volume.specs.Plexes.{active}
 use Rattle.vx_grouped.specs.Away.{AllHave}
 use Rattle.vx_grouped.specs.GroupNotes.{noted_config}
@@ -126,6 +128,13 @@ pub record AddMaps (old new : Meaning) (c d : Config) (w next : MissedNote) : Ty
 pub record BackMaps (old new : Meaning) (c d : Config) (w next : MissedNote) : Type 0 where
   pub back : MapsBack (FailedAt old new) (Unit {0}) (StopsClean c) (map_disk_of c) (live c) (live d) w next
 
+-- where a refusal names no disk, and does not say that the disks are down, nothing has changed
+abbrev pub MapsQuiet : Stop → Type 0 → Type 0
+MapsQuiet (Refused (Device disk)) same = Unit {0}
+MapsQuiet (Refused IsOff) same = Unit {0}
+MapsQuiet (Refused other) same = same
+MapsQuiet OutOfMemory same = same
+
 module _ {R : Type 0} {g : Ghosts R} where
   -- What is noted is so of the maps in memory, or on the disks by themselves; c is the configuration that is noted.
   abbrev pub MapsOf : MissedNote → Config → GroupSite R g → Type 0
@@ -149,6 +158,11 @@ module _ {R : Type 0} {g : Ghosts R} where
     pub up : (c : Config) → site_config e ≡ Some c → c ≡ config
     pub maps : MapsFor note config e
 
+  -- whatever is noted of the maps of a site, it stands for that still: behind a read; behind a crash, as the disks have what was in memory; and where calls on a
+  -- disk are made to fail, or a fuse is set
+  abbrev pub StaysMapped : GroupSite R g → GroupSite R g → Type 0
+  StaysMapped old new = (note : GroupNode) → StandMaps note old → StandMaps note new
+
   -- whatever was noted of the maps of a site, its note goes on so by a call
   pub record MapsMoved (By : MissedNote → MissedNote → Type 0) (c d : Config) (old new : GroupSite R g) : Type 0 where
     pub so : (w : MissedNote) → MapsOf w c old → (next : MissedNote) × By w next × MapsOf next d new
@@ -170,22 +184,22 @@ module _ {R : Type 0} {g : Ghosts R} where
 
   abbrev pub AddedMapped : GroupSite R g → GroupSite R g → Result ℕ Stop → Type 0
   AddedMapped old new (Ok vol) = UpMaps AddMaps old new
-  AddedMapped old new (Err stop) = UpMaps MapsLike old new
+  AddedMapped old new (Err stop) = UpMaps MapsLike old new × MapsQuiet stop (StaysMapped old new)
 
   abbrev pub DetMapped : (vol plex : ℕ) → GroupSite R g → GroupSite R g → Result (Unit {0}) Stop → Type 0
   DetMapped vol plex old new (Ok done) = UpMaps (DetMapsDone vol plex) old new
-  DetMapped vol plex old new (Err stop) = UpMaps (DetMapsFailed vol) old new
+  DetMapped vol plex old new (Err stop) = UpMaps (DetMapsFailed vol) old new × MapsQuiet stop (StaysMapped old new)
 
   -- and so many regions are copied
   abbrev pub AttMapped : (vol plex : ℕ) → GroupSite R g → GroupSite R g → Result ℕ Stop → Type 0
   AttMapped vol plex old new (Ok count) =
       UpMaps (AttMaps vol plex) old new × ((c : Config) (w : MissedNote) → site_config old ≡ Some c → MapsOf w c old → active c vol plex ≡ false → CopiesNoted w c vol plex count)
-  AttMapped vol plex old new (Err stop) = UpMaps MapsLike old new
+  AttMapped vol plex old new (Err stop) = UpMaps MapsLike old new × MapsQuiet stop (StaysMapped old new)
 
   -- a deport: the disks have what was in memory; or it was refused
   abbrev pub DeportMapped : GroupSite R g → GroupSite R g → Result (Unit {0}) Stop → Type 0
   DeportMapped old new (Ok done) = (c d : Config) → site_config old ≡ Some c → AllHave d (site_disks new) → MapsMoved (MapsLike (site_disks old) (site_disks new) c d) c d old new
-  DeportMapped old new (Err stop) = UpMaps MapsLike old new
+  DeportMapped old new (Err stop) = UpMaps MapsLike old new × MapsQuiet stop (StaysMapped old new)
 
   -- an import of disks, with a value that says which volumes rest: what is noted goes on; and something may be noted, whatever the disks were
   pub record CameBack (rested : Option Rested) (old : Meaning) (new : GroupSite R g) : Type 0 where
@@ -207,8 +221,3 @@ module _ {R : Type 0} {g : Ghosts R} where
   CameMapped (Deported idle) new r = ImportMapped idle.rested (idle_disks idle) new r
   CameMapped (Down idle) new r = RecoverMapped idle.rested (idle_disks idle) new r
   CameMapped other new r = Unit {0}
-
-  -- whatever is noted of the maps of a site, it stands for that still: behind a read; behind a crash, as the disks have what was in memory; and where calls on a
-  -- disk are made to fail, or a fuse is set
-  abbrev pub StaysMapped : GroupSite R g → GroupSite R g → Type 0
-  StaysMapped old new = (note : GroupNode) → StandMaps note old → StandMaps note new

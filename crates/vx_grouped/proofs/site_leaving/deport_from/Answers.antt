@@ -19,7 +19,7 @@ use Rattle.vx_grouped.specs.GroupNotes.{IsGroupAt}
 use Rattle.vx_grouped.proofs.CarryLemmas.{carried, shelf_of}
 use Rattle.vx_grouped.proofs.DeportedLemmas.{device_stops}
 use Rattle.vx_disk.specs.Racks.{IsRack}
-use Rattle.vx_grouped.specs.PlainMaps.{PartsLeft, PartsMoved, map_parts}
+use Rattle.vx_grouped.specs.PlainMaps.{PartsLeft, RefusedMaps, map_parts}
 use Rattle.vx_grouped.specs.SiteMaps.{MapsLike}
 use Rattle.vx_grouped.proofs.PlainMapLemmas.{parts_carried, parts_same}
 use Rattle.vx_grouped.proofs.site_leaving.deport_from.Goals as goal
@@ -82,7 +82,7 @@ returns-in-Ok-clause-maps g c =
 
 pub returns-in-Err-clause-maps : goal.returns-in-Err-clause-maps
 returns-in-Err-clause-maps g c =
-    parts_carried (λ x m y n. IsRack m → IsRack n → PartsMoved (MapsLike m n) x y n)
+    parts_carried (λ x m y n. IsRack m → IsRack n → RefusedMaps (MapsLike m n) c.in-Err.stop x y n)
     (map_parts c.args.group.core.inner.config c.args.group.logs.items c.args.group.alike c.args.group.stopped) (map_parts c.together-group.result.core.inner.config c.together-group.result.logs.items c.together-group.result.alike c.together-group.result.stopped) (map_parts c.together.result.core.inner.config c.together.result.logs.items c.together.result.alike c.together.result.stopped) (map_parts c.in-Err.group.core.inner.config c.in-Err.group.logs.items c.in-Err.group.alike c.in-Err.group.stopped) (g.R.Shelf.meaning c.args.group.shelf) (g.R.Shelf.meaning c.together-group.result.shelf.shelf) (g.R.Shelf.meaning c.together.result.shelf) (g.R.Shelf.meaning c.in-Err.group.shelf.shelf)
     (parts_same c.args.group.core.inner.config c.together-group.result.core.inner.config c.args.group.logs.items c.together-group.result.logs.items c.args.group.alike c.together-group.result.alike c.args.group.stopped c.together-group.result.stopped
     (ap (λ x. x.inner.config) (c.together-group.ensures.core ∙ c.apart-rack.ensures.core)) (ap (λ x. x.items) (c.together-group.ensures.logs ∙ c.apart-rack.ensures.logs)) (c.together-group.ensures.alike ∙ c.apart-rack.ensures.alike) (c.together-group.ensures.stopped ∙ c.apart-rack.ensures.stopped))

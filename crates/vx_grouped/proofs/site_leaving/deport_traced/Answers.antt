@@ -16,7 +16,7 @@ use Rattle.vx_grouped.proofs.TraceLemmas.{carried_both, carried_in, carried_off,
 use Rattle.vx_grouped.proofs.LeavingLemmas.{Refuses}
 use Rattle.vx_disk.specs.Racks.{IsRack}
 use Rattle.vx_untold.specs.Shades.{shade_meaning}
-use Rattle.vx_grouped.specs.PlainMaps.{PartsLeft, PartsMoved, map_parts}
+use Rattle.vx_grouped.specs.PlainMaps.{PartsLeft, RefusedMaps, map_parts}
 use Rattle.vx_grouped.specs.SiteMaps.{MapsLike}
 use Rattle.vx_grouped.proofs.PlainMapLemmas.{parts_carried, parts_same}
 use Rattle.vx_grouped.proofs.site_leaving.deport_traced.Goals as goal
@@ -85,7 +85,7 @@ returns-in-Ok-clause-maps g c =
 
 pub returns-in-Err-clause-maps : goal.returns-in-Err-clause-maps
 returns-in-Err-clause-maps g c =
-    parts_carried (λ x m y n. IsRack m → IsRack n → PartsMoved (MapsLike m n) x y n)
+    parts_carried (λ x m y n. IsRack m → IsRack n → RefusedMaps (MapsLike m n) c.in-Err.stop x y n)
     (map_parts c.args.laid.core.inner.config c.args.laid.logs.items c.args.laid.alike c.args.laid.stopped) (map_parts c.trace.result.core.inner.config c.trace.result.logs.items c.trace.result.alike c.trace.result.stopped) (map_parts c.untrace.result.core.inner.config c.untrace.result.logs.items c.untrace.result.alike c.untrace.result.stopped) (map_parts c.in-Err.group.core.inner.config c.in-Err.group.logs.items c.in-Err.group.alike c.in-Err.group.stopped) (shade_meaning g.R.Shelf.meaning c.args.laid.shelf) (shade_meaning (λ t. g.R.Shelf.meaning t.rack) c.trace.result.shelf) (shade_meaning g.R.Shelf.meaning c.untrace.result.shelf) (shade_meaning (λ t. g.R.Shelf.meaning t.rack) c.in-Err.group.shelf)
     (parts_same c.args.laid.core.inner.config c.trace.result.core.inner.config c.args.laid.logs.items c.trace.result.logs.items c.args.laid.alike c.trace.result.alike c.args.laid.stopped c.trace.result.stopped
     (ap (λ x. x.inner.config) (c.trace.ensures.core)) (ap (λ x. x.items) (c.trace.ensures.logs)) (c.trace.ensures.alike) (c.trace.ensures.stopped))
