@@ -34,3 +34,4 @@ pub mod GroupPlex
 pub mod GroupAttach
 pub mod MapLines
 pub mod MapReturns
+pub mod MapGoing
