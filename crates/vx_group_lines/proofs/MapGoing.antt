@@ -1,6 +1,6 @@
 -- How what is noted of the maps of a site's group goes on by a call of a line.
 use Rattle.std.proofs.Common.{◌≡◌, ◌∙◌, ap, refl, subst, sym}
-use Rattle.std.specs.Prelude.{None, Some}
+use Rattle.std.specs.Prelude.{None, Some, Ok}
 use Rattle.vx_config.specs.declared.config.Config.{Config}
 use Rattle.vx_disk.specs.Shelf.{Meaning}
 use Rattle.vx_disk.specs.declared.shelf.Shelf.{Ghosts}
@@ -9,9 +9,9 @@ use Rattle.vx_history.specs.Missing.{no_maps, with_maps}
 use Rattle.vx_history.specs.World.{Node}
 use Rattle.vx_kept.specs.Cleans.{at_serial}
 use Rattle.vx_grouped.specs.GroupNotes.{NotesConfig}
-use Rattle.vx_grouped.specs.GroupSites.{DownNoted, UpNoted, idle_disks, site_config, site_disks}
-use Rattle.vx_grouped.specs.SiteEnds.{ConfigGoes, HasNow}
-use Rattle.vx_grouped.specs.SiteMaps.{DownRests, MapsFor, MapsOf, StandMaps, UpMaps}
+use Rattle.vx_grouped.specs.GroupSites.{DownNoted, UpNoted, idle_disks, site_config, site_disks, AwayNoted}
+use Rattle.vx_grouped.specs.SiteEnds.{ConfigGoes, HasNow, NewestCommitted}
+use Rattle.vx_grouped.specs.SiteMaps.{DownRests, MapsFor, MapsOf, StandMaps, UpMaps, DeportMapped, MapsLike}
 use Rattle.vx_grouped.specs.declared.group_site.GroupSite.{GroupSite}
 use Rattle.vx_grouped.specs.declared.group_site.GroupSite.TheVariants.{Deported, Down, Gone, Marked, Up}
 use Rattle.vx_grouped.proofs.MapStandLemmas.{none_on_disks}
@@ -93,6 +93,38 @@ module _ {R : Type 0} {g : Ghosts R} where
           maps = to_site then.0 next goes.now goes.now new has then.2;
         };
       }
+
+  -- ---- of one that was deported, by the configuration that each image has
+
+  pub record MapsAway (note next : GroupNode) (old new : GroupSite R g) (was : Config) : Type 0 where
+    pub config : Config
+    pub noted : NotesConfig next config
+    pub maps : MissedNote
+    pub by : MapsLike (site_disks old) (site_disks new) was config note.maps maps
+    pub stands : StandMaps (with_maps maps next) new
+
+  pub goes_away : (m : Node) (note next : GroupNode) (old : GroupSite R g) (was : Config) → StandMaps note old → site_config old ≡ Some was → (new : GroupSite R g) → AwayNoted m next new → NewestCommitted next new → DeportMapped old new (Ok tt)
+      → MapsAway note next old new was
+  goes_away m note next old was had is (Up group) away newest moved = absurd away
+  goes_away m note next old was had is (Deported idle) away newest moved =
+      let first : MapsOf note.maps was old = subst (λ (c : Config). MapsOf note.maps c old) (sym (had.up was is)) (of_site note had.config was old is had.maps) in
+      let then = (moved was newest.0 is newest.2).so note.maps first in
+      record {
+        config = newest.0;
+        noted = newest.1;
+        maps = then.0;
+        by = then.1;
+        stands = record {
+          config = newest.0;
+          is = newest.1.is;
+          spells = newest.1.spells;
+          up = λ c some. absurd (let clash : None ≡ Some c = some in cc);
+          maps = λ bright. then.2;
+        };
+      }
+  goes_away m note next old was had is (Down idle) away newest moved = absurd away
+  goes_away m note next old was had is (Marked rack) away newest moved = absurd away
+  goes_away m note next old was had is Gone away newest moved = absurd away
 
   -- ---- of one whose fuse ran out: no map is known any more
 
