@@ -158,7 +158,7 @@ module _ {R : Type 0} {g : Ghosts R} where
         (arrives_made d d s n (d.world.gathering s)
         (arrives_none d s stands.links (bare_sure d s site.at.bare stands.links) (blank_links d s (stands.links.bare s site.at.bare))) site.at.below site.at.bare))
         (up_notes m note to.set.site to.holds.2).0
-        (up_set m note to.set (record { few = site.at.few; some = site.at.some }) to.holds.2 cut to.holds.1.cut) fails (fused_none m (OfGroup to.set) unfused)
+        (up_set m note to.set (record { few = site.at.few; some = site.at.some }) to.holds.2 to.holds.5 cut to.holds.1.cut) fails (fused_none m (OfGroup to.set) unfused)
         (made_fact d.world s note site.at.bare first.1) facts load)
         (rose_still old new s before after changed.there changed.later changed.disk_sets)
 
