@@ -35,3 +35,4 @@ pub mod GroupAttach
 pub mod MapLines
 pub mod MapReturns
 pub mod MapGoing
+pub mod MapComing

@@ -41,7 +41,7 @@ with_goes Keeps Maps note next was now w noted noted_now keeps change = record {
   is = refl;
 }
 
-one_config : (a b : Config) → Some a ≡ Some b → a ≡ b
+pub one_config : (a b : Config) → Some a ≡ Some b → a ≡ b
 one_config a b is = cc is
 
 module _ {R : Type 0} {g : Ghosts R} where
@@ -54,7 +54,7 @@ module _ {R : Type 0} {g : Ghosts R} where
   of_site note c was (Marked rack) is it = absurd (let clash : None ≡ Some was = is in cc)
   of_site note c was Gone is it = absurd (let clash : None ≡ Some was = is in cc)
 
-  to_site : (w : MissedNote) (next : GroupNode) (c now : Config) (e : GroupSite R g) → site_config e ≡ Some now → MapsOf w c e → MapsFor (with_maps w next) c e
+  pub to_site : (w : MissedNote) (next : GroupNode) (c now : Config) (e : GroupSite R g) → site_config e ≡ Some now → MapsOf w c e → MapsFor (with_maps w next) c e
   to_site w next c now (Up group) is it = it
   to_site w next c now (Deported idle) is it = absurd (let clash : None ≡ Some now = is in cc)
   to_site w next c now (Down idle) is it = absurd (let clash : None ≡ Some now = is in cc)

@@ -85,7 +85,6 @@ module _ (n : Node) (note : GroupNode) (last : Config) (m0 m : Meaning) (told : 
     loose = refl;
     cut = refl;
     dark = refl;
-    maps = refl;
     block = λ v b. either_block (back.renewed v) (back.value v b) (note.bytes.block v b) (note.others v b);
     may = λ tells v b low. may_by note v b (back.renewed v) (back.value v b) (λ on. back.may (subst IsTrue (sym told) tells) v b (inside v b low) on);
     size = λ tells v low. back.sizes (subst IsTrue (sym told) tells) v (inside v 0 low).volume ∙ sym (lies.sizes v);
