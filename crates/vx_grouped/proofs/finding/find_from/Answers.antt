@@ -57,8 +57,7 @@ together-requires-clause-begins g c = subst (λ s. FreshStands c.apart-watched.r
 
 pub returns-in-Ok-clause-maps : goal.returns-in-Ok-clause-maps
 returns-in-Ok-clause-maps g c =
-    let some = c.in-Ok.ensures.maps.some in
-    (
+    let some = c.in-Ok.ensures.maps.some in (
       some.0,
       subst (λ x. PartsNoted some.0 x)
           (sym (parts_same c.in-Ok.group.core.inner.config c.dimmed.result.core.inner.config c.in-Ok.group.logs.items c.dimmed.result.logs.items c.in-Ok.group.alike c.dimmed.result.alike c.in-Ok.group.stopped c.dimmed.result.stopped

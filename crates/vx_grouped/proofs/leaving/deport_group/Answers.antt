@@ -57,8 +57,8 @@ returns-then-is_down-clause-maps g c = λ was now. (parts_back c.args.group.core
 
 pub returns-else-is_down-clause-maps : goal.returns-else-is_down-clause-maps
 returns-else-is_down-clause-maps g c = λ was now. (
-    parts_back c.args.group.core c.in-Err.group.core c.args.group.logs.items c.in-Err.group.logs.items c.args.group.stopped c.in-Err.group.stopped c.args.group.alike c.in-Err.group.alike (g.S.Shelf.meaning c.args.group.shelf) (g.S.Shelf.meaning c.in-Err.group.shelf) was now c.args.group.stands.group c.in-Err.ensures.ends c.in-Err.ensures.kept,
-    quiet_back c.args.group.core c.in-Err.group.core c.args.group.logs.items c.in-Err.group.logs.items c.args.group.stopped c.in-Err.group.stopped c.args.group.alike c.in-Err.group.alike (g.S.Shelf.meaning c.args.group.shelf) (g.S.Shelf.meaning c.in-Err.group.shelf) c.in-Err.stop c.in-Err.ensures.kept
-    (λ lt. (c.in-Err.ensures.limit lt).1)
-    (λ low. device_stops {S = g.row.S.Denot × Option Rested} (g.S.Shelf.meaning c.args.group.shelf) (λ s. g.S.Shelf.meaning s.0) (λ y. (y.shelf, None)) c.in-Err.group c.in-Err.stop (c.in-Err.ensures.cause low)),
-    )
+  parts_back c.args.group.core c.in-Err.group.core c.args.group.logs.items c.in-Err.group.logs.items c.args.group.stopped c.in-Err.group.stopped c.args.group.alike c.in-Err.group.alike (g.S.Shelf.meaning c.args.group.shelf) (g.S.Shelf.meaning c.in-Err.group.shelf) was now c.args.group.stands.group c.in-Err.ensures.ends c.in-Err.ensures.kept,
+  quiet_back c.args.group.core c.in-Err.group.core c.args.group.logs.items c.in-Err.group.logs.items c.args.group.stopped c.in-Err.group.stopped c.args.group.alike c.in-Err.group.alike (g.S.Shelf.meaning c.args.group.shelf) (g.S.Shelf.meaning c.in-Err.group.shelf) c.in-Err.stop c.in-Err.ensures.kept
+      (λ lt. (c.in-Err.ensures.limit lt).1)
+      (λ low. device_stops {S = g.row.S.Denot × Option Rested} (g.S.Shelf.meaning c.args.group.shelf) (λ s. g.S.Shelf.meaning s.0) (λ y. (y.shelf, None)) c.in-Err.group c.in-Err.stop (c.in-Err.ensures.cause low)),
+)

@@ -80,13 +80,13 @@ returns-then-is_down-clause-maps g c = λ was now. (record { so = λ w up noted.
 
 pub returns-else-is_down-clause-maps : goal.returns-else-is_down-clause-maps
 returns-else-is_down-clause-maps g c = λ was now. (
-    none_parts c.args.group.now.core c.make_volume.new.self.core c.args.group.now.logs.items c.make_volume.new.self.logs.items c.args.group.now.stopped c.make_volume.new.self.stopped c.args.group.now.alike c.make_volume.new.self.alike (g.S.Shelf.meaning c.args.group.now.shelf) (g.S.Shelf.meaning c.make_volume.new.self.shelf) was now
-    (from_logged c.args.group.now.core c.args.group.now.logs.items c.args.group.now.alike c.args.group.now.stopped (g.S.Shelf.meaning c.args.group.now.shelf) c.args.group.now.stands) c.make_volume.new.self.stands.group c.make_volume.ensures.stays.shape c.make_volume.ensures.ends_maps c.make_volume.ensures.comes c.make_volume.ensures.moves c.make_volume.ensures.left
-    c.make_volume.ensures.flags c.make_volume.ensures.stopped
-    (volumes_kept (make_refusal c.args.group.now.core.inner.config c.args.name.now c.args.want.now)
-    (λ none. stop_volumes c.args.name.now c.args.want.now c.args.group.now.core.inner c.make_volume.new.self.core.inner (g.S.Shelf.meaning c.args.group.now.shelf) (g.S.Shelf.meaning c.make_volume.new.self.shelf) c.in-Err.stop (c.in-Err.ensures.ends none)) (λ why is. ap (λ x. x.inner.config.volumes) (c.make_volume.ensures.refused why is).1)),
-    quiet_unmoved ((c.make_volume.new.self.core ≡ c.args.group.now.core) × (c.make_volume.new.self.shelf ≡ c.args.group.now.shelf)) (PartsStay (map_parts c.args.group.now.core.inner.config c.args.group.now.logs.items c.args.group.now.alike c.args.group.now.stopped) (map_parts c.make_volume.new.self.core.inner.config c.make_volume.new.self.logs.items c.make_volume.new.self.alike c.make_volume.new.self.stopped)) c.in-Err.stop
-    (λ same.
-    stay_left c.args.group.now.core.inner.config c.make_volume.new.self.core.inner.config c.args.group.now.logs.items c.make_volume.new.self.logs.items c.args.group.now.alike c.make_volume.new.self.alike c.args.group.now.stopped c.make_volume.new.self.stopped
-    c.make_volume.ensures.left c.make_volume.ensures.flags c.make_volume.ensures.stopped (ap (λ x. x.inner.config) same.0)) c.in-Err.ensures.unmoved,
-    )
+  none_parts c.args.group.now.core c.make_volume.new.self.core c.args.group.now.logs.items c.make_volume.new.self.logs.items c.args.group.now.stopped c.make_volume.new.self.stopped c.args.group.now.alike c.make_volume.new.self.alike (g.S.Shelf.meaning c.args.group.now.shelf) (g.S.Shelf.meaning c.make_volume.new.self.shelf) was now
+      (from_logged c.args.group.now.core c.args.group.now.logs.items c.args.group.now.alike c.args.group.now.stopped (g.S.Shelf.meaning c.args.group.now.shelf) c.args.group.now.stands) c.make_volume.new.self.stands.group c.make_volume.ensures.stays.shape c.make_volume.ensures.ends_maps c.make_volume.ensures.comes c.make_volume.ensures.moves c.make_volume.ensures.left
+      c.make_volume.ensures.flags c.make_volume.ensures.stopped
+      (volumes_kept (make_refusal c.args.group.now.core.inner.config c.args.name.now c.args.want.now)
+      (λ none. stop_volumes c.args.name.now c.args.want.now c.args.group.now.core.inner c.make_volume.new.self.core.inner (g.S.Shelf.meaning c.args.group.now.shelf) (g.S.Shelf.meaning c.make_volume.new.self.shelf) c.in-Err.stop (c.in-Err.ensures.ends none)) (λ why is. ap (λ x. x.inner.config.volumes) (c.make_volume.ensures.refused why is).1)),
+  quiet_unmoved ((c.make_volume.new.self.core ≡ c.args.group.now.core) × (c.make_volume.new.self.shelf ≡ c.args.group.now.shelf)) (PartsStay (map_parts c.args.group.now.core.inner.config c.args.group.now.logs.items c.args.group.now.alike c.args.group.now.stopped) (map_parts c.make_volume.new.self.core.inner.config c.make_volume.new.self.logs.items c.make_volume.new.self.alike c.make_volume.new.self.stopped)) c.in-Err.stop
+      (λ same.
+      stay_left c.args.group.now.core.inner.config c.make_volume.new.self.core.inner.config c.args.group.now.logs.items c.make_volume.new.self.logs.items c.args.group.now.alike c.make_volume.new.self.alike c.args.group.now.stopped c.make_volume.new.self.stopped
+      c.make_volume.ensures.left c.make_volume.ensures.flags c.make_volume.ensures.stopped (ap (λ x. x.inner.config) same.0)) c.in-Err.ensures.unmoved,
+)

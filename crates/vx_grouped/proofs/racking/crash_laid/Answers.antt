@@ -23,10 +23,10 @@ use Rattle.vx_grouped.proofs.racking.crash_laid.Goals as goal
 pub returns-clause-away : goal.returns-clause-away
 returns-clause-away g c = λ n note lies.
     let laid : GroupStands c.args.laid.core (shade_meaning g.R.Shelf.meaning c.args.laid.shelf) =
-        (from_logged c.args.laid.core c.args.laid.logs.items c.args.laid.alike c.args.laid.stopped (shade_meaning g.R.Shelf.meaning c.args.laid.shelf) c.args.laid.stands).group in
+    (from_logged c.args.laid.core c.args.laid.logs.items c.args.laid.alike c.args.laid.stopped (shade_meaning g.R.Shelf.meaning c.args.laid.shelf) c.args.laid.stands).group in
     let runs : (v : ℕ) → v < length c.apart-shelf.result.1.core.inner.config.volumes → SomeActive c.apart-shelf.result.1.core.inner.config v =
-        subst (λ (x : GroupCore). (v : ℕ) → v < length x.inner.config.volumes → SomeActive x.inner.config v) (sym (c.apart-shelf.ensures.core ∙ c.trace.ensures.core))
-        (narrow_some c.args.laid.core (shade_meaning g.R.Shelf.meaning c.args.laid.shelf) laid) in
+    subst (λ (x : GroupCore). (v : ℕ) → v < length x.inner.config.volumes → SomeActive x.inner.config v) (sym (c.apart-shelf.ensures.core ∙ c.trace.ensures.core))
+    (narrow_some c.args.laid.core (shade_meaning g.R.Shelf.meaning c.args.laid.shelf) laid) in
     carried_in (λ x m y m'. GroupLies n note x m → IsAwayAt (record n { state = IsDown }) note x.inner.config m') c.args.laid.core c.apart-shelf.result.1.core c.args.laid.core c.args.laid.core c.args.laid.shelf c.apart-shelf.result.0 c.of.result.rack c.crash_whole.new.rack
     (c.apart-shelf.ensures.core ∙ c.trace.ensures.core) (c.trace.ensures.shelf ∙ ap (λ s. off s) (sym c.apart-shelf.ensures.shelf)) refl (c.of.ensures.rack ∙ c.untraced.ensures.shade)
     (λ it. crash_away n note c.apart-shelf.result.1.core (shade_meaning (λ t. g.R.Shelf.meaning t.rack) c.apart-shelf.result.0) (shade_meaning (λ t. g.R.Shelf.meaning t.rack) c.crash_whole.new.rack) it c.crash_whole.ensures.fell c.crash_whole.ensures.below runs c.crash_whole.ensures.can) lies
