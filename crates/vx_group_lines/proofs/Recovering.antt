@@ -197,22 +197,21 @@ module _ {R : Type 0} {g : Ghosts R} where
           let was : RaisesGroup n note (OfGroup at.set) st.before (Ok cut) =
           subst (λ (x : DiskSet R g). RaisesGroup n note x st.before (Ok cut)) at.is_set (subst (λ (x : DiskSet R g). RaisesGroup n note before x (Ok cut)) same (raises n note down)) in
           let rm = set_then (λ (x : GroupSite R g). SiteRecovers n note at.set.site x (Ok tt)) st.before was.0 in
-          let first : GroupNode = rm.holds.0 in
-          let first_up = has_up (returned_with first n) first rm.set.site rm.holds.2 in
+          let seen : GroupNode = rm.holds.0 in
           let is_down : DownNoted n note at.set.site = down_noted n at.set.site at.stands.stands begin.down in
           let had : StandMaps note at.set.site = maps_were e old new [] s before st.after begin.stands call in
           let raised : AtSite (λ x. CameMapped at.set.site x (Ok tt)) st.before
           = subst (λ (x : DiskSet R g). RaisesMaps x st.before (Ok cut)) at.is_set (subst (λ (x : DiskSet R g). RaisesMaps before x (Ok cut)) same (moved n note down)) in
-          let came : MapsCame (λ (w : MissedNote). RisenMaps (site_disks at.set.site) (site_disks rm.set.site) w) first rm.set.site
-          = comes_up n note first (is_dimmed at.set.site) at.set.site rm.set.site rm.holds.3.now had is_down rm.holds.1.dark (up_config (returned_with first n) first rm.holds.3.now rm.set.site rm.holds.2 rm.holds.3.has) rm.holds.3.noted_now
+          let came : MapsCame (λ (w : MissedNote). RisenMaps (site_disks at.set.site) (site_disks rm.set.site) w) seen rm.set.site
+          = comes_up n note seen (is_dimmed at.set.site) at.set.site rm.set.site rm.holds.3.now had is_down rm.holds.1.dark (up_config (returned_with seen n) seen rm.holds.3.now rm.set.site rm.holds.2 rm.holds.3.has) rm.holds.3.noted_now
           (subst (λ (x : DiskSet R g). AtSite (λ y. CameMapped at.set.site y (Ok tt)) x) rm.is raised) in
-          let next : GroupNode = with_maps came.maps first in
-          let rm_up : UpNoted (returned_with next n) next rm.set.site = up_with_maps came.maps (returned_with first n) first rm.set.site rm.holds.2 in
+          let next : GroupNode = with_maps came.maps seen in
+          let rm_up : UpNoted (returned_with next n) next rm.set.site = up_with_maps came.maps (returned_with seen n) seen rm.set.site rm.holds.2 in
           let st_up : AtSite (UpNoted (returned_with next n) next) st.before = subst (λ (x : DiskSet R g). AtSite (UpNoted (returned_with next n) next) x) (sym rm.is) rm_up in
           let up = has_up (returned_with next n) next rm.set.site rm_up in
           let later : Later before st.before = subst (λ (x : DiskSet R g). Later before x) same first.later in
-          looked e s old new before st.after begin call rm.set.site next (returns_with came.maps (IsTrue (site_disks rm.set.site).tells) (note_dimmed (is_dimmed at.set.site) note) first rm.holds.1)
-          (config_with came.maps (note_dimmed (is_dimmed at.set.site) note) first (as_imported at.set.site) rm.set.site rm.holds.3) (lit_up (returned_with next n) next rm.set.site rm_up)
+          looked e s old new before st.after begin call rm.set.site next (returns_with came.maps (IsTrue (site_disks rm.set.site).tells) (note_dimmed (is_dimmed at.set.site) note) seen rm.holds.1)
+          (config_with came.maps (note_dimmed (is_dimmed at.set.site) note) seen (as_imported at.set.site) rm.set.site rm.holds.3) (lit_up (returned_with next n) next rm.set.site rm_up)
           (λ set is. record {
             tells = λ yes_. subst (λ (x : DiskSet R g). IsToldAt x) rm.is (st.later.told (subst (λ (x : DiskSet R g). IsToldAt x) (sym is) yes_));
             from = λ k. omega (arith, later.counts k, ap (λ (x : DiskSet R g). faults_at x k) at.is_set, ap (λ (x : DiskSet R g). faults_at x k) rm.is);
