@@ -189,7 +189,7 @@ impl<S: Shelf> LoggedGroup<S> {
     /// Detaches a plex, as a group does without logs. Where no write of the volume failed since the import, the map of the plex begins then: it has
     /// missed no region yet. Where it is refused and the shelf is not down, the plex is ACTIVE as before, or its map is empty.
     pub fn det(&mut self, vol: u32, plex: u32) -> Result<(), Stop>
-        ensures refused { (no : NoValue) → det_refusal self.old.core.inner.config vol plex ≡ Some no → (result ≡ Err (Refused no)) × (self.new.core ≡ self.old.core) × (self.new.shelf ≡ self.old.shelf) }
+        ensures refused { (no : NoValue) → det_refusal self.old.core.inner.config vol plex ≡ Some no → (result ≡ Err (Refused no)) × (self.new.core ≡ self.old.core) × (self.new.shelf ≡ self.old.shelf) × (self.new.logs.items ≡ self.old.logs.items) }
         ensures goes { Goes Nothing (inner_meaning (wide self.old.core) (S.meaning self.old.shelf)) (inner_meaning (wide self.new.core) (S.meaning self.new.shelf)) }
         ensures parts { SameParts self.old.core.inner.config self.new.core.inner.config }
         ensures disks { MoreFailed (S.meaning self.old.shelf) (S.meaning self.new.shelf) self.old.core.inner.config.disks self.new.core.inner.config.disks }

@@ -84,6 +84,9 @@ returns-in-Err-clause-maps g c = begin_none c.args.vol c.args.plex c.args.logs.n
 pub returns-then-not-may_begin-clause-stands : goal.returns-then-not-may_begin-clause-stands
 returns-then-not-may_begin-clause-stands g c = (all_whole c.args.core.now c.det_logged.new.core c.args.logs.now.items c.args.alike.now c.args.stopped (g.S.Shelf.meaning c.args.shelf.now) (g.S.Shelf.meaning c.det_logged.new.shelf) c.requires.stands c.det_logged.ensures.stands c.det_logged.ensures.goes c.det_logged.ensures.logs)
 
+pub returns-in-Err-clause-refused : goal.returns-in-Err-clause-refused
+returns-in-Err-clause-refused g c = λ why is. let it = c.det_logged.ensures.refused why is in (sym c.in-Err.is ∙ it.0, it.1, it.2, refl)
+
 pub returns-then-not-may_begin-clause-refused : goal.returns-then-not-may_begin-clause-refused
 returns-then-not-may_begin-clause-refused g c = λ why is. absurd (ok_clash _ (Refused why) (sym c.in-Ok.is ∙ (c.det_logged.ensures.refused why is).0))
 
