@@ -16,7 +16,7 @@ use Rattle.vx_grouplogs.proofs.LogShape.{same_count}
 use Rattle.vx_history.specs.Groups.{GroupNode}
 use Rattle.vx_history.specs.World.{Node}
 use Rattle.vx_kept.specs.Keeping.{frame_at}
-use Rattle.vx_loggroup.specs.Attaching.{map_by, leaves_maps}
+use Rattle.vx_loggroup.specs.Attaching.{leaves_maps, map_by, maps_gone}
 use Rattle.vx_loggroup.specs.LoggedVolumes.{is_alike}
 use Rattle.vx_loggroup.specs.Moving.{MapsBeginIn, MapsEnd, MapsMove, MovesDet, goes_by, in_none, no_volume, only_volume, MovesAtt}
 use Rattle.vx_logs.specs.declared.logs.Logs.{Logs}
@@ -111,7 +111,7 @@ module _ (c d : GroupCore) (l k : List Logs) (s t : Bool) (a b : List Bool) (m m
   }
 
   -- a plex is attached
-  pub att_parts : (vol plex : ℕ) (r : Result ℕ Stop) → MapsBeginIn no_volume c.inner.config d.inner.config s t l k → MovesAtt (leaves_maps (is_alike a vol) s r) c.inner.config d.inner.config vol plex l k → ((no : No) → att_refusal c.inner.config vol plex ≡ Some no → r ≡ Err (Refused no))
+  pub att_parts : (vol plex : ℕ) (r : Result ℕ Stop) → MapsBeginIn no_volume c.inner.config d.inner.config s t l k → MovesAtt (leaves_maps (is_alike a vol) s (maps_gone c.inner.config l k vol) r) c.inner.config d.inner.config vol plex l k r → ((no : No) → att_refusal c.inner.config vol plex ≡ Some no → r ≡ Err (Refused no))
       → (active c.inner.config vol plex ≡ false → IfOk r (λ n. n ≡ missed_regions c.inner.config vol plex (map_by l c.inner.config s false vol plex))) → ((no : No) → att_refusal c.inner.config vol plex ≡ Some no → PartsStay (map_parts c.inner.config l a s) (map_parts d.inner.config k b t)) → (att_refusal c.inner.config vol plex ≡ None → DetStops m m' r)
       → AttsMaps vol plex (map_parts c.inner.config l a s) m (map_parts d.inner.config k b t) m' r
   att_parts vol plex (Ok count) begins moves refused counts stays cause = (

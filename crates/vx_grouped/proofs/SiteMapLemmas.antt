@@ -16,7 +16,7 @@ use Rattle.vx_kept.specs.Keeping.{AllOn}
 use Rattle.vx_logs.specs.declared.logs.Logs.{Logs}
 use Rattle.vx_volume.specs.Plexes.{active}
 use Rattle.vx_loggroup.specs.LoggedVolumes.{is_alike}
-use Rattle.vx_loggroup.specs.Moving.{MapsBeginIn, MapsDoubt, MapsEnd, MapsMove, goes_by, missed_in, MapsAttach, MovesAtt, missed_by}
+use Rattle.vx_loggroup.specs.Moving.{MapsBeginIn, MapsDoubt, MapsEnd, MapsMove, goes_by, missed_in, MapsAttach, MovesBy, missed_by}
 use Rattle.vx_grouped.specs.MapsNoted.{MapsNoted}
 use Rattle.vx_grouped.specs.SiteMaps.{DetMapsDone, DoubtMaps, MapsLike, WriteMaps, AttMaps}
 use Rattle.vx_grouped.proofs.NotedMapLemmas.{noted_doubted, noted_moved, joined_note, map_in, noted_joined}
@@ -170,7 +170,7 @@ module _ (w : MissedNote) (c d : Config) (l k : List Logs) (s t : Bool) (a b : L
       joined_goes : (after : MissedNote) × AttMaps vol plex m m' c d w after × MapsNoted after d k b t
       joined_goes = (joined, joined_maps, noted_joined w c d l k s t a b (λ v. false) noted same begins vol plex row moves noted_row (λ v lt sure. alike v (noted.alike v (was_low v lt) sure)))
 
-    pub att_goes : (x : Bool) → MovesAtt x c d vol plex l k → (x ≡ false → (vol < length c.volumes) × (is_alike a vol ≡ false)) → (after : MissedNote) × AttMaps vol plex m m' c d w after × MapsNoted after d k b t
+    pub att_goes : (x : Bool) → MovesBy x c d vol plex l k → (x ≡ false → (vol < length c.volumes) × (is_alike a vol ≡ false)) → (after : MissedNote) × AttMaps vol plex m m' c d w after × MapsNoted after d k b t
     att_goes true moves sure = (held, like_att (like_maps begins (λ off. moves) alike), like_noted begins (λ off. moves) alike)
     att_goes false moves sure = joined_goes moves (sure refl).0 (sure refl).1
 
