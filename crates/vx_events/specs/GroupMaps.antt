@@ -3,7 +3,7 @@ use Rattle.std.specs.Prelude.{◌≡◌, ◌≢◌, ◌⊎◌, ℕ, Bool, true, 
 use Rattle.vx_model.specs.declared.site.PlexState.TheVariants.{Active}
 use Rattle.vx_history.specs.Groups.{GroupNode, MissedNote}
 use Rattle.vx_history.specs.MapChanges.{InNoVolume, InVolume, MapsBack, MapsFailed, MapsJoined, MapsWritten, StayKnown}
-use Rattle.vx_history.specs.Missing.{each_anew, in_write, no_plex, none_missed, one_anew, with_maps}
+use Rattle.vx_history.specs.Missing.{each_anew, in_write, no_plex, none_missed, one_anew, refused_anew, with_maps}
 use Rattle.vx_model.specs.Content.{Write}
 use Rattle.vx_config.specs.Checks.{is_live}
 use Rattle.vx_config.specs.declared.config.Config.{Config}
@@ -65,10 +65,10 @@ pub record MapsAttached (s : ℕ) (fails : Fails) (vol plex : ℕ) (c d : Config
   pub known : StayKnown (FailedIn s fails) InNoVolume InNoVolume (map_disk c) w new
   pub joined : MapsJoined (length c.volumes) vol plex (takes_part c) (takes_part d) w new
 
--- or a plex was not detached, as a disk failed
-pub record MapsUndetached (s : ℕ) (fails : Fails) (vol : ℕ) (c d : Config) (w new : MissedNote) : Type 0 where
+-- or its detach was refused, as a disk failed: it takes part as it did, or its map begins anew
+pub record MapsUndetached (s : ℕ) (fails : Fails) (vol plex : ℕ) (c d : Config) (w new : MissedNote) : Type 0 where
   pub known : StayKnown (FailedIn s fails) InNoVolume (InVolume vol) (map_disk c) w new
-  pub written : MapsWritten (length c.volumes) (takes_part c) (takes_part d) no_plex none_missed w new
+  pub written : MapsWritten (length c.volumes) (takes_part c) (takes_part d) (refused_anew vol plex) none_missed w new
 
 -- a write was done
 pub record MapsOfWrite (s : ℕ) (fails : Fails) (x : Write) (c d : Config) (w new : MissedNote) : Type 0 where

@@ -10,7 +10,7 @@ use Rattle.vx_disk.specs.Shelf.{Meaning}
 use Rattle.vx_history.specs.Groups.{MissedNote}
 use Rattle.vx_history.specs.MapChanges.{InNoVolume, InVolume, MapsGone, MapsWritten, StayKnown}
 use Rattle.vx_group.specs.Attaches.{copied_regions}
-use Rattle.vx_history.specs.Missing.{CopiesMissed, each_anew, in_write, missed_then, no_plex, none_missed, one_anew, perhaps_then}
+use Rattle.vx_history.specs.Missing.{CopiesMissed, each_anew, in_write, missed_then, no_plex, none_missed, one_anew, perhaps_then, refused_anew}
 use Rattle.vx_kept.specs.Choice.{live, live_or}
 use Rattle.vx_kept.specs.Cleans.{at_serial}
 use Rattle.vx_layout.specs.Places.{plex_at}
@@ -113,8 +113,8 @@ module _ (s many : ℕ) (fails : Fails) (o e : Meaning) (names : Names s many fa
   pub det_named : (vol plex : ℕ) → DetMapsDone vol plex o e c d w next → MapsDetached s fails vol plex (at_serial 0 c) (at_serial 0 d) w next
   det_named vol plex it = record { known = known_named s many fails o e names c low w next InNoVolume (InVolume vol) it.known; written = written_to (one_anew w vol plex) none_missed it.written }
 
-  pub undet_named : (vol : ℕ) → DetMapsFailed vol o e c d w next → MapsUndetached s fails vol (at_serial 0 c) (at_serial 0 d) w next
-  undet_named vol it = record { known = known_named s many fails o e names c low w next InNoVolume (InVolume vol) it.known; written = written_to no_plex none_missed it.written }
+  pub undet_named : (vol plex : ℕ) → DetMapsFailed vol plex o e c d w next → MapsUndetached s fails vol plex (at_serial 0 c) (at_serial 0 d) w next
+  undet_named vol plex it = record { known = known_named s many fails o e names c low w next InNoVolume (InVolume vol) it.known; written = written_to (refused_anew vol plex) none_missed it.written }
 
   pub att_named : (vol plex : ℕ) → AttMaps vol plex o e c d w next → MapsAttached s fails vol plex (at_serial 0 c) (at_serial 0 d) w next
   att_named vol plex it = record {

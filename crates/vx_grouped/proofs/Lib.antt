@@ -49,6 +49,7 @@ pub mod DiskMapLemmas
 pub mod WrittenMapLemmas
 pub mod SiteMapLemmas
 pub mod MoreMapLemmas
+pub mod RefusedMapLemmas
 pub mod BackMapLemmas
 pub mod PlainMapLemmas
 pub mod UpMapLemmas

@@ -1,5 +1,5 @@
 -- What a detach and an attach of a plex make of what is noted of the maps of a group.
-use Rattle.std.proofs.Common.{◌≡◌, ◌∙◌, ◌<◌, inl, inr, ℕ, Bool, true, false, List, length, refl, sym, ap, IsTrue, Result, Ok, Err, IfOk, ◌||◌}
+use Rattle.std.proofs.Common.{◌≡◌, ◌⊎◌, ◌∙◌, ◌<◌, inl, inr, ℕ, Bool, true, false, List, length, refl, sym, ap, IsTrue, Result, Ok, Err, IfErr, IfOk, ◌||◌}
 use Rattle.std.specs.Prelude.{None, Option, Some, if◌then◌else◌, nat_le}
 use Rattle.std.proofs.lemmas.Bool.{cases_lt, le-leb}
 use Rattle.vx_config.specs.Checks.{blocks_of, plexes_of}
@@ -16,7 +16,8 @@ use Rattle.vx_grouplogs.proofs.LogShape.{same_count}
 use Rattle.vx_history.specs.Groups.{GroupNode}
 use Rattle.vx_history.specs.World.{Node}
 use Rattle.vx_kept.specs.Keeping.{frame_at}
-use Rattle.vx_loggroup.specs.Attaching.{leaves_maps, map_by, maps_gone}
+use Rattle.vx_loggroup.specs.Attaching.{fmr_at, leaves_maps, map_by, maps_gone}
+use Rattle.vx_loggroup.specs.Detaching.{MapIsEmpty}
 use Rattle.vx_loggroup.specs.LoggedVolumes.{is_alike}
 use Rattle.vx_loggroup.specs.Moving.{MapsBeginIn, MapsEnd, MapsMove, MovesDet, goes_by, in_none, no_volume, only_volume, MovesAtt}
 use Rattle.vx_logs.specs.declared.logs.Logs.{Logs}
@@ -33,6 +34,7 @@ use Rattle.vx_grouped.specs.SiteMaps.{MapsLike, MapsQuiet}
 use Rattle.vx_grouped.proofs.CountedLemmas.{copies_all, copies_noted}
 use Rattle.vx_grouped.proofs.MoreMapLemmas.{undet_goes}
 use Rattle.vx_grouped.proofs.PlainMapLemmas.{rack_rose}
+use Rattle.vx_grouped.proofs.RefusedMapLemmas.{or_second, refused_move}
 use Rattle.vx_grouped.proofs.SiteMapLemmas.{det_goes, like_goes, att_goes}
 use Rattle.vx_grouped.proofs.StayPartLemmas.{quiet_test}
 use Rattle.vx_grouped.proofs.MapStandLemmas.{volume_there}
@@ -89,16 +91,21 @@ module _ (c d : GroupCore) (l k : List Logs) (s t : Bool) (a b : List Bool) (m m
   -- a plex is detached
   pub det_parts : (vol plex : ℕ) (r : Result (Unit {0}) Stop) → MapsBeginIn (only_volume vol) c.inner.config d.inner.config s t l k → (s ≡ false → MovesDet c.inner.config d.inner.config vol plex (is_alike a vol) l k r)
       → ((no : No) → det_refusal c.inner.config vol plex ≡ Some no → r ≡ Err (Refused no)) → ((no : No) → det_refusal c.inner.config vol plex ≡ Some no → PartsStay (map_parts c.inner.config l a s) (map_parts d.inner.config k b t))
-      → (det_refusal c.inner.config vol plex ≡ None → DetStops m m' r) → DetsMaps vol plex (map_parts c.inner.config l a s) m (map_parts d.inner.config k b t) m' r
-  det_parts vol plex (Ok done) begins moves refused stays cause = record {
+      → (det_refusal c.inner.config vol plex ≡ None → DetStops m m' r)
+      → IfErr r (λ stop. IsTrue m'.down ⊎ (active d.inner.config vol plex ≡ active c.inner.config vol plex) ⊎ MapIsEmpty c.inner.config vol plex (fmr_at k vol)) → DetsMaps vol plex (map_parts c.inner.config l a s) m (map_parts d.inner.config k b t) m' r
+  det_parts vol plex (Ok done) begins moves refused stays cause left = record {
     so = λ w up noted.
         det_goes w c.inner.config d.inner.config l k s t a b m m' noted (narrow_on c m one) (narrow_on d m' two) same many up (rack_rose m m' was now) ends vol plex begins (λ off. moves (going_on off))
         (det_there c.inner.config vol plex (none_by (det_refusal c.inner.config vol plex) done refused)) alike;
   }
-  det_parts vol plex (Err stop) begins moves refused stays cause = (
+  det_parts vol plex (Err stop) begins moves refused stays cause left = (
     record {
       so = λ w up noted.
-          undet_goes w c.inner.config d.inner.config l k s t a b m m' noted (narrow_on c m one) (narrow_on d m' two) same up (rack_rose m m' was now) ends (λ off. moves (going_on off)) vol begins many alike;
+          undet_goes w c.inner.config d.inner.config l k s t a b m m' noted (narrow_on c m one) (narrow_on d m' two) same up (rack_rose m m' was now) ends (λ off. moves (going_on off)) vol plex
+          (λ off.
+          refused_move c.inner.config d.inner.config vol plex l k
+          (or_second (IsTrue m'.down) ((active d.inner.config vol plex ≡ active c.inner.config vol plex) ⊎ MapIsEmpty c.inner.config vol plex (fmr_at k vol)) up left) (moves (going_on off)))
+          begins many alike;
     },
     quiet_stop (Unit {0}) (PartsStay (map_parts c.inner.config l a s) (map_parts d.inner.config k b t)) m m' (det_refusal c.inner.config vol plex) stop stays cause,
   )

@@ -54,7 +54,7 @@ WritesMaps own x m y m' (Err why) = PartsMoved (DoubtMaps own m m') x y m'
 
 abbrev pub DetsMaps : (vol plex : ℕ) → MapParts → Meaning → MapParts → Meaning → Result (Unit {0}) Stop → Type 0
 DetsMaps vol plex x m y m' (Ok done) = PartsMoved (DetMapsDone vol plex m m') x y m'
-DetsMaps vol plex x m y m' (Err stop) = RefusedMaps (DetMapsFailed vol m m') stop x y m'
+DetsMaps vol plex x m y m' (Err stop) = RefusedMaps (DetMapsFailed vol plex m m') stop x y m'
 
 -- an attach: so many regions are copied
 abbrev pub AttsMaps : (vol plex : ℕ) → MapParts → Meaning → MapParts → Meaning → Result ℕ Stop → Type 0

@@ -12,7 +12,7 @@ use Rattle.vx_disk.specs.Shelf.{Each, Image, Meaning}
 use Rattle.vx_disk.specs.declared.shelf.Shelf.{Ghosts}
 use Rattle.vx_history.specs.Groups.{GroupNode, MissedNote}
 use Rattle.vx_history.specs.MapChanges.{InNoVolume, InVolume, MapsBack, MapsFailed, MapsJoined, MapsWritten, StayKnown}
-use Rattle.vx_history.specs.Missing.{each_anew, in_write, no_plex, none_missed, one_anew}
+use Rattle.vx_history.specs.Missing.{each_anew, in_write, no_plex, none_missed, one_anew, refused_anew}
 use Rattle.vx_kept.specs.Choice.{live}
 use Rattle.vx_kept.specs.Cleans.{at_serial}
 use Rattle.vx_kept.specs.Groups.{found}
@@ -101,8 +101,8 @@ pub record DetMaps (anew : MissedNote → ℕ → ℕ → Bool) (vol : ℕ) (old
 abbrev pub DetMapsDone : (vol plex : ℕ) → Meaning → Meaning → Config → Config → MissedNote → MissedNote → Type 0
 DetMapsDone vol plex old new c d = DetMaps (λ w. one_anew w vol plex) vol old new c d
 
-abbrev pub DetMapsFailed : (vol : ℕ) → Meaning → Meaning → Config → Config → MissedNote → MissedNote → Type 0
-DetMapsFailed vol old new c d = DetMaps (λ w. no_plex) vol old new c d
+abbrev pub DetMapsFailed : (vol plex : ℕ) → Meaning → Meaning → Config → Config → MissedNote → MissedNote → Type 0
+DetMapsFailed vol plex old new c d = DetMaps (λ w. refused_anew vol plex) vol old new c d
 
 -- a plex was attached
 pub record AttMaps (vol plex : ℕ) (old new : Meaning) (c d : Config) (w next : MissedNote) : Type 0 where
@@ -188,7 +188,7 @@ module _ {R : Type 0} {g : Ghosts R} where
 
   abbrev pub DetMapped : (vol plex : ℕ) → GroupSite R g → GroupSite R g → Result (Unit {0}) Stop → Type 0
   DetMapped vol plex old new (Ok done) = UpMaps (DetMapsDone vol plex) old new
-  DetMapped vol plex old new (Err stop) = UpMaps (DetMapsFailed vol) old new × MapsQuiet stop (StaysMapped old new)
+  DetMapped vol plex old new (Err stop) = UpMaps (DetMapsFailed vol plex) old new × MapsQuiet stop (StaysMapped old new)
 
   -- and so many regions are copied
   abbrev pub AttMapped : (vol plex : ℕ) → GroupSite R g → GroupSite R g → Result ℕ Stop → Type 0

@@ -29,6 +29,10 @@ each_anew w vol v p = this_volume vol v && not (w.doubt v)
 abbrev pub one_anew : MissedNote → (vol plex : ℕ) → ℕ → ℕ → Bool
 one_anew w vol plex v p = this_volume vol v && (p == plex && not (w.doubt v))
 
+-- this plex of it, as its detach is refused: it takes part as it did, or its map begins anew
+abbrev pub refused_anew : (vol plex : ℕ) → ℕ → ℕ → Bool
+refused_anew vol plex v p = this_volume vol v && (p == plex)
+
 -- ---- one call: `was` says which plexes took part before it, `now` which do behind it
 
 -- a plex took part, and does no more
