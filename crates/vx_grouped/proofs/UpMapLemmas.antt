@@ -1,5 +1,5 @@
 -- What calls of a group that is up make of what its site notes of its maps.
-use Rattle.std.proofs.Common.{◌≡◌, ◌∙◌, ℕ, ap, refl, sym, subst, false, IsTrue}
+use Rattle.std.proofs.Common.{◌≡◌, ◌∙◌, ℕ, ap, refl, sym, subst, false, true, IsTrue}
 use Rattle.std.specs.Prelude.{None, Some, Err, Ok}
 use Rattle.vx_config.specs.declared.config.Config.{Config}
 use Rattle.vx_disk.specs.Shelf.{Meaning}
