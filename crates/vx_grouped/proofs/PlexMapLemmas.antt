@@ -42,8 +42,8 @@ use Rattle.vx_grouped.proofs.MapStandLemmas.{volume_there}
 -- ---- what is there, where nothing is refused
 
 first_no : (x : Bool) (no : No) (rest : Option No) → (if x then Some no else rest) ≡ None → x ≡ false
-first_no true no rest is = absurd (let clash : Some no ≡ None = is in cc)
-first_no false no rest is = refl
+first_no true which rest is = absurd (let clash : Some which ≡ None = is in cc)
+first_no false which rest is = refl
 
 less_of : (n k : ℕ) → nat_le n k ≡ false → k < n
 less_of n k is = elim (cases_lt k n) [ inl lt ↦ lt | inr le ↦ absurd (let clash : true ≡ false = sym (le-leb n k le) ∙ is in cc) ]
@@ -53,7 +53,7 @@ det_there c v p none = less_of (length c.volumes) v (first_no (nat_le (length c.
 
 none_by : {T : Type 0} (o : Option No) (x : T) → ((no : No) → o ≡ Some no → Ok x ≡ Err (Refused no)) → o ≡ None
 none_by None x refused = refl
-none_by (Some no) x refused = absurd (let clash : Ok x ≡ Err (Refused no) = refused no refl in cc)
+none_by (Some which) x refused = absurd (let clash : Ok x ≡ Err (Refused which) = refused which refl in cc)
 
 pub ok_each : {T E : Type 0} {P Q : T → Type 0} (r : Result T E) → ((x : T) → P x → Q x) → IfOk r P → IfOk r Q
 ok_each (Ok x) more it = more x it
@@ -63,7 +63,7 @@ ok_each (Err e) more it = tt
 quiet_stop : (T P : Type 0) (m m' : Meaning) (o : Option No) (stop : Stop) → ((no : No) → o ≡ Some no → P) → (o ≡ None → DetStops {T = T} m m' (Err stop)) → MapsQuiet stop P
 quiet_stop T P m m' o (Refused why) stays cause = quiet_test P m m' o why stays cause
 quiet_stop T P m m' None OutOfMemory stays cause = absurd (cause refl)
-quiet_stop T P m m' (Some no) OutOfMemory stays cause = stays no refl
+quiet_stop T P m m' (Some which) OutOfMemory stays cause = stays which refl
 
 first_off : (x y : Bool) → (x || y) ≡ false → x ≡ false
 first_off true y is = let clash : true ≡ false = is in cc

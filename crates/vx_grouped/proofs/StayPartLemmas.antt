@@ -97,7 +97,7 @@ quiet_cause P m m' other cause = absurd cause
 -- by a test that refuses
 pub quiet_test : (P : Type 0) (m m' : Meaning) (o : Option No) (why : No) → ((no : No) → o ≡ Some no → P) → (o ≡ None → DeviceCause m m' why) → MapsQuiet (Refused why) P
 quiet_test P m m' None why stays cause = quiet_cause P m m' why (cause refl)
-quiet_test P m m' (Some no) why stays cause = quiet_any P (Refused why) (stays no refl)
+quiet_test P m m' (Some which) why stays cause = quiet_any P (Refused why) (stays which refl)
 
 pub quiet_unmoved : (A P : Type 0) (stop : Stop) → (A → P) → Unmoved {T = ℕ} (Err stop) A → MapsQuiet stop P
 quiet_unmoved A P (Refused (Device disk)) f it = tt
