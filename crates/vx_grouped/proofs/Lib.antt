@@ -50,6 +50,7 @@ pub mod WrittenMapLemmas
 pub mod SiteMapLemmas
 pub mod MoreMapLemmas
 pub mod RefusedMapLemmas
+pub mod DoubtedMapLemmas
 pub mod BackMapLemmas
 pub mod PlainMapLemmas
 pub mod UpMapLemmas

@@ -83,10 +83,14 @@ again_1 = refl
 again_none : failed_again.perhaps 0 1 1 ≡ false
 again_none = refl
 
--- ---- behind a write that failed any plex may have missed its regions, and what was left in the map of one that is detached stays
+-- ---- behind a write that failed any plex may have missed its regions, and the map of one that is detached does not begin anew; but what was left in it before the
+-- first such write is gone
 
 refused : MissedNote
-refused = maps_doubted (this_volume 0) 9 both both 0 (in_write (block_at 200)) attached
+refused = maps_doubted (this_volume 0) 9 both both 0 true (in_write (block_at 200)) attached
+
+refused_1 : refused.missed 0 1 1 ≡ false
+refused_1 = refl
 
 perhaps_3 : refused.perhaps 0 1 3 ≡ true
 perhaps_3 = refl
@@ -100,8 +104,30 @@ off_none = refl
 off_perhaps : off.perhaps 0 1 3 ≡ true
 off_perhaps = refl
 
-off_left : off.perhaps 0 1 1 ≡ true
+off_left : off.perhaps 0 1 1 ≡ false
 off_left = refl
+
+-- one that fails behind it leaves what the maps have
+
+refused_again : MissedNote
+refused_again = maps_doubted (this_volume 0) 9 both both 0 true (in_write (block_at 10)) refused
+
+again_0_perhaps : refused_again.perhaps 0 1 0 ≡ true
+again_0_perhaps = refl
+
+again_3_perhaps : refused_again.perhaps 0 1 3 ≡ true
+again_3_perhaps = refl
+
+-- and so does one behind which no copies may differ
+
+unflushed : MissedNote
+unflushed = maps_doubted (this_volume 0) 9 both both 0 false (in_write (block_at 200)) attached
+
+unflushed_1 : unflushed.missed 0 1 1 ≡ true
+unflushed_1 = refl
+
+unflushed_doubt : unflushed.doubt 0 ≡ false
+unflushed_doubt = refl
 
 -- ---- a detach of a volume of which no write failed begins the map anew
 
