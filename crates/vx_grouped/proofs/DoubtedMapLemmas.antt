@@ -1,9 +1,9 @@
 -- The maps of plexes that were ACTIVE, behind a write that was refused and left copies that may differ: they have the regions of the write alone.
 use Rattle.std.proofs.Common.{◌≡◌, ◌∙◌, ◌<◌, ◌≤◌, ◌*◌, ℕ, Bool, true, false, List, ap, subst, arith}
 use Rattle.std.specs.Int.{div_ceil}
+use Rattle.std.specs.Prelude.{Some}
 use Rattle.vx_config.specs.Checks.{blocks_of, plexes_of}
 use Rattle.vx_config.specs.declared.config.Config.{Config}
-use Rattle.std.specs.Prelude.{Some}
 use Rattle.vx_disk.specs.Shelf.{Meaning}
 use Rattle.vx_fmr.specs.Missed.{Missed, has_missed}
 use Rattle.vx_group.specs.Holding.{wide}
