@@ -2,7 +2,7 @@
 use crate::misses::{Disks, MAPPED, att, group_of, is_active, is_lost, put};
 use std::alloc::Global;
 use std::test::*;
-use vx_disk::{Rack, Shelf};
+use vx_disk::{MemShelf, Rack, Shelf};
 use vx_group::Group;
 use vx_group_rows::Untold;
 use vx_loggroup::LoggedGroup;
@@ -113,6 +113,14 @@ fn lost_in(
     Ok(None)
 }
 
+// The group that an import without logs gives.
+fn brought(alloc: Global, disks: MemShelf) -> Option<Group<Disks>> {
+    match Group::import(alloc, Untold { shelf: disks }) {
+        Ok(group) => Some(group),
+        Err(_) => None,
+    }
+}
+
 // Whether the map is held as lost by the configuration that a crash of the group leaves.
 fn lost_behind(alloc: Global, group: LoggedGroup<Disks>) -> Option<bool> {
     let (shelf, _rest) = group.apart();
@@ -121,9 +129,9 @@ fn lost_behind(alloc: Global, group: LoggedGroup<Disks>) -> Option<bool> {
     if disks.is_down() {
         disks.revive();
     }
-    match Group::import(alloc, Untold { shelf: disks }) {
-        Ok(group) => is_lost(group.config()),
-        Err(_) => None,
+    match brought(alloc, disks) {
+        Some(group) => is_lost(group.config()),
+        None => None,
     }
 }
 
