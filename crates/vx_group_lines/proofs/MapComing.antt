@@ -1,5 +1,5 @@
 -- How what is noted of the maps of a site's group goes on as the group comes up from its disks, or is refused.
-use Rattle.std.proofs.Common.{◌≡◌, ◌∙◌, Bool, true, false, refl, subst, sym, IsTrue}
+use Rattle.std.proofs.Common.{◌≡◌, ◌∙◌, Bool, true, false, refl, sym, IsTrue}
 use Rattle.std.specs.Prelude.{◌||◌, not, None, Some, Ok, Err}
 use Rattle.vx_model.specs.declared.errors.Stop.{Stop}
 use Rattle.vx_config.specs.Configs.{HasSpelling}

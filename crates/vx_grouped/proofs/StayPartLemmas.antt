@@ -21,7 +21,7 @@ use Rattle.vx_model.specs.declared.errors.Stop.TheVariants.{No as Refused, OutOf
 use Rattle.vx_model.specs.declared.no.No.{No}
 use Rattle.vx_model.specs.declared.no.No.TheVariants.{Device, Down as IsOff}
 use Rattle.vx_grouped.specs.MapsNoted.{MapsNoted}
-use Rattle.vx_grouped.specs.PlainMaps.{MapParts, PartsStay, laid_parts, map_parts}
+use Rattle.vx_grouped.specs.PlainMaps.{PartsStay, laid_parts, map_parts}
 use Rattle.vx_grouped.specs.SiteEnds.{stops_down}
 use Rattle.vx_grouped.specs.SiteMaps.{MapsQuiet, StaysMapped}
 use Rattle.vx_grouped.specs.declared.group_site.GroupSite.TheVariants.{Up}
