@@ -1,9 +1,9 @@
 -- The fuse of the disks of a site.
 use Rattle.std.specs.Prelude.{◌≡◌, ◌≤◌, ℕ, Option, Some, None, List}
 use Rattle.vx_model.specs.Content.{Write}
+use Rattle.vx_history.specs.Events.{logged_blocks}
 use Rattle.vx_history.specs.World.{Fuse, NoFuse, FuseSet, FuseLit}
 use Rattle.vx_srl.specs.Views.{Log, widths}
-use Rattle.vx_events.specs.Fuses.{ring_taken}
 
 -- a fuse is set, with at most so many calls left
 abbrev pub HasLeft : ℕ → Option (ℕ × ℕ) → Type 0
@@ -19,4 +19,4 @@ LeftAs (FuseLit most) f = HasLeft most f
 -- a log that holds these writes, from the beginning of its ring on
 pub record IsFirstLog (l : Log) (xs : List Write) : Type 0 where
   pub place : l.header.place ≡ 0
-  pub widths_are : widths l.held ≡ ring_taken xs
+  pub widths_are : widths l.held ≡ logged_blocks xs

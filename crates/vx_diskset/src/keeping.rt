@@ -16,8 +16,8 @@ ghost use Rattle.vx_diskset.specs.Keeps.{CanKeep, KeptAt, KeptUp, done_by};
 ghost use Rattle.vx_diskset.specs.Stands.{KeepsRole, SiteStands};
 
 use crate::DiskSet;
-use crate::writing::is_off;
 use vx_disk::Rack;
+use vx_grouped::is_off;
 use vx_model::{No, State};
 use vx_rvg::Rvg;
 

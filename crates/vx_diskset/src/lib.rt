@@ -23,4 +23,3 @@ pub use group_set::{CutWrite, GroupSet, KeptWrite};
 pub use reading::blocks_of;
 pub use receivers::Reached;
 pub use units::can_be_raw;
-pub use writing::is_off;
