@@ -3,6 +3,7 @@ pub mod GoodLemmas
 pub mod GroupLemmas
 pub mod Places
 pub mod Updates
+pub mod MissedRows
 pub mod States
 pub mod Fuses
 pub mod Behind
