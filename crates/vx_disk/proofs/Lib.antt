@@ -9,7 +9,9 @@ pub mod Fits
 pub mod Flags
 mod Kept
 pub mod Moving
+pub mod Naming
 pub mod Pasts
 pub mod Runs
 pub mod Same
+pub mod Spending
 pub mod Stops

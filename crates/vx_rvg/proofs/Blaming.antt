@@ -3,14 +3,14 @@ use Rattle.std.proofs.Common.{◌≡◌, ◌∙◌, ◌<◌, ℕ, List, Bool, tr
 use Rattle.std.specs.Prelude.{IfErr, IsSome, OnOk, Option, Some, None, Result, Ok, Err}
 use Rattle.vx_model.specs.declared.no.No.{No}
 use Rattle.vx_model.specs.declared.no.No.TheVariants.{Device}
-use Rattle.vx_disk.specs.Causes.{Names, WithDisks, Works, refusal_of}
+use Rattle.vx_disk.specs.Causes.{BlamesUnit, Names, WithDisks, Works, refusal_of}
 use Rattle.vx_disk.specs.Disks.{Disks}
 use Rattle.vx_disk.specs.Shelf.{Meaning}
 use Rattle.vx_disk.specs.declared.shelf.ShelfError.{ShelfError}
 use Rattle.vx_disk.specs.declared.shelf.ShelfError.TheVariants.{Fault, Down}
-use Rattle.vx_ringio.specs.Spends.{Spends}
-use Rattle.vx_ringio.proofs.Spending.{works_since}
-use Rattle.vx_srl.specs.Causes.{BlamesLog, BlamesUnit}
+use Rattle.vx_disk.specs.Spends.{Spends}
+use Rattle.vx_disk.proofs.Spending.{works_since}
+use Rattle.vx_srl.specs.Causes.{BlamesLog}
 use Rattle.vx_srl.specs.Views.{Log}
 use Rattle.vx_srl.specs.declared.errors.SrlNo.{SrlNo}
 use Rattle.vx_srl.specs.declared.errors.SrlNo.TheVariants.{NoRoom, Other, Overrun}

@@ -2,7 +2,7 @@
 ghost use Rattle.std.specs.Prelude.{◌≡◌, ◌+◌, ◌<◌, ◌≤◌, ℕ, length, Some, None, IsTrue, IsFalse, IfErr, IfOk, OnOk, IsSome};
 ghost use Rattle.vx_disk.specs.Causes.{Works, refusal_of};
 ghost use Rattle.vx_disk.specs.Moves.{Moves, Anything, Nowhere};
-ghost use Rattle.vx_ringio.specs.Spends.{Spends};
+ghost use Rattle.vx_disk.specs.Spends.{Spends};
 ghost use Rattle.vx_rvg.specs.Brings.{Brings, BringsOne, VolumesFlushed};
 ghost use Rattle.vx_rvg.specs.Groups.{halted_or, applied_through, ApplyIs, BlamesVolumes, IsNoFault};
 ghost use Rattle.vx_rvg.specs.Stands.{Resting, Rests};

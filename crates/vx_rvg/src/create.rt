@@ -6,7 +6,7 @@ ghost use Rattle.vx_model.specs.Content.{Content};
 ghost use Rattle.vx_model.specs.Sizes.{ring_of};
 ghost use Rattle.vx_model.specs.declared.errors.Stop.TheVariants.{No as Refused};
 ghost use Rattle.vx_model.specs.declared.no.No.TheVariants.{Size};
-ghost use Rattle.vx_ringio.specs.Spends.{Spends};
+ghost use Rattle.vx_disk.specs.Spends.{Spends};
 ghost use Rattle.vx_rvg.specs.Groups.{new_core, MakeCause};
 ghost use Rattle.vx_rvg.specs.Holdings.{nothing_logged};
 ghost use Rattle.vx_rvg.specs.Stands.{HoldsContent, Stands};

@@ -1,19 +1,18 @@
 // A replicated volume group: what it answers, and its reads and writes.
 ghost use Rattle.std.specs.Prelude.{◌≡◌, ◌+◌, ◌-◌, ◌<◌, ◌≤◌, ◌%◌, [], ◌∷◌, length, drop, Some, None, IsTrue, IfErr, IsFalse, OnOk, IsSome};
-ghost use Rattle.vx_disk.specs.Causes.{OnDisks, Works};
+ghost use Rattle.vx_disk.specs.Causes.{BlamesUnit, OnDisks, Works};
 ghost use Rattle.vx_disk.specs.Disks.{Untouched};
 ghost use Rattle.vx_disk.specs.Moves.{Moves, Run};
 ghost use Rattle.vx_disk.specs.Shelf.{Goes, Nothing};
 ghost use Rattle.vx_model.specs.Content.{Write, blocks_in};
 ghost use Rattle.vx_ringio.specs.Bodies.{IsBlocks};
 ghost use Rattle.vx_disk.specs.Burns.{FallsShort, MakesCalls};
-ghost use Rattle.vx_ringio.specs.Spends.{MakesAtLeast, Spends};
+ghost use Rattle.vx_disk.specs.Spends.{MakesAtLeast, Spends};
 ghost use Rattle.vx_rvg.specs.Contents.{ShowsContent};
 ghost use Rattle.vx_rvg.specs.Groups.{has_numbers, write_refusal, read_refusal, WriteIs, ReadIs};
 ghost use Rattle.vx_rvg.specs.Holdings.{Holding, blocks_taken, with_writes};
 ghost use Rattle.vx_rvg.specs.Stands.{Stands, Writing};
 ghost use Rattle.vx_rvg.specs.Views.{IsSound, unit_of, last_of};
-ghost use Rattle.vx_srl.specs.Causes.{BlamesUnit};
 ghost use Rattle.vx_srl.specs.Views.{BodyFits, free_of, blocks_needed, next_of, blocks_above};
 ghost use Rattle.vx_srlfmt.specs.Headers.{CanSpellState};
 

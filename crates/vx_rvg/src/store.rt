@@ -4,7 +4,7 @@ ghost use Rattle.vx_disk.specs.Causes.{Cause};
 ghost use Rattle.vx_disk.specs.Moves.{Moves, Run};
 ghost use Rattle.vx_disk.specs.Shelf.{Fits, Goes, KeepsAll, Written};
 ghost use Rattle.vx_model.specs.Content.{blocks_in};
-ghost use Rattle.vx_ringio.specs.Spends.{Spends};
+ghost use Rattle.vx_disk.specs.Spends.{Spends};
 ghost use Rattle.vx_rvg.specs.Saves.{reclaim_refusal};
 ghost use Rattle.vx_rvg.specs.Stores.{AreBlocks, Puts, PutsInto, Putting, StoreIs, StoresInto, Storing, store_blocks, store_refusal};
 ghost use Rattle.vx_rvg.specs.Views.{IsSound, last_of, unit_of, volume_size};

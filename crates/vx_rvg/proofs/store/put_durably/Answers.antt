@@ -1,7 +1,7 @@
 -- A write and a flush.
 use Rattle.std.proofs.lemmas.Result.{on_ok_weaker}
 use Rattle.vx_disk.proofs.Runs.{flush_KeepsAll, then_nothing, wrote_HoldsAll}
-use Rattle.vx_ringio.proofs.Spending.{spends_flush, spends_write, then_spends}
+use Rattle.vx_disk.proofs.Spending.{spends_flush, spends_write, then_spends}
 use Rattle.vx_rvg.proofs.store.put_durably.Goals as goal
 
 pub returns-clause-goes : goal.returns-clause-goes

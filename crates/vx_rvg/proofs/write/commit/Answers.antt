@@ -1,6 +1,6 @@
 -- The group behind a write that is staged and sealed.
 use Rattle.std.proofs.Common.{length, ◌∙◌, ap}
-use Rattle.vx_ringio.proofs.Spending.{then_spends}
+use Rattle.vx_disk.proofs.Spending.{then_spends}
 use Rattle.vx_rvg.specs.Views.{Core}
 use Rattle.vx_rvg.proofs.Blaming.{staged_place, unit_since}
 use Rattle.vx_rvg.specs.Commits.{number_refusal}

@@ -2,7 +2,7 @@
 use Rattle.std.proofs.Common.{arith, ap, ◌∙◌}
 use Rattle.vx_rvg.specs.Starts.{Room}
 use Rattle.vx_rvg.proofs.StartStands.{all_moves, fill_stops, group_sound, group_started, log_moves, log_stops}
-use Rattle.vx_ringio.proofs.Spending.{then_spends}
+use Rattle.vx_disk.proofs.Spending.{then_spends}
 use Rattle.vx_rvg.proofs.WriteSound.{moved_sizes, placed_same}
 use Rattle.vx_rvg.proofs.group.Rvg.start_in.Goals as goal
 
