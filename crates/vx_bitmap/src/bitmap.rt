@@ -79,6 +79,7 @@ impl Bitmap {
         requires within { first + length bytes.items / BLOCK ≤ (S.meaning shelf.old).size unit }
         requires up { IsFalse (S.meaning shelf.old).down }
         ensures loaded { IfOk result (λ map. LoadedIn unit first (length bytes.items) map) }
+        ensures lies { IfOk result (λ map. Lies map (S.meaning shelf.new)) }
         ensures read { IfOk result (λ map. IsRead map (S.meaning shelf.old)) }
         ensures stands { IfOk result (λ map. Settled (S.meaning shelf.old) (Run unit first (map_block_count map)) → MapOn map (S.meaning shelf.new)) }
         ensures goes { Goes Nothing (S.meaning shelf.old) (S.meaning shelf.new) }

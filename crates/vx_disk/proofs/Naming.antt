@@ -1,9 +1,12 @@
 -- Which disk a call on a unit of a rack that failed names, behind other calls too.
-use Rattle.std.proofs.Common.{◌≡◌, ℕ, false, true, subst, sym}
+use Rattle.std.proofs.Common.{◌≡◌, ◌∙◌, ℕ, false, true, refl, subst, sym}
 use Rattle.std.specs.Prelude.{IsSome, Option, Some, None, Result, Ok, Err}
 use Rattle.vx_model.specs.declared.no.No.{No}
+use Rattle.vx_model.specs.declared.no.No.TheVariants.{Device}
 use Rattle.vx_disk.specs.Causes.{BlamesUnit, Names, WithDisks, refusal_of}
 use Rattle.vx_disk.specs.Disks.{Disks}
+use Rattle.vx_disk.specs.Shelf.{Meaning}
+use Rattle.vx_disk.specs.Spends.{Spends}
 use Rattle.vx_disk.specs.declared.shelf.ShelfError.{ShelfError}
 use Rattle.vx_disk.specs.declared.shelf.ShelfError.TheVariants.{Fault, Down}
 
@@ -44,3 +47,12 @@ names_exit T U old mid P u unit r error given is same here on names =
     subst (λ (v : ℕ). Names {T = U} old v r) here
     (subst (λ (x : Result U ShelfError). Names {T = U} old u x) (sym is) (subst (λ (e : ShelfError). Names {T = U} old u (Err e)) (sym same) first))
 
+pub some_since : (P : Disks → Disks → Type 0) (old mid : Option Disks) → WithDisks old mid P → IsSome old → IsSome mid
+some_since P None mid on some = absurd (let e : false ≡ true = some in cc)
+some_since P (Some o) None on some = absurd on
+some_since P (Some o) (Some m) on some = refl
+
+-- calls before left the unit where it is
+pub unit_since : (old mid : Meaning) (u unit : ℕ) (why : No) → Spends old mid → u ≡ unit → BlamesUnit mid.disks u why → BlamesUnit old.disks unit why
+unit_since old mid u unit (Device disk) spends here blames = λ some. blames (some_since _ old.disks mid.disks spends.told some) ∙ here
+unit_since old mid u unit other spends here blames = tt
