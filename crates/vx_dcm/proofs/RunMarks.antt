@@ -9,7 +9,7 @@ use Rattle.vx_disk.specs.Shelf.{Meaning}
 use Rattle.vx_disk.proofs.Moving.{wider}
 use Rattle.vx_bitmap.specs.Bits.{AllAre, Between, Changed, is_among, is_marked}
 use Rattle.vx_bitmap.specs.Maps.{Changing, Map, is_marked_in, map_block_count, regions_mapped}
-use Rattle.vx_dcm.specs.Places.{AllOfSlot, AllPlaced, AreMapsKept, HasRegion, IsAmong, IsOfRun, MapChanging, Maps, MapsBetween, OtherMapsSame, SomeChanged, has_mark, map_first, mapped_size, maps_in, region_place, slot_first, slot_last}
+use Rattle.vx_dcm.specs.Places.{AllOfSlot, AllPlaced, AreMapsKept, HasRegion, IsPlaceAmong, IsOfRun, MapChanging, Maps, MapsBetween, OtherMapsSame, SomeChanged, has_mark, map_first, mapped_size, maps_in, region_place, slot_first, slot_last}
 use Rattle.vx_dcm.proofs.Places.{ends_within, in_map, region_within, regions_apart, slot_before}
 
 -- ---- places of a run
@@ -21,7 +21,7 @@ among_of : (start end p : ℕ) → start ≤ p → p ≤ end → is_among start 
 among_of start end p low high = rw (le-leb start p low, le-leb p end high) refl
 
 -- the same in words of places
-some_of : (start end a b : ℕ) → start ≡ a → end ≡ b → (value : Bool) (regions : ℕ) (old new : ℕ → Bool) → Between start end value regions old new → SomeChanged (IsAmong a b) value regions old new
+some_of : (start end a b : ℕ) → start ≡ a → end ≡ b → (value : Bool) (regions : ℕ) (old new : ℕ → Bool) → Between start end value regions old new → SomeChanged (IsPlaceAmong a b) value regions old new
 some_of start end a b from to value regions old new part = record {
   each = λ r low.
       elim (part.each r low) [
@@ -31,13 +31,13 @@ some_of start end a b from to value regions old new part = record {
 }
 
 pub bits_of : (start end a b : ℕ) → start ≡ a → end ≡ b → (value : Bool) (d : Maps) (new : Maps) → Between start end value (regions_mapped d.map) (is_marked d.map.bytes) (is_marked new.map.bytes)
-    → SomeChanged (IsAmong a b) value (regions_mapped d.map) (is_marked d.map.bytes) (is_marked new.map.bytes)
+    → SomeChanged (IsPlaceAmong a b) value (regions_mapped d.map) (is_marked d.map.bytes) (is_marked new.map.bytes)
 bits_of start end a b from to value d new part = some_of start end a b from to value (regions_mapped d.map) (is_marked d.map.bytes) (is_marked new.map.bytes) part
 
 pub moves_of : (start end a b : ℕ) → start ≡ a → end ≡ b → (value : Bool) (map : Map) (m m' : Meaning) → Moves (Run map.unit map.first (map_block_count map)) (Changing map start end value m) m m'
-    → Moves (Run map.unit map.first (map_block_count map)) (MapChanging map (IsAmong a b) value m) m m'
+    → Moves (Run map.unit map.first (map_block_count map)) (MapChanging map (IsPlaceAmong a b) value m) m m'
 moves_of start end a b from to value map m m' moves =
-    wider (Run map.unit map.first (map_block_count map)) (Run map.unit map.first (map_block_count map)) (Changing map start end value m) (MapChanging map (IsAmong a b) value m) m m' moves (λ u b is. is)
+    wider (Run map.unit map.first (map_block_count map)) (Run map.unit map.first (map_block_count map)) (Changing map start end value m) (MapChanging map (IsPlaceAmong a b) value m) m m' moves (λ u b is. is)
     (λ i beside changing. record { each = λ on. some_of start end a b from to value (regions_mapped map) (is_marked map.bytes) (is_marked_in map i) (changing.each on) })
 
 -- what is not otherwise is so

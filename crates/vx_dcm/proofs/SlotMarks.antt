@@ -11,7 +11,7 @@ use Rattle.vx_disk.specs.Shelf.{Image, Meaning}
 use Rattle.vx_disk.proofs.Moving.{goes_on, still}
 use Rattle.vx_bitmap.specs.Bits.{AllAre, bit, is_marked}
 use Rattle.vx_bitmap.specs.Maps.{Lies, MapOn, SamePlace, is_marked_in, map_block_count, regions_mapped}
-use Rattle.vx_dcm.specs.Places.{HasRegion, IsAmong, IsOfRun, IsOfSlots, IsPlaceOfSlots, MapChanging, Maps, MapsBetween, SlotsMarked, SomeChanged, has_mark, map_first, mapped_size, region_place}
+use Rattle.vx_dcm.specs.Places.{HasRegion, IsPlaceAmong, IsOfRun, IsOfSlots, IsPlaceOfSlots, MapChanging, Maps, MapsBetween, SlotsMarked, SomeChanged, has_mark, map_first, mapped_size, region_place}
 use Rattle.vx_dcm.proofs.RunMarks.{before_last, behind_first}
 
 -- the maps of the places below n are done
@@ -63,12 +63,12 @@ region_in d now n v r same low has = record {
 
 module _ (d : Maps) (marks v first last n : ℕ) (now new : Maps) (m mid m' : Meaning) (done : SlotsDone d marks v first last n now m mid) (low : n < 8) (named : bit marks n ≡ true)
     (place : SamePlace now.map new.map) (sizes : new.sizes ≡ now.sizes) (part : MapsBetween (IsOfRun n v first last) true now new)
-    (bits : SomeChanged (IsAmong (region_place now n v first) (region_place now n v last)) true (regions_mapped now.map) (is_marked now.map.bytes) (is_marked new.map.bytes))
-    (moves : Moves (Run now.map.unit now.map.first (map_block_count now.map)) (MapChanging now.map (IsAmong (region_place now n v first) (region_place now n v last)) true mid) mid m') where
+    (bits : SomeChanged (IsPlaceAmong (region_place now n v first) (region_place now n v last)) true (regions_mapped now.map) (is_marked now.map.bytes) (is_marked new.map.bytes))
+    (moves : Moves (Run now.map.unit now.map.first (map_block_count now.map)) (MapChanging now.map (IsPlaceAmong (region_place now n v first) (region_place now n v last)) true mid) mid m') where
   place_as : (r : ℕ) → region_place now n v r ≡ region_place d n v r
   place_as r = ap (λ (xs : List ℕ). 4096 * map_first xs n v + r) done.sizes
 
-  among_as : (r : ℕ) → IsAmong (region_place now n v first) (region_place now n v last) r → IsPlaceOfSlots d marks v first last r
+  among_as : (r : ℕ) → IsPlaceAmong (region_place now n v first) (region_place now n v last) r → IsPlaceOfSlots d marks v first last r
   among_as r among = record {
     slot = n;
     exists = low;
@@ -76,7 +76,7 @@ module _ (d : Maps) (marks v first last n : ℕ) (now new : Maps) (m mid m' : Me
     among = record { low = subst (λ (k : ℕ). k ≤ r) (place_as first) among.low; high = subst (λ (k : ℕ). r ≤ k) (place_as last) among.high };
   }
 
-  bits_then : (x y z : Bool) (r : ℕ) → (y ≡ x) ⊎ (IsPlaceOfSlots d marks v first last r × (y ≡ true)) → (z ≡ y) ⊎ (IsAmong (region_place now n v first) (region_place now n v last) r × (z ≡ true))
+  bits_then : (x y z : Bool) (r : ℕ) → (y ≡ x) ⊎ (IsPlaceOfSlots d marks v first last r × (y ≡ true)) → (z ≡ y) ⊎ (IsPlaceAmong (region_place now n v first) (region_place now n v last) r × (z ≡ true))
       → (z ≡ x) ⊎ (IsPlaceOfSlots d marks v first last r × (z ≡ true))
   bits_then x y z r (inl was) (inl same) = inl (same ∙ was)
   bits_then x y z r (inr set) (inl same) = inr (set.0, same ∙ set.1)
@@ -94,7 +94,7 @@ module _ (d : Maps) (marks v first last n : ℕ) (now new : Maps) (m mid m' : Me
   pub slots_moves : Moves (Run d.map.unit d.map.first (map_block_count d.map)) (MapChanging d.map (IsPlaceOfSlots d marks v first last) true m) m m'
   slots_moves =
       goes_on (Run d.map.unit d.map.first (map_block_count d.map)) (Run now.map.unit now.map.first (map_block_count now.map)) (MapChanging d.map (IsPlaceOfSlots d marks v first last) true m)
-      (MapChanging now.map (IsAmong (region_place now n v first) (region_place now n v last)) true mid) m mid m' done.moves moves
+      (MapChanging now.map (IsPlaceAmong (region_place now n v first) (region_place now n v last)) true mid) m mid m' done.moves moves
       (λ u b run. record { there = run.there ∙ done.place.unit; first = omega (arith, run.first, done.place.first); last = omega (arith, run.last, done.place.first, done.place.long) })
       (λ i beside changing. record {
         each = λ on. record {
@@ -107,8 +107,8 @@ module _ (d : Maps) (marks v first last n : ℕ) (now new : Maps) (m mid m' : Me
       is_marked_at : Image → ℕ → Bool
       is_marked_at i r = is_marked_in d.map i r
 
-      as_here : (i : Image) (r : ℕ) → (is_marked_in now.map i r ≡ is_marked now.map.bytes r) ⊎ (IsAmong (region_place now n v first) (region_place now n v last) r × (is_marked_in now.map i r ≡ true))
-          → (is_marked_in d.map i r ≡ is_marked now.map.bytes r) ⊎ (IsAmong (region_place now n v first) (region_place now n v last) r × (is_marked_in d.map i r ≡ true))
+      as_here : (i : Image) (r : ℕ) → (is_marked_in now.map i r ≡ is_marked now.map.bytes r) ⊎ (IsPlaceAmong (region_place now n v first) (region_place now n v last) r × (is_marked_in now.map i r ≡ true))
+          → (is_marked_in d.map i r ≡ is_marked now.map.bytes r) ⊎ (IsPlaceAmong (region_place now n v first) (region_place now n v last) r × (is_marked_in d.map i r ≡ true))
       as_here i r =
           let here : is_marked_in d.map i r ≡ is_marked_in now.map i r
           = ap (λ (u : ℕ). is_marked (i u (d.map.first + r / 4096)) (r % 4096)) (sym done.place.unit) ∙ ap (λ (f : ℕ). is_marked (i now.map.unit (f + r / 4096)) (r % 4096)) (sym done.place.first) in

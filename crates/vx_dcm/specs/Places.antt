@@ -52,7 +52,7 @@ abbrev pub slot_last : Maps → ℕ → ℕ
 slot_last d slot = slot_first d slot + (MAP_REGIONS * maps_in d.sizes - 1)
 
 -- a place of a run, the first and the last included
-pub record IsAmong (first last r : ℕ) : Type 0 where
+pub record IsPlaceAmong (first last r : ℕ) : Type 0 where
   pub low : first ≤ r
   pub high : r ≤ last
 
@@ -85,7 +85,7 @@ pub record IsPlaceOfSlots (d : Maps) (marks v first last r : ℕ) : Type 0 where
   pub slot : ℕ
   pub exists : slot < LINK_PLACES
   pub named : bit marks slot ≡ true
-  pub among : IsAmong (region_place d slot v first) (region_place d slot v last) r
+  pub among : IsPlaceAmong (region_place d slot v first) (region_place d slot v last) r
 
 -- each of these regions is marked
 pub record SlotsMarked (marks v first last : ℕ) (d : Maps) : Type 0 where

@@ -8,7 +8,7 @@ ghost use Rattle.vx_disk.specs.Moves.{Moves, Run, Settled};
 ghost use Rattle.vx_disk.specs.Shelf.{Goes, Nothing};
 ghost use Rattle.vx_disk.specs.Spends.{Spends};
 ghost use Rattle.vx_dcm.specs.Counts.{left_in as left_in_is, marks_left};
-ghost use Rattle.vx_dcm.specs.Places.{AllOfSlot, AllPlaced, DcmLoaded, HasMap, HasRegion, IsAmong, IsOfRun, IsOfSlots, IsPlaceOfSlots, MapChanging, MapsBetween, MapsFit, OtherMapsSame, SlotsMarked, SomeChanged, has_mark, region_place, mapped_size, slot_first, slot_last};
+ghost use Rattle.vx_dcm.specs.Places.{AllOfSlot, AllPlaced, DcmLoaded, HasMap, HasRegion, IsPlaceAmong, IsOfRun, IsOfSlots, IsPlaceOfSlots, MapChanging, MapsBetween, MapsFit, OtherMapsSame, SlotsMarked, SomeChanged, has_mark, region_place, mapped_size, slot_first, slot_last};
 ghost use Rattle.vx_model.specs.Sizes.{map_blocks as map_blocks_is};
 ghost use Rattle.vx_model.specs.declared.limits.TheConstants.{LINK_PLACES, MAP_REGIONS};
 
@@ -159,9 +159,9 @@ impl Dcm {
         requires lies { Lies self.old.map (S.meaning shelf.old) }
         requires some { first ≤ last }
         requires exists { HasRegion self.old slot vol last }
-        ensures moves { Moves (Run self.old.map.unit self.old.map.first (map_block_count self.old.map)) (MapChanging self.old.map (IsAmong (region_place self.old slot vol first) (region_place self.old slot vol last)) on (S.meaning shelf.old)) (S.meaning shelf.old) (S.meaning shelf.new) }
+        ensures moves { Moves (Run self.old.map.unit self.old.map.first (map_block_count self.old.map)) (MapChanging self.old.map (IsPlaceAmong (region_place self.old slot vol first) (region_place self.old slot vol last)) on (S.meaning shelf.old)) (S.meaning shelf.old) (S.meaning shelf.new) }
         ensures writes { Goes (ChangedAt self.old.map (region_place self.old slot vol first) (region_place self.old slot vol last) on (S.meaning shelf.old)) (S.meaning shelf.old) (S.meaning shelf.new) }
-        ensures bits { SomeChanged (IsAmong (region_place self.old slot vol first) (region_place self.old slot vol last)) on (regions_mapped self.old.map) (is_marked self.old.map.bytes) (is_marked self.new.map.bytes) }
+        ensures bits { SomeChanged (IsPlaceAmong (region_place self.old slot vol first) (region_place self.old slot vol last)) on (regions_mapped self.old.map) (is_marked self.old.map.bytes) (is_marked self.new.map.bytes) }
         ensures stands { OnOk result (MapOn self.old.map (S.meaning shelf.old) → MapOn self.new.map (S.meaning shelf.new)) }
         ensures marked { OnOk result (AllAre first last on (has_mark self.new slot vol)) }
         ensures part { MapsBetween (IsOfRun slot vol first last) on self.old self.new }
@@ -192,7 +192,7 @@ impl Dcm {
     ) -> Result<(), No>
         requires lies { Lies self.old.map (S.meaning shelf.old) }
         requires exists { HasRegion self.old slot vol region }
-        ensures moves { Moves (Run self.old.map.unit self.old.map.first (map_block_count self.old.map)) (MapChanging self.old.map (IsAmong (region_place self.old slot vol region) (region_place self.old slot vol region)) on (S.meaning shelf.old)) (S.meaning shelf.old) (S.meaning shelf.new) }
+        ensures moves { Moves (Run self.old.map.unit self.old.map.first (map_block_count self.old.map)) (MapChanging self.old.map (IsPlaceAmong (region_place self.old slot vol region) (region_place self.old slot vol region)) on (S.meaning shelf.old)) (S.meaning shelf.old) (S.meaning shelf.new) }
         ensures writes { Goes (ChangedAt self.old.map (region_place self.old slot vol region) (region_place self.old slot vol region) on (S.meaning shelf.old)) (S.meaning shelf.old) (S.meaning shelf.new) }
         ensures stands { OnOk result (MapOn self.old.map (S.meaning shelf.old) → MapOn self.new.map (S.meaning shelf.new)) }
         ensures marked { OnOk result (has_mark self.new slot vol region ≡ on) }
@@ -216,7 +216,7 @@ impl Dcm {
     pub fn mark_all<S: Shelf>(&mut self, shelf: &mut S, slot: u32, on: bool) -> Result<(), No>
         requires lies { Lies self.old.map (S.meaning shelf.old) }
         requires exists { slot < LINK_PLACES }
-        ensures moves { Moves (Run self.old.map.unit self.old.map.first (map_block_count self.old.map)) (MapChanging self.old.map (IsAmong (slot_first self.old slot) (slot_last self.old slot)) on (S.meaning shelf.old)) (S.meaning shelf.old) (S.meaning shelf.new) }
+        ensures moves { Moves (Run self.old.map.unit self.old.map.first (map_block_count self.old.map)) (MapChanging self.old.map (IsPlaceAmong (slot_first self.old slot) (slot_last self.old slot)) on (S.meaning shelf.old)) (S.meaning shelf.old) (S.meaning shelf.new) }
         ensures writes { Goes (ChangedAt self.old.map (slot_first self.old slot) (slot_last self.old slot) on (S.meaning shelf.old)) (S.meaning shelf.old) (S.meaning shelf.new) }
         ensures stands { OnOk result (MapOn self.old.map (S.meaning shelf.old) → MapOn self.new.map (S.meaning shelf.new)) }
         ensures marked { OnOk result (AllOfSlot slot on self.new) }

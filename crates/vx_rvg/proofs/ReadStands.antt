@@ -39,7 +39,7 @@ rest_sound core m m' goes sound =
     ended_sound core core.log core.halted m m' (rest_sizes m m' goes) sound (record { unit = refl; ring = refl; header = refl; held = refl })
     (λ running up. sound.idle running (still_up m m' goes up))
 
-keeps_rest : (m m' : Meaning) → Goes Nothing m m' → (u b : ℕ) (y : List ℕ) → Keeps m u b y → Keeps m' u b y
+pub keeps_rest : (m m' : Meaning) → Goes Nothing m m' → (u b : ℕ) (y : List ℕ) → Keeps m u b y → Keeps m' u b y
 keeps_rest m m' goes u b y keeps = record { only = λ v left. keeps.only v (at_rest m u b v (goes.leaves u b v left)) }
 
 keeps_each : (m m' : Meaning) → Goes Nothing m m' → (o : Option (List ℕ)) (u b : ℕ) (y : List ℕ) → MatchOption o (Keeps m u b y) (λ bytes. bytes ≡ y) → MatchOption o (Keeps m' u b y) (λ bytes. bytes ≡ y)
@@ -58,6 +58,7 @@ rest_with staged core m m' goes up h stands = record {
   place = stands.place;
   writes = stands.writes;
   maps = record { size = stands.maps.size ∙ sym (goes.size core.units.maps); each = λ b bytes there. keeps_rest m m' goes core.units.maps b bytes (stands.maps.each b bytes there) };
+  marks = stands.marks;
   ready = record {
     ring = record { is_log = on.is_log; tracks = rest_tracks core.log.unit core.log.ring stands.log.unit m m' goes (λ down. not_down m'.down up down) on.tracks; describes = on.describes };
     idle = stands.ready.idle;
