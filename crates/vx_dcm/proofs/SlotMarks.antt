@@ -1,11 +1,10 @@
 -- A change of a run of regions in the maps of several places of a link, one place after another.
-use Rattle.std.proofs.Common.{◌≡◌, ◌∙◌, ◌⊎◌, inl, inr, ⊎_elim, ℕ, ◌+◌, ◌-◌, ◌*◌, ◌/◌, ◌%◌, ◌<◌, ◌≤◌, Bool, true, false, List, length, IsTrue, refl, sym, ap, subst, arith}
+use Rattle.std.proofs.Common.{◌≡◌, ◌∙◌, ◌⊎◌, inl, inr, ⊎_elim, ℕ, ◌+◌, ◌-◌, ◌*◌, ◌/◌, ◌%◌, ◌<◌, ◌≤◌, Bool, true, false, List, length, refl, sym, ap, subst, arith}
 use Rattle.std.proofs.lemmas.Bool.{cases_eq}
 use Rattle.vx_model.specs.Sizes.{regions_of}
 use Rattle.vx_model.specs.declared.no.No.{No}
 use Rattle.vx_model.specs.declared.no.No.TheVariants.{Device, Down}
 use Rattle.vx_disk.specs.Causes.{DeviceCause}
-use Rattle.vx_disk.specs.Counts.{Rose}
 use Rattle.vx_disk.specs.Moves.{Moves, Run, Says}
 use Rattle.vx_disk.specs.Shelf.{Image, Meaning}
 use Rattle.vx_disk.proofs.Moving.{goes_on, still}

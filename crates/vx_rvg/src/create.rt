@@ -27,7 +27,6 @@ impl<S: Shelf> Rvg<S> {
     ///
     /// Answers 4 exactly where the log's unit has fewer than 8 blocks, and changes nothing then; else 7 where a device call failed,
     /// 6 where the shelf is down, or want of memory. Whatever it refuses, the shelf comes back.
-    #[tactic(none)]
     pub fn create(
         alloc: Global,
         shelf: S,

@@ -1,5 +1,5 @@
 // A replicated volume group: what it answers, and its reads and writes.
-ghost use Rattle.std.specs.Prelude.{◌≡◌, ◌+◌, ◌-◌, ◌<◌, ◌≤◌, ◌%◌, [], ◌∷◌, length, drop, Some, None, IsTrue, IfErr, IsFalse, OnOk, IsSome};
+ghost use Rattle.std.specs.Prelude.{◌≡◌, ◌+◌, ◌-◌, ◌<◌, ◌≤◌, ◌%◌, [], ◌∷◌, length, drop, Some, None, true, IsTrue, IfErr, IsFalse, OnOk, IsSome};
 ghost use Rattle.vx_disk.specs.Causes.{BlamesUnit, OnDisks, Works};
 ghost use Rattle.vx_disk.specs.Disks.{Untouched};
 ghost use Rattle.vx_dcm.specs.Places.{IsOfSlots, MapsBetween};
@@ -45,7 +45,6 @@ impl<S: Shelf> Rvg<S> {
     /// change nothing. 7 where a device call failed: then a start finds the log with the write or without it, with it only where all of its
     /// regions are marked, and the group is halted. 6 where the shelf is down. A rack that was up falls in those four calls only where its
     /// fuse had fewer than four left.
-    #[tactic(none)]
     pub fn write(&mut self, vol: u32, start: u64, bytes: &[u8], marks: u8) -> Result<u64, No>
         requires volume { vol < length self.old.core.units.vols }
         requires blocks { IsBlocks bytes.now }

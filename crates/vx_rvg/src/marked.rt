@@ -1,5 +1,5 @@
 // The logging of a write whose regions are marked first.
-ghost use Rattle.std.specs.Prelude.{◌≡◌, ◌≤◌, ◌<◌, ◌+◌, ◌^◌, [], ◌∷◌, length, None, IfErr, IsFalse, IsSome, OnOk};
+ghost use Rattle.std.specs.Prelude.{◌≡◌, ◌≤◌, ◌<◌, ◌+◌, ◌^◌, [], ◌∷◌, length, None, true, IfErr, IsFalse, IsSome, OnOk};
 ghost use Rattle.vx_dcm.specs.Places.{IsOfSlots, MapsBetween};
 ghost use Rattle.vx_disk.specs.Burns.{FallsShort, MakesCalls};
 ghost use Rattle.vx_disk.specs.Causes.{Works};
@@ -22,7 +22,6 @@ use vx_model::No;
 use vx_model::limits::{BLOCK, REGION};
 
 // The last region of a write.
-#[tactic(none)]
 fn end_region(start: u64, bytes: &[u8]) -> u64
     requires blocks { IsBlocks bytes.now }
     requires end { start + blocks_in bytes.now < 2 ^ 64 }
@@ -32,7 +31,6 @@ fn end_region(start: u64, bytes: &[u8]) -> u64
 }
 
 // Marks the regions of a write, and then logs it.
-#[tactic(none)]
 fn mark_and_commit<S: Shelf>(
     shelf: &mut S,
     core: &mut RvgCore,
@@ -74,7 +72,6 @@ fn mark_and_commit<S: Shelf>(
 }
 
 /// Logs a write whose regions are marked first in the maps of the places that are named.
-#[tactic(none)]
 pub(crate) fn write_marked<S: Shelf>(
     shelf: &mut S,
     core: &mut RvgCore,

@@ -76,7 +76,6 @@ pub(crate) fn commit<S: Shelf>(
 }
 
 /// Logs a write whose regions are marked in no map.
-#[tactic(none)]
 pub(crate) fn write_plain<S: Shelf>(
     shelf: &mut S,
     core: &mut RvgCore,

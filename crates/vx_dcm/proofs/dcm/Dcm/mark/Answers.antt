@@ -1,5 +1,4 @@
 -- A region that a mark changed, and the others.
-use Rattle.std.specs.Prelude.{OnOk}
 use Rattle.std.proofs.lemmas.Result.{on_ok_weaker}
 use Rattle.vx_dcm.proofs.RunMarks.{one_marked, one_stays, one_was, others_stay}
 use Rattle.vx_dcm.proofs.dcm.Dcm.mark.Goals as goal

@@ -25,7 +25,7 @@ load_in-requires-clause-up g c =
 
 pub load_in-requires-clause-room : goal.load_in-requires-clause-room
 load_in-requires-clause-room g c =
-    room_as c.args.units.now _ (g.S.Shelf.meaning c.args.shelf) (g.S.Shelf.meaning c.create.new.shelf) c.in-Ok-create.ensures.moves.size (omega (arith, c.in_default.ensures, c.room_blocks.ensures))
+    room_as c.args.units.now _ (g.S.Shelf.meaning c.args.shelf) (g.S.Shelf.meaning c.create.new.shelf) c.in-Ok-create.ensures.moves.size (omega (arith, c.in-Ok-new.ensures, c.room_blocks.ensures))
 
 pub returns-in-Ok-load_in-clause-stands : goal.returns-in-Ok-load_in-clause-stands
 returns-in-Ok-load_in-clause-stands g c tells content maps holds =
