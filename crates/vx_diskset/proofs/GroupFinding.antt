@@ -104,6 +104,7 @@ module _ {R : Type 0} {g : Ghosts R} where
     bare = it.bare;
     few = it.few;
     some = it.some;
+    maps = it.maps;
   }
 
   pub other_finds : (site : ℕ) (n : Node) → n.state ≡ IsBare → (beside : KeptBeside) (e : DiskSet R g) → SiteStands beside n e → FindsIs site n e e (Err (Refused NoConfig))

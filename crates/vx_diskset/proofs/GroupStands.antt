@@ -106,6 +106,7 @@ module _ (n k : Node) (like : IsLikeGroup n k) where
       state = sym like.state ∙ it.away.state;
       config = it.away.config;
       found = it.away.found;
+      runs = it.away.runs;
       lies = lies_like n k note it.last m like.disks like.blocks it.away.lies;
     };
   }
@@ -133,6 +134,7 @@ module _ (n k : Node) (like : IsLikeGroup n k) where
       bare = bare;
       few = subst (λ (x : ℕ). x ≤ MOST_DISKS) like.disks it.few;
       some = subst (λ (x : ℕ). LEAST_BLOCKS ≤ x) like.blocks it.some;
+      maps = λ some note is. it.maps (λ state. some (sym like.state ∙ state)) note (like.group ∙ is);
     }
 
 -- what a line that works on a site notes of its fuse

@@ -12,6 +12,7 @@ use Rattle.vx_grouped.specs.Begins.{group_begun}
 use Rattle.vx_grouped.specs.Finds.{FindStops, IsFoundNote}
 use Rattle.vx_grouped.specs.GroupSites.{UpNoted}
 use Rattle.vx_grouped.specs.SiteEnds.{HasNow}
+use Rattle.vx_grouped.specs.SiteMaps.{StandMaps}
 use Rattle.vx_grouped.specs.SiteReturns.{ImportWhy}
 use Rattle.vx_grouped.specs.declared.group_site.GroupSite.{GroupSite}
 use Rattle.vx_diskset.specs.GroupCalls.{AtSite, bare_disks, cut_in}
@@ -23,7 +24,7 @@ use Rattle.vx_diskset.specs.declared.disk_set.DiskSet.TheVariants.{Bare}
 module _ {R : Type 0} {g : Ghosts R} where
   -- a group came up, with this note and configuration
   abbrev pub FoundUp : ℕ → Node → GroupSite R g → Type 0
-  FoundUp site n e = (note : GroupNode) × (c : Config) × IsFoundNote note c × HasNow c e × UpNoted (group_begun note site n) note e
+  FoundUp site n e = (note : GroupNode) × (c : Config) × IsFoundNote note c × HasNow c e × UpNoted (group_begun note site n) note e × StandMaps note e
 
   -- disks that are handed back
   abbrev pub InBare : (Meaning → Type 0) → DiskSet R g → Type 0

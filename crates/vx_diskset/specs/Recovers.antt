@@ -24,6 +24,7 @@ use Rattle.vx_diskset.specs.GroupSets.{cut_value}
 use Rattle.vx_diskset.specs.declared.disk_set.DiskSet.{DiskSet}
 use Rattle.vx_diskset.specs.declared.disk_set.DiskSet.TheVariants.{OfGroup}
 use Rattle.vx_diskset.specs.declared.group_set.CutWrite.{CutWrite}
+use Rattle.vx_grouped.specs.SiteMaps.{CameMapped}
 use Rattle.vx_diskset.specs.declared.group_set.KeptWrite.{KeptWrite}
 
 -- the note of a site on which this write is still cut
@@ -75,6 +76,12 @@ module _ {R : Type 0} {g : Ghosts R} where
   RaisesGroup n note (OfGroup s) new (Ok cut) = AtSite (λ e. SiteRecovers n note s.site e (Ok tt)) new × (cut_in new ≡ None) × (cut ≡ s.cut)
   RaisesGroup n note (OfGroup s) new (Err stop) = StaysBack n note s.site s.cut new stop
   RaisesGroup n note old new r = ⊥
+
+  -- so far what is noted of the maps goes on
+  abbrev pub RaisesMaps : DiskSet R g → DiskSet R g → Result (Option CutWrite) Stop → Type 0
+  RaisesMaps (OfGroup s) new (Ok cut) = AtSite (λ e. CameMapped s.site e (Ok tt)) new
+  RaisesMaps (OfGroup s) new (Err stop) = AtSite (λ e. CameMapped s.site e (Err stop)) new
+  RaisesMaps old new r = ⊥
 
   -- and what is read then of that write
   abbrev pub LooksAt : Node → GroupNode → Option CutWrite → DiskSet R g → DiskSet R g → Result (Option KeptWrite) Stop → Type 0

@@ -26,6 +26,7 @@ use Rattle.vx_diskset.specs.Holds.{HasSite, KeptSite, MayBe, site_alone, state_w
 use Rattle.vx_diskset.specs.Holds.{most_header}
 use Rattle.vx_diskset.specs.Lasts.{LeftWith, StandsHolding}
 use Rattle.vx_diskset.specs.Layouts.{LiesOn, units_of}
+use Rattle.vx_grouped.specs.SiteMaps.{StandMaps}
 use Rattle.vx_diskset.specs.Needs.{TakesAs}
 
 -- a rack that is not fitted, is up, and has no fuse
@@ -166,6 +167,7 @@ module _ {R : Type 0} {g : Ghosts R} where
     pub bare : n.state ≡ IsBare → n ≡ bare_with n
     pub few : n.disks ≤ MOST_DISKS
     pub some : LEAST_BLOCKS ≤ n.blocks
+    pub maps : (n.state ≡ IsBare → ⊥) → (note : GroupNode) → n.group ≡ Some note → StandMaps note s.site
 
   -- the disks of a site, with what the world has of it beside its node
   abbrev pub SiteStands : KeptBeside → Node → DiskSet R g → Type 0

@@ -2,6 +2,7 @@
 ghost use Rattle.std.specs.Prelude.{◌≡◌, ◌<◌, ◌≤◌, IfErr, None, Some};
 ghost use Rattle.vx_grouped.specs.GroupSites.{AwayNoted, DownNoted, GroupSiteStands, UpNoted, site_below, site_disks};
 ghost use Rattle.vx_grouped.specs.Begins.{BeginsGroup, CanBegin};
+ghost use Rattle.vx_grouped.specs.SiteMaps.{CameMapped, StaysMapped};
 ghost use Rattle.vx_grouped.specs.SiteReturns.{SiteImports};
 ghost use Rattle.vx_history.specs.Groups.{GroupNode};
 ghost use Rattle.vx_history.specs.World.{Node};
@@ -12,7 +13,7 @@ ghost use Rattle.vx_diskset.specs.Asked.{FuseGoesOn, SameFailing};
 ghost use Rattle.vx_diskset.specs.DiskSets.{Later};
 ghost use Rattle.vx_diskset.specs.GroupCalls.{AtSite, InitIs, OnSites, cut_in};
 ghost use Rattle.vx_diskset.specs.Holds.{KeptBeside};
-ghost use Rattle.vx_diskset.specs.Recovers.{LooksAt, LooksKept, RaisesGroup, RisesSince, RisesWith, cut_past};
+ghost use Rattle.vx_diskset.specs.Recovers.{LooksAt, LooksKept, RaisesGroup, RaisesMaps, RisesSince, RisesWith, cut_past};
 ghost use Rattle.vx_diskset.specs.Stands.{SiteStands};
 ghost use Rattle.vx_watched.specs.Traces.{TellsLess};
 
@@ -63,6 +64,7 @@ fn begin_again<R: Rack>(
 // Reads what is kept of a write that is cut, at a group that is up. Nothing is said of one whose volume is not there any more.
 fn kept_at<R: Rack>(site: &mut GroupSite<R>, write: &CutWrite) -> Result<Option<KeptWrite>, No>
     ensures looks { (n : Node) (note : GroupNode) → UpNoted n note site.old → LooksKept n note (Some write.now) site.old site.new result }
+    ensures maps { (n : Node) (note : GroupNode) → UpNoted n note site.old → StaysMapped site.old site.new }
     ensures since { CalledSince (site_disks site.old) (site_disks site.new) }
     ensures told { TellsLess (site_below site.old) (site_below site.new) }
 {
@@ -86,6 +88,7 @@ fn look_kept<R: Rack>(
     cut: &Option<CutWrite>,
 ) -> Result<Option<KeptWrite>, No>
     ensures looks { (n : Node) (note : GroupNode) → UpNoted n note site.old → LooksKept n note cut.now site.old site.new result }
+    ensures maps { (n : Node) (note : GroupNode) → UpNoted n note site.old → StaysMapped site.old site.new }
     ensures since { CalledSince (site_disks site.old) (site_disks site.new) }
     ensures told { TellsLess (site_below site.old) (site_below site.new) }
 {
@@ -101,6 +104,7 @@ fn stand_up<R: Rack>(
     cut: Option<CutWrite>,
 ) -> (DiskSet<R>, Result<Option<KeptWrite>, Stop>)
     ensures rises { (n : Node) (note : GroupNode) → UpNoted n note site → RisesWith n note cut site result.0 result.1 }
+    ensures maps { (n : Node) (note : GroupNode) → UpNoted n note site → AtSite (StaysMapped site) result.0 }
     ensures since { AtSite (λ e. RisesSince (site_disks site) (site_disks e)) result.0 }
     ensures told { AtSite (λ e. TellsLess (site_below site) (site_below e)) result.0 }
 {
@@ -120,6 +124,7 @@ fn stand_up<R: Rack>(
 // Imports the group of a site that crashed or was deported.
 fn import_in<R: Rack>(group: GroupSet<R>, alloc: Global) -> (DiskSet<R>, Result<(), Stop>)
     ensures imported { (n : Node) (note : GroupNode) → AwayNoted n note group.site → AtSite (λ e. SiteImports n note group.site e result.1) result.0 }
+    ensures maps { AtSite (λ e. CameMapped group.site e result.1) result.0 }
     ensures cut { cut_in result.0 ≡ cut_past result.1 (DiskSet.OfGroup group) }
     ensures since { AtSite (λ e. RisesSince (site_disks group.site) (site_disks e)) result.0 }
     ensures told { AtSite (λ e. TellsLess (site_below group.site) (site_below e)) result.0 }
@@ -138,6 +143,7 @@ fn raise_in<R: Rack>(
     alloc: Global,
 ) -> (DiskSet<R>, Result<Option<CutWrite>, Stop>)
     ensures raised { (n : Node) (note : GroupNode) → DownNoted n note group.site → RaisesGroup n note (DiskSet.OfGroup group) result.0 result.1 }
+    ensures maps { RaisesMaps (DiskSet.OfGroup group) result.0 result.1 }
     ensures since { AtSite (λ e. RisesSince (site_disks group.site) (site_disks e)) result.0 }
     ensures told { AtSite (λ e. TellsLess (site_below group.site) (site_below e)) result.0 }
 {
@@ -169,6 +175,7 @@ impl<R: Rack> DiskSet<R> {
     /// Imports the group of a site that was deported. Where it is refused, the site stays as it was, or is down where its fuse ran out.
     pub fn import_group(self, alloc: Global) -> (DiskSet<R>, Result<(), Stop>)
         ensures imported { (n : Node) (note : GroupNode) → AtSite (AwayNoted n note) self → OnSites (λ o e. SiteImports n note o e result.1) self result.0 }
+        ensures maps { (n : Node) (note : GroupNode) → AtSite (AwayNoted n note) self → OnSites (λ o e. CameMapped o e result.1) self result.0 }
         ensures cut { cut_in result.0 ≡ cut_past result.1 self }
         ensures fuse { (n : Node) (note : GroupNode) → AtSite (AwayNoted n note) self → FuseGoesOn self result.0 }
         ensures failing { SameFailing self result.0 }
@@ -183,6 +190,7 @@ impl<R: Rack> DiskSet<R> {
     /// Imports the group of a site that crashed, and hands out the write that its crash cut. Where it is refused, the site stays down.
     pub fn raise_group(self, alloc: Global) -> (DiskSet<R>, Result<Option<CutWrite>, Stop>)
         ensures raised { (n : Node) (note : GroupNode) → AtSite (DownNoted n note) self → RaisesGroup n note self result.0 result.1 }
+        ensures maps { (n : Node) (note : GroupNode) → AtSite (DownNoted n note) self → RaisesMaps self result.0 result.1 }
         ensures failing { SameFailing self result.0 }
         ensures later { Later self result.0 }
     {
@@ -195,6 +203,7 @@ impl<R: Rack> DiskSet<R> {
     /// Says what is kept of a write that was cut, of a group that came up. Where a disk fails in that, the site is down again, and the write is cut still.
     pub fn look_at_cut(self, cut: Option<CutWrite>) -> (DiskSet<R>, Result<Option<KeptWrite>, Stop>)
         ensures looks { (n : Node) (note : GroupNode) → AtSite (UpNoted n note) self → LooksAt n note cut self result.0 result.1 }
+        ensures maps { (n : Node) (note : GroupNode) → AtSite (UpNoted n note) self → OnSites StaysMapped self result.0 }
         ensures failing { SameFailing self result.0 }
         ensures later { Later self result.0 }
     {

@@ -4,6 +4,7 @@ ghost use Rattle.vx_grouped.specs.Ends.{plain_write};
 ghost use Rattle.vx_grouped.specs.GroupSites.{FitsPlain, UpNoted, site_below, site_disks};
 ghost use Rattle.vx_grouped.specs.SiteAdds.{SiteAdded, VolumeIn, refuses_volume};
 ghost use Rattle.vx_grouped.specs.SiteEnds.{AttCalled, DetCalled, PlainRead, PlainWrote, RegionsOf, SiteDeported, is_plex_on, refuses_att, refuses_det};
+ghost use Rattle.vx_grouped.specs.SiteMaps.{AddedMapped, AttMapped, DeportMapped, DetMapped, StaysMapped, WroteMapped};
 ghost use Rattle.vx_history.specs.Groups.{GroupNode};
 ghost use Rattle.vx_history.specs.World.{Node};
 ghost use Rattle.vx_model.specs.declared.errors.Stop.TheVariants.{No as Refused};
@@ -38,6 +39,7 @@ fn write_set<R: Rack>(
     requires few { length bytes.now ≤ MOST_CALL_BYTES }
     requires whole { length bytes.now % BLOCK ≡ 0 }
     ensures wrote { (n : Node) (note : GroupNode) → UpNoted n note group.old.site → FitsPlain note volume block (length bytes.now) → PlainWrote n note (plain_write volume block bytes.now) group.old.site group.new.site result }
+    ensures maps { (n : Node) (note : GroupNode) → UpNoted n note group.old.site → FitsPlain note volume block (length bytes.now) → WroteMapped (plain_write volume block bytes.now) group.old.site group.new.site result }
     ensures cut { cut_value group.new.cut ≡ cut_behind result (plain_write volume block bytes.now) (cut_value group.old.cut) }
     ensures since { CalledSince (site_disks group.old.site) (site_disks group.new.site) }
     ensures told { TellsLess (site_below group.old.site) (site_below group.new.site) }
@@ -72,6 +74,7 @@ impl<R: Rack> DiskSet<R> {
     /// Deports the group of a site that is up. A site whose fuse runs out crashes.
     pub fn deport_group(&mut self) -> Result<(), Stop>
         ensures deported { (n : Node) (note : GroupNode) → AtSite (UpNoted n note) self.old → OnSites (λ o e. SiteDeported n note o e result) self.old self.new }
+        ensures maps { (n : Node) (note : GroupNode) → AtSite (UpNoted n note) self.old → OnSites (λ o e. DeportMapped o e result) self.old self.new }
         ensures cut { cut_in self.new ≡ cut_in self.old }
         ensures fuse { (n : Node) (note : GroupNode) → AtSite (UpNoted n note) self.old → FuseGoesOn self.old self.new }
         ensures failing { SameFailing self.old self.new }
@@ -98,6 +101,7 @@ impl<R: Rack> DiskSet<R> {
     pub fn make_volume(&mut self, alloc: Global, name: &Name, want: &Shape) -> Result<u32, Stop>
         requires prefer { IfSome want.now.prefer (λ p. p < want.now.mirrors) }
         ensures made { (n : Node) (note : GroupNode) → AtSite (UpNoted n note) self.old → OnSites (λ o e. SiteAdded n note name.now want.now o e result) self.old self.new }
+        ensures maps { (n : Node) (note : GroupNode) → AtSite (UpNoted n note) self.old → OnSites (λ o e. AddedMapped o e result) self.old self.new }
         ensures refused { (n : Node) (note : GroupNode) (no : NoValue) → AtSite (UpNoted n note) self.old → AtSite (λ o. refuses_volume o name.now want.now ≡ Some no) self.old → result ≡ Err (Refused no) }
         ensures volume { (n : Node) (note : GroupNode) → AtSite (UpNoted n note) self.old → IfOk result (λ vol. OnSites (VolumeIn name.now want.now vol) self.old self.new) }
         ensures cut { cut_in self.new ≡ cut_in self.old }
@@ -115,6 +119,7 @@ impl<R: Rack> DiskSet<R> {
     /// Detaches a plex. A site whose fuse runs out crashes.
     pub fn detach_plex(&mut self, volume: u32, plex: u32) -> Result<(), Stop>
         ensures called { (n : Node) (note : GroupNode) → AtSite (UpNoted n note) self.old → OnSites (λ o e. DetCalled n note volume plex o e result) self.old self.new }
+        ensures maps { (n : Node) (note : GroupNode) → AtSite (UpNoted n note) self.old → OnSites (λ o e. DetMapped volume plex o e result) self.old self.new }
         ensures refused { (n : Node) (note : GroupNode) (no : NoValue) → AtSite (UpNoted n note) self.old → AtSite (λ o. refuses_det o volume plex ≡ Some no) self.old → result ≡ Err (Refused no) }
         ensures off { OnOk result (AtSite (λ e. is_plex_on e volume plex ≡ false) self.new) }
         ensures others { OnOk result ((w p : ℕ) → (w ≡ volume → p ≡ plex → ⊥) → OnSites (λ o e. is_plex_on e w p ≡ is_plex_on o w p) self.old self.new) }
@@ -133,6 +138,7 @@ impl<R: Rack> DiskSet<R> {
     /// Attaches a plex, and answers how many regions were copied. A site whose fuse runs out crashes.
     pub fn attach_plex(&mut self, volume: u32, plex: u32) -> Result<u64, Stop>
         ensures called { (n : Node) (note : GroupNode) → AtSite (UpNoted n note) self.old → OnSites (λ o e. AttCalled n note volume plex o e result) self.old self.new }
+        ensures maps { (n : Node) (note : GroupNode) → AtSite (UpNoted n note) self.old → OnSites (λ o e. AttMapped volume plex o e result) self.old self.new }
         ensures refused { (n : Node) (note : GroupNode) (no : NoValue) → AtSite (UpNoted n note) self.old → AtSite (λ o. refuses_att o volume plex ≡ Some no) self.old → result ≡ Err (Refused no) }
         ensures already { (n : Node) (note : GroupNode) → AtSite (UpNoted n note) self.old → AtSite (λ o. refuses_att o volume plex ≡ None) self.old → AtSite (λ o. IsTrue (is_plex_on o volume plex)) self.old → result ≡ Ok 0 }
         ensures count { AtSite (λ o. is_plex_on o volume plex ≡ false) self.old → IfOk result (λ k. AtSite (λ o. RegionsOf o volume k) self.old) }
@@ -156,6 +162,7 @@ impl<R: Rack> DiskSet<R> {
         requires few { length bytes.now ≤ MOST_CALL_BYTES }
         requires whole { length bytes.now % BLOCK ≡ 0 }
         ensures wrote { (n : Node) (note : GroupNode) → AtSite (UpNoted n note) self.old → FitsPlain note volume start (length bytes.now) → OnSites (λ o e. PlainWrote n note (plain_write volume start bytes.now) o e result) self.old self.new }
+        ensures maps { (n : Node) (note : GroupNode) → AtSite (UpNoted n note) self.old → FitsPlain note volume start (length bytes.now) → OnSites (λ o e. WroteMapped (plain_write volume start bytes.now) o e result) self.old self.new }
         ensures cut { (n : Node) (note : GroupNode) → AtSite (UpNoted n note) self.old → cut_in self.new ≡ cut_behind result (plain_write volume start bytes.now) (cut_in self.old) }
         ensures fuse { (n : Node) (note : GroupNode) → AtSite (UpNoted n note) self.old → FitsPlain note volume start (length bytes.now) → FuseGoesOn self.old self.new }
         ensures failing { SameFailing self.old self.new }
@@ -171,6 +178,7 @@ impl<R: Rack> DiskSet<R> {
     /// Reads whole blocks of a volume of a group, by its number.
     pub fn read_plain(&mut self, volume: u32, start: u64, into: &mut [u8]) -> Result<(), No>
         ensures read { (n : Node) (note : GroupNode) → AtSite (UpNoted n note) self.old → FitsPlain note volume start (length into.old) → OnSites (λ o e. PlainRead n note volume start into.new o e result) self.old self.new }
+        ensures maps { (n : Node) (note : GroupNode) → AtSite (UpNoted n note) self.old → FitsPlain note volume start (length into.old) → OnSites StaysMapped self.old self.new }
         ensures cut { cut_in self.new ≡ cut_in self.old }
         ensures fuse { (n : Node) (note : GroupNode) → AtSite (UpNoted n note) self.old → FitsPlain note volume start (length into.old) → FuseGoesOn self.old self.new }
         ensures failing { SameFailing self.old self.new }

@@ -10,6 +10,7 @@ pub mod Fuses
 pub mod GroupConfigs
 pub mod GroupEnds
 pub mod GroupLines
+pub mod GroupMaps
 pub mod GroupNotes
 pub mod GroupReplies
 pub mod GroupViews

@@ -104,6 +104,7 @@ module _ {R : Type 0} {g : Ghosts R} where
     bare = it.bare;
     few = it.few;
     some = it.some;
+    maps = it.maps;
   }
 
   -- where the line begins

@@ -23,6 +23,7 @@ pub mod Returning
 pub mod Rising
 pub mod GroupNamed
 pub mod GroupDeports
+pub mod ImportWhys
 pub mod GroupImports
 pub mod GroupVolume
 pub mod VolumeLine
@@ -32,3 +33,7 @@ pub mod Recovering
 pub mod Founding
 pub mod GroupPlex
 pub mod GroupAttach
+pub mod MapLines
+pub mod MapReturns
+pub mod MapGoing
+pub mod MapComing

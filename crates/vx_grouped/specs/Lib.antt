@@ -10,13 +10,16 @@ pub mod GroupNotes
 pub mod GroupSites
 pub mod ImportFacts
 pub mod Keepings
+pub mod MapsNoted
 pub mod Plain
+pub mod PlainMaps
 pub mod Readies
 pub mod Returns
 pub mod SetFuses
 pub mod SiteAdds
 pub mod SiteEnds
 pub mod SiteKeeps
+pub mod SiteMaps
 pub mod SiteReturns
 pub mod StateChanges
 pub mod Tracings

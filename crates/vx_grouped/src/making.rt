@@ -5,6 +5,8 @@ ghost use Rattle.vx_group.specs.Loses.{SameParts};
 ghost use Rattle.vx_group.specs.Makes.{MakeEnds, make_refusal};
 ghost use Rattle.vx_grouped.specs.Added.{IsUnmoved, VolumeLeaves};
 ghost use Rattle.vx_grouped.specs.GroupNotes.{IsGroupAt};
+ghost use Rattle.vx_disk.specs.Racks.{IsRack};
+ghost use Rattle.vx_grouped.specs.PlainMaps.{AddsMaps, map_parts};
 ghost use Rattle.vx_history.specs.Groups.{GroupNode};
 ghost use Rattle.vx_history.specs.World.{Node};
 ghost use Rattle.vx_model.specs.declared.errors.Stop.TheVariants.{No as Refused};
@@ -37,6 +39,7 @@ pub fn make_volume_of<S: Shelf>(
     ensures still { IsUnmoved result ((group.new.core ≡ group.old.core) × (group.new.shelf ≡ group.old.shelf)) }
     ensures parts { SameParts group.old.core.inner.config group.new.core.inner.config }
     ensures disks { MoreFailed (S.meaning group.old.shelf) (S.meaning group.new.shelf) group.old.core.inner.config.disks group.new.core.inner.config.disks }
+    ensures maps { IsRack (S.meaning group.old.shelf) → IsRack (S.meaning group.new.shelf) → AddsMaps (map_parts group.old.core.inner.config group.old.logs.items group.old.alike group.old.stopped) (S.meaning group.old.shelf) (map_parts group.new.core.inner.config group.new.logs.items group.new.alike group.new.stopped) (S.meaning group.new.shelf) result }
 {
     match group.make_volume(alloc, name, want) {
         Ok(vol) => Ok(vol),

@@ -10,6 +10,7 @@ ghost use Rattle.vx_grouped.specs.CoreMoves.{BothOn};
 ghost use Rattle.vx_grouped.specs.Ends.{WriteLeaves, plain_write};
 ghost use Rattle.vx_grouped.specs.GroupNotes.{IsGroupAt};
 ghost use Rattle.vx_grouped.specs.Plain.{HoldsPlain, ReadsPlain};
+ghost use Rattle.vx_grouped.specs.PlainMaps.{WritesMaps, map_parts};
 ghost use Rattle.vx_history.specs.Groups.{GroupNode};
 ghost use Rattle.vx_history.specs.World.{Node};
 
@@ -36,6 +37,7 @@ pub fn write_plain<S: Shelf>(
     ensures trust { OnOk result (group.old.core.inner.committed ≡ true → group.new.core.inner.committed ≡ true) }
     ensures agreed { IfErr result (λ no. group.old.core.inner.committed ≡ true → group.new.core.inner.agreed ≡ true) }
     ensures cause { IfErr result (DeviceCause (S.meaning group.old.shelf) (S.meaning group.new.shelf)) }
+    ensures maps { WritesMaps (plain_write vol block bytes.now) (map_parts group.old.core.inner.config group.old.logs.items group.old.alike group.old.stopped) (S.meaning group.old.shelf) (map_parts group.new.core.inner.config group.new.logs.items group.new.alike group.new.stopped) (S.meaning group.new.shelf) result }
 {
     match group.write(vol, block, bytes) {
         Ok(()) => {}
@@ -62,6 +64,7 @@ pub fn read_plain<S: Shelf>(
     ensures same { group.new.core.inner.config ≡ group.old.core.inner.config }
     ensures below { Goes Nothing (S.meaning group.old.shelf) (S.meaning group.new.shelf) }
     ensures cause { IfErr result (DeviceCause (S.meaning group.old.shelf) (S.meaning group.new.shelf)) }
+    ensures maps { map_parts group.new.core.inner.config group.new.logs.items group.new.alike group.new.stopped ≡ map_parts group.old.core.inner.config group.old.logs.items group.old.alike group.old.stopped }
 {
     match group.read(vol, block, into) {
         Ok(()) => Ok(()),

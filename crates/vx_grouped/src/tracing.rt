@@ -36,6 +36,9 @@ pub(crate) fn untraced<C: Begun, R: Rack>(shade: Shade<Traced<R, C>>) -> Shade<R
 pub(crate) fn trace<C: Begun, R: Rack>(laid: Laid<R>) -> LoggedGroup<Shade<Traced<R, C>>>
     requires told { TellsLess C.first (R.meaning (rack_of laid.shelf)) }
     ensures core { result.core ≡ laid.core }
+    ensures logs { result.logs ≡ laid.logs }
+    ensures alike { result.alike ≡ laid.alike }
+    ensures stopped { result.stopped ≡ laid.stopped }
     ensures shelf { laid.shelf ≡ shade_over (λ t. t.rack) result.shelf }
 {
     let (shelf, rest) = laid.together().apart();
@@ -45,6 +48,9 @@ pub(crate) fn trace<C: Begun, R: Rack>(laid: Laid<R>) -> LoggedGroup<Shade<Trace
 /// And by its parts again, without that account. It makes no device call.
 pub(crate) fn untrace<C: Begun, R: Rack>(group: LoggedGroup<Shade<Traced<R, C>>>) -> Laid<R>
     ensures core { result.core ≡ group.core }
+    ensures logs { result.logs ≡ group.logs }
+    ensures alike { result.alike ≡ group.alike }
+    ensures stopped { result.stopped ≡ group.stopped }
     ensures shelf { result.shelf ≡ shade_over (λ t. t.rack) group.shelf }
     ensures told { TellsLess C.first (R.meaning (rack_of result.shelf)) }
 {

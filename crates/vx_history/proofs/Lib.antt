@@ -3,3 +3,4 @@ pub mod GoodLemmas
 pub mod GroupLemmas
 pub mod Places
 pub mod Updates
+pub mod MissedRows

@@ -2,6 +2,19 @@
 use Rattle.std.specs.Prelude.{◌≡◌, ◌⊎◌, ℕ, ◌-◌, if◌then◌else◌, Bool, true, false, List, [], ◌∷◌, ◌++◌, Option, Some, Contains}
 use Rattle.vx_model.specs.Content.{Write, Content, block_of, put, touches}
 
+-- what is noted of the regions that the plexes of a group missed
+pub record MissedNote : Type 0 where
+  -- of a volume whether the regions that its plexes missed are known; where they are not, each plex that takes no part counts as one that missed all
+  pub mapped : ℕ → Bool
+  -- of a volume and one of its plexes the regions that it missed
+  pub missed : ℕ → ℕ → ℕ → Bool
+  -- those that it may have missed beside these
+  pub perhaps : ℕ → ℕ → ℕ → Bool
+  -- of a volume whether its copies may differ, as a write of it failed since it was made or came up
+  pub doubt : ℕ → Bool
+  -- the serial of the configuration
+  pub serial : ℕ
+
 -- a site whose disks are a group
 pub record GroupNode : Type 0 where
   -- the configuration as it is spelled in bytes; its serial does not count
@@ -18,10 +31,8 @@ pub record GroupNode : Type 0 where
   pub others : ℕ → ℕ → List (List ℕ)
   -- the write to such a volume in which the fuse ran out, until the next recovery
   pub cut : Option Write
-  -- of a volume and one of its plexes the regions that it has missed, or None where all count as missed
-  pub missed : ℕ → ℕ → Option (ℕ → Bool)
-  -- the regions that it may have missed beside these
-  pub perhaps : ℕ → ℕ → ℕ → Bool
+  -- the regions that plexes missed
+  pub maps : MissedNote
 
 -- a value that a block of a volume may have: the one that is noted, or one of the further ones
 abbrev pub BlockMay : GroupNode → ℕ → ℕ → List ℕ → Type 0
@@ -45,8 +56,7 @@ pub record NoteSame (old new : GroupNode) : Type 0 where
   pub bytes : new.bytes ≡ old.bytes
   pub others : new.others ≡ old.others
   pub cut : new.cut ≡ old.cut
-  pub missed : new.missed ≡ old.missed
-  pub perhaps : new.perhaps ≡ old.perhaps
+  pub maps : new.maps ≡ old.maps
 
 -- Behind a call in which no commit was refused: nothing is begun, or what was, and perhaps configurations of the call. Where imports agreed and nothing was
 -- begun so it is still.

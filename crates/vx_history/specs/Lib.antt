@@ -12,6 +12,8 @@ pub mod KeptLinks
 pub mod Likes
 pub mod LinkForms
 pub mod Listed
+pub mod MapChanges
+pub mod Missing
 pub mod Receiving
 pub mod Refusals
 pub mod Sending

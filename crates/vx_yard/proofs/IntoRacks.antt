@@ -311,7 +311,7 @@ module _ {R : Type 0} {g : Ghosts R} where
   beside_group lawful beside n (Some e) r note over noted bright told stands is =
       let of = over_is beside n e (stands e refl) over in
       let it : IsGroupSet beside n of.0 = subst (λ (k : DiskSet R g). SiteStands beside n k) of.1 (stands e refl) in
-      subst (λ (m : Meaning). HoldsGroup note m) (disks_at of.0.site r (lit_at n of.0.site note it.stands (λ bare. both_ways over (bare_apart n (it.bare bare))) noted bright (subst (λ (k : DiskSet R g). IsToldAt k) of.1 (told e refl))) (ap (λ (k : DiskSet R g). rack_of k) (sym of.1) ∙ is)) (set_holds lawful beside n of.0 note it over noted)
+      subst (λ (m : Meaning). HoldsGroup note m) (disks_at of.0.site r (lit_at n of.0.site note it.stands (λ bare. both_ways over (bare_apart n (it.bare bare))) noted bright (subst (λ (k : DiskSet R g). IsToldAt k) of.1 (told e refl))) (ap (λ (k : DiskSet R g). rack_of k) (sym of.1) ∙ is)) (set_holds lawful beside n of.0 note it over noted bright)
 
   pub racks_keep : (lawful : (r : R) → Lawful (g.meaning r)) (d : Doubted) (es : List (DiskSet R g)) → SitesAgree d es → RacksHold g.meaning d (racks_in es)
   racks_keep lawful d es agree =

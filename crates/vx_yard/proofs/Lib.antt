@@ -8,6 +8,7 @@ pub mod CrashSite
 pub mod FailsStay
 pub mod FuseStays
 pub mod HeadNeeds
+pub mod MapsHold
 pub mod HoldsGroups
 pub mod HoldsRoom
 pub mod IntoRacks

@@ -3,6 +3,7 @@ use Rattle.std.proofs.Common.{refl, subst}
 use Rattle.vx_grouped.specs.GroupSites.{site_disks}
 use Rattle.vx_diskset.proofs.GroupCalling.{rises_returned}
 use Rattle.vx_grouped.specs.SiteReturns.{SiteImports}
+use Rattle.vx_grouped.specs.SiteMaps.{CameMapped}
 use Rattle.vx_diskset.proofs.group_starts.import_in.Goals as goal
 
 pub returns-in-Ok-clause-imported : goal.returns-in-Ok-clause-imported
@@ -30,3 +31,9 @@ returns-in-Ok-clause-told g c = c.import-site.ensures.told
 
 pub returns-in-Err-clause-told : goal.returns-in-Err-clause-told
 returns-in-Err-clause-told g c = c.import-site.ensures.told
+
+pub returns-in-Ok-clause-maps : goal.returns-in-Ok-clause-maps
+returns-in-Ok-clause-maps g c = subst (λ r. CameMapped c.args.group.site c.import-site.result.0 r) c.in-Ok.is c.import-site.ensures.maps
+
+pub returns-in-Err-clause-maps : goal.returns-in-Err-clause-maps
+returns-in-Err-clause-maps g c = subst (λ r. CameMapped c.args.group.site c.import-site.result.0 r) c.in-Err.is c.import-site.ensures.maps

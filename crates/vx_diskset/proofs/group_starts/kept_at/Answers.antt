@@ -45,3 +45,12 @@ returns-in-Err-clause-told g c = c.kept.ensures.told
 
 pub returns-else-fits-clause-told : goal.returns-else-fits-clause-told
 returns-else-fits-clause-told g c = λ told. told
+
+pub returns-in-Ok-clause-maps : goal.returns-in-Ok-clause-maps
+returns-in-Ok-clause-maps g c = λ n note up. c.kept.ensures.maps n note up (c.fits.ensures.is n note up c.if-fits.true)
+
+pub returns-in-Err-clause-maps : goal.returns-in-Err-clause-maps
+returns-in-Err-clause-maps g c = λ n note up. c.kept.ensures.maps n note up (c.fits.ensures.is n note up c.if-fits.true)
+
+pub returns-else-fits-clause-maps : goal.returns-else-fits-clause-maps
+returns-else-fits-clause-maps g c = λ n note up own it. it

@@ -26,3 +26,9 @@ returns-in-Some-clause-told g c = c.kept_at.ensures.told
 
 pub returns-in-None-clause-told : goal.returns-in-None-clause-told
 returns-in-None-clause-told g c = λ told. told
+
+pub returns-in-Some-clause-maps : goal.returns-in-Some-clause-maps
+returns-in-Some-clause-maps g c = c.kept_at.ensures.maps
+
+pub returns-in-None-clause-maps : goal.returns-in-None-clause-maps
+returns-in-None-clause-maps g c = λ n note up own it. it

@@ -120,13 +120,13 @@ returns-in-Err-clause-parts g c = none_parts c.args.core.now.config
 
 pub returns-in-Ok-commit_next-clause-parts : goal.returns-in-Ok-commit_next-clause-parts
 returns-in-Ok-commit_next-clause-parts g c =
-    then_parts c.args.core.now.config c.args.next c.commit_next.new.next (next_parts c.args.core.now.config c.args.next c.requires.is_next) (grown_parts (g.S.Shelf.meaning c.zero_volume.new.shelf) (g.S.Shelf.meaning c.commit_next.new.shelf) c.args.next c.commit_next.new.next c.in-Ok-commit_next.ensures.ends.grown)
+    then_parts c.args.core.now.config c.args.next c.commit_next.new.next (next_parts c.args.core.now.config c.args.next c.requires.is_next) (grown_parts (g.S.Shelf.meaning c.zero_volume.new.shelf) (g.S.Shelf.meaning c.commit_next.new.shelf) c.args.next c.commit_next.new.next c.in-Ok-commit_next.ensures.ends.grown c.in-Ok-commit_next.ensures.ends.later)
 
 pub returns-then-is_down-clause-parts : goal.returns-then-is_down-clause-parts
-returns-then-is_down-clause-parts g c = record { site = refl; rvg = refl; count = refl }
+returns-then-is_down-clause-parts g c = record { site = refl; rvg = refl; count = refl; later = c.in-Err-commit_next.ensures.ends.later }
 
 pub returns-else-is_down-clause-parts : goal.returns-else-is_down-clause-parts
-returns-else-is_down-clause-parts g c = record { site = refl; rvg = refl; count = refl }
+returns-else-is_down-clause-parts g c = record { site = refl; rvg = refl; count = refl; later = c.in-Err-commit_next.ensures.ends.later }
 
 pub returns-in-Ok-commit_next-clause-newest : goal.returns-in-Ok-commit_next-clause-newest
 returns-in-Ok-commit_next-clause-newest g c = record { finds = c.in-Ok-commit_next.ensures.ends.finds }
@@ -187,3 +187,15 @@ returns-then-is_down-clause-logs g c =
 pub returns-else-is_down-clause-logs : goal.returns-else-is_down-clause-logs
 returns-else-is_down-clause-logs g c =
     volumes_logs c.args.core.now.config (record { serial = c.commit_next.new.next.serial; site = c.args.core.now.config.site; disks = c.args.core.now.config.disks; volumes = c.args.core.now.config.volumes; rvg = c.args.core.now.config.rvg }) refl
+
+pub returns-in-Err-clause-off : goal.returns-in-Err-clause-off
+returns-in-Err-clause-off g c = λ off. off
+
+pub returns-in-Ok-commit_next-clause-off : goal.returns-in-Ok-commit_next-clause-off
+returns-in-Ok-commit_next-clause-off g c = tt
+
+pub returns-then-is_down-clause-off : goal.returns-then-is_down-clause-off
+returns-then-is_down-clause-off g c = λ off. refl
+
+pub returns-else-is_down-clause-off : goal.returns-else-is_down-clause-off
+returns-else-is_down-clause-off g c = λ off. refl

@@ -3,6 +3,7 @@ use Rattle.std.proofs.Common.{subst}
 use Rattle.vx_untold.specs.Shades.{shade_meaning}
 use Rattle.vx_grouped.specs.SiteKeeps.{PlainKeeps}
 use Rattle.vx_grouped.proofs.SiteKeepLemmas.{kept_done, kept_failed}
+use Rattle.vx_grouped.proofs.UpMapLemmas.{read_maps}
 use Rattle.vx_grouped.proofs.site_keeping.kept_site.Goals as goal
 
 pub returns-in-Ok-clause-kept : goal.returns-in-Ok-clause-kept
@@ -14,3 +15,9 @@ pub returns-in-Err-clause-kept : goal.returns-in-Err-clause-kept
 returns-in-Err-clause-kept g c = λ n note up fits.
     kept_failed n note c.args.vol c.args.block c.args.bytes.now c.args.laid c.kept_watched-laid.result.0 up c.kept_watched-laid.ensures.since c.kept_watched-laid.ensures.told c.in-Err.no
     (subst (λ r. PlainKeeps c.args.vol c.args.block c.args.bytes.now c.args.laid.core (shade_meaning g.R.Shelf.meaning c.args.laid.shelf) c.kept_watched-laid.result.0.core (shade_meaning g.R.Shelf.meaning c.kept_watched-laid.result.0.shelf) r) c.in-Err.is c.kept_watched-laid.ensures.works)
+
+pub returns-in-Ok-clause-maps : goal.returns-in-Ok-clause-maps
+returns-in-Ok-clause-maps g c = λ n note up fits. read_maps c.args.laid c.kept_watched-laid.result.0 c.kept_watched-laid.ensures.maps
+
+pub returns-in-Err-clause-maps : goal.returns-in-Err-clause-maps
+returns-in-Err-clause-maps g c = λ n note up fits. read_maps c.args.laid c.kept_watched-laid.result.0 c.kept_watched-laid.ensures.maps

@@ -3,6 +3,7 @@ use Rattle.std.proofs.Common.{subst}
 use Rattle.vx_untold.specs.Shades.{shade_meaning}
 use Rattle.vx_grouped.specs.Watches.{PlainReads}
 use Rattle.vx_grouped.proofs.WroteLemmas.{read_done, read_failed}
+use Rattle.vx_grouped.proofs.UpMapLemmas.{read_maps}
 use Rattle.vx_grouped.proofs.site_plain.read_site.Goals as goal
 
 pub returns-in-Ok-clause-read : goal.returns-in-Ok-clause-read
@@ -14,3 +15,9 @@ pub returns-in-Err-clause-read : goal.returns-in-Err-clause-read
 returns-in-Err-clause-read g c = λ n note up fits.
     read_failed n note c.args.vol c.args.block c.read_watched-laid.new.into c.args.laid c.read_watched-laid.result.0 up c.read_watched-laid.ensures.since c.read_watched-laid.ensures.told c.in-Err.no
     (subst (λ r. PlainReads c.args.vol c.args.block c.read_watched-laid.new.into c.args.laid.core (shade_meaning g.R.Shelf.meaning c.args.laid.shelf) c.read_watched-laid.result.0.core (shade_meaning g.R.Shelf.meaning c.read_watched-laid.result.0.shelf) r) c.in-Err.is c.read_watched-laid.ensures.works)
+
+pub returns-in-Ok-clause-maps : goal.returns-in-Ok-clause-maps
+returns-in-Ok-clause-maps g c = λ n note up fits. read_maps c.args.laid c.read_watched-laid.result.0 c.read_watched-laid.ensures.maps
+
+pub returns-in-Err-clause-maps : goal.returns-in-Err-clause-maps
+returns-in-Err-clause-maps g c = λ n note up fits. read_maps c.args.laid c.read_watched-laid.result.0 c.read_watched-laid.ensures.maps

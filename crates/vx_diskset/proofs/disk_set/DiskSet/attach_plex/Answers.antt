@@ -8,6 +8,7 @@ use Rattle.vx_diskset.proofs.GroupCalling.{at_none, at_sites, called_rest, group
 use Rattle.vx_grouped.specs.SiteEnds.{AttCalled, RegionsOf, is_plex_on, refuses_att}
 use Rattle.std.specs.Prelude.{Err, None, Ok, Some, false, IfOk, IsTrue, OnOk}
 use Rattle.vx_model.specs.declared.errors.Stop.TheVariants.{No as Refused}
+use Rattle.vx_grouped.specs.SiteMaps.{AttMapped}
 use Rattle.vx_diskset.proofs.disk_set.DiskSet.attach_plex.Goals as goal
 
 pub returns-in-OfGroup-clause-called : goal.returns-in-OfGroup-clause-called
@@ -65,3 +66,9 @@ returns-in-OfGroup-clause-count g c = at_sites (λ o. is_plex_on o c.args.volume
 
 pub returns-in-OfGroup-clause-on : goal.returns-in-OfGroup-clause-on
 returns-in-OfGroup-clause-on g c = at_sites (λ o. is_plex_on o c.args.volume c.args.plex ≡ false) (OnOk c.att.result (IsTrue (is_plex_on c.att.new.self c.args.volume c.args.plex))) c.args.self.now c.in-OfGroup.group c.in-OfGroup.is c.att.ensures.on
+
+pub returns-in-OfGroup-clause-maps : goal.returns-in-OfGroup-clause-maps
+returns-in-OfGroup-clause-maps g c = λ n note. on_sites (UpNoted n note) (λ o e. AttMapped c.args.volume c.args.plex o e c.att.result) c.args.self.now c.in-OfGroup.group (record c.in-OfGroup.group { site = c.att.new.self }) c.in-OfGroup.is (c.att.ensures.maps n note)
+
+pub returns-in_default-clause-maps : goal.returns-in_default-clause-maps
+returns-in_default-clause-maps g c = λ n note. at_none (UpNoted n note) _ c.args.self.now c.in_default.not-OfGroup

@@ -44,7 +44,7 @@ returns-in-Receives-clause-cut g c = λ beside n cut.
 
 pub returns-in-OfGroup-clause-crashed : goal.returns-in-OfGroup-clause-crashed
 returns-in-OfGroup-clause-crashed g c = λ beside n stands state.
-    set_crashed beside n c.args.self c.in-OfGroup.group c.crash-in-OfGroup.result c.in-OfGroup.is (λ note. c.crash-in-OfGroup.ensures.crashed n note) stands state
+    set_crashed beside n c.args.self c.in-OfGroup.group c.crash-in-OfGroup.result c.in-OfGroup.is (λ note. c.crash-in-OfGroup.ensures.crashed n note) c.crash-in-OfGroup.ensures.maps stands state
 
 pub returns-in-OfGroup-clause-asked : goal.returns-in-OfGroup-clause-asked
 returns-in-OfGroup-clause-asked g c = λ beside n stands state.

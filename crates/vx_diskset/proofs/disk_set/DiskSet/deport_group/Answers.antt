@@ -7,6 +7,7 @@ use Rattle.vx_diskset.proofs.KeepsFailing.{failing_same}
 use Rattle.vx_diskset.specs.GroupCalls.{CalledOn, cut_in}
 use Rattle.vx_diskset.specs.declared.disk_set.DiskSet.TheVariants.{OfGroup}
 use Rattle.vx_diskset.proofs.GroupCalling.{at_none, at_sites, called_rest, deported_settled, group_failing, group_fuse, group_later, on_sites}
+use Rattle.vx_grouped.specs.SiteMaps.{DeportMapped}
 use Rattle.vx_diskset.proofs.disk_set.DiskSet.deport_group.Goals as goal
 
 pub returns-in-OfGroup-clause-deported : goal.returns-in-OfGroup-clause-deported
@@ -44,3 +45,9 @@ returns-in_default-clause-failing g c = subst (λ x. SameFailing c.args.self.now
 
 pub returns-in_default-clause-since : goal.returns-in_default-clause-since
 returns-in_default-clause-since g c = subst (λ x. CalledOn c.args.self.now x) (sym c.replace.ensures.value) (called_rest c.args.self.now)
+
+pub returns-in-OfGroup-clause-maps : goal.returns-in-OfGroup-clause-maps
+returns-in-OfGroup-clause-maps g c = λ n note. on_sites (UpNoted n note) (λ o e. DeportMapped o e c.deport-site.result.1) c.args.self.now c.in-OfGroup.group (record c.in-OfGroup.group { site = c.deport-site.result.0 }) (sym c.replace.ensures.value ∙ c.in-OfGroup.is) (c.deport-site.ensures.maps n note)
+
+pub returns-in_default-clause-maps : goal.returns-in_default-clause-maps
+returns-in_default-clause-maps g c = λ n note. at_none (UpNoted n note) _ c.args.self.now (λ o is. c.in_default.not-OfGroup o (c.replace.ensures.value ∙ is))

@@ -8,6 +8,7 @@ use Rattle.vx_diskset.proofs.GroupCalling.{at_none, at_sites, called_rest, group
 use Rattle.vx_grouped.specs.SiteEnds.{DetCalled, refuses_det, is_plex_on}
 use Rattle.std.specs.Prelude.{Err, None, Ok, Some, false, IfOk, IsTrue}
 use Rattle.vx_model.specs.declared.errors.Stop.TheVariants.{No as Refused}
+use Rattle.vx_grouped.specs.SiteMaps.{DetMapped}
 use Rattle.vx_diskset.proofs.disk_set.DiskSet.detach_plex.Goals as goal
 
 pub returns-in-OfGroup-clause-called : goal.returns-in-OfGroup-clause-called
@@ -49,3 +50,9 @@ returns-in-OfGroup-clause-others g c = others_on c.det.result c.args.self.now c.
 
 pub returns-in-OfGroup-clause-cut : goal.returns-in-OfGroup-clause-cut
 returns-in-OfGroup-clause-cut g c = sym (ap (λ x. cut_in x) c.in-OfGroup.is)
+
+pub returns-in-OfGroup-clause-maps : goal.returns-in-OfGroup-clause-maps
+returns-in-OfGroup-clause-maps g c = λ n note. on_sites (UpNoted n note) (λ o e. DetMapped c.args.volume c.args.plex o e c.det.result) c.args.self.now c.in-OfGroup.group (record c.in-OfGroup.group { site = c.det.new.self }) c.in-OfGroup.is (c.det.ensures.maps n note)
+
+pub returns-in_default-clause-maps : goal.returns-in_default-clause-maps
+returns-in_default-clause-maps g c = λ n note. at_none (UpNoted n note) _ c.args.self.now c.in_default.not-OfGroup

@@ -44,7 +44,7 @@ invariant_of-site g c = (
 )
 
 pub returns-in-OfGroup-clause-stands : goal.returns-in-OfGroup-clause-stands
-returns-in-OfGroup-clause-stands g c = λ beside n stands. set_alike beside n c.args.self.now c.in-OfGroup.group c.fail-in-OfGroup.new.self c.in-OfGroup.is c.fail-in-OfGroup.ensures.stands stands
+returns-in-OfGroup-clause-stands g c = λ beside n stands. set_alike beside n c.args.self.now c.in-OfGroup.group c.fail-in-OfGroup.new.self c.in-OfGroup.is c.fail-in-OfGroup.ensures.stands c.fail-in-OfGroup.ensures.maps stands
 
 pub returns-in-OfGroup-clause-later : goal.returns-in-OfGroup-clause-later
 returns-in-OfGroup-clause-later g c = set_later c.args.self.now c.in-OfGroup.group c.fail-in-OfGroup.new.self c.in-OfGroup.is c.fail-in-OfGroup.ensures.later

@@ -23,7 +23,7 @@ returns-in-Receives-clause-fused g c = λ beside n stands state.
 
 pub returns-in-OfGroup-clause-fused : goal.returns-in-OfGroup-clause-fused
 returns-in-OfGroup-clause-fused g c = λ beside n stands state.
-    set_fused beside n c.args.calls c.args.self.now c.in-OfGroup.group c.fuse-in-OfGroup.new.self c.in-OfGroup.is (λ note. c.fuse-in-OfGroup.ensures.fused n note) stands state
+    set_fused beside n c.args.calls c.args.self.now c.in-OfGroup.group c.fuse-in-OfGroup.new.self c.in-OfGroup.is (λ note. c.fuse-in-OfGroup.ensures.fused n note) c.fuse-in-OfGroup.ensures.maps stands state
 
 pub returns-in-OfGroup-clause-asked : goal.returns-in-OfGroup-clause-asked
 returns-in-OfGroup-clause-asked g c = λ beside n stands state.

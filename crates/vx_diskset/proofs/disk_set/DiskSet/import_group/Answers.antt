@@ -7,6 +7,7 @@ use Rattle.vx_diskset.specs.GroupCalls.{OnSites, cut_in}
 use Rattle.vx_diskset.specs.Recovers.{cut_past}
 use Rattle.vx_diskset.proofs.GroupCalling.{at_none, at_sites}
 use Rattle.vx_diskset.proofs.GroupRising.{import_settled, rise_failing, rise_fuse, rise_later}
+use Rattle.vx_grouped.specs.SiteMaps.{CameMapped}
 use Rattle.vx_diskset.proofs.disk_set.DiskSet.import_group.Goals as goal
 
 pub returns-in-OfGroup-clause-imported : goal.returns-in-OfGroup-clause-imported
@@ -28,3 +29,6 @@ returns-in-OfGroup-clause-failing g c = rise_failing c.args.self c.import_in.res
 
 pub returns-in-OfGroup-clause-later : goal.returns-in-OfGroup-clause-later
 returns-in-OfGroup-clause-later g c = rise_later c.args.self c.import_in.result.0 c.in-OfGroup.group c.in-OfGroup.is c.import_in.ensures.since c.import_in.ensures.told
+
+pub returns-in-OfGroup-clause-maps : goal.returns-in-OfGroup-clause-maps
+returns-in-OfGroup-clause-maps g c = λ n note away. subst (λ x. OnSites (λ o e. CameMapped o e c.import_in.result.1) x c.import_in.result.0) (sym c.in-OfGroup.is) c.import_in.ensures.maps

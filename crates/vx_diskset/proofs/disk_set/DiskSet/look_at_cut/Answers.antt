@@ -4,6 +4,8 @@ use Rattle.vx_grouped.specs.GroupSites.{UpNoted}
 use Rattle.vx_diskset.specs.Recovers.{LooksAt}
 use Rattle.vx_diskset.proofs.GroupCalling.{at_sites}
 use Rattle.vx_diskset.proofs.GroupRising.{rise_failing, rise_later}
+use Rattle.vx_grouped.specs.SiteMaps.{StaysMapped}
+use Rattle.vx_diskset.specs.GroupCalls.{OnSites}
 use Rattle.vx_diskset.proofs.disk_set.DiskSet.look_at_cut.Goals as goal
 
 pub returns-in-OfGroup-clause-looks : goal.returns-in-OfGroup-clause-looks
@@ -16,3 +18,8 @@ returns-in-OfGroup-clause-failing g c = rise_failing c.args.self c.stand_up.resu
 
 pub returns-in-OfGroup-clause-later : goal.returns-in-OfGroup-clause-later
 returns-in-OfGroup-clause-later g c = rise_later c.args.self c.stand_up.result.0 c.in-OfGroup.group c.in-OfGroup.is c.stand_up.ensures.since c.stand_up.ensures.told
+
+pub returns-in-OfGroup-clause-maps : goal.returns-in-OfGroup-clause-maps
+returns-in-OfGroup-clause-maps g c = λ n note up.
+    subst (λ x. OnSites (λ o e. StaysMapped o e) x c.stand_up.result.0) (sym c.in-OfGroup.is)
+    (c.stand_up.ensures.maps n note (at_sites (UpNoted n note) (UpNoted n note c.in-OfGroup.group.site) c.args.self c.in-OfGroup.group c.in-OfGroup.is (λ it. it) up))

@@ -8,6 +8,7 @@ use Rattle.vx_diskset.proofs.GroupCalling.{at_none, at_sites, called_rest, group
 use Rattle.vx_grouped.specs.SiteAdds.{SiteAdded, VolumeIn, refuses_volume}
 use Rattle.std.specs.Prelude.{Err, None, Ok, Some, false, IfOk, IsTrue}
 use Rattle.vx_model.specs.declared.errors.Stop.TheVariants.{No as Refused}
+use Rattle.vx_grouped.specs.SiteMaps.{AddedMapped}
 use Rattle.vx_diskset.proofs.disk_set.DiskSet.make_volume.Goals as goal
 
 pub returns-in-OfGroup-clause-made : goal.returns-in-OfGroup-clause-made
@@ -51,3 +52,9 @@ pub returns-in-OfGroup-clause-volume : goal.returns-in-OfGroup-clause-volume
 returns-in-OfGroup-clause-volume g c = λ n note.
     at_sites (UpNoted n note) (IfOk c.make_volume.result (λ vol. OnSites (VolumeIn c.args.name.now c.args.want.now vol) c.args.self.now (OfGroup (record c.in-OfGroup.group { site = c.make_volume.new.self })))) c.args.self.now c.in-OfGroup.group c.in-OfGroup.is
     (λ it. subst (λ x. IfOk c.make_volume.result (λ vol. OnSites (VolumeIn c.args.name.now c.args.want.now vol) x (OfGroup (record c.in-OfGroup.group { site = c.make_volume.new.self })))) (sym c.in-OfGroup.is) (c.make_volume.ensures.volume n note it))
+
+pub returns-in-OfGroup-clause-maps : goal.returns-in-OfGroup-clause-maps
+returns-in-OfGroup-clause-maps g c = λ n note. on_sites (UpNoted n note) (λ o e. AddedMapped o e c.make_volume.result) c.args.self.now c.in-OfGroup.group (record c.in-OfGroup.group { site = c.make_volume.new.self }) c.in-OfGroup.is (c.make_volume.ensures.maps n note)
+
+pub returns-in_default-clause-maps : goal.returns-in_default-clause-maps
+returns-in_default-clause-maps g c = λ n note. at_none (UpNoted n note) _ c.args.self.now c.in_default.not-OfGroup

@@ -6,6 +6,7 @@ use Rattle.vx_diskset.specs.GroupCalls.{CalledOn, OnSites, cut_in}
 use Rattle.vx_diskset.specs.declared.disk_set.DiskSet.TheVariants.{OfGroup}
 use Rattle.vx_diskset.proofs.GroupCalling.{at_none, at_sites, called_rest, group_failing, group_fuse, group_later, on_sites, read_settled}
 use Rattle.vx_grouped.specs.SiteEnds.{PlainRead}
+use Rattle.vx_grouped.specs.SiteMaps.{StaysMapped}
 use Rattle.vx_diskset.proofs.disk_set.DiskSet.read_plain.Goals as goal
 
 pub returns-in-OfGroup-clause-read : goal.returns-in-OfGroup-clause-read
@@ -37,3 +38,10 @@ returns-in_default-clause-since g c = called_rest c.args.self.now
 
 pub returns-in-OfGroup-clause-cut : goal.returns-in-OfGroup-clause-cut
 returns-in-OfGroup-clause-cut g c = sym (ap (λ x. cut_in x) c.in-OfGroup.is)
+
+pub returns-in-OfGroup-clause-maps : goal.returns-in-OfGroup-clause-maps
+returns-in-OfGroup-clause-maps g c = λ n note up fits.
+    on_sites (UpNoted n note) (λ o e. StaysMapped o e) c.args.self.now c.in-OfGroup.group (record c.in-OfGroup.group { site = c.read.new.self }) c.in-OfGroup.is (λ it. c.read.ensures.maps n note it fits) up
+
+pub returns-in_default-clause-maps : goal.returns-in_default-clause-maps
+returns-in_default-clause-maps g c = λ n note up fits. at_none (UpNoted n note) _ c.args.self.now c.in_default.not-OfGroup up

@@ -8,6 +8,7 @@ use Rattle.vx_diskset.specs.GroupCalls.{CalledOn, cut_in}
 use Rattle.vx_diskset.specs.GroupSets.{cut_behind}
 use Rattle.vx_diskset.specs.declared.disk_set.DiskSet.TheVariants.{OfGroup}
 use Rattle.vx_diskset.proofs.GroupCalling.{at_none, at_sites, called_rest, group_failing, group_fuse, group_later, on_sites, wrote_settled}
+use Rattle.vx_grouped.specs.SiteMaps.{WroteMapped}
 use Rattle.vx_diskset.proofs.disk_set.DiskSet.write_plain.Goals as goal
 
 pub returns-in-OfGroup-clause-wrote : goal.returns-in-OfGroup-clause-wrote
@@ -40,3 +41,10 @@ returns-in-OfGroup-clause-since g c = subst (λ x. CalledOn x (OfGroup c.write_s
 
 pub returns-in_default-clause-since : goal.returns-in_default-clause-since
 returns-in_default-clause-since g c = called_rest c.args.self.now
+
+pub returns-in-OfGroup-clause-maps : goal.returns-in-OfGroup-clause-maps
+returns-in-OfGroup-clause-maps g c = λ n note up fits.
+    on_sites (UpNoted n note) (λ o e. WroteMapped (plain_write c.args.volume c.args.start c.args.bytes.now) o e c.write_set.result) c.args.self.now c.in-OfGroup.group c.write_set.new.group c.in-OfGroup.is (λ it. c.write_set.ensures.maps n note it fits) up
+
+pub returns-in_default-clause-maps : goal.returns-in_default-clause-maps
+returns-in_default-clause-maps g c = λ n note up fits. at_none (UpNoted n note) _ c.args.self.now c.in_default.not-OfGroup up

@@ -3,6 +3,7 @@ use Rattle.std.proofs.Common.{ap, subst, sym}
 use Rattle.vx_grouped.specs.GroupSites.{AwayNoted, DownNoted, site_below, site_disks}
 use Rattle.vx_grouped.specs.SiteReturns.{ReturnSince, SiteImports, SiteRecovers}
 use Rattle.vx_watched.specs.Traces.{TellsLess}
+use Rattle.vx_grouped.specs.SiteMaps.{CameMapped}
 use Rattle.vx_grouped.proofs.group_site.GroupSite.import.Goals as goal
 
 pub returns-in-Down-clause-recovered : goal.returns-in-Down-clause-recovered
@@ -24,3 +25,9 @@ returns-in-Deported-clause-since g c = subst (λ e. ReturnSince (site_disks e) (
 
 pub returns-in-Deported-clause-told : goal.returns-in-Deported-clause-told
 returns-in-Deported-clause-told g c = subst (λ e. TellsLess (site_below e) (site_below c.import_idle.result.0)) (sym c.in-Deported.is) c.import_idle.ensures.told
+
+pub returns-in-Down-clause-maps : goal.returns-in-Down-clause-maps
+returns-in-Down-clause-maps g c = subst (λ e. CameMapped e c.recover_idle.result.0 c.recover_idle.result.1) (sym c.in-Down.is) c.recover_idle.ensures.maps
+
+pub returns-in-Deported-clause-maps : goal.returns-in-Deported-clause-maps
+returns-in-Deported-clause-maps g c = subst (λ e. CameMapped e c.import_idle.result.0 c.import_idle.result.1) (sym c.in-Deported.is) c.import_idle.ensures.maps
