@@ -9,7 +9,7 @@ use Rattle.vx_disk.specs.Disks.{Disks}
 use Rattle.vx_disk.specs.Racks.{IsRack}
 use Rattle.vx_disk.specs.Shelf.{Meaning}
 use Rattle.vx_disk.specs.declared.shelf.Shelf.{Ghosts}
-use Rattle.vx_srl.specs.Causes.{BlamesUnit}
+use Rattle.vx_disk.specs.Causes.{BlamesUnit}
 use Rattle.vx_rvg.specs.Groups.{BlamesVolumes}
 use Rattle.vx_rvg.specs.Views.{Core, unit_of}
 use Rattle.vx_rvg.specs.declared.group.Rvg.{Rvg}

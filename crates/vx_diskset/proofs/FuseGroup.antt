@@ -40,6 +40,7 @@ alike_stands core m new alike h stands = record {
   writes = stands.writes;
   place = stands.place;
   maps = record { size = stands.maps.size ∙ sym (alike.contents.size core.units.maps); each = λ b bytes there. keeps_alike m new alike core.units.maps b bytes (stands.maps.each b bytes there) };
+  marks = stands.marks;
   ready = record {
     ring = record {
       is_log = on.is_log;

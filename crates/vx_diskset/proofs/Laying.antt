@@ -7,7 +7,7 @@ use Rattle.std.proofs.lemmas.Option.{slice_get_within}
 use Rattle.vx_disk.specs.Maps.{maps_of}
 use Rattle.vx_model.specs.Content.{Content}
 use Rattle.vx_model.specs.Sizes.{map_blocks, ring_of}
-use Rattle.vx_model.specs.declared.limits.TheConstants.{LINK_PLACES}
+use Rattle.vx_model.specs.declared.limits.TheConstants.{LINK_PLACES, MOST_DISKS}
 use Rattle.vx_model.specs.declared.units.Units.{Units}
 use Rattle.vx_history.specs.Steps.{raw_volumes, raw_content}
 use Rattle.vx_history.specs.World.{Node, Volume}
@@ -15,10 +15,11 @@ use Rattle.vx_disk.specs.Moves.{Blocks, Says, Moves}
 use Rattle.vx_disk.specs.Shelf.{Meaning}
 use Rattle.vx_rvg.specs.Contents.{HasSizes}
 use Rattle.vx_rvg.specs.Views.{unit_of}
+use Rattle.std.proofs.lemmas.Nat.{mul-le}
 use Rattle.std.proofs.lemmas.List.Sums.{sum_by-cons, sum_by_push}
 use Rattle.vx_events.specs.Facts.{values_from}
 use Rattle.vx_events.proofs.Values.{length-values_from, slice_index-values_from, values_from-push}
-use Rattle.vx_diskset.specs.Layouts.{raw_units, CanBeRaw, IsLaid, IsRaw, LiesOn}
+use Rattle.vx_diskset.specs.Layouts.{raw_units, CanBeRaw, IsLaid, IsRaw, LiesOn, maps_room}
 
 -- ---- past a call
 
@@ -92,6 +93,13 @@ maps_fit disks blocks m can size =
     let all = maps_from 1 (disks - 2) blocks m (λ i low. size (1 + i) (omega (arith, low))) in
     let last = size (disks - 1) (omega (arith, can.some)) in
     omega (arith, all, last, can.maps)
+
+-- and those maps are no more than those of the most volumes
+pub maps_few : (disks blocks : ℕ) (m : Meaning) → CanBeRaw disks blocks → disks ≤ MOST_DISKS → ((u : ℕ) → u < disks → m.size u ≡ blocks) → LINK_PLACES * maps_of (raw_units disks).vols m ≤ maps_room blocks
+maps_few disks blocks m can few size =
+    let all = maps_from 1 (disks - 2) blocks m (λ i low. size (1 + i) (omega (arith, low))) in
+    let most = mul-le (disks - 2) (map_blocks blocks) 6 (map_blocks blocks) (omega (arith, few)) (omega arith) in
+    omega (arith, all, most)
 
 -- ---- a raw set as it is made
 

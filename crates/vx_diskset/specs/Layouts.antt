@@ -5,6 +5,7 @@ use Rattle.vx_model.specs.Sizes.{map_blocks, ring_of}
 use Rattle.vx_model.specs.declared.units.Units.{Units}
 use Rattle.vx_history.specs.World.{Node, Volume}
 use Rattle.vx_disk.specs.Shelf.{Meaning}
+use Rattle.vx_rvg.specs.Starts.{Room}
 use Rattle.vx_rvg.specs.Views.{unit_of}
 use Rattle.vx_events.specs.Facts.{values_from}
 
@@ -30,6 +31,15 @@ pub record IsLaid (u : Units) (ring : ℕ) (volumes : List Volume) (sizes : ℕ 
 pub record CanBeRaw (disks blocks : ℕ) : Type 0 where
   pub some : 3 ≤ disks
   pub maps : LINK_PLACES * (disks - 2) * map_blocks blocks ≤ blocks
+
+-- the blocks of change maps for which a start of a raw set on disks of so many blocks has room: as many as the most volumes take
+abbrev pub maps_room : ℕ → ℕ
+maps_room blocks = LINK_PLACES * (MOST_DISKS - 2) * map_blocks blocks
+
+-- memory for the start of a raw set on disks of so many blocks, whose log has so many ring blocks
+pub record IsRoomOf (blocks ring : ℕ) (room : Room) : Type 0 where
+  pub ring_is : room.ring ≡ ring
+  pub maps_are : maps_room blocks ≤ room.maps
 
 -- so many disks of so many blocks, each of them a unit of the shelf, with a raw set on them
 pub record IsRaw (disks blocks ring : ℕ) (volumes : List Volume) (sizes : ℕ → ℕ) (m : Meaning) : Type 0 where

@@ -10,6 +10,9 @@ pub mod ContentFacts
 pub mod EmptyStands
 pub mod FetchGives
 pub mod MakeStands
+pub mod MapStands
+pub mod MarkStands
+pub mod MarkedStands
 pub mod PatchFacts
 pub mod ReadAnswers
 pub mod ReadStands

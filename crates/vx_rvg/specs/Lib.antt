@@ -5,6 +5,7 @@ pub mod Fills
 pub mod Groups
 pub mod Holdings
 pub mod Logging
+pub mod Marks
 pub mod Saves
 pub mod Stands
 pub mod Starts

@@ -11,6 +11,8 @@ mod change;
 mod create;
 mod group;
 mod header;
+mod mark;
+mod marked;
 mod patch;
 mod read;
 mod rvg_core;

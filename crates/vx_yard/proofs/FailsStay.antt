@@ -19,7 +19,7 @@ use Rattle.vx_diskset.specs.Asked.{FailsAs, LeavesAlone, SameFailing, SetsFuse, 
 use Rattle.vx_diskset.specs.Burning.{Burnt, IsLogged}
 use Rattle.vx_diskset.specs.Holds.{KeptBeside}
 use Rattle.vx_diskset.specs.Stands.{SiteStands}
-use Rattle.vx_ringio.specs.Spends.{Passed}
+use Rattle.vx_disk.specs.Spends.{Passed}
 use Rattle.vx_diskset.specs.declared.disk_set.DiskSet.{DiskSet}
 use Rattle.vx_diskset.specs.declared.disk_set.DiskSet.TheVariants.{Bare, Spoiled, Up, Receives, Down, OfGroup, Gone}
 use Rattle.vx_grouped.specs.GroupSites.{GroupSiteStands, site_disks}
