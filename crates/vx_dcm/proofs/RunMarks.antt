@@ -1,6 +1,6 @@
 -- A change of a run of regions, as each map tells it.
 use Rattle.std.proofs.Common.{◌≡◌, ◌∙◌, ◌⊎◌, inl, inr, ⊎_elim, ℕ, ◌+◌, ◌-◌, ◌*◌, ◌<◌, ◌≤◌, Bool, true, List, length, take, refl, ap, subst, arith}
-use Rattle.std.specs.Prelude.{◌&&◌, if◌then◌else◌, leb, slice_index}
+use Rattle.std.specs.Prelude.{if◌then◌else◌, leb, slice_index}
 use Rattle.std.proofs.lemmas.Bool.{and_parts, cases_eq, cases_lt, le-leb, leb-true}
 use Rattle.vx_model.specs.Sizes.{map_blocks, regions_of}
 use Rattle.vx_disk.specs.Moves.{Moves, Run}

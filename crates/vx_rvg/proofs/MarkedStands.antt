@@ -1,17 +1,17 @@
 -- A group that stands, while a write is logged whose regions are marked first.
-use Rattle.std.proofs.Common.{◌≡◌, ◌∙◌, ◌⊎◌, inl, inr, ⊎_elim, ℕ, zero, suc, ◌+◌, ◌-◌, ◌*◌, ◌/◌, ◌%◌, ◌^◌, ◌<◌, ◌≤◌, Bool, true, false, List, [], ◌∷◌, ◌++◌, length, map, take, get_or, Option, Some, None, IsTrue, IsFalse, refl, sym, ap, subst, arith, append-nil}
+use Rattle.std.proofs.Common.{◌≡◌, ◌∙◌, ◌⊎◌, inl, inr, ⊎_elim, ℕ, zero, suc, ◌+◌, ◌-◌, ◌/◌, ◌%◌, ◌^◌, ◌<◌, ◌≤◌, Bool, true, false, List, [], ◌∷◌, length, map, take, get_or, Option, Some, None, IsTrue, refl, sym, ap, subst, arith, append-nil}
 use Rattle.std.specs.Prelude.{if◌then◌else◌, ltb, slice_index, IfErr, OnOk, Result, Ok, Err}
 use Rattle.std.specs.Int.{div_ceil}
 use Rattle.std.proofs.Math.Nat.{zero-div}
 use Rattle.std.proofs.lemmas.Bool.{cases_lt, eqb-true, lt-ltb}
 use Rattle.std.proofs.lemmas.Bool.Decides.{nat_tests}
 use Rattle.std.proofs.lemmas.List.{get_or-map, get_or_past, length-map}
-use Rattle.vx_model.specs.Content.{Write, block_of, blocks_in}
+use Rattle.vx_model.specs.Content.{Write, block_of}
 use Rattle.vx_model.specs.Sizes.{regions_of}
 use Rattle.vx_model.specs.declared.no.No.{No}
 use Rattle.vx_model.specs.declared.no.No.TheVariants as no
 use Rattle.vx_disk.specs.Burns.{FallsShort, MakesCalls}
-use Rattle.vx_disk.specs.Causes.{BlamesUnit, DeviceCause, WithDisks}
+use Rattle.vx_disk.specs.Causes.{BlamesUnit, WithDisks}
 use Rattle.vx_disk.specs.Disks.{Disks}
 use Rattle.vx_disk.specs.Moves.{Blocks, Moves, Run, Union}
 use Rattle.vx_disk.specs.Shelf.{Image, Meaning}
@@ -23,10 +23,10 @@ use Rattle.vx_bitmap.specs.Bits.{bit, is_marked}
 use Rattle.vx_bitmap.specs.Maps.{map_block_count, regions_mapped}
 use Rattle.vx_dcm.specs.Places.{HasRegion, Maps, MapsBetween, SlotsMarked, SomeChanged}
 use Rattle.vx_srl.specs.Views.{BodyFits, Log}
-use Rattle.vx_rvg.specs.Groups.{Ended, GroupFails, Writes, core_halted, core_with_write}
+use Rattle.vx_rvg.specs.Groups.{Ended, Writes}
 use Rattle.vx_rvg.specs.Holdings.{Holding, with_writes}
 use Rattle.vx_rvg.specs.Marks.{AllMarkedIn, BlamesMarkedWrite, ByMarks, MarkedWriting, Marking, Marks, MarksBetween, Remarks, blocks_over, write_last, map_run, marked_in, with_blocks_of_maps, with_marks}
-use Rattle.vx_rvg.specs.Stands.{FoundAs, FoundGroup, Stands, Writing}
+use Rattle.vx_rvg.specs.Stands.{FoundAs, Stands, Writing}
 use Rattle.vx_rvg.specs.Views.{Core, IsSound, unit_of, volume_size}
 use Rattle.vx_rvg.proofs.MarkStands.{marks_as, over_at, over_long, stays_up}
 use Rattle.vx_rvg.proofs.WriteLog.{cause_from}

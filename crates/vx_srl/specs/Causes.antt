@@ -1,6 +1,5 @@
 -- Why a call on a log or on the volumes below it is refused.
 use Rattle.std.specs.Prelude.{ℕ, IsTrue, Option, Result, Ok, Err}
-use Rattle.vx_model.specs.declared.no.No.{No}
 use Rattle.vx_disk.specs.declared.shelf.ShelfError.{ShelfError}
 use Rattle.vx_disk.specs.Causes.{BlamesUnit, DeviceCause, refusal_of}
 use Rattle.vx_disk.specs.Disks.{Disks}

@@ -1,5 +1,5 @@
 -- The change of a run, block by block.
-use Rattle.std.proofs.Common.{◌≡◌, ◌∙◌, ◌+◌, ◌*◌, ◌/◌, ℕ, List, refl, subst, arith}
+use Rattle.std.proofs.Common.{◌≡◌, ◌∙◌, ◌+◌, ◌*◌, ◌/◌, ℕ, refl, subst, arith}
 use Rattle.std.proofs.lemmas.Result.{err_from_is_err_and}
 use Rattle.vx_disk.proofs.Naming.{names_done, names_exit}
 use Rattle.vx_disk.proofs.Runs.{same_Goes}

@@ -1,5 +1,5 @@
 -- `start_in`: clauses cause, left, starts, moves, spent and spends; what `take_up` asks; the invariant of what it hands on.
-use Rattle.std.proofs.Common.{ℕ, ◌*◌, ◌≤◌, ◌∙◌, ap, arith, subst, sym}
+use Rattle.std.proofs.Common.{◌*◌, ◌≤◌, ◌∙◌, ap, arith, subst, sym}
 use Rattle.vx_model.specs.declared.limits.TheConstants.{LINK_PLACES}
 use Rattle.vx_disk.specs.Maps.{maps_of}
 use Rattle.vx_rvg.specs.Starts.{Room}
