@@ -1,6 +1,6 @@
 -- A group that stands, while marks in its change maps change.
-use Rattle.std.proofs.Common.{◌≡◌, ◌∙◌, ◌⊎◌, inl, inr, ⊎_elim, ℕ, zero, suc, ◌+◌, ◌*◌, ◌/◌, ◌%◌, ◌<◌, ◌≤◌, Bool, true, false, List, [], ◌∷◌, length, get_or, Option, Some, None, MatchOption, IsTrue, IsFalse, refl, sym, ap, subst, arith, add-one}
-use Rattle.std.specs.Prelude.{if◌then◌else◌, ltb, slice_get, OnOk, Result, Ok, Err}
+use Rattle.std.proofs.Common.{◌≡◌, ◌∙◌, ◌⊎◌, inl, inr, ⊎_elim, ℕ, zero, suc, ◌+◌, ◌*◌, ◌/◌, ◌%◌, ◌<◌, ◌≤◌, Bool, true, false, List, [], ◌∷◌, length, get_or, Option, Some, None, MatchOption, IsTrue, IsFalse, refl, sym, ap, subst, arith}
+use Rattle.std.specs.Prelude.{if◌then◌else◌, ltb}
 use Rattle.std.proofs.lemmas.Bool.{cases_lt, lt-ltb}
 use Rattle.std.proofs.lemmas.Bool.Decides.{nat_tests}
 use Rattle.std.proofs.lemmas.List.{get_or_past}
@@ -18,14 +18,12 @@ use Rattle.vx_bitmap.specs.Bits.{is_marked}
 use Rattle.vx_bitmap.specs.Maps.{Lies, MapOn, SamePlace, is_marked_in, map_block_count, regions_mapped}
 use Rattle.vx_bitmap.proofs.Blocks.{by_block}
 use Rattle.vx_dcm.specs.Places.{DcmLoaded, MapChanging, Maps, MapsBetween, SomeChanged}
-use Rattle.vx_overlay.specs.Pending.{newest}
 use Rattle.vx_overlay.specs.Writes.{newest_of}
-use Rattle.vx_ringlog.specs.Chain.{Recovers}
 use Rattle.vx_ringlog.specs.Logs.{Seal}
 use Rattle.vx_ringlog.proofs.Calls.{call_safe}
 use Rattle.vx_ringio.specs.Classes.{classes}
 use Rattle.vx_ringio.proofs.Following.{image_beside, tracks_beside}
-use Rattle.vx_rvg.specs.Contents.{HasContent, writes_of}
+use Rattle.vx_rvg.specs.Contents.{writes_of}
 use Rattle.vx_rvg.specs.Groups.{core_halted}
 use Rattle.vx_rvg.specs.Holdings.{Holding}
 use Rattle.vx_rvg.specs.Marks.{Marking, MarksBetween, Remarks, blocks_over, map_run, marked_in, with_blocks_of_maps, with_marks}

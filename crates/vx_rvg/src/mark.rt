@@ -50,12 +50,7 @@ fn mark_regions<S: Shelf>(
 }
 
 // Changes all marks of a place of a link, durably. A device call that fails halts the group.
-fn mark_slot<S: Shelf>(
-    shelf: &mut S,
-    core: &mut RvgCore,
-    slot: u32,
-    on: bool,
-) -> Result<(), No>
+fn mark_slot<S: Shelf>(shelf: &mut S, core: &mut RvgCore, slot: u32, on: bool) -> Result<(), No>
     requires sound { IsSound core.old (S.meaning shelf.old) }
     requires up { IsFalse (S.meaning shelf.old).down }
     requires exists { slot < LINK_PLACES }
@@ -144,12 +139,7 @@ fn mark_one<S: Shelf>(
 }
 
 // Changes all marks of a place of a link, where no call answered 7 before and the shelf is up.
-fn mark_every<S: Shelf>(
-    shelf: &mut S,
-    core: &mut RvgCore,
-    slot: u32,
-    on: bool,
-) -> Result<(), No>
+fn mark_every<S: Shelf>(shelf: &mut S, core: &mut RvgCore, slot: u32, on: bool) -> Result<(), No>
     requires sound { IsSound core.old (S.meaning shelf.old) }
     requires exists { slot < LINK_PLACES }
     ensures answers { MarkIs (halted_or core.old.halted None) core.old (S.meaning shelf.old) (S.meaning shelf.new) core.new result }

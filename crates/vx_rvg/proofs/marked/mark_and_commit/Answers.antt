@@ -1,5 +1,5 @@
 -- The marks of a write, and the write behind them.
-use Rattle.std.proofs.Common.{◌≡◌, ◌∙◌, ℕ, ◌+◌, ◌/◌, ◌<◌, ◌≤◌, Bool, [], ◌∷◌, inl, length, true, ap, arith, subst, sym}
+use Rattle.std.proofs.Common.{◌≡◌, ◌∙◌, ℕ, ◌+◌, ◌/◌, ◌<◌, ◌≤◌, [], ◌∷◌, inl, length, true, ap, arith, subst, sym}
 use Rattle.std.proofs.lemmas.Result.{on_ok_weaker}
 use Rattle.vx_model.specs.Content.{blocks_in}
 use Rattle.vx_disk.specs.Burns.{FallsShort}
@@ -10,7 +10,7 @@ use Rattle.vx_dcm.specs.Places.{HasRegion, IsOfSlots, IsPlaceOfSlots, Maps, Maps
 use Rattle.vx_dcm.proofs.SlotMarks.{slots_all}
 use Rattle.vx_srl.specs.Views.{Log, blocks_needed, free_of, most_number}
 use Rattle.vx_rvg.specs.Holdings.{with_writes}
-use Rattle.vx_rvg.specs.Marks.{MarkedWriting, write_last, map_run, with_marks}
+use Rattle.vx_rvg.specs.Marks.{MarkedWriting, map_run, with_marks}
 use Rattle.vx_rvg.specs.Stands.{Stands}
 use Rattle.vx_rvg.specs.Views.{Core, last_of, volume_size}
 use Rattle.vx_rvg.proofs.Blaming.{works_behind}

@@ -1,7 +1,7 @@
 -- `create`: clauses stands, moves, left and spends; what `load_in` asks; the invariant of what it hands on.
 use Rattle.std.proofs.Common.{◌≡◌, ◌≤◌, ◌∙◌, ◌+◌, ◌*◌, ℕ, Bool, IsTrue, ap, arith, subst, sym}
 use Rattle.vx_model.specs.Sizes.{ring_of}
-use Rattle.vx_disk.specs.Moves.{Anything, Run}
+use Rattle.vx_disk.specs.Moves.{Anything}
 use Rattle.vx_disk.specs.Shelf.{Meaning}
 use Rattle.vx_disk.proofs.Spending.{then_spends}
 use Rattle.vx_rvg.proofs.ContentFacts.{maps_moved}
