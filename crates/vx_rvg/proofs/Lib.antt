@@ -11,7 +11,9 @@ pub mod EmptyStands
 pub mod FetchGives
 pub mod MakeStands
 pub mod MapStands
+pub mod MarkAbove
 pub mod MarkStands
+pub mod MarkThrough
 pub mod MarkedStands
 pub mod PatchFacts
 pub mod ReadAnswers

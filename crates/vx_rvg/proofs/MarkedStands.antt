@@ -165,9 +165,8 @@ module _ (core c1 : Core) (is : c1 ≡ record core { maps = c1.maps }) where
   found_here : (i : Image) (h : Holding) → FoundAs c1 i h → FoundAs core i h
   found_here i h found = subst (λ (k : Core). FoundAs k i h) is found
 
-  module _ (mine : ℕ → Type 0) (x : Write) (m mid : Meaning) (sound : IsSound core m) (sound1 : IsSound c1 mid) (remarks : Remarks core c1 m mid)
-      (bits : SomeChanged mine true (regions_mapped core.maps.map) (is_marked core.maps.map.bytes) (is_marked c1.maps.map.bytes))
-      (all : (r : ℕ) → r < regions_mapped core.maps.map → mine r → is_marked c1.maps.map.bytes r ≡ true) (long : length c1.maps.map.bytes ≡ length core.maps.map.bytes) where
+  module _ (mine : ℕ → Type 0) (m mid : Meaning) (sound : IsSound core m) (sound1 : IsSound c1 mid) (remarks : Remarks core c1 m mid)
+      (bits : SomeChanged mine true (regions_mapped core.maps.map) (is_marked core.maps.map.bytes) (is_marked c1.maps.map.bytes)) (long : length c1.maps.map.bytes ≡ length core.maps.map.bytes) where
     module _ (h : Holding) (stands : Stands core h m) where
       abbrev over : List (List ℕ)
       over = blocks_over c1.maps.map.bytes (map_block_count c1.maps.map) 0 h.maps
@@ -206,27 +205,30 @@ module _ (core c1 : Core) (is : c1 ≡ record core { maps = c1.maps }) where
         };
       }
 
-      pub over_all : AllMarkedIn core.maps mine over
-      over_all = record { each = λ r low own. now_as r low ∙ all r low own }
+    -- ---- all of them are marked, and the write behind them is logged
 
-      by_count : (i : Image) (k : ℕ) → FoundAs c1 i (with_writes (take k (x ∷ [])) (with_marks c1.maps h))
-          → FoundAs core i (with_blocks_of_maps over h) ⊎ (AllMarkedIn core.maps mine over × FoundAs core i (with_writes (x ∷ []) (with_blocks_of_maps over h)))
-      by_count i zero found =
-          inl (subst (λ (ws : List Write). FoundAs core i (record { low = h.low; writes = ws; place = h.place; content = h.content; maps = over })) (append-nil h.writes) (found_here i (with_writes [] (with_marks c1.maps h)) found))
-      by_count i (suc zero) found = inr (over_all, found_here i (with_writes (x ∷ []) (with_marks c1.maps h)) found)
-      by_count i (suc (suc k)) found = inr (over_all, found_here i (with_writes (x ∷ []) (with_marks c1.maps h)) found)
+    module _ (x : Write) (all : (r : ℕ) → r < regions_mapped core.maps.map → mine r → is_marked c1.maps.map.bytes r ≡ true) where
+      over_all : (h : Holding) (stands : Stands core h m) → AllMarkedIn core.maps mine (over h stands)
+      over_all h stands = record { each = λ r low own. now_as h stands r low ∙ all r low own }
 
-    marked_writing : (i : Image) → Writing c1 (x ∷ []) mid i → MarkedWriting core mine x m i
-    marked_writing i writing = record {
-      each = λ h stands.
-          let got = writing.each (with_marks c1.maps h) (stands1 h stands) in
-          (over h stands, over_between h stands, by_count h stands i got.0 got.1);
-    }
+      by_count : (h : Holding) (stands : Stands core h m) (i : Image) (k : ℕ) → FoundAs c1 i (with_writes (take k (x ∷ [])) (with_marks c1.maps h))
+          → FoundAs core i (with_blocks_of_maps (over h stands) h) ⊎ (AllMarkedIn core.maps mine (over h stands) × FoundAs core i (with_writes (x ∷ []) (with_blocks_of_maps (over h stands) h)))
+      by_count h stands i zero found =
+          inl (subst (λ (ws : List Write). FoundAs core i (record { low = h.low; writes = ws; place = h.place; content = h.content; maps = over h stands })) (append-nil h.writes) (found_here i (with_writes [] (with_marks c1.maps h)) found))
+      by_count h stands i (suc zero) found = inr (over_all h stands, found_here i (with_writes (x ∷ []) (with_marks c1.maps h)) found)
+      by_count h stands i (suc (suc k)) found = inr (over_all h stands, found_here i (with_writes (x ∷ []) (with_marks c1.maps h)) found)
 
-    abbrev both : Blocks
-    both = Union (map_run core) (Run core.units.srl 0 (core.log.ring + 2))
+      marked_writing : (i : Image) → Writing c1 (x ∷ []) mid i → MarkedWriting core mine x m i
+      marked_writing i writing = record {
+        each = λ h stands.
+            let got = writing.each (with_marks c1.maps h) (stands1 h stands) in
+            (over h stands, over_between h stands, by_count h stands i got.0 got.1);
+      }
 
-    pub marked_moves : (last : Meaning) → Moves (map_run core) (Marking core mine true m) m mid → Moves (Run c1.units.srl 0 (c1.log.ring + 2)) (Writing c1 (x ∷ []) mid) mid last → Moves both (MarkedWriting core mine x m) m last
-    marked_moves last first second =
-        goes_on both (Run c1.units.srl 0 (c1.log.ring + 2)) (MarkedWriting core mine x m) (Writing c1 (x ∷ []) mid) m mid last (marks_first core mine x m mid first) second
-        (λ u b run. record { here = inr (subst (λ (k : Core). Run k.units.srl 0 (k.log.ring + 2) u b) is run) }) (λ i beside writing. marked_writing i writing)
+      abbrev both : Blocks
+      both = Union (map_run core) (Run core.units.srl 0 (core.log.ring + 2))
+
+      pub marked_moves : (last : Meaning) → Moves (map_run core) (Marking core mine true m) m mid → Moves (Run c1.units.srl 0 (c1.log.ring + 2)) (Writing c1 (x ∷ []) mid) mid last → Moves both (MarkedWriting core mine x m) m last
+      marked_moves last first second =
+          goes_on both (Run c1.units.srl 0 (c1.log.ring + 2)) (MarkedWriting core mine x m) (Writing c1 (x ∷ []) mid) m mid last (marks_first core mine x m mid first) second
+          (λ u b run. record { here = inr (subst (λ (k : Core). Run k.units.srl 0 (k.log.ring + 2) u b) is run) }) (λ i beside writing. marked_writing i writing)

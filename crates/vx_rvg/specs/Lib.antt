@@ -1,3 +1,4 @@
+pub mod Above
 pub mod Brings
 pub mod Commits
 pub mod Contents

@@ -52,24 +52,24 @@ impl<S: Shelf> Rvg<S> {
             → blocks_needed bytes.now ≤ free_of self.old.core.log }
         ensures answers { ByMarks marks
             (WriteIs (write_refusal self.old.core ((S.meaning self.old.shelf).size (unit_of self.old.core.units.vols vol)) start (blocks_in bytes.now))
-                self.old.core vol start bytes.now (S.meaning self.old.shelf) (S.meaning self.new.shelf) self.new.core result)
+            self.old.core vol start bytes.now (S.meaning self.old.shelf) (S.meaning self.new.shelf) self.new.core result)
             (WriteIs (write_refusal self.old.core ((S.meaning self.old.shelf).size (unit_of self.old.core.units.vols vol)) start (blocks_in bytes.now))
-                (record self.old.core { maps = self.new.core.maps }) vol start bytes.now (S.meaning self.old.shelf) (S.meaning self.new.shelf) self.new.core result) }
+            (record self.old.core { maps = self.new.core.maps }) vol start bytes.now (S.meaning self.old.shelf) (S.meaning self.new.shelf) self.new.core result) }
         ensures unchanged { IsSome (write_refusal self.old.core ((S.meaning self.old.shelf).size (unit_of self.old.core.units.vols vol)) start (blocks_in bytes.now))
             → self.new.shelf ≡ self.old.shelf }
         ensures stands { ByMarks marks
             (OnOk result ((h : Holding) → Stands self.old.core h (S.meaning self.old.shelf)
-                → Stands self.new.core (with_writes (record { volume = vol; start = start; bytes = bytes.now } ∷ []) h) (S.meaning self.new.shelf)))
+            → Stands self.new.core (with_writes (record { volume = vol; start = start; bytes = bytes.now } ∷ []) h) (S.meaning self.new.shelf)))
             (OnOk result ((h : Holding) → Stands self.old.core h (S.meaning self.old.shelf)
-                → Stands self.new.core (with_writes (record { volume = vol; start = start; bytes = bytes.now } ∷ []) (with_marks self.new.core.maps h)) (S.meaning self.new.shelf))) }
+            → Stands self.new.core (with_writes (record { volume = vol; start = start; bytes = bytes.now } ∷ []) (with_marks self.new.core.maps h)) (S.meaning self.new.shelf))) }
         ensures marked { OnOk result (WriteMarked self.new.core marks vol start (blocks_in bytes.now)) }
         ensures part { MapsBetween (IsOfSlots marks vol (write_first start) (write_last start (blocks_in bytes.now))) true self.old.core.maps self.new.core.maps }
         ensures moves { ByMarks marks
             (Moves (Run self.old.core.units.srl 0 (self.old.core.log.ring + 2))
-                (Writing self.old.core (record { volume = vol; start = start; bytes = bytes.now } ∷ []) (S.meaning self.old.shelf)) (S.meaning self.old.shelf) (S.meaning self.new.shelf))
+            (Writing self.old.core (record { volume = vol; start = start; bytes = bytes.now } ∷ []) (S.meaning self.old.shelf)) (S.meaning self.old.shelf) (S.meaning self.new.shelf))
             (Moves (Union (map_run self.old.core) (Run self.old.core.units.srl 0 (self.old.core.log.ring + 2)))
-                (MarkedWriting self.old.core (write_places self.old.core marks vol start (blocks_in bytes.now)) (record { volume = vol; start = start; bytes = bytes.now }) (S.meaning self.old.shelf))
-                (S.meaning self.old.shelf) (S.meaning self.new.shelf)) }
+            (MarkedWriting self.old.core (write_places self.old.core marks vol start (blocks_in bytes.now)) (record { volume = vol; start = start; bytes = bytes.now }) (S.meaning self.old.shelf))
+            (S.meaning self.old.shelf) (S.meaning self.new.shelf)) }
         ensures calls { ByMarks marks
             (OnOk result (BodyFits self.old.core.log bytes.now → MakesCalls 4 (S.meaning self.old.shelf) (S.meaning self.new.shelf)))
             (WriteMarked self.old.core marks vol start (blocks_in bytes.now) → OnOk result (BodyFits self.old.core.log bytes.now → MakesCalls 4 (S.meaning self.old.shelf) (S.meaning self.new.shelf))) }
@@ -86,14 +86,7 @@ impl<S: Shelf> Rvg<S> {
         if marks == 0 {
             return write_plain(&mut self.shelf, &mut self.core, vol, start, bytes);
         }
-        write_marked(
-            &mut self.shelf,
-            &mut self.core,
-            vol,
-            start,
-            bytes,
-            marks,
-        )
+        write_marked(&mut self.shelf, &mut self.core, vol, start, bytes, marks)
     }
 
     /// Reads 1 to 16 blocks: the content after all logged writes. It changes nothing.

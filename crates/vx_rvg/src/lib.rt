@@ -6,6 +6,7 @@
 //! A group commit is begun, writes are staged one after another, and sealed together.
 #![tactic(auto)]
 
+mod above;
 mod apply;
 mod change;
 mod create;

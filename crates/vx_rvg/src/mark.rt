@@ -16,8 +16,8 @@ use crate::{Rvg, RvgCore};
 use vx_disk::Shelf;
 use vx_model::No;
 
-// Changes the marks of a run of regions, durably. A device call that fails halts the group.
-fn mark_regions<S: Shelf>(
+/// Changes the marks of a run of regions, durably. A device call that fails halts the group.
+pub(crate) fn mark_regions<S: Shelf>(
     shelf: &mut S,
     core: &mut RvgCore,
     slot: u32,
@@ -33,6 +33,9 @@ fn mark_regions<S: Shelf>(
     ensures marks { Marks core.old (S.meaning shelf.old) (S.meaning shelf.new) core.new result }
     ensures marked { OnOk result (AllAre first last on (has_mark core.new.maps slot vol)) }
     ensures part { MapsBetween (IsOfRun slot vol first last) on core.old.maps core.new.maps }
+    ensures bits { SomeChanged (IsPlaceAmong (region_place core.old.maps slot vol first) (region_place core.old.maps slot vol last)) on (regions_mapped core.old.maps.map) (is_marked core.old.maps.map.bytes) (is_marked core.new.maps.map.bytes) }
+    ensures place { SamePlace core.old.maps.map core.new.maps.map }
+    ensures sizes { core.new.maps.sizes ≡ core.old.maps.sizes }
     ensures nothing { AllAre first last on (has_mark core.old.maps slot vol) → shelf.new ≡ shelf.old }
     ensures sound { IsSound core.new (S.meaning shelf.new) }
     ensures stands { OnOk result (Remarks core.old core.new (S.meaning shelf.old) (S.meaning shelf.new)) }
@@ -50,12 +53,7 @@ fn mark_regions<S: Shelf>(
 }
 
 // Changes all marks of a place of a link, durably. A device call that fails halts the group.
-fn mark_slot<S: Shelf>(
-    shelf: &mut S,
-    core: &mut RvgCore,
-    slot: u32,
-    on: bool,
-) -> Result<(), No>
+fn mark_slot<S: Shelf>(shelf: &mut S, core: &mut RvgCore, slot: u32, on: bool) -> Result<(), No>
     requires sound { IsSound core.old (S.meaning shelf.old) }
     requires up { IsFalse (S.meaning shelf.old).down }
     requires exists { slot < LINK_PLACES }
@@ -144,12 +142,7 @@ fn mark_one<S: Shelf>(
 }
 
 // Changes all marks of a place of a link, where no call answered 7 before and the shelf is up.
-fn mark_every<S: Shelf>(
-    shelf: &mut S,
-    core: &mut RvgCore,
-    slot: u32,
-    on: bool,
-) -> Result<(), No>
+fn mark_every<S: Shelf>(shelf: &mut S, core: &mut RvgCore, slot: u32, on: bool) -> Result<(), No>
     requires sound { IsSound core.old (S.meaning shelf.old) }
     requires exists { slot < LINK_PLACES }
     ensures answers { MarkIs (halted_or core.old.halted None) core.old (S.meaning shelf.old) (S.meaning shelf.new) core.new result }

@@ -223,7 +223,8 @@ impl<S: Shelf> Rvg<S> {
         ensures spent { IfErr result (λ e. Spends (S.meaning shelf) (S.meaning e.0)) }
         ensures works { IfOk result (λ g. Works (S.meaning shelf).disks units.now.srl) }
     {
-        let Ok(room) = StartRoom::new(alloc, shelf.size(units.srl), room_blocks(units, &shelf)) else {
+        let Ok(room) = StartRoom::new(alloc, shelf.size(units.srl), room_blocks(units, &shelf))
+        else {
             return Err((shelf, Stop::OutOfMemory));
         };
         match Rvg::start_in(room, shelf, units) {

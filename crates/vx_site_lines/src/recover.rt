@@ -130,7 +130,13 @@ fn stand_up<R: Rack>(
 
 // Starts the group of a site that is down, on disks of so many blocks, and says how it stands. Disks that tell nothing go down again where
 // their log keeps what no site of these can have.
-fn rise<R: Rack>(yard: &mut Yard<R>, alloc: Global, site: usize, blocks: u64, room: RiseRoom) -> Said
+fn rise<R: Rack>(
+    yard: &mut Yard<R>,
+    alloc: Global,
+    site: usize,
+    blocks: u64,
+    room: RiseRoom,
+) -> Said
     requires facts { site < length yard.old.facts.items }
     requires many { length yard.old.facts.items ≤ MOST_SITES }
     requires disk_set { site < length yard.old.disk_sets.items }

@@ -2,7 +2,7 @@
 use Rattle.vx_dcm.specs.Places.{IsPlaceAmong, IsOfRun, region_place}
 use Rattle.vx_rvg.specs.Views.{Core}
 use Rattle.vx_rvg.specs.contracts.rvg_core.RvgCore.{the_view}
-use Rattle.vx_rvg.proofs.MarkStands.{stays_up, told_blames, told_fails, told_halted, told_is, told_lies, told_moves, told_part, told_rests, told_sound}
+use Rattle.vx_rvg.proofs.MarkStands.{stays_up, told_bits, told_blames, told_fails, told_halted, told_is, told_lies, told_moves, told_part, told_place, told_rests, told_sizes, told_sound}
 use Rattle.vx_rvg.proofs.mark.mark_regions.Goals as goal
 
 pub mark_run-requires-clause-lies : goal.mark_run-requires-clause-lies
@@ -46,3 +46,14 @@ returns-in-Err-clause-moves g c =
 pub returns-in-Err-clause-blames : goal.returns-in-Err-clause-blames
 returns-in-Err-clause-blames g c =
     told_blames (the_view c.core.inside) c.args.core.now c.core.view_is (g.S.Shelf.meaning c.args.shelf.now) c.requires.sound (g.S.Shelf.meaning c.args.shelf.now).disks c.in-Err.no c.in-Err.ensures.blames
+
+pub returns-in-Err-clause-bits : goal.returns-in-Err-clause-bits
+returns-in-Err-clause-bits g c =
+    told_bits (the_view c.core.inside) c.args.core.now c.core.view_is c.mark_run.new.self c.in-Err.no c.halt.new.self c.halt.ensures
+    (λ (k : Core). IsPlaceAmong (region_place k.maps c.args.slot c.args.vol c.args.first) (region_place k.maps c.args.slot c.args.vol c.args.last)) c.args.on c.mark_run.ensures.bits
+
+pub returns-in-Err-clause-place : goal.returns-in-Err-clause-place
+returns-in-Err-clause-place g c = told_place (the_view c.core.inside) c.args.core.now c.core.view_is c.mark_run.new.self c.in-Err.no c.halt.new.self c.halt.ensures c.mark_run.ensures.place
+
+pub returns-in-Err-clause-sizes : goal.returns-in-Err-clause-sizes
+returns-in-Err-clause-sizes g c = told_sizes (the_view c.core.inside) c.args.core.now c.core.view_is c.mark_run.new.self c.in-Err.no c.halt.new.self c.halt.ensures c.mark_run.ensures.sizes

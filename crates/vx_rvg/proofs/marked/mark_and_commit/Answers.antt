@@ -108,8 +108,8 @@ returns-clause-part g c =
 pub returns-clause-moves : goal.returns-clause-moves
 returns-clause-moves g c =
     subst (λ (n : ℕ). Moves (Union (map_run c.args.core.now) (Run c.args.core.now.units.srl 0 (c.args.core.now.log.ring + 2))) (MarkedWriting c.args.core.now (λ (r : ℕ). IsPlaceOfSlots c.args.core.now.maps c.args.marks c.args.vol (c.args.start / 64) n r) (record { volume = c.args.vol; start = c.args.start; bytes = c.args.bytes.now }) (g.S.Shelf.meaning c.args.shelf.now)) (g.S.Shelf.meaning c.args.shelf.now) (g.S.Shelf.meaning c.commit.new.shelf)) c.end_region-last.ensures
-    (marked_moves c.args.core.now c.mark_named.new.core c.in_default.ensures.marks.0 (λ (r : ℕ). IsPlaceOfSlots c.args.core.now.maps c.args.marks c.args.vol (c.args.start / 64) c.end_region-last.result r) (record { volume = c.args.vol; start = c.args.start; bytes = c.args.bytes.now }) (g.S.Shelf.meaning c.args.shelf.now) (g.S.Shelf.meaning c.mark_named.new.shelf) c.requires.sound c.mark_named.ensures.sound c.in_default.ensures.stands c.mark_named.ensures.bits
-    (λ r low own. slots_all c.args.core.now.maps c.mark_named.new.core.maps c.args.marks c.args.vol (c.args.start / 64) c.end_region-last.result c.mark_named.ensures.sizes c.in_default.ensures.marked r own) c.mark_named.ensures.place.long
+    (marked_moves c.args.core.now c.mark_named.new.core c.in_default.ensures.marks.0 (λ (r : ℕ). IsPlaceOfSlots c.args.core.now.maps c.args.marks c.args.vol (c.args.start / 64) c.end_region-last.result r) (g.S.Shelf.meaning c.args.shelf.now) (g.S.Shelf.meaning c.mark_named.new.shelf) c.requires.sound c.mark_named.ensures.sound c.in_default.ensures.stands c.mark_named.ensures.bits c.mark_named.ensures.place.long
+    (record { volume = c.args.vol; start = c.args.start; bytes = c.args.bytes.now }) (λ r low own. slots_all c.args.core.now.maps c.mark_named.new.core.maps c.args.marks c.args.vol (c.args.start / 64) c.end_region-last.result c.mark_named.ensures.sizes c.in_default.ensures.marked r own)
     (g.S.Shelf.meaning c.commit.new.shelf) c.mark_named.ensures.moves c.commit.ensures.moves)
 
 pub returns-clause-calls : goal.returns-clause-calls
