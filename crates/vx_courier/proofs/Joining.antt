@@ -9,7 +9,7 @@ use Rattle.vx_model.specs.declared.history.Line.{Line}
 use Rattle.vx_model.proofs.Lists.{found_more}
 use Rattle.vx_history.specs.Gatherings.{came_after, completes, key_of as world_key, left_by}
 use Rattle.vx_history.specs.Sends.{parts_of as parts_in}
-use Rattle.vx_history.specs.World.{DataAck, Gathering, Hello, Key as WorldKey, Message, NetAck, Packet, Update}
+use Rattle.vx_history.specs.World.{DataAck, Gathering, Hello, Message, NetAck, Packet, Update}
 use Rattle.vx_packet.specs.Assemblies.{Assembled, HeldParts, TakesPart, key_in_part, parts_after, parts_before, same_part_key}
 use Rattle.vx_packet.specs.Gathering.{Parts, all_parts_came}
 use Rattle.vx_packet.specs.Messages.{chunk, count_of_parts, payload_of, row}
@@ -20,7 +20,6 @@ use Rattle.vx_packet.specs.declared.assembly.Taken.TheVariants as taken
 use Rattle.vx_packet.specs.declared.key.Key.{Key}
 use Rattle.vx_packet.specs.declared.message.Envelope.{Envelope}
 use Rattle.vx_packet.specs.declared.message.Message.{Message as Spelled}
-use Rattle.vx_packet.specs.declared.part.Part.{Part}
 use Rattle.vx_packet.proofs.KeyLemmas.{same_key-is}
 use Rattle.vx_packet.proofs.PacketLemmas.{payload_in-packet_of}
 use Rattle.vx_packet.proofs.TakingLemmas.{fresh, key-part, none-bad, parts-key, same_key-refl, step-kept, step-whole}

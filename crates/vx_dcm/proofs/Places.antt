@@ -4,9 +4,9 @@ use Rattle.std.specs.Prelude.{slice_index}
 use Rattle.std.specs.Int.{div_ceil}
 use Rattle.std.proofs.lemmas.Bool.{cases_eq, cases_lt}
 use Rattle.std.proofs.lemmas.List.{get_or-take, length-take, take-take}
-use Rattle.std.proofs.lemmas.List.Sums.{sum_by_more_le, sum_by-take-le}
+use Rattle.std.proofs.lemmas.List.Sums.{sum_by_more_le}
 use Rattle.vx_model.specs.Sizes.{map_blocks}
-use Rattle.vx_bitmap.specs.Maps.{Map, regions_mapped}
+use Rattle.vx_bitmap.specs.Maps.{regions_mapped}
 use Rattle.vx_bitmap.proofs.Runs.{slot_before}
 use Rattle.vx_dcm.specs.Places.{HasMap, HasRegion, AreMapsKept, Maps, map_first, maps_in, region_place, mapped_size}
 

@@ -19,7 +19,7 @@ use Rattle.vx_model.proofs.Tests.{both_true}
 use Rattle.vx_history.specs.Events.{linked_sites, joined}
 use Rattle.vx_history.specs.Gatherings.{emptied}
 use Rattle.vx_history.specs.Refusals as history
-use Rattle.vx_history.specs.Refusals.{Outcome, unless, unless_halted, at_site, both_at_work, may_join, may_link, is_fresh, agree, is_empty, count_links_of, some_below, is_primary}
+use Rattle.vx_history.specs.Refusals.{Outcome, unless, unless_halted, at_site, both_at_work, may_join, may_link, agree, is_empty, count_links_of, some_below, is_primary}
 use Rattle.vx_history.specs.Sends.{is_linked}
 use Rattle.vx_history.specs.Step.{step, outcome_of, done}
 use Rattle.vx_history.specs.World.{Node, Link as LinkOf, Volume, World, with_node}

@@ -3,10 +3,9 @@ use Rattle.std.proofs.Common.{◌≡◌, ◌∙◌, ◌*◌, ◌<◌, ◌≤◌,
 use Rattle.std.proofs.lemmas.Bool.{and_parts}
 use Rattle.std.proofs.lemmas.List.{length-replicate}
 use Rattle.std.proofs.lemmas.Bool.Decides.{nat_tests}
-use Rattle.std.specs.Prelude.{◌&&◌, ◌^◌, IfOk, IfSome, None, Option, Some, Result, Ok, Err, min, nat_le, nat_lt}
-use Rattle.vx_layout.specs.declared.shape.Shape.{Shape}
+use Rattle.std.specs.Prelude.{◌&&◌, ◌^◌, IfOk, IfSome, None, Result, Ok, Err, min, nat_le, nat_lt}
 use Rattle.vx_events.proofs.Refused.{when_none}
-use Rattle.vx_events.specs.GroupLines.{layout_columns, layout_width, preferred_plex, shape_of}
+use Rattle.vx_events.specs.GroupLines.{layout_columns, layout_width, preferred_plex}
 use Rattle.vx_order.specs.Volumes.{is_layout, is_volume_shape, preferred_unknown}
 use Rattle.vx_script.specs.declared.line.Layout.{Layout}
 use Rattle.vx_script.specs.declared.line.Layout.TheVariants.{Concat, Stripe}

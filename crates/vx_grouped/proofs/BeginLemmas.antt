@@ -1,7 +1,7 @@
 -- A group that is begun on the disks of a bare site, by its note.
 use Rattle.std.proofs.Common.{◌≡◌, ◌⊎◌, inl, inr, ℕ, ◌<◌, Bool, true, false, List, [], length, IsTrue, IsFalse, refl, sym, ◌∙◌, ap, subst, arith}
 use Rattle.std.proofs.lemmas.Bool.{both_ways, false_from_ne_true, not-false}
-use Rattle.std.specs.Prelude.{Option, None, Result, Ok, Err, IfErr, not, slice_get, Some}
+use Rattle.std.specs.Prelude.{Option, None, Result, Ok, Err, IfErr, not, Some}
 use Rattle.std.proofs.lemmas.Option.{slice_get_within}
 use Rattle.vx_model.specs.declared.errors.Stop.{Stop}
 use Rattle.vx_model.specs.declared.errors.Stop.TheVariants.{No as Refused, OutOfMemory}
@@ -16,7 +16,6 @@ use Rattle.vx_history.specs.World.{Fuse, Node, NoFuse, no_volumes}
 use Rattle.vx_config.specs.Checks.{blocks_of}
 use Rattle.vx_config.specs.Configs.{HasSpelling}
 use Rattle.vx_config.specs.declared.config.Config.{Config}
-use Rattle.vx_config.specs.declared.entry.DiskEntry.{DiskEntry}
 use Rattle.vx_config.specs.declared.entry.VolumeEntry.{VolumeEntry}
 use Rattle.vx_copies.proofs.OneTry.{wanted_count}
 use Rattle.vx_copyio.specs.Labelling.{HasSmall}
@@ -36,11 +35,10 @@ use Rattle.vx_untold.specs.declared.shade.Shade.TheVariants.{Bright}
 use Rattle.vx_watched.specs.Since.{CalledSince}
 use Rattle.vx_grouped.specs.Begins.{BeginRefuses, BeginsGroup, CanBegin, IsEmptyConfig, IsFirstNote, group_begun}
 use Rattle.vx_grouped.specs.GroupNotes.{noted_config}
-use Rattle.vx_grouped.specs.GroupSites.{GroupUp, IsMarkedSite, idle_disks, laid_disks, laid_below}
+use Rattle.vx_grouped.specs.GroupSites.{GroupUp, IsMarkedSite, laid_disks, laid_below}
 use Rattle.vx_grouped.specs.Plain.{HoldsPlain}
 use Rattle.vx_grouped.specs.SetFuses.{HasFuse}
 use Rattle.vx_grouped.specs.SiteMaps.{StandMaps}
-use Rattle.vx_grouped.specs.declared.idle.Idle.{Idle}
 use Rattle.vx_grouped.specs.declared.laid.Laid.{Laid}
 use Rattle.vx_grouped.specs.declared.group_site.GroupSite.TheVariants.{Up, Marked}
 use Rattle.vx_kept.specs.Finds.{AllAtOnce}

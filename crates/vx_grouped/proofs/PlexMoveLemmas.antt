@@ -1,6 +1,5 @@
 -- What a detach and an attach make of a configuration.
 use Rattle.std.proofs.Common.{◌≡◌, ◌⊎◌, inl, inr, ℕ, Bool, true, false, IsTrue, Option, Some, None, refl, sym, ◌∙◌, ap, subst}
-use Rattle.std.specs.Prelude.{slice_get}
 use Rattle.std.proofs.lemmas.Bool.{cases_eq}
 use Rattle.std.proofs.lemmas.Option.{same_Some}
 use Rattle.vx_model.specs.declared.site.PlexState.{PlexState}
@@ -8,16 +7,13 @@ use Rattle.vx_model.specs.declared.site.PlexState.TheVariants.{Active, Clean, St
 use Rattle.vx_disk.specs.Shelf.{Meaning}
 use Rattle.vx_config.specs.Changes.{stated, with_state}
 use Rattle.vx_config.specs.declared.config.Config.{Config}
-use Rattle.vx_config.specs.declared.entry.DiskEntry.{DiskEntry}
 use Rattle.vx_config.specs.declared.entry.PlexEntry.{PlexEntry}
-use Rattle.vx_copies.specs.Commits.{MoreFailed}
 use Rattle.vx_layout.specs.Places.{plex_at}
-use Rattle.vx_volume.specs.Plexes.{active, active_or, uses}
-use Rattle.vx_kept.specs.Choice.{live, live_or}
-use Rattle.vx_kept.specs.Keeping.{AllOn, frame_at}
+use Rattle.vx_volume.specs.Plexes.{active, uses}
+use Rattle.vx_kept.specs.Choice.{live}
+use Rattle.vx_kept.specs.Keeping.{AllOn}
 use Rattle.vx_kept.proofs.StateLemmas.{map_one, plex_apart, plex_same, stated_shape}
-use Rattle.vx_group.specs.Loses.{SameParts}
-use Rattle.vx_grouped.specs.ConfigMoves.{AttDone, AttFails, ConfigMoves, DetDone, DetFails, LosesSome, Restated, StateMoves, none_again}
+use Rattle.vx_grouped.specs.ConfigMoves.{AttDone, AttFails, ConfigMoves, DetDone, DetFails, StateMoves, none_again}
 use Rattle.vx_grouped.specs.CoreMoves.{CoreMoves}
 use Rattle.vx_grouped.proofs.MovesLemmas.{config_moves, disk_at, volume_moves}
 use Rattle.vx_grouped.proofs.StateChangeLemmas.{live_state, live_there, on_state, on_there}

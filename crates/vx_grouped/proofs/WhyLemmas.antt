@@ -1,7 +1,7 @@
 -- Why an import is refused.
 use Rattle.std.proofs.Common.{◌≡◌, ◌⊎◌, inl, inr, ℕ, zero, suc, ◌<◌, Bool, true, false, IsTrue, IsFalse, List, refl, sym, ◌∙◌, ap, subst, arith}
 use Rattle.std.proofs.lemmas.Option.{same_Some}
-use Rattle.std.specs.Prelude.{◌||◌, Option, Some, None, Result, Ok, Err, if◌then◌else◌}
+use Rattle.std.specs.Prelude.{◌||◌, Option, Some, None, Ok, Err, if◌then◌else◌}
 use Rattle.vx_model.specs.declared.errors.Stop.{Stop}
 use Rattle.vx_model.specs.declared.errors.Stop.TheVariants.{No as Refused, OutOfMemory}
 use Rattle.vx_model.specs.declared.no.Counted.TheVariants.{Number as Numbers}
@@ -9,7 +9,7 @@ use Rattle.vx_model.specs.declared.no.No.{No}
 use Rattle.vx_model.specs.declared.no.No.TheVariants.{Damaged as IsDamaged, Device, Down as IsOff, Format as HasFormat, Limit, Missing as Lacks, NoConfig}
 use Rattle.vx_disk.specs.Causes.{DeviceCause}
 use Rattle.vx_disk.specs.Counts.{Rose}
-use Rattle.vx_disk.specs.Shelf.{Each, Image, Lawful, Meaning}
+use Rattle.vx_disk.specs.Shelf.{Each, Image, Meaning}
 use Rattle.vx_config.specs.Table.{greatest}
 use Rattle.vx_config.specs.declared.config.Config.{Config}
 use Rattle.vx_copyfmt.specs.Copies.{Body, Copy, Differs, Holds}
@@ -17,11 +17,9 @@ use Rattle.vx_copyfmt.specs.Imports.{ImportOutcome, Found, Missing, NoConfig as 
 use Rattle.vx_copies.specs.Answers.{Imported, IsAnswer, answer_to}
 use Rattle.vx_copies.specs.Bodies.{failed_in}
 use Rattle.vx_copies.specs.Looking.{on_shelf}
-use Rattle.vx_kept.specs.Facts.{is_found}
-use Rattle.vx_kept.specs.Groups.{found, found_by}
+use Rattle.vx_kept.specs.Groups.{found_by}
 use Rattle.vx_kept.specs.Trusts.{is_plain}
-use Rattle.vx_group.specs.Imports.{ImportStops, StopsEarly}
-use Rattle.vx_group.specs.Resumes.{CanImport}
+use Rattle.vx_group.specs.Imports.{ImportStops}
 use Rattle.vx_grouped.specs.SiteReturns.{ImportWhy}
 use Rattle.vx_grouped.proofs.CalledLemmas.{err_is}
 

@@ -1,5 +1,5 @@
 -- The logs and the plexes of a volume in two configurations in which it lies alike.
-use Rattle.std.proofs.Common.{◌≡◌, ◌∙◌, ℕ, ◌*◌, ◌≤◌, Option, Some, None, List, IsTrue, false, length, refl, sym, ap, subst, arith}
+use Rattle.std.proofs.Common.{◌≡◌, ◌∙◌, ℕ, ◌*◌, ◌≤◌, Option, Some, None, false, refl, sym, ap, subst, arith}
 use Rattle.std.specs.Prelude.{is_some, map, slice_get}
 use Rattle.std.specs.Option.{option_map}
 use Rattle.std.proofs.lemmas.List.{length-map}
@@ -14,12 +14,10 @@ use Rattle.vx_config.specs.declared.entry.VolumeEntry.{VolumeEntry}
 use Rattle.vx_config.specs.declared.entry.VolumeLog.{VolumeLog}
 use Rattle.vx_config.specs.declared.entry.VolumeLog.TheVariants.{Drl as DrlLog, Fmr as FmrLog}
 use Rattle.vx_bitmap.specs.Maps.{Map}
-use Rattle.vx_drl.specs.Dirty.{Dirty}
-use Rattle.vx_fmr.specs.Missed.{FmrLoaded, Missed}
 use Rattle.vx_kept.specs.Keeping.{frame, frame_at, frame_or}
 use Rattle.vx_kept.specs.LogRuns.{log_place, run_or}
 use Rattle.vx_layout.specs.Places.{HasBlock, has_plex, plex_in}
-use Rattle.vx_logs.specs.Held.{DrlFits, LogsFit}
+use Rattle.vx_logs.specs.Held.{LogsFit}
 use Rattle.vx_logs.specs.declared.logs.Logs.{Logs}
 use Rattle.vx_maplog.specs.Logs.{LogLoaded, log_blocks, log_of, maps_in_log}
 use Rattle.vx_model.specs.Sizes.{map_blocks, regions_of as regions_in}

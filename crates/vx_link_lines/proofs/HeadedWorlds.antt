@@ -1,5 +1,5 @@
 -- What a world with noted fuses has of a site behind an event that writes one header of its log, or that a disk or a fuse ended.
-use Rattle.std.proofs.Common.{◌≡◌, ◌∙◌, ◌+◌, ◌<◌, ◌≤◌, ℕ, Bool, true, false, List, length, ap, sym, subst, arith}
+use Rattle.std.proofs.Common.{◌≡◌, ◌∙◌, ◌+◌, ◌<◌, ◌≤◌, ℕ, Bool, true, false, List, length, ap, sym, subst}
 use Rattle.std.specs.Prelude.{Option, Some, None, slice_get}
 use Rattle.std.proofs.lemmas.Option.{slice_get_within}
 use Rattle.vx_history.proofs.Behind.{after_of}
@@ -8,7 +8,7 @@ use Rattle.vx_history.proofs.Updates.{at_place}
 use Rattle.vx_history.specs.Doubts.{After, Doubted, crashed_as, halved, resolved_at, taken_up}
 use Rattle.vx_history.specs.Events.{kept_of, lost_touch}
 use Rattle.vx_history.specs.Steps.{crashed, worked}
-use Rattle.vx_history.specs.World.{Fuse, Gathering, Link, Node, Packet, World}
+use Rattle.vx_history.specs.World.{Fuse, Gathering, Link, Node, Packet}
 use Rattle.vx_history.specs.declared.event.Event.{Event}
 use Rattle.vx_model.specs.declared.state.KeptLink.{KeptLink}
 use Rattle.vx_diskset.specs.Holds.{KeptBeside, KeptSite, beside_of, doubt_of, header_links, row_links}

@@ -22,7 +22,7 @@ use Rattle.vx_events.proofs.Refused.{passes}
 use Rattle.vx_events.specs.Facts.{seat_of, site_number}
 use Rattle.vx_events.specs.GroupLines.{is_over_group}
 use Rattle.vx_events.specs.LinkedFacts.{linked_fact, links_by, links_of_site}
-use Rattle.vx_events.specs.StepsOver.{facts_over, refused_over}
+use Rattle.vx_events.specs.StepsOver.{refused_over}
 use Rattle.vx_linked.proofs.Finding.{seat_found}
 use Rattle.vx_link_lines.specs.Linking.{AreLinkStates, IsLinking}
 use Rattle.vx_yard.specs.Standing.{StandsFor}

@@ -13,12 +13,11 @@ use Rattle.vx_disk.specs.Shelf.{Goes, Meaning}
 use Rattle.vx_disk.specs.declared.shelf.ShelfError.{ShelfError}
 use Rattle.vx_disk.specs.declared.shelf.ShelfError.TheVariants.{Fault, Down as Fell}
 use Rattle.vx_disk.proofs.Causing.{Rose_before, cause_before}
-use Rattle.vx_fmr.specs.Missed.{FmrLoaded, Missed, OthersSame, has_missed}
+use Rattle.vx_fmr.specs.Missed.{FmrLoaded, Missed, has_missed}
 use Rattle.vx_group.specs.Dets.{DetStops}
-use Rattle.vx_groupmaps.specs.Beginning.{EmptyAnswers, EmptyEnds, MapEmptied}
+use Rattle.vx_groupmaps.specs.Beginning.{EmptyEnds, MapEmptied}
 use Rattle.vx_groupmaps.specs.Knowing.{MapsKnow, PlexesKnow}
 use Rattle.vx_groupmaps.specs.Missing.{OnMaps, none_spared, or_spared}
-use Rattle.vx_groupmaps.proofs.BeginLemmas.{down_of}
 use Rattle.vx_groupmaps.proofs.BetweenLemmas.{goes_reads}
 use Rattle.vx_groupmaps.proofs.KnowLemmas.{plex_below, read_old}
 use Rattle.vx_groupmaps.proofs.MapPlaces.{region_low}

@@ -1,5 +1,5 @@
 -- Logs of missed regions that an import reads.
-use Rattle.std.proofs.Common.{◌≡◌, ◌∙◌, ◌⊎◌, inl, inr, ℕ, ◌+◌, ◌*◌, ◌/◌, ◌%◌, ◌<◌, ◌≤◌, Bool, true, false, IsTrue, IsFalse, Option, Some, None, List, length, ⊎_elim, refl, sym, ap, subst, arith}
+use Rattle.std.proofs.Common.{◌≡◌, ◌∙◌, ◌⊎◌, inl, inr, ℕ, ◌+◌, ◌*◌, ◌/◌, ◌%◌, ◌<◌, ◌≤◌, Bool, true, false, IsTrue, Option, Some, None, List, length, ⊎_elim, refl, sym, ap, subst, arith}
 use Rattle.std.specs.Prelude.{◌-◌, slice_get}
 use Rattle.std.proofs.Math.ListN.{set}
 use Rattle.std.proofs.lemmas.Bool.{cases_eq}
@@ -8,11 +8,9 @@ use Rattle.std.proofs.lemmas.Option.{same_Some, slice_get_within}
 use Rattle.vx_bitmap.specs.Bits.{is_marked}
 use Rattle.vx_bitmap.specs.Maps.{MapOn, map_block_count}
 use Rattle.vx_bitmap.proofs.Blocks.{by_block}
-use Rattle.vx_config.specs.Checks.{blocks_of as blocks_in, is_sound, plexes_of}
+use Rattle.vx_config.specs.Checks.{blocks_of as blocks_in, is_sound}
 use Rattle.vx_config.specs.declared.config.Config.{Config}
-use Rattle.vx_config.specs.declared.entry.LogEntry.{LogEntry}
 use Rattle.vx_config.specs.declared.entry.VolumeLog.TheVariants.{Fmr}
-use Rattle.vx_disk.specs.Moves.{Run, Settled}
 use Rattle.vx_disk.specs.Shelf.{Goes, Lawful, Meaning, Nothing}
 use Rattle.vx_disk.proofs.Runs.{none_written}
 use Rattle.vx_volume.proofs.ReadRuns.{still}
@@ -27,10 +25,9 @@ use Rattle.vx_groupmaps.proofs.MapPlaces.{bit_low, region_low}
 use Rattle.vx_grouplogs.specs.On.{VolumeOn}
 use Rattle.vx_grouplogs.proofs.KnowActs.{know_none}
 use Rattle.vx_grouplogs.proofs.MapLemmas.{map_low, on_mapped}
-use Rattle.vx_kept.specs.Choice.{live}
 use Rattle.vx_kept.specs.Cleans.{is_unsure}
 use Rattle.vx_kept.proofs.Narrower.{on_live}
-use Rattle.vx_layout.specs.Places.{HasBlock, place}
+use Rattle.vx_layout.specs.Places.{place}
 use Rattle.vx_logimport.specs.Marked.{log_within}
 use Rattle.vx_logimport.specs.Rests.{MapsTell, rests}
 use Rattle.vx_logimport.specs.declared.rested.Rested.{Rested}
@@ -40,7 +37,7 @@ use Rattle.vx_maplog.specs.Logs.{is_used}
 use Rattle.vx_logs.specs.Held.{FmrFound, InUse}
 use Rattle.vx_logs.specs.declared.logs.Logs.{Logs}
 use Rattle.vx_model.specs.Content.{block_of}
-use Rattle.vx_volume.specs.Plexes.{DisksFit, Inside, active}
+use Rattle.vx_volume.specs.Plexes.{DisksFit}
 use Rattle.vx_loggroup.specs.LoggedVolumes.{LoggedStands}
 use Rattle.vx_loggroup.specs.Taking.{MapWas, MapsMay, MapsShrink, MapsWere, MapsWhy, SameDrls, TakesMap}
 use Rattle.vx_loggroup.proofs.HeldMaps.{same_drls}

@@ -1,8 +1,7 @@
 -- What logs that were read tell of the plexes.
-use Rattle.std.proofs.Common.{◌≡◌, ◌⊎◌, inl, inr, ⊎_elim, ℕ, ◌+◌, ◌/◌, ◌%◌, ◌<◌, ◌≤◌, Bool, true, false, IsTrue, IsFalse, Option, Some, None, List, length, refl, ap, sym, ◌∙◌, subst, arith}
+use Rattle.std.proofs.Common.{◌≡◌, ◌⊎◌, inl, inr, ⊎_elim, ℕ, ◌+◌, ◌/◌, ◌<◌, Bool, true, false, IsTrue, Option, Some, None, List, length, refl, ap, sym, ◌∙◌, subst, arith}
 use Rattle.std.proofs.lemmas.Option.{same_Some}
 use Rattle.std.specs.Prelude.{not, slice_get}
-use Rattle.vx_bitmap.specs.Bits.{is_marked}
 use Rattle.vx_bitmap.specs.Maps.{MapOn, map_block_count}
 use Rattle.vx_bitmap.proofs.Blocks.{by_block}
 use Rattle.vx_config.specs.Checks.{blocks_of, is_sound}
@@ -14,7 +13,6 @@ use Rattle.vx_copyfmt.specs.Imports.{Found}
 use Rattle.vx_disk.specs.Shelf.{Each, Goes, Image, Lawful, Meaning, Nothing}
 use Rattle.vx_disk.proofs.Causing.{Rose_after}
 use Rattle.vx_drl.specs.Dirty.{Dirty, is_dirty}
-use Rattle.vx_fmr.specs.Missed.{Missed}
 use Rattle.vx_layout.specs.Places.{place}
 use Rattle.vx_logs.specs.Held.{DrlFits, InUse}
 use Rattle.vx_logs.specs.declared.logs.Logs.{Logs}
@@ -24,13 +22,13 @@ use Rattle.vx_model.specs.Sizes.{map_blocks, regions_of}
 use Rattle.vx_resync.specs.Picks.{DrlReaches, marked_or}
 use Rattle.vx_volume.specs.Plexes.{DisksFit, Inside, active}
 use Rattle.vx_kept.specs.Choice.{live}
-use Rattle.vx_kept.specs.Groups.{OnSome, found}
+use Rattle.vx_kept.specs.Groups.{found}
 use Rattle.vx_kept.specs.LogRuns.{log_trusted}
 use Rattle.vx_kept.proofs.Chosen.{place_volumes}
 use Rattle.vx_kept.proofs.Lasting.{cases_bool}
 use Rattle.vx_kept.proofs.Narrower.{on_live}
 use Rattle.vx_group.specs.Mends.{AgreeElsewhere, MarksTell, drl_at, drl_or}
-use Rattle.vx_group.specs.Resumes.{CanImport, IsTaken, TakenUp}
+use Rattle.vx_group.specs.Resumes.{CanImport, IsTaken}
 use Rattle.vx_group.specs.declared.taking.Plan.{Plan}
 use Rattle.vx_group.proofs.Standing.{fit_of, low_Stands, sound_of}
 use Rattle.vx_grouplogs.specs.Covering.{AlikeBut, DiskCovers}

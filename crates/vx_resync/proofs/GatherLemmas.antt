@@ -8,7 +8,7 @@ use Rattle.vx_layout.specs.Places.{place}
 use Rattle.vx_volume.specs.Copies.{IsCopied}
 use Rattle.vx_volume.specs.Plexes.{Apart, Inside, active}
 use Rattle.vx_volume.specs.Volumes.{PlexFlushed}
-use Rattle.vx_resync.specs.Copies.{FromPlex, ReadAlike, TargetsActive}
+use Rattle.vx_resync.specs.Copies.{FromPlex, ReadAlike}
 use Rattle.vx_resync.specs.Gathers.{MissesOnly}
 use Rattle.vx_resync.specs.Picks.{InPicked}
 

@@ -1,5 +1,5 @@
 -- What calls make of the disks of a rack, one after another.
-use Rattle.std.proofs.Common.{◌≡◌, ◌⊎◌, inl, inr, ℕ, ◌+◌, ◌-◌, ◌≤◌, ◌<◌, Bool, List, Option, Some, None, Result, Ok, Err, OnOk, IsTrue, refl, sym, ◌∙◌, ap, subst, arith}
+use Rattle.std.proofs.Common.{◌≡◌, ◌⊎◌, inl, inr, ℕ, ◌+◌, ◌-◌, ◌≤◌, Bool, List, Option, Some, None, Result, Ok, Err, OnOk, IsTrue, refl, sym, ◌∙◌, ap, subst, arith}
 use Rattle.std.proofs.lemmas.Option.{none-some, same_Some}
 use Rattle.vx_disk.specs.declared.shelf.ShelfError.{ShelfError}
 use Rattle.vx_disk.specs.declared.shelf.ShelfError.TheVariants.{Fault, Down}
@@ -7,7 +7,7 @@ use Rattle.vx_disk.specs.Burns.{FewerLeft, MakesCalls}
 use Rattle.vx_disk.specs.Causes.{Calls, Cause, OnDisks, WithDisks, Works}
 use Rattle.vx_disk.specs.Disks.{Burns, Disks, RanOut, SameBlocks, Untouched}
 use Rattle.vx_disk.specs.Shelf.{DisksFlushed, DisksWrote, Goes, Meaning, Nothing, Values, Written}
-use Rattle.vx_ringio.specs.Spends.{BurntOut, Loses, MakesAtLeast, Passed, Spends, Spent}
+use Rattle.vx_ringio.specs.Spends.{Loses, MakesAtLeast, Passed, Spends, Spent}
 
 -- ---- fuses
 

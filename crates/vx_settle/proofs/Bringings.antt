@@ -1,25 +1,24 @@
 -- What follows from the clauses of an engine and a peer.
-use Rattle.std.proofs.Common.{◌≡◌, ◌⊎◌, ℕ, zero, suc, ◌+◌, ◌<◌, ◌≤◌, true, false, List, [], ◌∷◌, ◌++◌, length, refl, ap, sym, ◌∙◌, subst, ⊎_elim, inl, inr, arith, append_assoc, Option, Some, None, slice_get}
+use Rattle.std.proofs.Common.{◌≡◌, ◌⊎◌, ℕ, zero, suc, ◌+◌, ◌<◌, ◌≤◌, true, false, List, [], ◌∷◌, ◌++◌, refl, ap, sym, ◌∙◌, subst, ⊎_elim, inl, inr, arith, append_assoc, Some, None}
 use Rattle.std.proofs.lemmas.Bool.{false_from_ne_true}
 use Rattle.std.proofs.lemmas.List.{append-nil}
-use Rattle.std.specs.Option.{IfSome, IfNone}
 use Rattle.vx_model.specs.declared.call.Update.{Update}
 use Rattle.vx_model.specs.declared.no.No.{No}
 use Rattle.vx_turn.specs.declared.ask.Ask.{Ask}
-use Rattle.vx_turn.specs.declared.ask.Ask.TheVariants.{Ordered, Charged}
+use Rattle.vx_turn.specs.declared.ask.Ask.TheVariants.{Charged}
 use Rattle.vx_turn.specs.declared.ask.Said.{Said}
-use Rattle.vx_turn.specs.declared.ask.Said.TheVariants.{Replied, Worked}
+use Rattle.vx_turn.specs.declared.ask.Said.TheVariants.{Worked}
 use Rattle.vx_turn.specs.declared.ask.Job.{Job}
-use Rattle.vx_turn.specs.declared.ask.Job.TheVariants.{Apply, Fetch, Acked, Wait}
+use Rattle.vx_turn.specs.declared.ask.Job.TheVariants.{Fetch, Acked}
 use Rattle.vx_turn.specs.declared.ask.JobReply.{JobReply}
 use Rattle.vx_turn.specs.declared.ask.JobReply.TheVariants as job
 use Rattle.vx_turn.specs.declared.meaning.State.{State}
-use Rattle.vx_turn.specs.Acting.{LiesAmong, EngineActs, Rises, CountRose, Caused, IsFault, IsHalt, IsBound}
+use Rattle.vx_turn.specs.Acting.{LiesAmong, EngineActs, CountRose, Caused, IsFault, IsHalt, IsBound}
 use Rattle.vx_turn.proofs.Histories.{rises-trans, rose-wider, among-split, nets-long}
 use Rattle.vx_settle.specs.declared.peer.Ack.{Ack}
 use Rattle.vx_settle.specs.declared.peer.Stand.{Stand}
 use Rattle.vx_settle.specs.Peers.{LiesIn, PeerGoes, Hands, Finishes}
-use Rattle.vx_settle.specs.Bringing.{Events, IsJob, HasLink, EngineMoves, Walks, NoLimit, NoGone, HasAcked, NoAck, AcksFit, Drains, Steps, Climbs, BringsPeer}
+use Rattle.vx_settle.specs.Bringing.{Events, IsJob, EngineMoves, Walks, NoLimit, HasAcked, NoAck, Drains, Steps, Climbs, BringsPeer}
 
 pub among-left : {A : Type 0} (x : A) (xs ys : List A) → LiesAmong x xs → LiesAmong x (xs ++ ys)
 among-left x [] ys a = absurd (cc a.1)

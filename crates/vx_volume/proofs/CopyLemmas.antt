@@ -1,7 +1,7 @@
 -- A plex that is copied to another one.
 use Rattle.std.proofs.Common.{◌≡◌, ◌≢◌, ◌⊎◌, inl, inr, ⊎_elim, ℕ, ◌+◌, ◌*◌, ◌/◌, ◌<◌, ◌≤◌, ◌^◌, true, IsTrue, List, length, Result, Ok, Err, OnOk, sym, ◌∙◌, subst, arith}
 use Rattle.std.proofs.lemmas.Bool.{cases_Bool, cases_lt}
-use Rattle.vx_disk.specs.Shelf.{Goes, Lawful, Meaning, Nothing, Or, piece}
+use Rattle.vx_disk.specs.Shelf.{Goes, Lawful, Meaning, Nothing, Or}
 use Rattle.vx_disk.specs.declared.shelf.ShelfError.{ShelfError}
 use Rattle.vx_disk.specs.declared.shelf.ShelfError.TheVariants.{Fault, Down}
 use Rattle.vx_disk.proofs.Causing.{Rose_before}

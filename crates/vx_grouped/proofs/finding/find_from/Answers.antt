@@ -1,5 +1,5 @@
 -- A group of disks that tell nothing, of which the calls are accounted for.
-use Rattle.std.proofs.Common.{◌≡◌, ◌∙◌, IsTrue, ap, refl, sym, subst}
+use Rattle.std.proofs.Common.{◌∙◌, IsTrue, ap, refl, sym, subst}
 use Rattle.std.proofs.lemmas.Bool.{false_from_ne_true}
 use Rattle.vx_group.specs.Imports.{ImportStops}
 use Rattle.vx_logimport.proofs.TellLemmas.{untold_tells}

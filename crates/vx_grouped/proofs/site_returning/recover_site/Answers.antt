@@ -1,5 +1,5 @@
 -- A recovery of a site's group.
-use Rattle.std.proofs.Common.{IsTrue, subst, sym, ◌∙◌, ⊎_elim}
+use Rattle.std.proofs.Common.{IsTrue, subst, ◌∙◌, ⊎_elim}
 use Rattle.std.proofs.lemmas.Bool.{false_from_ne_true}
 use Rattle.vx_untold.specs.Shades.{rack_of, shade_lawful, shade_meaning, shade_rack}
 use Rattle.vx_grouped.proofs.SinceReturns.{return_all, return_at, return_calls, return_none, return_then}

@@ -1,10 +1,10 @@
 -- `zeroed_map`: its clauses; what the calls ask.
 use Rattle.vx_bitmap.specs.Maps.{MapOn}
 use Rattle.vx_fmr.specs.Missed.{Missed}
-use Rattle.std.proofs.Common.{◌≡◌, ◌∙◌, ◌+◌, ◌≤◌, ℕ, Some, sym, subst, arith}
+use Rattle.std.proofs.Common.{◌≡◌, ◌∙◌, ◌+◌, ◌≤◌, ℕ, sym, subst, arith}
 use Rattle.std.proofs.lemmas.Option.{same_Some}
 use Rattle.vx_config.specs.declared.entry.VolumeLog.TheVariants.{Fmr}
-use Rattle.vx_disk.specs.Shelf.{Goes, Nothing}
+use Rattle.vx_disk.specs.Shelf.{Goes}
 use Rattle.vx_disk.proofs.Runs.{then_nothing}
 use Rattle.vx_groupmaps.specs.Missing.{OnMaps}
 use Rattle.vx_logs.proofs.LogLemmas.{holds_of}

@@ -1,8 +1,8 @@
 -- `attach_plex`: what it leaves of the disks of the site.
-use Rattle.std.proofs.Common.{◌≡◌, ◌∙◌, refl, subst, sym, ap}
+use Rattle.std.proofs.Common.{◌≡◌, subst, sym, ap}
 use Rattle.vx_grouped.specs.GroupSites.{UpNoted}
 use Rattle.vx_diskset.specs.Asked.{FuseGoesOn}
-use Rattle.vx_diskset.specs.GroupCalls.{CalledOn, OnSites, AtSite, cut_in}
+use Rattle.vx_diskset.specs.GroupCalls.{CalledOn, AtSite, cut_in}
 use Rattle.vx_diskset.specs.declared.disk_set.DiskSet.TheVariants.{OfGroup}
 use Rattle.vx_diskset.proofs.GroupCalling.{at_none, at_sites, called_rest, group_failing, group_fuse, group_later, on_sites, att_settled, others_on}
 use Rattle.vx_grouped.specs.SiteEnds.{AttCalled, RegionsOf, is_plex_on, refuses_att}

@@ -3,9 +3,9 @@ use Rattle.std.proofs.Common.{ap, subst, sym, ◌∙◌}
 use Rattle.vx_grouped.specs.GroupSites.{AwayNoted}
 use Rattle.vx_grouped.specs.SiteReturns.{SiteImports}
 use Rattle.vx_diskset.specs.Asked.{FuseGoesOn}
-use Rattle.vx_diskset.specs.GroupCalls.{OnSites, cut_in}
+use Rattle.vx_diskset.specs.GroupCalls.{OnSites}
 use Rattle.vx_diskset.specs.Recovers.{cut_past}
-use Rattle.vx_diskset.proofs.GroupCalling.{at_none, at_sites}
+use Rattle.vx_diskset.proofs.GroupCalling.{at_sites}
 use Rattle.vx_diskset.proofs.GroupRising.{import_settled, rise_failing, rise_fuse, rise_later}
 use Rattle.vx_grouped.specs.SiteMaps.{CameMapped}
 use Rattle.vx_diskset.proofs.disk_set.DiskSet.import_group.Goals as goal
