@@ -4,7 +4,7 @@ ghost use Rattle.std.specs.Prelude.{◌≡◌, [], ◌∷◌};
 use std::alloc::Global;
 use std::test::*;
 use vx_disk::{MemShelf, Rack, Shelf};
-use vx_model::limits::LEAST_BLOCKS;
+use vx_model::limits::{LEAST_BLOCKS, LINK_PLACES};
 use vx_model::{No, OutOfMemory, State, Stop, Units, VolumeUnits};
 use vx_rvg::{Rvg, Staging};
 
@@ -314,5 +314,29 @@ fn a_marked_region_costs_no_call(rt: HostRuntime) -> Result<(), Fail> {
     assert!(rt; write_marked(&mut rvg, 5, 0x33) == Err(No::Down));
     let mut rvg = again(alloc, rvg)?;
     assert!(rt; first_byte(&mut rvg, 4) == Ok(0x22));
+    Ok(())
+}
+
+// Marks the regions of all writes above a number for a place of a link, where the log holds them.
+fn mark_above(rvg: &mut Rvg<MemShelf>, slot: u32, above: u64) -> Result<(), No> {
+    if slot as usize >= LINK_PLACES || rvg.low() == 0 || rvg.low() - 1 > above {
+        return Err(No::Role);
+    }
+    rvg.mark_above(slot, above)
+}
+
+// A write that waits is marked for the place that is named, and for no other. Behind the last number there is nothing to mark.
+#[test]
+fn writes_that_wait_are_marked(rt: HostRuntime) -> Result<(), Fail> {
+    let alloc = rt.alloc();
+    let mut rvg = made(alloc, 1000)?;
+    assert!(rt; write(&mut rvg, 3, 0x11) == Ok(1));
+    assert!(rt; mark_above(&mut rvg, 5, 1) == Ok(()));
+    assert!(rt; marked(&rvg, 5) == Some(false));
+    assert!(rt; mark_above(&mut rvg, 5, 0) == Ok(()));
+    assert!(rt; marked(&rvg, 5) == Some(true));
+    assert!(rt; marked(&rvg, 1) == Some(false));
+    let rvg = again(alloc, rvg)?;
+    assert!(rt; marked(&rvg, 5) == Some(true));
     Ok(())
 }
