@@ -5,8 +5,7 @@ use Rattle.vx_model.specs.Content.{Write}
 use Rattle.vx_model.specs.declared.errors.Stop.{Stop}
 use Rattle.vx_model.specs.declared.errors.Stop.TheVariants.{No as Refused, OutOfMemory}
 use Rattle.vx_model.specs.declared.no.No.{No}
-use Rattle.vx_model.specs.declared.no.No.TheVariants.{Device, Down as IsOff, Limit}
-use Rattle.vx_model.specs.declared.no.Counted.TheVariants.{Number as Numbers}
+use Rattle.vx_model.specs.declared.no.No.TheVariants.{Device, Down as IsOff}
 use Rattle.vx_disk.specs.Causes.{OnDisks, WithDisks}
 use Rattle.vx_disk.specs.Disks.{Crashed, Disks, is_set}
 use Rattle.vx_disk.specs.Racks.{IsRack, Stopped}
@@ -20,9 +19,8 @@ use Rattle.vx_watched.specs.Since.{CalledSince, is_rack}
 use Rattle.vx_grouped.specs.Added.{note_added}
 use Rattle.vx_grouped.specs.GroupSites.{AwayNoted, DownNoted, GroupSiteStands, UpNoted, deported_with, site_disks, with_note, site_below}
 use Rattle.vx_grouped.specs.SiteAdds.{LacksVolume, SiteAdded}
-use Rattle.vx_grouped.specs.SiteEnds.{AttCalled, DetCalled, PlainRead, PlainWrote, SiteCalled, SiteDeported, is_plex_on, refuses_att, refuses_det}
+use Rattle.vx_grouped.specs.SiteEnds.{AttCalled, DetCalled, LacksDeport, PlainRead, PlainWrote, SiteCalled, SiteDeported, is_plex_on, refuses_att, refuses_det}
 use Rattle.vx_grouped.specs.ConfigMoves.{AttDone, AttFails, DetDone, DetFails, LosesSome}
-use Rattle.vx_config.specs.Table.{greatest}
 use Rattle.vx_config.specs.declared.config.Config.{Config}
 use Rattle.vx_untold.specs.Shades.{shade_meaning, shade_rack}
 use Rattle.vx_layout.specs.declared.shape.Shape.{Shape}
@@ -271,7 +269,7 @@ module _ {R : Type 0} {g : Ghosts R} where
 
     pub deported_settled : (n : Node) (note : GroupNode) (old new : GroupSite R g) (r : Result (Unit {0}) Stop) → SiteDeported n note old new r → IsSettled new
     deported_settled n note old new (Ok done) it = away_settled (deported_with it.0 n) it.0 new it.2
-    deported_settled n note old new (Err stop) it = called_settled (Unit {0}) (λ c d. ⊥) (LosesSome (site_disks old) (site_disks new)) (λ no. no ≡ Limit Numbers greatest) n note old new (Err stop) it
+    deported_settled n note old new (Err stop) it = called_settled (Unit {0}) (λ c d. ⊥) (LosesSome (site_disks old) (site_disks new)) (λ no. LacksDeport old no) n note old new (Err stop) it
 
     pub added_settled : (n : Node) (note : GroupNode) (name : List ℕ) (want : Shape) (old new : GroupSite R g) (r : Result ℕ Stop) → SiteAdded n note name want old new r → IsSettled new
     added_settled n note name want old new (Ok vol) it = up_settled (with_note (note_added vol want.blocks it.0) n) (note_added vol want.blocks it.0) new it.2

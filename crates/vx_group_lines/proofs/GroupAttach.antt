@@ -190,7 +190,7 @@ module _ {R : Type 0} {g : Ghosts R} where
               (att_to s many fails o e note next names v plex was now enough change) keeps)
               (record { none = by.none });
         })
-        att_table_is (λ which is. att_wants n note it.call.at.set.site name volume plex found which is_up at below is) why on maps refusal
+        att_table_is (λ which is. att_wants n note it.call.at.set.site name volume plex found which is_up (maps_were d old new name s before after stands it.call) at below is) why on maps refusal
 
     att_memory : OnSites (λ o e. AttCalled n note v plex o e (Err MemoryStop)) before after → ⊥
     att_memory on = (sets_then (λ o e. AttCalled n note v plex o e (Err MemoryStop)) before after it.call.at.set it.call.at.is_set on).holds

@@ -1,5 +1,5 @@
 -- How calls leave the disks of a site with a group.
-use Rattle.std.specs.Prelude.{◌≡◌, ℕ, true, false, List, Bool, Option, Some, None, Result, Ok, Err}
+use Rattle.std.specs.Prelude.{◌≡◌, ◌-◌, ◌<◌, ℕ, true, false, List, Bool, Option, Some, None, Result, Ok, Err}
 use Rattle.vx_model.specs.Content.{Write}
 use Rattle.vx_model.specs.declared.errors.Stop.{Stop}
 use Rattle.vx_model.specs.declared.errors.Stop.TheVariants.{No as Refused, OutOfMemory}
@@ -19,7 +19,7 @@ use Rattle.vx_config.specs.Table.{greatest}
 use Rattle.vx_config.specs.declared.config.Config.{Config}
 use Rattle.vx_volume.specs.Plexes.{active}
 use Rattle.vx_group.specs.Attaches.{att_refusal}
-use Rattle.vx_group.specs.Dets.{det_refusal}
+use Rattle.vx_group.specs.Dets.{det_refusal, margin}
 use Rattle.vx_untold.specs.Shades.{shade_meaning}
 use Rattle.vx_watched.specs.Traces.{TellsLess}
 use Rattle.vx_kept.specs.Commits.{IsCommitted}
@@ -136,6 +136,11 @@ module _ {R : Type 0} {g : Ghosts R} where
   AttCalled n note vol plex old new r =
       SiteCalled {T = ℕ} (AttDone vol plex (site_disks old) (site_disks new)) (AttFails vol plex (site_disks old) (site_disks new)) (λ which. refuses_att old vol plex ≡ Some which) n note old new r
 
+  -- too few serials are left for a deport
+  abbrev pub LacksDeport : GroupSite R g → No → Type 0
+  LacksDeport (Up group) which = (which ≡ Limit Numbers greatest) × (greatest - margin < group.core.inner.config.serial)
+  LacksDeport other which = ⊥
+
   -- A deport: done, the disks are by themselves, each image has the configuration that is noted, and each volume has on them what it had. It is refused for
   -- want of serials, or as any call.
   abbrev pub SiteDeported : Node → GroupNode → GroupSite R g → GroupSite R g → Result (Unit {0}) Stop → Type 0
@@ -143,4 +148,4 @@ module _ {R : Type 0} {g : Ghosts R} where
       (next : GroupNode) × NoteSettles note next × AwayNoted (deported_with next n) next new × ConfigGoes (CleansPlexes (site_disks old) (site_disks new)) note next old new
       × NewestCommitted next new
   SiteDeported n note old new (Err stop) =
-      SiteCalled {T = Unit {0}} (λ c d. ⊥) (LosesSome (site_disks old) (site_disks new)) (λ which. which ≡ Limit Numbers greatest) n note old new (Err stop)
+      SiteCalled {T = Unit {0}} (λ c d. ⊥) (LosesSome (site_disks old) (site_disks new)) (λ which. LacksDeport old which) n note old new (Err stop)
