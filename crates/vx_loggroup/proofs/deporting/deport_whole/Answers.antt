@@ -41,3 +41,9 @@ returns-in-Err-clause-rests g c = tt
 
 pub returns-in-Err-clause-trusts : goal.returns-in-Err-clause-trusts
 returns-in-Err-clause-trusts g c = c.in-Err.ensures.logs
+
+pub returns-in-Ok-clause-agreed : goal.returns-in-Ok-clause-agreed
+returns-in-Ok-clause-agreed g c = tt
+
+pub returns-in-Err-clause-agreed : goal.returns-in-Err-clause-agreed
+returns-in-Err-clause-agreed g c = c.in-Err.ensures.agreed
