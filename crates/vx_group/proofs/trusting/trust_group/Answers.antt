@@ -1,5 +1,5 @@
 -- `trust_group`: its clauses, over a group of which no plex is held back; what `trust_log` asks.
-use Rattle.std.proofs.Common.{false, refl, sym, subst}
+use Rattle.std.proofs.Common.{false, refl, sym, subst, ◌∙◌, inr}
 use Rattle.vx_config.specs.Changes.{lost}
 use Rattle.vx_disk.specs.Shelf.{Goes, Nothing}
 use Rattle.vx_kept.specs.PlexActs.{PlexActs}
@@ -105,3 +105,9 @@ returns-in-Ok-clause-logs g c = c.trust_log.ensures.logs
 
 pub returns-in-Err-clause-logs : goal.returns-in-Err-clause-logs
 returns-in-Err-clause-logs g c = c.trust_log.ensures.logs
+
+pub returns-then-is_down-clause-missed : goal.returns-then-is_down-clause-missed
+returns-then-is_down-clause-missed g c = inr (sym c.is_down.ensures ∙ c.if-is_down.true)
+
+pub returns-in-Err-clause-missed : goal.returns-in-Err-clause-missed
+returns-in-Err-clause-missed g c = c.in-Err.ensures.missed
