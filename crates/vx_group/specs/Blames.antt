@@ -60,3 +60,7 @@ abbrev pub MarksOrFell : {T : Type 0} → ℕ → List Bool → List Bool → Re
 MarksOrFell v old new (Ok x) = new ≡ old
 MarksOrFell v old new (Err (Fault disk)) = MarkedUnsure v old new
 MarksOrFell v old new (Err Down) = (new ≡ old) ⊎ MarkedUnsure v old new
+
+-- what a refusal is answered as: itself, or that the shelf is down
+abbrev pub IsOrDown : ShelfError → ShelfError → Type 0
+IsOrDown error said = (said ≡ error) ⊎ (said ≡ Down)

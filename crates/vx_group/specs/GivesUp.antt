@@ -41,6 +41,12 @@ FaultsBy v c d old new (Ok x) = Unit {0}
 FaultsBy v c d old new (Err (Fault disk)) = EachBlamed c v old new ⊎ (d.unsettled ≡ true)
 FaultsBy v c d old new (Err Down) = Unit {0}
 
+-- a fault comes only where a commit is missed
+abbrev pub FaultMisses : {T : Type 0} → Inner → Result T ShelfError → Type 0
+FaultMisses d (Ok x) = Unit {0}
+FaultMisses d (Err (Fault disk)) = d.unsettled ≡ true
+FaultMisses d (Err Down) = Unit {0}
+
 -- no commit is missed, unless no serial is left for one
 abbrev pub IsReady : Inner → Type 0
 IsReady c = c.unsettled ≡ true → greatest ≤ c.config.serial

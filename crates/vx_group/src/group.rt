@@ -168,10 +168,9 @@ impl<S: Shelf> Group<S> {
 
     /// Detaches a plex. Nothing changes where it is not ACTIVE.
     ///
-    /// Answers 1 exactly where there is no such volume or plex, else 10 exactly where no other plex of the volume is ACTIVE, else 19
-    /// exactly where fewer than 65,536 serials are left, and then nothing has changed; else 7 only where the count of the disk that it
-    /// names rose, and 6 only where the shelf is then down. It makes no device call but those of a commit, behind a refused commit those
-    /// that write headers back, and takes no memory.
+    /// Answers 1 exactly where there is no such volume or plex, else 10 exactly where no other plex of the volume is ACTIVE, else 19 exactly where fewer than
+    /// 65,536 serials are left, and then nothing has changed; else 7 only where the count of the disk that it names rose, and 6 only where the shelf is then
+    /// down. It makes no device call but those of a commit, behind a refused commit those that write headers back, and takes no memory.
     pub fn det(&mut self, vol: u32, plex: u32) -> Result<(), Stop>
         ensures refused { (no : NoValue) → det_refusal self.old.core.inner.config vol plex ≡ Some no → (result ≡ Err (Refused no)) × (self.new.core ≡ self.old.core) × (self.new.shelf ≡ self.old.shelf) }
         ensures goes { Goes Nothing (inner_meaning (wide self.old.core) (S.meaning self.old.shelf)) (inner_meaning (wide self.new.core) (S.meaning self.new.shelf)) }
@@ -194,11 +193,11 @@ impl<S: Shelf> Group<S> {
     /// changes. Each volume reads as before, at every moment and in every image. Disks of the plex that are held as failed are held as good
     /// first, by a commit of their own; where one fails in that, it stays held as failed, and the answer is 7.
     ///
-    /// Answers 1 exactly where there is no such volume or plex, else 19 exactly where fewer than 65,536 serials are left, and then nothing
-    /// has changed; else 7 only where the count of the disk that it names rose, and 6 only where the shelf is then down. Then the plex is
-    /// not ACTIVE: where the commit that takes it back was refused too it is STALE in memory, an import behind a crash may find it ACTIVE
-    /// with the content of the volume, and the next call but a read begins with a commit that detaches it. It writes blocks of this plex
-    /// alone beside those of commits, makes them durable before its commit, and takes no memory.
+    /// Answers 1 exactly where there is no such volume or plex, else 19 exactly where fewer than 65,536 serials are left, and then nothing has changed; else 7
+    /// only where the count of the disk that it names rose, and 6 only where the shelf is then down. Then the plex is not ACTIVE: where the commit that takes
+    /// it back was refused too it is STALE in memory, an import behind a crash may find it ACTIVE with the content of the volume, and the next call but a
+    /// read begins with a commit that detaches it. It writes blocks of this plex alone beside those of commits, makes them durable before its commit, and
+    /// takes no memory.
     pub fn att(&mut self, vol: u32, plex: u32) -> Result<u64, Stop>
         ensures refused { (no : NoValue) → att_refusal self.old.core.inner.config vol plex ≡ Some no → (result ≡ Err (Refused no)) × (self.new.core ≡ self.old.core) × (self.new.shelf ≡ self.old.shelf) }
         ensures already { att_refusal self.old.core.inner.config vol plex ≡ None → IsTrue (active self.old.core.inner.config vol plex) → (result ≡ Ok 0) × (self.new.core ≡ self.old.core) × (self.new.shelf ≡ self.old.shelf) }

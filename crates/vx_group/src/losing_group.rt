@@ -5,7 +5,7 @@ ghost use Rattle.vx_config.specs.Table.{greatest};
 ghost use Rattle.vx_disk.specs.Causes.{Cause};
 ghost use Rattle.vx_disk.specs.Shelf.{Goes, Nothing};
 ghost use Rattle.vx_group.specs.Blames.{MarksOn};
-ghost use Rattle.vx_group.specs.GivesUp.{NoCommit};
+ghost use Rattle.vx_group.specs.GivesUp.{FaultMisses};
 ghost use Rattle.vx_group.specs.Holding.{GroupStands, wide};
 ghost use Rattle.vx_group.specs.Loses.{LosesPlexes, TrustsBut};
 ghost use Rattle.vx_group.specs.Stands.{InnerStands, inner_meaning};
@@ -46,7 +46,7 @@ fn lose_in<S: Shelf>(
     ensures finds { CoreFinds core.old core.new (S.meaning shelf.old) (S.meaning shelf.new) }
     ensures logs { TrustsBut vol log core.old.config core.new.config }
     ensures marks { MarksOn vol core.old.unsure core.new.unsure result }
-    ensures missed { IfErr result (λ e. NoCommit core.new (S.meaning shelf.new)) }
+    ensures misses { FaultMisses core.new result }
     ensures cause { Cause (inner_meaning core.old (S.meaning shelf.old)) (inner_meaning core.new (S.meaning shelf.new)) vol result }
 {
     if shelf.is_down() {
@@ -89,7 +89,7 @@ pub fn lose_group<S: Shelf>(
     ensures finds { GroupFinds core.old core.new (S.meaning shelf.old) (S.meaning shelf.new) }
     ensures logs { TrustsBut vol log core.old.inner.config core.new.inner.config }
     ensures marks { MarksOn vol core.old.inner.unsure core.new.inner.unsure result }
-    ensures missed { IfErr result (λ e. NoCommit core.new.inner (S.meaning shelf.new)) }
+    ensures misses { FaultMisses core.new.inner result }
     ensures cause { Cause (inner_meaning (wide core.old) (S.meaning shelf.old)) (inner_meaning (wide core.new) (S.meaning shelf.new)) vol result }
 {
     if shelf.is_down() {

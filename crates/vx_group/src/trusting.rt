@@ -8,7 +8,7 @@ ghost use Rattle.vx_config.specs.Table.{greatest};
 ghost use Rattle.vx_disk.specs.Shelf.{Goes, Nothing};
 ghost use Rattle.vx_group.specs.Blames.{Blames};
 ghost use Rattle.vx_group.specs.Holding.{GroupStands, wide};
-ghost use Rattle.vx_group.specs.GivesUp.{NoCommit};
+ghost use Rattle.vx_group.specs.GivesUp.{FaultMisses, NoCommit};
 ghost use Rattle.vx_group.specs.Loses.{LosesPlexes, TrustsStill};
 ghost use Rattle.vx_group.specs.Stands.{InnerStands, inner_meaning};
 ghost use Rattle.vx_kept.specs.Commits.{IsCommitted};
@@ -100,7 +100,7 @@ pub fn trust_group<S: Shelf>(
     ensures agreed { IfErr result (λ e. core.old.inner.committed ≡ true → core.new.inner.agreed ≡ true) }
     ensures finds { GroupFinds core.old core.new (S.meaning shelf.old) (S.meaning shelf.new) }
     ensures logs { TrustsStill core.old.inner.config core.new.inner.config }
-    ensures missed { IfErr result (λ e. NoCommit core.new.inner (S.meaning shelf.new)) }
+    ensures misses { FaultMisses core.new.inner result }
     ensures cause { Blames (S.meaning shelf.old) (S.meaning shelf.new) result }
 {
     if shelf.is_down() {

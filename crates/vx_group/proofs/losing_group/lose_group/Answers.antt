@@ -1,5 +1,5 @@
 -- A log that is lost, behind the commit that detaches the plex that is held back.
-use Rattle.std.proofs.Common.{◌∙◌, ◌≤◌, inr, ℕ, Bool, List, ap, refl, sym, subst, arith, ◌≡◌}
+use Rattle.std.proofs.Common.{◌∙◌, ◌≤◌, ℕ, Bool, List, ap, refl, subst, arith, ◌≡◌}
 use Rattle.vx_config.specs.Table.{greatest}
 use Rattle.vx_config.specs.declared.config.Config.{Config}
 use Rattle.vx_disk.specs.Shelf.{Nothing}
@@ -7,7 +7,6 @@ use Rattle.vx_kept.specs.LogRuns.{log_trusted}
 use Rattle.vx_kept.proofs.Chosen.{active_volumes}
 use Rattle.vx_kept.proofs.PlexActing.{none_PlexActs}
 use Rattle.vx_group.specs.Blames.{CountsRise}
-use Rattle.vx_group.specs.GivesUp.{NoCommit}
 use Rattle.vx_group.specs.Holding.{wide}
 use Rattle.vx_group.specs.Stands.{volume_faults}
 use Rattle.vx_group.specs.declared.inner.Inner.{Inner}
@@ -19,8 +18,8 @@ use Rattle.vx_group.proofs.ThroughLemmas.{new_Stands, new_wide, released_goes, t
 use Rattle.vx_group.proofs.FindingLemmas.{still_group, as_finds}
 use Rattle.vx_group.proofs.FoundThrough.{through_finds}
 use Rattle.vx_group.proofs.TrustStillLemmas.{same_logs, still_but, through_but}
-use Rattle.vx_group.proofs.TrustLemmas.{err_from, ok_from}
-use Rattle.vx_group.proofs.UnsureLemmas.{through_marks, unsure_then}
+use Rattle.vx_group.proofs.TrustLemmas.{ok_from}
+use Rattle.vx_group.proofs.UnsureLemmas.{misses_by, through_marks, through_misses, unsure_then}
 use Rattle.vx_group.proofs.losing_group.lose_group.Goals as goal
 
 pub returns-in-Err-clause-goes : goal.returns-in-Err-clause-goes
@@ -136,13 +135,11 @@ returns-clause-marks g c =
     (new_wide c.args.core.now c.release.new.core (record { inner = c.lose_in-result.new.core; held = c.open_held-held.new.core.held }) c.close_held.new.core c.open_held-held.new.core.inner (g.S.Shelf.meaning c.args.shelf.now) (g.S.Shelf.meaning c.release.new.shelf) (g.S.Shelf.meaning c.lose_in-result.new.shelf) c.requires.stands c.release.ensures.stands c.release.ensures.narrows c.release.ensures.volumes c.open_held-held.result c.open_held-held.ensures.held c.open_held-held.ensures.inner c.open_held-held.ensures.none c.close_held.ensures)
     c.lose_in-result.ensures.marks
 
-pub returns-then-is_down-clause-missed : goal.returns-then-is_down-clause-missed
-returns-then-is_down-clause-missed g c = inr (sym c.is_down.ensures ∙ c.if-is_down.true)
+pub returns-in-Err-clause-misses : goal.returns-in-Err-clause-misses
+returns-in-Err-clause-misses g c = misses_by c.release.new.core.inner (g.S.Shelf.meaning c.args.shelf.now) (g.S.Shelf.meaning c.release.new.shelf) c.in-Err.error c.in-Err.ensures.missed c.in-Err.ensures.cause
 
-pub returns-in-Err-clause-missed : goal.returns-in-Err-clause-missed
-returns-in-Err-clause-missed g c = c.in-Err.ensures.missed
-
-pub returns-clause-missed : goal.returns-clause-missed
-returns-clause-missed g c =
-    err_from c.lose_in-result.result (λ none. subst (λ (i : Inner). NoCommit i (g.S.Shelf.meaning c.lose_in-result.new.shelf)) (sym
-    (new_wide c.args.core.now c.release.new.core (record { inner = c.lose_in-result.new.core; held = c.open_held-held.new.core.held }) c.close_held.new.core c.open_held-held.new.core.inner (g.S.Shelf.meaning c.args.shelf.now) (g.S.Shelf.meaning c.release.new.shelf) (g.S.Shelf.meaning c.lose_in-result.new.shelf) c.requires.stands c.release.ensures.stands c.release.ensures.narrows c.release.ensures.volumes c.open_held-held.result c.open_held-held.ensures.held c.open_held-held.ensures.inner c.open_held-held.ensures.none c.close_held.ensures)) none) c.lose_in-result.ensures.missed
+pub returns-clause-misses : goal.returns-clause-misses
+returns-clause-misses g c =
+    through_misses c.close_held.new.core c.lose_in-result.new.core c.lose_in-result.result
+    (new_wide c.args.core.now c.release.new.core (record { inner = c.lose_in-result.new.core; held = c.open_held-held.new.core.held }) c.close_held.new.core c.open_held-held.new.core.inner (g.S.Shelf.meaning c.args.shelf.now) (g.S.Shelf.meaning c.release.new.shelf) (g.S.Shelf.meaning c.lose_in-result.new.shelf) c.requires.stands c.release.ensures.stands c.release.ensures.narrows c.release.ensures.volumes c.open_held-held.result c.open_held-held.ensures.held c.open_held-held.ensures.inner c.open_held-held.ensures.none c.close_held.ensures)
+    c.lose_in-result.ensures.misses
