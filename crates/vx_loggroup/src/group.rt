@@ -10,7 +10,7 @@ ghost use Rattle.vx_group.specs.Attaches.{GroupAttachEnds, att_refusal, missed_r
 ghost use Rattle.vx_group.specs.Calls.{BackAgrees, GivesBack, GroupCreated, GroupDeported, GroupStays, ImportsAgain, IsFull, KeepsUnits};
 ghost use Rattle.vx_group.specs.Deports.{DeportStops, GroupCanImport};
 ghost use Rattle.vx_copies.specs.Commits.{MoreFailed};
-ghost use Rattle.vx_group.specs.Creates.{NewFails, SameUnits};
+ghost use Rattle.vx_group.specs.Creates.{SameUnits};
 ghost use Rattle.vx_group.specs.Loses.{SameParts};
 ghost use Rattle.vx_kept.specs.Commits.{IsCommitted};
 ghost use Rattle.vx_kept.specs.Keeping.{frame_at};
@@ -80,7 +80,6 @@ impl<S: Shelf> LoggedGroup<S> {
         ensures small { HasSmall (S.meaning shelf) → result ≡ Err (shelf, Refused Size) }
         ensures same { KeepsUnits (S.meaning shelf) (λ s. S.meaning s) (λ g. g.shelf) result }
         ensures created { GroupCreated site (S.meaning shelf) (λ s. S.meaning s) (λ g. g.core) (λ g. g.shelf) result }
-        ensures failing { NewFails (S.meaning shelf) (λ g. g.core.inner.config) (λ g. S.meaning g.shelf) result }
     {
         let mut shelf = shelf;
         match start(alloc, &mut shelf, site) {
