@@ -33,7 +33,7 @@ use Rattle.vx_diskset.specs.declared.disk_set.DiskSet.TheVariants.{OfGroup}
 use Rattle.vx_diskset.specs.declared.group_set.GroupSet.{GroupSet}
 use Rattle.vx_volume.specs.Plexes.{uses}
 use Rattle.vx_group.specs.Attaches.{region_count}
-use Rattle.vx_events.specs.GroupConfigs.{ConfigLosesBut, lies_on_disk}
+use Rattle.vx_events.specs.GroupConfigs.{ConfigKeepsBut, lies_on_disk}
 use Rattle.vx_events.specs.GroupLines.{plain_number}
 use Rattle.vx_events.specs.GroupNotes.{note_at, Reconfigures}
 use Rattle.vx_events.specs.GroupReplies.{AttachCopies, entry_maps, volume_maps, volume_regions}
@@ -176,17 +176,17 @@ module _ {R : Type 0} {g : Ghosts R} where
         refused_leads d (PlexAttach name volume plex) old new name s before after stands it mid half result ℕ (λ o e. AttDone v plex o e) (λ o e. AttFails v plex o e) MapsLike (λ o which. refuses_att o v plex ≡ Some which)
         (record {
           ends = λ many fails o e next was now names noted noted_now enough logs change keeps w by.
-              with_goes (Reconfigures (λ c x. ConfigLosesBut (λ k. lies_on_disk c v plex k) s fails c x ⊎ PutsOr s fails (λ k. lies_on_disk c v plex k) v plex Active c x) NoteUnsettles) (MapsCalled s fails) note next was now w noted noted_now
+              with_goes (Reconfigures (λ c x. ConfigKeepsBut (λ k. lies_on_disk c v plex k) s fails c x ⊎ PutsOr s fails (λ k. lies_on_disk c v plex k) v plex Active c x) NoteUnsettles) (MapsCalled s fails) note next was now w noted noted_now
               (reconfigures s many fails o e note next names
-              (λ c x. ConfigLosesBut (λ k. lies_on_disk c v plex k) s fails c x ⊎ PutsOr s fails (λ k. lies_on_disk c v plex k) v plex Active c x) (λ a b. NoteUnsettles a b) was now noted noted_now
+              (λ c x. ConfigKeepsBut (λ k. lies_on_disk c v plex k) s fails c x ⊎ PutsOr s fails (λ k. lies_on_disk c v plex k) v plex Active c x) (λ a b. NoteUnsettles a b) was now noted noted_now
               (att_to s many fails o e note next names v plex was now enough change) keeps)
               (like_named s many fails o e names was now (λ u k. logs_low was many u k logs) note.maps w by);
         })
         (record {
           ends = λ many fails o e next was now names noted noted_now enough logs change keeps w by.
-              with_goes (Reconfigures (λ c x. ConfigLosesBut (λ k. lies_on_disk c v plex k) s fails c x ⊎ PutsOr s fails (λ k. lies_on_disk c v plex k) v plex Active c x) NoteUnsettles) MapsLost note next was now w noted noted_now
+              with_goes (Reconfigures (λ c x. ConfigKeepsBut (λ k. lies_on_disk c v plex k) s fails c x ⊎ PutsOr s fails (λ k. lies_on_disk c v plex k) v plex Active c x) NoteUnsettles) MapsLost note next was now w noted noted_now
               (reconfigures s many fails o e note next names
-              (λ c x. ConfigLosesBut (λ k. lies_on_disk c v plex k) s fails c x ⊎ PutsOr s fails (λ k. lies_on_disk c v plex k) v plex Active c x) (λ a b. NoteUnsettles a b) was now noted noted_now
+              (λ c x. ConfigKeepsBut (λ k. lies_on_disk c v plex k) s fails c x ⊎ PutsOr s fails (λ k. lies_on_disk c v plex k) v plex Active c x) (λ a b. NoteUnsettles a b) was now noted noted_now
               (att_to s many fails o e note next names v plex was now enough change) keeps)
               (record { none = by.none });
         })

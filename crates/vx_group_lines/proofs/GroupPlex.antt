@@ -40,7 +40,7 @@ use Rattle.vx_diskset.specs.declared.disk_set.DiskSet.{DiskSet}
 use Rattle.vx_diskset.specs.declared.disk_set.DiskSet.TheVariants.{OfGroup}
 use Rattle.vx_diskset.specs.declared.group_set.GroupSet.{GroupSet}
 use Rattle.vx_events.proofs.Places.{some_same}
-use Rattle.vx_events.specs.GroupConfigs.{ConfigLoses}
+use Rattle.vx_events.specs.GroupConfigs.{ConfigKeeps}
 use Rattle.vx_events.specs.GroupEnds.{GroupWants}
 use Rattle.vx_events.specs.GroupLines.{plain_number}
 use Rattle.vx_events.specs.GroupNotes.{note_at, Reconfigures}
@@ -330,15 +330,15 @@ module _ {R : Type 0} {g : Ghosts R} where
         refused_leads d (PlexDetach name volume plex) old new name s before after stands it mid half result (Unit {0}) (λ o e. DetDone v plex o e) (λ o e. DetFails v plex o e) (DetMapsFailed v plex) (λ o which. refuses_det o v plex ≡ Some which)
         (record {
           ends = λ many fails o e next was now names noted noted_now enough logs change keeps w by.
-              with_goes (Reconfigures (λ c x. ConfigLoses s fails c x ⊎ PutsOr s fails none_again v plex Stale c x) NoteUnsettles) (MapsUndetached s fails v plex) note next was now w noted noted_now
-              (reconfigures s many fails o e note next names (λ c x. ConfigLoses s fails c x ⊎ PutsOr s fails none_again v plex Stale c x) (λ a b. NoteUnsettles a b) was now noted noted_now
+              with_goes (Reconfigures (λ c x. ConfigKeeps s fails c x ⊎ PutsOr s fails none_again v plex Stale c x) NoteUnsettles) (MapsUndetached s fails v plex) note next was now w noted noted_now
+              (reconfigures s many fails o e note next names (λ c x. ConfigKeeps s fails c x ⊎ PutsOr s fails none_again v plex Stale c x) (λ a b. NoteUnsettles a b) was now noted noted_now
               (det_to s many fails o e note next names v plex was now enough change) keeps)
               (undet_named s many fails o e names was now (λ u k. logs_low was many u k logs) note.maps w v plex by);
         })
         (record {
           ends = λ many fails o e next was now names noted noted_now enough logs change keeps w by.
-              with_goes (Reconfigures (λ c x. ConfigLoses s fails c x ⊎ PutsOr s fails none_again v plex Stale c x) NoteUnsettles) MapsLost note next was now w noted noted_now
-              (reconfigures s many fails o e note next names (λ c x. ConfigLoses s fails c x ⊎ PutsOr s fails none_again v plex Stale c x) (λ a b. NoteUnsettles a b) was now noted noted_now
+              with_goes (Reconfigures (λ c x. ConfigKeeps s fails c x ⊎ PutsOr s fails none_again v plex Stale c x) NoteUnsettles) MapsLost note next was now w noted noted_now
+              (reconfigures s many fails o e note next names (λ c x. ConfigKeeps s fails c x ⊎ PutsOr s fails none_again v plex Stale c x) (λ a b. NoteUnsettles a b) was now noted noted_now
               (det_to s many fails o e note next names v plex was now enough change) keeps)
               (record { none = by.none });
         })
