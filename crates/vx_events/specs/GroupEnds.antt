@@ -112,18 +112,18 @@ GroupWants note line why = ⊥
 
 -- what a failed call of a line that ends it leaves of the note
 abbrev pub GroupSpoils : (s : ℕ) → GroupNode → ScriptLine → Fails → GroupNode → Type 0
-GroupSpoils s note (GroupDeport site) fails next = WithMaps (Reconfigures (ConfigLoses s fails) NoteUnsettles) (MapsCalled s fails) note next
+GroupSpoils s note (GroupDeport site) fails next = WithMaps (Reconfigures (ConfigLoses s fails) (NoteUnsettles false)) (MapsCalled s fails) note next
 GroupSpoils s note (GroupImport site) fails next = NotesRefused note next
-GroupSpoils s note (Volume site volume blocks mirrors layout log map policy) fails next = WithMaps (Reconfigures (ConfigLoses s fails) NoteUnsettles) (MapsCalled s fails) note next
+GroupSpoils s note (Volume site volume blocks mirrors layout log map policy) fails next = WithMaps (Reconfigures (ConfigLoses s fails) (NoteUnsettles false)) (MapsCalled s fails) note next
 GroupSpoils s note (PlexDetach site volume plex) fails next =
-    WithMaps (Reconfigures (λ c d. ConfigKeeps s fails c d ⊎ ((x : Config) × PutsPlex (plain_number note volume) plex Stale c x × ConfigKeeps s fails x d)) NoteUnsettles)
+    WithMaps (Reconfigures (λ c d. ConfigKeeps s fails c d ⊎ ((x : Config) × PutsPlex (plain_number note volume) plex Stale c x × ConfigKeeps s fails x d)) (NoteUnsettles false))
     (MapsUndetached s fails (plain_number note volume) plex) note next
 GroupSpoils s note (PlexAttach site volume plex) fails next =
     WithMaps
     (Reconfigures
     (λ c d. ConfigKeepsBut (lies_on_disk c (plain_number note volume) plex) s fails c d
     ⊎ ((x : Config) × PutsPlex (plain_number note volume) plex Active c x × ConfigKeepsBut (lies_on_disk c (plain_number note volume) plex) s fails x d))
-    NoteUnsettles)
+    (NoteUnsettles true))
     (MapsCalled s fails) note next
 GroupSpoils s note (WriteLine site volume start count fill) fails next = NotesDoubt s fails (write_to note volume start (replicate (BLOCK * count) fill)) note next
 GroupSpoils s note (Put site volume start bytes) fails next = NotesDoubt s fails (write_to note volume start bytes) note next
@@ -134,18 +134,18 @@ GroupSpoils s note other fails next = ⊥
 
 -- and a fuse that ran out in it
 abbrev pub GroupCuts : (s : ℕ) → GroupNode → ScriptLine → Fails → GroupNode → Type 0
-GroupCuts s note (GroupDeport site) fails next = WithMaps (Reconfigures (ConfigLoses s fails) NoteUnsettles) MapsLost note next
+GroupCuts s note (GroupDeport site) fails next = WithMaps (Reconfigures (ConfigLoses s fails) (NoteUnsettles false)) MapsLost note next
 GroupCuts s note (GroupImport site) fails next = NotesRefused note next
-GroupCuts s note (Volume site volume blocks mirrors layout log map policy) fails next = WithMaps (Reconfigures (ConfigLoses s fails) NoteUnsettles) MapsLost note next
+GroupCuts s note (Volume site volume blocks mirrors layout log map policy) fails next = WithMaps (Reconfigures (ConfigLoses s fails) (NoteUnsettles false)) MapsLost note next
 GroupCuts s note (PlexDetach site volume plex) fails next =
-    WithMaps (Reconfigures (λ c d. ConfigKeeps s fails c d ⊎ ((x : Config) × PutsPlex (plain_number note volume) plex Stale c x × ConfigKeeps s fails x d)) NoteUnsettles)
+    WithMaps (Reconfigures (λ c d. ConfigKeeps s fails c d ⊎ ((x : Config) × PutsPlex (plain_number note volume) plex Stale c x × ConfigKeeps s fails x d)) (NoteUnsettles false))
     MapsLost note next
 GroupCuts s note (PlexAttach site volume plex) fails next =
     WithMaps
     (Reconfigures
     (λ c d. ConfigKeepsBut (lies_on_disk c (plain_number note volume) plex) s fails c d
     ⊎ ((x : Config) × PutsPlex (plain_number note volume) plex Active c x × ConfigKeepsBut (lies_on_disk c (plain_number note volume) plex) s fails x d))
-    NoteUnsettles)
+    (NoteUnsettles true))
     MapsLost note next
 GroupCuts s note (WriteLine site volume start count fill) fails next = NotesCut s fails (write_to note volume start (replicate (BLOCK * count) fill)) note next
 GroupCuts s note (Put site volume start bytes) fails next = NotesCut s fails (write_to note volume start bytes) note next

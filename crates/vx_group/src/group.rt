@@ -18,7 +18,7 @@ ghost use Rattle.vx_model.specs.declared.errors.Stop.TheVariants.{No as Refused}
 ghost use Rattle.vx_model.specs.declared.limits.TheConstants.{MOST_DISKS};
 ghost use Rattle.vx_model.specs.declared.no.No.TheVariants.{Size};
 ghost use Rattle.vx_group.specs.GivesUp.{GivesUp};
-ghost use Rattle.vx_group.specs.Calls.{GivesBack, GroupAttaches, GroupCreated, GroupDeported, GroupImported, GroupNarrows, GroupStays, ImportsAgain, IsFull, KeepsUnits};
+ghost use Rattle.vx_group.specs.Calls.{BackAgrees, GivesBack, GroupAttaches, GroupCreated, GroupDeported, GroupImported, GroupNarrows, GroupStays, ImportsAgain, IsFull, KeepsUnits};
 ghost use Rattle.vx_group.specs.Holding.{GroupStands, wide};
 ghost use Rattle.vx_kept.specs.Commits.{IsCommitted};
 ghost use Rattle.vx_kept.specs.Trusts.{HasFailed};
@@ -228,6 +228,7 @@ impl<S: Shelf> Group<S> {
         ensures up { IfOk result (λ s. IsTrue (S.meaning s).down → ⊥) }
         ensures back { GivesBack self.core (S.meaning self.shelf) (λ s. S.meaning s) (λ g. g.core) (λ g. g.shelf) result }
         ensures can { GroupCanImport self.core.inner (λ s. S.meaning s) result }
+        ensures agreed { BackAgrees self.core (λ g. g.core) result }
         ensures cause { self.core.inner.config.serial ≤ greatest - margin → DeportStops (S.meaning self.shelf) (λ s. S.meaning s) (λ g. g.shelf) result }
     {
         let mut shelf = self.shelf;

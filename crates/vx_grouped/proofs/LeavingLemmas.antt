@@ -1,5 +1,5 @@
 -- A deport of a site's group, by its note.
-use Rattle.std.proofs.Common.{◌≡◌, ◌⊎◌, ◌-◌, ◌<◌, ◌≤◌, inl, inr, ℕ, false, true, IsTrue, refl, sym, ◌∙◌, subst, arith, Bool, if◌then◌else◌}
+use Rattle.std.proofs.Common.{◌≡◌, ◌⊎◌, ◌-◌, ◌<◌, ◌≤◌, inl, inr, ℕ, false, true, [], IsTrue, refl, sym, ◌∙◌, subst, arith, Bool, if◌then◌else◌}
 use Rattle.std.proofs.lemmas.Bool.{cases_lt}
 use Rattle.std.specs.Prelude.{Some, Ok, Err, slice_get}
 use Rattle.vx_model.specs.declared.errors.Stop.{Stop}
@@ -193,9 +193,12 @@ module _ {R : Type 0} {g : Ghosts R} (n : Node) (note : GroupNode) (group : Laid
     spells : HasSpelling (at_serial 0 new.core.inner.config)
     spells = spells_like group.core.inner.config new.core.inner.config back.loses.parts back.loses.frames back.loses.disks.blocks up.spells
 
+    agrees_back : false ≡ false → note.loose ≡ false → note.begun ≡ [] → new.core.inner.agreed ≡ true
+    agrees_back once tight none = back.agrees (up.at.lies.committed tight none)
+
     pub deport_up : stops_down stop ≡ false → CallLeaves {T = Unit {0}} n note new.core (laid_disks new) (Err stop) → SiteDeported n note (Up group) (Up new) (Err stop)
     deport_up off leaves =
-        called_up (Unit {0}) n note group new up since less spells (λ c d. ⊥) (LosesSome (laid_disks group) (laid_disks new)) (λ which. LacksDeport (Up group) which) stop off leaves (deport_rose group.core (laid_disks group) (laid_disks new) stop why)
+        called_up (Unit {0}) n note group new up since less spells false (λ c d. ⊥) (LosesSome (laid_disks group) (laid_disks new)) (λ which. LacksDeport (Up group) which) stop off leaves agrees_back (deport_rose group.core (laid_disks group) (laid_disks new) stop why)
         (λ which is blames. loses_some group.core.inner.config new.core.inner.config (laid_disks group) (laid_disks new) (racks group.shelf).counts (racks new.shelf).counts back.on back.loses)
         (deport_lacks group.core (laid_disks group) (laid_disks new) stop why)
 
@@ -204,7 +207,7 @@ module _ {R : Type 0} {g : Ghosts R} (n : Node) (note : GroupNode) (group : Laid
         (same : idle.agreed ≡ new.core.inner.agreed) (fell : TellsLess (laid_below new) (idle_below idle)) where
       pub deport_cut : stops_down stop ≡ true → CallLeaves {T = Unit {0}} n note new.core (laid_disks new) (Err stop) → SiteDeported n note (Up group) (Down idle) (Err stop)
       deport_cut off leaves =
-          called_cut (Unit {0}) n note group new up since less spells (λ c d. ⊥) (LosesSome (laid_disks group) (idle_disks idle)) (λ which. LacksDeport (Up group) which) idle stopped away same fell stop off leaves
+          called_cut (Unit {0}) n note group new up since less spells false (λ c d. ⊥) (LosesSome (laid_disks group) (idle_disks idle)) (λ which. LacksDeport (Up group) which) idle stopped away same fell stop off leaves agrees_back
           (λ which is blames. loses_some group.core.inner.config new.core.inner.config (laid_disks group) (idle_disks idle) (racks group.shelf).counts (racks idle.rack).counts back.on
           (both_lose (laid_disks group) (laid_disks new) (idle_disks idle) (racks group.shelf) (racks new.shelf) (racks idle.rack) since.counts (λ d. let same = stopped.counts.disk_faults d in omega (arith, same))
           group.core.inner.config new.core.inner.config new.core.inner.config back.loses (loses_same new.core.inner.config (laid_disks new) (idle_disks idle))))

@@ -49,6 +49,7 @@ pub record PlexDets (vol plex : ℕ) (c : GroupCore) (m : Meaning) (d : GroupCor
   pub off : OnOk r (active d.inner.config vol plex ≡ false)
   pub others : (w p : ℕ) → (w ≡ vol → p ≡ plex → ⊥) → active d.inner.config w p ≡ active c.inner.config w p
   pub trust : OnOk r (c.inner.committed ≡ true → d.inner.committed ≡ true)
+  pub agreed : IfErr r (λ stop. c.inner.committed ≡ true → d.inner.agreed ≡ true)
   pub cause : det_refusal c.inner.config vol plex ≡ None → DetStops m m' r
   pub narrows : (w p : ℕ) → IsTrue (active d.inner.config w p) → IsTrue (active c.inner.config w p)
   pub moves : CoreMoves none_again c.inner.config d.inner.config m m'

@@ -61,6 +61,7 @@ fn deport_rested<S: Shelf>(
     ensures maps { OnOk result (MapsStand logs.now.items (S.meaning shelf.new)) }
     ensures rests { IfOk result (λ r. RestsOr core.old.inner.config false logs.now.items alike.now r) }
     ensures trusts { IfErr result (λ e. TrustsStill core.old.inner.config core.new.inner.config) }
+    ensures agreed { IfErr result (λ e. core.old.inner.committed ≡ true → core.new.inner.agreed ≡ true) }
     ensures finds { IfErr result (λ e. GroupFinds core.old core.new (S.meaning shelf.old) (S.meaning shelf.new)) }
     ensures cause { DetStops (S.meaning shelf.old) (S.meaning shelf.new) result }
 {
@@ -104,6 +105,7 @@ pub fn deport_whole<S: Shelf>(
     ensures maps { stopped ≡ false → OnOk result (MapsStand logs.now.items (S.meaning shelf.new)) }
     ensures rests { IfOk result (λ r. RestsOr core.old.inner.config stopped logs.now.items alike.now r) }
     ensures trusts { IfErr result (λ e. TrustsStill core.old.inner.config core.new.inner.config) }
+    ensures agreed { IfErr result (λ e. core.old.inner.committed ≡ true → core.new.inner.agreed ≡ true) }
     ensures finds { IfErr result (λ e. GroupFinds core.old core.new (S.meaning shelf.old) (S.meaning shelf.new)) }
     ensures cause { core.old.inner.config.serial ≤ greatest - margin → DetStops (S.meaning shelf.old) (S.meaning shelf.new) result }
 {

@@ -7,7 +7,7 @@ ghost use Rattle.vx_config.specs.Table.{greatest};
 ghost use Rattle.vx_copyio.specs.Labelling.{HasSmall};
 ghost use Rattle.vx_disk.specs.Shelf.{Goes, Nothing};
 ghost use Rattle.vx_group.specs.Attaches.{GroupAttachEnds, att_refusal, missed_regions, region_count};
-ghost use Rattle.vx_group.specs.Calls.{GivesBack, GroupCreated, GroupDeported, GroupStays, ImportsAgain, IsFull, KeepsUnits};
+ghost use Rattle.vx_group.specs.Calls.{BackAgrees, GivesBack, GroupCreated, GroupDeported, GroupStays, ImportsAgain, IsFull, KeepsUnits};
 ghost use Rattle.vx_group.specs.Deports.{DeportStops, GroupCanImport};
 ghost use Rattle.vx_copies.specs.Commits.{MoreFailed};
 ghost use Rattle.vx_group.specs.Creates.{SameUnits};
@@ -279,6 +279,7 @@ impl<S: Shelf> LoggedGroup<S> {
         ensures tells { DeportTells (λ s. S.meaning s) result }
         ensures maps { DeportMaps self.core.inner.config self.stopped (λ s. S.meaning s) self.logs.items self.alike result }
         ensures kept { DeportKeeps self.core.inner.config self.stopped self.logs.items self.alike (S.meaning self.shelf) (λ g. g.core.inner.config) (λ g. g.stopped) (λ g. g.logs.items) (λ g. g.alike) (λ g. S.meaning g.shelf) result }
+        ensures agreed { BackAgrees self.core (λ g. g.core) result }
         ensures finds { BackFinds self.core (S.meaning self.shelf) (λ g. g.core) (λ g. S.meaning g.shelf) result }
         ensures cause { self.core.inner.config.serial ≤ greatest - margin → DeportStops (S.meaning self.shelf) (λ s. S.meaning s.0) (λ g. (g.shelf, None)) result }
     {

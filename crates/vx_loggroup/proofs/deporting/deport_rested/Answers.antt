@@ -107,3 +107,15 @@ returns-then-not-kept-clause-trusts g c = tt
 
 pub returns-clause-trusts : goal.returns-clause-trusts
 returns-clause-trusts g c = tt
+
+pub returns-in-Err-clause-agreed : goal.returns-in-Err-clause-agreed
+returns-in-Err-clause-agreed g c = c.requires.stands.group.stands.trusts.both
+
+pub returns-in-Err-deport_in-clause-agreed : goal.returns-in-Err-deport_in-clause-agreed
+returns-in-Err-deport_in-clause-agreed g c = c.in-Err-deport_in.ensures.agreed
+
+pub returns-then-not-kept-clause-agreed : goal.returns-then-not-kept-clause-agreed
+returns-then-not-kept-clause-agreed g c = tt
+
+pub returns-clause-agreed : goal.returns-clause-agreed
+returns-clause-agreed g c = tt

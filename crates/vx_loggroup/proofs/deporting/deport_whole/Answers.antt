@@ -71,3 +71,12 @@ returns-in-Ok-clause-trusts g c = tt
 
 pub returns-in-Err-clause-trusts : goal.returns-in-Err-clause-trusts
 returns-in-Err-clause-trusts g c = c.in-Err.ensures.logs
+
+pub returns-then-may_rest-clause-agreed : goal.returns-then-may_rest-clause-agreed
+returns-then-may_rest-clause-agreed g c = c.deport_rested.ensures.agreed
+
+pub returns-in-Ok-clause-agreed : goal.returns-in-Ok-clause-agreed
+returns-in-Ok-clause-agreed g c = tt
+
+pub returns-in-Err-clause-agreed : goal.returns-in-Err-clause-agreed
+returns-in-Err-clause-agreed g c = c.in-Err.ensures.agreed

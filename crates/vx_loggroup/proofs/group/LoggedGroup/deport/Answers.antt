@@ -44,3 +44,9 @@ returns-in-Err-clause-kept g c = record {
       same_end c.args.self.core.inner.config c.deport_whole.new.core.inner.config c.args.self.logs.items c.args.self.stopped (g.S.Shelf.meaning c.args.self.shelf) (g.S.Shelf.meaning c.deport_whole.new.shelf) c.in-Err.ensures.ends.quiesces.loses.disks.blamed
       (λ v r at. frames_places c.args.self.core.inner.config c.deport_whole.new.core.inner.config c.in-Err.ensures.ends.quiesces.loses.frames v Fmr r at);
 }
+
+pub returns-in-Ok-clause-agreed : goal.returns-in-Ok-clause-agreed
+returns-in-Ok-clause-agreed g c = tt
+
+pub returns-in-Err-clause-agreed : goal.returns-in-Err-clause-agreed
+returns-in-Err-clause-agreed g c = c.in-Err.ensures.agreed
