@@ -119,12 +119,7 @@ GroupSpoils s note (PlexDetach site volume plex) fails next =
     WithMaps (Reconfigures (λ c d. ConfigKeeps s fails c d ⊎ ((x : Config) × PutsPlex (plain_number note volume) plex Stale c x × ConfigKeeps s fails x d)) (NoteUnsettles false))
     (MapsUndetached s fails (plain_number note volume) plex) note next
 GroupSpoils s note (PlexAttach site volume plex) fails next =
-    WithMaps
-    (Reconfigures
-    (λ c d. ConfigKeepsBut (lies_on_disk c (plain_number note volume) plex) s fails c d
-    ⊎ ((x : Config) × PutsPlex (plain_number note volume) plex Active c x × ConfigKeepsBut (lies_on_disk c (plain_number note volume) plex) s fails x d))
-    (NoteUnsettles true))
-    (MapsCalled s fails) note next
+    WithMaps (Reconfigures (λ c d. ConfigKeepsBut (lies_on_disk c (plain_number note volume) plex) s fails c d) (NoteUnsettles true)) (MapsCalled s fails) note next
 GroupSpoils s note (WriteLine site volume start count fill) fails next = NotesDoubt s fails (write_to note volume start (replicate (BLOCK * count) fill)) note next
 GroupSpoils s note (Put site volume start bytes) fails next = NotesDoubt s fails (write_to note volume start bytes) note next
 GroupSpoils s note (Read site volume start count) fails next = next ≡ note

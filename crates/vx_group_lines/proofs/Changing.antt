@@ -9,7 +9,7 @@ use Rattle.vx_config.specs.declared.config.Config.{Config}
 use Rattle.vx_history.specs.Groups.{GroupNode}
 use Rattle.vx_kept.specs.Cleans.{at_serial}
 use Rattle.vx_volume.specs.Plexes.{uses}
-use Rattle.vx_grouped.specs.ConfigMoves.{AttDone, AttFails, ConfigMoves, DetFails, Restated, StateKeeps, StateMoves, none_again}
+use Rattle.vx_grouped.specs.ConfigMoves.{AttCuts, AttDone, AttFails, ConfigMoves, DetFails, Restated, StateKeeps, StateMoves, none_again}
 use Rattle.vx_grouped.specs.GroupNotes.{NotesConfig}
 use Rattle.vx_events.specs.Fails.{Fails}
 use Rattle.vx_events.specs.GroupConfigs.{ConfigKeeps, ConfigKeepsBut, ConfigLosesBut, PutsPlex, StateLoses, StateSame, lies_on_disk}
@@ -44,7 +44,7 @@ module _ (s many : ℕ) (fails : Fails) (o e : Meaning) (note next : GroupNode) 
   moves_table again was now noted noted_now moves =
       notes_table next now noted_now ∙ facts_move again (StateMoves o e) o e was now moves ∙ sym (notes_table note was noted)
 
-  keeps_table : (again : ℕ → Bool) (was now : Config) → NotesConfig note was → NotesConfig next now → ConfigMoves again StateKeeps o e was now → noted_table next ≡ noted_table note
+  pub keeps_table : (again : ℕ → Bool) (was now : Config) → NotesConfig note was → NotesConfig next now → ConfigMoves again StateKeeps o e was now → noted_table next ≡ noted_table note
   keeps_table again was now noted noted_now moves = notes_table next now noted_now ∙ facts_move again StateKeeps o e was now moves ∙ sym (notes_table note was noted)
 
   -- and a plex was put into another state
@@ -87,12 +87,15 @@ module _ (s many : ℕ) (fails : Fails) (o e : Meaning) (note next : GroupNode) 
       let to = stated_to (uses was v p) v p Active was now enough it in
       (to.0, to.1, again_as StateSame (uses was v p) (lies_on_disk (at_serial 0 was) v p) s fails to.0 (at_serial 0 now) (λ k. uses_zero v p k was) to.2)
 
-  pub att_to : (v p : ℕ) (was now : Config) → length was.disks ≤ many → AttFails v p o e was now
+  pub att_kept : (v p : ℕ) (was now : Config) → length was.disks ≤ many → AttFails v p o e was now → ConfigKeepsBut (lies_on_disk (at_serial 0 was) v p) s fails (at_serial 0 was) (at_serial 0 now)
+  att_kept v p was now enough moves =
+      again_as StateSame (uses was v p) (lies_on_disk (at_serial 0 was) v p) s fails (at_serial 0 was) (at_serial 0 now) (λ k. uses_zero v p k was) (keeps_to (uses was v p) was now enough moves)
+
+  pub att_to : (v p : ℕ) (was now : Config) → length was.disks ≤ many → AttCuts v p o e was now
       → ConfigKeepsBut (lies_on_disk (at_serial 0 was) v p) s fails (at_serial 0 was) (at_serial 0 now) ⊎ PutsOr s fails (lies_on_disk (at_serial 0 was) v p) v p Active (at_serial 0 was) (at_serial 0 now)
-  att_to v p was now enough (inl moves) =
-      inl (again_as StateSame (uses was v p) (lies_on_disk (at_serial 0 was) v p) s fails (at_serial 0 was) (at_serial 0 now) (λ k. uses_zero v p k was) (keeps_to (uses was v p) was now enough moves))
+  att_to v p was now enough (inl moves) = inl (att_kept v p was now enough moves)
   att_to v p was now enough (inr it) = inr (att_done v p was now enough it)
 
-  pub att_table : (v p : ℕ) (was now : Config) → NotesConfig note was → NotesConfig next now → AttFails v p o e was now → noted_table next ≡ noted_table note
+  pub att_table : (v p : ℕ) (was now : Config) → NotesConfig note was → NotesConfig next now → AttCuts v p o e was now → noted_table next ≡ noted_table note
   att_table v p was now noted noted_now (inl moves) = keeps_table (uses was v p) was now noted noted_now moves
   att_table v p was now noted noted_now (inr it) = stated_table (uses was v p) v p Active was now noted noted_now it

@@ -157,7 +157,7 @@ module _ {R : Type 0} {g : Ghosts R} where
     pub deport_refused : (mid : Yard R g) (result : Result Said OutOfMemory) → Midway old mid → (why : No) → OnSites (λ o e. SiteDeported n note o e (Err (StopsBy why))) before after
         → OnSites (λ o e. DeportMapped o e (Err (StopsBy why))) before after → IsNotedRefusal s (fact_of_group (d.world.nodes s) (note_at (d.world.nodes s))) why mid new result → LeadsOverIs d (GroupDeport name) old new result
     deport_refused mid result half why on maps refusal =
-        refused_leads d (GroupDeport name) old new name s before after stands it mid half result (Unit {0}) false (λ o e c x. ⊥) (λ o e. LosesSome o e) MapsLike (λ o which. LacksDeport o which)
+        refused_leads d (GroupDeport name) old new name s before after stands it mid half result (Unit {0}) false (λ o e c x. ⊥) (λ o e. LosesSome o e) (λ o e. LosesSome o e) MapsLike (λ o which. LacksDeport o which)
         (record {
           ends = λ many fails o e next was now names noted noted_now enough logs change keeps w by.
               with_goes (Reconfigures (λ c x. ConfigLoses s fails c x) (NoteUnsettles false)) (MapsCalled s fails) note next was now w noted noted_now
@@ -170,6 +170,7 @@ module _ {R : Type 0} {g : Ghosts R} where
               (reconfigures s many fails o e note next names (λ c x. ConfigLoses s fails c x) (λ a b. NoteUnsettles false a b) was now noted noted_now (moves_to s many fails o e note next names none_again was now enough change) keeps)
               (record { none = by.none });
         })
+        (record { same = λ many o e t fails next was now names noted noted_now change. moves_table t many fails o e note next names none_again was now noted noted_now change })
         (record { same = λ many o e t fails next was now names noted noted_now change. moves_table t many fails o e note next names none_again was now noted noted_now change })
         (λ which is. limit_wants note was_site name which (maps_were d old new name s before after stands it.call) is) why on maps refusal
 

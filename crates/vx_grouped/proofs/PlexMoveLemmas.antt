@@ -13,7 +13,7 @@ use Rattle.vx_volume.specs.Plexes.{active, uses}
 use Rattle.vx_kept.specs.Choice.{live}
 use Rattle.vx_kept.specs.Keeping.{AllOn}
 use Rattle.vx_kept.proofs.StateLemmas.{map_one, plex_apart, plex_same, stated_shape}
-use Rattle.vx_grouped.specs.ConfigMoves.{AttDone, AttFails, ConfigMoves, DetDone, DetFails, StateKeeps, none_again}
+use Rattle.vx_grouped.specs.ConfigMoves.{AttCuts, AttDone, AttFails, ConfigMoves, DetDone, DetFails, StateKeeps, none_again}
 use Rattle.vx_grouped.specs.CoreMoves.{CoreMoves}
 use Rattle.vx_grouped.proofs.MovesLemmas.{config_moves, disk_at, volume_moves}
 use Rattle.vx_grouped.proofs.StateChangeLemmas.{live_state, live_there, on_state, on_there}
@@ -112,9 +112,12 @@ module _ (c d : Config) (v p : ℕ) (m m' : Meaning) (one : (u : ℕ) → m.disk
   pub att_done : CoreMoves (uses c v p) c d m m' → IsTrue (active d v p) → AttDone v p m m' c d
   att_done it on = record { whole = false; moves = restated_moves (uses c v p) Active false it (λ y at. active_state y.state (sym (on_there d v p y at) ∙ on)) }
 
-  pub att_fails : CoreMoves (uses c v p) c d m m' → active c v p ≡ false → AttFails v p m m' c d
-  att_fails it off = by (active d v p) refl
+  pub att_fails : CoreMoves (uses c v p) c d m m' → active c v p ≡ false → active d v p ≡ false → AttFails v p m m' c d
+  att_fails it off still = as_was (uses c v p) it (still ∙ sym off)
+
+  pub att_cuts : CoreMoves (uses c v p) c d m m' → active c v p ≡ false → AttCuts v p m m' c d
+  att_cuts it off = by (active d v p) refl
     where
-      by : (t : Bool) → active d v p ≡ t → AttFails v p m m' c d
+      by : (t : Bool) → active d v p ≡ t → AttCuts v p m m' c d
       by true on = inr (att_done it on)
-      by false still = inl (as_was (uses c v p) it (still ∙ sym off))
+      by false still = inl (att_fails it off still)

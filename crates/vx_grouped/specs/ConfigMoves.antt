@@ -111,9 +111,13 @@ DetFails v p old new c d = ConfigMoves none_again StateKeeps old new c d ⊎ Det
 abbrev pub AttDone : ℕ → ℕ → Meaning → Meaning → Config → Config → Type 0
 AttDone v p old new c d = Restated (uses c v p) v p Active old new c d
 
--- or it was not, as a disk failed or the fuse ran out; memory may have it as attached all the same
+-- or it was not, as a disk failed
 abbrev pub AttFails : ℕ → ℕ → Meaning → Meaning → Config → Config → Type 0
-AttFails v p old new c d = ConfigMoves (uses c v p) StateKeeps old new c d ⊎ AttDone v p old new c d
+AttFails v p old new c d = ConfigMoves (uses c v p) StateKeeps old new c d
+
+-- or as the fuse ran out; memory may have it as attached all the same
+abbrev pub AttCuts : ℕ → ℕ → Meaning → Meaning → Config → Config → Type 0
+AttCuts v p old new c d = AttFails v p old new c d ⊎ AttDone v p old new c d
 
 -- a volume stands behind those of before, in the place that was found for it
 pub record VolumeAdded (name : List ℕ) (want : Shape) (vol : ℕ) (old new : Meaning) (c d : Config) : Type 0 where
