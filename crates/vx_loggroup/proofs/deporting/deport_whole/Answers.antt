@@ -42,9 +42,6 @@ returns-in-Err-clause-rests g c = tt
 pub returns-in-Err-clause-trusts : goal.returns-in-Err-clause-trusts
 returns-in-Err-clause-trusts g c = c.in-Err.ensures.logs
 
-pub returns-then-may_rest-clause-agreed : goal.returns-then-may_rest-clause-agreed
-returns-then-may_rest-clause-agreed g c = c.deport_rested.ensures.agreed
-
 pub returns-in-Ok-clause-agreed : goal.returns-in-Ok-clause-agreed
 returns-in-Ok-clause-agreed g c = tt
 
