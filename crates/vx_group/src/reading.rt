@@ -2,6 +2,7 @@
 ghost use Rattle.std.specs.Prelude.{◌≡◌, length, OnOk};
 ghost use Rattle.vx_disk.specs.Causes.{Cause, CountsOnly};
 ghost use Rattle.vx_disk.specs.Shelf.{Fits, Goes, Nothing, Read};
+ghost use Rattle.vx_group.specs.GivesUp.{PlexesFail};
 ghost use Rattle.vx_group.specs.Holding.{GroupStands, wide};
 ghost use Rattle.vx_group.specs.Stands.{inner_meaning};
 
@@ -11,7 +12,7 @@ use vx_disk::{Shelf, ShelfError};
 use vx_model::No;
 use vx_volume::{Volume, read};
 
-/// Reads a run of blocks of a volume, from one plex that is ACTIVE.
+/// Reads a run of blocks of a volume, from one plex that is ACTIVE. It fails only where a call on a disk of each of them failed.
 pub fn read_in<S: Shelf>(
     shelf: &mut S,
     core: &mut GroupCore,
@@ -28,6 +29,7 @@ pub fn read_in<S: Shelf>(
     ensures below { Goes Nothing (S.meaning shelf.old) (S.meaning shelf.new) }
     ensures down { (S.meaning shelf.new).down ≡ (S.meaning shelf.old).down }
     ensures cause { Cause (inner_meaning (wide core.old) (S.meaning shelf.old)) (inner_meaning (wide core.new) (S.meaning shelf.new)) vol result }
+    ensures gives_up { PlexesFail vol core.old.inner.config (S.meaning shelf.old) (S.meaning shelf.new) result }
     ensures counts { CountsOnly vol result (inner_meaning (wide core.old) (S.meaning shelf.old)).faults (inner_meaning (wide core.new) (S.meaning shelf.new)).faults }
     ensures held { core.new.held ≡ core.old.held }
     ensures trusted { (core.new.inner.committed ≡ core.old.inner.committed) × (core.new.inner.agreed ≡ core.old.inner.agreed) }

@@ -48,3 +48,6 @@ returns-in-Ok-clause-ok g c =
 
 pub returns-then-is_down-clause-below : goal.returns-then-is_down-clause-below
 returns-then-is_down-clause-below g c = same_Goes (g.S.Shelf.meaning c.args.shelf.now)
+
+pub returns-in-Err-Device-clause-gives_up : goal.returns-in-Err-Device-clause-gives_up
+returns-in-Err-Device-clause-gives_up g c = record { each = c.in-Err-Device.ensures.reads.0.each }
