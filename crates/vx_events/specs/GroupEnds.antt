@@ -47,7 +47,7 @@ write_to note volume start bytes = record { volume = plain_number note volume; s
 
 -- What a line that is done makes of the note of site s, and what it is answered. The disks of the site have so many blocks.
 abbrev pub GroupDoes : (told : Type 0) (s : ℕ) → Node → GroupNode → ScriptLine → Fails → Said → GroupNode → Type 0
-GroupDoes told s n note (GroupInit site) fails said next = FirstNote s n.disks n.blocks next × (said ≡ Done)
+GroupDoes told s n note (GroupInit site) fails said next = FirstNote s n.disks n.blocks fails next × (said ≡ Done)
 GroupDoes told s n note (GroupDeport site) fails said next =
     WithMaps (Reconfigures (λ c d. ConfigLoses s fails (opened_again c) (opened_again d)) NoteSettles) (MapsCalled s fails) note next × (said ≡ Done)
 GroupDoes told s n note (GroupImport site) fails said next = NotesBack told s n fails note next × (IsKnown told next → MapsImported s fails note next) × (said ≡ Done)
