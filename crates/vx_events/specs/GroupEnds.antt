@@ -28,7 +28,7 @@ use Rattle.vx_script.specs.declared.line.ScriptLine.{ScriptLine}
 use Rattle.vx_script.specs.declared.line.ScriptLine.TheVariants.{GroupInit, GroupDeport, GroupImport, Volume, PlexDetach, PlexAttach, Disk, Crash, Fuse, Recover, Write as WriteLine, Put, Read, Show, Status}
 use Rattle.vx_events.specs.Doubts.{IsAs, run_as}
 use Rattle.vx_events.specs.Fails.{Fails}
-use Rattle.vx_events.specs.GroupConfigs.{ConfigLoses, ConfigLosesBut, PutsPlex, lies_on_disk, opened_again}
+use Rattle.vx_events.specs.GroupConfigs.{ConfigKeeps, ConfigKeepsBut, ConfigLoses, ConfigRests, PutsPlex, lies_on_disk, opened_again}
 use Rattle.vx_events.specs.GroupLines.{cut_events, fuse_lost, group_events, group_noted, noting, plain_number, refused_events, shape_of, unread_events}
 use Rattle.vx_events.specs.GroupMaps.{MapsAttached, MapsCalled, MapsDetached, MapsImported, MapsLost, MapsRecovered, MapsUndetached, WithMaps}
 use Rattle.vx_events.specs.GroupNotes.{FirstNote, IsKnown, NotesBack, NotesCut, NotesDoubt, NotesRefused, NotesUnread, NotesVolume, NotesWrite, Reconfigures, note_at}
@@ -49,15 +49,15 @@ write_to note volume start bytes = record { volume = plain_number note volume; s
 abbrev pub GroupDoes : (told : Type 0) (s : ℕ) → Node → GroupNode → ScriptLine → Fails → Said → GroupNode → Type 0
 GroupDoes told s n note (GroupInit site) fails said next = FirstNote s n.disks n.blocks fails next × (said ≡ Done)
 GroupDoes told s n note (GroupDeport site) fails said next =
-    WithMaps (Reconfigures (λ c d. ConfigLoses s fails (opened_again c) (opened_again d)) NoteSettles) (MapsCalled s fails) note next × (said ≡ Done)
+    WithMaps (Reconfigures (λ c d. ConfigRests s fails (opened_again c) (opened_again d)) NoteSettles) (MapsCalled s fails) note next × (said ≡ Done)
 GroupDoes told s n note (GroupImport site) fails said next = NotesBack told s n fails note next × (IsKnown told next → MapsImported s fails note next) × (said ≡ Done)
 GroupDoes told s n note (Volume site volume blocks mirrors layout log map policy) fails said next =
     NotesVolume s fails volume (shape_of blocks mirrors layout log map policy) note next × (said ≡ Done)
 GroupDoes told s n note (PlexDetach site volume plex) fails said next =
-    WithMaps (Reconfigures (λ c d. (x : Config) × PutsPlex (plain_number note volume) plex Stale c x × ConfigLoses s fails x d) NoteSettles) (MapsDetached s fails (plain_number note volume) plex) note next
+    WithMaps (Reconfigures (λ c d. (x : Config) × PutsPlex (plain_number note volume) plex Stale c x × ConfigKeeps s fails x d) NoteSettles) (MapsDetached s fails (plain_number note volume) plex) note next
     × (said ≡ Done) × (IsLastPlex note (plain_number note volume) plex → ⊥)
 GroupDoes told s n note (PlexAttach site volume plex) fails said next =
-    WithMaps (Reconfigures (λ c d. (x : Config) × PutsPlex (plain_number note volume) plex Active c x × ConfigLosesBut (lies_on_disk c (plain_number note volume) plex) s fails x d) NoteSettles)
+    WithMaps (Reconfigures (λ c d. (x : Config) × PutsPlex (plain_number note volume) plex Active c x × ConfigKeepsBut (lies_on_disk c (plain_number note volume) plex) s fails x d) NoteSettles)
     (MapsAttached s fails (plain_number note volume) plex) note next
     × AttachCopies note (plain_number note volume) plex said
 GroupDoes told s n note (WriteLine site volume start count fill) fails said next =
@@ -116,15 +116,10 @@ GroupSpoils s note (GroupDeport site) fails next = WithMaps (Reconfigures (Confi
 GroupSpoils s note (GroupImport site) fails next = NotesRefused note next
 GroupSpoils s note (Volume site volume blocks mirrors layout log map policy) fails next = WithMaps (Reconfigures (ConfigLoses s fails) (NoteUnsettles false)) (MapsCalled s fails) note next
 GroupSpoils s note (PlexDetach site volume plex) fails next =
-    WithMaps (Reconfigures (λ c d. ConfigLoses s fails c d ⊎ ((x : Config) × PutsPlex (plain_number note volume) plex Stale c x × ConfigLoses s fails x d)) (NoteUnsettles false))
+    WithMaps (Reconfigures (λ c d. ConfigKeeps s fails c d ⊎ ((x : Config) × PutsPlex (plain_number note volume) plex Stale c x × ConfigKeeps s fails x d)) (NoteUnsettles false))
     (MapsUndetached s fails (plain_number note volume) plex) note next
 GroupSpoils s note (PlexAttach site volume plex) fails next =
-    WithMaps
-    (Reconfigures
-    (λ c d. ConfigLosesBut (lies_on_disk c (plain_number note volume) plex) s fails c d
-    ⊎ ((x : Config) × PutsPlex (plain_number note volume) plex Active c x × ConfigLosesBut (lies_on_disk c (plain_number note volume) plex) s fails x d))
-    (NoteUnsettles true))
-    (MapsCalled s fails) note next
+    WithMaps (Reconfigures (λ c d. ConfigKeepsBut (lies_on_disk c (plain_number note volume) plex) s fails c d) (NoteUnsettles true)) (MapsCalled s fails) note next
 GroupSpoils s note (WriteLine site volume start count fill) fails next = NotesDoubt s fails (write_to note volume start (replicate (BLOCK * count) fill)) note next
 GroupSpoils s note (Put site volume start bytes) fails next = NotesDoubt s fails (write_to note volume start bytes) note next
 GroupSpoils s note (Read site volume start count) fails next = next ≡ note
@@ -138,13 +133,13 @@ GroupCuts s note (GroupDeport site) fails next = WithMaps (Reconfigures (ConfigL
 GroupCuts s note (GroupImport site) fails next = NotesRefused note next
 GroupCuts s note (Volume site volume blocks mirrors layout log map policy) fails next = WithMaps (Reconfigures (ConfigLoses s fails) (NoteUnsettles false)) MapsLost note next
 GroupCuts s note (PlexDetach site volume plex) fails next =
-    WithMaps (Reconfigures (λ c d. ConfigLoses s fails c d ⊎ ((x : Config) × PutsPlex (plain_number note volume) plex Stale c x × ConfigLoses s fails x d)) (NoteUnsettles false))
+    WithMaps (Reconfigures (λ c d. ConfigKeeps s fails c d ⊎ ((x : Config) × PutsPlex (plain_number note volume) plex Stale c x × ConfigKeeps s fails x d)) (NoteUnsettles false))
     MapsLost note next
 GroupCuts s note (PlexAttach site volume plex) fails next =
     WithMaps
     (Reconfigures
-    (λ c d. ConfigLosesBut (lies_on_disk c (plain_number note volume) plex) s fails c d
-    ⊎ ((x : Config) × PutsPlex (plain_number note volume) plex Active c x × ConfigLosesBut (lies_on_disk c (plain_number note volume) plex) s fails x d))
+    (λ c d. ConfigKeepsBut (lies_on_disk c (plain_number note volume) plex) s fails c d
+    ⊎ ((x : Config) × PutsPlex (plain_number note volume) plex Active c x × ConfigKeepsBut (lies_on_disk c (plain_number note volume) plex) s fails x d))
     (NoteUnsettles true))
     MapsLost note next
 GroupCuts s note (WriteLine site volume start count fill) fails next = NotesCut s fails (write_to note volume start (replicate (BLOCK * count) fill)) note next

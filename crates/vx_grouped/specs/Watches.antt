@@ -6,7 +6,7 @@ use Rattle.vx_model.specs.declared.errors.Stop.{Stop}
 use Rattle.vx_model.specs.declared.errors.Stop.TheVariants.{No as Refused}
 use Rattle.vx_model.specs.declared.no.Counted.TheVariants.{Number as Numbers}
 use Rattle.vx_model.specs.declared.no.No.{No}
-use Rattle.vx_model.specs.declared.no.No.TheVariants.{Limit}
+use Rattle.vx_model.specs.declared.no.No.TheVariants.{Device, Limit}
 use Rattle.vx_history.specs.Groups.{GroupNode}
 use Rattle.vx_history.specs.World.{Node}
 use Rattle.vx_config.specs.Table.{greatest}
@@ -61,6 +61,7 @@ pub record PlexAtts (vol plex : ℕ) (c : GroupCore) (m : Meaning) (d : GroupCor
   pub count : active c.inner.config vol plex ≡ false → IfOk r (CopiesRegions c.inner.config vol)
   pub attached : active c.inner.config vol plex ≡ false → OnOk r (IsAttached vol plex d.inner.config m')
   pub leaves : (n : Node) (note : GroupNode) → IsGroupAt n note c m → CallLeaves n note d m' r
+  pub undone : active c.inner.config vol plex ≡ false → (disk : ℕ) → r ≡ Err (Refused (Device disk)) → active d.inner.config vol plex ≡ false
   pub others : (w p : ℕ) → (w ≡ vol → p ≡ plex → ⊥) → active d.inner.config w p ≡ active c.inner.config w p
   pub trust : OnOk r (c.inner.committed ≡ true → d.inner.committed ≡ true)
   pub cause : att_refusal c.inner.config vol plex ≡ None → DetStops m m' r
