@@ -267,9 +267,9 @@ impl<S: Shelf> LoggedGroup<S> {
         )
     }
 
-    /// Deports the group, as one without logs, and hands the shelf out, or gives the group back. All disks are flushed first; a volume with a log of
-    /// missed regions of which a disk fails in that is unsure. It answers of which volumes the disks tell what a clean stop left; then they may
-    /// be imported by their logs. It answers none where logs are stopped, or a log is in memory no more and not held as lost.
+    /// Deports the group, as one without logs, and hands the shelf out, or gives the group back. It answers of which volumes the disks tell what a clean
+    /// stop left; then they may be imported by their logs. It answers none where logs are stopped, and only there. A dirty region log that is in memory no more and
+    /// not held as lost may not be read: it is the only one.
     pub fn deport(self) -> Result<(S, Option<Rested>), (LoggedGroup<S>, Stop)>
         ensures limit { greatest - margin < self.core.inner.config.serial → IsFull self.core (self.shelf, None) (λ g. g.core) (λ g. (g.shelf, None)) result }
         ensures ends { GroupDeported self.core (S.meaning self.shelf) (λ s. S.meaning s.0) (λ g. g.core) (λ g. (g.shelf, None)) result }
