@@ -47,9 +47,13 @@ AreOf s fails = AllByRecursion (λ f. f.0 ≡ s) fails
 abbrev pub write_to : GroupNode → List ℕ → ℕ → List ℕ → Write
 write_to note volume start bytes = record { volume = plain_number note volume; start = start; bytes = bytes }
 
+-- fewer serials are left than a call of the group's own may use up
+abbrev pub LacksSerials : GroupNode → Type 0
+LacksSerials note = MOST_NUMBER < note.maps.serial + COMMIT_MARGIN
+
 -- What a line that is done makes of the note of site s, and what it is answered. The disks of the site have so many blocks.
 abbrev pub GroupDoes : (told : Type 0) (s : ℕ) → Node → GroupNode → ScriptLine → Fails → Said → GroupNode → Type 0
-GroupDoes told s n note (GroupInit site) fails said next = FirstNote s n.disks n.blocks next × (said ≡ Done)
+GroupDoes told s n note (GroupInit site) fails said next = FirstNote s n.disks n.blocks fails next × (said ≡ Done)
 GroupDoes told s n note (GroupDeport site) fails said next =
     WithMaps (Reconfigures (λ c d. ConfigRests s fails (opened_again c) (opened_again d)) NoteSettles) (MapsCalled s fails) note next × (said ≡ Done)
 GroupDoes told s n note (GroupImport site) fails said next = NotesBack told s n fails note next × (IsKnown told next → MapsImported s fails note next) × (said ≡ Done)
@@ -57,11 +61,11 @@ GroupDoes told s n note (Volume site volume blocks mirrors layout log map policy
     NotesVolume s fails volume (shape_of blocks mirrors layout log map policy) note next × (said ≡ Done)
 GroupDoes told s n note (PlexDetach site volume plex) fails said next =
     WithMaps (Reconfigures (λ c d. (x : Config) × PutsPlex (plain_number note volume) plex Stale c x × ConfigKeeps s fails x d) NoteSettles) (MapsDetached s fails (plain_number note volume) plex) note next
-    × (said ≡ Done) × (IsLastPlex note (plain_number note volume) plex → ⊥)
+    × (said ≡ Done) × (IsLastPlex note (plain_number note volume) plex → ⊥) × (LacksSerials note → ⊥)
 GroupDoes told s n note (PlexAttach site volume plex) fails said next =
     WithMaps (Reconfigures (λ c d. (x : Config) × PutsPlex (plain_number note volume) plex Active c x × ConfigKeepsBut (lies_on_disk c (plain_number note volume) plex) s fails x d) NoteSettles)
     (MapsAttached s fails (plain_number note volume) plex) note next
-    × AttachCopies note (plain_number note volume) plex said
+    × AttachCopies note (plain_number note volume) plex said × (LacksSerials note → ⊥)
 GroupDoes told s n note (WriteLine site volume start count fill) fails said next =
     NotesWrite s fails (write_to note volume start (replicate (BLOCK * count) fill)) note next × (said ≡ Done)
 GroupDoes told s n note (Put site volume start bytes) fails said next = NotesWrite s fails (write_to note volume start bytes) note next × (said ≡ Done)
@@ -98,10 +102,6 @@ pub record LacksParts (note : GroupNode) (name : List ℕ) (want : Shape) : Type
   pub found : Found
   pub space : IsFound config want found
   pub many : ((ss : List Subdisk) × Contains found.plexes.items ss × (255 < length ss)) ⊎ ((v : VolumeEntry) × IsVolumeMade want found v × (v.name ≡ name) × (MOST_SUBDISKS < subdisk_count (with_volume config v)))
-
--- fewer serials are left than a call of the group's own may use up
-abbrev pub LacksSerials : GroupNode → Type 0
-LacksSerials note = MOST_NUMBER < note.maps.serial + COMMIT_MARGIN
 
 -- what a line wants that works on nothing: a place for a volume or for so many of its parts, another plex that takes part, or serials
 abbrev pub GroupWants : GroupNode → ScriptLine → No → Type 0

@@ -53,6 +53,7 @@ use Rattle.vx_grouped.specs.SiteMaps.{AttMapped, AttMaps, MapsLike, MapsOf, Stan
 use Rattle.vx_grouped.specs.MapsNoted.{CopiesNoted}
 use Rattle.vx_events.specs.GroupMaps.{MapsAttached, MapsCalled, MapsLost}
 use Rattle.vx_group_lines.proofs.MapGoing.{on_map, with_goes}
+use Rattle.vx_group_lines.proofs.Serials.{att_left}
 use Rattle.vx_group_lines.proofs.MapLines.{att_named, copies_known, copies_unknown, like_named, logs_low}
 use Rattle.vx_group_lines.specs.Noting.{IsNotedRefusal, reply_noted}
 
@@ -130,6 +131,15 @@ module _ {R : Type 0} {g : Ghosts R} where
       (λ no at. refused no (subst (λ (x : DiskSet R g). AtSite (λ (o : GroupSite R g). refuses_att o v p ≡ Some no) x) (sym is) at))
       (λ at on. already (subst (λ (x : DiskSet R g). AtSite (λ (o : GroupSite R g). refuses_att o v p ≡ None) x) (sym is) at) (subst (λ (x : DiskSet R g). AtSite (λ (o : GroupSite R g). IsTrue (is_plex_on o v p)) x) (sym is) on)) on))
 
+  -- no test refused one that is done
+  pub att_never : (before : DiskSet R g) (set : GroupSet R g) {v w p q : ℕ} (count : ℕ) → before ≡ OfGroup set → v ≡ w → p ≡ q → ((no : No) → AtSite (λ o. refuses_att o v p ≡ Some no) before → (let r : Result ℕ Stop = Ok count in r) ≡ Err (StopsBy no))
+      → (no : No) → refuses_att set.site w q ≡ Some no → ⊥
+  att_never before set {v} {w} {p} {q} count is number plex refused no at =
+      let clash =
+      refused no (subst (λ (x : DiskSet R g). AtSite (λ (o : GroupSite R g). refuses_att o v p ≡ Some no) x) (sym is)
+      (subst (λ (k : ℕ). refuses_att set.site k p ≡ Some no) (sym number) (subst (λ (k : ℕ). refuses_att set.site w k ≡ Some no) (sym plex) at))) in
+      absurd (cc)
+
   pub att_all : (before : DiskSet R g) (set : GroupSet R g) {v w p q : ℕ} (count : ℕ) → before ≡ OfGroup set → v ≡ w → p ≡ q → (AtSite (λ o. is_plex_on o v p ≡ false) before → AtSite (λ o. RegionsOf o v count) before)
       → is_plex_on set.site w q ≡ false → RegionsOf set.site w count
   att_all before set {v} {w} {p} {q} count is number plex all =
@@ -157,8 +167,8 @@ module _ {R : Type 0} {g : Ghosts R} where
     att_cuts_same = record { same = λ many o e t fails next was now names noted noted_now change. att_table t many fails o e note next names v plex was now noted noted_now change }
 
     pub att_ends : (count : ℕ) → OnSites (λ o e. AttCalled n note v plex o e (Ok count)) before after → OnSites (λ o e. AttMapped v plex o e (Ok count)) before after → (IsTrue (is_plex_on it.call.at.set.site v plex) → count ≡ 0) → (is_plex_on it.call.at.set.site v plex ≡ false → RegionsOf it.call.at.set.site v count)
-        → new.facts.items ≡ old.facts.items → SameLoad old new → LeadsOver d (PlexAttach name volume plex) (DoneAt count) old new
-    att_ends count on maps none all facts load =
+        → ((no : No) → refuses_att it.call.at.set.site v plex ≡ Some no → ⊥) → new.facts.items ≡ old.facts.items → SameLoad old new → LeadsOver d (PlexAttach name volume plex) (DoneAt count) old new
+    att_ends count on maps none all never facts load =
         done_leads d (PlexAttach name volume plex) old new name s before after stands it true (λ o e. AttDone v plex o e) (λ o e. AttFails v plex o e) (λ o e. AttCuts v plex o e) (AttMaps v plex) (λ o which. refuses_att o v plex ≡ Some which) (DoneAt count) count (λ k h. h)
         (record {
           ends = λ many fails o e next was now names noted noted_now enough logs change keeps w by. (
@@ -168,6 +178,7 @@ module _ {R : Type 0} {g : Ghosts R} where
                 (att_named s many fails o e names was now (λ u k. logs_low was many u k logs) note.maps w v plex by),
             att_copies n note it.call.at.set.site v plex count is_up (maps_were d old new name s before after stands it.call)
                 (sets_then (λ o e. AttMapped v plex o e (Ok count)) before after it.call.at.set it.call.at.is_set maps).holds.1 none all,
+            att_left n note it.call.at.set.site v plex is_up (maps_were d old new name s before after stands it.call) never,
           );
         })
         (record { same = λ many o e t fails next was now names noted noted_now change. stated_table t many fails o e note next names (λ k. uses was v plex k) v plex Active was now noted noted_now change })

@@ -60,7 +60,7 @@ use Rattle.vx_grouped.specs.SiteMaps.{DetMapped, DetMapsDone, DetMapsFailed, Sta
 use Rattle.vx_events.specs.GroupMaps.{MapsDetached, MapsLost, MapsUndetached}
 use Rattle.vx_group_lines.proofs.MapGoing.{with_goes}
 use Rattle.vx_group_lines.proofs.MapLines.{det_named, logs_low, undet_named}
-use Rattle.vx_group_lines.proofs.Serials.{lacks_by, serial_noted}
+use Rattle.vx_group_lines.proofs.Serials.{det_left, lacks_by, serial_noted}
 use Rattle.vx_group_lines.specs.Noting.{IsNotedRefusal, reply_noted}
 
 -- ---- tests in order
@@ -319,6 +319,7 @@ module _ {R : Type 0} {g : Ghosts R} where
                 (det_named s many fails o e names was now (λ u k. logs_low was many u k logs) note.maps w v plex by),
             refl,
             not_last n note it.call.at.set.site v plex found is_up at below refused,
+            det_left n note it.call.at.set.site v plex is_up (maps_were d old new name s before after stands it.call) (λ no is. (let clash = refused no is in absurd (cc))),
           );
         })
         (record { same = λ many o e t fails next was now names noted noted_now change. stated_table t many fails o e note next names none_again v plex Stale was now noted noted_now change })
