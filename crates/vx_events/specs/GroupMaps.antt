@@ -1,5 +1,6 @@
 -- What a line at a site over a group makes of the regions that plexes missed, as the site notes them.
-use Rattle.std.specs.Prelude.{◌≡◌, ◌≢◌, ◌⊎◌, ℕ, Bool, true, false, [], length, Option, Some, None, Contains, if◌then◌else◌, slice_get}
+use Rattle.std.specs.Prelude.{◌≡◌, ◌≢◌, ◌⊎◌, ◌≤◌, ℕ, Bool, true, false, [], length, Option, Some, None, Contains, if◌then◌else◌, slice_get}
+use Rattle.vx_model.specs.declared.limits.TheConstants.{COMMIT_SERIALS}
 use Rattle.vx_model.specs.declared.site.PlexState.TheVariants.{Active}
 use Rattle.vx_history.specs.Groups.{GroupNode, MissedNote}
 use Rattle.vx_history.specs.MapChanges.{InNoVolume, InVolume, MapsBack, MapsFailed, MapsJoined, MapsWritten, StayKnown}
@@ -106,10 +107,11 @@ pub record MapsRecovered (note new : GroupNode) : Type 0 where
   pub none : (v : ℕ) → new.maps.mapped v ≡ false
   pub doubt : (v : ℕ) → new.maps.doubt v ≡ true → (note.begun ≢ []) ⊎ (note.loose ≡ true)
 
--- nothing is known of the plexes of a new group
+-- nothing is known of the plexes of a new group, and its serial is small
 pub record MapsFirst (new : GroupNode) : Type 0 where
   pub none : (v : ℕ) → new.maps.mapped v ≡ false
   pub doubt : (v : ℕ) → new.maps.doubt v ≡ false
+  pub serial : new.maps.serial ≤ COMMIT_SERIALS
 
 -- ---- notes
 

@@ -51,14 +51,15 @@ pub record Reconfigures (Change : Config → Config → Type 0) (Keeps : GroupNo
   pub change : Change old now
   pub keeps : Keeps note new
 
--- The first note of a group on all disks of a site, so many of so many blocks, whose volumes are still to be made. Imports agree but where a disk is held as
--- failed.
-pub record FirstNote (s disks blocks : ℕ) (new : GroupNode) : Type 0 where
+-- The first note of a group on all disks of a site, so many of so many blocks, whose volumes are still to be made. A disk is held as failed only where a call
+-- on it failed, and imports agree but where one is.
+pub record FirstNote (s disks blocks : ℕ) (fails : Fails) (new : GroupNode) : Type 0 where
   pub now : Config
   pub is : config_of new.config ≡ Some now
   pub site : now.site ≡ s
   pub many : length now.disks ≡ disks
   pub each : (k : ℕ) (d : DiskEntry) → slice_get now.disks k ≡ Some d → d.blocks ≡ blocks
+  pub failed : (k : ℕ) (d : DiskEntry) → slice_get now.disks k ≡ Some d → d.failed ≡ true → Contains fails (s, k)
   pub volumes : now.volumes ≡ []
   pub rvg : now.rvg ≡ None
   pub begun : new.begun ≡ []

@@ -52,6 +52,7 @@ module _ (s many : ℕ) (fails : Fails) (o e : Meaning) (names : Names s many fa
     missed = λ v p r on. it.back.missed v p r on ∙ missed_as w next (live c) (live d) (takes_part (at_serial 0 c)) (takes_part (at_serial 0 d)) no_plex none_missed (takes_is c) (takes_is d) v p r;
     perhaps = λ v p r on. it.back.perhaps v p r on ∙ perhaps_as w next (live c) (live d) (takes_part (at_serial 0 c)) (takes_part (at_serial 0 d)) no_plex none_missed (takes_is c) (takes_is d) v p r;
     doubt = λ v on. ((it.back.doubt v on).0, clean_to c v (it.back.doubt v on).1);
+    later = it.back.later;
   }
     where
       by : (v : ℕ) → (next.mapped v ≡ true) ⊎ MapsGone (FailedAt o e) (map_disk_of c) w next v ⊎ WantsMemory → (next.mapped v ≡ true) ⊎ MapsGone (FailedIn s fails) (map_disk (at_serial 0 c)) w next v ⊎ WantsMemory

@@ -25,8 +25,8 @@ use Rattle.vx_group_lines.proofs.Dimming.{dark_moves}
 use Rattle.vx_group_lines.proofs.GroupStatus.{config_is}
 use Rattle.vx_group_lines.proofs.Losing.{placed_as}
 
-plex_stays : (p q : PlexEntry) → PlexMoves AnyState p q → PlexStays p q
-plex_stays p q it = record { subdisks = it.subdisks }
+plex_stays : (v : VolumeEntry) (p q : PlexEntry) → PlexMoves (AnyState v) p q → PlexStays p q
+plex_stays v p q it = record { subdisks = it.subdisks }
 
 volume_stays : (v u : VolumeEntry) → VolumeMoves AnyState v u → VolumeStays v u
 volume_stays v u it = record {
@@ -37,7 +37,7 @@ volume_stays v u it = record {
   prefer = it.prefer;
   drl = it.drl;
   fmr = it.fmr;
-  plexes = λ k. placed_as (PlexMoves AnyState) PlexStays (slice_get v.plexes k) (slice_get u.plexes k) (λ p q _ _ moves. plex_stays p q moves) (it.plexes k);
+  plexes = λ k. placed_as (PlexMoves (AnyState v)) PlexStays (slice_get v.plexes k) (slice_get u.plexes k) (λ p q _ _ moves. plex_stays v p q moves) (it.plexes k);
 }
 
 -- Disks of which nothing is told as the group sees them: of the rack itself nothing is told, or it is not known what the disks hold, and then it was not

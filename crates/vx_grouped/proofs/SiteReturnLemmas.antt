@@ -161,7 +161,7 @@ module _ {R : Type 0} {g : Ghosts R} (n : Node) (note : GroupNode) (last newest 
 
   config_back : ConfigBack (IsTrue (laid_disks group).tells) old (laid_disks group) newest now
   config_back = record {
-    volumes = λ tells v lt. volume_moves AnyState newest now v (back.frames (sym since.tells ∙ tells) v (let same = long in omega (arith, lt, same)) ∙ sym (frames v)) (λ k p q at_p at_q. tt);
+    volumes = λ tells v lt. volume_moves AnyState newest now v (back.frames (sym since.tells ∙ tells) v (let same = long in omega (arith, lt, same)) ∙ sym (frames v)) (λ e k p q at_e at_p at_q. tt);
     count = back.disks.count ∙ units;
     blocks = λ k disk at. sym (disk_blocks_at now.disks k disk at) ∙ back.disks.blocks k (below k disk at) ∙ size k;
     failed = λ k disk at failed.

@@ -1,5 +1,5 @@
 -- What calls on a site's group make of the regions that plexes missed, as the site notes them.
-use Rattle.std.specs.Prelude.{◌≡◌, ◌<◌, ℕ, true, false, if◌then◌else◌, IsTrue, length, Option, Some, None, Result, Ok, Err}
+use Rattle.std.specs.Prelude.{◌≡◌, ◌<◌, ◌≤◌, ℕ, true, false, if◌then◌else◌, IsTrue, length, Option, Some, None, Result, Ok, Err}
 use Rattle.vx_model.specs.Content.{Write}
 use Rattle.vx_config.specs.Configs.{HasSpelling}
 use Rattle.vx_config.specs.declared.config.Config.{Config}
@@ -38,12 +38,13 @@ pub record DiskMaps (w : MissedNote) (c : Config) (m : Meaning) : Type 0 where
   pub each : (i : Image) (x : Config) → Each m.leaves i → found m i ≡ Found x → MapsOnDisk w c x i
 
 -- The disks of a group that was deported have what is noted, by the configuration that each image has; and a value says which volumes rest: of those the maps are
--- known, where the log is in use and its disk held as good.
+-- known, where the log is in use and its disk held as good. The serial that is noted is not above theirs.
 pub record IdleMaps (w : MissedNote) (c : Config) (rested : Option Rested) (m : Meaning) : Type 0 where
   pub all : IsCommitted c m
   pub disks : DiskMaps w c m
   pub alike : (r : Rested) → rested ≡ Some r → (v : ℕ) → v < length c.volumes → w.doubt v ≡ false → rests r.alike v ≡ true
   pub maps : (r : Rested) → rested ≡ Some r → (v : ℕ) → w.mapped v ≡ true → rests r.maps v ≡ true
+  pub serial : (i : Image) → Each m.leaves i → w.serial ≤ c.serial
   pub known : (i : Image) (r : Rested) (v : ℕ) (e : LogEntry) → Each m.leaves i → rested ≡ Some r → rests r.maps v ≡ true → v < length c.volumes → InUse c v Fmr e → failed_at c.disks e.disk ≡ false → w.mapped v ≡ true
 
 abbrev pub map_disk_or : Option LogEntry → Option ℕ
