@@ -1,6 +1,5 @@
 -- A read of a volume: what was read, and that what is noted stays.
-use Rattle.std.proofs.Common.{length, refl}
-use Rattle.std.specs.Prelude.{◌/◌}
+use Rattle.std.proofs.Common.{◌/◌, length, refl}
 use Rattle.vx_model.specs.declared.limits.TheConstants.{BLOCK}
 use Rattle.vx_group.specs.Holding.{wide}
 use Rattle.vx_group.specs.Laws.{group_lawful}
