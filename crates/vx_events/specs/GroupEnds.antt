@@ -124,8 +124,7 @@ GroupSpoils s note (GroupDeport site) fails next = WithMaps (Reconfigures (Confi
 GroupSpoils s note (GroupImport site) fails next = NotesRefused note next
 GroupSpoils s note (Volume site volume blocks mirrors layout log map policy) fails next = WithMaps (Reconfigures (ConfigLoses s fails) (NoteUnsettles false)) (MapsCalled s fails) note next
 GroupSpoils s note (PlexDetach site volume plex) fails next =
-    WithMaps (Reconfigures (λ c d. ConfigKeeps s fails c d ⊎ ((x : Config) × PutsPlex (plain_number note volume) plex Stale c x × ConfigKeeps s fails x d)) (NoteUnsettles false))
-    (MapsUndetached s fails (plain_number note volume) plex) note next
+    WithMaps (Reconfigures (ConfigKeeps s fails) (NoteUnsettles false)) (MapsUndetached s fails (plain_number note volume) plex) note next
 GroupSpoils s note (PlexAttach site volume plex) fails next =
     WithMaps (Reconfigures (λ c d. ConfigKeepsBut (lies_on_disk c (plain_number note volume) plex) s fails c d) (NoteUnsettles true)) (MapsCalled s fails) note next
 GroupSpoils s note (WriteLine site volume start count fill) fails next = NotesDoubt s fails (write_to note volume start (replicate (BLOCK * count) fill)) note next

@@ -22,12 +22,6 @@ MissesOrHas d m = NoCommit d m ⊎ IsCommitted d.config m
 pub record EachBlamed (c : Config) (v : ℕ) (old new : Meaning) : Type 0 where
   pub each : (p : ℕ) → IsTrue (active c v p) → PlexBlamed c v p old new
 
--- a read of the volume fails with a fault only so
-abbrev pub PlexesFail : {T : Type 0} → ℕ → Config → Meaning → Meaning → Result T ShelfError → Type 0
-PlexesFail v c old new (Ok x) = Unit {0}
-PlexesFail v c old new (Err (Fault disk)) = EachBlamed c v old new
-PlexesFail v c old new (Err Down) = Unit {0}
-
 -- a fault changes no plex
 abbrev pub KeepsVolumes : {T : Type 0} → Config → Config → Result T ShelfError → Type 0
 KeepsVolumes c d (Ok x) = Unit {0}

@@ -2,7 +2,6 @@
 ghost use Rattle.std.specs.Prelude.{◌≡◌, ◌/◌, length, OnOk};
 ghost use Rattle.vx_disk.specs.Causes.{Cause, CountsOnly};
 ghost use Rattle.vx_disk.specs.Shelf.{Fits, Goes, Nothing, Read};
-ghost use Rattle.vx_group.specs.GivesUp.{PlexesFail};
 ghost use Rattle.vx_group.specs.Holding.{GroupStands, wide};
 ghost use Rattle.vx_group.specs.Stands.{inner_meaning};
 ghost use Rattle.vx_group.specs.Turns.{ReadsInTurn};
@@ -32,7 +31,6 @@ pub fn read_in<S: Shelf>(
     ensures below { Goes Nothing (S.meaning shelf.old) (S.meaning shelf.new) }
     ensures down { (S.meaning shelf.new).down ≡ (S.meaning shelf.old).down }
     ensures cause { Cause (inner_meaning (wide core.old) (S.meaning shelf.old)) (inner_meaning (wide core.new) (S.meaning shelf.new)) vol result }
-    ensures gives_up { PlexesFail vol core.old.inner.config (S.meaning shelf.old) (S.meaning shelf.new) result }
     ensures counts { CountsOnly vol result (inner_meaning (wide core.old) (S.meaning shelf.old)).faults (inner_meaning (wide core.new) (S.meaning shelf.new)).faults }
     ensures held { core.new.held ≡ core.old.held }
     ensures trusted { (core.new.inner.committed ≡ core.old.inner.committed) × (core.new.inner.agreed ≡ core.old.inner.agreed) }

@@ -13,7 +13,8 @@ use Rattle.vx_kept.specs.Choice.{live}
 use Rattle.vx_kept.specs.Cleans.{at_serial}
 use Rattle.vx_layout.specs.Places.{plex_at}
 use Rattle.vx_volume.specs.Plexes.{active, active_or, is_active}
-use Rattle.vx_grouped.specs.SiteMaps.{BackMaps, FailedAt, StopsClean, map_disk_of}
+use Rattle.vx_grouped.specs.Clean.{StopsClean}
+use Rattle.vx_grouped.specs.SiteMaps.{BackMaps, FailedAt, map_disk_of}
 use Rattle.vx_grouped.proofs.WrittenMapLemmas.{missed_as, perhaps_as}
 use Rattle.vx_events.specs.Fails.{Fails}
 use Rattle.vx_events.specs.GroupMaps.{FailedIn, StoppedClean, WantsMemory, map_disk, takes_part}
@@ -22,7 +23,7 @@ use Rattle.vx_group_lines.proofs.MapLines.{gone_named, takes_is}
 
 -- ---- volumes that stopped cleanly
 
-clean_to : (c : Config) (v : ℕ) → StopsClean c v → StoppedClean (at_serial 0 c) v
+pub clean_to : (c : Config) (v : ℕ) → StopsClean c v → StoppedClean (at_serial 0 c) v
 unfolding active
 clean_to c v it = record { each = λ p plex at is. (let clash : true ≡ false = sym (on p plex at is) ∙ it.each p in cc) }
   where

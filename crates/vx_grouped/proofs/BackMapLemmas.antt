@@ -13,7 +13,8 @@ use Rattle.vx_loggroup.specs.Attaching.{fmr_at}
 use Rattle.vx_loggroup.specs.LoggedVolumes.{is_alike}
 use Rattle.vx_loggroup.specs.Moving.{IsThere, MapTaken, goes_by}
 use Rattle.vx_grouped.specs.MapsNoted.{MapsNoted, MapsOnDisk}
-use Rattle.vx_grouped.specs.SiteMaps.{BackMaps, StopsClean}
+use Rattle.vx_grouped.specs.Clean.{StopsClean}
+use Rattle.vx_grouped.specs.SiteMaps.{BackMaps}
 use Rattle.vx_grouped.proofs.DiskMapLemmas.{noted_returned}
 use Rattle.vx_grouped.proofs.NotedMapLemmas.{map_in}
 use Rattle.vx_kept.specs.Choice.{live}

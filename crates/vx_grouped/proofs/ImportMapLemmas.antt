@@ -38,7 +38,8 @@ use Rattle.vx_model.specs.declared.limits.TheConstants.{MAP_REGIONS}
 use Rattle.vx_volume.specs.Plexes.{active}
 use Rattle.vx_grouped.specs.MapsNoted.{MapsNoted}
 use Rattle.vx_grouped.specs.PlainMaps.{PartsBack, map_parts}
-use Rattle.vx_grouped.specs.SiteMaps.{BackMaps, IdleMaps, RisenMaps, StopsClean}
+use Rattle.vx_grouped.specs.Clean.{StopsClean}
+use Rattle.vx_grouped.specs.SiteMaps.{BackMaps, IdleMaps, RisenMaps}
 use Rattle.vx_grouped.proofs.BackMapLemmas.{back_maps, back_note, back_noted}
 use Rattle.vx_grouped.proofs.MapStandLemmas.{logs_of}
 use Rattle.vx_grouped.proofs.NotedMapLemmas.{map_in}
@@ -47,7 +48,7 @@ use Rattle.vx_grouped.proofs.WrittenMapLemmas.{on_count}
 -- ---- volumes that stopped cleanly
 
 -- none of its plexes is ACTIVE
-clean_of : (c : Config) (v : ℕ) → stopped c v ≡ false → StopsClean c v
+pub clean_of : (c : Config) (v : ℕ) → stopped c v ≡ false → StopsClean c v
 unfolding stopped
 clean_of c v off = record { each = λ p. by p (active c v p) refl }
   where

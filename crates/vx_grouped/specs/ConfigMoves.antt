@@ -108,9 +108,13 @@ pub record Restated (again : ℕ → Bool) (v p : ℕ) (state : PlexState) (old 
 abbrev pub DetDone : ℕ → ℕ → Meaning → Meaning → Config → Config → Type 0
 DetDone v p = Restated none_again v p Stale
 
--- or it was not, as a disk failed or the fuse ran out; memory may have it as detached all the same
-abbrev pub DetFails : ℕ → ℕ → Meaning → Meaning → Config → Config → Type 0
-DetFails v p old new c d = ConfigMoves none_again StateKeeps old new c d ⊎ DetDone v p old new c d
+-- or it was not, as a disk failed
+abbrev pub DetFails : Meaning → Meaning → Config → Config → Type 0
+DetFails = ConfigMoves none_again StateKeeps
+
+-- or as the fuse ran out; memory may have it as detached all the same
+abbrev pub DetCuts : ℕ → ℕ → Meaning → Meaning → Config → Config → Type 0
+DetCuts v p old new c d = DetFails old new c d ⊎ DetDone v p old new c d
 
 -- A plex was attached. Disks on which it lies may be held as good again.
 abbrev pub AttDone : ℕ → ℕ → Meaning → Meaning → Config → Config → Type 0

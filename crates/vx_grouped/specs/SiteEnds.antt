@@ -25,7 +25,7 @@ use Rattle.vx_untold.specs.Shades.{shade_meaning}
 use Rattle.vx_watched.specs.Traces.{TellsLess}
 use Rattle.vx_kept.specs.Commits.{IsCommitted}
 use Rattle.vx_grouped.specs.Copied.{CopiesRegions}
-use Rattle.vx_grouped.specs.ConfigMoves.{AttCuts, AttDone, AttFails, CleansPlexes, DetDone, DetFails, EachPlexRose, LosesSome}
+use Rattle.vx_grouped.specs.ConfigMoves.{AttCuts, AttDone, AttFails, CleansPlexes, DetCuts, DetDone, DetFails, EachPlexRose, LosesSome}
 use Rattle.vx_grouped.specs.GroupNotes.{NotesConfig}
 use Rattle.vx_grouped.specs.GroupSites.{AwayNoted, CutNoted, DownNoted, GroupSiteStands, UpNoted, deported_with, laid_disks, site_below, site_config, site_disks, with_note}
 use Rattle.vx_grouped.specs.Plain.{ReadsPlain}
@@ -136,7 +136,7 @@ module _ {R : Type 0} {g : Ghosts R} where
   -- a plex that is detached: refused by the first test that holds
   abbrev pub DetCalled : Node → GroupNode → ℕ → ℕ → GroupSite R g → GroupSite R g → Result (Unit {0}) Stop → Type 0
   DetCalled n note vol plex old new r =
-      SiteCalled {T = Unit {0}} false (DetDone vol plex (site_disks old) (site_disks new)) (DetFails vol plex (site_disks old) (site_disks new)) (DetFails vol plex (site_disks old) (site_disks new)) (λ which. refuses_det old vol plex ≡ Some which) n note old new r
+      SiteCalled {T = Unit {0}} false (DetDone vol plex (site_disks old) (site_disks new)) (DetFails (site_disks old) (site_disks new)) (DetCuts vol plex (site_disks old) (site_disks new)) (λ which. refuses_det old vol plex ≡ Some which) n note old new r
 
   -- and one that is attached
   abbrev pub AttCalled : Node → GroupNode → ℕ → ℕ → GroupSite R g → GroupSite R g → Result ℕ Stop → Type 0

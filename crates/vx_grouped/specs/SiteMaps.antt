@@ -26,6 +26,7 @@ use Rattle.vx_model.specs.declared.errors.Stop.TheVariants.{No as Refused, OutOf
 use Rattle.vx_model.specs.declared.no.No.{No}
 use Rattle.vx_model.specs.declared.no.No.TheVariants.{Device, Down as IsOff}
 use Rattle.vx_volume.specs.Plexes.{active}
+use Rattle.vx_grouped.specs.Clean.{StoppedSome, StopsClean}
 use Rattle.vx_grouped.specs.GroupNotes.{noted_config}
 use Rattle.vx_grouped.specs.GroupSites.{idle_disks, site_config, site_disks}
 use Rattle.vx_grouped.specs.SiteReturns.{stops_early}
@@ -59,19 +60,6 @@ pub record RestsNot (rested : Option Rested) : Type 0 where
 pub record DownMaps (w : MissedNote) (c : Config) (rested : Option Rested) (m : Meaning) : Type 0 where
   pub disks : DiskMaps w c m
   pub rests : RestsNot rested
-
--- a volume stopped cleanly: none of its plexes is ACTIVE
-pub record StopsClean (c : Config) (v : ℕ) : Type 0 where
-  pub each : (p : ℕ) → active c v p ≡ false
-
--- of disks that a crash may leave as in this image, with a configuration by which a volume stopped cleanly
-pub record StoppedSome (m : Meaning) (v : ℕ) : Type 0 where
-  pub image : Image
-  pub config : Config
-  pub each : Each m.leaves image
-  pub finds : found m image ≡ Found config
-  pub clean : StopsClean config v
-  pub low : v < length config.volumes
 
 -- A group came up from disks of which a value says that no volume rests: no map is known, and, where contents are told, a volume of which a write failed stopped
 -- cleanly by what may have been on them.

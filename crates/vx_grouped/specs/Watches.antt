@@ -49,6 +49,7 @@ pub record PlexDets (vol plex : ℕ) (c : GroupCore) (m : Meaning) (d : GroupCor
   pub refused : (no : No) → det_refusal c.inner.config vol plex ≡ Some no → r ≡ Err (Refused no)
   pub leaves : (n : Node) (note : GroupNode) → IsGroupAt n note c m → CallLeaves n note d m' r
   pub off : OnOk r (active d.inner.config vol plex ≡ false)
+  pub undone : (disk : ℕ) → r ≡ Err (Refused (Device disk)) → active d.inner.config vol plex ≡ active c.inner.config vol plex
   pub others : (w p : ℕ) → (w ≡ vol → p ≡ plex → ⊥) → active d.inner.config w p ≡ active c.inner.config w p
   pub trust : OnOk r (c.inner.committed ≡ true → d.inner.committed ≡ true)
   pub agreed : IfErr r (λ stop. c.inner.committed ≡ true → d.inner.agreed ≡ true)

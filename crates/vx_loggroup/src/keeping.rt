@@ -2,7 +2,6 @@
 ghost use Rattle.std.specs.Prelude.{◌≡◌, ◌/◌, OnOk, length};
 ghost use Rattle.vx_disk.specs.Causes.{Cause, CountsOnly};
 ghost use Rattle.vx_disk.specs.Shelf.{Fits, Goes, Nothing, Read};
-ghost use Rattle.vx_group.specs.GivesUp.{PlexesFail};
 ghost use Rattle.vx_group.specs.Turns.{ReadsInTurn};
 ghost use Rattle.vx_group.specs.Holding.{wide};
 ghost use Rattle.vx_group.specs.Stands.{inner_meaning};
@@ -37,7 +36,6 @@ pub fn read_whole<S: Shelf>(
     ensures settled { core.new.inner.unsettled ≡ core.old.inner.unsettled }
     ensures trusted { (core.new.inner.committed ≡ core.old.inner.committed) × (core.new.inner.agreed ≡ core.old.inner.agreed) }
     ensures below { Goes Nothing (S.meaning shelf.old) (S.meaning shelf.new) }
-    ensures gives_up { PlexesFail vol core.old.inner.config (S.meaning shelf.old) (S.meaning shelf.new) result }
     ensures counts { CountsOnly vol result (inner_meaning (wide core.old) (S.meaning shelf.old)).faults (inner_meaning (wide core.new) (S.meaning shelf.new)).faults }
     ensures turn { ReadsInTurn core.old.inner.config vol core.old.inner.next core.new.inner.next block (length into.old / BLOCK) into.new (S.meaning shelf.old) (S.meaning shelf.new) result }
     ensures unsure { core.new.inner.unsure ≡ core.old.inner.unsure }

@@ -9,7 +9,6 @@ ghost use Rattle.vx_config.specs.Table.{greatest};
 ghost use Rattle.vx_disk.specs.Causes.{Calls, Cause, CountsOnly, Names, OnDisks, Works};
 ghost use Rattle.vx_disk.specs.Disks.{Untouched};
 ghost use Rattle.vx_disk.specs.Shelf.{DisksFlushed, DisksWrote, Fits, Flushed, Goes, Nothing, Read, Written, Wrote};
-ghost use Rattle.vx_group.specs.GivesUp.{PlexesFail};
 ghost use Rattle.vx_group.specs.Holding.{wide};
 ghost use Rattle.vx_group.specs.Laws.{group_lawful};
 ghost use Rattle.vx_group.specs.Loses.{LosesPlexes};
@@ -56,7 +55,6 @@ impl<S: Shelf> Shelf for LoggedGroup<S> {
         ensures names { Names (inner_meaning (wide self.old.core) (S.meaning self.old.shelf)).disks unit result }
         ensures works { OnOk result (Works (inner_meaning (wide self.old.core) (S.meaning self.old.shelf)).disks unit) }
         ensures disks { OnDisks (inner_meaning (wide self.old.core) (S.meaning self.old.shelf)).disks (inner_meaning (wide self.new.core) (S.meaning self.new.shelf)).disks Untouched }
-        ensures gives_up { PlexesFail unit self.old.core.inner.config (S.meaning self.old.shelf) (S.meaning self.new.shelf) result }
         ensures shown { OnOk result (Read (inner_meaning self.old.core.inner (S.meaning self.old.shelf)) unit block into.new) }
         ensures same { self.new.core.inner.config ≡ self.old.core.inner.config }
         ensures held { self.new.core.held ≡ self.old.core.held }

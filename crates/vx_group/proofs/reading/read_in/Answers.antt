@@ -58,6 +58,3 @@ returns-in-Ok-clause-turn g c = record {
 
 pub returns-in-Err-Device-clause-turn : goal.returns-in-Err-Device-clause-turn
 returns-in-Err-Device-clause-turn g c = (c.in-Err-Device.ensures.reads.0, refl)
-
-pub returns-in-Err-Device-clause-gives_up : goal.returns-in-Err-Device-clause-gives_up
-returns-in-Err-Device-clause-gives_up g c = record { each = c.in-Err-Device.ensures.reads.0.each }

@@ -1,5 +1,6 @@
 -- A read of a volume: what was read, and that what is noted stays.
-use Rattle.std.proofs.Common.{refl}
+use Rattle.std.proofs.Common.{◌/◌, length, refl}
+use Rattle.vx_model.specs.declared.limits.TheConstants.{BLOCK}
 use Rattle.vx_group.specs.Holding.{wide}
 use Rattle.vx_group.specs.Laws.{group_lawful}
 use Rattle.vx_group.specs.Stands.{inner_meaning}
@@ -38,4 +39,5 @@ returns-in-Ok-clause-gives_up g c = λ disk is. absurd (read_not is)
 
 pub returns-in-Err-clause-gives_up : goal.returns-in-Err-clause-gives_up
 returns-in-Err-clause-gives_up g c = λ disk is.
-    read_gives c.in-Err.failed c.refusal.result c.args.vol c.args.group.now.core.inner.config (g.S.Shelf.meaning c.args.group.now.shelf) (g.S.Shelf.meaning c.read.new.self.shelf) disk c.refusal.ensures is c.in-Err.ensures.gives_up
+    read_gives c.in-Err.failed c.refusal.result c.args.vol c.args.group.now.core.inner.config c.args.group.now.core.inner.next c.read.new.self.core.inner.next c.args.block (length c.args.into.now / BLOCK) c.read.new.into
+    (g.S.Shelf.meaning c.args.group.now.shelf) (g.S.Shelf.meaning c.read.new.self.shelf) disk c.refusal.ensures is c.in-Err.ensures.turn
