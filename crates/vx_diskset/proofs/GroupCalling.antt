@@ -20,7 +20,7 @@ use Rattle.vx_grouped.specs.Added.{note_added}
 use Rattle.vx_grouped.specs.GroupSites.{AwayNoted, DownNoted, GroupSiteStands, UpNoted, deported_with, site_disks, with_note, site_below}
 use Rattle.vx_grouped.specs.SiteAdds.{LacksVolume, SiteAdded}
 use Rattle.vx_grouped.specs.SiteEnds.{AttCalled, DetCalled, LacksDeport, PlainRead, PlainWrote, SiteCalled, SiteDeported, is_plex_on, refuses_att, refuses_det}
-use Rattle.vx_grouped.specs.ConfigMoves.{AttCuts, AttDone, AttFails, DetDone, DetFails, LosesSome}
+use Rattle.vx_grouped.specs.ConfigMoves.{AttCuts, AttDone, AttFails, DetCuts, DetDone, DetFails, LosesSome}
 use Rattle.vx_config.specs.declared.config.Config.{Config}
 use Rattle.vx_untold.specs.Shades.{shade_meaning, shade_rack}
 use Rattle.vx_layout.specs.declared.shape.Shape.{Shape}
@@ -250,7 +250,7 @@ module _ {R : Type 0} {g : Ghosts R} where
 
     pub det_settled : (n : Node) (note : GroupNode) (vol plex : ℕ) (old new : GroupSite R g) (r : Result (Unit {0}) Stop) → DetCalled n note vol plex old new r → IsSettled new
     det_settled n note vol plex old new r it =
-        called_settled (Unit {0}) false (DetDone vol plex (site_disks old) (site_disks new)) (DetFails vol plex (site_disks old) (site_disks new)) (DetFails vol plex (site_disks old) (site_disks new)) (λ no. refuses_det old vol plex ≡ Some no) n note old new r it
+        called_settled (Unit {0}) false (DetDone vol plex (site_disks old) (site_disks new)) (DetFails (site_disks old) (site_disks new)) (DetCuts vol plex (site_disks old) (site_disks new)) (λ no. refuses_det old vol plex ≡ Some no) n note old new r it
 
     pub att_settled : (n : Node) (note : GroupNode) (vol plex : ℕ) (old new : GroupSite R g) (r : Result ℕ Stop) → AttCalled n note vol plex old new r → IsSettled new
     att_settled n note vol plex old new r it =

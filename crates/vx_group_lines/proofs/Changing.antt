@@ -9,7 +9,7 @@ use Rattle.vx_config.specs.declared.config.Config.{Config}
 use Rattle.vx_history.specs.Groups.{GroupNode}
 use Rattle.vx_kept.specs.Cleans.{at_serial}
 use Rattle.vx_volume.specs.Plexes.{uses}
-use Rattle.vx_grouped.specs.ConfigMoves.{AttCuts, AttDone, AttFails, ConfigMoves, DetFails, Restated, StateKeeps, StateMoves, none_again}
+use Rattle.vx_grouped.specs.ConfigMoves.{AttCuts, AttDone, AttFails, ConfigMoves, DetCuts, Restated, StateKeeps, StateMoves, none_again}
 use Rattle.vx_grouped.specs.GroupNotes.{NotesConfig}
 use Rattle.vx_events.specs.Fails.{Fails}
 use Rattle.vx_events.specs.GroupConfigs.{ConfigKeeps, ConfigKeepsBut, ConfigLosesBut, PutsPlex, StateLoses, StateSame, lies_on_disk}
@@ -37,7 +37,7 @@ module _ (s many : ℕ) (fails : Fails) (o e : Meaning) (note next : GroupNode) 
       (config_goes (StateMoves o e) (StateLoses s fails) fails again s many o e was now (λ v p t it. state_loses s many fails o e names v p t it) names enough moves)
 
   -- and no plex changed its state
-  keeps_to : (again : ℕ → Bool) (was now : Config) → length was.disks ≤ many → ConfigMoves again StateKeeps o e was now → ConfigKeepsBut again s fails (at_serial 0 was) (at_serial 0 now)
+  pub keeps_to : (again : ℕ → Bool) (was now : Config) → length was.disks ≤ many → ConfigMoves again StateKeeps o e was now → ConfigKeepsBut again s fails (at_serial 0 was) (at_serial 0 now)
   keeps_to again was now enough moves = serial_goes StateKeeps StateSame fails again s was now (config_goes StateKeeps StateSame fails again s many o e was now (λ v p t it. it) names enough moves)
 
   pub moves_table : (again : ℕ → Bool) (was now : Config) → NotesConfig note was → NotesConfig next now → ConfigMoves again (StateMoves o e) o e was now → noted_table next ≡ noted_table note
@@ -70,11 +70,11 @@ module _ (s many : ℕ) (fails : Fails) (o e : Meaning) (note next : GroupNode) 
   }
 
   -- a plex that was detached, or perhaps
-  pub det_to : (v p : ℕ) (was now : Config) → length was.disks ≤ many → DetFails v p o e was now → ConfigKeeps s fails (at_serial 0 was) (at_serial 0 now) ⊎ PutsOr s fails (λ k. false) v p Stale (at_serial 0 was) (at_serial 0 now)
+  pub det_to : (v p : ℕ) (was now : Config) → length was.disks ≤ many → DetCuts v p o e was now → ConfigKeeps s fails (at_serial 0 was) (at_serial 0 now) ⊎ PutsOr s fails (λ k. false) v p Stale (at_serial 0 was) (at_serial 0 now)
   det_to v p was now enough (inl moves) = inl (keeps_to none_again was now enough moves)
   det_to v p was now enough (inr it) = inr (stated_to none_again v p Stale was now enough it)
 
-  pub det_table : (v p : ℕ) (was now : Config) → NotesConfig note was → NotesConfig next now → DetFails v p o e was now → noted_table next ≡ noted_table note
+  pub det_table : (v p : ℕ) (was now : Config) → NotesConfig note was → NotesConfig next now → DetCuts v p o e was now → noted_table next ≡ noted_table note
   det_table v p was now noted noted_now (inl moves) = keeps_table none_again was now noted noted_now moves
   det_table v p was now noted noted_now (inr it) = stated_table none_again v p Stale was now noted noted_now it
 

@@ -67,7 +67,7 @@ uses_part : (o : Option PlexEntry) (k : ℕ) → uses_or k o ≡ has_part o k
 uses_part None k = refl
 uses_part (Some p) k = refl
 
-plex_fails : (s n : ℕ) (fails : Fails) (old new : Meaning) → Names s n fails old new → (p : PlexEntry) → PlexRose old new p → PlexFails s fails p
+pub plex_fails : (s n : ℕ) (fails : Fails) (old new : Meaning) → Names s n fails old new → (p : PlexEntry) → PlexRose old new p → PlexFails s fails p
 plex_fails s n fails old new names p it = record { disk = it.disk; part = sym (uses_part (Some p) it.disk) ∙ it.lies; failed = names.each it.disk (omega (arith, it.below, names.many)) it.rose }
 
 volume_fails : (s n : ℕ) (fails : Fails) (old new : Meaning) → Names s n fails old new → (v : VolumeEntry) → VolumeRose old new v → VolumeFails s fails v

@@ -1,5 +1,5 @@
 -- Calls of a group that write to no volume, as its site notes them.
-use Rattle.std.proofs.Common.{◌≡◌, ℕ, Bool, true, false, List, refl, sym, ap, IsTrue, subst}
+use Rattle.std.proofs.Common.{◌≡◌, ◌⊎◌, inl, inr, ℕ, Bool, true, false, List, refl, sym, ap, IsTrue, subst}
 use Rattle.std.specs.Prelude.{Result, Ok, Err, IfErr, OnOk, Option, Some, None, if◌then◌else◌}
 use Rattle.vx_model.specs.declared.errors.Stop.{Stop}
 use Rattle.vx_model.specs.declared.errors.Stop.TheVariants.{No as Refused, OutOfMemory}
@@ -96,6 +96,14 @@ attached_by (Err stop) v p d m it = tt
 -- and one that a disk refuses
 pub undone_by : {T : Type 0} (r : Result T Stop) (v p : ℕ) (d : Config) (m : Meaning) (disk : ℕ) → GroupAttachEnds v p d m r → r ≡ Err (Refused (Device disk)) → active d v p ≡ false
 undone_by {T} r v p d m disk ends is = subst (λ (x : Result T Stop). GroupAttachEnds v p d m x) is ends
+
+-- nor a detach, where the disks are up
+pub undone_det : {T : Type 0} (r : Result T Stop) (disk : ℕ) (fell same : Type 0) → IfErr r (λ stop. fell ⊎ same) → r ≡ Err (Refused (Device disk)) → (fell → ⊥) → same
+undone_det {T} r disk fell same it is up = by (subst (λ (x : Result T Stop). IfErr x (λ stop. fell ⊎ same)) is it)
+  where
+    by : fell ⊎ same → same
+    by (inl down) = absurd (up down)
+    by (inr kept) = kept
 
 -- disks that are down are no disk that failed
 pub fell_else : {T : Type 0} (disk : ℕ) → (let r : Result T Stop = Err (Refused Down) in r) ≡ Err (Refused (Device disk)) → ⊥

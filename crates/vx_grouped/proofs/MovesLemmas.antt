@@ -23,11 +23,12 @@ use Rattle.vx_volume.specs.Volumes.{PlexBlamed}
 use Rattle.vx_kept.specs.Keeping.{frame_at}
 use Rattle.vx_kept.proofs.Chosen.{frames_volumes}
 use Rattle.vx_kept.proofs.Frames.{SameOne, SamePlex, SameVolume, same_of}
+use Rattle.vx_group.specs.GivesUp.{EachBlamed}
 use Rattle.vx_group.specs.Loses.{LosesPlexes, SameParts}
-use Rattle.vx_grouped.specs.ConfigMoves.{ConfigMoves, DiskMoves, LosesSome, PlexMoves, PlexRose, StateMoves, VolumeMoves, VolumeRose, none_again}
+use Rattle.vx_grouped.specs.ConfigMoves.{ConfigMoves, DiskMoves, EachPlexRose, LosesSome, PlexMoves, PlexRose, StateMoves, VolumeMoves, VolumeRose, none_again}
 use Rattle.vx_grouped.specs.CoreMoves.{BothOn, CoreMoves}
 use Rattle.vx_grouped.specs.StateChanges.{StateStays}
-use Rattle.vx_grouped.proofs.StateChangeLemmas.{states_stay}
+use Rattle.vx_grouped.proofs.StateChangeLemmas.{on_state, on_there, states_stay}
 
 -- ---- lists
 
@@ -205,6 +206,10 @@ module _ (c : Config) (m m' : Meaning) (one : (u : ℕ) → m.disk_faults u ≡ 
       by : (o : Option PlexEntry) → slice_get e.plexes k ≡ o → VolumeRose m m' e
       by None is = absurd (used_some c v k it.disk (in_e ∙ is) it.is_its)
       by (Some p) is = record { place = k; plex = p; at = is; rose = plex_rose v k p (in_e ∙ is) it }
+
+  -- or of each that takes part
+  pub each_rose : (v : ℕ) → EachBlamed c v m m' → EachPlexRose c v m m'
+  each_rose v it = record { each = λ p plex at is. plex_rose v p plex at (it.each p (on_there c v p plex at ∙ ap on_state is)) }
 
   pub state_by : (v : ℕ) (e : VolumeEntry) (k : ℕ) (p : PlexEntry) (is : PlexState) → slice_get c.volumes v ≡ Some e → plex_at c v k ≡ Some p → StateStays c v k m m' p.state is → StateMoves m m' e p is
   state_by v e k p is at_e at_p (inl same) = inl same

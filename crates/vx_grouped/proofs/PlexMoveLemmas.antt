@@ -13,7 +13,7 @@ use Rattle.vx_volume.specs.Plexes.{active, uses}
 use Rattle.vx_kept.specs.Choice.{live}
 use Rattle.vx_kept.specs.Keeping.{AllOn}
 use Rattle.vx_kept.proofs.StateLemmas.{map_one, plex_apart, plex_same, stated_shape}
-use Rattle.vx_grouped.specs.ConfigMoves.{AttCuts, AttDone, AttFails, ConfigMoves, DetDone, DetFails, StateKeeps, none_again}
+use Rattle.vx_grouped.specs.ConfigMoves.{AttCuts, AttDone, AttFails, ConfigMoves, DetCuts, DetDone, DetFails, StateKeeps, none_again}
 use Rattle.vx_grouped.specs.CoreMoves.{CoreMoves}
 use Rattle.vx_grouped.proofs.MovesLemmas.{config_moves, disk_at, volume_moves}
 use Rattle.vx_grouped.proofs.StateChangeLemmas.{live_state, live_there, on_state, on_there}
@@ -100,11 +100,14 @@ module _ (c d : Config) (v p : ℕ) (m m' : Meaning) (one : (u : ℕ) → m.disk
         | inr apart ↦ other_state again it w q x y apart at_x at_y
       ]
 
-  pub det_fails : CoreMoves none_again c d m m' → ((w q : ℕ) → IsTrue (active d w q) → IsTrue (active c w q)) → DetFails v p m m' c d
-  det_fails it narrows = by (active d v p) refl
+  pub det_fails : CoreMoves none_again c d m m' → active d v p ≡ active c v p → DetFails m m' c d
+  det_fails it same = as_was none_again it same
+
+  pub det_cuts : CoreMoves none_again c d m m' → ((w q : ℕ) → IsTrue (active d w q) → IsTrue (active c w q)) → DetCuts v p m m' c d
+  det_cuts it narrows = by (active d v p) refl
     where
-      by : (t : Bool) → active d v p ≡ t → DetFails v p m m' c d
-      by true on = inl (as_was none_again it (on ∙ sym (narrows v p on)))
+      by : (t : Bool) → active d v p ≡ t → DetCuts v p m m' c d
+      by true on = inl (det_fails it (on ∙ sym (narrows v p on)))
       by false off = inr (det_done it off)
 
   -- ---- an attach

@@ -10,6 +10,7 @@ use Rattle.vx_config.specs.declared.entry.DiskEntry.{DiskEntry}
 use Rattle.vx_config.specs.declared.entry.PlexEntry.{PlexEntry}
 use Rattle.vx_config.specs.declared.entry.VolumeEntry.{VolumeEntry}
 use Rattle.vx_layout.specs.Made.{with_volume}
+use Rattle.vx_layout.specs.Places.{plex_at}
 use Rattle.vx_layout.specs.Space.{IsFound}
 use Rattle.vx_layout.specs.declared.shape.Found.{Found}
 use Rattle.vx_layout.specs.declared.shape.Shape.{Shape}
@@ -31,6 +32,10 @@ pub record VolumeRose (old new : Meaning) (v : VolumeEntry) : Type 0 where
   pub plex : PlexEntry
   pub at : slice_get v.plexes place ≡ Some plex
   pub rose : PlexRose old new plex
+
+-- so of each plex of a volume that takes part
+pub record EachPlexRose (c : Config) (v : ℕ) (old new : Meaning) : Type 0 where
+  pub each : (p : ℕ) (plex : PlexEntry) → plex_at c v p ≡ Some plex → plex.state ≡ Active → PlexRose old new plex
 
 -- ---- plexes and volumes, by what may become of the state of a plex of a volume
 
@@ -103,9 +108,13 @@ pub record Restated (again : ℕ → Bool) (v p : ℕ) (state : PlexState) (old 
 abbrev pub DetDone : ℕ → ℕ → Meaning → Meaning → Config → Config → Type 0
 DetDone v p = Restated none_again v p Stale
 
--- or it was not, as a disk failed or the fuse ran out; memory may have it as detached all the same
-abbrev pub DetFails : ℕ → ℕ → Meaning → Meaning → Config → Config → Type 0
-DetFails v p old new c d = ConfigMoves none_again StateKeeps old new c d ⊎ DetDone v p old new c d
+-- or it was not, as a disk failed
+abbrev pub DetFails : Meaning → Meaning → Config → Config → Type 0
+DetFails = ConfigMoves none_again StateKeeps
+
+-- or as the fuse ran out; memory may have it as detached all the same
+abbrev pub DetCuts : ℕ → ℕ → Meaning → Meaning → Config → Config → Type 0
+DetCuts v p old new c d = DetFails old new c d ⊎ DetDone v p old new c d
 
 -- A plex was attached. Disks on which it lies may be held as good again.
 abbrev pub AttDone : ℕ → ℕ → Meaning → Meaning → Config → Config → Type 0

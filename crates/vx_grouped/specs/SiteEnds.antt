@@ -10,6 +10,7 @@ use Rattle.vx_disk.specs.Causes.{OnDisks}
 use Rattle.vx_disk.specs.Counts.{Rose}
 use Rattle.vx_disk.specs.Disks.{Crashed}
 use Rattle.vx_disk.specs.Racks.{Stopped}
+use Rattle.vx_disk.specs.Shelf.{Meaning}
 use Rattle.vx_disk.specs.declared.shelf.Shelf.{Ghosts}
 use Rattle.vx_history.specs.Groups.{GroupNode, NoteSettles, NoteUnsettles, note_cut, note_doubt, note_write}
 use Rattle.vx_history.specs.Steps.{crashed, worked}
@@ -24,9 +25,9 @@ use Rattle.vx_untold.specs.Shades.{shade_meaning}
 use Rattle.vx_watched.specs.Traces.{TellsLess}
 use Rattle.vx_kept.specs.Commits.{IsCommitted}
 use Rattle.vx_grouped.specs.Copied.{CopiesRegions}
-use Rattle.vx_grouped.specs.ConfigMoves.{AttCuts, AttDone, AttFails, CleansPlexes, DetDone, DetFails, LosesSome}
+use Rattle.vx_grouped.specs.ConfigMoves.{AttCuts, AttDone, AttFails, CleansPlexes, DetCuts, DetDone, DetFails, EachPlexRose, LosesSome}
 use Rattle.vx_grouped.specs.GroupNotes.{NotesConfig}
-use Rattle.vx_grouped.specs.GroupSites.{AwayNoted, CutNoted, DownNoted, GroupSiteStands, UpNoted, deported_with, site_below, site_config, site_disks, with_note}
+use Rattle.vx_grouped.specs.GroupSites.{AwayNoted, CutNoted, DownNoted, GroupSiteStands, UpNoted, deported_with, laid_disks, site_below, site_config, site_disks, with_note}
 use Rattle.vx_grouped.specs.Plain.{ReadsPlain}
 use Rattle.vx_grouped.specs.declared.group_site.GroupSite.{GroupSite}
 use Rattle.vx_grouped.specs.declared.group_site.GroupSite.TheVariants.{Up, Deported}
@@ -90,10 +91,16 @@ module _ {R : Type 0} {g : Ghosts R} where
       × ConfigGoes (LosesSome (site_disks old) (site_disks new)) note next old new
   PlainWrote n note x old new (Err other) = ⊥
 
-  -- a read of a volume: of each block a value that it may have, or a disk failed
+  -- a call on a disk failed of each plex of the volume that takes part
+  abbrev pub SiteGivesUp : ℕ → GroupSite R g → Meaning → Type 0
+  SiteGivesUp vol (Up group) new = EachPlexRose group.core.inner.config vol (laid_disks group) new
+  SiteGivesUp vol other new = ⊥
+
+  -- a read of a volume: of each block a value that it may have; or each plex that takes part failed
   abbrev pub PlainRead : Node → GroupNode → ℕ → ℕ → List ℕ → GroupSite R g → GroupSite R g → Result (Unit {0}) No → Type 0
   PlainRead n note vol block bytes old new (Ok done) = ReadsPlain note (site_disks old) vol block bytes × UpNoted (worked n) note new
-  PlainRead n note vol block bytes old new (Err (Device disk)) = UpNoted (worked n) note new × Rose ((site_disks old).disk_faults disk) ((site_disks new).disk_faults disk)
+  PlainRead n note vol block bytes old new (Err (Device disk)) =
+      UpNoted (worked n) note new × Rose ((site_disks old).disk_faults disk) ((site_disks new).disk_faults disk) × SiteGivesUp vol old (site_disks new)
   PlainRead n note vol block bytes old new (Err other) = ⊥
 
   -- A call that writes to no volume: each has what it had. Done, failed, or cut by the fuse, its configuration changes so. A refusal but 6 and 7 has this reason, and has
@@ -129,7 +136,7 @@ module _ {R : Type 0} {g : Ghosts R} where
   -- a plex that is detached: refused by the first test that holds
   abbrev pub DetCalled : Node → GroupNode → ℕ → ℕ → GroupSite R g → GroupSite R g → Result (Unit {0}) Stop → Type 0
   DetCalled n note vol plex old new r =
-      SiteCalled {T = Unit {0}} false (DetDone vol plex (site_disks old) (site_disks new)) (DetFails vol plex (site_disks old) (site_disks new)) (DetFails vol plex (site_disks old) (site_disks new)) (λ which. refuses_det old vol plex ≡ Some which) n note old new r
+      SiteCalled {T = Unit {0}} false (DetDone vol plex (site_disks old) (site_disks new)) (DetFails (site_disks old) (site_disks new)) (DetCuts vol plex (site_disks old) (site_disks new)) (λ which. refuses_det old vol plex ≡ Some which) n note old new r
 
   -- and one that is attached
   abbrev pub AttCalled : Node → GroupNode → ℕ → ℕ → GroupSite R g → GroupSite R g → Result ℕ Stop → Type 0

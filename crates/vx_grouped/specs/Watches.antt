@@ -13,6 +13,7 @@ use Rattle.vx_config.specs.Table.{greatest}
 use Rattle.vx_volume.specs.Plexes.{active, uses}
 use Rattle.vx_group.specs.Attaches.{IsAttached, att_refusal}
 use Rattle.vx_group.specs.Dets.{DetStops, det_refusal, margin}
+use Rattle.vx_group.specs.GivesUp.{EachBlamed}
 use Rattle.vx_group.specs.Holding.{wide}
 use Rattle.vx_group.specs.Loses.{LosesPlexes}
 use Rattle.vx_group.specs.Stands.{inner_meaning}
@@ -38,6 +39,7 @@ pub record PlainWrites (vol block : ℕ) (bytes : List ℕ) (c : GroupCore) (m :
 -- a read of a volume
 pub record PlainReads (vol block : ℕ) (bytes : List ℕ) (c : GroupCore) (m : Meaning) (d : GroupCore) (m' : Meaning) (r : Result (Unit {0}) No) : Type 0 where
   pub reads : (note : GroupNode) → HoldsPlain note (inner_meaning (wide c) m) → OnOk r (ReadsPlain note m vol block bytes)
+  pub gives_up : (disk : ℕ) → r ≡ Err (Device disk) → EachBlamed c.inner.config vol m m'
   pub stays : (n : Node) (note : GroupNode) → IsGroupAt n note c m → IsGroupAt n note d m'
   pub same : d.inner.config ≡ c.inner.config
   pub cause : IfErr r (DeviceCause m m')
@@ -47,6 +49,7 @@ pub record PlexDets (vol plex : ℕ) (c : GroupCore) (m : Meaning) (d : GroupCor
   pub refused : (no : No) → det_refusal c.inner.config vol plex ≡ Some no → r ≡ Err (Refused no)
   pub leaves : (n : Node) (note : GroupNode) → IsGroupAt n note c m → CallLeaves n note d m' r
   pub off : OnOk r (active d.inner.config vol plex ≡ false)
+  pub undone : (disk : ℕ) → r ≡ Err (Refused (Device disk)) → active d.inner.config vol plex ≡ active c.inner.config vol plex
   pub others : (w p : ℕ) → (w ≡ vol → p ≡ plex → ⊥) → active d.inner.config w p ≡ active c.inner.config w p
   pub trust : OnOk r (c.inner.committed ≡ true → d.inner.committed ≡ true)
   pub agreed : IfErr r (λ stop. c.inner.committed ≡ true → d.inner.agreed ≡ true)

@@ -36,6 +36,7 @@ pub fn det_plex<S: Shelf>(group: &mut LoggedGroup<S>, vol: u32, plex: u32) -> Re
     ensures leaves { (n : Node) (note : GroupNode) → IsGroupAt n note group.old.core (S.meaning group.old.shelf) → CallLeaves n note group.new.core (S.meaning group.new.shelf) result }
     ensures goes { Goes Nothing (inner_meaning (wide group.old.core) (S.meaning group.old.shelf)) (inner_meaning (wide group.new.core) (S.meaning group.new.shelf)) }
     ensures off { OnOk result (active group.new.core.inner.config vol plex ≡ false) }
+    ensures undone { (disk : ℕ) → result ≡ Err (Refused (Device disk)) → active group.new.core.inner.config vol plex ≡ active group.old.core.inner.config vol plex }
     ensures others { (w p : ℕ) → (w ≡ vol → p ≡ plex → ⊥) → active group.new.core.inner.config w p ≡ active group.old.core.inner.config w p }
     ensures trust { OnOk result (group.old.core.inner.committed ≡ true → group.new.core.inner.committed ≡ true) }
     ensures agreed { IfErr result (λ stop. group.old.core.inner.committed ≡ true → group.new.core.inner.agreed ≡ true) }

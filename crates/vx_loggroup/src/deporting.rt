@@ -1,6 +1,6 @@
 // A group with logs that is deported.
 ghost use Rattle.vx_group.specs.Finds.{GroupFinds};
-ghost use Rattle.std.specs.Prelude.{◌≡◌, ◌<◌, ◌≤◌, ◌-◌, IfErr, IfOk, IsTrue, OnOk, Err, Option, Some, false, length, true};
+ghost use Rattle.std.specs.Prelude.{◌≡◌, ◌<◌, ◌≤◌, ◌-◌, IfErr, IfOk, IsTrue, OnOk, Err, Some, false, length, true};
 ghost use Rattle.vx_config.specs.Table.{greatest};
 ghost use Rattle.vx_disk.specs.Shelf.{Goes, Nothing};
 ghost use Rattle.vx_group.specs.Calls.{GroupCloses};
