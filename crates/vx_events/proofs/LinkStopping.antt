@@ -38,7 +38,7 @@ link_stops told is_told d line fails said new (AppliesPart before rest site coun
   are = inl refl;
   stops = AllDone last runs (is ∙ ap (λ (fs : List (ℕ × ℕ)). fs ++ (site, disk) ∷ []) (sym none) ∙ sym (fails_joined before (Fault site disk ∷ []))) (links_like line d last new leads);
 }
-link_stops told is_told d line fails said new (AppliesCut before rest site count reached kept taken middle split runs none opens fused failed says leads) = record {
+link_stops told is_told d line fails said new (AppliesCut before rest site count reached kept taken middle split runs none few opens fused failed says leads) = record {
   events = before ++ Fault site 0 ∷ [];
   came = AppliedPart before rest site count reached 0 split refl;
   ending = fails;

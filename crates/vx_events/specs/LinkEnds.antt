@@ -78,10 +78,10 @@ pub data LinkEnds (told : Type 0) (d : Doubted) (line : ScriptLine) (fails : Fai
       → link_events d.world line ≡ before ++ ApplyAt site count reached ∷ rest → Runs d (before ++ Fault site disk ∷ []) last → all_fails before ≡ []
       → IsSiteDisk (last.world.nodes site) disk → fails ≡ (site, disk) ∷ [] → said ≡ Refused (Device disk) → AreLeft line d last new
       → LinkEnds told d line fails said new
-  -- the fuse of this site ran out as waiting records were applied, behind the events before that: it is down, with some of them
+  -- the fuse of this site ran out as waiting records were applied, behind the events before that: it is down, with some of those that were to be applied
   AppliesCut : (before rest : List Event) (site count reached kept : ℕ) (taken : Bool) (middle : Doubted)
       → link_events d.world line ≡ before ++ ApplyAt site count reached ∷ rest → Runs d before middle → all_fails before ≡ []
-      → IsOpen (middle.world.nodes site) → IsFused (d.world.nodes site).fuse → fails ≡ [] → said ≡ Refused IsOff
+      → kept ≤ (middle.world.nodes site).safe + count → IsOpen (middle.world.nodes site) → IsFused (d.world.nodes site).fuse → fails ≡ [] → said ≡ Refused IsOff
       → AreLeft line d (crashed_as (halved middle (Fault site 0) site 0) site kept taken) new → LinkEnds told d line fails said new
   -- the fuse of this site ran out in an event
   LinksCut : (e : Event) (site kept : ℕ) (taken : Bool) (middle : Doubted) → ComesTo d (link_events d.world line) e site middle

@@ -104,7 +104,7 @@ module _ (told : Type 0) (d : Doubted) (line : ScriptLine) (x : Event) (fails : 
       (subst (λ (f : Event). WritesAt d.world f site) c.0 (subst (λ (m : Doubted). WritesAt m.world e site) c.1 c.3)) (subst (λ (m : Doubted). IsLogDisk (m.world.nodes site) disk) c.1 here) one says
       (subst (λ (f : Event). AreLeft line d (halved d f site disk) new) c.0 (subst (λ (m : Doubted). AreLeft line d (halved m e site disk) new) c.1 left))
   one_ends (AppliesPart before rest site count reached disk last split runs none here one says left) = absurd (not_apply before rest site count reached split)
-  one_ends (AppliesCut before rest site count reached kept taken middle split runs none opens fused one says left) = absurd (not_apply before rest site count reached split)
+  one_ends (AppliesCut before rest site count reached kept taken middle split runs none few opens fused one says left) = absurd (not_apply before rest site count reached split)
   one_ends (LinksCut e site kept taken middle comes fused one says left) =
       let c = comes_first e site middle comes in
       OneCut site kept taken (subst (λ (m : Doubted). IsOpen (m.world.nodes site)) c.1 c.2)
