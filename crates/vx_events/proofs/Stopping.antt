@@ -261,7 +261,7 @@ module _ (told : Type 0) (is_told : told) (d : Doubted) (files : Bool) (line : S
   stopping fails new c h = record { choice = c; events = h.events; came = h.came; ending = fails; are = inl refl; stops = h.stops }
 
   -- it is done in spite of failed calls
-  bearing : (fails : Fails) (new : Doubted) (c : Choice) → AreBorne d.world fails → CameTo d (events_of d.world line c) s c.kept [] new → StopsAs d line s fails new
+  bearing : (fails : Fails) (new : Doubted) (c : Choice) → AreBorne d.world s fails → CameTo d (events_of d.world line c) s c.kept [] new → StopsAs d line s fails new
   bearing fails new c borne h = record { choice = c; events = h.events; came = h.came; ending = []; are = inr (refl, borne); stops = h.stops }
 
   at_of : (c : Choice) (before : List Event) (e : Event) (rest : List Event) → events_of d.world line c ≡ before ++ e ∷ rest → AllAt s before × IsAt s e

@@ -131,7 +131,7 @@ found_linked d s k row = record d { world = sending (with_links (with_node d.wor
 -- any state, session and number of writes on them: it still changes its own site alone, which keeps its name, its disks and its volumes.
 pub data Ends (told : Type 0) (d : Doubted) (line : ScriptLine) (s : ℕ) (fails : Fails) (said : Said) (new : Doubted) : Type 0 where
   -- all events are done, and the last of them is answered
-  AllDone : (c : Choice) (taken : Bool) → AreBorne d.world fails → Replies told line s taken d (events_of d.world line c) said
+  AllDone : (c : Choice) (taken : Bool) → AreBorne d.world s fails → Replies told line s taken d (events_of d.world line c) said
       → IsLeft s line taken d (run_as taken d (events_of d.world line c)) new → Ends told d line s fails said new
   -- a disk failed in an event, behind those before it
   DiskFails : (c : Choice) (taken : Bool) (before : List Event) (e : Event) (rest left : List Event) (disk : ℕ) → events_of d.world line c ≡ before ++ e ∷ rest
@@ -150,10 +150,10 @@ pub data Ends (told : Type 0) (d : Doubted) (line : ScriptLine) (s : ℕ) (fails
   -- a site that is no primary shows its blocks with all writes that came to it, of which some may wait
   ShowsReceived : (site volume : List ℕ) (start count : ℕ) → line ≡ Show site volume start count → is_primary (d.world.nodes s).role ≡ false
       → GivesBlocks told count (HasGot (joined_blocks (blocks_from (received_content (d.world.nodes s)) (volume_number (d.world.nodes s) volume) start count))) said
-      → AreBorne d.world fails → IsLeft s line false d d new → Ends told d line s fails said new
+      → AreBorne d.world s fails → IsLeft s line false d d new → Ends told d line s fails said new
   -- what stood on disks that tell no contents came up with the links that its header keeps, or was refused
   FindsLinks : (told → ⊥) → (c : Choice) (taken : Bool) (site : List ℕ) (mid : Doubted) (n k : Node) (row : ℕ → Link) → line ≡ Recover site
-      → Recovering d s c taken mid n → ComesUpAs s mid.world.sites n k row → AreBorne d.world fails
+      → Recovering d s c taken mid n → ComesUpAs s mid.world.sites n k row → AreBorne d.world s fails
       → said ≡ Recovered k.safe (linked_view (found_linked mid s k row).world s) → IsLeft s line taken d (found_linked mid s k row) new
       → Ends told d line s fails said new
   FindsNone : (told → ⊥) → (c : Choice) (taken : Bool) (site : List ℕ) (mid : Doubted) (n : Node) (why : No) → line ≡ Recover site

@@ -81,10 +81,10 @@ module _ (told : Type 0) (a b : ℕ) (d : Doubted) (may : MayMove a b d.world) (
       by (one_ends told (noted_as fuses d) (Connect p s) (ConnectAt a b) fails said new (ap (λ (i : ℕ). ConnectAt i (site_number (burnt_world fuses d.world) s) ∷ []) (number_burnt fuses d.world p ∙ from) ∙ ap (λ (j : ℕ). ConnectAt a j ∷ []) (number_burnt fuses d.world s ∙ to)) refl refl (λ last reply. reply) ends)
     where
       by : OneEnds told (noted_as fuses d) (Connect p s) (ConnectAt a b) fails said new → GoesTo told a b d (ConnectAt a b ∷ []) fails new said
-      by (OneDone borne reply left) =
+      by (OneDone none reply left) =
           reply_on (OnTo told a b d (ConnectAt a b ∷ []) fails new) (λ why. EndTo told a b d (ConnectAt a b ∷ []) fails why new) (step (burnt_world fuses d.world) (ConnectAt a b)).world 0 (step (burnt_world fuses d.world) (ConnectAt a b)).said said
           (ap (λ (x : EventSaid). is_refused x) (said_same (ConnectAt a b) ∙ connect_done d.world a b may.can)) reply
-          (record { next = happened d (ConnectAt a b) false; borne = borne; works = works_connect told a b d may; noted = plain_done (ConnectAt a b) new refl left })
+          (record { next = happened d (ConnectAt a b) false; borne = borne_none d.world b fails none; works = works_connect told a b d may; noted = plain_done (ConnectAt a b) new refl left })
       by (OneHalts site disk opens writes place one says left) = absurd writes
       by (OneCut site kept taken opens writes fused one says left) = absurd writes
       by (OneUnread site disk reads place one says left) = absurd reads
@@ -102,10 +102,10 @@ module _ (told : Type 0) (a b : ℕ) (d : Doubted) (may : MayMove a b d.world) (
       by (one_ends told (noted_as fuses d) (Tick p s) (TickAt a b) fails said new (ap (λ (i : ℕ). TickAt i (site_number (burnt_world fuses d.world) s) ∷ []) (number_burnt fuses d.world p ∙ from) ∙ ap (λ (j : ℕ). TickAt a j ∷ []) (number_burnt fuses d.world s ∙ to)) refl refl (λ last reply. reply) ends)
     where
       by : OneEnds told (noted_as fuses d) (Tick p s) (TickAt a b) fails said new → GoesTo told a b d (TickAt a b ∷ []) fails new said
-      by (OneDone borne reply left) =
+      by (OneDone none reply left) =
           reply_on (OnTo told a b d (TickAt a b ∷ []) fails new) (λ why. EndTo told a b d (TickAt a b ∷ []) fails why new) (step (burnt_world fuses d.world) (TickAt a b)).world 0 (step (burnt_world fuses d.world) (TickAt a b)).said said
           (ap (λ (x : EventSaid). is_refused x) (said_same (TickAt a b) ∙ tick_done d.world a b may.can)) reply
-          (record { next = happened d (TickAt a b) false; borne = borne; works = works_tick told a b d may; noted = plain_done (TickAt a b) new refl left })
+          (record { next = happened d (TickAt a b) false; borne = borne_none d.world b fails none; works = works_tick told a b d may; noted = plain_done (TickAt a b) new refl left })
       by (OneHalts site disk opens writes place one says left) = absurd writes
       by (OneCut site kept taken opens writes fused one says left) = absurd writes
       by (OneUnread site disk reads place one says left) = absurd reads
@@ -126,7 +126,7 @@ module _ (told : Type 0) (a b : ℕ) (d : Doubted) (may : MayMove a b d.world) (
       sends more any untold none left =
           record {
             next = record d { world = pumped_with d.world a b more };
-            borne = borne_none d.world fails none;
+            borne = borne_none d.world b fails none;
             works = works_pump_other told a b d may more any untold;
             noted = record {
               fuses = fuses;
@@ -162,10 +162,10 @@ module _ (told : Type 0) (a b : ℕ) (d : Doubted) (may : MayMove a b d.world) (
       by_finds untold last (SettlesOther q r middle is moves finds) left = absurd (cc)
 
       by : OneEnds told (noted_as fuses d) (Pump p s) (PumpAt a b) fails said new → GoesTo told a b d (PumpAt a b ∷ []) fails new said
-      by (OneDone borne reply left) =
+      by (OneDone none reply left) =
           reply_on (OnTo told a b d (PumpAt a b ∷ []) fails new) (λ why. EndTo told a b d (PumpAt a b ∷ []) fails why new) (step (burnt_world fuses d.world) (PumpAt a b)).world 0 (step (burnt_world fuses d.world) (PumpAt a b)).said said
           (ap (λ (x : EventSaid). is_refused x) (said_same (PumpAt a b) ∙ pump_done d.world a b may.can)) reply
-          (record { next = happened d (PumpAt a b) false; borne = borne; works = works_pump told a b d may; noted = plain_done (PumpAt a b) new refl left })
+          (record { next = happened d (PumpAt a b) false; borne = borne_none d.world b fails none; works = works_pump told a b d may; noted = plain_done (PumpAt a b) new refl left })
       by (OneHalts site disk opens writes place one says left) = absurd writes
       by (OneCut site kept taken opens writes fused one says left) = absurd writes
       by (OneUnread site disk reads place one says left) =
@@ -242,7 +242,7 @@ module _ (told : Type 0) (a b : ℕ) (d : Doubted) (may : MayMove a b d.world) (
           subst (λ (y : Said). GoesTo told a b d (DeliverAt number ∷ []) fails new y) (sym says)
           (record {
             next = record d { world = taken_with d.world q m.count x };
-            borne = borne_none d.world fails none;
+            borne = borne_none d.world b fails none;
             works = works_take_other told a b d may number q sent x untold m;
             noted = other_noted (record d { world = taken_with d.world q m.count x }) n None more last refl refl
                 (leaves
@@ -254,23 +254,23 @@ module _ (told : Type 0) (a b : ℕ) (d : Doubted) (may : MayMove a b d.world) (
           subst (λ (y : Said). GoesTo told a b d (DeliverAt number ∷ []) fails new y) (sym says)
           (record {
             next = record d { world = kept_with d.world q };
-            borne = borne_none d.world fails none;
+            borne = borne_none d.world b fails none;
             works = works_keep_other told a b d may number q sent untold t.1.0;
             noted = other_noted (record d { world = kept_with d.world q }) (d.world.nodes q.target) (Some (record { key = key_of q; came = came_after (d.world.gathering q.target) q })) [] last refl refl
                 (leaves ∙ ap (λ (y : Packet). let z : Doubted = record (noted_as fuses d) { world = kept_with (burnt_world fuses d.world) y } in z) t.0) left;
           })
       by_finds untold last (LosesOther number' q' is takes none says leaves) left =
           subst (λ (y : Said). GoesTo told a b d (DeliverAt number ∷ []) fails new y) (sym says)
-          (record { next = d; borne = borne_none d.world fails none; works = works_lose_other told a b d may number q sent untold; noted = left_noted d fuses last burns leaves left })
+          (record { next = d; borne = borne_none d.world b fails none; works = works_lose_other told a b d may number q sent untold; noted = left_noted d fuses last burns leaves left })
       by_finds untold last (SettlesOther p r middle is moves finds) left = absurd (cc)
 
       by : OneEnds told (noted_as fuses d) (Deliver number) (DeliverAt number) fails said new → GoesTo told a b d (DeliverAt number ∷ []) fails new said
-      by (OneDone borne reply left) =
+      by (OneDone none reply left) =
           reply_on (OnTo told a b d (DeliverAt number ∷ []) fails new) (λ why. EndTo told a b d (DeliverAt number ∷ []) fails why new) (step (burnt_world fuses d.world) (DeliverAt number)).world 0 (step (burnt_world fuses d.world) (DeliverAt number)).said said
           (delivered_says (burnt_world fuses d.world) number q at) reply
           (record {
             next = happened d (DeliverAt number) false;
-            borne = borne;
+            borne = borne_none d.world b fails none;
             works = works_deliver told a b d may number q sent at between;
             noted = left_noted (happened d (DeliverAt number) false) fuses (happened (noted_as fuses d) (DeliverAt number) false) (burns_done (DeliverAt number) refl) (done_noted (DeliverAt number) refl) left;
           })
@@ -322,7 +322,7 @@ module _ (told : Type 0) (a b : ℕ) (d : Doubted) (may : MayMove a b d.world) (
       (ap (λ (i : ℕ). ConnectAt i (site_number (burnt_world fuses d.world) s) ∷ []) (number_burnt fuses d.world p ∙ from) ∙ ap (λ (j : ℕ). ConnectAt a j ∷ []) (number_burnt fuses d.world s ∙ to)) refl refl (λ last reply. reply) ends)
     where
       by : OneEnds told (noted_as fuses d) (Connect p s) (ConnectAt a b) fails said new → said ≡ Done
-      by (OneDone borne reply left) =
+      by (OneDone none reply left) =
           subst (λ (x : EventSaid). RepeatsSaid (step (burnt_world fuses d.world) (ConnectAt a b)).world 0 x said) (said_same (ConnectAt a b) ∙ connect_done d.world a b may.can) reply
       by (OneHalts site disk opens writes place one says left) = absurd writes
       by (OneCut site kept taken opens writes fused one says left) = absurd writes
