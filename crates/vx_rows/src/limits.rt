@@ -1,4 +1,4 @@
-// The greatest numbers that a script meets, and what has no other test: two groups in a run, and a block that is put to one.
+// The greatest numbers that a script meets, and what has no other test: two groups in a run, a block that is put to one, and one beside a raw set.
 use crate::done::is_done;
 use std::test::Fail;
 use vx_cli::Status;
@@ -59,6 +59,17 @@ fn a_block_is_put_to_one_of_two_groups(rt: HostRuntime) -> Result<(), Fail> {
     )?;
     let wanted = "done\ndone\ndone\ndone\ndone\ndone\ndone\n00\naa\ndone\ndone\n11\nno 6 down\n";
     assert!(rt; is_done(&rt, alloc, &script, wanted)?);
+    Ok(())
+}
+
+// What one does, and its crash, is nothing to the other.
+#[test]
+fn a_group_stands_beside_a_linked_raw_set(rt: HostRuntime) -> Result<(), Fail> {
+    let script =
+        b"site a 3 64\nraw a\nsite b 3 64\nraw b\nlink a b synchronous=fail srlprot=fail\nconnect a b\nsite g 2 1024\ndg g init\nvol g v 64 mirrors=2 layout=concat log=none fmr=off rdpol=round\nwrite g v 0 1 55\nwrite a d1 0 1 11\npump a b\ndeliver 2\ndeliver 3\nwait a 1\ncrash a 0\nread g v 0 1\nshow b d1 0 1\ncrash g 0\nread g v 0 1\nshow b d1 0 1\n";
+    let wanted =
+        "done\ndone\ndone\ndone\ndone\ndone sent 1 1\ndone\ndone\ndone\ndone\nlogged 1\ndone sent 2 2\ntaken sent 3 3\ntaken\ndone 1\ndone\n55\n11\ndone\nno 6 down\n11\n";
+    assert!(rt; is_done(&rt, rt.alloc(), script, wanted)?);
     Ok(())
 }
 
