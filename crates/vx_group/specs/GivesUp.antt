@@ -48,5 +48,5 @@ FaultMisses d (Err (Fault disk)) = d.unsettled ≡ true
 FaultMisses d (Err Down) = Unit {0}
 
 -- no commit is missed, unless no serial is left for one
-abbrev pub IsReady : Inner → Type 0
-IsReady c = c.unsettled ≡ true → greatest ≤ c.config.serial
+abbrev pub MissesNone : Inner → Type 0
+MissesNone c = c.unsettled ≡ true → greatest ≤ c.config.serial

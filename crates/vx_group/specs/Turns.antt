@@ -13,7 +13,7 @@ abbrev pub next_plex : List ℕ → ℕ → ℕ
 next_plex next v = slice_index_or next v 0
 
 -- it is this one, and of each other volume it is the one that it was
-pub record NextIs (v plex : ℕ) (old new : List ℕ) : Type 0 where
+pub record NextAsked (v plex : ℕ) (old new : List ℕ) : Type 0 where
   pub here : next_plex new v ≡ plex
   pub others : (w : ℕ) → w ≢ v → next_plex new w ≡ next_plex old w
 
@@ -21,7 +21,7 @@ pub record NextIs (v plex : ℕ) (old new : List ℕ) : Type 0 where
 pub record TakesTurn (c : Config) (v : ℕ) (before after : List ℕ) (block n : ℕ) (bytes : List ℕ) (old new : Meaning) : Type 0 where
   pub plex : ℕ
   pub from : ReadFrom c v (plexes_of c v) (first_asked (prefer_of c v) (next_plex before v % plexes_of c v)) block n plex bytes old new
-  pub next : NextIs v (next_asked (prefer_of c v) (next_plex before v) ((plex + 1) % plexes_of c v)) before after
+  pub next : NextAsked v (next_asked (prefer_of c v) (next_plex before v) ((plex + 1) % plexes_of c v)) before after
 
 -- what a read answers: refused with a fault, each plex that is ACTIVE failed in it
 abbrev pub ReadsInTurn : Config → ℕ → List ℕ → List ℕ → ℕ → ℕ → List ℕ → Meaning → Meaning → Result (Unit {0}) ShelfError → Type 0

@@ -3,7 +3,7 @@ ghost use Rattle.std.specs.Prelude.{◌≡◌, ◌≢◌, ◌<◌, ◌≤◌, �
 ghost use Rattle.vx_disk.specs.Counts.{Rose};
 ghost use Rattle.vx_group.specs.Blames.{CountsRise, MarkedUnsure, MarksUnsure};
 ghost use Rattle.vx_group.specs.Stands.{volume_faults};
-ghost use Rattle.vx_group.specs.Turns.{NextIs};
+ghost use Rattle.vx_group.specs.Turns.{NextAsked};
 
 use vx_disk::ShelfError;
 use vx_model::limits::MOST_VOLUMES;
@@ -29,7 +29,7 @@ pub fn mark_unsure(unsure: &mut [bool; MOST_VOLUMES], vol: u32)
 /// Sets the plex that the next read of a volume asks first.
 pub fn set_next(next: &mut [u32; MOST_VOLUMES], vol: u32, plex: u32)
     requires inside { vol < MOST_VOLUMES }
-    ensures { NextIs vol plex next.old next.new }
+    ensures { NextAsked vol plex next.old next.new }
 {
     next[vol as usize] = plex;
 }

@@ -18,7 +18,7 @@ ghost use Rattle.vx_model.specs.declared.errors.Stop.TheVariants.{No as Refused}
 ghost use Rattle.vx_model.specs.declared.limits.TheConstants.{BLOCK, MOST_DISKS};
 ghost use Rattle.vx_model.specs.declared.no.No.TheVariants.{Size};
 ghost use Rattle.vx_group.specs.Blames.{MarksOn};
-ghost use Rattle.vx_group.specs.GivesUp.{GivesUp, IsReady};
+ghost use Rattle.vx_group.specs.GivesUp.{GivesUp, MissesNone};
 ghost use Rattle.vx_group.specs.Calls.{BackAgrees, GivesBack, GroupAttaches, GroupCreated, GroupDeported, GroupImported, GroupNarrows, GroupStays, ImportsAgain, IsFull, KeepsUnits};
 ghost use Rattle.vx_group.specs.Holding.{GroupStands, wide};
 ghost use Rattle.vx_kept.specs.Commits.{IsCommitted};
@@ -358,7 +358,7 @@ impl<S: Shelf> Shelf for Group<S> {
         ensures disks { OnDisks (inner_meaning (wide self.old.core) (S.meaning self.old.shelf)).disks (inner_meaning (wide self.new.core) (S.meaning self.new.shelf)).disks (λ o n. Calls (inner_meaning (wide self.old.core) (S.meaning self.old.shelf)) (DisksWrote unit block bytes.now) o n result) }
         ensures gave_up { GivesUp unit self.old.core.inner self.new.core.inner (S.meaning self.old.shelf) (S.meaning self.new.shelf) result }
         ensures marks { MarksOn unit self.old.core.inner.unsure self.new.core.inner.unsure result }
-        ensures ready { OnOk result (IsReady self.new.core.inner) }
+        ensures ready { OnOk result (MissesNone self.new.core.inner) }
         ensures loses { LosesPlexes self.old.core.inner.config self.new.core.inner.config (S.meaning self.old.shelf) (S.meaning self.new.shelf) }
         ensures clear { self.old.core.inner.config.serial < greatest → OnOk result (self.new.core.held ≡ None) }
         ensures trust { OnOk result (self.old.core.inner.committed ≡ true → self.new.core.inner.committed ≡ true) }
@@ -379,7 +379,7 @@ impl<S: Shelf> Shelf for Group<S> {
         ensures disks { OnDisks (inner_meaning (wide self.old.core) (S.meaning self.old.shelf)).disks (inner_meaning (wide self.new.core) (S.meaning self.new.shelf)).disks (λ o n. Calls (inner_meaning (wide self.old.core) (S.meaning self.old.shelf)) (DisksFlushed unit) o n result) }
         ensures gave_up { GivesUp unit self.old.core.inner self.new.core.inner (S.meaning self.old.shelf) (S.meaning self.new.shelf) result }
         ensures marks { MarksOn unit self.old.core.inner.unsure self.new.core.inner.unsure result }
-        ensures ready { OnOk result (IsReady self.new.core.inner) }
+        ensures ready { OnOk result (MissesNone self.new.core.inner) }
         ensures loses { LosesPlexes self.old.core.inner.config self.new.core.inner.config (S.meaning self.old.shelf) (S.meaning self.new.shelf) }
         ensures clear { self.old.core.inner.config.serial < greatest → OnOk result (self.new.core.held ≡ None) }
         ensures trust { OnOk result (self.old.core.inner.committed ≡ true → self.new.core.inner.committed ≡ true) }

@@ -170,6 +170,7 @@ impl<S: Shelf> LoggedGroup<S> {
         ensures ends_maps { MapsEnd self.old.core.inner.config self.new.core.inner.config self.old.stopped self.new.stopped self.old.logs.items self.new.logs.items (S.meaning self.old.shelf) (S.meaning self.new.shelf) }
         ensures left { (v : ℕ) → fmr_at self.new.logs.items v ≡ fmr_at self.old.logs.items v }
         ensures alike { IfOk result (λ n. is_alike self.new.alike n ≡ true) }
+        ensures begins { IfOk result (λ n. is_alike self.new.fresh n ≡ true) }
         ensures flags { (w : ℕ) → is_alike self.old.alike w ≡ true → is_alike self.new.alike w ≡ true }
         ensures stopped { self.new.stopped ≡ self.old.stopped }
     {

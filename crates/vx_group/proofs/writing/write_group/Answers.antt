@@ -18,7 +18,7 @@ use Rattle.vx_group.proofs.FindingLemmas.{still_group, as_finds}
 use Rattle.vx_group.proofs.FoundThrough.{through_finds}
 use Rattle.vx_group.proofs.TrustStillLemmas.{same_logs, through_logs}
 use Rattle.vx_group.proofs.UnsureLemmas.{through_marks, unsure_then}
-use Rattle.vx_group.specs.GivesUp.{IsReady}
+use Rattle.vx_group.specs.GivesUp.{MissesNone}
 use Rattle.vx_group.specs.declared.inner.Inner.{Inner}
 use Rattle.vx_group.proofs.writing.write_group.Goals as goal
 
@@ -122,5 +122,5 @@ returns-clause-marks g c =
 
 pub returns-clause-ready : goal.returns-clause-ready
 returns-clause-ready g c =
-    ok_from c.write_in-result.result (λ ready. subst (λ (i : Inner). IsReady i) (sym
+    ok_from c.write_in-result.result (λ ready. subst (λ (i : Inner). MissesNone i) (sym
     (new_wide c.args.core.now c.release.new.core (record { inner = c.write_in-result.new.core; held = c.open_held-held.new.core.held }) c.close_held.new.core c.open_held-held.new.core.inner (g.S.Shelf.meaning c.args.shelf.now) (g.S.Shelf.meaning c.release.new.shelf) (g.S.Shelf.meaning c.write_in-result.new.shelf) c.requires.stands c.release.ensures.stands c.release.ensures.narrows c.release.ensures.volumes c.open_held-held.result c.open_held-held.ensures.held c.open_held-held.ensures.inner c.open_held-held.ensures.none c.close_held.ensures)) ready) c.write_in-result.ensures.ready
