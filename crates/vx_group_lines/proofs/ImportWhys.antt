@@ -25,7 +25,7 @@ use Rattle.vx_grouped.proofs.ReadyLemmas.{imported_same}
 use Rattle.vx_grouped.specs.GroupSites.{AwayNoted, DownNoted, UpNoted, site_config, site_disks, with_note, dimmed_site}
 use Rattle.vx_grouped.specs.Readies.{ready_of}
 use Rattle.vx_grouped.specs.SiteEnds.{HasNow, stops_down}
-use Rattle.vx_grouped.specs.SiteReturns.{ImportRefused, ImportWhy, KeepsFuse, Settled, SomeRose, as_imported, returned_with, stops_early}
+use Rattle.vx_grouped.specs.SiteReturns.{ImportRefused, ImportWhy, KeepsFuse, KnownAway, SomeRose, as_imported, returned_with, stops_early}
 use Rattle.vx_grouped.specs.declared.group_site.GroupSite.{GroupSite}
 use Rattle.vx_grouped.specs.declared.group_site.GroupSite.TheVariants.{Up as SiteUp, Deported as SiteAway, Down as SiteDown, Marked, Gone as SiteGone}
 use Rattle.vx_diskset.specs.Asked.{FusedAs, SameFailing, disks_told}
@@ -68,7 +68,7 @@ quiet_limit what most = record { facts = λ f. refl; loads = λ s a b h. h }
 
 module _ (told : Type 0) (dims : Bool) (s : ℕ) (note : GroupNode) (fails : Fails) (told_new : Type 0) (loose : dims ≡ true → note.loose ≡ true) (o e : Meaning) where
   -- every reason but a device and a fuse
-  pub why_is : (why : No) → (told → (dimmed_by (is_late why) dims note).dark ≡ false → told_new) → ((k : ℕ) → why ≡ Missing k → Rose (o.disk_faults k) (e.disk_faults k) → Contains fails (s, k)) → ImportWhy told_new (Settled told_new note) o e (StopsBy why)
+  pub why_is : (why : No) → (told → (dimmed_by (is_late why) dims note).dark ≡ false → told_new) → ((k : ℕ) → why ≡ Missing k → Rose (o.disk_faults k) (e.disk_faults k) → Contains fails (s, k)) → ImportWhy told_new (KnownAway told_new note) o e (StopsBy why)
       → (SomeRose o e → fails ≡ [] → ⊥)
       → ((disk : ℕ) → why ≡ Device disk → ⊥) → (why ≡ IsOff → ⊥) → Why told dims s note fails why
   why_is (Device disk) tells names it none not_device not_off = absurd (not_device disk refl)
@@ -206,7 +206,7 @@ module _ {R : Type 0} {g : Ghosts R} where
   ImportCases dims n note old e why =
       ((disk : ℕ) × (why ≡ Device disk) × StaysAway true dims n note old e × Rose (old.disk_faults disk) ((site_disks e).disk_faults disk))
       ⊎ ((why ≡ IsOff) × DownNoted (crashed (returned_with (dimmed_by true dims note) n) 0) (dimmed_by true dims note) e × IsFused n.fuse)
-      ⊎ (StaysAway (is_late why) dims n note old e × ImportWhy (IsTrue (site_disks e).tells) (Settled (IsTrue (site_disks e).tells) note) old (site_disks e) (StopsBy why) × ((disk : ℕ) → why ≡ Device disk → ⊥) × (why ≡ IsOff → ⊥))
+      ⊎ (StaysAway (is_late why) dims n note old e × ImportWhy (IsTrue (site_disks e).tells) (KnownAway (IsTrue (site_disks e).tells) note) old (site_disks e) (StopsBy why) × ((disk : ℕ) → why ≡ Device disk → ⊥) × (why ≡ IsOff → ⊥))
 
   pub import_cases : (dims : Bool) (n : Node) (note : GroupNode) (old : Meaning) (e : GroupSite R g) (why : No) → ImportRefused (stops_down (StopsBy why)) (dimmed_site dims note n) (note_dimmed dims note) old e (StopsBy why) → ImportCases dims n note old e why
   import_cases dims n note old e (Device disk) it = inl (disk, refl, (it.0, it.1), it.2)

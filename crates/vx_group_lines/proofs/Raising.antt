@@ -22,7 +22,7 @@ use Rattle.vx_script.specs.declared.line.ScriptLine.TheVariants.{Recover}
 use Rattle.vx_grouped.proofs.ReadyLemmas.{imported_same}
 use Rattle.vx_grouped.specs.GroupSites.{DownNoted, FitsPlain, site_disks}
 use Rattle.vx_grouped.specs.SiteMaps.{CameMapped, StandMaps}
-use Rattle.vx_grouped.specs.SiteReturns.{ImportWhy, Settled, SomeRose, SiteRecovers, as_imported, is_dimmed, stops_early}
+use Rattle.vx_grouped.specs.SiteReturns.{ImportWhy, KnownAway, SomeRose, SiteRecovers, as_imported, is_dimmed, stops_early}
 use Rattle.vx_grouped.specs.declared.group_site.GroupSite.{GroupSite}
 use Rattle.vx_diskset.specs.Asked.{FailsAs, SameFailing}
 use Rattle.vx_diskset.specs.DiskSets.{Later}
@@ -238,7 +238,7 @@ module _ {R : Type 0} {g : Ghosts R} where
     LeftMaps stop x = StandMaps (left_note (not (stops_early stop))) x
 
     -- why
-    by_why : (why : No) (set : GroupSet R g) → after ≡ OfGroup set → Left (StopsBy why) set.site → LeftMaps (StopsBy why) set.site → cut_in after ≡ cut_value call.at.set.cut → ImportWhy (IsTrue (site_disks set.site).tells) (Settled (IsTrue (site_disks set.site).tells) note) (as_imported call.at.set.site) (site_disks set.site) (StopsBy why)
+    by_why : (why : No) (set : GroupSet R g) → after ≡ OfGroup set → Left (StopsBy why) set.site → LeftMaps (StopsBy why) set.site → cut_in after ≡ cut_value call.at.set.cut → ImportWhy (IsTrue (site_disks set.site).tells) (KnownAway (IsTrue (site_disks set.site).tells) note) (as_imported call.at.set.site) (site_disks set.site) (StopsBy why)
         → (mid : Yard R g) → mid.facts.items ≡ old.facts.items → SameLoad old mid → (result : Result Said OutOfMemory) → IsNotedRefusal s (fact_of_group n note) why mid new result → RisesIs e s old new result
     by_why (Device disk) set is holds maps cut rose mid facts load result it =
         subst (λ (r : Result Said OutOfMemory). RisesIs e s old new r) (sym it.said)
@@ -269,7 +269,7 @@ module _ {R : Type 0} {g : Ghosts R} where
         (answered false 0 (Format version) set is holds maps cut (quiet mid facts it.facts) (loaded mid load it.same it.assemblies) (strange 0 (Format version) set is holds never tt))
     by_why other set is holds maps cut rose mid facts load result it = absurd rose
 
-    by_stop : (stop : Stop) (set : GroupSet R g) → after ≡ OfGroup set → Left stop set.site → LeftMaps stop set.site → cut_in after ≡ cut_value call.at.set.cut → ImportWhy (IsTrue (site_disks set.site).tells) (Settled (IsTrue (site_disks set.site).tells) note) (as_imported call.at.set.site) (site_disks set.site) stop
+    by_stop : (stop : Stop) (set : GroupSet R g) → after ≡ OfGroup set → Left stop set.site → LeftMaps stop set.site → cut_in after ≡ cut_value call.at.set.cut → ImportWhy (IsTrue (site_disks set.site).tells) (KnownAway (IsTrue (site_disks set.site).tells) note) (as_imported call.at.set.site) (site_disks set.site) stop
         → (mid : Yard R g) → mid.facts.items ≡ old.facts.items → SameLoad old mid → (result : Result Said OutOfMemory) → reply_noted s (fact_of_group n note) stop mid new result → RisesIs e s old new result
     by_stop (StopsBy why) set is holds maps cut because mid facts load result it = by_why why set is holds maps cut because mid facts load result it
     by_stop MemoryStop set is holds maps cut because mid facts load result it =

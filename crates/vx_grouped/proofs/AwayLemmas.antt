@@ -18,7 +18,7 @@ use Rattle.vx_group.specs.Resumes.{CanImport}
 use Rattle.vx_group.specs.Stands.{InnerStands}
 use Rattle.vx_group.specs.declared.group_core.GroupCore.{GroupCore}
 use Rattle.vx_group.proofs.HoldLemmas.{wide_shape}
-use Rattle.vx_grouped.specs.Away.{AwayLies, HoldsSome, IsAwayAt}
+use Rattle.vx_grouped.specs.Away.{AwayLies, AwayFit, IsAwayAt}
 use Rattle.vx_grouped.specs.GroupNotes.{GroupLies}
 use Rattle.vx_kept.proofs.Chosen.{extends_shape}
 use Rattle.vx_grouped.proofs.ImageLemmas.{less_from, less_noted}
@@ -47,7 +47,7 @@ module _ (n : Node) (note : GroupNode) (c : GroupCore) (m m' : Meaning) (lies : 
     has = has;
   }
 
-  crash_some : HoldsSome (record n { state = IsDown }) c.inner.config
+  crash_some : AwayFit (record n { state = IsDown }) c.inner.config
   crash_some = record {
     large = λ more. subst (λ (x : ℕ). 1024 ≤ x) (stopped.size 0 ∙ lies.size 0 more) (stands.large.each 0 (subst (λ (x : ℕ). 0 < x) (sym (stopped.units ∙ lies.units)) more));
     some = λ all. stands.some (record { each = λ u low is. all.each u low });

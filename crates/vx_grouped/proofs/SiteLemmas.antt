@@ -9,7 +9,7 @@ use Rattle.vx_config.specs.Configs.{HasSpelling}
 use Rattle.vx_config.specs.declared.config.Config.{Config}
 use Rattle.vx_kept.specs.Cleans.{at_serial}
 use Rattle.vx_group.specs.declared.group_core.GroupCore.{GroupCore}
-use Rattle.vx_grouped.specs.Away.{AllRun, AwayLies, HoldsSome, IsAwayAt, IsDeportedAt}
+use Rattle.vx_grouped.specs.Away.{AllRun, AwayLies, AwayFit, IsAwayAt, IsDeportedAt}
 use Rattle.vx_grouped.specs.GroupNotes.{GroupLies, IsGroupAt, note_dimmed}
 use Rattle.vx_grouped.specs.GroupSites.{AreStopped, GroupAway, GroupDown, GroupUp, NotesGroup, deported_with, with_note, IsLit, dimmed_site}
 use Rattle.vx_grouped.specs.SetFuses.{HasFuse}
@@ -38,7 +38,7 @@ away_as n k note last m disks blocks it = record {
   has = it.has;
 }
 
-pub some_as : (n k : Node) (c : Config) → n.disks ≡ k.disks → n.blocks ≡ k.blocks → HoldsSome n c → HoldsSome k c
+pub some_as : (n k : Node) (c : Config) → n.disks ≡ k.disks → n.blocks ≡ k.blocks → AwayFit n c → AwayFit k c
 some_as n k c disks blocks it = record { large = λ more. subst (λ (x : ℕ). 1024 ≤ x) blocks (it.large (subst (λ (x : ℕ). 0 < x) (sym disks) more)); some = it.some }
 
 -- ---- notes

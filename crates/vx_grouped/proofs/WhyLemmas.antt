@@ -25,7 +25,7 @@ use Rattle.vx_copies.proofs.Goods.{good_bit}
 use Rattle.vx_copyio.specs.Labelling.{HasSmall}
 use Rattle.vx_kept.specs.Facts.{is_found}
 use Rattle.vx_kept.specs.Groups.{found, found_by}
-use Rattle.vx_kept.specs.Trusts.{AllFailed, is_plain}
+use Rattle.vx_kept.specs.Trusts.{FailsAll, is_plain}
 use Rattle.vx_group.specs.Imports.{ImportStops}
 use Rattle.vx_grouped.specs.SiteReturns.{ImportWhy, SomeRose}
 use Rattle.vx_grouped.proofs.CalledLemmas.{err_is}
@@ -80,7 +80,7 @@ count_back : (R : ℕ → Bool) (k : ℕ) (ds : List DiskEntry) → length (retu
 count_back R k [] = refl
 count_back R k (d ∷ ds) = ap suc (count_back R (k + 1) ds)
 
-all_failed : (R : ℕ → Bool) (x : Config) → NoneGood (returned R x).disks (length (returned R x).disks) (good_set x.disks) → AllFailed x.disks
+all_failed : (R : ℕ → Bool) (x : Config) → NoneGood (returned R x).disks (length (returned R x).disks) (good_set x.disks) → FailsAll x.disks
 all_failed R x none = record { each = λ u low. by u low (failed_at x.disks u) refl }
   where
     by : (u : ℕ) → u < length x.disks → (b : Bool) → failed_at x.disks u ≡ b → failed_at x.disks u ≡ true
@@ -96,7 +96,7 @@ pub record HoldsAny (m : Meaning) : Type 0 where
   pub tells : IsTrue m.tells
   pub large : HasSmall m → ⊥
   pub unread : (i : Image) (readable : ℕ → Bool) → Each m.reads i → found_by m readable i ≡ NothingFound → (k : ℕ) × (k < m.units) × (readable k ≡ false)
-  pub some : (i : Image) (readable : ℕ → Bool) (x : Config) → Each m.reads i → found_by m readable i ≡ Found x → AllFailed x.disks → ⊥
+  pub some : (i : Image) (readable : ℕ → Bool) (x : Config) → Each m.reads i → found_by m readable i ≡ Found x → FailsAll x.disks → ⊥
 
 -- what is found by one that could read all is what all find
 module _ {C : Type 0} (reads : ℕ → List ℕ → Option C) (failed : C → ℕ → Bool) (i : Image) (R : ℕ → Bool) where

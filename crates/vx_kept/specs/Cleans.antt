@@ -17,7 +17,7 @@ use Rattle.vx_kept.specs.Commits.{Left}
 use Rattle.vx_kept.specs.Groups.{found, found_by}
 use Rattle.vx_kept.specs.Keeping.{Kept}
 use Rattle.vx_kept.specs.States.{whole_of}
-use Rattle.vx_kept.specs.Trusts.{AllFailed}
+use Rattle.vx_kept.specs.Trusts.{FailsAll}
 
 abbrev pub is_clean : PlexState → Bool
 is_clean Active = false
@@ -66,7 +66,7 @@ pub record Shown (c a d : Config) (old new : Meaning) : Type 0 where
   pub grown : Grown old new a d
   pub later : c.serial ≤ d.serial
   pub kept : Kept (at_serial d.serial c) (HeldGood d new) new
-  pub some : AllFailed d.disks → ⊥
+  pub some : FailsAll d.disks → ⊥
 
 -- how such a commit ends
 abbrev pub CleanEnds : {T : Type 0} → ℕ → Config → Config → Config → Meaning → Meaning → Result T No → Type 0

@@ -32,7 +32,7 @@ pub record AllGood (disks : List DiskEntry) : Type 0 where
   pub each : (u : ℕ) → failed_at disks u ≡ false
 
 -- each disk is
-pub record AllFailed (disks : List DiskEntry) : Type 0 where
+pub record FailsAll (disks : List DiskEntry) : Type 0 where
   pub each : (u : ℕ) → u < length disks → failed_at disks u ≡ true
 
 -- some disk is
