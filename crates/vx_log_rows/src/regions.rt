@@ -4,7 +4,7 @@ ghost use Rattle.std.specs.Prelude.{◌≡◌, [], ◌∷◌, ◌<◌, ◌≤◌
 use std::alloc::Global;
 use std::test::*;
 use vx_disk::{MemShelf, Rack, Shelf};
-use vx_model::{Mark, No, OutOfMemory, SPhase, State, Units, VolumeUnits};
+use vx_model::{Line, Mark, No, OutOfMemory, SPhase, State, Units, VolumeUnits};
 use vx_regions::{QAction, store_region};
 use vx_rvg::Rvg;
 use vx_secondary::Secondary;
@@ -66,7 +66,11 @@ fn handed(
     if secondary.rvg.volumes() != 1 || secondary.rvg.size(0) != 70 {
         return Err(OutOfMemory);
     }
-    Ok(store_region(secondary, id, vol, 1, &[0x55; 3072]))
+    let line = Line {
+        generation: 1,
+        origin: 0,
+    };
+    Ok(store_region(secondary, &line, id, vol, 1, &[0x55; 3072]))
 }
 
 // A quiet receiver ignores a region, and one that stores regions that of another replay. The blocks before the region stay, and a volume
