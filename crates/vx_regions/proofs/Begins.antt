@@ -198,8 +198,7 @@ module _ (c d : Core) (us : List Update) (xs : List Write) (state : SiteState) (
     -- the state could not be kept
     pub begin_ends : writes_of_updates us ≡ xs → length us ≤ MOST_WAITING → (why : No) → SaveIs (change_refusal d) d (with_new_state d state) mid m' e (Err why) → EndsAfter MOST_WAITING us [] c e m m' why
     begin_ends writes few why answers =
-        let long : length xs ≡ length us = ap (λ (ws : List Write). length ws) (sym writes) ∙ length-map us _ in
-        (
+        let long : length xs ≡ length us = ap (λ (ws : List Write). length ws) (sym writes) ∙ length-map us _ in (
           length us,
           (
             few,

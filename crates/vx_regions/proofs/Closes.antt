@@ -23,6 +23,7 @@ use Rattle.vx_secondary.specs.Receivers.{Wait, receiver_of}
 use Rattle.vx_secondary.proofs.Rooms.{failed_ends, failed_same}
 use Rattle.vx_secondary.proofs.Steps.{same_self}
 use Rattle.vx_secondary.proofs.Waits.{wait_moved}
+use Rattle.vx_secondary.proofs.Writings.{can_same}
 use Rattle.vx_regions.specs.Copies.{consistent_state, is_inconsistent, mark_is_due, told_state}
 use Rattle.vx_regions.proofs.Begins.{state_done, state_rests, told_receiver}
 
@@ -74,4 +75,62 @@ module _ (c e after : Core) (m m' : Meaning) where
 
 -- ---- the mark
 
-marked_as : (s : RState) (b : Bool) (mark : Mark) → s.mark ≡ mark → (is_log_phase s.phase && leb s.end b ≡ true) → Bool
+consistent_of : (k : Mark) → is_inconsistent k ≡ false → k ≡ Consistent
+consistent_of Consistent is = refl
+consistent_of Inconsistent is = cc
+
+module _ (s : RState) (n : ℕ) where
+  reaches : (a b : Bool) → is_log_phase s.phase ≡ a → leb s.end n ≡ b → (is_log_phase s.phase && leb s.end n) ≡ (a && b)
+  reaches a b one two = ap (λ (x : Bool). x && leb s.end n) one ∙ ap (λ (y : Bool). a && y) two
+
+  by_test : (t : Bool) → (is_log_phase s.phase && leb s.end n) ≡ t → marked_by s n ≡ (if t then record s { mark = Consistent } else s)
+  by_test t is = ap (λ (x : Bool). if x then record s { mark = Consistent } else s) is
+
+  due_not : (a b d : Bool) → is_log_phase s.phase ≡ a → leb s.end n ≡ b → is_inconsistent s.mark ≡ d → (a && (b && d)) ≡ false → s ≡ marked_by s n
+  due_not true true true one two three none = let wrong : true ≡ false = none in cc
+  due_not true true false one two three none = ap (λ (k : Mark). record s { mark = k }) (consistent_of s.mark three) ∙ sym (by_test true (reaches true true one two))
+  due_not true false d one two three none = sym (by_test false (reaches true false one two))
+  due_not false b d one two three none = sym (by_test false (reaches false b one two))
+
+  due_so : (a b d : Bool) → is_log_phase s.phase ≡ a → leb s.end n ≡ b → is_inconsistent s.mark ≡ d → (a && (b && d)) ≡ true → record s { mark = Consistent } ≡ marked_by s n
+  due_so true true true one two three due = sym (by_test true (reaches true true one two))
+  due_so true true false one two three due = let wrong : false ≡ true = due in cc
+  due_so true false d one two three due = let wrong : false ≡ true = due in cc
+  due_so false b d one two three due = let wrong : false ≡ true = due in cc
+
+-- what the rule makes of a receiver whose log keeps its mark already
+pub mark_stays : (c : Core) (us : List Update) → mark_is_due c.log.header.state (last_of c) ≡ false → receiver_of c us ≡ marked_by (receiver_of c us) (last_of c)
+mark_stays c us none = due_not (receiver_of c us) (last_of c) (is_log_phase c.log.header.state.phase) (leb c.log.header.state.end (last_of c)) (is_inconsistent c.log.header.state.mark) refl refl refl none
+
+-- and of one whose log does not
+pub mark_settles : (c e : Core) (us : List Update) → mark_is_due c.log.header.state (last_of c) ≡ true → e ≡ with_new_state c (consistent_state c.log.header.state) → receiver_of e us ≡ marked_by (receiver_of c us) (last_of c)
+mark_settles c e us due made =
+    ap (λ (k : Core). receiver_of k us) made
+    ∙ due_so (receiver_of c us) (last_of c) (is_log_phase c.log.header.state.phase) (leb c.log.header.state.end (last_of c)) (is_inconsistent c.log.header.state.mark) refl refl refl due
+
+-- the same updates wait behind a header with another state of this line
+wait_stated : (c : Core) (state : SiteState) (one two : ℕ → ℕ) (us : List Update) → state.line ≡ c.log.header.state.line → ((u : ℕ) → two u ≡ one u) → Wait c one us → Wait (with_new_state c state) two us
+wait_stated c state one two us line sizes wait = record {
+  few = wait.few;
+  line = λ k u is. wait.line k u is ∙ sym line;
+  number = λ k u is. wait.number k u is;
+  fits = λ k u is. can_same c c one two u (same_self c) sizes (wait.fits k u is);
+}
+
+module _ (c e : Core) (state : SiteState) (m m' : Meaning) (sizes : (u : ℕ) → m'.size u ≡ m.size u) (us : List Update) (wait : Wait c m.size us) where
+  pub kept_wait : (done : Unit {0}) → state.line ≡ c.log.header.state.line → SaveIs (change_refusal c) c (with_new_state c state) m m' e (Ok done) → Wait e m'.size us
+  kept_wait done line is = subst (λ (k : Core). Wait k m'.size us) (sym (state_done c e state m m' (change_refusal c) done is)) (wait_stated c state m.size m'.size us line sizes wait)
+
+  failed_by : (r : Option No) (why : No) → SaveIs r c (with_new_state c state) m m' e (Err why) → SameGroup c e × (last_of e ≡ last_of c + 0)
+  failed_by (Some other) why is = subst (λ (k : Core). SameGroup c k × (last_of k ≡ last_of c + 0)) (sym is.1) (same_self c, omega arith)
+  failed_by None why fails = (failed_same c e m m' why fails, (failed_ends c e m m' why fails).0)
+
+  pub failed_wait : (why : No) → SaveIs (change_refusal c) c (with_new_state c state) m m' e (Err why) → Wait e m'.size us
+  failed_wait why is = wait_moved 0 c e m.size m'.size us wait (failed_by (change_refusal c) why is).0 (failed_by (change_refusal c) why is).1 sizes
+
+-- what the group held, it holds
+pub mark_rests : (c e : Core) (state : SiteState) (m m' : Meaning) (done : Unit {0}) → SaveIs (change_refusal c) c (with_new_state c state) m m' e (Ok done) → Retains c e m m' → Rests c e m m'
+mark_rests c e state m m' done is retains = record { each = λ h stands. state_rests c e state m m' done is retains h stands }
+
+pub rests_still : (c : Core) (m : Meaning) → Rests c c m m
+rests_still c m = record { each = λ h stands. stands }

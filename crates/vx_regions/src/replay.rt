@@ -1,6 +1,6 @@
 // The begin and the end of a replay at the site that receives it.
-ghost use Rattle.std.specs.Prelude.{◌≡◌, ◌≤◌, ℕ, [], Some, None, Ok, Err, OnOk, IfOk, IfErr, length};
-ghost use Rattle.vx_model.specs.declared.limits.TheConstants.{MOST_NUMBER};
+ghost use Rattle.std.specs.Prelude.{◌≡◌, ◌≤◌, ℕ, [], Some, None, Ok, Err, OnOk, IfOk, IfErr};
+ghost use Rattle.vx_model.specs.declared.limits.TheConstants.{MOST_NUMBER, MOST_WAITING};
 ghost use Rattle.vx_model.specs.declared.no.No.TheVariants.{Halted};
 ghost use Rattle.vx_disk.specs.Moves.{Moves};
 ghost use Rattle.vx_replay.specs.Secondary.{begun, closed};
@@ -21,6 +21,7 @@ use vx_replay::{QAction, QEvent};
 use vx_secondary::{Secondary, receiver};
 
 // Logs all that waits and brings all that is logged into the volumes, and then keeps that a replay begins.
+#[tactic(none)]
 fn begin<S: Shelf>(secondary: &mut Secondary<S>, told: &RState) -> Result<QAction, No>
     requires running { secondary.old.rvg.core.halted ≡ None }
     requires few { told.now.replay ≤ MOST_NUMBER }
@@ -29,7 +30,7 @@ fn begin<S: Shelf>(secondary: &mut Secondary<S>, told: &RState) -> Result<QActio
     ensures state { OnOk result (receiver_of secondary.new.rvg.core secondary.new.waiting ≡ told.now) }
     ensures begun { OnOk result (BegunCopy (writes_of_updates secondary.old.waiting) (told_state secondary.old.rvg.core.log.header.state told.now) secondary.old.rvg.core secondary.new.rvg.core (S.meaning secondary.old.rvg.shelf) (S.meaning secondary.new.rvg.shelf)) }
     ensures left { OnOk result (secondary.new.waiting ≡ []) }
-    ensures ends { IfErr result (EndsAfter (length secondary.old.waiting) secondary.old.waiting secondary.new.waiting secondary.old.rvg.core secondary.new.rvg.core (S.meaning secondary.old.rvg.shelf) (S.meaning secondary.new.rvg.shelf)) }
+    ensures ends { IfErr result (EndsAfter MOST_WAITING secondary.old.waiting secondary.new.waiting secondary.old.rvg.core secondary.new.rvg.core (S.meaning secondary.old.rvg.shelf) (S.meaning secondary.new.rvg.shelf)) }
     ensures begins { BeginsCopy (writes_of_updates secondary.old.waiting) (told_state secondary.old.rvg.core.log.header.state told.now) secondary.old.rvg.core secondary.new.rvg.core (S.meaning secondary.old.rvg.shelf) (S.meaning secondary.new.rvg.shelf) }
 {
     if let Err(no) = secondary.apply(MOST_WAITING) {
@@ -44,6 +45,7 @@ fn begin<S: Shelf>(secondary: &mut Secondary<S>, told: &RState) -> Result<QActio
 
 // Brings all that is logged into the volumes, and keeps that every region came: the log is emptied behind the replay's start. What waits
 // is given up.
+#[tactic(none)]
 fn close<S: Shelf>(secondary: &mut Secondary<S>, told: &RState) -> Result<QAction, No>
     requires running { secondary.old.rvg.core.halted ≡ None }
     requires replay { told.now.replay ≤ MOST_NUMBER }
@@ -79,6 +81,7 @@ fn close<S: Shelf>(secondary: &mut Secondary<S>, told: &RState) -> Result<QActio
 /// Refusals: 20 where a call answered 7 before, which changes nothing; 7 where a device call failed: then the group is halted; 6 where
 /// the shelf is down; 19 where the log has no number or stamp left. After 7, 6 and 19 the first of what waited is logged, maybe none or
 /// all, and waits no longer; the replay is begun only behind all of it.
+#[tactic(none)]
 pub fn begin_replay<S: Shelf>(
     secondary: &mut Secondary<S>,
     line: &Line,
@@ -96,7 +99,7 @@ pub fn begin_replay<S: Shelf>(
         secondary.old.rvg.core secondary.new.rvg.core (S.meaning secondary.old.rvg.shelf) (S.meaning secondary.new.rvg.shelf)) }
     ensures left { (heard secondary.old.rvg.core secondary.old.waiting (HearStart line.now id start)).action ≡ Begin → OnOk result (secondary.new.waiting ≡ []) }
     ensures ends { secondary.old.rvg.core.halted ≡ None
-        → IfErr result (EndsAfter (length secondary.old.waiting) secondary.old.waiting secondary.new.waiting secondary.old.rvg.core secondary.new.rvg.core (S.meaning secondary.old.rvg.shelf) (S.meaning secondary.new.rvg.shelf)) }
+        → IfErr result (EndsAfter MOST_WAITING secondary.old.waiting secondary.new.waiting secondary.old.rvg.core secondary.new.rvg.core (S.meaning secondary.old.rvg.shelf) (S.meaning secondary.new.rvg.shelf)) }
     ensures begins { BeginsCopy (writes_of_updates secondary.old.waiting) (told_state secondary.old.rvg.core.log.header.state (heard secondary.old.rvg.core secondary.old.waiting (HearStart line.now id start)).state)
         secondary.old.rvg.core secondary.new.rvg.core (S.meaning secondary.old.rvg.shelf) (S.meaning secondary.new.rvg.shelf) }
 {
@@ -123,6 +126,7 @@ pub fn begin_replay<S: Shelf>(
 /// Refusals: 20 where a call answered 7 before, 19 exactly where no stamp, run or number is left; these change nothing. 7 where a device
 /// call failed: then a start finds the group from before the call or the one behind it, and the group is halted. 6 where the shelf is
 /// down.
+#[tactic(none)]
 pub fn close_replay<S: Shelf>(
     secondary: &mut Secondary<S>,
     line: &Line,
