@@ -21,7 +21,6 @@ use vx_replay::{QAction, QEvent};
 use vx_secondary::{Secondary, receiver};
 
 // Logs all that waits and brings all that is logged into the volumes, and then keeps that a replay begins.
-#[tactic(none)]
 fn begin<S: Shelf>(secondary: &mut Secondary<S>, told: &RState) -> Result<QAction, No>
     requires running { secondary.old.rvg.core.halted ≡ None }
     requires few { told.now.replay ≤ MOST_NUMBER }
@@ -45,7 +44,6 @@ fn begin<S: Shelf>(secondary: &mut Secondary<S>, told: &RState) -> Result<QActio
 
 // Brings all that is logged into the volumes, and keeps that every region came: the log is emptied behind the replay's start. What waits
 // is given up.
-#[tactic(none)]
 fn close<S: Shelf>(secondary: &mut Secondary<S>, told: &RState) -> Result<QAction, No>
     requires running { secondary.old.rvg.core.halted ≡ None }
     requires replay { told.now.replay ≤ MOST_NUMBER }
@@ -81,7 +79,6 @@ fn close<S: Shelf>(secondary: &mut Secondary<S>, told: &RState) -> Result<QActio
 /// Refusals: 20 where a call answered 7 before, which changes nothing; 7 where a device call failed: then the group is halted; 6 where
 /// the shelf is down; 19 where the log has no number or stamp left. After 7, 6 and 19 the first of what waited is logged, maybe none or
 /// all, and waits no longer; the replay is begun only behind all of it.
-#[tactic(none)]
 pub fn begin_replay<S: Shelf>(
     secondary: &mut Secondary<S>,
     line: &Line,
@@ -126,7 +123,6 @@ pub fn begin_replay<S: Shelf>(
 /// Refusals: 20 where a call answered 7 before, 19 exactly where no stamp, run or number is left; these change nothing. 7 where a device
 /// call failed: then a start finds the group from before the call or the one behind it, and the group is halted. 6 where the shelf is
 /// down.
-#[tactic(none)]
 pub fn close_replay<S: Shelf>(
     secondary: &mut Secondary<S>,
     line: &Line,
