@@ -98,6 +98,14 @@ impl Dcm {
             && region < self.sizes[vol as usize].div_ceil(REGION)
     }
 
+    /// Whether there is such a place of a link and volume.
+    pub(crate) fn has_map(&self, slot: u32, vol: u32) -> bool
+        ensures is { result ≡ true → HasMap self.now slot vol }
+        ensures only { HasMap self.now slot vol → result ≡ true }
+    {
+        (slot as usize) < LINK_PLACES && (vol as usize) < self.sizes.len()
+    }
+
     /// How many regions a volume has.
     pub(crate) fn regions(&self, vol: u32) -> u64
         requires exists { vol < length self.now.sizes }

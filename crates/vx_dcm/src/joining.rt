@@ -1,14 +1,12 @@
 // Marks that come as the bytes of a map.
 ghost use Rattle.std.specs.Prelude.{◌≡◌, ◌*◌, ◌<◌, ◌≤◌, ℕ, IfErr, IsTrue, OnOk, false, length, true};
-ghost use Rattle.std.specs.Int.{div_ceil};
 ghost use Rattle.vx_bitmap.specs.Bits.{is_marked};
 ghost use Rattle.vx_bitmap.specs.Maps.{Lies, MapOn, SamePlace, map_block_count, regions_mapped};
 ghost use Rattle.vx_disk.specs.Causes.{BlamesUnit, DeviceCause};
 ghost use Rattle.vx_disk.specs.Moves.{Moves, Run};
 ghost use Rattle.vx_disk.specs.Spends.{Spends};
-ghost use Rattle.vx_dcm.specs.Joined.{BytesMarked, IsInBytes, IsPlaceInBytes};
-ghost use Rattle.vx_dcm.specs.Places.{HasMap, MapChanging, MapsBetween, SomeChanged, mapped_size};
-ghost use Rattle.vx_model.specs.Sizes.{regions_of};
+ghost use Rattle.vx_dcm.specs.Joined.{BytesMarked, IsInBytes, IsPlaceInBytes, JoinFits};
+ghost use Rattle.vx_dcm.specs.Places.{MapChanging, MapsBetween, SomeChanged};
 
 use crate::Dcm;
 use vx_bitmap::has_bit;
@@ -41,6 +39,14 @@ fn run_end(bytes: &[u8], first: u64, end: u64) -> u64
 }
 
 impl Dcm {
+    /// Whether there is such a place of a link and volume, and so many bytes have a bit for each of its regions, with no byte more.
+    pub fn takes(&self, slot: u32, vol: u32, bytes: usize) -> bool
+        ensures is { result ≡ true → JoinFits self.now slot vol bytes }
+        ensures only { JoinFits self.now slot vol bytes → result ≡ true }
+    {
+        self.has_map(slot, vol) && bytes as u64 == self.regions(vol).div_ceil(8)
+    }
+
     /// Marks, in the map of a volume for a place of a link, each region that these bytes have, a bit for each region from the lowest on,
     /// durably. It makes no device call where all of them are marked. Each other region of each map is as it was.
     ///
@@ -53,8 +59,7 @@ impl Dcm {
         bytes: &[u8],
     ) -> Result<(), No>
         requires lies { Lies self.old.map (S.meaning shelf.old) }
-        requires exists { HasMap self.old slot vol }
-        requires exact { length bytes.now ≡ div_ceil (regions_of (mapped_size self.old vol)) 8 }
+        requires fits { JoinFits self.old slot vol (length bytes.now) }
         ensures moves { Moves (Run self.old.map.unit self.old.map.first (map_block_count self.old.map)) (MapChanging self.old.map (IsPlaceInBytes self.old slot vol bytes.now) true (S.meaning shelf.old)) (S.meaning shelf.old) (S.meaning shelf.new) }
         ensures bits { SomeChanged (IsPlaceInBytes self.old slot vol bytes.now) true (regions_mapped self.old.map) (is_marked self.old.map.bytes) (is_marked self.new.map.bytes) }
         ensures stands { OnOk result (MapOn self.old.map (S.meaning shelf.old) → MapOn self.new.map (S.meaning shelf.new)) }

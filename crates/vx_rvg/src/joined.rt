@@ -1,12 +1,10 @@
 // The joining of marks that come as the bytes of a map.
 ghost use Rattle.std.specs.Prelude.{◌≡◌, None, true, IfErr, IsFalse, IsSome, OnOk, length};
-ghost use Rattle.std.specs.Int.{div_ceil};
-ghost use Rattle.vx_dcm.specs.Joined.{BytesMarked, IsInBytes, IsPlaceInBytes};
-ghost use Rattle.vx_dcm.specs.Places.{HasMap, MapsBetween, mapped_size};
+ghost use Rattle.vx_dcm.specs.Joined.{BytesMarked, IsInBytes, IsPlaceInBytes, JoinFits};
+ghost use Rattle.vx_dcm.specs.Places.{MapsBetween};
 ghost use Rattle.vx_disk.specs.Causes.{BlamesUnit};
 ghost use Rattle.vx_disk.specs.Moves.{Moves};
 ghost use Rattle.vx_disk.specs.Spends.{Spends};
-ghost use Rattle.vx_model.specs.Sizes.{regions_of};
 ghost use Rattle.vx_rvg.specs.Groups.{halted_or};
 ghost use Rattle.vx_rvg.specs.Marks.{MarkIs, Marking, Marks, Remarks, map_run};
 ghost use Rattle.vx_rvg.specs.Views.{IsSound};
@@ -25,8 +23,7 @@ fn join_map<S: Shelf>(
 ) -> Result<(), No>
     requires sound { IsSound core.old (S.meaning shelf.old) }
     requires up { IsFalse (S.meaning shelf.old).down }
-    requires exists { HasMap core.old.maps slot vol }
-    requires exact { length bytes.now ≡ div_ceil (regions_of (mapped_size core.old.maps vol)) 8 }
+    requires fits { JoinFits core.old.maps slot vol (length bytes.now) }
     ensures marks { Marks core.old (S.meaning shelf.old) (S.meaning shelf.new) core.new result }
     ensures marked { OnOk result (BytesMarked slot vol bytes.now core.new.maps) }
     ensures part { MapsBetween (IsInBytes slot vol bytes.now) true core.old.maps core.new.maps }
@@ -55,8 +52,7 @@ fn join_up<S: Shelf>(
     bytes: &[u8],
 ) -> Result<(), No>
     requires sound { IsSound core.old (S.meaning shelf.old) }
-    requires exists { HasMap core.old.maps slot vol }
-    requires exact { length bytes.now ≡ div_ceil (regions_of (mapped_size core.old.maps vol)) 8 }
+    requires fits { JoinFits core.old.maps slot vol (length bytes.now) }
     ensures answers { MarkIs (halted_or core.old.halted None) core.old (S.meaning shelf.old) (S.meaning shelf.new) core.new result }
     ensures unchanged { IsSome (halted_or core.old.halted None) → shelf.new ≡ shelf.old }
     ensures marked { OnOk result (BytesMarked slot vol bytes.now core.new.maps) }
@@ -78,14 +74,21 @@ fn join_up<S: Shelf>(
 }
 
 impl<S: Shelf> Rvg<S> {
+    /// Whether there is such a place of a link and volume, and so many bytes have a bit for each of its regions, with no byte more.
+    pub fn takes(&self, slot: u32, vol: u32, bytes: usize) -> bool
+        ensures is { result ≡ true → JoinFits self.now.core.maps slot vol bytes }
+        ensures only { JoinFits self.now.core.maps slot vol bytes → result ≡ true }
+    {
+        self.core.maps.takes(slot, vol, bytes)
+    }
+
     /// Marks each region of a volume that these bytes have in the map of a place of a link, durably, a bit for each region from the lowest on.
     /// It makes no device call where all of them are marked. Each other region of each map is as it was.
     ///
     /// Refusals: 20 where a call answered 7 before, which changes nothing; 7 where a device call failed: then the group is halted; 6 where
     /// the shelf is down. Behind 7 and 6 each of the regions is as it was or marked.
     pub fn join(&mut self, slot: u32, vol: u32, bytes: &[u8]) -> Result<(), No>
-        requires exists { HasMap self.old.core.maps slot vol }
-        requires exact { length bytes.now ≡ div_ceil (regions_of (mapped_size self.old.core.maps vol)) 8 }
+        requires fits { JoinFits self.old.core.maps slot vol (length bytes.now) }
         ensures answers { MarkIs (halted_or self.old.core.halted None) self.old.core (S.meaning self.old.shelf) (S.meaning self.new.shelf) self.new.core result }
         ensures unchanged { IsSome (halted_or self.old.core.halted None) → self.new.shelf ≡ self.old.shelf }
         ensures marked { OnOk result (BytesMarked slot vol bytes.now self.new.core.maps) }

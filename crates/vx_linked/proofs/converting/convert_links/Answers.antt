@@ -32,10 +32,10 @@ loop-k-preserved c =
       c.loop-k.invariant.0,
       ap (λ (s : SiteFacts). length s.links) c.put_at.ensures ∙ length-set c.loop-k.site.links k c.convert-next.result ∙ c.loop-k.invariant.1,
       c.put_at.ensures
-      ∙ ap (λ (s : SiteFacts). site_relinked s k c.convert-next.result) here
-      ∙ ap (λ (x : LinkFacts). let s : SiteFacts = record old { links = slice_set (turned_below (converted_fact c.args.need c.args.room) k old.links) k x } in s) c.convert-next.ensures
-      ∙ ap (λ (ls : List LinkFacts). let s : SiteFacts = record old { links = ls } in s)
-      (turned_step (converted_fact c.args.need c.args.room) k old.links _ there ∙ ap (λ (n : ℕ). turned_below (converted_fact c.args.need c.args.room) n old.links) next),
+          ∙ ap (λ (s : SiteFacts). site_relinked s k c.convert-next.result) here
+          ∙ ap (λ (x : LinkFacts). let s : SiteFacts = record old { links = slice_set (turned_below (converted_fact c.args.need c.args.room) k old.links) k x } in s) c.convert-next.ensures
+          ∙ ap (λ (ls : List LinkFacts). let s : SiteFacts = record old { links = ls } in s)
+          (turned_step (converted_fact c.args.need c.args.room) k old.links _ there ∙ ap (λ (n : ℕ). turned_below (converted_fact c.args.need c.args.room) n old.links) next),
     )
 
 pub returns : goal.returns

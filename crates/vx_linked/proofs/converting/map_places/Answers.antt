@@ -1,8 +1,8 @@
 -- `map_places`: the places of the last links, with the one before them.
-use Rattle.std.proofs.Common.{◌≡◌, ◌∙◌, ◌+◌, ◌-◌, ◌*◌, ◌^◌, ◌<◌, ◌≤◌, ℕ, List, length, drop, ap, sym, subst, arith}
+use Rattle.std.proofs.Common.{◌≡◌, ◌∙◌, ◌+◌, ◌-◌, ◌*◌, ◌^◌, ◌<◌, ◌≤◌, ℕ, List, length, drop, ap, sym, arith}
 use Rattle.vx_model.proofs.Lists.{got}
 use Rattle.vx_order.specs.declared.facts.LinkFacts.{LinkFacts}
-use Rattle.vx_linked.specs.Converting.{mode_maps, places_with_maps}
+use Rattle.vx_linked.specs.Converting.{places_with_maps}
 use Rattle.vx_linked.proofs.EachLink.{places_few, places_on, places_past}
 use Rattle.vx_linked.proofs.converting.map_places.Goals as goal
 
@@ -19,4 +19,6 @@ loop-back-preserved c =
     )
 
 pub returns : goal.returns
-returns c = ?
+returns c =
+    let none : c.len-count.result - c.loop-back.back ≡ 0 = omega (arith, c.loop-back-test.false) in
+    record { places = c.loop-back.invariant.0 ∙ ap (λ (n : ℕ). places_with_maps (drop n c.as_slice-links.result.now)) none ∙ ap (λ (ls : List LinkFacts). places_with_maps ls) c.as_slice-links.ensures }
