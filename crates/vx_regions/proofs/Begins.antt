@@ -17,7 +17,7 @@ use Rattle.vx_history.specs.declared.receiver.RState.{RState}
 use Rattle.vx_disk.specs.Moves.{Moves, Run}
 use Rattle.vx_disk.specs.Shelf.{Image, Meaning}
 use Rattle.vx_disk.proofs.Moving.{goes_on, still, wider}
-use Rattle.vx_replay.specs.Secondary.{begins, begun, copies, secondary_step}
+use Rattle.vx_replay.specs.Secondary.{AtReceiver, begins, begun, copies, secondary_step}
 use Rattle.vx_replay.specs.declared.event.QAction.{QAction}
 use Rattle.vx_replay.specs.declared.event.QAction.TheVariants.{Again, Begin, Ignored}
 use Rattle.vx_replay.specs.declared.event.QEvent.{QEvent}
@@ -52,20 +52,26 @@ take_few us le = take_all MOST_WAITING us le
 
 -- ---- the rule
 
+-- what a start makes of a receiver, by whether it begins
+abbrev start_by : RState → (id : ℕ) → QAction → Bool → AtReceiver
+start_by s id other begins_it = if begins_it then record { state = begun s id; action = Begin } else record { state = s; action = other }
+
+abbrev else_copies : RState → Line → (id : ℕ) → QAction
+else_copies s line id = if copies s line id then Again else Ignored
+
 take_begin : (s : RState) (line : Line) (id start : ℕ) (b d : Bool) → begins s line id start ≡ b → copies s line id ≡ d → (secondary_step s (Start line id start)).action ≡ Begin → (secondary_step s (Start line id start)).state ≡ begun s id
-take_begin s line id start true d is of action = ap (λ (t : Bool). (if t then record { state = begun s id; action = Begin } else record { state = s; action = if copies s line id then Again else Ignored }).state) is
+take_begin s line id start true d is of action = ap (λ (t : Bool). (start_by s id (else_copies s line id) t).state) is
 take_begin s line id start false true is of action =
-    let wrong : Again ≡ Begin = sym (ap (λ (t : Bool). if t then Again else Ignored) of) ∙ (sym (ap (λ (t : Bool). (if t then record { state = begun s id; action = Begin } else record { state = s; action = if copies s line id then Again else Ignored }).action) is) ∙ action) in cc
+    let wrong : Again ≡ Begin = sym (ap (λ (t : Bool). if t then Again else Ignored) of) ∙ (sym (ap (λ (t : Bool). (start_by s id (else_copies s line id) t).action) is) ∙ action) in cc
 take_begin s line id start false false is of action =
-    let wrong : Ignored ≡ Begin = sym (ap (λ (t : Bool). if t then Again else Ignored) of) ∙ (sym (ap (λ (t : Bool). (if t then record { state = begun s id; action = Begin } else record { state = s; action = if copies s line id then Again else Ignored }).action) is) ∙ action) in cc
+    let wrong : Ignored ≡ Begin = sym (ap (λ (t : Bool). if t then Again else Ignored) of) ∙ (sym (ap (λ (t : Bool). (start_by s id (else_copies s line id) t).action) is) ∙ action) in cc
 
 -- what the rule makes of a receiver where a replay begins
 pub begun_is : (s : RState) (line : Line) (id start : ℕ) → (secondary_step s (Start line id start)).action ≡ Begin → (secondary_step s (Start line id start)).state ≡ begun s id
 begun_is s line id start action = take_begin s line id start (begins s line id start) (copies s line id) refl refl action
 
 receiver_as : (line one : Line) (last last1 waiting waiting1 session session1 : ℕ) (mark : Mark) (phase : SPhase) (replay end : ℕ) → line ≡ one → last ≡ last1 → waiting ≡ waiting1 → session ≡ session1
-    → record { line = line; last = last; waiting = waiting; session = session; mark = mark; phase = phase; replay = replay; end = end }
-    ≡ record { line = one; last = last1; waiting = waiting1; session = session1; mark = mark; phase = phase; replay = replay; end = end }
+    → ◌≡◌ {A = RState} (record { line = line; last = last; waiting = waiting; session = session; mark = mark; phase = phase; replay = replay; end = end }) (record { line = one; last = last1; waiting = waiting1; session = session1; mark = mark; phase = phase; replay = replay; end = end })
 receiver_as line one last last1 waiting waiting1 session session1 mark phase replay end a b d e =
     λ i. record { line = a i; last = b i; waiting = d i; session = e i; mark = mark; phase = phase; replay = replay; end = end }
 
@@ -80,9 +86,9 @@ told_receiver c e us told none kept line last waiting session =
 -- a start that begins nothing changes nothing
 take_none : (s : RState) (line : Line) (id start : ℕ) (b : Bool) → begins s line id start ≡ b → ((secondary_step s (Start line id start)).action ≡ Begin → ⊥) → s ≡ (secondary_step s (Start line id start)).state
 take_none s line id start true is not =
-    absurd (not (ap (λ (t : Bool). (if t then record { state = begun s id; action = Begin } else record { state = s; action = if copies s line id then Again else Ignored }).action) is))
+    absurd (not (ap (λ (t : Bool). (start_by s id (else_copies s line id) t).action) is))
 take_none s line id start false is not =
-    sym (ap (λ (t : Bool). (if t then record { state = begun s id; action = Begin } else record { state = s; action = if copies s line id then Again else Ignored }).state) is)
+    sym (ap (λ (t : Bool). (start_by s id (else_copies s line id) t).state) is)
 
 pub start_ignored : (s : RState) (line : Line) (id start : ℕ) → ((secondary_step s (Start line id start)).action ≡ Begin → ⊥) → s ≡ (secondary_step s (Start line id start)).state
 start_ignored s line id start not = take_none s line id start (begins s line id start) refl not

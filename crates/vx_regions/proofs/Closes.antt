@@ -12,8 +12,9 @@ use Rattle.vx_history.specs.Receiving.{is_log_phase, marked_by}
 use Rattle.vx_history.specs.declared.receiver.RState.{RState}
 use Rattle.vx_disk.specs.Shelf.{Meaning}
 use Rattle.vx_model.specs.Sites.{same_line}
-use Rattle.vx_replay.specs.Secondary.{closed, copies, fills, phase_copies, secondary_step}
+use Rattle.vx_replay.specs.Secondary.{AtReceiver, closed, copies, fills, phase_copies, secondary_step}
 use Rattle.vx_srlfmt.specs.Headers.{CanSpellState}
+use Rattle.vx_replay.specs.declared.event.QAction.{QAction}
 use Rattle.vx_replay.specs.declared.event.QAction.TheVariants.{Again, Close, Ignored}
 use Rattle.vx_replay.specs.declared.event.QEvent.TheVariants.{Done}
 use Rattle.vx_rvg.specs.Groups.{GroupFails, core_applied}
@@ -32,12 +33,19 @@ use Rattle.vx_regions.proofs.Begins.{state_done, state_rests, told_receiver}
 
 -- ---- the rule
 
+-- what an end makes of a receiver, by whether it closes
+abbrev end_by : RState → (start end : ℕ) → QAction → Bool → AtReceiver
+end_by s start end other closes_it = if closes_it then record { state = closed s start end; action = Close } else record { state = s; action = other }
+
+abbrev else_fills : RState → Line → (id : ℕ) → QAction
+else_fills s line id = if fills s line id then Again else Ignored
+
 take_close : (s : RState) (line : Line) (id start end : ℕ) (b d : Bool) → copies s line id ≡ b → fills s line id ≡ d → (secondary_step s (Done line id start end)).action ≡ Close → (secondary_step s (Done line id start end)).state ≡ closed s start end
-take_close s line id start end true d is of action = ap (λ (t : Bool). (if t then record { state = closed s start end; action = Close } else record { state = s; action = if fills s line id then Again else Ignored }).state) is
+take_close s line id start end true d is of action = ap (λ (t : Bool). (end_by s start end (else_fills s line id) t).state) is
 take_close s line id start end false true is of action =
-    let wrong : Again ≡ Close = sym (ap (λ (t : Bool). if t then Again else Ignored) of) ∙ (sym (ap (λ (t : Bool). (if t then record { state = closed s start end; action = Close } else record { state = s; action = if fills s line id then Again else Ignored }).action) is) ∙ action) in cc
+    let wrong : Again ≡ Close = sym (ap (λ (t : Bool). if t then Again else Ignored) of) ∙ (sym (ap (λ (t : Bool). (end_by s start end (else_fills s line id) t).action) is) ∙ action) in cc
 take_close s line id start end false false is of action =
-    let wrong : Ignored ≡ Close = sym (ap (λ (t : Bool). if t then Again else Ignored) of) ∙ (sym (ap (λ (t : Bool). (if t then record { state = closed s start end; action = Close } else record { state = s; action = if fills s line id then Again else Ignored }).action) is) ∙ action) in cc
+    let wrong : Ignored ≡ Close = sym (ap (λ (t : Bool). if t then Again else Ignored) of) ∙ (sym (ap (λ (t : Bool). (end_by s start end (else_fills s line id) t).action) is) ∙ action) in cc
 
 -- what the rule makes of a receiver where every region came
 pub closed_is : (s : RState) (line : Line) (id start end : ℕ) → (secondary_step s (Done line id start end)).action ≡ Close → (secondary_step s (Done line id start end)).state ≡ closed s start end
@@ -47,18 +55,18 @@ closed_is s line id start end action = take_close s line id start end (copies s 
 take_copied : (s : RState) (line : Line) (id start end : ℕ) (b d : Bool) → copies s line id ≡ b → fills s line id ≡ d → (secondary_step s (Done line id start end)).action ≡ Close → copies s line id ≡ true
 take_copied s line id start end true d is of action = is
 take_copied s line id start end false true is of action =
-    let wrong : Again ≡ Close = sym (ap (λ (t : Bool). if t then Again else Ignored) of) ∙ (sym (ap (λ (t : Bool). (if t then record { state = closed s start end; action = Close } else record { state = s; action = if fills s line id then Again else Ignored }).action) is) ∙ action) in cc
+    let wrong : Again ≡ Close = sym (ap (λ (t : Bool). if t then Again else Ignored) of) ∙ (sym (ap (λ (t : Bool). (end_by s start end (else_fills s line id) t).action) is) ∙ action) in cc
 take_copied s line id start end false false is of action =
-    let wrong : Ignored ≡ Close = sym (ap (λ (t : Bool). if t then Again else Ignored) of) ∙ (sym (ap (λ (t : Bool). (if t then record { state = closed s start end; action = Close } else record { state = s; action = if fills s line id then Again else Ignored }).action) is) ∙ action) in cc
+    let wrong : Ignored ≡ Close = sym (ap (λ (t : Bool). if t then Again else Ignored) of) ∙ (sym (ap (λ (t : Bool). (end_by s start end (else_fills s line id) t).action) is) ∙ action) in cc
 
 pub copied_is : (s : RState) (line : Line) (id start end : ℕ) → (secondary_step s (Done line id start end)).action ≡ Close → copies s line id ≡ true
 copied_is s line id start end action = take_copied s line id start end (copies s line id) (fills s line id) refl refl action
 
 take_not : (s : RState) (line : Line) (id start end : ℕ) (b : Bool) → copies s line id ≡ b → ((secondary_step s (Done line id start end)).action ≡ Close → ⊥) → s ≡ (secondary_step s (Done line id start end)).state
 take_not s line id start end true is not =
-    absurd (not (ap (λ (t : Bool). (if t then record { state = closed s start end; action = Close } else record { state = s; action = if fills s line id then Again else Ignored }).action) is))
+    absurd (not (ap (λ (t : Bool). (end_by s start end (else_fills s line id) t).action) is))
 take_not s line id start end false is not =
-    sym (ap (λ (t : Bool). (if t then record { state = closed s start end; action = Close } else record { state = s; action = if fills s line id then Again else Ignored }).state) is)
+    sym (ap (λ (t : Bool). (end_by s start end (else_fills s line id) t).state) is)
 
 -- an end that closes nothing changes nothing
 pub end_ignored : (s : RState) (line : Line) (id start end : ℕ) → ((secondary_step s (Done line id start end)).action ≡ Close → ⊥) → s ≡ (secondary_step s (Done line id start end)).state

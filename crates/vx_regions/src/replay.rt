@@ -6,7 +6,7 @@ ghost use Rattle.vx_disk.specs.Moves.{Moves};
 ghost use Rattle.vx_replay.specs.Secondary.{begun, closed};
 ghost use Rattle.vx_replay.specs.declared.event.QAction.TheVariants.{Begin, Close};
 ghost use Rattle.vx_replay.specs.declared.event.QEvent.TheVariants.{Done as HearDone, Start as HearStart};
-ghost use Rattle.vx_regions.specs.Copies.{BeginsCopy, BegunCopy, heard, told_state};
+ghost use Rattle.vx_regions.specs.Copies.{BeginsCopy, BegunCopy, replay_heard, told_state};
 ghost use Rattle.vx_rvg.specs.Saves.{RestartIs, change_blocks, restart_refusal, with_restart};
 ghost use Rattle.vx_rvg.specs.Stands.{Retains, Saving};
 ghost use Rattle.vx_secondary.specs.Logging.{EndsAfter};
@@ -87,17 +87,17 @@ pub fn begin_replay<S: Shelf>(
 ) -> Result<QAction, No>
     requires few { id ≤ MOST_NUMBER }
     ensures halted { (disk : ℕ) → secondary.old.rvg.core.halted ≡ Some disk → (result ≡ Err (Halted disk)) × (secondary.new.rvg ≡ secondary.old.rvg) × (secondary.new.waiting ≡ secondary.old.waiting) }
-    ensures action { IfOk result (λ a. a ≡ (heard secondary.old.rvg.core secondary.old.waiting (HearStart line.now id start)).action) }
-    ensures unchanged { secondary.old.rvg.core.halted ≡ None → ((heard secondary.old.rvg.core secondary.old.waiting (HearStart line.now id start)).action ≡ Begin → ⊥)
-        → (result ≡ Ok (heard secondary.old.rvg.core secondary.old.waiting (HearStart line.now id start)).action) × (secondary.new.rvg ≡ secondary.old.rvg) × (secondary.new.waiting ≡ secondary.old.waiting) }
-    ensures state { OnOk result (receiver_of secondary.new.rvg.core secondary.new.waiting ≡ (heard secondary.old.rvg.core secondary.old.waiting (HearStart line.now id start)).state) }
-    ensures begun { (heard secondary.old.rvg.core secondary.old.waiting (HearStart line.now id start)).action ≡ Begin
-        → OnOk result (BegunCopy (writes_of_updates secondary.old.waiting) (told_state secondary.old.rvg.core.log.header.state (heard secondary.old.rvg.core secondary.old.waiting (HearStart line.now id start)).state)
+    ensures action { IfOk result (λ a. a ≡ (replay_heard secondary.old.rvg.core secondary.old.waiting (HearStart line.now id start)).action) }
+    ensures unchanged { secondary.old.rvg.core.halted ≡ None → ((replay_heard secondary.old.rvg.core secondary.old.waiting (HearStart line.now id start)).action ≡ Begin → ⊥)
+        → (result ≡ Ok (replay_heard secondary.old.rvg.core secondary.old.waiting (HearStart line.now id start)).action) × (secondary.new.rvg ≡ secondary.old.rvg) × (secondary.new.waiting ≡ secondary.old.waiting) }
+    ensures state { OnOk result (receiver_of secondary.new.rvg.core secondary.new.waiting ≡ (replay_heard secondary.old.rvg.core secondary.old.waiting (HearStart line.now id start)).state) }
+    ensures begun { (replay_heard secondary.old.rvg.core secondary.old.waiting (HearStart line.now id start)).action ≡ Begin
+        → OnOk result (BegunCopy (writes_of_updates secondary.old.waiting) (told_state secondary.old.rvg.core.log.header.state (replay_heard secondary.old.rvg.core secondary.old.waiting (HearStart line.now id start)).state)
         secondary.old.rvg.core secondary.new.rvg.core (S.meaning secondary.old.rvg.shelf) (S.meaning secondary.new.rvg.shelf)) }
-    ensures left { (heard secondary.old.rvg.core secondary.old.waiting (HearStart line.now id start)).action ≡ Begin → OnOk result (secondary.new.waiting ≡ []) }
+    ensures left { (replay_heard secondary.old.rvg.core secondary.old.waiting (HearStart line.now id start)).action ≡ Begin → OnOk result (secondary.new.waiting ≡ []) }
     ensures ends { secondary.old.rvg.core.halted ≡ None
         → IfErr result (EndsAfter MOST_WAITING secondary.old.waiting secondary.new.waiting secondary.old.rvg.core secondary.new.rvg.core (S.meaning secondary.old.rvg.shelf) (S.meaning secondary.new.rvg.shelf)) }
-    ensures begins { BeginsCopy (writes_of_updates secondary.old.waiting) (told_state secondary.old.rvg.core.log.header.state (heard secondary.old.rvg.core secondary.old.waiting (HearStart line.now id start)).state)
+    ensures begins { BeginsCopy (writes_of_updates secondary.old.waiting) (told_state secondary.old.rvg.core.log.header.state (replay_heard secondary.old.rvg.core secondary.old.waiting (HearStart line.now id start)).state)
         secondary.old.rvg.core secondary.new.rvg.core (S.meaning secondary.old.rvg.shelf) (S.meaning secondary.new.rvg.shelf) }
 {
     if let Some(disk) = secondary.rvg.halted() {
@@ -134,22 +134,22 @@ pub fn close_replay<S: Shelf>(
     requires start { start ≤ MOST_NUMBER }
     requires end { end ≤ MOST_NUMBER }
     ensures halted { (disk : ℕ) → secondary.old.rvg.core.halted ≡ Some disk → (result ≡ Err (Halted disk)) × (secondary.new.rvg ≡ secondary.old.rvg) × (secondary.new.waiting ≡ secondary.old.waiting) }
-    ensures action { IfOk result (λ a. a ≡ (heard secondary.old.rvg.core secondary.old.waiting (HearDone line.now id start end)).action) }
-    ensures unchanged { secondary.old.rvg.core.halted ≡ None → ((heard secondary.old.rvg.core secondary.old.waiting (HearDone line.now id start end)).action ≡ Close → ⊥)
-        → (result ≡ Ok (heard secondary.old.rvg.core secondary.old.waiting (HearDone line.now id start end)).action) × (secondary.new.rvg ≡ secondary.old.rvg) × (secondary.new.waiting ≡ secondary.old.waiting) }
-    ensures state { OnOk result (receiver_of secondary.new.rvg.core secondary.new.waiting ≡ (heard secondary.old.rvg.core secondary.old.waiting (HearDone line.now id start end)).state) }
-    ensures emptied { (heard secondary.old.rvg.core secondary.old.waiting (HearDone line.now id start end)).action ≡ Close
-        → OnOk result (secondary.new.rvg.core ≡ with_restart secondary.old.rvg.core (told_state secondary.old.rvg.core.log.header.state (heard secondary.old.rvg.core secondary.old.waiting (HearDone line.now id start end)).state) start) }
+    ensures action { IfOk result (λ a. a ≡ (replay_heard secondary.old.rvg.core secondary.old.waiting (HearDone line.now id start end)).action) }
+    ensures unchanged { secondary.old.rvg.core.halted ≡ None → ((replay_heard secondary.old.rvg.core secondary.old.waiting (HearDone line.now id start end)).action ≡ Close → ⊥)
+        → (result ≡ Ok (replay_heard secondary.old.rvg.core secondary.old.waiting (HearDone line.now id start end)).action) × (secondary.new.rvg ≡ secondary.old.rvg) × (secondary.new.waiting ≡ secondary.old.waiting) }
+    ensures state { OnOk result (receiver_of secondary.new.rvg.core secondary.new.waiting ≡ (replay_heard secondary.old.rvg.core secondary.old.waiting (HearDone line.now id start end)).state) }
+    ensures emptied { (replay_heard secondary.old.rvg.core secondary.old.waiting (HearDone line.now id start end)).action ≡ Close
+        → OnOk result (secondary.new.rvg.core ≡ with_restart secondary.old.rvg.core (told_state secondary.old.rvg.core.log.header.state (replay_heard secondary.old.rvg.core secondary.old.waiting (HearDone line.now id start end)).state) start) }
     ensures ends { secondary.old.rvg.core.halted ≡ None
         → IfErr result (λ why. RestartIs (restart_refusal secondary.old.rvg.core start) secondary.old.rvg.core
-        (with_restart secondary.old.rvg.core (told_state secondary.old.rvg.core.log.header.state (heard secondary.old.rvg.core secondary.old.waiting (HearDone line.now id start end)).state) start)
+        (with_restart secondary.old.rvg.core (told_state secondary.old.rvg.core.log.header.state (replay_heard secondary.old.rvg.core secondary.old.waiting (HearDone line.now id start end)).state) start)
         (S.meaning secondary.old.rvg.shelf) (S.meaning secondary.new.rvg.shelf) secondary.new.rvg.core (Err why)) }
-    ensures stands { (heard secondary.old.rvg.core secondary.old.waiting (HearDone line.now id start end)).action ≡ Close
+    ensures stands { (replay_heard secondary.old.rvg.core secondary.old.waiting (HearDone line.now id start end)).action ≡ Close
         → OnOk result (Retains secondary.old.rvg.core secondary.new.rvg.core (S.meaning secondary.old.rvg.shelf) (S.meaning secondary.new.rvg.shelf)) }
     ensures moves { Moves (change_blocks (Some start) secondary.old.rvg.core (S.meaning secondary.old.rvg.shelf))
-        (Saving secondary.old.rvg.core (with_restart secondary.old.rvg.core (told_state secondary.old.rvg.core.log.header.state (heard secondary.old.rvg.core secondary.old.waiting (HearDone line.now id start end)).state) start) (S.meaning secondary.old.rvg.shelf))
+        (Saving secondary.old.rvg.core (with_restart secondary.old.rvg.core (told_state secondary.old.rvg.core.log.header.state (replay_heard secondary.old.rvg.core secondary.old.waiting (HearDone line.now id start end)).state) start) (S.meaning secondary.old.rvg.shelf))
         (S.meaning secondary.old.rvg.shelf) (S.meaning secondary.new.rvg.shelf) }
-    ensures left { (heard secondary.old.rvg.core secondary.old.waiting (HearDone line.now id start end)).action ≡ Close → OnOk result (secondary.new.waiting ≡ []) }
+    ensures left { (replay_heard secondary.old.rvg.core secondary.old.waiting (HearDone line.now id start end)).action ≡ Close → OnOk result (secondary.new.waiting ≡ []) }
     ensures waiting { IfErr result (λ why. secondary.new.waiting ≡ secondary.old.waiting) }
 {
     if let Some(disk) = secondary.rvg.halted() {
