@@ -50,7 +50,7 @@ one_value m i u b lawful rack down tells now = record {
 }
   where
     latest : (v : List ℕ) → m.leaves u b v → v ≡ rack.told.latest u b
-    latest v left = rack.latest tells u b v (rack.at_rest down u b v left)
+    latest v left = rack.latest tells down u b v (rack.at_rest down u b v left)
 
 -- ---- one image says what is left
 
