@@ -2,21 +2,21 @@
 use Rattle.std.specs.Prelude.{◌≡◌, ◌⊎◌, ℕ, ◌≤◌, true, false, length, take, None}
 use Rattle.vx_model.specs.Content.{fold_writes, IsPrefixOf}
 use Rattle.vx_history.specs.World.{Node, History, World}
-use Rattle.vx_history.specs.Receiving.{phase_takes}
 use Rattle.vx_history.specs.Refusals.{is_bunker}
 use Rattle.vx_model.specs.Sites.{is_origin}
 use Rattle.vx_model.specs.declared.history.Line.{Line}
 use Rattle.vx_model.specs.declared.site.Mark.TheVariants.{Consistent}
+use Rattle.vx_model.specs.declared.site.SPhase.TheVariants.{Quiet}
 use Rattle.vx_model.specs.declared.site.SiteState.TheVariants.{Bare, Up}
 
 -- more than disks was made of the site
 abbrev pub IsMade : Node → Type 0
 IsMade n = n.state ≡ Bare → ⊥
 
--- What the volumes hold is told by the log: where updates are taken, and wherever the site is marked consistent. A site that copies
--- regions, or keeps the map of a fork, may hold other blocks until it is marked consistent.
+-- What the volumes hold is told by the log: outside a replay, and wherever the site is marked consistent. A site that copies regions, or
+-- that has to go on to the end of its replay, or that keeps the map of a fork, may hold other blocks until it is marked consistent.
 abbrev pub TellsContent : Node → Type 0
-TellsContent n = (phase_takes n.phase ≡ true) ⊎ (n.mark ≡ Consistent)
+TellsContent n = (n.phase ≡ Quiet) ⊎ (n.mark ≡ Consistent)
 
 -- What a site holds, by what is recorded of the line on which it stands.
 pub record GoodNode (h : History) (i : ℕ) (n : Node) : Type 0 where

@@ -9,7 +9,7 @@ use Rattle.vx_history.specs.Receiving.{phase_takes}
 use Rattle.vx_history.specs.Good.{Good, IsMade}
 use Rattle.vx_model.specs.declared.history.Line.{Line}
 use Rattle.vx_model.specs.declared.site.Mark.TheVariants.{Consistent}
-use Rattle.vx_model.specs.declared.site.SPhase.TheVariants.{Log as ByLog}
+use Rattle.vx_model.specs.declared.site.SPhase.TheVariants.{Quiet, Log as ByLog}
 use Rattle.vx_model.specs.declared.site.SiteState.{SiteState}
 use Rattle.vx_model.specs.declared.site.SiteState.TheVariants.{Bare, Up, Deported, Down}
 use Rattle.vx_model.specs.declared.link.Mode.{Mode}
@@ -38,10 +38,10 @@ LosesNothing n = is_at_rest n.state ≡ true → length n.log ≤ n.safe
 abbrev pub IsFed : Node → Type 0
 IsFed n = is_origin n.role ≡ false → n.other ≡ n.line.origin
 
--- Fact 14. No site copies the regions of a replay, and none keeps the map of a fork: no event brings a site there. So the content of each
--- site is told by its log.
+-- Fact 14. No site stands in a replay, and none keeps the map of a fork: no event brings a site there. So each site takes updates, and
+-- its content is told by its log.
 abbrev pub TakesUpdates : Node → Type 0
-TakesUpdates n = phase_takes n.phase ≡ true
+TakesUpdates n = n.phase ≡ Quiet
 
 -- Fact 16. A receiver in a replay's last phase that has durable all writes up to the end of the replay is marked consistent, unless it is
 -- down or halted. So what it says that it has stored it says as a consistent site.

@@ -8,11 +8,11 @@ use Rattle.vx_history.specs.World.{Node, History, Fuse}
 use Rattle.vx_model.specs.Sites.{is_origin}
 use Rattle.vx_history.specs.Steps.{burned, logged, crashed, deported_site, group_up, recovered}
 use Rattle.vx_history.specs.Good.{GoodNode, IsMade}
-use Rattle.vx_history.specs.Receiving.{marked_by, is_log_phase, phase_takes}
+use Rattle.vx_history.specs.Receiving.{marked_by, is_log_phase}
 use Rattle.vx_history.specs.LinkForms.{plain_receiver}
 use Rattle.vx_model.specs.declared.site.Mark.{Mark}
 use Rattle.vx_model.specs.declared.site.Mark.TheVariants.{Consistent}
-use Rattle.vx_model.specs.declared.site.SPhase.TheVariants.{Log as ByLog}
+use Rattle.vx_model.specs.declared.site.SPhase.TheVariants.{Quiet, Log as ByLog}
 use Rattle.vx_model.specs.declared.site.SiteState.TheVariants.{Up, Deported, Down}
 use Rattle.vx_history.specs.declared.receiver.RState.{RState}
 use Rattle.vx_history.proofs.Updates.{by_test}
@@ -90,7 +90,7 @@ applied_content n k least e =
     ∙ ap (λ (t : List Write). fold_writes n.start t)
     (ap (λ (t : List Write). t ++ drop n.safe (take k n.log)) (sym (take-take n.safe k n.log least)) ∙ take-append-drop n.safe (take k n.log))
 
-pub good_applied : (h : History) (s k : ℕ) (mark : Mark) (n : Node) → phase_takes n.phase ≡ true → is_origin n.role ≡ false → n.safe ≤ k → k ≤ length n.log → GoodNode h s n
+pub good_applied : (h : History) (s k : ℕ) (mark : Mark) (n : Node) → n.phase ≡ Quiet → is_origin n.role ≡ false → n.safe ≤ k → k ≤ length n.log → GoodNode h s n
     → GoodNode h s (applied n k mark)
 good_applied h s k mark n takes r least most good = record {
   safe_fits = most;
@@ -188,7 +188,7 @@ back_by P n each =
     (λ s. P (record (recovered n) { session = s.session; mark = s.mark }))
     (λ mark marks ends. each mark marks (λ o. not_both (is_origin n.role) o r) (λ _. ends)))
 
-pub good_risen : (h : History) (s : ℕ) (mark : Mark) (n : Node) → phase_takes n.phase ≡ true → IsMade n → (is_origin n.role ≡ true → mark ≡ n.mark) → length n.log ≤ n.safe
+pub good_risen : (h : History) (s : ℕ) (mark : Mark) (n : Node) → n.phase ≡ Quiet → IsMade n → (is_origin n.role ≡ true → mark ≡ n.mark) → length n.log ≤ n.safe
     → GoodNode h s n → GoodNode h s (risen n mark)
 good_risen h s mark n takes made same whole good = record {
   safe_fits = good.safe_fits;
@@ -275,7 +275,7 @@ later_halted n disk = record {
   stood = refl;
 }
 
-pub good_marked : (h : History) (s : ℕ) (n : Node) → phase_takes n.phase ≡ true → GoodNode h s n → GoodNode h s (record n { mark = Consistent })
+pub good_marked : (h : History) (s : ℕ) (n : Node) → n.phase ≡ Quiet → GoodNode h s n → GoodNode h s (record n { mark = Consistent })
 good_marked h s n takes good = record {
   safe_fits = good.safe_fits;
   own_line = good.own_line;
