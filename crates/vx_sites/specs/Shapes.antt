@@ -3,7 +3,7 @@ use Rattle.std.specs.Prelude.{◌≡◌, ℕ, ◌+◌, ◌<◌, Bool, true, fals
 use Rattle.std.specs.Fmt.{decimal}
 use Rattle.vx_model.specs.Content.{Content as PlainContent, zeros, fold_writes}
 use Rattle.vx_model.specs.Sites.{no_line, same_line}
-use Rattle.vx_history.specs.World.{Volume, Regions, no_regions, no_link, no_history, bare_site, NoFuse}
+use Rattle.vx_history.specs.World.{Volume, Regions, no_regions, no_link, no_replays, no_history, bare_site, NoFuse}
 use Rattle.vx_history.specs.World.{Node as PlainNode, Link as PlainLink, History as PlainHistory, World as PlainWorld}
 use Rattle.vx_history.specs.World.{Packet as PlainPacket, Key as PlainKey, Gathering as PlainGathering, Surety as PlainSurety, Promise as PlainPromise}
 use Rattle.vx_history.specs.World.{Durable as PlainDurable, InSession as PlainInSession}
@@ -38,7 +38,7 @@ abbrev pub content_of : Content → PlainContent
 content_of c = fold_writes (zeros (sizes c.sizes.items)) c.writes.items
 
 abbrev pub history_of : History → PlainHistory
-history_of h = record { parent = no_line; fork = 0; start = content_of h.start; held = h.held.items; told = h.told }
+history_of h = record { parent = no_line; fork = 0; start = content_of h.start; held = h.held.items; told = h.told; replays = λ s. no_replays }
 
 abbrev pub node_of : Node → PlainNode
 node_of n = record {
@@ -89,7 +89,6 @@ link_of l = record {
   trimmed = l.state.trimmed;
   mode = l.state.mode;
   map = no_regions;
-  read_to = 0;
   since = no_regions;
 }
 
