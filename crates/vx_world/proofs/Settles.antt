@@ -137,7 +137,7 @@ greeted_meets w p s good_w may =
     let at : At w p s a b l w.packets = stands w p s good_w may in
     let v : World = (step w (Connect p s)).world in
     let at_v : At v p s a b l (w.packets ++ hello ∷ []) = connect_at w p s a b l w.packets at fit in
-    let good : GoodLink (w.lines a.line).held p s a b l = sound.links p s in
+    let good : GoodLink (w.lines a.line) p s a b l = sound.links p s in
     let told = hello_at v p s a b l (w.packets ++ hello ∷ []) at_v fit (length w.packets) (omega (arith, length-append w.packets (hello ∷ [])))
     (first w.packets hello) (good.session may.linked)
     (good.stored (followed w p s good_w may)).0 (sound.good.nodes s).safe_fits
