@@ -45,18 +45,10 @@ impl World {
         ensures { OnOk result (world_of self.new ≡ links_changed (world_of self.old) site write.now) }
     {
         if (site as usize) < self.rows.len() {
-            convert_maps(
-                &mut self.maps,
-                site,
-                &self.rows[site as usize].links,
-                &self.nodes[site as usize],
-                write,
-            )?;
-            change_each(
-                &mut self.rows[site as usize].links,
-                &self.nodes[site as usize],
-                write,
-            );
+            let node = &self.nodes[site as usize];
+            let row = &mut self.rows[site as usize];
+            convert_maps(&mut self.maps, site, &row.links, node, write)?;
+            change_each(&mut row.links, node, write);
         }
         Ok(())
     }
@@ -66,12 +58,8 @@ impl World {
         ensures { OnOk result (world_of self.new ≡ links_marked (world_of self.old) site writes.now) }
     {
         if (site as usize) < self.rows.len() {
-            mark_maps(
-                &mut self.maps,
-                site,
-                &self.rows[site as usize].links,
-                writes,
-            )?;
+            let row = &self.rows[site as usize];
+            mark_maps(&mut self.maps, site, &row.links, writes)?;
         }
         Ok(())
     }
@@ -82,13 +70,10 @@ impl World {
         ensures { OnOk result (let w = world_of self.old in let n = w.nodes site in world_of self.new ≡ links_marked w site (drop n.safe (take kept n.log))) }
     {
         if (site as usize) < self.rows.len() {
+            let row = &self.rows[site as usize];
             let node = &self.nodes[site as usize];
-            mark_maps(
-                &mut self.maps,
-                site,
-                &self.rows[site as usize].links,
-                newly_kept(&node.log, node.safe, kept),
-            )?;
+            let writes = newly_kept(&node.log, node.safe, kept);
+            mark_maps(&mut self.maps, site, &row.links, writes)?;
         }
         Ok(())
     }
@@ -255,7 +240,7 @@ fn mark_map(
 }
 
 // The writes of a log above a link's hold.
-fn log_above(log: &[Write], link: &PlainLink) -> &[Write]
+fn log_above<'a>(log: &'a [Write], link: &PlainLink) -> &'a [Write]
     ensures { result.now ≡ drop (hold link.now) log.now }
 {
     let from = (hold_of(link) as usize).min(log.len());

@@ -62,7 +62,7 @@ pub fn detach(world: &mut World, from: u32, to: u32) -> Result<Said, OutOfMemory
     let mut link = world.link(from, to);
     link.state.attached = false;
     link.state.mode = Mode::Stale;
-    world.set_link(from, to, link)?;
+    world.renew_link(from, to, link)?;
     Ok(Said::Done)
 }
 
@@ -141,7 +141,7 @@ fn make_link(
     if let Some(no) = refuse_made(world, from, to) {
         return Ok(Said::Refused(no));
     }
-    world.set_link(from, to, next_link(world, from, to, sync, prot))?;
+    world.renew_link(from, to, next_link(world, from, to, sync, prot))?;
     Ok(Said::Done)
 }
 

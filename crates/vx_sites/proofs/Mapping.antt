@@ -6,15 +6,17 @@ use Rattle.std.proofs.Math.Path.{fun_ext}
 use Rattle.std.proofs.lemmas.Bool.Decides.{nat_tests}
 use Rattle.std.proofs.lemmas.List.{take_more}
 use Rattle.vx_model.specs.Content.{Write}
-use Rattle.vx_history.specs.World.{Link as PlainLink, World as PlainWorld, Regions, no_link, no_regions, updated}
+use Rattle.vx_history.specs.World.{Node as PlainNode, Link as PlainLink, World as PlainWorld, Regions, no_link, no_regions, updated}
 use Rattle.vx_history.specs.Regions.{joined_maps, marks_of, marks_of_all}
 use Rattle.vx_history.specs.Sends.{with_link, with_links}
+use Rattle.vx_history.specs.ChangeMaps.{map_after}
+use Rattle.vx_history.specs.Events.{link_after, link_marked, links_marked}
 use Rattle.vx_history.proofs.Updates.{at_place, by_test, eqb_equal, updated_other}
 use Rattle.vx_sites.specs.declared.link.Link.{Link}
 use Rattle.vx_sites.specs.declared.link.Row.{Row}
 use Rattle.vx_sites.specs.declared.maps.MapEntry.{MapEntry}
 use Rattle.vx_sites.specs.Shapes.{link_of, row_of, links_of, maps_by, maps_from, maps_of, mapped_links, with_map, with_marks}
-use Rattle.vx_sites.specs.Rows.{row_turned}
+use Rattle.vx_sites.specs.Rows.{map_let_in, row_turned}
 use Rattle.vx_sites.proofs.Tables.{at_each, changed_below, changed-more, seen-at, seen-beyond, seen-set, updated-same}
 
 -- ## One change more
@@ -187,3 +189,43 @@ link_renewed w entries now rows p to v x l same cleared lt is put =
     by_case : (s : ℕ) (b : Bool) → with_map (if b then no_regions else maps_of entries p s) (if b then link_of l else links_of rows p s) ≡ (if b then link_of l else mapped_links entries rows p s)
     by_case s true = refl
     by_case s false = refl
+
+-- writes of a site are let in
+pub row_let_in : (w : PlainWorld) (entries now : List MapEntry) (rows : List Row) (p : ℕ) (v x : Row) (n : PlainNode) (write : Write) → mapped_links entries rows ≡ w.links → p < length rows
+    → v ≡ get_or rows p v → maps_of now ≡ row_turned (maps_of entries) p (λ k. map_let_in n write k (row_of v.links.items k))
+    → row_of x.links.items ≡ (λ k. with_map no_regions (link_after n write k (row_of v.links.items k)))
+    → (let new : PlainWorld = record w { links = mapped_links now (set rows p x) } in new) ≡ with_links w p (λ k. link_after n write k (w.links p k))
+row_let_in w entries now rows p v x n write same lt is maps changed =
+    let own : ℕ → PlainLink = row_of v.links.items in
+    world_turned w entries now rows (set rows p x) p (λ k. map_let_in n write k (own k) (maps_of entries p k)) (λ k. with_map no_regions (link_after n write k (own k)))
+    (λ k. link_after n write k (w.links p k)) same maps
+    (rows_set rows p x lt ∙ ap (λ (r : ℕ → PlainLink). updated (links_of rows) p r) changed)
+    (λ s.
+      ap (λ (r : ℕ → PlainLink). link_after n write s (with_map (maps_of entries p s) (r s))) (sym (rows_at rows p v lt is))
+      ∙ ap (λ (f : ℕ → ℕ → PlainLink). link_after n write s (f p s)) same)
+
+-- writes of a site are marked
+pub row_marked : (w : PlainWorld) (entries now : List MapEntry) (rows : List Row) (p : ℕ) (v : Row) (writes : List Write) → mapped_links entries rows ≡ w.links → p < length rows
+    → v ≡ get_or rows p v → maps_of now ≡ row_turned (maps_of entries) p (λ k m. map_after (row_of v.links.items k).mode m writes)
+    → (let new : PlainWorld = record w { links = mapped_links now rows } in new) ≡ links_marked w p writes
+row_marked w entries now rows p v writes same lt is maps =
+    let own : ℕ → PlainLink = row_of v.links.items in
+    world_turned w entries now rows rows p (λ k. map_after (own k).mode (maps_of entries p k) writes) (links_of rows p) (λ k. link_marked writes (w.links p k)) same maps
+    (sym (updated-same (links_of rows) p (links_of rows p) refl))
+    (λ s.
+      ap (λ (r : ℕ → PlainLink). with_map (map_after (r s).mode (maps_of entries p s) writes) (links_of rows p s)) (sym (rows_at rows p v lt is))
+      ∙ ap (λ (f : ℕ → ℕ → PlainLink). link_marked writes (f p s)) same)
+
+-- a site without a row has nothing to change
+pub row_none : (w : PlainWorld) (entries : List MapEntry) (rows : List Row) (p : ℕ) (change : ℕ → PlainLink → PlainLink) → mapped_links entries rows ≡ w.links → length rows ≤ p
+    → ((k : ℕ) (m : Regions) → change k (with_map m no_link) ≡ with_map m no_link) → w ≡ with_links w p (λ k. change k (w.links p k))
+row_none w entries rows p change same past stays =
+    sym (ap (λ (f : ℕ → ℕ → PlainLink). let new : PlainWorld = record w { links = f } in new) (updated-same w.links p (λ k. change k (w.links p k)) (fun_ext each)))
+  where
+    each : (k : ℕ) → w.links p k ≡ change k (w.links p k)
+    each k =
+        ap (λ (f : ℕ → ℕ → PlainLink). f p k) (sym same)
+        ∙ ap (λ (r : ℕ → PlainLink). with_map (maps_of entries p k) (r k)) (rows_beyond rows p past)
+        ∙ sym (stays k (maps_of entries p k))
+        ∙ ap (λ (r : ℕ → PlainLink). change k (with_map (maps_of entries p k) (r k))) (sym (rows_beyond rows p past))
+        ∙ ap (λ (f : ℕ → ℕ → PlainLink). change k (f p k)) same
