@@ -1,7 +1,7 @@
 // Worked runs of two sites, event by event: what is said, and which packets are sent.
 use std::test::Fail;
 use vx_history::{Event, LinkPart, Said};
-use vx_model::{Blocks, Counted, Name, Named, No, OutOfMemory, SiteName, SyncMode};
+use vx_model::{Blocks, Counted, Name, Named, No, OutOfMemory, Prot, SiteName, SyncMode};
 use vx_world::{World, step};
 
 // An event, what is said of it with its number, and the packets that it sends.
@@ -90,6 +90,7 @@ fn link(to: u32, sync: SyncMode, part: LinkPart) -> Row {
         site: 0,
         to,
         sync,
+        prot: Prot::Fail,
         part,
     };
     (event, "done", 0, None)

@@ -15,7 +15,7 @@ use Rattle.vx_history.proofs.Updates.{at_place, by_test, eqb_equal, updated_othe
 use Rattle.vx_sites.specs.declared.link.Link.{Link}
 use Rattle.vx_sites.specs.declared.link.Row.{Row}
 use Rattle.vx_sites.specs.declared.maps.MapEntry.{MapEntry}
-use Rattle.vx_sites.specs.Shapes.{link_of, row_of, links_of, maps_by, maps_from, maps_of, mapped_links, with_map, with_marks}
+use Rattle.vx_sites.specs.Shapes.{link_of, row_of, links_of, maps_by, maps_from, maps_of, mapped_links, marks_at, with_map, with_marks}
 use Rattle.vx_sites.specs.Rows.{map_let_in, row_turned}
 use Rattle.vx_sites.proofs.Tables.{at_each, changed_below, changed-more, seen-at, seen-beyond, seen-set, updated-same}
 
@@ -78,6 +78,10 @@ marks_append map xs x = fun_ext (λ v. fun_ext (λ r. ap (λ (b : Bool). map v r
     last [] v r = or_false (marks_of x v r)
     last (y ∷ ys) v r = ap (λ (b : Bool). marks_of y v r || b) (last ys v r) ∙ or_apart (marks_of y v r) (marks_of_all ys v r) (marks_of x v r)
 
+pub marks_are : (x : Write) (volume start bytes : ℕ) → volume ≡ x.volume → start ≡ x.start → bytes ≡ length x.bytes → marks_at volume start bytes ≡ marks_of x
+marks_are x volume start bytes v s b =
+    ap (λ (k : ℕ). marks_at k start bytes) v ∙ ap (λ (k : ℕ). marks_at x.volume k bytes) s ∙ ap (λ (k : ℕ). marks_at x.volume x.start k) b
+
 pub writes_marked : (maps now next : ℕ → ℕ → Regions) (p s : ℕ) (xs : List Write) (i : ℕ) (x : Write) → i < length xs → x ≡ get_or xs i x
     → now ≡ with_marks maps p s (joined_maps (maps p s) (marks_of_all (take i xs))) → next ≡ with_marks now p s (joined_maps (now p s) (marks_of x))
     → next ≡ with_marks maps p s (joined_maps (maps p s) (marks_of_all (take (i + 1) xs)))
@@ -120,17 +124,23 @@ row_at links k l lt is = seen-at link_of no_link links k l lt is
 
 -- ## The links of a site, with their maps
 
+-- links with these maps
+abbrev pub row_with : (ℕ → Regions) → (ℕ → PlainLink) → ℕ → PlainLink
+row_with maps row s = with_map (maps s) (row s)
+
+abbrev pub rows_with : (ℕ → ℕ → Regions) → (ℕ → ℕ → PlainLink) → ℕ → ℕ → PlainLink
+rows_with maps links k = row_with (maps k) (links k)
+
 pub links_turned : (maps : ℕ → ℕ → Regions) (links : ℕ → ℕ → PlainLink) (p : ℕ) (turned : ℕ → Regions) (row target : ℕ → PlainLink)
-    → ((s : ℕ) → with_map (turned s) (row s) ≡ target s)
-    → (λ k s. with_map (updated maps p turned k s) (updated links p row k s)) ≡ updated (λ k s. with_map (maps k s) (links k s)) p target
+    → ((s : ℕ) → with_map (turned s) (row s) ≡ target s) → rows_with (updated maps p turned) (updated links p row) ≡ updated (rows_with maps links) p target
 links_turned maps links p turned row target each =
-    at_each (λ k s. with_map (maps k s) (links k s)) p target (λ k s. with_map (updated maps p turned k s) (updated links p row k s))
-    (ap (λ (m : ℕ → Regions) (s : ℕ). with_map (m s) (updated links p row p s)) (at_place maps p turned)
-    ∙ ap (λ (r : ℕ → PlainLink) (s : ℕ). with_map (turned s) (r s)) (at_place links p row)
+    at_each (rows_with maps links) p target (rows_with (updated maps p turned) (updated links p row))
+    (ap (λ (m : ℕ → Regions). row_with m (updated links p row p)) (at_place maps p turned)
+    ∙ ap (λ (r : ℕ → PlainLink). row_with turned r) (at_place links p row)
     ∙ fun_ext each)
     (λ k apart.
-      ap (λ (m : ℕ → Regions) (s : ℕ). with_map (m s) (updated links p row k s)) (updated_other maps p k turned apart)
-      ∙ ap (λ (r : ℕ → PlainLink) (s : ℕ). with_map (maps k s) (r s)) (updated_other links p k row apart))
+      ap (λ (m : ℕ → Regions). row_with m (updated links p row k)) (updated_other maps p k turned apart)
+      ∙ ap (λ (r : ℕ → PlainLink). row_with (maps k) r) (updated_other links p k row apart))
 
 -- in the world
 pub world_turned : (w : PlainWorld) (before now : List MapEntry) (old rows : List Row) (p : ℕ) (turned : ℕ → Regions) (row target : ℕ → PlainLink)
@@ -139,8 +149,8 @@ pub world_turned : (w : PlainWorld) (before now : List MapEntry) (old rows : Lis
     → (let new : PlainWorld = record w { links = mapped_links now rows } in new) ≡ with_links w p target
 world_turned w before now old rows p turned row target same maps links each =
     ap (λ (f : ℕ → ℕ → PlainLink). let new : PlainWorld = record w { links = f } in new)
-    (ap (λ (m : ℕ → ℕ → Regions) (k s : ℕ). with_map (m k s) (links_of rows k s)) maps
-    ∙ ap (λ (l : ℕ → ℕ → PlainLink) (k s : ℕ). with_map (updated (maps_of before) p turned k s) (l k s)) links
+    (ap (λ (m : ℕ → ℕ → Regions). rows_with m (links_of rows)) maps
+    ∙ ap (λ (l : ℕ → ℕ → PlainLink). rows_with (updated (maps_of before) p turned) l) links
     ∙ links_turned (maps_of before) (links_of old) p turned row target each
     ∙ ap (λ (l : ℕ → ℕ → PlainLink). updated l p target) same)
 
