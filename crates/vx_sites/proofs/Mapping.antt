@@ -1,5 +1,5 @@
 -- What is made of the change maps of links.
-use Rattle.std.proofs.Common.{◌≡◌, ◌∙◌, ℕ, ◌+◌, ◌<◌, ◌≤◌, Bool, true, false, List, [], ◌∷◌, ◌++◌, length, get_or, take, refl, sym, ap, arith}
+use Rattle.std.proofs.Common.{◌≡◌, ◌∙◌, ◌⊎◌, inl, inr, ℕ, ◌+◌, ◌<◌, ◌≤◌, Bool, true, false, List, [], ◌∷◌, ◌++◌, length, get_or, take, refl, sym, ap, arith}
 use Rattle.std.specs.Prelude.{eqb, ltb, if◌then◌else◌, ◌||◌, Result, Ok, Err, OnOk}
 use Rattle.std.proofs.Math.ListN.{set}
 use Rattle.std.proofs.Math.Path.{fun_ext}
@@ -9,14 +9,18 @@ use Rattle.vx_model.specs.Content.{Write}
 use Rattle.vx_history.specs.World.{Node as PlainNode, Link as PlainLink, World as PlainWorld, Regions, no_link, no_regions, updated}
 use Rattle.vx_history.specs.Regions.{joined_maps, marks_of, marks_of_all}
 use Rattle.vx_history.specs.Sends.{with_link, with_links}
-use Rattle.vx_history.specs.ChangeMaps.{map_after}
+use Rattle.vx_history.specs.ChangeMaps.{map_after, map_changed, map_kept}
+use Rattle.vx_history.specs.declared.admission.Change.{Change}
+use Rattle.vx_history.specs.declared.admission.Change.TheVariants.{Stays, ToStale}
+use Rattle.vx_model.specs.declared.link.Mode.{Mode}
+use Rattle.vx_model.specs.declared.link.Mode.TheVariants.{Log, Dcm, Replay, Fork, Stale}
 use Rattle.vx_history.specs.Events.{link_after, link_marked, links_marked}
 use Rattle.vx_history.proofs.Updates.{at_place, by_test, eqb_equal, updated_other}
 use Rattle.vx_sites.specs.declared.link.Link.{Link}
 use Rattle.vx_sites.specs.declared.link.Row.{Row}
 use Rattle.vx_sites.specs.declared.maps.MapEntry.{MapEntry}
 use Rattle.vx_sites.specs.Shapes.{link_of, row_of, links_of, maps_by, maps_from, maps_of, mapped_links, marks_at, with_map, with_marks}
-use Rattle.vx_sites.specs.Rows.{map_let_in, row_turned}
+use Rattle.vx_sites.specs.Rows.{is_copied, keeps_map, map_let_in, row_turned}
 use Rattle.vx_sites.proofs.Tables.{at_each, changed_below, changed-more, seen-at, seen-beyond, seen-set, updated-same}
 
 -- ## One change more
@@ -47,8 +51,8 @@ marks_same maps p s map is =
 -- the map of one link is changed, and then once more by what stands there
 pub marks_then : (now : ℕ → ℕ → Regions) (maps : ℕ → ℕ → Regions) (p s : ℕ) (a : Regions) (g : Regions → Regions) (next : ℕ → ℕ → Regions)
     → now ≡ with_marks maps p s a → next ≡ with_marks now p s (g (now p s)) → next ≡ with_marks maps p s (g a)
-marks_then now maps p s a g next is then =
-    then
+marks_then now maps p s a g next is next_is =
+    next_is
     ∙ ap (λ (m : ℕ → ℕ → Regions). with_marks m p s (g (m p s))) is
     ∙ ap (λ (b : Regions). with_marks (with_marks maps p s a) p s (g b)) (marks_here maps p s a)
     ∙ marks_twice maps p s a (g a)
@@ -85,8 +89,8 @@ marks_are x volume start bytes v s b =
 pub writes_marked : (maps now next : ℕ → ℕ → Regions) (p s : ℕ) (xs : List Write) (i : ℕ) (x : Write) → i < length xs → x ≡ get_or xs i x
     → now ≡ with_marks maps p s (joined_maps (maps p s) (marks_of_all (take i xs))) → next ≡ with_marks now p s (joined_maps (now p s) (marks_of x))
     → next ≡ with_marks maps p s (joined_maps (maps p s) (marks_of_all (take (i + 1) xs)))
-writes_marked maps now next p s xs i x lt is before then =
-    marks_then now maps p s (joined_maps (maps p s) (marks_of_all (take i xs))) (λ (m : Regions). joined_maps m (marks_of x)) next before then
+writes_marked maps now next p s xs i x lt is before next_is =
+    marks_then now maps p s (joined_maps (maps p s) (marks_of_all (take i xs))) (λ (m : Regions). joined_maps m (marks_of x)) next before next_is
     ∙ ap (λ (m : Regions). with_marks maps p s m) (sym (marks_append (maps p s) (take i xs) x))
     ∙ ap (λ (ys : List Write). with_marks maps p s (joined_maps (maps p s) (marks_of_all ys))) (sym (take_more xs i x lt ∙ ap (λ (y : Write). take i xs ++ y ∷ []) (sym is)))
 
@@ -95,9 +99,9 @@ writes_marked maps now next p s xs i x lt is before then =
 -- those below a number are changed
 pub row_step : (change : ℕ → Regions → Regions) (maps now next : ℕ → ℕ → Regions) (p i : ℕ) → now ≡ updated maps p (changed_below change i (maps p))
     → next ≡ with_marks now p i (change i (now p i)) → next ≡ updated maps p (changed_below change (i + 1) (maps p))
-row_step change maps now next p i before then =
+row_step change maps now next p i before next_is =
     let row : ℕ → Regions = changed_below change i (maps p) in
-    then
+    next_is
     ∙ ap (λ (m : ℕ → ℕ → Regions). updated m p (updated (m p) i (change i (m p i)))) before
     ∙ ap (λ (r : ℕ → Regions). updated (updated maps p row) p (updated r i (change i (r i)))) (at_place maps p row)
     ∙ updated-twice maps p row (updated row i (change i (row i)))
@@ -239,3 +243,41 @@ row_none w entries rows p change same past stays =
         ∙ sym (stays k (maps_of entries p k))
         ∙ ap (λ (r : ℕ → PlainLink). change k (with_map (maps_of entries p k) (r k))) (sym (rows_beyond rows p past))
         ∙ ap (λ (f : ℕ → ℕ → PlainLink). change k (f p k)) same
+
+-- what holds of a result holds in other words
+pub on_ok : {T E : Type 0} (r : Result T E) (A B : Type 0) → (A → B) → OnOk r A → OnOk r B
+on_ok (Ok x) A B f h = f h
+on_ok (Err e) A B f h = tt
+
+-- a change that makes no map leaves it
+pub unmapped : (h : Change) (mode : Mode) (map : Regions) (log : List Write) (hold : ℕ) → (h ≡ Stays) ⊎ (h ≡ ToStale) → map_changed h mode map log hold ≡ map
+unmapped h mode map log hold (inl e) = ap (λ (x : Change). map_changed x mode map log hold) e
+unmapped h mode map log hold (inr e) = ap (λ (x : Change). map_changed x mode map log hold) e
+
+pub kept_in : (mode : Mode) (map : Regions) → is_copied mode ≡ true → map ≡ map_kept mode map
+kept_in Log map e = absurd (cc)
+kept_in Dcm map e = absurd (cc)
+kept_in (Replay id phase left start end) map e = refl
+kept_in (Fork maps) map e = absurd (cc)
+kept_in Stale map e = absurd (cc)
+
+pub kept_none : (mode : Mode) (map : Regions) → is_copied mode ≡ false → no_regions ≡ map_kept mode map
+kept_none Log map e = refl
+kept_none Dcm map e = refl
+kept_none (Replay id phase left start end) map e = absurd (cc)
+kept_none (Fork maps) map e = refl
+kept_none Stale map e = refl
+
+pub after_marked : (mode : Mode) (map : Regions) (xs : List Write) → keeps_map mode ≡ true → joined_maps map (marks_of_all xs) ≡ map_after mode map xs
+after_marked Log map xs e = absurd (cc)
+after_marked Dcm map xs e = refl
+after_marked (Replay id phase left start end) map xs e = absurd (cc)
+after_marked (Fork maps) map xs e = refl
+after_marked Stale map xs e = absurd (cc)
+
+pub after_same : (mode : Mode) (map : Regions) (xs : List Write) → keeps_map mode ≡ false → map_after mode map xs ≡ map
+after_same Log map xs e = refl
+after_same Dcm map xs e = absurd (cc)
+after_same (Replay id phase left start end) map xs e = refl
+after_same (Fork maps) map xs e = absurd (cc)
+after_same Stale map xs e = refl

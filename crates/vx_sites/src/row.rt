@@ -1,15 +1,16 @@
 // What events make of all links of a site.
 ghost use Rattle.std.specs.Prelude.{◌≡◌, ◌<◌, ℕ, length, take, drop, min, OnOk};
 ghost use Rattle.vx_history.specs.World.{Node as PlainNode, no_regions};
-ghost use Rattle.vx_history.specs.Admission.{hold};
+ghost use Rattle.vx_history.specs.Admission.{changed_mode, hold};
 ghost use Rattle.vx_history.specs.Sends.{with_links};
 ghost use Rattle.vx_history.specs.Events.{lost_touch, restarted_link, logged_blocks, link_after, links_changed, links_marked};
 ghost use Rattle.vx_history.specs.ChangeMaps.{map_after, map_kept};
 ghost use Rattle.vx_history.specs.Regions.{joined_maps, marks_of_all};
 ghost use Rattle.vx_sites.specs.Shapes.{node_of, link_of, row_of, world_of, maps_of, with_map, with_marks};
-ghost use Rattle.vx_sites.specs.Rows.{change_by_write, map_let_in, row_turned};
+ghost use Rattle.vx_sites.specs.Rows.{change_by_write, is_copied, keeps_map, map_let_in, row_turned};
 
 use crate::changes::newly_kept;
+use crate::link::link_in;
 use crate::{ChangeMaps, Link, Node, World, Write};
 use vx_history::{Change, SEvent, SFacts};
 use vx_model::limits::BLOCK;
@@ -49,8 +50,10 @@ impl World {
             let row = &mut self.rows[site as usize];
             convert_maps(&mut self.maps, site, &row.links, node, write)?;
             change_each(&mut row.links, node, write);
+            Ok(())
+        } else {
+            Ok(())
         }
-        Ok(())
     }
 
     /// The regions of these writes are marked in the maps that links of a site keep.
@@ -59,9 +62,10 @@ impl World {
     {
         if (site as usize) < self.rows.len() {
             let row = &self.rows[site as usize];
-            mark_maps(&mut self.maps, site, &row.links, writes)?;
+            mark_maps(&mut self.maps, site, &row.links, writes)
+        } else {
+            Ok(())
         }
-        Ok(())
     }
 
     /// The regions of the site's writes up to a number that were not durable before are marked in the maps that its links keep.
@@ -73,9 +77,10 @@ impl World {
             let row = &self.rows[site as usize];
             let node = &self.nodes[site as usize];
             let writes = newly_kept(&node.log, node.safe, kept);
-            mark_maps(&mut self.maps, site, &row.links, writes)?;
+            mark_maps(&mut self.maps, site, &row.links, writes)
+        } else {
+            Ok(())
         }
-        Ok(())
     }
 }
 
@@ -135,14 +140,21 @@ fn change_each(links: &mut Vec<Link>, node: &Node, write: &Write)
 fn change(link: &Link, node: &Node, write: &Write) -> Link
     ensures { (k : ℕ) → link_of result ≡ with_map no_regions (link_after (node_of node.now) write.now k (link_of link.now)) }
 {
-    let mode = match change_of(link, node, write) {
-        Change::Stays => link.state.mode,
-        Change::ToStale => Mode::Stale,
-        Change::ToDcm => Mode::Dcm,
-    };
+    let change = change_of(link, node, write);
+    let mode = mode_after(&change, link.state.mode);
     Link {
         made: link.made,
         state: PlainLink { mode, ..link.state },
+    }
+}
+
+fn mode_after(change: &Change, mode: Mode) -> Mode
+    ensures { result ≡ changed_mode change.now mode }
+{
+    match change {
+        Change::Stays => mode,
+        Change::ToStale => Mode::Stale,
+        Change::ToDcm => Mode::Dcm,
     }
 }
 
@@ -166,7 +178,8 @@ fn convert_maps(
     ensures { OnOk result (maps_of maps.new.entries.items ≡ row_turned (maps_of maps.old.entries.items) site (λ k. map_let_in (node_of node.now) write.now k (row_of links.now k))) }
 {
     for to in 0..links.len() {
-        convert_map(maps, site, to, &links[to], node, write)?;
+        let link = link_in(links, to);
+        convert_map(maps, site, to, &link, node, write)?;
     }
     Ok(())
 }
@@ -200,12 +213,19 @@ fn begin_map(
 ) -> Result<(), OutOfMemory>
     ensures { OnOk result (let m = maps_of maps.old.entries.items in maps_of maps.new.entries.items ≡ with_marks m site to (joined_maps (map_kept mode.now (m site to)) (marks_of_all late.now))) }
 {
+    if is_in_replay(mode) {
+        return maps.mark(site, to, late);
+    }
+    maps.clear(site, to)?;
+    maps.mark(site, to, late)
+}
+
+fn is_in_replay(mode: &Mode) -> bool
+    ensures { result ≡ is_copied mode.now }
+{
     match mode {
-        Mode::Replay { .. } => maps.mark(site, to, late),
-        Mode::Log | Mode::Dcm | Mode::Fork { .. } | Mode::Stale => {
-            maps.clear(site, to)?;
-            maps.mark(site, to, late)
-        }
+        Mode::Replay { .. } => true,
+        Mode::Log | Mode::Dcm | Mode::Fork { .. } | Mode::Stale => false,
     }
 }
 
@@ -219,7 +239,8 @@ fn mark_maps(
     ensures { OnOk result (maps_of maps.new.entries.items ≡ row_turned (maps_of maps.old.entries.items) site (λ k m. map_after (row_of links.now k).mode m writes.now)) }
 {
     for to in 0..links.len() {
-        mark_map(maps, site, to, &links[to].state.mode, writes)?;
+        let link = link_in(links, to);
+        mark_map(maps, site, to, &link.state.mode, writes)?;
     }
     Ok(())
 }
@@ -233,9 +254,18 @@ fn mark_map(
 ) -> Result<(), OutOfMemory>
     ensures { OnOk result (let m = maps_of maps.old.entries.items in maps_of maps.new.entries.items ≡ with_marks m site to (map_after mode.now (m site to) writes.now)) }
 {
+    if has_map(mode) {
+        return maps.mark(site, to, writes);
+    }
+    Ok(())
+}
+
+fn has_map(mode: &Mode) -> bool
+    ensures { result ≡ keeps_map mode.now }
+{
     match mode {
-        Mode::Dcm | Mode::Fork { .. } => maps.mark(site, to, writes),
-        Mode::Log | Mode::Replay { .. } | Mode::Stale => Ok(()),
+        Mode::Dcm | Mode::Fork { .. } => true,
+        Mode::Log | Mode::Replay { .. } | Mode::Stale => false,
     }
 }
 
