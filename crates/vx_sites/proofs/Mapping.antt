@@ -19,42 +19,42 @@ use Rattle.vx_history.proofs.Updates.{at_place, by_test, eqb_equal, updated_othe
 use Rattle.vx_sites.specs.declared.link.Link.{Link}
 use Rattle.vx_sites.specs.declared.link.Row.{Row}
 use Rattle.vx_sites.specs.declared.maps.MapEntry.{MapEntry}
-use Rattle.vx_sites.specs.Shapes.{link_of, row_of, links_of, maps_by, maps_from, maps_of, mapped_links, marks_at, with_map, with_marks}
+use Rattle.vx_sites.specs.Shapes.{link_of, row_of, links_of, maps_made, maps_from, link_maps, mapped_links, marks_at, with_map, with_link_map}
 use Rattle.vx_sites.specs.Rows.{is_copied, keeps_map, map_let_in, row_turned}
 use Rattle.vx_sites.proofs.Tables.{at_each, changed_below, changed-more, seen-at, seen-beyond, seen-set, updated-same}
 
 -- ## One change more
 
-pub maps_more : (maps : ℕ → ℕ → Regions) (es : List MapEntry) (e : MapEntry) → maps_from maps (es ++ e ∷ []) ≡ maps_by e (maps_from maps es)
+pub maps_more : (maps : ℕ → ℕ → Regions) (es : List MapEntry) (e : MapEntry) → maps_from maps (es ++ e ∷ []) ≡ maps_made e (maps_from maps es)
 maps_more maps [] e = refl
-maps_more maps (d ∷ es) e = maps_more (maps_by d maps) es e
+maps_more maps (d ∷ es) e = maps_more (maps_made d maps) es e
 
 -- the value at a place is put there again
 pub updated-twice : {A : Type 0} (f : ℕ → A) (i : ℕ) (x y : A) → updated (updated f i x) i y ≡ updated f i y
 updated-twice f i x y = at_each f i y (updated (updated f i x) i y) (at_place (updated f i x) i y) (λ k apart. updated_other (updated f i x) i k y apart ∙ updated_other f i k x apart)
 
 -- the map of one link is changed twice
-pub marks_twice : (maps : ℕ → ℕ → Regions) (p s : ℕ) (a b : Regions) → with_marks (with_marks maps p s a) p s b ≡ with_marks maps p s b
+pub marks_twice : (maps : ℕ → ℕ → Regions) (p s : ℕ) (a b : Regions) → with_link_map (with_link_map maps p s a) p s b ≡ with_link_map maps p s b
 marks_twice maps p s a b =
     ap (λ (row : ℕ → Regions). updated (updated maps p (updated (maps p) s a)) p (updated row s b)) (at_place maps p (updated (maps p) s a))
     ∙ ap (λ (row : ℕ → Regions). updated (updated maps p (updated (maps p) s a)) p row) (updated-twice (maps p) s a b)
     ∙ updated-twice maps p (updated (maps p) s a) (updated (maps p) s b)
 
-pub marks_here : (maps : ℕ → ℕ → Regions) (p s : ℕ) (a : Regions) → with_marks maps p s a p s ≡ a
+pub marks_here : (maps : ℕ → ℕ → Regions) (p s : ℕ) (a : Regions) → with_link_map maps p s a p s ≡ a
 marks_here maps p s a = ap (λ (row : ℕ → Regions). row s) (at_place maps p (updated (maps p) s a)) ∙ at_place (maps p) s a
 
 -- the map is put into its place again
-pub marks_same : (maps : ℕ → ℕ → Regions) (p s : ℕ) (map : Regions) → map ≡ maps p s → maps ≡ with_marks maps p s map
+pub marks_same : (maps : ℕ → ℕ → Regions) (p s : ℕ) (map : Regions) → map ≡ maps p s → maps ≡ with_link_map maps p s map
 marks_same maps p s map is =
     sym (ap (λ (row : ℕ → Regions). updated maps p row) (updated-same (maps p) s map (sym is)) ∙ updated-same maps p (maps p) refl)
 
 -- the map of one link is changed, and then once more by what stands there
 pub marks_then : (now : ℕ → ℕ → Regions) (maps : ℕ → ℕ → Regions) (p s : ℕ) (a : Regions) (g : Regions → Regions) (next : ℕ → ℕ → Regions)
-    → now ≡ with_marks maps p s a → next ≡ with_marks now p s (g (now p s)) → next ≡ with_marks maps p s (g a)
+    → now ≡ with_link_map maps p s a → next ≡ with_link_map now p s (g (now p s)) → next ≡ with_link_map maps p s (g a)
 marks_then now maps p s a g next is next_is =
     next_is
-    ∙ ap (λ (m : ℕ → ℕ → Regions). with_marks m p s (g (m p s))) is
-    ∙ ap (λ (b : Regions). with_marks (with_marks maps p s a) p s (g b)) (marks_here maps p s a)
+    ∙ ap (λ (m : ℕ → ℕ → Regions). with_link_map m p s (g (m p s))) is
+    ∙ ap (λ (b : Regions). with_link_map (with_link_map maps p s a) p s (g b)) (marks_here maps p s a)
     ∙ marks_twice maps p s a (g a)
 
 -- ## The regions of writes, one after another
@@ -87,18 +87,18 @@ marks_are x volume start bytes v s b =
     ap (λ (k : ℕ). marks_at k start bytes) v ∙ ap (λ (k : ℕ). marks_at x.volume k bytes) s ∙ ap (λ (k : ℕ). marks_at x.volume x.start k) b
 
 pub writes_marked : (maps now next : ℕ → ℕ → Regions) (p s : ℕ) (xs : List Write) (i : ℕ) (x : Write) → i < length xs → x ≡ get_or xs i x
-    → now ≡ with_marks maps p s (joined_maps (maps p s) (marks_of_all (take i xs))) → next ≡ with_marks now p s (joined_maps (now p s) (marks_of x))
-    → next ≡ with_marks maps p s (joined_maps (maps p s) (marks_of_all (take (i + 1) xs)))
+    → now ≡ with_link_map maps p s (joined_maps (maps p s) (marks_of_all (take i xs))) → next ≡ with_link_map now p s (joined_maps (now p s) (marks_of x))
+    → next ≡ with_link_map maps p s (joined_maps (maps p s) (marks_of_all (take (i + 1) xs)))
 writes_marked maps now next p s xs i x lt is before next_is =
     marks_then now maps p s (joined_maps (maps p s) (marks_of_all (take i xs))) (λ (m : Regions). joined_maps m (marks_of x)) next before next_is
-    ∙ ap (λ (m : Regions). with_marks maps p s m) (sym (marks_append (maps p s) (take i xs) x))
-    ∙ ap (λ (ys : List Write). with_marks maps p s (joined_maps (maps p s) (marks_of_all ys))) (sym (take_more xs i x lt ∙ ap (λ (y : Write). take i xs ++ y ∷ []) (sym is)))
+    ∙ ap (λ (m : Regions). with_link_map maps p s m) (sym (marks_append (maps p s) (take i xs) x))
+    ∙ ap (λ (ys : List Write). with_link_map maps p s (joined_maps (maps p s) (marks_of_all ys))) (sym (take_more xs i x lt ∙ ap (λ (y : Write). take i xs ++ y ∷ []) (sym is)))
 
 -- ## The maps of the links of one site
 
 -- those below a number are changed
 pub row_step : (change : ℕ → Regions → Regions) (maps now next : ℕ → ℕ → Regions) (p i : ℕ) → now ≡ updated maps p (changed_below change i (maps p))
-    → next ≡ with_marks now p i (change i (now p i)) → next ≡ updated maps p (changed_below change (i + 1) (maps p))
+    → next ≡ with_link_map now p i (change i (now p i)) → next ≡ updated maps p (changed_below change (i + 1) (maps p))
 row_step change maps now next p i before next_is =
     let row : ℕ → Regions = changed_below change i (maps p) in
     next_is
@@ -148,14 +148,14 @@ links_turned maps links p turned row target each =
 
 -- in the world
 pub world_turned : (w : PlainWorld) (before now : List MapEntry) (old rows : List Row) (p : ℕ) (turned : ℕ → Regions) (row target : ℕ → PlainLink)
-    → mapped_links before old ≡ w.links → maps_of now ≡ updated (maps_of before) p turned → links_of rows ≡ updated (links_of old) p row
+    → mapped_links before old ≡ w.links → link_maps now ≡ updated (link_maps before) p turned → links_of rows ≡ updated (links_of old) p row
     → ((s : ℕ) → with_map (turned s) (row s) ≡ target s)
     → (let new : PlainWorld = record w { links = mapped_links now rows } in new) ≡ with_links w p target
 world_turned w before now old rows p turned row target same maps links each =
     ap (λ (f : ℕ → ℕ → PlainLink). let new : PlainWorld = record w { links = f } in new)
     (ap (λ (m : ℕ → ℕ → Regions). rows_with m (links_of rows)) maps
-    ∙ ap (λ (l : ℕ → ℕ → PlainLink). rows_with (updated (maps_of before) p turned) l) links
-    ∙ links_turned (maps_of before) (links_of old) p turned row target each
+    ∙ ap (λ (l : ℕ → ℕ → PlainLink). rows_with (updated (link_maps before) p turned) l) links
+    ∙ links_turned (link_maps before) (links_of old) p turned row target each
     ∙ ap (λ (l : ℕ → ℕ → PlainLink). updated l p target) same)
 
 -- one row in the place of another
@@ -174,60 +174,60 @@ pub link_put : (w : PlainWorld) (entries : List MapEntry) (rows : List Row) (p t
     → p < length rows → v ≡ get_or rows p v → row_of x.links.items ≡ updated (row_of v.links.items) to (link_of l)
     → (let new : PlainWorld = record w { links = mapped_links entries (set rows p x) } in new) ≡ with_link w p to (with_map (w.links p to).map (link_of l))
 link_put w entries rows p to v x l same lt is put =
-    let maps : ℕ → ℕ → Regions = maps_of entries in
+    let maps : ℕ → ℕ → Regions = link_maps entries in
     let own : ℕ → PlainLink = links_of rows p in
     world_turned w entries entries rows (set rows p x) p (maps p) (updated own to (link_of l)) (updated (w.links p) to (with_map (w.links p to).map (link_of l))) same
     (sym (updated-same maps p (maps p) refl))
     (rows_set rows p x lt ∙ ap (λ (r : ℕ → PlainLink). updated (links_of rows) p r) (put ∙ ap (λ (r : ℕ → PlainLink). updated r to (link_of l)) (sym (rows_at rows p v lt is))))
     (λ s. by_place s ∙ ap (λ (f : ℕ → ℕ → PlainLink). updated (f p) to (with_map (f p to).map (link_of l)) s) same)
   where
-    by_place : (s : ℕ) → with_map (maps_of entries p s) (updated (links_of rows p) to (link_of l) s) ≡ updated (mapped_links entries rows p) to (with_map (maps_of entries p to) (link_of l)) s
+    by_place : (s : ℕ) → with_map (link_maps entries p s) (updated (links_of rows p) to (link_of l) s) ≡ updated (mapped_links entries rows p) to (with_map (link_maps entries p to) (link_of l)) s
     by_place s = by_case (eqb s to) refl
       where
-        by_case : (b : Bool) → eqb s to ≡ b → with_map (maps_of entries p s) (if b then link_of l else links_of rows p s) ≡ (if b then with_map (maps_of entries p to) (link_of l) else mapped_links entries rows p s)
-        by_case true e = ap (λ (k : ℕ). with_map (maps_of entries p k) (link_of l)) (eqb_equal s to e)
+        by_case : (b : Bool) → eqb s to ≡ b → with_map (link_maps entries p s) (if b then link_of l else links_of rows p s) ≡ (if b then with_map (link_maps entries p to) (link_of l) else mapped_links entries rows p s)
+        by_case true e = ap (λ (k : ℕ). with_map (link_maps entries p k) (link_of l)) (eqb_equal s to e)
         by_case false e = refl
 
 -- a link is put into its place, and no region is marked
 pub link_renewed : (w : PlainWorld) (entries now : List MapEntry) (rows : List Row) (p to : ℕ) (v x : Row) (l : Link) → mapped_links entries rows ≡ w.links
-    → maps_of now ≡ with_marks (maps_of entries) p to no_regions
+    → link_maps now ≡ with_link_map (link_maps entries) p to no_regions
     → p < length rows → v ≡ get_or rows p v → row_of x.links.items ≡ updated (row_of v.links.items) to (link_of l)
     → (let new : PlainWorld = record w { links = mapped_links now (set rows p x) } in new) ≡ with_link w p to (link_of l)
 link_renewed w entries now rows p to v x l same cleared lt is put =
-    let maps : ℕ → ℕ → Regions = maps_of entries in
+    let maps : ℕ → ℕ → Regions = link_maps entries in
     let own : ℕ → PlainLink = links_of rows p in
     world_turned w entries now rows (set rows p x) p (updated (maps p) to no_regions) (updated own to (link_of l)) (updated (w.links p) to (link_of l)) same cleared
     (rows_set rows p x lt ∙ ap (λ (r : ℕ → PlainLink). updated (links_of rows) p r) (put ∙ ap (λ (r : ℕ → PlainLink). updated r to (link_of l)) (sym (rows_at rows p v lt is))))
     (λ s. by_case s (eqb s to) ∙ ap (λ (f : ℕ → ℕ → PlainLink). updated (f p) to (link_of l) s) same)
   where
-    by_case : (s : ℕ) (b : Bool) → with_map (if b then no_regions else maps_of entries p s) (if b then link_of l else links_of rows p s) ≡ (if b then link_of l else mapped_links entries rows p s)
+    by_case : (s : ℕ) (b : Bool) → with_map (if b then no_regions else link_maps entries p s) (if b then link_of l else links_of rows p s) ≡ (if b then link_of l else mapped_links entries rows p s)
     by_case s true = refl
     by_case s false = refl
 
 -- writes of a site are let in
 pub row_let_in : (w : PlainWorld) (entries now : List MapEntry) (rows : List Row) (p : ℕ) (v x : Row) (n : PlainNode) (write : Write) → mapped_links entries rows ≡ w.links → p < length rows
-    → v ≡ get_or rows p v → maps_of now ≡ row_turned (maps_of entries) p (λ k. map_let_in n write k (row_of v.links.items k))
+    → v ≡ get_or rows p v → link_maps now ≡ row_turned (link_maps entries) p (λ k. map_let_in n write k (row_of v.links.items k))
     → row_of x.links.items ≡ (λ k. with_map no_regions (link_after n write k (row_of v.links.items k)))
     → (let new : PlainWorld = record w { links = mapped_links now (set rows p x) } in new) ≡ with_links w p (λ k. link_after n write k (w.links p k))
 row_let_in w entries now rows p v x n write same lt is maps changed =
     let own : ℕ → PlainLink = row_of v.links.items in
-    world_turned w entries now rows (set rows p x) p (λ k. map_let_in n write k (own k) (maps_of entries p k)) (λ k. with_map no_regions (link_after n write k (own k)))
+    world_turned w entries now rows (set rows p x) p (λ k. map_let_in n write k (own k) (link_maps entries p k)) (λ k. with_map no_regions (link_after n write k (own k)))
     (λ k. link_after n write k (w.links p k)) same maps
     (rows_set rows p x lt ∙ ap (λ (r : ℕ → PlainLink). updated (links_of rows) p r) changed)
     (λ s.
-      ap (λ (r : ℕ → PlainLink). link_after n write s (with_map (maps_of entries p s) (r s))) (sym (rows_at rows p v lt is))
+      ap (λ (r : ℕ → PlainLink). link_after n write s (with_map (link_maps entries p s) (r s))) (sym (rows_at rows p v lt is))
       ∙ ap (λ (f : ℕ → ℕ → PlainLink). link_after n write s (f p s)) same)
 
 -- writes of a site are marked
 pub row_marked : (w : PlainWorld) (entries now : List MapEntry) (rows : List Row) (p : ℕ) (v : Row) (writes : List Write) → mapped_links entries rows ≡ w.links → p < length rows
-    → v ≡ get_or rows p v → maps_of now ≡ row_turned (maps_of entries) p (λ k m. map_after (row_of v.links.items k).mode m writes)
+    → v ≡ get_or rows p v → link_maps now ≡ row_turned (link_maps entries) p (λ k m. map_after (row_of v.links.items k).mode m writes)
     → (let new : PlainWorld = record w { links = mapped_links now rows } in new) ≡ links_marked w p writes
 row_marked w entries now rows p v writes same lt is maps =
     let own : ℕ → PlainLink = row_of v.links.items in
-    world_turned w entries now rows rows p (λ k. map_after (own k).mode (maps_of entries p k) writes) (links_of rows p) (λ k. link_marked writes (w.links p k)) same maps
+    world_turned w entries now rows rows p (λ k. map_after (own k).mode (link_maps entries p k) writes) (links_of rows p) (λ k. link_marked writes (w.links p k)) same maps
     (sym (updated-same (links_of rows) p (links_of rows p) refl))
     (λ s.
-      ap (λ (r : ℕ → PlainLink). with_map (map_after (r s).mode (maps_of entries p s) writes) (links_of rows p s)) (sym (rows_at rows p v lt is))
+      ap (λ (r : ℕ → PlainLink). with_map (map_after (r s).mode (link_maps entries p s) writes) (links_of rows p s)) (sym (rows_at rows p v lt is))
       ∙ ap (λ (f : ℕ → ℕ → PlainLink). link_marked writes (f p s)) same)
 
 -- a site without a row has nothing to change
@@ -239,9 +239,9 @@ row_none w entries rows p change same past stays =
     each : (k : ℕ) → w.links p k ≡ change k (w.links p k)
     each k =
         ap (λ (f : ℕ → ℕ → PlainLink). f p k) (sym same)
-        ∙ ap (λ (r : ℕ → PlainLink). with_map (maps_of entries p k) (r k)) (rows_beyond rows p past)
-        ∙ sym (stays k (maps_of entries p k))
-        ∙ ap (λ (r : ℕ → PlainLink). change k (with_map (maps_of entries p k) (r k))) (sym (rows_beyond rows p past))
+        ∙ ap (λ (r : ℕ → PlainLink). with_map (link_maps entries p k) (r k)) (rows_beyond rows p past)
+        ∙ sym (stays k (link_maps entries p k))
+        ∙ ap (λ (r : ℕ → PlainLink). change k (with_map (link_maps entries p k) (r k))) (sym (rows_beyond rows p past))
         ∙ ap (λ (f : ℕ → ℕ → PlainLink). change k (f p k)) same
 
 -- what holds of a result holds in other words

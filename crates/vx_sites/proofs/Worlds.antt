@@ -22,7 +22,7 @@ use Rattle.vx_sites.specs.declared.link.Link.{Link}
 use Rattle.vx_sites.specs.declared.link.Row.{Row}
 use Rattle.vx_sites.specs.declared.maps.MapEntry.{MapEntry}
 use Rattle.vx_sites.proofs.Volumes.{named_raw, sizes_raw}
-use Rattle.vx_sites.specs.Shapes.{sizes, named_volumes, node_of, nodes_of, link_of, row_of, links_of, maps_of, mapped_links, with_map}
+use Rattle.vx_sites.specs.Shapes.{sizes, named_volumes, node_of, nodes_of, link_of, row_of, links_of, link_maps, mapped_links, with_map}
 use Rattle.vx_sites.proofs.Tables.{at_each, seen-at, seen-beyond, seen-push, seen-changed}
 
 -- a site changes
@@ -60,19 +60,19 @@ mapped_changed maps links p change keeps =
     elsewhere k apart = by_test (λ (row : ℕ → PlainLink). row ≡ links k) (eqb k p) (change (links p)) (links k) (λ e. absurd (apart (eqb_equal k p e))) (λ e. refl)
 
 -- the links of a site change, and not their maps; the rows may first have become more
-pub row_changed : (w : PlainWorld) (maps : List MapEntry) (rows : List Row) (p : ℕ) (v x : Row) (change : (ℕ → PlainLink) → ℕ → PlainLink) → KeepsMaps change (maps_of maps p) → mapped_links maps rows ≡ w.links
+pub row_changed : (w : PlainWorld) (maps : List MapEntry) (rows : List Row) (p : ℕ) (v x : Row) (change : (ℕ → PlainLink) → ℕ → PlainLink) → KeepsMaps change (link_maps maps p) → mapped_links maps rows ≡ w.links
     → p < length rows → v ≡ get_or rows p v → row_of x.links.items ≡ change (row_of v.links.items)
     → (let new : PlainWorld = record w { links = mapped_links maps (set rows p x) } in new ≡ with_links w p (change (w.links p)))
 row_changed w maps rows p v x change keeps same lt is changed =
     ap (λ (f : ℕ → ℕ → PlainLink). let new : PlainWorld = record w { links = f } in new)
-    (ap (λ (f : ℕ → ℕ → PlainLink). mapped (maps_of maps) f) (seen-changed (λ (r : Row). row_of r.links.items) (λ (s : ℕ). no_link) rows p v x (links_of rows) change lt is refl changed)
-    ∙ mapped_changed (maps_of maps) (links_of rows) p change keeps
+    (ap (λ (f : ℕ → ℕ → PlainLink). mapped (link_maps maps) f) (seen-changed (λ (r : Row). row_of r.links.items) (λ (s : ℕ). no_link) rows p v x (links_of rows) change lt is refl changed)
+    ∙ mapped_changed (link_maps maps) (links_of rows) p change keeps
     ∙ ap (λ (f : ℕ → ℕ → PlainLink). updated f p (change (f p))) same)
 
 -- a site without a row has no links
-pub no_row : (maps : List MapEntry) (rows : List Row) (p : ℕ) → length rows ≤ p → (λ s. with_map (maps_of maps p s) (row_of [] s)) ≡ mapped_links maps rows p
+pub no_row : (maps : List MapEntry) (rows : List Row) (p : ℕ) → length rows ≤ p → (λ s. with_map (link_maps maps p s) (row_of [] s)) ≡ mapped_links maps rows p
 no_row maps rows p past =
-    ap {B = ℕ → PlainLink} (λ (row : ℕ → PlainLink) (s : ℕ). with_map (maps_of maps p s) (row s)) (sym (seen-beyond (λ (r : Row). row_of r.links.items) (λ (s : ℕ). no_link) rows p past))
+    ap {B = ℕ → PlainLink} (λ (row : ℕ → PlainLink) (s : ℕ). with_map (link_maps maps p s) (row s)) (sym (seen-beyond (λ (r : Row). row_of r.links.items) (λ (s : ℕ). no_link) rows p past))
 
 -- the site of this number
 pub node_at : (nodes : List Node) (i : ℕ) (v : Node) → i < length nodes → v ≡ get_or nodes i v → nodes_of nodes i ≡ node_of v

@@ -135,31 +135,31 @@ links_of rows p = get_or (map (λ r. row_of r.links.items) rows) p (λ s. no_lin
 abbrev pub marks_at : (volume start bytes : ℕ) → Regions
 marks_at volume start bytes v r = eqb v volume && (leb (start / REGION) r && ltb (512 * (REGION * r - start)) bytes)
 
-abbrev pub map_by : MapChange → Regions → Regions
-map_by Clear map = no_regions
-map_by (Mark volume start bytes) map = joined_maps map (marks_at volume start bytes)
+abbrev pub map_made : MapChange → Regions → Regions
+map_made Clear map = no_regions
+map_made (Mark volume start bytes) map = joined_maps map (marks_at volume start bytes)
 
 -- the maps of all links with this one from one site to another
-abbrev pub with_marks : (ℕ → ℕ → Regions) → (from to : ℕ) → Regions → ℕ → ℕ → Regions
-with_marks maps from to map = updated maps from (updated (maps from) to map)
+abbrev pub with_link_map : (ℕ → ℕ → Regions) → (from to : ℕ) → Regions → ℕ → ℕ → Regions
+with_link_map maps from to map = updated maps from (updated (maps from) to map)
 
-abbrev pub maps_by : MapEntry → (ℕ → ℕ → Regions) → ℕ → ℕ → Regions
-maps_by e maps = with_marks maps e.from e.to (map_by e.change (maps e.from e.to))
+abbrev pub maps_made : MapEntry → (ℕ → ℕ → Regions) → ℕ → ℕ → Regions
+maps_made e maps = with_link_map maps e.from e.to (map_made e.change (maps e.from e.to))
 
 -- what is made of the maps of all links, one after another
 abbrev pub maps_from : (ℕ → ℕ → Regions) → List MapEntry → ℕ → ℕ → Regions
 maps_from maps [] = maps
-maps_from maps (e ∷ es) = maps_from (maps_by e maps) es
+maps_from maps (e ∷ es) = maps_from (maps_made e maps) es
 
-abbrev pub maps_of : List MapEntry → ℕ → ℕ → Regions
-maps_of es = maps_from (λ p s. no_regions) es
+abbrev pub link_maps : List MapEntry → ℕ → ℕ → Regions
+link_maps es = maps_from (λ p s. no_regions) es
 
 abbrev pub with_map : Regions → PlainLink → PlainLink
 with_map map l = record l { map = map }
 
 -- the links of these rows, each with its map
 abbrev pub mapped_links : List MapEntry → List Row → ℕ → ℕ → PlainLink
-mapped_links entries rows p s = with_map (maps_of entries p s) (links_of rows p s)
+mapped_links entries rows p s = with_map (link_maps entries p s) (links_of rows p s)
 
 -- the first entry of the line
 abbrev pub lines_of : List Entry → Line → PlainHistory

@@ -2,7 +2,7 @@
 ghost use Rattle.std.specs.Prelude.{◌≡◌, [], OnOk};
 ghost use Rattle.vx_history.specs.World.{no_regions};
 ghost use Rattle.vx_history.specs.Regions.{joined_maps, marks_of_all};
-ghost use Rattle.vx_sites.specs.Shapes.{maps_of, with_marks};
+ghost use Rattle.vx_sites.specs.Shapes.{link_maps, with_link_map};
 
 use crate::Write;
 use std::alloc::Global;
@@ -48,7 +48,7 @@ impl ChangeMaps {
 
     /// No region is marked any more in the map of this link.
     pub fn clear(&mut self, from: u32, to: usize) -> Result<(), OutOfMemory>
-        ensures { OnOk result (maps_of self.new.entries.items ≡ with_marks (maps_of self.old.entries.items) from to no_regions) }
+        ensures { OnOk result (link_maps self.new.entries.items ≡ with_link_map (link_maps self.old.entries.items) from to no_regions) }
     {
         self.entries.push(MapEntry {
             from,
@@ -60,7 +60,7 @@ impl ChangeMaps {
 
     /// The regions of these writes are marked too in the map of this link.
     pub fn mark(&mut self, from: u32, to: usize, writes: &[Write]) -> Result<(), OutOfMemory>
-        ensures { OnOk result (let maps = maps_of self.old.entries.items in maps_of self.new.entries.items ≡ with_marks maps from to (joined_maps (maps from to) (marks_of_all writes.now))) }
+        ensures { OnOk result (let maps = link_maps self.old.entries.items in link_maps self.new.entries.items ≡ with_link_map maps from to (joined_maps (maps from to) (marks_of_all writes.now))) }
     {
         for write in writes {
             self.entries.push(MapEntry {

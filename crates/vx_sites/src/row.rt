@@ -6,7 +6,7 @@ ghost use Rattle.vx_history.specs.Sends.{with_links};
 ghost use Rattle.vx_history.specs.Events.{lost_touch, restarted_link, logged_blocks, link_after, links_changed, links_marked};
 ghost use Rattle.vx_history.specs.ChangeMaps.{map_after, map_kept};
 ghost use Rattle.vx_history.specs.Regions.{joined_maps, marks_of_all};
-ghost use Rattle.vx_sites.specs.Shapes.{node_of, link_of, row_of, world_of, maps_of, with_map, with_marks};
+ghost use Rattle.vx_sites.specs.Shapes.{node_of, link_of, row_of, world_of, link_maps, with_map, with_link_map};
 ghost use Rattle.vx_sites.specs.Rows.{change_by_write, is_copied, keeps_map, map_let_in, row_turned};
 
 use crate::changes::newly_kept;
@@ -175,7 +175,7 @@ fn convert_maps(
     node: &Node,
     write: &Write,
 ) -> Result<(), OutOfMemory>
-    ensures { OnOk result (maps_of maps.new.entries.items ≡ row_turned (maps_of maps.old.entries.items) site (λ k. map_let_in (node_of node.now) write.now k (row_of links.now k))) }
+    ensures { OnOk result (link_maps maps.new.entries.items ≡ row_turned (link_maps maps.old.entries.items) site (λ k. map_let_in (node_of node.now) write.now k (row_of links.now k))) }
 {
     for to in 0..links.len() {
         let link = link_in(links, to);
@@ -192,7 +192,7 @@ fn convert_map(
     node: &Node,
     write: &Write,
 ) -> Result<(), OutOfMemory>
-    ensures { OnOk result (let m = maps_of maps.old.entries.items in maps_of maps.new.entries.items ≡ with_marks m site to (map_let_in (node_of node.now) write.now to (link_of link.now) (m site to))) }
+    ensures { OnOk result (let m = link_maps maps.old.entries.items in link_maps maps.new.entries.items ≡ with_link_map m site to (map_let_in (node_of node.now) write.now to (link_of link.now) (m site to))) }
 {
     match change_of(link, node, write) {
         Change::Stays | Change::ToStale => Ok(()),
@@ -211,7 +211,7 @@ fn begin_map(
     mode: &Mode,
     late: &[Write],
 ) -> Result<(), OutOfMemory>
-    ensures { OnOk result (let m = maps_of maps.old.entries.items in maps_of maps.new.entries.items ≡ with_marks m site to (joined_maps (map_kept mode.now (m site to)) (marks_of_all late.now))) }
+    ensures { OnOk result (let m = link_maps maps.old.entries.items in link_maps maps.new.entries.items ≡ with_link_map m site to (joined_maps (map_kept mode.now (m site to)) (marks_of_all late.now))) }
 {
     if is_in_replay(mode) {
         return maps.mark(site, to, late);
@@ -236,7 +236,7 @@ fn mark_maps(
     links: &[Link],
     writes: &[Write],
 ) -> Result<(), OutOfMemory>
-    ensures { OnOk result (maps_of maps.new.entries.items ≡ row_turned (maps_of maps.old.entries.items) site (λ k m. map_after (row_of links.now k).mode m writes.now)) }
+    ensures { OnOk result (link_maps maps.new.entries.items ≡ row_turned (link_maps maps.old.entries.items) site (λ k m. map_after (row_of links.now k).mode m writes.now)) }
 {
     for to in 0..links.len() {
         let link = link_in(links, to);
@@ -252,7 +252,7 @@ fn mark_map(
     mode: &Mode,
     writes: &[Write],
 ) -> Result<(), OutOfMemory>
-    ensures { OnOk result (let m = maps_of maps.old.entries.items in maps_of maps.new.entries.items ≡ with_marks m site to (map_after mode.now (m site to) writes.now)) }
+    ensures { OnOk result (let m = link_maps maps.old.entries.items in link_maps maps.new.entries.items ≡ with_link_map m site to (map_after mode.now (m site to) writes.now)) }
 {
     if has_map(mode) {
         return maps.mark(site, to, writes);
