@@ -9,7 +9,6 @@ use Rattle.vx_model.specs.Content.{Write, Content, put, fold_writes, is_within, 
 use Rattle.vx_history.specs.World.{Regions}
 use Rattle.vx_history.specs.Regions.{AtSome, Fuzzy, IsWithin, marks_block}
 
-
 pub unmarked : (a b : Bool) → (a ≡ true → b ≡ true) → b ≡ false → a ≡ false
 unmarked true b f e = sym (f refl) ∙ e
 unmarked false b f e = refl

@@ -143,8 +143,8 @@ links_turned maps links p turned row target each =
     ∙ ap (λ (r : ℕ → PlainLink). row_with turned r) (at_place links p row)
     ∙ fun_ext each)
     (λ k apart.
-      ap (λ (m : ℕ → Regions). row_with m (updated links p row k)) (updated_other maps p k turned apart)
-      ∙ ap (λ (r : ℕ → PlainLink). row_with (maps k) r) (updated_other links p k row apart))
+    ap (λ (m : ℕ → Regions). row_with m (updated links p row k)) (updated_other maps p k turned apart)
+    ∙ ap (λ (r : ℕ → PlainLink). row_with (maps k) r) (updated_other links p k row apart))
 
 -- in the world
 pub world_turned : (w : PlainWorld) (before now : List MapEntry) (old rows : List Row) (p : ℕ) (turned : ℕ → Regions) (row target : ℕ → PlainLink)
@@ -215,8 +215,8 @@ row_let_in w entries now rows p v x n write same lt is maps changed =
     (λ k. link_after n write k (w.links p k)) same maps
     (rows_set rows p x lt ∙ ap (λ (r : ℕ → PlainLink). updated (links_of rows) p r) changed)
     (λ s.
-      ap (λ (r : ℕ → PlainLink). link_after n write s (with_map (link_maps entries p s) (r s))) (sym (rows_at rows p v lt is))
-      ∙ ap (λ (f : ℕ → ℕ → PlainLink). link_after n write s (f p s)) same)
+    ap (λ (r : ℕ → PlainLink). link_after n write s (with_map (link_maps entries p s) (r s))) (sym (rows_at rows p v lt is))
+    ∙ ap (λ (f : ℕ → ℕ → PlainLink). link_after n write s (f p s)) same)
 
 -- writes of a site are marked
 pub row_marked : (w : PlainWorld) (entries now : List MapEntry) (rows : List Row) (p : ℕ) (v : Row) (writes : List Write) → mapped_links entries rows ≡ w.links → p < length rows
@@ -227,8 +227,8 @@ row_marked w entries now rows p v writes same lt is maps =
     world_turned w entries now rows rows p (λ k. map_after (own k).mode (link_maps entries p k) writes) (links_of rows p) (λ k. link_marked writes (w.links p k)) same maps
     (sym (updated-same (links_of rows) p (links_of rows p) refl))
     (λ s.
-      ap (λ (r : ℕ → PlainLink). with_map (map_after (r s).mode (link_maps entries p s) writes) (links_of rows p s)) (sym (rows_at rows p v lt is))
-      ∙ ap (λ (f : ℕ → ℕ → PlainLink). link_marked writes (f p s)) same)
+    ap (λ (r : ℕ → PlainLink). with_map (map_after (r s).mode (link_maps entries p s) writes) (links_of rows p s)) (sym (rows_at rows p v lt is))
+    ∙ ap (λ (f : ℕ → ℕ → PlainLink). link_marked writes (f p s)) same)
 
 -- a site without a row has nothing to change
 pub row_none : (w : PlainWorld) (entries : List MapEntry) (rows : List Row) (p : ℕ) (change : ℕ → PlainLink → PlainLink) → mapped_links entries rows ≡ w.links → length rows ≤ p

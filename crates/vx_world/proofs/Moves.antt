@@ -283,7 +283,10 @@ module _ (w : World) (i : ℕ) (n : Node) (h : History) (s : Sound w) (good : Go
       let other : q ≡ i → ⊥ = λ e. (s.links i q).apart followed.0 (sym e) in
       let same : updated w.nodes i n q ≡ w.nodes q = updated_other w.nodes i q n other in
       let was : IsFollowed (w.nodes i) (w.nodes q) (w.links i q) = (
-      followed.0, subst (λ (m : Node). is_origin m.role ≡ false) same followed.1, sym (same_line_at q) ∙ followed.2 ∙ same_line_at i) in
+        followed.0,
+        subst (λ (m : Node). is_origin m.role ≡ false) same followed.1,
+        sym (same_line_at q) ∙ followed.2 ∙ same_line_at i,
+      ) in
       let line : line_updated w.lines n.line h (updated w.nodes i n i).line ≡ h =
       ap (λ (m : Node). line_updated w.lines n.line h m.line) (at_place w.nodes i n) ∙ at_line w.lines n.line h in
       subst (λ (r : History). LinkSays r q (updated w.nodes i n q) (w.links i q)) (sym line)
