@@ -1,5 +1,5 @@
 -- Each change of a link's map keeps what its mode says of its receiver.
-use Rattle.std.proofs.Common.{◌≡◌, ◌∙◌, Bool, ℕ, ◌+◌, ◌≤◌, List, ◌++◌, length, take, drop, refl, ap, sym, subst, arith, false, true, inl, inr}
+use Rattle.std.proofs.Common.{◌≡◌, ◌∙◌, Bool, ℕ, ◌+◌, ◌≤◌, List, length, take, drop, refl, ap, sym, subst, arith, false, true, inl, inr}
 use Rattle.std.specs.Prelude.{ltb, max, if◌then◌else◌}
 use Rattle.std.specs.List.{AllByRecursion}
 use Rattle.vx_model.specs.Content.{Write, fold_writes, IsPrefixOf}
@@ -21,9 +21,9 @@ use Rattle.vx_history.specs.Regions.{CoversWrite, Fuzzy, IsMapped, IsWithin, joi
 use Rattle.vx_history.specs.Sending.{mode_overtaken, mode_restarted}
 use Rattle.vx_history.specs.Sound.{HasStored}
 use Rattle.vx_history.specs.World.{Node, Regions, Replays, no_regions}
-use Rattle.vx_history.proofs.Each.{each_drop_append, prefix_each, prefix_front}
+use Rattle.vx_history.proofs.Each.{prefix_each, prefix_front}
 use Rattle.vx_history.proofs.Updates.{and_left, and_right}
-use Rattle.vx_history.proofs.Marking.{content_marked, each_wider, fuzzy_marked, in_left, in_right, joined_wider, late_cover, late_cover_more, late_prefix, marked_wider, marks_all_cover, within_same}
+use Rattle.vx_history.proofs.Marking.{content_marked, each_wider, fuzzy_marked, in_left, in_right, joined_wider, late_cover, late_prefix, marked_wider, marks_all_cover, within_same}
 
 -- ## Writes
 

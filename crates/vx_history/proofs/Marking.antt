@@ -7,7 +7,7 @@ use Rattle.std.proofs.lemmas.Bool.Decides.{nat_tests}
 use Rattle.vx_model.proofs.Contents.{fold_append}
 use Rattle.vx_model.specs.Content.{Write, Content, put, fold_writes, touches, IsPrefixOf}
 use Rattle.vx_history.specs.World.{Regions}
-use Rattle.vx_history.specs.Regions.{CoversWrite, Fuzzy, IsWithin, IsMapped, Near, marks_block, joined_maps, marks_of, marks_of_all}
+use Rattle.vx_history.specs.Regions.{CoversWrite, Fuzzy, IsWithin, IsMapped, marks_block, joined_maps, marks_of, marks_of_all}
 use Rattle.vx_history.proofs.Each.{drop_whole, each_drop_append, each_drop_more, each_weaker}
 use Rattle.vx_history.proofs.Fuzzies.{put_other, unmarked}
 

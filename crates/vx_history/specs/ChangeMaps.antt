@@ -1,12 +1,12 @@
 -- What events make of the change map of a link.
-use Rattle.std.specs.Prelude.{ℕ, max, List, drop, take}
+use Rattle.std.specs.Prelude.{ℕ, max, List, drop}
 use Rattle.vx_model.specs.Content.{Write}
 use Rattle.vx_model.specs.declared.link.Mode.{Mode}
 use Rattle.vx_model.specs.declared.link.Mode.TheVariants.{Log, Dcm, Replay, Fork, Stale}
 use Rattle.vx_history.specs.declared.admission.Change.{Change}
 use Rattle.vx_history.specs.declared.admission.Change.TheVariants.{Stays, ToStale, ToDcm}
 use Rattle.vx_history.specs.World.{Regions, no_regions}
-use Rattle.vx_history.specs.Regions.{joined_maps, marks_of, marks_of_all}
+use Rattle.vx_history.specs.Regions.{joined_maps, marks_of_all}
 
 -- the map with the regions of all numbers of the log above a hold
 abbrev pub map_of_late : Regions → List Write → (hold : ℕ) → Regions

@@ -1,5 +1,5 @@
 -- What replays say of a site that receives, and what the mode of a link to it says.
-use Rattle.std.specs.Prelude.{◌≡◌, ◌⊎◌, ℕ, ◌*◌, ◌≤◌, ◌<◌, max, Bool, true, false, if◌then◌else◌, List, length, take, drop}
+use Rattle.std.specs.Prelude.{◌≡◌, ◌⊎◌, ℕ, ◌≤◌, ◌<◌, max, Bool, true, false, if◌then◌else◌, List, length, take, drop}
 use Rattle.vx_model.specs.Content.{Write}
 use Rattle.vx_model.specs.declared.site.Mark.TheVariants.{Consistent, Inconsistent}
 use Rattle.vx_model.specs.declared.site.SPhase.{SPhase}
@@ -10,7 +10,7 @@ use Rattle.vx_model.specs.declared.link.Mode.{Mode}
 use Rattle.vx_model.specs.declared.link.Mode.TheVariants.{Log, Dcm, Replay, Fork, Stale}
 use Rattle.vx_history.specs.World.{Node, Regions, Replays, no_regions}
 use Rattle.vx_history.specs.Receiving.{phase_takes}
-use Rattle.vx_history.specs.Regions.{joined_maps, marks_block, marks_of_all, Fuzzy, IsMapped}
+use Rattle.vx_history.specs.Regions.{joined_maps, marks_of_all, Fuzzy, IsMapped}
 
 -- Each replay was read from its start to its last reading, which the line holds, and a later one began no earlier than that.
 pub record GoodReplays (held : List Write) (t : Replays) : Type 0 where

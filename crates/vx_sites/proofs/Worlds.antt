@@ -1,5 +1,5 @@
 -- A world in memory with one part in place of another.
-use Rattle.std.proofs.Common.{◌≡◌, ℕ, ◌+◌, ◌-◌, ◌<◌, ◌≤◌, max, List, [], ◌∷◌, ◌++◌, length, get_or, take, drop, replicate, refl, sym, subst, ap, ◌∙◌, zero, suc}
+use Rattle.std.proofs.Common.{◌≡◌, ℕ, ◌+◌, ◌-◌, ◌<◌, ◌≤◌, max, List, [], ◌∷◌, ◌++◌, length, get_or, take, drop, replicate, refl, sym, ap, ◌∙◌, zero, suc}
 use Rattle.std.specs.Prelude.{None, eqb, if◌then◌else◌}
 use Rattle.std.proofs.Math.ListN.{set}
 use Rattle.std.proofs.lemmas.List.{length-set, length-append}
@@ -18,11 +18,10 @@ use Rattle.vx_model.specs.declared.site.Mark.TheVariants.{Consistent, Inconsiste
 use Rattle.vx_model.specs.declared.site.SPhase.TheVariants.{Quiet}
 use Rattle.vx_model.specs.declared.site.SiteState.TheVariants.{Up, Down}
 use Rattle.vx_sites.specs.declared.node.Node.{Node}
-use Rattle.vx_sites.specs.declared.link.Link.{Link}
 use Rattle.vx_sites.specs.declared.link.Row.{Row}
 use Rattle.vx_sites.specs.declared.maps.MapEntry.{MapEntry}
 use Rattle.vx_sites.proofs.Volumes.{named_raw, sizes_raw}
-use Rattle.vx_sites.specs.Shapes.{sizes, named_volumes, node_of, nodes_of, link_of, row_of, links_of, link_maps, mapped_links, with_map}
+use Rattle.vx_sites.specs.Shapes.{sizes, named_volumes, node_of, nodes_of, row_of, links_of, link_maps, mapped_links, with_map}
 use Rattle.vx_sites.proofs.Tables.{at_each, seen-at, seen-beyond, seen-push, seen-changed}
 
 -- a site changes

@@ -13,7 +13,7 @@ use Rattle.vx_history.specs.Sends.{is_linked, with_link}
 use Rattle.vx_history.specs.Step.{outcome_of, step, done, link_part}
 use Rattle.vx_history.specs.World.{Node, Link, Packet, Gathering, World, Message, Hello, Update, NetAck, DataAck, with_node, updated}
 use Rattle.vx_history.specs.declared.event.Event.{Event}
-use Rattle.vx_history.specs.declared.event.Event.TheVariants.{Deliver, Set, Link as LinkAt}
+use Rattle.vx_history.specs.declared.event.Event.TheVariants.{Deliver, Link as LinkAt}
 use Rattle.vx_history.specs.declared.event.LinkPart.TheVariants.{Joins, Made, Marked, Opened}
 use Rattle.vx_history.specs.declared.event.Said.TheVariants.{Ignored as IsIgnored}
 use Rattle.vx_model.specs.declared.link.Prot.{Prot}

@@ -3,7 +3,7 @@ use Rattle.std.proofs.Common.{◌≡◌, ℕ, ◌≤◌, List, [], ◌∷◌, le
 use Rattle.std.specs.Prelude.{eqb}
 use Rattle.std.specs.List.{AllByRecursion}
 use Rattle.vx_model.specs.Content.{Write}
-use Rattle.vx_history.specs.World.{World, Node, Link, History, Packet, Promise, Message, Surety, Hello, Update, NetAck, DataAck, Durable, InSession, with_node, updated}
+use Rattle.vx_history.specs.World.{World, Node, History, Packet, Promise, Message, Surety, Hello, Update, NetAck, DataAck, Durable, InSession, with_node, updated}
 use Rattle.vx_model.specs.Sites.{is_origin}
 use Rattle.vx_history.specs.Good.{Good, IsMade}
 use Rattle.vx_model.specs.declared.history.Line.{Line}

@@ -1,9 +1,9 @@
 -- Worlds that differ in notes alone are good together.
-use Rattle.std.proofs.Common.{◌≡◌, ◌∙◌, ◌⊎◌, inl, inr, ℕ, ◌≤◌, List, length, ap, sym, subst, refl, arith, true, false}
+use Rattle.std.proofs.Common.{◌≡◌, ◌∙◌, inl, inr, ℕ, ◌≤◌, List, length, ap, sym, subst, refl, arith, true, false}
 use Rattle.std.proofs.lemmas.Bool.{cases_Bool}
 use Rattle.std.specs.Prelude.{Option, Some, None}
 use Rattle.std.specs.List.{AllByRecursion}
-use Rattle.vx_model.specs.Content.{Write, IsPrefixOf}
+use Rattle.vx_model.specs.Content.{IsPrefixOf}
 use Rattle.vx_history.specs.Good.{GoodNode, Good, IsMade}
 use Rattle.vx_history.proofs.Places.{places_same}
 use Rattle.vx_history.specs.Listed.{HasPlaces}

@@ -13,7 +13,7 @@ use Rattle.vx_history.specs.Sends.{is_linked, with_link, sending, sent_by, packe
 use Rattle.vx_history.specs.Step.{outcome_of, done}
 use Rattle.vx_history.specs.Steps.{stopped_by, burned}
 use Rattle.vx_history.specs.World.{Node, Link, Packet, Gathering, World, Message, Hello, Update, NetAck, DataAck, no_regions, with_node}
-use Rattle.vx_history.specs.declared.event.Event.TheVariants.{Pump, Tick, Deliver, Connect, Cut, Pause, Resume, Set, Fault}
+use Rattle.vx_history.specs.declared.event.Event.TheVariants.{Pump, Tick, Deliver, Connect, Cut, Pause, Resume, Fault}
 use Rattle.vx_history.specs.declared.event.Said.{Said}
 use Rattle.vx_history.specs.declared.event.Said.TheVariants.{Ignored as IsIgnored, Refused}
 use Rattle.vx_model.specs.declared.no.No.TheVariants.{Down as NotUp, LinkDown, Paused, Device}

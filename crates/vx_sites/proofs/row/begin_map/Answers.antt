@@ -1,5 +1,5 @@
 -- `begin_map`: its result.
-use Rattle.std.proofs.Common.{◌≡◌, ◌∙◌, ℕ, ap, sym}
+use Rattle.std.proofs.Common.{◌∙◌, ap, sym}
 use Rattle.vx_history.specs.World.{Regions}
 use Rattle.vx_history.specs.Regions.{joined_maps, marks_of_all}
 use Rattle.vx_sites.specs.Shapes.{link_maps, with_link_map}

@@ -1,7 +1,6 @@
 -- `convert_map`: its result.
-use Rattle.std.proofs.Common.{◌≡◌, ◌∙◌, ℕ, List, drop, ap, sym}
+use Rattle.std.proofs.Common.{◌≡◌, ◌∙◌, List, drop, ap, sym}
 use Rattle.vx_model.specs.Content.{Write}
-use Rattle.vx_history.specs.World.{Regions}
 use Rattle.vx_history.specs.Admission.{hold}
 use Rattle.vx_history.specs.ChangeMaps.{map_changed, map_kept}
 use Rattle.vx_history.specs.Regions.{joined_maps, marks_of_all}

@@ -1,5 +1,5 @@
 -- `mark_map`: its result.
-use Rattle.std.proofs.Common.{◌≡◌, ◌∙◌, ℕ, ap, sym}
+use Rattle.std.proofs.Common.{◌∙◌, ap, sym}
 use Rattle.vx_history.specs.World.{Regions}
 use Rattle.vx_sites.specs.Shapes.{link_maps, with_link_map}
 use Rattle.vx_sites.proofs.Mapping.{after_marked, after_same, marks_same, on_ok}

@@ -1,8 +1,8 @@
 -- `mark_maps`: its result; what stays true in its loop over `to`.
 use Rattle.std.proofs.Common.{◌∙◌, ap, arith}
-use Rattle.vx_history.specs.World.{Regions, Link}
+use Rattle.vx_history.specs.World.{Link}
 use Rattle.vx_history.specs.ChangeMaps.{map_after}
-use Rattle.vx_sites.specs.Shapes.{link_maps, row_of, with_link_map, link_of}
+use Rattle.vx_sites.specs.Shapes.{link_maps, row_of, with_link_map}
 use Rattle.vx_sites.proofs.Mapping.{row_begun, row_beyond, row_done, row_step}
 use Rattle.vx_sites.proofs.row.mark_maps.Goals as goal
 

@@ -1,5 +1,5 @@
 -- `clear`: its result.
-use Rattle.std.proofs.Common.{◌∙◌, ℕ, List, ap}
+use Rattle.std.proofs.Common.{◌∙◌, List, ap}
 use Rattle.vx_history.specs.World.{no_regions}
 use Rattle.vx_sites.specs.declared.maps.MapChange.TheVariants.{Clear}
 use Rattle.vx_sites.specs.declared.maps.MapEntry.{MapEntry}

@@ -1,6 +1,6 @@
 -- `let_in`: its result.
-use Rattle.std.proofs.Common.{◌∙◌, ℕ, ap, refl, sym, ◌<◌, ◌≤◌, length, arith}
-use Rattle.vx_history.specs.World.{Link, Node}
+use Rattle.std.proofs.Common.{◌∙◌, ap, refl, sym, ◌<◌, length, arith}
+use Rattle.vx_history.specs.World.{Node}
 use Rattle.vx_history.specs.Sends.{with_links}
 use Rattle.vx_history.specs.Events.{link_after}
 use Rattle.vx_sites.specs.Shapes.{world_of, node_of}

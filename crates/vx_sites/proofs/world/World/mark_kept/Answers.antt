@@ -1,9 +1,9 @@
 -- `mark_kept`: its result.
-use Rattle.std.proofs.Common.{◌≡◌, ◌∙◌, ◌<◌, ◌≤◌, List, length, drop, take, refl, ap, sym, arith}
+use Rattle.std.proofs.Common.{◌∙◌, ◌<◌, List, length, drop, take, refl, ap, sym, arith}
 use Rattle.vx_model.specs.Content.{Write}
 use Rattle.vx_history.specs.World.{Node}
-use Rattle.vx_history.specs.Events.{link_marked, links_marked}
-use Rattle.vx_sites.specs.Shapes.{world_of, node_of}
+use Rattle.vx_history.specs.Events.{links_marked}
+use Rattle.vx_sites.specs.Shapes.{world_of}
 use Rattle.vx_sites.proofs.Mapping.{row_marked, row_none}
 use Rattle.vx_sites.proofs.Worlds.{node_at}
 use Rattle.vx_sites.proofs.world.World.mark_kept.Goals as goal

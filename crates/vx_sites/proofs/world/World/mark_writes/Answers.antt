@@ -1,6 +1,5 @@
 -- `mark_writes`: its result.
-use Rattle.std.proofs.Common.{◌<◌, ◌≤◌, length, refl, arith}
-use Rattle.vx_history.specs.Events.{link_marked}
+use Rattle.std.proofs.Common.{◌<◌, length, refl, arith}
 use Rattle.vx_sites.specs.Shapes.{world_of}
 use Rattle.vx_sites.proofs.Mapping.{row_marked, row_none}
 use Rattle.vx_sites.proofs.world.World.mark_writes.Goals as goal
