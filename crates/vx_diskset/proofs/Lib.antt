@@ -7,6 +7,7 @@ pub mod CallsBurn
 pub mod CrashGroup
 pub mod ExactWrite
 pub mod FailGroup
+pub mod Fallen
 pub mod FuseGroup
 pub mod GroupBegun
 pub mod GroupCalling
@@ -28,6 +29,7 @@ pub mod Mores
 pub mod NeedLemmas
 pub mod OverGroups
 pub mod PumpGroup
+pub mod ReachedBack
 pub mod Reaching
 pub mod ReadGroup
 pub mod Receiving

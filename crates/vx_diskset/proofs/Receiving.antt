@@ -285,9 +285,6 @@ pub as_receiver : {beside : KeptBeside} (n : Node) (us : List Update) (halted : 
 as_receiver {beside} n us halted fuse c m sure role most waits up =
     up_receiver beside.doubt (record (durable_of n) { halted = halted; fuse = fuse }) n.log c us m role refl most waits (λ i has. has) (never_may beside m sure) (λ none. sure) up
 
-pub as_held : {beside : KeptBeside} (n : Node) (m : Meaning) → beside.doubt ≡ None → n.safe ≤ length n.log → IsHeldAt beside (durable_of n) m → IsHeldAt beside n m
-as_held {beside} n m sure most held = held_receiver beside.doubt (durable_of n) n.log m refl most (λ i has. has) (never_may beside m sure) held
-
 -- ---- the same of disk sets
 
 pub never_some : {A : Type 0} {x : A} → Some x ≡ None → ⊥
@@ -338,7 +335,7 @@ module _ {R : Type 0} {g : Ghosts R} where
     by_apply : (to : ℕ) (result : Result ℕ No) → AppliedAs beside (durable_of n) to new.rvg.core (g.meaning s.rvg.shelf) (g.meaning new.rvg.shelf) result → AppliedUp beside n to (Receives s) (Receives new) result
     by_apply to (Ok number) h = (h.0, h.1, receives n.halted (burned n.fuse) h.2)
     by_apply to (Err (Device disk)) h = (receives (Some disk) (burned n.fuse) h.0, h.1)
-    by_apply to (Err IsOff) h = (h.0, as_held n (g.meaning new.rvg.shelf) (here.sure running) long h.1)
+    by_apply to (Err IsOff) h = h
     by_apply to (Err other) h = h
 
     pub applied_received : (to : ℕ) (result : Result ℕ No) → AppliedAs beside (durable_of n) to new.rvg.core (g.meaning s.rvg.shelf) (g.meaning new.rvg.shelf) result → AppliedUp beside n to old (Receives new) result

@@ -41,7 +41,9 @@ use Rattle.vx_grouped.proofs.ImageLemmas.{less_from, less_noted, none_noted, not
 use Rattle.vx_grouped.proofs.SiteLemmas.{lies_as, noted_dimmed, away_dimmed, lit_dimmed, runs_dimmed}
 use Rattle.vx_grouped.specs.ConfigMoves.{AnyState, ConfigBack}
 use Rattle.vx_config.specs.Configs.{HasSpelling}
+use Rattle.vx_grouped.specs.Clean.{StoppedSome, StopsClean}
 use Rattle.vx_grouped.specs.GroupNotes.{NotesConfig, NotesFound, note_dimmed}
+use Rattle.vx_grouped.proofs.RunMapLemmas.{clean_noted}
 use Rattle.vx_kept.specs.Cleans.{at_serial}
 use Rattle.vx_grouped.proofs.MovesLemmas.{disk_blocks_at, disk_failed_at, rose_as, volume_moves}
 use Rattle.vx_kept.specs.Groups.{found, found_by}
@@ -149,7 +151,8 @@ dark_away n note last m m' units size none it = record {
 module _ {R : Type 0} {g : Ghosts R} (n : Node) (note : GroupNode) (last newest : Config) (had : NotesConfig note newest) (frames : (v : ℕ) → frame_at newest v ≡ frame_at last v) (racks : (s : Shade R) → IsRack (shade_meaning g.meaning s))
     (old : Meaning) (first : Shade R) (units : (shade_meaning g.meaning first).units ≡ old.units) (size : (u : ℕ) → (shade_meaning g.meaning first).size u ≡ old.size u) (faults : (u : ℕ) → (shade_meaning g.meaning first).disk_faults u ≡ old.disk_faults u)
     (lies : AwayLies n note last (shade_meaning g.meaning first)) (group : Laid R g) (since : CalledSince (shade_meaning g.meaning first) (laid_disks group)) (has : HasSpelling group.core.inner.config)
-    (back : GroupReturns n note last (shade_meaning g.meaning first) group.core (laid_disks group)) (before : Bool) (lit : IsLit note before (shade_meaning g.meaning first)) (less : IsTrue (laid_below group).tells → IsTrue before) where
+    (back : GroupReturns n note last (shade_meaning g.meaning first) group.core (laid_disks group)) (before : Bool) (lit : IsLit note before (shade_meaning g.meaning first)) (less : IsTrue (laid_below group).tells → IsTrue before)
+    (before_found : NotesFound note newest (shade_meaning g.meaning first)) where
   abbrev now : Config
   now = group.core.inner.config
 
@@ -161,7 +164,7 @@ module _ {R : Type 0} {g : Ghosts R} (n : Node) (note : GroupNode) (last newest 
 
   config_back : ConfigBack (IsTrue (laid_disks group).tells) old (laid_disks group) newest now
   config_back = record {
-    volumes = λ tells v lt. volume_moves AnyState newest now v (back.frames (sym since.tells ∙ tells) v (let same = long in omega (arith, lt, same)) ∙ sym (frames v)) (λ k p q at_p at_q. tt);
+    volumes = λ tells v lt. volume_moves AnyState newest now v (back.frames (sym since.tells ∙ tells) v (let same = long in omega (arith, lt, same)) ∙ sym (frames v)) (λ e k p q at_e at_p at_q. tt);
     count = back.disks.count ∙ units;
     blocks = λ k disk at. sym (disk_blocks_at now.disks k disk at) ∙ back.disks.blocks k (below k disk at) ∙ size k;
     failed = λ k disk at failed.
@@ -171,6 +174,11 @@ module _ {R : Type 0} {g : Ghosts R} (n : Node) (note : GroupNode) (last newest 
 
   abbrev noted_next : GroupNode
   noted_next = next n note last (laid_disks group) (shade_meaning g.meaning first) (sym since.tells) lies group.core (laid_disks group) back
+
+  -- a block of a volume that did not stop cleanly has one value
+  renewed_or : note.loose ≡ false → note.begun ≡ [] → (v b : ℕ) → (back.renewed v ≡ true) ⊎ StoppedSome (shade_meaning g.meaning first) v → (noted_next.others v b ≡ []) ⊎ ((v < length newest.volumes) × StopsClean newest v)
+  renewed_or tight none v b (inl on) = inl (ap (λ (t : Bool). if t then [] else note.others v b) on)
+  renewed_or tight none v b (inr some) = inr (clean_noted note newest (shade_meaning g.meaning first) before_found tight none v some)
 
   pub came_up : NotesGroup n note → HasFuse (burned n.fuse) (laid_disks group) → ReturnsUp n note old (Up group)
   came_up noted fuse = (
@@ -186,6 +194,7 @@ module _ {R : Type 0} {g : Ghosts R} (n : Node) (note : GroupNode) (last newest 
       noted_now = record { is = refl; spells = spells_zero now has };
       sizes = λ v. refl;
       change = config_back;
+      one = λ tells tight none v b low. renewed_or tight none v b (back.stops (sym since.tells ∙ tells) v (some_volume now.volumes v b low));
     },
   )
 
@@ -243,7 +252,7 @@ module _ {R : Type 0} {g : Ghosts R} (n : Node) (note : GroupNode) (racks : (s :
     pub recovered_up : (group : Laid R g) → CalledSince (shade_meaning g.meaning first) (laid_disks group) → TellsLess (g.meaning (rack_of first)) (laid_below group) → HasSpelling group.core.inner.config
         → ((last : Config) → AwayLies n note last (shade_meaning g.meaning first) → GroupReturns n note last (shade_meaning g.meaning first) group.core (laid_disks group)) → RecoversFrom n note (shade_meaning g.meaning rack) (Up group) (Ok tt)
     recovered_up group since less has back =
-        came_up n note down.last down.last had (λ v. refl) racks (shade_meaning g.meaning rack) first revived.contents.units revived.contents.size revived.counts.disk_faults lies group since has (back down.last lies) (g.meaning (rack_of rack)).tells lit_first (λ told. rises (less told))
+        came_up n note down.last down.last had (λ v. refl) racks (shade_meaning g.meaning rack) first revived.contents.units revived.contents.size revived.counts.disk_faults lies group since has (back down.last lies) (g.meaning (rack_of rack)).tells lit_first (λ told. rises (less told)) found_first
         down.noted (no_fuse n.fuse (laid_disks group) down.unfused (since.unarmed unarmed))
 
     module _ (middle : Shade R) (idle : Idle R g) (fallen : Shade R) (is : idle.rack ≡ fallen) (agreed : idle.agreed ≡ true) (goes : TellsLess (g.meaning (rack_of first)) (g.meaning (rack_of middle))) (falls : TellsLess (g.meaning (rack_of middle)) (g.meaning (rack_of fallen))) (stop : Stop) (since : CalledSince (shade_meaning g.meaning first) (shade_meaning g.meaning middle)) (stops : ImportStops (shade_meaning g.meaning first) (shade_meaning g.meaning middle) stop)
@@ -322,7 +331,7 @@ module _ {R : Type 0} {g : Ghosts R} (n : Node) (note : GroupNode) (racks : (s :
         → ((last : Config) → AwayLies n note last (shade_meaning g.meaning rack) → GroupReturns n note last (shade_meaning g.meaning rack) group.core (laid_disks group)) → ImportsFrom n note (shade_meaning g.meaning rack) (Up group) (Ok tt)
     imported_up group since less has back =
         let it = back away.last away.away.lies in (
-          came_up n note away.last away.newest had_away away.away.frames racks (shade_meaning g.meaning rack) rack refl (λ u. refl) (λ u. refl) away.away.lies group since has it (g.meaning (rack_of rack)).tells away.lit less away.noted
+          came_up n note away.last away.newest had_away away.away.frames racks (shade_meaning g.meaning rack) rack refl (λ u. refl) (λ u. refl) away.away.lies group since has it (g.meaning (rack_of rack)).tells away.lit less away.away.found away.noted
               (fuse_burned n.fuse (shade_meaning g.meaning rack) (laid_disks group) since.unarmed away.fuse),
           keeps_fuse (laid_disks group) since it.at.up,
         )
@@ -376,6 +385,42 @@ module _ {R : Type 0} {g : Ghosts R} (n : Node) (note : GroupNode) (racks : (s :
             why_away middle (false_from_ne_true (shade_meaning g.meaning rack).down away.up) (λ d. refl) (λ tells. sym since.tells ∙ tells) (never_stops (early_up stop early)),
           ))
 
+      -- the fuse ran out in it: the disks are down, and nothing is told of them any more
+      pub fell_dark : (fallen : Shade R) → AreStopped (shade_meaning g.meaning fallen) → ReturnSince (shade_meaning g.meaning middle) (shade_meaning g.meaning fallen) → TellsNone (shade_meaning g.meaning fallen) → IsTrue (shade_meaning g.meaning middle).down
+          → (idle : Idle R g) → idle.rack ≡ fallen → idle.agreed ≡ true → ImportRefused true n note (shade_meaning g.meaning rack) (Down idle) stop
+      fell_dark fallen fell kept none down idle is agreed = (
+        subst (λ (s : Shade R). GroupDown (crashed (returned_with (note_dimmed true note) n) 0) (note_dimmed true note) idle.agreed (g.meaning (rack_of s)).tells (shade_meaning g.meaning s)) (sym is) (record {
+          lit = lit_dimmed note (g.meaning (rack_of fallen)).tells (shade_meaning g.meaning fallen);
+          agrees = λ tight. agreed;
+          noted = record { is = refl; none = record { role = away.noted.none.role; volumes = away.noted.none.volumes; log = refl; safe = refl; running = refl } };
+          unfused = refl;
+          stopped = fell;
+          last = away.newest;
+          spells = away.spells;
+          away = record {
+            state = refl;
+            config = away.away.config;
+            found = none_noted (note_dimmed true note) away.newest (shade_meaning g.meaning fallen) none.leaves;
+            runs = λ bright. absurd (let clash : true ≡ false = bright in cc);
+            lies = record {
+              units = kept.units ∙ since.units ∙ away.away.lies.units;
+              size = λ u low. kept.size u ∙ since.size u ∙ away.away.lies.size u low;
+              can = λ tight. none_can (shade_meaning g.meaning fallen) none;
+              sizes = λ v. away.away.lies.sizes v ∙ sym (frames_blocks away.newest away.last away.away.frames v);
+              finds = λ i each. absurd (none.leaves 0 0 (i 0 0) (each 0 0));
+              volumes = λ i x each found_x. absurd (none.leaves 0 0 (i 0 0) (each 0 0));
+              has = λ i x each found_x. absurd (none.leaves 0 0 (i 0 0) (each 0 0));
+            };
+          };
+        }),
+        fell_fused n.fuse (shade_meaning g.meaning rack) (shade_meaning g.meaning middle) away.fuse away.up since.safe down,
+      )
+
+      -- so it is where it had written nothing
+      pub imported_fell : (fallen : Shade R) → AreStopped (shade_meaning g.meaning fallen) → ReturnSince (shade_meaning g.meaning middle) (shade_meaning g.meaning fallen) → TellsNone (shade_meaning g.meaning fallen) → IsTrue (shade_meaning g.meaning middle).down
+          → (idle : Idle R g) → idle.rack ≡ fallen → idle.agreed ≡ true → ImportsFrom n note (shade_meaning g.meaning rack) (Down idle) (Err (Refused IsOff))
+      imported_fell fallen fell kept none down idle is agreed = fell_dark fallen fell kept none down idle is agreed
+
       module _ (fallen : Shade R) (falls : TellsLess (g.meaning (rack_of middle)) (g.meaning (rack_of fallen))) (fell : AreStopped (shade_meaning g.meaning fallen)) (counts : (d : ℕ) → (shade_meaning g.meaning fallen).disk_faults d ≡ (shade_meaning g.meaning middle).disk_faults d) (kept : ReturnSince (shade_meaning g.meaning middle) (shade_meaning g.meaning fallen))
           (early : stops_early stop ≡ true → Stopped (shade_meaning g.meaning middle) (shade_meaning g.meaning fallen)) (dark : stops_early stop ≡ false → TellsNone (shade_meaning g.meaning fallen)) where
         lies_fell : (t : Bool) → stops_early stop ≡ t → AwayLies n note away.last (shade_meaning g.meaning fallen)
@@ -412,7 +457,6 @@ module _ {R : Type 0} {g : Ghosts R} (n : Node) (note : GroupNode) (racks : (s :
               why_away new (false_from_ne_true (shade_meaning g.meaning rack).down away.up) (λ d. alike.counts.disk_faults d ∙ counts d) (λ tells. tells_rack (sym alike.contents.tells ∙ tells)) (never_stops off),
             ))
 
-        -- the fuse ran out in it, so that it had begun to write
         late_of : (x : Stop) → stops_down x ≡ true → stops_early x ≡ false
         late_of (Refused IsOff) off = refl
         late_of (Refused (Device disk)) off = refl
@@ -421,31 +465,5 @@ module _ {R : Type 0} {g : Ghosts R} (n : Node) (note : GroupNode) (racks : (s :
 
         pub imported_down : (idle : Idle R g) → idle.rack ≡ fallen → idle.agreed ≡ true → stops_down stop ≡ true → ImportsFrom n note (shade_meaning g.meaning rack) (Down idle) (Err stop)
         imported_down idle is agreed off =
-            let none = dark (late_of stop off) in
-            subst (λ (b : Bool). ImportRefused b n note (shade_meaning g.meaning rack) (Down idle) stop) (sym off) (
-              subst (λ (s : Shade R). GroupDown (crashed (returned_with (note_dimmed true note) n) 0) (note_dimmed true note) idle.agreed (g.meaning (rack_of s)).tells (shade_meaning g.meaning s)) (sym is) (record {
-                lit = lit_dimmed note (g.meaning (rack_of fallen)).tells (shade_meaning g.meaning fallen);
-                agrees = λ tight. agreed;
-                noted = record { is = refl; none = record { role = away.noted.none.role; volumes = away.noted.none.volumes; log = refl; safe = refl; running = refl } };
-                unfused = refl;
-                stopped = fell;
-                last = away.newest;
-                spells = away.spells;
-                away = record {
-                  state = refl;
-                  config = away.away.config;
-                  found = none_noted (note_dimmed true note) away.newest (shade_meaning g.meaning fallen) none.leaves;
-                  runs = λ bright. absurd (let clash : true ≡ false = bright in cc);
-                  lies = record {
-                    units = kept.units ∙ since.units ∙ away.away.lies.units;
-                    size = λ u low. kept.size u ∙ since.size u ∙ away.away.lies.size u low;
-                    can = λ tight. none_can (shade_meaning g.meaning fallen) none;
-                    sizes = λ v. away.away.lies.sizes v ∙ sym (frames_blocks away.newest away.last away.away.frames v);
-                    finds = λ i each. absurd (none.leaves 0 0 (i 0 0) (each 0 0));
-                    volumes = λ i x each found_x. absurd (none.leaves 0 0 (i 0 0) (each 0 0));
-                    has = λ i x each found_x. absurd (none.leaves 0 0 (i 0 0) (each 0 0));
-                  };
-                };
-              }),
-              fell_fused n.fuse (shade_meaning g.meaning rack) (shade_meaning g.meaning middle) away.fuse away.up since.safe (down_of (shade_meaning g.meaning rack) (shade_meaning g.meaning middle) stop off stops),
-            )
+            subst (λ (b : Bool). ImportRefused b n note (shade_meaning g.meaning rack) (Down idle) stop) (sym off)
+            (fell_dark fallen fell kept (dark (late_of stop off)) (down_of (shade_meaning g.meaning rack) (shade_meaning g.meaning middle) stop off stops) idle is agreed)

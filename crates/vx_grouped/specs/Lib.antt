@@ -4,6 +4,7 @@ pub mod Begins
 pub mod ConfigMoves
 pub mod Copied
 pub mod CoreMoves
+pub mod Clean
 pub mod Ends
 pub mod Finds
 pub mod GroupNotes

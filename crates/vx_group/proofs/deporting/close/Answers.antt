@@ -1,5 +1,5 @@
 -- `close`: clauses ends, cause and up; what `flush_volumes` and `commit_closed` ask.
-use Rattle.std.proofs.Common.{Err, arith}
+use Rattle.std.proofs.Common.{◌∙◌, Err, arith}
 use Rattle.vx_group.proofs.DeportLemmas.{back_flushed, blames_stop, closes_later, settled_back, stops_later}
 use Rattle.vx_group.proofs.FindingLemmas.{then_finds}
 use Rattle.vx_group.proofs.deporting.close.Goals as goal
@@ -63,3 +63,12 @@ returns-in-Err-flush_volumes-clause-logs g c =
 pub returns-clause-logs : goal.returns-clause-logs
 returns-clause-logs g c =
     err_from c.commit_closed.result (λ last. then_logs c.args.core.now.config c.flush_volumes.new.core.config c.commit_closed.new.core.config (then_logs c.args.core.now.config c.settle_headers.new.core.config c.flush_volumes.new.core.config (volumes_logs c.args.core.now.config c.settle_headers.new.core.config c.settle_headers.ensures.volumes) c.flush_volumes.ensures.logs) last) c.commit_closed.ensures.logs
+
+pub returns-in-Err-clause-agreed : goal.returns-in-Err-clause-agreed
+returns-in-Err-clause-agreed g c = λ is. c.settle_headers.ensures.agreed ∙ c.requires.stands.trusts.both is
+
+pub returns-in-Err-flush_volumes-clause-agreed : goal.returns-in-Err-flush_volumes-clause-agreed
+returns-in-Err-flush_volumes-clause-agreed g c = λ is. c.in-Err-flush_volumes.ensures.agreed (c.settle_headers.ensures.trust ∙ is)
+
+pub returns-clause-agreed : goal.returns-clause-agreed
+returns-clause-agreed g c = err_from c.commit_closed.result (λ keeps is. keeps (c.in-Ok-flush_volumes.ensures.ends.trust (c.settle_headers.ensures.trust ∙ is))) c.commit_closed.ensures.agreed

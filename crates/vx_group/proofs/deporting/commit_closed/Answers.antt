@@ -56,3 +56,9 @@ returns-then-is_down-clause-logs g c = volumes_logs c.args.core.now.config c.com
 
 pub returns-else-is_down-clause-logs : goal.returns-else-is_down-clause-logs
 returns-else-is_down-clause-logs g c = volumes_logs c.args.core.now.config c.commit_clean.new.config c.in-Err.ensures.ends.volumes
+
+pub returns-then-is_down-clause-agreed : goal.returns-then-is_down-clause-agreed
+returns-then-is_down-clause-agreed g c = λ is. is
+
+pub returns-else-is_down-clause-agreed : goal.returns-else-is_down-clause-agreed
+returns-else-is_down-clause-agreed g c = λ is. is

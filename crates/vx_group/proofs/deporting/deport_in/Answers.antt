@@ -71,3 +71,15 @@ returns-in-Err-clause-logs g c = c.release.ensures.logs
 
 pub returns-in-Err-close-clause-logs : goal.returns-in-Err-close-clause-logs
 returns-in-Err-close-clause-logs g c = then_logs c.args.core.now.inner.config c.release.new.core.inner.config c.close.new.core.config c.release.ensures.logs c.in-Err-close.ensures.logs
+
+pub returns-then-core-clause-agreed : goal.returns-then-core-clause-agreed
+returns-then-core-clause-agreed g c = c.requires.stands.stands.trusts.both
+
+pub returns-then-is_down-clause-agreed : goal.returns-then-is_down-clause-agreed
+returns-then-is_down-clause-agreed g c = c.requires.stands.stands.trusts.both
+
+pub returns-in-Err-clause-agreed : goal.returns-in-Err-clause-agreed
+returns-in-Err-clause-agreed g c = c.in-Err.ensures.agreed
+
+pub returns-in-Err-close-clause-agreed : goal.returns-in-Err-close-clause-agreed
+returns-in-Err-close-clause-agreed g c = λ is. c.in-Err-close.ensures.agreed (c.in-Ok.ensures.trust is)

@@ -141,3 +141,15 @@ returns-in-Err-flush_plexes-clause-full g c = λ full. tt
 
 pub returns-in-Ok-flush_plexes-clause-full : goal.returns-in-Ok-flush_plexes-clause-full
 returns-in-Ok-flush_plexes-clause-full g c = λ full. c.in-Ok-flush_plexes.ensures.full (c.make_ready.ensures.full full) ∙ c.make_ready.ensures.volumes
+
+pub returns-then-is_down-clause-ready : goal.returns-then-is_down-clause-ready
+returns-then-is_down-clause-ready g c = tt
+
+pub returns-in-Err-clause-ready : goal.returns-in-Err-clause-ready
+returns-in-Err-clause-ready g c = tt
+
+pub returns-in-Ok-flush_plexes-clause-ready : goal.returns-in-Ok-flush_plexes-clause-ready
+returns-in-Ok-flush_plexes-clause-ready g c = c.in-Ok-flush_plexes.ensures.ready c.in-Ok.ensures.ready
+
+pub returns-in-Err-flush_plexes-clause-ready : goal.returns-in-Err-flush_plexes-clause-ready
+returns-in-Err-flush_plexes-clause-ready g c = tt

@@ -1,5 +1,5 @@
 -- `flush_plexes`: clauses stands, goes, ok, all, cause, narrows, spent and 2 more; what `flush_all` and `detach` ask.
-use Rattle.std.proofs.Common.{inr, Err, refl, sym, subst, arith}
+use Rattle.std.proofs.Common.{inr, Err, refl, sym, subst, arith, ◌≡◌, ◌∙◌, true, false}
 use Rattle.vx_group.proofs.LoseLemmas.{loses_detach}
 use Rattle.vx_group.proofs.CopyLemmas.{spent_by, spent_none}
 use Rattle.vx_group.proofs.CallLemmas.{blames_by, ends_blame, left_done, ok_by}
@@ -159,3 +159,15 @@ returns-in-Err-clause-full g c = λ full. tt
 
 pub returns-else-core-clause-full : goal.returns-else-core-clause-full
 returns-else-core-clause-full g c = λ full. ok_from c.detach.result (λ less. absurd (omega (arith, full, less))) c.detach.ensures.room
+
+pub returns-then-failed-eq0-clause-ready : goal.returns-then-failed-eq0-clause-ready
+returns-then-failed-eq0-clause-ready g c = λ was. was
+
+pub returns-then-core-clause-ready : goal.returns-then-core-clause-ready
+returns-then-core-clause-ready g c = λ was. tt
+
+pub returns-in-Err-clause-ready : goal.returns-in-Err-clause-ready
+returns-in-Err-clause-ready g c = λ was. tt
+
+pub returns-else-core-clause-ready : goal.returns-else-core-clause-ready
+returns-else-core-clause-ready g c = λ was. ok_from c.detach.result (λ off on. absurd (let clash : true ≡ false = sym on ∙ off in cc)) c.detach.ensures.settled

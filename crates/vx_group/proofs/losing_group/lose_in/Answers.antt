@@ -1,5 +1,5 @@
 -- A log that is lost in a call on its volume.
-use Rattle.std.proofs.Common.{ℕ, Bool, List, ap, refl, subst, arith}
+use Rattle.std.proofs.Common.{◌∙◌, ℕ, Bool, List, ap, refl, subst, arith}
 use Rattle.vx_disk.specs.Shelf.{Nothing}
 use Rattle.vx_group.specs.Blames.{CountsRise}
 use Rattle.vx_group.specs.Stands.{volume_faults}
@@ -10,6 +10,7 @@ use Rattle.vx_group.proofs.LoseLemmas.{loses_plexes, loses_same}
 use Rattle.vx_group.proofs.LostLemmas.{error_to}
 use Rattle.vx_group.proofs.FindingLemmas.{as_finds, none_finds}
 use Rattle.vx_group.proofs.TrustStillLemmas.{same_logs, still_but}
+use Rattle.vx_group.proofs.UnsureLemmas.{misses_by, unsure_then}
 use Rattle.vx_group.proofs.losing_group.lose_in.Goals as goal
 
 pub returns-then-is_down-clause-acts : goal.returns-then-is_down-clause-acts
@@ -101,3 +102,12 @@ returns-then-core-ge-MOST_NUMBER-clause-few g c = omega arith
 
 pub returns-in-Ok-clause-few : goal.returns-in-Ok-clause-few
 returns-in-Ok-clause-few g c = c.in-Ok.ensures.few
+
+pub returns-in-Ok-clause-marks : goal.returns-in-Ok-clause-marks
+returns-in-Ok-clause-marks g c = c.lose_log.ensures.narrows.unsure
+
+pub returns-in-Err-clause-marks : goal.returns-in-Err-clause-marks
+returns-in-Err-clause-marks g c = unsure_then c.args.vol c.args.core.now.unsure c.lose_log.new.core.unsure c.give_up.new.unsure c.in-Err.error c.lose_log.ensures.narrows.unsure c.give_up.ensures.marks
+
+pub returns-in-Err-clause-misses : goal.returns-in-Err-clause-misses
+returns-in-Err-clause-misses g c = misses_by c.lose_log.new.core (g.S.Shelf.meaning c.args.shelf.now) (g.S.Shelf.meaning c.lose_log.new.shelf) c.in-Err.error c.in-Err.ensures.missed c.in-Err.ensures.cause

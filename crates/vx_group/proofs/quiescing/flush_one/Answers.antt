@@ -11,6 +11,7 @@ use Rattle.vx_group.proofs.QuiesceLemmas.{missed_back, one_back, one_on, same_pa
 use Rattle.vx_group.proofs.Standing.{fit_of, some_active, sound_of}
 use Rattle.vx_group.proofs.WriteLemmas.{flushed_Narrows, flushed_Stands, flushed_all, no_commit, flushed_finds}
 use Rattle.vx_group.proofs.FindingLemmas.{as_finds, before_ends, ends_finds, stays_finds}
+use Rattle.vx_group.proofs.TrustLemmas.{err_all}
 use Rattle.vx_group.proofs.TrustStillLemmas.{same_logs}
 use Rattle.vx_group.proofs.quiescing.flush_one.Goals as goal
 
@@ -96,3 +97,12 @@ returns-in-Err-detach-clause-logs g c = c.detach.ensures.logs
 
 pub returns-in-Err-clause-logs : goal.returns-in-Err-clause-logs
 returns-in-Err-clause-logs g c = same_logs c.args.core.now.config
+
+pub returns-then-core-ge-MOST_NUMBER-clause-agreed : goal.returns-then-core-ge-MOST_NUMBER-clause-agreed
+returns-then-core-ge-MOST_NUMBER-clause-agreed g c = λ is. c.detach.ensures.stands.trusts.both (c.in-Ok-detach.ensures.trust is)
+
+pub returns-in-Err-detach-clause-agreed : goal.returns-in-Err-detach-clause-agreed
+returns-in-Err-detach-clause-agreed g c = c.in-Err-detach.ensures.agreed
+
+pub returns-in-Err-clause-agreed : goal.returns-in-Err-clause-agreed
+returns-in-Err-clause-agreed g c = err_all c.leave_unsure.result c.requires.stands.trusts.both

@@ -44,3 +44,6 @@ returns-clause-logs g c = c.loop-vol.invariant.2
 
 pub returns-in-Err-clause-logs : goal.returns-in-Err-clause-logs
 returns-in-Err-clause-logs g c = then_logs c.args.core.now.config c.loop-vol.core.config c.flush_one.new.core.config c.loop-vol.invariant.2 c.flush_one.ensures.logs
+
+pub returns-in-Err-clause-agreed : goal.returns-in-Err-clause-agreed
+returns-in-Err-clause-agreed g c = λ is. c.in-Err.ensures.agreed (c.loop-vol.invariant.0.trust is)

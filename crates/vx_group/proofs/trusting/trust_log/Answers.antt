@@ -1,6 +1,6 @@
 -- `trust_log`: clauses goes and acts; what `detach` asks.
 use Rattle.vx_group.proofs.DetachLemmas.{zero_bit}
-use Rattle.std.proofs.Common.{◌∙◌, ℕ, length, refl, arith, List, ap, subst, sym}
+use Rattle.std.proofs.Common.{◌∙◌, ℕ, length, refl, arith, List, ap, subst, sym, inl}
 use Rattle.vx_config.specs.declared.config.Config.{Config}
 use Rattle.vx_layout.specs.Places.{plex_at}
 use Rattle.vx_group.specs.Stands.{volume_faults}
@@ -90,3 +90,9 @@ returns-in-Err-clause-logs g c = volumes_logs c.args.core.now.config c.settle_he
 pub returns-clause-logs : goal.returns-clause-logs
 returns-clause-logs g c =
     then_logs c.args.core.now.config c.settle_headers.new.core.config c.detach.new.core.config (volumes_logs c.args.core.now.config c.settle_headers.new.core.config c.settle_headers.ensures.volumes) (then_logs c.settle_headers.new.core.config c.trust.new.config c.detach.new.core.config (subst (λ (x : Config). TrustsStill c.settle_headers.new.core.config x) (sym c.trust.ensures.changed) (again_logs c.args.vol c.args.log c.settle_headers.new.core.config)) c.detach.ensures.logs)
+
+pub returns-in-Err-clause-missed : goal.returns-in-Err-clause-missed
+returns-in-Err-clause-missed g c = inl c.in-Err.ensures.missed
+
+pub returns-clause-missed : goal.returns-clause-missed
+returns-clause-missed g c = c.detach.ensures.missed

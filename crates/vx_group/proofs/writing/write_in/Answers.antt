@@ -130,3 +130,15 @@ returns-in-Ok-write_plexes-clause-logs g c =
 pub returns-in-Err-write_plexes-clause-logs : goal.returns-in-Err-write_plexes-clause-logs
 returns-in-Err-write_plexes-clause-logs g c =
     then_logs c.args.core.now.config c.make_ready.new.core.config c.write_plexes.new.core.config (volumes_logs c.args.core.now.config c.make_ready.new.core.config c.make_ready.ensures.volumes) c.write_plexes.ensures.logs
+
+pub returns-then-is_down-clause-ready : goal.returns-then-is_down-clause-ready
+returns-then-is_down-clause-ready g c = tt
+
+pub returns-in-Err-clause-ready : goal.returns-in-Err-clause-ready
+returns-in-Err-clause-ready g c = tt
+
+pub returns-in-Ok-write_plexes-clause-ready : goal.returns-in-Ok-write_plexes-clause-ready
+returns-in-Ok-write_plexes-clause-ready g c = c.in-Ok-write_plexes.ensures.ready c.in-Ok.ensures.ready
+
+pub returns-in-Err-write_plexes-clause-ready : goal.returns-in-Err-write_plexes-clause-ready
+returns-in-Err-write_plexes-clause-ready g c = tt

@@ -1,5 +1,5 @@
 -- `write_plexes`: clauses stands, goes, ok, all, cause, gave_up, loses and 2 more; what `write_all` and `detach` ask.
-use Rattle.std.proofs.Common.{refl, inr, ◌/◌, length, Err, sym, subst, arith}
+use Rattle.std.proofs.Common.{refl, inr, ◌/◌, length, Err, sym, subst, arith, ◌≡◌, ◌∙◌, true, false}
 use Rattle.vx_group.proofs.LoseLemmas.{loses_detach, loses_same}
 use Rattle.vx_group.proofs.CallLemmas.{blames_by, ends_blame, left_done, ok_by}
 use Rattle.vx_disk.specs.declared.shelf.ShelfError.{ShelfError}
@@ -15,6 +15,7 @@ use Rattle.vx_kept.proofs.PlexActing.{only_PlexActs}
 use Rattle.vx_group.proofs.ActsLemmas.{then_PlexActs}
 use Rattle.vx_group.proofs.FindingLemmas.{stays_finds, before_ends, ends_finds}
 use Rattle.vx_group.proofs.TrustStillLemmas.{same_logs}
+use Rattle.vx_group.proofs.TrustLemmas.{ok_from}
 use Rattle.vx_group.proofs.writing.write_plexes.Goals as goal
 
 pub write_all-requires-clause-some : goal.write_all-requires-clause-some
@@ -157,3 +158,15 @@ returns-in-Err-clause-logs g c = same_logs c.args.core.now.config
 
 pub returns-else-core-clause-logs : goal.returns-else-core-clause-logs
 returns-else-core-clause-logs g c = c.detach.ensures.logs
+
+pub returns-then-failed-eq0-clause-ready : goal.returns-then-failed-eq0-clause-ready
+returns-then-failed-eq0-clause-ready g c = λ was. was
+
+pub returns-then-core-clause-ready : goal.returns-then-core-clause-ready
+returns-then-core-clause-ready g c = λ was. tt
+
+pub returns-in-Err-clause-ready : goal.returns-in-Err-clause-ready
+returns-in-Err-clause-ready g c = λ was. tt
+
+pub returns-else-core-clause-ready : goal.returns-else-core-clause-ready
+returns-else-core-clause-ready g c = λ was. ok_from c.detach.result (λ off on. absurd (let clash : true ≡ false = sym on ∙ off in cc)) c.detach.ensures.settled
