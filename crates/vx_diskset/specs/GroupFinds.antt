@@ -39,4 +39,4 @@ module _ {R : Type 0} {g : Ghosts R} where
   -- A group came up, of which nothing is told; or none did, and the site is bare still.
   abbrev pub FindsIs : ℕ → Node → DiskSet R g → DiskSet R g → Result (Unit {0}) Stop → Type 0
   FindsIs site n old new (Ok done) = (IsToldAt new → ⊥) × AtSite (FoundUp site n) new × (cut_in new ≡ None)
-  FindsIs site n old new (Err stop) = ((beside : KeptBeside) → SiteStands beside n new) × ((stop ≡ Refused NoConfig) ⊎ ImportWhy ⊥ (bare_disks old) (bare_disks new) stop)
+  FindsIs site n old new (Err stop) = ((beside : KeptBeside) → SiteStands beside n new) × ((stop ≡ Refused NoConfig) ⊎ ImportWhy ⊥ ⊥ (bare_disks old) (bare_disks new) stop)

@@ -36,6 +36,7 @@ pub mod PlexMoveLemmas
 pub mod SitePlexLemmas
 pub mod BothLemmas
 pub mod WhyLemmas
+pub mod NoneLemmas
 pub mod SinceReturns
 pub mod ReadyLemmas
 pub mod FindLemmas
