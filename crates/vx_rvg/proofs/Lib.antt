@@ -12,9 +12,11 @@ pub mod FetchGives
 pub mod MakeStands
 pub mod MapStands
 pub mod MarkAbove
+pub mod MarkStaging
 pub mod MarkStands
 pub mod MarkThrough
 pub mod MarkedStands
+pub mod OverMarks
 pub mod PatchFacts
 pub mod ReadAnswers
 pub mod ReadStands
