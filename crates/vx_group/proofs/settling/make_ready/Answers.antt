@@ -1,5 +1,5 @@
 -- `make_ready`: clauses narrows, cause, volumes, failing, few, good, trust and agreed; what `detach` asks.
-use Rattle.std.proofs.Common.{◌∙◌, length, refl, arith, ◌≡◌, true, false, sym}
+use Rattle.std.proofs.Common.{◌∙◌, inl, inr, length, refl, arith, ◌≡◌, true, false, sym}
 use Rattle.vx_group.proofs.CallLemmas.{blames_later, both_Narrows}
 use Rattle.vx_group.proofs.DetachLemmas.{zero_bit}
 use Rattle.vx_group.proofs.FailingLemmas.{few_ok, then_failing}
@@ -65,10 +65,10 @@ pub returns-clause-full : goal.returns-clause-full
 returns-clause-full g c = λ full. absurd (let less = c.if-core-ge-MOST_NUMBER.false in omega (arith, full, less))
 
 pub returns-then-not-core-clause-ready : goal.returns-then-not-core-clause-ready
-returns-then-not-core-clause-ready g c = λ on. absurd (let clash : false ≡ true = sym c.if-not-core.true ∙ on in cc)
-
-pub returns-then-core-ge-MOST_NUMBER-clause-ready : goal.returns-then-core-ge-MOST_NUMBER-clause-ready
-returns-then-core-ge-MOST_NUMBER-clause-ready g c = λ on. let full = c.if-core-ge-MOST_NUMBER.true in omega (arith, full)
+returns-then-not-core-clause-ready g c = λ on. elim c.then-not-core.either [
+  | inl off ↦ absurd (let clash : false ≡ true = sym off ∙ on in cc)
+  | inr both ↦ (let full = both.1 in omega (arith, full))
+]
 
 pub returns-in-Err-clause-ready : goal.returns-in-Err-clause-ready
 returns-in-Err-clause-ready g c = tt
