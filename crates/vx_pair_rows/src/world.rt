@@ -1,7 +1,7 @@
 // Worked runs of two sites, event by event: what is said, and which packets are sent.
 use std::test::Fail;
 use vx_history::{Event, LinkPart, Said};
-use vx_model::{Blocks, Counted, Name, Named, No, OutOfMemory, SiteName, SyncMode};
+use vx_model::{Blocks, Counted, Name, Named, No, OutOfMemory, Prot, SiteName, SyncMode};
 use vx_world::{World, step};
 
 // An event, what is said of it with its number, and the packets that it sends.
@@ -90,6 +90,7 @@ fn link(to: u32, sync: SyncMode, part: LinkPart) -> Row {
         site: 0,
         to,
         sync,
+        prot: Prot::Fail,
         part,
     };
     (event, "done", 0, None)
@@ -251,6 +252,56 @@ fn a_full_log_fails_writes_where_the_link_is_cut(rt: HostRuntime) -> Result<(), 
     let rows = [
         (CUT, "done", 0, None),
         (put(4, Blocks::filled(1, 4)), "logfull", 1, None),
+    ];
+    assert!(rt; first_wrong(&mut world, &rows)? == None);
+    Ok(())
+}
+
+// The link of a goes by a map where its log is full, or holds the log no more and then again.
+fn set(prot: Prot) -> Row {
+    let event = Event::Set {
+        site: 0,
+        to: 1,
+        sync: SyncMode::Off,
+        prot,
+    };
+    (event, "done", 0, None)
+}
+
+const DETACH: Event = Event::Detach { site: 0, to: 1 };
+
+const ATTACH: Event = Event::Attach { site: 0, to: 1 };
+
+#[test]
+fn a_full_log_turns_a_link_to_a_map(rt: HostRuntime) -> Result<(), Fail> {
+    let mut world = World::new(rt.alloc())?;
+    assert!(rt; first_wrong(&mut world, &two_sites(10, SyncMode::Off))? == None);
+    assert!(rt; first_wrong(&mut world, &[set(Prot::Autodcm)])? == None);
+    assert!(rt; first_wrong(&mut world, &filling())? == None);
+    let rows = [
+        (put(4, Blocks::filled(1, 4)), "done", 4, None),
+        (PUMP, "done", 0, None),
+        (put(5, Blocks::filled(2, 5)), "done", 5, None),
+        (Event::Crash { site: 0, kept: 5 }, "done", 0, None),
+        (recover(0), "recovered", 5, None),
+        (read(0, 6), "got", 5, None),
+    ];
+    assert!(rt; first_wrong(&mut world, &rows)? == None);
+    Ok(())
+}
+
+#[test]
+fn a_link_that_is_detached_holds_no_log(rt: HostRuntime) -> Result<(), Fail> {
+    let mut world = World::new(rt.alloc())?;
+    assert!(rt; first_wrong(&mut world, &two_sites(10, SyncMode::Off))? == None);
+    assert!(rt; first_wrong(&mut world, &filling())? == None);
+    let rows = [
+        (put(4, Blocks::filled(1, 4)), "stalled", 1, None),
+        (DETACH, "done", 0, None),
+        (put(4, Blocks::filled(1, 4)), "done", 4, None),
+        (ATTACH, "done", 0, None),
+        (PUMP, "done", 0, None),
+        (put(5, Blocks::filled(1, 5)), "done", 5, None),
     ];
     assert!(rt; first_wrong(&mut world, &rows)? == None);
     Ok(())
