@@ -12,6 +12,7 @@ mod change;
 mod create;
 mod group;
 mod header;
+mod joined;
 mod mark;
 mod marked;
 mod patch;
