@@ -157,32 +157,32 @@ module _ (held : List Write) (line_start : Content) (t : Replays) (n : Node) (pi
 
 -- ## It takes the end of the copying
 
-module _ (held : List Write) (t : Replays) (n : Node) (start end : ℕ) (table : GoodReplays held t) (fits : n.safe ≤ length n.log) (copy : GoodCopy held t n) (c : n.phase ≡ Copies) (is_start : start ≡ t.start n.replay)
-    (is_end : end ≡ t.read n.replay) (fuzzy : Fuzzy n.base n.start held (t.start n.replay) (t.read n.replay) no_regions) where
-  pub copied_said_closed : (mode : Mode) (id from to : ℕ) → SaysCopied held t n mode id from to → SaysCopied held t (closed_at held n start end) mode id from to
-  copied_said_closed mode id from to (le, s, e, over, f) = (le, s, e, over, λ k. absurd (cc))
+pub copied_said_closed : (held : List Write) (t : Replays) (n : Node) (start end : ℕ) (mode : Mode) (id from to : ℕ) → SaysCopied held t n mode id from to → SaysCopied held t (closed_at held n start end) mode id from to
+copied_said_closed held t n start end mode id from to (le, s, e, over, f) = (le, s, e, over, λ k. absurd (cc))
 
-  pub stored_said_closed : (id volume region kind : ℕ) → SaysStored held t n id volume region kind → SaysStored held t (closed_at held n start end) id volume region kind
-  stored_said_closed id volume region kind (le, f) = (
-    le,
-    λ same. let s = f same in
-        record {
-          stands = inr refl;
-          copied = λ k e. absurd (cc);
-          filled = λ k. absurd (let g : Copies ≡ Fills = sym c ∙ (s.filled k).0 in cc);
-        },
-  )
+pub stored_said_closed : (held : List Write) (t : Replays) (n : Node) (start end : ℕ) → n.phase ≡ Copies → (id volume region kind : ℕ) → SaysStored held t n id volume region kind
+    → SaysStored held t (closed_at held n start end) id volume region kind
+stored_said_closed held t n start end c id volume region kind (le, f) = (
+  le,
+  λ same. let s = f same in
+      record {
+        stands = inr refl;
+        copied = λ k e. absurd (cc);
+        filled = λ k. absurd (let g : Copies ≡ Fills = sym c ∙ (s.filled k).0 in cc);
+      },
+)
 
-  -- what it then answers
-  pub done_answered : SaysStored held t (closed_at held n start end) n.replay 0 0 2
-  done_answered = (
-    omega arith,
-    λ _. record {
-      stands = inr refl;
-      copied = λ e. absurd (omega (arith, e));
-      filled = λ _. (refl, start_closed held t n start end table fits copy c is_start is_end fuzzy);
-    },
-  )
+-- what it then answers
+pub done_answered : (held : List Write) (t : Replays) (n : Node) (start end : ℕ) → GoodReplays held t → n.safe ≤ length n.log → GoodCopy held t n → n.phase ≡ Copies → start ≡ t.start n.replay → end ≡ t.read n.replay
+    → Fuzzy n.base n.start held (t.start n.replay) (t.read n.replay) no_regions → SaysStored held t (closed_at held n start end) n.replay 0 0 2
+done_answered held t n start end table fits copy c is_start is_end fuzzy = (
+  omega arith,
+  λ _. record {
+    stands = inr refl;
+    copied = λ e. absurd (omega (arith, e));
+    filled = λ _. (refl, start_closed held t n start end table fits copy c is_start is_end fuzzy);
+  },
+)
 
 -- a link that goes on copies no region of an earlier replay again
 pub copied_said_over : (held : List Write) (t : Replays) (n : Node) (mode next : Mode) (id start end : ℕ) → ((i : ℕ) → i ≤ n.replay → IsOver mode i → IsOver next i) → SaysCopied held t n mode id start end

@@ -1,12 +1,12 @@
 // What the events of a replay keep of what is said of it. No event of the world goes by them yet.
-ghost use Rattle.std.specs.Prelude.{◌≡◌, ◌≤◌, ◌<◌, ℕ, ◌-◌, Bool, true, List, length};
+ghost use Rattle.std.specs.Prelude.{◌≡◌, ◌≤◌, ◌<◌, ℕ, ◌-◌, ◌++◌, Bool, true, List, length};
 ghost use Rattle.std.specs.List.{AllByRecursion};
 ghost use Rattle.vx_model.specs.Content.{Write, Content, fold_writes, IsPrefixOf};
 ghost use Rattle.vx_model.specs.declared.link.Mode.{Mode};
 ghost use Rattle.vx_model.specs.declared.link.Mode.TheVariants.{Log, Replay};
 ghost use Rattle.vx_model.specs.declared.link.Phase.TheVariants.{Start, Regions as CopiesRegions, Done, Log as ByLogAgain};
 ghost use Rattle.vx_model.specs.declared.site.SPhase.TheVariants.{Regions as Copies, Log as Fills};
-ghost use Rattle.vx_history.specs.CopySteps.{FitsVolumes, IsBeyond, IsOver, IsWholeBlocks, NoRegionLeft, RegionFuzzy, begun_table, closed_at, copying_on, entered, is_in_region, read_table, whole_map, with_part, without_region};
+ghost use Rattle.vx_history.specs.CopySteps.{FitsVolumes, IsBeyond, IsOver, IsWholeBlocks, NoRegionLeft, RegionFuzzy, SaysCopied, SaysRegion, SaysStart, SaysStored, begun_table, closed_at, copying_on, entered, is_in_region, read_table, whole_map, with_part, without_region};
 ghost use Rattle.vx_history.specs.Good.{TellsContent};
 ghost use Rattle.vx_history.specs.GoodCopies.{GoodCopy, GoodMode, GoodPhase, GoodReplays, certain_of};
 ghost use Rattle.vx_history.specs.Regions.{AtSome, Fuzzy, IsMapped};
@@ -81,4 +81,51 @@ pub fn replays_go_on()
         → GoodMode held t n map start (Replay id ByLogAgain left start end) }
     ensures ended { (held : List Write) (t : Replays) (n : Node) (stored : ℕ) (map : Regions) (id left start end number : ℕ) → GoodCopy held t n → end ≤ number → HasStored n number
         → GoodPhase held t n map stored ByLogAgain id left start end → GoodMode held t n no_regions number Log }
+{}
+
+/// Each message of a replay says what it said behind a line that grows, a further replay, a region that is read, and what a receiver takes.
+pub fn replays_say_so()
+    ensures region_more { (held ys : List Write) (t : Replays) → GoodReplays held t → (line_start : Content) (id volume region : ℕ) (blocks : Content) → SaysRegion held line_start t id volume region blocks
+        → SaysRegion (held ++ ys) line_start t id volume region blocks }
+    ensures copied_more { (held ys : List Write) (t : Replays) → GoodReplays held t → (n : Node) (mode : Mode) (id start end : ℕ) → n.replay ≤ t.begun → SaysCopied held t n mode id start end
+        → SaysCopied (held ++ ys) t n mode id start end }
+    ensures stored_more { (held ys : List Write) (t : Replays) → GoodReplays held t → (n : Node) (id volume region kind : ℕ) → n.replay ≤ t.begun → SaysStored held t n id volume region kind
+        → SaysStored (held ++ ys) t n id volume region kind }
+    ensures start_begun { (t : Replays) (id head : ℕ) → t.begun < id → (i start : ℕ) → SaysStart t i start → SaysStart (begun_table t id head) i start }
+    ensures region_begun { (held : List Write) (t : Replays) (id head : ℕ) → t.begun < id → (line_start : Content) (i volume region : ℕ) (blocks : Content) → SaysRegion held line_start t i volume region blocks
+        → SaysRegion held line_start (begun_table t id head) i volume region blocks }
+    ensures copied_begun { (held : List Write) (t : Replays) (id head : ℕ) → t.begun < id → (n : Node) (mode : Mode) (i start end : ℕ) → n.replay ≤ t.begun → SaysCopied held t n mode i start end
+        → SaysCopied held (begun_table t id head) n mode i start end }
+    ensures stored_begun { (held : List Write) (t : Replays) (id head : ℕ) → t.begun < id → (n : Node) (i volume region kind : ℕ) → n.replay ≤ t.begun → SaysStored held t n i volume region kind
+        → SaysStored held (begun_table t id head) n i volume region kind }
+    ensures region_read { (held : List Write) (t : Replays) (head : ℕ) → GoodReplays held t → head ≡ length held → (line_start : Content) (id volume region : ℕ) (blocks : Content) → SaysRegion held line_start t id volume region blocks
+        → SaysRegion held line_start (read_table t head) id volume region blocks }
+    ensures copied_read { (held : List Write) (t : Replays) (head : ℕ) → GoodReplays held t → head ≡ length held → (n : Node) (id left start end at from to : ℕ) → id ≡ t.begun
+        → SaysCopied held t n (Replay id CopiesRegions left start end) at from to → SaysCopied held (read_table t head) n (Replay id CopiesRegions left start head) at from to }
+    ensures stored_read { (held : List Write) (t : Replays) (head : ℕ) → GoodReplays held t → head ≡ length held → (n : Node) (id volume region kind : ℕ) → n.replay ≤ t.begun → SaysStored held t n id volume region kind
+        → SaysStored held (read_table t head) n id volume region kind }
+    ensures copied_entered { (held : List Write) (t : Replays) (n : Node) (id : ℕ) → n.replay < id → (mode : Mode) (i start end : ℕ) → SaysCopied held t n mode i start end → SaysCopied held t (entered n id) mode i start end }
+    ensures stored_entered { (held : List Write) (t : Replays) (n : Node) (id : ℕ) → n.replay < id → (i volume region kind : ℕ) → SaysStored held t n i volume region kind → SaysStored held t (entered n id) i volume region kind }
+    ensures over { (held : List Write) (t : Replays) (n : Node) (mode next : Mode) (id start end : ℕ) → ((i : ℕ) → i ≤ n.replay → IsOver mode i → IsOver next i) → SaysCopied held t n mode id start end
+        → SaysCopied held t n next id start end }
+{}
+
+/// A receiver answers what is so: it took the start of a replay, it stored a whole region, it took the end of the copying; and what it and the other
+/// messages said before stays so.
+pub fn replays_are_answered()
+    ensures start { (held : List Write) (t : Replays) (n : Node) (id : ℕ) → n.replay < id → SaysStored held t (entered n id) id 0 0 0 }
+    ensures region { (held : List Write) (line_start : Content) (t : Replays) (n : Node) (pick : ℕ → ℕ → Bool) (blocks : Content) → GoodReplays held t → GoodCopy held t n → n.phase ≡ Copies → n.start.size ≡ line_start.size
+        → ((v b : ℕ) → pick v b ≡ true → AtSome blocks line_start held (t.start n.replay) (t.read n.replay) v b) → (volume region : ℕ)
+        → ((v b : ℕ) → is_in_region n.start.size volume region v b ≡ true → pick v b ≡ true) → SaysStored held t (with_part line_start n pick blocks) n.replay volume region 1 }
+    ensures copied { (held : List Write) (line_start : Content) (t : Replays) (n : Node) (pick : ℕ → ℕ → Bool) (blocks : Content) → GoodReplays held t → GoodCopy held t n → n.phase ≡ Copies → n.start.size ≡ line_start.size
+        → ((v b : ℕ) → pick v b ≡ true → AtSome blocks line_start held (t.start n.replay) (t.read n.replay) v b) → (mode : Mode) (id start end : ℕ) → SaysCopied held t n mode id start end
+        → SaysCopied held t (with_part line_start n pick blocks) mode id start end }
+    ensures stored { (held : List Write) (line_start : Content) (t : Replays) (n : Node) (pick : ℕ → ℕ → Bool) (blocks : Content) → GoodReplays held t → GoodCopy held t n → n.phase ≡ Copies → n.start.size ≡ line_start.size
+        → ((v b : ℕ) → pick v b ≡ true → AtSome blocks line_start held (t.start n.replay) (t.read n.replay) v b) → (id volume region kind : ℕ) → SaysStored held t n id volume region kind
+        → SaysStored held t (with_part line_start n pick blocks) id volume region kind }
+    ensures done { (held : List Write) (t : Replays) (n : Node) (start end : ℕ) → GoodReplays held t → n.safe ≤ length n.log → GoodCopy held t n → n.phase ≡ Copies → start ≡ t.start n.replay → end ≡ t.read n.replay
+        → Fuzzy n.base n.start held (t.start n.replay) (t.read n.replay) no_regions → SaysStored held t (closed_at held n start end) n.replay 0 0 2 }
+    ensures copied_closed { (held : List Write) (t : Replays) (n : Node) (start end : ℕ) (mode : Mode) (id from to : ℕ) → SaysCopied held t n mode id from to → SaysCopied held t (closed_at held n start end) mode id from to }
+    ensures stored_closed { (held : List Write) (t : Replays) (n : Node) (start end : ℕ) → n.phase ≡ Copies → (id volume region kind : ℕ) → SaysStored held t n id volume region kind
+        → SaysStored held t (closed_at held n start end) id volume region kind }
 {}
