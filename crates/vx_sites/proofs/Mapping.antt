@@ -245,9 +245,9 @@ row_none w entries rows p change same past stays =
         ∙ ap (λ (f : ℕ → ℕ → PlainLink). change k (f p k)) same
 
 -- what holds of a result holds in other words
-pub on_ok : {T E : Type 0} (r : Result T E) (A B : Type 0) → (A → B) → OnOk r A → OnOk r B
-on_ok (Ok x) A B f h = f h
-on_ok (Err e) A B f h = tt
+pub on_ok : {T E : Type 0} (r : Result T E) (A B : Type 0) → OnOk r A → (A → B) → OnOk r B
+on_ok (Ok x) A B h f = f h
+on_ok (Err e) A B h f = tt
 
 -- a change that makes no map leaves it
 pub unmapped : (h : Change) (mode : Mode) (map : Regions) (log : List Write) (hold : ℕ) → (h ≡ Stays) ⊎ (h ≡ ToStale) → map_changed h mode map log hold ≡ map

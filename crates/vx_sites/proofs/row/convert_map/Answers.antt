@@ -24,9 +24,8 @@ returns-in-ToDcm c =
     let l = c.args.link.now.state in
     let log = c.args.node.now.log.items in
     let late : c.log_above-late.result.now ≡ drop (hold l) log = c.log_above-late.ensures ∙ ap (λ (xs : List Write). drop (hold l) xs) c.deref.ensures.value in
-    on_ok c.begin_map.result _ _
+    on_ok c.begin_map.result _ _ c.begin_map.ensures
     (λ is.
     is
     ∙ ap (λ (xs : List Write). with_link_map maps c.args.site c.args.to (joined_maps (map_kept l.mode (maps c.args.site c.args.to)) (marks_of_all xs))) late
     ∙ ap (λ (h : Change). with_link_map maps c.args.site c.args.to (map_changed h l.mode (maps c.args.site c.args.to) log (hold l))) (c.in-ToDcm.ensures tt c.args.to))
-    c.begin_map.ensures

@@ -8,9 +8,8 @@ use Rattle.vx_sites.proofs.row.mark_map.Goals as goal
 pub returns-then-has_map : goal.returns-then-has_map
 returns-then-has_map c =
     let maps = link_maps c.args.maps.now.entries.items in
-    on_ok c.mark.result _ _
+    on_ok c.mark.result _ _ c.mark.ensures
     (λ is. is ∙ ap (λ (m : Regions). with_link_map maps c.args.site c.args.to m) (after_marked c.args.mode.now (maps c.args.site c.args.to) c.args.writes.now (sym c.if-has_map.ensures)))
-    c.mark.ensures
 
 pub returns : goal.returns
 returns c =
