@@ -68,6 +68,8 @@ crash_done w marked mid apart v s k marks down lost empty =
     ∙ ap (λ (f : ℕ → ℕ → Link). let x : World = record (crash_world u s k) { links = f } in emptied x s) (row_twice w.links s row lost_touch)
     ∙ ap (λ (x : World). let y : World = record x { links = updated w.links s (each_link lost_touch row) } in emptied y s)
     (crash_apart w u.links s k (is_origin (w.nodes s).role))
+    ∙ ap (λ (f : ℕ → ℕ → Link). let x : World = record (crash_world w s k) { links = updated f s (each_link lost_touch row) } in emptied x s)
+    (sym (crash_links w s k (is_origin (w.nodes s).role)))
 
 -- ## Recoveries
 
