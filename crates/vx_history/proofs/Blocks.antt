@@ -1,12 +1,12 @@
 -- Blocks that are stored, and what is past the ends of volumes.
-use Rattle.std.proofs.Common.{◌≡◌, ◌∙◌, ℕ, ◌+◌, ◌≤◌, List, [], ◌∷◌, length, take, drop, refl, ap, sym, subst, arith, Bool, true, false}
+use Rattle.std.proofs.Common.{◌≡◌, ◌∙◌, ℕ, ◌+◌, ◌≤◌, List, [], ◌∷◌, length, take, refl, ap, sym, subst, arith, Bool, true, false}
 use Rattle.std.specs.Prelude.{◌/◌, ◌-◌, ◌*◌, ◌&&◌, eqb, leb, ltb, if◌then◌else◌}
 use Rattle.std.specs.List.{AllByRecursion}
 use Rattle.std.proofs.lemmas.Bool.Decides.{nat_tests}
 use Rattle.std.proofs.lemmas.List.{take-take}
 use Rattle.vx_model.specs.Content.{Write, Content, put, fold_writes, is_within, touches, block_of}
 use Rattle.vx_history.specs.World.{Regions}
-use Rattle.vx_history.specs.Regions.{AtSome, CoversWrite, Fuzzy, IsMapped, Near, marks_block}
+use Rattle.vx_history.specs.Regions.{AtSome, Fuzzy, IsMapped, Near}
 use Rattle.vx_history.specs.CopySteps.{IsBeyond, IsWholeBlocks, RegionFuzzy, with_blocks, without_region}
 use Rattle.vx_history.proofs.Each.{each_take}
 use Rattle.vx_history.proofs.Fuzzies.{put_other}

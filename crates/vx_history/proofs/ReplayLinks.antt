@@ -1,19 +1,19 @@
 -- A replay begins, a region is read, and its receiver acknowledges: what is said of replays stays so.
-use Rattle.std.proofs.Common.{◌≡◌, ◌∙◌, ℕ, ◌+◌, ◌≤◌, ◌<◌, List, length, take, drop, refl, ap, sym, subst, arith, Bool, true, false, inl}
+use Rattle.std.proofs.Common.{◌≡◌, ◌∙◌, ℕ, ◌+◌, ◌≤◌, ◌<◌, List, length, drop, refl, ap, sym, subst, arith, Bool, true, false, inl}
 use Rattle.std.specs.Prelude.{◌-◌, ◌/◌, ◌*◌, ◌&&◌, eqb, leb, ltb, if◌then◌else◌}
 use Rattle.std.specs.List.{AllByRecursion}
 use Rattle.std.proofs.lemmas.Bool.Decides.{nat_tests}
 use Rattle.std.proofs.lemmas.List.{take_all}
-use Rattle.vx_model.specs.Content.{Write, Content, fold_writes, touches, IsPrefixOf}
+use Rattle.vx_model.specs.Content.{Write, Content, fold_writes, IsPrefixOf}
 use Rattle.vx_model.specs.declared.site.SPhase.TheVariants.{Regions as Copies, Log as Fills}
 use Rattle.vx_model.specs.declared.link.Phase.TheVariants.{Start, Regions as CopiesRegions, Done, Log as ByLogAgain}
 use Rattle.vx_model.specs.declared.link.Mode.{Mode}
 use Rattle.vx_model.specs.declared.link.Mode.TheVariants.{Log, Replay}
 use Rattle.vx_history.specs.World.{Node, Regions, Replays, no_regions}
-use Rattle.vx_history.specs.CopySteps.{FitsVolumes, IsBeyond, IsWholeBlocks, NoRegionLeft, RegionFuzzy, begun_table, copying_on, is_in_region, read_table, whole_map, without_region}
+use Rattle.vx_history.specs.CopySteps.{FitsVolumes, IsBeyond, IsWholeBlocks, NoRegionLeft, RegionFuzzy, begun_table, copying_on, read_table, whole_map, without_region}
 use Rattle.vx_history.specs.GoodCopies.{GoodCopy, GoodMode, GoodPhase, GoodReplays, certain_of, is_copying}
 use Rattle.vx_history.specs.Receiving.{phase_takes}
-use Rattle.vx_history.specs.Regions.{AtSome, CoversWrite, Fuzzy, IsMapped, joined_maps, marks_block, marks_of_all}
+use Rattle.vx_history.specs.Regions.{AtSome, CoversWrite, Fuzzy, IsMapped, joined_maps, marks_of_all}
 use Rattle.vx_history.specs.Sound.{HasStored}
 use Rattle.vx_history.proofs.Blocks.{fold_beyond, fuzzy_without, near_fuzzy, region_within, some_beyond}
 use Rattle.vx_history.proofs.Each.{each_drop, each_weaker, prefix_length}

@@ -1,18 +1,14 @@
 -- Each change of a line, of a replay, of its receiver and of the link to it keeps what the messages between the two say.
-use Rattle.std.proofs.Common.{◌≡◌, ◌∙◌, ℕ, ◌≤◌, ◌<◌, List, ◌++◌, length, take, drop, refl, ap, sym, subst, arith, Bool, true, false, inl, inr}
-use Rattle.std.specs.Prelude.{eqb, leb, if◌then◌else◌}
-use Rattle.vx_model.specs.Content.{Write, Content, fold_writes}
-use Rattle.vx_model.specs.declared.site.Mark.{Mark}
-use Rattle.vx_model.specs.declared.site.Mark.TheVariants.{Consistent}
+use Rattle.std.proofs.Common.{◌≡◌, ◌∙◌, ℕ, ◌≤◌, ◌<◌, List, ◌++◌, length, refl, ap, sym, arith, Bool, true, false, inl, inr}
+use Rattle.vx_model.specs.Content.{Write, Content}
 use Rattle.vx_model.specs.declared.site.SPhase.TheVariants.{Regions as Copies, Log as Fills}
 use Rattle.vx_model.specs.declared.link.Phase.TheVariants.{Regions as CopiesRegions}
 use Rattle.vx_model.specs.declared.link.Mode.{Mode}
 use Rattle.vx_model.specs.declared.link.Mode.TheVariants.{Replay}
 use Rattle.vx_history.specs.World.{Node, Replays, no_regions}
-use Rattle.vx_history.specs.CopySteps.{IsOver, RegionFuzzy, SaysCopied, SaysRegion, SaysStart, SaysStored, StandsIn, begun_table, closed_at, entered, is_in_region, read_table, with_part}
+use Rattle.vx_history.specs.CopySteps.{IsOver, RegionFuzzy, SaysCopied, SaysRegion, SaysStart, SaysStored, begun_table, closed_at, entered, is_in_region, read_table, with_part}
 use Rattle.vx_history.specs.GoodCopies.{GoodCopy, GoodReplays}
 use Rattle.vx_history.specs.Regions.{AtSome, Fuzzy}
-use Rattle.vx_history.specs.Sound.{HasStored}
 use Rattle.vx_history.proofs.Blocks.{region_within, some_blocks}
 use Rattle.vx_history.proofs.Fuzzies.{fuzzy_longer, some_grows}
 use Rattle.vx_history.proofs.Marking.{within_same}
@@ -45,10 +41,10 @@ module _ (held ys : List Write) (t : Replays) (table : GoodReplays held t) where
 
 -- ## A further replay begins
 
-module _ (held : List Write) (t : Replays) (id head : ℕ) (new : t.begun < id) where
-  pub start_said_begun : (i start : ℕ) → SaysStart t i start → SaysStart (begun_table t id head) i start
-  start_said_begun i start (le, e) = (omega (arith, le, new), omega (arith, e, (begun_same t id head).start i le))
+pub start_said_begun : (t : Replays) (id head : ℕ) → t.begun < id → (i start : ℕ) → SaysStart t i start → SaysStart (begun_table t id head) i start
+start_said_begun t id head new i start (le, e) = (omega (arith, le, new), omega (arith, e, (begun_same t id head).start i le))
 
+module _ (held : List Write) (t : Replays) (id head : ℕ) (new : t.begun < id) where
   pub region_said_begun : (line_start : Content) (i volume region : ℕ) (blocks : Content) → SaysRegion held line_start t i volume region blocks
       → SaysRegion held line_start (begun_table t id head) i volume region blocks
   region_said_begun line_start i volume region blocks (le, f) =

@@ -1,7 +1,6 @@
 -- Each change that a replay makes of a site that receives keeps what is said of it and of the link to it.
-use Rattle.std.proofs.Common.{◌≡◌, ◌∙◌, ◌⊎◌, ℕ, ◌+◌, ◌≤◌, ◌<◌, List, length, take, drop, refl, ap, sym, subst, arith, Bool, true, false, inl, inr}
+use Rattle.std.proofs.Common.{◌≡◌, ◌∙◌, ℕ, ◌≤◌, ◌<◌, List, length, take, drop, refl, ap, sym, subst, arith, Bool, true, false, inl, inr}
 use Rattle.std.specs.Prelude.{leb, max, if◌then◌else◌}
-use Rattle.std.specs.List.{AllByRecursion}
 use Rattle.std.proofs.lemmas.List.{take-append-drop, length-take}
 use Rattle.std.proofs.lemmas.Bool.Decides.{nat_tests}
 use Rattle.vx_model.specs.Content.{Write, Content, fold_writes, IsPrefixOf}
@@ -17,7 +16,7 @@ use Rattle.vx_history.specs.World.{Node, Regions, Replays, no_regions}
 use Rattle.vx_history.specs.CopySteps.{IsBeyond, IsOver, IsOverPhase, closed_at, entered, with_blocks, with_part}
 use Rattle.vx_history.specs.Good.{TellsContent}
 use Rattle.vx_history.specs.GoodCopies.{GoodCopy, GoodMode, GoodPhase, GoodReplays, certain_of, is_copying}
-use Rattle.vx_history.specs.Regions.{AtSome, CoversWrite, Fuzzy, IsMapped, joined_maps, marks_of_all}
+use Rattle.vx_history.specs.Regions.{AtSome, Fuzzy, IsMapped, joined_maps, marks_of_all}
 use Rattle.vx_history.specs.Sound.{HasStored}
 use Rattle.vx_history.proofs.Blocks.{marked_blocks, some_blocks, some_front}
 use Rattle.vx_history.proofs.Fuzzies.{fuzzy_ends, fuzzy_longer, split}
