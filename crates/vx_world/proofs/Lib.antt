@@ -38,6 +38,7 @@ pub mod Quiet
 pub mod Rules
 pub mod Exchanges
 pub mod Passing
+pub mod Putting
 pub mod Reading
 pub mod Applying
 pub mod Downs
