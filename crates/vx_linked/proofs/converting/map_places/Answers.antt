@@ -14,9 +14,9 @@ pub loop-back-preserved : goal.loop-back-preserved
 loop-back-preserved c =
     let ls : List LinkFacts = c.as_slice-links.result.now in
     let less : length ls - 1 - c.loop-back.back < length ls = omega (arith, c.loop-back-test.true) in (
-      places_on ls _ (length ls) c.loop-back.back (length ls - 1 - c.loop-back.back) c.loop-back.places c.map_bit-places.result refl c.loop-back-test.true (omega arith) (got ls _ _ less)
-          c.loop-back.invariant.0 c.map_bit-places.ensures,
-      places_few c.loop-back.places c.loop-back.back c.map_bit-places.result _ c.map_bit-places.ensures c.loop-back.invariant.1,
+      places_on ls _ (length ls) c.loop-back.back (length ls - 1 - c.loop-back.back) c.loop-back.places c.map_bit.result refl c.loop-back-test.true (omega arith) (got ls _ _ less)
+          c.loop-back.invariant.0 c.map_bit.ensures,
+      places_few c.loop-back.places c.loop-back.back c.map_bit.result _ c.map_bit.ensures c.loop-back.invariant.1,
     )
 
 pub overflow_mul-places : goal.overflow_mul-places
@@ -29,7 +29,7 @@ pub overflow_add-places : goal.overflow_add-places
 overflow_add-places c =
     let few : c.loop-back.back ≤ 7 = omega (arith, c.loop-back-test.true, ap length c.as_slice-links.ensures, c.requires.few) in
     let low : 2 ^ c.loop-back.back ≤ 2 ^ 7 = pow_mono few in
-    let one : c.map_bit-places.result ≤ 1 = bit_small c.map_bit-places.result _ c.map_bit-places.ensures in
+    let one : c.map_bit.result ≤ 1 = bit_small c.map_bit.result _ c.map_bit.ensures in
     omega (arith, low, c.loop-back.invariant.1, one)
 
 pub returns : goal.returns
