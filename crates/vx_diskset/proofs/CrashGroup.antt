@@ -96,7 +96,7 @@ found_left units ring state session stamp h m i tells one sizes found = record {
         (one (unit_of units.vols v) b) (found.content.each v b low);
   };
   maps = record {
-    size = length-values_from (λ b. i units.maps b) 0 (m.size units.maps);
+    size = (let long = length-values_from (λ b. i units.maps b) 0 (m.size units.maps) in omega (arith, long));
     each = λ b bytes there.
         let here : 0 + b ≡ b = omega arith in
         let is : i units.maps (0 + b) ≡ bytes = value_there (λ b. i units.maps b) 0 (m.size units.maps) b bytes there in

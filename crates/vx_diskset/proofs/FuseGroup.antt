@@ -1,5 +1,5 @@
 -- What the setting of the fuse leaves of a site.
-use Rattle.std.proofs.Common.{◌≡◌, ◌∙◌, ℕ, List, sym, refl, Option, Some, None, MatchOption}
+use Rattle.std.proofs.Common.{◌≡◌, ◌∙◌, ◌≤◌, ℕ, List, sym, refl, Option, Some, None, MatchOption, arith}
 use Rattle.vx_history.specs.World.{Node, FuseSet}
 use Rattle.vx_diskset.specs.Holds.{KeptBeside}
 use Rattle.vx_disk.specs.Causes.{OnDisks}
@@ -39,7 +39,7 @@ alike_stands core m new alike h stands = record {
   low = stands.low;
   writes = stands.writes;
   place = stands.place;
-  maps = record { size = stands.maps.size ∙ sym (alike.contents.size core.units.maps); each = λ b bytes there. keeps_alike m new alike core.units.maps b bytes (stands.maps.each b bytes there) };
+  maps = record { size = (let least = stands.maps.size in let same = alike.contents.size core.units.maps in omega (arith, least, same)); each = λ b bytes there. keeps_alike m new alike core.units.maps b bytes (stands.maps.each b bytes there) };
   ready = record {
     ring = record {
       is_log = on.is_log;

@@ -194,7 +194,7 @@ raw_holds n m bare some = record {
       (λ past. absurd (omega (arith, below, raw_none n.disks n.blocks v past)))
       (cases_lt v (n.disks - 2));
   maps_are = record {
-    size = length-replicate {A = List ℕ} n.blocks zero_block ∙ sym (bare.fitted.size (n.disks - 1) (omega (arith, some)));
+    size = (let long = length-replicate {A = List ℕ} n.blocks zero_block in let same = bare.fitted.size (n.disks - 1) (omega (arith, some)) in omega (arith, long, same));
     each = λ b bytes there.
         let one = one_of_all n.blocks b bytes there in
         subst (λ (v : List ℕ). Keeps m (n.disks - 1) b v) one.1 (bare.blank (n.disks - 1) b (omega (arith, some)) (omega (arith, some)) one.0);

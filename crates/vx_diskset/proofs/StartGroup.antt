@@ -83,7 +83,7 @@ left_still units ring state session stamp h m new tells size less left = record 
     each = λ v b low. keeps_less m new (unit_of units.vols v) b (h.content.block v b) (newest_of h.content.size h.writes v b) (less (unit_of units.vols v) b) (left.content.each v b low);
   };
   maps = record {
-    size = left.maps.size ∙ sym (size units.maps);
+    size = (let least = left.maps.size in let same = size units.maps in omega (arith, least, same));
     each = λ b bytes there. record { only = λ v is. (left.maps.each b bytes there).only v (less units.maps b v is) };
   };
 }
