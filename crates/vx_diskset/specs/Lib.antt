@@ -16,6 +16,7 @@ pub mod Pumps
 pub mod Received
 pub mod Recovers
 pub mod Rooms
+pub mod Shelves
 pub mod Stands
 pub mod Unlabels
 pub mod Withdrawn

@@ -17,7 +17,8 @@ ghost use Rattle.vx_diskset.specs.Stands.{SiteStands};
 ghost use Rattle.vx_watched.specs.Traces.{TellsLess};
 
 use crate::group_set::{CutWrite, KeptWrite};
-use crate::{DiskSet, GroupSet};
+use crate::over_group::with_rvg;
+use crate::{Above, DiskSet, GroupSet, OverSet};
 use std::alloc::Global;
 use vx_disk::Rack;
 use vx_grouped::{GroupSite, begin_group};
@@ -127,7 +128,7 @@ fn import_in<R: Rack>(group: GroupSet<R>, alloc: Global) -> (DiskSet<R>, Result<
     let cut = group.cut;
     let (site, answer) = group.site.import(alloc);
     match answer {
-        Ok(()) => (DiskSet::OfGroup(GroupSet { site, cut: None }), Ok(())),
+        Ok(()) => with_rvg(alloc, site, None, true),
         Err(stop) => (DiskSet::OfGroup(GroupSet { site, cut }), Err(stop)),
     }
 }
@@ -144,8 +145,94 @@ fn raise_in<R: Rack>(
     let cut = group.cut;
     let (site, answer) = group.site.import(alloc);
     match answer {
-        Ok(()) => (DiskSet::OfGroup(GroupSet { site, cut: None }), Ok(cut)),
+        Ok(()) => {
+            let (disk_set, started) = with_rvg(alloc, site, None, false);
+            match started {
+                Ok(()) => (disk_set, Ok(cut)),
+                Err(stop) => (disk_set, Err(stop)),
+            }
+        }
         Err(stop) => (DiskSet::OfGroup(GroupSet { site, cut }), Err(stop)),
+    }
+}
+
+// The same of a site with a replicated volume group.
+fn import_over<R: Rack>(over: OverSet<R>, alloc: Global) -> (DiskSet<R>, Result<(), Stop>) {
+    let OverSet {
+        site,
+        above: _,
+        cut,
+    } = over;
+    let (site, answer) = site.import(alloc);
+    match answer {
+        Ok(()) => with_rvg(alloc, site, None, true),
+        Err(stop) => (
+            DiskSet::Over(OverSet {
+                site,
+                above: Above::Nothing,
+                cut,
+            }),
+            Err(stop),
+        ),
+    }
+}
+
+fn raise_over<R: Rack>(
+    over: OverSet<R>,
+    alloc: Global,
+) -> (DiskSet<R>, Result<Option<CutWrite>, Stop>) {
+    let OverSet {
+        site,
+        above: _,
+        cut,
+    } = over;
+    let (site, answer) = site.import(alloc);
+    match answer {
+        Ok(()) => {
+            let (disk_set, started) = with_rvg(alloc, site, None, false);
+            match started {
+                Ok(()) => (disk_set, Ok(cut)),
+                Err(stop) => (disk_set, Err(stop)),
+            }
+        }
+        Err(stop) => (
+            DiskSet::Over(OverSet {
+                site,
+                above: Above::Nothing,
+                cut,
+            }),
+            Err(stop),
+        ),
+    }
+}
+
+fn stand_over<R: Rack>(
+    over: OverSet<R>,
+    cut: Option<CutWrite>,
+) -> (DiskSet<R>, Result<Option<KeptWrite>, Stop>) {
+    let OverSet {
+        site,
+        above,
+        cut: _,
+    } = over;
+    let mut site = site;
+    match look_kept(&mut site, &cut) {
+        Ok(kept) => (
+            DiskSet::Over(OverSet {
+                site,
+                above,
+                cut: None,
+            }),
+            Ok(kept),
+        ),
+        Err(no) => (
+            DiskSet::Over(OverSet {
+                site: site.crash(u64::MAX),
+                above: Above::Nothing,
+                cut,
+            }),
+            Err(Stop::No(no)),
+        ),
     }
 }
 
@@ -176,6 +263,7 @@ impl<R: Rack> DiskSet<R> {
     {
         match self {
             DiskSet::OfGroup(group) => import_in(group, alloc),
+            DiskSet::Over(over) => import_over(over, alloc),
             other => (other, Err(Stop::No(No::Role))),
         }
     }
@@ -188,6 +276,7 @@ impl<R: Rack> DiskSet<R> {
     {
         match self {
             DiskSet::OfGroup(group) => raise_in(group, alloc),
+            DiskSet::Over(over) => raise_over(over, alloc),
             other => (other, Err(Stop::No(No::Role))),
         }
     }
@@ -200,6 +289,7 @@ impl<R: Rack> DiskSet<R> {
     {
         match self {
             DiskSet::OfGroup(group) => stand_up(group.site, cut),
+            DiskSet::Over(over) => stand_over(over, cut),
             other => (other, Err(Stop::No(No::Role))),
         }
     }

@@ -64,6 +64,7 @@ impl<R: Rack> DiskSet<R> {
     {
         match self {
             DiskSet::OfGroup(group) => group.site.config(),
+            DiskSet::Over(over) => over.site.config(),
             _ => None,
         }
     }
@@ -84,6 +85,12 @@ impl<R: Rack> DiskSet<R> {
                     site,
                     cut: group.cut,
                 });
+                answer
+            }
+            DiskSet::Over(over) => {
+                let mut over = over;
+                let answer = over.deport();
+                *self = DiskSet::Over(over);
                 answer
             }
             other => {
@@ -107,6 +114,7 @@ impl<R: Rack> DiskSet<R> {
     {
         match self {
             DiskSet::OfGroup(group) => group.site.make_volume(alloc, name, want),
+            DiskSet::Over(over) => over.make_volume(alloc, name, want),
             _ => Err(Stop::No(No::Role)),
         }
     }
@@ -125,6 +133,7 @@ impl<R: Rack> DiskSet<R> {
     {
         match self {
             DiskSet::OfGroup(group) => group.site.det(volume, plex),
+            DiskSet::Over(over) => over.det(volume, plex),
             _ => Err(Stop::No(No::Role)),
         }
     }
@@ -145,6 +154,7 @@ impl<R: Rack> DiskSet<R> {
     {
         match self {
             DiskSet::OfGroup(group) => group.site.att(volume, plex),
+            DiskSet::Over(over) => over.att(volume, plex),
             _ => Err(Stop::No(No::Role)),
         }
     }
@@ -163,6 +173,7 @@ impl<R: Rack> DiskSet<R> {
     {
         match self {
             DiskSet::OfGroup(group) => write_set(group, volume, start, bytes),
+            DiskSet::Over(over) => over.write_plain(volume, start, bytes),
             _ => Err(No::Role),
         }
     }
@@ -178,6 +189,7 @@ impl<R: Rack> DiskSet<R> {
     {
         match self {
             DiskSet::OfGroup(group) => group.site.read(volume, start, into),
+            DiskSet::Over(over) => over.read_plain(volume, start, into),
             _ => Err(No::Role),
         }
     }

@@ -8,6 +8,10 @@ mod group_starts;
 mod grouping;
 mod keeping;
 mod labels;
+mod over_calls;
+mod over_group;
+mod over_set;
+mod over_work;
 mod pumping;
 mod reading;
 mod receivers;
@@ -20,6 +24,7 @@ mod zeroing;
 
 pub use disk_set::DiskSet;
 pub use group_set::{CutWrite, GroupSet, KeptWrite};
+pub use over_set::{Above, OverSet};
 pub use reading::blocks_of;
 pub use receivers::Reached;
 pub use units::can_be_raw;

@@ -20,7 +20,7 @@ ghost use Rattle.vx_diskset.specs.Stands.{IsToldAt, IsUpAt, KeepsRole, SiteStand
 
 use crate::DiskSet;
 use std::alloc::Global;
-use vx_disk::Rack;
+use vx_disk::{Rack, Shelf};
 use vx_model::limits::MOST_NUMBER;
 use vx_model::{Link, Mode, No, Phase, Stop};
 use vx_net::Net;
@@ -45,25 +45,25 @@ fn goes_by_log(mode: &Mode) -> bool
 }
 
 // Sends on a link of a group that runs.
-fn pump_group<R: Rack, N: Net>(
+pub(crate) fn pump_group<S: Shelf, N: Net>(
     alloc: Global,
-    rvg: &mut Rvg<R>,
+    rvg: &mut Rvg<S>,
     link: &mut Link,
     site: u32,
     flight: &mut N,
 ) -> Result<(), Stop>
-    ensures pumped { (d : Doubted) (k : ℕ) → IsUpAt (beside_of d site) (d.world.nodes site) rvg.old.core (R.meaning rvg.old.shelf) → (d.world.nodes site).halted ≡ None → IsTrue (R.meaning rvg.old.shelf).tells
+    ensures pumped { (d : Doubted) (k : ℕ) → IsUpAt (beside_of d site) (d.world.nodes site) rvg.old.core (S.meaning rvg.old.shelf) → (d.world.nodes site).halted ≡ None → IsTrue (S.meaning rvg.old.shelf).tells
         → slice_get (header_links d.world site) k ≡ Some (kept_link link.old.site (d.world.links site link.old.site)) → link.old ≡ plain_link link.old.site (d.world.links site link.old.site) → FlightStands d.world.packets (N.flying flight.old)
-        → PumpedIs d.world site link.old.site link.new (N.flying flight.new) (R.meaning rvg.old.shelf).disk_faults (R.meaning rvg.new.shelf).disk_faults result }
-    ensures stops { (beside : KeptBeside) (n : Node) → IsUpAt beside n rvg.old.core (R.meaning rvg.old.shelf) → n.halted ≡ None → IfErr result (PumpStop n (pump_asks link.old n.safe) (R.meaning rvg.old.shelf).disk_faults (R.meaning rvg.new.shelf).disk_faults) }
-    ensures stands { (beside : KeptBeside) (n : Node) → IsUpAt beside n rvg.old.core (R.meaning rvg.old.shelf) → IsUpAt beside n rvg.new.core (R.meaning rvg.new.shelf) }
-    ensures more { (beside : KeptBeside) (n : Node) → IsUpAt beside n rvg.old.core (R.meaning rvg.old.shelf)
+        → PumpedIs d.world site link.old.site link.new (N.flying flight.new) (S.meaning rvg.old.shelf).disk_faults (S.meaning rvg.new.shelf).disk_faults result }
+    ensures stops { (beside : KeptBeside) (n : Node) → IsUpAt beside n rvg.old.core (S.meaning rvg.old.shelf) → n.halted ≡ None → IfErr result (PumpStop n (pump_asks link.old n.safe) (S.meaning rvg.old.shelf).disk_faults (S.meaning rvg.new.shelf).disk_faults) }
+    ensures stands { (beside : KeptBeside) (n : Node) → IsUpAt beside n rvg.old.core (S.meaning rvg.old.shelf) → IsUpAt beside n rvg.new.core (S.meaning rvg.new.shelf) }
+    ensures more { (beside : KeptBeside) (n : Node) → IsUpAt beside n rvg.old.core (S.meaning rvg.old.shelf)
         → OnOk result (SendsBy (pump_asks link.old n.safe) (way_from site link.old.site n.line) (N.flying flight.old) (N.flying flight.new)) }
     ensures rule { OnOk result (link.new ≡ pumped_at link.old (last_of rvg.old.core)) }
     ensures link { OnErr result (link.new ≡ link.old) }
     ensures unsent { OnErr result (N.flying flight.new ≡ N.flying flight.old) }
-    ensures still { LeavesAlone (DiskSet.Up rvg.old) (DiskSet.Up rvg.new) }
-    ensures later { Later (DiskSet.Up rvg.old) (DiskSet.Up rvg.new) }
+    ensures still { StillOn (S.meaning rvg.old.shelf) (S.meaning rvg.new.shelf) }
+    ensures later { LaterOn (S.meaning rvg.old.shelf) (S.meaning rvg.new.shelf) }
 {
     if let Some(disk) = rvg.halted() {
         return Err(Stop::No(No::Halted { disk }));
@@ -119,6 +119,7 @@ impl<R: Rack> DiskSet<R> {
             | DiskSet::Receives(_)
             | DiskSet::Down(_)
             | DiskSet::OfGroup(_)
+            | DiskSet::Over(_)
             | DiskSet::Gone => Err(Stop::No(No::Role)),
         }
     }

@@ -17,7 +17,7 @@ ghost use Rattle.vx_diskset.specs.Stands.{InVolumes, IsReceiverAt, KeepsRole, Si
 
 use crate::DiskSet;
 use crate::writing::{apply_group, is_off, write_group};
-use vx_disk::Rack;
+use vx_disk::{Rack, Shelf};
 use vx_model::limits::MOST_NUMBER;
 use vx_model::{Counted, No};
 use vx_rvg::Rvg;
@@ -31,19 +31,19 @@ pub struct Reached {
 }
 
 // Logs the oldest of what waits behind a group. It waits no longer.
-fn log_next<R: Rack>(rvg: &mut Rvg<R>, waiting: &mut Waiting) -> Result<(), No>
-    requires waits { Wait rvg.old.core (R.meaning rvg.old.shelf).size waiting.old }
+fn log_next<S: Shelf>(rvg: &mut Rvg<S>, waiting: &mut Waiting) -> Result<(), No>
+    requires waits { Wait rvg.old.core (S.meaning rvg.old.shelf).size waiting.old }
     requires some { 0 < length waiting.old }
     requires numbers { HasNumbers rvg.old.core 1 }
-    ensures logs { (beside : KeptBeside) (n : Node) → IsReceiverAt beside n rvg.old.core waiting.old (R.meaning rvg.old.shelf) → CanReceive beside n
-        → LoggedTo beside n 1 waiting.new rvg.new.core (R.meaning rvg.old.shelf) (R.meaning rvg.new.shelf) result }
+    ensures logs { (beside : KeptBeside) (n : Node) → IsReceiverAt beside n rvg.old.core waiting.old (S.meaning rvg.old.shelf) → CanReceive beside n
+        → LoggedTo beside n 1 waiting.new rvg.new.core (S.meaning rvg.old.shelf) (S.meaning rvg.new.shelf) result }
     ensures left { waiting.new ≡ drop (logged_count result) waiting.old }
     ensures stamp { OnOk result (rvg.new.core.log.header.stamp ≤ rvg.old.core.log.header.stamp + 1) }
     ensures group { IsMore (logged_count result) rvg.old.core rvg.new.core }
-    ensures spends { Spends (R.meaning rvg.old.shelf) (R.meaning rvg.new.shelf) }
-    ensures off { IsFalse (R.meaning rvg.old.shelf).down → OffIf result (R.meaning rvg.new.shelf).down }
-    ensures blames { IfErr result (BlamesGroup rvg.old.core.units) }
-    ensures later { Later (DiskSet.Up rvg.old) (DiskSet.Up rvg.new) }
+    ensures spends { Spends (S.meaning rvg.old.shelf) (S.meaning rvg.new.shelf) }
+    ensures off { IsFalse (S.meaning rvg.old.shelf).down → OffIf result (S.meaning rvg.new.shelf).down }
+    ensures blames { IfErr result (BlamesRack (S.meaning rvg.old.shelf).disks rvg.old.core.units) }
+    ensures later { LaterOn (S.meaning rvg.old.shelf) (S.meaning rvg.new.shelf) }
 {
     let Some(update) = waiting.get(0) else {
         unreachable!()
@@ -56,18 +56,18 @@ fn log_next<R: Rack>(rvg: &mut Rvg<R>, waiting: &mut Waiting) -> Result<(), No>
 }
 
 // Logs the oldest of what waits behind a group, so many of them, in their order. They wait no longer.
-fn log_waiting<R: Rack>(rvg: &mut Rvg<R>, waiting: &mut Waiting, count: u32) -> Result<(), No>
-    requires waits { Wait rvg.old.core (R.meaning rvg.old.shelf).size waiting.old }
+fn log_waiting<S: Shelf>(rvg: &mut Rvg<S>, waiting: &mut Waiting, count: u32) -> Result<(), No>
+    requires waits { Wait rvg.old.core (S.meaning rvg.old.shelf).size waiting.old }
     requires some { count ≤ length waiting.old }
     requires numbers { HasNumbers rvg.old.core count }
-    ensures logs { (beside : KeptBeside) (n : Node) → IsReceiverAt beside n rvg.old.core waiting.old (R.meaning rvg.old.shelf) → CanReceive beside n
-        → LoggedTo beside n count waiting.new rvg.new.core (R.meaning rvg.old.shelf) (R.meaning rvg.new.shelf) result }
-    ensures waits { Wait rvg.new.core (R.meaning rvg.new.shelf).size waiting.new }
-    ensures spends { Spends (R.meaning rvg.old.shelf) (R.meaning rvg.new.shelf) }
-    ensures off { IsFalse (R.meaning rvg.old.shelf).down → OffIf result (R.meaning rvg.new.shelf).down }
-    ensures blames { IfErr result (BlamesGroup rvg.old.core.units) }
+    ensures logs { (beside : KeptBeside) (n : Node) → IsReceiverAt beside n rvg.old.core waiting.old (S.meaning rvg.old.shelf) → CanReceive beside n
+        → LoggedTo beside n count waiting.new rvg.new.core (S.meaning rvg.old.shelf) (S.meaning rvg.new.shelf) result }
+    ensures waits { Wait rvg.new.core (S.meaning rvg.new.shelf).size waiting.new }
+    ensures spends { Spends (S.meaning rvg.old.shelf) (S.meaning rvg.new.shelf) }
+    ensures off { IsFalse (S.meaning rvg.old.shelf).down → OffIf result (S.meaning rvg.new.shelf).down }
+    ensures blames { IfErr result (BlamesRack (S.meaning rvg.old.shelf).disks rvg.old.core.units) }
     ensures units { rvg.new.core.units ≡ rvg.old.core.units }
-    ensures later { Later (DiskSet.Up rvg.old) (DiskSet.Up rvg.new) }
+    ensures later { LaterOn (S.meaning rvg.old.shelf) (S.meaning rvg.new.shelf) }
 {
     for _ in 0..count {
         log_next(rvg, waiting)?;
@@ -76,18 +76,18 @@ fn log_waiting<R: Rack>(rvg: &mut Rvg<R>, waiting: &mut Waiting, count: u32) -> 
 }
 
 // Logs the oldest of what waits behind a group, so many of them, and brings all that is logged into the volumes.
-fn apply_oldest<R: Rack>(rvg: &mut Rvg<R>, waiting: &mut Waiting, count: u32) -> Result<Reached, No>
-    requires waits { Wait rvg.old.core (R.meaning rvg.old.shelf).size waiting.old }
+pub(crate) fn apply_oldest<S: Shelf>(rvg: &mut Rvg<S>, waiting: &mut Waiting, count: u32) -> Result<Reached, No>
+    requires waits { Wait rvg.old.core (S.meaning rvg.old.shelf).size waiting.old }
     requires some { count ≤ length waiting.old }
     requires numbers { HasNumbers rvg.old.core count }
-    ensures reaches { (beside : KeptBeside) (n : Node) → IsReceiverAt beside n rvg.old.core waiting.old (R.meaning rvg.old.shelf) → CanReceive beside n
-        → ReachedTo beside n count waiting.new rvg.new.core (R.meaning rvg.old.shelf) (R.meaning rvg.new.shelf) result }
-    ensures brought { (beside : KeptBeside) (n : Node) → IsReceiverAt beside n rvg.old.core waiting.old (R.meaning rvg.old.shelf) → CanReceive beside n → IfOk result (λ r. rvg.new.core.applied ≡ r.number) }
-    ensures waits { Wait rvg.new.core (R.meaning rvg.new.shelf).size waiting.new }
-    ensures spends { Spends (R.meaning rvg.old.shelf) (R.meaning rvg.new.shelf) }
-    ensures off { IsFalse (R.meaning rvg.old.shelf).down → OffIf result (R.meaning rvg.new.shelf).down }
-    ensures blames { IfErr result (BlamesGroup rvg.old.core.units) }
-    ensures later { Later (DiskSet.Up rvg.old) (DiskSet.Up rvg.new) }
+    ensures reaches { (beside : KeptBeside) (n : Node) → IsReceiverAt beside n rvg.old.core waiting.old (S.meaning rvg.old.shelf) → CanReceive beside n
+        → ReachedTo beside n count waiting.new rvg.new.core (S.meaning rvg.old.shelf) (S.meaning rvg.new.shelf) result }
+    ensures brought { (beside : KeptBeside) (n : Node) → IsReceiverAt beside n rvg.old.core waiting.old (S.meaning rvg.old.shelf) → CanReceive beside n → IfOk result (λ r. rvg.new.core.applied ≡ r.number) }
+    ensures waits { Wait rvg.new.core (S.meaning rvg.new.shelf).size waiting.new }
+    ensures spends { Spends (S.meaning rvg.old.shelf) (S.meaning rvg.new.shelf) }
+    ensures off { IsFalse (S.meaning rvg.old.shelf).down → OffIf result (S.meaning rvg.new.shelf).down }
+    ensures blames { IfErr result (BlamesRack (S.meaning rvg.old.shelf).disks rvg.old.core.units) }
+    ensures later { LaterOn (S.meaning rvg.old.shelf) (S.meaning rvg.new.shelf) }
 {
     log_waiting(rvg, waiting, count)?;
     let number = rvg.head();
@@ -107,6 +107,7 @@ impl<R: Rack> DiskSet<R> {
                 let _ring = site.rvg.ring();
                 site.rvg.head() + u64::from(site.waiting.len())
             }
+            DiskSet::Over(over) => over.received(),
             _ => 0,
         }
     }
@@ -117,6 +118,7 @@ impl<R: Rack> DiskSet<R> {
     {
         match self {
             DiskSet::Receives(site) => site.waiting.len(),
+            DiskSet::Over(over) => over.waiting(),
             _ => 0,
         }
     }
@@ -142,6 +144,7 @@ impl<R: Rack> DiskSet<R> {
                 }
             }
             DiskSet::Up(_) => self.read(volume, start, into),
+            DiskSet::Over(over) => over.show(volume, start, into),
             DiskSet::Bare(_)
             | DiskSet::Spoiled(_)
             | DiskSet::Down(_)
@@ -206,6 +209,7 @@ impl<R: Rack> DiskSet<R> {
                 number: rvg.head(),
                 acks: false,
             }),
+            DiskSet::Over(over) => over.apply_waiting(count),
             DiskSet::Bare(_)
             | DiskSet::Spoiled(_)
             | DiskSet::Down(_)

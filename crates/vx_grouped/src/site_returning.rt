@@ -160,7 +160,7 @@ fn risen_traced<C: Begun, R: Rack>(rack: Shade<R>) -> Shade<R>
 }
 
 // Ends the down state of disks.
-fn risen<R: Rack>(rack: Shade<R>) -> Shade<R>
+pub(crate) fn risen<R: Rack>(rack: Shade<R>) -> Shade<R>
     requires { IsTrue (shade_meaning (λ s. R.meaning s) rack).down }
     ensures alike { Alike (shade_meaning (λ s. R.meaning s) rack) (shade_meaning (λ s. R.meaning s) result) }
     ensures up { IsFalse (shade_meaning (λ s. R.meaning s) result).down }

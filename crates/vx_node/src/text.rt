@@ -53,7 +53,7 @@ fn push_recovered(out: &mut Vec<u8>, last: u64, view: &SiteView) -> Result<(), O
 fn push_resumed(out: &mut Vec<u8>, view: &SiteView, kept: &Option<Kept>) -> Result<(), OutOfMemory>
     ensures { OnOk result (out.new.items ≡ out.old.items ++ resumed_text view.now kept.now) }
 {
-    push_text(out, b"recovered\n")?;
+    push_risen(out, view)?;
     push_status(out, view)?;
     push_kept_lines(out, kept)
 }
@@ -83,4 +83,12 @@ fn block_at(bytes: &[u8], k: usize) -> &[u8]
     ensures size { length result.now ≡ 512 }
 {
     &bytes[512 * k..512 * k + 512]
+}
+
+// Where the site has a replicated volume group, the number of its last write stands behind the word.
+fn push_risen(out: &mut Vec<u8>, view: &SiteView) -> Result<(), OutOfMemory> {
+    match &view.rvg {
+        Some(rvg) => push_numbered(out, b"recovered ", rvg.head),
+        None => push_text(out, b"recovered\n"),
+    }
 }

@@ -55,6 +55,9 @@ fn give_back<R: Rack>(racks: &mut Vec<R>, disk_set: DiskSet<R>)
         DiskSet::OfGroup(group) => {
             give_site(racks, group.site);
         }
+        DiskSet::Over(over) => {
+            give_site(racks, over.site);
+        }
         DiskSet::Gone => {}
     }
 }

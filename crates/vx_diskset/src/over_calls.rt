@@ -1,0 +1,447 @@
+// Calls on the replicated volume group of a site over a disk group.
+use crate::disk_set::last_in;
+use crate::group_set::CutWrite;
+use crate::over_work::{Applies, Keeps, Reaches, Reads, Shows, Writes};
+use crate::receivers::Reached;
+use crate::room::used_in;
+use crate::{Above, OverSet};
+use std::mem;
+use vx_disk::Rack;
+use vx_ground::{Work, work_over};
+use vx_grouped::GroupSite;
+use vx_model::limits::MOST_NUMBER;
+use vx_model::{Counted, No, State};
+use vx_rvg::RvgCore;
+use vx_secondary::Waiting;
+
+// Works on the volumes of a group that is up.
+fn work_site<R: Rack, W: Work + Drop>(site: GroupSite<R>, work: W) -> (GroupSite<R>, Option<W::Answer>) {
+    match site {
+        GroupSite::Up(laid) => {
+            let (laid, answer) = work_over(laid, work);
+            (GroupSite::Up(laid), Some(answer))
+        }
+        other => (other, None),
+    }
+}
+
+// A group that receives nothing, with what a call on it answered.
+fn origin<R: Rack, T>(
+    site: GroupSite<R>,
+    cut: Option<CutWrite>,
+    answer: Option<(RvgCore, Result<T, No>)>,
+) -> (OverSet<R>, Result<T, No>) {
+    match answer {
+        Some((core, result)) => (
+            OverSet {
+                site,
+                above: Above::Origin(core),
+                cut,
+            },
+            result,
+        ),
+        None => (
+            OverSet {
+                site,
+                above: Above::Nothing,
+                cut,
+            },
+            Err(No::Role),
+        ),
+    }
+}
+
+// The same of one that receives.
+fn receiver<R: Rack, T>(
+    site: GroupSite<R>,
+    cut: Option<CutWrite>,
+    answer: Option<(RvgCore, Waiting, Result<T, No>)>,
+) -> (OverSet<R>, Result<T, No>) {
+    match answer {
+        Some((core, waiting, result)) => (
+            OverSet {
+                site,
+                above: Above::Receiver { core, waiting },
+                cut,
+            },
+            result,
+        ),
+        None => (
+            OverSet {
+                site,
+                above: Above::Nothing,
+                cut,
+            },
+            Err(No::Role),
+        ),
+    }
+}
+
+impl<R: Rack> OverSet<R> {
+    // Writes whole blocks to a data volume.
+    fn written(self, volume: u32, start: u64, bytes: &[u8], hold: u64) -> (OverSet<R>, Result<u64, No>) {
+        let OverSet { site, above, cut } = self;
+        match above {
+            Above::Origin(core) => {
+                if volume >= core.volumes() {
+                    return (
+                        OverSet {
+                            site,
+                            above: Above::Origin(core),
+                            cut,
+                        },
+                        Err(No::Role),
+                    );
+                }
+                let work = Writes {
+                    core,
+                    volume,
+                    start,
+                    bytes,
+                    hold,
+                };
+                let (site, answer) = work_site(site, work);
+                origin(site, cut, answer)
+            }
+            above => (OverSet { site, above, cut }, Err(No::Role)),
+        }
+    }
+
+    pub(crate) fn write(&mut self, volume: u32, start: u64, bytes: &[u8], hold: u64) -> Result<u64, No> {
+        let (over, answer) = mem::replace(self, OverSet::gone()).written(volume, start, bytes, hold);
+        *self = over;
+        answer
+    }
+
+    // Brings logged writes into their volumes.
+    fn applied(self, to: u64) -> (OverSet<R>, Result<u64, No>) {
+        let OverSet { site, above, cut } = self;
+        match above {
+            Above::Origin(core) => {
+                let (site, answer) = work_site(site, Applies { core, to });
+                origin(site, cut, answer)
+            }
+            Above::Receiver { core, waiting } => {
+                let (site, answer) = work_site(site, Applies { core, to });
+                match answer {
+                    Some((core, result)) => (
+                        OverSet {
+                            site,
+                            above: Above::Receiver { core, waiting },
+                            cut,
+                        },
+                        result,
+                    ),
+                    None => (
+                        OverSet {
+                            site,
+                            above: Above::Nothing,
+                            cut,
+                        },
+                        Err(No::Role),
+                    ),
+                }
+            }
+            Above::Nothing => (
+                OverSet {
+                    site,
+                    above: Above::Nothing,
+                    cut,
+                },
+                Err(No::Role),
+            ),
+        }
+    }
+
+    pub(crate) fn apply(&mut self, to: u64) -> Result<u64, No> {
+        let (over, answer) = mem::replace(self, OverSet::gone()).applied(to);
+        *self = over;
+        answer
+    }
+
+    // Makes a state of the log's line durable.
+    fn kept(self, state: &State) -> (OverSet<R>, Result<(), No>) {
+        let OverSet { site, above, cut } = self;
+        match above {
+            Above::Origin(core) => {
+                let (site, answer) = work_site(site, Keeps { core, state });
+                origin(site, cut, answer)
+            }
+            Above::Receiver { core, waiting } => {
+                let (site, answer) = work_site(site, Keeps { core, state });
+                match answer {
+                    Some((core, result)) => (
+                        OverSet {
+                            site,
+                            above: Above::Receiver { core, waiting },
+                            cut,
+                        },
+                        result,
+                    ),
+                    None => (
+                        OverSet {
+                            site,
+                            above: Above::Nothing,
+                            cut,
+                        },
+                        Err(No::Role),
+                    ),
+                }
+            }
+            Above::Nothing => (
+                OverSet {
+                    site,
+                    above: Above::Nothing,
+                    cut,
+                },
+                Err(No::Role),
+            ),
+        }
+    }
+
+    pub(crate) fn keep(&mut self, state: &State) -> Result<(), No> {
+        let (over, answer) = mem::replace(self, OverSet::gone()).kept(state);
+        *self = over;
+        answer
+    }
+
+    // Reads blocks of a data volume: the content after the writes that are durable.
+    fn was_read(self, volume: u32, start: u64, into: &mut [u8]) -> (OverSet<R>, Result<(), No>) {
+        let OverSet { site, above, cut } = self;
+        match above {
+            Above::Origin(core) => {
+                if volume >= core.volumes() {
+                    return (
+                        OverSet {
+                            site,
+                            above: Above::Origin(core),
+                            cut,
+                        },
+                        Err(No::Role),
+                    );
+                }
+                let count = into.len();
+                let work = Reads {
+                    core,
+                    volume,
+                    start,
+                    count,
+                };
+                let (site, answer) = work_site(site, work);
+                match answer {
+                    Some((core, room, result)) => {
+                        into.copy_from_slice(&room[..count]);
+                        (
+                            OverSet {
+                                site,
+                                above: Above::Origin(core),
+                                cut,
+                            },
+                            result,
+                        )
+                    }
+                    None => (
+                        OverSet {
+                            site,
+                            above: Above::Nothing,
+                            cut,
+                        },
+                        Err(No::Role),
+                    ),
+                }
+            }
+            above => (OverSet { site, above, cut }, Err(No::Role)),
+        }
+    }
+
+    pub(crate) fn read(&mut self, volume: u32, start: u64, into: &mut [u8]) -> Result<(), No> {
+        let (over, answer) = mem::replace(self, OverSet::gone()).was_read(volume, start, into);
+        *self = over;
+        answer
+    }
+
+    // Reads blocks of a data volume: the content after all writes that were received.
+    fn shown(self, volume: u32, start: u64, into: &mut [u8]) -> (OverSet<R>, Result<(), No>) {
+        let OverSet { site, above, cut } = self;
+        match above {
+            Above::Receiver { core, waiting } => {
+                if volume >= core.volumes() {
+                    return (
+                        OverSet {
+                            site,
+                            above: Above::Receiver { core, waiting },
+                            cut,
+                        },
+                        Err(No::Role),
+                    );
+                }
+                let count = into.len();
+                let work = Shows {
+                    core,
+                    waiting,
+                    volume,
+                    start,
+                    count,
+                };
+                let (site, answer) = work_site(site, work);
+                match answer {
+                    Some((core, waiting, room, result)) => {
+                        into.copy_from_slice(&room[..count]);
+                        (
+                            OverSet {
+                                site,
+                                above: Above::Receiver { core, waiting },
+                                cut,
+                            },
+                            result,
+                        )
+                    }
+                    None => (
+                        OverSet {
+                            site,
+                            above: Above::Nothing,
+                            cut,
+                        },
+                        Err(No::Role),
+                    ),
+                }
+            }
+            above => OverSet { site, above, cut }.was_read(volume, start, into),
+        }
+    }
+
+    pub(crate) fn show(&mut self, volume: u32, start: u64, into: &mut [u8]) -> Result<(), No> {
+        let (over, answer) = mem::replace(self, OverSet::gone()).shown(volume, start, into);
+        *self = over;
+        answer
+    }
+
+    // Logs the oldest of what waits, so many of them or all, and brings all that is logged into the volumes.
+    fn reached(self, count: u64) -> (OverSet<R>, Result<Reached, No>) {
+        let OverSet { site, above, cut } = self;
+        match above {
+            Above::Receiver { core, waiting } => {
+                let few = count.min(u64::from(waiting.len())) as u32;
+                let number = core.head();
+                let suffices = core.has_numbers(u64::from(few));
+                if few == 0 || !suffices {
+                    let answer = if few == 0 {
+                        Ok(Reached {
+                            number,
+                            acks: false,
+                        })
+                    } else {
+                        Err(No::Limit {
+                            what: Counted::Number,
+                            most: MOST_NUMBER,
+                        })
+                    };
+                    return (
+                        OverSet {
+                            site,
+                            above: Above::Receiver { core, waiting },
+                            cut,
+                        },
+                        answer,
+                    );
+                }
+                let work = Reaches {
+                    core,
+                    waiting,
+                    count: few,
+                };
+                let (site, answer) = work_site(site, work);
+                receiver(site, cut, answer)
+            }
+            Above::Origin(core) => {
+                let number = core.head();
+                (
+                    OverSet {
+                        site,
+                        above: Above::Origin(core),
+                        cut,
+                    },
+                    Ok(Reached {
+                        number,
+                        acks: false,
+                    }),
+                )
+            }
+            Above::Nothing => (
+                OverSet {
+                    site,
+                    above: Above::Nothing,
+                    cut,
+                },
+                Err(No::Role),
+            ),
+        }
+    }
+
+    pub(crate) fn apply_waiting(&mut self, count: u64) -> Result<Reached, No> {
+        let (over, answer) = mem::replace(self, OverSet::gone()).reached(count);
+        *self = over;
+        answer
+    }
+
+    /// The replicated volume group but for its shelf, where it is up.
+    pub fn core(&self) -> Option<&RvgCore> {
+        match &self.above {
+            Above::Origin(core) => Some(core),
+            Above::Receiver { core, waiting: _ } => Some(core),
+            Above::Nothing => None,
+        }
+    }
+
+    /// Whether it receives the writes of another, with room for the updates that wait.
+    pub fn receives(&self) -> bool {
+        matches!(&self.above, Above::Receiver { core: _, waiting: _ })
+    }
+
+    pub(crate) fn last(&self) -> u64 {
+        match self.core() {
+            Some(core) => last_in(core),
+            None => 0,
+        }
+    }
+
+    pub(crate) fn state(&self) -> Option<&State> {
+        match self.core() {
+            Some(core) => Some(core.state()),
+            None => None,
+        }
+    }
+
+    pub(crate) fn session(&self) -> u64 {
+        match self.core() {
+            Some(core) => core.session(),
+            None => 0,
+        }
+    }
+
+    pub(crate) fn used(&self, above: u64) -> Option<u64> {
+        match &self.above {
+            Above::Origin(core) => used_in(core, above),
+            _ => None,
+        }
+    }
+
+    pub(crate) fn waiting(&self) -> u32 {
+        match &self.above {
+            Above::Receiver { core: _, waiting } => waiting.len(),
+            _ => 0,
+        }
+    }
+
+    pub(crate) fn received(&self) -> u64 {
+        match &self.above {
+            Above::Origin(core) => core.head(),
+            Above::Receiver { core, waiting } => {
+                // For its bound.
+                let _ring = core.ring();
+                core.head() + u64::from(waiting.len())
+            }
+            Above::Nothing => 0,
+        }
+    }
+}

@@ -1,0 +1,313 @@
+// Calls on the disk group below a replicated volume group.
+use crate::group_set::CutWrite;
+use crate::over_work::{Makes, Rewrites, Starts};
+use crate::writing::is_off;
+use crate::{Above, DiskSet, GroupSet, OverSet};
+use std::alloc::Global;
+use std::mem;
+use vx_config::Config;
+use vx_disk::{Rack, refusal};
+use vx_ground::{name_rvg, work_over};
+use vx_grouped::{GroupSite, Laid};
+use vx_layout::Shape;
+use vx_model::limits::LEAST_BLOCKS;
+use vx_model::{Blocks, Name, No, Role, State, Stop, Units};
+use vx_rvg::{RvgCore, StartRoom};
+use vx_secondary::Waiting;
+
+// Disks that are down behind a call.
+fn fallen<R: Rack>(laid: Laid<R>) -> GroupSite<R> {
+    GroupSite::Down(laid.crash(u64::MAX))
+}
+
+// A group that stays up where its disks are, and is down where its fuse ran out.
+fn stays<R: Rack>(laid: Laid<R>) -> GroupSite<R> {
+    if laid.is_down() {
+        fallen(laid)
+    } else {
+        GroupSite::Up(laid)
+    }
+}
+
+// A group that has no replicated volume group, behind a call that was to make one.
+fn left<R: Rack>(laid: Laid<R>, cut: Option<CutWrite>, stop: Stop) -> (DiskSet<R>, Result<(), Stop>) {
+    (
+        DiskSet::OfGroup(GroupSet {
+            site: stays(laid),
+            cut,
+        }),
+        Err(stop),
+    )
+}
+
+// Makes a replicated volume group of volumes of a group that is up: its log first, and then the commit that names it.
+fn make_over<R: Rack>(
+    alloc: Global,
+    laid: Laid<R>,
+    cut: Option<CutWrite>,
+    site: u32,
+    units: &Units,
+) -> (DiskSet<R>, Result<(), Stop>) {
+    let volumes = units.vols.as_slice();
+    let (laid, answer) = work_over(laid, Rewrites { volumes });
+    if let Err(error) = answer {
+        return left(laid, cut, Stop::No(refusal(error)));
+    }
+    let state = State::first(site);
+    let (laid, made) = work_over(
+        laid,
+        Makes {
+            alloc,
+            units,
+            state,
+        },
+    );
+    match made {
+        Ok(core) => {
+            let (group, named) = name_rvg(laid.together(), units);
+            let laid = Laid::of(group);
+            match named {
+                Ok(()) => (
+                    DiskSet::Over(OverSet {
+                        site: GroupSite::Up(laid),
+                        above: Above::Origin(core),
+                        cut,
+                    }),
+                    Ok(()),
+                ),
+                Err(stop) => left(laid, cut, stop),
+            }
+        }
+        Err(stop) => left(laid, cut, stop),
+    }
+}
+
+// What stands over a group, by the role of its site.
+fn by_role(core: RvgCore, waiting: Waiting) -> Above {
+    match core.state().role {
+        Role::Primary | Role::Handing { to: _ } => Above::Origin(core),
+        _ => Above::Receiver { core, waiting },
+    }
+}
+
+// Starts the replicated volume group of a group that came up. Where it is refused, the disks crash; those of a site that was deported are by
+// themselves again, unless its fuse ran out.
+fn start_over<R: Rack>(
+    alloc: Global,
+    laid: Laid<R>,
+    cut: Option<CutWrite>,
+    units: &Units,
+    away: bool,
+) -> (DiskSet<R>, Result<(), Stop>) {
+    let blocks = laid.size(units.srl);
+    let room = match StartRoom::new(alloc, blocks) {
+        Ok(room) => room,
+        Err(_) => return back_over(laid, cut, away, Stop::OutOfMemory),
+    };
+    let waiting = match Waiting::new(alloc) {
+        Ok(waiting) => waiting,
+        Err(_) => return back_over(laid, cut, away, Stop::OutOfMemory),
+    };
+    let (laid, started) = work_over(laid, Starts { room, units });
+    match started {
+        Ok(core) => (
+            DiskSet::Over(OverSet {
+                site: GroupSite::Up(laid),
+                above: by_role(core, waiting),
+                cut,
+            }),
+            Ok(()),
+        ),
+        Err(no) => {
+            let away = away && !is_off(&no);
+            back_over(laid, cut, away, Stop::No(no))
+        }
+    }
+}
+
+// The disks of a group that came up whose replicated volume group did not.
+fn back_over<R: Rack>(
+    laid: Laid<R>,
+    cut: Option<CutWrite>,
+    away: bool,
+    stop: Stop,
+) -> (DiskSet<R>, Result<(), Stop>) {
+    let idle = laid.crash(u64::MAX);
+    let site = if away {
+        GroupSite::Deported(idle.revive())
+    } else {
+        GroupSite::Down(idle)
+    };
+    (
+        DiskSet::Over(OverSet {
+            site,
+            above: Above::Nothing,
+            cut,
+        }),
+        Err(stop),
+    )
+}
+
+// The replicated volume group that a configuration has.
+fn units_in(config: &Config) -> Option<Units> {
+    match &config.rvg {
+        Some(units) => Some(units.copy()),
+        None => None,
+    }
+}
+
+/// A group that came up, with its replicated volume group where its configuration has one.
+pub(crate) fn with_rvg<R: Rack>(
+    alloc: Global,
+    site: GroupSite<R>,
+    cut: Option<CutWrite>,
+    away: bool,
+) -> (DiskSet<R>, Result<(), Stop>) {
+    match site {
+        GroupSite::Up(laid) => match units_in(laid.config()) {
+            Some(units) => start_over(alloc, laid, cut, &units, away),
+            None => (
+                DiskSet::OfGroup(GroupSet {
+                    site: GroupSite::Up(laid),
+                    cut,
+                }),
+                Ok(()),
+            ),
+        },
+        site => (
+            DiskSet::OfGroup(GroupSet { site, cut }),
+            Err(Stop::No(No::Role)),
+        ),
+    }
+}
+
+impl<R: Rack> OverSet<R> {
+    pub(crate) fn fail(&mut self, disk: u64, on: bool) {
+        let OverSet { site, above, cut } = mem::replace(self, OverSet::gone());
+        let mut site = site;
+        site.fail(disk, on);
+        *self = OverSet { site, above, cut };
+    }
+
+    pub(crate) fn fuse(&mut self, calls: u64, pick: u64) {
+        let OverSet { site, above, cut } = mem::replace(self, OverSet::gone());
+        let mut site = site;
+        site.fuse(calls, pick);
+        *self = OverSet { site, above, cut };
+    }
+
+    pub(crate) fn crash(self, pick: u64) -> OverSet<R> {
+        OverSet {
+            site: self.site.crash(pick),
+            above: Above::Nothing,
+            cut: self.cut,
+        }
+    }
+
+    // The same group behind a call on it: what stood over it does so while it is up.
+    fn behind(site: GroupSite<R>, above: Above, cut: Option<CutWrite>) -> OverSet<R> {
+        match site {
+            GroupSite::Up(laid) => OverSet {
+                site: GroupSite::Up(laid),
+                above,
+                cut,
+            },
+            site => OverSet {
+                site,
+                above: Above::Nothing,
+                cut,
+            },
+        }
+    }
+
+    pub(crate) fn deport(&mut self) -> Result<(), Stop> {
+        let OverSet { site, above, cut } = mem::replace(self, OverSet::gone());
+        let (site, answer) = site.deport();
+        *self = OverSet::behind(site, above, cut);
+        answer
+    }
+
+    pub(crate) fn make_volume(&mut self, alloc: Global, name: &Name, want: &Shape) -> Result<u32, Stop> {
+        let OverSet { site, above, cut } = mem::replace(self, OverSet::gone());
+        let mut site = site;
+        let answer = site.make_volume(alloc, name, want);
+        *self = OverSet::behind(site, above, cut);
+        answer
+    }
+
+    pub(crate) fn det(&mut self, volume: u32, plex: u32) -> Result<(), Stop> {
+        let OverSet { site, above, cut } = mem::replace(self, OverSet::gone());
+        let mut site = site;
+        let answer = site.det(volume, plex);
+        *self = OverSet::behind(site, above, cut);
+        answer
+    }
+
+    pub(crate) fn att(&mut self, volume: u32, plex: u32) -> Result<u64, Stop> {
+        let OverSet { site, above, cut } = mem::replace(self, OverSet::gone());
+        let mut site = site;
+        let answer = site.att(volume, plex);
+        *self = OverSet::behind(site, above, cut);
+        answer
+    }
+
+    /// Writes to a volume outside the replicated volume group. The write in which the fuse runs out is cut.
+    pub(crate) fn write_plain(&mut self, volume: u32, block: u64, bytes: &[u8]) -> Result<(), No> {
+        let OverSet { site, above, cut } = mem::replace(self, OverSet::gone());
+        let mut site = site;
+        match site.write(volume, block, bytes) {
+            Ok(()) => {
+                *self = OverSet::behind(site, above, cut);
+                Ok(())
+            }
+            Err(no) => {
+                if is_off(&no) {
+                    let cut = Some(CutWrite {
+                        volume,
+                        block,
+                        bytes: Blocks::new(bytes),
+                    });
+                    *self = OverSet::behind(site, above, cut);
+                    return Err(no);
+                }
+                *self = OverSet::behind(site, above, cut);
+                Err(no)
+            }
+        }
+    }
+
+    pub(crate) fn read_plain(&mut self, volume: u32, block: u64, into: &mut [u8]) -> Result<(), No> {
+        let OverSet { site, above, cut } = mem::replace(self, OverSet::gone());
+        let mut site = site;
+        let answer = site.read(volume, block, into);
+        *self = OverSet::behind(site, above, cut);
+        answer
+    }
+}
+
+impl<R: Rack> DiskSet<R> {
+    /// Makes a replicated volume group of volumes of the group of a site that is up: each block of its data volumes is first written as it reads, and
+    /// then its log is begun; the commit that names them is the moment at which the site has it. A site whose fuse runs out crashes.
+    ///
+    /// Answers 19 where no serial is left, 7 where a disk failed, and 6 where the fuse ran out; or memory is wanted.
+    pub fn make_rvg(self, alloc: Global, site: u32, units: &Units) -> (DiskSet<R>, Result<(), Stop>) {
+        match self {
+            DiskSet::OfGroup(group) => {
+                let GroupSet { site: below, cut } = group;
+                match below {
+                    GroupSite::Up(laid) => {
+                        if laid.size(units.srl) < LEAST_BLOCKS {
+                            return left(laid, cut, Stop::No(No::Size));
+                        }
+                        make_over(alloc, laid, cut, site, units)
+                    }
+                    below => (
+                        DiskSet::OfGroup(GroupSet { site: below, cut }),
+                        Err(Stop::No(No::Role)),
+                    ),
+                }
+            }
+            other => (other, Err(Stop::No(No::Role))),
+        }
+    }
+}

@@ -1,0 +1,199 @@
+// What is done to a replicated volume group over the volumes of a disk group.
+use crate::keeping::keep_group;
+use crate::receivers::{Reached, apply_oldest};
+use crate::writing::{apply_group, write_group};
+use std::alloc::Global;
+use vx_disk::{Shelf, ShelfError};
+use vx_ground::{Work, write_over};
+use vx_model::limits::MOST_CALL_BYTES;
+use vx_model::{No, State, Stop, Units};
+use vx_rvg::{Rvg, RvgCore, StartRoom};
+use vx_secondary::{Secondary, Waiting};
+
+/// Blocks that were read, of which those asked for count.
+pub(crate) type Room = [u8; MOST_CALL_BYTES as usize];
+
+/// A write.
+#[derive(Drop)]
+pub(crate) struct Writes<'a> {
+    pub core: RvgCore,
+    pub volume: u32,
+    pub start: u64,
+    pub bytes: &'a [u8],
+    pub hold: u64,
+}
+
+impl<'a> Work for Writes<'a> {
+    type Answer = (RvgCore, Result<u64, No>);
+
+    fn run<S: Shelf>(self, shelf: S) -> (S, (RvgCore, Result<u64, No>)) {
+        let mut rvg = Rvg::together(shelf, self.core);
+        let answer = write_group(&mut rvg, self.volume, self.start, self.bytes, self.hold);
+        let (shelf, core) = rvg.apart();
+        (shelf, (core, answer))
+    }
+}
+
+/// A read of so many bytes.
+#[derive(Drop)]
+pub(crate) struct Reads {
+    pub core: RvgCore,
+    pub volume: u32,
+    pub start: u64,
+    pub count: usize,
+}
+
+impl Work for Reads {
+    type Answer = (RvgCore, Room, Result<(), No>);
+
+    fn run<S: Shelf>(self, shelf: S) -> (S, (RvgCore, Room, Result<(), No>)) {
+        let mut rvg = Rvg::together(shelf, self.core);
+        let mut room = [0; MOST_CALL_BYTES as usize];
+        let answer = rvg.read(self.volume, self.start, &mut room[..self.count]);
+        let (shelf, core) = rvg.apart();
+        (shelf, (core, room, answer))
+    }
+}
+
+/// A read of what a receiver has.
+#[derive(Drop)]
+pub(crate) struct Shows {
+    pub core: RvgCore,
+    pub waiting: Waiting,
+    pub volume: u32,
+    pub start: u64,
+    pub count: usize,
+}
+
+impl Work for Shows {
+    type Answer = (RvgCore, Waiting, Room, Result<(), No>);
+
+    fn run<S: Shelf>(self, shelf: S) -> (S, (RvgCore, Waiting, Room, Result<(), No>)) {
+        let mut site = Secondary::together(Rvg::together(shelf, self.core), self.waiting);
+        let mut room = [0; MOST_CALL_BYTES as usize];
+        let answer = site.show(self.volume, self.start, &mut room[..self.count]);
+        let (rvg, waiting) = site.apart();
+        let (shelf, core) = rvg.apart();
+        (shelf, (core, waiting, room, answer))
+    }
+}
+
+/// Logged writes that are brought into their volumes.
+#[derive(Drop)]
+pub(crate) struct Applies {
+    pub core: RvgCore,
+    pub to: u64,
+}
+
+impl Work for Applies {
+    type Answer = (RvgCore, Result<u64, No>);
+
+    fn run<S: Shelf>(self, shelf: S) -> (S, (RvgCore, Result<u64, No>)) {
+        let mut rvg = Rvg::together(shelf, self.core);
+        let answer = apply_group(&mut rvg, self.to);
+        let (shelf, core) = rvg.apart();
+        (shelf, (core, answer))
+    }
+}
+
+/// The oldest of what waits, so many of them, logged and brought into their volumes.
+#[derive(Drop)]
+pub(crate) struct Reaches {
+    pub core: RvgCore,
+    pub waiting: Waiting,
+    pub count: u32,
+}
+
+impl Work for Reaches {
+    type Answer = (RvgCore, Waiting, Result<Reached, No>);
+
+    fn run<S: Shelf>(self, shelf: S) -> (S, (RvgCore, Waiting, Result<Reached, No>)) {
+        let mut rvg = Rvg::together(shelf, self.core);
+        let mut waiting = self.waiting;
+        let answer = apply_oldest(&mut rvg, &mut waiting, self.count);
+        let (shelf, core) = rvg.apart();
+        (shelf, (core, waiting, answer))
+    }
+}
+
+/// A header with another state.
+#[derive(Drop)]
+pub(crate) struct Keeps<'a> {
+    pub core: RvgCore,
+    pub state: &'a State,
+}
+
+impl<'a> Work for Keeps<'a> {
+    type Answer = (RvgCore, Result<(), No>);
+
+    fn run<S: Shelf>(self, shelf: S) -> (S, (RvgCore, Result<(), No>)) {
+        let mut rvg = Rvg::together(shelf, self.core);
+        let answer = keep_group(&mut rvg, self.state);
+        let (shelf, core) = rvg.apart();
+        (shelf, (core, answer))
+    }
+}
+
+/// A replicated volume group that is made of these volumes.
+#[derive(Drop)]
+pub(crate) struct Makes<'a> {
+    pub alloc: Global,
+    pub units: &'a Units,
+    pub state: State,
+}
+
+impl<'a> Work for Makes<'a> {
+    type Answer = Result<RvgCore, Stop>;
+
+    fn run<S: Shelf>(self, shelf: S) -> (S, Result<RvgCore, Stop>) {
+        match Rvg::create(self.alloc, shelf, self.units, &self.state) {
+            Ok(rvg) => {
+                let (shelf, core) = rvg.apart();
+                (shelf, Ok(core))
+            }
+            Err((shelf, stop)) => (shelf, Err(stop)),
+        }
+    }
+}
+
+/// One that is started from what stands on these volumes.
+#[derive(Drop)]
+pub(crate) struct Starts<'a> {
+    pub room: StartRoom,
+    pub units: &'a Units,
+}
+
+impl<'a> Work for Starts<'a> {
+    type Answer = Result<RvgCore, No>;
+
+    fn run<S: Shelf>(self, shelf: S) -> (S, Result<RvgCore, No>) {
+        match Rvg::start_in(self.room, shelf, self.units) {
+            Ok(rvg) => {
+                let (shelf, core) = rvg.apart();
+                (shelf, Ok(core))
+            }
+            Err((shelf, no)) => (shelf, Err(no)),
+        }
+    }
+}
+
+/// Data volumes of which each block is written as it reads.
+#[derive(Drop)]
+pub(crate) struct Rewrites<'a> {
+    pub volumes: &'a [u32],
+}
+
+impl<'a> Work for Rewrites<'a> {
+    type Answer = Result<(), ShelfError>;
+
+    fn run<S: Shelf>(self, shelf: S) -> (S, Result<(), ShelfError>) {
+        let mut shelf = shelf;
+        for volume in self.volumes {
+            match write_over(&mut shelf, *volume) {
+                Ok(()) => {}
+                Err(error) => return (shelf, Err(error)),
+            }
+        }
+        (shelf, Ok(()))
+    }
+}
