@@ -4,6 +4,8 @@ pub mod Blocks
 pub mod Calm
 pub mod GroupStopping
 pub mod RvgStopping
+pub mod RvgEnding
+pub mod RvgFull
 pub mod Keeping
 pub mod KnownLaws
 pub mod LinkAgreeing

@@ -24,6 +24,9 @@ pub mod LinksFit
 pub mod Lists
 pub mod Parts
 pub mod Plain
+pub mod RvgBack
+pub mod RvgFits
+pub mod RvgLinks
 pub mod RvgMakes
 pub mod RvgNotes
 pub mod RvgOver

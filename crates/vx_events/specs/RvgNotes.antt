@@ -1,17 +1,16 @@
--- What a line that makes a replicated volume group of volumes of a disk group names, and what the site notes of it.
+-- What a line that makes a replicated volume group of volumes of a group of disks names, and what the site notes of it.
 use Rattle.std.specs.Prelude.{◌≡◌, ℕ, ◌<◌, List, [], ◌∷◌, map, Some, Contains}
 use Rattle.vx_model.specs.declared.units.Units.{Units}
 use Rattle.vx_history.specs.Groups.{BlockMay, GroupNode, NoteSettles, NoteUnsettles}
 use Rattle.vx_history.specs.declared.event.Event.{Event}
 use Rattle.vx_history.specs.declared.event.Event.TheVariants.{Volumes as VolumesAt}
-use Rattle.vx_history.specs.declared.volumes.DataVolume.{DataVolume}
 use Rattle.vx_config.specs.Checks.{blocks_of}
 use Rattle.vx_config.specs.declared.config.Config.{Config}
 use Rattle.vx_events.specs.Fails.{Fails}
 use Rattle.vx_events.specs.GroupConfigs.{ConfigLoses}
 use Rattle.vx_events.specs.GroupLines.{plain_number}
-use Rattle.vx_events.specs.GroupNotes.{Reconfigures}
-use Rattle.vx_events.specs.GroupViews.{config_of, volumes_of}
+use Rattle.vx_events.specs.GroupNotes.{IsKnown, Reconfigures}
+use Rattle.vx_events.specs.RvgFits.{data_of, entries_noted}
 
 -- ---- what the line names
 
@@ -19,16 +18,9 @@ use Rattle.vx_events.specs.GroupViews.{config_of, volumes_of}
 abbrev pub units_named : GroupNode → (srl maps : List ℕ) → (volumes : List (List ℕ)) → Units
 units_named note srl maps volumes = record { srl = plain_number note srl; maps = plain_number note maps; vols = map (plain_number note) volumes }
 
--- the blocks of the volume of this name
-abbrev pub blocks_noted : GroupNode → List ℕ → ℕ
-blocks_noted note name = blocks_of (volumes_of (config_of note.config)) (plain_number note name)
-
-abbrev pub data_named : GroupNode → List ℕ → DataVolume
-data_named note name = record { place = plain_number note name; name = name; blocks = blocks_noted note name }
-
--- the event of the line, where the site notes this of its group
-abbrev pub volume_events : GroupNode → (site : ℕ) → (srl : List ℕ) → (volumes : List (List ℕ)) → List Event
-volume_events note s srl volumes = VolumesAt s (blocks_noted note srl) (map (data_named note) volumes) ∷ []
+-- the event by which the site gets a replicated volume group on these units, where it notes this of its group
+abbrev pub volume_events : GroupNode → (site : ℕ) → Units → List Event
+volume_events note s units = VolumesAt s (blocks_of (entries_noted note) units.srl) (data_of (entries_noted note) units) ∷ []
 
 -- the configuration with this replicated volume group
 abbrev pub as_replicated : Units → Config → Config
@@ -40,15 +32,19 @@ as_replicated units c = record c { rvg = Some units }
 -- which there may be fewer now; of the volumes of the log and of the maps nothing is said; and each other block is as it was.
 pub record NotesNarrowed (told : Type 0) (units : Units) (note new : GroupNode) : Type 0 where
   pub size : (v : ℕ) → new.bytes.size v ≡ note.bytes.size v
-  pub may : told → (v b : ℕ) (x : List ℕ) → Contains units.vols v → b < note.bytes.size v → BlockMay new v b x → BlockMay note v b x
+  pub may : IsKnown told note → (v b : ℕ) (x : List ℕ) → Contains units.vols v → b < note.bytes.size v → BlockMay new v b x → BlockMay note v b x
   pub others : (v b : ℕ) → (Contains (units.srl ∷ units.maps ∷ units.vols) v → ⊥)
       → (new.bytes.block v b ≡ note.bytes.block v b) × (new.others v b ≡ note.others v b)
   pub same : new ≡ record note { bytes = new.bytes; others = new.others }
 
+-- each block of a data volume has one value
+abbrev pub HasOneValue : Units → GroupNode → Type 0
+HasOneValue units note = (v b : ℕ) → Contains units.vols v → note.others v b ≡ []
+
 -- The line is done: each block of a data volume has one value, in the note `middle`, and then the configuration has the replicated volume group.
 pub record NotesRvg (told : Type 0) (s : ℕ) (fails : Fails) (units : Units) (note middle new : GroupNode) : Type 0 where
   pub narrowed : NotesNarrowed told units note middle
-  pub one : (v b : ℕ) → Contains units.vols v → middle.others v b ≡ []
+  pub one : HasOneValue units middle
   pub moves : Reconfigures (λ c d. ConfigLoses s fails (as_replicated units c) d) NoteSettles middle new
 
 -- The line was ended by a failing disk or by a fuse: the configuration in memory has no replicated volume group, and that with one may be on the
@@ -57,3 +53,9 @@ pub record NotesNoRvg (told : Type 0) (s : ℕ) (fails : Fails) (units : Units) 
   pub middle : GroupNode
   pub narrowed : NotesNarrowed told units note middle
   pub moves : Reconfigures (ConfigLoses s fails) NoteUnsettles middle new
+
+-- no serial is left for the configuration with one
+pub record NotesLacking (told : Type 0) (s : ℕ) (fails : Fails) (units : Units) (note new : GroupNode) : Type 0 where
+  pub middle : GroupNode
+  pub narrowed : NotesNarrowed told units note middle
+  pub moves : Reconfigures (ConfigLoses s fails) NoteSettles middle new
