@@ -26,7 +26,7 @@ use Rattle.vx_events.specs.Fails.{Fails}
 use Rattle.vx_events.specs.GroupLines.{group_events, group_noted, noting}
 use Rattle.vx_events.specs.GroupNotes.{IsKnown, note_at}
 use Rattle.vx_events.specs.Lists.{Choice, events_of, recovery_of}
-use Rattle.vx_events.specs.RvgBack.{FindsNoRvg, FindsRvg, GetsRvg, GroupHeld, GroupUnfound, HadRvg, IsLeftBack, KeptLost, LogFails, LogLacks, RestsWithRvg, RvgBack, RvgFinds, RvgUp, fall_first}
+use Rattle.vx_events.specs.RvgBack.{FindsNoRvg, FindsPlain, FindsRvg, GetsRvg, GroupHeld, GroupUnfound, HadRvg, IsLeftBack, KeptLost, LogFails, LogLacks, RestsWithRvg, RvgBack, RvgFinds, RvgUp, fall_first}
 use Rattle.vx_events.specs.RvgLinks.{AllKnown, LinksOver, noting_each}
 use Rattle.vx_events.specs.RvgMakes.{RvgStops, noting_in}
 use Rattle.vx_events.specs.RvgNotes.{volume_events}
@@ -64,17 +64,17 @@ falls_tell Up s kept = refl
 falls_tell Deported s kept = refl
 falls_tell Down s kept = refl
 
-rests_tell : (d : Doubted) (line : ScriptLine) (s kept : ℕ) (middle : GroupNode) (from : Doubted) (events : List Event) → RestsWithRvg d line s kept middle from events
+rests_tell : (d : Doubted) (line : ScriptLine) (s kept : ℕ) (middle next : GroupNode) (from : Doubted) (events : List Event) → RestsWithRvg d line s kept middle next from events
     → all_fails events ≡ []
-rests_tell d line s kept middle from events (HadRvg has same is fall) = ap all_fails fall ∙ falls_tell (d.world.nodes s).state s kept
-rests_tell d line s kept middle from events (GetsRvg units over has one is all) =
+rests_tell d line s kept middle next from events (HadRvg has same noted is fall) = ap all_fails fall ∙ falls_tell (d.world.nodes s).state s kept
+rests_tell d line s kept middle next from events (GetsRvg units over has one noted is all) =
     ap all_fails all
     ∙ told_behind (group_events (d.world.nodes s) s line) (volume_events middle s units ++ CrashAt s 0 ∷ []) (events_tell (d.world.nodes s) s line)
 
-rests_like : (d : Doubted) (line : ScriptLine) (s kept : ℕ) (middle : GroupNode) (from : Doubted) (events : List Event) → RestsWithRvg d line s kept middle from events
+rests_like : (d : Doubted) (line : ScriptLine) (s kept : ℕ) (middle next : GroupNode) (from : Doubted) (events : List Event) → RestsWithRvg d line s kept middle next from events
     → IsLikeDoubted d from
-rests_like d line s kept middle from events (HadRvg has same is fall) = same_like d from is
-rests_like d line s kept middle from events (GetsRvg units over has one is all) = doubted_then d (noting_in d s middle) from (noted_doubted d s middle) (same_like (noting_in d s middle) from is)
+rests_like d line s kept middle next from events (HadRvg has same noted is fall) = same_like d from is
+rests_like d line s kept middle next from events (GetsRvg units over has one noted is all) = doubted_then d (noting_in d s middle) from (noted_doubted d s middle) (same_like (noting_in d s middle) from is)
 
 -- ---- what is left is no more than notes
 
@@ -100,20 +100,20 @@ done_by d from like s line taken next events ending new tells left = record {
 
 module _ (told : Type 0) (d : Doubted) (line : ScriptLine) (s : ℕ) (fails : Fails) (said : Said) (new : Doubted) where
   pub back_stops : RvgBack told d line s fails said new → RvgStops d new
-  back_stops (RvgUp kept taken middle from rest are brings back rests says left) =
-      done_by d from (rests_like d line s kept middle from rest rests) s line taken middle (rest ++ RecoverAt s None ∷ []) [] new
-      (told_behind rest (RecoverAt s None ∷ []) (rests_tell d line s kept middle from rest rests)) left
-  back_stops (LogFails kept taken disk middle next from rest left are has brings back rests is (inl none) says leads) =
-      done_by d from (rests_like d line s kept middle from rest rests) s line taken next (rest ++ left) [] new
-      (told_behind rest left (rests_tell d line s kept middle from rest rests) ∙ ap all_fails none) leads
-  back_stops (LogFails kept taken disk middle next from rest left are has brings back rests is (inr begun) says leads) =
-      done_by d from (rests_like d line s kept middle from rest rests) s line taken next (rest ++ left) ((s, disk) ∷ []) new
-      (told_behind rest left (rests_tell d line s kept middle from rest rests) ∙ ap all_fails begun) leads
-  back_stops (LogLacks kept taken middle next from rest are brings back rests is lacks says left) =
-      done_by d from (rests_like d line s kept middle from rest rests) s line taken next rest [] new (rests_tell d line s kept middle from rest rests) left
-  back_stops (KeptLost kept taken disk middle next from rest site is are has back rests notes says left) =
-      done_by d from (rests_like d line s kept middle from rest rests) s line taken next (rest ++ RecoverAt s None ∷ CrashAt s 0 ∷ []) [] new
-      (told_behind rest (RecoverAt s None ∷ CrashAt s 0 ∷ []) (rests_tell d line s kept middle from rest rests)) left
+  back_stops (RvgUp kept taken middle next from rest are brings back rests says left) =
+      done_by d from (rests_like d line s kept middle next from rest rests) s line taken next (rest ++ RecoverAt s None ∷ []) [] new
+      (told_behind rest (RecoverAt s None ∷ []) (rests_tell d line s kept middle next from rest rests)) left
+  back_stops (LogFails kept taken disk middle found next from rest left are has brings back rests is (inl none) says leads) =
+      done_by d from (rests_like d line s kept middle found from rest rests) s line taken next (rest ++ left) [] new
+      (told_behind rest left (rests_tell d line s kept middle found from rest rests) ∙ ap all_fails none) leads
+  back_stops (LogFails kept taken disk middle found next from rest left are has brings back rests is (inr begun) says leads) =
+      done_by d from (rests_like d line s kept middle found from rest rests) s line taken next (rest ++ left) ((s, disk) ∷ []) new
+      (told_behind rest left (rests_tell d line s kept middle found from rest rests) ∙ ap all_fails begun) leads
+  back_stops (LogLacks kept taken middle found next from rest are brings back rests is lacks says left) =
+      done_by d from (rests_like d line s kept middle found from rest rests) s line taken next rest [] new (rests_tell d line s kept middle found from rest rests) left
+  back_stops (KeptLost kept taken disk middle found next from rest site is are has back rests notes says left) =
+      done_by d from (rests_like d line s kept middle found from rest rests) s line taken next (rest ++ RecoverAt s None ∷ CrashAt s 0 ∷ []) [] new
+      (told_behind rest (RecoverAt s None ∷ CrashAt s 0 ∷ []) (rests_tell d line s kept middle found from rest rests)) left
   back_stops (GroupUnfound kept taken why next has are brings not leaves says left) =
       done_by d d (same_doubted d) s line taken next (fall_first (d.world.nodes s).state s kept) [] new (falls_tell (d.world.nodes s).state s kept) left
   back_stops (GroupHeld kept taken disk next has are failed brings notes says left) =
@@ -176,9 +176,12 @@ module _ (told : Type 0) (is_told : told) (d : Doubted) (s : ℕ) (bright : (not
     (fails : Fails) (said : Said) (new : Doubted) where
   -- what the disks hold is known, so nothing else is found on them
   never_found : (line : ScriptLine) → RvgFinds told d line s fails said new → ⊥
-  never_found line (FindsRvg kept taken next mid n k row are brings (inl untold) dark is same comes with says left) = untold is_told
-  never_found line (FindsRvg kept taken next mid n k row are brings (inr (inl loose)) dark is same comes with says left) = absurd (let e : true ≡ false = sym loose ∙ agree in cc)
-  never_found line (FindsRvg kept taken next mid n k row are brings (inr (inr unknown)) dark is same comes with says left) = absurd (let e : true ≡ false = sym unknown ∙ bright in cc)
+  never_found line (FindsRvg kept taken next mid n k row c units are brings (inl untold) dark is same comes config fits says left) = untold is_told
+  never_found line (FindsRvg kept taken next mid n k row c units are brings (inr (inl loose)) dark is same comes config fits says left) = absurd (let e : true ≡ false = sym loose ∙ agree in cc)
+  never_found line (FindsRvg kept taken next mid n k row c units are brings (inr (inr unknown)) dark is same comes config fits says left) = absurd (let e : true ≡ false = sym unknown ∙ bright in cc)
+  never_found line (FindsPlain kept taken next mid has are brings (inl untold) dark is none says left) = untold is_told
+  never_found line (FindsPlain kept taken next mid has are brings (inr (inl loose)) dark is none says left) = absurd (let e : true ≡ false = sym loose ∙ agree in cc)
+  never_found line (FindsPlain kept taken next mid has are brings (inr (inr unknown)) dark is none says left) = absurd (let e : true ≡ false = sym unknown ∙ bright in cc)
   never_found line (FindsNoRvg kept taken next why are brings (inl untold) free notes says left) = untold is_told
   never_found line (FindsNoRvg kept taken next why are brings (inr (inl loose)) free notes says left) = absurd (let e : true ≡ false = sym loose ∙ agree in cc)
   never_found line (FindsNoRvg kept taken next why are brings (inr (inr unknown)) free notes says left) = absurd (let e : true ≡ false = sym unknown ∙ bright in cc)

@@ -16,7 +16,7 @@ use Rattle.vx_events.specs.Fails.{Fails}
 use Rattle.vx_events.specs.GroupEnds.{BringsUp}
 use Rattle.vx_events.specs.GroupNotes.{note_at}
 use Rattle.vx_events.specs.LinkedFacts.{linked_fact}
-use Rattle.vx_events.specs.RvgBack.{FindsNoRvg, FindsRvg, GroupHeld, GroupUnfound, KeptLost, LogFails, LogLacks, RvgBack, RvgFinds, RvgUp}
+use Rattle.vx_events.specs.RvgBack.{FindsNoRvg, FindsPlain, FindsRvg, GroupHeld, GroupUnfound, KeptLost, LogFails, LogLacks, RvgBack, RvgFinds, RvgUp}
 use Rattle.vx_events.specs.RvgLinks.{links_rvg, rvg_target}
 use Rattle.vx_events.specs.RvgSteps.{AsBefore, FoundOne, FoundPlain, FullBy, Gained, HasNoRvgs, MakesNoRvg, StepFull, WorksAbove, WorksBeside, WorksFull, fact_full, facts_full, is_for_rvg, refused_full}
 use Rattle.vx_events.specs.RvgViews.{is_over_rvg, over_facts}
@@ -69,16 +69,17 @@ module _ (w : World) (none : HasNoRvgs w) where
 
 -- what finds a replicated volume group brings a group up
 brings_back : (told : Type 0) (d : Doubted) (line : ScriptLine) (s : ℕ) (fails : Fails) (said : Said) (new : Doubted) → RvgBack told d line s fails said new → BringsUp line
-brings_back told d line s fails said new (RvgUp kept taken middle from rest are brings back rests says left) = brings
-brings_back told d line s fails said new (LogFails kept taken disk middle next from rest left are has brings back rests is begun says leads) = brings
-brings_back told d line s fails said new (LogLacks kept taken middle next from rest are brings back rests is lacks says left) = brings
-brings_back told d line s fails said new (KeptLost kept taken disk middle next from rest site is are has back rests notes says left) =
+brings_back told d line s fails said new (RvgUp kept taken middle next from rest are brings back rests says left) = brings
+brings_back told d line s fails said new (LogFails kept taken disk middle found next from rest left are has brings back rests is begun says leads) = brings
+brings_back told d line s fails said new (LogLacks kept taken middle found next from rest are brings back rests is lacks says left) = brings
+brings_back told d line s fails said new (KeptLost kept taken disk middle found next from rest site is are has back rests notes says left) =
     subst (λ (l : ScriptLine). BringsUp l) (sym is) tt
 brings_back told d line s fails said new (GroupUnfound kept taken why next has are brings not leaves says left) = brings
 brings_back told d line s fails said new (GroupHeld kept taken disk next has are failed brings notes says left) = brings
 
 brings_found : (told : Type 0) (d : Doubted) (line : ScriptLine) (s : ℕ) (fails : Fails) (said : Said) (new : Doubted) → RvgFinds told d line s fails said new → BringsUp line
-brings_found told d line s fails said new (FindsRvg kept taken next mid n k row are brings unknown dark is same comes with says left) = brings
+brings_found told d line s fails said new (FindsRvg kept taken next mid n k row c units are brings unknown dark is same comes config fits says left) = brings
+brings_found told d line s fails said new (FindsPlain kept taken next mid has are brings unknown dark is none says left) = brings
 brings_found told d line s fails said new (FindsNoRvg kept taken next why are brings unknown free notes says left) = brings
 
 module _ (told : Type 0) (files : Bool) (d : Doubted) (none : HasNoRvgs d.world) (fails : Fails) (said : Said) (new : Doubted) where

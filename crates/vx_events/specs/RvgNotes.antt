@@ -1,5 +1,6 @@
 -- What a line that makes a replicated volume group of volumes of a group of disks names, and what the site notes of it.
-use Rattle.std.specs.Prelude.{◌≡◌, ℕ, ◌<◌, List, [], ◌∷◌, map, Some, Contains}
+use Rattle.std.specs.Prelude.{◌≡◌, ℕ, ◌<◌, ◌==◌, ◌||◌, Bool, List, [], ◌∷◌, map, Some, Contains}
+use Rattle.std.specs.List.{list_any}
 use Rattle.vx_model.specs.declared.units.Units.{Units}
 use Rattle.vx_history.specs.Groups.{BlockMay, GroupNode, NoteSettles, NoteUnsettles}
 use Rattle.vx_history.specs.declared.event.Event.{Event}
@@ -21,6 +22,14 @@ units_named note srl maps volumes = record { srl = plain_number note srl; maps =
 -- the event by which the site gets a replicated volume group on these units, where it notes this of its group
 abbrev pub volume_events : GroupNode → (site : ℕ) → Units → List Event
 volume_events note s units = VolumesAt s (blocks_of (entries_noted note) units.srl) (data_of (entries_noted note) units) ∷ []
+
+-- the volumes of a replicated volume group on these units
+abbrev pub inside_of : Units → ℕ → Bool
+inside_of units v = (v == units.srl) || ((v == units.maps) || list_any (λ x. x == v) units.vols)
+
+-- the note from which on the group has one: nothing more is noted of the blocks of its volumes
+abbrev pub note_gained : Units → GroupNode → GroupNode
+note_gained units note = record note { inside = inside_of units }
 
 -- the configuration with this replicated volume group
 abbrev pub as_replicated : Units → Config → Config
@@ -45,7 +54,9 @@ HasOneValue units note = (v b : ℕ) → Contains units.vols v → note.others v
 pub record NotesRvg (told : Type 0) (s : ℕ) (fails : Fails) (units : Units) (note middle new : GroupNode) : Type 0 where
   pub narrowed : NotesNarrowed told units note middle
   pub one : HasOneValue units middle
-  pub moves : Reconfigures (λ c d. ConfigLoses s fails (as_replicated units c) d) NoteSettles middle new
+  pub settled : GroupNode
+  pub moves : Reconfigures (λ c d. ConfigLoses s fails (as_replicated units c) d) NoteSettles middle settled
+  pub is : new ≡ note_gained units settled
 
 -- The line was ended by a failing disk or by a fuse: the configuration in memory has no replicated volume group, and that with one may be on the
 -- disks.

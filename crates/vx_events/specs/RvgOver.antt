@@ -3,7 +3,7 @@
 use Rattle.std.specs.Prelude.{◌≡◌, ◌⊎◌, ℕ, ◌*◌, ◌<◌, Bool, true, false, List, [], ◌∷◌, ◌++◌, Option, Some, None, length, slice_get, unwrap_or, Contains}
 use Rattle.vx_model.specs.declared.no.No.TheVariants.{Device, Down as IsOff}
 use Rattle.vx_history.specs.Doubts.{Doubted}
-use Rattle.vx_history.specs.Groups.{GroupNode, NoteSettles, NoteUnsettles}
+use Rattle.vx_history.specs.Groups.{GroupNode, NoteWorks}
 use Rattle.vx_history.specs.Stops.{IsFused, IsOpen}
 use Rattle.vx_history.specs.World.{Node, World}
 use Rattle.vx_history.specs.declared.event.Event.TheVariants.{Crash as CrashAt}
@@ -68,9 +68,9 @@ is_inside note other = false
 
 -- ---- notes
 
--- what calls of a line leave of the note of a group: disks may be held as failed, and a commit may have been refused
+-- what calls of a line leave of the note of a group: disks may be held as failed, and commits may have been refused
 abbrev pub NotesWork : (s : ℕ) → Fails → GroupNode → GroupNode → Type 0
-NotesWork s fails note next = Reconfigures (ConfigLoses s fails) NoteSettles note next ⊎ Reconfigures (ConfigLoses s fails) NoteUnsettles note next
+NotesWork s fails note next = Reconfigures (ConfigLoses s fails) NoteWorks note next
 
 -- only lines that write have such calls
 abbrev pub NotesLine : (s : ℕ) → Fails → ScriptLine → GroupNode → GroupNode → Type 0
