@@ -23,10 +23,14 @@ kind_at None place = Plain
 kind_at (Some units) place =
     if place == units.srl then Srl else if place == units.maps then Map else if list_any (λ v. v == place) units.vols then Data else Plain
 
+-- the volume in this place
+abbrev pub kinded : Option Units → (place : ℕ) → VolumeEntry → VolumeFacts
+kinded units place v = record (plain_fact v) { kind = kind_at units place }
+
 -- the volumes, of which the first is in this place
 abbrev pub kinds_from : Option Units → (place : ℕ) → List VolumeEntry → List VolumeFacts
 kinds_from units place [] = []
-kinds_from units place (v ∷ vs) = record (plain_fact v) { kind = kind_at units place } ∷ kinds_from units (place + 1) vs
+kinds_from units place (v ∷ vs) = kinded units place v ∷ kinds_from units (place + 1) vs
 
 abbrev pub kinds_of : Option Config → List VolumeFacts
 kinds_of None = []

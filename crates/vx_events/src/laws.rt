@@ -87,6 +87,14 @@ pub fn known_disks_stay_known()
         → (note_at (d.world.nodes s)).dark ≡ false → (MayDarken (note_at (d.world.nodes s)) line said → ⊥) → (note_at (new.world.nodes s)).dark ≡ false }
 {}
 
+/// The same of a group with a replicated volume group; and a line that makes one leaves it known.
+pub fn known_rvgs_stay_known()
+    ensures over { (d : Doubted) (line : ScriptLine) (s : ℕ) (fails : Fails) (said : Said) (new : Doubted) → OverRvg (Unit {0}) d line s fails said new
+        → (note_at (d.world.nodes s)).dark ≡ false → (MayDarken (note_at (d.world.nodes s)) line said → ⊥) → (note_at (new.world.nodes s)).dark ≡ false }
+    ensures makes { (d : Doubted) (line : ScriptLine) (s : ℕ) (fails : Fails) (said : Said) (new : Doubted) → MakesRvg (Unit {0}) d line s fails said new
+        → (note_at (d.world.nodes s)).dark ≡ false → (note_at (new.world.nodes s)).dark ≡ false }
+{}
+
 /// A line that makes a replicated volume group of volumes of a disk group ends as events of the world do, from a world on that differs in
 /// what its site notes of the group.
 pub fn rvg_lines_are_events()
