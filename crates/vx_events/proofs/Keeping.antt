@@ -28,18 +28,21 @@ use Rattle.vx_history.specs.declared.event.Said.TheVariants.{Got, Refused}
 use Rattle.vx_history.specs.Steps.{site_made, raw_made, raw_set, group_back, group_made, group_set, group_up, written, logged, half_written, crashed, crash_left, deported_site, deported_world, session_begun, stopped_by, recovered, burned}
 use Rattle.vx_history.specs.World.{Node, Fuse, Link as LinkOf, World, bare_site, updated, with_node}
 use Rattle.vx_history.specs.declared.event.Event.{Event}
-use Rattle.vx_history.specs.declared.event.Event.TheVariants.{Site, Raw, Group, Write, Read, Apply, Pump, Tick, Deliver, Connect, Cut, Pause, Resume, Wait, Link, Set, Crash, Deport, Recover, Fault}
+use Rattle.vx_history.specs.declared.event.Event.TheVariants.{Site, Raw, Group, Volumes, Write, Read, Apply, Pump, Tick, Deliver, Connect, Cut, Pause, Resume, Wait, Link, Set, Crash, Deport, Recover, Fault}
 use Rattle.vx_history.specs.declared.receiver.RAction.{RAction}
 use Rattle.vx_history.specs.declared.receiver.RAction.TheVariants.{Nothing, Ignored, IgnoredAck, Take, DataAck}
 use Rattle.vx_history.specs.declared.receiver.RState.{RState}
 use Rattle.vx_history.specs.declared.receiver.REvent.TheVariants.{Applied, Restart as RestartSite}
 use Rattle.vx_events.specs.Plain.{IsUnlinked, ArePrimaries}
+use Rattle.vx_history.specs.Volumes.{volumes_made, volumes_set}
+use Rattle.vx_history.specs.declared.volumes.DataVolume.{DataVolume}
 
 -- events of one site by itself
 abbrev pub IsSingle : Event → Type 0
 IsSingle (Site name disks blocks) = Unit {0}
 IsSingle (Raw s) = Unit {0}
 IsSingle (Group s) = Unit {0}
+IsSingle (Volumes s log xs) = Unit {0}
 IsSingle (Write s volume start bytes fails) = Unit {0}
 IsSingle (Read s volume start count) = Unit {0}
 IsSingle (Apply s count reached) = Unit {0}
@@ -59,6 +62,7 @@ pub record KeptBy (P : World → Type 0) : Type 0 where
   pub raw : (w : World) (s : ℕ) → P w → P (raw_made w s)
   pub group : (w : World) (s : ℕ) → P w → P (group_made w s)
   pub back : (w : World) (s : ℕ) → P w → P (group_back w s)
+  pub volumes : (w : World) (s log : ℕ) (xs : List DataVolume) → P w → P (volumes_made w s log xs)
   pub links : (w : World) (s : ℕ) (x : WriteBlocks) → P w → P (links_changed w s x)
   pub write : (w : World) (s : ℕ) (x : WriteBlocks) → P w → P (written w s x)
   pub half : (w : World) (s : ℕ) (x : WriteBlocks) (disk : ℕ) → P w → P (half_written w s x disk)
@@ -165,6 +169,10 @@ module _ (P : World → Type 0) (keeps : KeptBy P) where
       (past P (not (is_bare (w.nodes s).state)) WrongRole w sized p
       (past P (not (is_raw_shape (w.nodes s).disks (w.nodes s).blocks)) Size w o p (keeps.raw w s p)))
   outcome_keeps w (Group s) one p = past_site P w s (group_from (w.nodes s).state w s) p (group_keeps (w.nodes s).state w s p)
+  outcome_keeps w (Volumes s log xs) one p =
+      let o : Outcome = done (volumes_made w s log xs) in
+      let tested : Outcome = unless (not (is_plain_group (w.nodes s))) WrongRole w o in
+      past_site P w s (at_work w s tested) p (past_work P w s tested p (past P (not (is_plain_group (w.nodes s))) WrongRole w o p (keeps.volumes w s log xs p)))
   outcome_keeps w (Write s volume start bytes fails) one p =
       let x : WriteBlocks = record { volume = volume; start = start; bytes = bytes } in
       past_volume P w s volume start (blocks_in bytes) (is_too_large (w.nodes s).ring (blocks_in bytes)) (written_if (admitted w s x) w s x fails) p (written_keeps (admitted w s x) w s x fails p)
@@ -225,6 +233,7 @@ unlinked_kept = record {
   raw = λ w s none. same_links w (raw_made w s) (λ p q. refl) none;
   group = λ w s none. same_links w (group_made w s) (λ p q. refl) none;
   back = λ w s none. same_links w (group_back w s) (λ p q. refl) none;
+  volumes = λ w s log xs none. same_links w (volumes_made w s log xs) (λ p q. refl) none;
   links = λ w s x none. row_unlinked w s (λ k. link_after (w.nodes s) x k (w.links s k)) none (λ k. refl);
   write = λ w s x none. same_links w (written w s x) (λ p q. refl) none;
   half = λ w s x disk none. same_links w (half_written w s x disk) (λ p q. refl) none;
@@ -275,6 +284,7 @@ primaries_kept = record {
   raw = λ w s all. node_primary w (raw_made w s) s (raw_set s (w.nodes s)) (λ k. refl) refl all;
   group = λ w s all. node_primary w (group_made w s) s (group_set s (w.nodes s)) (λ k. refl) refl all;
   back = λ w s all. node_primary w (group_back w s) s (group_up (w.nodes s)) (λ k. refl) (all.each s) all;
+  volumes = λ w s log xs all. node_primary w (volumes_made w s log xs) s (volumes_set log xs (w.nodes s)) (λ k. refl) (all.each s) all;
   links = λ w s x all. record { each = all.each };
   write = λ w s x all. node_primary w (written w s x) s (logged (w.nodes s) x) (λ k. refl) (all.each s) all;
   half = λ w s x disk all. node_primary w (half_written w s x disk) s (record (w.nodes s) { log = (w.nodes s).log ++ x ∷ []; halted = Some disk; fuse = burned (w.nodes s).fuse }) (λ k. refl) (all.each s) all;

@@ -3,6 +3,10 @@ pub mod Bearing
 pub mod Blocks
 pub mod Calm
 pub mod GroupStopping
+pub mod RvgStopping
+pub mod RvgEnding
+pub mod RvgFull
+pub mod RvgKnown
 pub mod Keeping
 pub mod KnownLaws
 pub mod LinkAgreeing

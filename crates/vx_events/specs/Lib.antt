@@ -24,6 +24,14 @@ pub mod LinksFit
 pub mod Lists
 pub mod Parts
 pub mod Plain
+pub mod RvgBack
+pub mod RvgFits
+pub mod RvgLinks
+pub mod RvgMakes
+pub mod RvgNotes
+pub mod RvgOver
+pub mod RvgSteps
+pub mod RvgViews
 pub mod Sayings
 pub mod Sent
 pub mod Settles

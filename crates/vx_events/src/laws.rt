@@ -15,15 +15,19 @@ ghost use Rattle.vx_order.specs.Order.{line_refusal};
 ghost use Rattle.vx_script.specs.declared.line.ScriptLine.{ScriptLine};
 ghost use Rattle.vx_script.specs.declared.line.ScriptLine.TheVariants.{Site, Raw, Crash, Write as WriteLine, Put, Read, Show, Apply};
 ghost use Rattle.vx_events.specs.Facts.{facts_of, site_number, volume_number};
-ghost use Rattle.vx_events.specs.GroupEnds.{GroupEnds, GroupStops};
+ghost use Rattle.vx_events.specs.GroupEnds.{BringsUp, GroupEnds, GroupStops};
 ghost use Rattle.vx_events.specs.GroupNotes.{note_at};
 ghost use Rattle.vx_events.specs.Known.{MayDarken};
+ghost use Rattle.vx_events.specs.RvgLinks.{AllKnown, LinksOver};
+ghost use Rattle.vx_events.specs.RvgMakes.{MakesRvg, RvgStops};
+ghost use Rattle.vx_events.specs.RvgOver.{OpensFor, OverRvg};
+ghost use Rattle.vx_events.specs.RvgSteps.{FoundPlain, HasNoRvgs, MakesNoRvg, StepFull};
 ghost use Rattle.vx_events.specs.Fails.{AreBorne, Fails};
 ghost use Rattle.vx_events.specs.Lines.{LineStep, is_of_links};
 ghost use Rattle.vx_events.specs.Lists.{Choice};
 ghost use Rattle.vx_events.specs.Parts.{DonePart, FellFirst, ReadFirst, StopsShort, first_part, goes_in_parts, may_stop};
 ghost use Rattle.vx_events.specs.Plain.{HasNoGroups, IsUnlinked, IsSizedAs};
-ghost use Rattle.vx_events.specs.StepsOver.{MakesNoGroup, StepOver, is_for_group};
+ghost use Rattle.vx_events.specs.StepsOver.{MakesNoGroup, StepOver, group_place, is_for_group};
 ghost use Rattle.vx_events.specs.Stopping.{StopsBy};
 ghost use Rattle.vx_events.specs.declared.said.Said.{Said};
 
@@ -83,6 +87,30 @@ pub fn known_disks_stay_known()
         → (note_at (d.world.nodes s)).dark ≡ false → (MayDarken (note_at (d.world.nodes s)) line said → ⊥) → (note_at (new.world.nodes s)).dark ≡ false }
 {}
 
+/// The same of a group with a replicated volume group; and a line that makes one leaves it known.
+pub fn known_rvgs_stay_known()
+    ensures over { (d : Doubted) (line : ScriptLine) (s : ℕ) (fails : Fails) (said : Said) (new : Doubted) → OverRvg (Unit {0}) d line s fails said new
+        → (note_at (d.world.nodes s)).dark ≡ false → (MayDarken (note_at (d.world.nodes s)) line said → ⊥) → (note_at (new.world.nodes s)).dark ≡ false }
+    ensures makes { (d : Doubted) (line : ScriptLine) (s : ℕ) (fails : Fails) (said : Said) (new : Doubted) → MakesRvg (Unit {0}) d line s fails said new
+        → (note_at (d.world.nodes s)).dark ≡ false → (note_at (new.world.nodes s)).dark ≡ false }
+{}
+
+/// A line that makes a replicated volume group of volumes of a disk group ends as events of the world do, from a world on that differs in
+/// what its site notes of the group.
+pub fn rvg_lines_are_events()
+    ensures { (tells : Bool) (d : Doubted) (line : ScriptLine) (s : ℕ) (fails : Fails) (said : Said) (new : Doubted) → MakesRvg (IsTrue tells) d line s fails said new
+        → RvgStops d new }
+{}
+
+/// So does each line at a site over a group of disks with a replicated volume group, and each of links of such a site, where it is known what the disks hold and
+/// imports agree.
+pub fn lines_over_rvgs_are_events()
+    ensures over { (d : Doubted) (line : ScriptLine) (s : ℕ) (fails : Fails) (said : Said) (new : Doubted) → OpensFor d.world line
+        → (note_at (d.world.nodes s)).dark ≡ false → (note_at (d.world.nodes s)).loose ≡ false → OverRvg (Unit {0}) d line s fails said new → RvgStops d new }
+    ensures links { (d : Doubted) (line : ScriptLine) (fails : Fails) (said : Said) (new : Doubted) → AllKnown (Unit {0}) d.world line
+        → LinksOver (Unit {0}) d line fails said new → RvgStops d new }
+{}
+
 /// In a world without groups of disks, over disks that tell their contents, a line that makes none does what it does there. A line that works on a group, and is refused or not, ends as
 /// events of the world do.
 pub fn steps_over_groups()
@@ -92,6 +120,15 @@ pub fn steps_over_groups()
         → StepOver (IsTrue tells) files d line fails said new → LineStep (IsTrue tells) files d line fails said new }
     ensures stops { (tells files : Bool) (d : Doubted) (line : ScriptLine) (fails : Fails) (said : Said) (new : Doubted) → is_for_group d.world line ≡ true
         → StepOver (IsTrue tells) files d line fails said new → GroupStops d new }
+{}
+
+/// In a world in which no site is over a group of disks with a replicated volume group, a line that makes none does what it does there. Only one that brings a group
+/// up may find one, which another line had begun to make.
+pub fn steps_over_rvgs()
+    ensures full { (tells files : Bool) (d : Doubted) (line : ScriptLine) (fails : Fails) (said : Said) (new : Doubted) → HasNoRvgs d.world → MakesNoRvg line
+        → FoundPlain line (group_place d.world line) new → StepOver (IsTrue tells) files d line fails said new → StepFull (IsTrue tells) files d line fails said new }
+    ensures over { (tells files : Bool) (d : Doubted) (line : ScriptLine) (fails : Fails) (said : Said) (new : Doubted) → HasNoRvgs d.world → MakesNoRvg line
+        → (BringsUp line → ⊥) → StepFull (IsTrue tells) files d line fails said new → StepOver (IsTrue tells) files d line fails said new }
 {}
 
 /// Only of a site over a group may a call fail in a line that is done: where there is none, no call failed in it.

@@ -14,7 +14,7 @@ use Rattle.vx_history.specs.Steps.{stopped_by}
 use Rattle.vx_history.specs.Stops.{EventsEnd, AllDone, Halts, Cuts, Reads, IsOpen, WritesAt}
 use Rattle.vx_history.specs.World.{World, Node, Link as LinkState}
 use Rattle.vx_history.specs.declared.event.Event.{Event}
-use Rattle.vx_history.specs.declared.event.Event.TheVariants.{Site, Raw, Group, Write, Read, Apply, Pump, Tick, Deliver, Connect, Cut, Pause, Resume, Wait, Link, Set, Crash, Deport, Recover, Fault}
+use Rattle.vx_history.specs.declared.event.Event.TheVariants.{Site, Raw, Group, Volumes, Write, Read, Apply, Pump, Tick, Deliver, Connect, Cut, Pause, Resume, Wait, Link, Set, Crash, Deport, Recover, Fault}
 use Rattle.vx_world.specs.Lines.{IsDoubt, GoodDoubted, node_as, row_as, resolved_as}
 use Rattle.vx_world.specs.Twins.{GoodTwin, IsElsewhere}
 use Rattle.vx_world.proofs.Crashed.{not_past, crash_is}
@@ -32,6 +32,7 @@ writes_as : (w : World) (after : ℕ → Option After) (c : ℕ → Bool) (e : E
 writes_as w after c (Site name disks blocks) site at = at
 writes_as w after c (Raw p) site at = at
 writes_as w after c (Group p) site at = at
+writes_as w after c (Volumes p log xs) site at = at
 writes_as w after c (Write p volume start bytes None) site at = at
 writes_as w after c (Write p volume start bytes (Some disk)) site at = at
 writes_as w after c (Read p volume start count) site at = at
@@ -56,6 +57,7 @@ calm_write : (w : World) (e : Event) (site : ℕ) → WritesAt w e site → (s :
 calm_write w (Site name disks blocks) site at s apart = tt
 calm_write w (Raw p) site at s apart = tt
 calm_write w (Group p) site at s apart = tt
+calm_write w (Volumes p log xs) site at s apart = tt
 calm_write w (Write p volume start bytes fails) site at s apart = tt
 calm_write w (Read p volume start count) site at s apart = tt
 calm_write w (Apply p count reached) site at s apart = tt

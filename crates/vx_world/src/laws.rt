@@ -12,6 +12,7 @@ ghost use Rattle.vx_history.specs.Settling.{MaySettle, IsMet, deliver_new, deliv
 ghost use Rattle.vx_history.specs.Sound.{Sound, IsKept};
 ghost use Rattle.vx_history.specs.GoodWorld.{GoodWorld};
 ghost use Rattle.vx_history.specs.Likes.{IsLike};
+ghost use Rattle.vx_history.specs.Looks.{AllLookSame, LooksSame};
 ghost use Rattle.vx_history.specs.Listed.{AreListed};
 ghost use Rattle.vx_history.specs.Steps.{stopped_by};
 ghost use Rattle.vx_history.specs.Events.{kept_of, packet_at};
@@ -42,11 +43,12 @@ pub fn stays_good()
     ensures always { (events : List Event) → GoodWorld (run empty_world events) }
 {}
 
-/// Worlds that differ in notes alone are good together, and every event makes such worlds of them, and says the same of both.
+/// Worlds that differ in notes alone are good together, and every event makes such worlds of them, and says the same of both. One event
+/// looks at a note: as a group of disks gets a replicated volume group, its data volumes hold what the group noted of them.
 pub fn looks_at_no_note()
-    ensures step { (w v : World) (e : Event) → IsLike w v → IsLike (step w e).world (step v e).world }
+    ensures step { (w v : World) (e : Event) → IsLike w v → LooksSame e w v → IsLike (step w e).world (step v e).world }
     ensures said { (w v : World) (e : Event) → IsLike w v → (step v e).said ≡ (step w e).said }
-    ensures run { (w v : World) (events : List Event) → IsLike w v → IsLike (run w events) (run v events) }
+    ensures run { (w v : World) (events : List Event) → IsLike w v → AllLookSame events w v → IsLike (run w events) (run v events) }
     ensures sound { (w v : World) → Sound w → IsLike w v → Sound v }
     ensures good { (w v : World) → GoodWorld w → IsLike w v → GoodWorld v }
 {}

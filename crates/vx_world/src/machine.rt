@@ -14,7 +14,7 @@ use crate::pumps::pump;
 use crate::reads::read;
 use crate::recoveries::recover;
 use crate::settings::{link_sites, set};
-use crate::sites::{add_site, make_group, make_raw};
+use crate::sites::{add_site, make_group, make_raw, make_volumes};
 use crate::switches::{cut, pause, resume};
 use crate::ticks::tick;
 use crate::waits::wait;
@@ -59,6 +59,7 @@ fn happen(world: &mut World, event: &Event) -> Result<Said, OutOfMemory>
         } => add_site(world, name, *disks, *blocks),
         Event::Raw { site } => make_raw(world, *site),
         Event::Group { site } => make_group(world, *site),
+        Event::Volumes { site, log, volumes } => make_volumes(world, *site, *log, volumes),
         Event::Write {
             site,
             vol,

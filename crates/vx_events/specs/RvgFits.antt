@@ -1,0 +1,44 @@
+-- How a site over a group of disks with a replicated volume group fits the configuration of its group.
+use Rattle.std.specs.Prelude.{◌≡◌, ℕ, List, [], map, Option, Some, None, slice_get}
+use Rattle.vx_model.specs.Sizes.{ring_of}
+use Rattle.vx_model.specs.declared.units.Units.{Units}
+use Rattle.vx_config.specs.Checks.{blocks_of}
+use Rattle.vx_config.specs.declared.config.Config.{Config}
+use Rattle.vx_config.specs.declared.entry.VolumeEntry.{VolumeEntry}
+use Rattle.vx_history.specs.Groups.{GroupNode}
+use Rattle.vx_history.specs.Volumes.{as_volume}
+use Rattle.vx_history.specs.World.{Node}
+use Rattle.vx_history.specs.declared.volumes.DataVolume.{DataVolume}
+use Rattle.vx_events.specs.GroupViews.{config_of, volumes_of}
+
+-- the name of a volume
+abbrev pub entry_name : Option VolumeEntry → List ℕ
+entry_name None = []
+entry_name (Some volume) = volume.name
+
+-- the volume in this place of a group as a data volume
+abbrev pub data_at : List VolumeEntry → (place : ℕ) → DataVolume
+data_at volumes place = record { place = place; name = entry_name (slice_get volumes place); blocks = blocks_of volumes place }
+
+-- the data volumes of a replicated volume group on these units
+abbrev pub data_of : List VolumeEntry → Units → List DataVolume
+data_of volumes units = map (data_at volumes) units.vols
+
+-- the replicated volume group of a configuration
+abbrev pub config_rvg : Option Config → Option Units
+config_rvg None = None
+config_rvg (Some c) = c.rvg
+
+-- that of a group, as it is noted
+abbrev pub rvg_noted : GroupNode → Option Units
+rvg_noted note = config_rvg (config_of note.config)
+
+-- the volumes of a group, as they are noted
+abbrev pub entries_noted : GroupNode → List VolumeEntry
+entries_noted note = volumes_of (config_of note.config)
+
+-- The site has the replicated volume group of this configuration, on these units: its data volumes are volumes of the group, and its log lies in another one.
+pub record FitsRvg (n : Node) (c : Config) (units : Units) : Type 0 where
+  pub rvg : c.rvg ≡ Some units
+  pub volumes : n.volumes ≡ map as_volume (data_of c.volumes units)
+  pub ring : n.ring ≡ ring_of (blocks_of c.volumes units.srl)

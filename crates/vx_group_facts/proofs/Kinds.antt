@@ -1,0 +1,19 @@
+-- The volumes of a group by what each is to a replicated volume group, with one more behind them.
+use Rattle.std.proofs.Common.{◌≡◌, ◌+◌, ℕ, zero, suc, List, [], ◌∷◌, ◌++◌, length, take, refl, ap, sym, arith}
+use Rattle.std.specs.Prelude.{Option, Some, slice_get, unwrap_or}
+use Rattle.vx_config.specs.declared.entry.VolumeEntry.{VolumeEntry}
+use Rattle.vx_model.specs.declared.units.Units.{Units}
+use Rattle.vx_order.specs.declared.facts.VolumeFacts.{VolumeFacts}
+use Rattle.vx_events.specs.RvgViews.{kinded, kinds_from}
+
+pub kinds_next : (units : Option Units) (k n : ℕ) (vs : List VolumeEntry) (v : VolumeEntry) → slice_get vs n ≡ Some v
+    → kinds_from units k (take (n + 1) vs) ≡ kinds_from units k (take n vs) ++ kinded units (k + n) v ∷ []
+kinds_next units k n [] v e = absurd (cc)
+kinds_next units k zero (x ∷ xs) v e =
+    let same : x ≡ v = ap (λ (o : Option VolumeEntry). unwrap_or o x) e in
+    let place : k + 0 ≡ k = omega arith in
+    rw (place, sym same) refl
+kinds_next units k (suc n) (x ∷ xs) v e =
+    let place : k + suc n ≡ (k + 1) + n = omega arith in
+    let more : suc n + 1 ≡ suc (n + 1) = omega arith in
+    rw (place, more) (ap (λ (fs : List VolumeFacts). kinded units k x ∷ fs) (kinds_next units (k + 1) n xs v e))
