@@ -9,44 +9,26 @@ use vx_config::VolumeEntry;
 use vx_model::Units;
 use vx_order::{VolumeFacts, VolumeKind, VolumeRoom, VolumeTable};
 
-// Whether a volume is one of these.
-fn is_among(units: &[u32], place: u32) -> bool {
-    units.iter().any(|unit| *unit == place)
-}
-
-// What the volume in this place is to a replicated volume group.
-fn kind_at(rvg: &Option<Units>, place: u32) -> VolumeKind {
-    match rvg {
-        None => VolumeKind::Plain,
-        Some(units) => {
-            if place == units.srl {
-                VolumeKind::Srl
-            } else if place == units.maps {
-                VolumeKind::Map
-            } else if is_among(units.vols.as_slice(), place) {
-                VolumeKind::Data
-            } else {
-                VolumeKind::Plain
-            }
-        }
-    }
-}
-
-fn volume_seen(entry: &VolumeEntry, kind: VolumeKind) -> VolumeFacts {
+fn volume_seen(entry: &VolumeEntry) -> VolumeFacts
+    ensures { result ≡ plain_fact entry.now }
+{
     VolumeFacts {
         name: entry.name,
         blocks: entry.blocks,
-        kind,
+        kind: VolumeKind::Plain,
         plexes: entry.plexes.as_slice().len() as u32,
     }
 }
 
-/// The volumes of a group, in order, by what each is to its replicated volume group.
-pub fn volumes_seen(room: VolumeRoom, volumes: &[VolumeEntry], rvg: &Option<Units>) -> VolumeTable {
+/// The volumes of a group outside a replicated volume group, in order.
+pub fn volumes_seen(room: VolumeRoom, volumes: &[VolumeEntry]) -> VolumeTable
+    requires empty { room ≡ [] }
+    requires few { length volumes.now ≤ MOST_VOLUMES }
+    ensures { result ≡ map plain_fact volumes.now }
+{
     let mut room = room;
-    for place in 0..volumes.len() {
-        let kind = kind_at(rvg, place as u32);
-        room.push(volume_seen(&volumes[place], kind));
+    for entry in volumes {
+        room.push(volume_seen(entry));
     }
     room.into_table()
 }

@@ -14,7 +14,7 @@ use vx_config::Config;
 use vx_disk::Rack;
 use vx_diskset::DiskSet;
 use vx_events::Said;
-use vx_group_facts::volumes_seen;
+use vx_group_facts::{kinds_seen, volumes_seen};
 use vx_model::{No, OutOfMemory, Stop};
 use vx_order::{VolumeRoom, VolumeTable};
 use vx_yard::Yard;
@@ -57,7 +57,10 @@ fn table_of(config: Option<&Config>, room: VolumeRoom) -> VolumeTable
     ensures { result ≡ map plain_fact (volumes_of (option_copied config.entry)) }
 {
     match config {
-        Some(config) => volumes_seen(room, config.volumes.as_slice(), &config.rvg),
+        Some(config) => match &config.rvg {
+            Some(units) => kinds_seen(room, config.volumes.as_slice(), units),
+            None => volumes_seen(room, config.volumes.as_slice()),
+        },
         None => room.into_table(),
     }
 }
