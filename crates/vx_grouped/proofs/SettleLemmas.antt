@@ -40,14 +40,14 @@ tight_deported false is = cc
 
 pub done_settles : (core : Inner) (note : GroupNode) → (note.loose ≡ false → note.begun ≡ [] → core.committed ≡ true) → NoteSettles note (note_done core note)
 done_settles core note tight = record {
-  same = record { dark = refl; bytes = refl; others = refl; cut = refl; missed = refl; perhaps = refl };
+  same = record { dark = refl; bytes = refl; others = refl; cut = refl; missed = refl; perhaps = refl; inside = refl };
   begun = begun_done core.committed core.agreed note.loose note.begun;
   tight = λ was none. tight_done core.committed core.agreed note.loose (tight was none);
 }
 
 pub refused_unsettles : (core : Inner) (note : GroupNode) (next : List ℕ) → NoteUnsettles note (note_refused next core note)
 refused_unsettles core note next = record {
-  same = record { dark = refl; bytes = refl; others = refl; cut = refl; missed = refl; perhaps = refl };
+  same = record { dark = refl; bytes = refl; others = refl; cut = refl; missed = refl; perhaps = refl; inside = refl };
   begun = begun_refused core.committed core.agreed note.loose next note.begun;
 }
 
@@ -58,7 +58,7 @@ begun_deported false l begun = inr (refl, λ is. refl)
 
 pub deport_settles : (x : Config) (core : Inner) (note : GroupNode) → (note.loose ≡ false → note.begun ≡ [] → core.committed ≡ true) → NoteSettles note (note_deported x core note)
 deport_settles x core note tight = record {
-  same = record { dark = refl; bytes = refl; others = refl; cut = refl; missed = refl; perhaps = refl };
+  same = record { dark = refl; bytes = refl; others = refl; cut = refl; missed = refl; perhaps = refl; inside = refl };
   begun = begun_deported core.committed note.loose note.begun;
   tight = λ was none. tight_deported core.committed (tight was none);
 }
