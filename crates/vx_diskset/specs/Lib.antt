@@ -1,3 +1,4 @@
+pub mod Aboves
 pub mod Asked
 pub mod Blames
 pub mod Burning
@@ -11,7 +12,9 @@ pub mod Holds
 pub mod Keeps
 pub mod Lasts
 pub mod Layouts
+pub mod Makings
 pub mod Needs
+pub mod Noted
 pub mod Pumps
 pub mod Received
 pub mod Recovers
@@ -22,3 +25,4 @@ pub mod Unlabels
 pub mod Withdrawn
 pub mod Zeroing
 pub mod Zeros
+pub mod Works

@@ -158,20 +158,12 @@ fn raise_in<R: Rack>(
 
 // The same of a site with a replicated volume group.
 fn import_over<R: Rack>(over: OverSet<R>, alloc: Global) -> (DiskSet<R>, Result<(), Stop>) {
-    let OverSet {
-        site,
-        above: _,
-        cut,
-    } = over;
+    let (site, _above, cut) = over.parts();
     let (site, answer) = site.import(alloc);
     match answer {
         Ok(()) => with_rvg(alloc, site, None, true),
         Err(stop) => (
-            DiskSet::Over(OverSet {
-                site,
-                above: Above::Nothing,
-                cut,
-            }),
+            DiskSet::Over(OverSet::of(site, Above::Nothing, cut)),
             Err(stop),
         ),
     }
@@ -181,11 +173,7 @@ fn raise_over<R: Rack>(
     over: OverSet<R>,
     alloc: Global,
 ) -> (DiskSet<R>, Result<Option<CutWrite>, Stop>) {
-    let OverSet {
-        site,
-        above: _,
-        cut,
-    } = over;
+    let (site, _above, cut) = over.parts();
     let (site, answer) = site.import(alloc);
     match answer {
         Ok(()) => {
@@ -196,11 +184,7 @@ fn raise_over<R: Rack>(
             }
         }
         Err(stop) => (
-            DiskSet::Over(OverSet {
-                site,
-                above: Above::Nothing,
-                cut,
-            }),
+            DiskSet::Over(OverSet::of(site, Above::Nothing, cut)),
             Err(stop),
         ),
     }
@@ -210,27 +194,15 @@ fn stand_over<R: Rack>(
     over: OverSet<R>,
     cut: Option<CutWrite>,
 ) -> (DiskSet<R>, Result<Option<KeptWrite>, Stop>) {
-    let OverSet {
-        site,
-        above,
-        cut: _,
-    } = over;
+    let (site, above, _cut) = over.parts();
     let mut site = site;
     match look_kept(&mut site, &cut) {
         Ok(kept) => (
-            DiskSet::Over(OverSet {
-                site,
-                above,
-                cut: None,
-            }),
+            DiskSet::Over(OverSet::of(site, above, None)),
             Ok(kept),
         ),
         Err(no) => (
-            DiskSet::Over(OverSet {
-                site: site.crash(u64::MAX),
-                above: Above::Nothing,
-                cut,
-            }),
+            DiskSet::Over(OverSet::of(site.crash(u64::MAX), Above::Nothing, cut)),
             Err(Stop::No(no)),
         ),
     }

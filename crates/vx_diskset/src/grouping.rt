@@ -64,7 +64,7 @@ impl<R: Rack> DiskSet<R> {
     {
         match self {
             DiskSet::OfGroup(group) => group.site.config(),
-            DiskSet::Over(over) => over.site.config(),
+            DiskSet::Over(over) => over.config(),
             _ => None,
         }
     }

@@ -1,7 +1,9 @@
 //! The disks of one site: bare, under a replicated volume group, or down; and what each call on them makes of the site.
 #![tactic(auto)]
 
+mod above;
 mod disk_set;
+mod founded;
 mod group_finds;
 mod group_set;
 mod group_starts;
@@ -24,7 +26,9 @@ mod zeroing;
 
 pub use disk_set::DiskSet;
 pub use group_set::{CutWrite, GroupSet, KeptWrite};
-pub use over_set::{Above, OverSet};
+pub use above::Above;
+pub use founded::{Founded, FoundedReceiver};
+pub use over_set::{OverSet, OverSite};
 pub use reading::blocks_of;
 pub use receivers::Reached;
 pub use units::can_be_raw;

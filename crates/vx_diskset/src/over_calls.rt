@@ -4,8 +4,10 @@ use crate::group_set::CutWrite;
 use crate::over_work::{Applies, Keeps, Reaches, Reads, Shows, Writes};
 use crate::receivers::Reached;
 use crate::room::used_in;
-use crate::{Above, OverSet};
+use crate::above::Above;
+use crate::{OverSet, OverSite};
 use std::mem;
+use vx_config::Config;
 use vx_disk::Rack;
 use vx_ground::{Work, work_over};
 use vx_grouped::GroupSite;
@@ -33,19 +35,11 @@ fn origin<R: Rack, T>(
 ) -> (OverSet<R>, Result<T, No>) {
     match answer {
         Some((core, result)) => (
-            OverSet {
-                site,
-                above: Above::Origin(core),
-                cut,
-            },
+            OverSet::of(site, Above::Origin(core), cut),
             result,
         ),
         None => (
-            OverSet {
-                site,
-                above: Above::Nothing,
-                cut,
-            },
+            OverSet::of(site, Above::Nothing, cut),
             Err(No::Role),
         ),
     }
@@ -59,19 +53,11 @@ fn receiver<R: Rack, T>(
 ) -> (OverSet<R>, Result<T, No>) {
     match answer {
         Some((core, waiting, result)) => (
-            OverSet {
-                site,
-                above: Above::Receiver { core, waiting },
-                cut,
-            },
+            OverSet::of(site, Above::Receiver { core, waiting }, cut),
             result,
         ),
         None => (
-            OverSet {
-                site,
-                above: Above::Nothing,
-                cut,
-            },
+            OverSet::of(site, Above::Nothing, cut),
             Err(No::Role),
         ),
     }
@@ -80,16 +66,12 @@ fn receiver<R: Rack, T>(
 impl<R: Rack> OverSet<R> {
     // Writes whole blocks to a data volume.
     fn written(self, volume: u32, start: u64, bytes: &[u8], hold: u64) -> (OverSet<R>, Result<u64, No>) {
-        let OverSet { site, above, cut } = self;
+        let (site, above, cut) = self.parts();
         match above {
             Above::Origin(core) => {
                 if volume >= core.volumes() {
                     return (
-                        OverSet {
-                            site,
-                            above: Above::Origin(core),
-                            cut,
-                        },
+                        OverSet::of(site, Above::Origin(core), cut),
                         Err(No::Role),
                     );
                 }
@@ -103,7 +85,7 @@ impl<R: Rack> OverSet<R> {
                 let (site, answer) = work_site(site, work);
                 origin(site, cut, answer)
             }
-            above => (OverSet { site, above, cut }, Err(No::Role)),
+            above => (OverSet::of(site, above, cut), Err(No::Role)),
         }
     }
 
@@ -115,7 +97,7 @@ impl<R: Rack> OverSet<R> {
 
     // Brings logged writes into their volumes.
     fn applied(self, to: u64) -> (OverSet<R>, Result<u64, No>) {
-        let OverSet { site, above, cut } = self;
+        let (site, above, cut) = self.parts();
         match above {
             Above::Origin(core) => {
                 let (site, answer) = work_site(site, Applies { core, to });
@@ -125,29 +107,17 @@ impl<R: Rack> OverSet<R> {
                 let (site, answer) = work_site(site, Applies { core, to });
                 match answer {
                     Some((core, result)) => (
-                        OverSet {
-                            site,
-                            above: Above::Receiver { core, waiting },
-                            cut,
-                        },
+                        OverSet::of(site, Above::Receiver { core, waiting }, cut),
                         result,
                     ),
                     None => (
-                        OverSet {
-                            site,
-                            above: Above::Nothing,
-                            cut,
-                        },
+                        OverSet::of(site, Above::Nothing, cut),
                         Err(No::Role),
                     ),
                 }
             }
             Above::Nothing => (
-                OverSet {
-                    site,
-                    above: Above::Nothing,
-                    cut,
-                },
+                OverSet::of(site, Above::Nothing, cut),
                 Err(No::Role),
             ),
         }
@@ -161,7 +131,7 @@ impl<R: Rack> OverSet<R> {
 
     // Makes a state of the log's line durable.
     fn kept(self, state: &State) -> (OverSet<R>, Result<(), No>) {
-        let OverSet { site, above, cut } = self;
+        let (site, above, cut) = self.parts();
         match above {
             Above::Origin(core) => {
                 let (site, answer) = work_site(site, Keeps { core, state });
@@ -171,29 +141,17 @@ impl<R: Rack> OverSet<R> {
                 let (site, answer) = work_site(site, Keeps { core, state });
                 match answer {
                     Some((core, result)) => (
-                        OverSet {
-                            site,
-                            above: Above::Receiver { core, waiting },
-                            cut,
-                        },
+                        OverSet::of(site, Above::Receiver { core, waiting }, cut),
                         result,
                     ),
                     None => (
-                        OverSet {
-                            site,
-                            above: Above::Nothing,
-                            cut,
-                        },
+                        OverSet::of(site, Above::Nothing, cut),
                         Err(No::Role),
                     ),
                 }
             }
             Above::Nothing => (
-                OverSet {
-                    site,
-                    above: Above::Nothing,
-                    cut,
-                },
+                OverSet::of(site, Above::Nothing, cut),
                 Err(No::Role),
             ),
         }
@@ -207,16 +165,12 @@ impl<R: Rack> OverSet<R> {
 
     // Reads blocks of a data volume: the content after the writes that are durable.
     fn was_read(self, volume: u32, start: u64, into: &mut [u8]) -> (OverSet<R>, Result<(), No>) {
-        let OverSet { site, above, cut } = self;
+        let (site, above, cut) = self.parts();
         match above {
             Above::Origin(core) => {
                 if volume >= core.volumes() {
                     return (
-                        OverSet {
-                            site,
-                            above: Above::Origin(core),
-                            cut,
-                        },
+                        OverSet::of(site, Above::Origin(core), cut),
                         Err(No::Role),
                     );
                 }
@@ -232,25 +186,17 @@ impl<R: Rack> OverSet<R> {
                     Some((core, room, result)) => {
                         into.copy_from_slice(&room[..count]);
                         (
-                            OverSet {
-                                site,
-                                above: Above::Origin(core),
-                                cut,
-                            },
+                            OverSet::of(site, Above::Origin(core), cut),
                             result,
                         )
                     }
                     None => (
-                        OverSet {
-                            site,
-                            above: Above::Nothing,
-                            cut,
-                        },
+                        OverSet::of(site, Above::Nothing, cut),
                         Err(No::Role),
                     ),
                 }
             }
-            above => (OverSet { site, above, cut }, Err(No::Role)),
+            above => (OverSet::of(site, above, cut), Err(No::Role)),
         }
     }
 
@@ -262,16 +208,12 @@ impl<R: Rack> OverSet<R> {
 
     // Reads blocks of a data volume: the content after all writes that were received.
     fn shown(self, volume: u32, start: u64, into: &mut [u8]) -> (OverSet<R>, Result<(), No>) {
-        let OverSet { site, above, cut } = self;
+        let (site, above, cut) = self.parts();
         match above {
             Above::Receiver { core, waiting } => {
                 if volume >= core.volumes() {
                     return (
-                        OverSet {
-                            site,
-                            above: Above::Receiver { core, waiting },
-                            cut,
-                        },
+                        OverSet::of(site, Above::Receiver { core, waiting }, cut),
                         Err(No::Role),
                     );
                 }
@@ -288,25 +230,17 @@ impl<R: Rack> OverSet<R> {
                     Some((core, waiting, room, result)) => {
                         into.copy_from_slice(&room[..count]);
                         (
-                            OverSet {
-                                site,
-                                above: Above::Receiver { core, waiting },
-                                cut,
-                            },
+                            OverSet::of(site, Above::Receiver { core, waiting }, cut),
                             result,
                         )
                     }
                     None => (
-                        OverSet {
-                            site,
-                            above: Above::Nothing,
-                            cut,
-                        },
+                        OverSet::of(site, Above::Nothing, cut),
                         Err(No::Role),
                     ),
                 }
             }
-            above => OverSet { site, above, cut }.was_read(volume, start, into),
+            above => OverSet::of(site, above, cut).was_read(volume, start, into),
         }
     }
 
@@ -318,7 +252,7 @@ impl<R: Rack> OverSet<R> {
 
     // Logs the oldest of what waits, so many of them or all, and brings all that is logged into the volumes.
     fn reached(self, count: u64) -> (OverSet<R>, Result<Reached, No>) {
-        let OverSet { site, above, cut } = self;
+        let (site, above, cut) = self.parts();
         match above {
             Above::Receiver { core, waiting } => {
                 let few = count.min(u64::from(waiting.len())) as u32;
@@ -337,11 +271,7 @@ impl<R: Rack> OverSet<R> {
                         })
                     };
                     return (
-                        OverSet {
-                            site,
-                            above: Above::Receiver { core, waiting },
-                            cut,
-                        },
+                        OverSet::of(site, Above::Receiver { core, waiting }, cut),
                         answer,
                     );
                 }
@@ -356,11 +286,7 @@ impl<R: Rack> OverSet<R> {
             Above::Origin(core) => {
                 let number = core.head();
                 (
-                    OverSet {
-                        site,
-                        above: Above::Origin(core),
-                        cut,
-                    },
+                    OverSet::of(site, Above::Origin(core), cut),
                     Ok(Reached {
                         number,
                         acks: false,
@@ -368,11 +294,7 @@ impl<R: Rack> OverSet<R> {
                 )
             }
             Above::Nothing => (
-                OverSet {
-                    site,
-                    above: Above::Nothing,
-                    cut,
-                },
+                OverSet::of(site, Above::Nothing, cut),
                 Err(No::Role),
             ),
         }
@@ -386,16 +308,25 @@ impl<R: Rack> OverSet<R> {
 
     /// The replicated volume group but for its shelf, where it is up.
     pub fn core(&self) -> Option<&RvgCore> {
-        match &self.above {
-            Above::Origin(core) => Some(core),
-            Above::Receiver { core, waiting: _ } => Some(core),
-            Above::Nothing => None,
+        match &self.site {
+            OverSite::Origin(founded) => Some(&founded.core),
+            OverSite::Receiver(founded) => Some(&founded.core),
+            OverSite::Deported(_) | OverSite::Down(_) | OverSite::Gone => None,
+        }
+    }
+
+    /// The configuration of the group below, where it is up.
+    pub fn config(&self) -> Option<&Config> {
+        match &self.site {
+            OverSite::Origin(founded) => Some(founded.laid.config()),
+            OverSite::Receiver(founded) => Some(founded.laid.config()),
+            OverSite::Deported(_) | OverSite::Down(_) | OverSite::Gone => None,
         }
     }
 
     /// Whether it receives the writes of another, with room for the updates that wait.
     pub fn receives(&self) -> bool {
-        matches!(&self.above, Above::Receiver { core: _, waiting: _ })
+        matches!(&self.site, OverSite::Receiver(_))
     }
 
     pub(crate) fn last(&self) -> u64 {
@@ -420,28 +351,28 @@ impl<R: Rack> OverSet<R> {
     }
 
     pub(crate) fn used(&self, above: u64) -> Option<u64> {
-        match &self.above {
-            Above::Origin(core) => used_in(core, above),
+        match &self.site {
+            OverSite::Origin(founded) => used_in(&founded.core, above),
             _ => None,
         }
     }
 
     pub(crate) fn waiting(&self) -> u32 {
-        match &self.above {
-            Above::Receiver { core: _, waiting } => waiting.len(),
+        match &self.site {
+            OverSite::Receiver(founded) => founded.waiting.len(),
             _ => 0,
         }
     }
 
     pub(crate) fn received(&self) -> u64 {
-        match &self.above {
-            Above::Origin(core) => core.head(),
-            Above::Receiver { core, waiting } => {
+        match &self.site {
+            OverSite::Origin(founded) => founded.core.head(),
+            OverSite::Receiver(founded) => {
                 // For its bound.
-                let _ring = core.ring();
-                core.head() + u64::from(waiting.len())
+                let _ring = founded.core.ring();
+                founded.core.head() + u64::from(founded.waiting.len())
             }
-            Above::Nothing => 0,
+            OverSite::Deported(_) | OverSite::Down(_) | OverSite::Gone => 0,
         }
     }
 }

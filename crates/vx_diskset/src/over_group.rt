@@ -1,4 +1,17 @@
 // Calls on the disk group below a replicated volume group.
+ghost use Rattle.std.specs.Prelude.{◌≡◌, None, Some, false, true};
+ghost use Rattle.vx_config.specs.Checks.{is_group};
+ghost use Rattle.vx_config.specs.declared.config.Config.{Config as ConfigValue};
+ghost use Rattle.vx_diskset.specs.Asked.{FuseGoesOn, SameFailing};
+ghost use Rattle.vx_diskset.specs.DiskSets.{Later};
+ghost use Rattle.vx_diskset.specs.GroupCalls.{config_in};
+ghost use Rattle.vx_diskset.specs.Makings.{MadeOver};
+ghost use Rattle.vx_diskset.specs.Noted.{NotedAt};
+ghost use Rattle.vx_events.specs.GroupLines.{is_over_group};
+ghost use Rattle.vx_history.specs.Groups.{GroupNode};
+ghost use Rattle.vx_history.specs.World.{Node};
+ghost use Rattle.vx_model.specs.declared.site.SiteState.TheVariants.{Up as UpState};
+
 use crate::group_set::CutWrite;
 use crate::over_work::{Makes, Rewrites, Starts};
 use crate::writing::is_off;
@@ -68,11 +81,7 @@ fn make_over<R: Rack>(
             let laid = Laid::of(group);
             match named {
                 Ok(()) => (
-                    DiskSet::Over(OverSet {
-                        site: GroupSite::Up(laid),
-                        above: Above::Origin(core),
-                        cut,
-                    }),
+                    DiskSet::Over(OverSet::of(GroupSite::Up(laid), Above::Origin(core), cut)),
                     Ok(()),
                 ),
                 Err(stop) => left(laid, cut, stop),
@@ -111,11 +120,7 @@ fn start_over<R: Rack>(
     let (laid, started) = work_over(laid, Starts { room, units });
     match started {
         Ok(core) => (
-            DiskSet::Over(OverSet {
-                site: GroupSite::Up(laid),
-                above: by_role(core, waiting),
-                cut,
-            }),
+            DiskSet::Over(OverSet::of(GroupSite::Up(laid), by_role(core, waiting), cut)),
             Ok(()),
         ),
         Err(no) => {
@@ -139,11 +144,7 @@ fn back_over<R: Rack>(
         GroupSite::Down(idle)
     };
     (
-        DiskSet::Over(OverSet {
-            site,
-            above: Above::Nothing,
-            cut,
-        }),
+        DiskSet::Over(OverSet::of(site, Above::Nothing, cut)),
         Err(stop),
     )
 }
@@ -183,81 +184,62 @@ pub(crate) fn with_rvg<R: Rack>(
 
 impl<R: Rack> OverSet<R> {
     pub(crate) fn fail(&mut self, disk: u64, on: bool) {
-        let OverSet { site, above, cut } = mem::replace(self, OverSet::gone());
+        let (site, above, cut) = mem::replace(self, OverSet::gone()).parts();
         let mut site = site;
         site.fail(disk, on);
-        *self = OverSet { site, above, cut };
+        *self = OverSet::of(site, above, cut);
     }
 
     pub(crate) fn fuse(&mut self, calls: u64, pick: u64) {
-        let OverSet { site, above, cut } = mem::replace(self, OverSet::gone());
+        let (site, above, cut) = mem::replace(self, OverSet::gone()).parts();
         let mut site = site;
         site.fuse(calls, pick);
-        *self = OverSet { site, above, cut };
+        *self = OverSet::of(site, above, cut);
     }
 
     pub(crate) fn crash(self, pick: u64) -> OverSet<R> {
-        OverSet {
-            site: self.site.crash(pick),
-            above: Above::Nothing,
-            cut: self.cut,
-        }
-    }
-
-    // The same group behind a call on it: what stood over it does so while it is up.
-    fn behind(site: GroupSite<R>, above: Above, cut: Option<CutWrite>) -> OverSet<R> {
-        match site {
-            GroupSite::Up(laid) => OverSet {
-                site: GroupSite::Up(laid),
-                above,
-                cut,
-            },
-            site => OverSet {
-                site,
-                above: Above::Nothing,
-                cut,
-            },
-        }
+        let (site, _above, cut) = self.parts();
+        OverSet::of(site.crash(pick), Above::Nothing, cut)
     }
 
     pub(crate) fn deport(&mut self) -> Result<(), Stop> {
-        let OverSet { site, above, cut } = mem::replace(self, OverSet::gone());
+        let (site, above, cut) = mem::replace(self, OverSet::gone()).parts();
         let (site, answer) = site.deport();
-        *self = OverSet::behind(site, above, cut);
+        *self = OverSet::of(site, above, cut);
         answer
     }
 
     pub(crate) fn make_volume(&mut self, alloc: Global, name: &Name, want: &Shape) -> Result<u32, Stop> {
-        let OverSet { site, above, cut } = mem::replace(self, OverSet::gone());
+        let (site, above, cut) = mem::replace(self, OverSet::gone()).parts();
         let mut site = site;
         let answer = site.make_volume(alloc, name, want);
-        *self = OverSet::behind(site, above, cut);
+        *self = OverSet::of(site, above, cut);
         answer
     }
 
     pub(crate) fn det(&mut self, volume: u32, plex: u32) -> Result<(), Stop> {
-        let OverSet { site, above, cut } = mem::replace(self, OverSet::gone());
+        let (site, above, cut) = mem::replace(self, OverSet::gone()).parts();
         let mut site = site;
         let answer = site.det(volume, plex);
-        *self = OverSet::behind(site, above, cut);
+        *self = OverSet::of(site, above, cut);
         answer
     }
 
     pub(crate) fn att(&mut self, volume: u32, plex: u32) -> Result<u64, Stop> {
-        let OverSet { site, above, cut } = mem::replace(self, OverSet::gone());
+        let (site, above, cut) = mem::replace(self, OverSet::gone()).parts();
         let mut site = site;
         let answer = site.att(volume, plex);
-        *self = OverSet::behind(site, above, cut);
+        *self = OverSet::of(site, above, cut);
         answer
     }
 
     /// Writes to a volume outside the replicated volume group. The write in which the fuse runs out is cut.
     pub(crate) fn write_plain(&mut self, volume: u32, block: u64, bytes: &[u8]) -> Result<(), No> {
-        let OverSet { site, above, cut } = mem::replace(self, OverSet::gone());
+        let (site, above, cut) = mem::replace(self, OverSet::gone()).parts();
         let mut site = site;
         match site.write(volume, block, bytes) {
             Ok(()) => {
-                *self = OverSet::behind(site, above, cut);
+                *self = OverSet::of(site, above, cut);
                 Ok(())
             }
             Err(no) => {
@@ -267,20 +249,20 @@ impl<R: Rack> OverSet<R> {
                         block,
                         bytes: Blocks::new(bytes),
                     });
-                    *self = OverSet::behind(site, above, cut);
+                    *self = OverSet::of(site, above, cut);
                     return Err(no);
                 }
-                *self = OverSet::behind(site, above, cut);
+                *self = OverSet::of(site, above, cut);
                 Err(no)
             }
         }
     }
 
     pub(crate) fn read_plain(&mut self, volume: u32, block: u64, into: &mut [u8]) -> Result<(), No> {
-        let OverSet { site, above, cut } = mem::replace(self, OverSet::gone());
+        let (site, above, cut) = mem::replace(self, OverSet::gone()).parts();
         let mut site = site;
         let answer = site.read(volume, block, into);
-        *self = OverSet::behind(site, above, cut);
+        *self = OverSet::of(site, above, cut);
         answer
     }
 }
@@ -290,7 +272,12 @@ impl<R: Rack> DiskSet<R> {
     /// then its log is begun; the commit that names them is the moment at which the site has it. A site whose fuse runs out crashes.
     ///
     /// Answers 19 where no serial is left, 7 where a disk failed, and 6 where the fuse ran out; or memory is wanted.
-    pub fn make_rvg(self, alloc: Global, site: u32, units: &Units) -> (DiskSet<R>, Result<(), Stop>) {
+    pub fn make_rvg(self, alloc: Global, site: u32, units: &Units) -> (DiskSet<R>, Result<(), Stop>)
+        ensures made { (n : Node) (note : GroupNode) (c : ConfigValue) → NotedAt n note self → n.state ≡ UpState → is_over_group n ≡ true → config_in self ≡ Some c → c.rvg ≡ None → is_group c.volumes units.now ≡ true → MadeOver site n note units.now c self result.0 result.1 }
+        ensures failing { SameFailing self result.0 }
+        ensures fuse { FuseGoesOn self result.0 }
+        ensures later { Later self result.0 }
+    {
         match self {
             DiskSet::OfGroup(group) => {
                 let GroupSet { site: below, cut } = group;

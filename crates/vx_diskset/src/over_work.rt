@@ -1,4 +1,11 @@
 // What is done to a replicated volume group over the volumes of a disk group.
+ghost use Rattle.std.specs.Prelude.{◌≡◌, ◌<◌, ◌≤◌, ℕ, Contains};
+ghost use Rattle.vx_diskset.specs.Works.{AsksReach, AsksRead, AsksWrite, DoesApply, DoesKeep, DoesMake, DoesReach, DoesRead, DoesRewrite, DoesStart, DoesWrite};
+ghost use Rattle.vx_model.specs.declared.limits.TheConstants.{LEAST_BLOCKS};
+ghost use Rattle.vx_rvg.specs.Starts.{ring_in};
+ghost use Rattle.vx_rvg.specs.Views.{IsSound, UnitsPlaced};
+ghost use Rattle.vx_srlfmt.specs.Headers.{CanSpellState};
+
 use crate::keeping::keep_group;
 use crate::receivers::{Reached, apply_oldest};
 use crate::writing::{apply_group, write_group};
@@ -26,6 +33,10 @@ pub(crate) struct Writes<'a> {
 impl<'a> Work for Writes<'a> {
     type Answer = (RvgCore, Result<u64, No>);
 
+    ghost asks = { λ w m. AsksWrite w.core w.volume w.bytes m };
+
+    ghost does = { λ w m n r. DoesWrite w.core w.volume w.start w.bytes w.hold m r.0 n r.1 };
+
     fn run<S: Shelf>(self, shelf: S) -> (S, (RvgCore, Result<u64, No>)) {
         let mut rvg = Rvg::together(shelf, self.core);
         let answer = write_group(&mut rvg, self.volume, self.start, self.bytes, self.hold);
@@ -45,6 +56,10 @@ pub(crate) struct Reads {
 
 impl Work for Reads {
     type Answer = (RvgCore, Room, Result<(), No>);
+
+    ghost asks = { λ w m. AsksRead w.core w.volume w.count m };
+
+    ghost does = { λ w m n r. DoesRead w.core w.volume w.start w.count m r.0 r.1 n r.2 };
 
     fn run<S: Shelf>(self, shelf: S) -> (S, (RvgCore, Room, Result<(), No>)) {
         let mut rvg = Rvg::together(shelf, self.core);
@@ -68,6 +83,10 @@ pub(crate) struct Shows {
 impl Work for Shows {
     type Answer = (RvgCore, Waiting, Room, Result<(), No>);
 
+    ghost asks = { λ w m. AsksRead w.core w.volume w.count m };
+
+    ghost does = { λ w m n r. Unit {0} };
+
     fn run<S: Shelf>(self, shelf: S) -> (S, (RvgCore, Waiting, Room, Result<(), No>)) {
         let mut site = Secondary::together(Rvg::together(shelf, self.core), self.waiting);
         let mut room = [0; MOST_CALL_BYTES as usize];
@@ -88,6 +107,10 @@ pub(crate) struct Applies {
 impl Work for Applies {
     type Answer = (RvgCore, Result<u64, No>);
 
+    ghost asks = { λ w m. IsSound w.core m };
+
+    ghost does = { λ w m n r. DoesApply w.core w.to m r.0 n r.1 };
+
     fn run<S: Shelf>(self, shelf: S) -> (S, (RvgCore, Result<u64, No>)) {
         let mut rvg = Rvg::together(shelf, self.core);
         let answer = apply_group(&mut rvg, self.to);
@@ -106,6 +129,10 @@ pub(crate) struct Reaches {
 
 impl Work for Reaches {
     type Answer = (RvgCore, Waiting, Result<Reached, No>);
+
+    ghost asks = { λ w m. AsksReach w.core w.waiting w.count m };
+
+    ghost does = { λ w m n r. DoesReach w.core w.waiting w.count m r.0 r.1 n r.2 };
 
     fn run<S: Shelf>(self, shelf: S) -> (S, (RvgCore, Waiting, Result<Reached, No>)) {
         let mut rvg = Rvg::together(shelf, self.core);
@@ -126,6 +153,10 @@ pub(crate) struct Keeps<'a> {
 impl<'a> Work for Keeps<'a> {
     type Answer = (RvgCore, Result<(), No>);
 
+    ghost asks = { λ w m. IsSound w.core m × CanSpellState w.state };
+
+    ghost does = { λ w m n r. DoesKeep w.core w.state m r.0 n r.1 };
+
     fn run<S: Shelf>(self, shelf: S) -> (S, (RvgCore, Result<(), No>)) {
         let mut rvg = Rvg::together(shelf, self.core);
         let answer = keep_group(&mut rvg, self.state);
@@ -144,6 +175,10 @@ pub(crate) struct Makes<'a> {
 
 impl<'a> Work for Makes<'a> {
     type Answer = Result<RvgCore, Stop>;
+
+    ghost asks = { λ w m. UnitsPlaced w.units m × (LEAST_BLOCKS ≤ m.size w.units.srl) × CanSpellState w.state };
+
+    ghost does = { λ w m n r. DoesMake w.units w.state m n r };
 
     fn run<S: Shelf>(self, shelf: S) -> (S, Result<RvgCore, Stop>) {
         match Rvg::create(self.alloc, shelf, self.units, &self.state) {
@@ -166,6 +201,10 @@ pub(crate) struct Starts<'a> {
 impl<'a> Work for Starts<'a> {
     type Answer = Result<RvgCore, No>;
 
+    ghost asks = { λ w m. UnitsPlaced w.units m × (LEAST_BLOCKS ≤ m.size w.units.srl) × (w.room.ring ≡ ring_in w.units m) };
+
+    ghost does = { λ w m n r. DoesStart w.units m n r };
+
     fn run<S: Shelf>(self, shelf: S) -> (S, Result<RvgCore, No>) {
         match Rvg::start_in(self.room, shelf, self.units) {
             Ok(rvg) => {
@@ -185,6 +224,10 @@ pub(crate) struct Rewrites<'a> {
 
 impl<'a> Work for Rewrites<'a> {
     type Answer = Result<(), ShelfError>;
+
+    ghost asks = { λ w m. (u : ℕ) → Contains w.volumes u → u < m.units };
+
+    ghost does = { λ w m n r. DoesRewrite w.volumes m n r };
 
     fn run<S: Shelf>(self, shelf: S) -> (S, Result<(), ShelfError>) {
         let mut shelf = shelf;

@@ -56,7 +56,8 @@ fn give_back<R: Rack>(racks: &mut Vec<R>, disk_set: DiskSet<R>)
             give_site(racks, group.site);
         }
         DiskSet::Over(over) => {
-            give_site(racks, over.site);
+            let (site, _above, _cut) = over.parts();
+            give_site(racks, site);
         }
         DiskSet::Gone => {}
     }

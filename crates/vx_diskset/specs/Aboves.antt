@@ -1,0 +1,49 @@
+-- What stands over the volumes of a group of disks.
+use Rattle.std.specs.Prelude.{◌≡◌, ℕ, List, [], Option, Some, None}
+use Rattle.vx_disk.specs.Shelf.{Meaning}
+use Rattle.vx_disk.specs.declared.shelf.Shelf.{Ghosts}
+use Rattle.vx_ground.specs.Lifted.{laid_volumes}
+use Rattle.vx_grouped.specs.declared.group_site.GroupSite.{GroupSite}
+use Rattle.vx_grouped.specs.declared.group_site.GroupSite.TheVariants.{Up, Deported as GroupAway, Down as GroupFell, Marked, Gone as NoGroup}
+use Rattle.vx_model.specs.declared.call.Update.{Update}
+use Rattle.vx_rvg.specs.Views.{Core, IsSound}
+use Rattle.vx_secondary.specs.Receivers.{Wait}
+use Rattle.vx_diskset.specs.declared.above.Above.{Above}
+use Rattle.vx_diskset.specs.declared.above.Above.TheVariants.{Nothing, Origin, Receiver}
+use Rattle.vx_diskset.specs.declared.over_set.OverSet.{OverSet}
+use Rattle.vx_diskset.specs.declared.over_set.OverSite.{OverSite}
+use Rattle.vx_diskset.specs.declared.over_set.OverSite.TheVariants.{Origin as OriginSite, Receiver as ReceiverSite, Deported, Down, Gone}
+
+-- a replicated volume group is sound over these volumes, and what waits behind it fits them; nothing stands over none
+abbrev pub IsAboveOn : Above → Meaning → Type 0
+IsAboveOn Nothing m = ⊥
+IsAboveOn (Origin core) m = IsSound core m
+IsAboveOn (Receiver core waiting) m = IsSound core m × Wait core m.size waiting
+
+module _ {R : Type 0} {g : Ghosts R} where
+  -- so it is over a group that is up
+  abbrev pub AboveStays : Above → GroupSite R g → Type 0
+  AboveStays above (Up laid) = IsAboveOn above (laid_volumes laid)
+  AboveStays above other = Unit {0}
+
+  -- the group below
+  abbrev pub below_site : OverSite R g → GroupSite R g
+  below_site (OriginSite founded) = Up founded.laid
+  below_site (ReceiverSite founded) = Up founded.laid
+  below_site (Deported idle) = GroupAway idle
+  below_site (Down idle) = GroupFell idle
+  below_site Gone = NoGroup
+
+  abbrev pub site_in : OverSet R g → GroupSite R g
+  site_in s = below_site s.site
+
+  -- and what stands over it
+  abbrev pub above_site : OverSite R g → Above
+  above_site (OriginSite founded) = Origin founded.core
+  above_site (ReceiverSite founded) = Receiver founded.core founded.waiting
+  above_site (Deported idle) = Nothing
+  above_site (Down idle) = Nothing
+  above_site Gone = Nothing
+
+  abbrev pub above_in : OverSet R g → Above
+  above_in s = above_site s.site

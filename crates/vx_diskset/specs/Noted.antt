@@ -1,0 +1,50 @@
+-- What a site notes of its group of disks, below a replicated volume group or not.
+use Rattle.std.specs.Prelude.{◌≡◌, ◌⊎◌, ℕ, [], None, Option, Some}
+use Rattle.vx_disk.specs.declared.shelf.Shelf.{Ghosts}
+use Rattle.vx_model.specs.declared.site.Role.TheVariants.{Primary}
+use Rattle.vx_history.specs.Groups.{GroupNode, NoteWorks}
+use Rattle.vx_history.specs.Steps.{crashed}
+use Rattle.vx_history.specs.Stops.{IsFused}
+use Rattle.vx_history.specs.World.{Node}
+use Rattle.vx_model.specs.Content.{Write}
+use Rattle.vx_grouped.specs.ConfigMoves.{LosesSome}
+use Rattle.vx_grouped.specs.GroupSites.{AwayNoted, DownNoted, UpNoted, site_disks, with_note}
+use Rattle.vx_grouped.specs.SiteEnds.{ConfigGoes}
+use Rattle.vx_grouped.specs.declared.group_site.GroupSite.{GroupSite}
+use Rattle.vx_grouped.specs.declared.group_site.GroupSite.TheVariants.{Up, Deported, Down}
+use Rattle.vx_diskset.specs.Aboves.{site_in}
+use Rattle.vx_diskset.specs.GroupSets.{cut_value}
+use Rattle.vx_diskset.specs.declared.disk_set.DiskSet.{DiskSet}
+use Rattle.vx_diskset.specs.declared.disk_set.DiskSet.TheVariants.{OfGroup, Over}
+
+-- a site as its group has it, without its replicated volume group
+abbrev pub below_rvg : Node → Node
+below_rvg n = record n { role = Primary; volumes = []; log = []; safe = 0; halted = None }
+
+module _ {R : Type 0} {g : Ghosts R} where
+  -- the group, up or not, is as it is noted
+  abbrev pub NotedOn : Node → GroupNode → GroupSite R g → Type 0
+  NotedOn n note (Up laid) = UpNoted n note (Up laid)
+  NotedOn n note (Deported idle) = AwayNoted n note (Deported idle)
+  NotedOn n note (Down idle) = DownNoted n note (Down idle)
+  NotedOn n note other = ⊥
+
+  -- so it is of the disks of a site, with the write that is cut
+  abbrev pub NotedAt : Node → GroupNode → DiskSet R g → Type 0
+  NotedAt n note (OfGroup s) = NotedOn n note s.site × (cut_value s.cut ≡ note.cut)
+  NotedAt n note (Over s) = NotedOn (below_rvg n) note (site_in s) × (cut_value s.cut ≡ note.cut)
+  NotedAt n note other = ⊥
+
+  -- How a call on the replicated volume group of a site moves the note: its group is up still, or it crashed as its fuse ran out.
+  abbrev pub NotesMoved : Node → GroupNode → GroupSite R g → DiskSet R g → GroupSite R g → DiskSet R g → Type 0
+  NotesMoved n note below old below' new =
+      (next : GroupNode) × NoteWorks note next × ConfigGoes (LosesSome (site_disks below) (site_disks below')) note next below below'
+      × (NotedAt (with_note next n) next new ⊎ (NotedAt (crashed (with_note next n) 0) next new × IsFused n.fuse))
+
+  abbrev pub NotesOver : Node → GroupNode → DiskSet R g → DiskSet R g → Type 0
+  NotesOver n note (Over old) (Over new) = NotesMoved n note (site_in old) (Over old) (site_in new) (Over new)
+  NotesOver n note old new = Unit {0}
+
+  -- a call on the replicated volume group of a site: of a site without a group it says nothing
+  pub record NotesOn (old new : DiskSet R g) : Type 0 where
+    pub each : (n : Node) (note : GroupNode) → NotedAt n note old → NotesOver n note old new

@@ -1,0 +1,144 @@
+-- What each call on a replicated volume group makes of it and of the shelf below, whatever shelf that is.
+use Rattle.std.specs.Prelude.{◌≡◌, ◌⊎◌, ℕ, ◌+◌, ◌*◌, ◌%◌, ◌<◌, ◌≤◌, List, length, drop, take, Contains, None, Result, Ok, Err, IfErr, IfOk, OnOk, IsFalse, IsTrue}
+use Rattle.vx_disk.specs.Causes.{DeviceCause, refusal_of}
+use Rattle.vx_disk.specs.Shelf.{Meaning}
+use Rattle.vx_disk.specs.declared.shelf.ShelfError.{ShelfError}
+use Rattle.vx_history.specs.World.{Node}
+use Rattle.vx_model.specs.Content.{Content, blocks_in}
+use Rattle.vx_model.specs.Sizes.{ring_of}
+use Rattle.vx_model.specs.declared.call.Update.{Update}
+use Rattle.vx_model.specs.declared.errors.Stop.{Stop}
+use Rattle.vx_model.specs.declared.limits.TheConstants.{LEAST_BLOCKS, MOST_CALL_BYTES}
+use Rattle.vx_model.specs.declared.no.No.{No}
+use Rattle.vx_model.specs.declared.state.State.{State}
+use Rattle.vx_model.specs.declared.units.Units.{Units}
+use Rattle.vx_rvg.specs.Groups.{MakeCause, new_core}
+use Rattle.vx_rvg.specs.Holdings.{nothing_logged}
+use Rattle.vx_rvg.specs.Stands.{HoldsContent, LeftGroup, Stands}
+use Rattle.vx_rvg.specs.Starts.{IsStarted, ring_in}
+use Rattle.vx_rvg.specs.Views.{Core, IsSound, UnitsPlaced}
+use Rattle.vx_secondary.specs.Receivers.{Wait}
+use Rattle.vx_ground.specs.Rewrites.{Rewritten, WasLeft}
+use Rattle.vx_diskset.specs.Burning.{OffIf}
+use Rattle.vx_diskset.specs.DiskSets.{CanLog, CanRead}
+use Rattle.vx_diskset.specs.Holds.{KeptBeside}
+use Rattle.vx_diskset.specs.Keeps.{CanKeep}
+use Rattle.vx_diskset.specs.Needs.{HasRoom}
+use Rattle.vx_diskset.specs.Received.{CanReceive, LoggedTo, ReachedTo}
+use Rattle.vx_diskset.specs.Rooms.{AppliedAs, HasNumbers, IsMore, TakesOne, logged_count}
+use Rattle.vx_diskset.specs.Shelves.{KeptAs, LaterOn, LoggedAs, ReadAs}
+use Rattle.vx_diskset.specs.Stands.{IsReceiverAt, IsUpAt}
+use Rattle.vx_diskset.specs.declared.receivers.Reached.{Reached}
+
+-- a block of the log or of a data volume
+abbrev pub IsOfRvg : Units → (unit : ℕ) → Type 0
+IsOfRvg units u = (u ≡ units.srl) ⊎ Contains units.vols u
+
+-- The group is sound still, on the same units; no other block changed, and no count fell.
+pub record KeepsSound (c c' : Core) (old new : Meaning) : Type 0 where
+  pub sound : IsSound c' new
+  pub units : c'.units ≡ c.units
+  pub later : LaterOn old new
+  pub many : new.units ≡ old.units
+  pub sizes : (u : ℕ) → new.size u ≡ old.size u
+  pub others : (u b : ℕ) (x : List ℕ) → (IsOfRvg c.units u → ⊥) → new.leaves u b x → old.leaves u b x
+  pub falls : IsTrue old.down → IsTrue new.down
+
+-- ---- a write
+
+pub record AsksWrite (c : Core) (volume : ℕ) (bytes : List ℕ) (m : Meaning) : Type 0 where
+  pub sound : IsSound c m
+  pub there : volume < length c.units.vols
+  pub some : 0 < length bytes
+  pub few : length bytes ≤ MOST_CALL_BYTES
+  pub whole : length bytes % 512 ≡ 0
+
+pub record DoesWrite (c : Core) (volume start : ℕ) (bytes : List ℕ) (hold : ℕ) (m : Meaning) (c' : Core) (m' : Meaning) (r : Result ℕ No) : Type 0 where
+  pub keeps : KeepsSound c c' m m'
+  pub wrote : (beside : KeptBeside) (n : Node) → IsUpAt beside n c m → CanLog n volume start (blocks_in bytes) → HasRoom beside.links n hold (blocks_in bytes)
+      → LoggedAs beside n (record { volume = volume; start = start; bytes = bytes }) m c' m' r
+  pub takes : TakesOne c c' r
+  pub more : IsMore (logged_count r) c c'
+  pub off : IsFalse m.down → OffIf r m'.down
+
+-- ---- reads
+
+pub record AsksRead (c : Core) (volume count : ℕ) (m : Meaning) : Type 0 where
+  pub sound : IsSound c m
+  pub there : volume < length c.units.vols
+  pub some : 0 < count
+  pub few : count ≤ MOST_CALL_BYTES
+  pub whole : count % 512 ≡ 0
+
+pub record DoesRead (c : Core) (volume start : ℕ) (count : ℕ) (m : Meaning) (c' : Core) (room : List ℕ) (m' : Meaning) (r : Result (Unit {0}) No) : Type 0 where
+  pub keeps : KeepsSound c c' m m'
+  pub same : c' ≡ c
+  pub read : (beside : KeptBeside) (n : Node) → IsUpAt beside n c m → CanRead n volume start (blocks_in (take count room)) → ReadAs beside n volume start (blocks_in (take count room)) (take count room) m c' m' r
+  pub down : m'.down ≡ m.down
+
+-- ---- an apply
+
+pub record DoesApply (c : Core) (to : ℕ) (m : Meaning) (c' : Core) (m' : Meaning) (r : Result ℕ No) : Type 0 where
+  pub keeps : KeepsSound c c' m m'
+  pub applied : (beside : KeptBeside) (n : Node) → IsUpAt beside n c m → n.halted ≡ None → AppliedAs beside n to c' m m' r
+  pub reached : IfOk r (λ number. c'.applied ≡ number)
+  pub waiting : (us : List Update) → Wait c m.size us → Wait c' m'.size us
+  pub off : OffIf r m'.down
+
+-- ---- what waits
+
+pub record AsksReach (c : Core) (us : List Update) (count : ℕ) (m : Meaning) : Type 0 where
+  pub sound : IsSound c m
+  pub waits : Wait c m.size us
+  pub some : count ≤ length us
+  pub numbers : HasNumbers c count
+
+pub record DoesReach (c : Core) (us : List Update) (count : ℕ) (m : Meaning) (c' : Core) (us' : List Update) (m' : Meaning) (r : Result Reached No) : Type 0 where
+  pub keeps : KeepsSound c c' m m'
+  pub reaches : (beside : KeptBeside) (n : Node) → IsReceiverAt beside n c us m → CanReceive beside n → ReachedTo beside n count us' c' m m' r
+  pub brought : (beside : KeptBeside) (n : Node) → IsReceiverAt beside n c us m → CanReceive beside n → IfOk r (λ x. c'.applied ≡ x.number)
+  pub waits : Wait c' m'.size us'
+  pub off : IsFalse m.down → OffIf r m'.down
+
+-- ---- a header
+
+pub record DoesKeep (c : Core) (s : State) (m : Meaning) (c' : Core) (m' : Meaning) (r : Result (Unit {0}) No) : Type 0 where
+  pub keeps : KeepsSound c c' m m'
+  pub kept : (beside : KeptBeside) (n : Node) → IsUpAt beside n c m → CanKeep beside n s → KeptAs beside n s m c' m' r
+  pub waiting : (us : List Update) → Wait c m.size us → Wait c' m'.size us
+  pub off : IsFalse m.down → OffIf r m'.down
+
+-- ---- the making and the start
+
+-- no block changed but those of the log
+pub record OnlyLog (units : Units) (old new : Meaning) : Type 0 where
+  pub later : LaterOn old new
+  pub many : new.units ≡ old.units
+  pub sizes : (u : ℕ) → new.size u ≡ old.size u
+  pub others : (u b : ℕ) (x : List ℕ) → (u ≡ units.srl → ⊥) → new.leaves u b x → old.leaves u b x
+
+abbrev pub DoesMake : Units → State → Meaning → Meaning → Result Core Stop → Type 0
+DoesMake units state m m' (Ok c) =
+    OnlyLog units m m' × IsSound c m' × (c ≡ new_core units state (ring_of (m.size units.srl))) × (IsTrue m'.down → ⊥)
+    × (IsTrue m.tells → (k : Content) (maps : List (List ℕ)) → HoldsContent units k maps m → Stands c (nothing_logged k maps) m')
+DoesMake units state m m' (Err stop) = OnlyLog units m m' × MakeCause m m' stop
+
+abbrev pub DoesStart : Units → Meaning → Meaning → Result Core No → Type 0
+DoesStart units m m' (Ok c) = OnlyLog units m m' × IsSound c m' × IsStarted units m c m' × (IsTrue m'.down → ⊥)
+DoesStart units m m' (Err why) = OnlyLog units m m'
+
+-- ---- volumes that are written as they read
+
+-- a value of a block of one of these units that a crash might leave
+pub record WasOn (volumes : List ℕ) (m : Meaning) (u b : ℕ) (x : List ℕ) : Type 0 where
+  pub among : Contains volumes u
+  pub left : m.leaves u b x
+
+-- Whatever is answered, each block has a value that it might have; done, each block of these units has one.
+pub record DoesRewrite (volumes : List ℕ) (m m' : Meaning) (r : Result (Unit {0}) ShelfError) : Type 0 where
+  pub later : LaterOn m m'
+  pub many : m'.units ≡ m.units
+  pub sizes : (u : ℕ) → m'.size u ≡ m.size u
+  pub leaves : (u b : ℕ) (x : List ℕ) → m'.leaves u b x → m.leaves u b x
+  pub one : OnOk r ((u b : ℕ) (x y : List ℕ) → Contains volumes u → m'.leaves u b x → m'.leaves u b y → x ≡ y)
+  pub cause : IfErr r (λ e. DeviceCause m m' (refusal_of e))
