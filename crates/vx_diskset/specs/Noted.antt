@@ -8,11 +8,15 @@ use Rattle.vx_history.specs.Stops.{IsFused}
 use Rattle.vx_history.specs.World.{Node}
 use Rattle.vx_model.specs.Content.{Write}
 use Rattle.vx_grouped.specs.ConfigMoves.{LosesSome}
-use Rattle.vx_grouped.specs.GroupSites.{AwayNoted, DownNoted, UpNoted, site_disks, with_note}
+use Rattle.vx_grouped.specs.GroupSites.{AwayNoted, CutNoted, DownNoted, UpNoted, site_below, site_disks, with_note}
 use Rattle.vx_grouped.specs.SiteEnds.{ConfigGoes}
 use Rattle.vx_grouped.specs.declared.group_site.GroupSite.{GroupSite}
 use Rattle.vx_grouped.specs.declared.group_site.GroupSite.TheVariants.{Up, Deported, Down}
-use Rattle.vx_diskset.specs.Aboves.{site_in}
+use Rattle.vx_diskset.specs.Aboves.{above_in, site_in}
+use Rattle.vx_watched.specs.Since.{CalledSince}
+use Rattle.vx_watched.specs.Traces.{TellsLess}
+use Rattle.vx_diskset.specs.Stands.{RoleBy}
+use Rattle.vx_diskset.specs.declared.over_set.OverSet.{OverSet}
 use Rattle.vx_diskset.specs.GroupSets.{cut_value}
 use Rattle.vx_diskset.specs.declared.disk_set.DiskSet.{DiskSet}
 use Rattle.vx_diskset.specs.declared.disk_set.DiskSet.TheVariants.{OfGroup, Over}
@@ -48,3 +52,18 @@ module _ {R : Type 0} {g : Ghosts R} where
   -- a call on the replicated volume group of a site: of a site without a group it says nothing
   pub record NotesOn (old new : DiskSet R g) : Type 0 where
     pub each : (n : Node) (note : GroupNode) → NotedAt n note old → NotesOver n note old new
+
+  -- The same before the crash: the group is up still, or its disks are down.
+  abbrev pub NotesWorked : Node → GroupNode → GroupSite R g → GroupSite R g → Type 0
+  NotesWorked n note below below' =
+      (next : GroupNode) × NoteWorks note next × ConfigGoes (LosesSome (site_disks below) (site_disks below')) note next below below'
+      × (UpNoted (below_rvg (with_note next n)) next below' ⊎ (CutNoted (below_rvg (with_note next n)) next below' × IsFused n.fuse))
+
+  -- What each call on the replicated volume group of a site over a group makes of the group: the disks that are made to fail are the same, a fuse has no more calls
+  -- left, no count falls; and so the note moves.
+  pub record OverCalled (old new : OverSet R g) : Type 0 where
+    pub since : CalledSince (site_disks (site_in old)) (site_disks (site_in new))
+    pub told : TellsLess (site_below (site_in old)) (site_below (site_in new))
+    pub cut : cut_value new.cut ≡ cut_value old.cut
+    pub notes : (n : Node) (note : GroupNode) → UpNoted (below_rvg n) note (site_in old) → NotesWorked n note (site_in old) (site_in new)
+    pub above : (n : Node) → RoleBy n (above_in old) → RoleBy n (above_in new)

@@ -1,4 +1,18 @@
 // Calls on the replicated volume group of a site over a disk group.
+ghost use Rattle.std.specs.Prelude.{◌<◌, ◌≤◌, ◌%◌, ◌≡◌, IfOk, length};
+ghost use Rattle.vx_history.specs.World.{Node};
+ghost use Rattle.vx_model.specs.Content.{blocks_in};
+ghost use Rattle.vx_model.specs.declared.limits.TheConstants.{MOST_CALL_BYTES};
+ghost use Rattle.vx_diskset.specs.DiskSets.{AppliedUp, CanApply, CanLog, CanRead, LoggedUp, ReadAt};
+ghost use Rattle.vx_diskset.specs.Holds.{KeptBeside};
+ghost use Rattle.vx_diskset.specs.Keeps.{CanKeep, KeptUp};
+ghost use Rattle.vx_diskset.specs.Needs.{HasRoom};
+ghost use Rattle.vx_diskset.specs.Noted.{OverCalled};
+ghost use Rattle.vx_diskset.specs.Received.{CanReceive, ReachedUp, ShowedAt};
+ghost use Rattle.vx_diskset.specs.Stands.{InVolumes, OverStands};
+ghost use Rattle.vx_diskset.specs.declared.disk_set.DiskSet.TheVariants.{Over as OverSites};
+ghost use Rattle.vx_srlfmt.specs.Headers.{CanSpellState};
+
 use crate::disk_set::last_in;
 use crate::group_set::CutWrite;
 use crate::over_work::{Applies, Keeps, Reaches, Reads, Shows, Writes};
@@ -65,7 +79,13 @@ fn receiver<R: Rack, T>(
 
 impl<R: Rack> OverSet<R> {
     // Writes whole blocks to a data volume.
-    fn written(self, volume: u32, start: u64, bytes: &[u8], hold: u64) -> (OverSet<R>, Result<u64, No>) {
+    fn written(self, volume: u32, start: u64, bytes: &[u8], hold: u64) -> (OverSet<R>, Result<u64, No>)
+        requires some { 0 < length bytes.now }
+        requires few { length bytes.now ≤ MOST_CALL_BYTES }
+        requires whole { length bytes.now % 512 ≡ 0 }
+        ensures wrote { (beside : KeptBeside) (n : Node) → OverStands beside n self.site → CanLog n volume start (blocks_in bytes.now) → HasRoom beside.links n hold (blocks_in bytes.now) → LoggedUp beside n (record { volume = volume; start = start; bytes = bytes.now }) (OverSites self) (OverSites result.0) result.1 }
+        ensures called { OverCalled self result.0 }
+    {
         let (site, above, cut) = self.parts();
         match above {
             Above::Origin(core) => {
@@ -89,14 +109,24 @@ impl<R: Rack> OverSet<R> {
         }
     }
 
-    pub(crate) fn write(&mut self, volume: u32, start: u64, bytes: &[u8], hold: u64) -> Result<u64, No> {
+    pub(crate) fn write(&mut self, volume: u32, start: u64, bytes: &[u8], hold: u64) -> Result<u64, No>
+        requires some { 0 < length bytes.now }
+        requires few { length bytes.now ≤ MOST_CALL_BYTES }
+        requires whole { length bytes.now % 512 ≡ 0 }
+        ensures wrote { (beside : KeptBeside) (n : Node) → OverStands beside n self.old.site → CanLog n volume start (blocks_in bytes.now) → HasRoom beside.links n hold (blocks_in bytes.now) → LoggedUp beside n (record { volume = volume; start = start; bytes = bytes.now }) (OverSites self.old) (OverSites self.new) result }
+        ensures called { OverCalled self.old self.new }
+    {
         let (over, answer) = mem::replace(self, OverSet::gone()).written(volume, start, bytes, hold);
         *self = over;
         answer
     }
 
     // Brings logged writes into their volumes.
-    fn applied(self, to: u64) -> (OverSet<R>, Result<u64, No>) {
+    fn applied(self, to: u64) -> (OverSet<R>, Result<u64, No>)
+        ensures applied { (beside : KeptBeside) (n : Node) → OverStands beside n self.site → CanApply n → AppliedUp beside n to (OverSites self) (OverSites result.0) result.1 }
+        ensures brought { IfOk result.1 (λ number. InVolumes number (OverSites result.0)) }
+        ensures called { OverCalled self result.0 }
+    {
         let (site, above, cut) = self.parts();
         match above {
             Above::Origin(core) => {
@@ -123,14 +153,22 @@ impl<R: Rack> OverSet<R> {
         }
     }
 
-    pub(crate) fn apply(&mut self, to: u64) -> Result<u64, No> {
+    pub(crate) fn apply(&mut self, to: u64) -> Result<u64, No>
+        ensures applied { (beside : KeptBeside) (n : Node) → OverStands beside n self.old.site → CanApply n → AppliedUp beside n to (OverSites self.old) (OverSites self.new) result }
+        ensures brought { IfOk result (λ number. InVolumes number (OverSites self.new)) }
+        ensures called { OverCalled self.old self.new }
+    {
         let (over, answer) = mem::replace(self, OverSet::gone()).applied(to);
         *self = over;
         answer
     }
 
     // Makes a state of the log's line durable.
-    fn kept(self, state: &State) -> (OverSet<R>, Result<(), No>) {
+    fn kept(self, state: &State) -> (OverSet<R>, Result<(), No>)
+        requires state { CanSpellState state.now }
+        ensures kept { (beside : KeptBeside) (n : Node) → OverStands beside n self.site → CanKeep beside n state.now → KeptUp beside n state.now (OverSites self) (OverSites result.0) result.1 }
+        ensures called { OverCalled self result.0 }
+    {
         let (site, above, cut) = self.parts();
         match above {
             Above::Origin(core) => {
@@ -157,14 +195,24 @@ impl<R: Rack> OverSet<R> {
         }
     }
 
-    pub(crate) fn keep(&mut self, state: &State) -> Result<(), No> {
+    pub(crate) fn keep(&mut self, state: &State) -> Result<(), No>
+        requires state { CanSpellState state.now }
+        ensures kept { (beside : KeptBeside) (n : Node) → OverStands beside n self.old.site → CanKeep beside n state.now → KeptUp beside n state.now (OverSites self.old) (OverSites self.new) result }
+        ensures called { OverCalled self.old self.new }
+    {
         let (over, answer) = mem::replace(self, OverSet::gone()).kept(state);
         *self = over;
         answer
     }
 
     // Reads blocks of a data volume: the content after the writes that are durable.
-    fn was_read(self, volume: u32, start: u64, into: &mut [u8]) -> (OverSet<R>, Result<(), No>) {
+    fn was_read(self, volume: u32, start: u64, into: &mut [u8]) -> (OverSet<R>, Result<(), No>)
+        requires some { 0 < length into.old }
+        requires few { length into.old ≤ MOST_CALL_BYTES }
+        requires whole { length into.old % 512 ≡ 0 }
+        ensures read { (beside : KeptBeside) (n : Node) → OverStands beside n self.site → CanRead n volume start (blocks_in into.old) → ReadAt beside n volume start (blocks_in into.old) into.new (OverSites self) (OverSites result.0) result.1 }
+        ensures called { OverCalled self result.0 }
+    {
         let (site, above, cut) = self.parts();
         match above {
             Above::Origin(core) => {
@@ -200,14 +248,26 @@ impl<R: Rack> OverSet<R> {
         }
     }
 
-    pub(crate) fn read(&mut self, volume: u32, start: u64, into: &mut [u8]) -> Result<(), No> {
+    pub(crate) fn read(&mut self, volume: u32, start: u64, into: &mut [u8]) -> Result<(), No>
+        requires some { 0 < length into.old }
+        requires few { length into.old ≤ MOST_CALL_BYTES }
+        requires whole { length into.old % 512 ≡ 0 }
+        ensures read { (beside : KeptBeside) (n : Node) → OverStands beside n self.old.site → CanRead n volume start (blocks_in into.old) → ReadAt beside n volume start (blocks_in into.old) into.new (OverSites self.old) (OverSites self.new) result }
+        ensures called { OverCalled self.old self.new }
+    {
         let (over, answer) = mem::replace(self, OverSet::gone()).was_read(volume, start, into);
         *self = over;
         answer
     }
 
     // Reads blocks of a data volume: the content after all writes that were received.
-    fn shown(self, volume: u32, start: u64, into: &mut [u8]) -> (OverSet<R>, Result<(), No>) {
+    fn shown(self, volume: u32, start: u64, into: &mut [u8]) -> (OverSet<R>, Result<(), No>)
+        requires some { 0 < length into.old }
+        requires few { length into.old ≤ MOST_CALL_BYTES }
+        requires whole { length into.old % 512 ≡ 0 }
+        ensures shows { (beside : KeptBeside) (n : Node) → OverStands beside n self.site → CanRead n volume start (blocks_in into.old) → ShowedAt beside n volume start (blocks_in into.old) into.new (OverSites self) (OverSites result.0) result.1 }
+        ensures called { OverCalled self result.0 }
+    {
         let (site, above, cut) = self.parts();
         match above {
             Above::Receiver { core, waiting } => {
@@ -244,14 +304,23 @@ impl<R: Rack> OverSet<R> {
         }
     }
 
-    pub(crate) fn show(&mut self, volume: u32, start: u64, into: &mut [u8]) -> Result<(), No> {
+    pub(crate) fn show(&mut self, volume: u32, start: u64, into: &mut [u8]) -> Result<(), No>
+        requires some { 0 < length into.old }
+        requires few { length into.old ≤ MOST_CALL_BYTES }
+        requires whole { length into.old % 512 ≡ 0 }
+        ensures shows { (beside : KeptBeside) (n : Node) → OverStands beside n self.old.site → CanRead n volume start (blocks_in into.old) → ShowedAt beside n volume start (blocks_in into.old) into.new (OverSites self.old) (OverSites self.new) result }
+        ensures called { OverCalled self.old self.new }
+    {
         let (over, answer) = mem::replace(self, OverSet::gone()).shown(volume, start, into);
         *self = over;
         answer
     }
 
     // Logs the oldest of what waits, so many of them or all, and brings all that is logged into the volumes.
-    fn reached(self, count: u64) -> (OverSet<R>, Result<Reached, No>) {
+    fn reached(self, count: u64) -> (OverSet<R>, Result<Reached, No>)
+        ensures applied { (beside : KeptBeside) (n : Node) → OverStands beside n self.site → CanReceive beside n → ReachedUp beside n count (OverSites self) (OverSites result.0) result.1 }
+        ensures called { OverCalled self result.0 }
+    {
         let (site, above, cut) = self.parts();
         match above {
             Above::Receiver { core, waiting } => {
@@ -300,7 +369,10 @@ impl<R: Rack> OverSet<R> {
         }
     }
 
-    pub(crate) fn apply_waiting(&mut self, count: u64) -> Result<Reached, No> {
+    pub(crate) fn apply_waiting(&mut self, count: u64) -> Result<Reached, No>
+        ensures applied { (beside : KeptBeside) (n : Node) → OverStands beside n self.old.site → CanReceive beside n → ReachedUp beside n count (OverSites self.old) (OverSites self.new) result }
+        ensures called { OverCalled self.old self.new }
+    {
         let (over, answer) = mem::replace(self, OverSet::gone()).reached(count);
         *self = over;
         answer

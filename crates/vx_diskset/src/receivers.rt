@@ -13,6 +13,7 @@ ghost use Rattle.vx_diskset.specs.DiskSets.{CanRead, Later};
 ghost use Rattle.vx_diskset.specs.Holds.{KeptBeside};
 ghost use Rattle.vx_diskset.specs.Received.{CanReceive, LoggedTo, ReachedAt, ReachedTo, ReachedUp, ShowedAt, reached_by};
 ghost use Rattle.vx_diskset.specs.Rooms.{HasNumbers, IsMore, logged_count};
+ghost use Rattle.vx_diskset.specs.Noted.{NotesOn};
 ghost use Rattle.vx_diskset.specs.Stands.{InVolumes, IsReceiverAt, KeepsRole, SiteStands};
 
 use crate::DiskSet;
@@ -133,6 +134,7 @@ impl<R: Rack> DiskSet<R> {
             → ShowedAt beside n volume start (blocks_in into.old) into.new self.old self.new result }
         ensures still { LeavesAlone self.old self.new }
         ensures role { KeepsRole self.old self.new }
+        ensures notes { NotesOn self.old self.new }
         ensures later { Later self.old self.new }
     {
         match self {
@@ -165,6 +167,7 @@ impl<R: Rack> DiskSet<R> {
         ensures called { (beside : KeptBeside) (n : Node) → SiteStands beside n self.old → LeavesFuse NoMore (reached_by result) self.old self.new }
         ensures role { KeepsRole self.old self.new }
         ensures blames { (beside : KeptBeside) (n : Node) → SiteStands beside n self.old → IfErr result (BlamesSite n) }
+        ensures notes { NotesOn self.old self.new }
         ensures later { Later self.old self.new }
     {
         match self.apply_received(count) {

@@ -19,6 +19,7 @@ ghost use Rattle.vx_diskset.specs.DiskSets.{Later, CanLog, CanWrite, LoggedUp, W
 ghost use Rattle.vx_diskset.specs.Needs.{HasRoom, NoneNeeds};
 ghost use Rattle.vx_diskset.specs.Rooms.{AppliedAs, IsMore, NeverLimit, RoomIs, TakesOne, logged_count};
 ghost use Rattle.vx_diskset.specs.Shelves.{BlamesRack, BurnsOn, LaterOn, LoggedAs};
+ghost use Rattle.vx_diskset.specs.Noted.{NotesOn};
 ghost use Rattle.vx_diskset.specs.Stands.{IsUpAt, KeepsRole, StandsAlone, SiteStands};
 
 use crate::DiskSet;
@@ -172,6 +173,7 @@ impl<R: Rack> DiskSet<R> {
             → WroteAt site_alone n (record { volume = volume; start = start; bytes = bytes.now }) self.old self.new result }
         ensures called { (beside : KeptBeside) (n : Node) → SiteStands beside n self.old → WritesUnder bytes.now (said_by result) self.old self.new }
         ensures blames { (beside : KeptBeside) (n : Node) → SiteStands beside n self.old → IfErr result (BlamesSite n) }
+        ensures notes { NotesOn self.old self.new }
         ensures later { Later self.old self.new }
     {
         let hold = self.last();
@@ -196,6 +198,7 @@ impl<R: Rack> DiskSet<R> {
         ensures called { (beside : KeptBeside) (n : Node) → SiteStands beside n self.old → WritesUnder bytes.now (said_by result) self.old self.new }
         ensures role { KeepsRole self.old self.new }
         ensures blames { (beside : KeptBeside) (n : Node) → SiteStands beside n self.old → IfErr result (BlamesSite n) }
+        ensures notes { NotesOn self.old self.new }
         ensures later { Later self.old self.new }
     {
         match self.write_up(volume, start, bytes, hold) {
@@ -251,6 +254,7 @@ impl<R: Rack> DiskSet<R> {
             → ReadAt beside n volume start (blocks_in into.old) into.new self.old self.new result }
         ensures still { LeavesAlone self.old self.new }
         ensures role { KeepsRole self.old self.new }
+        ensures notes { NotesOn self.old self.new }
         ensures later { Later self.old self.new }
     {
         match self {
@@ -285,6 +289,7 @@ impl<R: Rack> DiskSet<R> {
         ensures called { (beside : KeptBeside) (n : Node) → SiteStands beside n self.old → LeavesFuse NoMore (said_by result) self.old self.new }
         ensures role { KeepsRole self.old self.new }
         ensures blames { (beside : KeptBeside) (n : Node) → SiteStands beside n self.old → IfErr result (BlamesSite n) }
+        ensures notes { NotesOn self.old self.new }
         ensures later { Later self.old self.new }
     {
         match self.apply_up(to) {
