@@ -26,19 +26,18 @@ use Rattle.vx_diskset.specs.Holds.{most_header}
 use Rattle.vx_diskset.specs.Lasts.{FoundWith, LeftWith, StandsHolding}
 use Rattle.vx_diskset.specs.Layouts.{IsLaidBy, LiesOn, units_of}
 use Rattle.vx_model.specs.declared.site.SiteState.TheVariants.{Deported as IsAway}
-use Rattle.vx_model.specs.declared.units.Units.{Units}
 use Rattle.vx_config.specs.Checks.{blocks_of}
 use Rattle.vx_config.specs.declared.config.Config.{Config}
 use Rattle.vx_copyfmt.specs.Imports.{Found}
 use Rattle.vx_disk.specs.Shelf.{Each}
-use Rattle.vx_kept.specs.Choice.{live}
-use Rattle.vx_kept.specs.Groups.{Shows, found as finds}
-use Rattle.vx_layout.specs.Places.{place}
-use Rattle.vx_volume.specs.Plexes.{Inside}
+use Rattle.vx_kept.specs.Groups.{Shows, found as finds, group_meaning}
+use Rattle.vx_kept.specs.Opens.{OpenVolumes}
 use Rattle.vx_group.specs.Resumes.{stopped}
 use Rattle.vx_grouped.specs.Readies.{ready_of}
+use Rattle.vx_grouped.specs.declared.idle.Idle.{Idle}
 use Rattle.vx_untold.specs.Shades.{shade_meaning}
 use Rattle.vx_events.specs.GroupViews.{config_of}
+use Rattle.vx_events.specs.RvgNotes.{inside_of}
 use Rattle.vx_ground.specs.Lifted.{laid_volumes}
 use Rattle.vx_diskset.specs.Aboves.{above_in, site_in}
 use Rattle.vx_diskset.specs.declared.above.Above.{Above}
@@ -168,29 +167,31 @@ pub record IsDownAt (beside : KeptBeside) (n : Node) (m : Meaning) : Type 0 wher
   pub begun : IsTrue m.tells → 0 < n.session
   pub left : IsTrue m.tells → LeftWith (units_of n) n.ring (state_with n beside.links) n.session (most_header beside n) n.log n.base m
 
--- The disks of a site that is not up, whose group has a replicated volume group. Of each image that they leave an import finds a configuration by which the
--- volumes show the site's log, which has all its writes, and its content; and each plex that takes part in it has them, or the volume stopped uncleanly, and then
--- the import gives it one value of each block.
-pub record LeftOver (c : Config) (beside : KeptBeside) (n : Node) (m : Meaning) : Type 0 where
+-- The disks of a site that crashed, whose group has a replicated volume group. Of each image that they leave an import finds a configuration by which the volumes
+-- show the site's log, which has all its writes, and its content; and the volumes of the group stopped uncleanly in it, so the import gives one value of each block.
+pub record FellOver (c : Config) (beside : KeptBeside) (n : Node) (m : Meaning) : Type 0 where
   pub found : (i : Image) (x : Config) (above : Image) → Each m.leaves i → finds m i ≡ Found x → Shows c x i above
       → FoundWith (units_of n) n.ring (state_with n beside.links) n.session (most_header beside n) above n.log n.base
-  pub agree : (i : Image) (x : Config) (above : Image) → Each m.leaves i → finds m i ≡ Found x → Shows c x i above → (v p b : ℕ) → Inside c v b → stopped x v ≡ false → IsTrue (live x v p)
-      → i (place x v p b).0 (place x v p b).1 ≡ above v b
+  pub unclean : (i : Image) (x : Config) (v : ℕ) → Each m.leaves i → finds m i ≡ Found x → inside_of (units_of n) v ≡ true → stopped x v ≡ true
 
--- The same as an import of them sees it: where imports may disagree nothing is told.
-pub record RestsOver (beside : KeptBeside) (n : Node) (m : Meaning) : Type 0 where
+-- Those of one that was deported: by each configuration that an import finds the volumes have that log and that content, whatever a crash leaves of them.
+pub record AwayOver (c : Config) (beside : KeptBeside) (n : Node) (m : Meaning) : Type 0 where
+  pub left : (i : Image) (x opened : Config) → Each m.leaves i → finds m i ≡ Found x → OpenVolumes 0 x opened
+      → LeftWith (units_of n) n.ring (state_with n beside.links) n.session (most_header beside n) n.log n.base (group_meaning opened (λ v. 0) m)
+
+-- The same of either, as an import sees the disks: where imports may disagree nothing is told.
+pub record RestsOver (Left : Config → Type 0) (beside : KeptBeside) (n : Node) (m : Meaning) : Type 0 where
   pub config : Config
   pub note : GroupNode
   pub group : n.group ≡ Some note
   pub is : config_of note.config ≡ Some config
-  pub named : (u : Units) → config.rvg ≡ Some u → units_of n ≡ u
   pub has : IsSome config.rvg
   pub sure : beside.doubt ≡ None
   pub lies : IsLaidBy (units_of n) n.ring n.volumes n.base.size (blocks_of config.volumes)
   pub low : n.low ≡ 1
   pub logged : length n.log ≡ n.safe
   pub begun : IsTrue m.tells → 0 < n.session
-  pub left : IsTrue m.tells → LeftOver config beside n m
+  pub left : IsTrue m.tells → Left config
 
 -- a write is cut only at a site that is down, and lies in its volume
 pub record CutLies (n : Node) (x : CutWrite) : Type 0 where
@@ -216,12 +217,16 @@ module _ {R : Type 0} {g : Ghosts R} where
   AboveStands beside n (Origin core) m = IsUpAt beside n core m
   AboveStands beside n (Receiver core waiting) m = IsReceiverAt beside n core waiting m
 
+  -- disks by themselves as an import sees them
+  abbrev pub idle_ready : Idle R g → Meaning
+  idle_ready idle = shade_meaning g.meaning (ready_of idle.agreed idle.rack)
+
   -- The disks of a site whose group has a replicated volume group. What the site notes of its group is said apart.
   abbrev pub OverStands : KeptBeside → Node → OverSite R g → Type 0
   OverStands beside n (OriginSite founded) = AboveStands beside n (Origin founded.core) (laid_volumes founded.laid)
   OverStands beside n (ReceiverSite founded) = AboveStands beside n (Receiver founded.core founded.waiting) (laid_volumes founded.laid)
-  OverStands beside n (GroupAway idle) = (n.state ≡ IsAway) × RestsOver beside n (shade_meaning g.meaning (ready_of idle.agreed idle.rack))
-  OverStands beside n (GroupFell idle) = (n.state ≡ IsDown) × (n.fuse ≡ NoFuse) × RestsOver beside n (shade_meaning g.meaning (ready_of idle.agreed idle.rack))
+  OverStands beside n (GroupAway idle) = (n.state ≡ IsAway) × RestsOver (λ c. AwayOver c beside n (idle_ready idle)) beside n (idle_ready idle)
+  OverStands beside n (GroupFell idle) = (n.state ≡ IsDown) × (n.fuse ≡ NoFuse) × RestsOver (λ c. FellOver c beside n (idle_ready idle)) beside n (idle_ready idle)
   OverStands beside n NoGroup = ⊥
 
   -- the disks of a site, with what the world has of it beside its node

@@ -1,6 +1,7 @@
 pub mod Added
 pub mod Away
 pub mod Begins
+pub mod Brings
 pub mod ConfigMoves
 pub mod Copied
 pub mod CoreMoves
