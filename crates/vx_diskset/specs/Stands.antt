@@ -1,5 +1,5 @@
 -- What the disks of a site stand for: how its rack, or the group over it, agrees with its node of the world.
-use Rattle.std.specs.Prelude.{◌≡◌, ℕ, ◌+◌, ◌<◌, ◌≤◌, List, [], Some, length, take, drop, None, IsSome, IsTrue, IsFalse, true, false}
+use Rattle.std.specs.Prelude.{◌≡◌, ℕ, ◌+◌, ◌<◌, ◌≤◌, List, [], Some, length, take, drop, None, Bool, IsSome, IsTrue, IsFalse, true, false}
 use Rattle.vx_model.specs.declared.limits.TheConstants.{LEAST_BLOCKS, MOST_DISKS}
 use Rattle.vx_model.specs.Content.{zero_block}
 use Rattle.vx_model.specs.Sites.{is_origin}
@@ -28,6 +28,7 @@ use Rattle.vx_diskset.specs.Layouts.{IsLaidBy, LiesOn, units_of}
 use Rattle.vx_model.specs.declared.site.SiteState.TheVariants.{Deported as IsAway}
 use Rattle.vx_config.specs.Checks.{blocks_of}
 use Rattle.vx_config.specs.declared.config.Config.{Config}
+use Rattle.vx_copies.specs.Answers.{returned}
 use Rattle.vx_copyfmt.specs.Imports.{Found}
 use Rattle.vx_disk.specs.Shelf.{Each}
 use Rattle.vx_kept.specs.Groups.{Shows, found as finds, group_meaning}
@@ -176,7 +177,7 @@ pub record FellOver (c : Config) (beside : KeptBeside) (n : Node) (m : Meaning) 
 
 -- Those of one that was deported: by each configuration that an import finds the volumes have that log and that content, whatever a crash leaves of them.
 pub record AwayOver (c : Config) (beside : KeptBeside) (n : Node) (m : Meaning) : Type 0 where
-  pub left : (i : Image) (x opened : Config) → Each m.leaves i → finds m i ≡ Found x → OpenVolumes 0 x opened
+  pub left : (i : Image) (x opened : Config) (readable : ℕ → Bool) → Each m.leaves i → finds m i ≡ Found x → OpenVolumes 0 (returned readable x) opened
       → LeftWith (units_of n) n.ring (state_with n beside.links) n.session (most_header beside n) n.log n.base (group_meaning opened (λ v. 0) m)
 
 -- The same of either, as an import sees the disks: where imports may disagree nothing is told.

@@ -33,6 +33,7 @@ pub mod MovesLemmas
 pub mod PlexMoveLemmas
 pub mod SitePlexLemmas
 pub mod BothLemmas
+pub mod BringLemmas
 pub mod WhyLemmas
 pub mod SinceReturns
 pub mod ReadyLemmas
