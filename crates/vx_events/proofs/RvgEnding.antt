@@ -119,11 +119,11 @@ module _ (told : Type 0) (d : Doubted) (line : ScriptLine) (s : ℕ) (fails : Fa
       done_by d from (rests_like d line s kept middle found from rest rests) s line taken next (rest ++ RecoverAt s None ∷ CrashAt s 0 ∷ []) [] new
       (told_behind rest (RecoverAt s None ∷ CrashAt s 0 ∷ []) (rests_tell d line s kept middle found from rest rests)) left
   back_stops (LogCut middle found next from rest left site is are fused back rests noted (inl none) says leads) =
-      done_by d from (rests_like d line s 0 middle found from rest rests) s line false next (rest ++ left ++ fall_last (is_over_rvg (d.world.nodes s)) s) [] new
+      done_by d from (rests_like d line s 0 middle found from rest rests) s line false next (rest ++ (left ++ fall_last (is_over_rvg (d.world.nodes s)) s)) [] new
       (told_behind rest (left ++ fall_last (is_over_rvg (d.world.nodes s)) s) (rests_tell d line s 0 middle found from rest rests)
       ∙ told_behind left (fall_last (is_over_rvg (d.world.nodes s)) s) (ap all_fails none) ∙ last_tells (is_over_rvg (d.world.nodes s)) s) leads
   back_stops (LogCut middle found next from rest left site is are fused back rests noted (inr begun) says leads) =
-      done_by d from (rests_like d line s 0 middle found from rest rests) s line false next (rest ++ left ++ fall_last (is_over_rvg (d.world.nodes s)) s) ((s, 0) ∷ []) new
+      done_by d from (rests_like d line s 0 middle found from rest rests) s line false next (rest ++ (left ++ fall_last (is_over_rvg (d.world.nodes s)) s)) ((s, 0) ∷ []) new
       (told_behind rest (left ++ fall_last (is_over_rvg (d.world.nodes s)) s) (rests_tell d line s 0 middle found from rest rests)
       ∙ told_both left (fall_last (is_over_rvg (d.world.nodes s)) s) ∙ ap (λ (es : List Event). all_fails es ++ all_fails (fall_last (is_over_rvg (d.world.nodes s)) s)) begun
       ∙ ap (λ (fs : Fails). (s, 0) ∷ fs) (last_tells (is_over_rvg (d.world.nodes s)) s)) leads

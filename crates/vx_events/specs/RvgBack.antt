@@ -113,7 +113,7 @@ pub data RvgBack (told : Type 0) (d : Doubted) (line : ScriptLine) (s : ℕ) (fa
   LogCut : (middle found next : GroupNode) (from : Doubted) (rest left : List Event) (site : List ℕ) → line ≡ GroupImport site → AreOf s fails
       → IsFused (d.world.nodes s).fuse → NotesBack told s (d.world.nodes s) fails (note_at (d.world.nodes s)) middle
       → RestsWithRvg d line s 0 middle found from rest → next ≡ record found { cut = (note_at (d.world.nodes s)).cut } → SessionLeft s 0 left
-      → said ≡ Refused IsOff → IsLeftBack s line false next from (run_as false from (rest ++ left ++ fall_last (is_over_rvg (d.world.nodes s)) s)) new
+      → said ≡ Refused IsOff → IsLeftBack s line false next from (run_as false from (rest ++ (left ++ fall_last (is_over_rvg (d.world.nodes s)) s))) new
       → RvgBack told d line s fails said new
   GroupCutOff : (next : GroupNode) (site : List ℕ) → line ≡ GroupImport site → is_over_rvg (d.world.nodes s) ≡ true → AreOf s fails
       → IsFused (d.world.nodes s).fuse → NotesRefused (note_at (d.world.nodes s)) next → said ≡ Refused IsOff
