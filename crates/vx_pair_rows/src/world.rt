@@ -399,7 +399,7 @@ fn deported_sites_fall(rt: HostRuntime) -> Result<(), Fail> {
         (Event::Deport { site: 0 }, "done", 0, None),
         (Event::Fall { site: 0 }, "done", 0, None),
         (Event::Fall { site: 0 }, "role", 0, None),
-        (Event::Fall { site: 1 }, "no", 0, None),
+        (Event::Fall { site: 1 }, "unknown", 1, None),
         (recover(0), "recovered", 1, None),
         (read(0, 0), "got", 0x11, None),
     ];
