@@ -19,7 +19,7 @@ use Rattle.vx_model.specs.declared.site.SiteState.{SiteState}
 use Rattle.vx_model.specs.declared.site.SiteState.TheVariants.{Bare, Up, Deported, Down}
 use Rattle.vx_history.proofs.Updates.{and_left, and_right, by_test, eqb_equal}
 use Rattle.vx_history.specs.Admission.{Admitted, Goes, Held_by}
-use Rattle.vx_history.specs.Events.{acknowledged, admitted, applied, applied_by, apply_at, come_back, crash_at, delivered, receiver_facts, from_memory, gathered_if, greeting_back, group_again, group_from, handed, heard, is_plain_group, is_taken, joined, link_after, link_event, link_heard, link_step, links_changed, lost_touch, opened, packet_at, promises_of, put_in, reached_at, recover_from, recovered_at, recovery, restarted_link, taken_if, ticked_at, ticked_link, update_taken, waited, with_write, written_if}
+use Rattle.vx_history.specs.Events.{fall_from, acknowledged, admitted, applied, applied_by, apply_at, come_back, crash_at, delivered, receiver_facts, from_memory, gathered_if, greeting_back, group_again, group_from, handed, heard, is_plain_group, is_taken, joined, link_after, link_event, link_heard, link_step, links_changed, lost_touch, opened, packet_at, promises_of, put_in, reached_at, recover_from, recovered_at, recovery, restarted_link, taken_if, ticked_at, ticked_link, update_taken, waited, with_write, written_if}
 use Rattle.vx_history.specs.Gatherings.{completes, emptied, gathered}
 use Rattle.vx_history.specs.LinkForms.{plain_receiver, with_plain}
 use Rattle.vx_history.specs.Receiving.{Received, phase_takes, received_step}
@@ -27,10 +27,10 @@ use Rattle.vx_history.specs.Refusals.{Outcome, sizes_meet, at_site, at_work, bot
 use Rattle.vx_history.specs.Sends.{is_linked, promising, sending, with_link, with_links}
 use Rattle.vx_history.specs.Step.{done, joined_blocks, link_part, outcome_of}
 use Rattle.vx_history.specs.Sound.{is_at_rest}
-use Rattle.vx_history.specs.Steps.{burned, crash_left, crashed, deported_site, deported_world, group_back, group_made, group_set, group_up, half_written, logged, raw_made, raw_set, recovered, stopped_by, written}
+use Rattle.vx_history.specs.Steps.{burned, crash_left, crashed, deported_site, deported_world, fallen_site, fallen_world, group_back, group_made, group_set, group_up, half_written, logged, raw_made, raw_set, recovered, stopped_by, written}
 use Rattle.vx_history.specs.World.{DataAck, Fuse, Hello, Link as LinkOf, Message, NetAck, Node, Packet, Update, World, with_node}
 use Rattle.vx_history.specs.declared.event.Event.{Event}
-use Rattle.vx_history.specs.declared.event.Event.TheVariants.{Site, Raw, Group, Volumes, Write, Read, Apply, Pump, Tick, Deliver, Connect, Cut, Pause, Resume, Wait, Link, Set, Crash, Deport, Recover, Fault}
+use Rattle.vx_history.specs.declared.event.Event.TheVariants.{Site, Raw, Group, Volumes, Write, Read, Apply, Pump, Tick, Deliver, Connect, Cut, Pause, Resume, Wait, Link, Set, Crash, Deport, Fall, Recover, Fault}
 use Rattle.vx_history.specs.declared.event.LinkPart.{LinkPart}
 use Rattle.vx_history.specs.declared.event.LinkPart.TheVariants.{Joins, Made, Marked, Opened}
 use Rattle.vx_history.specs.declared.event.Said.TheVariants.{DoneAt, Got, Ignored as IsIgnored, Pending, Refused}
@@ -71,6 +71,7 @@ IsSettled (Link p s sync Opened) = Unit {0}
 IsSettled (Set p s sync) = Unit {0}
 IsSettled (Crash s kept) = ⊥
 IsSettled (Deport s) = ⊥
+IsSettled (Fall s) = Unit {0}
 IsSettled (Recover s fails) = Unit {0}
 IsSettled (Fault s disk) = Unit {0}
 
@@ -203,6 +204,14 @@ module _ (E : ℕ → Type 0) (w : World) where
       (λ e. not_up (w.nodes s) n (λ up. let f : Up ≡ Down = sym up ∙ down in cc))
       (keeps_role w.sites (w.links s) (w.nodes s) n refl) (calm (λ e. e) (λ _ d. let f : Deported ≡ Down = d in absurd (cc)))
 
+  -- one that gave them up is down
+  pub fallen_moves : (s : ℕ) → (w.nodes s).state ≡ Deported → Moves E w (fallen_world w s)
+  fallen_moves s away =
+      let n : Node = fallen_site (w.nodes s) in
+      moves_node E w s n (λ b. let f : Down ≡ Bare = b in absurd (cc)) (λ h b. let f : Deported ≡ Bare = sym away ∙ b in absurd (cc))
+      (λ e. not_up (w.nodes s) n (λ up. let f : Up ≡ Deported = sym up ∙ away in cc))
+      (keeps_role w.sites (w.links s) (w.nodes s) n refl) (calm (λ e. e) (λ _ _. refl))
+
   pub linked_moves : (p s : ℕ) (l : LinkOf) → KeepsLink (w.links p s) l → (v : World) → v.sites ≡ w.sites → ((i : ℕ) → v.nodes i ≡ w.nodes i)
       → ((i k : ℕ) → v.links i k ≡ (with_link w p s l).links i k) → Moves E w v
   linked_moves p s l keeps v sites nodes links = moves_like E w (with_link w p s l) v sites nodes links (moves_link E w p s l keeps)
@@ -301,6 +310,12 @@ module _ (w : World) where
   group_from_moves Up s below e = moves_same All w
   group_from_moves Deported s below e = again_moves s (ap is_at_rest e)
   group_from_moves Down s below e = again_moves s (ap is_at_rest e)
+
+  fall_moves : (state : SiteState) (s : ℕ) → (w.nodes s).state ≡ state → Leaves (fall_from state w s)
+  fall_moves Bare s e = moves_same All w
+  fall_moves Up s e = moves_same All w
+  fall_moves Deported s e = fallen_moves All w s e
+  fall_moves Down s e = moves_same All w
 
   recover_moves : (state : SiteState) (s : ℕ) (fails : Option ℕ) → (w.nodes s).state ≡ state → Leaves (recover_from state w s fails)
   recover_moves Bare s fails e = moves_same All w
@@ -451,6 +466,7 @@ module _ (w : World) where
       (λ _ linked. moves_link All w p s (record (w.links p s) { sync = sync; prot = FailsWhenFull }) (keeps_set (w.links p s) sync linked))
   outcome_moves (Crash s kept) one = absurd one
   outcome_moves (Deport s) one = absurd one
+  outcome_moves (Fall s) one = Tests.site_ends Leaves w refusals s (fall_from (w.nodes s).state w s) (λ below. fall_moves (w.nodes s).state s refl)
   outcome_moves (Recover s fails) one =
       Tests.site_ends Leaves w refusals s (recover_from (w.nodes s).state w s fails) (λ _. recover_moves (w.nodes s).state s fails refl)
   outcome_moves (Fault s disk) one =

@@ -6,6 +6,7 @@ pub mod GroupStopping
 pub mod RvgStopping
 pub mod RvgEnding
 pub mod RvgFull
+pub mod RvgGains
 pub mod RvgKnown
 pub mod Keeping
 pub mod KnownLaws

@@ -124,10 +124,13 @@ sizes_same [] (y ∷ ys) = refl
 sizes_same (x ∷ xs) [] = refl
 sizes_same (x ∷ xs) (y ∷ ys) = ap (λ (b : Bool). (x.blocks == y.blocks) && b) (sizes_same xs ys)
 
+more_than_none : (n : ℕ) → eqb (suc n) 0 ≡ false
+more_than_none n = grind (arith, nat_tests)
+
 sizes_meet_so : (xs ys : List Volume)
     → (is_some (slice_get (data_sizes (map volume_fact xs)) 0) && same_sizes (data_sizes (map volume_fact xs)) (data_sizes (map volume_fact ys))) ≡ sizes_meet xs ys
 sizes_meet_so [] ys = refl
-sizes_meet_so (x ∷ xs) ys = sizes_same (x ∷ xs) ys
+sizes_meet_so (x ∷ xs) ys = sizes_same (x ∷ xs) ys ∙ sym (ap (λ (b : Bool). not b && agree (x ∷ xs) ys) (more_than_none (length xs)))
 
 -- ---- the tests of the event
 

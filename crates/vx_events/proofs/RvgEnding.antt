@@ -11,7 +11,7 @@ use Rattle.vx_history.specs.Likes.{IsLike}
 use Rattle.vx_history.specs.Stops.{EventsEnd, AllDone as EventsDone, Halts, Cuts, Reads, IsLikeDoubted, IsOpen, all_fails, told_fails}
 use Rattle.vx_history.specs.World.{Node, World}
 use Rattle.vx_history.specs.declared.event.Event.{Event}
-use Rattle.vx_history.specs.declared.event.Event.TheVariants.{Crash as CrashAt, Recover as RecoverAt}
+use Rattle.vx_history.specs.declared.event.Event.TheVariants.{Crash as CrashAt, Fall as FallAt, Recover as RecoverAt}
 use Rattle.vx_script.specs.declared.line.ScriptLine.{ScriptLine}
 use Rattle.vx_script.specs.declared.line.ScriptLine.TheVariants.{Site, Raw, Disk as DiskLine, Crash, Fuse as FuseLine, GroupImport, Recover, Write, Put, Read, Show, Apply, Status}
 use Rattle.vx_events.proofs.GroupStopping.{events_tell, group_stops, noted_like}
@@ -26,7 +26,7 @@ use Rattle.vx_events.specs.Fails.{Fails}
 use Rattle.vx_events.specs.GroupLines.{group_events, group_noted, noting}
 use Rattle.vx_events.specs.GroupNotes.{IsKnown, note_at}
 use Rattle.vx_events.specs.Lists.{Choice, events_of, recovery_of}
-use Rattle.vx_events.specs.RvgBack.{FindsNoRvg, FindsPlain, FindsRvg, GetsRvg, GroupHeld, GroupUnfound, HadRvg, IsLeftBack, KeptLost, LogFails, LogLacks, RestsWithRvg, RvgBack, RvgFinds, RvgUp, fall_first}
+use Rattle.vx_events.specs.RvgBack.{FindsNoRvg, FindsPlain, FindsRvg, GetsRvg, GroupCutOff, GroupHeld, GroupUnfound, HadRvg, IsLeftBack, KeptLost, LogCut, LogFails, LogLacks, RestsWithRvg, RvgBack, RvgFinds, RvgUp, fall_first, fall_last}
 use Rattle.vx_events.specs.RvgLinks.{AllKnown, LinksOver, noting_each}
 use Rattle.vx_events.specs.RvgMakes.{RvgStops, noting_in}
 use Rattle.vx_events.specs.RvgNotes.{volume_events}
@@ -63,6 +63,10 @@ falls_tell Bare s kept = refl
 falls_tell Up s kept = refl
 falls_tell Deported s kept = refl
 falls_tell Down s kept = refl
+
+last_tells : (away : Bool) (s : ℕ) → all_fails (fall_last away s) ≡ []
+last_tells true s = refl
+last_tells false s = refl
 
 rests_tell : (d : Doubted) (line : ScriptLine) (s kept : ℕ) (middle next : GroupNode) (from : Doubted) (events : List Event) → RestsWithRvg d line s kept middle next from events
     → all_fails events ≡ []
@@ -114,6 +118,17 @@ module _ (told : Type 0) (d : Doubted) (line : ScriptLine) (s : ℕ) (fails : Fa
   back_stops (KeptLost kept taken disk middle found next from rest site is are has back rests notes says left) =
       done_by d from (rests_like d line s kept middle found from rest rests) s line taken next (rest ++ RecoverAt s None ∷ CrashAt s 0 ∷ []) [] new
       (told_behind rest (RecoverAt s None ∷ CrashAt s 0 ∷ []) (rests_tell d line s kept middle found from rest rests)) left
+  back_stops (LogCut middle found next from rest left site is are fused back rests noted (inl none) says leads) =
+      done_by d from (rests_like d line s 0 middle found from rest rests) s line false next (rest ++ (left ++ fall_last (is_over_rvg (d.world.nodes s)) s)) [] new
+      (told_behind rest (left ++ fall_last (is_over_rvg (d.world.nodes s)) s) (rests_tell d line s 0 middle found from rest rests)
+      ∙ told_behind left (fall_last (is_over_rvg (d.world.nodes s)) s) (ap all_fails none) ∙ last_tells (is_over_rvg (d.world.nodes s)) s) leads
+  back_stops (LogCut middle found next from rest left site is are fused back rests noted (inr begun) says leads) =
+      done_by d from (rests_like d line s 0 middle found from rest rests) s line false next (rest ++ (left ++ fall_last (is_over_rvg (d.world.nodes s)) s)) ((s, 0) ∷ []) new
+      (told_behind rest (left ++ fall_last (is_over_rvg (d.world.nodes s)) s) (rests_tell d line s 0 middle found from rest rests)
+      ∙ told_both left (fall_last (is_over_rvg (d.world.nodes s)) s) ∙ ap (λ (es : List Event). all_fails es ++ all_fails (fall_last (is_over_rvg (d.world.nodes s)) s)) begun
+      ∙ ap (λ (fs : Fails). (s, 0) ∷ fs) (last_tells (is_over_rvg (d.world.nodes s)) s)) leads
+  back_stops (GroupCutOff next site is has are fused notes says left) =
+      done_by d d (same_doubted d) s line false next (FallAt s ∷ []) [] new refl left
   back_stops (GroupUnfound kept taken why next has are brings not leaves says left) =
       done_by d d (same_doubted d) s line taken next (fall_first (d.world.nodes s).state s kept) [] new (falls_tell (d.world.nodes s).state s kept) left
   back_stops (GroupHeld kept taken disk next has are failed brings notes says left) =

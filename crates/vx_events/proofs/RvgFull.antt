@@ -16,7 +16,7 @@ use Rattle.vx_events.specs.Fails.{Fails}
 use Rattle.vx_events.specs.GroupEnds.{BringsUp}
 use Rattle.vx_events.specs.GroupNotes.{note_at}
 use Rattle.vx_events.specs.LinkedFacts.{linked_fact}
-use Rattle.vx_events.specs.RvgBack.{FindsNoRvg, FindsPlain, FindsRvg, GroupHeld, GroupUnfound, KeptLost, LogFails, LogLacks, RvgBack, RvgFinds, RvgUp}
+use Rattle.vx_events.specs.RvgBack.{FindsNoRvg, FindsPlain, FindsRvg, GroupCutOff, GroupHeld, GroupUnfound, KeptLost, LogCut, LogFails, LogLacks, RvgBack, RvgFinds, RvgUp}
 use Rattle.vx_events.specs.RvgLinks.{links_rvg, rvg_target}
 use Rattle.vx_events.specs.RvgSteps.{AsBefore, FoundOne, FoundPlain, FullBy, Gained, HasNoRvgs, MakesNoRvg, StepFull, WorksAbove, WorksBeside, WorksFull, fact_full, facts_full, is_for_rvg, refused_full}
 use Rattle.vx_events.specs.RvgViews.{is_over_rvg, over_facts}
@@ -74,6 +74,9 @@ brings_back told d line s fails said new (LogFails kept taken disk middle found 
 brings_back told d line s fails said new (LogLacks kept taken middle found next from rest are brings back rests is lacks says left) = brings
 brings_back told d line s fails said new (KeptLost kept taken disk middle found next from rest site is are has back rests notes says left) =
     subst (λ (l : ScriptLine). BringsUp l) (sym is) tt
+brings_back told d line s fails said new (LogCut middle found next from rest left site is are fused back rests noted begun says leads) =
+    subst (λ (l : ScriptLine). BringsUp l) (sym is) tt
+brings_back told d line s fails said new (GroupCutOff next site is has are fused notes says left) = subst (λ (l : ScriptLine). BringsUp l) (sym is) tt
 brings_back told d line s fails said new (GroupUnfound kept taken why next has are brings not leaves says left) = brings
 brings_back told d line s fails said new (GroupHeld kept taken disk next has are failed brings notes says left) = brings
 

@@ -18,7 +18,7 @@ use Rattle.vx_events.specs.GroupEnds.{BringsUp}
 use Rattle.vx_events.specs.GroupLines.{noting}
 use Rattle.vx_events.specs.GroupNotes.{Reconfigures, no_note, note_at}
 use Rattle.vx_events.specs.Known.{MayDarken}
-use Rattle.vx_events.specs.RvgBack.{FindsNoRvg, FindsPlain, FindsRvg, GetsRvg, GroupHeld, GroupUnfound, HadRvg, IsLeftBack, KeptLost, LogFails, LogLacks, RestsWithRvg, RvgBack, RvgFinds, RvgUp}
+use Rattle.vx_events.specs.RvgBack.{FindsNoRvg, FindsPlain, FindsRvg, GetsRvg, GroupCutOff, GroupHeld, GroupUnfound, HadRvg, IsLeftBack, KeptLost, LogCut, LogFails, LogLacks, RestsWithRvg, RvgBack, RvgFinds, RvgUp}
 use Rattle.vx_events.specs.RvgMakes.{IsLeftRvg, MakesRvg, RvgCut, RvgDone, RvgFails, RvgLacks, units_at}
 use Rattle.vx_events.specs.RvgNotes.{NotesNarrowed}
 use Rattle.vx_events.specs.RvgOver.{EndsOrShows, NotesLine, OverRvg, OverRvgBy, ShowFails, ShowsAny, TakesOr, is_below, is_inside}
@@ -93,6 +93,9 @@ module _ (told : Type 0) (tells : told) (d : Doubted) (s : ℕ) (known : (note_a
   back_known_too line free (LogLacks kept taken middle found next from rest are brings back rests is lacks says left) = absurd (no_rise here line said _ says free brings)
   back_known_too line free (KeptLost kept taken disk middle found next from rest site is are has back rests notes says left) =
       absurd (no_rise here line said _ says free (subst BringsUp (sym is) tt))
+  back_known_too line free (LogCut middle found next from rest left site is are fused back rests notes begun says leads) =
+      absurd (no_rise here line said _ says free (subst BringsUp (sym is) tt))
+  back_known_too line free (GroupCutOff next site is has are fused notes says left) = absurd (no_rise here line said _ says free (subst BringsUp (sym is) tt))
   back_known_too line free (GroupUnfound kept taken why next has are brings not leaves says left) = absurd (no_rise here line said why says free brings)
   back_known_too line free (GroupHeld kept taken disk next has are failed brings notes says left) = absurd (no_rise here line said _ says free brings)
 

@@ -1,19 +1,20 @@
 -- How a recovery or an import ends where a group of disks has a replicated volume group, or is found to have one: the group comes up first, and then the log
 -- of the replicated volume group in its next session.
-use Rattle.std.specs.Prelude.{◌≡◌, ◌⊎◌, ℕ, ◌+◌, ◌≤◌, Bool, true, List, [], ◌∷◌, ◌++◌, Option, Some, None, Contains}
+use Rattle.std.specs.Prelude.{◌≡◌, ◌⊎◌, ℕ, ◌+◌, ◌≤◌, Bool, true, false, List, [], ◌∷◌, ◌++◌, Option, Some, None, Contains}
 use Rattle.vx_model.specs.declared.limits.TheConstants.{MOST_NUMBER}
 use Rattle.vx_model.specs.declared.no.Counted.TheVariants.{Number}
 use Rattle.vx_model.specs.declared.no.No.{No}
-use Rattle.vx_model.specs.declared.no.No.TheVariants.{Device, Limit}
+use Rattle.vx_model.specs.declared.no.No.TheVariants.{Device, Down as IsOff, Limit}
 use Rattle.vx_model.specs.declared.site.SiteState.{SiteState}
 use Rattle.vx_model.specs.declared.site.SiteState.TheVariants.{Bare, Up, Deported, Down}
 use Rattle.vx_model.specs.declared.units.Units.{Units}
 use Rattle.vx_history.specs.Doubts.{Doubted}
 use Rattle.vx_history.specs.Groups.{GroupNode}
 use Rattle.vx_history.specs.Steps.{group_set}
+use Rattle.vx_history.specs.Stops.{IsFused}
 use Rattle.vx_history.specs.World.{Link, Node, World, no_link}
 use Rattle.vx_history.specs.declared.event.Event.{Event}
-use Rattle.vx_history.specs.declared.event.Event.TheVariants.{Crash as CrashAt, Recover as RecoverAt}
+use Rattle.vx_history.specs.declared.event.Event.TheVariants.{Crash as CrashAt, Fall as FallAt, Recover as RecoverAt}
 use Rattle.vx_config.specs.declared.config.Config.{Config}
 use Rattle.vx_report.specs.declared.view.Kept.{Kept}
 use Rattle.vx_script.specs.declared.line.ScriptLine.{ScriptLine}
@@ -79,6 +80,11 @@ LacksSession told w s = told → MOST_NUMBER ≤ most_stamp_at w s + 2
 abbrev pub SessionLeft : (s disk : ℕ) → List Event → Type 0
 SessionLeft s disk left = (left ≡ []) ⊎ (left ≡ RecoverAt s (Some disk) ∷ [])
 
+-- a deported site is down then
+abbrev pub fall_last : (away : Bool) → (site : ℕ) → List Event
+fall_last true s = FallAt s ∷ []
+fall_last false s = []
+
 -- ---- the ends
 
 -- A recovery or an import at site s that no test refuses, where what the disks hold is known and imports agree.
@@ -103,6 +109,15 @@ pub data RvgBack (told : Type 0) (d : Doubted) (line : ScriptLine) (s : ℕ) (fa
       → AreOf s fails → Contains fails (s, disk) → NotesBack told s (d.world.nodes s) fails (note_at (d.world.nodes s)) middle
       → RestsWithRvg d line s kept middle found from rest → next ≡ record found { cut = (note_at (d.world.nodes s)).cut } → said ≡ Refused (Device disk)
       → IsLeftBack s line taken next from (run_as taken from (rest ++ RecoverAt s None ∷ CrashAt s 0 ∷ [])) new → RvgBack told d line s fails said new
+  -- the fuse of the disks ran out in an import, behind the group or before it came up
+  LogCut : (middle found next : GroupNode) (from : Doubted) (rest left : List Event) (site : List ℕ) → line ≡ GroupImport site → AreOf s fails
+      → IsFused (d.world.nodes s).fuse → NotesBack told s (d.world.nodes s) fails (note_at (d.world.nodes s)) middle
+      → RestsWithRvg d line s 0 middle found from rest → next ≡ record found { cut = (note_at (d.world.nodes s)).cut } → SessionLeft s 0 left
+      → said ≡ Refused IsOff → IsLeftBack s line false next from (run_as false from (rest ++ (left ++ fall_last (is_over_rvg (d.world.nodes s)) s))) new
+      → RvgBack told d line s fails said new
+  GroupCutOff : (next : GroupNode) (site : List ℕ) → line ≡ GroupImport site → is_over_rvg (d.world.nodes s) ≡ true → AreOf s fails
+      → IsFused (d.world.nodes s).fuse → NotesRefused (note_at (d.world.nodes s)) next → said ≡ Refused IsOff
+      → IsLeftBack s line false next d (run_as false d (FallAt s ∷ [])) new → RvgBack told d line s fails said new
   -- no group was found, and a site that is up crashed all the same
   GroupUnfound : (kept : ℕ) (taken : Bool) (why : No) (next : GroupNode) → is_over_rvg (d.world.nodes s) ≡ true → AreOf s fails → BringsUp line
       → NotFound s (note_at (d.world.nodes s)) fails why → NotFoundLeaves why (note_at (d.world.nodes s)) next → said ≡ Refused why

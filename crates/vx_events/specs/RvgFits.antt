@@ -1,5 +1,7 @@
 -- How a site over a group of disks with a replicated volume group fits the configuration of its group.
-use Rattle.std.specs.Prelude.{◌≡◌, ℕ, List, [], map, Option, Some, None, slice_get}
+use Rattle.std.specs.Prelude.{◌≡◌, ℕ, ◌<◌, List, [], map, Option, Some, None, slice_get}
+use Rattle.vx_model.specs.declared.site.Role.TheVariants.{Primary}
+use Rattle.vx_model.specs.declared.site.SiteState.TheVariants.{Up}
 use Rattle.vx_model.specs.Sizes.{ring_of}
 use Rattle.vx_model.specs.declared.units.Units.{Units}
 use Rattle.vx_config.specs.Checks.{blocks_of}
@@ -7,7 +9,7 @@ use Rattle.vx_config.specs.declared.config.Config.{Config}
 use Rattle.vx_config.specs.declared.entry.VolumeEntry.{VolumeEntry}
 use Rattle.vx_history.specs.Groups.{GroupNode}
 use Rattle.vx_history.specs.Volumes.{as_volume}
-use Rattle.vx_history.specs.World.{Node}
+use Rattle.vx_history.specs.World.{Node, World}
 use Rattle.vx_history.specs.declared.volumes.DataVolume.{DataVolume}
 use Rattle.vx_events.specs.GroupViews.{config_of, volumes_of}
 
@@ -42,3 +44,16 @@ pub record FitsRvg (n : Node) (c : Config) (units : Units) : Type 0 where
   pub rvg : c.rvg ≡ Some units
   pub volumes : n.volumes ≡ map as_volume (data_of c.volumes units)
   pub ring : n.ring ≡ ring_of (blocks_of c.volumes units.srl)
+
+-- the site has the replicated volume group of this configuration
+abbrev pub FitsSome : Node → Config → Type 0
+FitsSome n c = (units : Units) × FitsRvg n c units
+
+-- a site over a group of disks that runs, without a replicated volume group
+pub record MayGetRvg (w : World) (s : ℕ) : Type 0 where
+  pub below : s < w.sites
+  pub up : (w.nodes s).state ≡ Up
+  pub running : (w.nodes s).halted ≡ None
+  pub role : (w.nodes s).role ≡ Primary
+  pub volumes : (w.nodes s).volumes ≡ []
+  pub log : (w.nodes s).log ≡ []

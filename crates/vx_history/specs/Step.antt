@@ -18,12 +18,12 @@ use Rattle.vx_history.specs.declared.event.Said.TheVariants.{Done, Got, Refused}
 use Rattle.vx_history.specs.declared.event.LinkPart.{LinkPart}
 use Rattle.vx_history.specs.declared.event.LinkPart.TheVariants.{Joins, Made, Marked, Opened}
 use Rattle.vx_history.specs.declared.event.Event.{Event}
-use Rattle.vx_history.specs.declared.event.Event.TheVariants.{Site, Raw, Group, Volumes, Write as WriteAt, Read, Apply, Pump, Tick, Deliver, Connect, Cut, Pause, Resume, Wait, Link, Set, Crash, Deport, Recover, Fault}
+use Rattle.vx_history.specs.declared.event.Event.TheVariants.{Site, Raw, Group, Volumes, Write as WriteAt, Read, Apply, Pump, Tick, Deliver, Connect, Cut, Pause, Resume, Wait, Link, Set, Crash, Deport, Fall, Recover, Fault}
 use Rattle.vx_history.specs.Sends.{is_linked, with_link, sending}
 use Rattle.vx_history.specs.Refusals.{Outcome, says, unless, at_site, at_work, both_at_work, on_link, on_link_if, when_live, on_volume, may_be_site, may_join, is_primary, is_consistent, is_stale_mode, is_empty, follows, count_links_of}
 use Rattle.vx_model.specs.Sizes.{is_raw_shape}
 use Rattle.vx_model.specs.Sites.{is_up, is_bare}
-use Rattle.vx_history.specs.Events.{admitted, written_if, apply_at, reached_at, link_event, ticked_at, greeting_back, delivered, packet_at, waited, kept_of, crash_at, deport_at, group_from, is_plain_group, recover_from, joined, new_link, opened}
+use Rattle.vx_history.specs.Events.{admitted, written_if, apply_at, reached_at, link_event, ticked_at, greeting_back, delivered, packet_at, waited, kept_of, crash_at, deport_at, fall_from, group_from, is_plain_group, recover_from, joined, new_link, opened}
 
 abbrev pub done : World → Outcome
 done w = says w Done
@@ -80,6 +80,7 @@ outcome_of w (Link p s sync part) = at_site w p (at_site w s (both_at_work w p s
 outcome_of w (Set p s sync) = on_link_if is_origin w p s (done (with_link w p s (record (w.links p s) { sync = sync; prot = FailsWhenFull })))
 outcome_of w (Crash s kept) = at_site w s (unless (not (is_up (w.nodes s).state)) NotUp w (done (crash_at w s (kept_of (w.nodes s) kept))))
 outcome_of w (Deport s) = at_site w s (at_work w s (done (deport_at w s)))
+outcome_of w (Fall s) = at_site w s (fall_from (w.nodes s).state w s)
 outcome_of w (Recover s fails) = at_site w s (recover_from (w.nodes s).state w s fails)
 outcome_of w (Fault s disk) = at_site w s (unless (not (is_up (w.nodes s).state)) NotUp w (says (stopped_by w s disk) (Refused (Device disk))))
 

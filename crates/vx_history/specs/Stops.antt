@@ -7,7 +7,7 @@ use Rattle.vx_history.specs.Events.{packet_at}
 use Rattle.vx_history.specs.declared.event.LinkPart.{LinkPart}
 use Rattle.vx_history.specs.declared.event.LinkPart.TheVariants.{Joins, Made, Marked, Opened}
 use Rattle.vx_history.specs.declared.event.Event.{Event}
-use Rattle.vx_history.specs.declared.event.Event.TheVariants.{Site, Raw, Group, Volumes, Write, Read, Apply, Pump, Tick, Deliver, Connect, Cut, Pause, Resume, Wait, Link, Set, Crash, Deport, Recover, Fault}
+use Rattle.vx_history.specs.declared.event.Event.TheVariants.{Site, Raw, Group, Volumes, Write, Read, Apply, Pump, Tick, Deliver, Connect, Cut, Pause, Resume, Wait, Link, Set, Crash, Deport, Fall, Recover, Fault}
 use Rattle.vx_history.specs.Likes.{IsLike}
 use Rattle.vx_history.specs.Doubts.{Doubted, Runs, halved, crashed_as}
 
@@ -47,6 +47,7 @@ told_fails (Link p q sync part) = []
 told_fails (Set p q sync) = []
 told_fails (Crash p kept) = []
 told_fails (Deport p) = []
+told_fails (Fall p) = []
 told_fails (Recover p fails) = of_disk p fails
 told_fails (Fault p disk) = (p, disk) ∷ []
 
@@ -92,6 +93,7 @@ WritesAt w (Link p q sync part) site = IsPartAt part p q site
 WritesAt w (Set p q sync) site = p ≡ site
 WritesAt w (Crash p kept) site = ⊥
 WritesAt w (Deport p) site = ⊥
+WritesAt w (Fall p) site = ⊥
 WritesAt w (Recover p fails) site = ⊥
 WritesAt w (Fault p disk) site = p ≡ site
 

@@ -118,6 +118,10 @@ pub enum Event {
     Deport {
         site: u32,
     },
+    /// A deported site is down: the fuse of its disks ran out as it was brought up.
+    Fall {
+        site: u32,
+    },
     /// A site that is down or deported comes up in its next session. `fails` is the disk that failed after that session had begun:
     /// the site is then down or deported still.
     Recover {

@@ -17,7 +17,7 @@ use Rattle.vx_history.specs.Stops.{IsFused}
 use Rattle.vx_history.specs.Steps.{burned, crash_left, crashed, stopped_by, worked_on}
 use Rattle.vx_history.specs.World.{Fuse, FuseLit, FuseSet, Gathering, History, Link, NoFuse, Node, Packet, Promise, World, no_link, updated, with_node}
 use Rattle.vx_history.specs.declared.event.Event.{Event}
-use Rattle.vx_history.specs.declared.event.Event.TheVariants.{Site, Raw, Group, Volumes, Write as WriteAt, Read, Apply, Pump, Tick, Deliver, Connect, Cut, Pause, Resume, Wait, Link as LinkSites, Set, Crash, Deport, Recover, Fault}
+use Rattle.vx_history.specs.declared.event.Event.TheVariants.{Site, Raw, Group, Volumes, Write as WriteAt, Read, Apply, Pump, Tick, Deliver, Connect, Cut, Pause, Resume, Wait, Link as LinkSites, Set, Crash, Deport, Fall, Recover, Fault}
 use Rattle.vx_effects.proofs.Fitting.{fit_happened}
 use Rattle.vx_events.specs.LinkFinds.{pumped_with, target_with}
 use Rattle.vx_events.specs.LinksFit.{LinksFit}
@@ -154,6 +154,7 @@ module _ (fuses : ℕ → Fuse) (d : Doubted) (fit : LinksFit (noted_as fuses d)
   headers (Set p s sync) is i = absurd (cc)
   headers (Crash s kept) is i = absurd (cc)
   headers (Deport s) is i = absurd (cc)
+  headers (Fall s) is i = absurd (cc)
   headers (Recover s fails) is i = absurd (cc)
   headers (Fault s disk) is i = absurd (cc)
 

@@ -13,7 +13,7 @@ use Rattle.vx_history.specs.Step.{run, step}
 use Rattle.vx_history.specs.Stops.{IsFused, all_fails}
 use Rattle.vx_history.specs.World.{DataAck, Hello, Link, Message, NetAck, Node, Packet, Update, World}
 use Rattle.vx_history.specs.declared.event.Event.{Event}
-use Rattle.vx_history.specs.declared.event.Event.TheVariants.{Site, Raw, Group, Volumes, Write, Read, Apply, Pump, Tick, Deliver, Connect, Cut, Pause, Resume, Wait, Link as LinkSites, Set, Crash, Deport, Recover, Fault}
+use Rattle.vx_history.specs.declared.event.Event.TheVariants.{Site, Raw, Group, Volumes, Write, Read, Apply, Pump, Tick, Deliver, Connect, Cut, Pause, Resume, Wait, Link as LinkSites, Set, Crash, Deport, Fall, Recover, Fault}
 use Rattle.vx_history.specs.declared.sender.SEvent.TheVariants.{Pump as PumpLink}
 use Rattle.vx_events.specs.Doubts.{run_as}
 use Rattle.vx_world.proofs.Lists.{each_append}
@@ -104,6 +104,7 @@ event_stays w (LinkSites p s sync part) is = absurd (cc)
 event_stays w (Set p s sync) is = absurd (cc)
 event_stays w (Crash s kept) is = absurd (cc)
 event_stays w (Deport s) is = absurd (cc)
+event_stays w (Fall s) is = absurd (cc)
 event_stays w (Recover s fails) is = absurd (cc)
 event_stays w (Fault s disk) is = absurd (cc)
 
@@ -238,6 +239,7 @@ no_fails (e ∷ es) (is, are) = one e is ∙ no_fails es are
     one (Set p s sync) is = absurd (cc)
     one (Crash s kept) is = absurd (cc)
     one (Deport s) is = absurd (cc)
+    one (Fall s) is = absurd (cc)
     one (Recover s fails) is = absurd (cc)
     one (Fault s disk) is = absurd (cc)
 
@@ -262,6 +264,7 @@ happens d (LinkSites p s sync part) taken is = absurd (cc)
 happens d (Set p s sync) taken is = absurd (cc)
 happens d (Crash s kept) taken is = absurd (cc)
 happens d (Deport s) taken is = absurd (cc)
+happens d (Fall s) taken is = absurd (cc)
 happens d (Recover s fails) taken is = absurd (cc)
 happens d (Fault s disk) taken is = absurd (cc)
 

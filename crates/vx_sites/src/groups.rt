@@ -2,7 +2,7 @@
 ghost use Rattle.std.specs.Prelude.{◌≡◌, ◌<◌, eqb, length, map, not, IfOk, OnOk};
 ghost use Rattle.vx_history.specs.Events.{is_plain_group as plain_group};
 ghost use Rattle.vx_history.specs.Refusals.{unless};
-ghost use Rattle.vx_history.specs.Steps.{group_back, group_made, deported_world};
+ghost use Rattle.vx_history.specs.Steps.{group_back, group_made, deported_world, fallen_world};
 ghost use Rattle.vx_history.specs.Volumes.{volumes_made};
 ghost use Rattle.vx_model.specs.declared.no.No.TheVariants.{Role as WrongRole};
 ghost use Rattle.vx_sites.specs.Refusing.{Refuses};
@@ -114,6 +114,16 @@ impl World {
         ensures { let w = world_of self.old in world_of self.new ≡ deported_world (w.nodes site).fuse w site }
     {
         self.nodes[site as usize].state = SiteState::Deported;
+    }
+
+    /// The site, which is deported, is down.
+    pub fn fall(&mut self, site: u32)
+        requires { site < length self.old.nodes.items }
+        ensures { world_of self.new ≡ fallen_world (world_of self.old) site }
+    {
+        let node = &mut self.nodes[site as usize];
+        node.state = SiteState::Down;
+        node.fed_by = node.other;
     }
 }
 

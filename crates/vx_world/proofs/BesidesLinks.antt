@@ -5,17 +5,17 @@ use Rattle.vx_model.specs.declared.limits.TheConstants.{MOST_DISKS, MOST_LINKS, 
 use Rattle.std.proofs.Common.{◌≡◌, ◌∙◌, inl, inr, ℕ, ◌+◌, List, ap, sym, subst, refl, arith, Bool, true, false}
 use Rattle.std.specs.Prelude.{Option, Some, None, not, ◌&&◌, ◌||◌, eqb, ltb, leb, bytes_eq}
 use Rattle.std.proofs.lemmas.Bool.{cases_eq}
-use Rattle.vx_history.specs.Events.{group_again, group_from, is_plain_group, joined, new_link, opened}
+use Rattle.vx_history.specs.Events.{fall_from, group_again, group_from, is_plain_group, joined, new_link, opened}
 use Rattle.vx_history.specs.Receiving.{phase_takes}
 use Rattle.vx_history.specs.Refusals.{Outcome, unless, unless_halted, at_site, at_work, both_at_work, may_link, follows, count_links_of, is_fresh, is_running, is_primary, is_consistent, is_stale_mode, is_empty, sizes_meet, rings_fit, some_below, how_many_below}
 use Rattle.vx_history.specs.Sends.{is_linked, with_link}
 use Rattle.vx_history.specs.Step.{outcome_of, done, link_part}
-use Rattle.vx_history.specs.Steps.{site_made, raw_made, raw_set, raw_history, group_back, group_set, group_up, begun_line}
+use Rattle.vx_history.specs.Steps.{site_made, raw_made, raw_set, raw_history, fallen_site, group_back, group_set, group_up, begun_line}
 use Rattle.vx_history.specs.Volumes.{data_content, starting_with, volumes_made, volumes_set}
 use Rattle.vx_history.specs.declared.volumes.DataVolume.{DataVolume}
 use Rattle.vx_model.specs.declared.history.Line.{Line}
 use Rattle.vx_history.specs.World.{History, Node, Link, World, bare_site, no_volumes, updated, with_node}
-use Rattle.vx_history.specs.declared.event.Event.TheVariants.{Site, Raw, Group, Volumes, Link as LinkAt}
+use Rattle.vx_history.specs.declared.event.Event.TheVariants.{Site, Raw, Group, Volumes, Fall, Link as LinkAt}
 use Rattle.vx_history.specs.declared.event.LinkPart.{LinkPart}
 use Rattle.vx_history.specs.declared.event.LinkPart.TheVariants.{Joins, Made, Marked, Opened}
 use Rattle.vx_model.specs.declared.link.SyncMode.{SyncMode}
@@ -78,6 +78,26 @@ module _ (s : ℕ) (w v : World) (twin : Twin s w v) where
         | inr apart ↦
             subst (λ (t : SiteState). Twin s (group_from (w.nodes p).state w p).world (group_from t v p).world)
             (sym (ap (λ (n : Node). n.state) (twin.nodes p apart))) (groups_both (w.nodes p).state p apart)
+      ])
+
+  falls_both : (t : SiteState) (p : ℕ) → (p ≡ s → ⊥) → Twin s (fall_from t w p).world (fall_from t v p).world
+  falls_both Bare p apart = twin
+  falls_both Up p apart = twin
+  falls_both Deported p apart = twin_node s w v twin p (fallen_site (w.nodes p)) (fallen_site (v.nodes p)) apart (ap fallen_site (twin.nodes p apart))
+  falls_both Down p apart = twin
+
+  pub twin_fall : (p : ℕ) → Twin s (outcome_of w (Fall p)).world (outcome_of v (Fall p)).world
+  twin_fall p =
+      there s w v p (fall_from (w.nodes p).state w p) (fall_from (v.nodes p).state v p) twin
+      (elim (cases_eq p s) [
+        | inl same ↦
+            let up : (w.nodes p).state ≡ Up = subst (λ (i : ℕ). (w.nodes i).state ≡ Up) (sym same) twin.up in
+            let up_too : (v.nodes p).state ≡ Up = subst (λ (i : ℕ). (v.nodes i).state ≡ Up) (sym same) twin.up_too in
+            subst (λ (t : SiteState). Twin s (fall_from t w p).world (fall_from (v.nodes p).state v p).world) (sym up)
+            (subst (λ (t : SiteState). Twin s w (fall_from t v p).world) (sym up_too) twin)
+        | inr apart ↦
+            subst (λ (t : SiteState). Twin s (fall_from (w.nodes p).state w p).world (fall_from t v p).world)
+            (sym (ap (λ (n : Node). n.state) (twin.nodes p apart))) (falls_both (w.nodes p).state p apart)
       ])
 
   pub twin_volumes : (p log : ℕ) (xs : List DataVolume) → Twin s (outcome_of w (Volumes p log xs)).world (outcome_of v (Volumes p log xs)).world

@@ -9,7 +9,7 @@ use Rattle.vx_history.specs.Receiving.{Received, received_step}
 use Rattle.vx_history.specs.LinkForms.{plain_receiver, with_plain}
 use Rattle.vx_history.specs.World.{World, Node, Volume, Link as LinkRecord, History, Gathering, Packet, Promise, Message, Hello, Update, NetAck, DataAck, with_node, with_history, bare_site, no_volumes}
 use Rattle.vx_model.specs.Sites.{is_origin}
-use Rattle.vx_history.specs.Steps.{burned, logged, told_of, written, half_written, crashed, crash_left, deported_site, site_made, begun_site, begun_line, line_begun, raw_made, raw_volumes, raw_content, group_back, group_up, stopped_by}
+use Rattle.vx_history.specs.Steps.{burned, logged, told_of, written, half_written, crashed, crash_left, deported_site, fallen_site, site_made, begun_site, begun_line, line_begun, raw_made, raw_volumes, raw_content, group_back, group_up, stopped_by}
 use Rattle.vx_history.specs.Good.{IsMade}
 use Rattle.vx_model.specs.declared.history.Line.{Line}
 use Rattle.vx_model.specs.declared.link.SyncMode.{SyncMode}
@@ -31,7 +31,7 @@ use Rattle.vx_history.proofs.GoodLemmas.{up_is_made}
 use Rattle.vx_history.specs.declared.event.LinkPart.{LinkPart}
 use Rattle.vx_history.specs.declared.event.LinkPart.TheVariants.{Joins, Made, Marked, Opened}
 use Rattle.vx_history.specs.declared.event.Event.{Event}
-use Rattle.vx_history.specs.declared.event.Event.TheVariants.{Site, Raw, Group, Volumes, Write as WriteAt, Read, Apply, Pump, Tick, Deliver, Connect, Cut, Pause, Resume, Wait, Link, Set, Crash, Deport, Recover, Fault}
+use Rattle.vx_history.specs.declared.event.Event.TheVariants.{Site, Raw, Group, Volumes, Write as WriteAt, Read, Apply, Pump, Tick, Deliver, Connect, Cut, Pause, Resume, Wait, Link, Set, Crash, Deport, Fall, Recover, Fault}
 use Rattle.vx_history.specs.declared.event.Said.TheVariants.{Done, Ignored as IsIgnored, Pending, DoneAt}
 use Rattle.vx_history.specs.Refusals.{Outcome, says, unless, at_work, on_link, keeps_links, is_primary, is_running, follows, some_below, is_unconfirmed, holds_back, may_link, sizes_meet, rings_fit, count_links_of}
 use Rattle.vx_model.specs.Sites.{is_up, is_bare}
@@ -304,6 +304,12 @@ group_grows w q Up e = grown_same w
 group_grows w q Deported e = again_grows w q
 group_grows w q Down e = again_grows w q
 
+fall_grows : (w : World) (q : ℕ) (state : SiteState) → Leaves w (Events.fall_from state w q)
+fall_grows w q Bare = grown_same w
+fall_grows w q Up = grown_same w
+fall_grows w q Deported = grown_node w q (fallen_site (w.nodes q)) (λ _ e. cc) (λ _ _ h. h)
+fall_grows w q Down = grown_same w
+
 outcome_grows : (w : World) (e : Event) → Sound w → Leaves w (outcome_of w e)
 outcome_grows w (Site name disks blocks) s =
     let o : Outcome = done (site_made w name disks blocks) in
@@ -386,6 +392,7 @@ outcome_grows w (Crash q kept) s =
     (λ _. Guards.unless_holds (GrownWorld w) (not (is_up (w.nodes q).state)) NotUp w o (grown_same w)
     (λ up. crash_grows w q (Events.kept_of (w.nodes q) kept) s (Guards.up_is (w.nodes q).state (not_false (is_up (w.nodes q).state) up))
     (Nodes.kept_least (w.nodes q) kept (s.good.nodes q).safe_fits)))
+outcome_grows w (Fall q) s = Guards.at_site_holds (GrownWorld w) w q _ (grown_same w) (λ _. fall_grows w q (w.nodes q).state)
 outcome_grows w (Deport q) s =
     let o : Outcome = done (Events.deport_at w q) in
     Guards.at_site_holds (GrownWorld w) w q (at_work w q o) (grown_same w)

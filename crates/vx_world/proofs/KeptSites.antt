@@ -19,7 +19,7 @@ use Rattle.vx_history.proofs.CrashLemmas.{crash_state}
 use Rattle.vx_history.proofs.GoodLemmas.{up_is_made, made_is_given}
 use Rattle.vx_history.proofs.Places.{places_further, places_made}
 use Rattle.vx_history.specs.World.{World, Node, Link as LinkRecord, Volume, History, Gathering, Hello, with_node, bare_site, no_volumes, updated, line_updated}
-use Rattle.vx_history.specs.Steps.{raw_volumes, raw_content, burned, crashed, crash_left, kept_by, deported_site, site_made, begun_site, begun_line, line_begun, raw_made, group_back, group_up, stopped_by}
+use Rattle.vx_history.specs.Steps.{raw_volumes, raw_content, burned, crashed, crash_left, kept_by, deported_site, fallen_site, fallen_world, site_made, begun_site, begun_line, line_begun, raw_made, group_back, group_up, stopped_by}
 use Rattle.vx_history.specs.Good.{IsMade}
 use Rattle.vx_history.specs.Listed.{HasPlaces}
 use Rattle.vx_history.specs.Sends.{is_linked, with_link, with_links, sending, greeting}
@@ -73,6 +73,18 @@ deport_leaves w q s up =
     keeps_trans w v (Events.deport_at w q) (crash_leaves w q k s up)
     (keeps_node v q m (λ f. like_fitted (v.nodes q) m refl refl refl (λ _ e. let g : Down ≡ Bare = sym down ∙ e in cc) refl refl refl)
     (λ f e. absurd (let g : Deported ≡ Bare = e in cc)) (λ u. absurd (let g : Down ≡ Up = sym down ∙ u in cc)))
+
+fallen_leaves : (w : World) (q : ℕ) → (w.nodes q).state ≡ Deported → Keeps w (fallen_world w q)
+fallen_leaves w q away =
+    let m : Node = fallen_site (w.nodes q) in
+    keeps_node w q m (λ f. like_fitted (w.nodes q) m refl refl refl (λ _ e. let g : Deported ≡ Bare = sym away ∙ e in cc) refl refl refl)
+    (λ f e. absurd (let g : Down ≡ Bare = e in cc)) (λ u. absurd (let g : Deported ≡ Up = sym away ∙ u in cc))
+
+pub fall_leaves : (w : World) (q : ℕ) (state : SiteState) → (w.nodes q).state ≡ state → Leaves w (Events.fall_from state w q)
+fall_leaves w q Bare e = keeps_same w
+fall_leaves w q Up e = keeps_same w
+fall_leaves w q Deported e = fallen_leaves w q e
+fall_leaves w q Down e = keeps_same w
 
 pub recovery_leaves : (w : World) (q : ℕ) (fails : Option ℕ) → is_at_rest (w.nodes q).state ≡ true → Leaves w (Events.recovery w q fails)
 recovery_leaves w q None rest =

@@ -11,7 +11,7 @@ use Rattle.vx_model.specs.declared.site.SiteState.{SiteState}
 use Rattle.vx_model.specs.declared.site.SiteState.TheVariants.{Bare, Up, Deported, Down}
 use Rattle.vx_history.specs.World.{World, History, Node, Link as LinkState, bare_site, no_volumes, updated}
 use Rattle.vx_history.specs.Likes.{IsLike}
-use Rattle.vx_history.specs.Steps.{burned, site_made, raw_set, raw_history, group_set, group_up, begun_line}
+use Rattle.vx_history.specs.Steps.{burned, fallen_site, site_made, raw_set, raw_history, group_set, group_up, begun_line}
 use Rattle.vx_history.specs.Refusals.{Outcome, at_site, at_work, keeps_links, some_below, unless, unless_halted}
 use Rattle.vx_history.specs.declared.event.Said.TheVariants.{Refused}
 use Rattle.vx_history.specs.Events
@@ -22,7 +22,7 @@ use Rattle.vx_history.specs.declared.volumes.DataVolume.{DataVolume}
 use Rattle.vx_model.specs.declared.no.No.{No}
 use Rattle.vx_history.specs.Step.{done, outcome_of, step, run}
 use Rattle.vx_history.specs.declared.event.Event.{Event}
-use Rattle.vx_history.specs.declared.event.Event.TheVariants.{Site, Raw, Group, Volumes, Write as WriteAt, Read, Apply, Pump, Tick, Deliver, Connect, Cut, Pause, Resume, Wait, Link, Set, Crash, Deport, Recover, Fault}
+use Rattle.vx_history.specs.declared.event.Event.TheVariants.{Site, Raw, Group, Volumes, Write as WriteAt, Read, Apply, Pump, Tick, Deliver, Connect, Cut, Pause, Resume, Wait, Link, Set, Crash, Deport, Fall, Recover, Fault}
 use Rattle.vx_history.specs.declared.sender.SEvent.TheVariants.{Connect as ConnectLink, Pump as PumpLink, Cut as CutLink, Pause as PauseLink, Resume as ResumeLink}
 use Rattle.vx_world.proofs.Likely.{noted, Same, same_of, tests, some_same, link_changed, pair_updated, like_node, like_history, like_link, like_sending, like_headers, at_site_same, at_work_same, both_same, on_link_same, when_live_same}
 use Rattle.vx_world.proofs.LikeChanges.{write_same, read_same, apply_same, moved_same, event_same, tick_same, greeting_same}
@@ -60,6 +60,15 @@ group_same w v like q Bare = record {
 group_same w v like q Up = same_of w v (Refused WrongRole) (Refused WrongRole) like refl
 group_same w v like q Deported = again_same w v like q
 group_same w v like q Down = again_same w v like q
+
+fall_same : (w v : World) → IsLike w v → (q : ℕ) (state : SiteState) → Same (Events.fall_from state w q) (Events.fall_from state v q)
+fall_same w v like q Bare = same_of w v (Refused WrongRole) (Refused WrongRole) like refl
+fall_same w v like q Up = same_of w v (Refused WrongRole) (Refused WrongRole) like refl
+fall_same w v like q Deported = record {
+  world = like_node w v like q (fallen_site (w.nodes q)) (fallen_site (v.nodes q)) (ap fallen_site (like.nodes q));
+  said = refl;
+}
+fall_same w v like q Down = same_of w v (Refused WrongRole) (Refused WrongRole) like refl
 
 -- a site gets the same data volumes in worlds in which it notes the same of its group
 volumes_same : (log : ℕ) (xs : List DataVolume) (n k : Node) → k ≡ noted n k → k.group ≡ n.group → volumes_set log xs k ≡ noted (volumes_set log xs n) (volumes_set log xs k)
@@ -144,6 +153,10 @@ outcome_same w v like (Crash q kept) sees =
     (λ _. record { world = crash_like w v like q kept; said = refl }))
 outcome_same w v like (Deport q) sees =
     at_site_same w v like q _ _ (at_work_same w v like q _ _ (record { world = deport_same w v like q; said = refl }))
+outcome_same w v like (Fall q) sees =
+    at_site_same w v like q _ _
+    (subst (λ (s : SiteState). Same (Events.fall_from (w.nodes q).state w q) (Events.fall_from s v q))
+    (sym (ap (λ (n : Node). n.state) (like.nodes q))) (fall_same w v like q (w.nodes q).state))
 outcome_same w v like (Recover q fails) sees =
     at_site_same w v like q _ _ (subst (λ (s : SiteState). Same (Events.recover_from (w.nodes q).state w q fails) (Events.recover_from s v q fails))
     (sym (ap (λ (n : Node). n.state) (like.nodes q))) (recover_same w v like q (w.nodes q).state fails))
@@ -209,6 +222,7 @@ said_like w v (Link p q sync part) like = (outcome_same w v like (Link p q sync 
 said_like w v (Set p q sync) like = (outcome_same w v like (Set p q sync) tt).said
 said_like w v (Crash p kept) like = (outcome_same w v like (Crash p kept) tt).said
 said_like w v (Deport p) like = (outcome_same w v like (Deport p) tt).said
+said_like w v (Fall p) like = (outcome_same w v like (Fall p) tt).said
 said_like w v (Recover p fails) like = (outcome_same w v like (Recover p fails) tt).said
 said_like w v (Fault p disk) like = (outcome_same w v like (Fault p disk) tt).said
 
@@ -233,6 +247,7 @@ looks_same w v groups (Link p q sync part) = tt
 looks_same w v groups (Set p q sync) = tt
 looks_same w v groups (Crash p kept) = tt
 looks_same w v groups (Deport p) = tt
+looks_same w v groups (Fall p) = tt
 looks_same w v groups (Recover p fails) = tt
 looks_same w v groups (Fault p disk) = tt
 

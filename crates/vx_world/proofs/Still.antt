@@ -26,10 +26,10 @@ use Rattle.vx_history.specs.Refusals.{Outcome, says, unless, unless_halted, at_s
 use Rattle.vx_history.specs.Sending.{Sent}
 use Rattle.vx_history.specs.Sends.{is_linked, with_links, with_link, sending, sent_by}
 use Rattle.vx_history.specs.Step.{outcome_of, step, link_part}
-use Rattle.vx_history.specs.Steps.{raw_set, group_set, group_up, logged, crashed, crash_left, deported_site}
+use Rattle.vx_history.specs.Steps.{raw_set, group_set, group_up, logged, crashed, crash_left, deported_site, fallen_site}
 use Rattle.vx_history.specs.World.{World, Node, Link as LinkRecord, History, Gathering, Packet, Message, Hello, Update, NetAck, DataAck, with_node, with_history, bare_site, updated}
 use Rattle.vx_history.specs.declared.event.Event.{Event}
-use Rattle.vx_history.specs.declared.event.Event.TheVariants.{Site, Raw, Group, Volumes, Write as WriteAt, Read, Apply, Pump, Tick, Deliver, Connect, Cut, Pause, Resume, Wait, Link, Set, Crash, Deport, Recover, Fault}
+use Rattle.vx_history.specs.declared.event.Event.TheVariants.{Site, Raw, Group, Volumes, Write as WriteAt, Read, Apply, Pump, Tick, Deliver, Connect, Cut, Pause, Resume, Wait, Link, Set, Crash, Deport, Fall, Recover, Fault}
 use Rattle.vx_history.specs.declared.event.LinkPart.{LinkPart}
 use Rattle.vx_history.specs.declared.event.LinkPart.TheVariants.{Joins, Made, Marked, Opened}
 use Rattle.vx_history.specs.declared.event.Said.TheVariants.{Ignored as IsIgnored, Pending}
@@ -263,6 +263,13 @@ module _ (s : ℕ) (w : World) (up : (w.nodes s).state ≡ Up) (halted : is_runn
   group_still q Down e = tested (not (Events.is_plain_group (w.nodes q))) _ _ (λ _. node_still q (group_up (w.nodes q))
       (λ here. let g : Up ≡ Down = sym up ∙ ap (λ (i : ℕ). (w.nodes i).state) here ∙ e in absurd (cc)))
 
+  fall_still : (q : ℕ) (state : SiteState) → (w.nodes q).state ≡ state → Leaves (Events.fall_from state w q)
+  fall_still q Bare e = same
+  fall_still q Up e = same
+  fall_still q Deported e = node_still q (fallen_site (w.nodes q))
+      (λ here. let g : Up ≡ Deported = sym up ∙ ap (λ (i : ℕ). (w.nodes i).state) here ∙ e in absurd (cc))
+  fall_still q Down e = same
+
   outcome_still : (e : Event) → s < w.sites → IsElsewhere s e → Leaves (outcome_of w e)
   outcome_still (Site name disks blocks) there calm =
       tested (some_below w.sites (λ k. bytes_eq (w.nodes k).name name)) _ _
@@ -315,6 +322,7 @@ module _ (s : ℕ) (w : World) (up : (w.nodes s).state ≡ Up) (halted : is_runn
   outcome_still (Crash q kept) there calm =
       site_still q _ (tested (not (is_up (w.nodes q).state)) _ _ (λ _. crash_still q (Events.kept_of (w.nodes q) kept) (λ e. calm (sym e))))
   outcome_still (Deport q) there calm = work_still q _ (λ apart. deport_still q apart)
+  outcome_still (Fall q) there calm = site_still q _ (fall_still q (w.nodes q).state refl)
   outcome_still (Recover q fails) there calm = site_still q _ (recover_still q (w.nodes q).state fails refl)
   outcome_still (Fault q disk) there calm =
       site_still q _ (tested (not (is_up (w.nodes q).state)) _ _ (λ _. node_still q _ (λ e. calm (sym e))))

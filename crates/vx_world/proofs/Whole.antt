@@ -21,7 +21,7 @@ use Rattle.vx_history.specs.Step.{done, outcome_of, step, run, link_part}
 use Rattle.vx_history.specs.GoodWorld.{GoodWorld}
 use Rattle.vx_history.specs.Sound.{Sound}
 use Rattle.vx_history.specs.declared.event.Event.{Event}
-use Rattle.vx_history.specs.declared.event.Event.TheVariants.{Site, Raw, Group, Volumes, Write as WriteAt, Read, Apply, Pump, Tick, Deliver, Connect, Cut, Pause, Resume, Wait, Link, Set, Crash, Deport, Recover, Fault}
+use Rattle.vx_history.specs.declared.event.Event.TheVariants.{Site, Raw, Group, Volumes, Write as WriteAt, Read, Apply, Pump, Tick, Deliver, Connect, Cut, Pause, Resume, Wait, Link, Set, Crash, Deport, Fall, Recover, Fault}
 use Rattle.vx_history.specs.declared.event.Said.TheVariants.{Pending, DoneAt}
 use Rattle.vx_history.specs.declared.sender.SEvent.{SEvent}
 use Rattle.vx_history.specs.declared.sender.SEvent.TheVariants.{Connect as ConnectLink, Pump as PumpLink, Cut as CutLink, Pause as PauseLink, Resume as ResumeLink}
@@ -34,7 +34,7 @@ use Rattle.vx_world.proofs.KeptWrites.{Leaves, write_leaves, moved_leaves, greet
 use Rattle.vx_history.specs.Volumes.{volumes_made}
 use Rattle.vx_world.proofs.KeptPackets.{deliver_leaves}
 use Rattle.vx_world.proofs.Volumed.{volumes_leaves}
-use Rattle.vx_world.proofs.KeptSites.{crash_leaves, deport_leaves, recover_leaves, site_leaves, raw_leaves, group_from_leaves, link_part_leaves, stopped_leaves}
+use Rattle.vx_world.proofs.KeptSites.{crash_leaves, deport_leaves, fall_leaves, recover_leaves, site_leaves, raw_leaves, group_from_leaves, link_part_leaves, stopped_leaves}
 
 -- ## Events
 
@@ -116,6 +116,7 @@ outcome_leaves w (Crash q kept) s =
     Guards.at_site_holds (Keeps w) w q (unless (not (is_up (w.nodes q).state)) NotUp w o) (keeps_same w)
     (λ _. Guards.unless_holds (Keeps w) (not (is_up (w.nodes q).state)) NotUp w o (keeps_same w)
     (λ up. crash_leaves w q (Events.kept_of (w.nodes q) kept) s (Guards.up_is (w.nodes q).state (not_false (is_up (w.nodes q).state) up))))
+outcome_leaves w (Fall q) s = Guards.at_site_holds (Keeps w) w q _ (keeps_same w) (λ _. fall_leaves w q (w.nodes q).state refl)
 outcome_leaves w (Deport q) s =
     let o : Outcome = done (Events.deport_at w q) in
     Guards.at_site_holds (Keeps w) w q (at_work w q o) (keeps_same w)

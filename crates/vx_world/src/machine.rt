@@ -9,7 +9,7 @@ use crate::applies::apply;
 use crate::deliveries::deliver;
 use crate::faults::fault;
 use crate::greetings::connect;
-use crate::outages::{crash, deport};
+use crate::outages::{crash, deport, fall};
 use crate::pumps::pump;
 use crate::reads::read;
 use crate::recoveries::recover;
@@ -82,6 +82,7 @@ fn happen(world: &mut World, event: &Event) -> Result<Said, OutOfMemory>
         Event::Wait { site, number } => wait(world, *site, *number),
         Event::Crash { site, kept } => crash(world, *site, *kept),
         Event::Deport { site } => deport(world, *site),
+        Event::Fall { site } => Ok(fall(world, *site)),
         Event::Recover { site, fails } => recover(world, *site, *fails),
         Event::Fault { site, disk } => Ok(fault(world, *site, *disk)),
         Event::Pump { site, to } => pump(world, *site, *to),
