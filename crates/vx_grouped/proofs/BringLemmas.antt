@@ -1,6 +1,7 @@
 -- What an import by logs makes of the volumes of a group.
 use Rattle.std.proofs.Common.{◌≡◌, ◌∙◌, inl, inr, ℕ, ◌<◌, Bool, true, IsTrue, List, length, refl, ap, sym, subst, arith}
 use Rattle.vx_config.specs.Checks.{blocks_of}
+use Rattle.vx_disk.specs.Racks.{Alike}
 use Rattle.vx_disk.specs.Shelf.{Each, Goes, Image, Lawful, Meaning, Nothing}
 use Rattle.vx_disk.proofs.Runs.{then_nothing}
 use Rattle.vx_config.specs.declared.config.Config.{Config}
@@ -18,6 +19,17 @@ use Rattle.vx_loggroup.specs.Opens.{IsOpened}
 use Rattle.vx_logimport.specs.declared.rested.Rested.{Rested}
 use Rattle.vx_logs.specs.declared.logs.Logs.{Logs}
 use Rattle.vx_grouped.specs.Brings.{BringsVolumes, TookVolumes}
+
+-- disks are as they are
+pub alike_self : (m : Meaning) → Alike m m
+alike_self m = record {
+  contents = record {
+    units = refl; size = λ u. refl; tells = refl; moment = refl;
+    reads = λ u b v it. it; still_reads = λ u b v it. it; leaves = λ u b v it. it; still_leaves = λ u b v it. it;
+    now = λ i it. it; still_now = λ i it. it; since = λ t i it. it; keeps = λ t i it. it;
+  };
+  counts = record { faults = λ u. refl; disk_faults = λ d. refl };
+}
 
 found_one : (x y : Config) → Found x ≡ Found y → x ≡ y
 found_one x y is = cc
