@@ -24,9 +24,18 @@ use Rattle.vx_grouped.specs.Brings.{BringsVolumes, TookVolumes}
 pub alike_self : (m : Meaning) → Alike m m
 alike_self m = record {
   contents = record {
-    units = refl; size = λ u. refl; tells = refl; moment = refl;
-    reads = λ u b v it. it; still_reads = λ u b v it. it; leaves = λ u b v it. it; still_leaves = λ u b v it. it;
-    now = λ i it. it; still_now = λ i it. it; since = λ t i it. it; keeps = λ t i it. it;
+    units = refl;
+    size = λ u. refl;
+    tells = refl;
+    moment = refl;
+    reads = λ u b v it. it;
+    still_reads = λ u b v it. it;
+    leaves = λ u b v it. it;
+    still_leaves = λ u b v it. it;
+    now = λ i it. it;
+    still_now = λ i it. it;
+    since = λ t i it. it;
+    keeps = λ t i it. it;
   };
   counts = record { faults = λ u. refl; disk_faults = λ d. refl };
 }
