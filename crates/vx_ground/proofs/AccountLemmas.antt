@@ -6,6 +6,7 @@ use Rattle.vx_disk.specs.Counts.{Rose}
 use Rattle.vx_disk.specs.Shelf.{Meaning}
 use Rattle.vx_volume.specs.Plexes.{active}
 use Rattle.vx_group.specs.Loses.{LosesPlexes}
+use Rattle.vx_group.specs.declared.group_core.GroupCore.{GroupCore}
 use Rattle.vx_group.proofs.LoseLemmas.{loses_same, none_parts, then_parts}
 use Rattle.vx_ground.specs.Accounts.{GroundSince, NoneRose}
 
@@ -88,3 +89,7 @@ module _ (c0 c d : Config) (m0 m m' : Meaning) (first : (u : ℕ) → m.disk_fau
   -- one that leaves the configuration
   pub since_same : d ≡ c → GroundSince c0 m0 d m'
   since_same same = since_loses (subst (λ (x : Config). LosesPlexes c x m m') (sym same) (loses_same c m m'))
+
+-- what is asked of a group, carried to one that is the same by its parts
+pub carried_back : {S : Type 0} (P : GroupCore → S → Type 0) (c c0 : GroupCore) (s s0 : S) → c0 ≡ c → s0 ≡ s → P c s → P c0 s0
+carried_back P c c0 s s0 core shelf it = subst (λ (x : GroupCore). P x s0) (sym core) (subst (λ y. P c y) (sym shelf) it)

@@ -54,7 +54,8 @@ fn work_watched<B: Begun, R: Rack, W: Work>(
 {
     let (rack, rest) = group.apart();
     let watched = Watched::<R, B>::over(rack);
-    let (group, answer) = work_grounded(LoggedGroup::together(watched, rest), work);
+    let group = LoggedGroup::together(watched, rest);
+    let (group, answer) = work_grounded(group, work);
     let (watched, rest) = group.apart();
     let rack = watched.into_shelf();
     (LoggedGroup::together(rack, rest), answer)

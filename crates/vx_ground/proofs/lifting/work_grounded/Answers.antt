@@ -1,0 +1,6 @@
+-- The account begins with what there is.
+use Rattle.vx_ground.proofs.AccountLemmas.{since_none}
+use Rattle.vx_ground.proofs.lifting.work_grounded.Goals as goal
+
+pub work_from-requires-clause-since : goal.work_from-requires-clause-since
+work_from-requires-clause-since g c = since_none c.args.group.core.inner.config (g.S.Shelf.meaning c.args.group.shelf)
