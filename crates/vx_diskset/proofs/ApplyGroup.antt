@@ -14,7 +14,7 @@ use Rattle.vx_rvg.specs.Views.{Core, IsSound, Waits, last_of}
 use Rattle.vx_diskset.specs.DiskSets.{CanApply, halted_at, worked}
 use Rattle.vx_diskset.specs.Holds.{HasSite}
 use Rattle.vx_diskset.specs.Rooms.{AppliedAs}
-use Rattle.vx_grouped.specs.SetFuses.{HasFuse}
+use Rattle.vx_diskset.specs.Fuses.{FuseOn}
 use Rattle.vx_history.specs.Stops.{IsFused}
 use Rattle.vx_diskset.specs.Stands.{IsUpAt, IsHeldAt}
 use Rattle.vx_diskset.proofs.LastWrites.{rests_with, resting_found}
@@ -41,7 +41,7 @@ module _ {beside : KeptBeside} (n : Node) (c c' : Core) (m new : Meaning) (up : 
       ⊎_elim (λ was. up.left i was) (λ resting. inl (up_found n c m i up can.running told (resting_found c n.log n.base m i resting (up.content can.running told))))
       (left_moved (Waits c m) (Resting c m) m new i lawful after moves now)
 
-  fuse : HasFuse (burned n.fuse) new
+  fuse : FuseOn (burned n.fuse) new
   fuse = fuse_moved n.fuse (Waits c m) (Resting c m) m new moves up.fuse
 
   -- it is up as before

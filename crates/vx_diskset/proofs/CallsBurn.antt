@@ -4,6 +4,7 @@ use Rattle.std.specs.Prelude.{Option, Some, None, Result, Ok, Err, OnOk, IsFalse
 use Rattle.vx_model.specs.Answer.{is_too_large}
 use Rattle.vx_model.specs.declared.no.No.{No}
 use Rattle.vx_model.specs.declared.no.No.TheVariants.{Device, Size, Range, Limit, Down as IsDown}
+use Rattle.vx_diskset.specs.Shelves.{BurnsOn}
 use Rattle.vx_diskset.specs.Holds.{KeptBeside}
 use Rattle.vx_model.specs.declared.no.Counted.TheVariants.{Number}
 use Rattle.vx_model.specs.Content.{blocks_in}
@@ -243,7 +244,19 @@ off_result : (r : Result ℕ No) → said_by r ≡ Refused IsDown → r ≡ Err 
 off_result (Ok number) is = absurd (cc)
 off_result (Err why) is = let same : why ≡ IsDown = cc in ap (λ (k : No). let r : Result ℕ No = Err k in r) same
 
+-- a call on a group
+pub burns_by : (P : Disks → Disks → Type 0) (r : Result ℕ No) (old new : Meaning) → IsFalse old.down → OffIf r new.down → OnOk r (WithDisks old.disks new.disks P) → Spends old new → BurnsOn P (said_by r) old new
+burns_by P r old new up off done spends = record { told = burnt_on P old.size old.down new.down r old.disks new.disks up off done spends.told; sizes = spends.size }
+
+-- one that did nothing, and was not answered 6
+pub burns_still : (P : Disks → Disks → Type 0) (why : No) (m : Meaning) → is_off why ≡ false → BurnsOn P (Refused why) m m
+burns_still P why m on = record { told = still_by P why m.size m.disks on; sizes = λ u. refl }
+
 module _ {R : Type 0} {g : Ghosts R} where
+  -- the same of disk sets
+  pub burns_up : (P : Disks → Disks → Type 0) (said : Said) (old new : Rvg R g) → BurnsOn P said (g.meaning old.shelf) (g.meaning new.shelf) → LeavesFuse P said (Up old) (Up new)
+  burns_up P said old new burns = record { told = burns.told; sizes = burns.sizes }
+
   pub cut_short : (old mid : Rvg R g) (bytes : List ℕ) (new : Meaning) → mid ≡ old → (BodyFits mid.core.log bytes → FallsShort 4 (g.meaning mid.shelf) new) → BodyFits old.core.log bytes → IsFalse (g.meaning old.shelf).down → IsTrue new.down
       → RackIsShort 4 (g.meaning old.shelf).disks
   cut_short old mid bytes new same short fits up down =

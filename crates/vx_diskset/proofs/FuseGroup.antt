@@ -13,7 +13,7 @@ use Rattle.vx_rvg.specs.Holdings.{Holding}
 use Rattle.vx_rvg.specs.Stands.{Stands}
 use Rattle.vx_rvg.specs.Views.{Core, IsSound, unit_of}
 use Rattle.vx_rvg.proofs.WriteSound.{ended_sound}
-use Rattle.vx_grouped.specs.SetFuses.{LetsPass}
+use Rattle.vx_diskset.specs.Fuses.{LetsOn}
 use Rattle.vx_diskset.specs.Stands.{IsUpAt}
 use Rattle.vx_diskset.proofs.Laying.{lies_as}
 use Rattle.vx_diskset.proofs.BesideLemmas.{may_same, site_map}
@@ -65,8 +65,8 @@ alike_stands core m new alike h stands = record {
     on : RingOn core.log stands.log m
     on = stands.ready.ring
 
-pub lets_by : (calls pick : ℕ) (old new : Option Disks) → OnDisks old new (λ o n. SameBlocks o n × (n.fuse ≡ Some (calls, pick))) → (d : Disks) → new ≡ Some d → LetsPass calls new
-lets_by calls pick None None with d is = absurd (cc)
+pub lets_by : (calls pick : ℕ) (old new : Option Disks) → OnDisks old new (λ o n. SameBlocks o n × (n.fuse ≡ Some (calls, pick))) → (d : Disks) → new ≡ Some d → LetsOn calls new
+lets_by calls pick None None with d is = tt
 lets_by calls pick None (Some n) with d is = absurd with
 lets_by calls pick (Some o) None with d is = absurd with
 lets_by calls pick (Some o) (Some n) with d is = (pick, with.0.1)

@@ -25,8 +25,9 @@ use Rattle.vx_secondary.proofs.Writings.{can_parts}
 use Rattle.vx_diskset.specs.declared.receivers.Reached.{Reached}
 use Rattle.vx_diskset.specs.declared.disk_set.DiskSet.{DiskSet}
 use Rattle.vx_diskset.specs.declared.disk_set.DiskSet.TheVariants.{Up, Receives}
-use Rattle.vx_diskset.specs.DiskSets.{CanLog, LoggedUp, halted_at, halted_with, worked, CrashedAt, is_off}
-use Rattle.vx_grouped.specs.SetFuses.{HasFuse}
+use Rattle.vx_diskset.specs.Shelves.{LoggedAs}
+use Rattle.vx_diskset.specs.DiskSets.{CanLog, halted_at, halted_with, worked, CrashedAt, is_off}
+use Rattle.vx_diskset.specs.Fuses.{FuseOn}
 use Rattle.vx_diskset.specs.Holds.{KeptBeside, HasWrites, most_with, state_with}
 use Rattle.vx_diskset.specs.Lasts.{FoundWith}
 use Rattle.vx_diskset.specs.Layouts.{units_of}
@@ -150,7 +151,7 @@ back_halted {beside} n number disk c us m le r = record {
   state = r.state;
   role = r.role;
   up = r.up;
-  fuse = subst (λ (f : Fuse). HasFuse f m) (burned_twice n.fuse) r.fuse;
+  fuse = subst (λ (f : Fuse). FuseOn f m) (burned_twice n.fuse) r.fuse;
   lies = lies_sized (reached n number) n.base.size m (λ v. sym (folded_size n.base (drop n.safe (take number n.log)) v)) r.lies;
   low = r.low;
   units = r.units;
@@ -179,13 +180,13 @@ back_halted {beside} n number disk c us m le r = record {
 
 -- ---- the oldest of what waits is logged
 
-fuse_less : (k : ℕ) (f : Fuse) (m : Meaning) → HasFuse (spent k f) m → HasFuse (burned f) m
+fuse_less : (k : ℕ) (f : Fuse) (m : Meaning) → FuseOn (spent k f) m → FuseOn (burned f) m
 fuse_less k NoFuse m has = has
 fuse_less k (FuseSet calls) m has = tt
 fuse_less k (FuseLit most) m has = tt
 
 -- a site that is up, with a like content and a fuse of which less is known
-up_like : {beside : KeptBeside} (n : Node) (b : Content) (f : Fuse) (c : Core) (m : Meaning) → n.base ≡ b → HasFuse f m → IsUpAt beside n c m → IsUpAt beside (record n { base = b; fuse = f }) c m
+up_like : {beside : KeptBeside} (n : Node) (b : Content) (f : Fuse) (c : Core) (m : Meaning) → n.base ≡ b → FuseOn f m → IsUpAt beside n c m → IsUpAt beside (record n { base = b; fuse = f }) c m
 up_like {beside} n b f c m eb fuse up = subst (λ (x : Content). IsUpAt beside (record n { base = x; fuse = f }) c m) eb (record {
   state = up.state;
   up = up.up;
@@ -320,15 +321,15 @@ module _ {beside : KeptBeside} (n : Node) (c : Core) (us rest : List Update) (u 
     may = held.may;
   }
 
-  module _ {R : Type 0} {g : Ghosts R} (old new : Rvg R g) where
-    pub next_failed : (why : No) → NeverLimit (let result : Result ℕ No = Err why in result) → LoggedUp beside (durable_of n) x (Up old) (Up new) (Err why) → LoggedTo beside n 1 us new.core (g.meaning old.shelf) (g.meaning new.shelf) (Err why)
-    next_failed (Device disk) never h = (halted_receiver disk new.core (g.meaning new.shelf) h.0, h.1)
+  module _ (c' : Core) (new : Meaning) where
+    pub next_failed : (why : No) → NeverLimit (let result : Result ℕ No = Err why in result) → LoggedAs beside (durable_of n) x m c' new (Err why) → LoggedTo beside n 1 us c' m new (Err why)
+    next_failed (Device disk) never h = (halted_receiver disk c' new h.0, h.1)
     next_failed (Limit what most) never h = absurd never
-    next_failed IsOff never h = (h.0, held_next (g.meaning new.shelf) h.1)
+    next_failed IsOff never h = (h.0, held_next new h.1)
     next_failed other never h = h
 
-    pub next_done : (number : ℕ) → LoggedUp beside (durable_of n) x (Up old) (Up new) (Ok number) → IsReceiverAt beside (reached n (n.safe + 1)) new.core rest (g.meaning new.shelf)
-    next_done number h = next_receiver new.core (g.meaning new.shelf) h.2
+    pub next_done : (number : ℕ) → LoggedAs beside (durable_of n) x m c' new (Ok number) → IsReceiverAt beside (reached n (n.safe + 1)) c' rest new
+    next_done number h = next_receiver c' new h.2
 
 -- ---- several of them
 

@@ -28,10 +28,11 @@ use Rattle.vx_rvg.proofs.ReadStands.{rest_stands}
 use Rattle.vx_secondary.specs.Receivers.{Wait, writes_of_updates}
 use Rattle.vx_secondary.proofs.Writings.{can_same}
 use Rattle.vx_diskset.proofs.MakeGroup.{fuse_untouched}
-use Rattle.vx_diskset.proofs.ReadGroup.{ReadAs, read_as, reads_up}
+use Rattle.vx_diskset.specs.Shelves.{ReadAs}
+use Rattle.vx_diskset.proofs.ReadGroup.{read_as, reads_up}
 use Rattle.vx_events.specs.Sayings.{received_content}
 use Rattle.vx_diskset.specs.Received.{ShowedAt}
-use Rattle.vx_grouped.specs.SetFuses.{HasFuse}
+use Rattle.vx_diskset.specs.Fuses.{FuseOn}
 use Rattle.vx_diskset.specs.Holds.{KeptBeside, HasDoubted, HasWrites, KeptSite, MayBe, site_alone, most_with, state_with}
 use Rattle.vx_diskset.specs.Lasts.{FoundWith, StandsHolding}
 use Rattle.vx_diskset.specs.Layouts.{units_of}
@@ -209,7 +210,7 @@ held_receiver {beside} doubt k log m front most same may held = record {
 pub receiver_held : {beside : KeptBeside} (n : Node) (c : Core) (us : List Update) (m : Meaning) → IsReceiverAt beside n c us m → IsHeldAt beside n m
 receiver_held n c us m r = record { lies = r.lies; low = r.low; logged = omega (arith, r.least, r.most); begun = r.begun; left = r.left; may = r.may }
 
-pub receiver_still : {beside : KeptBeside} (n : Node) (c : Core) (us : List Update) (m new : Meaning) → Goes Nothing m new → ((i : Image) → new.now i → m.now i) → new.down ≡ m.down → HasFuse n.fuse new
+pub receiver_still : {beside : KeptBeside} (n : Node) (c : Core) (us : List Update) (m new : Meaning) → Goes Nothing m new → ((i : Image) → new.now i → m.now i) → new.down ≡ m.down → FuseOn n.fuse new
     → IsReceiverAt beside n c us m → IsReceiverAt beside n c us new
 receiver_still n c us m new goes now down fuse r =
     let still : IsFalse new.down = down ∙ r.up in
@@ -380,12 +381,12 @@ module _ {R : Type 0} {g : Ghosts R} where
 module _ {R : Type 0} {g : Ghosts R} where
   module _ (beside : KeptBeside) (n : Node) (s new : Secondary R g) (volume start count : ℕ) (bytes : List ℕ) (r : IsReceiverAt beside n s.rvg.core s.waiting (g.meaning s.rvg.shelf)) (can : CanRead n volume start count)
       (lawful : Lawful (g.meaning s.rvg.shelf)) (after : Lawful (g.meaning new.rvg.shelf)) (same : new.rvg.core ≡ s.rvg.core) (waiting : new.waiting ≡ s.waiting) (goes : Goes Nothing (g.meaning s.rvg.shelf) (g.meaning new.rvg.shelf))
-      (down : (g.meaning new.rvg.shelf).down ≡ (g.meaning s.rvg.shelf).down) (disks : OnDisks (g.meaning s.rvg.shelf).disks (g.meaning new.rvg.shelf).disks Untouched) (rack : IsRack (g.meaning s.rvg.shelf)) (rack' : IsRack (g.meaning new.rvg.shelf)) where
+      (down : (g.meaning new.rvg.shelf).down ≡ (g.meaning s.rvg.shelf).down) (disks : OnDisks (g.meaning s.rvg.shelf).disks (g.meaning new.rvg.shelf).disks Untouched) where
     up : IsUpAt beside (durable_of n) s.rvg.core (g.meaning s.rvg.shelf)
     up = receiver_up n s.rvg.core s.waiting (g.meaning s.rvg.shelf) r can.running lawful s.rvg.sound.log_unit
 
-    fuse : HasFuse n.fuse (g.meaning new.rvg.shelf)
-    fuse = fuse_untouched n.fuse (g.meaning s.rvg.shelf) (g.meaning new.rvg.shelf) disks rack rack' r.fuse
+    fuse : FuseOn n.fuse (g.meaning new.rvg.shelf)
+    fuse = fuse_untouched n.fuse (g.meaning s.rvg.shelf) (g.meaning new.rvg.shelf) disks goes.unarmed r.fuse
 
     waits : writes_of_updates s.waiting ≡ drop n.safe n.log
     waits = r.waits ∙ ap (λ (k : ℕ). drop k n.log) (r.head can.running)

@@ -41,7 +41,7 @@ use Rattle.vx_diskset.specs.Holds.{HasWrites, state_with}
 use Rattle.vx_diskset.specs.Layouts.{LiesOn, raw_units, units_of}
 use Rattle.vx_diskset.proofs.Laying.{lies_as, maps_fit, sizes_of}
 use Rattle.vx_diskset.specs.Holds.{most_header}
-use Rattle.vx_grouped.specs.SetFuses.{HasFuse}
+use Rattle.vx_diskset.specs.Fuses.{FuseOn}
 use Rattle.vx_diskset.specs.Stands.{IsUpAt, IsDownAt, SiteStands, faults_at}
 use Rattle.vx_diskset.specs.Lasts.{FoundWith, HasLast, LeftWith, StandsHolding}
 use Rattle.vx_diskset.proofs.CrashGroup.{one_value, found_left_with, left_with}
@@ -170,7 +170,7 @@ module _ {beside : KeptBeside} (n : Node) (m up : Meaning) (is : IsDownAt beside
       state = refl;
       up = not_true new.down still_up;
       lies = lies_as n m new (moves.units ∙ alike.contents.units) (λ u. moves.size u ∙ alike.contents.size u) is.lies;
-      fuse = subst (λ (f : Fuse). HasFuse f new) (sym is.unfused) (moves.unarmed unarmed);
+      fuse = subst (λ (f : Fuse). FuseOn f new) (sym is.unfused) (moves.unarmed unarmed);
       units = started.units_are;
       ring = started.ring_is ∙ ring_here;
       low = is.low;

@@ -1,5 +1,5 @@
 -- What calls on a replicated volume group make of the shelf below it, whatever shelf that is.
-use Rattle.std.specs.Prelude.{◌≡◌, ℕ, ◌+◌, ◌<◌, ◌≤◌, true, List, IsSome, IsTrue, Option, Result, Ok, Err}
+use Rattle.std.specs.Prelude.{◌≡◌, ℕ, ◌+◌, ◌<◌, ◌≤◌, true, List, IsSome, IsTrue, Option, None, Result, Ok, Err}
 use Rattle.vx_disk.specs.Causes.{OnDisks}
 use Rattle.vx_disk.specs.Counts.{Rose}
 use Rattle.vx_disk.specs.Disks.{Disks, Untouched}
@@ -26,6 +26,10 @@ use Rattle.vx_diskset.specs.Holds.{KeptBeside, most_header, sure_of}
 use Rattle.vx_diskset.specs.Keeps.{doubting, kept_anew, restated}
 use Rattle.vx_diskset.specs.Stands.{IsHeldAt, IsUpAt}
 
+-- below a site that is not over a group it is a rack
+abbrev pub IsRackOf : Node → Meaning → Type 0
+IsRackOf n m = n.group ≡ None → IsSome m.disks
+
 -- no count of a disk falls, and contents that are told now were told before
 pub record LaterOn (old new : Meaning) : Type 0 where
   pub counts : (d : ℕ) → old.disk_faults d ≤ new.disk_faults d
@@ -48,22 +52,22 @@ BlamesRack disks units other = Unit {0}
 
 -- what a write answers of a site of any role
 abbrev pub LoggedAs : KeptBeside → Node → Write → Meaning → Core → Meaning → Result ℕ No → Type 0
-LoggedAs beside n x m c' new (Ok number) = (number ≡ n.safe + 1) × (n.safe < most_number) × IsUpAt beside (logged n x) c' new × (is_origin n.role ≡ true → (calls : ℕ) → IsTrue new.tells → IsExact n x calls → 4 ≤ calls)
+LoggedAs beside n x m c' new (Ok number) = (number ≡ n.safe + 1) × (n.safe < most_number) × IsUpAt beside (logged n x) c' new × (is_origin n.role ≡ true → (calls : ℕ) → IsTrue new.tells → IsRackOf n new → IsExact n x calls → 4 ≤ calls)
 LoggedAs beside n x m c' new (Err (Device disk)) = IsUpAt beside (halted_with n x disk) c' new × Rose (m.disk_faults disk) (new.disk_faults disk) × (n.safe < most_number)
 LoggedAs beside n x m c' new (Err (Limit what most)) = (Limit what most ≡ no_number) × (IsTrue new.tells → most_number ≤ most_header beside n) × IsUpAt beside (worked n) c' new
-LoggedAs beside n x m c' new (Err IsDown) = IsFused n.fuse × IsHeldAt beside (half_begun n x) new × (is_origin n.role ≡ true → (calls : ℕ) → IsTrue new.tells → IsExact n x calls → calls < 4) × (n.safe < most_number)
+LoggedAs beside n x m c' new (Err IsDown) = IsFused n.fuse × IsHeldAt beside (half_begun n x) new × (is_origin n.role ≡ true → (calls : ℕ) → IsTrue new.tells → IsRackOf n new → IsExact n x calls → calls < 4) × (n.safe < most_number)
 LoggedAs beside n x m c' new (Err other) = ⊥
 
 -- what a read answers: the blocks, which are those of the content where it is told, or a failing disk
-abbrev pub ReadAs : KeptBeside → Node → ℕ → ℕ → ℕ → List ℕ → Meaning → Core → Meaning → Result (Unit {0}) No → Type 0
-ReadAs beside n volume start count bytes m c' new (Ok done) = (IsTrue new.tells → ShowsContent n.base volume start count bytes) × IsUpAt beside n c' new
-ReadAs beside n volume start count bytes m c' new (Err (Device disk)) = IsUpAt beside n c' new × Rose (m.disk_faults disk) (new.disk_faults disk)
-ReadAs beside n volume start count bytes m c' new (Err other) = ⊥
+abbrev pub ReadAs : KeptBeside → Node → ℕ → ℕ → ℕ → List ℕ → Core → Meaning → Meaning → Result (Unit {0}) No → Type 0
+ReadAs beside n volume start count bytes c' m new (Ok done) = (IsTrue new.tells → ShowsContent n.base volume start count bytes) × IsUpAt beside n c' new
+ReadAs beside n volume start count bytes c' m new (Err (Device disk)) = IsUpAt beside n c' new × Rose (m.disk_faults disk) (new.disk_faults disk)
+ReadAs beside n volume start count bytes c' m new (Err other) = ⊥
 
 -- what a header with another state answers
 abbrev pub KeptAs : KeptBeside → Node → State → Meaning → Core → Meaning → Result (Unit {0}) No → Type 0
 KeptAs beside n s m c' new (Ok done) = IsUpAt (sure_of (kept_anew beside n s)) (worked (restated n s)) c' new
-KeptAs beside n s m c' new (Err (Device disk)) = IsUpAt (doubting beside n s disk) (halted_at n disk) c' new × Rose (m.disk_faults disk) (new.disk_faults disk) × IsLogDisk n disk
+KeptAs beside n s m c' new (Err (Device disk)) = IsUpAt (doubting beside n s disk) (halted_at n disk) c' new × Rose (m.disk_faults disk) (new.disk_faults disk) × (IsRackOf n m → IsLogDisk n disk)
 KeptAs beside n s m c' new (Err (Limit what most)) = (Limit what most ≡ no_number) × (IsTrue new.tells → most_number ≤ most_header beside n) × IsUpAt beside n c' new
 KeptAs beside n s m c' new (Err IsDown) = IsFused n.fuse × IsHeldAt (doubting beside n s 0) (halted_at n 0) new
 KeptAs beside n s m c' new (Err other) = ⊥

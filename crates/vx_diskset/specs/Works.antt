@@ -18,7 +18,7 @@ use Rattle.vx_rvg.specs.Stands.{HoldsContent, LeftGroup, Stands}
 use Rattle.vx_rvg.specs.Starts.{IsStarted, ring_in}
 use Rattle.vx_rvg.specs.Views.{Core, IsSound, UnitsPlaced}
 use Rattle.vx_secondary.specs.Receivers.{Wait}
-use Rattle.vx_ground.specs.Rewrites.{Rewritten, WasLeft}
+use Rattle.vx_ground.specs.Rewrites.{OneLeft}
 use Rattle.vx_diskset.specs.Burning.{OffIf}
 use Rattle.vx_diskset.specs.DiskSets.{CanLog, CanRead}
 use Rattle.vx_diskset.specs.Holds.{KeptBeside}
@@ -73,7 +73,7 @@ pub record AsksRead (c : Core) (volume count : ℕ) (m : Meaning) : Type 0 where
 pub record DoesRead (c : Core) (volume start : ℕ) (count : ℕ) (m : Meaning) (c' : Core) (room : List ℕ) (m' : Meaning) (r : Result (Unit {0}) No) : Type 0 where
   pub keeps : KeepsSound c c' m m'
   pub same : c' ≡ c
-  pub read : (beside : KeptBeside) (n : Node) → IsUpAt beside n c m → CanRead n volume start (blocks_in (take count room)) → ReadAs beside n volume start (blocks_in (take count room)) (take count room) m c' m' r
+  pub read : (beside : KeptBeside) (n : Node) → IsUpAt beside n c m → CanRead n volume start (blocks_in (take count room)) → ReadAs beside n volume start (blocks_in (take count room)) (take count room) c' m m' r
   pub down : m'.down ≡ m.down
 
 -- ---- an apply
@@ -129,16 +129,11 @@ DoesStart units m m' (Err why) = OnlyLog units m m'
 
 -- ---- volumes that are written as they read
 
--- a value of a block of one of these units that a crash might leave
-pub record WasOn (volumes : List ℕ) (m : Meaning) (u b : ℕ) (x : List ℕ) : Type 0 where
-  pub among : Contains volumes u
-  pub left : m.leaves u b x
-
 -- Whatever is answered, each block has a value that it might have; done, each block of these units has one.
 pub record DoesRewrite (volumes : List ℕ) (m m' : Meaning) (r : Result (Unit {0}) ShelfError) : Type 0 where
   pub later : LaterOn m m'
   pub many : m'.units ≡ m.units
   pub sizes : (u : ℕ) → m'.size u ≡ m.size u
   pub leaves : (u b : ℕ) (x : List ℕ) → m'.leaves u b x → m.leaves u b x
-  pub one : OnOk r ((u b : ℕ) (x y : List ℕ) → Contains volumes u → m'.leaves u b x → m'.leaves u b y → x ≡ y)
+  pub one : OnOk r ((u : ℕ) → Contains volumes u → OneLeft u m')
   pub cause : IfErr r (λ e. DeviceCause m m' (refusal_of e))

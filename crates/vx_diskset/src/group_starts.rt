@@ -197,10 +197,7 @@ fn stand_over<R: Rack>(
     let (site, above, _cut) = over.parts();
     let mut site = site;
     match look_kept(&mut site, &cut) {
-        Ok(kept) => (
-            DiskSet::Over(OverSet::of(site, above, None)),
-            Ok(kept),
-        ),
+        Ok(kept) => (DiskSet::Over(OverSet::of(site, above, None)), Ok(kept)),
         Err(no) => (
             DiskSet::Over(OverSet::of(site.crash(u64::MAX), Above::Nothing, cut)),
             Err(Stop::No(no)),

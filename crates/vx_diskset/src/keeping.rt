@@ -14,7 +14,8 @@ ghost use Rattle.vx_diskset.specs.DiskSets.{Later};
 ghost use Rattle.vx_diskset.specs.Holds.{KeptBeside};
 ghost use Rattle.vx_diskset.specs.Keeps.{CanKeep, KeptAt, KeptUp, done_by};
 ghost use Rattle.vx_diskset.specs.Noted.{NotesOn};
-ghost use Rattle.vx_diskset.specs.Stands.{KeepsRole, SiteStands};
+ghost use Rattle.vx_diskset.specs.Shelves.{KeptAs, LaterOn};
+ghost use Rattle.vx_diskset.specs.Stands.{IsUpAt, KeepsRole, SiteStands};
 
 use crate::DiskSet;
 use crate::writing::is_off;

@@ -24,10 +24,10 @@ mod withdrawing;
 mod writing;
 mod zeroing;
 
-pub use disk_set::DiskSet;
-pub use group_set::{CutWrite, GroupSet, KeptWrite};
 pub use above::Above;
+pub use disk_set::DiskSet;
 pub use founded::{Founded, FoundedReceiver};
+pub use group_set::{CutWrite, GroupSet, KeptWrite};
 pub use over_set::{OverSet, OverSite};
 pub use reading::blocks_of;
 pub use receivers::Reached;

@@ -13,12 +13,12 @@ ghost use Rattle.vx_diskset.specs.Stands.{InVolumes, OverStands};
 ghost use Rattle.vx_diskset.specs.declared.disk_set.DiskSet.TheVariants.{Over as OverSites};
 ghost use Rattle.vx_srlfmt.specs.Headers.{CanSpellState};
 
+use crate::above::Above;
 use crate::disk_set::last_in;
 use crate::group_set::CutWrite;
 use crate::over_work::{Applies, Keeps, Reaches, Reads, Shows, Writes};
 use crate::receivers::Reached;
 use crate::room::used_in;
-use crate::above::Above;
 use crate::{OverSet, OverSite};
 use std::mem;
 use vx_config::Config;
@@ -31,7 +31,10 @@ use vx_rvg::RvgCore;
 use vx_secondary::Waiting;
 
 // Works on the volumes of a group that is up.
-fn work_site<R: Rack, W: Work + Drop>(site: GroupSite<R>, work: W) -> (GroupSite<R>, Option<W::Answer>) {
+fn work_site<R: Rack, W: Work + Drop>(
+    site: GroupSite<R>,
+    work: W,
+) -> (GroupSite<R>, Option<W::Answer>) {
     match site {
         GroupSite::Up(laid) => {
             let (laid, answer) = work_over(laid, work);
@@ -48,14 +51,8 @@ fn origin<R: Rack, T>(
     answer: Option<(RvgCore, Result<T, No>)>,
 ) -> (OverSet<R>, Result<T, No>) {
     match answer {
-        Some((core, result)) => (
-            OverSet::of(site, Above::Origin(core), cut),
-            result,
-        ),
-        None => (
-            OverSet::of(site, Above::Nothing, cut),
-            Err(No::Role),
-        ),
+        Some((core, result)) => (OverSet::of(site, Above::Origin(core), cut), result),
+        None => (OverSet::of(site, Above::Nothing, cut), Err(No::Role)),
     }
 }
 
@@ -70,16 +67,19 @@ fn receiver<R: Rack, T>(
             OverSet::of(site, Above::Receiver { core, waiting }, cut),
             result,
         ),
-        None => (
-            OverSet::of(site, Above::Nothing, cut),
-            Err(No::Role),
-        ),
+        None => (OverSet::of(site, Above::Nothing, cut), Err(No::Role)),
     }
 }
 
 impl<R: Rack> OverSet<R> {
     // Writes whole blocks to a data volume.
-    fn written(self, volume: u32, start: u64, bytes: &[u8], hold: u64) -> (OverSet<R>, Result<u64, No>)
+    fn written(
+        self,
+        volume: u32,
+        start: u64,
+        bytes: &[u8],
+        hold: u64,
+    ) -> (OverSet<R>, Result<u64, No>)
         requires some { 0 < length bytes.now }
         requires few { length bytes.now ≤ MOST_CALL_BYTES }
         requires whole { length bytes.now % 512 ≡ 0 }
@@ -90,10 +90,7 @@ impl<R: Rack> OverSet<R> {
         match above {
             Above::Origin(core) => {
                 if volume >= core.volumes() {
-                    return (
-                        OverSet::of(site, Above::Origin(core), cut),
-                        Err(No::Role),
-                    );
+                    return (OverSet::of(site, Above::Origin(core), cut), Err(No::Role));
                 }
                 let work = Writes {
                     core,
@@ -109,14 +106,22 @@ impl<R: Rack> OverSet<R> {
         }
     }
 
-    pub(crate) fn write(&mut self, volume: u32, start: u64, bytes: &[u8], hold: u64) -> Result<u64, No>
+    pub(crate) fn write(
+        &mut self,
+        volume: u32,
+        start: u64,
+        bytes: &[u8],
+        hold: u64,
+    ) -> Result<u64, No>
         requires some { 0 < length bytes.now }
         requires few { length bytes.now ≤ MOST_CALL_BYTES }
         requires whole { length bytes.now % 512 ≡ 0 }
         ensures wrote { (beside : KeptBeside) (n : Node) → OverStands beside n self.old.site → CanLog n volume start (blocks_in bytes.now) → HasRoom beside.links n hold (blocks_in bytes.now) → LoggedUp beside n (record { volume = volume; start = start; bytes = bytes.now }) (OverSites self.old) (OverSites self.new) result }
         ensures called { OverCalled self.old self.new }
     {
-        let (over, answer) = mem::replace(self, OverSet::gone()).written(volume, start, bytes, hold);
+        let (over, answer) = mem::replace(self, OverSet::gone()).written(
+            volume, start, bytes, hold,
+        );
         *self = over;
         answer
     }
@@ -140,16 +145,10 @@ impl<R: Rack> OverSet<R> {
                         OverSet::of(site, Above::Receiver { core, waiting }, cut),
                         result,
                     ),
-                    None => (
-                        OverSet::of(site, Above::Nothing, cut),
-                        Err(No::Role),
-                    ),
+                    None => (OverSet::of(site, Above::Nothing, cut), Err(No::Role)),
                 }
             }
-            Above::Nothing => (
-                OverSet::of(site, Above::Nothing, cut),
-                Err(No::Role),
-            ),
+            Above::Nothing => (OverSet::of(site, Above::Nothing, cut), Err(No::Role)),
         }
     }
 
@@ -182,16 +181,10 @@ impl<R: Rack> OverSet<R> {
                         OverSet::of(site, Above::Receiver { core, waiting }, cut),
                         result,
                     ),
-                    None => (
-                        OverSet::of(site, Above::Nothing, cut),
-                        Err(No::Role),
-                    ),
+                    None => (OverSet::of(site, Above::Nothing, cut), Err(No::Role)),
                 }
             }
-            Above::Nothing => (
-                OverSet::of(site, Above::Nothing, cut),
-                Err(No::Role),
-            ),
+            Above::Nothing => (OverSet::of(site, Above::Nothing, cut), Err(No::Role)),
         }
     }
 
@@ -217,10 +210,7 @@ impl<R: Rack> OverSet<R> {
         match above {
             Above::Origin(core) => {
                 if volume >= core.volumes() {
-                    return (
-                        OverSet::of(site, Above::Origin(core), cut),
-                        Err(No::Role),
-                    );
+                    return (OverSet::of(site, Above::Origin(core), cut), Err(No::Role));
                 }
                 let count = into.len();
                 let work = Reads {
@@ -233,15 +223,9 @@ impl<R: Rack> OverSet<R> {
                 match answer {
                     Some((core, room, result)) => {
                         into.copy_from_slice(&room[..count]);
-                        (
-                            OverSet::of(site, Above::Origin(core), cut),
-                            result,
-                        )
+                        (OverSet::of(site, Above::Origin(core), cut), result)
                     }
-                    None => (
-                        OverSet::of(site, Above::Nothing, cut),
-                        Err(No::Role),
-                    ),
+                    None => (OverSet::of(site, Above::Nothing, cut), Err(No::Role)),
                 }
             }
             above => (OverSet::of(site, above, cut), Err(No::Role)),
@@ -294,10 +278,7 @@ impl<R: Rack> OverSet<R> {
                             result,
                         )
                     }
-                    None => (
-                        OverSet::of(site, Above::Nothing, cut),
-                        Err(No::Role),
-                    ),
+                    None => (OverSet::of(site, Above::Nothing, cut), Err(No::Role)),
                 }
             }
             above => OverSet::of(site, above, cut).was_read(volume, start, into),
@@ -362,10 +343,7 @@ impl<R: Rack> OverSet<R> {
                     }),
                 )
             }
-            Above::Nothing => (
-                OverSet::of(site, Above::Nothing, cut),
-                Err(No::Role),
-            ),
+            Above::Nothing => (OverSet::of(site, Above::Nothing, cut), Err(No::Role)),
         }
     }
 

@@ -43,7 +43,11 @@ fn stays<R: Rack>(laid: Laid<R>) -> GroupSite<R> {
 }
 
 // A group that has no replicated volume group, behind a call that was to make one.
-fn left<R: Rack>(laid: Laid<R>, cut: Option<CutWrite>, stop: Stop) -> (DiskSet<R>, Result<(), Stop>) {
+fn left<R: Rack>(
+    laid: Laid<R>,
+    cut: Option<CutWrite>,
+    stop: Stop,
+) -> (DiskSet<R>, Result<(), Stop>) {
     (
         DiskSet::OfGroup(GroupSet {
             site: stays(laid),
@@ -209,7 +213,12 @@ impl<R: Rack> OverSet<R> {
         answer
     }
 
-    pub(crate) fn make_volume(&mut self, alloc: Global, name: &Name, want: &Shape) -> Result<u32, Stop> {
+    pub(crate) fn make_volume(
+        &mut self,
+        alloc: Global,
+        name: &Name,
+        want: &Shape,
+    ) -> Result<u32, Stop> {
         let (site, above, cut) = mem::replace(self, OverSet::gone()).parts();
         let mut site = site;
         let answer = site.make_volume(alloc, name, want);
@@ -258,7 +267,12 @@ impl<R: Rack> OverSet<R> {
         }
     }
 
-    pub(crate) fn read_plain(&mut self, volume: u32, block: u64, into: &mut [u8]) -> Result<(), No> {
+    pub(crate) fn read_plain(
+        &mut self,
+        volume: u32,
+        block: u64,
+        into: &mut [u8],
+    ) -> Result<(), No> {
         let (site, above, cut) = mem::replace(self, OverSet::gone()).parts();
         let mut site = site;
         let answer = site.read(volume, block, into);

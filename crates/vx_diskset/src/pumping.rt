@@ -14,6 +14,7 @@ ghost use Rattle.vx_diskset.specs.Asked.{LeavesAlone};
 ghost use Rattle.vx_diskset.specs.DiskSets.{Later};
 ghost use Rattle.vx_diskset.specs.Holds.{KeptBeside, beside_of, header_links};
 ghost use Rattle.vx_diskset.specs.Pumps.{PumpStop, PumpedIs};
+ghost use Rattle.vx_diskset.specs.Shelves.{IsRackOf, LaterOn, StillOn};
 ghost use Rattle.vx_peers.specs.Senders.{SendsBy, pump_asks, pumped_at, way_from};
 ghost use Rattle.vx_rvg.specs.Views.{last_of};
 ghost use Rattle.vx_diskset.specs.Stands.{IsToldAt, IsUpAt, KeepsRole, SiteStands, faults_at};
@@ -55,7 +56,7 @@ pub(crate) fn pump_group<S: Shelf, N: Net>(
     ensures pumped { (d : Doubted) (k : ℕ) → IsUpAt (beside_of d site) (d.world.nodes site) rvg.old.core (S.meaning rvg.old.shelf) → (d.world.nodes site).halted ≡ None → IsTrue (S.meaning rvg.old.shelf).tells
         → slice_get (header_links d.world site) k ≡ Some (kept_link link.old.site (d.world.links site link.old.site)) → link.old ≡ plain_link link.old.site (d.world.links site link.old.site) → FlightStands d.world.packets (N.flying flight.old)
         → PumpedIs d.world site link.old.site link.new (N.flying flight.new) (S.meaning rvg.old.shelf).disk_faults (S.meaning rvg.new.shelf).disk_faults result }
-    ensures stops { (beside : KeptBeside) (n : Node) → IsUpAt beside n rvg.old.core (S.meaning rvg.old.shelf) → n.halted ≡ None → IfErr result (PumpStop n (pump_asks link.old n.safe) (S.meaning rvg.old.shelf).disk_faults (S.meaning rvg.new.shelf).disk_faults) }
+    ensures stops { (beside : KeptBeside) (n : Node) → IsUpAt beside n rvg.old.core (S.meaning rvg.old.shelf) → n.halted ≡ None → IsRackOf n (S.meaning rvg.old.shelf) → IfErr result (PumpStop n (pump_asks link.old n.safe) (S.meaning rvg.old.shelf).disk_faults (S.meaning rvg.new.shelf).disk_faults) }
     ensures stands { (beside : KeptBeside) (n : Node) → IsUpAt beside n rvg.old.core (S.meaning rvg.old.shelf) → IsUpAt beside n rvg.new.core (S.meaning rvg.new.shelf) }
     ensures more { (beside : KeptBeside) (n : Node) → IsUpAt beside n rvg.old.core (S.meaning rvg.old.shelf)
         → OnOk result (SendsBy (pump_asks link.old n.safe) (way_from site link.old.site n.line) (N.flying flight.old) (N.flying flight.new)) }

@@ -7,13 +7,14 @@ ghost use Rattle.vx_history.specs.World.{Node};
 ghost use Rattle.vx_ringio.specs.Spends.{Spends};
 ghost use Rattle.vx_secondary.specs.Receivers.{Wait};
 ghost use Rattle.vx_diskset.specs.Asked.{LeavesAlone, LeavesFuse};
-ghost use Rattle.vx_diskset.specs.Blames.{BlamesGroup, BlamesSite};
+ghost use Rattle.vx_diskset.specs.Blames.{BlamesSite};
 ghost use Rattle.vx_diskset.specs.Burning.{NoMore, OffIf};
 ghost use Rattle.vx_diskset.specs.DiskSets.{CanRead, Later};
 ghost use Rattle.vx_diskset.specs.Holds.{KeptBeside};
 ghost use Rattle.vx_diskset.specs.Received.{CanReceive, LoggedTo, ReachedAt, ReachedTo, ReachedUp, ShowedAt, reached_by};
 ghost use Rattle.vx_diskset.specs.Rooms.{HasNumbers, IsMore, logged_count};
 ghost use Rattle.vx_diskset.specs.Noted.{NotesOn};
+ghost use Rattle.vx_diskset.specs.Shelves.{BlamesRack, LaterOn};
 ghost use Rattle.vx_diskset.specs.Stands.{InVolumes, IsReceiverAt, KeepsRole, SiteStands};
 
 use crate::DiskSet;
@@ -77,7 +78,11 @@ fn log_waiting<S: Shelf>(rvg: &mut Rvg<S>, waiting: &mut Waiting, count: u32) ->
 }
 
 // Logs the oldest of what waits behind a group, so many of them, and brings all that is logged into the volumes.
-pub(crate) fn apply_oldest<S: Shelf>(rvg: &mut Rvg<S>, waiting: &mut Waiting, count: u32) -> Result<Reached, No>
+pub(crate) fn apply_oldest<S: Shelf>(
+    rvg: &mut Rvg<S>,
+    waiting: &mut Waiting,
+    count: u32,
+) -> Result<Reached, No>
     requires waits { Wait rvg.old.core (S.meaning rvg.old.shelf).size waiting.old }
     requires some { count ≤ length waiting.old }
     requires numbers { HasNumbers rvg.old.core count }

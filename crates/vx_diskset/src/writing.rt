@@ -13,7 +13,7 @@ ghost use Rattle.vx_model.specs.declared.no.No.TheVariants.{Down as IsOff};
 ghost use Rattle.vx_events.specs.Fuses.{ring_taken};
 ghost use Rattle.vx_srl.specs.Views.{BodyFits, free_of};
 ghost use Rattle.vx_diskset.specs.Asked.{LeavesFuse, WritesUnder};
-ghost use Rattle.vx_diskset.specs.Blames.{BlamesGroup, BlamesSite};
+ghost use Rattle.vx_diskset.specs.Blames.{BlamesSite};
 ghost use Rattle.vx_diskset.specs.Burning.{NoMore, IsLogged, OffIf, said_by};
 ghost use Rattle.vx_diskset.specs.DiskSets.{Later, CanLog, CanWrite, LoggedUp, WroteUp, is_off};
 ghost use Rattle.vx_diskset.specs.Needs.{HasRoom, NoneNeeds};

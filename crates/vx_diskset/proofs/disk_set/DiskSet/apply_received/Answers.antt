@@ -43,4 +43,6 @@ returns-else-not-has_numbers-clause-called g c = λ beside n stands.
     (λ up. reached_called c.apply_oldest.result c.in-Receives.site.rvg c.apply_oldest.new.rvg up (c.apply_oldest.ensures.off up) c.apply_oldest.ensures.spends)
 
 pub returns-else-not-has_numbers-clause-blames : goal.returns-else-not-has_numbers-clause-blames
-returns-else-not-has_numbers-clause-blames g c = λ beside n stands. blamed_receiver c.apply_oldest.result beside n c.args.self.now c.in-Receives.site c.in-Receives.is stands c.apply_oldest.ensures.blames
+returns-else-not-has_numbers-clause-blames g c = λ beside n stands.
+    let is_rack = (g.met.R.Rack g.world.𝓛 g.world.𝓜 g.world.𝓡 ((λ s x. x), (λ x. x), (λ x. x), λ x. x)).rack in
+    blamed_receiver c.apply_oldest.result beside n c.args.self.now c.in-Receives.site c.in-Receives.is stands (is_rack c.in-Receives.site.rvg.shelf) c.apply_oldest.ensures.blames

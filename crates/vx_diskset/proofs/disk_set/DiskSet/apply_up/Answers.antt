@@ -21,8 +21,11 @@ returns-in-Receives-clause-applied g c = λ beside n stands can apart.
     (c.apply_group-in-Receives.ensures.applied beside (durable_of n) (receiver_as beside n c.args.self.now c.in-Receives.site c.in-Receives.is stands can.running (lawful c.in-Receives.site.rvg.shelf)) can.running)
 
 pub returns-in-Up-clause-blames : goal.returns-in-Up-clause-blames
-returns-in-Up-clause-blames g c = λ beside n stands. blamed_up c.apply_group.result beside n c.args.self.now c.in-Up.rvg c.in-Up.is stands c.apply_group.ensures.blames
+returns-in-Up-clause-blames g c = λ beside n stands.
+    let is_rack = (g.met.R.Rack g.world.𝓛 g.world.𝓜 g.world.𝓡 ((λ s x. x), (λ x. x), (λ x. x), λ x. x)).rack in
+    blamed_up c.apply_group.result beside n c.args.self.now c.in-Up.rvg c.in-Up.is stands (is_rack c.in-Up.rvg.shelf) c.apply_group.ensures.blames
 
 pub returns-in-Receives-clause-blames : goal.returns-in-Receives-clause-blames
 returns-in-Receives-clause-blames g c = λ beside n stands.
-    blamed_receiver c.apply_group-in-Receives.result beside n c.args.self.now c.in-Receives.site c.in-Receives.is stands c.apply_group-in-Receives.ensures.blames
+    let is_rack = (g.met.R.Rack g.world.𝓛 g.world.𝓜 g.world.𝓡 ((λ s x. x), (λ x. x), (λ x. x), λ x. x)).rack in
+    blamed_receiver c.apply_group-in-Receives.result beside n c.args.self.now c.in-Receives.site c.in-Receives.is stands (is_rack c.in-Receives.site.rvg.shelf) c.apply_group-in-Receives.ensures.blames

@@ -1,10 +1,12 @@
 -- `keep_up`: clauses called, headed and kept.
 use Rattle.vx_diskset.specs.Burning.{NoMore}
-use Rattle.vx_diskset.specs.Keeps.{done_by}
+use Rattle.vx_diskset.specs.Keeps.{KeptUp, done_by}
 use Rattle.vx_diskset.specs.declared.disk_set.DiskSet.TheVariants.{Up}
 use Rattle.vx_diskset.proofs.CallsBurn.{called_up, done_called}
 use Rattle.vx_diskset.proofs.HeadCalls.{head_called, head_received, head_up, log_place}
-use Rattle.std.proofs.Common.{refl}
+use Rattle.std.proofs.Common.{refl, subst, sym}
+use Rattle.vx_diskset.specs.Stands.{SiteStands}
+use Rattle.vx_diskset.proofs.KeepGroup.{kept_at}
 use Rattle.vx_diskset.proofs.Receiving.{durable_of, kept_received, receiver_as}
 use Rattle.vx_diskset.proofs.disk_set.DiskSet.keep_up.Goals as goal
 
@@ -28,8 +30,16 @@ returns-in-Receives-clause-headed g c = λ beside n stands.
 
 pub returns-in-Receives-clause-kept : goal.returns-in-Receives-clause-kept
 returns-in-Receives-clause-kept g c = λ beside n stands can.
+    let is_rack = (g.met.R.Rack g.world.𝓛 g.world.𝓜 g.world.𝓡 ((λ s x. x), (λ x. x), (λ x. x), λ x. x)).rack in
     let lawful = (g.met.R.Shelf g.world.𝓛 g.world.𝓜 g.world.𝓡 ((λ s x. x), (λ x. x), (λ x. x), λ x. x)).lawful in
     kept_received beside n c.args.self.now c.in-Receives.site
     (record { rvg = c.keep_group-in-Receives.new.rvg; waiting = c.in-Receives.site.waiting; waits = c.keep_group-in-Receives.ensures.waiting c.in-Receives.site.waiting c.in-Receives.site.waits }) c.in-Receives.is stands can.running refl c.args.state.now can.role c.keep_group-in-Receives.result
+    (kept_at beside (durable_of n) c.args.state.now c.in-Receives.site.rvg c.keep_group-in-Receives.new.rvg c.keep_group-in-Receives.result (is_rack c.in-Receives.site.rvg.shelf)
     (c.keep_group-in-Receives.ensures.kept beside (durable_of n) (receiver_as beside n c.args.self.now c.in-Receives.site c.in-Receives.is stands can.running (lawful c.in-Receives.site.rvg.shelf))
-    (record { up = can.up; running = can.running; apart = can.apart; line = can.line; role = can.role; needs = can.needs }))
+    (record { up = can.up; running = can.running; apart = can.apart; line = can.line; role = can.role; needs = can.needs })))
+
+pub returns-in-Up-clause-kept : goal.returns-in-Up-clause-kept
+returns-in-Up-clause-kept g c = λ beside n stands can.
+    let is_rack = (g.met.R.Rack g.world.𝓛 g.world.𝓜 g.world.𝓡 ((λ s x. x), (λ x. x), (λ x. x), λ x. x)).rack in
+    subst (λ e. KeptUp beside n c.args.state.now e (Up c.keep_group.new.rvg) c.keep_group.result) (sym c.in-Up.is)
+    (kept_at beside n c.args.state.now c.in-Up.rvg c.keep_group.new.rvg c.keep_group.result (is_rack c.in-Up.rvg.shelf) (c.keep_group.ensures.kept beside n (subst (λ e. SiteStands beside n e) c.in-Up.is stands) can))

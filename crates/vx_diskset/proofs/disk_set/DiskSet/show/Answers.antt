@@ -7,10 +7,9 @@ use Rattle.vx_diskset.proofs.disk_set.DiskSet.show.Goals as goal
 pub returns-then-volume-volumes-clause-shows : goal.returns-then-volume-volumes-clause-shows
 returns-then-volume-volumes-clause-shows g c = λ beside n stands can.
     let lawful = (g.met.R.Shelf g.world.𝓛 g.world.𝓜 g.world.𝓡 ((λ s x. x), (λ x. x), (λ x. x), λ x. x)).lawful in
-    let is_rack = (g.met.R.Rack g.world.𝓛 g.world.𝓜 g.world.𝓡 ((λ s x. x), (λ x. x), (λ x. x), λ x. x)).rack in
     showed_at beside n c.args.self.now (Receives c.show.new.self) c.in-Receives.site c.args.volume c.args.start (blocks_in c.args.into.now) c.show.new.into c.show.result c.in-Receives.is
     (λ r. showed beside n c.in-Receives.site c.show.new.self c.args.volume c.args.start (blocks_in c.args.into.now) c.show.new.into r can (lawful c.in-Receives.site.rvg.shelf) (lawful c.show.new.self.rvg.shelf) c.show.ensures.core c.show.ensures.waiting
-    c.show.ensures.goes c.show.ensures.down c.show.ensures.disks (is_rack c.in-Receives.site.rvg.shelf) (is_rack c.show.new.self.rvg.shelf) c.show.result c.show.ensures.answers c.show.ensures.gives)
+    c.show.ensures.goes c.show.ensures.down c.show.ensures.disks c.show.result c.show.ensures.answers c.show.ensures.gives)
     stands
 
 pub returns-in-Up-clause-shows : goal.returns-in-Up-clause-shows

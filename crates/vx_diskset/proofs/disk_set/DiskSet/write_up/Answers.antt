@@ -8,13 +8,13 @@ use Rattle.vx_diskset.specs.declared.disk_set.DiskSet.TheVariants.{Up}
 use Rattle.vx_diskset.specs.DiskSets.{LoggedUp}
 use Rattle.vx_diskset.specs.Stands.{SiteStands}
 use Rattle.vx_diskset.proofs.Blamed.{blamed_up}
-use Rattle.vx_diskset.proofs.WriteGroup.{logged_wrote}
-use Rattle.vx_diskset.proofs.CallsBurn.{called_still, called_up, cuts_none, cuts_up}
+use Rattle.vx_diskset.proofs.WriteGroup.{logged_at, logged_wrote}
+use Rattle.vx_diskset.proofs.CallsBurn.{burns_up, called_still, called_up, cuts_none, cuts_up}
 use Rattle.vx_diskset.proofs.disk_set.DiskSet.write_up.Goals as goal
 
 pub returns-then-volume-volumes-clause-called : goal.returns-then-volume-volumes-clause-called
 returns-then-volume-volumes-clause-called g c = λ beside n stands. record {
-  burns = called_up IsLogged (said_by c.write_group.result) beside n c.args.self.now (Up c.write_group.new.rvg) c.in-Up.rvg c.in-Up.is stands (λ up. c.write_group.ensures.called beside n up);
+  burns = called_up IsLogged (said_by c.write_group.result) beside n c.args.self.now (Up c.write_group.new.rvg) c.in-Up.rvg c.in-Up.is stands (λ up. burns_up IsLogged (said_by c.write_group.result) c.in-Up.rvg c.write_group.new.rvg (c.write_group.ensures.called beside n up));
   cuts = cuts_up beside n c.args.self.now c.in-Up.rvg c.args.bytes.now c.write_group.result c.in-Up.is stands c.write_group.ensures.cuts;
 }
 
@@ -26,11 +26,15 @@ returns-else-volume-volumes-clause-called g c = λ beside n stands. record {
 
 pub returns-then-volume-volumes-clause-wrote : goal.returns-then-volume-volumes-clause-wrote
 returns-then-volume-volumes-clause-wrote g c = λ beside n stands can has.
+    let is_rack = (g.met.R.Rack g.world.𝓛 g.world.𝓜 g.world.𝓡 ((λ s x. x), (λ x. x), (λ x. x), λ x. x)).rack in
     let x = (let w : Write = record { volume = c.args.volume; start = c.args.start; bytes = c.args.bytes.now } in w) in
     logged_wrote beside n x c.args.self.now (Up c.write_group.new.rvg) c.write_group.result can.origin
     (subst (λ e. LoggedUp beside n x e (Up c.write_group.new.rvg) c.write_group.result) (sym c.in-Up.is)
+    (logged_at beside n x c.in-Up.rvg c.write_group.new.rvg c.write_group.result (is_rack c.write_group.new.rvg.shelf)
     (c.write_group.ensures.wrote beside n (subst (λ e. SiteStands beside n e) c.in-Up.is stands)
-    (record { up = can.up; running = can.running; volume_exists = can.volume_exists; fits = can.fits; within = can.within }) has))
+    (record { up = can.up; running = can.running; volume_exists = can.volume_exists; fits = can.fits; within = can.within }) has)))
 
 pub returns-then-volume-volumes-clause-blames : goal.returns-then-volume-volumes-clause-blames
-returns-then-volume-volumes-clause-blames g c = λ beside n stands. blamed_up c.write_group.result beside n c.args.self.now c.in-Up.rvg c.in-Up.is stands c.write_group.ensures.blames
+returns-then-volume-volumes-clause-blames g c = λ beside n stands.
+    let is_rack = (g.met.R.Rack g.world.𝓛 g.world.𝓜 g.world.𝓡 ((λ s x. x), (λ x. x), (λ x. x), λ x. x)).rack in
+    blamed_up c.write_group.result beside n c.args.self.now c.in-Up.rvg c.in-Up.is stands (is_rack c.in-Up.rvg.shelf) c.write_group.ensures.blames
