@@ -3,6 +3,8 @@ pub mod ApplyGroup
 pub mod Asking
 pub mod BesideLemmas
 pub mod Blamed
+pub mod RvgMoves
+pub mod OverWorks
 pub mod CallsBurn
 pub mod CrashGroup
 pub mod ExactWrite

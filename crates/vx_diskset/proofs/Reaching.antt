@@ -25,7 +25,8 @@ use Rattle.vx_secondary.proofs.Writings.{can_parts}
 use Rattle.vx_diskset.specs.declared.receivers.Reached.{Reached}
 use Rattle.vx_diskset.specs.declared.disk_set.DiskSet.{DiskSet}
 use Rattle.vx_diskset.specs.declared.disk_set.DiskSet.TheVariants.{Up, Receives}
-use Rattle.vx_diskset.specs.Shelves.{LoggedAs}
+use Rattle.vx_diskset.specs.Shelves.{LoggedAs, MovesOn}
+use Rattle.vx_diskset.proofs.RvgMoves.{no_moves, then_moves}
 use Rattle.vx_diskset.specs.DiskSets.{CanLog, halted_at, halted_with, worked, CrashedAt, is_off}
 use Rattle.vx_diskset.specs.Fuses.{FuseOn}
 use Rattle.vx_diskset.specs.Holds.{KeptBeside, HasWrites, most_with, state_with}
@@ -350,6 +351,7 @@ pub record LoggedSo (us : List Update) (k : ℕ) (c d : Core) (m mid : Meaning) 
   pub up : IsFalse m.down → IsFalse mid.down
   pub counts : (disk : ℕ) → m.disk_faults disk ≤ mid.disk_faults disk
   pub told : IsTrue mid.tells → IsTrue m.tells
+  pub moves : MovesOn c m mid
 
 pub logged_none : (us : List Update) (c : Core) (m : Meaning) → LoggedSo us 0 c c m m us
 logged_none us c m = record {
@@ -361,6 +363,7 @@ logged_none us c m = record {
   up = λ up. up;
   counts = λ disk. omega arith;
   told = λ told. told;
+  moves = no_moves c m;
 }
 
 module _ (us : List Update) (k : ℕ) (c d e : Core) (m mid new : Meaning) (left : List Update) (at : LoggedSo us k c d m mid left) where
@@ -374,9 +377,9 @@ module _ (us : List Update) (k : ℕ) (c d e : Core) (m mid new : Meaning) (left
   numbers_left count low has = record { stamps = omega (arith, at.stamp, low, has.stamps); numbers = omega (arith, at.more.last, low, has.numbers) }
 
   pub logged_more : (after : List Update) → ((beside : KeptBeside) (n : Node) → IsReceiverAt beside n d left mid → CanReceive beside n → IsReceiverAt beside (reached n (n.safe + 1)) e after new)
-      → after ≡ drop 1 left → IsMore 1 d e → e.log.header.stamp ≤ d.log.header.stamp + 1 → Spends mid new → (IsFalse mid.down → IsFalse new.down) → ((disk : ℕ) → mid.disk_faults disk ≤ new.disk_faults disk) → (IsTrue new.tells → IsTrue mid.tells)
+      → after ≡ drop 1 left → IsMore 1 d e → e.log.header.stamp ≤ d.log.header.stamp + 1 → Spends mid new → (IsFalse mid.down → IsFalse new.down) → ((disk : ℕ) → mid.disk_faults disk ≤ new.disk_faults disk) → (IsTrue new.tells → IsTrue mid.tells) → MovesOn d mid new
       → LoggedSo us (k + 1) c e m new after
-  logged_more after next left_is more stamp spends up counts told = record {
+  logged_more after next left_is more stamp spends up counts told moves = record {
     each = λ beside n r can.
         let here = at.each beside n r can in
         let there = next beside (reached n (n.safe + k)) here (next_can n (n.safe + k) can) in
@@ -389,6 +392,7 @@ module _ (us : List Update) (k : ℕ) (c d e : Core) (m mid new : Meaning) (left
     up = λ here. up (at.up here);
     counts = λ disk. let one = at.counts disk in let two = counts disk in omega (arith, one, two);
     told = λ here. at.told (told here);
+    moves = then_moves c d m mid new at.more.units at.moves moves;
   }
 
   -- what a later call answers of the site

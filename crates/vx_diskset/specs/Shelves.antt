@@ -3,6 +3,7 @@ use Rattle.std.specs.Prelude.{◌≡◌, ℕ, ◌+◌, ◌<◌, ◌≤◌, true,
 use Rattle.vx_disk.specs.Causes.{OnDisks}
 use Rattle.vx_disk.specs.Counts.{Rose}
 use Rattle.vx_disk.specs.Disks.{Disks, Untouched}
+use Rattle.vx_disk.specs.Moves.{Anything, Blocks, Moves}
 use Rattle.vx_disk.specs.Shelf.{Meaning}
 use Rattle.vx_events.specs.Fails.{IsLogDisk}
 use Rattle.vx_events.specs.Fuses.{IsExact}
@@ -34,6 +35,14 @@ IsRackOf n m = n.group ≡ None → IsSome m.disks
 pub record LaterOn (old new : Meaning) : Type 0 where
   pub counts : (d : ℕ) → old.disk_faults d ≤ new.disk_faults d
   pub told : IsTrue new.tells → IsTrue old.tells
+
+-- the blocks of the log and of the data volumes
+abbrev pub OfRvg : Units → Blocks
+OfRvg units u b = IsGroupDisk units u
+
+-- Whatever is answered, no other block changed.
+abbrev pub MovesOn : Core → Meaning → Meaning → Type 0
+MovesOn c old new = Moves (OfRvg c.units) Anything old new
 
 -- no block, no fuse and no disk that is made to fail changed
 pub record StillOn (old new : Meaning) : Type 0 where

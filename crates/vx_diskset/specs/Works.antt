@@ -1,7 +1,8 @@
 -- What each call on a replicated volume group makes of it and of the shelf below, whatever shelf that is.
 use Rattle.std.specs.Prelude.{◌≡◌, ◌⊎◌, ℕ, ◌+◌, ◌*◌, ◌%◌, ◌<◌, ◌≤◌, List, length, drop, take, Contains, None, Result, Ok, Err, IfErr, IfOk, OnOk, IsFalse, IsTrue}
 use Rattle.vx_disk.specs.Causes.{DeviceCause, refusal_of}
-use Rattle.vx_disk.specs.Shelf.{Meaning}
+use Rattle.vx_disk.specs.Moves.{Anything, Blocks, Moves}
+use Rattle.vx_disk.specs.Shelf.{Goes, Meaning}
 use Rattle.vx_disk.specs.declared.shelf.ShelfError.{ShelfError}
 use Rattle.vx_history.specs.World.{Node}
 use Rattle.vx_model.specs.Content.{Content, blocks_in}
@@ -26,23 +27,15 @@ use Rattle.vx_diskset.specs.Keeps.{CanKeep}
 use Rattle.vx_diskset.specs.Needs.{HasRoom}
 use Rattle.vx_diskset.specs.Received.{CanReceive, LoggedTo, ReachedTo}
 use Rattle.vx_diskset.specs.Rooms.{AppliedAs, HasNumbers, IsMore, TakesOne, logged_count}
-use Rattle.vx_diskset.specs.Shelves.{KeptAs, LaterOn, LoggedAs, ReadAs}
+use Rattle.vx_diskset.specs.Shelves.{KeptAs, LoggedAs, MovesOn, ReadAs}
 use Rattle.vx_diskset.specs.Stands.{IsReceiverAt, IsUpAt}
 use Rattle.vx_diskset.specs.declared.receivers.Reached.{Reached}
 
--- a block of the log or of a data volume
-abbrev pub IsOfRvg : Units → (unit : ℕ) → Type 0
-IsOfRvg units u = (u ≡ units.srl) ⊎ Contains units.vols u
-
--- The group is sound still, on the same units; no other block changed, and no count fell.
+-- The group is sound still, on the same units; no block changed but its own.
 pub record KeepsSound (c c' : Core) (old new : Meaning) : Type 0 where
   pub sound : IsSound c' new
   pub units : c'.units ≡ c.units
-  pub later : LaterOn old new
-  pub many : new.units ≡ old.units
-  pub sizes : (u : ℕ) → new.size u ≡ old.size u
-  pub others : (u b : ℕ) (x : List ℕ) → (IsOfRvg c.units u → ⊥) → new.leaves u b x → old.leaves u b x
-  pub falls : IsTrue old.down → IsTrue new.down
+  pub moves : MovesOn c old new
 
 -- ---- a write
 
@@ -111,11 +104,11 @@ pub record DoesKeep (c : Core) (s : State) (m : Meaning) (c' : Core) (m' : Meani
 -- ---- the making and the start
 
 -- no block changed but those of the log
-pub record OnlyLog (units : Units) (old new : Meaning) : Type 0 where
-  pub later : LaterOn old new
-  pub many : new.units ≡ old.units
-  pub sizes : (u : ℕ) → new.size u ≡ old.size u
-  pub others : (u b : ℕ) (x : List ℕ) → (u ≡ units.srl → ⊥) → new.leaves u b x → old.leaves u b x
+abbrev pub LogBlocks : Units → Blocks
+LogBlocks units u b = u ≡ units.srl
+
+abbrev pub OnlyLog : Units → Meaning → Meaning → Type 0
+OnlyLog units old new = Moves (LogBlocks units) Anything old new
 
 abbrev pub DoesMake : Units → State → Meaning → Meaning → Result Core Stop → Type 0
 DoesMake units state m m' (Ok c) =
@@ -131,9 +124,6 @@ DoesStart units m m' (Err why) = OnlyLog units m m'
 
 -- Whatever is answered, each block has a value that it might have; done, each block of these units has one.
 pub record DoesRewrite (volumes : List ℕ) (m m' : Meaning) (r : Result (Unit {0}) ShelfError) : Type 0 where
-  pub later : LaterOn m m'
-  pub many : m'.units ≡ m.units
-  pub sizes : (u : ℕ) → m'.size u ≡ m.size u
-  pub leaves : (u b : ℕ) (x : List ℕ) → m'.leaves u b x → m.leaves u b x
+  pub goes : Goes m.leaves m m'
   pub one : OnOk r ((u : ℕ) → Contains volumes u → OneLeft u m')
   pub cause : IfErr r (λ e. DeviceCause m m' (refusal_of e))

@@ -14,7 +14,7 @@ ghost use Rattle.vx_diskset.specs.DiskSets.{Later};
 ghost use Rattle.vx_diskset.specs.Holds.{KeptBeside};
 ghost use Rattle.vx_diskset.specs.Keeps.{CanKeep, KeptAt, KeptUp, done_by};
 ghost use Rattle.vx_diskset.specs.Noted.{NotesOn};
-ghost use Rattle.vx_diskset.specs.Shelves.{KeptAs, LaterOn};
+ghost use Rattle.vx_diskset.specs.Shelves.{KeptAs, LaterOn, MovesOn};
 ghost use Rattle.vx_diskset.specs.Stands.{IsUpAt, KeepsRole, SiteStands};
 
 use crate::DiskSet;
@@ -28,12 +28,14 @@ pub(crate) fn keep_group<S: Shelf>(rvg: &mut Rvg<S>, state: &State) -> Result<()
     requires state { CanSpellState state.now }
     ensures kept { (beside : KeptBeside) (n : Node) → IsUpAt beside n rvg.old.core (S.meaning rvg.old.shelf) → CanKeep beside n state.now → KeptAs beside n state.now (S.meaning rvg.old.shelf) rvg.new.core (S.meaning rvg.new.shelf) result }
     ensures waiting { (us : List Update) → Wait rvg.old.core (S.meaning rvg.old.shelf).size us → Wait rvg.new.core (S.meaning rvg.new.shelf).size us }
+    ensures units { rvg.new.core.units ≡ rvg.old.core.units }
     ensures calls { OnOk result (MakesCalls 2 (S.meaning rvg.old.shelf) (S.meaning rvg.new.shelf)) }
     ensures short { FallsShort 2 (S.meaning rvg.old.shelf) (S.meaning rvg.new.shelf) }
     ensures spends { Spends (S.meaning rvg.old.shelf) (S.meaning rvg.new.shelf) }
     ensures works { OnOk result (Works (S.meaning rvg.old.shelf).disks rvg.old.core.log.unit) }
     ensures off { IsFalse (S.meaning rvg.old.shelf).down → OffIf result (S.meaning rvg.new.shelf).down }
     ensures later { LaterOn (S.meaning rvg.old.shelf) (S.meaning rvg.new.shelf) }
+    ensures moves { MovesOn rvg.old.core (S.meaning rvg.old.shelf) (S.meaning rvg.new.shelf) }
 {
     if rvg.state().line != state.line {
         return Err(No::Role);

@@ -33,9 +33,9 @@ pub(crate) struct Writes<'a> {
 impl<'a> Work for Writes<'a> {
     type Answer = (RvgCore, Result<u64, No>);
 
-    ghost asks = { λ w m. AsksWrite w.core w.volume w.bytes m };
+    ghost asks = { λ w m. AsksWrite w.core w.volume w.bytes.now m };
 
-    ghost does = { λ w m n r. DoesWrite w.core w.volume w.start w.bytes w.hold m r.0 n r.1 };
+    ghost does = { λ w m n r. DoesWrite w.core w.volume w.start w.bytes.now w.hold m r.0 n r.1 };
 
     fn run<S: Shelf>(self, shelf: S) -> (S, (RvgCore, Result<u64, No>)) {
         let mut rvg = Rvg::together(shelf, self.core);
@@ -153,9 +153,9 @@ pub(crate) struct Keeps<'a> {
 impl<'a> Work for Keeps<'a> {
     type Answer = (RvgCore, Result<(), No>);
 
-    ghost asks = { λ w m. IsSound w.core m × CanSpellState w.state };
+    ghost asks = { λ w m. IsSound w.core m × CanSpellState w.state.now };
 
-    ghost does = { λ w m n r. DoesKeep w.core w.state m r.0 n r.1 };
+    ghost does = { λ w m n r. DoesKeep w.core w.state.now m r.0 n r.1 };
 
     fn run<S: Shelf>(self, shelf: S) -> (S, (RvgCore, Result<(), No>)) {
         let mut rvg = Rvg::together(shelf, self.core);
@@ -176,9 +176,9 @@ pub(crate) struct Makes<'a> {
 impl<'a> Work for Makes<'a> {
     type Answer = Result<RvgCore, Stop>;
 
-    ghost asks = { λ w m. UnitsPlaced w.units m × (LEAST_BLOCKS ≤ m.size w.units.srl) × CanSpellState w.state };
+    ghost asks = { λ w m. UnitsPlaced w.units.now m × (LEAST_BLOCKS ≤ m.size w.units.now.srl) × CanSpellState w.state };
 
-    ghost does = { λ w m n r. DoesMake w.units w.state m n r };
+    ghost does = { λ w m n r. DoesMake w.units.now w.state m n r };
 
     fn run<S: Shelf>(self, shelf: S) -> (S, Result<RvgCore, Stop>) {
         match Rvg::create(self.alloc, shelf, self.units, &self.state) {
@@ -201,9 +201,9 @@ pub(crate) struct Starts<'a> {
 impl<'a> Work for Starts<'a> {
     type Answer = Result<RvgCore, No>;
 
-    ghost asks = { λ w m. UnitsPlaced w.units m × (LEAST_BLOCKS ≤ m.size w.units.srl) × (w.room.ring ≡ ring_in w.units m) };
+    ghost asks = { λ w m. UnitsPlaced w.units.now m × (LEAST_BLOCKS ≤ m.size w.units.now.srl) × (w.room.ring ≡ ring_in w.units.now m) };
 
-    ghost does = { λ w m n r. DoesStart w.units m n r };
+    ghost does = { λ w m n r. DoesStart w.units.now m n r };
 
     fn run<S: Shelf>(self, shelf: S) -> (S, Result<RvgCore, No>) {
         match Rvg::start_in(self.room, shelf, self.units) {
@@ -225,9 +225,9 @@ pub(crate) struct Rewrites<'a> {
 impl<'a> Work for Rewrites<'a> {
     type Answer = Result<(), ShelfError>;
 
-    ghost asks = { λ w m. (u : ℕ) → Contains w.volumes u → u < m.units };
+    ghost asks = { λ w m. (u : ℕ) → Contains w.volumes.now u → u < m.units };
 
-    ghost does = { λ w m n r. DoesRewrite w.volumes m n r };
+    ghost does = { λ w m n r. DoesRewrite w.volumes.now m n r };
 
     fn run<S: Shelf>(self, shelf: S) -> (S, Result<(), ShelfError>) {
         let mut shelf = shelf;

@@ -14,7 +14,7 @@ ghost use Rattle.vx_diskset.specs.Holds.{KeptBeside};
 ghost use Rattle.vx_diskset.specs.Received.{CanReceive, LoggedTo, ReachedAt, ReachedTo, ReachedUp, ShowedAt, reached_by};
 ghost use Rattle.vx_diskset.specs.Rooms.{HasNumbers, IsMore, logged_count};
 ghost use Rattle.vx_diskset.specs.Noted.{NotesOn};
-ghost use Rattle.vx_diskset.specs.Shelves.{BlamesRack, LaterOn};
+ghost use Rattle.vx_diskset.specs.Shelves.{BlamesRack, LaterOn, MovesOn};
 ghost use Rattle.vx_diskset.specs.Stands.{InVolumes, IsReceiverAt, KeepsRole, SiteStands};
 
 use crate::DiskSet;
@@ -46,6 +46,7 @@ fn log_next<S: Shelf>(rvg: &mut Rvg<S>, waiting: &mut Waiting) -> Result<(), No>
     ensures off { IsFalse (S.meaning rvg.old.shelf).down → OffIf result (S.meaning rvg.new.shelf).down }
     ensures blames { IfErr result (BlamesRack (S.meaning rvg.old.shelf).disks rvg.old.core.units) }
     ensures later { LaterOn (S.meaning rvg.old.shelf) (S.meaning rvg.new.shelf) }
+    ensures moves { MovesOn rvg.old.core (S.meaning rvg.old.shelf) (S.meaning rvg.new.shelf) }
 {
     let Some(update) = waiting.get(0) else {
         unreachable!()
@@ -70,6 +71,7 @@ fn log_waiting<S: Shelf>(rvg: &mut Rvg<S>, waiting: &mut Waiting, count: u32) ->
     ensures blames { IfErr result (BlamesRack (S.meaning rvg.old.shelf).disks rvg.old.core.units) }
     ensures units { rvg.new.core.units ≡ rvg.old.core.units }
     ensures later { LaterOn (S.meaning rvg.old.shelf) (S.meaning rvg.new.shelf) }
+    ensures moves { MovesOn rvg.old.core (S.meaning rvg.old.shelf) (S.meaning rvg.new.shelf) }
 {
     for _ in 0..count {
         log_next(rvg, waiting)?;
@@ -93,7 +95,9 @@ pub(crate) fn apply_oldest<S: Shelf>(
     ensures spends { Spends (S.meaning rvg.old.shelf) (S.meaning rvg.new.shelf) }
     ensures off { IsFalse (S.meaning rvg.old.shelf).down → OffIf result (S.meaning rvg.new.shelf).down }
     ensures blames { IfErr result (BlamesRack (S.meaning rvg.old.shelf).disks rvg.old.core.units) }
+    ensures units { rvg.new.core.units ≡ rvg.old.core.units }
     ensures later { LaterOn (S.meaning rvg.old.shelf) (S.meaning rvg.new.shelf) }
+    ensures moves { MovesOn rvg.old.core (S.meaning rvg.old.shelf) (S.meaning rvg.new.shelf) }
 {
     log_waiting(rvg, waiting, count)?;
     let number = rvg.head();

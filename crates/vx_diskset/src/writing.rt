@@ -18,7 +18,7 @@ ghost use Rattle.vx_diskset.specs.Burning.{NoMore, IsLogged, OffIf, said_by};
 ghost use Rattle.vx_diskset.specs.DiskSets.{Later, CanLog, CanWrite, LoggedUp, WroteUp, is_off};
 ghost use Rattle.vx_diskset.specs.Needs.{HasRoom, NoneNeeds};
 ghost use Rattle.vx_diskset.specs.Rooms.{AppliedAs, IsMore, NeverLimit, RoomIs, TakesOne, logged_count};
-ghost use Rattle.vx_diskset.specs.Shelves.{BlamesRack, BurnsOn, LaterOn, LoggedAs};
+ghost use Rattle.vx_diskset.specs.Shelves.{BlamesRack, BurnsOn, LaterOn, LoggedAs, MovesOn};
 ghost use Rattle.vx_diskset.specs.Noted.{NotesOn};
 ghost use Rattle.vx_diskset.specs.Stands.{IsUpAt, KeepsRole, StandsAlone, SiteStands};
 
@@ -50,6 +50,7 @@ pub(crate) fn apply_group<S: Shelf>(rvg: &mut Rvg<S>, to: u64) -> Result<u64, No
     ensures off { OffIf result (S.meaning rvg.new.shelf).down }
     ensures blames { IfErr result (BlamesRack (S.meaning rvg.old.shelf).disks rvg.old.core.units) }
     ensures later { LaterOn (S.meaning rvg.old.shelf) (S.meaning rvg.new.shelf) }
+    ensures moves { MovesOn rvg.old.core (S.meaning rvg.old.shelf) (S.meaning rvg.new.shelf) }
 {
     let answer = rvg.apply(to);
     if rvg.shelf.is_down() {
@@ -72,6 +73,7 @@ fn reclaim_group<S: Shelf>(rvg: &mut Rvg<S>, to: u64) -> Result<(), No>
     ensures off { OffIf result (S.meaning rvg.new.shelf).down }
     ensures blames { IfErr result (BlamesRack (S.meaning rvg.old.shelf).disks rvg.old.core.units) }
     ensures later { LaterOn (S.meaning rvg.old.shelf) (S.meaning rvg.new.shelf) }
+    ensures moves { MovesOn rvg.old.core (S.meaning rvg.old.shelf) (S.meaning rvg.new.shelf) }
 {
     // Numbers are above 0.
     let _ring = rvg.ring();
@@ -95,6 +97,7 @@ fn make_room<S: Shelf>(rvg: &mut Rvg<S>, count: u64, hold: u64) -> Result<(), No
     ensures off { IsFalse (S.meaning rvg.old.shelf).down → OffIf result (S.meaning rvg.new.shelf).down }
     ensures blames { IfErr result (BlamesRack (S.meaning rvg.old.shelf).disks rvg.old.core.units) }
     ensures later { LaterOn (S.meaning rvg.old.shelf) (S.meaning rvg.new.shelf) }
+    ensures moves { MovesOn rvg.old.core (S.meaning rvg.old.shelf) (S.meaning rvg.new.shelf) }
 {
     if rvg.free() > count {
         return Ok(());
@@ -131,6 +134,7 @@ pub(crate) fn write_group<S: Shelf>(
     ensures cuts { IsFalse (S.meaning rvg.old.shelf).down → blocks_in bytes.now < free_of rvg.old.core.log → BodyFits rvg.old.core.log bytes.now → result ≡ Err IsOff → RackIsShort 4 (S.meaning rvg.old.shelf).disks }
     ensures blames { IfErr result (BlamesRack (S.meaning rvg.old.shelf).disks rvg.old.core.units) }
     ensures later { LaterOn (S.meaning rvg.old.shelf) (S.meaning rvg.new.shelf) }
+    ensures moves { MovesOn rvg.old.core (S.meaning rvg.old.shelf) (S.meaning rvg.new.shelf) }
 {
     if rvg.head() >= MOST_NUMBER {
         return Err(No::Limit {

@@ -1,9 +1,12 @@
 -- A state that is set, case by case.
-use Rattle.std.proofs.Common.{sym, ◌∙◌, ap, rules}
+use Rattle.std.proofs.Common.{sym, ◌∙◌, ap, refl, rules}
 use Rattle.vx_diskset.proofs.KeepGroup.{keep_cut, kept_as}
 use Rattle.vx_diskset.proofs.CallsBurn.{state_off}
 use Rattle.vx_rvg.specs.Saves.{change_refusal}
 use Rattle.vx_diskset.proofs.Receiving.{wait_kept}
+use Rattle.vx_diskset.proofs.RvgMoves.{log_moves}
+use Rattle.vx_rvg.specs.Saves.{with_new_state}
+use Rattle.vx_diskset.proofs.MakeRoom.{save_units}
 use Rattle.vx_diskset.proofs.keeping.keep_group.Goals as goal
 
 pub returns-then-is_down-clause-kept : goal.returns-then-is_down-clause-kept
@@ -53,3 +56,17 @@ returns-clause-waiting g c = λ us.
 
 pub returns-clause-works : goal.returns-clause-works
 returns-clause-works g c = c.set_state-answer.ensures.works
+
+pub returns-then-is_down-clause-moves : goal.returns-then-is_down-clause-moves
+returns-then-is_down-clause-moves g c = log_moves c.args.rvg.now.core _ _ _ (g.S.Shelf.meaning c.args.rvg.now.shelf) (g.S.Shelf.meaning c.set_state-answer.new.self.shelf) c.set_state-answer.ensures.moves
+
+pub returns-clause-moves : goal.returns-clause-moves
+returns-clause-moves g c = log_moves c.args.rvg.now.core _ _ _ (g.S.Shelf.meaning c.args.rvg.now.shelf) (g.S.Shelf.meaning c.set_state-answer.new.self.shelf) c.set_state-answer.ensures.moves
+
+pub returns-then-is_down-clause-units : goal.returns-then-is_down-clause-units
+returns-then-is_down-clause-units g c =
+    save_units (change_refusal c.args.rvg.now.core) c.args.rvg.now.core (with_new_state c.args.rvg.now.core c.args.state.now) (g.S.Shelf.meaning c.args.rvg.now.shelf) (g.S.Shelf.meaning c.set_state-answer.new.self.shelf) c.set_state-answer.new.self.core c.set_state-answer.result refl c.set_state-answer.ensures.answers
+
+pub returns-clause-units : goal.returns-clause-units
+returns-clause-units g c =
+    save_units (change_refusal c.args.rvg.now.core) c.args.rvg.now.core (with_new_state c.args.rvg.now.core c.args.state.now) (g.S.Shelf.meaning c.args.rvg.now.shelf) (g.S.Shelf.meaning c.set_state-answer.new.self.shelf) c.set_state-answer.new.self.core c.set_state-answer.result refl c.set_state-answer.ensures.answers

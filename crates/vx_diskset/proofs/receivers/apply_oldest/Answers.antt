@@ -9,6 +9,7 @@ use Rattle.vx_diskset.specs.Received.{reached}
 use Rattle.vx_diskset.proofs.Blamed.{blamed_since}
 use Rattle.vx_diskset.proofs.Reaching.{applied_all, applied_done, applied_failed}
 use Rattle.vx_diskset.proofs.Receiving.{durable_of, receiver_up}
+use Rattle.vx_diskset.proofs.RvgMoves.{then_moves}
 use Rattle.vx_diskset.proofs.receivers.apply_oldest.Goals as goal
 
 pub returns-in_err-log_waiting-clause-reaches : goal.returns-in_err-log_waiting-clause-reaches
@@ -91,3 +92,12 @@ pub returns-in_err-apply_group-clause-blames : goal.returns-in_err-apply_group-c
 returns-in_err-apply_group-clause-blames g c =
     let p = err_from_is_err_and c.from_residual-in_err-apply_group.result c.from_residual-in_err-apply_group.ensures.1 in
     rw (p.1, p.2) (blamed_since (g.S.Shelf.meaning c.args.rvg.now.shelf) (g.S.Shelf.meaning c.log_waiting.new.rvg.shelf) c.args.rvg.now.core.units c.log_waiting.new.rvg.core.units c.in_err-apply_group.field-0.0 c.log_waiting.ensures.spends c.log_waiting.ensures.units c.in_err-apply_group.ensures.blames)
+
+pub returns-in_err-log_waiting-clause-moves : goal.returns-in_err-log_waiting-clause-moves
+returns-in_err-log_waiting-clause-moves g c = c.log_waiting.ensures.moves
+
+pub returns-in_err-apply_group-clause-moves : goal.returns-in_err-apply_group-clause-moves
+returns-in_err-apply_group-clause-moves g c = then_moves c.args.rvg.now.core c.log_waiting.new.rvg.core (g.S.Shelf.meaning c.args.rvg.now.shelf) (g.S.Shelf.meaning c.log_waiting.new.rvg.shelf) (g.S.Shelf.meaning c.apply_group.new.rvg.shelf) c.log_waiting.ensures.units c.log_waiting.ensures.moves c.apply_group.ensures.moves
+
+pub returns-clause-moves : goal.returns-clause-moves
+returns-clause-moves g c = then_moves c.args.rvg.now.core c.log_waiting.new.rvg.core (g.S.Shelf.meaning c.args.rvg.now.shelf) (g.S.Shelf.meaning c.log_waiting.new.rvg.shelf) (g.S.Shelf.meaning c.apply_group.new.rvg.shelf) c.log_waiting.ensures.units c.log_waiting.ensures.moves c.apply_group.ensures.moves

@@ -8,6 +8,7 @@ use Rattle.vx_diskset.specs.Stands.{IsReceiverAt}
 use Rattle.vx_diskset.proofs.Blamed.{blamed_since}
 use Rattle.vx_diskset.proofs.Reaching.{failed_more, logged_more, logged_none, next_can, numbers_left, some_waits, still_waits}
 use Rattle.vx_diskset.proofs.Mores.{wait_more}
+use Rattle.vx_diskset.proofs.RvgMoves.{then_moves}
 use Rattle.vx_diskset.proofs.receivers.log_waiting.Goals as goal
 
 pub loop-init : goal.loop-init
@@ -25,7 +26,7 @@ log_next-requires-clause-some g c κs within =
 pub loop-preserved : goal.loop-preserved
 loop-preserved g c =
     logged_more c.args.waiting.now c.loop.counter c.args.rvg.now.core c.loop.rvg.core c.log_next.new.rvg.core (g.S.Shelf.meaning c.args.rvg.now.shelf) (g.S.Shelf.meaning c.loop.rvg.shelf) (g.S.Shelf.meaning c.log_next.new.rvg.shelf) c.loop.waiting c.loop.invariant
-    c.log_next.new.waiting c.in_ok-log_next.ensures.logs c.in_ok-log_next.ensures.left c.in_ok-log_next.ensures.group c.in_ok-log_next.ensures.stamp c.log_next.ensures.spends c.in_ok-log_next.ensures.off c.log_next.ensures.later.counts c.log_next.ensures.later.told
+    c.log_next.new.waiting c.in_ok-log_next.ensures.logs c.in_ok-log_next.ensures.left c.in_ok-log_next.ensures.group c.in_ok-log_next.ensures.stamp c.log_next.ensures.spends c.in_ok-log_next.ensures.off c.log_next.ensures.later.counts c.log_next.ensures.later.told c.log_next.ensures.moves
 
 pub returns-in_err-log_next-clause-logs : goal.returns-in_err-log_next-clause-logs
 returns-in_err-log_next-clause-logs g c = λ beside n r can.
@@ -80,3 +81,9 @@ returns-in_err-log_next-clause-units g c = c.in_err-log_next.ensures.group.units
 
 pub returns-clause-units : goal.returns-clause-units
 returns-clause-units g c = c.loop.invariant.more.units
+
+pub returns-in_err-log_next-clause-moves : goal.returns-in_err-log_next-clause-moves
+returns-in_err-log_next-clause-moves g c = then_moves c.args.rvg.now.core c.loop.rvg.core (g.S.Shelf.meaning c.args.rvg.now.shelf) (g.S.Shelf.meaning c.loop.rvg.shelf) (g.S.Shelf.meaning c.log_next.new.rvg.shelf) c.loop.invariant.more.units c.loop.invariant.moves c.log_next.ensures.moves
+
+pub returns-clause-moves : goal.returns-clause-moves
+returns-clause-moves g c = c.loop.invariant.moves

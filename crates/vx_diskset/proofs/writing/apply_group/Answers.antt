@@ -9,6 +9,7 @@ use Rattle.vx_diskset.proofs.MakeRoom.{apply_log}
 use Rattle.vx_diskset.proofs.Receiving.{wait_applied}
 use Rattle.vx_diskset.proofs.Mores.{more_applied}
 use Rattle.vx_diskset.proofs.LeavesNumbers.{apply_never}
+use Rattle.vx_diskset.proofs.RvgMoves.{waits_moves}
 use Rattle.vx_diskset.proofs.writing.apply_group.Goals as goal
 
 pub returns-then-is_down-clause-applied : goal.returns-then-is_down-clause-applied
@@ -60,3 +61,9 @@ returns-clause-never g c = apply_never c.args.rvg.now.core c.args.to (g.S.Shelf.
 pub returns-clause-blames : goal.returns-clause-blames
 returns-clause-blames g c =
     volumes_blamed c.apply-answer.result (g.S.Shelf.meaning c.args.rvg.now.shelf) c.args.rvg.now.core c.apply-answer.ensures.blames
+
+pub returns-then-is_down-clause-moves : goal.returns-then-is_down-clause-moves
+returns-then-is_down-clause-moves g c = waits_moves c.args.rvg.now.core (g.S.Shelf.meaning c.args.rvg.now.shelf) _ (g.S.Shelf.meaning c.args.rvg.now.shelf) (g.S.Shelf.meaning c.apply-answer.new.self.shelf) c.apply-answer.ensures.moves
+
+pub returns-clause-moves : goal.returns-clause-moves
+returns-clause-moves g c = waits_moves c.args.rvg.now.core (g.S.Shelf.meaning c.args.rvg.now.shelf) _ (g.S.Shelf.meaning c.args.rvg.now.shelf) (g.S.Shelf.meaning c.apply-answer.new.self.shelf) c.apply-answer.ensures.moves

@@ -10,6 +10,7 @@ use Rattle.vx_diskset.proofs.MakeRoom.{room_unapplied, room_later, room_again, r
 use Rattle.vx_ringio.proofs.Spending.{spends_none, then_spends}
 use Rattle.vx_diskset.proofs.Mores.{more_after, more_none}
 use Rattle.vx_diskset.proofs.LeavesNumbers.{never_as, numbers_log}
+use Rattle.vx_diskset.proofs.RvgMoves.{no_moves, then_moves}
 use Rattle.vx_diskset.proofs.writing.make_room.Goals as goal
 
 pub returns-in_err-apply_group-clause-made : goal.returns-in_err-apply_group-clause-made
@@ -130,3 +131,18 @@ pub returns-in_err-reclaim_group-clause-blames : goal.returns-in_err-reclaim_gro
 returns-in_err-reclaim_group-clause-blames g c =
     let p = err_from_is_err_and c.from_residual-in_err-reclaim_group.result c.from_residual-in_err-reclaim_group.ensures.1 in
     rw (p.1, p.2) (blamed_since (g.S.Shelf.meaning c.args.rvg.now.shelf) (g.S.Shelf.meaning c.apply_group.new.rvg.shelf) c.args.rvg.now.core.units c.apply_group.new.rvg.core.units c.in_err-reclaim_group.field-0.0 c.apply_group.ensures.spends c.apply_group.ensures.units c.in_err-reclaim_group.ensures.blames)
+
+pub returns-then-free-count-clause-moves : goal.returns-then-free-count-clause-moves
+returns-then-free-count-clause-moves g c = no_moves c.args.rvg.now.core (g.S.Shelf.meaning c.args.rvg.now.shelf)
+
+pub returns-in_err-apply_group-clause-moves : goal.returns-in_err-apply_group-clause-moves
+returns-in_err-apply_group-clause-moves g c = c.apply_group.ensures.moves
+
+pub returns-in_err-reclaim_group-clause-moves : goal.returns-in_err-reclaim_group-clause-moves
+returns-in_err-reclaim_group-clause-moves g c = then_moves c.args.rvg.now.core c.apply_group.new.rvg.core (g.S.Shelf.meaning c.args.rvg.now.shelf) (g.S.Shelf.meaning c.apply_group.new.rvg.shelf) (g.S.Shelf.meaning c.reclaim_group.new.rvg.shelf) c.apply_group.ensures.units c.apply_group.ensures.moves c.reclaim_group.ensures.moves
+
+pub returns-then-free-count-2-clause-moves : goal.returns-then-free-count-2-clause-moves
+returns-then-free-count-2-clause-moves g c = then_moves c.args.rvg.now.core c.apply_group.new.rvg.core (g.S.Shelf.meaning c.args.rvg.now.shelf) (g.S.Shelf.meaning c.apply_group.new.rvg.shelf) (g.S.Shelf.meaning c.reclaim_group.new.rvg.shelf) c.apply_group.ensures.units c.apply_group.ensures.moves c.reclaim_group.ensures.moves
+
+pub returns-else-free-count-2-clause-moves : goal.returns-else-free-count-2-clause-moves
+returns-else-free-count-2-clause-moves g c = then_moves c.args.rvg.now.core c.apply_group.new.rvg.core (g.S.Shelf.meaning c.args.rvg.now.shelf) (g.S.Shelf.meaning c.apply_group.new.rvg.shelf) (g.S.Shelf.meaning c.reclaim_group.new.rvg.shelf) c.apply_group.ensures.units c.apply_group.ensures.moves c.reclaim_group.ensures.moves

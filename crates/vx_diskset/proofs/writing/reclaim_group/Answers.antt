@@ -6,6 +6,7 @@ use Rattle.vx_diskset.proofs.MakeRoom.{reclaimed_as, reclaim_cut, roomed_at, sav
 use Rattle.vx_diskset.proofs.CallsBurn.{reclaim_off}
 use Rattle.vx_diskset.proofs.Mores.{more_reclaimed}
 use Rattle.vx_diskset.proofs.LeavesNumbers.{reclaim_takes}
+use Rattle.vx_diskset.proofs.RvgMoves.{log_moves}
 use Rattle.vx_diskset.proofs.writing.reclaim_group.Goals as goal
 
 pub returns-then-is_down-clause-made : goal.returns-then-is_down-clause-made
@@ -73,3 +74,9 @@ returns-clause-takes g c =
 pub returns-clause-blames : goal.returns-clause-blames
 returns-clause-blames g c =
     unit_blamed c.reclaim-answer.result (g.S.Shelf.meaning c.args.rvg.now.shelf) c.args.rvg.now.core c.args.rvg.now.sound.log_unit c.reclaim-answer.ensures.blames
+
+pub returns-then-is_down-clause-moves : goal.returns-then-is_down-clause-moves
+returns-then-is_down-clause-moves g c = log_moves c.args.rvg.now.core _ _ _ (g.S.Shelf.meaning c.args.rvg.now.shelf) (g.S.Shelf.meaning c.reclaim-answer.new.self.shelf) c.reclaim-answer.ensures.moves
+
+pub returns-clause-moves : goal.returns-clause-moves
+returns-clause-moves g c = log_moves c.args.rvg.now.core _ _ _ (g.S.Shelf.meaning c.args.rvg.now.shelf) (g.S.Shelf.meaning c.reclaim-answer.new.self.shelf) c.reclaim-answer.ensures.moves

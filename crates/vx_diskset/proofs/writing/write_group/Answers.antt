@@ -18,6 +18,7 @@ use Rattle.vx_rvg.specs.Views.{unit_of}
 use Rattle.vx_diskset.specs.Rooms.{IsMore, logged_count}
 use Rattle.vx_diskset.proofs.Mores.{more_after, more_down, more_none, more_written}
 use Rattle.vx_diskset.proofs.LeavesNumbers.{never_as, write_takes}
+use Rattle.vx_diskset.proofs.RvgMoves.{log_moves, no_moves, then_moves}
 use Rattle.vx_diskset.proofs.writing.write_group.Goals as goal
 
 pub returns-then-head-ge-MOST_NUMBER-clause-wrote : goal.returns-then-head-ge-MOST_NUMBER-clause-wrote
@@ -181,3 +182,15 @@ pub returns-clause-blames : goal.returns-clause-blames
 returns-clause-blames g c =
     all_blamed_since (g.S.Shelf.meaning c.args.rvg.now.shelf) (g.S.Shelf.meaning c.make_room.new.rvg.shelf) c.write-answer.result c.args.rvg.now.core.units c.make_room.new.rvg.core.units c.make_room.ensures.spends c.make_room.ensures.units
     (unit_blamed c.write-answer.result (g.S.Shelf.meaning c.make_room.new.rvg.shelf) c.make_room.new.rvg.core c.make_room.new.rvg.sound.log_unit c.write-answer.ensures.blames)
+
+pub returns-then-head-ge-MOST_NUMBER-clause-moves : goal.returns-then-head-ge-MOST_NUMBER-clause-moves
+returns-then-head-ge-MOST_NUMBER-clause-moves g c = no_moves c.args.rvg.now.core (g.S.Shelf.meaning c.args.rvg.now.shelf)
+
+pub returns-in_err-make_room-clause-moves : goal.returns-in_err-make_room-clause-moves
+returns-in_err-make_room-clause-moves g c = c.make_room.ensures.moves
+
+pub returns-then-is_down-clause-moves : goal.returns-then-is_down-clause-moves
+returns-then-is_down-clause-moves g c = then_moves c.args.rvg.now.core c.make_room.new.rvg.core (g.S.Shelf.meaning c.args.rvg.now.shelf) (g.S.Shelf.meaning c.make_room.new.rvg.shelf) (g.S.Shelf.meaning c.write-answer.new.self.shelf) c.make_room.ensures.units c.make_room.ensures.moves (log_moves c.make_room.new.rvg.core _ _ _ (g.S.Shelf.meaning c.make_room.new.rvg.shelf) (g.S.Shelf.meaning c.write-answer.new.self.shelf) c.write-answer.ensures.moves)
+
+pub returns-clause-moves : goal.returns-clause-moves
+returns-clause-moves g c = then_moves c.args.rvg.now.core c.make_room.new.rvg.core (g.S.Shelf.meaning c.args.rvg.now.shelf) (g.S.Shelf.meaning c.make_room.new.rvg.shelf) (g.S.Shelf.meaning c.write-answer.new.self.shelf) c.make_room.ensures.units c.make_room.ensures.moves (log_moves c.make_room.new.rvg.core _ _ _ (g.S.Shelf.meaning c.make_room.new.rvg.shelf) (g.S.Shelf.meaning c.write-answer.new.self.shelf) c.write-answer.ensures.moves)
