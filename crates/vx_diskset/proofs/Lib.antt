@@ -5,6 +5,8 @@ pub mod BesideLemmas
 pub mod Blamed
 pub mod RvgMoves
 pub mod OverWorks
+pub mod FoundedWork
+pub mod OverNotes
 pub mod CallsBurn
 pub mod CrashGroup
 pub mod ExactWrite

@@ -1,13 +1,16 @@
 -- What stands over the volumes of a group of disks.
-use Rattle.std.specs.Prelude.{◌≡◌, ℕ, List, [], Option, Some, None}
+use Rattle.std.specs.Prelude.{◌≡◌, ℕ, true, List, [], Option, Some, None}
 use Rattle.vx_disk.specs.Shelf.{Meaning}
 use Rattle.vx_disk.specs.declared.shelf.Shelf.{Ghosts}
 use Rattle.vx_ground.specs.Lifted.{laid_volumes}
 use Rattle.vx_grouped.specs.declared.group_site.GroupSite.{GroupSite}
 use Rattle.vx_grouped.specs.declared.group_site.GroupSite.TheVariants.{Up, Deported as GroupAway, Down as GroupFell, Marked, Gone as NoGroup}
+use Rattle.vx_history.specs.Groups.{GroupNode}
 use Rattle.vx_model.specs.declared.call.Update.{Update}
+use Rattle.vx_model.specs.declared.units.Units.{Units}
 use Rattle.vx_rvg.specs.Views.{Core, IsSound}
 use Rattle.vx_secondary.specs.Receivers.{Wait}
+use Rattle.vx_diskset.specs.Blames.{IsGroupDisk}
 use Rattle.vx_diskset.specs.declared.above.Above.{Above}
 use Rattle.vx_diskset.specs.declared.above.Above.TheVariants.{Nothing, Origin, Receiver}
 use Rattle.vx_diskset.specs.declared.over_set.OverSet.{OverSet}
@@ -19,6 +22,16 @@ abbrev pub IsAboveOn : Above → Meaning → Type 0
 IsAboveOn Nothing m = ⊥
 IsAboveOn (Origin core) m = IsSound core m
 IsAboveOn (Receiver core waiting) m = IsSound core m × Wait core m.size waiting
+
+-- nothing is noted of the blocks of these units
+abbrev pub InsideOf : Units → GroupNode → Type 0
+InsideOf units note = (u : ℕ) → IsGroupDisk units u → note.inside u ≡ true
+
+-- so it is of what stands over a group
+abbrev pub IsInside : GroupNode → Above → Type 0
+IsInside note Nothing = Unit {0}
+IsInside note (Origin core) = InsideOf core.units note
+IsInside note (Receiver core waiting) = InsideOf core.units note
 
 module _ {R : Type 0} {g : Ghosts R} where
   -- so it is over a group that is up

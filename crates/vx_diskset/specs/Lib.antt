@@ -1,4 +1,5 @@
 pub mod Aboves
+pub mod Founded
 pub mod Asked
 pub mod Blames
 pub mod Burning

@@ -12,10 +12,12 @@ use Rattle.vx_grouped.specs.GroupSites.{AwayNoted, CutNoted, DownNoted, UpNoted,
 use Rattle.vx_grouped.specs.SiteEnds.{ConfigGoes}
 use Rattle.vx_grouped.specs.declared.group_site.GroupSite.{GroupSite}
 use Rattle.vx_grouped.specs.declared.group_site.GroupSite.TheVariants.{Up, Deported, Down}
-use Rattle.vx_diskset.specs.Aboves.{above_in, site_in}
+use Rattle.vx_diskset.specs.Aboves.{InsideOf, IsInside, above_in, site_in}
 use Rattle.vx_watched.specs.Since.{CalledSince}
 use Rattle.vx_watched.specs.Traces.{TellsLess}
-use Rattle.vx_diskset.specs.Stands.{RoleBy}
+use Rattle.vx_diskset.specs.Holds.{KeptBeside}
+use Rattle.vx_diskset.specs.Layouts.{units_of}
+use Rattle.vx_diskset.specs.Stands.{RoleBy, SiteStands}
 use Rattle.vx_diskset.specs.declared.over_set.OverSet.{OverSet}
 use Rattle.vx_diskset.specs.GroupSets.{cut_value}
 use Rattle.vx_diskset.specs.declared.disk_set.DiskSet.{DiskSet}
@@ -36,7 +38,7 @@ module _ {R : Type 0} {g : Ghosts R} where
   -- so it is of the disks of a site, with the write that is cut
   abbrev pub NotedAt : Node → GroupNode → DiskSet R g → Type 0
   NotedAt n note (OfGroup s) = NotedOn n note s.site × (cut_value s.cut ≡ note.cut)
-  NotedAt n note (Over s) = NotedOn (below_rvg n) note (site_in s) × (cut_value s.cut ≡ note.cut)
+  NotedAt n note (Over s) = NotedOn (below_rvg n) note (site_in s) × (cut_value s.cut ≡ note.cut) × InsideOf (units_of n) note
   NotedAt n note other = ⊥
 
   -- How a call on the replicated volume group of a site moves the note: its group is up still, or it crashed as its fuse ran out.
@@ -51,7 +53,7 @@ module _ {R : Type 0} {g : Ghosts R} where
 
   -- a call on the replicated volume group of a site: of a site without a group it says nothing
   pub record NotesOn (old new : DiskSet R g) : Type 0 where
-    pub each : (n : Node) (note : GroupNode) → NotedAt n note old → NotesOver n note old new
+    pub each : (beside : KeptBeside) (n : Node) (note : GroupNode) → SiteStands beside n old → NotedAt n note old → NotesOver n note old new
 
   -- The same before the crash: the group is up still, or its disks are down.
   abbrev pub NotesWorked : Node → GroupNode → GroupSite R g → GroupSite R g → Type 0
@@ -65,5 +67,5 @@ module _ {R : Type 0} {g : Ghosts R} where
     pub since : CalledSince (site_disks (site_in old)) (site_disks (site_in new))
     pub told : TellsLess (site_below (site_in old)) (site_below (site_in new))
     pub cut : cut_value new.cut ≡ cut_value old.cut
-    pub notes : (n : Node) (note : GroupNode) → UpNoted (below_rvg n) note (site_in old) → NotesWorked n note (site_in old) (site_in new)
+    pub notes : (n : Node) (note : GroupNode) → UpNoted (below_rvg n) note (site_in old) → IsInside note (above_in old) → NotesWorked n note (site_in old) (site_in new)
     pub above : (n : Node) → RoleBy n (above_in old) → RoleBy n (above_in new)

@@ -4,6 +4,7 @@ use Rattle.vx_disk.specs.Causes.{DeviceCause, refusal_of}
 use Rattle.vx_disk.specs.Moves.{Anything, Blocks, Moves}
 use Rattle.vx_disk.specs.Shelf.{Goes, Meaning}
 use Rattle.vx_disk.specs.declared.shelf.ShelfError.{ShelfError}
+use Rattle.vx_events.specs.Sayings.{received_content}
 use Rattle.vx_history.specs.World.{Node}
 use Rattle.vx_model.specs.Content.{Content, blocks_in}
 use Rattle.vx_model.specs.Sizes.{ring_of}
@@ -11,6 +12,9 @@ use Rattle.vx_model.specs.declared.call.Update.{Update}
 use Rattle.vx_model.specs.declared.errors.Stop.{Stop}
 use Rattle.vx_model.specs.declared.limits.TheConstants.{LEAST_BLOCKS, MOST_CALL_BYTES}
 use Rattle.vx_model.specs.declared.no.No.{No}
+use Rattle.vx_model.specs.declared.no.No.TheVariants.{Device}
+use Rattle.vx_disk.specs.Counts.{Rose}
+use Rattle.vx_rvg.specs.Contents.{ShowsContent}
 use Rattle.vx_model.specs.declared.state.State.{State}
 use Rattle.vx_model.specs.declared.units.Units.{Units}
 use Rattle.vx_rvg.specs.Groups.{MakeCause, new_core}
@@ -67,6 +71,23 @@ pub record DoesRead (c : Core) (volume start : ℕ) (count : ℕ) (m : Meaning) 
   pub keeps : KeepsSound c c' m m'
   pub same : c' ≡ c
   pub read : (beside : KeptBeside) (n : Node) → IsUpAt beside n c m → CanRead n volume start (blocks_in (take count room)) → ReadAs beside n volume start (blocks_in (take count room)) (take count room) c' m m' r
+  pub down : m'.down ≡ m.down
+
+-- what a receiver shows: the content after all writes that were received
+abbrev pub ShownAs : KeptBeside → Node → ℕ → ℕ → ℕ → List ℕ → Core → List Update → Meaning → Meaning → Result (Unit {0}) No → Type 0
+ShownAs beside n volume start count bytes c' us m new (Ok done) = (IsTrue new.tells → ShowsContent (received_content n) volume start count bytes) × IsReceiverAt beside n c' us new
+ShownAs beside n volume start count bytes c' us m new (Err (Device disk)) = IsReceiverAt beside n c' us new × Rose (m.disk_faults disk) (new.disk_faults disk)
+ShownAs beside n volume start count bytes c' us m new (Err other) = ⊥
+
+pub record AsksShow (c : Core) (us : List Update) (volume count : ℕ) (m : Meaning) : Type 0 where
+  pub read : AsksRead c volume count m
+  pub waits : Wait c m.size us
+
+pub record DoesShow (c : Core) (us : List Update) (volume start count : ℕ) (m : Meaning) (c' : Core) (us' : List Update) (room : List ℕ) (m' : Meaning) (r : Result (Unit {0}) No) : Type 0 where
+  pub keeps : KeepsSound c c' m m'
+  pub same : c' ≡ c
+  pub waiting : us' ≡ us
+  pub shown : (beside : KeptBeside) (n : Node) → IsReceiverAt beside n c us m → CanRead n volume start (blocks_in (take count room)) → ShownAs beside n volume start (blocks_in (take count room)) (take count room) c' us' m m' r
   pub down : m'.down ≡ m.down
 
 -- ---- an apply

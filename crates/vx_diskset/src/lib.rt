@@ -4,6 +4,7 @@
 mod above;
 mod disk_set;
 mod founded;
+mod founded_calls;
 mod group_finds;
 mod group_set;
 mod group_starts;

@@ -13,62 +13,44 @@ ghost use Rattle.vx_diskset.specs.Stands.{InVolumes, OverStands};
 ghost use Rattle.vx_diskset.specs.declared.disk_set.DiskSet.TheVariants.{Over as OverSites};
 ghost use Rattle.vx_srlfmt.specs.Headers.{CanSpellState};
 
-use crate::above::Above;
 use crate::disk_set::last_in;
-use crate::group_set::CutWrite;
-use crate::over_work::{Applies, Keeps, Reaches, Reads, Shows, Writes};
+use crate::founded::FoundedReceiver;
 use crate::receivers::Reached;
 use crate::room::used_in;
 use crate::{OverSet, OverSite};
 use std::mem;
 use vx_config::Config;
 use vx_disk::Rack;
-use vx_ground::{Work, work_over};
-use vx_grouped::GroupSite;
 use vx_model::limits::MOST_NUMBER;
 use vx_model::{Counted, No, State};
 use vx_rvg::RvgCore;
-use vx_secondary::Waiting;
 
-// Works on the volumes of a group that is up.
-fn work_site<R: Rack, W: Work + Drop>(
-    site: GroupSite<R>,
-    work: W,
-) -> (GroupSite<R>, Option<W::Answer>) {
-    match site {
-        GroupSite::Up(laid) => {
-            let (laid, answer) = work_over(laid, work);
-            (GroupSite::Up(laid), Some(answer))
-        }
-        other => (other, None),
+// Logs and applies so many of the updates that wait, or all of them.
+fn reach<R: Rack>(
+    founded: FoundedReceiver<R>,
+    count: u64,
+) -> (FoundedReceiver<R>, Result<Reached, No>) {
+    let few = count.min(u64::from(founded.waiting.len())) as u32;
+    let number = founded.core.head();
+    if few == 0 {
+        return (
+            founded,
+            Ok(Reached {
+                number,
+                acks: false,
+            }),
+        );
     }
-}
-
-// A group that receives nothing, with what a call on it answered.
-fn origin<R: Rack, T>(
-    site: GroupSite<R>,
-    cut: Option<CutWrite>,
-    answer: Option<(RvgCore, Result<T, No>)>,
-) -> (OverSet<R>, Result<T, No>) {
-    match answer {
-        Some((core, result)) => (OverSet::of(site, Above::Origin(core), cut), result),
-        None => (OverSet::of(site, Above::Nothing, cut), Err(No::Role)),
+    if !founded.core.has_numbers(u64::from(few)) {
+        return (
+            founded,
+            Err(No::Limit {
+                what: Counted::Number,
+                most: MOST_NUMBER,
+            }),
+        );
     }
-}
-
-// The same of one that receives.
-fn receiver<R: Rack, T>(
-    site: GroupSite<R>,
-    cut: Option<CutWrite>,
-    answer: Option<(RvgCore, Waiting, Result<T, No>)>,
-) -> (OverSet<R>, Result<T, No>) {
-    match answer {
-        Some((core, waiting, result)) => (
-            OverSet::of(site, Above::Receiver { core, waiting }, cut),
-            result,
-        ),
-        None => (OverSet::of(site, Above::Nothing, cut), Err(No::Role)),
-    }
+    founded.reach(few)
 }
 
 impl<R: Rack> OverSet<R> {
@@ -86,24 +68,19 @@ impl<R: Rack> OverSet<R> {
         ensures wrote { (beside : KeptBeside) (n : Node) → OverStands beside n self.site → CanLog n volume start (blocks_in bytes.now) → HasRoom beside.links n hold (blocks_in bytes.now) → LoggedUp beside n (record { volume = volume; start = start; bytes = bytes.now }) (OverSites self) (OverSites result.0) result.1 }
         ensures called { OverCalled self result.0 }
     {
-        let (site, above, cut) = self.parts();
-        match above {
-            Above::Origin(core) => {
-                if volume >= core.volumes() {
-                    return (OverSet::of(site, Above::Origin(core), cut), Err(No::Role));
+        let OverSet { site, cut } = self;
+        let (site, answer) = match site {
+            OverSite::Origin(founded) => {
+                if volume < founded.core.volumes() {
+                    let (founded, answer) = founded.write(volume, start, bytes, hold);
+                    (OverSite::Origin(founded), answer)
+                } else {
+                    (OverSite::Origin(founded), Err(No::Role))
                 }
-                let work = Writes {
-                    core,
-                    volume,
-                    start,
-                    bytes,
-                    hold,
-                };
-                let (site, answer) = work_site(site, work);
-                origin(site, cut, answer)
             }
-            above => (OverSet::of(site, above, cut), Err(No::Role)),
-        }
+            site => (site, Err(No::Role)),
+        };
+        (OverSet { site, cut }, answer)
     }
 
     pub(crate) fn write(
@@ -132,24 +109,19 @@ impl<R: Rack> OverSet<R> {
         ensures brought { IfOk result.1 (λ number. InVolumes number (OverSites result.0)) }
         ensures called { OverCalled self result.0 }
     {
-        let (site, above, cut) = self.parts();
-        match above {
-            Above::Origin(core) => {
-                let (site, answer) = work_site(site, Applies { core, to });
-                origin(site, cut, answer)
+        let OverSet { site, cut } = self;
+        let (site, answer) = match site {
+            OverSite::Origin(founded) => {
+                let (founded, answer) = founded.apply(to);
+                (OverSite::Origin(founded), answer)
             }
-            Above::Receiver { core, waiting } => {
-                let (site, answer) = work_site(site, Applies { core, to });
-                match answer {
-                    Some((core, result)) => (
-                        OverSet::of(site, Above::Receiver { core, waiting }, cut),
-                        result,
-                    ),
-                    None => (OverSet::of(site, Above::Nothing, cut), Err(No::Role)),
-                }
+            OverSite::Receiver(founded) => {
+                let (founded, answer) = founded.apply(to);
+                (OverSite::Receiver(founded), answer)
             }
-            Above::Nothing => (OverSet::of(site, Above::Nothing, cut), Err(No::Role)),
-        }
+            site => (site, Err(No::Role)),
+        };
+        (OverSet { site, cut }, answer)
     }
 
     pub(crate) fn apply(&mut self, to: u64) -> Result<u64, No>
@@ -168,24 +140,19 @@ impl<R: Rack> OverSet<R> {
         ensures kept { (beside : KeptBeside) (n : Node) → OverStands beside n self.site → CanKeep beside n state.now → KeptUp beside n state.now (OverSites self) (OverSites result.0) result.1 }
         ensures called { OverCalled self result.0 }
     {
-        let (site, above, cut) = self.parts();
-        match above {
-            Above::Origin(core) => {
-                let (site, answer) = work_site(site, Keeps { core, state });
-                origin(site, cut, answer)
+        let OverSet { site, cut } = self;
+        let (site, answer) = match site {
+            OverSite::Origin(founded) => {
+                let (founded, answer) = founded.keep(state);
+                (OverSite::Origin(founded), answer)
             }
-            Above::Receiver { core, waiting } => {
-                let (site, answer) = work_site(site, Keeps { core, state });
-                match answer {
-                    Some((core, result)) => (
-                        OverSet::of(site, Above::Receiver { core, waiting }, cut),
-                        result,
-                    ),
-                    None => (OverSet::of(site, Above::Nothing, cut), Err(No::Role)),
-                }
+            OverSite::Receiver(founded) => {
+                let (founded, answer) = founded.keep(state);
+                (OverSite::Receiver(founded), answer)
             }
-            Above::Nothing => (OverSet::of(site, Above::Nothing, cut), Err(No::Role)),
-        }
+            site => (site, Err(No::Role)),
+        };
+        (OverSet { site, cut }, answer)
     }
 
     pub(crate) fn keep(&mut self, state: &State) -> Result<(), No>
@@ -206,30 +173,27 @@ impl<R: Rack> OverSet<R> {
         ensures read { (beside : KeptBeside) (n : Node) → OverStands beside n self.site → CanRead n volume start (blocks_in into.old) → ReadAt beside n volume start (blocks_in into.old) into.new (OverSites self) (OverSites result.0) result.1 }
         ensures called { OverCalled self result.0 }
     {
-        let (site, above, cut) = self.parts();
-        match above {
-            Above::Origin(core) => {
-                if volume >= core.volumes() {
-                    return (OverSet::of(site, Above::Origin(core), cut), Err(No::Role));
-                }
-                let count = into.len();
-                let work = Reads {
-                    core,
-                    volume,
-                    start,
-                    count,
-                };
-                let (site, answer) = work_site(site, work);
-                match answer {
-                    Some((core, room, result)) => {
-                        into.copy_from_slice(&room[..count]);
-                        (OverSet::of(site, Above::Origin(core), cut), result)
-                    }
-                    None => (OverSet::of(site, Above::Nothing, cut), Err(No::Role)),
+        let OverSet { site, cut } = self;
+        let (site, answer) = match site {
+            OverSite::Origin(founded) => {
+                if volume < founded.core.volumes() {
+                    let (founded, answer) = founded.read(volume, start, into);
+                    (OverSite::Origin(founded), answer)
+                } else {
+                    (OverSite::Origin(founded), Err(No::Role))
                 }
             }
-            above => (OverSet::of(site, above, cut), Err(No::Role)),
-        }
+            OverSite::Receiver(founded) => {
+                if volume < founded.core.volumes() {
+                    let (founded, answer) = founded.read(volume, start, into);
+                    (OverSite::Receiver(founded), answer)
+                } else {
+                    (OverSite::Receiver(founded), Err(No::Role))
+                }
+            }
+            site => (site, Err(No::Role)),
+        };
+        (OverSet { site, cut }, answer)
     }
 
     pub(crate) fn read(&mut self, volume: u32, start: u64, into: &mut [u8]) -> Result<(), No>
@@ -252,37 +216,27 @@ impl<R: Rack> OverSet<R> {
         ensures shows { (beside : KeptBeside) (n : Node) → OverStands beside n self.site → CanRead n volume start (blocks_in into.old) → ShowedAt beside n volume start (blocks_in into.old) into.new (OverSites self) (OverSites result.0) result.1 }
         ensures called { OverCalled self result.0 }
     {
-        let (site, above, cut) = self.parts();
-        match above {
-            Above::Receiver { core, waiting } => {
-                if volume >= core.volumes() {
-                    return (
-                        OverSet::of(site, Above::Receiver { core, waiting }, cut),
-                        Err(No::Role),
-                    );
-                }
-                let count = into.len();
-                let work = Shows {
-                    core,
-                    waiting,
-                    volume,
-                    start,
-                    count,
-                };
-                let (site, answer) = work_site(site, work);
-                match answer {
-                    Some((core, waiting, room, result)) => {
-                        into.copy_from_slice(&room[..count]);
-                        (
-                            OverSet::of(site, Above::Receiver { core, waiting }, cut),
-                            result,
-                        )
-                    }
-                    None => (OverSet::of(site, Above::Nothing, cut), Err(No::Role)),
+        let OverSet { site, cut } = self;
+        let (site, answer) = match site {
+            OverSite::Origin(founded) => {
+                if volume < founded.core.volumes() {
+                    let (founded, answer) = founded.read(volume, start, into);
+                    (OverSite::Origin(founded), answer)
+                } else {
+                    (OverSite::Origin(founded), Err(No::Role))
                 }
             }
-            above => OverSet::of(site, above, cut).was_read(volume, start, into),
-        }
+            OverSite::Receiver(founded) => {
+                if volume < founded.core.volumes() {
+                    let (founded, answer) = founded.show(volume, start, into);
+                    (OverSite::Receiver(founded), answer)
+                } else {
+                    (OverSite::Receiver(founded), Err(No::Role))
+                }
+            }
+            site => (site, Err(No::Role)),
+        };
+        (OverSet { site, cut }, answer)
     }
 
     pub(crate) fn show(&mut self, volume: u32, start: u64, into: &mut [u8]) -> Result<(), No>
@@ -302,49 +256,25 @@ impl<R: Rack> OverSet<R> {
         ensures applied { (beside : KeptBeside) (n : Node) → OverStands beside n self.site → CanReceive beside n → ReachedUp beside n count (OverSites self) (OverSites result.0) result.1 }
         ensures called { OverCalled self result.0 }
     {
-        let (site, above, cut) = self.parts();
-        match above {
-            Above::Receiver { core, waiting } => {
-                let few = count.min(u64::from(waiting.len())) as u32;
-                let number = core.head();
-                let suffices = core.has_numbers(u64::from(few));
-                if few == 0 || !suffices {
-                    let answer = if few == 0 {
-                        Ok(Reached {
-                            number,
-                            acks: false,
-                        })
-                    } else {
-                        Err(No::Limit {
-                            what: Counted::Number,
-                            most: MOST_NUMBER,
-                        })
-                    };
-                    return (
-                        OverSet::of(site, Above::Receiver { core, waiting }, cut),
-                        answer,
-                    );
-                }
-                let work = Reaches {
-                    core,
-                    waiting,
-                    count: few,
-                };
-                let (site, answer) = work_site(site, work);
-                receiver(site, cut, answer)
+        let OverSet { site, cut } = self;
+        let (site, answer) = match site {
+            OverSite::Receiver(founded) => {
+                let (founded, answer) = reach(founded, count);
+                (OverSite::Receiver(founded), answer)
             }
-            Above::Origin(core) => {
-                let number = core.head();
+            OverSite::Origin(founded) => {
+                let number = founded.core.head();
                 (
-                    OverSet::of(site, Above::Origin(core), cut),
+                    OverSite::Origin(founded),
                     Ok(Reached {
                         number,
                         acks: false,
                     }),
                 )
             }
-            Above::Nothing => (OverSet::of(site, Above::Nothing, cut), Err(No::Role)),
-        }
+            site => (site, Err(No::Role)),
+        };
+        (OverSet { site, cut }, answer)
     }
 
     pub(crate) fn apply_waiting(&mut self, count: u64) -> Result<Reached, No>

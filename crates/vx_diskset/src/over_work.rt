@@ -1,6 +1,6 @@
 // What is done to a replicated volume group over the volumes of a disk group.
 ghost use Rattle.std.specs.Prelude.{◌≡◌, ◌<◌, ◌≤◌, ℕ, Contains};
-ghost use Rattle.vx_diskset.specs.Works.{AsksReach, AsksRead, AsksWrite, DoesApply, DoesKeep, DoesMake, DoesReach, DoesRead, DoesRewrite, DoesStart, DoesWrite};
+ghost use Rattle.vx_diskset.specs.Works.{AsksReach, AsksRead, AsksShow, AsksWrite, DoesApply, DoesKeep, DoesMake, DoesReach, DoesRead, DoesRewrite, DoesShow, DoesStart, DoesWrite};
 ghost use Rattle.vx_model.specs.declared.limits.TheConstants.{LEAST_BLOCKS};
 ghost use Rattle.vx_rvg.specs.Starts.{ring_in};
 ghost use Rattle.vx_rvg.specs.Views.{IsSound, UnitsPlaced};
@@ -83,9 +83,9 @@ pub(crate) struct Shows {
 impl Work for Shows {
     type Answer = (RvgCore, Waiting, Room, Result<(), No>);
 
-    ghost asks = { λ w m. AsksRead w.core w.volume w.count m };
+    ghost asks = { λ w m. AsksShow w.core w.waiting w.volume w.count m };
 
-    ghost does = { λ w m n r. Unit {0} };
+    ghost does = { λ w m n r. DoesShow w.core w.waiting w.volume w.start w.count m r.0 r.1 r.2 n r.3 };
 
     fn run<S: Shelf>(self, shelf: S) -> (S, (RvgCore, Waiting, Room, Result<(), No>)) {
         let mut site = Secondary::together(Rvg::together(shelf, self.core), self.waiting);
