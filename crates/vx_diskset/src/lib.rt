@@ -11,6 +11,7 @@ mod group_starts;
 mod grouping;
 mod keeping;
 mod labels;
+mod over_asked;
 mod over_calls;
 mod over_group;
 mod over_set;

@@ -13,17 +13,13 @@ ghost use Rattle.vx_diskset.specs.Stands.{InVolumes, OverStands};
 ghost use Rattle.vx_diskset.specs.declared.disk_set.DiskSet.TheVariants.{Over as OverSites};
 ghost use Rattle.vx_srlfmt.specs.Headers.{CanSpellState};
 
-use crate::disk_set::last_in;
 use crate::founded::FoundedReceiver;
 use crate::receivers::Reached;
-use crate::room::used_in;
 use crate::{OverSet, OverSite};
 use std::mem;
-use vx_config::Config;
 use vx_disk::Rack;
 use vx_model::limits::MOST_NUMBER;
 use vx_model::{Counted, No, State};
-use vx_rvg::RvgCore;
 
 // Logs and applies so many of the updates that wait, or all of them.
 fn reach<R: Rack>(
@@ -69,18 +65,29 @@ impl<R: Rack> OverSet<R> {
         ensures called { OverCalled self result.0 }
     {
         let OverSet { site, cut } = self;
-        let (site, answer) = match site {
+        match site {
             OverSite::Origin(founded) => {
                 if volume < founded.core.volumes() {
                     let (founded, answer) = founded.write(volume, start, bytes, hold);
-                    (OverSite::Origin(founded), answer)
+                    (
+                        OverSet {
+                            site: OverSite::Origin(founded),
+                            cut,
+                        },
+                        answer,
+                    )
                 } else {
-                    (OverSite::Origin(founded), Err(No::Role))
+                    (
+                        OverSet {
+                            site: OverSite::Origin(founded),
+                            cut,
+                        },
+                        Err(No::Role),
+                    )
                 }
             }
-            site => (site, Err(No::Role)),
-        };
-        (OverSet { site, cut }, answer)
+            site => (OverSet { site, cut }, Err(No::Role)),
+        }
     }
 
     pub(crate) fn write(
@@ -110,18 +117,29 @@ impl<R: Rack> OverSet<R> {
         ensures called { OverCalled self result.0 }
     {
         let OverSet { site, cut } = self;
-        let (site, answer) = match site {
+        match site {
             OverSite::Origin(founded) => {
                 let (founded, answer) = founded.apply(to);
-                (OverSite::Origin(founded), answer)
+                (
+                    OverSet {
+                        site: OverSite::Origin(founded),
+                        cut,
+                    },
+                    answer,
+                )
             }
             OverSite::Receiver(founded) => {
                 let (founded, answer) = founded.apply(to);
-                (OverSite::Receiver(founded), answer)
+                (
+                    OverSet {
+                        site: OverSite::Receiver(founded),
+                        cut,
+                    },
+                    answer,
+                )
             }
-            site => (site, Err(No::Role)),
-        };
-        (OverSet { site, cut }, answer)
+            site => (OverSet { site, cut }, Err(No::Role)),
+        }
     }
 
     pub(crate) fn apply(&mut self, to: u64) -> Result<u64, No>
@@ -141,18 +159,29 @@ impl<R: Rack> OverSet<R> {
         ensures called { OverCalled self result.0 }
     {
         let OverSet { site, cut } = self;
-        let (site, answer) = match site {
+        match site {
             OverSite::Origin(founded) => {
                 let (founded, answer) = founded.keep(state);
-                (OverSite::Origin(founded), answer)
+                (
+                    OverSet {
+                        site: OverSite::Origin(founded),
+                        cut,
+                    },
+                    answer,
+                )
             }
             OverSite::Receiver(founded) => {
                 let (founded, answer) = founded.keep(state);
-                (OverSite::Receiver(founded), answer)
+                (
+                    OverSet {
+                        site: OverSite::Receiver(founded),
+                        cut,
+                    },
+                    answer,
+                )
             }
-            site => (site, Err(No::Role)),
-        };
-        (OverSet { site, cut }, answer)
+            site => (OverSet { site, cut }, Err(No::Role)),
+        }
     }
 
     pub(crate) fn keep(&mut self, state: &State) -> Result<(), No>
@@ -174,26 +203,49 @@ impl<R: Rack> OverSet<R> {
         ensures called { OverCalled self result.0 }
     {
         let OverSet { site, cut } = self;
-        let (site, answer) = match site {
+        match site {
             OverSite::Origin(founded) => {
                 if volume < founded.core.volumes() {
                     let (founded, answer) = founded.read(volume, start, into);
-                    (OverSite::Origin(founded), answer)
+                    (
+                        OverSet {
+                            site: OverSite::Origin(founded),
+                            cut,
+                        },
+                        answer,
+                    )
                 } else {
-                    (OverSite::Origin(founded), Err(No::Role))
+                    (
+                        OverSet {
+                            site: OverSite::Origin(founded),
+                            cut,
+                        },
+                        Err(No::Role),
+                    )
                 }
             }
             OverSite::Receiver(founded) => {
                 if volume < founded.core.volumes() {
                     let (founded, answer) = founded.read(volume, start, into);
-                    (OverSite::Receiver(founded), answer)
+                    (
+                        OverSet {
+                            site: OverSite::Receiver(founded),
+                            cut,
+                        },
+                        answer,
+                    )
                 } else {
-                    (OverSite::Receiver(founded), Err(No::Role))
+                    (
+                        OverSet {
+                            site: OverSite::Receiver(founded),
+                            cut,
+                        },
+                        Err(No::Role),
+                    )
                 }
             }
-            site => (site, Err(No::Role)),
-        };
-        (OverSet { site, cut }, answer)
+            site => (OverSet { site, cut }, Err(No::Role)),
+        }
     }
 
     pub(crate) fn read(&mut self, volume: u32, start: u64, into: &mut [u8]) -> Result<(), No>
@@ -217,26 +269,49 @@ impl<R: Rack> OverSet<R> {
         ensures called { OverCalled self result.0 }
     {
         let OverSet { site, cut } = self;
-        let (site, answer) = match site {
+        match site {
             OverSite::Origin(founded) => {
                 if volume < founded.core.volumes() {
                     let (founded, answer) = founded.read(volume, start, into);
-                    (OverSite::Origin(founded), answer)
+                    (
+                        OverSet {
+                            site: OverSite::Origin(founded),
+                            cut,
+                        },
+                        answer,
+                    )
                 } else {
-                    (OverSite::Origin(founded), Err(No::Role))
+                    (
+                        OverSet {
+                            site: OverSite::Origin(founded),
+                            cut,
+                        },
+                        Err(No::Role),
+                    )
                 }
             }
             OverSite::Receiver(founded) => {
                 if volume < founded.core.volumes() {
                     let (founded, answer) = founded.show(volume, start, into);
-                    (OverSite::Receiver(founded), answer)
+                    (
+                        OverSet {
+                            site: OverSite::Receiver(founded),
+                            cut,
+                        },
+                        answer,
+                    )
                 } else {
-                    (OverSite::Receiver(founded), Err(No::Role))
+                    (
+                        OverSet {
+                            site: OverSite::Receiver(founded),
+                            cut,
+                        },
+                        Err(No::Role),
+                    )
                 }
             }
-            site => (site, Err(No::Role)),
-        };
-        (OverSet { site, cut }, answer)
+            site => (OverSet { site, cut }, Err(No::Role)),
+        }
     }
 
     pub(crate) fn show(&mut self, volume: u32, start: u64, into: &mut [u8]) -> Result<(), No>
@@ -257,24 +332,32 @@ impl<R: Rack> OverSet<R> {
         ensures called { OverCalled self result.0 }
     {
         let OverSet { site, cut } = self;
-        let (site, answer) = match site {
+        match site {
             OverSite::Receiver(founded) => {
                 let (founded, answer) = reach(founded, count);
-                (OverSite::Receiver(founded), answer)
+                (
+                    OverSet {
+                        site: OverSite::Receiver(founded),
+                        cut,
+                    },
+                    answer,
+                )
             }
             OverSite::Origin(founded) => {
                 let number = founded.core.head();
                 (
-                    OverSite::Origin(founded),
+                    OverSet {
+                        site: OverSite::Origin(founded),
+                        cut,
+                    },
                     Ok(Reached {
                         number,
                         acks: false,
                     }),
                 )
             }
-            site => (site, Err(No::Role)),
-        };
-        (OverSet { site, cut }, answer)
+            site => (OverSet { site, cut }, Err(No::Role)),
+        }
     }
 
     pub(crate) fn apply_waiting(&mut self, count: u64) -> Result<Reached, No>
@@ -284,75 +367,5 @@ impl<R: Rack> OverSet<R> {
         let (over, answer) = mem::replace(self, OverSet::gone()).reached(count);
         *self = over;
         answer
-    }
-
-    /// The replicated volume group but for its shelf, where it is up.
-    pub fn core(&self) -> Option<&RvgCore> {
-        match &self.site {
-            OverSite::Origin(founded) => Some(&founded.core),
-            OverSite::Receiver(founded) => Some(&founded.core),
-            OverSite::Deported(_) | OverSite::Down(_) | OverSite::Gone => None,
-        }
-    }
-
-    /// The configuration of the group below, where it is up.
-    pub fn config(&self) -> Option<&Config> {
-        match &self.site {
-            OverSite::Origin(founded) => Some(founded.laid.config()),
-            OverSite::Receiver(founded) => Some(founded.laid.config()),
-            OverSite::Deported(_) | OverSite::Down(_) | OverSite::Gone => None,
-        }
-    }
-
-    /// Whether it receives the writes of another, with room for the updates that wait.
-    pub fn receives(&self) -> bool {
-        matches!(&self.site, OverSite::Receiver(_))
-    }
-
-    pub(crate) fn last(&self) -> u64 {
-        match self.core() {
-            Some(core) => last_in(core),
-            None => 0,
-        }
-    }
-
-    pub(crate) fn state(&self) -> Option<&State> {
-        match self.core() {
-            Some(core) => Some(core.state()),
-            None => None,
-        }
-    }
-
-    pub(crate) fn session(&self) -> u64 {
-        match self.core() {
-            Some(core) => core.session(),
-            None => 0,
-        }
-    }
-
-    pub(crate) fn used(&self, above: u64) -> Option<u64> {
-        match &self.site {
-            OverSite::Origin(founded) => used_in(&founded.core, above),
-            _ => None,
-        }
-    }
-
-    pub(crate) fn waiting(&self) -> u32 {
-        match &self.site {
-            OverSite::Receiver(founded) => founded.waiting.len(),
-            _ => 0,
-        }
-    }
-
-    pub(crate) fn received(&self) -> u64 {
-        match &self.site {
-            OverSite::Origin(founded) => founded.core.head(),
-            OverSite::Receiver(founded) => {
-                // For its bound.
-                let _ring = founded.core.ring();
-                founded.core.head() + u64::from(founded.waiting.len())
-            }
-            OverSite::Deported(_) | OverSite::Down(_) | OverSite::Gone => 0,
-        }
     }
 }
