@@ -1,10 +1,12 @@
 -- Blocks that are written as they read: what a run of them makes, and how runs go on.
 use Rattle.std.proofs.Common.{◌≡◌, ◌∙◌, inl, inr, ⊎_elim, ℕ, ◌+◌, ◌*◌, ◌<◌, ◌≤◌, Bool, true, false, List, length, IsTrue, refl, sym, subst, arith}
-use Rattle.std.specs.Prelude.{◌⊎◌}
+use Rattle.std.specs.Prelude.{◌⊎◌, Err, Ok, OnOk, Result}
 use Rattle.std.proofs.lemmas.Bool.{cases_lt}
-use Rattle.vx_disk.specs.Causes.{StaysUp}
+use Rattle.vx_disk.specs.Causes.{Cause, StaysUp}
 use Rattle.vx_disk.specs.Shelf.{Covers, Flushed, Goes, Lawful, Meaning, Nothing, Or, Read, Written, Wrote, piece}
-use Rattle.vx_disk.proofs.Runs.{both_Goes, nothing_then, weaker}
+use Rattle.vx_disk.specs.declared.shelf.ShelfError.{ShelfError}
+use Rattle.vx_disk.proofs.Causing.{Cause_both}
+use Rattle.vx_disk.proofs.Runs.{both_Goes, nothing_then, same_Goes, weaker}
 use Rattle.vx_ground.specs.Rewrites.{OneEach, OneLeft, Rewrote, WasLeft}
 
 -- where nothing is told there is no value
@@ -93,3 +95,42 @@ on_one unit done count old new each more = record { one = λ b x y low high here
 
 pub on_left : (unit : ℕ) (old new : Meaning) → OneEach unit 0 (old.size unit) old → new.size unit ≡ old.size unit → Flushed unit old new → OneLeft unit new
 on_left unit old new each size flushed = record { one = λ b x y low here there. each.one b x y (omega arith) (omega (arith, low, size)) (flushed.each b x here) (flushed.each b y there) }
+
+-- ---- the loop over runs
+
+pub record RewriteLoop (unit : ℕ) (old new : Meaning) (done blocks : ℕ) : Type 1 where
+  pub goes : Goes (WasLeft unit old) old new
+  pub one : OneEach unit 0 done new
+  pub low : done ≤ blocks
+  pub up : (new ≡ old) ⊎ StaysUp old new
+
+pub loop_none : (unit : ℕ) (m : Meaning) (blocks : ℕ) → RewriteLoop unit m m 0 blocks
+loop_none unit m blocks = record {
+  goes = same_Goes (WasLeft unit m) m;
+  one = record { one = λ b x y low high here there. absurd (omega (arith, high)) };
+  low = omega arith;
+  up = inl refl;
+}
+
+module _ (unit : ℕ) (old mid new : Meaning) (done blocks : ℕ) (at : RewriteLoop unit old mid done blocks) where
+  pub loop_up : StaysUp mid new → (new ≡ old) ⊎ StaysUp old new
+  loop_up stays = elim at.up [
+    | inl same ↦ inr (subst (λ (m : Meaning). StaysUp m new) same stays)
+    | inr up ↦ inr (record { before = up.before; after = stays.after })
+  ]
+
+  pub loop_more : (count : ℕ) → Goes (WasLeft unit mid) mid new → Rewrote unit done count mid new → StaysUp mid new → done + count ≤ blocks → RewriteLoop unit old new (done + count) blocks
+  loop_more count goes wrote stays low = record { goes = on_goes unit old mid new at.goes goes; one = on_one unit done count mid new at.one wrote; low = low; up = loop_up stays }
+
+  pub loop_cause : {T : Type 0} (r : Result T ShelfError) → Cause mid new unit r → Cause old new unit r
+  loop_cause r cause = elim at.up [
+    | inl same ↦ subst (λ (m : Meaning). Cause m new unit r) same cause
+    | inr up ↦ Cause_both old mid new unit r up at.goes.faults at.goes.disk_faults cause
+  ]
+
+-- the flush behind it
+pub loop_left : {T E : Type 0} (r : Result T E) (unit : ℕ) (old mid new : Meaning) (done blocks : ℕ) → RewriteLoop unit old mid done blocks → blocks ≡ old.size unit → blocks ≤ done → Goes Nothing mid new → OnOk r (Flushed unit mid new) → OnOk r (OneLeft unit new)
+loop_left (Err e) unit old mid new done blocks at size past goes flushed = tt
+loop_left (Ok x) unit old mid new done blocks at size past goes flushed =
+    let all : done ≡ mid.size unit = (let low = at.low in let same = at.goes.size unit in omega (arith, low, past, size, same)) in
+    on_left unit mid new (subst (λ (k : ℕ). OneEach unit 0 k mid) all at.one) (goes.size unit) flushed
