@@ -7,6 +7,7 @@ pub mod RvgMoves
 pub mod OverWorks
 pub mod FoundedWork
 pub mod OverNotes
+pub mod OverCalls
 pub mod CallsBurn
 pub mod CrashGroup
 pub mod ExactWrite

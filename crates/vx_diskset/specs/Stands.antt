@@ -238,7 +238,7 @@ module _ {R : Type 0} {g : Ghosts R} where
   SiteStands beside n (Receives s) = IsReceiverAt beside n s.rvg.core s.waiting (g.meaning s.rvg.shelf)
   SiteStands beside n (Down rack) = IsDownAt beside n (g.meaning rack)
   SiteStands beside n (OfGroup s) = IsGroupSet beside n s
-  SiteStands beside n (Over s) = OverStands beside n s.site
+  SiteStands beside n (Over s) = (n.group ≡ None → ⊥) × OverStands beside n s.site
   SiteStands beside n Gone = ⊥
 
   -- the same of a site without links, as each is that the lines which are built make

@@ -9,7 +9,7 @@ ghost use Rattle.vx_diskset.specs.Keeps.{CanKeep, KeptUp};
 ghost use Rattle.vx_diskset.specs.Needs.{HasRoom};
 ghost use Rattle.vx_diskset.specs.Noted.{OverCalled};
 ghost use Rattle.vx_diskset.specs.Received.{CanReceive, ReachedUp, ShowedAt};
-ghost use Rattle.vx_diskset.specs.Stands.{InVolumes, OverStands};
+ghost use Rattle.vx_diskset.specs.Stands.{InVolumes, SiteStands};
 ghost use Rattle.vx_diskset.specs.declared.disk_set.DiskSet.TheVariants.{Over as OverSites};
 ghost use Rattle.vx_srlfmt.specs.Headers.{CanSpellState};
 
@@ -61,7 +61,7 @@ impl<R: Rack> OverSet<R> {
         requires some { 0 < length bytes.now }
         requires few { length bytes.now ≤ MOST_CALL_BYTES }
         requires whole { length bytes.now % 512 ≡ 0 }
-        ensures wrote { (beside : KeptBeside) (n : Node) → OverStands beside n self.site → CanLog n volume start (blocks_in bytes.now) → HasRoom beside.links n hold (blocks_in bytes.now) → LoggedUp beside n (record { volume = volume; start = start; bytes = bytes.now }) (OverSites self) (OverSites result.0) result.1 }
+        ensures wrote { (beside : KeptBeside) (n : Node) → SiteStands beside n (OverSites self) → CanLog n volume start (blocks_in bytes.now) → HasRoom beside.links n hold (blocks_in bytes.now) → LoggedUp beside n (record { volume = volume; start = start; bytes = bytes.now }) (OverSites self) (OverSites result.0) result.1 }
         ensures called { OverCalled self result.0 }
     {
         let OverSet { site, cut } = self;
@@ -100,7 +100,7 @@ impl<R: Rack> OverSet<R> {
         requires some { 0 < length bytes.now }
         requires few { length bytes.now ≤ MOST_CALL_BYTES }
         requires whole { length bytes.now % 512 ≡ 0 }
-        ensures wrote { (beside : KeptBeside) (n : Node) → OverStands beside n self.old.site → CanLog n volume start (blocks_in bytes.now) → HasRoom beside.links n hold (blocks_in bytes.now) → LoggedUp beside n (record { volume = volume; start = start; bytes = bytes.now }) (OverSites self.old) (OverSites self.new) result }
+        ensures wrote { (beside : KeptBeside) (n : Node) → SiteStands beside n (OverSites self.old) → CanLog n volume start (blocks_in bytes.now) → HasRoom beside.links n hold (blocks_in bytes.now) → LoggedUp beside n (record { volume = volume; start = start; bytes = bytes.now }) (OverSites self.old) (OverSites self.new) result }
         ensures called { OverCalled self.old self.new }
     {
         let (over, answer) = mem::replace(self, OverSet::gone()).written(
@@ -112,7 +112,7 @@ impl<R: Rack> OverSet<R> {
 
     // Brings logged writes into their volumes.
     fn applied(self, to: u64) -> (OverSet<R>, Result<u64, No>)
-        ensures applied { (beside : KeptBeside) (n : Node) → OverStands beside n self.site → CanApply n → AppliedUp beside n to (OverSites self) (OverSites result.0) result.1 }
+        ensures applied { (beside : KeptBeside) (n : Node) → SiteStands beside n (OverSites self) → CanApply n → AppliedUp beside n to (OverSites self) (OverSites result.0) result.1 }
         ensures brought { IfOk result.1 (λ number. InVolumes number (OverSites result.0)) }
         ensures called { OverCalled self result.0 }
     {
@@ -143,7 +143,7 @@ impl<R: Rack> OverSet<R> {
     }
 
     pub(crate) fn apply(&mut self, to: u64) -> Result<u64, No>
-        ensures applied { (beside : KeptBeside) (n : Node) → OverStands beside n self.old.site → CanApply n → AppliedUp beside n to (OverSites self.old) (OverSites self.new) result }
+        ensures applied { (beside : KeptBeside) (n : Node) → SiteStands beside n (OverSites self.old) → CanApply n → AppliedUp beside n to (OverSites self.old) (OverSites self.new) result }
         ensures brought { IfOk result (λ number. InVolumes number (OverSites self.new)) }
         ensures called { OverCalled self.old self.new }
     {
@@ -155,7 +155,7 @@ impl<R: Rack> OverSet<R> {
     // Makes a state of the log's line durable.
     fn kept(self, state: &State) -> (OverSet<R>, Result<(), No>)
         requires state { CanSpellState state.now }
-        ensures kept { (beside : KeptBeside) (n : Node) → OverStands beside n self.site → CanKeep beside n state.now → KeptUp beside n state.now (OverSites self) (OverSites result.0) result.1 }
+        ensures kept { (beside : KeptBeside) (n : Node) → SiteStands beside n (OverSites self) → CanKeep beside n state.now → KeptUp beside n state.now (OverSites self) (OverSites result.0) result.1 }
         ensures called { OverCalled self result.0 }
     {
         let OverSet { site, cut } = self;
@@ -186,7 +186,7 @@ impl<R: Rack> OverSet<R> {
 
     pub(crate) fn keep(&mut self, state: &State) -> Result<(), No>
         requires state { CanSpellState state.now }
-        ensures kept { (beside : KeptBeside) (n : Node) → OverStands beside n self.old.site → CanKeep beside n state.now → KeptUp beside n state.now (OverSites self.old) (OverSites self.new) result }
+        ensures kept { (beside : KeptBeside) (n : Node) → SiteStands beside n (OverSites self.old) → CanKeep beside n state.now → KeptUp beside n state.now (OverSites self.old) (OverSites self.new) result }
         ensures called { OverCalled self.old self.new }
     {
         let (over, answer) = mem::replace(self, OverSet::gone()).kept(state);
@@ -199,7 +199,7 @@ impl<R: Rack> OverSet<R> {
         requires some { 0 < length into.old }
         requires few { length into.old ≤ MOST_CALL_BYTES }
         requires whole { length into.old % 512 ≡ 0 }
-        ensures read { (beside : KeptBeside) (n : Node) → OverStands beside n self.site → CanRead n volume start (blocks_in into.old) → ReadAt beside n volume start (blocks_in into.old) into.new (OverSites self) (OverSites result.0) result.1 }
+        ensures read { (beside : KeptBeside) (n : Node) → SiteStands beside n (OverSites self) → CanRead n volume start (blocks_in into.old) → ReadAt beside n volume start (blocks_in into.old) into.new (OverSites self) (OverSites result.0) result.1 }
         ensures called { OverCalled self result.0 }
     {
         let OverSet { site, cut } = self;
@@ -252,7 +252,7 @@ impl<R: Rack> OverSet<R> {
         requires some { 0 < length into.old }
         requires few { length into.old ≤ MOST_CALL_BYTES }
         requires whole { length into.old % 512 ≡ 0 }
-        ensures read { (beside : KeptBeside) (n : Node) → OverStands beside n self.old.site → CanRead n volume start (blocks_in into.old) → ReadAt beside n volume start (blocks_in into.old) into.new (OverSites self.old) (OverSites self.new) result }
+        ensures read { (beside : KeptBeside) (n : Node) → SiteStands beside n (OverSites self.old) → CanRead n volume start (blocks_in into.old) → ReadAt beside n volume start (blocks_in into.old) into.new (OverSites self.old) (OverSites self.new) result }
         ensures called { OverCalled self.old self.new }
     {
         let (over, answer) = mem::replace(self, OverSet::gone()).was_read(volume, start, into);
@@ -265,7 +265,7 @@ impl<R: Rack> OverSet<R> {
         requires some { 0 < length into.old }
         requires few { length into.old ≤ MOST_CALL_BYTES }
         requires whole { length into.old % 512 ≡ 0 }
-        ensures shows { (beside : KeptBeside) (n : Node) → OverStands beside n self.site → CanRead n volume start (blocks_in into.old) → ShowedAt beside n volume start (blocks_in into.old) into.new (OverSites self) (OverSites result.0) result.1 }
+        ensures shows { (beside : KeptBeside) (n : Node) → SiteStands beside n (OverSites self) → CanRead n volume start (blocks_in into.old) → ShowedAt beside n volume start (blocks_in into.old) into.new (OverSites self) (OverSites result.0) result.1 }
         ensures called { OverCalled self result.0 }
     {
         let OverSet { site, cut } = self;
@@ -318,7 +318,7 @@ impl<R: Rack> OverSet<R> {
         requires some { 0 < length into.old }
         requires few { length into.old ≤ MOST_CALL_BYTES }
         requires whole { length into.old % 512 ≡ 0 }
-        ensures shows { (beside : KeptBeside) (n : Node) → OverStands beside n self.old.site → CanRead n volume start (blocks_in into.old) → ShowedAt beside n volume start (blocks_in into.old) into.new (OverSites self.old) (OverSites self.new) result }
+        ensures shows { (beside : KeptBeside) (n : Node) → SiteStands beside n (OverSites self.old) → CanRead n volume start (blocks_in into.old) → ShowedAt beside n volume start (blocks_in into.old) into.new (OverSites self.old) (OverSites self.new) result }
         ensures called { OverCalled self.old self.new }
     {
         let (over, answer) = mem::replace(self, OverSet::gone()).shown(volume, start, into);
@@ -328,7 +328,7 @@ impl<R: Rack> OverSet<R> {
 
     // Logs the oldest of what waits, so many of them or all, and brings all that is logged into the volumes.
     fn reached(self, count: u64) -> (OverSet<R>, Result<Reached, No>)
-        ensures applied { (beside : KeptBeside) (n : Node) → OverStands beside n self.site → CanReceive beside n → ReachedUp beside n count (OverSites self) (OverSites result.0) result.1 }
+        ensures applied { (beside : KeptBeside) (n : Node) → SiteStands beside n (OverSites self) → CanReceive beside n → ReachedUp beside n count (OverSites self) (OverSites result.0) result.1 }
         ensures called { OverCalled self result.0 }
     {
         let OverSet { site, cut } = self;
@@ -361,7 +361,7 @@ impl<R: Rack> OverSet<R> {
     }
 
     pub(crate) fn apply_waiting(&mut self, count: u64) -> Result<Reached, No>
-        ensures applied { (beside : KeptBeside) (n : Node) → OverStands beside n self.old.site → CanReceive beside n → ReachedUp beside n count (OverSites self.old) (OverSites self.new) result }
+        ensures applied { (beside : KeptBeside) (n : Node) → SiteStands beside n (OverSites self.old) → CanReceive beside n → ReachedUp beside n count (OverSites self.old) (OverSites self.new) result }
         ensures called { OverCalled self.old self.new }
     {
         let (over, answer) = mem::replace(self, OverSet::gone()).reached(count);
