@@ -430,7 +430,7 @@ module _ {beside : KeptBeside} (n : Node) (number : ℕ) (c d : Core) (us : List
 
 -- ---- what the rule of receivers says
 
-rule_none : (n : Node) (count : ℕ) → min count (length n.log - n.safe) ≡ 0 → (received_step (plain_receiver n) (Applied count)).action ≡ DoesNothing
+pub rule_none : (n : Node) (count : ℕ) → min count (length n.log - n.safe) ≡ 0 → (received_step (plain_receiver n) (Applied count)).action ≡ DoesNothing
 rule_none n count is = by (eqb (min count (length n.log - n.safe)) 0) refl
   where
     by : (b : Bool) → eqb (min count (length n.log - n.safe)) 0 ≡ b
@@ -441,7 +441,7 @@ rule_none n count is = by (eqb (min count (length n.log - n.safe)) 0) refl
         never : true ≡ false → ⊥
         never e = cc
 
-rule_some : (n : Node) (count few : ℕ) → few ≡ min count (length n.log - n.safe) → 0 < few → n.safe ≤ length n.log → (received_step (plain_receiver n) (Applied count)).action ≡ DataAck (n.safe + few)
+pub rule_some : (n : Node) (count few : ℕ) → few ≡ min count (length n.log - n.safe) → 0 < few → n.safe ≤ length n.log → (received_step (plain_receiver n) (Applied count)).action ≡ DataAck (n.safe + few)
 rule_some n count few is some low = by (eqb (min count (length n.log - n.safe)) 0) refl
   where
     by : (b : Bool) → eqb (min count (length n.log - n.safe)) 0 ≡ b
