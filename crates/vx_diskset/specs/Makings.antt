@@ -24,7 +24,7 @@ use Rattle.vx_grouped.specs.SiteEnds.{ConfigGoes}
 use Rattle.vx_grouped.specs.declared.group_site.GroupSite.{GroupSite}
 use Rattle.vx_diskset.specs.Aboves.{site_in}
 use Rattle.vx_diskset.specs.GroupCalls.{AtSite, config_in}
-use Rattle.vx_diskset.specs.Noted.{NotedAt}
+use Rattle.vx_diskset.specs.Noted.{SiteNoted}
 use Rattle.vx_diskset.specs.Stands.{StandsAlone}
 use Rattle.vx_diskset.specs.declared.disk_set.DiskSet.{DiskSet}
 use Rattle.vx_diskset.specs.declared.disk_set.DiskSet.TheVariants.{OfGroup, Over}
@@ -59,20 +59,20 @@ module _ {R : Type 0} {g : Ghosts R} where
       (middle settled : GroupNode) × NarrowsNote (note.dark ≡ false) units note middle × ((v b : ℕ) → Contains units.vols v → middle.others v b ≡ []) × NoteSettles middle settled
       × ConfigGoes (λ x y. LosesSome (site_disks old) (site_disks below) (as_replicated units x) y) middle settled old below
       × StandsAlone (rvg_made c units middle (note_gained units settled) n) new
-      × NotedAt (rvg_made c units middle (note_gained units settled) n) (note_gained units settled) new
+      × SiteNoted (rvg_made c units middle (note_gained units settled) n) (note_gained units settled) new
   MakesRvgIs site n note units c old new below (Err (Refused (Device disk))) =
       (middle next : GroupNode) × NarrowsNote (note.dark ≡ false) units note middle × NoteUnsettles (note_begun units middle) next
-      × ConfigGoes (LosesSome (site_disks old) (site_disks below)) middle next old below × NotedAt (with_note next n) next new
+      × ConfigGoes (LosesSome (site_disks old) (site_disks below)) middle next old below × SiteNoted (with_note next n) next new
       × Rose ((site_disks old).disk_faults disk) ((site_disks below).disk_faults disk)
   MakesRvgIs site n note units c old new below (Err (Refused IsOff)) =
       (middle next : GroupNode) × NarrowsNote (note.dark ≡ false) units note middle × NoteUnsettles (note_begun units middle) next
-      × ConfigGoes (LosesSome (site_disks old) (site_disks below)) middle next old below × NotedAt (crashed (with_note next n) 0) next new × IsFused n.fuse
+      × ConfigGoes (LosesSome (site_disks old) (site_disks below)) middle next old below × SiteNoted (crashed (with_note next n) 0) next new × IsFused n.fuse
   MakesRvgIs site n note units c old new below (Err (Refused (Limit what most))) =
       (what ≡ Numbers) × (most ≡ greatest) × ((middle next : GroupNode) × NarrowsNote (note.dark ≡ false) units note middle × NoteSettles (note_begun units middle) next
-      × ConfigGoes (LosesSome (site_disks old) (site_disks below)) middle next old below × NotedAt (with_note next n) next new)
+      × ConfigGoes (LosesSome (site_disks old) (site_disks below)) middle next old below × SiteNoted (with_note next n) next new)
   MakesRvgIs site n note units c old new below (Err OutOfMemory) =
       (middle next : GroupNode) × NarrowsNote (note.dark ≡ false) units note middle × NoteSettles middle next
-      × ConfigGoes (LosesSome (site_disks old) (site_disks below)) middle next old below × NotedAt (with_note next n) next new
+      × ConfigGoes (LosesSome (site_disks old) (site_disks below)) middle next old below × SiteNoted (with_note next n) next new
   MakesRvgIs site n note units c old new below (Err (Refused other)) = ⊥
 
   abbrev pub below_in : DiskSet R g → GroupSite R g → GroupSite R g

@@ -36,16 +36,16 @@ module _ {R : Type 0} {g : Ghosts R} where
   NotedOn n note other = ⊥
 
   -- so it is of the disks of a site, with the write that is cut
-  abbrev pub NotedAt : Node → GroupNode → DiskSet R g → Type 0
-  NotedAt n note (OfGroup s) = NotedOn n note s.site × (cut_value s.cut ≡ note.cut)
-  NotedAt n note (Over s) = NotedOn (below_rvg n) note (site_in s) × (cut_value s.cut ≡ note.cut) × InsideOf (units_of n) note
-  NotedAt n note other = ⊥
+  abbrev pub SiteNoted : Node → GroupNode → DiskSet R g → Type 0
+  SiteNoted n note (OfGroup s) = NotedOn n note s.site × (cut_value s.cut ≡ note.cut)
+  SiteNoted n note (Over s) = NotedOn (below_rvg n) note (site_in s) × (cut_value s.cut ≡ note.cut) × InsideOf (units_of n) note
+  SiteNoted n note other = ⊥
 
   -- How a call on the replicated volume group of a site moves the note: its group is up still, or it crashed as its fuse ran out.
   abbrev pub NotesMoved : Node → GroupNode → GroupSite R g → DiskSet R g → GroupSite R g → DiskSet R g → Type 0
   NotesMoved n note below old below' new =
       (next : GroupNode) × NoteWorks note next × ConfigGoes (LosesSome (site_disks below) (site_disks below')) note next below below'
-      × (NotedAt (with_note next n) next new ⊎ (NotedAt (crashed (with_note next n) 0) next new × IsFused n.fuse))
+      × (SiteNoted (with_note next n) next new ⊎ (SiteNoted (crashed (with_note next n) 0) next new × IsFused n.fuse))
 
   abbrev pub NotesOver : Node → GroupNode → DiskSet R g → DiskSet R g → Type 0
   NotesOver n note (Over old) (Over new) = NotesMoved n note (site_in old) (Over old) (site_in new) (Over new)
@@ -53,7 +53,7 @@ module _ {R : Type 0} {g : Ghosts R} where
 
   -- a call on the replicated volume group of a site: of a site without a group it says nothing
   pub record NotesOn (old new : DiskSet R g) : Type 0 where
-    pub each : (beside : KeptBeside) (n : Node) (note : GroupNode) → SiteStands beside n old → NotedAt n note old → NotesOver n note old new
+    pub each : (beside : KeptBeside) (n : Node) (note : GroupNode) → SiteStands beside n old → SiteNoted n note old → NotesOver n note old new
 
   -- The same before the crash: the group is up still, or its disks are down.
   abbrev pub NotesWorked : Node → GroupNode → GroupSite R g → GroupSite R g → Type 0

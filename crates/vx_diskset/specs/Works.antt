@@ -23,7 +23,7 @@ use Rattle.vx_rvg.specs.Stands.{HoldsContent, LeftGroup, Stands}
 use Rattle.vx_rvg.specs.Starts.{IsStarted, ring_in}
 use Rattle.vx_rvg.specs.Views.{Core, IsSound, UnitsPlaced}
 use Rattle.vx_secondary.specs.Receivers.{Wait}
-use Rattle.vx_ground.specs.Rewrites.{OneLeft}
+use Rattle.vx_ground.specs.Rewrites.{OneRests}
 use Rattle.vx_diskset.specs.Burning.{OffIf}
 use Rattle.vx_diskset.specs.DiskSets.{CanLog, CanRead}
 use Rattle.vx_diskset.specs.Holds.{KeptBeside}
@@ -146,5 +146,5 @@ DoesStart units m m' (Err why) = OnlyLog units m m'
 -- Whatever is answered, each block has a value that it might have; done, each block of these units has one.
 pub record DoesRewrite (volumes : List ℕ) (m m' : Meaning) (r : Result (Unit {0}) ShelfError) : Type 0 where
   pub goes : Goes m.leaves m m'
-  pub one : OnOk r ((u : ℕ) → Contains volumes u → OneLeft u m')
+  pub one : OnOk r ((u : ℕ) → Contains volumes u → OneRests u m')
   pub cause : IfErr r (λ e. DeviceCause m m' (refusal_of e))

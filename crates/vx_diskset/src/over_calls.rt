@@ -69,21 +69,11 @@ impl<R: Rack> OverSet<R> {
             OverSite::Origin(founded) => {
                 if volume < founded.core.volumes() {
                     let (founded, answer) = founded.write(volume, start, bytes, hold);
-                    (
-                        OverSet {
-                            site: OverSite::Origin(founded),
-                            cut,
-                        },
-                        answer,
-                    )
+                    let site = OverSite::Origin(founded);
+                    (OverSet { site, cut }, answer)
                 } else {
-                    (
-                        OverSet {
-                            site: OverSite::Origin(founded),
-                            cut,
-                        },
-                        Err(No::Role),
-                    )
+                    let site = OverSite::Origin(founded);
+                    (OverSet { site, cut }, Err(No::Role))
                 }
             }
             site => (OverSet { site, cut }, Err(No::Role)),
@@ -120,23 +110,13 @@ impl<R: Rack> OverSet<R> {
         match site {
             OverSite::Origin(founded) => {
                 let (founded, answer) = founded.apply(to);
-                (
-                    OverSet {
-                        site: OverSite::Origin(founded),
-                        cut,
-                    },
-                    answer,
-                )
+                let site = OverSite::Origin(founded);
+                (OverSet { site, cut }, answer)
             }
             OverSite::Receiver(founded) => {
                 let (founded, answer) = founded.apply(to);
-                (
-                    OverSet {
-                        site: OverSite::Receiver(founded),
-                        cut,
-                    },
-                    answer,
-                )
+                let site = OverSite::Receiver(founded);
+                (OverSet { site, cut }, answer)
             }
             site => (OverSet { site, cut }, Err(No::Role)),
         }
@@ -162,23 +142,13 @@ impl<R: Rack> OverSet<R> {
         match site {
             OverSite::Origin(founded) => {
                 let (founded, answer) = founded.keep(state);
-                (
-                    OverSet {
-                        site: OverSite::Origin(founded),
-                        cut,
-                    },
-                    answer,
-                )
+                let site = OverSite::Origin(founded);
+                (OverSet { site, cut }, answer)
             }
             OverSite::Receiver(founded) => {
                 let (founded, answer) = founded.keep(state);
-                (
-                    OverSet {
-                        site: OverSite::Receiver(founded),
-                        cut,
-                    },
-                    answer,
-                )
+                let site = OverSite::Receiver(founded);
+                (OverSet { site, cut }, answer)
             }
             site => (OverSet { site, cut }, Err(No::Role)),
         }
@@ -207,41 +177,21 @@ impl<R: Rack> OverSet<R> {
             OverSite::Origin(founded) => {
                 if volume < founded.core.volumes() {
                     let (founded, answer) = founded.read(volume, start, into);
-                    (
-                        OverSet {
-                            site: OverSite::Origin(founded),
-                            cut,
-                        },
-                        answer,
-                    )
+                    let site = OverSite::Origin(founded);
+                    (OverSet { site, cut }, answer)
                 } else {
-                    (
-                        OverSet {
-                            site: OverSite::Origin(founded),
-                            cut,
-                        },
-                        Err(No::Role),
-                    )
+                    let site = OverSite::Origin(founded);
+                    (OverSet { site, cut }, Err(No::Role))
                 }
             }
             OverSite::Receiver(founded) => {
                 if volume < founded.core.volumes() {
                     let (founded, answer) = founded.read(volume, start, into);
-                    (
-                        OverSet {
-                            site: OverSite::Receiver(founded),
-                            cut,
-                        },
-                        answer,
-                    )
+                    let site = OverSite::Receiver(founded);
+                    (OverSet { site, cut }, answer)
                 } else {
-                    (
-                        OverSet {
-                            site: OverSite::Receiver(founded),
-                            cut,
-                        },
-                        Err(No::Role),
-                    )
+                    let site = OverSite::Receiver(founded);
+                    (OverSet { site, cut }, Err(No::Role))
                 }
             }
             site => (OverSet { site, cut }, Err(No::Role)),
@@ -273,41 +223,21 @@ impl<R: Rack> OverSet<R> {
             OverSite::Origin(founded) => {
                 if volume < founded.core.volumes() {
                     let (founded, answer) = founded.read(volume, start, into);
-                    (
-                        OverSet {
-                            site: OverSite::Origin(founded),
-                            cut,
-                        },
-                        answer,
-                    )
+                    let site = OverSite::Origin(founded);
+                    (OverSet { site, cut }, answer)
                 } else {
-                    (
-                        OverSet {
-                            site: OverSite::Origin(founded),
-                            cut,
-                        },
-                        Err(No::Role),
-                    )
+                    let site = OverSite::Origin(founded);
+                    (OverSet { site, cut }, Err(No::Role))
                 }
             }
             OverSite::Receiver(founded) => {
                 if volume < founded.core.volumes() {
                     let (founded, answer) = founded.show(volume, start, into);
-                    (
-                        OverSet {
-                            site: OverSite::Receiver(founded),
-                            cut,
-                        },
-                        answer,
-                    )
+                    let site = OverSite::Receiver(founded);
+                    (OverSet { site, cut }, answer)
                 } else {
-                    (
-                        OverSet {
-                            site: OverSite::Receiver(founded),
-                            cut,
-                        },
-                        Err(No::Role),
-                    )
+                    let site = OverSite::Receiver(founded);
+                    (OverSet { site, cut }, Err(No::Role))
                 }
             }
             site => (OverSet { site, cut }, Err(No::Role)),
@@ -335,21 +265,14 @@ impl<R: Rack> OverSet<R> {
         match site {
             OverSite::Receiver(founded) => {
                 let (founded, answer) = reach(founded, count);
-                (
-                    OverSet {
-                        site: OverSite::Receiver(founded),
-                        cut,
-                    },
-                    answer,
-                )
+                let site = OverSite::Receiver(founded);
+                (OverSet { site, cut }, answer)
             }
             OverSite::Origin(founded) => {
                 let number = founded.core.head();
+                let site = OverSite::Origin(founded);
                 (
-                    OverSet {
-                        site: OverSite::Origin(founded),
-                        cut,
-                    },
+                    OverSet { site, cut },
                     Ok(Reached {
                         number,
                         acks: false,

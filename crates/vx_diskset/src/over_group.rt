@@ -6,7 +6,7 @@ ghost use Rattle.vx_diskset.specs.Asked.{FuseGoesOn, SameFailing};
 ghost use Rattle.vx_diskset.specs.DiskSets.{Later};
 ghost use Rattle.vx_diskset.specs.GroupCalls.{config_in};
 ghost use Rattle.vx_diskset.specs.Makings.{MadeOver};
-ghost use Rattle.vx_diskset.specs.Noted.{NotedAt};
+ghost use Rattle.vx_diskset.specs.Noted.{SiteNoted};
 ghost use Rattle.vx_events.specs.GroupLines.{is_over_group};
 ghost use Rattle.vx_history.specs.Groups.{GroupNode};
 ghost use Rattle.vx_history.specs.World.{Node};
@@ -287,7 +287,7 @@ impl<R: Rack> DiskSet<R> {
     ///
     /// Answers 19 where no serial is left, 7 where a disk failed, and 6 where the fuse ran out; or memory is wanted.
     pub fn make_rvg(self, alloc: Global, site: u32, units: &Units) -> (DiskSet<R>, Result<(), Stop>)
-        ensures made { (n : Node) (note : GroupNode) (c : ConfigValue) → NotedAt n note self → n.state ≡ UpState → is_over_group n ≡ true → config_in self ≡ Some c → c.rvg ≡ None → is_group c.volumes units.now ≡ true → MadeOver site n note units.now c self result.0 result.1 }
+        ensures made { (n : Node) (note : GroupNode) (c : ConfigValue) → SiteNoted n note self → n.state ≡ UpState → is_over_group n ≡ true → config_in self ≡ Some c → c.rvg ≡ None → is_group c.volumes units.now ≡ true → MadeOver site n note units.now c self result.0 result.1 }
         ensures failing { SameFailing self result.0 }
         ensures fuse { FuseGoesOn self result.0 }
         ensures later { Later self result.0 }

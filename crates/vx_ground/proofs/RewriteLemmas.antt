@@ -7,7 +7,7 @@ use Rattle.vx_disk.specs.Shelf.{Covers, Flushed, Goes, Lawful, Meaning, Nothing,
 use Rattle.vx_disk.specs.declared.shelf.ShelfError.{ShelfError}
 use Rattle.vx_disk.proofs.Causing.{Cause_both}
 use Rattle.vx_disk.proofs.Runs.{both_Goes, nothing_then, same_Goes, weaker}
-use Rattle.vx_ground.specs.Rewrites.{OneEach, OneLeft, Rewrote, WasLeft}
+use Rattle.vx_ground.specs.Rewrites.{OneSeen, OneRests, Rewrote, WasLeft}
 
 -- where nothing is told there is no value
 module _ (p q : Meaning → ℕ → ℕ → List ℕ → Type 0) (unit : ℕ) (old new : Meaning) (law : Lawful new) (g : Goes (p old) old new) where
@@ -85,7 +85,7 @@ module _ (unit : ℕ) (old mid new : Meaning) where
         | inr put ↦ put
       ]
 
-pub on_one : (unit done count : ℕ) (old new : Meaning) → OneEach unit 0 done old → Rewrote unit done count old new → OneEach unit 0 (done + count) new
+pub on_one : (unit done count : ℕ) (old new : Meaning) → OneSeen unit 0 done old → Rewrote unit done count old new → OneSeen unit 0 (done + count) new
 on_one unit done count old new each more = record { one = λ b x y low high here there. by b x y high here there (cases_lt b done) }
   where
     by : (b : ℕ) (x y : List ℕ) → b < 0 + (done + count) → new.reads unit b x → new.reads unit b y → (b < done) ⊎ (done ≤ b) → x ≡ y
@@ -93,14 +93,14 @@ on_one unit done count old new each more = record { one = λ b x y low high here
         each.one b x y (omega arith) (omega (arith, lt)) (more.others b x (λ le less. omega (arith, lt, le)) here) (more.others b y (λ le less. omega (arith, lt, le)) there)
     by b x y high here there (inr le) = more.one.one b x y le (omega (arith, high)) here there
 
-pub on_left : (unit : ℕ) (old new : Meaning) → OneEach unit 0 (old.size unit) old → new.size unit ≡ old.size unit → Flushed unit old new → OneLeft unit new
+pub on_left : (unit : ℕ) (old new : Meaning) → OneSeen unit 0 (old.size unit) old → new.size unit ≡ old.size unit → Flushed unit old new → OneRests unit new
 on_left unit old new each size flushed = record { one = λ b x y low here there. each.one b x y (omega arith) (omega (arith, low, size)) (flushed.each b x here) (flushed.each b y there) }
 
 -- ---- the loop over runs
 
 pub record RewriteLoop (unit : ℕ) (old new : Meaning) (done blocks : ℕ) : Type 1 where
   pub goes : Goes (WasLeft unit old) old new
-  pub one : OneEach unit 0 done new
+  pub one : OneSeen unit 0 done new
   pub low : done ≤ blocks
   pub up : (new ≡ old) ⊎ StaysUp old new
 
@@ -129,8 +129,8 @@ module _ (unit : ℕ) (old mid new : Meaning) (done blocks : ℕ) (at : RewriteL
   ]
 
 -- the flush behind it
-pub loop_left : {T E : Type 0} (r : Result T E) (unit : ℕ) (old mid new : Meaning) (done blocks : ℕ) → RewriteLoop unit old mid done blocks → blocks ≡ old.size unit → blocks ≤ done → Goes Nothing mid new → OnOk r (Flushed unit mid new) → OnOk r (OneLeft unit new)
+pub loop_left : {T E : Type 0} (r : Result T E) (unit : ℕ) (old mid new : Meaning) (done blocks : ℕ) → RewriteLoop unit old mid done blocks → blocks ≡ old.size unit → blocks ≤ done → Goes Nothing mid new → OnOk r (Flushed unit mid new) → OnOk r (OneRests unit new)
 loop_left (Err e) unit old mid new done blocks at size past goes flushed = tt
 loop_left (Ok x) unit old mid new done blocks at size past goes flushed =
     let all : done ≡ mid.size unit = (let low = at.low in let same = at.goes.size unit in omega (arith, low, past, size, same)) in
-    on_left unit mid new (subst (λ (k : ℕ). OneEach unit 0 k mid) all at.one) (goes.size unit) flushed
+    on_left unit mid new (subst (λ (k : ℕ). OneSeen unit 0 k mid) all at.one) (goes.size unit) flushed

@@ -7,10 +7,10 @@ use Rattle.vx_group.specs.declared.group_core.GroupCore.{GroupCore}
 use Rattle.vx_grouped.specs.declared.laid.Laid.{Laid}
 use Rattle.vx_untold.specs.Shades.{shade_meaning}
 
-abbrev pub volumes_of : GroupCore → Meaning → Meaning
-volumes_of core m = inner_meaning (wide core) m
+abbrev pub volumes_over : GroupCore → Meaning → Meaning
+volumes_over core m = inner_meaning (wide core) m
 
 module _ {R : Type 0} {g : Ghosts R} where
   -- the same of one that is up on the disks of a site
   abbrev pub laid_volumes : Laid R g → Meaning
-  laid_volumes laid = volumes_of laid.core (shade_meaning g.meaning laid.shelf)
+  laid_volumes laid = volumes_over laid.core (shade_meaning g.meaning laid.shelf)

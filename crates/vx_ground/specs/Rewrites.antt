@@ -8,14 +8,14 @@ pub record WasLeft (unit : ℕ) (m : Meaning) (u b : ℕ) (x : List ℕ) : Type 
   pub left : m.leaves u b x
 
 -- each of so many blocks from this one on reads as one value
-pub record OneEach (unit block count : ℕ) (m : Meaning) : Type 0 where
+pub record OneSeen (unit block count : ℕ) (m : Meaning) : Type 0 where
   pub one : (b : ℕ) (x y : List ℕ) → block ≤ b → b < block + count → m.reads unit b x → m.reads unit b y → x ≡ y
 
 -- so they do then, and every other one reads as it did
 pub record Rewrote (unit block count : ℕ) (old new : Meaning) : Type 0 where
-  pub one : OneEach unit block count new
+  pub one : OneSeen unit block count new
   pub others : (b : ℕ) (x : List ℕ) → (block ≤ b → b < block + count → ⊥) → new.reads unit b x → old.reads unit b x
 
 -- a crash leaves one value of each block
-pub record OneLeft (unit : ℕ) (m : Meaning) : Type 0 where
+pub record OneRests (unit : ℕ) (m : Meaning) : Type 0 where
   pub one : (b : ℕ) (x y : List ℕ) → b < m.size unit → m.leaves unit b x → m.leaves unit b y → x ≡ y

@@ -1,7 +1,7 @@
 // Work on the volumes of a group, with an account of what becomes of the group and of its disks.
 ghost use Rattle.std.specs.Prelude.{◌≡◌, ℕ};
 ghost use Rattle.vx_ground.specs.Accounts.{GroundSince};
-ghost use Rattle.vx_ground.specs.Lifted.{laid_volumes, volumes_of};
+ghost use Rattle.vx_ground.specs.Lifted.{laid_volumes, volumes_over};
 ghost use Rattle.vx_untold.specs.Shades.{rack_of, shade_meaning};
 ghost use Rattle.vx_watched.specs.Since.{CalledSince};
 ghost use Rattle.vx_watched.specs.Traces.{TellsLess};
@@ -22,8 +22,8 @@ fn work_from<D: Founding, S: Shelf, W: Work>(
 ) -> (LoggedGroup<S>, W::Answer)
     requires counts { (s : S) (d : ℕ) → (S.meaning s).disk_faults d ≡ (S.meaning s).faults d }
     requires since { GroundSince D.config D.disks group.core.inner.config (S.meaning group.shelf) }
-    requires asks { W.asks work (volumes_of group.core (S.meaning group.shelf)) }
-    ensures does { W.does work (volumes_of group.core (S.meaning group.shelf)) (volumes_of result.0.core (S.meaning result.0.shelf)) result.1 }
+    requires asks { W.asks work (volumes_over group.core (S.meaning group.shelf)) }
+    ensures does { W.does work (volumes_over group.core (S.meaning group.shelf)) (volumes_over result.0.core (S.meaning result.0.shelf)) result.1 }
     ensures since { GroundSince D.config D.disks result.0.core.inner.config (S.meaning result.0.shelf) }
 {
     let ground = Ground::<S, D>::over(group);
@@ -34,8 +34,8 @@ fn work_from<D: Founding, S: Shelf, W: Work>(
 // The same with its account.
 fn work_grounded<S: Shelf, W: Work>(group: LoggedGroup<S>, work: W) -> (LoggedGroup<S>, W::Answer)
     requires counts { (s : S) (d : ℕ) → (S.meaning s).disk_faults d ≡ (S.meaning s).faults d }
-    requires asks { W.asks work (volumes_of group.core (S.meaning group.shelf)) }
-    ensures does { W.does work (volumes_of group.core (S.meaning group.shelf)) (volumes_of result.0.core (S.meaning result.0.shelf)) result.1 }
+    requires asks { W.asks work (volumes_over group.core (S.meaning group.shelf)) }
+    ensures does { W.does work (volumes_over group.core (S.meaning group.shelf)) (volumes_over result.0.core (S.meaning result.0.shelf)) result.1 }
     ensures since { GroundSince group.core.inner.config (S.meaning group.shelf) result.0.core.inner.config (S.meaning result.0.shelf) }
 {
     work_from::<Brand, S, W>(group, work)
@@ -47,8 +47,8 @@ fn work_watched<B: Begun, R: Rack, W: Work>(
     work: W,
 ) -> (LoggedGroup<R>, W::Answer)
     requires since { CalledSince B.first (R.meaning group.shelf) }
-    requires asks { W.asks work (volumes_of group.core (R.meaning group.shelf)) }
-    ensures does { W.does work (volumes_of group.core (R.meaning group.shelf)) (volumes_of result.0.core (R.meaning result.0.shelf)) result.1 }
+    requires asks { W.asks work (volumes_over group.core (R.meaning group.shelf)) }
+    ensures does { W.does work (volumes_over group.core (R.meaning group.shelf)) (volumes_over result.0.core (R.meaning result.0.shelf)) result.1 }
     ensures ground { GroundSince group.core.inner.config (R.meaning group.shelf) result.0.core.inner.config (R.meaning result.0.shelf) }
     ensures since { CalledSince B.first (R.meaning result.0.shelf) }
 {

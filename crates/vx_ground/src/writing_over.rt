@@ -2,7 +2,7 @@
 ghost use Rattle.std.specs.Prelude.{◌≡◌, ◌+◌, ◌<◌, ◌≤◌, IfErr, OnOk};
 ghost use Rattle.vx_disk.specs.Causes.{Cause};
 ghost use Rattle.vx_disk.specs.Shelf.{Goes};
-ghost use Rattle.vx_ground.specs.Rewrites.{OneLeft, Rewrote, WasLeft};
+ghost use Rattle.vx_ground.specs.Rewrites.{OneRests, Rewrote, WasLeft};
 
 use vx_disk::{Shelf, ShelfError};
 use vx_model::limits::{BLOCK, MOST_CALL_BLOCKS};
@@ -29,7 +29,7 @@ fn write_run<S: Shelf>(shelf: &mut S, unit: u32, block: u64, count: u64) -> Resu
 pub fn write_over<S: Shelf>(shelf: &mut S, unit: u32) -> Result<(), ShelfError>
     requires there { unit < (S.meaning shelf.old).units }
     ensures goes { Goes (WasLeft unit (S.meaning shelf.old)) (S.meaning shelf.old) (S.meaning shelf.new) }
-    ensures one { OnOk result (OneLeft unit (S.meaning shelf.new)) }
+    ensures one { OnOk result (OneRests unit (S.meaning shelf.new)) }
     ensures cause { Cause (S.meaning shelf.old) (S.meaning shelf.new) unit result }
 {
     let blocks = shelf.size(unit);

@@ -41,9 +41,9 @@ pub record BringsVolumes (old : Meaning) (core : GroupCore) (m : Meaning) : Type
       → (inner_meaning (wide core) m).leaves v b value → value ≡ above v b
 
 -- where it is done
-abbrev pub Brings : {S G E : Type 0} → Meaning → (S → Meaning) → (G → GroupCore) → (G → S) → Result G E → Type 0
-Brings old meaning core shelf (Ok g) = BringsVolumes old (core g) (meaning (shelf g))
-Brings old meaning core shelf (Err e) = Unit {0}
+abbrev pub BringsGroup : {S G E : Type 0} → Meaning → (S → Meaning) → (G → GroupCore) → (G → S) → Result G E → Type 0
+BringsGroup old meaning core shelf (Ok g) = BringsVolumes old (core g) (meaning (shelf g))
+BringsGroup old meaning core shelf (Err e) = Unit {0}
 
 module _ {R : Type 0} {g : Ghosts R} where
   -- the same of a group that came up of disks that were alike
@@ -53,6 +53,6 @@ module _ {R : Type 0} {g : Ghosts R} where
     pub brings : BringsVolumes (shade_meaning g.meaning first) laid.core (shade_meaning g.meaning laid.shelf)
 
   -- where it did
-  abbrev pub BringsUp : Meaning → GroupSite R g → Result (Unit {0}) Stop → Type 0
-  BringsUp old (Up laid) (Ok done) = BringsSite old laid
-  BringsUp old other r = Unit {0}
+  abbrev pub BringsAtSite : Meaning → GroupSite R g → Result (Unit {0}) Stop → Type 0
+  BringsAtSite old (Up laid) (Ok done) = BringsSite old laid
+  BringsAtSite old other r = Unit {0}

@@ -8,7 +8,7 @@ ghost use Rattle.vx_group.specs.Imports.{ImportStops};
 ghost use Rattle.vx_group.specs.Resumes.{CanImport, CanImportBehind};
 ghost use Rattle.vx_grouped.specs.Away.{AwayLies};
 ghost use Rattle.vx_grouped.specs.Begins.{CreateSince};
-ghost use Rattle.vx_grouped.specs.Brings.{Brings, BringsUp};
+ghost use Rattle.vx_grouped.specs.Brings.{BringsAtSite, BringsGroup};
 ghost use Rattle.vx_grouped.specs.GroupSites.{AreStopped, AwayNoted, DownNoted, GroupAway, GroupDown, idle_below, idle_disks, site_below, site_disks};
 ghost use Rattle.vx_grouped.specs.Readies.{ready_of};
 ghost use Rattle.vx_grouped.specs.Returns.{ImportLeaves};
@@ -51,7 +51,7 @@ fn import_from<B: Begun, R: Rack>(
     ensures again { IfErr result (λ e. CanImportBehind (R.meaning e.0)) }
     ensures up { IfOk result (λ g. IsTrue (R.meaning g.shelf).down → ⊥) }
     ensures since { CreateSince B.first (λ s. R.meaning s) (λ g. g.shelf) result }
-    ensures brings { Brings (R.meaning rack) (λ s. R.meaning s) (λ g. g.core) (λ g. g.shelf) result }
+    ensures brings { BringsGroup (R.meaning rack) (λ s. R.meaning s) (λ g. g.core) (λ g. g.shelf) result }
 {
     let watched = Watched::<R, B>::over(rack);
     let came = import_group(alloc, watched, rested);
@@ -80,7 +80,7 @@ fn import_traced<C: Begun, R: Rack>(
     ensures up { IfOk result (λ g. IsTrue (shade_meaning (λ s. R.meaning s) g.shelf).down → ⊥) }
     ensures since { CreateSince (shade_meaning (λ s. R.meaning s) rack) (λ s. shade_meaning (λ s. R.meaning s) s) (λ g. g.shelf) result }
     ensures told { FoundTells C.first (λ s. R.meaning (rack_of s)) (λ g. R.meaning (rack_of g.shelf)) result }
-    ensures brings { Brings (shade_meaning (λ s. R.meaning s) rack) (λ s. shade_meaning (λ s. R.meaning s) s) (λ g. g.core) (λ g. g.shelf) result }
+    ensures brings { BringsGroup (shade_meaning (λ s. R.meaning s) rack) (λ s. shade_meaning (λ s. R.meaning s) s) (λ g. g.core) (λ g. g.shelf) result }
 {
     let came = import_from::<Brand, Shade<Traced<R, C>>>(alloc, traced::<C, R>(rack), rested);
     match came {
@@ -103,7 +103,7 @@ fn import_watched<R: Rack>(
     ensures up { IfOk result (λ g. IsTrue (shade_meaning (λ s. R.meaning s) g.shelf).down → ⊥) }
     ensures since { CreateSince (shade_meaning (λ s. R.meaning s) rack) (λ s. shade_meaning (λ s. R.meaning s) s) (λ g. g.shelf) result }
     ensures told { FoundTells (R.meaning (rack_of rack)) (λ s. R.meaning (rack_of s)) (λ g. R.meaning (rack_of g.shelf)) result }
-    ensures brings { Brings (shade_meaning (λ s. R.meaning s) rack) (λ s. shade_meaning (λ s. R.meaning s) s) (λ g. g.core) (λ g. g.shelf) result }
+    ensures brings { BringsGroup (shade_meaning (λ s. R.meaning s) rack) (λ s. shade_meaning (λ s. R.meaning s) s) (λ g. g.core) (λ g. g.shelf) result }
 {
     import_traced::<Brand, R>(alloc, rack, rested)
 }
@@ -188,7 +188,7 @@ fn recover_site<R: Rack>(
     ensures recovered { (n : Node) (note : GroupNode) → GroupDown n note true (R.meaning (rack_of rack)).tells (shade_meaning (λ s. R.meaning s) rack) → RecoversFrom n note (shade_meaning (λ s. R.meaning s) rack) result.0 result.1 }
     ensures since { ReturnSince (shade_meaning (λ s. R.meaning s) rack) (site_disks result.0) }
     ensures told { TellsLess (R.meaning (rack_of rack)) (site_below result.0) }
-    ensures brings { BringsUp (shade_meaning (λ s. R.meaning s) rack) result.0 result.1 }
+    ensures brings { BringsAtSite (shade_meaning (λ s. R.meaning s) rack) result.0 result.1 }
 {
     if !rack.is_down() {
         return (
@@ -223,7 +223,7 @@ fn import_site<R: Rack>(
     ensures imported { (n : Node) (note : GroupNode) → GroupAway n note true (R.meaning (rack_of rack)).tells (shade_meaning (λ s. R.meaning s) rack) → ImportsFrom n note (shade_meaning (λ s. R.meaning s) rack) result.0 result.1 }
     ensures since { ReturnSince (shade_meaning (λ s. R.meaning s) rack) (site_disks result.0) }
     ensures told { TellsLess (R.meaning (rack_of rack)) (site_below result.0) }
-    ensures brings { BringsUp (shade_meaning (λ s. R.meaning s) rack) result.0 result.1 }
+    ensures brings { BringsAtSite (shade_meaning (λ s. R.meaning s) rack) result.0 result.1 }
 {
     if rack.is_down() {
         return (
@@ -282,7 +282,7 @@ fn recover_idle<R: Rack>(alloc: Global, idle: Idle<R>) -> (GroupSite<R>, Result<
     ensures recovered { (n : Node) (note : GroupNode) → DownNoted n note (GroupSite.Down idle) → SiteRecovers n note (GroupSite.Down idle) result.0 result.1 }
     ensures since { ReturnSince (idle_disks idle) (site_disks result.0) }
     ensures told { TellsLess (idle_below idle) (site_below result.0) }
-    ensures brings { BringsUp (shade_meaning (λ s. R.meaning s) (ready_of idle.agreed idle.rack)) result.0 result.1 }
+    ensures brings { BringsAtSite (shade_meaning (λ s. R.meaning s) (ready_of idle.agreed idle.rack)) result.0 result.1 }
 {
     let rested = idle.rested;
     match rested {
@@ -296,7 +296,7 @@ fn import_idle<R: Rack>(alloc: Global, idle: Idle<R>) -> (GroupSite<R>, Result<(
     ensures imported { (n : Node) (note : GroupNode) → AwayNoted n note (GroupSite.Deported idle) → SiteImports n note (GroupSite.Deported idle) result.0 result.1 }
     ensures since { ReturnSince (idle_disks idle) (site_disks result.0) }
     ensures told { TellsLess (idle_below idle) (site_below result.0) }
-    ensures brings { BringsUp (shade_meaning (λ s. R.meaning s) (ready_of idle.agreed idle.rack)) result.0 result.1 }
+    ensures brings { BringsAtSite (shade_meaning (λ s. R.meaning s) (ready_of idle.agreed idle.rack)) result.0 result.1 }
 {
     let rested = idle.rested;
     match rested {
@@ -315,7 +315,7 @@ impl<R: Rack> GroupSite<R> {
         ensures imported { (n : Node) (note : GroupNode) → AwayNoted n note self → SiteImports n note self result.0 result.1 }
         ensures since { ReturnSince (site_disks self) (site_disks result.0) }
         ensures told { TellsLess (site_below self) (site_below result.0) }
-        ensures brings { BringsUp (as_imported self) result.0 result.1 }
+        ensures brings { BringsAtSite (as_imported self) result.0 result.1 }
     {
         match self {
             GroupSite::Down(idle) => recover_idle(alloc, idle),
