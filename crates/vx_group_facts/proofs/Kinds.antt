@@ -1,5 +1,5 @@
 -- The volumes of a group by what each is to a replicated volume group, with one more behind them.
-use Rattle.std.proofs.Common.{◌≡◌, ◌+◌, ℕ, zero, suc, List, [], ◌∷◌, ◌++◌, length, map, take, refl, ap, sym, arith}
+use Rattle.std.proofs.Common.{◌≡◌, ◌∙◌, ◌+◌, ℕ, zero, suc, List, [], ◌∷◌, ◌++◌, length, map, take, refl, ap, sym, arith}
 use Rattle.std.specs.Prelude.{Option, Some, None, slice_get, unwrap_or}
 use Rattle.vx_config.specs.declared.entry.VolumeEntry.{VolumeEntry}
 use Rattle.vx_model.specs.declared.units.Units.{Units}
@@ -27,3 +27,10 @@ kinds_plain k (v ∷ vs) = ap (λ (fs : List VolumeFacts). plain_fact v ∷ fs) 
 pub length_kinds : (units : Option Units) (k : ℕ) (vs : List VolumeEntry) → length (kinds_from units k vs) ≡ length vs
 length_kinds units k [] = refl
 length_kinds units k (v ∷ vs) = ap suc (length_kinds units (k + 1) vs)
+
+-- one volume more, from the first place on
+pub kinds_more : (units : Option Units) (n : ℕ) (vs : List VolumeEntry) (v : VolumeEntry) → slice_get vs n ≡ Some v
+    → kinds_from units 0 (take (n + 1) vs) ≡ kinds_from units 0 (take n vs) ++ kinded units n v ∷ []
+kinds_more units n vs v e =
+    let place : 0 + n ≡ n = omega arith in
+    kinds_next units 0 n vs v e ∙ ap (λ (k : ℕ). kinds_from units 0 (take n vs) ++ kinded units k v ∷ []) place
