@@ -5,6 +5,8 @@ pub mod Calm
 pub mod GroupStopping
 pub mod RvgStopping
 pub mod RvgEnding
+pub mod RvgEvents
+pub mod RvgSeats
 pub mod RvgFull
 pub mod RvgGains
 pub mod RvgKnown

@@ -169,7 +169,7 @@ recovery_begins Up s kept h = h
 recovery_begins Deported s kept h = h
 recovery_begins Down s kept h = h
 
-opens_at : (w : World) (line : ScriptLine) → OpensFor w line → (c : Choice) → BeginsWrite (events_of w line c)
+pub opens_at : (w : World) (line : ScriptLine) → OpensFor w line → (c : Choice) → BeginsWrite (events_of w line c)
     → IsOpen (w.nodes (place_of w line)) × (place_of w line < w.sites)
 opens_at w (Site name disks blocks) opens c h = absurd h
 opens_at w (Raw site) opens c h = absurd h
@@ -190,7 +190,7 @@ opens_at w other opens c h = absurd h
 module _ (told : Type 0) (is_told : told) (d : Doubted) (s : ℕ) (bright : (note_at (d.world.nodes s)).dark ≡ false) (agree : (note_at (d.world.nodes s)).loose ≡ false)
     (fails : Fails) (said : Said) (new : Doubted) where
   -- what the disks hold is known, so nothing else is found on them
-  never_found : (line : ScriptLine) → RvgFinds told d line s fails said new → ⊥
+  pub never_found : (line : ScriptLine) → RvgFinds told d line s fails said new → ⊥
   never_found line (FindsRvg kept taken next mid n k row c units are brings (inl untold) dark is same comes config fits says left) = untold is_told
   never_found line (FindsRvg kept taken next mid n k row c units are brings (inr (inl loose)) dark is same comes config fits says left) = absurd (let e : true ≡ false = sym loose ∙ agree in cc)
   never_found line (FindsRvg kept taken next mid n k row c units are brings (inr (inr unknown)) dark is same comes config fits says left) = absurd (let e : true ≡ false = sym unknown ∙ bright in cc)

@@ -38,13 +38,15 @@ as_replicated units c = record c { rvg = Some units }
 -- ---- notes
 
 -- What the line makes of volumes before the group has its replicated volume group. A block of a data volume has a value that it might have, of
--- which there may be fewer now; of the volumes of the log and of the maps nothing is said; and each other block is as it was.
+-- which there may be fewer now; of the volumes of the log and of the maps nothing is said, and of that of the log it may be that nothing is noted any more; and
+-- each other block is as it was.
 pub record NotesNarrowed (told : Type 0) (units : Units) (note new : GroupNode) : Type 0 where
   pub size : (v : ℕ) → new.bytes.size v ≡ note.bytes.size v
   pub may : IsKnown told note → (v b : ℕ) (x : List ℕ) → Contains units.vols v → b < note.bytes.size v → BlockMay new v b x → BlockMay note v b x
   pub others : (v b : ℕ) → (Contains (units.srl ∷ units.maps ∷ units.vols) v → ⊥)
       → (new.bytes.block v b ≡ note.bytes.block v b) × (new.others v b ≡ note.others v b)
-  pub same : new ≡ record note { bytes = new.bytes; others = new.others }
+  pub inside : (v : ℕ) → (v ≡ units.srl → ⊥) → new.inside v ≡ note.inside v
+  pub same : new ≡ record note { bytes = new.bytes; others = new.others; inside = new.inside }
 
 -- each block of a data volume has one value
 abbrev pub HasOneValue : Units → GroupNode → Type 0

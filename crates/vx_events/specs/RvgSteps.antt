@@ -109,3 +109,7 @@ HasNoRvgs w = (i : ℕ) → is_over_rvg (w.nodes i) ≡ false
 abbrev pub MakesNoRvg : ScriptLine → Type 0
 MakesNoRvg (Rvg site srl maps volumes) = ⊥
 MakesNoRvg other = Unit {0}
+
+-- it is known what the disks of groups hold, and imports of them agree
+abbrev pub AllAgree : World → Type 0
+AllAgree w = (i : ℕ) → ((note_at (w.nodes i)).dark ≡ false) × ((note_at (w.nodes i)).loose ≡ false)

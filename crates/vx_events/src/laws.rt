@@ -25,7 +25,7 @@ ghost use Rattle.vx_events.specs.declared.said.Said.TheVariants.{Done as SaysDon
 ghost use Rattle.vx_events.specs.RvgLinks.{AllKnown, LinksOver};
 ghost use Rattle.vx_events.specs.RvgMakes.{MakesRvg, RvgStops};
 ghost use Rattle.vx_events.specs.RvgOver.{OpensFor, OverRvg};
-ghost use Rattle.vx_events.specs.RvgSteps.{FoundPlain, HasNoRvgs, MakesNoRvg, StepFull};
+ghost use Rattle.vx_events.specs.RvgSteps.{AllAgree, FoundPlain, HasNoRvgs, MakesNoRvg, StepFull};
 ghost use Rattle.vx_events.specs.Fails.{AreBorne, Fails};
 ghost use Rattle.vx_events.specs.Lines.{LineStep, is_of_links};
 ghost use Rattle.vx_events.specs.Lists.{Choice};
@@ -130,6 +130,13 @@ pub fn steps_over_groups()
         → StepOver (IsTrue tells) files d line fails said new → LineStep (IsTrue tells) files d line fails said new }
     ensures stops { (tells files : Bool) (d : Doubted) (line : ScriptLine) (fails : Fails) (said : Said) (new : Doubted) → is_for_group d.world line ≡ true
         → StepOver (IsTrue tells) files d line fails said new → GroupStops d new }
+{}
+
+/// However a line ends that is refused or not, in worlds in which sites are over groups of disks with replicated volume groups or without: it ends as events of the
+/// world do, where it is known what the disks of groups hold, and imports agree.
+pub fn full_lines_are_events()
+    ensures { (files : Bool) (d : Doubted) (line : ScriptLine) (fails : Fails) (said : Said) (new : Doubted) → AllAgree d.world
+        → StepFull (Unit {0}) files d line fails said new → RvgStops d new }
 {}
 
 /// In a world in which no site is over a group of disks with a replicated volume group, a line that makes none does what it does there. Only one that brings a group

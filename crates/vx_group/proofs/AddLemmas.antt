@@ -24,6 +24,7 @@ use Rattle.vx_layout.specs.Places.{place}
 use Rattle.vx_volume.specs.Plexes.{DisksFit, Inside, SomeActive, active}
 use Rattle.vx_kept.specs.Commits.{Member, MissedCommit, Taken}
 use Rattle.vx_kept.specs.Groups.{group_meaning}
+use Rattle.vx_kept.specs.Finds.{FindsFrom, NoConfiguration}
 use Rattle.vx_kept.specs.Keeping.{Acts, AllOn, MayBeNext, IsTidy, Kept, Sees}
 use Rattle.vx_kept.proofs.Chosen.{active_volumes, alike_shape, place_volumes, same_extends}
 use Rattle.vx_kept.proofs.Lasting.{low_Acts}
@@ -41,7 +42,7 @@ use Rattle.vx_group.specs.Stands.{InnerStands, volume_faults, inner_meaning}
 use Rattle.vx_group.specs.declared.inner.Inner.{Inner}
 use Rattle.vx_group.proofs.DetachLemmas.{some_good, stop_sure}
 use Rattle.vx_group.proofs.LongerLemmas.{active_more, blocks_last, blocks_more, last_some, longer_count, longer_follows, longer_on}
-use Rattle.vx_group.proofs.Standing.{apart_of_core, can_of, fit_of, kept_of, low_Stands, made, still_large, tidy_of}
+use Rattle.vx_group.proofs.Standing.{apart_of_core, can_of, fit_of, kept_of, low_Stands, low_finds, made, still_large, tidy_of}
 
 module _ (core : Inner) (next : Config) (m : Meaning) (stands : InnerStands core m) (is_next : IsNextConfig core.config next) where
   abbrev n : ℕ
@@ -122,6 +123,9 @@ module _ (core : Inner) (next : Config) (m : Meaning) (stands : InnerStands core
   module _ (m1 : Meaning) (before : Lawful m) (mid : Lawful m1) (goes : Goes (ZerosOn next n) m m1) where
     pub zero_Stands : InnerStands core m1
     zero_Stands = low_Stands core (ZerosOn next n) m m1 goes zeros_high before mid stands
+
+    pub zero_finds : FindsFrom NoConfiguration m m1
+    zero_finds = low_finds core (ZerosOn next n) m m1 goes zeros_high before mid stands
 
     zero_acts : Acts (ZerosOn next n) (Sees core.config (Member core.good m) m) m m1
     zero_acts = low_Acts core.config (Member core.good m) m m1 (ZerosOn next n) goes zeros_high before mid (kept_of core m stands)

@@ -17,6 +17,7 @@ use Rattle.vx_volume.specs.Sets.{bits}
 use Rattle.vx_fmr.specs.Missed.{Missed}
 use Rattle.vx_kept.specs.Commits.{Member}
 use Rattle.vx_kept.specs.Groups.{PlacesApart, OnSome, OutsideVolumes, Shows, seen}
+use Rattle.vx_kept.specs.Finds.{FindsFrom, NoConfiguration}
 use Rattle.vx_kept.specs.Keeping.{Acts, SameShape, Sees}
 use Rattle.vx_kept.specs.States.{AreOn, SomeLeft, whole_of}
 use Rattle.vx_kept.proofs.Lasting.{low_Acts}
@@ -33,7 +34,7 @@ use Rattle.vx_group.proofs.CallLemmas.{narrows_Goes}
 use Rattle.vx_group.proofs.DetLemmas.{bit_other, no_flags}
 use Rattle.vx_group.proofs.DetachLemmas.{zero_bit}
 use Rattle.vx_group.proofs.OpeningLemmas.{Present, closed, open_Stands, open_on, open_others, open_shape, open_sound, open_wider, opened, present}
-use Rattle.vx_group.proofs.Standing.{apart_of_core, kept_of, low_Stands, sound_of}
+use Rattle.vx_group.proofs.Standing.{apart_of_core, kept_of, low_Stands, low_finds, sound_of}
 use Rattle.vx_group.proofs.LoseLemmas.{none_parts, then_parts}
 use Rattle.vx_group.specs.Loses.{SameParts}
 
@@ -97,6 +98,9 @@ module _ (core : Inner) (v p : ℕ) (f : Option Missed) (there : Present core.co
 
   pub missed_Stands : InnerStands core m'
   missed_Stands = low_Stands core (OnMissed d v p f) m m' goes high before after stands
+
+  pub copied_finds : FindsFrom NoConfiguration m m'
+  copied_finds = low_finds core (OnMissed d v p f) m m' goes high before after stands
 
   pub copied_Stands : InnerStands (opened v p core) m'
   copied_Stands = low_Stands (opened v p core) (OnMissed d v p f) m m' goes high before after (open_Stands core v p there m stands)
@@ -226,6 +230,9 @@ module _ (core : Inner) (v p : ℕ) (f : Option Missed) (may : MayAttach core.co
 
   pub to_Stands : InnerStands (with_config e core) m'
   to_Stands = subst (λ (x : Config). InnerStands (with_config x core) m') (sym is) (copied_Stands core v p f (present core.config v p may) off m m' before after stands goes_by)
+
+  pub to_finds : FindsFrom NoConfiguration m m'
+  to_finds = copied_finds core v p f (present core.config v p may) off m m' before after stands goes_by
 
   pub to_attaches : (source : ℕ) → IsTrue (active core.config v source) → IsCopied e v source p m m' → Attaches v p f core (with_config e core) m m'
   to_attaches source from copied =

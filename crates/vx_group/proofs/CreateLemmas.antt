@@ -131,8 +131,8 @@ first_cause good c last old new some more other stops = absurd stops
 -- ---- the group
 
 pub new_Stands : (site : ℕ) (disks : List DiskEntry) (core : Inner) (old new : Meaning) → AreLarge new → CanSpell core.config → is_wanted new.units new.size core.config ≡ true
-    → Taken (empty_config site disks) (empty_config site disks) core.config old new → AllOn core.config → core.good ≡ good_set core.config.disks → Trusts core.committed core.agreed (good_set core.config.disks) new → (core.committed ≡ true) ⊎ HasFailed core.config.disks → IsNewGroup site core new
-new_Stands site disks core old new large can wanted taken on good trusts trust = record {
+    → Taken (empty_config site disks) (empty_config site disks) core.config old new → AllOn core.config → core.good ≡ good_set core.config.disks → Trusts core.committed core.agreed (good_set core.config.disks) new → (core.committed ≡ true) ⊎ HasFailed core.config.disks → core.unsettled ≡ false → IsNewGroup site core new
+new_Stands site disks core old new large can wanted taken on good trusts trust settled = record {
   stands = made core new wanted can (let none = ap length taken.grown.volumes in omega (arith, none)) (λ v. let none = ap (λ vs. blocks_of vs v) taken.grown.volumes in omega (arith, none)) large on
       (subst (λ (g : ℕ). NoneGood core.config.disks (length core.config.disks) g → ⊥) (sym good) (some_good core.config.disks (good_set core.config.disks) taken.some))
       (subst (λ (g : ℕ). Kept core.config (Member g new) new) (sym good) taken.kept) (λ is. taken.tidy) (subst (λ (g : ℕ). Trusts core.committed core.agreed g new) (sym good) trusts);
@@ -141,4 +141,5 @@ new_Stands site disks core old new large can wanted taken on good trusts trust =
   rvg = taken.grown.rvg;
   newest = record { finds = taken.finds };
   trust = trust;
+  settled = settled;
 }

@@ -24,6 +24,7 @@ use Rattle.vx_kept.proofs.Narrower.{has_active, live_has, on_live}
 use Rattle.vx_kept.proofs.StateLemmas.{active_apart, active_off, live_apart, live_off, map_one, plex_same, same_shape, stated_shape, there_of}
 use Rattle.vx_group.specs.Attaches.{HasOther}
 use Rattle.vx_group.specs.Dets.{any_below, det_refusal, is_other}
+use Rattle.vx_group.specs.Finds.{CoreFinds}
 use Rattle.vx_group.specs.Holding.{GroupStands, HeldBack, IsHeld, active_at, config_by, wide, with_config}
 use Rattle.vx_group.specs.Moves.{Narrows}
 use Rattle.vx_group.specs.Stands.{InnerStands}
@@ -381,6 +382,10 @@ module _ (c0 : GroupCore) (h : Held) (m : Meaning) (it : GroupStands c0 m) (is :
       pub e_narrows : (m' : Meaning) → Narrows x e m m' → Narrows (wide c0) (wide c3) m m'
       e_narrows m' narrows =
           subst (λ (i : Inner). Narrows (wide c0) i m m') (sym (back_wide h.vol h.plex c2 c3 none back ∙ inner)) (subst (λ (i : Inner). Narrows i e m m') x_is narrows)
+
+      pub e_finds : (m' : Meaning) → CoreFinds x e m m' → CoreFinds (wide c0) (wide c3) m m'
+      e_finds m' finds =
+          subst (λ (i : Inner). CoreFinds (wide c0) i m m') (sym (back_wide h.vol h.plex c2 c3 none back ∙ inner)) (subst (λ (i : Inner). CoreFinds i e m m') x_is finds)
 
       pub e_Stands : (m' : Meaning) → InnerStands e m' → GroupStands c3 m'
       e_Stands m' stands = back_Stands h.vol h.plex c2 c3 none back m' (subst (λ (i : Inner). InnerStands i m') (sym inner) stands)

@@ -1,5 +1,6 @@
 pub mod Standing
 pub mod TrustLemmas
+pub mod FindingLemmas
 pub mod CallLemmas
 pub mod WriteLemmas
 pub mod DetachLemmas
@@ -31,6 +32,7 @@ pub mod FinishLemmas
 pub mod SourceLemmas
 pub mod GivingLemmas
 pub mod HoldLemmas
+pub mod FoundThrough
 pub mod ThroughLemmas
 pub mod BehindLemmas
 pub mod ImportLemmas

@@ -23,6 +23,7 @@ use Rattle.vx_copies.proofs.Marked.{failed_now}
 use Rattle.vx_copies.proofs.MarkedDisks.{mark_grown, mark_other}
 use Rattle.vx_copies.proofs.OneTry.{wanted_same}
 use Rattle.vx_kept.specs.Commits.{Member}
+use Rattle.vx_kept.specs.Finds.{FindsFrom, NoConfiguration}
 use Rattle.vx_kept.specs.Keeping.{Acts, IsTidy, Kept, Kin, Sees}
 use Rattle.vx_kept.proofs.Chosen.{active_volumes, alike_shape, extends_volumes}
 use Rattle.vx_kept.proofs.Committed.{fewer, take_on}
@@ -32,7 +33,7 @@ use Rattle.vx_kept.proofs.StateLemmas.{same_shape}
 use Rattle.vx_kept.proofs.Steps.{both_Acts, same_Acts, wide_Acts}
 use Rattle.vx_kept.proofs.Whole.{sees_back}
 use Rattle.vx_kept.specs.Trusts.{Trusts}
-use Rattle.vx_kept.proofs.Trusting.{less_trusts}
+use Rattle.vx_kept.proofs.Trusting.{less_finds, less_trusts}
 use Rattle.vx_group.specs.Moves.{Narrows}
 use Rattle.vx_group.specs.Quiesces.{AnyFailed}
 use Rattle.vx_group.specs.Settled.{SameBut, SettledTo}
@@ -265,3 +266,7 @@ settled_named good c d n device failed m m1 so_far = elim (cases_bool failed) [
 -- what imports find behind it
 pub settle_trusts : (committed agreed : Bool) (good : ℕ) (c d : Config) (n device : ℕ) (failed : Bool) (m m1 : Meaning) → Lawful m → Lawful m1 → SettledTo good c d n device failed m m1 → Trusts committed agreed good m → Trusts committed agreed good m1
 settle_trusts committed agreed good c d n device failed m m1 before after so_far trusts = less_trusts committed agreed good m m1 before after so_far.acts.units so_far.acts.size so_far.acts.tells (λ u b v lt left. so_far.less u b v left) trusts
+
+-- no image has another configuration behind it
+pub settle_finds : (good : ℕ) (c d : Config) (n device : ℕ) (failed : Bool) (m m1 : Meaning) → Lawful m → Lawful m1 → SettledTo good c d n device failed m m1 → FindsFrom NoConfiguration m m1
+settle_finds good c d n device failed m m1 before after so_far = less_finds m m1 before after so_far.acts.units so_far.acts.size so_far.acts.tells (λ u b v lt left. so_far.less u b v left)

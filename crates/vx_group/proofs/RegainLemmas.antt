@@ -21,6 +21,7 @@ use Rattle.vx_kept.proofs.Chosen.{active_volumes, alike_shape}
 use Rattle.vx_kept.proofs.Committed.{take_on}
 use Rattle.vx_kept.proofs.StateLemmas.{same_shape}
 use Rattle.vx_kept.proofs.Steps.{same_Acts}
+use Rattle.vx_kept.proofs.Trusting.{unsaid_trusts}
 use Rattle.vx_group.specs.Moves.{Narrows}
 use Rattle.vx_group.specs.Regains.{AreHeld, HeldOne, HoldsNow, LiesOnFailed, Regained, Regains, regained}
 use Rattle.vx_group.specs.Stands.{InnerStands}
@@ -227,7 +228,7 @@ module _ (core e : Inner) (ds : List DiskEntry) (m m' : Meaning) (stands : Inner
   config_back = record { serial = e.config.serial; site = e.config.site; disks = ds; volumes = e.config.volumes; rvg = e.config.rvg }
 
   abbrev back : Inner
-  back = record { config = config_back; good = e.good; room = e.room; unsettled = e.unsettled; committed = e.committed; agreed = e.agreed; next = e.next; faults = e.faults; unsure = e.unsure }
+  back = record { config = config_back; good = e.good; room = e.room; unsettled = e.unsettled; committed = false; agreed = e.agreed; next = e.next; faults = e.faults; unsure = e.unsure }
 
   pub flags_back : InnerStands back m'
   flags_back = made back m'
@@ -235,7 +236,7 @@ module _ (core e : Inner) (ds : List DiskEntry) (m m' : Meaning) (stands : Inner
       (record { serial = stands'.serial; disks = let some = stands.disks in omega (arith, ap length is, some); rvg = (can_of e m' stands').rvg })
       stands'.few stands'.small stands'.large (take_on e.config config_back refl stands'.on)
       (subst (λ (xs : List DiskEntry). NoneGood xs (length xs) e.good → ⊥) (sym is) (subst (λ (g : ℕ). NoneGood core.config.disks (length core.config.disks) g → ⊥) (sym good) stands.some))
-      (kept_volumes e.config config_back (Member e.good m') m' refl refl (kept_of e m' stands')) (λ off. absurd (let clash : true ≡ false = sym un ∙ off in cc)) stands'.trusts
+      (kept_volumes e.config config_back (Member e.good m') m' refl refl (kept_of e m' stands')) (λ off. absurd (let clash : true ≡ false = sym un ∙ off in cc)) (unsaid_trusts e.committed e.agreed e.good m' stands'.trusts)
 
   pub back_narrows : Narrows e back m' m'
   back_narrows = same_narrows e back m' refl refl refl

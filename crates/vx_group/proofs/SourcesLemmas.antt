@@ -12,6 +12,8 @@ use Rattle.vx_volume.specs.Copies.{CopyCause}
 use Rattle.vx_volume.specs.Plexes.{active, uses}
 use Rattle.vx_volume.specs.Volumes.{PlexBlamed}
 use Rattle.vx_volume.proofs.PlaceLemmas.{active_few}
+use Rattle.vx_kept.specs.Finds.{FindsFrom, NoConfiguration}
+use Rattle.vx_kept.proofs.Findings.{same_from, then_from}
 use Rattle.vx_group.specs.Attaches.{Attaches, CopyTried, SourcesTried}
 use Rattle.vx_group.specs.Blames.{Blames}
 use Rattle.vx_group.specs.Stands.{InnerStands}
@@ -45,6 +47,7 @@ pub sources_start : (core : Inner) (v p : ℕ) (f : Option Missed) (device : ℕ
 sources_start core v p f device m lawful stands up = record {
   stands = stands;
   attaches = no_attaches v p f core m lawful stands;
+  less = same_from NoConfiguration m;
   up = up;
   tried = λ q lt is_on. absurd (omega (arith, lt));
 }
@@ -75,10 +78,11 @@ module _ (core : Inner) (v p : ℕ) (f : Option Missed) (n device : ℕ) (m0 m1 
     all_attaches = then_attaches v p f core core core m0 m1 m2 so_far.attaches one_more
 
     -- one plex more was tried
-    pub sources_next : (disk : ℕ) (error : ShelfError) → error ≡ Fault disk → InnerStands d m2 → CopyTried {T = ℕ} l.config v n p device m1 m2 (Err error) → SourcesTried core v p f (n + 1) disk m0 m2
-    sources_next disk error fault stands tried = record {
+    pub sources_next : (disk : ℕ) (error : ShelfError) → error ≡ Fault disk → InnerStands d m2 → FindsFrom NoConfiguration m1 m2 → CopyTried {T = ℕ} l.config v n p device m1 m2 (Err error) → SourcesTried core v p f (n + 1) disk m0 m2
+    sources_next disk error fault stands less tried = record {
       stands = subst (λ (x : Inner). InnerStands x m2) core_is stands;
       attaches = all_attaches;
+      less = then_from NoConfiguration m0 m1 m2 so_far.less less;
       up = here.1;
       tried = λ q lt is_on. elim (cases_lt q n) [
         | inl less ↦ earlier q less is_on (here.0)

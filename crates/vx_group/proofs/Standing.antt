@@ -16,6 +16,7 @@ use Rattle.vx_copyio.specs.Labelling.{AreLarge}
 use Rattle.vx_layout.specs.Places.{disk_blocks}
 use Rattle.vx_volume.specs.Plexes.{DisksFit, SomeActive}
 use Rattle.vx_kept.specs.Commits.{Member}
+use Rattle.vx_kept.specs.Finds.{FindsFrom, NoConfiguration}
 use Rattle.vx_kept.specs.Groups.{PlacesApart, HasActive}
 use Rattle.vx_kept.specs.Keeping.{AllOn, IsTidy, Kept}
 use Rattle.vx_kept.proofs.Facts.{from_fact, from_tidy, to_fact, to_tidy}
@@ -23,7 +24,7 @@ use Rattle.vx_kept.proofs.Committed.{fewer}
 use Rattle.vx_kept.proofs.Lasting.{low_Kept}
 use Rattle.vx_kept.proofs.Narrower.{has_active, stand_apart, wanted_sound}
 use Rattle.vx_kept.specs.Trusts.{Trusts}
-use Rattle.vx_kept.proofs.Trusting.{less_trusts}
+use Rattle.vx_kept.proofs.Trusting.{less_finds, less_trusts}
 use Rattle.vx_group.specs.Stands.{InnerStands}
 use Rattle.vx_group.specs.declared.inner.Inner.{Inner}
 
@@ -114,6 +115,10 @@ member_to good m m' units u it = record { below = omega (arith, units, it.below)
 module _ (core : Inner) (W : Values) (m m' : Meaning) (goes : Goes W m m') (above : (u b : ℕ) (x : List ℕ) → W u b x → 512 ≤ b) (lawful : Lawful m) (lawful' : Lawful m') (stands : InnerStands core m) where
   low_same : (u b : ℕ) (v : List ℕ) → b < 512 → m'.leaves u b v → m.leaves u b v
   low_same u b v lt left = ⊎_elim (λ was. was) (λ w. absurd (let le : 512 ≤ b = above u b v w in omega (arith, le, lt))) (goes.leaves u b v left)
+
+  -- no image has another configuration than one had
+  pub low_finds : FindsFrom NoConfiguration m m'
+  low_finds = less_finds m m' lawful lawful' goes.units goes.size goes.tells low_same
 
   pub low_Stands : InnerStands core m'
   low_Stands = record {

@@ -5,6 +5,7 @@ use Rattle.vx_layout.specs.Places.{place}
 use Rattle.vx_volume.specs.Plexes.{InRun, Inside, active}
 use Rattle.vx_volume.specs.Volumes.{OnPlexes, PlexFlushed, PlexWrote}
 use Rattle.vx_kept.specs.Commits.{Member}
+use Rattle.vx_kept.specs.Finds.{FindsFrom, NoConfiguration}
 use Rattle.vx_kept.specs.Groups.{group_meaning}
 use Rattle.vx_kept.specs.Keeping.{Sees}
 use Rattle.vx_kept.proofs.Flushes.{flush_Flushed, flush_Goes}
@@ -15,7 +16,7 @@ use Rattle.vx_kept.proofs.Whole.{sees_back, whole_Goes, whole_Wrote}
 use Rattle.vx_group.specs.Moves.{AllFlushed, AllWrote, Narrows}
 use Rattle.vx_group.specs.Stands.{InnerStands, volume_faults, inner_meaning}
 use Rattle.vx_group.specs.declared.inner.Inner.{Inner}
-use Rattle.vx_group.proofs.Standing.{apart_of_core, kept_of, low_Stands}
+use Rattle.vx_group.proofs.Standing.{apart_of_core, kept_of, low_Stands, low_finds}
 
 -- no commit
 pub no_commit : (core : Inner) (m : Meaning) → Narrows core core m m
@@ -26,16 +27,18 @@ module _ (core : Inner) (v block : ℕ) (bytes : List ℕ) (m m' : Meaning) (bef
   pub run_inside : (k : ℕ) → InRun block (length bytes / 512) k → Inside core.config v k
   run_inside k run = record { volume = fits.exists; within = let last : k < block + length bytes / 512 = run.last in omega (arith, last, fits.within) }
 
+  behind : (u b : ℕ) (x : List ℕ) → OnPlexes core.config v block (length bytes / 512) bytes u b x → 512 ≤ b
+  behind u b x put =
+      let it = put.put in
+      let far : 512 ≤ (place core.config v put.plex it.number).1 = (apart_of_core core m stands).above v put.plex it.number (run_inside it.number it.run) put.is_on in
+      let is : (place core.config v put.plex it.number).1 ≡ b = ap (λ (q : ℕ × ℕ). q.1) it.at in
+      omega (arith, far, is)
+
   pub wrote_Stands : InnerStands core m'
-  wrote_Stands = low_Stands core (OnPlexes core.config v block (length bytes / 512) bytes) m m' write
-      (λ u b x put. behind u b x put) before after stands
-    where
-      behind : (u b : ℕ) (x : List ℕ) → OnPlexes core.config v block (length bytes / 512) bytes u b x → 512 ≤ b
-      behind u b x put =
-          let it = put.put in
-          let far : 512 ≤ (place core.config v put.plex it.number).1 = (apart_of_core core m stands).above v put.plex it.number (run_inside it.number it.run) put.is_on in
-          let is : (place core.config v put.plex it.number).1 ≡ b = ap (λ (q : ℕ × ℕ). q.1) it.at in
-          omega (arith, far, is)
+  wrote_Stands = low_Stands core (OnPlexes core.config v block (length bytes / 512) bytes) m m' write (λ u b x put. behind u b x put) before after stands
+
+  pub wrote_finds : FindsFrom NoConfiguration m m'
+  wrote_finds = low_finds core (OnPlexes core.config v block (length bytes / 512) bytes) m m' write (λ u b x put. behind u b x put) before after stands
 
   module _ (d : Inner) (last : Meaning) (lawful : Lawful last) (narrows : Narrows core d m' last) where
     no_less : (u : ℕ) → volume_faults core.faults u ≤ volume_faults d.faults u
@@ -73,6 +76,9 @@ module _ (core : Inner) (v block : ℕ) (bytes : List ℕ) (m m' : Meaning) (bef
 module _ (core : Inner) (v : ℕ) (m m' : Meaning) (before : Lawful m) (after : Lawful m') (stands : InnerStands core m) (flush : Goes Nothing m m') where
   pub flushed_Stands : InnerStands core m'
   flushed_Stands = low_Stands core Nothing m m' flush (λ u b x none. absurd none) before after stands
+
+  pub flushed_finds : FindsFrom NoConfiguration m m'
+  flushed_finds = low_finds core Nothing m m' flush (λ u b x none. absurd none) before after stands
 
   -- whatever is counted
   pub plain_Goes : (f' : ℕ → ℕ) → ((u : ℕ) → volume_faults core.faults u ≤ f' u) → Goes Nothing (inner_meaning core m) (group_meaning core.config f' m')

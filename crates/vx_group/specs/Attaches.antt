@@ -22,6 +22,7 @@ use Rattle.vx_fmr.specs.Missed.{Missed}
 use Rattle.vx_resync.specs.Gathers.{MissesOnly}
 use Rattle.vx_resync.specs.Picks.{FmrReaches, missed_or, picked_below}
 use Rattle.vx_kept.specs.Commits.{IsCommitted}
+use Rattle.vx_kept.specs.Finds.{FindsFrom, NoConfiguration}
 use Rattle.vx_kept.specs.Keeping.{Acts, SameShape}
 use Rattle.vx_group.specs.Dets.{margin}
 use Rattle.vx_group.specs.GivesUp.{NoCommit}
@@ -97,6 +98,7 @@ CopyTried c v source p device old new (Err Down) = IsTrue new.down
 pub record SourcesTried (core : Inner) (v p : ℕ) (f : Option Missed) (n device : ℕ) (old new : Meaning) : Type 0 where
   pub stands : InnerStands core new
   pub attaches : Attaches v p f core core old new
+  pub less : FindsFrom NoConfiguration old new
   pub up : IsTrue new.down → ⊥
   pub tried : (q : ℕ) → q < n → IsTrue (active core.config v q) → (PlexBlamed core.config v q old new ⊎ PlexBlamed core.config v p old new) × Rose (old.disk_faults device) (new.disk_faults device)
 

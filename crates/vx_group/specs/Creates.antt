@@ -1,5 +1,5 @@
 -- A new group.
-use Rattle.std.specs.Prelude.{◌≡◌, ◌⊎◌, ℕ, true, None, Err, Ok, Result, []}
+use Rattle.std.specs.Prelude.{◌≡◌, ◌⊎◌, ℕ, true, false, None, Err, Ok, Result, []}
 use Rattle.vx_disk.specs.Causes.{DeviceCause}
 use Rattle.vx_disk.specs.Shelf.{Meaning}
 use Rattle.vx_model.specs.declared.errors.Stop.{Stop}
@@ -38,6 +38,7 @@ pub record IsNewGroup (site : ℕ) (core : Inner) (m : Meaning) : Type 0 where
   pub rvg : core.config.rvg ≡ None
   pub newest : IsCommitted core.config m
   pub trust : (core.committed ≡ true) ⊎ HasFailed core.config.disks
+  pub settled : core.unsettled ≡ false
 
 -- what is answered where a group is made
 abbrev pub Created : ℕ → Meaning → Meaning → Result Inner Stop → Type 0

@@ -20,4 +20,5 @@ pub mod Regains
 pub mod Rvgs
 pub mod Loses
 pub mod Holding
+pub mod Finds
 pub mod Calls

@@ -1,4 +1,6 @@
 // The content of a volume that is copied to a plex, and the commit that makes the plex ACTIVE.
+ghost use Rattle.vx_group.specs.Finds.{CoreFinds, CoreEnds};
+ghost use Rattle.vx_kept.specs.Finds.{FindsFrom, NoConfiguration};
 ghost use Rattle.std.specs.Prelude.{◌≡◌, ◌⊎◌, ◌<◌, false, IfErr, IfOk, IsTrue, Option, true, OnOk};
 ghost use Rattle.std.specs.Option.{option_copied};
 ghost use Rattle.vx_config.specs.Table.{greatest};
@@ -46,6 +48,7 @@ fn copy_from<S: Shelf>(
     ensures serial { core.new.config.serial ≡ core.old.config.serial }
     ensures disks { core.new.config.disks ≡ core.old.config.disks }
     ensures same { IfErr result (λ e. core.new ≡ core.old) }
+    ensures less { FindsFrom NoConfiguration (S.meaning shelf.old) (S.meaning shelf.new) }
     ensures cause { CopyCause core.old.config vol source plex (S.meaning shelf.old) (S.meaning shelf.new) result }
     ensures count { IfOk result (λ n. n ≡ missed_regions core.old.config vol plex (option_copied fmr.entry)) }
     ensures knows { (IsTrue (S.meaning shelf.new).down → ⊥) → KnowsMissed core.old.config vol plex (option_copied fmr.entry) (S.meaning shelf.new) }
@@ -89,6 +92,7 @@ fn try_from<S: Shelf>(
     ensures tried { CopyTried core.old.config vol source plex device (S.meaning shelf.old) (S.meaning shelf.new) result }
     ensures count { IfOk result (λ n. n ≡ missed_regions core.old.config vol plex (option_copied fmr.entry)) }
     ensures knows { (IsTrue (S.meaning shelf.new).down → ⊥) → KnowsMissed core.old.config vol plex (option_copied fmr.entry) (S.meaning shelf.new) }
+    ensures less { FindsFrom NoConfiguration (S.meaning shelf.old) (S.meaning shelf.new) }
 {
     if !is_active(&core.config, vol, source) {
         return Err(ShelfError::Fault { disk: device });
@@ -118,6 +122,7 @@ fn copy_to<S: Shelf>(
     ensures serial { core.new.config.serial ≡ core.old.config.serial }
     ensures disks { core.new.config.disks ≡ core.old.config.disks }
     ensures no_source { NoSource core.old.config vol plex (S.meaning shelf.old) (S.meaning shelf.new) result }
+    ensures less { FindsFrom NoConfiguration (S.meaning shelf.old) (S.meaning shelf.new) }
     ensures cause { Blames (S.meaning shelf.old) (S.meaning shelf.new) result }
     ensures count { IfOk result (λ n. n ≡ missed_regions core.old.config vol plex (option_copied fmr.entry)) }
 {
@@ -141,6 +146,7 @@ fn take_back<S: Shelf>(shelf: &mut S, core: &mut Inner, vol: u32, plex: u32)
     ensures attaches { (map : Option Missed) → Attaches vol plex map core.old core.new (S.meaning shelf.old) (S.meaning shelf.new) }
     ensures off { (active core.new.config vol plex ≡ false) ⊎ NoCommit core.new (S.meaning shelf.new) }
     ensures failing { MoreFailed (S.meaning shelf.old) (S.meaning shelf.new) core.old.config.disks core.new.config.disks }
+    ensures finds { CoreFinds core.old core.new (S.meaning shelf.old) (S.meaning shelf.new) }
 {
     if shelf.is_down() {
         return;
@@ -178,6 +184,7 @@ fn commit_open<S: Shelf>(
     ensures count { IfOk result (λ n. n ≡ copied) }
     ensures failing { MoreFailed (S.meaning shelf.old) (S.meaning shelf.new) core.old.config.disks core.new.config.disks }
     ensures trust { OnOk result (core.old.committed ≡ true → core.new.committed ≡ true) }
+    ensures finds { CoreEnds core.new (S.meaning shelf.old) (S.meaning shelf.new) }
     ensures cause { Blames (S.meaning shelf.old) (S.meaning shelf.new) result }
 {
     match detach(shelf, core, 0, Failed { set: 0, disk: 0 }) {
@@ -211,6 +218,7 @@ pub fn attach<S: Shelf>(
     ensures ends { AttachEnds vol plex core.new (S.meaning shelf.new) result }
     ensures failing { MoreFailed (S.meaning shelf.old) (S.meaning shelf.new) core.old.config.disks core.new.config.disks }
     ensures trust { OnOk result (core.old.committed ≡ true → core.new.committed ≡ true) }
+    ensures finds { CoreFinds core.old core.new (S.meaning shelf.old) (S.meaning shelf.new) }
     ensures cause { Blames (S.meaning shelf.old) (S.meaning shelf.new) result }
     ensures count { IfOk result (λ n. n ≡ missed_regions core.old.config vol plex (option_copied fmr.entry)) }
 {

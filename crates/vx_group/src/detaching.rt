@@ -1,4 +1,5 @@
 // Plexes that failed, which are detached by a commit.
+ghost use Rattle.vx_group.specs.Finds.{CoreEnds};
 ghost use Rattle.std.specs.Prelude.{◌≡◌, ◌⊎◌, ◌+◌, ◌<◌, ◌≤◌, ℕ, length, true, false, IfErr, IfOk, IsTrue, OnOk};
 ghost use Rattle.vx_config.specs.Table.{greatest};
 ghost use Rattle.vx_copies.specs.Answers.{good_set};
@@ -78,6 +79,7 @@ pub fn detach_named<S: Shelf>(
     ensures agreed { IfErr result (λ e. core.old.committed ≡ true → core.new.agreed ≡ true) }
     ensures whole { OnOk result ((core.new.committed ≡ true) ⊎ HasFailed core.new.config.disks) }
     ensures committed { OnOk result (IsCommitted core.new.config (S.meaning shelf.new)) }
+    ensures finds { CoreEnds core.new (S.meaning shelf.old) (S.meaning shelf.new) }
     ensures named { IfOk result (NamesFailed core.old.config core.new.config (S.meaning shelf.old) (S.meaning shelf.new)) }
     ensures cause { BlamesOr failed.disk (S.meaning shelf.old) (S.meaning shelf.new) result }
     ensures sure { core.old.config.serial < greatest → Blames (S.meaning shelf.old) (S.meaning shelf.new) result }
@@ -140,6 +142,7 @@ pub fn detach<S: Shelf>(
     ensures agreed { IfErr result (λ e. core.old.committed ≡ true → core.new.agreed ≡ true) }
     ensures whole { OnOk result ((core.new.committed ≡ true) ⊎ HasFailed core.new.config.disks) }
     ensures committed { OnOk result (IsCommitted core.new.config (S.meaning shelf.new)) }
+    ensures finds { CoreEnds core.new (S.meaning shelf.old) (S.meaning shelf.new) }
     ensures cause { BlamesOr failed.disk (S.meaning shelf.old) (S.meaning shelf.new) result }
     ensures sure { core.old.config.serial < greatest → Blames (S.meaning shelf.old) (S.meaning shelf.new) result }
 {

@@ -1,4 +1,5 @@
 // A log that is lost, by one commit.
+ghost use Rattle.vx_group.specs.Finds.{CoreEnds, CoreFinds};
 ghost use Rattle.std.specs.Prelude.{◌≡◌, ◌<◌, ℕ, false, true, IfErr, IsTrue, OnOk};
 ghost use Rattle.vx_config.specs.Table.{greatest};
 ghost use Rattle.vx_config.specs.declared.entry.VolumeLog.{VolumeLog as VolumeLogValue};
@@ -44,6 +45,7 @@ fn lose_settled<S: Shelf>(
     ensures trust { OnOk result (core.old.committed ≡ true → core.new.committed ≡ true) }
     ensures agreed { IfErr result (λ e. core.old.committed ≡ true → core.new.agreed ≡ true) }
     ensures committed { OnOk result (IsCommitted core.new.config (S.meaning shelf.new)) }
+    ensures finds { CoreEnds core.new (S.meaning shelf.old) (S.meaning shelf.new) }
     ensures cause { Blames (S.meaning shelf.old) (S.meaning shelf.new) result }
 {
     match commit_lost(shelf, &mut core.config, vol, log, core.good, &mut core.room) {
@@ -94,6 +96,7 @@ pub fn lose_log<S: Shelf>(
     ensures trust { OnOk result (core.old.committed ≡ true → core.new.committed ≡ true) }
     ensures agreed { IfErr result (λ e. core.old.committed ≡ true → core.new.agreed ≡ true) }
     ensures committed { OnOk result (IsCommitted core.new.config (S.meaning shelf.new)) }
+    ensures finds { CoreFinds core.old core.new (S.meaning shelf.old) (S.meaning shelf.new) }
     ensures cause { Blames (S.meaning shelf.old) (S.meaning shelf.new) result }
 {
     match settle_headers(shelf, core) {

@@ -1,4 +1,5 @@
 // A log of a volume that a group loses, in a call on that volume.
+ghost use Rattle.vx_group.specs.Finds.{CoreFinds, GroupFinds};
 ghost use Rattle.std.specs.Prelude.{◌≡◌, ◌+◌, ◌<◌, ◌≤◌, ℕ, false, true, IfErr, IfOk, None, OnOk};
 ghost use Rattle.vx_config.specs.Table.{greatest};
 ghost use Rattle.vx_disk.specs.Causes.{Cause};
@@ -39,6 +40,7 @@ fn lose_in<S: Shelf>(
     ensures full { IfOk result (λ done. done ≡ false → greatest ≤ core.old.config.serial) }
     ensures trust { OnOk result (core.old.committed ≡ true → core.new.committed ≡ true) }
     ensures agreed { IfErr result (λ e. core.old.committed ≡ true → core.new.agreed ≡ true) }
+    ensures finds { CoreFinds core.old core.new (S.meaning shelf.old) (S.meaning shelf.new) }
     ensures cause { Cause (inner_meaning core.old (S.meaning shelf.old)) (inner_meaning core.new (S.meaning shelf.new)) vol result }
 {
     if shelf.is_down() {
@@ -77,6 +79,7 @@ pub fn lose_group<S: Shelf>(
     ensures full { IfOk result (λ done. done ≡ false → greatest ≤ core.old.inner.config.serial + 9) }
     ensures trust { OnOk result (core.old.inner.committed ≡ true → core.new.inner.committed ≡ true) }
     ensures agreed { IfErr result (λ e. core.old.inner.committed ≡ true → core.new.inner.agreed ≡ true) }
+    ensures finds { GroupFinds core.old core.new (S.meaning shelf.old) (S.meaning shelf.new) }
     ensures cause { Cause (inner_meaning (wide core.old) (S.meaning shelf.old)) (inner_meaning (wide core.new) (S.meaning shelf.new)) vol result }
 {
     if shelf.is_down() {

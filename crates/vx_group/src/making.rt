@@ -1,4 +1,5 @@
 // A volume that is made.
+ghost use Rattle.vx_group.specs.Finds.{CoreFinds, GroupFinds};
 ghost use Rattle.std.specs.Prelude.{◌≡◌, ◌⊎◌, ◌<◌, ℕ, true, false, IsTrue, IfSome, Some, None, Err, OnOk, IfErr, length};
 ghost use Rattle.vx_config.specs.Checks.{is_sound};
 ghost use Rattle.vx_config.specs.Configs.{CanSpell};
@@ -86,6 +87,7 @@ fn add_last<S: Shelf>(shelf: &mut S, core: &mut Inner, next: Config) -> Result<(
     ensures trust { OnOk result (core.old.committed ≡ true → core.new.committed ≡ true) }
     ensures whole { OnOk result ((core.new.committed ≡ true) ⊎ HasFailed core.new.config.disks) }
     ensures agreed { IfErr result (λ e. core.old.committed ≡ true → core.new.agreed ≡ true) }
+    ensures finds { CoreFinds core.old core.new (S.meaning shelf.old) (S.meaning shelf.new) }
     ensures cause { StopsByDevice (S.meaning shelf.old) (S.meaning shelf.new) result }
 {
     let mut next = next;
@@ -132,6 +134,7 @@ fn add<S: Shelf>(shelf: &mut S, core: &mut Inner, next: Config) -> Result<(), Sh
     ensures trust { OnOk result (core.old.committed ≡ true → core.new.committed ≡ true) }
     ensures whole { OnOk result ((core.new.committed ≡ true) ⊎ HasFailed core.new.config.disks) }
     ensures agreed { IfErr result (λ e. core.old.committed ≡ true → core.new.agreed ≡ true) }
+    ensures finds { CoreFinds core.old core.new (S.meaning shelf.old) (S.meaning shelf.new) }
     ensures cause { StopsByDevice (S.meaning shelf.old) (S.meaning shelf.new) result }
 {
     match settle_headers(shelf, core) {
@@ -173,6 +176,7 @@ pub fn make_in<S: Shelf>(
     ensures whole { OnOk result ((core.new.inner.committed ≡ true) ⊎ HasFailed core.new.inner.config.disks) }
     ensures agreed { IfErr result (λ e. core.old.inner.committed ≡ true → core.new.inner.agreed ≡ true) }
     ensures unmoved { Unmoved result ((core.new ≡ core.old) × (shelf.new ≡ shelf.old)) }
+    ensures finds { GroupFinds core.old core.new (S.meaning shelf.old) (S.meaning shelf.new) }
 {
     if let Some(no) = refuse_volume(&core.inner.config, name, want) {
         return Err(Stop::No(no));

@@ -1,4 +1,5 @@
 // The flushes that come before the commit of a deport.
+ghost use Rattle.vx_group.specs.Finds.{CoreFinds};
 ghost use Rattle.std.specs.Prelude.{◌≡◌, ◌<◌, ℕ, length, false, IsTrue};
 ghost use Rattle.vx_config.specs.Table.{greatest};
 ghost use Rattle.vx_group.specs.Blames.{Blames, MarksUnsure};
@@ -52,6 +53,7 @@ fn flush_one<S: Shelf>(shelf: &mut S, core: &mut Inner, vol: u32) -> Result<(), 
     requires up { IsTrue (S.meaning shelf.old).down → ⊥ }
     requires more { core.old.config.serial < greatest }
     ensures ends { QuiesceEnds (λ (v : ℕ). v ≡ vol) core.old core.new (S.meaning shelf.old) (S.meaning shelf.new) result }
+    ensures finds { CoreFinds core.old core.new (S.meaning shelf.old) (S.meaning shelf.new) }
     ensures cause { Blames (S.meaning shelf.old) (S.meaning shelf.new) result }
 {
     match flush_all(&core.config, vol, shelf) {
@@ -85,6 +87,7 @@ pub fn flush_volumes<S: Shelf>(shelf: &mut S, core: &mut Inner) -> Result<(), Sh
     requires up { IsTrue (S.meaning shelf.old).down → ⊥ }
     requires more { core.old.config.serial < greatest }
     ensures ends { QuiesceEnds (IsVolumeOf core.old) core.old core.new (S.meaning shelf.old) (S.meaning shelf.new) result }
+    ensures finds { CoreFinds core.old core.new (S.meaning shelf.old) (S.meaning shelf.new) }
     ensures cause { Blames (S.meaning shelf.old) (S.meaning shelf.new) result }
 {
     for vol in 0..core.config.volumes.as_slice().len() {

@@ -32,6 +32,7 @@ pub fn read_in<S: Shelf>(
     ensures held { core.new.held ≡ core.old.held }
     ensures trusted { (core.new.inner.committed ≡ core.old.inner.committed) × (core.new.inner.agreed ≡ core.old.inner.agreed) }
     ensures same { core.new.inner.config ≡ core.old.inner.config }
+    ensures settled { core.new.inner.unsettled ≡ core.old.inner.unsettled }
     ensures unsure { core.new.inner.unsure ≡ core.old.inner.unsure }
 {
     if shelf.is_down() {

@@ -1,4 +1,5 @@
 // Disks that are held as failed, and are held as good again before a plex on them is attached.
+ghost use Rattle.vx_group.specs.Finds.{CoreFinds, Recommits};
 ghost use Rattle.std.specs.Prelude.{◌≡◌, ◌+◌, ◌<◌, ◌≤◌, ◌&&◌, length, true, IsTrue, IsFalse, OnOk};
 ghost use Rattle.vx_config.specs.Table.{greatest};
 ghost use Rattle.vx_copies.specs.Commits.{MoreFailed};
@@ -90,6 +91,7 @@ fn recommit<S: Shelf>(
     ensures held { OnOk result (AreHeld core.new.config vol plex) }
     ensures committed { OnOk result (IsCommitted core.new.config (S.meaning shelf.new)) }
     ensures trust { OnOk result (core.old.committed ≡ true → core.new.committed ≡ true) }
+    ensures finds { Recommits core.old core.new (S.meaning shelf.old) (S.meaning shelf.new) result }
     ensures cause { Blames (S.meaning shelf.old) (S.meaning shelf.new) result }
 {
     let first = match settle_named(shelf, core) {
@@ -129,6 +131,7 @@ pub fn regain<S: Shelf>(
     ensures regains { Regains core.old.config core.new.config vol plex (S.meaning shelf.old) (S.meaning shelf.new) }
     ensures held { OnOk result (HoldsNow core.old.config core.new.config vol plex (S.meaning shelf.new)) }
     ensures trust { OnOk result (core.old.committed ≡ true → core.new.committed ≡ true) }
+    ensures finds { CoreFinds core.old core.new (S.meaning shelf.old) (S.meaning shelf.new) }
     ensures cause { Blames (S.meaning shelf.old) (S.meaning shelf.new) result }
 {
     let kept = core.config.disks.copy();
@@ -143,6 +146,7 @@ pub fn regain<S: Shelf>(
                 return Err(error);
             }
             core.config.disks = kept;
+            core.committed = false;
             Err(error)
         }
     }

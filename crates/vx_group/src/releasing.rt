@@ -1,4 +1,5 @@
 // A plex that is detached by one commit, as the one that is held back before the next call.
+ghost use Rattle.vx_group.specs.Finds.{CoreFinds, GroupFinds};
 ghost use Rattle.std.specs.Prelude.{◌≡◌, ◌⊎◌, ◌+◌, ◌<◌, ◌≤◌, ℕ, false, true, None, OnOk, IfErr, IsTrue};
 ghost use Rattle.vx_config.specs.Table.{greatest};
 ghost use Rattle.vx_copies.specs.Commits.{MoreFailed};
@@ -46,6 +47,7 @@ pub fn detach_plex<S: Shelf>(
     ensures missed { IfErr result (λ e. NoCommit core.new (S.meaning shelf.new)) }
     ensures trust { OnOk result (core.old.committed ≡ true → core.new.committed ≡ true) }
     ensures agreed { IfErr result (λ e. core.old.committed ≡ true → core.new.agreed ≡ true) }
+    ensures finds { CoreFinds core.old core.new (S.meaning shelf.old) (S.meaning shelf.new) }
     ensures cause { Blames (S.meaning shelf.old) (S.meaning shelf.new) result }
 {
     match settle_headers(shelf, core) {
@@ -75,6 +77,7 @@ pub fn release<S: Shelf>(shelf: &mut S, core: &mut GroupCore) -> Result<(), Shel
     ensures missed { IfErr result (λ e. NoCommit core.new.inner (S.meaning shelf.new)) }
     ensures trust { OnOk result (core.old.inner.committed ≡ true → core.new.inner.committed ≡ true) }
     ensures agreed { IfErr result (λ e. core.old.inner.committed ≡ true → core.new.inner.agreed ≡ true) }
+    ensures finds { GroupFinds core.old core.new (S.meaning shelf.old) (S.meaning shelf.new) }
     ensures cause { Blames (S.meaning shelf.old) (S.meaning shelf.new) result }
 {
     if core.inner.config.serial >= MOST_NUMBER {

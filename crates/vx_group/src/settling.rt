@@ -1,4 +1,6 @@
 // The headers of the good disks, which are written back before the commit behind a refused one.
+ghost use Rattle.vx_kept.specs.Finds.{FindsFrom, NoConfiguration};
+ghost use Rattle.vx_group.specs.Finds.{CoreFinds};
 ghost use Rattle.std.specs.Prelude.{◌≡◌, ◌⊎◌, ◌+◌, ◌<◌, ◌≤◌, length, true, false, IfErr, IfOk, IsTrue, OnOk};
 ghost use Rattle.vx_copies.specs.Commits.{MoreFailed, NamesFailed};
 ghost use Rattle.vx_group.specs.Blames.{Blames};
@@ -35,6 +37,9 @@ pub fn settle_named<S: Shelf>(shelf: &mut S, core: &mut Inner) -> Result<u32, Sh
     ensures settled { OnOk result (core.new.unsettled ≡ false) }
     ensures missed { IfErr result (λ e. core.new.unsettled ≡ true) }
     ensures still { OnOk result ((core.new.config ≡ core.old.config) ⊎ AnyFailed (S.meaning shelf.old) (S.meaning shelf.new)) }
+    ensures finds { CoreFinds core.old core.new (S.meaning shelf.old) (S.meaning shelf.new) }
+    ensures less { FindsFrom NoConfiguration (S.meaning shelf.old) (S.meaning shelf.new) }
+    ensures back { IfErr result (λ e. core.new.config ≡ core.old.config) }
     ensures named { IfOk result (NamesFailed core.old.config core.new.config (S.meaning shelf.old) (S.meaning shelf.new)) }
     ensures failing { MoreFailed (S.meaning shelf.old) (S.meaning shelf.new) core.old.config.disks core.new.config.disks }
     ensures cause { Blames (S.meaning shelf.old) (S.meaning shelf.new) result }
@@ -85,6 +90,8 @@ pub fn settle_headers<S: Shelf>(shelf: &mut S, core: &mut Inner) -> Result<(), S
     ensures missed { IfErr result (λ e. core.new.unsettled ≡ true) }
     ensures still { OnOk result ((core.new.config ≡ core.old.config) ⊎ AnyFailed (S.meaning shelf.old) (S.meaning shelf.new)) }
     ensures failing { MoreFailed (S.meaning shelf.old) (S.meaning shelf.new) core.old.config.disks core.new.config.disks }
+    ensures finds { CoreFinds core.old core.new (S.meaning shelf.old) (S.meaning shelf.new) }
+    ensures less { FindsFrom NoConfiguration (S.meaning shelf.old) (S.meaning shelf.new) }
     ensures cause { Blames (S.meaning shelf.old) (S.meaning shelf.new) result }
 {
     match settle_named(shelf, core) {
@@ -108,6 +115,7 @@ pub fn make_ready<S: Shelf>(shelf: &mut S, core: &mut Inner) -> Result<(), Shelf
     ensures missed { IfErr result (λ e. NoCommit core.new (S.meaning shelf.new)) }
     ensures trust { OnOk result (core.old.committed ≡ true → core.new.committed ≡ true) }
     ensures agreed { IfErr result (λ e. core.old.committed ≡ true → core.new.agreed ≡ true) }
+    ensures finds { CoreFinds core.old core.new (S.meaning shelf.old) (S.meaning shelf.new) }
     ensures cause { Blames (S.meaning shelf.old) (S.meaning shelf.new) result }
 {
     if !core.unsettled || core.config.serial >= MOST_NUMBER {

@@ -1,4 +1,5 @@
 // A log of a volume that was lost, and is trusted again by one commit.
+ghost use Rattle.vx_group.specs.Finds.{CoreFinds, GroupFinds};
 ghost use Rattle.std.specs.Prelude.{◌≡◌, ◌+◌, ◌<◌, ◌≤◌, ℕ, false, true, IfErr, IfOk, IsTrue, None, OnOk};
 ghost use Rattle.vx_config.specs.Changes.{lost as lost_is};
 ghost use Rattle.vx_config.specs.Checks.{is_sound};
@@ -54,6 +55,7 @@ fn trust_log<S: Shelf>(
     ensures trust { OnOk result (core.old.committed ≡ true → core.new.committed ≡ true) }
     ensures agreed { IfErr result (λ e. core.old.committed ≡ true → core.new.agreed ≡ true) }
     ensures committed { OnOk result (IsCommitted core.new.config (S.meaning shelf.new)) }
+    ensures finds { CoreFinds core.old core.new (S.meaning shelf.old) (S.meaning shelf.new) }
     ensures cause { Blames (S.meaning shelf.old) (S.meaning shelf.new) result }
 {
     match settle_headers(shelf, core) {
@@ -93,6 +95,7 @@ pub fn trust_group<S: Shelf>(
     ensures full { IfOk result (λ done. done ≡ false → greatest ≤ core.old.inner.config.serial) }
     ensures trust { OnOk result (core.old.inner.committed ≡ true → core.new.inner.committed ≡ true) }
     ensures agreed { IfErr result (λ e. core.old.inner.committed ≡ true → core.new.inner.agreed ≡ true) }
+    ensures finds { GroupFinds core.old core.new (S.meaning shelf.old) (S.meaning shelf.new) }
     ensures cause { Blames (S.meaning shelf.old) (S.meaning shelf.new) result }
 {
     if shelf.is_down() {

@@ -20,6 +20,7 @@ use Rattle.vx_layout.specs.declared.shape.Shape.{Shape}
 use Rattle.vx_kept.specs.Groups.{OnSome, PlacesApart, group_meaning, seen}
 use Rattle.vx_group.specs.Calls.{GroupStays}
 use Rattle.vx_group.specs.Creates.{SameUnits}
+use Rattle.vx_group.specs.Finds.{GroupFinds}
 use Rattle.vx_group.specs.Holding.{GroupStands, config_by, volumes_by, wide}
 use Rattle.vx_group.specs.Makes.{MakeEnds, Unmoved, VolumeMade}
 use Rattle.vx_group.specs.Stands.{inner_meaning, volume_faults}
@@ -31,10 +32,11 @@ use Rattle.vx_group.proofs.LongerLemmas.{get_end}
 use Rattle.vx_group.proofs.MakeLemmas.{volumes_Goes}
 use Rattle.vx_group.proofs.Standing.{apart_of_core}
 use Rattle.vx_grouped.specs.Added.{VolumeLeaves, note_added}
-use Rattle.vx_grouped.specs.GroupNotes.{IsGroupAt, note_done}
+use Rattle.vx_grouped.specs.GroupNotes.{IsGroupAt, note_called}
 use Rattle.vx_grouped.specs.Plain.{HoldsPlain}
 use Rattle.vx_grouped.proofs.KeepLemmas.{call_cut, call_none, call_up}
-use Rattle.vx_grouped.proofs.NoteLemmas.{lies_done}
+use Rattle.vx_grouped.proofs.ImageLemmas.{called_tight, nexts_of}
+use Rattle.vx_grouped.proofs.NoteLemmas.{lies_called}
 use Rattle.vx_grouped.proofs.PlainLemmas.{same_holds}
 use Rattle.vx_kept.specs.Keeping.{SameShape}
 use Rattle.vx_kept.proofs.Chosen.{active_volumes, alike_shape, place_volumes}
@@ -178,26 +180,29 @@ pub made_by : (P : Type 0) (r : Result ℕ Stop) (vol : ℕ) (o : Option No) →
 made_by P r vol None is ends refused = ends refl
 made_by P r vol (Some why) is ends refused = absurd (let clash = refused why refl in cc)
 
-module _ (n : Node) (note : GroupNode) (name : List ℕ) (want : Shape) (c d : GroupCore) (m m' : Meaning) (at : IsGroupAt n note c m) (two : GroupStands d m') (lawful : Lawful m') (units : SameUnits m m') (stays : GroupStays c d m m') where
+module _ (n : Node) (note : GroupNode) (name : List ℕ) (want : Shape) (c d : GroupCore) (m m' : Meaning) (at : IsGroupAt n note c m) (two : GroupStands d m') (lawful : Lawful m') (units : SameUnits m m') (stays : GroupStays c d m m') (finds : GroupFinds c d m m') where
+  abbrev called : GroupNode
+  called = note_called (nexts_of c d m m' finds.core) d note
+
   pub made_leaves : (vol : ℕ) → d.held ≡ None → (IsTrue m'.down → ⊥) → (c.inner.committed ≡ true → d.inner.committed ≡ true) → VolumeMade name want vol c.inner d.inner m' → VolumeLeaves n note want d m' (Ok vol)
-  made_leaves vol none up trust made = record {
+  made_leaves vol none up trust made = (nexts_of c d m m' finds.core, record {
     state = at.state;
     up = up;
-    lies = lies_done n note c d m m' at.lies two units.units (λ u low. units.size u) trust (note_added vol want.blocks (note_done d.inner note)) refl refl refl
-        (added_holds c d m m' two lawful stays name want vol none made (note_done d.inner note)
-        (same_holds note (inner_meaning (wide c) m) (note_done d.inner note).config (note_done d.inner note).begun (note_done d.inner note).loose at.lies.holds));
-  }
+    lies = lies_called n note c d m m' at.lies two units.units (λ u low. units.size u) finds.core (note_added vol want.blocks called) refl refl refl
+        (added_holds c d m m' two lawful stays name want vol none made called
+        (same_holds note (inner_meaning (wide c) m) called.config called.begun called.loose at.lies.holds));
+  }, called_tight note c d m m' at.lies.images finds.core at.lies.committed trust finds.free)
 
   -- the disks are down behind a refusal
   pub volume_cut : (o : Option No) → (o ≡ None → d.inner.config.volumes ≡ c.inner.config.volumes) → ((why : No) → o ≡ Some why → IsTrue m'.down → ⊥) → IsTrue m'.down → VolumeLeaves n note want d m' (Err (Refused refusal.Down))
-  volume_cut None same never down = call_cut n note c d m m' at two units.units units.size (same_goes c d m m' two lawful stays (same refl)) down
+  volume_cut None same never down = call_cut n note c d m m' at two units.units units.size (same_goes c d m m' two lawful stays (same refl)) finds.core down
   volume_cut (Some why) same never down = absurd (never why refl down)
 
   -- they are not
   module _ (up : IsTrue m'.down → ⊥) (same : Type 0) (still : same → IsGroupAt n note d m') where
     by_ends : (stop : Stop) → MakeEnds name want c.inner d.inner m m' (Err stop) → Unmoved {T = ℕ} (Err stop) same → VolumeLeaves n note want d m' (Err stop)
     by_ends (Refused (refusal.Device disk)) ends unmoved =
-        call_up n note c d m m' at two units.units units.size (same_goes c d m m' two lawful stays ends.0) {T = ℕ} (Err (Refused (refusal.Device disk))) up tt ends.1
+        call_up n note c d m m' at two units.units units.size (same_goes c d m m' two lawful stays ends.0) finds.core {T = ℕ} (Err (Refused (refusal.Device disk))) up tt tt ends.1
     by_ends (Refused refusal.Down) ends unmoved = absurd (up ends.1)
     by_ends (Refused other) ends unmoved = still unmoved
     by_ends OutOfMemory ends unmoved = still unmoved
@@ -208,4 +213,4 @@ module _ (n : Node) (note : GroupNode) (name : List ℕ) (want : Shape) (c d : G
     volume_up stop (Some why) ends unmoved refused never =
         let it = refused why refl in
         subst (λ (x : Stop). VolumeLeaves n note want d m' (Err x)) (sym it.0)
-        (call_none n note c d m m' at two units.units units.size (same_goes c d m m' two lawful stays it.2) ℕ why it.1 (λ down. never (ap Some down)))
+        (call_none n note c d m m' at two units.units units.size (same_goes c d m m' two lawful stays it.2) finds.core ℕ why it.1 (λ down. never (ap Some down)))

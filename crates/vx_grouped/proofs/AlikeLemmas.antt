@@ -20,6 +20,7 @@ use Rattle.vx_grouped.specs.GroupNotes.{GroupLies, noted_config}
 use Rattle.vx_grouped.specs.GroupSites.{IsMarkedSite, AreStopped, GroupAway, GroupDown, GroupFallen, GroupUp, IsLit}
 use Rattle.vx_grouped.specs.Plain.{HoldsPlain}
 use Rattle.vx_grouped.specs.SetFuses.{HasFuse, LetsPass}
+use Rattle.vx_grouped.proofs.ImageLemmas.{images_less, less_from, less_noted}
 use Rattle.vx_grouped.proofs.SiteLemmas.{lies_as}
 use Rattle.vx_grouped.proofs.TraceLemmas.{lit_since}
 
@@ -59,6 +60,7 @@ module _ (n : Node) (note : GroupNode) (c d : GroupCore) (m m' : Meaning) (core 
     config = lies.config ∙ ap (λ (x : GroupCore). noted_config x.inner.config) (sym core);
     agreed = λ tight. ap (λ (x : GroupCore). x.inner.agreed) core ∙ lies.agreed tight;
     committed = λ tight none. ap (λ (x : GroupCore). x.inner.committed) core ∙ lies.committed tight none;
+    images = images_less note c d m m' core (less_from m m' alike.contents.units alike.contents.size alike.contents.leaves) lies.images;
     holds = holds_alike note (inner_meaning (wide c) m) (inner_meaning (wide d) m') volumes lies.holds;
   }
 
@@ -102,10 +104,10 @@ module _ (n : Node) (note : GroupNode) (m m' : Meaning) (units : m'.units ≡ m.
   }
 
   pub less_down : (last : Config) → IsAwayAt n note last m → IsAwayAt n note last m'
-  less_down last it = record { state = it.state; config = it.config; lies = less_away last it.lies }
+  less_down last it = record { state = it.state; config = it.config; found = less_noted note last m m' (less_from m m' units size leaves) it.found; lies = less_away last it.lies }
 
   pub less_deported : (last newest : Config) → IsDeportedAt n note last newest m → IsDeportedAt n note last newest m'
-  less_deported last newest it = record { state = it.state; config = it.config; frames = it.frames; lies = less_away last it.lies }
+  less_deported last newest it = record { state = it.state; config = it.config; frames = it.frames; found = less_noted note newest m m' (less_from m m' units size leaves) it.found; lies = less_away last it.lies }
 
 module _ (n : Node) (m m' : Meaning) (alike : Alike m m') (down : m'.down ≡ m.down) (armed : m'.armed ≡ m.armed) (was is : Bool) (same : is ≡ was) (told told' : Bool) (less : IsTrue told' → IsTrue told) where
   stopped_alike : AreStopped m → AreStopped m'

@@ -21,6 +21,7 @@ use Rattle.vx_group.proofs.HoldLemmas.{wide_shape}
 use Rattle.vx_grouped.specs.Away.{AwayLies, IsAwayAt}
 use Rattle.vx_grouped.specs.GroupNotes.{GroupLies}
 use Rattle.vx_kept.proofs.Chosen.{extends_shape}
+use Rattle.vx_grouped.proofs.ImageLemmas.{less_from, less_noted}
 
 module _ (n : Node) (note : GroupNode) (c : GroupCore) (m m' : Meaning) (lies : GroupLies n note c m) (stopped : Stopped m m') (stands : InnerStands (wide c) m') where
   kin : (i : Image) (x : Config) → Each m'.leaves i → found m' i ≡ Found x → Kin (wide c).config x
@@ -47,7 +48,7 @@ module _ (n : Node) (note : GroupNode) (c : GroupCore) (m m' : Meaning) (lies : 
   }
 
   pub crash_away : (c.inner.agreed ≡ true → CanImport m') → IsAwayAt (record n { state = IsDown }) note c.inner.config m'
-  crash_away can = record { state = refl; config = lies.config; lies = crash_lies can }
+  crash_away can = record { state = refl; config = lies.config; found = less_noted note c.inner.config m m' (less_from m m' stopped.units stopped.size stopped.leaves) lies.images.noted; lies = crash_lies can }
 
 -- the same of equal parts
 pub lies_at : {S : Type 0} (meaning : S → Meaning) (n : Node) (note : GroupNode) (c d : GroupCore) (s t : S) → d ≡ c → t ≡ s → GroupLies n note c (meaning s) → GroupLies n note d (meaning t)

@@ -38,6 +38,9 @@ use Rattle.vx_grouped.specs.SetFuses.{HasFuse}
 use Rattle.vx_grouped.specs.declared.idle.Idle.{Idle}
 use Rattle.vx_grouped.specs.declared.laid.Laid.{Laid}
 use Rattle.vx_grouped.specs.declared.group_site.GroupSite.TheVariants.{Up, Marked}
+use Rattle.vx_kept.specs.Finds.{AllAtOnce}
+use Rattle.vx_kept.proofs.Findings.{newest_at}
+use Rattle.vx_group.proofs.HoldLemmas.{wide_none}
 use Rattle.vx_grouped.proofs.MovesLemmas.{disk_blocks_at}
 use Rattle.vx_grouped.proofs.NoteLemmas.{blocks_same}
 use Rattle.vx_grouped.proofs.NotedLemmas.{spells_zero}
@@ -126,6 +129,12 @@ module _ (m m' : Meaning) (n : Node) (can : CanBegin n m) (since : CalledSince m
           config = refl;
           agreed = λ tight. new.stands.trusts.both (was_kept core.inner.committed tight);
           committed = λ tight none. was_kept core.inner.committed tight;
+          images = record {
+            noted = record { each = λ tight i x each is. inl ((newest_at core.inner.config m' new.newest).each i x each is) };
+            newest = λ is. subst (λ (i : Inner). AllAtOnce i.config m') (sym (wide_none core held)) (newest_at core.inner.config m' new.newest);
+            openly = λ is. absurd (let clash : false ≡ true = sym new.settled ∙ is in cc);
+            free = λ tight none. held;
+          };
           holds = holds;
         };
       };

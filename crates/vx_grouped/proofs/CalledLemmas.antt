@@ -17,14 +17,14 @@ use Rattle.vx_watched.specs.Since.{CalledSince}
 use Rattle.vx_config.specs.declared.config.Config.{Config}
 use Rattle.vx_grouped.specs.Away.{IsAwayAt}
 use Rattle.vx_grouped.specs.Ends.{CallLeaves}
-use Rattle.vx_grouped.specs.GroupNotes.{GroupLies, note_done, note_refused, noted_config}
+use Rattle.vx_grouped.specs.GroupNotes.{GroupLies, note_called, noted_config}
 use Rattle.vx_grouped.specs.GroupSites.{GroupUp, idle_disks, laid_disks, IsLit, laid_below, idle_below}
 use Rattle.vx_grouped.specs.SiteEnds.{SiteCalled, stops_down, ConfigGoes, HasNow}
 use Rattle.vx_grouped.specs.declared.idle.Idle.{Idle}
 use Rattle.vx_grouped.specs.declared.laid.Laid.{Laid}
 use Rattle.vx_grouped.specs.declared.group_site.GroupSite.{GroupSite}
 use Rattle.vx_grouped.specs.declared.group_site.GroupSite.TheVariants.{Up, Down}
-use Rattle.vx_grouped.proofs.SettleLemmas.{done_settles, fell_fused, fuse_burned, refused_unsettles}
+use Rattle.vx_grouped.proofs.SettleLemmas.{called_settles, called_unsettles, fell_fused, fuse_burned}
 use Rattle.vx_grouped.proofs.SiteLemmas.{down_with, up_burned, up_with}
 use Rattle.vx_disk.specs.Causes.{DeviceCause}
 use Rattle.vx_config.specs.Configs.{HasSpelling}
@@ -119,13 +119,13 @@ module _ {R : Type 0} {g : Ghosts R} (T : Type 0) (n : Node) (note : GroupNode) 
 
   module _ (Done Fails : Config → Config → Type 0) (Lacks : No → Type 0) where
     -- it is done
-    pub called_done : (done : T) → (group.core.inner.committed ≡ true → new.core.inner.committed ≡ true) → CallLeaves n note new.core (laid_disks new) (Ok done) → Done group.core.inner.config new.core.inner.config
+    pub called_done : (done : T) → CallLeaves n note new.core (laid_disks new) (Ok done) → Done group.core.inner.config new.core.inner.config
         → SiteCalled Done Fails Lacks n note (Up group) (Up new) (Ok done)
-    called_done done trust at change = (
-      note_done new.core.inner note,
-      done_settles new.core.inner note (λ tight none. trust (up.at.lies.committed tight none)),
-      up_with n note (note_done new.core.inner note) (laid_below new).tells new.core (laid_disks new) up.noted (lit (note_done new.core.inner note) refl) spells (fuse_burned n.fuse (laid_disks group) (laid_disks new) since.unarmed up.fuse) at,
-      goes Done (note_done new.core.inner note) refl (Up new) refl change,
+    called_done done leaves change = (
+      note_called leaves.0 new.core note,
+      called_settles leaves.0 new.core note leaves.2,
+      up_with n note (note_called leaves.0 new.core note) (laid_below new).tells new.core (laid_disks new) up.noted (lit (note_called leaves.0 new.core note) refl) spells (fuse_burned n.fuse (laid_disks group) (laid_disks new) since.unarmed up.fuse) leaves.1,
+      goes Done (note_called leaves.0 new.core note) refl (Up new) refl change,
     )
 
     -- it was refused, over disks that are up
@@ -134,11 +134,11 @@ module _ {R : Type 0} {g : Ghosts R} (T : Type 0) (n : Node) (note : GroupNode) 
         → ((which : No) → stop ≡ Refused which → blames_device which ≡ true → Fails group.core.inner.config new.core.inner.config) → ((which : No) → stop ≡ Refused which → blames_device which ≡ false → Lacks which)
         → SiteCalled {T = T} Done Fails Lacks n note (Up group) (Up new) (Err stop)
     called_up (Refused (Device disk)) off leaves rose fails lacks = (
-      note_refused leaves.0 new.core.inner note,
-      refused_unsettles new.core.inner note leaves.0,
-      up_with n note (note_refused leaves.0 new.core.inner note) (laid_below new).tells new.core (laid_disks new) up.noted (lit (note_refused leaves.0 new.core.inner note) refl) spells (fuse_burned n.fuse (laid_disks group) (laid_disks new) since.unarmed up.fuse) leaves.1,
+      note_called leaves.0 new.core note,
+      called_unsettles leaves.0 new.core note,
+      up_with n note (note_called leaves.0 new.core note) (laid_below new).tells new.core (laid_disks new) up.noted (lit (note_called leaves.0 new.core note) refl) spells (fuse_burned n.fuse (laid_disks group) (laid_disks new) since.unarmed up.fuse) leaves.1,
       rose disk refl,
-      goes Fails (note_refused leaves.0 new.core.inner note) refl (Up new) refl (fails (Device disk) refl refl),
+      goes Fails (note_called leaves.0 new.core note) refl (Up new) refl (fails (Device disk) refl refl),
     )
     called_up (Refused IsOff) off leaves rose fails lacks = cc
     called_up (Refused other) off leaves rose fails lacks =
@@ -153,12 +153,12 @@ module _ {R : Type 0} {g : Ghosts R} (T : Type 0) (n : Node) (note : GroupNode) 
           → SiteCalled {T = T} Done Fails Lacks n note (Up group) (Down idle) (Err stop)
       called_cut (Refused (Device disk)) off leaves fails = cc
       called_cut (Refused IsOff) off leaves fails = (
-        note_refused leaves.0 new.core.inner note,
-        refused_unsettles new.core.inner note leaves.0,
-        down_with n note (note_refused leaves.0 new.core.inner note) idle.agreed (idle_below idle).tells new.core.inner.config (idle_disks idle) up.noted
-            (lit_since note (note_refused leaves.0 new.core.inner note) (laid_below new).tells (idle_below idle).tells (laid_disks new) (idle_disks idle) refl stopped.tells fell (lit note refl)) (λ tight. same ∙ leaves.1.lies.agreed tight) (record { down = stopped.down; unarmed = stopped.unarmed }) spells (away n (note_refused leaves.0 new.core.inner note) leaves.1.lies),
+        note_called leaves.0 new.core note,
+        called_unsettles leaves.0 new.core note,
+        down_with n note (note_called leaves.0 new.core note) idle.agreed (idle_below idle).tells new.core.inner.config (idle_disks idle) up.noted
+            (lit_since note (note_called leaves.0 new.core note) (laid_below new).tells (idle_below idle).tells (laid_disks new) (idle_disks idle) refl stopped.tells fell (lit note refl)) (λ tight. same ∙ leaves.1.lies.agreed tight) (record { down = stopped.down; unarmed = stopped.unarmed }) spells (away n (note_called leaves.0 new.core note) leaves.1.lies),
         fell_fused n.fuse (laid_disks group) (laid_disks new) up.fuse up.at.up since.safe leaves.1.down,
-        goes Fails (note_refused leaves.0 new.core.inner note) refl (Down idle) tt (fails IsOff refl refl),
+        goes Fails (note_called leaves.0 new.core note) refl (Down idle) tt (fails IsOff refl refl),
       )
       called_cut (Refused other) off leaves fails = cc
       called_cut OutOfMemory off leaves fails = cc

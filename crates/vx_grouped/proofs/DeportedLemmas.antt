@@ -1,5 +1,5 @@
 -- A group that was deported, as its site notes it.
-use Rattle.std.proofs.Common.{◌≡◌, ◌⊎◌, inl, inr, ℕ, ◌<◌, ◌≤◌, Bool, true, false, List, length, refl, sym, ◌∙◌, subst, arith, IsTrue}
+use Rattle.std.proofs.Common.{◌≡◌, ◌⊎◌, inl, inr, ℕ, ◌<◌, ◌≤◌, Bool, true, false, List, length, refl, sym, ◌∙◌, ap, subst, arith, IsTrue}
 use Rattle.std.specs.Prelude.{Err, if◌then◌else◌}
 use Rattle.vx_model.specs.declared.errors.Stop.{Stop}
 use Rattle.vx_model.specs.declared.errors.Stop.TheVariants.{No as Refused, OutOfMemory}
@@ -25,6 +25,7 @@ use Rattle.vx_config.specs.Table.{greatest}
 use Rattle.vx_group.specs.Calls.{GroupBack}
 use Rattle.vx_group.specs.Deports.{DeportStops, DeportedBy}
 use Rattle.vx_group.specs.Dets.{DetStops}
+use Rattle.vx_group.specs.Finds.{GroupFinds}
 use Rattle.vx_group.specs.Holding.{GroupStands, wide}
 use Rattle.vx_group.specs.Resumes.{CanImport}
 use Rattle.vx_group.specs.Stands.{inner_meaning}
@@ -33,12 +34,15 @@ use Rattle.vx_group.proofs.HoldLemmas.{narrow_wider, wide_shape}
 use Rattle.vx_group.proofs.Standing.{sound_of}
 use Rattle.vx_grouped.specs.Away.{IsDeportedAt, note_deported}
 use Rattle.vx_grouped.specs.Ends.{CallLeaves}
-use Rattle.vx_grouped.specs.GroupNotes.{GroupLies, IsGroupAt, IsGroupCut, note_refused}
+use Rattle.vx_grouped.specs.GroupNotes.{GroupLies, IsGroupAt, IsGroupCut, note_called}
 use Rattle.vx_grouped.proofs.KeepLemmas.{call_cut, call_up}
 
 place_serial : (s : ℕ) (c : Config) (v p b : ℕ) → place (at_serial s c) v p b ≡ place c v p b
 unfolding place
 place_serial s c v p b = refl
+
+found_one : (x y : Config) → Found x ≡ Found y → x ≡ y
+found_one x y is = cc
 
 deported_tight : (kept : Bool) → (if kept then false else true) ≡ false → kept ≡ true
 deported_tight true is = refl
@@ -97,6 +101,7 @@ module _ (n : Node) (note : GroupNode) (c : GroupCore) (m m' : Meaning) (lies : 
     state = refl;
     config = refl;
     frames = newest_frames;
+    found = record { each = λ tight i x each is. inl (ap (λ (y : Config). at_serial 0 y) (found_one x it.config (sym is ∙ it.finds i each))) };
     lies = record {
       units = it.quiesces.acts.units ∙ lies.units;
       size = λ u low. it.quiesces.acts.size u ∙ lies.size u low;
@@ -118,14 +123,14 @@ pub device_stops : {S G : Type 0} (old : Meaning) (meaning : S → Meaning) (she
 device_stops old meaning shelf g (Refused why) it = it
 device_stops old meaning shelf g OutOfMemory it = it
 
-module _ (n : Node) (note : GroupNode) (c d : GroupCore) (m m' : Meaning) (at : IsGroupAt n note c m) (back : GroupBack c d m m') (goes : Goes Nothing (inner_meaning (wide c) m) (inner_meaning (wide d) m')) where
-  pub back_cut : IsTrue m'.down → (next : List ℕ) × IsGroupCut n (note_refused next d.inner note) d m'
-  back_cut down = call_cut n note c d m m' at back.stands back.quiesces.acts.units back.quiesces.acts.size goes down
+module _ (n : Node) (note : GroupNode) (c d : GroupCore) (m m' : Meaning) (at : IsGroupAt n note c m) (back : GroupBack c d m m') (goes : Goes Nothing (inner_meaning (wide c) m) (inner_meaning (wide d) m')) (finds : GroupFinds c d m m') where
+  pub back_cut : IsTrue m'.down → (nexts : List (List ℕ)) × IsGroupCut n (note_called nexts d note) d m'
+  back_cut down = call_cut n note c d m m' at back.stands back.quiesces.acts.units back.quiesces.acts.size goes finds.core down
 
   -- by whether serials suffice
   pub back_up : (stop : Stop) (full : Type 0) (enough : Type 0) → full ⊎ enough → (IsTrue m'.down → ⊥) → (enough → DetStops {T = Unit {0}} m m' (Err stop)) → (full → (stop ≡ Refused (Limit Numbers greatest)) × IsGroupAt n note d m')
       → CallLeaves {T = Unit {0}} n note d m' (Err stop)
   back_up stop full enough (inr is) up stops same =
-      call_up n note c d m m' at back.stands back.quiesces.acts.units back.quiesces.acts.size goes {T = Unit {0}} (Err stop) up tt (stops is)
+      call_up n note c d m m' at back.stands back.quiesces.acts.units back.quiesces.acts.size goes finds.core {T = Unit {0}} (Err stop) up tt tt (stops is)
   back_up stop full enough (inl is) up stops same =
       subst (λ (x : Stop). CallLeaves {T = Unit {0}} n note d m' (Err x)) (sym (same is).0) (same is).1

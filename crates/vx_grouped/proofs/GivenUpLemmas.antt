@@ -24,7 +24,8 @@ use Rattle.vx_grouped.specs.SiteEnds.{burned_site}
 use Rattle.vx_grouped.specs.SiteReturns.{KeepsFuse, SiteImports, SiteRecovers}
 use Rattle.vx_grouped.specs.declared.group_site.GroupSite.TheVariants.{Deported, Down}
 use Rattle.vx_grouped.specs.declared.idle.Idle.{Idle}
-use Rattle.vx_grouped.proofs.ReadyLemmas.{below_ready, lies_ready, ready_away, ready_down}
+use Rattle.vx_grouped.proofs.ImageLemmas.{noted_as}
+use Rattle.vx_grouped.proofs.ReadyLemmas.{below_ready, lies_ready, noted_ready, ready_away, ready_down}
 use Rattle.vx_grouped.proofs.SettleLemmas.{fuse_burned}
 use Rattle.vx_grouped.proofs.SinceReturns.{dark_armed, dark_down}
 use Rattle.vx_grouped.proofs.SiteLemmas.{away_dimmed, lit_dimmed, noted_dimmed}
@@ -61,6 +62,7 @@ module _ {R : Type 0} (meaning : R → Meaning) where
       away = record {
         state = it.away.state;
         config = it.away.config;
+        found = noted_as note (note_dimmed true note) it.last (shade_meaning meaning (Dark (rack_of s))) refl refl (noted_ready meaning false s note it.last it.away.found);
         lies = away_dimmed true n (dimmed_site true note n) note it.last (shade_meaning meaning (Dark (rack_of s))) refl refl (lies_ready meaning false s n note it.last it.away.lies);
       };
     }
@@ -80,6 +82,7 @@ module _ {R : Type 0} (meaning : R → Meaning) where
         state = it.away.state;
         config = it.away.config;
         frames = it.away.frames;
+        found = noted_as note (note_dimmed true note) it.newest (shade_meaning meaning (Dark (rack_of s))) refl refl (noted_ready meaning false s note it.newest it.away.found);
         lies = away_dimmed true n (burned_site (dimmed_site true note n)) note it.last (shade_meaning meaning (Dark (rack_of s))) refl refl (lies_ready meaning false s n note it.last it.away.lies);
       };
     }

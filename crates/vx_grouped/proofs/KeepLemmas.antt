@@ -1,5 +1,5 @@
 -- Calls of a group that write to no volume, as its site notes them.
-use Rattle.std.proofs.Common.{◌≡◌, ℕ, Bool, true, false, List, [], refl, sym, ap, IsTrue, subst}
+use Rattle.std.proofs.Common.{◌≡◌, ℕ, Bool, true, false, List, refl, sym, ap, IsTrue, subst}
 use Rattle.std.specs.Prelude.{Result, Ok, Err, IfErr, OnOk, Option, Some, None, if◌then◌else◌}
 use Rattle.vx_model.specs.declared.errors.Stop.{Stop}
 use Rattle.vx_model.specs.declared.errors.Stop.TheVariants.{No as Refused, OutOfMemory}
@@ -13,12 +13,14 @@ use Rattle.vx_history.specs.World.{Node}
 use Rattle.vx_config.specs.declared.config.Config.{Config}
 use Rattle.vx_group.specs.Attaches.{GroupAttachEnds, IsAttached}
 use Rattle.vx_group.specs.Dets.{DetStops}
+use Rattle.vx_group.specs.Finds.{CoreFinds}
 use Rattle.vx_group.specs.Holding.{GroupStands, wide}
 use Rattle.vx_group.specs.Stands.{inner_meaning}
 use Rattle.vx_group.specs.declared.group_core.GroupCore.{GroupCore}
 use Rattle.vx_grouped.specs.Ends.{CallLeaves}
-use Rattle.vx_grouped.specs.GroupNotes.{GroupLies, IsGroupAt, IsGroupCut, note_done, note_refused}
-use Rattle.vx_grouped.proofs.NoteLemmas.{lies_done, lies_refused}
+use Rattle.vx_grouped.specs.GroupNotes.{GroupLies, IsGroupAt, IsGroupCut, note_called}
+use Rattle.vx_grouped.proofs.ImageLemmas.{called_tight, nexts_of}
+use Rattle.vx_grouped.proofs.NoteLemmas.{lies_called}
 use Rattle.vx_grouped.proofs.PlainLemmas.{same_holds, still_holds}
 
 -- tests of names and counts refuse nothing with 6
@@ -36,39 +38,38 @@ att_not_down false false true v p most is = let clash : Some (Limit Numbers most
 att_not_down false false false v p most is = let clash : None ≡ Some Down = is in cc
 
 module _ (n : Node) (note : GroupNode) (c d : GroupCore) (m m' : Meaning) (at : IsGroupAt n note c m) (two : GroupStands d m') (units : m'.units ≡ m.units) (size : (u : ℕ) → m'.size u ≡ m.size u)
-    (goes : Goes Nothing (inner_meaning (wide c) m) (inner_meaning (wide d) m')) where
-  kept_refused : GroupLies n (note_refused [] d.inner note) d m'
-  kept_refused =
-      lies_refused n note c d m m' at.lies two units (λ u low. size u) [] (note_refused [] d.inner note) refl refl refl
-      (same_holds note (inner_meaning (wide d) m') (note_refused [] d.inner note).config (note_refused [] d.inner note).begun (note_refused [] d.inner note).loose (still_holds note (inner_meaning (wide c) m) (inner_meaning (wide d) m') at.lies.holds goes))
+    (goes : Goes Nothing (inner_meaning (wide c) m) (inner_meaning (wide d) m')) (finds : CoreFinds (wide c) (wide d) m m') where
+  abbrev nexts : List (List ℕ)
+  nexts = nexts_of c d m m' finds
 
-  kept_done : (c.inner.committed ≡ true → d.inner.committed ≡ true) → GroupLies n (note_done d.inner note) d m'
-  kept_done trust =
-      lies_done n note c d m m' at.lies two units (λ u low. size u) trust (note_done d.inner note) refl refl refl
-      (same_holds note (inner_meaning (wide d) m') (note_done d.inner note).config (note_done d.inner note).begun (note_done d.inner note).loose (still_holds note (inner_meaning (wide c) m) (inner_meaning (wide d) m') at.lies.holds goes))
+  kept_called : GroupLies n (note_called nexts d note) d m'
+  kept_called =
+      let next : GroupNode = note_called nexts d note in
+      lies_called n note c d m m' at.lies two units (λ u low. size u) finds next refl refl refl
+      (same_holds note (inner_meaning (wide d) m') next.config next.begun next.loose (still_holds note (inner_meaning (wide c) m) (inner_meaning (wide d) m') at.lies.holds goes))
 
   -- the disks are down behind it
-  pub call_cut : IsTrue m'.down → (next : List ℕ) × IsGroupCut n (note_refused next d.inner note) d m'
-  call_cut down = ([], record { down = down; lies = kept_refused })
+  pub call_cut : IsTrue m'.down → (nexts : List (List ℕ)) × IsGroupCut n (note_called nexts d note) d m'
+  call_cut down = (nexts, record { down = down; lies = kept_called })
 
   -- they are not, and it stopped for a device alone
-  pub call_up : {T : Type 0} (r : Result T Stop) → (IsTrue m'.down → ⊥) → OnOk r (c.inner.committed ≡ true → d.inner.committed ≡ true) → DetStops m m' r → CallLeaves n note d m' r
-  call_up (Ok done) up trust stops = record { state = at.state; up = up; lies = kept_done trust }
-  call_up (Err (Refused (Device disk))) up trust stops = ([], record { state = at.state; up = up; lies = kept_refused })
-  call_up (Err (Refused Down)) up trust stops = absurd (up stops)
-  call_up (Err (Refused other)) up trust stops = absurd stops
-  call_up (Err OutOfMemory) up trust stops = absurd stops
+  pub call_up : {T : Type 0} (r : Result T Stop) → (IsTrue m'.down → ⊥) → OnOk r (c.inner.committed ≡ true → d.inner.committed ≡ true) → OnOk r (c.held ≡ None → d.held ≡ None) → DetStops m m' r → CallLeaves n note d m' r
+  call_up (Ok done) up trust free stops = (nexts, record { state = at.state; up = up; lies = kept_called }, called_tight note c d m m' at.lies.images finds at.lies.committed trust free)
+  call_up (Err (Refused (Device disk))) up trust free stops = (nexts, record { state = at.state; up = up; lies = kept_called })
+  call_up (Err (Refused Down)) up trust free stops = absurd (up stops)
+  call_up (Err (Refused other)) up trust free stops = absurd stops
+  call_up (Err OutOfMemory) up trust free stops = absurd stops
 
   -- it was refused by a test, and nothing has changed
   pub call_none : (T : Type 0) (no : No) → IsGroupAt n note d m' → (no ≡ Down → ⊥) → CallLeaves {T = T} n note d m' (Err (Refused no))
-  call_none T (Device disk) same never = ([], record { state = at.state; up = same.up; lies = kept_refused })
+  call_none T (Device disk) same never = (nexts, record { state = at.state; up = same.up; lies = kept_called })
   call_none T Down same never = absurd (never refl)
   call_none T other same never = same
 
-  pub call_leaves : {T : Type 0} (r : Result T Stop) (o : Option No) → (IsTrue m'.down → ⊥) → OnOk r (c.inner.committed ≡ true → d.inner.committed ≡ true) → (o ≡ None → DetStops m m' r)
+  pub call_leaves : {T : Type 0} (r : Result T Stop) (o : Option No) → (IsTrue m'.down → ⊥) → OnOk r (c.inner.committed ≡ true → d.inner.committed ≡ true) → OnOk r (c.held ≡ None → d.held ≡ None) → (o ≡ None → DetStops m m' r)
       → ((no : No) → o ≡ Some no → (r ≡ Err (Refused no)) × IsGroupAt n note d m') → (o ≡ Some Down → ⊥) → CallLeaves n note d m' r
-  call_leaves {T} r None up trust stops refused never = call_up r up trust (stops refl)
-  call_leaves {T} r (Some why) up trust stops refused never =
+  call_leaves {T} r None up trust free stops refused never = call_up r up trust free (stops refl)
+  call_leaves {T} r (Some why) up trust free stops refused never =
       subst (λ (x : Result T Stop). CallLeaves n note d m' x) (sym (refused why refl).0) (call_none T why (refused why refl).1 (λ is. never (ap (λ (y : No). Some y) is)))
 
 -- ---- a call over a shelf that is looked at behind it
@@ -104,3 +105,8 @@ att_not_device true u x v p most disk is = let clash : Some (Unknown (Number v))
 att_not_device false true x v p most disk is = let clash : Some (Unknown (Number p)) ≡ Some (Device disk) = is in cc
 att_not_device false false true v p most disk is = let clash : Some (Limit Numbers most) ≡ Some (Device disk) = is in cc
 att_not_device false false false v p most disk is = let clash : None ≡ Some (Device disk) = is in cc
+
+-- whatever is answered, no plex is held back where none was
+pub free_either : {T : Type 0} (r : Result T Stop) (P : Type 0) → P → OnOk r P
+free_either (Ok done) P it = it
+free_either (Err stop) P it = tt

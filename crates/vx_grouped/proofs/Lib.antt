@@ -6,6 +6,7 @@ pub mod CalledLemmas
 pub mod CarryLemmas
 pub mod CopiedLemmas
 pub mod DeportedLemmas
+pub mod ImageLemmas
 pub mod ImportFactLemmas
 pub mod GivenUpLemmas
 pub mod KeepLemmas

@@ -9,32 +9,22 @@ use Rattle.vx_copies.specs.Commits.{MoreFailed}
 use Rattle.vx_copies.specs.Marks.{blocks_at}
 use Rattle.vx_copies.proofs.OneTry.{wanted_count}
 use Rattle.vx_layout.specs.Places.{disk_blocks}
+use Rattle.vx_group.specs.Finds.{CoreFinds}
 use Rattle.vx_group.specs.Holding.{GroupStands, wide}
 use Rattle.vx_group.specs.Stands.{inner_meaning}
 use Rattle.vx_group.specs.declared.group_core.GroupCore.{GroupCore}
 use Rattle.vx_group.proofs.Standing.{disks_fit}
-use Rattle.vx_grouped.specs.GroupNotes.{GroupLies, note_done, note_refused}
+use Rattle.vx_grouped.specs.GroupNotes.{GroupLies, is_sure, loose_by, note_called, noted_config, noted_try}
 use Rattle.vx_grouped.specs.Plain.{HoldsPlain}
+use Rattle.vx_grouped.proofs.ImageLemmas.{called_sure, images_called, nexts_of, sure_kept, tries}
 
--- ---- flags, by what the core says: `kept` is committed, `agr` agreed
+-- ---- flags: `kept` is committed, `agr` agreed
 
-done_agreed : (kept agr l : Bool) → (kept ≡ true → agr ≡ true) → (if kept then false else (l || not agr)) ≡ false → agr ≡ true
-done_agreed true agr l both is = both refl
-done_agreed false true l both is = refl
-done_agreed false false true both is = cc
-done_agreed false false false both is = cc
-
-was_tight : (agr l : Bool) → (l || not agr) ≡ false → l ≡ false
-was_tight agr true is = cc
-was_tight agr false is = refl
-
-done_committed : (kept agr l : Bool) (begun : List (List ℕ)) → (l ≡ false → begun ≡ [] → kept ≡ true) → (if kept then false else (l || not agr)) ≡ false → (if kept then [] else begun) ≡ [] → kept ≡ true
-done_committed true agr l begun trust is none = refl
-done_committed false agr l begun trust is none = trust (was_tight agr l is) none
-
-refused_committed : (kept : Bool) (next : List ℕ) (begun : List (List ℕ)) → (if kept then [] else next ∷ begun) ≡ [] → kept ≡ true
-refused_committed true next begun none = refl
-refused_committed false next begun none = cc
+called_agreed : (sure kept agr l : Bool) → (sure ≡ true → kept ≡ true) → (kept ≡ true → agr ≡ true) → (if sure then false else (l || not agr)) ≡ false → agr ≡ true
+called_agreed true kept agr l is both tight = both (is refl)
+called_agreed false kept true l is both tight = refl
+called_agreed false kept false true is both tight = cc
+called_agreed false kept false false is both tight = cc
 
 -- ---- the disks below
 
@@ -66,24 +56,14 @@ module _ (n : Node) (note : GroupNode) (c d : GroupCore) (m m' : Meaning) (lies 
   sizes : (u : ℕ) → u < n.disks → m'.size u ≡ n.blocks
   sizes u low = size u (let is = lies.units in omega (arith, low, is)) ∙ lies.size u low
 
-  pub lies_done : (c.inner.committed ≡ true → d.inner.committed ≡ true) → (note' : GroupNode) → note'.config ≡ (note_done d.inner note).config → note'.begun ≡ (note_done d.inner note).begun → note'.loose ≡ (note_done d.inner note).loose
+  pub lies_called : (finds : CoreFinds (wide c) (wide d) m m') (note' : GroupNode) → note'.config ≡ noted_config d.inner.config → note'.begun ≡ (note_called (nexts_of c d m m' finds) d note).begun → note'.loose ≡ loose_by d note.loose
       → HoldsPlain note' (inner_meaning (wide d) m') → GroupLies n note' d m'
-  lies_done trust note' config begun loose holds = record {
+  lies_called finds note' config begun loose holds = record {
     units = units ∙ lies.units;
     size = sizes;
     config = config;
-    agreed = λ tight. done_agreed d.inner.committed d.inner.agreed note.loose stands.stands.trusts.both (sym loose ∙ tight);
-    committed = λ tight none. done_committed d.inner.committed d.inner.agreed note.loose note.begun (λ was empty. trust (lies.committed was empty)) (sym loose ∙ tight) (sym begun ∙ none);
-    holds = holds;
-  }
-
-  pub lies_refused : (next : List ℕ) (note' : GroupNode) → note'.config ≡ (note_refused next d.inner note).config → note'.begun ≡ (note_refused next d.inner note).begun → note'.loose ≡ (note_refused next d.inner note).loose
-      → HoldsPlain note' (inner_meaning (wide d) m') → GroupLies n note' d m'
-  lies_refused next note' config begun loose holds = record {
-    units = units ∙ lies.units;
-    size = sizes;
-    config = config;
-    agreed = λ tight. done_agreed d.inner.committed d.inner.agreed note.loose stands.stands.trusts.both (sym loose ∙ tight);
-    committed = λ tight none. refused_committed d.inner.committed next note.begun (sym begun ∙ none);
+    agreed = λ tight. called_agreed (is_sure d) d.inner.committed d.inner.agreed note.loose (sure_kept d.inner.committed d.held) stands.stands.trusts.both (sym loose ∙ tight);
+    committed = λ tight none. sure_kept d.inner.committed d.held (called_sure (noted_try c.inner.config) (tries finds.begun) d note note' begun none);
+    images = images_called note c d m m' lies.images finds note' begun loose;
     holds = holds;
   }

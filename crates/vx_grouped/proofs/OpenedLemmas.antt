@@ -1,5 +1,5 @@
 -- A group that comes back by its logs, as its site notes it: since it came up marks were taken off, and logs may have been lost.
-use Rattle.std.proofs.Common.{◌≡◌, ◌∙◌, ℕ, ◌<◌, ◌≤◌, Bool, true, false, IsTrue, List, None, length, refl, sym, arith}
+use Rattle.std.proofs.Common.{◌≡◌, ◌∙◌, inl, ℕ, ◌<◌, ◌≤◌, Bool, true, false, IsTrue, List, None, length, refl, sym, subst, arith}
 use Rattle.vx_disk.specs.Counts.{Rose}
 use Rattle.vx_disk.specs.Shelf.{Goes, Lawful, Meaning, Nothing}
 use Rattle.vx_disk.proofs.Causing.{Rose_after, Rose_before}
@@ -8,25 +8,29 @@ use Rattle.vx_history.specs.World.{Node}
 use Rattle.vx_config.specs.Checks.{blocks_of}
 use Rattle.vx_config.specs.declared.config.Config.{Config}
 use Rattle.vx_copies.specs.Marks.{failed_at}
+use Rattle.vx_kept.specs.Finds.{AllAtOnce}
 use Rattle.vx_kept.proofs.Frames.{names_of}
 use Rattle.vx_group.specs.Creates.{SameUnits}
+use Rattle.vx_group.specs.Finds.{MissesOpenly}
 use Rattle.vx_group.specs.Holding.{wide}
 use Rattle.vx_group.specs.Loses.{LosesPlexes}
 use Rattle.vx_group.specs.Resumes.{CanImport}
 use Rattle.vx_group.specs.Stands.{inner_meaning}
 use Rattle.vx_group.specs.declared.group_core.GroupCore.{GroupCore}
-use Rattle.vx_group.proofs.HoldLemmas.{wide_shape}
+use Rattle.vx_group.specs.declared.inner.Inner.{Inner}
+use Rattle.vx_group.proofs.HoldLemmas.{wide_none, wide_shape}
 use Rattle.vx_loggroup.specs.Opens.{IsOpened}
 use Rattle.vx_logimport.specs.declared.rested.Rested.{Rested}
 use Rattle.vx_logs.specs.declared.logs.Logs.{Logs}
 use Rattle.vx_grouped.specs.Away.{AwayLies}
 use Rattle.vx_grouped.specs.Plain.{HoldsPlain}
-use Rattle.vx_grouped.specs.Returns.{GroupReturns, note_imported}
+use Rattle.vx_grouped.specs.Returns.{GroupReturns, VolumesReturn, note_imported}
 use Rattle.vx_grouped.proofs.PlainLemmas.{still_holds}
 use Rattle.vx_grouped.proofs.ReturnLemmas.{group_returns}
 
 module _ (n : Node) (note : GroupNode) (last : Config) (old : Meaning) (c d : GroupCore) (m m' : Meaning) (same : SameUnits m m') (goes : Goes Nothing (inner_meaning (wide c) m) (inner_meaning (wide d) m')) (loses : LosesPlexes c.inner.config d.inner.config m m')
-    (before : (u : ℕ) → old.faults u ≤ m.faults u) (since : (u : ℕ) → m.faults u ≤ m'.faults u) (committed : d.inner.committed ≡ true) (agreed : d.inner.agreed ≡ true) (up : IsTrue m'.down → ⊥) (back : GroupReturns n note last old c m) where
+    (before : (u : ℕ) → old.faults u ≤ m.faults u) (since : (u : ℕ) → m.faults u ≤ m'.faults u) (committed : d.inner.committed ≡ true) (agreed : d.inner.agreed ≡ true) (up : IsTrue m'.down → ⊥)
+    (newest : AllAtOnce d.inner.config m') (free : d.held ≡ None) (openly : MissesOpenly d.inner) (back : VolumesReturn n note last old c m) where
   long : length d.inner.config.volumes ≡ length c.inner.config.volumes
   long = sym (wide_shape d).volumes ∙ goes.units ∙ (wide_shape c).volumes
 
@@ -35,7 +39,7 @@ module _ (n : Node) (note : GroupNode) (last : Config) (old : Meaning) (c d : Gr
 
   held : HoldsPlain (note_imported d.inner back.renewed back.value note) (inner_meaning (wide d) m')
   held =
-      let it = still_holds (note_imported c.inner back.renewed back.value note) (inner_meaning (wide c) m) (inner_meaning (wide d) m') back.at.lies.holds goes in
+      let it = still_holds (note_imported c.inner back.renewed back.value note) (inner_meaning (wide c) m) (inner_meaning (wide d) m') back.holds goes in
       record { size = λ v. sym ((wide_shape d).blocks v); has = it.has }
 
   failed : (u : ℕ) → u < old.units → failed_at d.inner.config.disks u ≡ true → Rose (old.faults u) (m'.faults u)
@@ -53,11 +57,17 @@ module _ (n : Node) (note : GroupNode) (last : Config) (old : Meaning) (c d : Gr
       state = refl;
       up = up;
       lies = record {
-        units = same.units ∙ back.at.lies.units;
-        size = λ u low. same.size u ∙ back.at.lies.size u low;
+        units = same.units ∙ back.units;
+        size = λ u low. same.size u ∙ back.size u low;
         config = refl;
         agreed = λ tight. agreed;
         committed = λ tight empty. committed;
+        images = record {
+          noted = record { each = λ tight i x each is. inl (newest.each i x each is) };
+          newest = λ is. subst (λ (e : Inner). AllAtOnce e.config m') (sym (wide_none d free)) newest;
+          openly = openly;
+          free = λ tight empty. free;
+        };
         holds = held;
       };
     };
@@ -79,5 +89,5 @@ pub opened_returns : (n : Node) (note : GroupNode) (last : Config) (old : Meanin
 opened_returns n note last old law away {S} meaning rested core logs flags stopped new can it both =
     let middle : GroupCore = record { inner = it.marked.core; held = None } in
     let only = it.resumed.only in
-    then_returns n note last old middle core (meaning it.moment) new it.same it.goes it.loses only.faults it.counts it.committed (both it.committed) it.up
+    then_returns n note last old middle core (meaning it.moment) new it.same it.goes it.loses only.faults it.counts it.committed (both it.committed) it.up it.newest it.free it.openly
     (group_returns n note last old law away it.marked.core (meaning it.moment) can it.resumed.resumed (record { units = only.units; size = only.size }) middle refl refl)

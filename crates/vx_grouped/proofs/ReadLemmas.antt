@@ -8,6 +8,8 @@ use Rattle.vx_group.specs.Stands.{inner_meaning}
 use Rattle.vx_group.specs.declared.group_core.GroupCore.{GroupCore}
 use Rattle.vx_grouped.specs.GroupNotes.{IsGroupAt, noted_config}
 use Rattle.vx_grouped.specs.Plain.{HoldsPlain, ReadsPlain}
+use Rattle.vx_group.proofs.FindingLemmas.{quiet_finds}
+use Rattle.vx_grouped.proofs.ImageLemmas.{images_still}
 use Rattle.vx_grouped.proofs.PlainLemmas.{still_holds}
 
 -- what was read is what a crash may leave
@@ -20,9 +22,9 @@ reads_plain note m below v block old bytes same tells lawful it room read = reco
 }
 
 -- what is noted stays
-pub read_stays : (n : Node) (note : GroupNode) (c d : GroupCore) (m m' : Meaning) → Goes Nothing m m' → m'.down ≡ m.down → Goes Nothing (inner_meaning (wide c) m) (inner_meaning (wide d) m') → d.inner.config ≡ c.inner.config
-    → (d.inner.committed ≡ c.inner.committed) × (d.inner.agreed ≡ c.inner.agreed) → IsGroupAt n note c m → IsGroupAt n note d m'
-read_stays n note c d m m' below down goes config trusted at = record {
+pub read_stays : (n : Node) (note : GroupNode) (c d : GroupCore) (m m' : Meaning) → Lawful m → Lawful m' → Goes Nothing m m' → m'.down ≡ m.down → Goes Nothing (inner_meaning (wide c) m) (inner_meaning (wide d) m') → d.inner.config ≡ c.inner.config
+    → d.held ≡ c.held → d.inner.unsettled ≡ c.inner.unsettled → (d.inner.committed ≡ c.inner.committed) × (d.inner.agreed ≡ c.inner.agreed) → IsGroupAt n note c m → IsGroupAt n note d m'
+read_stays n note c d m m' lawful lawful' below down goes config held settled trusted at = record {
   state = at.state;
   up = λ is. at.up (subst IsTrue down is);
   lies = record {
@@ -31,6 +33,7 @@ read_stays n note c d m m' below down goes config trusted at = record {
     config = at.lies.config ∙ ap noted_config (sym config);
     agreed = λ tight. trusted.1 ∙ at.lies.agreed tight;
     committed = λ tight none. trusted.0 ∙ at.lies.committed tight none;
+    images = images_still note c d m m' config held trusted.0 settled (quiet_finds m m' lawful lawful' below) at.lies.images;
     holds = still_holds note (inner_meaning (wide c) m) (inner_meaning (wide d) m') at.lies.holds goes;
   };
 }

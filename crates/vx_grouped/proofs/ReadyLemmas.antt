@@ -21,7 +21,8 @@ use Rattle.vx_grouped.specs.declared.group_site.GroupSite.TheVariants.{Deported,
 use Rattle.vx_grouped.specs.declared.idle.Idle.{Idle}
 use Rattle.vx_grouped.proofs.SinceReturns.{dark_none, return_at, return_ready, return_then, dark_down, dark_armed}
 use Rattle.vx_grouped.proofs.SiteReturnLemmas.{dark_away}
-use Rattle.vx_grouped.specs.GroupNotes.{note_dimmed}
+use Rattle.vx_grouped.specs.GroupNotes.{NotesFound, note_dimmed}
+use Rattle.vx_grouped.proofs.ImageLemmas.{none_noted, noted_as}
 use Rattle.vx_watched.specs.Traces.{TellsLess}
 use Rattle.vx_grouped.proofs.SiteLemmas.{noted_dimmed, away_dimmed, lit_dimmed}
 
@@ -35,6 +36,12 @@ module _ {R : Type 0} (meaning : R → Meaning) where
   lies_ready true s k note last it = it
   lies_ready false (Dark r) k note last it = it
   lies_ready false (Bright r) k note last it = dark_away k note last (meaning r) (untold (meaning r)) refl (λ u. refl) (dark_none meaning (Bright r)) it
+
+  -- the configurations of images, as they are noted
+  pub noted_ready : (agreed : Bool) (s : Shade R) (note : GroupNode) (c : Config) → NotesFound note c (shade_meaning meaning s) → NotesFound note c (shade_meaning meaning (ready_of agreed s))
+  noted_ready true s note c it = it
+  noted_ready false (Dark r) note c it = it
+  noted_ready false (Bright r) note c it = none_noted note c (untold (meaning r)) (dark_none meaning (Bright r)).leaves
 
   down_ready : (agreed : Bool) (s : Shade R) → (shade_meaning meaning (ready_of agreed s)).down ≡ (shade_meaning meaning s).down
   down_ready true s = refl
@@ -70,6 +77,7 @@ module _ {R : Type 0} (meaning : R → Meaning) where
       away = record {
         state = it.away.state;
         config = it.away.config;
+        found = noted_as note (note_dimmed (not agreed) note) it.last (shade_meaning meaning (ready_of agreed s)) refl refl (noted_ready agreed s note it.last it.away.found);
         lies = away_dimmed (not agreed) n (dimmed_site (not agreed) note n) note it.last (shade_meaning meaning (ready_of agreed s)) refl refl (lies_ready agreed s n note it.last it.away.lies);
       };
     }
@@ -88,6 +96,7 @@ module _ {R : Type 0} (meaning : R → Meaning) where
         state = it.away.state;
         config = it.away.config;
         frames = it.away.frames;
+        found = noted_as note (note_dimmed (not agreed) note) it.newest (shade_meaning meaning (ready_of agreed s)) refl refl (noted_ready agreed s note it.newest it.away.found);
         lies = away_dimmed (not agreed) n (dimmed_site (not agreed) note n) note it.last (shade_meaning meaning (ready_of agreed s)) refl refl (lies_ready agreed s n note it.last it.away.lies);
       };
     }

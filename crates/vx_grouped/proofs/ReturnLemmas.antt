@@ -2,7 +2,6 @@
 use Rattle.std.proofs.Common.{◌≡◌, ◌⊎◌, inl, inr, ⊎_elim, ℕ, zero, suc, ◌<◌, ◌≤◌, ◌&&◌, ◌||◌, Bool, true, false, IsTrue, Option, Some, None, List, [], ◌∷◌, length, refl, ap, sym, ◌∙◌, subst, arith}
 use Rattle.std.specs.Prelude.{◌+◌, not, ◌==◌, if◌then◌else◌, is_some, slice_get, Contains}
 use Rattle.std.proofs.lemmas.Bool.{and_from, and_parts, cases_lt, eq-eqb, eqb-true}
-use Rattle.vx_model.specs.declared.site.SiteState.TheVariants.{Up as IsUp}
 use Rattle.vx_disk.specs.Shelf.{Each, Goes, Image, Lawful, Meaning, Nothing}
 use Rattle.vx_history.specs.Groups.{BlockMay, GroupNode}
 use Rattle.vx_history.specs.World.{Node}
@@ -44,11 +43,10 @@ use Rattle.vx_grouped.specs.Plain.{HoldsPlain}
 use Rattle.vx_kept.specs.Facts.{is_found}
 use Rattle.vx_group.proofs.Standing.{disks_fit}
 use Rattle.vx_grouped.proofs.NoteLemmas.{blocks_same}
-use Rattle.vx_grouped.specs.Returns.{DisksBack, GroupReturns, HasNoMore, ImportLeft, note_imported, note_loose}
+use Rattle.vx_grouped.specs.Returns.{DisksBack, HasNoMore, ImportLeft, VolumesReturn, note_imported, note_loose}
 use Rattle.vx_model.specs.declared.errors.Stop.{Stop}
 use Rattle.vx_kept.proofs.Steps.{inside_back}
 use Rattle.vx_kept.specs.Opens.{OpenVolumes}
-use Rattle.vx_grouped.specs.GroupNotes.{IsGroupAt, noted_config}
 
 -- ---- disks that were returned
 
@@ -300,22 +298,14 @@ module _ (n : Node) (note : GroupNode) (last : Config) (old : Meaning) (law : La
             up.blamed u low (subst (λ (k : ℕ). up.readable k ≡ false) first (returned_failed up.readable 0 x.disks u (sym (ap (λ (ds : List DiskEntry). failed_at ds u) up.opens.alike.disks) ∙ was)))
         by u low failed false was = r.loses.disks.blamed u was failed
 
-    pub group_returns : (group : GroupCore) → group.inner ≡ core → group.held ≡ None → GroupReturns n note last old group new
+    pub group_returns : (group : GroupCore) → group.inner ≡ core → group.held ≡ None → VolumesReturn n note last old group new
     group_returns group is none = record {
       renewed = λ v. stopped x v;
       value = value;
-      at = subst (λ (i : Inner). IsGroupAt (record n { state = IsUp }) (note_imported i (λ v. stopped x v) value note) group new) (sym is) (record {
-        state = refl;
-        up = r.up;
-        lies = record {
-          units = same.units ∙ away.units;
-          size = λ u low. same.size u ∙ away.size u low;
-          config = ap (λ (i : Inner). noted_config i.config) (sym is);
-          agreed = λ tight. ap (λ (i : Inner). i.agreed) is ∙ r.stands.trusts.both r.committed;
-          committed = λ tight empty. ap (λ (i : Inner). i.committed) is ∙ r.committed;
-          holds = subst (λ (i : Inner). HoldsPlain (note_imported core (λ v. stopped x v) value note) (inner_meaning i new)) (sym (wide_none group none ∙ is)) returned_holds;
-        };
-      });
+      units = same.units ∙ away.units;
+      size = λ u low. same.size u ∙ away.size u low;
+      holds = subst (λ (i : Inner). HoldsPlain (note_imported i (λ v. stopped x v) value note) (inner_meaning (wide group) new)) (sym is)
+          (subst (λ (i : Inner). HoldsPlain (note_imported core (λ v. stopped x v) value note) (inner_meaning i new)) (sym (wide_none group none ∙ is)) returned_holds);
       volumes = λ tells. let a = (extends_x can x opened up.readable up.image up.read up.is up.opens tells).volumes in let count = ap (λ (i : Inner). length i.config.volumes) is in let b = r.goes.units in omega (arith, a, b, count, x_long);
       sizes = λ tells v lt. ap (λ (i : Inner). blocks_of i.config.volumes v) is ∙ r.goes.size v ∙ blocks_x v ∙ (extends_x can x opened up.readable up.image up.read up.is up.opens tells).blocks v lt;
       frames = λ tells v lt. ap (λ (i : Inner). frame_at i.config v) is ∙ r.loses.frames v ∙ up.opens.alike.shape.frames v ∙ (extends_x can x opened up.readable up.image up.read up.is up.opens tells).frames v lt;

@@ -1,5 +1,5 @@
 -- Notes behind calls, and the fuse behind them.
-use Rattle.std.proofs.Common.{◌≡◌, ◌⊎◌, inl, inr, ℕ, ◌||◌, Bool, true, false, List, [], ◌∷◌, IsTrue, IsFalse, refl, ap}
+use Rattle.std.proofs.Common.{◌≡◌, ◌⊎◌, inl, inr, ℕ, ◌||◌, Bool, true, false, List, [], ◌++◌, IsTrue, IsFalse, refl, ap}
 use Rattle.std.specs.Prelude.{if◌then◌else◌, not}
 use Rattle.vx_disk.specs.Shelf.{Meaning}
 use Rattle.vx_history.specs.Groups.{GroupNode, NoteSettles, NoteUnsettles}
@@ -7,9 +7,10 @@ use Rattle.vx_history.specs.Steps.{burned}
 use Rattle.vx_history.specs.Stops.{IsFused}
 use Rattle.vx_history.specs.World.{Fuse, NoFuse, FuseSet, FuseLit}
 use Rattle.vx_config.specs.declared.config.Config.{Config}
+use Rattle.vx_group.specs.declared.group_core.GroupCore.{GroupCore}
 use Rattle.vx_group.specs.declared.inner.Inner.{Inner}
 use Rattle.vx_grouped.specs.Away.{note_deported}
-use Rattle.vx_grouped.specs.GroupNotes.{note_done, note_refused}
+use Rattle.vx_grouped.specs.GroupNotes.{IsTight, is_sure, note_called}
 use Rattle.vx_grouped.specs.SetFuses.{HasFuse}
 
 -- ---- flags: `kept` is committed, `agr` agreed, `l` what was loose
@@ -17,50 +18,46 @@ use Rattle.vx_grouped.specs.SetFuses.{HasFuse}
 loose_stays : (agr l : Bool) → l ≡ true → (l || not agr) ≡ true
 loose_stays agr l is = ap (λ (b : Bool). b || not agr) is
 
-begun_done : (kept agr l : Bool) (begun : List (List ℕ))
-    → (((if kept then [] else begun) ≡ []) × ((if kept then false else (l || not agr)) ≡ false)) ⊎ (((if kept then [] else begun) ≡ begun) × (l ≡ true → (if kept then false else (l || not agr)) ≡ true))
-begun_done true agr l begun = inl (refl, refl)
-begun_done false agr l begun = inr (refl, loose_stays agr l)
+begun_called : (sure agr l : Bool) (nexts begun : List (List ℕ))
+    → (((if sure then [] else nexts ++ begun) ≡ []) × ((if sure then false else (l || not agr)) ≡ false))
+    ⊎ ((more : List (List ℕ)) × ((if sure then [] else nexts ++ begun) ≡ more ++ begun) × (l ≡ true → (if sure then false else (l || not agr)) ≡ true))
+begun_called true agr l nexts begun = inl (refl, refl)
+begun_called false agr l nexts begun = inr (nexts, refl, loose_stays agr l)
 
-begun_refused : (kept agr l : Bool) (next : List ℕ) (begun : List (List ℕ))
-    → (((if kept then [] else next ∷ begun) ≡ []) × ((if kept then false else (l || not agr)) ≡ false))
-    ⊎ ((more : List ℕ) × ((if kept then [] else next ∷ begun) ≡ more ∷ begun) × (l ≡ true → (if kept then false else (l || not agr)) ≡ true))
-begun_refused true agr l next begun = inl (refl, refl)
-begun_refused false agr l next begun = inr (next, refl, loose_stays agr l)
-
-tight_done : (kept agr l : Bool) → kept ≡ true → (if kept then false else (l || not agr)) ≡ false
-tight_done true agr l is = refl
-tight_done false agr l is = cc
-
-tight_deported : (kept : Bool) → kept ≡ true → (if kept then false else true) ≡ false
-tight_deported true is = refl
-tight_deported false is = cc
+tight_called : (sure agr l : Bool) (nexts begun : List (List ℕ)) → sure ≡ true → ((if sure then [] else nexts ++ begun) ≡ []) × ((if sure then false else (l || not agr)) ≡ false)
+tight_called true agr l nexts begun is = (refl, refl)
+tight_called false agr l nexts begun is = cc
 
 -- ---- notes
 
-pub done_settles : (core : Inner) (note : GroupNode) → (note.loose ≡ false → note.begun ≡ [] → core.committed ≡ true) → NoteSettles note (note_done core note)
-done_settles core note tight = record {
+pub called_settles : (nexts : List (List ℕ)) (core : GroupCore) (note : GroupNode) → IsTight note core → NoteSettles note (note_called nexts core note)
+called_settles nexts core note tight = record {
   same = record { dark = refl; bytes = refl; others = refl; cut = refl; missed = refl; perhaps = refl; inside = refl };
-  begun = begun_done core.committed core.agreed note.loose note.begun;
-  tight = λ was none. tight_done core.committed core.agreed note.loose (tight was none);
+  begun = begun_called (is_sure core) core.inner.agreed note.loose nexts note.begun;
+  tight = λ was none. tight_called (is_sure core) core.inner.agreed note.loose nexts note.begun (tight was none);
 }
 
-pub refused_unsettles : (core : Inner) (note : GroupNode) (next : List ℕ) → NoteUnsettles note (note_refused next core note)
-refused_unsettles core note next = record {
+pub called_unsettles : (nexts : List (List ℕ)) (core : GroupCore) (note : GroupNode) → NoteUnsettles note (note_called nexts core note)
+called_unsettles nexts core note = record {
   same = record { dark = refl; bytes = refl; others = refl; cut = refl; missed = refl; perhaps = refl; inside = refl };
-  begun = begun_refused core.committed core.agreed note.loose next note.begun;
+  begun = begun_called (is_sure core) core.inner.agreed note.loose nexts note.begun;
 }
 
 begun_deported : (kept l : Bool) (begun : List (List ℕ))
-    → (((if kept then [] else begun) ≡ []) × ((if kept then false else true) ≡ false)) ⊎ (((if kept then [] else begun) ≡ begun) × (l ≡ true → (if kept then false else true) ≡ true))
+    → (((if kept then [] else begun) ≡ []) × ((if kept then false else true) ≡ false))
+    ⊎ ((more : List (List ℕ)) × ((if kept then [] else begun) ≡ more ++ begun) × (l ≡ true → (if kept then false else true) ≡ true))
 begun_deported true l begun = inl (refl, refl)
-begun_deported false l begun = inr (refl, λ is. refl)
+begun_deported false l begun = inr ([], refl, λ is. refl)
+
+tight_deported : (kept : Bool) (begun : List (List ℕ)) → kept ≡ true → ((if kept then [] else begun) ≡ []) × ((if kept then false else true) ≡ false)
+tight_deported true begun is = (refl, refl)
+tight_deported false begun is = cc
 
 pub deport_settles : (x : Config) (core : Inner) (note : GroupNode) → (note.loose ≡ false → note.begun ≡ [] → core.committed ≡ true) → NoteSettles note (note_deported x core note)
 deport_settles x core note tight = record {
   same = record { dark = refl; bytes = refl; others = refl; cut = refl; missed = refl; perhaps = refl; inside = refl };
   begun = begun_deported core.committed note.loose note.begun;
-  tight = λ was none. tight_deported core.committed (tight was none);
+  tight = λ was none. tight_deported core.committed note.begun (tight was none);
 }
 
 -- ---- the fuse

@@ -26,9 +26,9 @@ use Rattle.vx_group.specs.Makes.{MakeEnds, VolumeMade, has_name, is_shape, make_
 use Rattle.vx_group.specs.declared.group_core.GroupCore.{GroupCore}
 use Rattle.vx_group.specs.declared.inner.Inner.{Inner}
 use Rattle.vx_watched.specs.Since.{CalledSince}
-use Rattle.vx_grouped.specs.Added.{note_added, IsUnmoved}
+use Rattle.vx_grouped.specs.Added.{VolumeLeaves, note_added, IsUnmoved}
 use Rattle.vx_grouped.specs.Away.{IsAwayAt}
-use Rattle.vx_grouped.specs.GroupNotes.{GroupLies, note_done}
+use Rattle.vx_grouped.specs.GroupNotes.{GroupLies, note_called}
 use Rattle.vx_grouped.specs.GroupSites.{GroupUp, idle_disks, laid_disks, laid_below, idle_below}
 use Rattle.vx_grouped.specs.SiteAdds.{MakesVolume, SiteAdded, IsRoomShort, LacksVolume}
 use Rattle.vx_grouped.specs.SetFuses.{HasFuse}
@@ -37,7 +37,7 @@ use Rattle.vx_grouped.specs.declared.idle.Idle.{Idle}
 use Rattle.vx_grouped.specs.declared.laid.Laid.{Laid}
 use Rattle.vx_grouped.specs.declared.group_site.GroupSite.TheVariants.{Up, Down}
 use Rattle.vx_grouped.proofs.CalledLemmas.{called_cut, called_up, err_is, goes, blames_device, none_refused}
-use Rattle.vx_grouped.proofs.SettleLemmas.{done_settles, fuse_burned}
+use Rattle.vx_grouped.proofs.SettleLemmas.{called_settles, fuse_burned}
 use Rattle.vx_grouped.proofs.SiteLemmas.{up_burned, up_with}
 use Rattle.vx_config.specs.Configs.{HasSpelling}
 use Rattle.vx_grouped.specs.ConfigMoves.{LosesSome, VolumeAdded}
@@ -155,14 +155,17 @@ module _ {R : Type 0} {g : Ghosts R} (n : Node) (note : GroupNode) (name : List 
         (record { site = works.parts.site; rvg = works.parts.rvg; count = works.parts.count }) works.disks made.volumes;
   }
 
-  pub made_done : (vol : ℕ) → MakesVolume name want group.core (laid_disks group) new.core (laid_disks new) (Ok vol) → SiteAdded n note name want (Up group) (Up new) (Ok vol)
-  made_done vol works = (
-    note_done new.core.inner note,
-    done_settles new.core.inner note (λ tight none. works.trust (up.at.lies.committed tight none)),
-    up_with n note (note_added vol want.blocks (note_done new.core.inner note)) (laid_below new).tells new.core (laid_disks new) up.noted (lit_since note (note_added vol want.blocks (note_done new.core.inner note)) (laid_below group).tells (laid_below new).tells (laid_disks group) (laid_disks new) refl since.tells less up.lit) spells fuse (works.leaves n note up.at),
-    goes ℕ n note group new up since less spells (VolumeAdded name want vol (laid_disks group) (laid_disks new)) (note_done new.core.inner note) refl (Up new) refl
+  made_by : (vol : ℕ) → MakesVolume name want group.core (laid_disks group) new.core (laid_disks new) (Ok vol) → VolumeLeaves n note want new.core (laid_disks new) (Ok vol) → SiteAdded n note name want (Up group) (Up new) (Ok vol)
+  made_by vol works leaves = (
+    note_called leaves.0 new.core note,
+    called_settles leaves.0 new.core note leaves.2,
+    up_with n note (note_added vol want.blocks (note_called leaves.0 new.core note)) (laid_below new).tells new.core (laid_disks new) up.noted (lit_since note (note_added vol want.blocks (note_called leaves.0 new.core note)) (laid_below group).tells (laid_below new).tells (laid_disks group) (laid_disks new) refl since.tells less up.lit) spells fuse leaves.1,
+    goes ℕ n note group new up since less spells (VolumeAdded name want vol (laid_disks group) (laid_disks new)) (note_called leaves.0 new.core note) refl (Up new) refl
         (added vol works (made_volume name want group.core new.core (laid_disks group) (laid_disks new) (Ok vol) works vol refl)),
   )
+
+  pub made_done : (vol : ℕ) → MakesVolume name want group.core (laid_disks group) new.core (laid_disks new) (Ok vol) → SiteAdded n note name want (Up group) (Up new) (Ok vol)
+  made_done vol works = made_by vol works (works.leaves n note up.at)
 
   module _ (stop : Stop) (works : MakesVolume name want group.core (laid_disks group) new.core (laid_disks new) (Err stop)) where
     ended : make_refusal group.core.inner.config name want ≡ None → (which : No) → stop ≡ Refused which → MakeEnds name want group.core.inner new.core.inner (laid_disks group) (laid_disks new) (Err (Refused which))

@@ -23,6 +23,7 @@ lies_as n k note c m disks blocks it = record {
   config = it.config;
   agreed = it.agreed;
   committed = it.committed;
+  images = it.images;
   holds = it.holds;
 }
 
@@ -77,14 +78,14 @@ down_noted n note agreed told last m noted lit agrees stopped spells away = reco
   stopped = stopped;
   last = last;
   spells = spells;
-  away = record { state = refl; config = away.config; lies = away_as (record n { state = IsDown }) (crashed n 0) note last m refl refl away.lies };
+  away = record { state = refl; config = away.config; found = away.found; lies = away_as (record n { state = IsDown }) (crashed n 0) note last m refl refl away.lies };
 }
 
 -- behind a call that changed the note
 pub down_with : (n : Node) (note next : GroupNode) (agreed told : Bool) (last : Config) (m : Meaning) → NotesGroup n note → IsLit next told m → (next.loose ≡ false → agreed ≡ true) → AreStopped m → HasSpelling (at_serial 0 last) → IsAwayAt (record n { state = IsDown }) next last m → GroupDown (crashed (with_note next n) 0) next agreed told m
 down_with n note next agreed told last m noted lit agrees stopped spells away =
     down_noted (with_note next n) next agreed told last m (noted_with n note next noted) lit agrees stopped spells
-    (record { state = refl; config = away.config; lies = away_as (record n { state = IsDown }) (record (with_note next n) { state = IsDown }) next last m refl refl away.lies })
+    (record { state = refl; config = away.config; found = away.found; lies = away_as (record n { state = IsDown }) (record (with_note next n) { state = IsDown }) next last m refl refl away.lies })
 
 -- ---- one that was deported
 
@@ -98,7 +99,7 @@ away_with n note next agreed told last newest m noted lit agrees up fuse spells 
   last = last;
   newest = newest;
   spells = spells;
-  away = record { state = refl; config = away.config; frames = away.frames; lies = away_as (record n { state = IsDeported }) (deported_with next n) next last m refl refl away.lies };
+  away = record { state = refl; config = away.config; frames = away.frames; found = away.found; lies = away_as (record n { state = IsDeported }) (deported_with next n) next last m refl refl away.lies };
 }
 
 -- ---- one of whose disks it is no longer known what they hold

@@ -83,7 +83,7 @@ module _ {R : Type 0} {g : Ghosts R} (n : Node) (note : GroupNode) (v p : ℕ) (
   pub det_site_done : PlexDets v p group.core (laid_disks group) new.core (laid_disks new) (Ok tt) → DetCalled n note v p (Up group) (Up new) (Ok tt)
   det_site_done works =
       called_done (Unit {0}) n note group new up since less (spells_det (Ok tt) works) (DetDone v p (laid_disks group) (laid_disks new)) (DetFails v p (laid_disks group) (laid_disks new)) (λ which. refuses_det (Up group) v p ≡ Some which)
-      tt works.trust (works.leaves n note up.at) (det_done was now v p (laid_disks group) (laid_disks new) (racks group.shelf).counts (racks new.shelf).counts works.others works.moves works.off)
+      tt (works.leaves n note up.at) (det_done was now v p (laid_disks group) (laid_disks new) (racks group.shelf).counts (racks new.shelf).counts works.others works.moves works.off)
 
   pub det_site_up : (stop : Stop) → stops_down stop ≡ false → PlexDets v p group.core (laid_disks group) new.core (laid_disks new) (Err stop) → DetCalled n note v p (Up group) (Up new) (Err stop)
   det_site_up stop off works =
@@ -123,7 +123,7 @@ module _ {R : Type 0} {g : Ghosts R} (n : Node) (note : GroupNode) (v p : ℕ) (
   pub att_site_done : (k : ℕ) → PlexAtts v p group.core (laid_disks group) new.core (laid_disks new) (Ok k) → AttCalled n note v p (Up group) (Up new) (Ok k)
   att_site_done k works =
       called_done ℕ n note group new up since less (spells_att (Ok k) works) (AttDone v p (laid_disks group) (laid_disks new)) (AttFails v p (laid_disks group) (laid_disks new)) (λ which. refuses_att (Up group) v p ≡ Some which)
-      k works.trust (works.leaves n note up.at)
+      k (works.leaves n note up.at)
       (att_done was now v p (laid_disks group) (laid_disks new) (racks group.shelf).counts (racks new.shelf).counts works.others works.moves (att_on k works (active was v p) refl))
 
   pub att_site_up : (stop : Stop) → stops_down stop ≡ false → PlexAtts v p group.core (laid_disks group) new.core (laid_disks new) (Err stop) → AttCalled n note v p (Up group) (Up new) (Err stop)

@@ -45,10 +45,11 @@ use Rattle.vx_grouped.specs.declared.group_site.GroupSite.TheVariants.{Up, Depor
 use Rattle.vx_grouped.proofs.AlikeLemmas.{less_away}
 use Rattle.vx_grouped.proofs.CalledLemmas.{err_is}
 use Rattle.vx_grouped.proofs.SettleLemmas.{fell_fused, fuse_burned}
+use Rattle.vx_grouped.proofs.ImageLemmas.{less_from, less_noted, none_noted, noted_as}
 use Rattle.vx_grouped.proofs.SiteLemmas.{lies_as, away_as, noted_dimmed, away_dimmed, lit_dimmed}
 use Rattle.vx_grouped.specs.ConfigMoves.{AnyState, ConfigBack}
 use Rattle.vx_config.specs.Configs.{HasSpelling}
-use Rattle.vx_grouped.specs.GroupNotes.{NotesConfig, note_dimmed}
+use Rattle.vx_grouped.specs.GroupNotes.{NotesConfig, NotesFound, note_dimmed}
 use Rattle.vx_kept.specs.Cleans.{at_serial}
 use Rattle.vx_grouped.proofs.MovesLemmas.{disk_blocks_at, disk_failed_at, rose_as, volume_moves}
 use Rattle.vx_kept.specs.Groups.{found, found_by}
@@ -308,6 +309,11 @@ module _ (n : Node) (note : GroupNode) (last : Config) (m m' m3 : Meaning) (law 
       let goes = early_goes m m' stop early stops in
       less_away n note m m3 (units ∙ goes.units) (λ u. size u ∙ goes.size u) (λ u b v left. ⊎_elim (λ was. was) (λ none. absurd none) (goes.leaves u b v (leaves u b v left))) last lies
 
+  pub early_noted : stops_early stop ≡ true → m3.units ≡ m'.units → ((u : ℕ) → m3.size u ≡ m'.size u) → ((u b : ℕ) (v : List ℕ) → m3.leaves u b v → m'.leaves u b v) → (c : Config) → NotesFound note c m → NotesFound note c m3
+  early_noted early units size leaves c it =
+      let goes = early_goes m m' stop early stops in
+      less_noted note c m m3 (less_from m m3 (units ∙ goes.units) (λ u. size u ∙ goes.size u) (λ u b v left. ⊎_elim (λ was. was) (λ none. absurd none) (goes.leaves u b v (leaves u b v left)))) it
+
 -- a site that crashed has no fuse that could run out
 never_off : (m m' : Meaning) (stop : Stop) → IsFalse m.down → IsFalse m.armed → CalledSince m m' → ImportStops m m' stop → stop ≡ Refused IsOff → ⊥
 never_off m m' stop up unarmed since stops is = up_not_down m.down up (since.safe unarmed (down_of m m' stop (ap stops_down is) stops))
@@ -319,6 +325,9 @@ module _ {R : Type 0} {g : Ghosts R} (n : Node) (note : GroupNode) (racks : (s :
       (armed : (shade_meaning g.meaning first).armed ≡ (shade_meaning g.meaning rack).armed) where
     lies : AwayLies n note down.last (shade_meaning g.meaning first)
     lies = less_away n note (shade_meaning g.meaning rack) (shade_meaning g.meaning first) revived.contents.units revived.contents.size revived.contents.leaves down.last down.away.lies
+
+    found_first : NotesFound note down.last (shade_meaning g.meaning first)
+    found_first = less_noted note down.last (shade_meaning g.meaning rack) (shade_meaning g.meaning first) (less_from (shade_meaning g.meaning rack) (shade_meaning g.meaning first) revived.contents.units revived.contents.size revived.contents.leaves) down.away.found
 
     had : NotesConfig note down.last
     had = record { is = down.away.config; spells = down.spells }
@@ -344,6 +353,12 @@ module _ {R : Type 0} {g : Ghosts R} (n : Node) (note : GroupNode) (racks : (s :
           early_lies n note down.last (shade_meaning g.meaning first) (shade_meaning g.meaning middle) (shade_meaning g.meaning fallen) (laws first) lies can stop stops it stopped.units stopped.size stopped.leaves
       lies_by false it = dark_away n note down.last (shade_meaning g.meaning first) (shade_meaning g.meaning fallen) (kept.units ∙ since.units) (λ u. kept.size u ∙ since.size u) (dark it) lies
 
+      found_by : (t : Bool) → stops_early stop ≡ t → NotesFound note down.last (shade_meaning g.meaning fallen)
+      found_by true it =
+          let stopped = early it in
+          early_noted n note down.last (shade_meaning g.meaning first) (shade_meaning g.meaning middle) (shade_meaning g.meaning fallen) (laws first) lies can stop stops it stopped.units stopped.size stopped.leaves down.last found_first
+      found_by false it = none_noted note down.last (shade_meaning g.meaning fallen) (dark it).leaves
+
       lit_by : (t : Bool) → stops_early stop ≡ t → IsLit (note_dimmed (not t) note) (g.meaning (rack_of fallen)).tells (shade_meaning g.meaning fallen)
       lit_by true it = λ bright told. (early it).tells ∙ since.tells ∙ lit_first bright (rises (goes (falls told)))
       lit_by false it = lit_dimmed note (g.meaning (rack_of fallen)).tells (shade_meaning g.meaning fallen)
@@ -360,6 +375,7 @@ module _ {R : Type 0} {g : Ghosts R} (n : Node) (note : GroupNode) (racks : (s :
         away = record {
           state = down.away.state;
           config = down.away.config;
+          found = noted_as note (note_dimmed (not t) note) down.last (shade_meaning g.meaning fallen) refl refl (found_by t it);
           lies = away_dimmed (not t) n (dimmed_site (not t) note n) note down.last (shade_meaning g.meaning fallen) refl refl (lies_by t it);
         };
       }
@@ -409,9 +425,9 @@ module _ {R : Type 0} {g : Ghosts R} (n : Node) (note : GroupNode) (racks : (s :
         )
 
     module _ (middle : Shade R) (stop : Stop) (since : CalledSince (shade_meaning g.meaning rack) (shade_meaning g.meaning middle)) (goes : TellsLess (g.meaning (rack_of rack)) (g.meaning (rack_of middle))) (stops : ImportStops (shade_meaning g.meaning rack) (shade_meaning g.meaning middle) stop) (can : CanImport (shade_meaning g.meaning rack)) where
-      away_as_is : (dims agreed told : Bool) (m : Meaning) → AwayLies n note away.last m → (IsTrue m.down → ⊥) → HasFuse (burned n.fuse) m → IsLit (note_dimmed dims note) told m → agreed ≡ true
+      away_as_is : (dims agreed told : Bool) (m : Meaning) → AwayLies n note away.last m → NotesFound note away.newest m → (IsTrue m.down → ⊥) → HasFuse (burned n.fuse) m → IsLit (note_dimmed dims note) told m → agreed ≡ true
           → GroupAway (burned_site (dimmed_site dims note n)) (note_dimmed dims note) agreed told m
-      away_as_is dims agreed told m lies still fuse lit agrees = record {
+      away_as_is dims agreed told m lies found still fuse lit agrees = record {
         noted = record { is = refl; none = record { role = away.noted.none.role; volumes = away.noted.none.volumes; log = away.noted.none.log; safe = away.noted.none.safe; running = away.noted.none.running } };
         lit = lit;
         agrees = λ tight. agrees;
@@ -420,7 +436,7 @@ module _ {R : Type 0} {g : Ghosts R} (n : Node) (note : GroupNode) (racks : (s :
         last = away.last;
         newest = away.newest;
         spells = away.spells;
-        away = record { state = away.away.state; config = away.away.config; frames = away.away.frames; lies = away_dimmed dims n (burned_site (dimmed_site dims note n)) note away.last m refl refl lies };
+        away = record { state = away.away.state; config = away.away.config; frames = away.away.frames; found = noted_as note (note_dimmed dims note) away.newest m refl refl found; lies = away_dimmed dims n (burned_site (dimmed_site dims note n)) note away.last m refl refl lies };
       }
 
       lit_middle : IsLit (note_dimmed false note) (g.meaning (rack_of middle)).tells (shade_meaning g.meaning middle)
@@ -450,6 +466,7 @@ module _ {R : Type 0} {g : Ghosts R} (n : Node) (note : GroupNode) (racks : (s :
           × ImportWhy (IsTrue (shade_meaning g.meaning s).tells) (shade_meaning g.meaning rack) (shade_meaning g.meaning s) stop) (sym is) (
             away_as_is (not (stops_early stop)) idle.agreed (g.meaning (rack_of middle)).tells (shade_meaning g.meaning middle)
                 (early_lies n note away.last (shade_meaning g.meaning rack) (shade_meaning g.meaning middle) (shade_meaning g.meaning middle) (laws rack) away.away.lies can stop stops early refl (λ u. refl) (λ u b v left. left))
+                (early_noted n note away.last (shade_meaning g.meaning rack) (shade_meaning g.meaning middle) (shade_meaning g.meaning middle) (laws rack) away.away.lies can stop stops early refl (λ u. refl) (λ u b v left. left) away.newest away.away.found)
                 still (fuse_burned n.fuse (shade_meaning g.meaning rack) (shade_meaning g.meaning middle) since.unarmed away.fuse)
                 (subst (λ (t : Bool). IsLit (note_dimmed (not t) note) (g.meaning (rack_of middle)).tells (shade_meaning g.meaning middle)) (sym early) lit_middle) agreed,
             inr (keeps_fuse (shade_meaning g.meaning middle) since still),
@@ -463,6 +480,12 @@ module _ {R : Type 0} {g : Ghosts R} (n : Node) (note : GroupNode) (racks : (s :
             let stopped = early it in
             early_lies n note away.last (shade_meaning g.meaning rack) (shade_meaning g.meaning middle) (shade_meaning g.meaning fallen) (laws rack) away.away.lies can stop stops it stopped.units stopped.size stopped.leaves
         lies_fell false it = dark_away n note away.last (shade_meaning g.meaning rack) (shade_meaning g.meaning fallen) (kept.units ∙ since.units) (λ u. kept.size u ∙ since.size u) (dark it) away.away.lies
+
+        found_fell : (t : Bool) → stops_early stop ≡ t → NotesFound note away.newest (shade_meaning g.meaning fallen)
+        found_fell true it =
+            let stopped = early it in
+            early_noted n note away.last (shade_meaning g.meaning rack) (shade_meaning g.meaning middle) (shade_meaning g.meaning fallen) (laws rack) away.away.lies can stop stops it stopped.units stopped.size stopped.leaves away.newest away.away.found
+        found_fell false it = none_noted note away.newest (shade_meaning g.meaning fallen) (dark it).leaves
 
         lit_fell : (t : Bool) → stops_early stop ≡ t → IsLit (note_dimmed (not t) note) (g.meaning (rack_of fallen)).tells (shade_meaning g.meaning fallen)
         lit_fell true it = λ bright told. (early it).tells ∙ lit_middle bright (falls told)
@@ -479,6 +502,7 @@ module _ {R : Type 0} {g : Ghosts R} (n : Node) (note : GroupNode) (racks : (s :
             × ImportWhy (IsTrue (shade_meaning g.meaning s).tells) (shade_meaning g.meaning rack) (shade_meaning g.meaning s) stop) (sym is) (
               away_as_is (not (stops_early stop)) idle.agreed (g.meaning (rack_of new)).tells (shade_meaning g.meaning new)
                   (less_away n note (shade_meaning g.meaning fallen) (shade_meaning g.meaning new) alike.contents.units alike.contents.size alike.contents.leaves away.last (lies_fell (stops_early stop) refl))
+                  (less_noted note away.newest (shade_meaning g.meaning fallen) (shade_meaning g.meaning new) (less_from (shade_meaning g.meaning fallen) (shade_meaning g.meaning new) alike.contents.units alike.contents.size alike.contents.leaves) (found_fell (stops_early stop) refl))
                   (up_not_down (shade_meaning g.meaning new).down up) (unarmed_any n.fuse (shade_meaning g.meaning new) (armed ∙ fell.unarmed))
                   (λ bright told. alike.contents.tells ∙ lit_fell (stops_early stop) refl bright (rises told)) agreed,
               inl (armed ∙ fell.unarmed),
@@ -507,6 +531,7 @@ module _ {R : Type 0} {g : Ghosts R} (n : Node) (note : GroupNode) (racks : (s :
                 away = record {
                   state = refl;
                   config = away.away.config;
+                  found = none_noted (note_dimmed true note) away.newest (shade_meaning g.meaning fallen) none.leaves;
                   lies = record {
                     units = kept.units ∙ since.units ∙ away.away.lies.units;
                     size = λ u low. kept.size u ∙ since.size u ∙ away.away.lies.size u low;

@@ -19,7 +19,7 @@ use Rattle.vx_watched.specs.Since.{CalledSince}
 use Rattle.vx_config.specs.declared.config.Config.{Config}
 use Rattle.vx_grouped.specs.Away.{IsAwayAt}
 use Rattle.vx_grouped.specs.Ends.{WriteLeaves, plain_write}
-use Rattle.vx_grouped.specs.GroupNotes.{GroupLies, IsGroupAt, note_done, note_refused, noted_config}
+use Rattle.vx_grouped.specs.GroupNotes.{GroupLies, IsGroupAt, note_called, noted_config}
 use Rattle.vx_grouped.specs.GroupSites.{GroupUp, idle_disks, laid_disks, site_disks, IsLit, laid_below, idle_below}
 use Rattle.vx_grouped.specs.SiteEnds.{ConfigGoes, PlainRead, PlainWrote, answers_down, HasNow}
 use Rattle.vx_grouped.specs.Watches.{PlainReads, PlainWrites}
@@ -28,7 +28,7 @@ use Rattle.vx_grouped.specs.declared.laid.Laid.{Laid}
 use Rattle.vx_grouped.specs.declared.group_site.GroupSite.{GroupSite}
 use Rattle.vx_grouped.specs.declared.group_site.GroupSite.TheVariants.{Up, Down}
 use Rattle.vx_grouped.proofs.WriteLemmas.{both_lose}
-use Rattle.vx_grouped.proofs.SettleLemmas.{done_settles, fell_fused, fuse_burned, refused_unsettles}
+use Rattle.vx_grouped.proofs.SettleLemmas.{called_settles, called_unsettles, fell_fused, fuse_burned}
 use Rattle.vx_grouped.proofs.SiteLemmas.{down_with, up_burned, up_with}
 use Rattle.vx_grouped.specs.CoreMoves.{BothOn}
 use Rattle.vx_config.specs.Configs.{HasSpelling}
@@ -76,22 +76,25 @@ module _ {R : Type 0} {g : Ghosts R} (n : Node) (note : GroupNode) (v b : ℕ) (
     }
 
     -- a write that is done
-    pub wrote_done : PlainWrites v b bytes group.core (laid_disks group) new.core (laid_disks new) (Ok tt) → PlainWrote n note own (Up group) (Up new) (Ok tt)
-    wrote_done it = (
-      note_done new.core.inner note,
-      done_settles new.core.inner note (λ tight none. it.trust (up.at.lies.committed tight none)),
-      up_with n note (note_write own (note_done new.core.inner note)) (laid_below new).tells new.core (laid_disks new) up.noted (lit (note_write own (note_done new.core.inner note)) refl) (lasts it.loses) (fuse_burned n.fuse (laid_disks group) (laid_disks new) since.unarmed up.fuse) (it.leaves n note up.at),
-      noted (note_done new.core.inner note) refl (Up new) refl (lasts it.loses) (lost new.shelf it.loses it.on),
+    done_by : PlainWrites v b bytes group.core (laid_disks group) new.core (laid_disks new) (Ok tt) → WriteLeaves n note own new.core (laid_disks new) (Ok tt) → PlainWrote n note own (Up group) (Up new) (Ok tt)
+    done_by it leaves = (
+      note_called leaves.0 new.core note,
+      called_settles leaves.0 new.core note leaves.2,
+      up_with n note (note_write own (note_called leaves.0 new.core note)) (laid_below new).tells new.core (laid_disks new) up.noted (lit (note_write own (note_called leaves.0 new.core note)) refl) (lasts it.loses) (fuse_burned n.fuse (laid_disks group) (laid_disks new) since.unarmed up.fuse) leaves.1,
+      noted (note_called leaves.0 new.core note) refl (Up new) refl (lasts it.loses) (lost new.shelf it.loses it.on),
     )
+
+    pub wrote_done : PlainWrites v b bytes group.core (laid_disks group) new.core (laid_disks new) (Ok tt) → PlainWrote n note own (Up group) (Up new) (Ok tt)
+    wrote_done it = done_by it (it.leaves n note up.at)
 
     up_by : (no : No) → answers_down no ≡ false → WriteLeaves {T = Unit {0}} n note own new.core (laid_disks new) (Err no) → DeviceCause (laid_disks group) (laid_disks new) no
         → LosesPlexes group.core.inner.config new.core.inner.config (laid_disks group) (laid_disks new) → BothOn group.core.inner.config new.core.inner.config (laid_disks group).units → PlainWrote n note own (Up group) (Up new) (Err no)
     up_by (Device disk) off leaves cause loses on = (
-      note_refused leaves.0 new.core.inner note,
-      refused_unsettles new.core.inner note leaves.0,
-      up_with n note (note_doubt own (note_refused leaves.0 new.core.inner note)) (laid_below new).tells new.core (laid_disks new) up.noted (lit (note_doubt own (note_refused leaves.0 new.core.inner note)) refl) (lasts loses) (fuse_burned n.fuse (laid_disks group) (laid_disks new) since.unarmed up.fuse) leaves.1,
+      note_called leaves.0 new.core note,
+      called_unsettles leaves.0 new.core note,
+      up_with n note (note_doubt own (note_called leaves.0 new.core note)) (laid_below new).tells new.core (laid_disks new) up.noted (lit (note_doubt own (note_called leaves.0 new.core note)) refl) (lasts loses) (fuse_burned n.fuse (laid_disks group) (laid_disks new) since.unarmed up.fuse) leaves.1,
       cause,
-      noted (note_refused leaves.0 new.core.inner note) refl (Up new) refl (lasts loses) (lost new.shelf loses on),
+      noted (note_called leaves.0 new.core note) refl (Up new) refl (lasts loses) (lost new.shelf loses on),
     )
     up_by IsOff off leaves cause loses on = cc
     up_by other off leaves cause loses on = absurd leaves
@@ -107,13 +110,13 @@ module _ {R : Type 0} {g : Ghosts R} (n : Node) (note : GroupNode) (v b : ℕ) (
           → LosesPlexes group.core.inner.config new.core.inner.config (laid_disks group) (idle_disks idle) → BothOn group.core.inner.config new.core.inner.config (laid_disks group).units → PlainWrote n note own (Up group) (Down idle) (Err no)
       cut_by (Device disk) off leaves spells loses on = cc
       cut_by IsOff off leaves spells loses on = (
-        note_refused leaves.0 new.core.inner note,
-        refused_unsettles new.core.inner note leaves.0,
-        down_with n note (note_cut own (note_refused leaves.0 new.core.inner note)) idle.agreed (idle_below idle).tells new.core.inner.config (idle_disks idle) up.noted
-            (lit_since note (note_cut own (note_refused leaves.0 new.core.inner note)) (laid_below new).tells (idle_below idle).tells (laid_disks new) (idle_disks idle) refl stopped.tells fell (lit note refl)) (λ tight. same ∙ leaves.1.lies.agreed tight) (record { down = stopped.down; unarmed = stopped.unarmed }) spells
-            (away n (note_cut own (note_refused leaves.0 new.core.inner note)) leaves.1.lies),
+        note_called leaves.0 new.core note,
+        called_unsettles leaves.0 new.core note,
+        down_with n note (note_cut own (note_called leaves.0 new.core note)) idle.agreed (idle_below idle).tells new.core.inner.config (idle_disks idle) up.noted
+            (lit_since note (note_cut own (note_called leaves.0 new.core note)) (laid_below new).tells (idle_below idle).tells (laid_disks new) (idle_disks idle) refl stopped.tells fell (lit note refl)) (λ tight. same ∙ leaves.1.lies.agreed tight) (record { down = stopped.down; unarmed = stopped.unarmed }) spells
+            (away n (note_cut own (note_called leaves.0 new.core note)) leaves.1.lies),
         fell_fused n.fuse (laid_disks group) (laid_disks new) up.fuse up.at.up since.safe leaves.1.down,
-        noted (note_refused leaves.0 new.core.inner note) refl (Down idle) tt spells (lost idle.rack loses on),
+        noted (note_called leaves.0 new.core note) refl (Down idle) tt spells (lost idle.rack loses on),
       )
       cut_by other off leaves spells loses on = cc
 

@@ -1,5 +1,5 @@
 -- A volume that is made in a group, as its site notes it.
-use Rattle.std.specs.Prelude.{◌==◌, ℕ, if◌then◌else◌, Result, Ok, Err, []}
+use Rattle.std.specs.Prelude.{◌==◌, ℕ, if◌then◌else◌, Result, Ok, Err, List, []}
 use Rattle.vx_model.specs.Content.{zero_block}
 use Rattle.vx_model.specs.declared.errors.Stop.{Stop}
 use Rattle.vx_model.specs.declared.errors.Stop.TheVariants.{No as Refused, OutOfMemory}
@@ -9,7 +9,7 @@ use Rattle.vx_history.specs.World.{Node}
 use Rattle.vx_layout.specs.declared.shape.Shape.{Shape}
 use Rattle.vx_group.specs.declared.group_core.GroupCore.{GroupCore}
 use Rattle.vx_grouped.specs.Ends.{CallLeaves}
-use Rattle.vx_grouped.specs.GroupNotes.{IsGroupAt, note_done}
+use Rattle.vx_grouped.specs.GroupNotes.{IsGroupAt, IsTight, note_called}
 
 -- the note with a volume of so many blocks, which begins as zeros
 abbrev pub note_added : ℕ → ℕ → GroupNode → GroupNode
@@ -30,6 +30,6 @@ IsUnmoved (Err OutOfMemory) same = same
 -- A volume is made, which begins as zeros, and each other has what it had; or it is not, and each has what it had. A refusal but 6 and 7 has
 -- changed nothing, nor has want of memory.
 abbrev pub VolumeLeaves : Node → GroupNode → Shape → GroupCore → Meaning → Result ℕ Stop → Type 0
-VolumeLeaves n note want core m (Ok vol) = IsGroupAt n (note_added vol want.blocks (note_done core.inner note)) core m
+VolumeLeaves n note want core m (Ok vol) = (nexts : List (List ℕ)) × IsGroupAt n (note_added vol want.blocks (note_called nexts core note)) core m × IsTight note core
 VolumeLeaves n note want core m (Err (Refused why)) = CallLeaves {T = ℕ} n note core m (Err (Refused why))
 VolumeLeaves n note want core m (Err OutOfMemory) = IsGroupAt n note core m

@@ -15,7 +15,7 @@ use Rattle.vx_layout.specs.Places.{place}
 use Rattle.vx_volume.specs.Plexes.{Inside}
 use Rattle.vx_group.specs.Resumes.{CanImport}
 use Rattle.vx_group.specs.declared.inner.Inner.{Inner}
-use Rattle.vx_grouped.specs.GroupNotes.{noted_config}
+use Rattle.vx_grouped.specs.GroupNotes.{NotesFound, noted_config}
 
 -- The disks of the site, on which the group was last up with a configuration. An import may go over them, unless imports may disagree. Each image that
 -- they keep has a configuration with the volumes of that one, and perhaps more, and in it each plex that is ACTIVE or CLEAN has of each of their blocks a value
@@ -34,6 +34,7 @@ pub record AwayLies (n : Node) (note : GroupNode) (last : Config) (m : Meaning) 
 pub record IsAwayAt (n : Node) (note : GroupNode) (last : Config) (m : Meaning) : Type 0 where
   pub state : n.state ≡ IsDown
   pub config : note.config ≡ noted_config last
+  pub found : NotesFound note last m
   pub lies : AwayLies n note last m
 
 -- the note with the configuration that a deport committed; imports may disagree where the one of before was not committed
@@ -45,6 +46,7 @@ pub record IsDeportedAt (n : Node) (note : GroupNode) (last newest : Config) (m 
   pub state : n.state ≡ Deported
   pub config : note.config ≡ noted_config newest
   pub frames : (v : ℕ) → frame_at newest v ≡ frame_at last v
+  pub found : NotesFound note newest m
   pub lies : AwayLies n note last m
 
 -- whatever a crash leaves, each image has this configuration

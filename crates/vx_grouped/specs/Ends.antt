@@ -12,7 +12,7 @@ use Rattle.vx_history.specs.World.{Node}
 use Rattle.vx_config.specs.declared.config.Config.{Config}
 use Rattle.vx_group.specs.declared.group_core.GroupCore.{GroupCore}
 use Rattle.vx_grouped.specs.Away.{IsDeportedAt, note_deported}
-use Rattle.vx_grouped.specs.GroupNotes.{IsGroupAt, IsGroupCut, note_done, note_refused}
+use Rattle.vx_grouped.specs.GroupNotes.{IsGroupAt, IsGroupCut, IsTight, note_called}
 
 -- a write of these bytes
 abbrev pub plain_write : ℕ → ℕ → List ℕ → Write
@@ -21,16 +21,16 @@ plain_write v block bytes = record { volume = v; start = block; bytes = bytes }
 -- A write to a volume: done, its blocks have what was written; failed, each has that or what it had, and where the fuse ran out the disks are
 -- down. No other refusal comes.
 abbrev pub WriteLeaves : {T : Type 0} → Node → GroupNode → Write → GroupCore → Meaning → Result T No → Type 0
-WriteLeaves n note x core m (Ok done) = IsGroupAt n (note_write x (note_done core.inner note)) core m
-WriteLeaves n note x core m (Err (Device disk)) = (next : List ℕ) × IsGroupAt n (note_doubt x (note_refused next core.inner note)) core m
-WriteLeaves n note x core m (Err Down) = (next : List ℕ) × IsGroupCut n (note_cut x (note_refused next core.inner note)) core m
+WriteLeaves n note x core m (Ok done) = (nexts : List (List ℕ)) × IsGroupAt n (note_write x (note_called nexts core note)) core m × IsTight note core
+WriteLeaves n note x core m (Err (Device disk)) = (nexts : List (List ℕ)) × IsGroupAt n (note_doubt x (note_called nexts core note)) core m
+WriteLeaves n note x core m (Err Down) = (nexts : List (List ℕ)) × IsGroupCut n (note_cut x (note_called nexts core note)) core m
 WriteLeaves n note x core m (Err other) = ⊥
 
 -- A call that writes to no volume: each has what it had, whatever is answered. A refusal but 6 and 7 has changed nothing, and memory suffices.
 abbrev pub CallLeaves : {T : Type 0} → Node → GroupNode → GroupCore → Meaning → Result T Stop → Type 0
-CallLeaves n note core m (Ok done) = IsGroupAt n (note_done core.inner note) core m
-CallLeaves n note core m (Err (Refused (Device disk))) = (next : List ℕ) × IsGroupAt n (note_refused next core.inner note) core m
-CallLeaves n note core m (Err (Refused Down)) = (next : List ℕ) × IsGroupCut n (note_refused next core.inner note) core m
+CallLeaves n note core m (Ok done) = (nexts : List (List ℕ)) × IsGroupAt n (note_called nexts core note) core m × IsTight note core
+CallLeaves n note core m (Err (Refused (Device disk))) = (nexts : List (List ℕ)) × IsGroupAt n (note_called nexts core note) core m
+CallLeaves n note core m (Err (Refused Down)) = (nexts : List (List ℕ)) × IsGroupCut n (note_called nexts core note) core m
 CallLeaves n note core m (Err (Refused other)) = IsGroupAt n note core m
 CallLeaves n note core m (Err OutOfMemory) = ⊥
 

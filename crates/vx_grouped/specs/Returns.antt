@@ -13,11 +13,14 @@ use Rattle.vx_copyfmt.specs.Imports.{Found}
 use Rattle.vx_volume.specs.Plexes.{Inside}
 use Rattle.vx_kept.specs.Groups.{found}
 use Rattle.vx_kept.specs.Keeping.{frame_at, volume_name}
+use Rattle.vx_group.specs.Holding.{wide}
 use Rattle.vx_group.specs.Resumes.{CanImportBehind}
+use Rattle.vx_group.specs.Stands.{inner_meaning}
 use Rattle.vx_group.specs.declared.group_core.GroupCore.{GroupCore}
 use Rattle.vx_group.specs.declared.inner.Inner.{Inner}
 use Rattle.vx_grouped.specs.Away.{AwayLies}
 use Rattle.vx_grouped.specs.GroupNotes.{IsGroupAt, noted_config}
+use Rattle.vx_grouped.specs.Plain.{HoldsPlain}
 
 -- the note behind an import: the configuration in memory, which is committed; of the volumes that were renewed each block has one value
 abbrev pub note_imported : Inner → (ℕ → Bool) → (ℕ → ℕ → List ℕ) → GroupNode → GroupNode
@@ -35,6 +38,21 @@ pub record DisksBack (c : Config) (old new : Meaning) : Type 0 where
   pub count : length c.disks ≡ old.units
   pub blocks : (u : ℕ) → u < old.units → blocks_at c.disks u ≡ old.size u
   pub failed : (u : ℕ) → u < old.units → failed_at c.disks u ≡ true → Rose (old.faults u) (new.faults u)
+
+-- Its volumes as an import takes them up. Where contents are told its first volumes are those of the configuration of before, and each block of them
+-- that was renewed has a value that it might have.
+pub record VolumesReturn (n : Node) (note : GroupNode) (last : Config) (old : Meaning) (core : GroupCore) (m : Meaning) : Type 0 where
+  pub renewed : ℕ → Bool
+  pub value : ℕ → ℕ → List ℕ
+  pub units : m.units ≡ n.disks
+  pub size : (u : ℕ) → u < n.disks → m.size u ≡ n.blocks
+  pub holds : HoldsPlain (note_imported core.inner renewed value note) (inner_meaning (wide core) m)
+  pub volumes : IsTrue old.tells → length last.volumes ≤ length core.inner.config.volumes
+  pub sizes : IsTrue old.tells → (v : ℕ) → v < length last.volumes → blocks_of core.inner.config.volumes v ≡ blocks_of last.volumes v
+  pub frames : IsTrue old.tells → (v : ℕ) → v < length last.volumes → frame_at core.inner.config v ≡ frame_at last v
+  pub names : IsTrue old.tells → (v : ℕ) → v < length last.volumes → volume_name core.inner.config v ≡ volume_name last v
+  pub disks : DisksBack core.inner.config old m
+  pub may : IsTrue old.tells → (v b : ℕ) → Inside last v b → renewed v ≡ true → BlockMay note v b (value v b)
 
 -- The group is up. Where contents are told its first volumes are those of the configuration of before, and each block of them that was renewed has
 -- a value that it might have.

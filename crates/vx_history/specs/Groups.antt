@@ -6,7 +6,7 @@ use Rattle.vx_model.specs.Content.{Write, Content, block_of, put, touches}
 pub record GroupNode : Type 0 where
   -- the configuration as it is spelled in bytes; its serial does not count
   pub config : List ℕ
-  -- further configurations, as they are spelled, that a commit which was refused or cut off may have left on the disks
+  -- further configurations, as they are spelled with no disk held as failed, that a commit which was refused or cut off may have left on the disks
   pub begun : List (List ℕ)
   -- the disks may hold configurations that do not agree
   pub loose : Bool
@@ -51,16 +51,17 @@ pub record NoteSame (old new : GroupNode) : Type 0 where
   pub perhaps : new.perhaps ≡ old.perhaps
   pub inside : new.inside ≡ old.inside
 
--- behind a call in which no commit was refused: nothing is begun, or what was; imports agree where they did and nothing was begun
+-- Behind a call in which no commit was refused: nothing is begun, or what was, and perhaps configurations of the call. Where imports agreed and nothing was
+-- begun so it is still.
 pub record NoteSettles (old new : GroupNode) : Type 0 where
   pub same : NoteSame old new
-  pub begun : ((new.begun ≡ []) × (new.loose ≡ false)) ⊎ ((new.begun ≡ old.begun) × (old.loose ≡ true → new.loose ≡ true))
-  pub tight : old.loose ≡ false → old.begun ≡ [] → new.loose ≡ false
+  pub begun : ((new.begun ≡ []) × (new.loose ≡ false)) ⊎ ((nexts : List (List ℕ)) × (new.begun ≡ nexts ++ old.begun) × (old.loose ≡ true → new.loose ≡ true))
+  pub tight : old.loose ≡ false → old.begun ≡ [] → (new.begun ≡ []) × (new.loose ≡ false)
 
--- behind a call in which a commit may have been refused: nothing is begun, or one configuration more
+-- behind a call in which a commit may have been refused: nothing is begun, or further configurations
 pub record NoteUnsettles (old new : GroupNode) : Type 0 where
   pub same : NoteSame old new
-  pub begun : ((new.begun ≡ []) × (new.loose ≡ false)) ⊎ ((next : List ℕ) × (new.begun ≡ next ∷ old.begun) × (old.loose ≡ true → new.loose ≡ true))
+  pub begun : ((new.begun ≡ []) × (new.loose ≡ false)) ⊎ ((nexts : List (List ℕ)) × (new.begun ≡ nexts ++ old.begun) × (old.loose ≡ true → new.loose ≡ true))
 
 -- Behind any calls, one after another: these configurations are begun, the last first; and what was begun before them too, unless a commit was done since.
 pub record NoteWorks (old new : GroupNode) : Type 0 where

@@ -15,6 +15,7 @@ pub mod CleanLemmas
 pub mod CleanCommits
 pub mod OpenLemmas
 pub mod Nexts
+pub mod Findings
 pub mod Trusting
 pub mod RunLemmas
 pub mod LosingLemmas

@@ -12,9 +12,12 @@ use Rattle.vx_copies.specs.Bodies.{failed_in}
 use Rattle.vx_copies.specs.Commits.{Below, CommitEnds, Done, Finds, IsTry, MoreFailed, FoundOutcome, ReadyDisks, Silent, WasCommitted}
 use Rattle.vx_copies.specs.Looking.{on_shelf}
 use Rattle.vx_copies.specs.Marks.{blocks_at, failed_at}
+use Rattle.vx_kept.specs.Finds.{FindsFrom, IsTryOf, NoConfiguration, good_config}
 use Rattle.vx_kept.specs.Groups.{found, found_by}
 use Rattle.vx_kept.specs.Keeping.{Base, IsTidy, Kept}
 use Rattle.vx_kept.specs.Trusts.{AllGood, TrustEnds, Trusts, is_plain}
+use Rattle.vx_kept.proofs.Chosen.{settle_found}
+use Rattle.vx_kept.proofs.Findings.{good_grown}
 use Rattle.vx_kept.proofs.Lasting.{cases_bool}
 use Rattle.vx_kept.proofs.Low.{found_same, import_low, mix, mix_each, mix_low}
 
@@ -46,6 +49,16 @@ no_trusts good m = record {
   both = λ is. is;
   agree = λ is. absurd (let clash : false ≡ true = is in cc);
   plain = λ is. absurd (let clash : false ≡ true = is in cc);
+  one = λ is. absurd (let clash : false ≡ true = is in cc);
+  members = λ is. absurd (let clash : false ≡ true = is in cc);
+}
+
+-- where it is not said that the newest configuration is committed
+pub unsaid_trusts : (committed agreed : Bool) (good : ℕ) (m : Meaning) → Trusts committed agreed good m → Trusts false agreed good m
+unsaid_trusts committed agreed good m was = record {
+  both = λ is. absurd (let clash : false ≡ true = is in cc);
+  agree = was.agree;
+  plain = was.plain;
   one = λ is. absurd (let clash : false ≡ true = is in cc);
   members = λ is. absurd (let clash : false ≡ true = is in cc);
 }
@@ -169,6 +182,21 @@ module _ (good : ℕ) (c a d : Config) (old new : Meaning) (lawful : Lawful old)
           | inr begun ↦ (begun.1, begun.2)
         ]
 
+    -- each image has a configuration of before, or one that was begun
+    pub tried_finds : FindsFrom (IsTryOf a) old new
+    tried_finds = record {
+      each = λ i x each is.
+          let all : ℕ → Bool = λ u. true in
+          let here : found old i ≡ Found x = sym (found_same old new units size all i) ∙ is in
+          elim ((finds.now trust_ready i each).each all) [
+            | inl was ↦ inl (record { image = was.image; left = was.left; found = sym was.same ∙ here })
+            | inr (inl made) ↦ inr (
+                let same : made.config ≡ x = settle_found old.units all made.config x (sym made.found ∙ here) in
+                ap good_config (sym same) ∙ good_grown old new a made.config made.made.grown)
+            | inr (inr bad) ↦ absurd (no_torn (on_shelf old) (a.serial + 1) (old.leaves bad.disk) (i bad.disk) (tidy.each bad.disk bad.is) bad.torn)
+          ];
+    }
+
     pub trust_left : (committed agreed : Bool) → Trusts committed agreed good old → Trusts false committed good new
     trust_left false agreed trusts = no_trusts good new
     trust_left true agreed trusts = record {
@@ -187,7 +215,7 @@ module _ (good : ℕ) (c a d : Config) (old new : Meaning) (lawful : Lawful old)
 
 -- ---- calls that leave no more before the public region
 
-module _ (committed agreed : Bool) (good : ℕ) (m m' : Meaning) (lawful : Lawful m) (lawful' : Lawful m') (units : m'.units ≡ m.units) (size : (u : ℕ) → m'.size u ≡ m.size u) (tells : m'.tells ≡ m.tells)
+module _ (m m' : Meaning) (lawful : Lawful m) (lawful' : Lawful m') (units : m'.units ≡ m.units) (size : (u : ℕ) → m'.size u ≡ m.size u) (tells : m'.tells ≡ m.tells)
     (low : (u b : ℕ) (v : List ℕ) → b < 512 → m'.leaves u b v → m.leaves u b v) where
   -- an image of before that agrees with one of now there
   mixed : (i : Image) → Each m'.leaves i → (j : Image) × Each m.leaves j × ((u b : ℕ) → b < 512 → i u b ≡ j u b)
@@ -201,16 +229,30 @@ module _ (committed agreed : Bool) (good : ℕ) (m m' : Meaning) (lawful : Lawfu
   same_found : (i j : Image) → ((u b : ℕ) → b < 512 → i u b ≡ j u b) → (R : ℕ → Bool) → found_by m R j ≡ found_by m' R i
   same_found i j same R = sym (found_same m m' units size R i ∙ import_low (on_shelf m) i j same failed_in m.units R)
 
+  -- no image has another configuration than one had
+  pub less_finds : FindsFrom NoConfiguration m m'
+  less_finds = record { each = λ i x each is. let j = mixed i each in inl (record { image = j.0; left = j.1; found = same_found i j.0 j.2 (λ u. true) ∙ is }) }
+
+module _ (committed agreed : Bool) (good : ℕ) (m m' : Meaning) (lawful : Lawful m) (lawful' : Lawful m') (units : m'.units ≡ m.units) (size : (u : ℕ) → m'.size u ≡ m.size u) (tells : m'.tells ≡ m.tells)
+    (low : (u b : ℕ) (v : List ℕ) → b < 512 → m'.leaves u b v → m.leaves u b v) where
   pub less_trusts : Trusts committed agreed good m → Trusts committed agreed good m'
   less_trusts was = record {
     both = was.both;
-    agree = λ is i R x y each in_all in_some. let j = mixed i each in was.agree is j.0 R x y j.1 (same_found i j.0 j.2 (λ u. true) ∙ in_all) (same_found i j.0 j.2 R ∙ in_some);
-    plain = λ is i R x each in_all. let j = mixed i each in ap is_plain (sym (same_found i j.0 j.2 R)) ∙ was.plain is j.0 R x j.1 (same_found i j.0 j.2 (λ u. true) ∙ in_all);
+    agree = λ is i R x y each in_all in_some.
+        let j = mixed m m' lawful lawful' units size tells low i each in
+        let at = same_found m m' lawful lawful' units size tells low i j.0 j.2 in
+        was.agree is j.0 R x y j.1 (at (λ u. true) ∙ in_all) (at R ∙ in_some);
+    plain = λ is i R x each in_all.
+        let j = mixed m m' lawful lawful' units size tells low i each in
+        let at = same_found m m' lawful lawful' units size tells low i j.0 j.2 in
+        ap is_plain (sym (at R)) ∙ was.plain is j.0 R x j.1 (at (λ u. true) ∙ in_all);
     one = λ is i j x y left_i left_j in_i in_j.
-        let k = mixed i left_i in
-        let l = mixed j left_j in
-        was.one is k.0 l.0 x y k.1 l.1 (same_found i k.0 k.2 (λ u. true) ∙ in_i) (same_found j l.0 l.2 (λ u. true) ∙ in_j);
-    members = λ is i x u each in_all lt bit. let j = mixed i each in was.members is j.0 x u j.1 (same_found i j.0 j.2 (λ u. true) ∙ in_all) (omega (arith, units, lt)) bit;
+        let k = mixed m m' lawful lawful' units size tells low i left_i in
+        let l = mixed m m' lawful lawful' units size tells low j left_j in
+        was.one is k.0 l.0 x y k.1 l.1 (same_found m m' lawful lawful' units size tells low i k.0 k.2 (λ u. true) ∙ in_i) (same_found m m' lawful lawful' units size tells low j l.0 l.2 (λ u. true) ∙ in_j);
+    members = λ is i x u each in_all lt bit.
+        let j = mixed m m' lawful lawful' units size tells low i each in
+        was.members is j.0 x u j.1 (same_found m m' lawful lawful' units size tells low i j.0 j.2 (λ u. true) ∙ in_all) (omega (arith, units, lt)) bit;
   }
 
 -- an image is found where the disks keep a configuration

@@ -5,6 +5,7 @@ pub mod Commits
 pub mod Facts
 pub mod States
 pub mod Cleans
+pub mod Finds
 pub mod Opens
 pub mod Trusts
 pub mod LogRuns

@@ -8,6 +8,7 @@ ghost use Rattle.vx_copies.specs.Commits.{NamesFailed};
 ghost use Rattle.vx_disk.specs.Shelf.{Nothing};
 ghost use Rattle.vx_kept.specs.Cleans.{CleanEnds, cleaned};
 ghost use Rattle.vx_kept.specs.Commits.{Member, TakeEnds};
+ghost use Rattle.vx_kept.specs.Finds.{FindsFrom, IsTryOf};
 ghost use Rattle.vx_kept.specs.Keeping.{Acts, AllOn, IsTidy, Kept, Sees};
 ghost use Rattle.vx_kept.specs.Trusts.{TrustEnds, Trusts};
 ghost use Rattle.vx_kept.specs.States.{AreOn, SomeLeft, staled};
@@ -46,6 +47,7 @@ pub fn commit_stale<S: Shelf>(
     ensures acts { Acts Nothing (Sees config.old (Member good (S.meaning shelf.old)) (S.meaning shelf.old)) (S.meaning shelf.old) (S.meaning shelf.new) }
     ensures ends { TakeEnds good config.old (staled vol set config.old 8) config.new (S.meaning shelf.old) (S.meaning shelf.new) result }
     ensures trusts { (committed agreed : Bool) → Trusts committed agreed good (S.meaning shelf.old) → TrustEnds committed good config.new (S.meaning shelf.new) result }
+    ensures finds { FindsFrom (IsTryOf (staled vol set config.old 8)) (S.meaning shelf.old) (S.meaning shelf.new) }
     ensures named { IfOk result (NamesFailed config.old config.new (S.meaning shelf.old) (S.meaning shelf.new)) }
 {
     make_stale(config, vol, set);
@@ -82,6 +84,7 @@ pub fn commit_clean<S: Shelf>(
     ensures ends { CleanEnds good config.old (cleaned unsure.now config.old (length config.old.volumes)) config.new (S.meaning shelf.old) (S.meaning shelf.new) result }
     ensures up { OnOk result (KeepsUp (S.meaning shelf.old) (S.meaning shelf.new)) }
     ensures trusts { (committed agreed : Bool) → Trusts committed agreed good (S.meaning shelf.old) → TrustEnds committed good config.new (S.meaning shelf.new) result }
+    ensures finds { FindsFrom (IsTryOf (cleaned unsure.now config.old (length config.old.volumes))) (S.meaning shelf.old) (S.meaning shelf.new) }
 {
     make_clean(config, unsure);
     match commit_in(shelf, config, good, room) {

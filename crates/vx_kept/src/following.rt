@@ -6,6 +6,7 @@ ghost use Rattle.vx_copyio.specs.Labelling.{AreLarge};
 ghost use Rattle.vx_copyio.specs.Putting.{KeepsUp};
 ghost use Rattle.vx_disk.specs.Shelf.{Nothing};
 ghost use Rattle.vx_kept.specs.Commits.{Member, NextEnds};
+ghost use Rattle.vx_kept.specs.Finds.{FindsFrom, IsTryOf};
 ghost use Rattle.vx_kept.specs.Keeping.{Acts, AllOn, MayBeNext, IsTidy, Kept, Sees};
 ghost use Rattle.vx_kept.specs.Trusts.{TrustEnds, Trusts};
 
@@ -39,6 +40,7 @@ pub fn commit_next<S: Shelf>(
     ensures ends { NextEnds good before.now next.old next.new (S.meaning shelf.old) (S.meaning shelf.new) result }
     ensures up { OnOk result (KeepsUp (S.meaning shelf.old) (S.meaning shelf.new)) }
     ensures trusts { (committed agreed : Bool) → Trusts committed agreed good (S.meaning shelf.old) → TrustEnds committed good next.new (S.meaning shelf.new) result }
+    ensures finds { FindsFrom (IsTryOf next.old) (S.meaning shelf.old) (S.meaning shelf.new) }
 {
     let _memory = before;
     commit_in(shelf, next, good, room)

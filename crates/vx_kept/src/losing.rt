@@ -9,6 +9,7 @@ ghost use Rattle.vx_copies.specs.Commits.{NamesFailed};
 ghost use Rattle.vx_copyio.specs.Labelling.{AreLarge};
 ghost use Rattle.vx_disk.specs.Shelf.{Nothing};
 ghost use Rattle.vx_kept.specs.Commits.{Member, TakeEnds};
+ghost use Rattle.vx_kept.specs.Finds.{FindsFrom, IsTryOf};
 ghost use Rattle.vx_kept.specs.Keeping.{Acts, AllOn, IsTidy, Kept, Sees};
 ghost use Rattle.vx_kept.specs.LogRuns.{log_lost};
 ghost use Rattle.vx_kept.specs.Losses.{LosesLog, SamePlexes};
@@ -74,6 +75,7 @@ pub fn commit_lost<S: Shelf>(
     ensures acts { Acts Nothing (Sees config.old (Member good (S.meaning shelf.old)) (S.meaning shelf.old)) (S.meaning shelf.old) (S.meaning shelf.new) }
     ensures ends { TakeEnds good config.old (lost_is vol log true config.old) config.new (S.meaning shelf.old) (S.meaning shelf.new) result }
     ensures trusts { (committed agreed : Bool) → Trusts committed agreed good (S.meaning shelf.old) → TrustEnds committed good config.new (S.meaning shelf.new) result }
+    ensures finds { FindsFrom (IsTryOf (lost_is vol log true config.old)) (S.meaning shelf.old) (S.meaning shelf.new) }
     ensures named { IfOk result (NamesFailed config.old config.new (S.meaning shelf.old) (S.meaning shelf.new)) }
 {
     let was = is_lost(config, vol, log);

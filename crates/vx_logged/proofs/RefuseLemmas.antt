@@ -22,7 +22,7 @@ use Rattle.vx_group.specs.Stands.{inner_meaning, volume_faults}
 use Rattle.vx_group.specs.declared.group_core.GroupCore.{GroupCore}
 use Rattle.vx_group.specs.declared.inner.Inner.{Inner}
 use Rattle.vx_group.proofs.HoldLemmas.{wide_none}
-use Rattle.vx_group.proofs.Standing.{fit_of, kept_of, low_Stands, sound_of}
+use Rattle.vx_group.proofs.Standing.{fit_of, kept_of, low_Stands, low_finds, sound_of}
 use Rattle.vx_grouplogs.specs.Covering.{OnLogs}
 use Rattle.vx_grouplogs.specs.Marking.{MarksOnly, dirty_or}
 use Rattle.vx_grouplogs.specs.On.{VolumeOn}
@@ -41,6 +41,7 @@ use Rattle.vx_groupmaps.proofs.BetweenLemmas.{goes_reads}
 use Rattle.vx_groupmaps.proofs.KnowLemmas.{know_less, note_more, note_none, plex_below, those_know, those_noted}
 use Rattle.vx_groupmaps.proofs.MapPlaces.{has_stale, maps_on, stale_off}
 use Rattle.vx_groupmaps.proofs.RefusedLemmas.{has_all}
+use Rattle.vx_kept.specs.Finds.{FindsFrom, NoConfiguration}
 use Rattle.vx_kept.specs.Keeping.{frame_at}
 use Rattle.vx_layout.specs.Places.{HasBlock, place}
 use Rattle.vx_logs.specs.Held.{FmrRun, LogsFit, LogsStand, stale}
@@ -69,6 +70,9 @@ module _ (core : GroupCore) (v : ℕ) (m m' : Meaning) (stands : GroupStands cor
     stands = low_Stands (wide core) (OnLogs (wide core).config v) m m' logs_goes (logs_above (wide core).config wide_sound v) before after stands.stands;
     held = stands.held;
   }
+
+  pub maps_finds : Lawful m → Lawful m' → FindsFrom NoConfiguration m m'
+  maps_finds before after = low_finds (wide core) (OnLogs (wide core).config v) m m' logs_goes (logs_above (wide core).config wide_sound v) before after stands.stands
 
   pub maps_nothing : Lawful m → Lawful m' → Goes Nothing (inner_meaning (wide core) m) (inner_meaning (wide core) m')
   maps_nothing before after = (logs_keep (wide core).config wide_sound v m m' before after logs_goes).goes core.inner.good (volume_faults core.inner.faults) (kept_of (wide core) m stands.stands)

@@ -10,6 +10,7 @@ use Rattle.vx_disk.specs.declared.shelf.ShelfError.TheVariants.{Fault, Down}
 use Rattle.vx_disk.specs.Shelf.{Fits, Flushed, Goes, Lawful, Meaning, Nothing, Values, Wrote}
 use Rattle.vx_disk.proofs.Runs.{then_nothing}
 use Rattle.vx_kept.specs.Commits.{Member}
+use Rattle.vx_kept.specs.Finds.{FindsFrom, NoConfiguration}
 use Rattle.vx_kept.specs.Groups.{OnSome, OutsideVolumes}
 use Rattle.vx_kept.specs.Keeping.{Kept, SameShape}
 use Rattle.vx_kept.specs.PlexActs.{PlexActs}
@@ -33,7 +34,7 @@ use Rattle.vx_group.specs.declared.group_core.GroupCore.{GroupCore}
 use Rattle.vx_group.specs.declared.group_core.Held.{Held}
 use Rattle.vx_group.specs.declared.inner.Inner.{Inner}
 use Rattle.vx_group.proofs.HoldLemmas.{wide_none, wide_shape}
-use Rattle.vx_group.proofs.Standing.{fit_of, kept_of, low_Stands, sound_of}
+use Rattle.vx_group.proofs.Standing.{fit_of, kept_of, low_Stands, low_finds, sound_of}
 use Rattle.vx_grouplogs.specs.Covering.{AllAlike, OnLogs}
 use Rattle.vx_grouplogs.specs.Keeps.{KeepsGroup}
 use Rattle.vx_grouplogs.specs.Marking.{HoldRegions, MarksFewer, MarksOnly, NoMarks}
@@ -124,6 +125,11 @@ module _ (core : GroupCore) (v : ℕ) (m m' : Meaning) (none : core.held ≡ Non
         stands = low_Stands (wide core) (OnLogs (wide core).config v) m m' wide_goes (logs_above (wide core).config (sound_of (wide core) m stands.stands) v) before after stands.stands;
         held = stands.held;
       }
+
+  pub logs_finds : Goes (OnLogs core.inner.config v) m m' → Lawful m → Lawful m' → FindsFrom NoConfiguration m m'
+  logs_finds goes before after =
+      let wide_goes : Goes (OnLogs (wide core).config v) m m' = subst (λ (c : Config). Goes (OnLogs c v) m m') (sym config_is) goes in
+      low_finds (wide core) (OnLogs (wide core).config v) m m' wide_goes (logs_above (wide core).config (sound_of (wide core) m stands.stands) v) before after stands.stands
 
   pub know_inner : (w : ℕ) (spare : ℕ → ℕ → Bool) (l : Logs) → KnownBy core w spare l m → MapsKnowBy core.inner.config w spare l m
   know_inner w spare l know = subst (λ (c : Config). MapsKnowBy c w spare l m) config_is know

@@ -1,4 +1,5 @@
 // A log of a group that is in memory no more, and is committed as lost.
+ghost use Rattle.vx_group.specs.Finds.{GroupFinds};
 ghost use Rattle.std.specs.Prelude.{◌≡◌, ◌+◌, ◌<◌, ◌≤◌, ℕ, None, false, true, IfErr, IfOk, OnOk};
 ghost use Rattle.vx_config.specs.Table.{greatest};
 ghost use Rattle.vx_disk.specs.Causes.{Cause};
@@ -52,6 +53,7 @@ fn keep_one<S: Shelf>(
     ensures spent { IfOk result (λ done. done ≡ false → greatest ≤ core.new.inner.config.serial + 9) }
     ensures trust { OnOk result (core.old.inner.committed ≡ true → core.new.inner.committed ≡ true) }
     ensures agreed { IfErr result (λ e. core.old.inner.committed ≡ true → core.new.inner.agreed ≡ true) }
+    ensures finds { GroupFinds core.old core.new (S.meaning shelf.old) (S.meaning shelf.new) }
     ensures cause { Cause (inner_meaning (wide core.old) (S.meaning shelf.old)) (inner_meaning (wide core.new) (S.meaning shelf.new)) vol result }
 {
     if shelf.is_down() {
@@ -89,6 +91,7 @@ pub fn keep_log<S: Shelf>(
     ensures full { IfOk result (λ done. done ≡ false → greatest ≤ core.old.inner.config.serial + 9) }
     ensures trust { OnOk result (core.old.inner.committed ≡ true → core.new.inner.committed ≡ true) }
     ensures agreed { IfErr result (λ e. core.old.inner.committed ≡ true → core.new.inner.agreed ≡ true) }
+    ensures finds { GroupFinds core.old core.new (S.meaning shelf.old) (S.meaning shelf.new) }
     ensures cause { Cause (inner_meaning (wide core.old) (S.meaning shelf.old)) (inner_meaning (wide core.new) (S.meaning shelf.new)) vol result }
 {
     keep_one(shelf, core, logs.drl.is_some(), vol, VolumeLog::Drl)
@@ -114,6 +117,7 @@ pub fn keep_map<S: Shelf>(
     ensures spent { IfOk result (λ done. done ≡ false → greatest ≤ core.new.inner.config.serial + 9) }
     ensures trust { OnOk result (core.old.inner.committed ≡ true → core.new.inner.committed ≡ true) }
     ensures agreed { IfErr result (λ e. core.old.inner.committed ≡ true → core.new.inner.agreed ≡ true) }
+    ensures finds { GroupFinds core.old core.new (S.meaning shelf.old) (S.meaning shelf.new) }
     ensures cause { Cause (inner_meaning (wide core.old) (S.meaning shelf.old)) (inner_meaning (wide core.new) (S.meaning shelf.new)) vol result }
 {
     keep_one(shelf, core, logs.fmr.is_some(), vol, VolumeLog::Fmr)
@@ -139,6 +143,7 @@ pub fn keep_logs<S: Shelf>(
     ensures full { IfOk result (λ done. done ≡ false → greatest ≤ core.old.inner.config.serial + 9) }
     ensures trust { OnOk result (core.old.inner.committed ≡ true → core.new.inner.committed ≡ true) }
     ensures agreed { IfErr result (λ e. core.old.inner.committed ≡ true → core.new.inner.agreed ≡ true) }
+    ensures finds { GroupFinds core.old core.new (S.meaning shelf.old) (S.meaning shelf.new) }
     ensures cause { Cause (inner_meaning (wide core.old) (S.meaning shelf.old)) (inner_meaning (wide core.new) (S.meaning shelf.new)) vol result }
 {
     let done = match keep_log(shelf, core, logs, vol) {

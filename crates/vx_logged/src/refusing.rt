@@ -1,4 +1,5 @@
 // Maps of a volume of a group behind a write that was refused.
+ghost use Rattle.vx_kept.specs.Finds.{FindsFrom, NoConfiguration};
 ghost use Rattle.std.specs.Prelude.{◌≡◌, ◌+◌, ◌<◌, ◌≤◌, false, IsTrue};
 ghost use Rattle.vx_config.specs.Checks.{blocks_of as blocks_of_is};
 ghost use Rattle.vx_disk.specs.Shelf.{Goes, Nothing};
@@ -36,6 +37,7 @@ fn miss_all<S: Shelf>(
     ensures others { OthersOn vol core.now core.now (S.meaning shelf.old) (S.meaning shelf.new) }
     ensures drl { logs.new.drl ≡ logs.old.drl }
     ensures knows { KnownBy core.now vol (or_run (first_region block) (last_region block count) none_spared) logs.old (S.meaning shelf.old) → Known core.now vol logs.new (S.meaning shelf.new) }
+    ensures less { FindsFrom NoConfiguration (S.meaning shelf.old) (S.meaning shelf.new) }
     ensures notes { MapsNote all_those (first_region block) (last_region block count) logs.old logs.new }
 {
     match miss_run(logs, &core.inner.config, vol, shelf, block, count) {
@@ -72,6 +74,7 @@ pub fn miss_refused<S: Shelf>(
     ensures others { OthersOn vol core.now core.now (S.meaning shelf.old) (S.meaning shelf.new) }
     ensures drl { logs.new.drl ≡ logs.old.drl }
     ensures knows { stopped ≡ false → KnownBy core.now vol (or_run (first_region block) (last_region block count) none_spared) logs.old (S.meaning shelf.old) → Known core.now vol logs.new (S.meaning shelf.new) }
+    ensures less { FindsFrom NoConfiguration (S.meaning shelf.old) (S.meaning shelf.new) }
     ensures notes { MapsNote all_those (first_region block) (last_region block count) logs.old logs.new }
     ensures same { (IsTrue (S.meaning shelf.new).down → ⊥) → result ≡ error }
     ensures fell { IsTrue (S.meaning shelf.new).down → result ≡ IsDown }

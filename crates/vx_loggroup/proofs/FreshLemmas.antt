@@ -14,6 +14,7 @@ use Rattle.vx_kept.specs.Groups.{OnSome, group_meaning}
 use Rattle.vx_group.specs.Holding.{GroupStands, wide}
 use Rattle.vx_group.specs.Stands.{inner_meaning}
 use Rattle.vx_group.specs.declared.group_core.GroupCore.{GroupCore}
+use Rattle.vx_group.proofs.FindingLemmas.{still_group, then_group}
 use Rattle.vx_group.proofs.HoldLemmas.{wide_shape}
 use Rattle.vx_group.proofs.LoseLemmas.{along_none, then_along}
 use Rattle.vx_group.proofs.MendLemmas.{same_Goes}
@@ -98,6 +99,7 @@ pub begins_none : (v : ℕ) (c : GroupCore) (m : Meaning) → LogsStart v c c m 
 begins_none v c m = record {
   goes = same_Goes (inner_meaning (wide c) m);
   loses = along_none c.inner.config m;
+  finds = still_group c m;
   still = λ w p. refl;
   on = λ w p is. is;
   units = same_units m;
@@ -108,6 +110,7 @@ pub begins_then : (v : ℕ) (c d e : GroupCore) (m0 m1 m2 : Meaning) → LogsSta
 begins_then v c d e m0 m1 m2 one two = record {
   goes = then_nothing Nothing (inner_meaning (wide c) m0) (inner_meaning (wide d) m1) (inner_meaning (wide e) m2) one.goes two.goes;
   loses = then_along c.inner.config d.inner.config e.inner.config m0 m1 m2 one.loses two.loses;
+  finds = then_group c d e m0 m1 m2 one.finds two.finds;
   still = λ w p. two.still w p ∙ one.still w p;
   on = λ w p is. one.on w p (two.on w p is);
   units = then_units m0 m1 m2 one.units two.units;

@@ -7,6 +7,10 @@ use Rattle.vx_disk.specs.Shelf.{Goes, Lawful, Meaning, Nothing}
 use Rattle.vx_disk.proofs.Causing.{Rose_after}
 use Rattle.vx_disk.proofs.Runs.{then_nothing}
 use Rattle.vx_drl.specs.Dirty.{Dirty}
+use Rattle.vx_kept.specs.Finds.{AllAtOnce}
+use Rattle.vx_kept.proofs.Findings.{less_newest, newest_at}
+use Rattle.vx_group.specs.Finds.{GroupFinds}
+use Rattle.vx_group.proofs.FindingLemmas.{newest_group, quiet_finds}
 use Rattle.vx_group.specs.Creates.{SameUnits}
 use Rattle.vx_group.specs.Dets.{DetStops}
 use Rattle.vx_group.specs.Holding.{wide}
@@ -16,8 +20,9 @@ use Rattle.vx_group.specs.Mends.{drl_at, drl_or}
 use Rattle.vx_group.specs.Resumes.{CanImport, TakenUp, stopped}
 use Rattle.vx_group.specs.Stands.{inner_meaning}
 use Rattle.vx_group.specs.declared.group_core.GroupCore.{GroupCore}
+use Rattle.vx_group.specs.declared.inner.Inner.{Inner}
 use Rattle.vx_group.proofs.CreateLemmas.{cause_before}
-use Rattle.vx_group.proofs.HoldLemmas.{whole_Stands, wide_shape}
+use Rattle.vx_group.proofs.HoldLemmas.{whole_Stands, wide_none, wide_shape}
 use Rattle.vx_group.proofs.LoseLemmas.{along_same, then_along}
 use Rattle.vx_group.proofs.UnitLemmas.{goes_units, then_units}
 use Rattle.vx_grouplogs.specs.Covering.{AllAlike}
@@ -164,6 +169,19 @@ module _ (old m1 : Meaning) (k : Marked) (law0 : Lawful old) (law : Lawful m1) (
           by (Refused why) cause = inr (half, inl (cause_before old m2 new (λ d. let one = it.goes.disk_faults d in let two = goes.disk_faults d in omega (arith, one, two)) why cause))
           by OutOfMemory none = absurd none
 
+settled_not : (b : Bool) → b ≡ false → b ≡ true → ⊥
+settled_not true off is = let clash : true ≡ false = off in cc
+settled_not false off is = let clash : false ≡ true = is in cc
+
+-- each image has the configuration in memory
+opened_newest : (old m1 : Meaning) (k : Marked) → Lawful m1 → ResumedBy old k m1 → (m2 new : Meaning) → Goes Nothing m1 m2 → Lawful m2 → (core : GroupCore) → GroupFinds (record { inner = k.core; held = None }) core m2 new → core.inner.committed ≡ true
+    → AllAtOnce core.inner.config new
+opened_newest old m1 k law it m2 new goes law2 core finds is =
+    let first : GroupCore = record { inner = k.core; held = None } in
+    let made : AllAtOnce k.core.config m1 = newest_at k.core.config m1 (record { finds = it.resumed.finds }) in
+    let now : AllAtOnce k.core.config m2 = less_newest k.core.config m1 m2 made (quiet_finds m1 m2 law law2 goes) in
+    subst (λ (i : Inner). AllAtOnce i.config new) (wide_none core (finds.free refl)) (newest_group first core m2 new refl it.resumed.settled now finds is)
+
 -- how an import ends
 pub opens_by : {S : Type 0} (meaning : S → Meaning) (moment : S) (old : Meaning) (k : Marked) (law0 : Lawful old) (law : Lawful (meaning moment)) (can : CanImport old) (it : ResumedBy old k (meaning moment)) (r : Rested) (tells : LogsTell r old) (a : List Bool)
     → ((v : ℕ) → v < 32 → is_unsure k.stopped v ≡ true → is_alike a v ≡ true) → ((v : ℕ) → v < 32 → rests r.alike v ≡ true → is_alike a v ≡ true) → (ls : List Logs) (m2 new : Meaning) → SameDrls k.logs.items ls → length ls ≡ length k.logs.items → Goes Nothing (meaning moment) m2 → Lawful m2
@@ -175,6 +193,9 @@ opens_by meaning moment old k law0 law can it r tells a mended resting ls m2 new
     resumed = it;
     goes = settled_goes old (meaning moment) k law0 law can it r tells ls m2 new drls long goes law2 o.core fin.settles;
     committed = fin.trust it.resumed.committed;
+    newest = opened_newest old (meaning moment) k law it m2 new goes law2 o.core fin.settles.finds (fin.trust it.resumed.committed);
+    free = fin.settles.finds.free refl;
+    openly = λ un. fin.settles.finds.core.openly (λ open. absurd (settled_not k.core.unsettled it.resumed.settled open)) un;
     up = fin.up;
     same = settled_units old (meaning moment) k law0 law can it r tells ls m2 new drls long goes law2 o.core fin.settles;
     counts = (settled_loses old (meaning moment) k law0 law can it r tells ls m2 new drls long goes law2 o.core fin.settles).rises;

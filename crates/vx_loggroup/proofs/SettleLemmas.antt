@@ -13,6 +13,7 @@ use Rattle.vx_group.specs.Holding.{GroupStands, wide}
 use Rattle.vx_group.specs.Stands.{inner_meaning}
 use Rattle.vx_group.specs.declared.group_core.GroupCore.{GroupCore}
 use Rattle.vx_group.specs.declared.inner.Inner.{Inner}
+use Rattle.vx_group.proofs.FindingLemmas.{still_group, then_group}
 use Rattle.vx_group.proofs.HoldLemmas.{wide_shape}
 use Rattle.vx_group.proofs.LoseLemmas.{along_none, then_along}
 use Rattle.vx_group.proofs.MendLemmas.{same_Goes}
@@ -30,6 +31,7 @@ settle_none c m = record {
   goes = same_Goes (inner_meaning (wide c) m);
   narrow = narrowed_same c;
   loses = along_none c.inner.config m;
+  finds = still_group c m;
   below = same_units m;
 }
 
@@ -38,6 +40,7 @@ settle_then c d e m m1 m2 one two = record {
   goes = then_nothing Nothing (inner_meaning (wide c) m) (inner_meaning (wide d) m1) (inner_meaning (wide e) m2) one.goes two.goes;
   narrow = narrowed_then c d e one.narrow two.narrow;
   loses = then_along c.inner.config d.inner.config e.inner.config m m1 m2 one.loses two.loses;
+  finds = then_group c d e m m1 m2 one.finds two.finds;
   below = then_units m m1 m2 one.below two.below;
 }
 

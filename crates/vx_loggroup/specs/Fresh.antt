@@ -3,6 +3,7 @@ use Rattle.std.specs.Prelude.{◌≡◌, ℕ, true, IsTrue, None, Some, List, Bo
 use Rattle.vx_disk.specs.Shelf.{Goes, Meaning, Nothing}
 use Rattle.vx_drl.specs.Dirty.{Dirty}
 use Rattle.vx_fmr.specs.Missed.{Missed}
+use Rattle.vx_group.specs.Finds.{GroupFinds}
 use Rattle.vx_group.specs.Creates.{SameUnits}
 use Rattle.vx_group.specs.Holding.{wide}
 use Rattle.vx_group.specs.Loses.{LosesAlong}
@@ -35,6 +36,7 @@ pub record LogsFirst (v n : ℕ) (old new : List Logs) : Type 0 where
 pub record LogsStart (v : ℕ) (c d : GroupCore) (old new : Meaning) : Type 0 where
   pub goes : Goes Nothing (inner_meaning (wide c) old) (inner_meaning (wide d) new)
   pub loses : LosesAlong c.inner.config d.inner.config old new
+  pub finds : GroupFinds c d old new
   pub still : (w p : ℕ) → active d.inner.config w p ≡ active c.inner.config w p
   pub on : (w p : ℕ) → IsTrue (active (wide d).config w p) → IsTrue (active (wide c).config w p)
   pub units : SameUnits old new

@@ -2,6 +2,8 @@
 use Rattle.std.specs.Prelude.{◌≡◌, ℕ, ◌<◌, ◌≤◌, IsTrue, true, false, List, Bool, Some, None, Option, length, slice_get, Result, Ok, Err}
 use Rattle.vx_disk.specs.Shelf.{Goes, Meaning, Nothing}
 use Rattle.vx_model.specs.declared.errors.Stop.{Stop}
+use Rattle.vx_kept.specs.Finds.{AllAtOnce}
+use Rattle.vx_group.specs.Finds.{MissesOpenly}
 use Rattle.vx_group.specs.Creates.{SameUnits}
 use Rattle.vx_group.specs.Dets.{DetStops}
 use Rattle.vx_group.specs.Holding.{wide}
@@ -55,6 +57,9 @@ pub record IsOpened {S : Type 0} (meaning : S → Meaning) (rested : Rested) (ol
   pub resumed : ResumedBy old marked (meaning moment)
   pub goes : Goes Nothing (inner_meaning marked.core (meaning moment)) (inner_meaning (wide core) new)
   pub committed : core.inner.committed ≡ true
+  pub newest : AllAtOnce core.inner.config new
+  pub free : core.held ≡ None
+  pub openly : MissesOpenly core.inner
   pub up : IsTrue new.down → ⊥
   pub same : SameUnits (meaning moment) new
   pub counts : (u : ℕ) → (meaning moment).faults u ≤ new.faults u

@@ -1,6 +1,7 @@
 -- Logs of missed regions that an import takes up, and logs that are lost as it ends.
 use Rattle.std.specs.Prelude.{◌≡◌, ℕ, Some, List, slice_get}
 use Rattle.vx_disk.specs.Shelf.{Goes, Meaning, Nothing}
+use Rattle.vx_group.specs.Finds.{GroupFinds}
 use Rattle.vx_group.specs.Creates.{SameUnits}
 use Rattle.vx_group.specs.Holding.{wide}
 use Rattle.vx_group.specs.Loses.{LosesAlong}
@@ -23,4 +24,5 @@ pub record LogsSettle (c d : GroupCore) (old new : Meaning) : Type 0 where
   pub goes : Goes Nothing (inner_meaning (wide c) old) (inner_meaning (wide d) new)
   pub narrow : Narrowed c d
   pub loses : LosesAlong c.inner.config d.inner.config old new
+  pub finds : GroupFinds c d old new
   pub below : SameUnits old new

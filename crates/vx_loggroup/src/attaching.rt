@@ -1,4 +1,6 @@
 // A plex of a group with logs that is attached.
+ghost use Rattle.vx_group.specs.Holding.{wide};
+ghost use Rattle.vx_group.specs.Finds.{CoreFinds};
 ghost use Rattle.std.specs.Option.{option_copied};
 ghost use Rattle.std.specs.Prelude.{◌≡◌, ◌⊎◌, ◌<◌, false, IfOk, IsTrue, None, Ok, OnOk, Some, Err, length, true, ℕ};
 ghost use Rattle.vx_group.specs.Attaches.{GroupAttachEnds, att_refusal, missed_regions};
@@ -74,6 +76,8 @@ pub fn att_whole<S: Shelf>(
     ensures regains { Regains core.old.inner.config core.new.inner.config vol plex (S.meaning shelf.old) (S.meaning shelf.new) }
     ensures held { active core.old.inner.config vol plex ≡ false → OnOk result (HoldsPlex (λ s. S.meaning s) core.old.inner.config core.new.inner.config vol plex shelf.new) }
     ensures trust { OnOk result (core.old.inner.committed ≡ true → core.new.inner.committed ≡ true) }
+    ensures finds { CoreFinds (wide core.old) (wide core.new) (S.meaning shelf.old) (S.meaning shelf.new) }
+    ensures free { OnOk result (core.old.held ≡ None → core.new.held ≡ None) }
     ensures cause { att_refusal core.old.inner.config vol plex ≡ None → DetStops (S.meaning shelf.old) (S.meaning shelf.new) result }
 {
     // What is kept of the volumes stays as it is.

@@ -1,4 +1,5 @@
 // A plex of a volume whose logs may not have begun, that is detached.
+ghost use Rattle.vx_group.specs.Finds.{GroupFinds};
 ghost use Rattle.std.specs.Prelude.{◌≡◌, ℕ, Err, false, IfErr, IsOk, IsTrue, List, None, OnOk, Some, true};
 ghost use Rattle.vx_copies.specs.Commits.{MoreFailed};
 ghost use Rattle.vx_disk.specs.Shelf.{Goes, Nothing};
@@ -56,6 +57,7 @@ fn begin_before<S: Shelf>(
     ensures may { det_refusal core.old.inner.config vol plex ≡ None → OnOk result (det_refusal core.new.inner.config vol plex ≡ None) }
     ensures trust { OnOk result (core.old.inner.committed ≡ true → core.new.inner.committed ≡ true) }
     ensures agreed { IfErr result (λ e. core.old.inner.committed ≡ true → core.new.inner.agreed ≡ true) }
+    ensures finds { GroupFinds core.old core.new (S.meaning shelf.old) (S.meaning shelf.new) }
     ensures cause { DetStops (S.meaning shelf.old) (S.meaning shelf.new) result }
 {
     if refuse_det(&core.inner.config, vol, plex).is_some() {
@@ -106,6 +108,7 @@ pub fn det_fresh<S: Shelf>(
     ensures maps { (ls : List LogsValue) × LogsFirst vol (region_count (wide core.old).config vol) logs.old.items ls × MapsBegin vol plex ls logs.new.items }
     ensures trust { OnOk result (core.old.inner.committed ≡ true → core.new.inner.committed ≡ true) }
     ensures agreed { IfErr result (λ e. core.old.inner.committed ≡ true → core.new.inner.agreed ≡ true) }
+    ensures finds { GroupFinds core.old core.new (S.meaning shelf.old) (S.meaning shelf.new) }
     ensures cause { det_refusal core.old.inner.config vol plex ≡ None → DetStops (S.meaning shelf.old) (S.meaning shelf.new) result }
 {
     match begin_before(shelf, core, logs, alike, fresh, stopped, vol, plex) {

@@ -1,4 +1,6 @@
 // A plex of a group with logs that is detached, and whose map begins then.
+ghost use Rattle.vx_kept.specs.Finds.{FindsFrom, NoConfiguration};
+ghost use Rattle.vx_group.specs.Finds.{GroupFinds};
 ghost use Rattle.std.specs.Prelude.{◌≡◌, ◌<◌, ◌≤◌, ℕ, Err, false, IfErr, IsTrue, None, OnOk, Some, length, true};
 ghost use Rattle.vx_disk.specs.Shelf.{Goes, Nothing};
 ghost use Rattle.vx_group.specs.Dets.{DetStops, det_refusal};
@@ -54,6 +56,7 @@ fn begin_one<S: Shelf>(
     ensures others { OthersOn vol core.now core.now (S.meaning shelf.old) (S.meaning shelf.new) }
     ensures begins { LogsBegin plex one.old one.new }
     ensures empty { OnOk result (MapIsEmpty core.now.inner.config vol plex one.new.fmr) }
+    ensures less { FindsFrom NoConfiguration (S.meaning shelf.old) (S.meaning shelf.new) }
     ensures down { IfErr result (λ stop. (stop ≡ Refused DownNo) × IsTrue (S.meaning shelf.new).down) }
 {
     match begin_map(one, &core.inner.config, vol, shelf, plex) {
@@ -84,6 +87,7 @@ fn begin_missing<S: Shelf>(
     ensures goes { Goes Nothing (inner_meaning (wide core.now) (S.meaning shelf.old)) (inner_meaning (wide core.now) (S.meaning shelf.new)) }
     ensures maps { MapsBegin vol plex logs.old.items logs.new.items }
     ensures empty { OnOk result (MapIsEmpty core.now.inner.config vol plex (fmr_at logs.new.items vol)) }
+    ensures less { FindsFrom NoConfiguration (S.meaning shelf.old) (S.meaning shelf.new) }
     ensures down { IfErr result (λ stop. (stop ≡ Refused DownNo) × IsTrue (S.meaning shelf.new).down) }
 {
     // What is known of the plexes stays as it is.
@@ -113,6 +117,7 @@ fn keep_begun<S: Shelf>(
     ensures below { SameUnits (S.meaning shelf.old) (S.meaning shelf.new) }
     ensures trust { OnOk result (core.old.inner.committed ≡ true → core.new.inner.committed ≡ true) }
     ensures agreed { IfErr result (λ e. core.old.inner.committed ≡ true → core.new.inner.agreed ≡ true) }
+    ensures finds { GroupFinds core.old core.new (S.meaning shelf.old) (S.meaning shelf.new) }
     ensures cause { DetStops (S.meaning shelf.old) (S.meaning shelf.new) result }
 {
     // What is known of the plexes stays as it is.
@@ -177,6 +182,7 @@ pub fn det_whole<S: Shelf>(
     ensures maps { MapsBegin vol plex logs.old.items logs.new.items }
     ensures trust { OnOk result (core.old.inner.committed ≡ true → core.new.inner.committed ≡ true) }
     ensures agreed { IfErr result (λ e. core.old.inner.committed ≡ true → core.new.inner.agreed ≡ true) }
+    ensures finds { GroupFinds core.old core.new (S.meaning shelf.old) (S.meaning shelf.new) }
     ensures cause { det_refusal core.old.inner.config vol plex ≡ None → DetStops (S.meaning shelf.old) (S.meaning shelf.new) result }
 {
     let was = is_active(&core.inner.config, vol, plex);

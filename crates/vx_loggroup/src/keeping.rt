@@ -31,6 +31,7 @@ pub fn read_whole<S: Shelf>(
     ensures shown { OnOk result (Read (inner_meaning core.old.inner (S.meaning shelf.old)) vol block into.new) }
     ensures same { core.new.inner.config ≡ core.old.inner.config }
     ensures held { core.new.held ≡ core.old.held }
+    ensures settled { core.new.inner.unsettled ≡ core.old.inner.unsettled }
     ensures trusted { (core.new.inner.committed ≡ core.old.inner.committed) × (core.new.inner.agreed ≡ core.old.inner.agreed) }
     ensures below { Goes Nothing (S.meaning shelf.old) (S.meaning shelf.new) }
     ensures counts { CountsOnly vol result (inner_meaning (wide core.old) (S.meaning shelf.old)).faults (inner_meaning (wide core.new) (S.meaning shelf.new)).faults }

@@ -1,4 +1,5 @@
 // A volume of a group with logs that is made.
+ghost use Rattle.vx_group.specs.Finds.{GroupFinds};
 ghost use Rattle.std.specs.Prelude.{◌≡◌, ◌⊎◌, ◌<◌, ℕ, true, IfErr, IfSome, IsTrue, None, OnOk, Some, Err};
 ghost use Rattle.vx_copies.specs.Commits.{MoreFailed};
 ghost use Rattle.vx_group.specs.Calls.{GroupStays};
@@ -54,6 +55,7 @@ pub fn make_fresh<S: Shelf>(
     ensures whole { OnOk result ((core.new.inner.committed ≡ true) ⊎ HasFailed core.new.inner.config.disks) }
     ensures agreed { IfErr result (λ e. core.old.inner.committed ≡ true → core.new.inner.agreed ≡ true) }
     ensures unmoved { Unmoved result ((core.new ≡ core.old) × (shelf.new ≡ shelf.old)) }
+    ensures finds { GroupFinds core.old core.new (S.meaning shelf.old) (S.meaning shelf.new) }
 {
     if let Some(no) = refuse_volume(&core.inner.config, name, want) {
         return Err(Stop::No(no));

@@ -1,4 +1,5 @@
 // A group with logs as a shelf.
+ghost use Rattle.vx_group.specs.Finds.{GroupFinds};
 ghost use Rattle.std.specs.Prelude.{◌≡◌, ◌+◌, ◌/◌, ◌<◌, ◌≤◌, IfErr, OnOk, true, false, length};
 ghost use Rattle.vx_config.specs.Table.{greatest};
 ghost use Rattle.vx_disk.specs.Causes.{Calls, Cause, CountsOnly, Names, OnDisks, Works};
@@ -44,6 +45,7 @@ impl<S: Shelf> Shelf for LoggedGroup<S> {
         ensures same { self.new.core.inner.config ≡ self.old.core.inner.config }
         ensures held { self.new.core.held ≡ self.old.core.held }
         ensures trusted { (self.new.core.inner.committed ≡ self.old.core.inner.committed) × (self.new.core.inner.agreed ≡ self.old.core.inner.agreed) }
+        ensures settled { self.new.core.inner.unsettled ≡ self.old.core.inner.unsettled }
         ensures below { Goes Nothing (S.meaning self.old.shelf) (S.meaning self.new.shelf) }
         ensures logs { self.new.logs.items ≡ self.old.logs.items }
     {
@@ -77,6 +79,7 @@ impl<S: Shelf> Shelf for LoggedGroup<S> {
         ensures full { self.old.stopped ≡ false → self.new.stopped ≡ true → greatest ≤ self.old.core.inner.config.serial + 45 }
         ensures trust { OnOk result (self.old.core.inner.committed ≡ true → self.new.core.inner.committed ≡ true) }
         ensures agreed { IfErr result (λ e. self.old.core.inner.committed ≡ true → self.new.core.inner.agreed ≡ true) }
+        ensures finds { GroupFinds self.old.core self.new.core (S.meaning self.old.shelf) (S.meaning self.new.shelf) }
     {
         write_fresh(
             &mut self.shelf,
@@ -105,6 +108,7 @@ impl<S: Shelf> Shelf for LoggedGroup<S> {
         ensures maps { NotesMaps none_missing unit 0 0 self.old.logs.items self.new.logs.items }
         ensures trust { OnOk result (self.old.core.inner.committed ≡ true → self.new.core.inner.committed ≡ true) }
         ensures agreed { IfErr result (λ e. self.old.core.inner.committed ≡ true → self.new.core.inner.agreed ≡ true) }
+        ensures finds { GroupFinds self.old.core self.new.core (S.meaning self.old.shelf) (S.meaning self.new.shelf) }
     {
         flush_whole(
             &mut self.shelf,

@@ -325,6 +325,9 @@ fn deported_sites_come_back(rt: HostRuntime) -> Result<(), Fail> {
         (Event::Deport { site: 0 }, "done", 0, None),
         (Event::Deport { site: 0 }, "no", 0, None),
         (Event::Group { site: 0 }, "role", 0, None),
+        (Event::Fall { site: 1 }, "role", 0, None),
+        (Event::Fall { site: 0 }, "done", 0, None),
+        (Event::Fall { site: 0 }, "role", 0, None),
         (put(1, Blocks::filled(1, 0x22)), "no", 0, None),
         (recover(0), "recovered", 1, None),
         (read(0, 0), "got", 0x11, None),
@@ -380,26 +383,6 @@ fn groups_get_volumes(rt: HostRuntime) -> Result<(), Fail> {
         (Event::Crash { site: 0, kept: 0 }, "done", 0, None),
         (volumes(0), "no", 0, None),
         (Event::Group { site: 0 }, "role", 0, None),
-        (recover(0), "recovered", 1, None),
-        (read(0, 0), "got", 0x11, None),
-    ];
-    assert_eq!(rt; first_wrong(&mut world, &rows)?, None);
-    Ok(())
-}
-
-#[test]
-fn deported_sites_fall(rt: HostRuntime) -> Result<(), Fail> {
-    let mut world = World::new(rt.alloc())?;
-    let rows = [
-        site(b"a", 64),
-        (Event::Fall { site: 0 }, "role", 0, None),
-        (Event::Raw { site: 0 }, "done", 0, None),
-        (put(0, Blocks::filled(1, 0x11)), "done", 1, None),
-        (Event::Fall { site: 0 }, "role", 0, None),
-        (Event::Deport { site: 0 }, "done", 0, None),
-        (Event::Fall { site: 0 }, "done", 0, None),
-        (Event::Fall { site: 0 }, "role", 0, None),
-        (Event::Fall { site: 1 }, "unknown", 1, None),
         (recover(0), "recovered", 1, None),
         (read(0, 0), "got", 0x11, None),
     ];

@@ -1,6 +1,6 @@
 -- What the disks of a site over a group hold of it.
 use Rattle.std.proofs.Common.{◌≡◌, ◌∙◌, ◌⊎◌, ◌<◌, ◌≤◌, inl, inr, ℕ, zero, suc, List, [], ◌∷◌, Option, length, ap, refl, subst, sym, arith, IsTrue}
-use Rattle.std.specs.Prelude.{Some, None, get_or, true}
+use Rattle.std.specs.Prelude.{Contains, Some, None, get_or, true, false}
 use Rattle.std.specs.List.{slice_get}
 use Rattle.std.proofs.lemmas.Option.{slice_get_cases}
 use Rattle.vx_model.specs.declared.site.SiteState.TheVariants.{Bare as IsBare}
@@ -25,7 +25,7 @@ use Rattle.vx_group.specs.Holding.{GroupStands, wide}
 use Rattle.vx_group.specs.declared.group_core.GroupCore.{GroupCore}
 use Rattle.vx_grouped.proofs.NotedLemmas.{noted_is}
 use Rattle.vx_grouped.specs.Away.{AwayLies}
-use Rattle.vx_grouped.specs.GroupNotes.{GroupLies, noted_config}
+use Rattle.vx_grouped.specs.GroupNotes.{GroupLies, NotesFound, noted_config, noted_try}
 use Rattle.vx_grouped.specs.GroupSites.{GroupSiteStands, site_disks}
 use Rattle.vx_grouped.specs.declared.group_site.GroupSite.{GroupSite}
 use Rattle.vx_grouped.specs.declared.group_site.GroupSite.TheVariants.{Up as GroupUp, Deported as GroupAway, Down as GroupDown, Marked, Gone as GroupGone}
@@ -70,12 +70,21 @@ framed : (note : GroupNode) (k c x : Config) → HasSpelling (at_serial 0 k) →
     → ((v : ℕ) → v < length k.volumes → frame_at x v ≡ frame_at k v) → (v : ℕ) → v < length c.volumes → frame_at x v ≡ frame_at c v
 framed note k c x spells is noted stands = subst (λ (e : Config). (v : ℕ) → v < length e.volumes → frame_at x v ≡ frame_at e v) (read_back note k c spells is noted) stands
 
+-- and what has it but for its serial has the one that is noted
+one_noted : (note : GroupNode) (k c x : Config) (m : Meaning) (i : Image) → HasSpelling (at_serial 0 k) → note.config ≡ noted_config k → config_of note.config ≡ Some c → NotesFound note k m → note.loose ≡ false → Each m.leaves i → found m i ≡ Found x
+    → (at_serial 0 x ≡ c) ⊎ Contains note.begun (noted_try x)
+one_noted note k c x m i spells is noted it tight each at = elim (it.each tight i x each at) [
+  | inl same ↦ inl (same ∙ read_back note k c spells is noted)
+  | inr has ↦ inr has
+]
+
 -- ---- the sites
 
 -- a group that is up
 up_holds : (n : Node) (note : GroupNode) (c : GroupCore) (m : Meaning) → HasSpelling (at_serial 0 c.inner.config) → GroupLies n note c m → GroupStands c m → Lawful m → HoldsGroup note m
 up_holds n note c m spells lies stands lawful = record {
   finds = λ i now. stands.stands.kept.finds i (lawful.within i now);
+  one = λ i k x tight noted now is. one_noted note c.inner.config k x m i spells lies.config noted lies.images.noted tight (lawful.within i now) is;
   volumes = λ i k x noted now is. framed note c.inner.config k x spells lies.config noted (stood i x now is);
   has = has;
 }
@@ -98,10 +107,11 @@ up_holds n note c m spells lies stands lawful = record {
         (inl (record { inside = there; plex = p; is_on = it.on v p there.volume on; value = each at.0 at.1 })))
 
 -- one whose disks are by themselves: it is noted with a configuration whose volumes stand as in the last one
-away_holds : (n : Node) (note : GroupNode) (k last : Config) (m : Meaning) → HasSpelling (at_serial 0 k) → note.config ≡ noted_config k → ((v : ℕ) → frame_at k v ≡ frame_at last v) → AwayLies n note last m
+away_holds : (n : Node) (note : GroupNode) (k last : Config) (m : Meaning) → HasSpelling (at_serial 0 k) → note.config ≡ noted_config k → ((v : ℕ) → frame_at k v ≡ frame_at last v) → NotesFound note k m → AwayLies n note last m
     → Lawful m → HoldsGroup note m
-away_holds n note k last m spells config frames lies lawful = record {
+away_holds n note k last m spells config frames found lies lawful = record {
   finds = λ i now. lies.finds i (lawful.within i now);
+  one = λ i c x tight noted now is. one_noted note k c x m i spells config noted found tight (lawful.within i now) is;
   volumes = λ i c x noted now is. framed note k c x spells config noted (λ v low. (lies.volumes i x (lawful.within i now) is).frames v (frame_within last k v (frames v) low) ∙ sym (frames v));
   has = λ i x now is v p b low on. lies.has i x (lawful.within i now) is v p b (inside_of last v b (subst (λ (j : ℕ). b < j) (lies.sizes v) low)) on;
 }
@@ -113,10 +123,10 @@ module _ {R : Type 0} {g : Ghosts R} (lawful : (r : R) → Lawful (g.meaning r))
       subst (λ (x : GroupNode). HoldsGroup x m) (some_same (sym it.noted.is ∙ noted)) (up_holds n k laid.core m it.spells it.at.lies laid.stands.group (shade_lawful g.meaning lawful laid.shelf))
   site_holds n (GroupAway idle) note (k, it) made noted =
       let m : Meaning = shade_meaning g.meaning idle.rack in
-      subst (λ (x : GroupNode). HoldsGroup x m) (some_same (sym it.noted.is ∙ noted)) (away_holds n k it.newest it.last m it.spells it.away.config it.away.frames it.away.lies (shade_lawful g.meaning lawful idle.rack))
+      subst (λ (x : GroupNode). HoldsGroup x m) (some_same (sym it.noted.is ∙ noted)) (away_holds n k it.newest it.last m it.spells it.away.config it.away.frames it.away.found it.away.lies (shade_lawful g.meaning lawful idle.rack))
   site_holds n (GroupDown idle) note (k, it) made noted =
       let m : Meaning = shade_meaning g.meaning idle.rack in
-      subst (λ (x : GroupNode). HoldsGroup x m) (some_same (sym it.noted.is ∙ noted)) (away_holds n k it.last it.last m it.spells it.away.config (λ v. refl) it.away.lies (shade_lawful g.meaning lawful idle.rack))
+      subst (λ (x : GroupNode). HoldsGroup x m) (some_same (sym it.noted.is ∙ noted)) (away_holds n k it.last it.last m it.spells it.away.config (λ v. refl) it.away.found it.away.lies (shade_lawful g.meaning lawful idle.rack))
   site_holds n (Marked rack) note it made noted = absurd (made it.state)
   site_holds n GroupGone note it made noted = absurd it
 

@@ -1,5 +1,5 @@
 -- What the racks hold of the sites of a world, in which sites may be in doubt.
-use Rattle.std.specs.Prelude.{◌≡◌, ℕ, ◌<◌, List, length, None, Option, Some, slice_get, IsTrue, true, false}
+use Rattle.std.specs.Prelude.{◌≡◌, ◌⊎◌, ℕ, ◌<◌, Contains, List, length, None, Option, Some, slice_get, IsTrue, true, false}
 use Rattle.vx_model.specs.declared.limits.TheConstants.{MOST_SITES}
 use Rattle.vx_history.specs.Doubts.{Doubted}
 use Rattle.vx_history.specs.Groups.{BlockMay, GroupNode}
@@ -7,20 +7,24 @@ use Rattle.vx_disk.specs.Shelf.{Image, Meaning}
 use Rattle.vx_config.specs.declared.config.Config.{Config}
 use Rattle.vx_copyfmt.specs.Imports.{Found}
 use Rattle.vx_kept.specs.Choice.{live}
+use Rattle.vx_kept.specs.Cleans.{at_serial}
 use Rattle.vx_kept.specs.Facts.{is_found}
 use Rattle.vx_kept.specs.Groups.{found}
 use Rattle.vx_kept.specs.Keeping.{frame_at}
 use Rattle.vx_layout.specs.Places.{place}
 use Rattle.vx_events.specs.GroupLines.{is_over_group}
 use Rattle.vx_events.specs.GroupViews.{config_of}
+use Rattle.vx_grouped.specs.GroupNotes.{noted_try}
 use Rattle.vx_diskset.specs.Holds.{HoldsSite, beside_of}
 
 -- The disks hold the volumes of a group as its site notes them: whatever a crash leaves on them now, an import that can read all of them finds a
 -- configuration, in which each volume that is noted stands as it did, but for the states of its plexes and lost logs, and each plex that takes part has of
--- each block a value that the block may have.
+-- each block a value that the block may have. Unless it may disagree with others, that configuration is the one that is noted, but for its serial, or one that
+-- is noted as begun, with no disk held as failed.
 pub record HoldsGroup (note : GroupNode) (m : Meaning) : Type 0 where
   pub finds : (i : Image) → m.now i → is_found (found m i) ≡ true
   pub volumes : (i : Image) (c x : Config) → config_of note.config ≡ Some c → m.now i → found m i ≡ Found x → (v : ℕ) → v < length c.volumes → frame_at x v ≡ frame_at c v
+  pub one : (i : Image) (c x : Config) → note.loose ≡ false → config_of note.config ≡ Some c → m.now i → found m i ≡ Found x → (at_serial 0 x ≡ c) ⊎ Contains note.begun (noted_try x)
   pub has : (i : Image) (x : Config) → m.now i → found m i ≡ Found x → (v p b : ℕ) → b < note.bytes.size v → IsTrue (live x v p) → BlockMay note v b (i (place x v p b).0 (place x v p b).1)
 
 module _ {R : Type 0} (meaning : R → Meaning) where

@@ -8,6 +8,8 @@ use Rattle.vx_group.proofs.MissLemmas.{count_volumes, knows_later, narrows_reads
 use Rattle.vx_group.proofs.OpeningLemmas.{later_may, may_less, may_room, may_volume, present}
 use Rattle.vx_group.proofs.Standing.{some_active, sound_of}
 use Rattle.vx_group.proofs.ThroughLemmas.{held_other, holds_first, released_active, released_attaches, through_attaches, through_regains}
+use Rattle.vx_group.proofs.FoundThrough.{ahead_finds}
+use Rattle.vx_group.proofs.FindingLemmas.{none_finds}
 use Rattle.vx_group.proofs.att.att_in.Goals as goal
 use Rattle.vx_group.proofs.LoseLemmas.{none_parts}
 
@@ -78,3 +80,31 @@ attach_held-requires-clause-knows g c =
 pub returns-in-Ok-attach_held-clause-count : goal.returns-in-Ok-attach_held-clause-count
 returns-in-Ok-attach_held-clause-count g c = λ off.
     count_volumes c.args.core.now.inner.config c.release.new.core.inner.config c.args.vol c.args.plex c.in-Ok-attach_held.copied (option_copied c.args.fmr) c.release.ensures.volumes c.in-Ok-attach_held.ensures.count
+
+pub returns-in-Err-clause-finds : goal.returns-in-Err-clause-finds
+returns-in-Err-clause-finds g c =
+    c.release.ensures.finds.core
+
+pub returns-in-Ok-attach_held-clause-finds : goal.returns-in-Ok-attach_held-clause-finds
+returns-in-Ok-attach_held-clause-finds g c =
+    ahead_finds c.args.core.now c.release.new.core (record { inner = c.attach_held.new.core; held = c.release.new.core.held }) c.attach_held.new.core (g.S.Shelf.meaning c.args.shelf.now) (g.S.Shelf.meaning c.release.new.shelf) (g.S.Shelf.meaning c.attach_held.new.shelf) (c.in-Ok.ensures.done (may_less c.args.core.now.inner.config c.args.vol c.args.plex (sym c.refuse.ensures ∙ c.in_default.is))) (wide_none (record { inner = c.attach_held.new.core; held = c.release.new.core.held }) (c.in-Ok.ensures.done (may_less c.args.core.now.inner.config c.args.vol c.args.plex (sym c.refuse.ensures ∙ c.in_default.is)))) c.release.ensures.finds c.attach_held.ensures.finds
+
+pub returns-in-Err-attach_held-clause-finds : goal.returns-in-Err-attach_held-clause-finds
+returns-in-Err-attach_held-clause-finds g c =
+    ahead_finds c.args.core.now c.release.new.core c.hold_back.new.core c.attach_held.new.core (g.S.Shelf.meaning c.args.shelf.now) (g.S.Shelf.meaning c.release.new.shelf) (g.S.Shelf.meaning c.attach_held.new.shelf) (c.in-Ok.ensures.done (may_less c.args.core.now.inner.config c.args.vol c.args.plex (sym c.refuse.ensures ∙ c.in_default.is))) (back_wide c.args.vol c.args.plex (record { inner = c.attach_held.new.core; held = c.release.new.core.held }) c.hold_back.new.core (c.in-Ok.ensures.done (may_less c.args.core.now.inner.config c.args.vol c.args.plex (sym c.refuse.ensures ∙ c.in_default.is))) c.hold_back.ensures) c.release.ensures.finds c.attach_held.ensures.finds
+
+pub returns-in-Ok-attach_held-clause-free : goal.returns-in-Ok-attach_held-clause-free
+returns-in-Ok-attach_held-clause-free g c =
+    λ was. c.in-Ok.ensures.done (may_less c.args.core.now.inner.config c.args.vol c.args.plex (sym c.refuse.ensures ∙ c.in_default.is))
+
+pub returns-in-Some-clause-finds : goal.returns-in-Some-clause-finds
+returns-in-Some-clause-finds g c =
+    none_finds (wide c.args.core.now) (g.S.Shelf.meaning c.args.shelf.now)
+
+pub returns-then-is_active-clause-finds : goal.returns-then-is_active-clause-finds
+returns-then-is_active-clause-finds g c =
+    none_finds (wide c.args.core.now) (g.S.Shelf.meaning c.args.shelf.now)
+
+pub returns-then-is_down-clause-finds : goal.returns-then-is_down-clause-finds
+returns-then-is_down-clause-finds g c =
+    none_finds (wide c.args.core.now) (g.S.Shelf.meaning c.args.shelf.now)

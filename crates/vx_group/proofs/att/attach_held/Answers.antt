@@ -8,6 +8,7 @@ use Rattle.vx_group.proofs.MissLemmas.{knows_later, missed_volumes, narrows_read
 use Rattle.vx_group.proofs.OpeningLemmas.{may_behind, present}
 use Rattle.vx_group.proofs.Standing.{sound_of}
 use Rattle.vx_group.proofs.RegainLemmas.{all_holds, then_regains}
+use Rattle.vx_group.proofs.FindingLemmas.{then_finds}
 use Rattle.vx_group.proofs.att.attach_held.Goals as goal
 
 pub regain-requires-clause-more : goal.regain-requires-clause-more
@@ -54,3 +55,11 @@ attach-requires-clause-knows g c =
 
 pub returns-clause-count : goal.returns-clause-count
 returns-clause-count g c = same_count _ _ c.attach.result c.attach.ensures.count (missed_volumes c.args.core.now.config c.regain.new.core.config c.args.vol c.args.plex (option_copied c.args.fmr) c.regain.ensures.volumes)
+
+pub returns-in-Err-clause-finds : goal.returns-in-Err-clause-finds
+returns-in-Err-clause-finds g c =
+    c.regain.ensures.finds
+
+pub returns-clause-finds : goal.returns-clause-finds
+returns-clause-finds g c =
+    then_finds c.args.core.now c.regain.new.core c.attach.new.core (g.S.Shelf.meaning c.args.shelf.now) (g.S.Shelf.meaning c.regain.new.shelf) (g.S.Shelf.meaning c.attach.new.shelf) c.regain.ensures.finds c.attach.ensures.finds

@@ -1,5 +1,5 @@
 -- `attach`: clauses attaches, ends, cause, failing and count; what `copy_to` and `commit_open` ask.
-use Rattle.std.proofs.Common.{◌<◌, ℕ, inl, Err, ◌∙◌, arith}
+use Rattle.std.proofs.Common.{◌<◌, ℕ, inl, Err, ◌∙◌, arith, ap}
 use Rattle.std.specs.Prelude.{None}
 use Rattle.std.specs.Option.{option_copied}
 use Rattle.vx_config.specs.Table.{greatest}
@@ -10,6 +10,9 @@ use Rattle.vx_group.proofs.FailingLemmas.{no_failing, then_failing}
 use Rattle.vx_group.proofs.MissLemmas.{count_volumes, knows_later, narrows_reads, same_count}
 use Rattle.vx_group.proofs.OpeningLemmas.{present, same_may}
 use Rattle.vx_group.proofs.Standing.{some_active, sound_of}
+use Rattle.vx_group.proofs.FindingLemmas.{before_ends, behind_finds, stays_finds, then_finds}
+use Rattle.vx_kept.specs.Cleans.{at_serial}
+use Rattle.vx_group.specs.declared.inner.Inner.{Inner}
 use Rattle.vx_group.proofs.attaching.attach.Goals as goal
 use Rattle.vx_group.proofs.LoseLemmas.{but_parts}
 
@@ -98,3 +101,17 @@ copy_to-requires-clause-knows g c =
 pub returns-clause-count : goal.returns-clause-count
 returns-clause-count g c =
     same_count _ _ c.commit_open.result c.commit_open.ensures.count (count_volumes c.args.core.now.config c.settle_headers.new.core.config c.args.vol c.args.plex _ (option_copied c.args.fmr) c.settle_headers.ensures.volumes c.in-Ok-copy_to.ensures.count)
+
+pub returns-in-Err-clause-finds : goal.returns-in-Err-clause-finds
+returns-in-Err-clause-finds g c =
+    c.settle_headers.ensures.finds
+
+pub returns-in-Err-copy_to-clause-finds : goal.returns-in-Err-copy_to-clause-finds
+returns-in-Err-copy_to-clause-finds g c =
+    then_finds c.args.core.now c.settle_headers.new.core c.copy_to.new.core (g.S.Shelf.meaning c.args.shelf.now) (g.S.Shelf.meaning c.settle_headers.new.shelf) (g.S.Shelf.meaning c.copy_to.new.shelf) c.settle_headers.ensures.finds
+    (stays_finds c.settle_headers.new.core c.copy_to.new.core (g.S.Shelf.meaning c.settle_headers.new.shelf) (g.S.Shelf.meaning c.copy_to.new.shelf) (ap (λ (x : Inner). at_serial 0 x.config) c.in-Err-copy_to.ensures.same) c.copy_to.ensures.trust c.copy_to.ensures.settled c.copy_to.ensures.less)
+
+pub returns-clause-finds : goal.returns-clause-finds
+returns-clause-finds g c =
+    behind_finds c.args.core.now c.settle_headers.new.core c.commit_open.new.core (g.S.Shelf.meaning c.args.shelf.now) (g.S.Shelf.meaning c.settle_headers.new.shelf) (g.S.Shelf.meaning c.commit_open.new.shelf) c.settle_headers.ensures.finds
+    (before_ends c.commit_open.new.core (g.S.Shelf.meaning c.settle_headers.new.shelf) (g.S.Shelf.meaning c.copy_to.new.shelf) (g.S.Shelf.meaning c.commit_open.new.shelf) c.copy_to.ensures.less c.commit_open.ensures.finds)

@@ -6,6 +6,7 @@ use Rattle.vx_group.proofs.CallLemmas.{not_down}
 use Rattle.vx_group.proofs.MissLemmas.{blames_then}
 use Rattle.vx_group.proofs.FailingLemmas.{then_failing}
 use Rattle.vx_group.proofs.Standing.{some_active}
+use Rattle.vx_group.proofs.FindingLemmas.{ends_then}
 use Rattle.vx_group.proofs.attaching.commit_open.Goals as goal
 
 pub detach-requires-clause-left : goal.detach-requires-clause-left
@@ -46,3 +47,15 @@ pub returns-else-is_down-clause-cause : goal.returns-else-is_down-clause-cause
 returns-else-is_down-clause-cause g c =
     blames_then (Unit {0}) ℕ (g.S.Shelf.meaning c.args.shelf.now) (g.S.Shelf.meaning c.detach.new.shelf) (g.S.Shelf.meaning c.take_back.new.shelf) c.in-Err.error (c.in-Err.ensures.sure c.requires.more) (c.take_back.ensures.attaches None).acts.disk_faults (c.take_back.ensures.attaches None).acts.falls
     (not_down c.is_down.result (g.S.Shelf.meaning c.take_back.new.shelf).down c.is_down.ensures c.if-is_down.false)
+
+pub returns-in-Ok-clause-finds : goal.returns-in-Ok-clause-finds
+returns-in-Ok-clause-finds g c =
+    c.detach.ensures.finds
+
+pub returns-then-is_down-clause-finds : goal.returns-then-is_down-clause-finds
+returns-then-is_down-clause-finds g c =
+    ends_then c.detach.new.core c.take_back.new.core (g.S.Shelf.meaning c.args.shelf.now) (g.S.Shelf.meaning c.detach.new.shelf) (g.S.Shelf.meaning c.take_back.new.shelf) c.detach.ensures.finds c.take_back.ensures.finds
+
+pub returns-else-is_down-clause-finds : goal.returns-else-is_down-clause-finds
+returns-else-is_down-clause-finds g c =
+    ends_then c.detach.new.core c.take_back.new.core (g.S.Shelf.meaning c.args.shelf.now) (g.S.Shelf.meaning c.detach.new.shelf) (g.S.Shelf.meaning c.take_back.new.shelf) c.detach.ensures.finds c.take_back.ensures.finds

@@ -5,7 +5,7 @@ use Rattle.vx_model.specs.declared.site.PlexState.TheVariants.{Active}
 use Rattle.vx_config.specs.Checks.{is_sound}
 use Rattle.vx_config.specs.declared.config.Config.{Config}
 use Rattle.vx_volume.specs.Plexes.{DisksFit, active, uses}
-use Rattle.vx_group.proofs.AttachLemmas.{back_Stands, back_attaches, same_back, to_Stands, to_attaches}
+use Rattle.vx_group.proofs.AttachLemmas.{back_Stands, back_attaches, same_back, to_Stands, to_attaches, to_finds}
 use Rattle.vx_group.specs.Holding.{with_config}
 use Rattle.vx_group.proofs.MissLemmas.{count_by, knows_copied, misses_by, picked_goes, reach_by, refused_cause}
 use Rattle.vx_group.proofs.OpeningLemmas.{open_on, open_shape, open_sound, open_wider, present}
@@ -106,3 +106,11 @@ returns-in-Ok-clause-knows g c = λ up. knows_copied c.args.core.now.config c.ar
 
 pub returns-in-Err-clause-knows : goal.returns-in-Err-clause-knows
 returns-in-Err-clause-knows g c = λ up. knows_copied c.args.core.now.config c.args.vol c.args.source c.args.plex (option_copied c.args.fmr) (g.S.Shelf.meaning c.args.shelf.now) (present c.args.core.now.config c.args.vol c.args.plex c.requires.may) c.requires.knows c.set_state.new.self c.set_state.ensures.changed (sound_of c.args.core.now (g.S.Shelf.meaning c.args.shelf.now) c.requires.stands) (g.S.Shelf.meaning c.attach_from.new.shelf) c.attach_from.ensures.moved up
+
+pub returns-in-Ok-clause-less : goal.returns-in-Ok-clause-less
+returns-in-Ok-clause-less g c =
+    to_finds c.args.core.now c.args.vol c.args.plex (option_copied c.args.fmr) c.requires.may c.requires.off (g.S.Shelf.meaning c.args.shelf.now) (g.S.Shelf.meaning c.attach_from.new.shelf) (g.met.S.Shelf.lawful c.args.shelf.now) (g.met.S.Shelf.lawful c.attach_from.new.shelf) c.requires.stands c.set_state.new.self c.set_state.ensures.changed (picked_goes c.set_state.new.self c.args.vol c.args.source c.args.plex (option_copied c.args.fmr) (g.S.Shelf.meaning c.args.shelf.now) (g.S.Shelf.meaning c.attach_from.new.shelf) c.attach_from.ensures.moved)
+
+pub returns-in-Err-clause-less : goal.returns-in-Err-clause-less
+returns-in-Err-clause-less g c =
+    to_finds c.args.core.now c.args.vol c.args.plex (option_copied c.args.fmr) c.requires.may c.requires.off (g.S.Shelf.meaning c.args.shelf.now) (g.S.Shelf.meaning c.attach_from.new.shelf) (g.met.S.Shelf.lawful c.args.shelf.now) (g.met.S.Shelf.lawful c.attach_from.new.shelf) c.requires.stands c.set_state.new.self c.set_state.ensures.changed (picked_goes c.set_state.new.self c.args.vol c.args.source c.args.plex (option_copied c.args.fmr) (g.S.Shelf.meaning c.args.shelf.now) (g.S.Shelf.meaning c.attach_from.new.shelf) c.attach_from.ensures.moved)

@@ -7,6 +7,8 @@ use Rattle.vx_group.specs.Stands.{InnerStands}
 use Rattle.vx_group.specs.declared.inner.Inner.{Inner}
 use Rattle.vx_group.proofs.AttachLemmas.{then_attaches}
 use Rattle.vx_group.proofs.SourcesLemmas.{sources_all, sources_blame, sources_next, sources_start, tried_up}
+use Rattle.vx_kept.proofs.Findings.{then_from}
+use Rattle.vx_kept.specs.Finds.{NoConfiguration}
 use Rattle.vx_group.proofs.attaching.copy_to.Goals as goal
 
 pub loop-source-init : goal.loop-source-init
@@ -31,7 +33,7 @@ try_from-requires-clause-up g c =
 
 pub loop-source-preserved : goal.loop-source-preserved
 loop-source-preserved g c = (
-  sources_next c.args.core.now c.args.vol c.args.plex (option_copied c.args.fmr) c.loop-source.source c.loop-source.device (g.S.Shelf.meaning c.args.shelf.now) (g.S.Shelf.meaning c.loop-source.shelf) (g.S.Shelf.meaning c.try_from.new.shelf) c.loop-source.invariant.0 c.loop-source.core c.try_from.new.core c.loop-source.invariant.1 c.in-Err-Fault.ensures.same c.try_from.ensures.attaches c.in-Err-Fault.disk c.in-Err-Fault.field-0 c.in-Err-Fault.field-0-is c.try_from.ensures.stands c.in-Err-Fault.ensures.tried,
+  sources_next c.args.core.now c.args.vol c.args.plex (option_copied c.args.fmr) c.loop-source.source c.loop-source.device (g.S.Shelf.meaning c.args.shelf.now) (g.S.Shelf.meaning c.loop-source.shelf) (g.S.Shelf.meaning c.try_from.new.shelf) c.loop-source.invariant.0 c.loop-source.core c.try_from.new.core c.loop-source.invariant.1 c.in-Err-Fault.ensures.same c.try_from.ensures.attaches c.in-Err-Fault.disk c.in-Err-Fault.field-0 c.in-Err-Fault.field-0-is c.try_from.ensures.stands c.try_from.ensures.less c.in-Err-Fault.ensures.tried,
   c.in-Err-Fault.ensures.same ∙ c.loop-source.invariant.1,
   subst (λ (x : Inner). KnowsMissed x.config c.args.vol c.args.plex (option_copied c.args.fmr) (g.S.Shelf.meaning c.try_from.new.shelf)) c.loop-source.invariant.1
       (c.try_from.ensures.knows (tried_up c.loop-source.core.config c.args.vol c.loop-source.source c.args.plex c.loop-source.device c.in-Err-Fault.disk c.in-Err-Fault.field-0 (g.S.Shelf.meaning c.loop-source.shelf) (g.S.Shelf.meaning c.try_from.new.shelf) c.in-Err-Fault.field-0-is c.in-Err-Fault.ensures.tried)),
@@ -107,3 +109,15 @@ try_from-requires-clause-knows g c =
 
 pub returns-in-Ok-clause-count : goal.returns-in-Ok-clause-count
 returns-in-Ok-clause-count g c = c.in-Ok.ensures.count ∙ ap (λ (x : Inner). missed_regions x.config c.args.vol c.args.plex (option_copied c.args.fmr)) c.loop-source.invariant.1
+
+pub returns-in-Ok-clause-less : goal.returns-in-Ok-clause-less
+returns-in-Ok-clause-less g c =
+    then_from NoConfiguration (g.S.Shelf.meaning c.args.shelf.now) (g.S.Shelf.meaning c.loop-source.shelf) (g.S.Shelf.meaning c.try_from.new.shelf) c.loop-source.invariant.0.less c.try_from.ensures.less
+
+pub returns-in-Err-Down-clause-less : goal.returns-in-Err-Down-clause-less
+returns-in-Err-Down-clause-less g c =
+    then_from NoConfiguration (g.S.Shelf.meaning c.args.shelf.now) (g.S.Shelf.meaning c.loop-source.shelf) (g.S.Shelf.meaning c.try_from.new.shelf) c.loop-source.invariant.0.less c.try_from.ensures.less
+
+pub returns-clause-less : goal.returns-clause-less
+returns-clause-less g c =
+    c.loop-source.invariant.0.less

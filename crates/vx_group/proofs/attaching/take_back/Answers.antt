@@ -7,6 +7,7 @@ use Rattle.vx_group.proofs.DetLemmas.{bit_here, bit_only, left_volumes, on_volum
 use Rattle.vx_group.proofs.SourcesLemmas.{no_attaches}
 use Rattle.vx_group.proofs.FailingLemmas.{no_failing, then_failing}
 use Rattle.vx_group.proofs.Standing.{sound_of}
+use Rattle.vx_group.proofs.FindingLemmas.{behind_finds, none_finds}
 use Rattle.vx_group.proofs.attaching.take_back.Goals as goal
 use Rattle.vx_group.proofs.LoseLemmas.{but_parts}
 
@@ -62,3 +63,19 @@ returns-in-Err-detach-clause-failing g c =
 
 pub returns-then-is_down-clause-attaches : goal.returns-then-is_down-clause-attaches
 returns-then-is_down-clause-attaches g c = λ map. no_attaches c.args.vol c.args.plex map c.args.core.now (g.S.Shelf.meaning c.args.shelf.now) (g.met.S.Shelf.lawful c.args.shelf.now) c.requires.stands
+
+pub returns-then-is_down-clause-finds : goal.returns-then-is_down-clause-finds
+returns-then-is_down-clause-finds g c =
+    none_finds c.args.core.now (g.S.Shelf.meaning c.args.shelf.now)
+
+pub returns-in-Err-clause-finds : goal.returns-in-Err-clause-finds
+returns-in-Err-clause-finds g c =
+    c.settle_headers.ensures.finds
+
+pub returns-in-Ok-detach-clause-finds : goal.returns-in-Ok-detach-clause-finds
+returns-in-Ok-detach-clause-finds g c =
+    behind_finds c.args.core.now c.settle_headers.new.core c.detach.new.core (g.S.Shelf.meaning c.args.shelf.now) (g.S.Shelf.meaning c.settle_headers.new.shelf) (g.S.Shelf.meaning c.detach.new.shelf) c.settle_headers.ensures.finds c.detach.ensures.finds
+
+pub returns-in-Err-detach-clause-finds : goal.returns-in-Err-detach-clause-finds
+returns-in-Err-detach-clause-finds g c =
+    behind_finds c.args.core.now c.settle_headers.new.core c.detach.new.core (g.S.Shelf.meaning c.args.shelf.now) (g.S.Shelf.meaning c.settle_headers.new.shelf) (g.S.Shelf.meaning c.detach.new.shelf) c.settle_headers.ensures.finds c.detach.ensures.finds

@@ -2,6 +2,8 @@
 use Rattle.std.proofs.Common.{inl, refl, sym, ◌∙◌}
 use Rattle.std.specs.Option.{option_copied}
 use Rattle.vx_group.proofs.SourcesLemmas.{no_attaches, tried_by}
+use Rattle.vx_kept.proofs.Findings.{same_from}
+use Rattle.vx_kept.specs.Finds.{NoConfiguration}
 use Rattle.vx_group.proofs.attaching.try_from.Goals as goal
 
 pub returns-then-not-is_active-clause-attaches : goal.returns-then-not-is_active-clause-attaches
@@ -22,3 +24,7 @@ returns-clause-tried g c =
 
 pub returns-then-not-is_active-clause-knows : goal.returns-then-not-is_active-clause-knows
 returns-then-not-is_active-clause-knows g c = λ up. c.requires.knows
+
+pub returns-then-not-is_active-clause-less : goal.returns-then-not-is_active-clause-less
+returns-then-not-is_active-clause-less g c =
+    same_from NoConfiguration (g.S.Shelf.meaning c.args.shelf.now)

@@ -38,7 +38,7 @@ returns-clause-created g c =
     (still_large (g.S.Shelf.meaning c.prepare.new.shelf) (g.S.Shelf.meaning c.commit_first.new.shelf) c.commit_first.ensures.units c.commit_first.ensures.size large) c.commit_first.ensures.can c.commit_first.ensures.wanted
     (subst (λ (x : Config). Taken x x c.commit_first.new.config (g.S.Shelf.meaning c.prepare.new.shelf) (g.S.Shelf.meaning c.commit_first.new.shelf)) (ap (λ (vs : List VolumeEntry). empty_with c.args.site c.disks_of.result vs) c.new.ensures) c.in-Ok-commit_first.ensures.ends.0) c.in-Ok-commit_first.ensures.ends.1 c.good_of-good-2.ensures
     (c.in-Ok-commit_first.ensures.trusts c.is_committed-committed.result (λ is. ⊎_elim (λ was. absurd (let clash : false ≡ true = was in cc)) (λ all. all) (c.is_committed-committed.ensures.some is)))
-    (committed_or c.is_committed-committed.result c.commit_first.new.config.disks (λ off. (c.is_committed-committed.ensures.none off).1))
+    (committed_or c.is_committed-committed.result c.commit_first.new.config.disks (λ off. (c.is_committed-committed.ensures.none off).1)) refl
 
 pub returns-then-not-are_large-clause-same : goal.returns-then-not-are_large-clause-same
 returns-then-not-are_large-clause-same g c = same_units (g.S.Shelf.meaning c.args.shelf.now)

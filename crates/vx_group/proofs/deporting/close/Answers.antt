@@ -1,8 +1,9 @@
 -- `close`: clauses ends, cause and up; what `flush_volumes` and `commit_closed` ask.
 use Rattle.std.proofs.Common.{Err, arith}
 use Rattle.vx_group.proofs.DeportLemmas.{back_flushed, blames_stop, closes_later, settled_back, stops_later}
+use Rattle.vx_group.proofs.FindingLemmas.{then_finds}
 use Rattle.vx_group.proofs.deporting.close.Goals as goal
-use Rattle.vx_group.proofs.TrustLemmas.{ok_from}
+use Rattle.vx_group.proofs.TrustLemmas.{ok_from, err_from}
 
 pub flush_volumes-requires-clause-more : goal.flush_volumes-requires-clause-more
 flush_volumes-requires-clause-more g c = let same = c.settle_headers.ensures.serial in let less = c.requires.more in omega (arith, same, less)
@@ -36,3 +37,17 @@ returns-clause-cause g c = stops_later c.commit_closed.result (g.S.Shelf.meaning
 
 pub returns-clause-up : goal.returns-clause-up
 returns-clause-up g c = ok_from c.commit_closed.result (λ keeps. keeps c.in-Ok-flush_volumes.ensures.ends.up) c.commit_closed.ensures.up
+
+pub returns-in-Err-clause-finds : goal.returns-in-Err-clause-finds
+returns-in-Err-clause-finds g c =
+    c.settle_headers.ensures.finds
+
+pub returns-in-Err-flush_volumes-clause-finds : goal.returns-in-Err-flush_volumes-clause-finds
+returns-in-Err-flush_volumes-clause-finds g c =
+    then_finds c.args.core.now c.settle_headers.new.core c.flush_volumes.new.core (g.S.Shelf.meaning c.args.shelf.now) (g.S.Shelf.meaning c.settle_headers.new.shelf) (g.S.Shelf.meaning c.flush_volumes.new.shelf) c.settle_headers.ensures.finds c.flush_volumes.ensures.finds
+
+pub returns-clause-finds : goal.returns-clause-finds
+returns-clause-finds g c =
+    err_from c.commit_closed.result (λ last.
+    then_finds c.args.core.now c.flush_volumes.new.core c.commit_closed.new.core (g.S.Shelf.meaning c.args.shelf.now) (g.S.Shelf.meaning c.flush_volumes.new.shelf) (g.S.Shelf.meaning c.commit_closed.new.shelf)
+    (then_finds c.args.core.now c.settle_headers.new.core c.flush_volumes.new.core (g.S.Shelf.meaning c.args.shelf.now) (g.S.Shelf.meaning c.settle_headers.new.shelf) (g.S.Shelf.meaning c.flush_volumes.new.shelf) c.settle_headers.ensures.finds c.flush_volumes.ensures.finds) last) c.commit_closed.ensures.finds

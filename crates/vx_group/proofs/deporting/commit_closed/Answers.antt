@@ -12,6 +12,7 @@ use Rattle.vx_group.proofs.CallLemmas.{not_down}
 use Rattle.vx_group.proofs.DeportLemmas.{blames_stop, closed, given_back}
 use Rattle.vx_group.proofs.DetachLemmas.{stop_sure}
 use Rattle.vx_group.proofs.Standing.{kept_of, tidy_of}
+use Rattle.vx_group.proofs.FindingLemmas.{ends_finds, left_ends}
 use Rattle.vx_group.proofs.deporting.commit_closed.Goals as goal
 
 pub commit_clean-requires-clause-kept : goal.commit_clean-requires-clause-kept
@@ -40,3 +41,11 @@ returns-else-is_down-clause-cause g c =
     (stop_sure core.good a _ m new (subst (λ (ds : List DiskEntry). NoneGood ds (length ds) core.good → ⊥) (sym alike.disks) c.requires.stands.some)
     (not_down c.is_down.result new.down c.is_down.ensures c.if-is_down.false) c.in-Err.no 0
     (let same = alike.serial in let less = c.requires.more in omega (arith, same, less)) c.in-Err.ensures.ends.cause))
+
+pub returns-then-is_down-clause-finds : goal.returns-then-is_down-clause-finds
+returns-then-is_down-clause-finds g c =
+    ends_finds c.args.core.now _ (g.S.Shelf.meaning c.args.shelf.now) (g.S.Shelf.meaning c.commit_clean.new.shelf) (left_ends (cleaned c.args.core.now.unsure c.args.core.now.config (length c.args.core.now.config.volumes)) _ (g.S.Shelf.meaning c.args.shelf.now) (g.S.Shelf.meaning c.commit_clean.new.shelf) c.commit_clean.ensures.finds refl)
+
+pub returns-else-is_down-clause-finds : goal.returns-else-is_down-clause-finds
+returns-else-is_down-clause-finds g c =
+    ends_finds c.args.core.now _ (g.S.Shelf.meaning c.args.shelf.now) (g.S.Shelf.meaning c.commit_clean.new.shelf) (left_ends (cleaned c.args.core.now.unsure c.args.core.now.config (length c.args.core.now.config.volumes)) _ (g.S.Shelf.meaning c.args.shelf.now) (g.S.Shelf.meaning c.commit_clean.new.shelf) c.commit_clean.ensures.finds refl)

@@ -7,6 +7,8 @@ use Rattle.vx_group.specs.Stands.{inner_meaning}
 use Rattle.vx_group.proofs.BehindLemmas.{back_goes, behind_back, behind_deported, released_back}
 use Rattle.vx_group.proofs.HoldLemmas.{from_none, wide_none}
 use Rattle.vx_group.proofs.ThroughLemmas.{released_goes, through_goes}
+use Rattle.vx_group.proofs.FindingLemmas.{still_group}
+use Rattle.vx_group.proofs.FoundThrough.{second_finds}
 use Rattle.vx_group.proofs.deporting.deport_in.Goals as goal
 
 pub returns-in-Err-clause-ends : goal.returns-in-Err-clause-ends
@@ -40,3 +42,19 @@ returns-in-Err-close-clause-back g c =
     (released_goes c.args.core.now c.release.new.core (g.S.Shelf.meaning c.args.shelf.now) (g.S.Shelf.meaning c.release.new.shelf) c.requires.stands c.release.ensures.narrows c.release.ensures.volumes (g.met.S.Shelf.lawful c.release.new.shelf))
     (back_goes c.release.new.core.inner c.close.new.core (g.S.Shelf.meaning c.release.new.shelf) (g.S.Shelf.meaning c.close.new.shelf) (g.met.S.Shelf.lawful c.close.new.shelf)
     (from_none c.release.new.core (g.S.Shelf.meaning c.release.new.shelf) none c.release.ensures.stands) c.in-Err-close.ensures.ends)
+
+pub returns-then-core-clause-finds : goal.returns-then-core-clause-finds
+returns-then-core-clause-finds g c =
+    still_group c.args.core.now (g.S.Shelf.meaning c.args.shelf.now)
+
+pub returns-then-is_down-clause-finds : goal.returns-then-is_down-clause-finds
+returns-then-is_down-clause-finds g c =
+    still_group c.args.core.now (g.S.Shelf.meaning c.args.shelf.now)
+
+pub returns-in-Err-clause-finds : goal.returns-in-Err-clause-finds
+returns-in-Err-clause-finds g c =
+    c.release.ensures.finds
+
+pub returns-in-Err-close-clause-finds : goal.returns-in-Err-close-clause-finds
+returns-in-Err-close-clause-finds g c =
+    second_finds c.args.core.now c.release.new.core c.close.new.core (g.S.Shelf.meaning c.args.shelf.now) (g.S.Shelf.meaning c.release.new.shelf) (g.S.Shelf.meaning c.close.new.shelf) (c.in-Ok.ensures.done (let le = c.if-core.false in omega (arith, le))) c.release.ensures.finds c.in-Err-close.ensures.finds

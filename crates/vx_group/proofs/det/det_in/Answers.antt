@@ -8,6 +8,8 @@ use Rattle.vx_group.proofs.HoldLemmas.{det_other, from_none, none_Stands, wide_n
 use Rattle.vx_group.proofs.QuiesceLemmas.{both_parts}
 use Rattle.vx_group.proofs.ThroughLemmas.{released_active, released_goes, released_narrows, second_narrows, through_goes}
 use Rattle.vx_group.proofs.FailingLemmas.{then_failing}
+use Rattle.vx_group.proofs.FoundThrough.{second_finds}
+use Rattle.vx_group.proofs.FindingLemmas.{still_group}
 use Rattle.vx_group.proofs.det.det_in.Goals as goal
 
 pub returns-in-Err-clause-goes : goal.returns-in-Err-clause-goes
@@ -82,3 +84,29 @@ pub returns-in-Err-detach_plex-clause-disks : goal.returns-in-Err-detach_plex-cl
 returns-in-Err-detach_plex-clause-disks g c =
     then_failing (g.S.Shelf.meaning c.args.shelf.now) (g.S.Shelf.meaning c.release.new.shelf) (g.S.Shelf.meaning c.detach_plex.new.shelf) c.release.ensures.narrows.acts.faults c.detach_plex.ensures.narrows.acts.faults
     c.args.core.now.inner.config.disks c.release.new.core.inner.config.disks c.detach_plex.new.core.config.disks c.release.ensures.failing c.detach_plex.ensures.failing
+
+pub returns-in-Err-clause-finds : goal.returns-in-Err-clause-finds
+returns-in-Err-clause-finds g c =
+    c.release.ensures.finds
+
+pub returns-in-Ok-detach_plex-clause-finds : goal.returns-in-Ok-detach_plex-clause-finds
+returns-in-Ok-detach_plex-clause-finds g c =
+    second_finds c.args.core.now c.release.new.core c.detach_plex.new.core (g.S.Shelf.meaning c.args.shelf.now) (g.S.Shelf.meaning c.release.new.shelf) (g.S.Shelf.meaning c.detach_plex.new.shelf) (c.in-Ok.ensures.done (may_serial c.args.core.now.inner.config c.args.vol c.args.plex (sym c.refuse_det.ensures ∙ c.in_default.is)))
+    c.release.ensures.finds c.detach_plex.ensures.finds
+
+pub returns-in-Err-detach_plex-clause-finds : goal.returns-in-Err-detach_plex-clause-finds
+returns-in-Err-detach_plex-clause-finds g c =
+    second_finds c.args.core.now c.release.new.core c.detach_plex.new.core (g.S.Shelf.meaning c.args.shelf.now) (g.S.Shelf.meaning c.release.new.shelf) (g.S.Shelf.meaning c.detach_plex.new.shelf) (c.in-Ok.ensures.done (may_serial c.args.core.now.inner.config c.args.vol c.args.plex (sym c.refuse_det.ensures ∙ c.in_default.is)))
+    c.release.ensures.finds c.detach_plex.ensures.finds
+
+pub returns-in-Some-clause-finds : goal.returns-in-Some-clause-finds
+returns-in-Some-clause-finds g c =
+    still_group c.args.core.now (g.S.Shelf.meaning c.args.shelf.now)
+
+pub returns-then-not-is_active-clause-finds : goal.returns-then-not-is_active-clause-finds
+returns-then-not-is_active-clause-finds g c =
+    still_group c.args.core.now (g.S.Shelf.meaning c.args.shelf.now)
+
+pub returns-then-is_down-clause-finds : goal.returns-then-is_down-clause-finds
+returns-then-is_down-clause-finds g c =
+    still_group c.args.core.now (g.S.Shelf.meaning c.args.shelf.now)

@@ -12,6 +12,7 @@ use Rattle.vx_group.proofs.FailingLemmas.{failing_from, few_serial, no_failing}
 use Rattle.vx_group.proofs.GiveLemmas.{keeps_volumes, none_changed}
 use Rattle.vx_group.proofs.Standing.{kept_of, tidy_of}
 use Rattle.vx_group.proofs.TrustLemmas.{committed_or, stays_committed}
+use Rattle.vx_group.proofs.FindingLemmas.{done_ends, left_ends}
 use Rattle.vx_group.proofs.detaching.detach_named.Goals as goal
 
 pub commit_stale-requires-clause-kept : goal.commit_stale-requires-clause-kept
@@ -158,3 +159,19 @@ returns-else-is_down-2-clause-kept g c = inl c.in-Err.ensures.ends.volumes
 
 pub returns-else-is_down-clause-whole : goal.returns-else-is_down-clause-whole
 returns-else-is_down-clause-whole g c = committed_or c.is_committed-core.result c.commit_stale.new.config.disks (λ is. (c.is_committed-core.ensures.none is).1)
+
+pub returns-then-is_down-clause-finds : goal.returns-then-is_down-clause-finds
+returns-then-is_down-clause-finds g c =
+    done_ends (staled c.args.vol c.args.failed.set c.args.core.now.config 8) _ (g.S.Shelf.meaning c.args.shelf.now) (g.S.Shelf.meaning c.commit_stale.new.shelf) c.commit_stale.ensures.finds c.requires.settled (record { finds = c.in-Ok.ensures.ends.finds })
+
+pub returns-else-is_down-clause-finds : goal.returns-else-is_down-clause-finds
+returns-else-is_down-clause-finds g c =
+    done_ends (staled c.args.vol c.args.failed.set c.args.core.now.config 8) _ (g.S.Shelf.meaning c.args.shelf.now) (g.S.Shelf.meaning c.commit_stale.new.shelf) c.commit_stale.ensures.finds c.requires.settled (record { finds = c.in-Ok.ensures.ends.finds })
+
+pub returns-then-is_down-2-clause-finds : goal.returns-then-is_down-2-clause-finds
+returns-then-is_down-2-clause-finds g c =
+    left_ends (staled c.args.vol c.args.failed.set c.args.core.now.config 8) _ (g.S.Shelf.meaning c.args.shelf.now) (g.S.Shelf.meaning c.commit_stale.new.shelf) c.commit_stale.ensures.finds refl
+
+pub returns-else-is_down-2-clause-finds : goal.returns-else-is_down-2-clause-finds
+returns-else-is_down-2-clause-finds g c =
+    left_ends (staled c.args.vol c.args.failed.set c.args.core.now.config 8) _ (g.S.Shelf.meaning c.args.shelf.now) (g.S.Shelf.meaning c.commit_stale.new.shelf) c.commit_stale.ensures.finds refl

@@ -12,6 +12,8 @@ use Rattle.vx_group.proofs.TrustLemmas.{ok_from}
 use Rattle.vx_config.specs.declared.config.Config.{Config}
 use Rattle.vx_kept.proofs.PlexActing.{none_PlexActs}
 use Rattle.vx_group.proofs.ActsLemmas.{narrow_PlexActs, through_PlexActs}
+use Rattle.vx_group.proofs.FindingLemmas.{still_group, as_finds}
+use Rattle.vx_group.proofs.FoundThrough.{through_finds}
 use Rattle.vx_group.proofs.flushing.flush_group.Goals as goal
 
 pub returns-in-Err-clause-goes : goal.returns-in-Err-clause-goes
@@ -75,3 +77,20 @@ pub returns-clause-acts : goal.returns-clause-acts
 returns-clause-acts g c =
     through_PlexActs (λ (k : Config). Nothing) c.args.core.now c.release.new.core c.close_held.new.core c.open_held-held.new.core.inner c.flush_in-result.new.core (g.S.Shelf.meaning c.args.shelf.now) (g.S.Shelf.meaning c.release.new.shelf) (g.S.Shelf.meaning c.flush_in-result.new.shelf) c.open_held-held.ensures.inner (new_wide c.args.core.now c.release.new.core (record { inner = c.flush_in-result.new.core; held = c.open_held-held.new.core.held }) c.close_held.new.core c.open_held-held.new.core.inner (g.S.Shelf.meaning c.args.shelf.now) (g.S.Shelf.meaning c.release.new.shelf) (g.S.Shelf.meaning c.flush_in-result.new.shelf) c.requires.stands c.release.ensures.stands c.release.ensures.narrows c.release.ensures.volumes c.open_held-held.result c.open_held-held.ensures.held c.open_held-held.ensures.inner c.open_held-held.ensures.none c.close_held.ensures)
     c.release.ensures.narrows (λ u b x none. none) c.flush_in-result.ensures.acts
+
+pub returns-then-is_down-clause-finds : goal.returns-then-is_down-clause-finds
+returns-then-is_down-clause-finds g c =
+    still_group c.args.core.now (g.S.Shelf.meaning c.args.shelf.now)
+
+pub returns-in-Err-clause-finds : goal.returns-in-Err-clause-finds
+returns-in-Err-clause-finds g c =
+    record {
+      core = as_finds (wide c.args.core.now) (wide c.release.new.core) _ (g.S.Shelf.meaning c.args.shelf.now) (g.S.Shelf.meaning c.release.new.shelf) refl refl refl c.release.ensures.finds.core;
+      free = c.release.ensures.finds.free;
+    }
+
+pub returns-clause-finds : goal.returns-clause-finds
+returns-clause-finds g c =
+    through_finds c.args.core.now c.release.new.core (record { inner = c.flush_in-result.new.core; held = c.open_held-held.new.core.held }) c.close_held.new.core c.open_held-held.new.core.inner c.flush_in-result.new.core (g.S.Shelf.meaning c.args.shelf.now) (g.S.Shelf.meaning c.release.new.shelf) (g.S.Shelf.meaning c.flush_in-result.new.shelf) c.open_held-held.ensures.inner
+    (new_wide c.args.core.now c.release.new.core (record { inner = c.flush_in-result.new.core; held = c.open_held-held.new.core.held }) c.close_held.new.core c.open_held-held.new.core.inner (g.S.Shelf.meaning c.args.shelf.now) (g.S.Shelf.meaning c.release.new.shelf) (g.S.Shelf.meaning c.flush_in-result.new.shelf) c.requires.stands c.release.ensures.stands c.release.ensures.narrows c.release.ensures.volumes c.open_held-held.result c.open_held-held.ensures.held c.open_held-held.ensures.inner c.open_held-held.ensures.none c.close_held.ensures)
+    c.open_held-held.result c.open_held-held.ensures.held c.open_held-held.ensures.none c.close_held.ensures c.release.ensures.finds c.flush_in-result.ensures.finds

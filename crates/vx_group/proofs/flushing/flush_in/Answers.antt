@@ -9,6 +9,7 @@ use Rattle.vx_group.proofs.GiveLemmas.{later_gives, ready_gives, same_gives}
 use Rattle.vx_group.proofs.CallLemmas.{blames_later, cause_by, counts_less, narrows_Goes, not_down, nothing_Flushed, raised_Goes}
 use Rattle.vx_kept.proofs.PlexActing.{none_PlexActs}
 use Rattle.vx_group.proofs.ActsLemmas.{narrow_PlexActs, then_PlexActs}
+use Rattle.vx_group.proofs.FindingLemmas.{as_finds, none_finds, then_finds}
 use Rattle.vx_group.proofs.flushing.flush_in.Goals as goal
 
 pub returns-in-Err-clause-goes : goal.returns-in-Err-clause-goes
@@ -96,3 +97,20 @@ pub returns-in-Err-flush_plexes-clause-acts : goal.returns-in-Err-flush_plexes-c
 returns-in-Err-flush_plexes-clause-acts g c =
     then_PlexActs Nothing c.args.core.now c.make_ready.new.core c.flush_plexes.new.core (g.S.Shelf.meaning c.args.shelf.now) (g.S.Shelf.meaning c.make_ready.new.shelf) (g.S.Shelf.meaning c.flush_plexes.new.shelf)
     (narrow_PlexActs Nothing c.args.core.now c.make_ready.new.core (g.S.Shelf.meaning c.args.shelf.now) (g.S.Shelf.meaning c.make_ready.new.shelf) c.make_ready.ensures.narrows) c.flush_plexes.ensures.narrows
+
+pub returns-then-is_down-clause-finds : goal.returns-then-is_down-clause-finds
+returns-then-is_down-clause-finds g c =
+    none_finds c.args.core.now (g.S.Shelf.meaning c.args.shelf.now)
+
+pub returns-in-Err-clause-finds : goal.returns-in-Err-clause-finds
+returns-in-Err-clause-finds g c =
+    as_finds c.args.core.now c.make_ready.new.core _ (g.S.Shelf.meaning c.args.shelf.now) (g.S.Shelf.meaning c.make_ready.new.shelf) refl refl refl c.make_ready.ensures.finds
+
+pub returns-in-Ok-flush_plexes-clause-finds : goal.returns-in-Ok-flush_plexes-clause-finds
+returns-in-Ok-flush_plexes-clause-finds g c =
+    then_finds c.args.core.now c.make_ready.new.core c.flush_plexes.new.core (g.S.Shelf.meaning c.args.shelf.now) (g.S.Shelf.meaning c.make_ready.new.shelf) (g.S.Shelf.meaning c.flush_plexes.new.shelf) c.make_ready.ensures.finds c.flush_plexes.ensures.finds
+
+pub returns-in-Err-flush_plexes-clause-finds : goal.returns-in-Err-flush_plexes-clause-finds
+returns-in-Err-flush_plexes-clause-finds g c =
+    as_finds c.args.core.now c.flush_plexes.new.core _ (g.S.Shelf.meaning c.args.shelf.now) (g.S.Shelf.meaning c.flush_plexes.new.shelf) refl refl refl
+    (then_finds c.args.core.now c.make_ready.new.core c.flush_plexes.new.core (g.S.Shelf.meaning c.args.shelf.now) (g.S.Shelf.meaning c.make_ready.new.shelf) (g.S.Shelf.meaning c.flush_plexes.new.shelf) c.make_ready.ensures.finds c.flush_plexes.ensures.finds)

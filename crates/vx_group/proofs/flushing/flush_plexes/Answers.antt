@@ -10,7 +10,8 @@ use Rattle.vx_group.proofs.DetachLemmas.{zero_bit}
 use Rattle.vx_group.specs.GivesUp.{GivesUp}
 use Rattle.vx_group.proofs.GiveLemmas.{detach_gives, ends_gives}
 use Rattle.vx_group.proofs.Standing.{fit_of, some_active}
-use Rattle.vx_group.proofs.WriteLemmas.{no_commit, flushed_Goes, flushed_Stands, flushed_Flushed, flushed_Narrows, flushed_all}
+use Rattle.vx_group.proofs.WriteLemmas.{no_commit, flushed_Goes, flushed_Stands, flushed_Flushed, flushed_Narrows, flushed_all, flushed_finds}
+use Rattle.vx_group.proofs.FindingLemmas.{stays_finds, before_ends, ends_finds}
 use Rattle.vx_group.proofs.flushing.flush_plexes.Goals as goal
 
 pub flush_all-requires-clause-some : goal.flush_all-requires-clause-some
@@ -112,3 +113,23 @@ returns-else-core-clause-gave_up g c = detach_gives c.args.vol c.args.core.now c
 
 pub returns-in-Err-clause-gave_up : goal.returns-in-Err-clause-gave_up
 returns-in-Err-clause-gave_up g c = subst (λ (e : ShelfError). GivesUp {T = Unit {0}} c.args.vol c.args.core.now c.args.core.now (g.S.Shelf.meaning c.args.shelf.now) (g.S.Shelf.meaning c.flush_all.new.shelf) (Err e)) (sym c.fault_of.ensures) (ends_gives c.args.vol c.args.core.now (λ p. PlexFlushed c.args.core.now.config c.args.vol p (g.S.Shelf.meaning c.args.shelf.now) (g.S.Shelf.meaning c.flush_all.new.shelf)) (g.S.Shelf.meaning c.args.shelf.now) (g.S.Shelf.meaning c.flush_all.new.shelf) c.in-Err.no 0 c.in-Err.ensures.ends)
+
+pub returns-then-failed-eq0-clause-finds : goal.returns-then-failed-eq0-clause-finds
+returns-then-failed-eq0-clause-finds g c =
+    stays_finds c.args.core.now c.args.core.now (g.S.Shelf.meaning c.args.shelf.now) (g.S.Shelf.meaning c.flush_all.new.shelf) refl refl refl
+    (flushed_finds c.args.core.now c.args.vol (g.S.Shelf.meaning c.args.shelf.now) (g.S.Shelf.meaning c.flush_all.new.shelf) (g.met.S.Shelf.lawful c.args.shelf.now) (g.met.S.Shelf.lawful c.flush_all.new.shelf) c.requires.stands c.flush_all.ensures.goes)
+
+pub returns-then-core-clause-finds : goal.returns-then-core-clause-finds
+returns-then-core-clause-finds g c =
+    stays_finds c.args.core.now c.args.core.now (g.S.Shelf.meaning c.args.shelf.now) (g.S.Shelf.meaning c.flush_all.new.shelf) refl refl refl
+    (flushed_finds c.args.core.now c.args.vol (g.S.Shelf.meaning c.args.shelf.now) (g.S.Shelf.meaning c.flush_all.new.shelf) (g.met.S.Shelf.lawful c.args.shelf.now) (g.met.S.Shelf.lawful c.flush_all.new.shelf) c.requires.stands c.flush_all.ensures.goes)
+
+pub returns-in-Err-clause-finds : goal.returns-in-Err-clause-finds
+returns-in-Err-clause-finds g c =
+    stays_finds c.args.core.now c.args.core.now (g.S.Shelf.meaning c.args.shelf.now) (g.S.Shelf.meaning c.flush_all.new.shelf) refl refl refl
+    (flushed_finds c.args.core.now c.args.vol (g.S.Shelf.meaning c.args.shelf.now) (g.S.Shelf.meaning c.flush_all.new.shelf) (g.met.S.Shelf.lawful c.args.shelf.now) (g.met.S.Shelf.lawful c.flush_all.new.shelf) c.requires.stands c.flush_all.ensures.goes)
+
+pub returns-else-core-clause-finds : goal.returns-else-core-clause-finds
+returns-else-core-clause-finds g c =
+    ends_finds c.args.core.now c.detach.new.core (g.S.Shelf.meaning c.args.shelf.now) (g.S.Shelf.meaning c.detach.new.shelf) (before_ends c.detach.new.core (g.S.Shelf.meaning c.args.shelf.now) (g.S.Shelf.meaning c.flush_all.new.shelf) (g.S.Shelf.meaning c.detach.new.shelf)
+    (flushed_finds c.args.core.now c.args.vol (g.S.Shelf.meaning c.args.shelf.now) (g.S.Shelf.meaning c.flush_all.new.shelf) (g.met.S.Shelf.lawful c.args.shelf.now) (g.met.S.Shelf.lawful c.flush_all.new.shelf) c.requires.stands c.flush_all.ensures.goes) c.detach.ensures.finds)

@@ -7,6 +7,7 @@ use Rattle.vx_group.proofs.GiveLemmas.{keeps_volumes}
 use Rattle.vx_group.proofs.LoseLemmas.{but_parts, then_parts}
 use Rattle.vx_group.proofs.LostLemmas.{later_keeps, left_plexes}
 use Rattle.vx_group.proofs.TrustLemmas.{err_from, ok_from}
+use Rattle.vx_group.proofs.FindingLemmas.{behind_finds}
 use Rattle.vx_group.proofs.losing.lose_log.Goals as goal
 
 pub lose_settled-requires-clause-more : goal.lose_settled-requires-clause-more
@@ -67,3 +68,7 @@ returns-in-Err-clause-parts g c = but_parts c.args.core.now.config c.settle_head
 
 pub returns-clause-parts : goal.returns-clause-parts
 returns-clause-parts g c = then_parts c.args.core.now.config c.settle_headers.new.core.config c.lose_settled.new.core.config (but_parts c.args.core.now.config c.settle_headers.new.core.config c.settle_headers.ensures.same) c.lose_settled.ensures.parts
+
+pub returns-clause-finds : goal.returns-clause-finds
+returns-clause-finds g c =
+    behind_finds c.args.core.now c.settle_headers.new.core c.lose_settled.new.core (g.S.Shelf.meaning c.args.shelf.now) (g.S.Shelf.meaning c.settle_headers.new.shelf) (g.S.Shelf.meaning c.lose_settled.new.shelf) c.settle_headers.ensures.finds c.lose_settled.ensures.finds

@@ -11,6 +11,7 @@ use Rattle.vx_group.proofs.GiveLemmas.{keeps_volumes}
 use Rattle.vx_group.proofs.LostLemmas.{gone_Narrows, gone_Stands, gone_off, gone_others, gone_plexes, left_plexes}
 use Rattle.vx_group.proofs.Standing.{kept_of, tidy_of}
 use Rattle.vx_group.proofs.TrustLemmas.{stays_committed}
+use Rattle.vx_group.proofs.FindingLemmas.{done_ends, left_ends}
 use Rattle.vx_group.proofs.losing.lose_settled.Goals as goal
 
 pub commit_lost-requires-clause-kept : goal.commit_lost-requires-clause-kept
@@ -142,3 +143,19 @@ returns-else-is_down-clause-parts g c = record { site = c.in-Ok.ensures.ends.gro
 
 pub returns-else-is_down-2-clause-parts : goal.returns-else-is_down-2-clause-parts
 returns-else-is_down-2-clause-parts g c = record { site = c.in-Err.ensures.ends.site; rvg = c.in-Err.ensures.ends.rvg; count = ap length c.in-Err.ensures.ends.disks }
+
+pub returns-then-is_down-clause-finds : goal.returns-then-is_down-clause-finds
+returns-then-is_down-clause-finds g c =
+    done_ends (lost c.args.vol c.args.log true c.args.core.now.config) _ (g.S.Shelf.meaning c.args.shelf.now) (g.S.Shelf.meaning c.commit_lost.new.shelf) c.commit_lost.ensures.finds c.requires.settled (record { finds = c.in-Ok.ensures.ends.finds })
+
+pub returns-else-is_down-clause-finds : goal.returns-else-is_down-clause-finds
+returns-else-is_down-clause-finds g c =
+    done_ends (lost c.args.vol c.args.log true c.args.core.now.config) _ (g.S.Shelf.meaning c.args.shelf.now) (g.S.Shelf.meaning c.commit_lost.new.shelf) c.commit_lost.ensures.finds c.requires.settled (record { finds = c.in-Ok.ensures.ends.finds })
+
+pub returns-then-is_down-2-clause-finds : goal.returns-then-is_down-2-clause-finds
+returns-then-is_down-2-clause-finds g c =
+    left_ends (lost c.args.vol c.args.log true c.args.core.now.config) _ (g.S.Shelf.meaning c.args.shelf.now) (g.S.Shelf.meaning c.commit_lost.new.shelf) c.commit_lost.ensures.finds refl
+
+pub returns-else-is_down-2-clause-finds : goal.returns-else-is_down-2-clause-finds
+returns-else-is_down-2-clause-finds g c =
+    left_ends (lost c.args.vol c.args.log true c.args.core.now.config) _ (g.S.Shelf.meaning c.args.shelf.now) (g.S.Shelf.meaning c.commit_lost.new.shelf) c.commit_lost.ensures.finds refl

@@ -15,6 +15,8 @@ use Rattle.vx_group.proofs.CallLemmas.{cause_by, counts_less, narrows_Goes, not_
 use Rattle.vx_group.proofs.LoseLemmas.{loses_none, loses_same}
 use Rattle.vx_group.proofs.LostLemmas.{error_to, if_ok_from}
 use Rattle.vx_group.proofs.ThroughLemmas.{new_Stands, new_wide, released_goes, through_cause, through_goes, through_loses, through_still}
+use Rattle.vx_group.proofs.FindingLemmas.{still_group, as_finds}
+use Rattle.vx_group.proofs.FoundThrough.{through_finds}
 use Rattle.vx_group.proofs.losing_group.lose_group.Goals as goal
 
 pub returns-in-Err-clause-goes : goal.returns-in-Err-clause-goes
@@ -86,3 +88,20 @@ pub returns-clause-still : goal.returns-clause-still
 returns-clause-still g c = λ none.
     through_still c.args.core.now c.release.new.core (record { inner = c.lose_in-result.new.core; held = c.open_held-held.new.core.held }) c.close_held.new.core c.open_held-held.new.core.inner c.open_held-held.result none (c.release.ensures.none none).0 c.open_held-held.ensures.held c.open_held-held.ensures.inner c.close_held.ensures
     c.lose_in-result.ensures.plexes
+
+pub returns-then-is_down-clause-finds : goal.returns-then-is_down-clause-finds
+returns-then-is_down-clause-finds g c =
+    still_group c.args.core.now (g.S.Shelf.meaning c.args.shelf.now)
+
+pub returns-in-Err-clause-finds : goal.returns-in-Err-clause-finds
+returns-in-Err-clause-finds g c =
+    record {
+      core = as_finds (wide c.args.core.now) (wide c.release.new.core) _ (g.S.Shelf.meaning c.args.shelf.now) (g.S.Shelf.meaning c.release.new.shelf) refl refl refl c.release.ensures.finds.core;
+      free = c.release.ensures.finds.free;
+    }
+
+pub returns-clause-finds : goal.returns-clause-finds
+returns-clause-finds g c =
+    through_finds c.args.core.now c.release.new.core (record { inner = c.lose_in-result.new.core; held = c.open_held-held.new.core.held }) c.close_held.new.core c.open_held-held.new.core.inner c.lose_in-result.new.core (g.S.Shelf.meaning c.args.shelf.now) (g.S.Shelf.meaning c.release.new.shelf) (g.S.Shelf.meaning c.lose_in-result.new.shelf) c.open_held-held.ensures.inner
+    (new_wide c.args.core.now c.release.new.core (record { inner = c.lose_in-result.new.core; held = c.open_held-held.new.core.held }) c.close_held.new.core c.open_held-held.new.core.inner (g.S.Shelf.meaning c.args.shelf.now) (g.S.Shelf.meaning c.release.new.shelf) (g.S.Shelf.meaning c.lose_in-result.new.shelf) c.requires.stands c.release.ensures.stands c.release.ensures.narrows c.release.ensures.volumes c.open_held-held.result c.open_held-held.ensures.held c.open_held-held.ensures.inner c.open_held-held.ensures.none c.close_held.ensures)
+    c.open_held-held.result c.open_held-held.ensures.held c.open_held-held.ensures.none c.close_held.ensures c.release.ensures.finds c.lose_in-result.ensures.finds

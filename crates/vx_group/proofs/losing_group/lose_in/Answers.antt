@@ -8,6 +8,7 @@ use Rattle.vx_group.proofs.ActsLemmas.{narrow_PlexActs}
 use Rattle.vx_group.proofs.CallLemmas.{cause_by, counts_less, narrows_Goes, not_down}
 use Rattle.vx_group.proofs.LoseLemmas.{loses_plexes, loses_same}
 use Rattle.vx_group.proofs.LostLemmas.{error_to}
+use Rattle.vx_group.proofs.FindingLemmas.{as_finds, none_finds}
 use Rattle.vx_group.proofs.losing_group.lose_in.Goals as goal
 
 pub returns-then-is_down-clause-acts : goal.returns-then-is_down-clause-acts
@@ -65,3 +66,19 @@ returns-then-is_down-clause-plexes g c = λ w p. refl
 
 pub returns-then-core-ge-MOST_NUMBER-clause-plexes : goal.returns-then-core-ge-MOST_NUMBER-clause-plexes
 returns-then-core-ge-MOST_NUMBER-clause-plexes g c = λ w p. refl
+
+pub returns-then-is_down-clause-finds : goal.returns-then-is_down-clause-finds
+returns-then-is_down-clause-finds g c =
+    none_finds c.args.core.now (g.S.Shelf.meaning c.args.shelf.now)
+
+pub returns-then-core-ge-MOST_NUMBER-clause-finds : goal.returns-then-core-ge-MOST_NUMBER-clause-finds
+returns-then-core-ge-MOST_NUMBER-clause-finds g c =
+    none_finds c.args.core.now (g.S.Shelf.meaning c.args.shelf.now)
+
+pub returns-in-Ok-clause-finds : goal.returns-in-Ok-clause-finds
+returns-in-Ok-clause-finds g c =
+    c.lose_log.ensures.finds
+
+pub returns-in-Err-clause-finds : goal.returns-in-Err-clause-finds
+returns-in-Err-clause-finds g c =
+    as_finds c.args.core.now c.lose_log.new.core _ (g.S.Shelf.meaning c.args.shelf.now) (g.S.Shelf.meaning c.lose_log.new.shelf) refl refl refl c.lose_log.ensures.finds

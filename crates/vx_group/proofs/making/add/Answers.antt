@@ -6,6 +6,7 @@ use Rattle.vx_group.proofs.DeportLemmas.{blames_stop, stops_later}
 use Rattle.vx_group.proofs.LoseLemmas.{but_parts, then_parts}
 use Rattle.vx_group.proofs.MakeLemmas.{begun_behind, later_adds, later_next, later_stay, nothing_beside, settled_stay}
 use Rattle.vx_group.proofs.FailingLemmas.{then_failing}
+use Rattle.vx_group.proofs.FindingLemmas.{then_finds}
 use Rattle.vx_group.proofs.making.add.Goals as goal
 
 pub returns-in-Err-clause-stays : goal.returns-in-Err-clause-stays
@@ -58,3 +59,11 @@ pub returns-clause-disks : goal.returns-clause-disks
 returns-clause-disks g c =
     then_failing (g.S.Shelf.meaning c.args.shelf.now) (g.S.Shelf.meaning c.settle_headers.new.shelf) (g.S.Shelf.meaning c.add_last.new.shelf) c.settle_headers.ensures.narrows.acts.faults c.add_last.ensures.beside.faults
     c.args.core.now.config.disks c.settle_headers.new.core.config.disks c.add_last.new.core.config.disks c.settle_headers.ensures.failing c.add_last.ensures.disks
+
+pub returns-in-Err-clause-finds : goal.returns-in-Err-clause-finds
+returns-in-Err-clause-finds g c =
+    c.settle_headers.ensures.finds
+
+pub returns-clause-finds : goal.returns-clause-finds
+returns-clause-finds g c =
+    then_finds c.args.core.now c.settle_headers.new.core c.add_last.new.core (g.S.Shelf.meaning c.args.shelf.now) (g.S.Shelf.meaning c.settle_headers.new.shelf) (g.S.Shelf.meaning c.add_last.new.shelf) c.settle_headers.ensures.finds c.add_last.ensures.finds

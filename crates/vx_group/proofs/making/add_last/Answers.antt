@@ -5,7 +5,7 @@ use Rattle.vx_disk.specs.declared.shelf.ShelfError.{ShelfError}
 use Rattle.vx_volume.specs.Plexes.{SomeActive}
 use Rattle.vx_group.specs.Blames.{StopsByDevice, fault_of as fault_is}
 use Rattle.vx_group.specs.Makes.{AreZero, ZerosOn}
-use Rattle.vx_group.proofs.AddLemmas.{added, added_Stands, added_stay, missed_Stands, missed_blames, missed_stay, next_can, next_count, next_fit, next_follows, next_on, next_some, next_tidy, next_wanted, whole_beside, zero_Stands, zero_beside, zero_stay}
+use Rattle.vx_group.proofs.AddLemmas.{added, added_Stands, added_stay, missed_Stands, missed_blames, missed_stay, next_can, next_count, next_fit, next_follows, next_on, next_some, next_tidy, next_wanted, whole_beside, zero_Stands, zero_beside, zero_stay, zero_finds}
 use Rattle.vx_group.proofs.CallLemmas.{not_down}
 use Rattle.vx_group.proofs.DeportLemmas.{blames_stop, stops_later}
 use Rattle.vx_group.proofs.LoseLemmas.{grown_parts, none_parts, then_parts}
@@ -14,6 +14,7 @@ use Rattle.vx_group.proofs.Standing.{kept_of, still_large}
 use Rattle.vx_group.proofs.TrustLemmas.{committed_or}
 use Rattle.vx_config.specs.declared.config.Config.{Config}
 use Rattle.vx_group.proofs.FailingLemmas.{no_failing, then_failing}
+use Rattle.vx_group.proofs.FindingLemmas.{before_ends, done_ends, ends_finds, left_ends, stays_finds}
 use Rattle.vx_group.proofs.making.add_last.Goals as goal
 
 pub zero_volume-requires-clause-checked : goal.zero_volume-requires-clause-checked
@@ -147,3 +148,26 @@ returns-then-is_down-clause-disks g c = no_failing (g.S.Shelf.meaning c.args.she
 
 pub returns-else-is_down-clause-disks : goal.returns-else-is_down-clause-disks
 returns-else-is_down-clause-disks g c = no_failing (g.S.Shelf.meaning c.args.shelf.now) (g.S.Shelf.meaning c.commit_next.new.shelf) c.args.core.now.config.disks c.args.core.now.config.disks refl
+
+pub returns-in-Err-clause-finds : goal.returns-in-Err-clause-finds
+returns-in-Err-clause-finds g c =
+    stays_finds c.args.core.now c.args.core.now (g.S.Shelf.meaning c.args.shelf.now) (g.S.Shelf.meaning c.zero_volume.new.shelf) refl refl refl
+    (zero_finds c.args.core.now c.args.next (g.S.Shelf.meaning c.args.shelf.now) c.requires.stands c.requires.is_next (g.S.Shelf.meaning c.zero_volume.new.shelf) (g.met.S.Shelf.lawful c.args.shelf.now) (g.met.S.Shelf.lawful c.zero_volume.new.shelf) (subst (λ (k : ℕ). Goes (ZerosOn c.args.next k) (g.S.Shelf.meaning c.args.shelf.now) (g.S.Shelf.meaning c.zero_volume.new.shelf)) (ap length c.as_slice.ensures.volumes) c.zero_volume.ensures.goes))
+
+pub returns-in-Ok-commit_next-clause-finds : goal.returns-in-Ok-commit_next-clause-finds
+returns-in-Ok-commit_next-clause-finds g c =
+    ends_finds c.args.core.now _ (g.S.Shelf.meaning c.args.shelf.now) (g.S.Shelf.meaning c.commit_next.new.shelf) (before_ends _ (g.S.Shelf.meaning c.args.shelf.now) (g.S.Shelf.meaning c.zero_volume.new.shelf) (g.S.Shelf.meaning c.commit_next.new.shelf)
+    (zero_finds c.args.core.now c.args.next (g.S.Shelf.meaning c.args.shelf.now) c.requires.stands c.requires.is_next (g.S.Shelf.meaning c.zero_volume.new.shelf) (g.met.S.Shelf.lawful c.args.shelf.now) (g.met.S.Shelf.lawful c.zero_volume.new.shelf) (subst (λ (k : ℕ). Goes (ZerosOn c.args.next k) (g.S.Shelf.meaning c.args.shelf.now) (g.S.Shelf.meaning c.zero_volume.new.shelf)) (ap length c.as_slice.ensures.volumes) c.zero_volume.ensures.goes))
+    (done_ends c.args.next _ (g.S.Shelf.meaning c.zero_volume.new.shelf) (g.S.Shelf.meaning c.commit_next.new.shelf) c.commit_next.ensures.finds c.requires.settled (record { finds = c.in-Ok-commit_next.ensures.ends.finds })))
+
+pub returns-then-is_down-clause-finds : goal.returns-then-is_down-clause-finds
+returns-then-is_down-clause-finds g c =
+    ends_finds c.args.core.now _ (g.S.Shelf.meaning c.args.shelf.now) (g.S.Shelf.meaning c.commit_next.new.shelf) (before_ends _ (g.S.Shelf.meaning c.args.shelf.now) (g.S.Shelf.meaning c.zero_volume.new.shelf) (g.S.Shelf.meaning c.commit_next.new.shelf)
+    (zero_finds c.args.core.now c.args.next (g.S.Shelf.meaning c.args.shelf.now) c.requires.stands c.requires.is_next (g.S.Shelf.meaning c.zero_volume.new.shelf) (g.met.S.Shelf.lawful c.args.shelf.now) (g.met.S.Shelf.lawful c.zero_volume.new.shelf) (subst (λ (k : ℕ). Goes (ZerosOn c.args.next k) (g.S.Shelf.meaning c.args.shelf.now) (g.S.Shelf.meaning c.zero_volume.new.shelf)) (ap length c.as_slice.ensures.volumes) c.zero_volume.ensures.goes))
+    (left_ends c.args.next _ (g.S.Shelf.meaning c.zero_volume.new.shelf) (g.S.Shelf.meaning c.commit_next.new.shelf) c.commit_next.ensures.finds refl))
+
+pub returns-else-is_down-clause-finds : goal.returns-else-is_down-clause-finds
+returns-else-is_down-clause-finds g c =
+    ends_finds c.args.core.now _ (g.S.Shelf.meaning c.args.shelf.now) (g.S.Shelf.meaning c.commit_next.new.shelf) (before_ends _ (g.S.Shelf.meaning c.args.shelf.now) (g.S.Shelf.meaning c.zero_volume.new.shelf) (g.S.Shelf.meaning c.commit_next.new.shelf)
+    (zero_finds c.args.core.now c.args.next (g.S.Shelf.meaning c.args.shelf.now) c.requires.stands c.requires.is_next (g.S.Shelf.meaning c.zero_volume.new.shelf) (g.met.S.Shelf.lawful c.args.shelf.now) (g.met.S.Shelf.lawful c.zero_volume.new.shelf) (subst (λ (k : ℕ). Goes (ZerosOn c.args.next k) (g.S.Shelf.meaning c.args.shelf.now) (g.S.Shelf.meaning c.zero_volume.new.shelf)) (ap length c.as_slice.ensures.volumes) c.zero_volume.ensures.goes))
+    (left_ends c.args.next _ (g.S.Shelf.meaning c.zero_volume.new.shelf) (g.S.Shelf.meaning c.commit_next.new.shelf) c.commit_next.ensures.finds refl))

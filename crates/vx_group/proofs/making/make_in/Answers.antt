@@ -13,6 +13,8 @@ use Rattle.vx_group.proofs.DeportLemmas.{blames_stop, stops_later}
 use Rattle.vx_group.proofs.HoldLemmas.{from_none, narrow_can, narrow_sound, none_Stands}
 use Rattle.vx_group.proofs.ShapeLemmas.{may_make}
 use Rattle.vx_group.proofs.FailingLemmas.{no_failing, then_failing}
+use Rattle.vx_group.proofs.FindingLemmas.{still_group}
+use Rattle.vx_group.proofs.FoundThrough.{second_finds}
 use Rattle.vx_group.proofs.making.make_in.Goals as goal
 
 pub returns-in-Some-clause-stays : goal.returns-in-Some-clause-stays
@@ -153,3 +155,27 @@ pub returns-in-Err-add-clause-disks : goal.returns-in-Err-add-clause-disks
 returns-in-Err-add-clause-disks g c =
     then_failing (g.S.Shelf.meaning c.args.shelf.now) (g.S.Shelf.meaning c.release.new.shelf) (g.S.Shelf.meaning c.add.new.shelf) c.release.ensures.narrows.acts.faults (beside_counts c.release.new.core.inner.config (g.S.Shelf.meaning c.release.new.shelf) (g.S.Shelf.meaning c.add.new.shelf) c.add.ensures.beside)
     c.args.core.now.inner.config.disks c.release.new.core.inner.config.disks c.add.new.core.config.disks c.release.ensures.failing c.add.ensures.disks
+
+pub returns-in-Some-clause-finds : goal.returns-in-Some-clause-finds
+returns-in-Some-clause-finds g c =
+    still_group c.args.core.now (g.S.Shelf.meaning c.args.shelf.now)
+
+pub returns-in-Err-clause-finds : goal.returns-in-Err-clause-finds
+returns-in-Err-clause-finds g c =
+    still_group c.args.core.now (g.S.Shelf.meaning c.args.shelf.now)
+
+pub returns-then-is_down-clause-finds : goal.returns-then-is_down-clause-finds
+returns-then-is_down-clause-finds g c =
+    still_group c.args.core.now (g.S.Shelf.meaning c.args.shelf.now)
+
+pub returns-in-Err-release-clause-finds : goal.returns-in-Err-release-clause-finds
+returns-in-Err-release-clause-finds g c =
+    c.release.ensures.finds
+
+pub returns-in-Ok-add-clause-finds : goal.returns-in-Ok-add-clause-finds
+returns-in-Ok-add-clause-finds g c =
+    second_finds c.args.core.now c.release.new.core c.add.new.core (g.S.Shelf.meaning c.args.shelf.now) (g.S.Shelf.meaning c.release.new.shelf) (g.S.Shelf.meaning c.add.new.shelf) (c.in-Ok-release.ensures.done (may_make c.args.core.now.inner.config c.args.name.now c.args.want.now c.plan.ensures.may).serial) c.release.ensures.finds c.add.ensures.finds
+
+pub returns-in-Err-add-clause-finds : goal.returns-in-Err-add-clause-finds
+returns-in-Err-add-clause-finds g c =
+    second_finds c.args.core.now c.release.new.core c.add.new.core (g.S.Shelf.meaning c.args.shelf.now) (g.S.Shelf.meaning c.release.new.shelf) (g.S.Shelf.meaning c.add.new.shelf) (c.in-Ok-release.ensures.done (may_make c.args.core.now.inner.config c.args.name.now c.args.want.now c.plan.ensures.may).serial) c.release.ensures.finds c.add.ensures.finds

@@ -2,25 +2,37 @@
 use Rattle.std.proofs.Common.{Err, ap, length, arith}
 use Rattle.vx_group.proofs.CallLemmas.{blames_later}
 use Rattle.vx_group.proofs.QuiesceLemmas.{all_quiesced, none_quiesced, one_less, one_more}
+use Rattle.vx_group.proofs.FindingLemmas.{none_finds, then_finds}
 use Rattle.vx_group.proofs.quiescing.flush_volumes.Goals as goal
 
 pub loop-vol-init : goal.loop-vol-init
-loop-vol-init g c = none_quiesced c.args.core.now (g.S.Shelf.meaning c.args.shelf.now) c.requires.stands c.requires.settled c.requires.up c.requires.more
+loop-vol-init g c = (none_quiesced c.args.core.now (g.S.Shelf.meaning c.args.shelf.now) c.requires.stands c.requires.settled c.requires.up c.requires.more, none_finds c.args.core.now (g.S.Shelf.meaning c.args.shelf.now))
 
 pub flush_one-requires-clause-there : goal.flush_one-requires-clause-there
-flush_one-requires-clause-there g c = let count = ap length c.as_slice-vol-end.ensures.volumes in let same = c.loop-vol.invariant.quiesces.shape.volumes in omega (arith, count, same, c.loop-vol-test.true)
+flush_one-requires-clause-there g c = let count = ap length c.as_slice-vol-end.ensures.volumes in let same = c.loop-vol.invariant.0.quiesces.shape.volumes in omega (arith, count, same, c.loop-vol-test.true)
 
 pub loop-vol-preserved : goal.loop-vol-preserved
-loop-vol-preserved g c = one_more c.args.core.now c.loop-vol.core c.flush_one.new.core c.loop-vol.vol (g.S.Shelf.meaning c.args.shelf.now) (g.S.Shelf.meaning c.loop-vol.shelf) (g.S.Shelf.meaning c.flush_one.new.shelf) c.requires.stands c.loop-vol.invariant c.in-Ok.ensures.ends
+loop-vol-preserved g c = (
+  one_more c.args.core.now c.loop-vol.core c.flush_one.new.core c.loop-vol.vol (g.S.Shelf.meaning c.args.shelf.now) (g.S.Shelf.meaning c.loop-vol.shelf) (g.S.Shelf.meaning c.flush_one.new.shelf) c.requires.stands c.loop-vol.invariant.0 c.in-Ok.ensures.ends,
+  then_finds c.args.core.now c.loop-vol.core c.flush_one.new.core (g.S.Shelf.meaning c.args.shelf.now) (g.S.Shelf.meaning c.loop-vol.shelf) (g.S.Shelf.meaning c.flush_one.new.shelf) c.loop-vol.invariant.1 c.flush_one.ensures.finds,
+)
 
 pub returns-in-Err-clause-ends : goal.returns-in-Err-clause-ends
-returns-in-Err-clause-ends g c = one_less c.args.core.now c.loop-vol.core c.flush_one.new.core c.loop-vol.vol (g.S.Shelf.meaning c.args.shelf.now) (g.S.Shelf.meaning c.loop-vol.shelf) (g.S.Shelf.meaning c.flush_one.new.shelf) c.requires.stands c.loop-vol.invariant c.in-Err.ensures.ends
+returns-in-Err-clause-ends g c = one_less c.args.core.now c.loop-vol.core c.flush_one.new.core c.loop-vol.vol (g.S.Shelf.meaning c.args.shelf.now) (g.S.Shelf.meaning c.loop-vol.shelf) (g.S.Shelf.meaning c.flush_one.new.shelf) c.requires.stands c.loop-vol.invariant.0 c.in-Err.ensures.ends
 
 pub returns-in-Err-clause-cause : goal.returns-in-Err-clause-cause
-returns-in-Err-clause-cause g c = blames_later {T = Unit {0}} (Err c.in-Err.error) (g.S.Shelf.meaning c.args.shelf.now) (g.S.Shelf.meaning c.loop-vol.shelf) (g.S.Shelf.meaning c.flush_one.new.shelf) c.loop-vol.invariant.quiesces.acts.disk_faults c.in-Err.ensures.cause
+returns-in-Err-clause-cause g c = blames_later {T = Unit {0}} (Err c.in-Err.error) (g.S.Shelf.meaning c.args.shelf.now) (g.S.Shelf.meaning c.loop-vol.shelf) (g.S.Shelf.meaning c.flush_one.new.shelf) c.loop-vol.invariant.0.quiesces.acts.disk_faults c.in-Err.ensures.cause
 
 pub returns-clause-ends : goal.returns-clause-ends
-returns-clause-ends g c = all_quiesced c.args.core.now c.loop-vol.core c.loop-vol.vol (g.S.Shelf.meaning c.args.shelf.now) (g.S.Shelf.meaning c.loop-vol.shelf) (let count = ap length c.as_slice-vol-end.ensures.volumes in omega (arith, count, c.loop-vol-test.false)) c.loop-vol.invariant
+returns-clause-ends g c = all_quiesced c.args.core.now c.loop-vol.core c.loop-vol.vol (g.S.Shelf.meaning c.args.shelf.now) (g.S.Shelf.meaning c.loop-vol.shelf) (let count = ap length c.as_slice-vol-end.ensures.volumes in omega (arith, count, c.loop-vol-test.false)) c.loop-vol.invariant.0
 
 pub returns-clause-cause : goal.returns-clause-cause
-returns-clause-cause g c = c.loop-vol.invariant.up
+returns-clause-cause g c = c.loop-vol.invariant.0.up
+
+pub returns-clause-finds : goal.returns-clause-finds
+returns-clause-finds g c =
+    c.loop-vol.invariant.1
+
+pub returns-in-Err-clause-finds : goal.returns-in-Err-clause-finds
+returns-in-Err-clause-finds g c =
+    then_finds c.args.core.now c.loop-vol.core c.flush_one.new.core (g.S.Shelf.meaning c.args.shelf.now) (g.S.Shelf.meaning c.loop-vol.shelf) (g.S.Shelf.meaning c.flush_one.new.shelf) c.loop-vol.invariant.1 c.flush_one.ensures.finds

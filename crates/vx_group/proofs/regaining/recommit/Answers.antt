@@ -4,6 +4,7 @@ use Rattle.vx_group.proofs.CallLemmas.{both_Narrows}
 use Rattle.vx_group.proofs.DetachLemmas.{zero_bit}
 use Rattle.vx_group.proofs.LoseLemmas.{but_parts, then_parts}
 use Rattle.vx_group.proofs.Standing.{some_active}
+use Rattle.vx_group.proofs.FindingLemmas.{before_ends}
 use Rattle.vx_group.proofs.regaining.recommit.Goals as goal
 
 pub detach_named-requires-clause-left : goal.detach_named-requires-clause-left
@@ -45,3 +46,23 @@ returns-then-lies_on_failed-clause-parts g c =
 pub returns-clause-parts : goal.returns-clause-parts
 returns-clause-parts g c =
     then_parts c.args.core.now.config c.settle_named.new.core.config c.detach_named.new.core.config (but_parts c.args.core.now.config c.settle_named.new.core.config c.settle_named.ensures.same) c.detach_named.ensures.parts
+
+pub returns-in-Err-clause-finds : goal.returns-in-Err-clause-finds
+returns-in-Err-clause-finds g c =
+    inl (record { config = c.in-Err.ensures.back; committed = c.settle_named.ensures.trust; unsettled = c.in-Err.ensures.missed; finds = c.settle_named.ensures.less })
+
+pub returns-in-Err-detach_named-clause-finds : goal.returns-in-Err-detach_named-clause-finds
+returns-in-Err-detach_named-clause-finds g c =
+    inr (before_ends c.detach_named.new.core (g.S.Shelf.meaning c.args.shelf.now) (g.S.Shelf.meaning c.settle_named.new.shelf) (g.S.Shelf.meaning c.detach_named.new.shelf) c.settle_named.ensures.less c.detach_named.ensures.finds)
+
+pub returns-then-missed-clause-finds : goal.returns-then-missed-clause-finds
+returns-then-missed-clause-finds g c =
+    inr (before_ends c.detach_named.new.core (g.S.Shelf.meaning c.args.shelf.now) (g.S.Shelf.meaning c.settle_named.new.shelf) (g.S.Shelf.meaning c.detach_named.new.shelf) c.settle_named.ensures.less c.detach_named.ensures.finds)
+
+pub returns-then-lies_on_failed-clause-finds : goal.returns-then-lies_on_failed-clause-finds
+returns-then-lies_on_failed-clause-finds g c =
+    inr (before_ends c.detach_named.new.core (g.S.Shelf.meaning c.args.shelf.now) (g.S.Shelf.meaning c.settle_named.new.shelf) (g.S.Shelf.meaning c.detach_named.new.shelf) c.settle_named.ensures.less c.detach_named.ensures.finds)
+
+pub returns-clause-finds : goal.returns-clause-finds
+returns-clause-finds g c =
+    before_ends c.detach_named.new.core (g.S.Shelf.meaning c.args.shelf.now) (g.S.Shelf.meaning c.settle_named.new.shelf) (g.S.Shelf.meaning c.detach_named.new.shelf) c.settle_named.ensures.less c.detach_named.ensures.finds

@@ -4,6 +4,8 @@ use Rattle.vx_config.specs.declared.config.Config.{Config}
 use Rattle.vx_group.specs.Stands.{InnerStands}
 use Rattle.vx_group.proofs.CallLemmas.{both_Narrows}
 use Rattle.vx_group.proofs.RegainLemmas.{back_narrows, flags_back, regained_Narrows, regained_Stands, none_holds, regained_held, regained_regains, same_narrows, same_regains, then_regains}
+use Rattle.vx_group.proofs.FindingLemmas.{as_finds, none_finds, ends_finds}
+use Rattle.vx_group.proofs.FoundThrough.{back_finds, recommit_finds}
 use Rattle.vx_group.proofs.regaining.regain.Goals as goal
 use Rattle.vx_group.proofs.LoseLemmas.{but_parts, then_parts}
 
@@ -80,7 +82,7 @@ returns-else-not-core-clause-stands g c =
 
 pub returns-else-not-core-clause-narrows : goal.returns-else-not-core-clause-narrows
 returns-else-not-core-clause-narrows g c =
-    both_Narrows c.args.core.now c.recommit.new.core (record { config = record { serial = c.recommit.new.core.config.serial; site = c.recommit.new.core.config.site; disks = c.copy-kept.result; volumes = c.recommit.new.core.config.volumes; rvg = c.recommit.new.core.config.rvg }; good = c.recommit.new.core.good; room = c.recommit.new.core.room; unsettled = c.recommit.new.core.unsettled; committed = c.recommit.new.core.committed; agreed = c.recommit.new.core.agreed; next = c.recommit.new.core.next; faults = c.recommit.new.core.faults; unsure = c.recommit.new.core.unsure }) (g.S.Shelf.meaning c.args.shelf.now) (g.S.Shelf.meaning c.recommit.new.shelf) (g.S.Shelf.meaning c.recommit.new.shelf) (c.recommit.ensures.volumes ∙ c.hold_plex.ensures.regained.same.volumes) (c.recommit.ensures.good c.if-not-core.false) (both_Narrows c.args.core.now (record { config = c.hold_plex.new.config; good = c.args.core.now.good; room = c.args.core.now.room; unsettled = true; committed = c.args.core.now.committed; agreed = c.args.core.now.agreed; next = c.args.core.now.next; faults = c.args.core.now.faults; unsure = c.args.core.now.unsure }) c.recommit.new.core (g.S.Shelf.meaning c.args.shelf.now) (g.S.Shelf.meaning c.args.shelf.now) (g.S.Shelf.meaning c.recommit.new.shelf) c.hold_plex.ensures.regained.same.volumes refl (regained_Narrows c.args.core.now c.hold_plex.new.config c.args.vol c.args.plex (length c.args.core.now.config.disks) c.hold_plex.result (g.S.Shelf.meaning c.args.shelf.now) c.requires.stands c.hold_plex.ensures.regained) c.recommit.ensures.narrows) (back_narrows c.args.core.now c.recommit.new.core c.copy-kept.result (g.S.Shelf.meaning c.args.shelf.now) (g.S.Shelf.meaning c.recommit.new.shelf) c.requires.stands c.recommit.ensures.stands c.copy-kept.ensures (c.recommit.ensures.failing.count ∙ c.hold_plex.ensures.regained.same.count) (λ u. c.recommit.ensures.failing.blocks u ∙ c.hold_plex.ensures.regained.blocks u) (c.recommit.ensures.good c.if-not-core.false) c.if-not-core.false)
+    both_Narrows c.args.core.now c.recommit.new.core (record { config = record { serial = c.recommit.new.core.config.serial; site = c.recommit.new.core.config.site; disks = c.copy-kept.result; volumes = c.recommit.new.core.config.volumes; rvg = c.recommit.new.core.config.rvg }; good = c.recommit.new.core.good; room = c.recommit.new.core.room; unsettled = c.recommit.new.core.unsettled; committed = false; agreed = c.recommit.new.core.agreed; next = c.recommit.new.core.next; faults = c.recommit.new.core.faults; unsure = c.recommit.new.core.unsure }) (g.S.Shelf.meaning c.args.shelf.now) (g.S.Shelf.meaning c.recommit.new.shelf) (g.S.Shelf.meaning c.recommit.new.shelf) (c.recommit.ensures.volumes ∙ c.hold_plex.ensures.regained.same.volumes) (c.recommit.ensures.good c.if-not-core.false) (both_Narrows c.args.core.now (record { config = c.hold_plex.new.config; good = c.args.core.now.good; room = c.args.core.now.room; unsettled = true; committed = c.args.core.now.committed; agreed = c.args.core.now.agreed; next = c.args.core.now.next; faults = c.args.core.now.faults; unsure = c.args.core.now.unsure }) c.recommit.new.core (g.S.Shelf.meaning c.args.shelf.now) (g.S.Shelf.meaning c.args.shelf.now) (g.S.Shelf.meaning c.recommit.new.shelf) c.hold_plex.ensures.regained.same.volumes refl (regained_Narrows c.args.core.now c.hold_plex.new.config c.args.vol c.args.plex (length c.args.core.now.config.disks) c.hold_plex.result (g.S.Shelf.meaning c.args.shelf.now) c.requires.stands c.hold_plex.ensures.regained) c.recommit.ensures.narrows) (back_narrows c.args.core.now c.recommit.new.core c.copy-kept.result (g.S.Shelf.meaning c.args.shelf.now) (g.S.Shelf.meaning c.recommit.new.shelf) c.requires.stands c.recommit.ensures.stands c.copy-kept.ensures (c.recommit.ensures.failing.count ∙ c.hold_plex.ensures.regained.same.count) (λ u. c.recommit.ensures.failing.blocks u ∙ c.hold_plex.ensures.regained.blocks u) (c.recommit.ensures.good c.if-not-core.false) c.if-not-core.false)
 
 pub returns-else-not-core-clause-volumes : goal.returns-else-not-core-clause-volumes
 returns-else-not-core-clause-volumes g c =
@@ -104,3 +106,19 @@ pub returns-else-not-core-clause-parts : goal.returns-else-not-core-clause-parts
 returns-else-not-core-clause-parts g c =
     let parts = then_parts c.args.core.now.config c.hold_plex.new.config c.recommit.new.core.config (but_parts c.args.core.now.config c.hold_plex.new.config c.hold_plex.ensures.regained.same) c.recommit.ensures.parts in
     record { site = parts.site; rvg = parts.rvg; count = ap length c.copy-kept.ensures }
+
+pub returns-then-not-hold_plex-clause-finds : goal.returns-then-not-hold_plex-clause-finds
+returns-then-not-hold_plex-clause-finds g c =
+    as_finds c.args.core.now c.args.core.now _ (g.S.Shelf.meaning c.args.shelf.now) (g.S.Shelf.meaning c.args.shelf.now) (c.hold_plex.ensures.regained.none c.if-not-hold_plex.true) refl refl (none_finds c.args.core.now (g.S.Shelf.meaning c.args.shelf.now))
+
+pub returns-in-Ok-clause-finds : goal.returns-in-Ok-clause-finds
+returns-in-Ok-clause-finds g c =
+    ends_finds c.args.core.now c.recommit.new.core (g.S.Shelf.meaning c.args.shelf.now) (g.S.Shelf.meaning c.recommit.new.shelf) c.in-Ok.ensures.finds
+
+pub returns-then-not-core-clause-finds : goal.returns-then-not-core-clause-finds
+returns-then-not-core-clause-finds g c =
+    recommit_finds c.args.core.now (record { config = c.hold_plex.new.config; good = c.args.core.now.good; room = c.args.core.now.room; unsettled = true; committed = c.args.core.now.committed; agreed = c.args.core.now.agreed; next = c.args.core.now.next; faults = c.args.core.now.faults; unsure = c.args.core.now.unsure }) c.recommit.new.core (g.S.Shelf.meaning c.args.shelf.now) (g.S.Shelf.meaning c.recommit.new.shelf) c.if-not-core.true c.in-Err.ensures.finds
+
+pub returns-else-not-core-clause-finds : goal.returns-else-not-core-clause-finds
+returns-else-not-core-clause-finds g c =
+    back_finds c.args.core.now (record { config = c.hold_plex.new.config; good = c.args.core.now.good; room = c.args.core.now.room; unsettled = true; committed = c.args.core.now.committed; agreed = c.args.core.now.agreed; next = c.args.core.now.next; faults = c.args.core.now.faults; unsure = c.args.core.now.unsure }) c.recommit.new.core c.copy-kept.result (g.S.Shelf.meaning c.args.shelf.now) (g.S.Shelf.meaning c.recommit.new.shelf) c.in-Err.ensures.finds

@@ -9,6 +9,7 @@ use Rattle.vx_group.proofs.FailingLemmas.{few_nine, then_failing}
 use Rattle.vx_group.proofs.HoldLemmas.{one_kept}
 use Rattle.vx_group.proofs.Standing.{sound_of}
 use Rattle.vx_group.proofs.TrustLemmas.{err_from, ok_from}
+use Rattle.vx_group.proofs.FindingLemmas.{behind_finds}
 use Rattle.vx_group.proofs.releasing.detach_plex.Goals as goal
 
 pub bounds-flags-plex : goal.bounds-flags-plex
@@ -80,3 +81,7 @@ returns-clause-failing g c =
 pub returns-clause-few : goal.returns-clause-few
 returns-clause-few g c =
     few_nine c.detach.result c.args.core.now.config.serial c.settle_headers.new.core.config.serial c.detach.new.core.config.serial (length c.settle_headers.new.core.config.disks) c.detach.ensures.few c.settle_headers.ensures.serial c.as_slice-disks.ensures.few
+
+pub returns-clause-finds : goal.returns-clause-finds
+returns-clause-finds g c =
+    behind_finds c.args.core.now c.settle_headers.new.core c.detach.new.core (g.S.Shelf.meaning c.args.shelf.now) (g.S.Shelf.meaning c.settle_headers.new.shelf) (g.S.Shelf.meaning c.detach.new.shelf) c.settle_headers.ensures.finds c.detach.ensures.finds

@@ -1,7 +1,7 @@
 -- `release`: clauses stands, narrows, volumes and parts; what `detach_plex-result` asks.
 use Rattle.std.proofs.Common.{◌∙◌, refl, sym, subst}
 use Rattle.vx_group.specs.declared.inner.Inner.{Inner}
-use Rattle.vx_group.proofs.HoldLemmas.{back_parts, e_Stands, e_narrows, e_volumes, x_other}
+use Rattle.vx_group.proofs.HoldLemmas.{back_parts, e_Stands, e_narrows, e_volumes, x_other, e_finds}
 use Rattle.vx_group.proofs.releasing.release.Goals as goal
 use Rattle.vx_group.specs.Loses.{SameParts}
 
@@ -32,3 +32,12 @@ returns-in-Some-clause-parts g c =
 
 pub returns-in-None-clause-parts : goal.returns-in-None-clause-parts
 returns-in-None-clause-parts g c = subst (λ (i : Inner). SameParts c.args.core.now.inner.config i.config) (sym c.open_held.ensures.inner) (record { site = refl; rvg = refl; count = refl })
+
+pub returns-in-Some-clause-finds : goal.returns-in-Some-clause-finds
+returns-in-Some-clause-finds g c =
+    record {
+      core = e_finds c.args.core.now c.in-Some.held (g.S.Shelf.meaning c.args.shelf.now) c.requires.stands (sym c.open_held.ensures.held ∙ c.in-Some.is) c.open_held.new.core.inner c.open_held.ensures.inner
+    c.detach_plex-result.new.core c.detach_plex-result.ensures.others _ c.hold_back.new.core refl c.open_held.ensures.none c.hold_back.ensures
+    (g.S.Shelf.meaning c.detach_plex-result.new.shelf) c.detach_plex-result.ensures.finds;
+      free = λ none. absurd (let clash : None ≡ Some c.in-Some.held = sym none ∙ sym c.open_held.ensures.held ∙ c.in-Some.is in cc);
+    }

@@ -6,6 +6,7 @@ use Rattle.vx_group.proofs.FailingLemmas.{few_ok, then_failing}
 use Rattle.vx_group.proofs.LoseLemmas.{but_parts, then_parts}
 use Rattle.vx_group.proofs.Standing.{some_active}
 use Rattle.vx_group.proofs.TrustLemmas.{err_from, ok_from}
+use Rattle.vx_group.proofs.FindingLemmas.{behind_finds}
 use Rattle.vx_group.proofs.settling.make_ready.Goals as goal
 
 pub detach-requires-clause-left : goal.detach-requires-clause-left
@@ -52,3 +53,7 @@ returns-clause-agreed g c = err_from c.detach.result (λ keeps is. keeps (c.sett
 
 pub returns-in-Err-clause-agreed : goal.returns-in-Err-clause-agreed
 returns-in-Err-clause-agreed g c = λ is. c.settle_headers.ensures.agreed ∙ c.requires.stands.trusts.both is
+
+pub returns-clause-finds : goal.returns-clause-finds
+returns-clause-finds g c =
+    behind_finds c.args.core.now c.settle_headers.new.core c.detach.new.core (g.S.Shelf.meaning c.args.shelf.now) (g.S.Shelf.meaning c.settle_headers.new.shelf) (g.S.Shelf.meaning c.detach.new.shelf) c.settle_headers.ensures.finds c.detach.ensures.finds

@@ -7,13 +7,17 @@ use Rattle.vx_copies.specs.Marks.{NoneGood, failed_at}
 use Rattle.vx_group.specs.Settled.{SameBut, SettledTo}
 use Rattle.vx_group.specs.declared.inner.Inner.{Inner}
 use Rattle.vx_group.proofs.FailingLemmas.{no_failing}
-use Rattle.vx_group.proofs.ReadyLemmas.{core_back, core_settled, disks_Narrows, disks_Stands, fault_cause, one_failed, same_but, settle_acts, settle_end, settle_kept, settle_mark, settle_one, settle_pass, settle_start, settled_named, settle_less, settle_trusts, settled_still}
+use Rattle.vx_group.proofs.ReadyLemmas.{core_back, core_settled, disks_Narrows, disks_Stands, fault_cause, one_failed, same_but, settle_acts, settle_end, settle_kept, settle_mark, settle_one, settle_pass, settle_start, settled_named, settle_less, settle_trusts, settled_still, settle_finds}
 use Rattle.vx_group.specs.Moves.{Narrows}
 use Rattle.vx_group.specs.Stands.{InnerStands}
-use Rattle.vx_kept.proofs.Trusting.{less_trusts}
+use Rattle.vx_kept.proofs.Trusting.{less_trusts, less_finds}
 use Rattle.vx_group.proofs.CallLemmas.{settled_Stands, settled_only}
 use Rattle.vx_group.proofs.DetachLemmas.{some_good}
 use Rattle.vx_group.proofs.Standing.{kept_of}
+use Rattle.vx_kept.proofs.Findings.{same_from}
+use Rattle.vx_kept.specs.Finds.{NoConfiguration}
+use Rattle.vx_group.proofs.FindingLemmas.{none_finds, open_finds, stays_finds}
+use Rattle.vx_group.specs.Finds.{CoreFinds}
 use Rattle.vx_group.proofs.settling.settle_named.Goals.{then-not-as_slice-disk+in-Ok, then-not-as_slice-disk+in-Err-Fault, else-not-as_slice-disk}
 use Rattle.vx_group.proofs.settling.settle_named.Goals as goal
 
@@ -144,3 +148,49 @@ returns-then-not-has_good-clause-agreed g c = ap (λ (x : Inner). x.agreed) c.lo
 
 pub returns-clause-agreed : goal.returns-clause-agreed
 returns-clause-agreed g c = ap (λ (x : Inner). x.agreed) c.loop-disk.invariant.1
+
+pub returns-then-not-core-clause-less : goal.returns-then-not-core-clause-less
+returns-then-not-core-clause-less g c =
+    same_from NoConfiguration (g.S.Shelf.meaning c.args.shelf.now)
+
+pub returns-in-Err-Down-clause-less : goal.returns-in-Err-Down-clause-less
+returns-in-Err-Down-clause-less g c =
+    less_finds (g.S.Shelf.meaning c.args.shelf.now) (g.S.Shelf.meaning c.settle.new.shelf) (g.met.S.Shelf.lawful c.args.shelf.now) (g.met.S.Shelf.lawful c.settle.new.shelf) (c.settle.ensures.goes.units ∙ c.loop-disk.invariant.0.acts.units) (λ u. c.settle.ensures.goes.size u ∙ c.loop-disk.invariant.0.acts.size u) (c.settle.ensures.goes.tells ∙ c.loop-disk.invariant.0.acts.tells) (λ u b v lt left. settle_less c.args.core.now.good c.args.core.now.config c.loop-disk.core.config c.loop-disk.disk c.loop-disk.device c.loop-disk.failed (g.S.Shelf.meaning c.args.shelf.now) (g.S.Shelf.meaning c.loop-disk.shelf) c.loop-disk.invariant.0 (g.S.Shelf.meaning c.settle.new.shelf) c.settle.ensures.goes (g.met.S.Shelf.lawful c.loop-disk.shelf) (g.met.S.Shelf.lawful c.settle.new.shelf) u b v left)
+
+pub returns-then-not-has_good-clause-less : goal.returns-then-not-has_good-clause-less
+returns-then-not-has_good-clause-less g c =
+    settle_finds c.args.core.now.good c.args.core.now.config c.loop-disk.core.config c.loop-disk.disk c.loop-disk.device c.loop-disk.failed (g.S.Shelf.meaning c.args.shelf.now) (g.S.Shelf.meaning c.loop-disk.shelf) (g.met.S.Shelf.lawful c.args.shelf.now) (g.met.S.Shelf.lawful c.loop-disk.shelf) c.loop-disk.invariant.0
+
+pub returns-clause-less : goal.returns-clause-less
+returns-clause-less g c =
+    settle_finds c.args.core.now.good c.args.core.now.config c.loop-disk.core.config c.loop-disk.disk c.loop-disk.device c.loop-disk.failed (g.S.Shelf.meaning c.args.shelf.now) (g.S.Shelf.meaning c.loop-disk.shelf) (g.met.S.Shelf.lawful c.args.shelf.now) (g.met.S.Shelf.lawful c.loop-disk.shelf) c.loop-disk.invariant.0
+
+pub returns-in-Err-Down-clause-back : goal.returns-in-Err-Down-clause-back
+returns-in-Err-Down-clause-back g c =
+    ap (λ (x : Inner). x.config) (core_back c.args.core.now c.loop-disk.core c.copy-kept.result c.loop-disk.invariant.1 c.loop-disk.invariant.0.same c.copy-kept.ensures)
+
+pub returns-then-not-has_good-clause-back : goal.returns-then-not-has_good-clause-back
+returns-then-not-has_good-clause-back g c =
+    ap (λ (x : Inner). x.config) (core_back c.args.core.now c.loop-disk.core c.copy-kept.result c.loop-disk.invariant.1 c.loop-disk.invariant.0.same c.copy-kept.ensures)
+
+pub returns-then-not-core-clause-finds : goal.returns-then-not-core-clause-finds
+returns-then-not-core-clause-finds g c =
+    none_finds c.args.core.now (g.S.Shelf.meaning c.args.shelf.now)
+
+pub returns-in-Err-Down-clause-finds : goal.returns-in-Err-Down-clause-finds
+returns-in-Err-Down-clause-finds g c =
+    subst (λ (k : Inner). CoreFinds c.args.core.now k (g.S.Shelf.meaning c.args.shelf.now) (g.S.Shelf.meaning c.settle.new.shelf)) (sym (core_back c.args.core.now c.loop-disk.core c.copy-kept.result c.loop-disk.invariant.1 c.loop-disk.invariant.0.same c.copy-kept.ensures))
+    (stays_finds c.args.core.now c.args.core.now (g.S.Shelf.meaning c.args.shelf.now) (g.S.Shelf.meaning c.settle.new.shelf) refl refl refl
+    (less_finds (g.S.Shelf.meaning c.args.shelf.now) (g.S.Shelf.meaning c.settle.new.shelf) (g.met.S.Shelf.lawful c.args.shelf.now) (g.met.S.Shelf.lawful c.settle.new.shelf) (c.settle.ensures.goes.units ∙ c.loop-disk.invariant.0.acts.units) (λ u. c.settle.ensures.goes.size u ∙ c.loop-disk.invariant.0.acts.size u) (c.settle.ensures.goes.tells ∙ c.loop-disk.invariant.0.acts.tells) (λ u b v lt left. settle_less c.args.core.now.good c.args.core.now.config c.loop-disk.core.config c.loop-disk.disk c.loop-disk.device c.loop-disk.failed (g.S.Shelf.meaning c.args.shelf.now) (g.S.Shelf.meaning c.loop-disk.shelf) c.loop-disk.invariant.0 (g.S.Shelf.meaning c.settle.new.shelf) c.settle.ensures.goes (g.met.S.Shelf.lawful c.loop-disk.shelf) (g.met.S.Shelf.lawful c.settle.new.shelf) u b v left)))
+
+pub returns-then-not-has_good-clause-finds : goal.returns-then-not-has_good-clause-finds
+returns-then-not-has_good-clause-finds g c =
+    subst (λ (k : Inner). CoreFinds c.args.core.now k (g.S.Shelf.meaning c.args.shelf.now) (g.S.Shelf.meaning c.loop-disk.shelf)) (sym (core_back c.args.core.now c.loop-disk.core c.copy-kept.result c.loop-disk.invariant.1 c.loop-disk.invariant.0.same c.copy-kept.ensures))
+    (stays_finds c.args.core.now c.args.core.now (g.S.Shelf.meaning c.args.shelf.now) (g.S.Shelf.meaning c.loop-disk.shelf) refl refl refl
+    (settle_finds c.args.core.now.good c.args.core.now.config c.loop-disk.core.config c.loop-disk.disk c.loop-disk.device c.loop-disk.failed (g.S.Shelf.meaning c.args.shelf.now) (g.S.Shelf.meaning c.loop-disk.shelf) (g.met.S.Shelf.lawful c.args.shelf.now) (g.met.S.Shelf.lawful c.loop-disk.shelf) c.loop-disk.invariant.0))
+
+pub returns-clause-finds : goal.returns-clause-finds
+returns-clause-finds g c =
+    subst (λ (k : Inner). CoreFinds c.args.core.now k (g.S.Shelf.meaning c.args.shelf.now) (g.S.Shelf.meaning c.loop-disk.shelf)) (sym (core_settled c.args.core.now c.loop-disk.core c.loop-disk.invariant.1))
+    (open_finds c.args.core.now _ (g.S.Shelf.meaning c.args.shelf.now) (g.S.Shelf.meaning c.loop-disk.shelf) (λ openly. openly c.if-not-core.false)
+    (settle_finds c.args.core.now.good c.args.core.now.config c.loop-disk.core.config c.loop-disk.disk c.loop-disk.device c.loop-disk.failed (g.S.Shelf.meaning c.args.shelf.now) (g.S.Shelf.meaning c.loop-disk.shelf) (g.met.S.Shelf.lawful c.args.shelf.now) (g.met.S.Shelf.lawful c.loop-disk.shelf) c.loop-disk.invariant.0))

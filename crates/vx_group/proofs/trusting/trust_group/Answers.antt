@@ -11,6 +11,8 @@ use Rattle.vx_group.proofs.HoldLemmas.{from_none, none_Stands, wide_none}
 use Rattle.vx_group.proofs.LoseLemmas.{loses_same}
 use Rattle.vx_group.proofs.MendLemmas.{same_Goes}
 use Rattle.vx_group.proofs.TrustingLemmas.{still_PlexActs}
+use Rattle.vx_group.proofs.FindingLemmas.{still_group}
+use Rattle.vx_group.proofs.FoundThrough.{alone_finds}
 use Rattle.vx_group.proofs.trusting.trust_group.Goals as goal
 
 pub trust_log-requires-clause-stands : goal.trust_log-requires-clause-stands
@@ -74,3 +76,19 @@ returns-in-Ok-clause-still g c = active_plexes c.args.core.now.inner.config c.tr
 
 pub returns-in-Err-clause-still : goal.returns-in-Err-clause-still
 returns-in-Err-clause-still g c = active_plexes c.args.core.now.inner.config c.trust_log.new.core.config c.trust_log.ensures.plexes
+
+pub returns-then-is_down-clause-finds : goal.returns-then-is_down-clause-finds
+returns-then-is_down-clause-finds g c =
+    still_group c.args.core.now (g.S.Shelf.meaning c.args.shelf.now)
+
+pub returns-then-core-ge-MOST_NUMBER-clause-finds : goal.returns-then-core-ge-MOST_NUMBER-clause-finds
+returns-then-core-ge-MOST_NUMBER-clause-finds g c =
+    still_group c.args.core.now (g.S.Shelf.meaning c.args.shelf.now)
+
+pub returns-in-Ok-clause-finds : goal.returns-in-Ok-clause-finds
+returns-in-Ok-clause-finds g c =
+    alone_finds c.args.core.now _ (g.S.Shelf.meaning c.args.shelf.now) (g.S.Shelf.meaning c.trust_log.new.shelf) c.requires.none c.requires.none c.trust_log.ensures.finds
+
+pub returns-in-Err-clause-finds : goal.returns-in-Err-clause-finds
+returns-in-Err-clause-finds g c =
+    alone_finds c.args.core.now _ (g.S.Shelf.meaning c.args.shelf.now) (g.S.Shelf.meaning c.trust_log.new.shelf) c.requires.none c.requires.none c.trust_log.ensures.finds

@@ -11,6 +11,7 @@ use Rattle.vx_group.specs.Holding.{with_config}
 use Rattle.vx_group.proofs.Standing.{some_active}
 use Rattle.vx_group.proofs.LoseLemmas.{but_parts, loses_none}
 use Rattle.vx_group.proofs.TrustingLemmas.{both_acts, both_goes, early_PlexActs, now_Stands, trusted_loses, trusting_plexes}
+use Rattle.vx_group.proofs.FindingLemmas.{behind_finds}
 use Rattle.vx_group.proofs.trusting.trust_log.Goals as goal
 
 pub returns-in-Err-clause-goes : goal.returns-in-Err-clause-goes
@@ -72,3 +73,11 @@ pub returns-clause-few : goal.returns-clause-few
 returns-clause-few g c =
     few_nine c.detach.result c.args.core.now.config.serial c.trust.new.config.serial c.detach.new.core.config.serial (length c.trust.new.config.disks) c.detach.ensures.few (ap (λ (x : Config). x.serial) c.trust.ensures.changed ∙ c.settle_headers.ensures.serial)
     (let same = ap (λ (x : Config). length x.disks) c.trust.ensures.changed in let le = c.as_slice-disks.ensures.few in omega (arith, same, le))
+
+pub returns-in-Err-clause-finds : goal.returns-in-Err-clause-finds
+returns-in-Err-clause-finds g c =
+    c.settle_headers.ensures.finds
+
+pub returns-clause-finds : goal.returns-clause-finds
+returns-clause-finds g c =
+    behind_finds c.args.core.now c.settle_headers.new.core c.detach.new.core (g.S.Shelf.meaning c.args.shelf.now) (g.S.Shelf.meaning c.settle_headers.new.shelf) (g.S.Shelf.meaning c.detach.new.shelf) c.settle_headers.ensures.finds c.detach.ensures.finds

@@ -10,6 +10,7 @@ use Rattle.vx_group.proofs.CallLemmas.{blames_later, cause_by, counts_less, narr
 use Rattle.vx_volume.specs.Volumes.{OnPlexes}
 use Rattle.vx_kept.proofs.PlexActing.{none_PlexActs, on_wider}
 use Rattle.vx_group.proofs.ActsLemmas.{narrow_PlexActs, ready_PlexActs}
+use Rattle.vx_group.proofs.FindingLemmas.{as_finds, none_finds, then_finds}
 use Rattle.vx_group.proofs.writing.write_in.Goals as goal
 
 pub returns-in-Err-clause-goes : goal.returns-in-Err-clause-goes
@@ -97,3 +98,20 @@ pub returns-in-Err-write_plexes-clause-acts : goal.returns-in-Err-write_plexes-c
 returns-in-Err-write_plexes-clause-acts g c =
     ready_PlexActs (OnPlexes c.make_ready.new.core.config c.args.vol c.args.block (length c.args.bytes.now / 512) c.args.bytes.now) (OnPlexes c.args.core.now.config c.args.vol c.args.block (length c.args.bytes.now / 512) c.args.bytes.now) c.args.core.now c.make_ready.new.core c.write_plexes.new.core.config (g.S.Shelf.meaning c.args.shelf.now) (g.S.Shelf.meaning c.make_ready.new.shelf) (g.S.Shelf.meaning c.write_plexes.new.shelf) c.make_ready.ensures.narrows c.write_plexes.ensures.acts
     (on_wider c.args.core.now.config c.make_ready.new.core.config c.args.vol c.args.block (length c.args.bytes.now / 512) c.args.bytes.now c.make_ready.ensures.narrows.shape c.make_ready.ensures.narrows.on)
+
+pub returns-then-is_down-clause-finds : goal.returns-then-is_down-clause-finds
+returns-then-is_down-clause-finds g c =
+    none_finds c.args.core.now (g.S.Shelf.meaning c.args.shelf.now)
+
+pub returns-in-Err-clause-finds : goal.returns-in-Err-clause-finds
+returns-in-Err-clause-finds g c =
+    as_finds c.args.core.now c.make_ready.new.core _ (g.S.Shelf.meaning c.args.shelf.now) (g.S.Shelf.meaning c.make_ready.new.shelf) refl refl refl c.make_ready.ensures.finds
+
+pub returns-in-Ok-write_plexes-clause-finds : goal.returns-in-Ok-write_plexes-clause-finds
+returns-in-Ok-write_plexes-clause-finds g c =
+    then_finds c.args.core.now c.make_ready.new.core c.write_plexes.new.core (g.S.Shelf.meaning c.args.shelf.now) (g.S.Shelf.meaning c.make_ready.new.shelf) (g.S.Shelf.meaning c.write_plexes.new.shelf) c.make_ready.ensures.finds c.write_plexes.ensures.finds
+
+pub returns-in-Err-write_plexes-clause-finds : goal.returns-in-Err-write_plexes-clause-finds
+returns-in-Err-write_plexes-clause-finds g c =
+    as_finds c.args.core.now c.write_plexes.new.core _ (g.S.Shelf.meaning c.args.shelf.now) (g.S.Shelf.meaning c.write_plexes.new.shelf) refl refl refl
+    (then_finds c.args.core.now c.make_ready.new.core c.write_plexes.new.core (g.S.Shelf.meaning c.args.shelf.now) (g.S.Shelf.meaning c.make_ready.new.shelf) (g.S.Shelf.meaning c.write_plexes.new.shelf) c.make_ready.ensures.finds c.write_plexes.ensures.finds)

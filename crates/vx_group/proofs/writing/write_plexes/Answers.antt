@@ -9,10 +9,11 @@ use Rattle.vx_group.proofs.DetachLemmas.{zero_bit}
 use Rattle.vx_group.specs.GivesUp.{GivesUp}
 use Rattle.vx_group.proofs.GiveLemmas.{detach_gives, ends_gives}
 use Rattle.vx_group.proofs.Standing.{fit_of, some_active}
-use Rattle.vx_group.proofs.WriteLemmas.{no_commit, wrote_Goes, wrote_Stands, wrote_Wrote, wrote_all}
+use Rattle.vx_group.proofs.WriteLemmas.{no_commit, wrote_Goes, wrote_Stands, wrote_Wrote, wrote_all, wrote_finds}
 use Rattle.vx_volume.specs.Volumes.{OnPlexes}
 use Rattle.vx_kept.proofs.PlexActing.{only_PlexActs}
 use Rattle.vx_group.proofs.ActsLemmas.{then_PlexActs}
+use Rattle.vx_group.proofs.FindingLemmas.{stays_finds, before_ends, ends_finds}
 use Rattle.vx_group.proofs.writing.write_plexes.Goals as goal
 
 pub write_all-requires-clause-some : goal.write_all-requires-clause-some
@@ -123,3 +124,23 @@ pub returns-else-core-clause-acts : goal.returns-else-core-clause-acts
 returns-else-core-clause-acts g c =
     then_PlexActs (OnPlexes c.args.core.now.config c.args.vol c.args.block (length c.args.bytes.now / 512) c.args.bytes.now) c.args.core.now c.args.core.now c.detach.new.core (g.S.Shelf.meaning c.args.shelf.now) (g.S.Shelf.meaning c.write_all.new.shelf) (g.S.Shelf.meaning c.detach.new.shelf)
     (only_PlexActs (OnPlexes c.args.core.now.config c.args.vol c.args.block (length c.args.bytes.now / 512) c.args.bytes.now) c.args.core.now.config (g.S.Shelf.meaning c.args.shelf.now) (g.S.Shelf.meaning c.write_all.new.shelf) c.write_all.ensures.goes) c.detach.ensures.narrows
+
+pub returns-then-failed-eq0-clause-finds : goal.returns-then-failed-eq0-clause-finds
+returns-then-failed-eq0-clause-finds g c =
+    stays_finds c.args.core.now c.args.core.now (g.S.Shelf.meaning c.args.shelf.now) (g.S.Shelf.meaning c.write_all.new.shelf) refl refl refl
+    (wrote_finds c.args.core.now c.args.vol c.args.block c.args.bytes.now (g.S.Shelf.meaning c.args.shelf.now) (g.S.Shelf.meaning c.write_all.new.shelf) (g.met.S.Shelf.lawful c.args.shelf.now) (g.met.S.Shelf.lawful c.write_all.new.shelf) c.requires.stands c.requires.fits c.write_all.ensures.goes)
+
+pub returns-then-core-clause-finds : goal.returns-then-core-clause-finds
+returns-then-core-clause-finds g c =
+    stays_finds c.args.core.now c.args.core.now (g.S.Shelf.meaning c.args.shelf.now) (g.S.Shelf.meaning c.write_all.new.shelf) refl refl refl
+    (wrote_finds c.args.core.now c.args.vol c.args.block c.args.bytes.now (g.S.Shelf.meaning c.args.shelf.now) (g.S.Shelf.meaning c.write_all.new.shelf) (g.met.S.Shelf.lawful c.args.shelf.now) (g.met.S.Shelf.lawful c.write_all.new.shelf) c.requires.stands c.requires.fits c.write_all.ensures.goes)
+
+pub returns-in-Err-clause-finds : goal.returns-in-Err-clause-finds
+returns-in-Err-clause-finds g c =
+    stays_finds c.args.core.now c.args.core.now (g.S.Shelf.meaning c.args.shelf.now) (g.S.Shelf.meaning c.write_all.new.shelf) refl refl refl
+    (wrote_finds c.args.core.now c.args.vol c.args.block c.args.bytes.now (g.S.Shelf.meaning c.args.shelf.now) (g.S.Shelf.meaning c.write_all.new.shelf) (g.met.S.Shelf.lawful c.args.shelf.now) (g.met.S.Shelf.lawful c.write_all.new.shelf) c.requires.stands c.requires.fits c.write_all.ensures.goes)
+
+pub returns-else-core-clause-finds : goal.returns-else-core-clause-finds
+returns-else-core-clause-finds g c =
+    ends_finds c.args.core.now c.detach.new.core (g.S.Shelf.meaning c.args.shelf.now) (g.S.Shelf.meaning c.detach.new.shelf) (before_ends c.detach.new.core (g.S.Shelf.meaning c.args.shelf.now) (g.S.Shelf.meaning c.write_all.new.shelf) (g.S.Shelf.meaning c.detach.new.shelf)
+    (wrote_finds c.args.core.now c.args.vol c.args.block c.args.bytes.now (g.S.Shelf.meaning c.args.shelf.now) (g.S.Shelf.meaning c.write_all.new.shelf) (g.met.S.Shelf.lawful c.args.shelf.now) (g.met.S.Shelf.lawful c.write_all.new.shelf) c.requires.stands c.requires.fits c.write_all.ensures.goes) c.detach.ensures.finds)

@@ -22,8 +22,10 @@ returns-in-Ok-clause-kept g c = λ note it.
 
 pub returns-in-Ok-clause-stays : goal.returns-in-Ok-clause-stays
 returns-in-Ok-clause-stays g c = λ n note at.
-    read_stays n note c.args.group.now.core c.read.new.self.core (g.S.Shelf.meaning c.args.group.now.shelf) (g.S.Shelf.meaning c.read.new.self.shelf) c.read.ensures.below c.read.ensures.down c.read.ensures.goes c.read.ensures.same c.read.ensures.trusted at
+    read_stays n note c.args.group.now.core c.read.new.self.core (g.S.Shelf.meaning c.args.group.now.shelf) (g.S.Shelf.meaning c.read.new.self.shelf) (g.met.S.Shelf.lawful c.args.group.now.shelf) (g.met.S.Shelf.lawful c.read.new.self.shelf)
+    c.read.ensures.below c.read.ensures.down c.read.ensures.goes c.read.ensures.same c.read.ensures.held c.read.ensures.settled c.read.ensures.trusted at
 
 pub returns-in-Err-clause-stays : goal.returns-in-Err-clause-stays
 returns-in-Err-clause-stays g c = λ n note at.
-    read_stays n note c.args.group.now.core c.read.new.self.core (g.S.Shelf.meaning c.args.group.now.shelf) (g.S.Shelf.meaning c.read.new.self.shelf) c.read.ensures.below c.read.ensures.down c.read.ensures.goes c.read.ensures.same c.read.ensures.trusted at
+    read_stays n note c.args.group.now.core c.read.new.self.core (g.S.Shelf.meaning c.args.group.now.shelf) (g.S.Shelf.meaning c.read.new.self.shelf) (g.met.S.Shelf.lawful c.args.group.now.shelf) (g.met.S.Shelf.lawful c.read.new.self.shelf)
+    c.read.ensures.below c.read.ensures.down c.read.ensures.goes c.read.ensures.same c.read.ensures.held c.read.ensures.settled c.read.ensures.trusted at

@@ -20,11 +20,11 @@ returns-then-is_down-clause-limit g c = λ lt.
 
 pub returns-then-is_down-clause-leaves : goal.returns-then-is_down-clause-leaves
 returns-then-is_down-clause-leaves g c = λ n note at.
-    back_cut n note c.args.group.core c.in-Err.group.core (g.S.Shelf.meaning c.args.group.shelf) (g.S.Shelf.meaning c.in-Err.group.shelf) at c.in-Err.ensures.ends c.in-Err.ensures.back (sym c.is_down.ensures ∙ c.if-is_down.true)
+    back_cut n note c.args.group.core c.in-Err.group.core (g.S.Shelf.meaning c.args.group.shelf) (g.S.Shelf.meaning c.in-Err.group.shelf) at c.in-Err.ensures.ends c.in-Err.ensures.back c.in-Err.ensures.finds (sym c.is_down.ensures ∙ c.if-is_down.true)
 
 pub returns-else-is_down-clause-leaves : goal.returns-else-is_down-clause-leaves
 returns-else-is_down-clause-leaves g c = λ n note at.
-    back_up n note c.args.group.core c.in-Err.group.core (g.S.Shelf.meaning c.args.group.shelf) (g.S.Shelf.meaning c.in-Err.group.shelf) at c.in-Err.ensures.ends c.in-Err.ensures.back c.in-Err.stop
+    back_up n note c.args.group.core c.in-Err.group.core (g.S.Shelf.meaning c.args.group.shelf) (g.S.Shelf.meaning c.in-Err.group.shelf) at c.in-Err.ensures.ends c.in-Err.ensures.back c.in-Err.ensures.finds c.in-Err.stop
     (greatest - margin < c.args.group.core.inner.config.serial) (c.args.group.core.inner.config.serial ≤ greatest - margin) (cases_lt (greatest - margin) c.args.group.core.inner.config.serial)
     (not_down c.is_down.result (g.S.Shelf.meaning c.in-Err.group.shelf).down c.is_down.ensures c.if-is_down.false)
     (λ low. device_stops {S = g.row.S.Denot × Option Rested} (g.S.Shelf.meaning c.args.group.shelf) (λ s. g.S.Shelf.meaning s.0) (λ y. (y.shelf, None)) c.in-Err.group c.in-Err.stop (c.in-Err.ensures.cause low))

@@ -18,7 +18,7 @@ use Rattle.vx_grouped.proofs.making.make_volume_of.Goals as goal
 pub returns-in-Ok-clause-leaves : goal.returns-in-Ok-clause-leaves
 returns-in-Ok-clause-leaves g c = λ n note at.
     made_leaves n note c.args.name.now c.args.want.now c.args.group.now.core c.make_volume.new.self.core (g.S.Shelf.meaning c.args.group.now.shelf) (g.S.Shelf.meaning c.make_volume.new.self.shelf) at c.make_volume.new.self.stands.group
-    (g.met.S.Shelf.lawful c.make_volume.new.self.shelf) c.make_volume.ensures.below c.make_volume.ensures.stays c.in-Ok.vol c.in-Ok.ensures.held c.in-Ok.ensures.up c.in-Ok.ensures.trust
+    (g.met.S.Shelf.lawful c.make_volume.new.self.shelf) c.make_volume.ensures.below c.make_volume.ensures.stays c.make_volume.ensures.finds c.in-Ok.vol c.in-Ok.ensures.held c.in-Ok.ensures.up c.in-Ok.ensures.trust
     (made_by (VolumeMade c.args.name.now c.args.want.now c.in-Ok.vol c.args.group.now.core.inner c.make_volume.new.self.core.inner (g.S.Shelf.meaning c.make_volume.new.self.shelf)) _ c.in-Ok.vol
     (make_refusal c.args.group.now.core.inner.config c.args.name.now c.args.want.now) refl c.in-Ok.ensures.ends (λ why is. (c.in-Ok.ensures.refused why is).0))
 
@@ -29,7 +29,7 @@ returns-then-is_down-clause-refused g c = λ why is.
 pub returns-then-is_down-clause-leaves : goal.returns-then-is_down-clause-leaves
 returns-then-is_down-clause-leaves g c = λ n note at.
     volume_cut n note c.args.name.now c.args.want.now c.args.group.now.core c.make_volume.new.self.core (g.S.Shelf.meaning c.args.group.now.shelf) (g.S.Shelf.meaning c.make_volume.new.self.shelf) at c.make_volume.new.self.stands.group
-    (g.met.S.Shelf.lawful c.make_volume.new.self.shelf) c.make_volume.ensures.below c.make_volume.ensures.stays (make_refusal c.args.group.now.core.inner.config c.args.name.now c.args.want.now)
+    (g.met.S.Shelf.lawful c.make_volume.new.self.shelf) c.make_volume.ensures.below c.make_volume.ensures.stays c.make_volume.ensures.finds (make_refusal c.args.group.now.core.inner.config c.args.name.now c.args.want.now)
     (λ none. stop_volumes c.args.name.now c.args.want.now c.args.group.now.core.inner c.make_volume.new.self.core.inner (g.S.Shelf.meaning c.args.group.now.shelf) (g.S.Shelf.meaning c.make_volume.new.self.shelf) c.in-Err.stop (c.in-Err.ensures.ends none))
     (λ why is. never_fell g.S.Shelf.meaning c.args.group.now.shelf c.make_volume.new.self.shelf (c.make_volume.ensures.refused why is).2 c.requires.up) (sym c.is_down.ensures ∙ c.if-is_down.true)
 
@@ -42,7 +42,7 @@ returns-then-is_down-clause-ends g c = λ none. (
 pub returns-else-is_down-clause-leaves : goal.returns-else-is_down-clause-leaves
 returns-else-is_down-clause-leaves g c = λ n note at.
     volume_up n note c.args.name.now c.args.want.now c.args.group.now.core c.make_volume.new.self.core (g.S.Shelf.meaning c.args.group.now.shelf) (g.S.Shelf.meaning c.make_volume.new.self.shelf) at c.make_volume.new.self.stands.group
-    (g.met.S.Shelf.lawful c.make_volume.new.self.shelf) c.make_volume.ensures.below c.make_volume.ensures.stays
+    (g.met.S.Shelf.lawful c.make_volume.new.self.shelf) c.make_volume.ensures.below c.make_volume.ensures.stays c.make_volume.ensures.finds
     (not_down c.is_down.result (g.S.Shelf.meaning c.make_volume.new.self.shelf).down c.is_down.ensures c.if-is_down.false)
     ((c.make_volume.new.self.core ≡ c.args.group.now.core) × (c.make_volume.new.self.shelf ≡ c.args.group.now.shelf))
     (λ same. same_at g.S.Shelf.meaning n note c.args.group.now.core c.make_volume.new.self.core c.args.group.now.shelf c.make_volume.new.self.shelf same.0 same.1 at)

@@ -1,6 +1,7 @@
 -- A write that is made durable: what it leaves, and which plexes it takes out of use.
 use Rattle.vx_disk.specs.Shelf.{Written}
 use Rattle.vx_disk.proofs.Runs.{then_nothing}
+use Rattle.vx_group.proofs.FindingLemmas.{then_group}
 use Rattle.vx_group.specs.Holding.{wide}
 use Rattle.vx_group.specs.Laws.{group_lawful}
 use Rattle.vx_group.specs.Stands.{inner_meaning}
@@ -11,7 +12,7 @@ use Rattle.vx_grouped.proofs.plain.write_plain.Goals as goal
 pub returns-in-Err-clause-leaves : goal.returns-in-Err-clause-leaves
 returns-in-Err-clause-leaves g c = λ n note at.
     write_failed n note c.args.vol c.args.block c.args.bytes.now c.args.group.now.core c.write.new.self.core (g.S.Shelf.meaning c.args.group.now.shelf) (g.S.Shelf.meaning c.write.new.self.shelf) at c.args.group.now.stands.group c.write.new.self.stands.group
-    c.write.ensures.loses (Unit {0}) (Unit {0}) c.in-Err.error c.refusal.result c.refusal.ensures c.write.ensures.goes (inner_meaning (wide c.args.group.now.core) (g.S.Shelf.meaning c.args.group.now.shelf)) c.in-Err.ensures.cause
+    c.write.ensures.loses c.write.ensures.finds (Unit {0}) (Unit {0}) c.in-Err.error c.refusal.result c.refusal.ensures c.write.ensures.goes (inner_meaning (wide c.args.group.now.core) (g.S.Shelf.meaning c.args.group.now.shelf)) c.in-Err.ensures.cause
 
 pub returns-in-Ok-flush-clause-loses : goal.returns-in-Ok-flush-clause-loses
 returns-in-Ok-flush-clause-loses g c =
@@ -32,6 +33,7 @@ returns-in-Ok-flush-clause-leaves g c = λ n note at.
     write_done n note c.args.vol c.args.block c.args.bytes.now c.args.group.now.core c.flush.new.self.core (g.S.Shelf.meaning c.args.group.now.shelf) (g.S.Shelf.meaning c.flush.new.self.shelf) at c.args.group.now.stands.group c.flush.new.self.stands.group
     (both_lose (g.S.Shelf.meaning c.args.group.now.shelf) (g.S.Shelf.meaning c.write.new.self.shelf) (g.S.Shelf.meaning c.flush.new.self.shelf) (is_rack c.args.group.now.shelf) (is_rack c.write.new.self.shelf) (is_rack c.flush.new.self.shelf)
     c.write.ensures.goes.disk_faults c.flush.ensures.goes.disk_faults c.args.group.now.core.inner.config c.write.new.self.core.inner.config c.flush.new.self.core.inner.config c.write.ensures.loses c.flush.ensures.loses)
+    (then_group c.args.group.now.core c.write.new.self.core c.flush.new.self.core (g.S.Shelf.meaning c.args.group.now.shelf) (g.S.Shelf.meaning c.write.new.self.shelf) (g.S.Shelf.meaning c.flush.new.self.shelf) c.write.ensures.finds c.flush.ensures.finds)
     (inner_meaning (wide c.write.new.self.core) (g.S.Shelf.meaning c.write.new.self.shelf))
     (group_lawful (wide c.args.group.now.core) (g.S.Shelf.meaning c.args.group.now.shelf) (lawful c.args.group.now.shelf) c.args.group.now.stands.group.stands)
     c.requires.fits c.write.ensures.goes c.in-Ok.ensures.ok c.flush.ensures.goes c.in-Ok-flush.ensures.ok c.in-Ok-flush.ensures.cause (λ is. c.in-Ok-flush.ensures.trust (c.in-Ok.ensures.trust is))
@@ -42,6 +44,7 @@ returns-in-Err-flush-clause-leaves g c = λ n note at.
     write_failed n note c.args.vol c.args.block c.args.bytes.now c.args.group.now.core c.flush.new.self.core (g.S.Shelf.meaning c.args.group.now.shelf) (g.S.Shelf.meaning c.flush.new.self.shelf) at c.args.group.now.stands.group c.flush.new.self.stands.group
     (both_lose (g.S.Shelf.meaning c.args.group.now.shelf) (g.S.Shelf.meaning c.write.new.self.shelf) (g.S.Shelf.meaning c.flush.new.self.shelf) (is_rack c.args.group.now.shelf) (is_rack c.write.new.self.shelf) (is_rack c.flush.new.self.shelf)
     c.write.ensures.goes.disk_faults c.flush.ensures.goes.disk_faults c.args.group.now.core.inner.config c.write.new.self.core.inner.config c.flush.new.self.core.inner.config c.write.ensures.loses c.flush.ensures.loses)
+    (then_group c.args.group.now.core c.write.new.self.core c.flush.new.self.core (g.S.Shelf.meaning c.args.group.now.shelf) (g.S.Shelf.meaning c.write.new.self.shelf) (g.S.Shelf.meaning c.flush.new.self.shelf) c.write.ensures.finds c.flush.ensures.finds)
     (Unit {0}) (Unit {0}) c.in-Err-flush.error c.refusal-in-Err-flush.result c.refusal-in-Err-flush.ensures
     (then_nothing (Written c.args.vol c.args.block c.args.bytes.now) (inner_meaning (wide c.args.group.now.core) (g.S.Shelf.meaning c.args.group.now.shelf)) (inner_meaning (wide c.write.new.self.core) (g.S.Shelf.meaning c.write.new.self.shelf)) (inner_meaning (wide c.flush.new.self.core) (g.S.Shelf.meaning c.flush.new.self.shelf)) c.write.ensures.goes c.flush.ensures.goes)
     (inner_meaning (wide c.write.new.self.core) (g.S.Shelf.meaning c.write.new.self.shelf)) c.in-Err-flush.ensures.cause

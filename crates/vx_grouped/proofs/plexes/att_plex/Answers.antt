@@ -22,7 +22,7 @@ returns-then-is_down-clause-already g c = λ may on.
 pub returns-then-is_down-clause-leaves : goal.returns-then-is_down-clause-leaves
 returns-then-is_down-clause-leaves g c = λ n note at.
     call_cut n note c.args.group.now.core c.att-answer.new.self.core (g.S.Shelf.meaning c.args.group.now.shelf) (g.S.Shelf.meaning c.att-answer.new.self.shelf) at c.att-answer.new.self.stands.group
-    c.att-answer.ensures.attaches.acts.units c.att-answer.ensures.attaches.acts.size c.att-answer.ensures.attaches.goes (sym c.is_down.ensures ∙ c.if-is_down.true)
+    c.att-answer.ensures.attaches.acts.units c.att-answer.ensures.attaches.acts.size c.att-answer.ensures.attaches.goes c.att-answer.ensures.finds (sym c.is_down.ensures ∙ c.if-is_down.true)
 
 pub returns-then-is_down-clause-cause : goal.returns-then-is_down-clause-cause
 returns-then-is_down-clause-cause g c = λ is. sym c.is_down.ensures ∙ c.if-is_down.true
@@ -33,9 +33,9 @@ returns-clause-attached g c = λ off. attached_by c.att-answer.result c.args.vol
 pub returns-clause-leaves : goal.returns-clause-leaves
 returns-clause-leaves g c = λ n note at.
     call_leaves n note c.args.group.now.core c.att-answer.new.self.core (g.S.Shelf.meaning c.args.group.now.shelf) (g.S.Shelf.meaning c.att-answer.new.self.shelf) at c.att-answer.new.self.stands.group
-    c.att-answer.ensures.attaches.acts.units c.att-answer.ensures.attaches.acts.size c.att-answer.ensures.attaches.goes
+    c.att-answer.ensures.attaches.acts.units c.att-answer.ensures.attaches.acts.size c.att-answer.ensures.attaches.goes c.att-answer.ensures.finds
     c.att-answer.result (att_refusal c.args.group.now.core.inner.config c.args.vol c.args.plex) (not_down c.is_down.result (g.S.Shelf.meaning c.att-answer.new.self.shelf).down c.is_down.ensures c.if-is_down.false)
-    c.att-answer.ensures.trust c.att-answer.ensures.cause
+    c.att-answer.ensures.trust c.att-answer.ensures.free c.att-answer.ensures.cause
     (λ why is. ((c.att-answer.ensures.refused why is).0, same_at g.S.Shelf.meaning n note c.args.group.now.core c.att-answer.new.self.core c.args.group.now.shelf c.att-answer.new.self.shelf (c.att-answer.ensures.refused why is).1 (c.att-answer.ensures.refused why is).2 at))
     (att_not_down (nat_le (length c.args.group.now.core.inner.config.volumes) c.args.vol) (nat_le (plexes_of c.args.group.now.core.inner.config c.args.vol) c.args.plex)
     (nat_lt (greatest - margin) c.args.group.now.core.inner.config.serial) c.args.vol c.args.plex greatest)

@@ -1,12 +1,12 @@
 -- A plex that is detached: what it leaves, and refusals of disks that are down behind it.
-use Rattle.std.proofs.Common.{◌∙◌, ◌-◌, ◌&&◌, length, sym}
+use Rattle.std.proofs.Common.{◌∙◌, ◌≡◌, ◌-◌, ◌&&◌, None, length, sym}
 use Rattle.std.specs.Prelude.{nat_le, nat_lt, not}
 use Rattle.vx_config.specs.Checks.{plexes_of}
 use Rattle.vx_config.specs.Table.{greatest}
 use Rattle.vx_group.specs.Dets.{any_below, det_refusal, is_other, margin}
 use Rattle.vx_group.proofs.CallLemmas.{not_down}
 use Rattle.vx_grouped.proofs.BothLemmas.{moves_by}
-use Rattle.vx_grouped.proofs.KeepLemmas.{agreed_either, call_cut, call_leaves, det_not_down, never_fell, same_at}
+use Rattle.vx_grouped.proofs.KeepLemmas.{agreed_either, call_cut, call_leaves, det_not_down, free_either, never_fell, same_at}
 use Rattle.vx_volume.specs.Plexes.{active}
 use Rattle.vx_grouped.proofs.plexes.det_plex.Goals as goal
 
@@ -17,7 +17,7 @@ returns-then-is_down-clause-refused g c = λ why is.
 pub returns-then-is_down-clause-leaves : goal.returns-then-is_down-clause-leaves
 returns-then-is_down-clause-leaves g c = λ n note at.
     call_cut n note c.args.group.now.core c.det-answer.new.self.core (g.S.Shelf.meaning c.args.group.now.shelf) (g.S.Shelf.meaning c.det-answer.new.self.shelf) at c.det-answer.new.self.stands.group
-    c.det-answer.ensures.below.units c.det-answer.ensures.below.size c.det-answer.ensures.goes (sym c.is_down.ensures ∙ c.if-is_down.true)
+    c.det-answer.ensures.below.units c.det-answer.ensures.below.size c.det-answer.ensures.goes c.det-answer.ensures.finds.core (sym c.is_down.ensures ∙ c.if-is_down.true)
 
 pub returns-then-is_down-clause-agreed : goal.returns-then-is_down-clause-agreed
 returns-then-is_down-clause-agreed g c =
@@ -29,9 +29,9 @@ returns-then-is_down-clause-cause g c = λ is. sym c.is_down.ensures ∙ c.if-is
 pub returns-clause-leaves : goal.returns-clause-leaves
 returns-clause-leaves g c = λ n note at.
     call_leaves n note c.args.group.now.core c.det-answer.new.self.core (g.S.Shelf.meaning c.args.group.now.shelf) (g.S.Shelf.meaning c.det-answer.new.self.shelf) at c.det-answer.new.self.stands.group
-    c.det-answer.ensures.below.units c.det-answer.ensures.below.size c.det-answer.ensures.goes
+    c.det-answer.ensures.below.units c.det-answer.ensures.below.size c.det-answer.ensures.goes c.det-answer.ensures.finds.core
     c.det-answer.result (det_refusal c.args.group.now.core.inner.config c.args.vol c.args.plex) (not_down c.is_down.result (g.S.Shelf.meaning c.det-answer.new.self.shelf).down c.is_down.ensures c.if-is_down.false)
-    c.det-answer.ensures.trust c.det-answer.ensures.cause
+    c.det-answer.ensures.trust (free_either c.det-answer.result (c.args.group.now.core.held ≡ None → c.det-answer.new.self.core.held ≡ None) c.det-answer.ensures.finds.free) c.det-answer.ensures.cause
     (λ why is. ((c.det-answer.ensures.refused why is).0, same_at g.S.Shelf.meaning n note c.args.group.now.core c.det-answer.new.self.core c.args.group.now.shelf c.det-answer.new.self.shelf (c.det-answer.ensures.refused why is).1 (c.det-answer.ensures.refused why is).2 at))
     (det_not_down (nat_le (length c.args.group.now.core.inner.config.volumes) c.args.vol) (nat_le (plexes_of c.args.group.now.core.inner.config c.args.vol) c.args.plex)
     (active c.args.group.now.core.inner.config c.args.vol c.args.plex && not (any_below (is_other c.args.group.now.core.inner.config c.args.vol c.args.plex) (plexes_of c.args.group.now.core.inner.config c.args.vol)))

@@ -1,4 +1,4 @@
--- `commit_clean`: clauses acts, ends, can, wanted and trusts; what `commit_in` asks.
+-- `commit_clean`: clauses acts, ends, can, wanted, finds and trusts; what `commit_in` asks.
 use Rattle.std.proofs.Common.{◌≡◌, true, refl, sym, subst}
 use Rattle.vx_disk.specs.Shelf.{Meaning}
 use Rattle.vx_config.specs.Configs.{CanSpell}
@@ -6,11 +6,12 @@ use Rattle.vx_config.specs.declared.config.Config.{Config}
 use Rattle.vx_copies.specs.Bodies.{is_wanted}
 use Rattle.vx_kept.specs.Cleans.{Shown, at_serial}
 use Rattle.vx_kept.specs.Commits.{Left, Member}
+use Rattle.vx_kept.specs.Finds.{FindsFrom, IsTryOf}
 use Rattle.vx_kept.proofs.CleanCommits.{clean_back, clean_follows, clean_shown, clean_tidy, clean_wanted}
 use Rattle.vx_kept.proofs.Committed.{base_of, take_acts, take_refused}
 use Rattle.vx_kept.proofs.Narrower.{sound_few, wanted_sound}
 use Rattle.vx_kept.proofs.Staling.{all_serial, can_serial, wanted_back}
-use Rattle.vx_kept.proofs.Trusting.{sees_of, trust_done, trust_left}
+use Rattle.vx_kept.proofs.Trusting.{sees_of, tried_finds, trust_done, trust_left}
 use Rattle.vx_kept.proofs.committing.commit_clean.Goals as goal
 
 pub commit_in-requires-clause-wanted : goal.commit_in-requires-clause-wanted
@@ -103,3 +104,23 @@ returns-in-Err-clause-trusts g c =
     (clean_follows c.args.unsure.now c.args.config.now c.make_clean.new.config c.make_clean.ensures.cleaned (wanted_sound (g.S.Shelf.meaning c.args.shelf.now).units (g.S.Shelf.meaning c.args.shelf.now).size c.args.config.now c.requires.wanted) c.requires.on).serial
     (sees_of c.args.config.now (Member c.args.good (g.S.Shelf.meaning c.args.shelf.now)) (g.S.Shelf.meaning c.args.shelf.now) c.requires.kept) c.commit_in.ensures.begins.moves.units c.commit_in.ensures.begins.moves.size c.commit_in.ensures.begins.moves.tells
     c.commit_in.new.config.serial c.commit_in.ensures.finds
+
+pub returns-in-Ok-clause-finds : goal.returns-in-Ok-clause-finds
+returns-in-Ok-clause-finds g c =
+    subst (λ (a : Config). FindsFrom (IsTryOf a) (g.S.Shelf.meaning c.args.shelf.now) (g.S.Shelf.meaning c.commit_in.new.shelf)) c.make_clean.ensures.cleaned
+    (tried_finds c.args.good c.args.config.now c.make_clean.new.config c.commit_in.new.config (g.S.Shelf.meaning c.args.shelf.now) (g.S.Shelf.meaning c.commit_in.new.shelf) (g.met.S.Shelf.lawful c.args.shelf.now) (g.met.S.Shelf.lawful c.commit_in.new.shelf)
+    (base_of c.args.config.now (Member c.args.good (g.S.Shelf.meaning c.args.shelf.now)) (g.S.Shelf.meaning c.args.shelf.now) c.requires.kept)
+    (clean_tidy c.args.unsure.now c.args.config.now c.make_clean.new.config c.make_clean.ensures.cleaned (g.S.Shelf.meaning c.args.shelf.now) c.requires.tidy)
+    (clean_follows c.args.unsure.now c.args.config.now c.make_clean.new.config c.make_clean.ensures.cleaned (wanted_sound (g.S.Shelf.meaning c.args.shelf.now).units (g.S.Shelf.meaning c.args.shelf.now).size c.args.config.now c.requires.wanted) c.requires.on).serial
+    (sees_of c.args.config.now (Member c.args.good (g.S.Shelf.meaning c.args.shelf.now)) (g.S.Shelf.meaning c.args.shelf.now) c.requires.kept) c.commit_in.ensures.begins.moves.units c.commit_in.ensures.begins.moves.size c.commit_in.ensures.begins.moves.tells
+    c.commit_in.new.config.serial c.commit_in.ensures.finds)
+
+pub returns-in-Err-clause-finds : goal.returns-in-Err-clause-finds
+returns-in-Err-clause-finds g c =
+    subst (λ (a : Config). FindsFrom (IsTryOf a) (g.S.Shelf.meaning c.args.shelf.now) (g.S.Shelf.meaning c.commit_in.new.shelf)) c.make_clean.ensures.cleaned
+    (tried_finds c.args.good c.args.config.now c.make_clean.new.config c.commit_in.new.config (g.S.Shelf.meaning c.args.shelf.now) (g.S.Shelf.meaning c.commit_in.new.shelf) (g.met.S.Shelf.lawful c.args.shelf.now) (g.met.S.Shelf.lawful c.commit_in.new.shelf)
+    (base_of c.args.config.now (Member c.args.good (g.S.Shelf.meaning c.args.shelf.now)) (g.S.Shelf.meaning c.args.shelf.now) c.requires.kept)
+    (clean_tidy c.args.unsure.now c.args.config.now c.make_clean.new.config c.make_clean.ensures.cleaned (g.S.Shelf.meaning c.args.shelf.now) c.requires.tidy)
+    (clean_follows c.args.unsure.now c.args.config.now c.make_clean.new.config c.make_clean.ensures.cleaned (wanted_sound (g.S.Shelf.meaning c.args.shelf.now).units (g.S.Shelf.meaning c.args.shelf.now).size c.args.config.now c.requires.wanted) c.requires.on).serial
+    (sees_of c.args.config.now (Member c.args.good (g.S.Shelf.meaning c.args.shelf.now)) (g.S.Shelf.meaning c.args.shelf.now) c.requires.kept) c.commit_in.ensures.begins.moves.units c.commit_in.ensures.begins.moves.size c.commit_in.ensures.begins.moves.tells
+    c.commit_in.new.config.serial c.commit_in.ensures.finds)

@@ -1,16 +1,17 @@
--- `commit_stale`: clauses acts, on, ends, can, wanted, named and trusts; what `commit_named` asks.
+-- `commit_stale`: clauses acts, on, ends, can, wanted, named, finds and trusts; what `commit_named` asks.
 use Rattle.std.proofs.Common.{ap, inl, inr, ⊎_elim, ◌∙◌, ◌≡◌, true, refl, sym, subst}
 use Rattle.vx_disk.specs.Shelf.{Meaning}
 use Rattle.vx_config.specs.Configs.{CanSpell}
 use Rattle.vx_config.specs.declared.config.Config.{Config}
 use Rattle.vx_copies.specs.Bodies.{is_wanted}
 use Rattle.vx_kept.specs.Commits.{Left, Member, Taken}
+use Rattle.vx_kept.specs.Finds.{FindsFrom, IsTryOf}
 use Rattle.vx_kept.specs.Keeping.{AllOn}
 use Rattle.vx_kept.proofs.Committed.{base_of, take_acts, take_done, take_on, take_refused}
 use Rattle.vx_kept.proofs.Narrower.{sound_few, wanted_sound}
 use Rattle.vx_kept.proofs.StateLemmas.{is_staled}
 use Rattle.vx_kept.proofs.Staling.{all_serial, can_serial, on_serial, put_back, stale_follows, stale_on, stale_tidy, stale_wanted, wanted_back, with_serial}
-use Rattle.vx_kept.proofs.Trusting.{sees_of, trust_done, trust_left}
+use Rattle.vx_kept.proofs.Trusting.{sees_of, tried_finds, trust_done, trust_left}
 use Rattle.vx_kept.proofs.committing.commit_stale.Goals as goal
 
 pub commit_named-requires-clause-wanted : goal.commit_named-requires-clause-wanted
@@ -93,3 +94,23 @@ returns-in-Err-clause-trusts g c =
     (stale_follows c.args.vol c.args.set c.args.config.now c.make_stale.new.config c.make_stale.ensures.staled c.requires.left (wanted_sound (g.S.Shelf.meaning c.args.shelf.now).units (g.S.Shelf.meaning c.args.shelf.now).size c.args.config.now c.requires.wanted) c.requires.on).serial
     (sees_of c.args.config.now (Member c.args.good (g.S.Shelf.meaning c.args.shelf.now)) (g.S.Shelf.meaning c.args.shelf.now) c.requires.kept) c.commit_named.ensures.begins.moves.units c.commit_named.ensures.begins.moves.size c.commit_named.ensures.begins.moves.tells
     c.commit_named.new.config.serial c.commit_named.ensures.finds
+
+pub returns-in-Ok-clause-finds : goal.returns-in-Ok-clause-finds
+returns-in-Ok-clause-finds g c =
+    subst (λ (a : Config). FindsFrom (IsTryOf a) (g.S.Shelf.meaning c.args.shelf.now) (g.S.Shelf.meaning c.commit_named.new.shelf)) c.make_stale.ensures.staled
+    (tried_finds c.args.good c.args.config.now c.make_stale.new.config c.commit_named.new.config (g.S.Shelf.meaning c.args.shelf.now) (g.S.Shelf.meaning c.commit_named.new.shelf) (g.met.S.Shelf.lawful c.args.shelf.now) (g.met.S.Shelf.lawful c.commit_named.new.shelf)
+    (base_of c.args.config.now (Member c.args.good (g.S.Shelf.meaning c.args.shelf.now)) (g.S.Shelf.meaning c.args.shelf.now) c.requires.kept)
+    (stale_tidy c.args.vol c.args.set c.args.config.now c.make_stale.new.config c.make_stale.ensures.staled (g.S.Shelf.meaning c.args.shelf.now) c.requires.tidy)
+    (stale_follows c.args.vol c.args.set c.args.config.now c.make_stale.new.config c.make_stale.ensures.staled c.requires.left (wanted_sound (g.S.Shelf.meaning c.args.shelf.now).units (g.S.Shelf.meaning c.args.shelf.now).size c.args.config.now c.requires.wanted) c.requires.on).serial
+    (sees_of c.args.config.now (Member c.args.good (g.S.Shelf.meaning c.args.shelf.now)) (g.S.Shelf.meaning c.args.shelf.now) c.requires.kept) c.commit_named.ensures.begins.moves.units c.commit_named.ensures.begins.moves.size c.commit_named.ensures.begins.moves.tells
+    c.commit_named.new.config.serial c.commit_named.ensures.finds)
+
+pub returns-in-Err-clause-finds : goal.returns-in-Err-clause-finds
+returns-in-Err-clause-finds g c =
+    subst (λ (a : Config). FindsFrom (IsTryOf a) (g.S.Shelf.meaning c.args.shelf.now) (g.S.Shelf.meaning c.commit_named.new.shelf)) c.make_stale.ensures.staled
+    (tried_finds c.args.good c.args.config.now c.make_stale.new.config c.commit_named.new.config (g.S.Shelf.meaning c.args.shelf.now) (g.S.Shelf.meaning c.commit_named.new.shelf) (g.met.S.Shelf.lawful c.args.shelf.now) (g.met.S.Shelf.lawful c.commit_named.new.shelf)
+    (base_of c.args.config.now (Member c.args.good (g.S.Shelf.meaning c.args.shelf.now)) (g.S.Shelf.meaning c.args.shelf.now) c.requires.kept)
+    (stale_tidy c.args.vol c.args.set c.args.config.now c.make_stale.new.config c.make_stale.ensures.staled (g.S.Shelf.meaning c.args.shelf.now) c.requires.tidy)
+    (stale_follows c.args.vol c.args.set c.args.config.now c.make_stale.new.config c.make_stale.ensures.staled c.requires.left (wanted_sound (g.S.Shelf.meaning c.args.shelf.now).units (g.S.Shelf.meaning c.args.shelf.now).size c.args.config.now c.requires.wanted) c.requires.on).serial
+    (sees_of c.args.config.now (Member c.args.good (g.S.Shelf.meaning c.args.shelf.now)) (g.S.Shelf.meaning c.args.shelf.now) c.requires.kept) c.commit_named.ensures.begins.moves.units c.commit_named.ensures.begins.moves.size c.commit_named.ensures.begins.moves.tells
+    c.commit_named.new.config.serial c.commit_named.ensures.finds)

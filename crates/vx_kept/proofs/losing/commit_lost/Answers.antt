@@ -4,12 +4,13 @@ use Rattle.vx_config.specs.Configs.{CanSpell}
 use Rattle.vx_config.specs.declared.config.Config.{Config}
 use Rattle.vx_copies.specs.Bodies.{is_wanted}
 use Rattle.vx_kept.specs.Commits.{Left, Member, Taken}
+use Rattle.vx_kept.specs.Finds.{FindsFrom, IsTryOf}
 use Rattle.vx_kept.specs.Keeping.{AllOn}
 use Rattle.vx_kept.proofs.Committed.{base_of, take_acts, take_done, take_on, take_refused}
 use Rattle.vx_kept.proofs.LosingLemmas.{flag_serial, lost_follows, lost_on, lost_refused, lost_tidy, lost_wanted}
 use Rattle.vx_kept.proofs.Narrower.{sound_few, wanted_sound}
 use Rattle.vx_kept.proofs.Staling.{all_serial, can_serial, wanted_back, with_serial}
-use Rattle.vx_kept.proofs.Trusting.{sees_of, trust_done, trust_left}
+use Rattle.vx_kept.proofs.Trusting.{sees_of, tried_finds, trust_done, trust_left}
 use Rattle.vx_kept.proofs.losing.commit_lost.Goals as goal
 
 pub commit_named-requires-clause-wanted : goal.commit_named-requires-clause-wanted
@@ -101,3 +102,23 @@ returns-in-Err-clause-trusts g c =
     (lost_follows c.args.config.now c.lose.new.config c.lose.ensures.same (wanted_sound (g.S.Shelf.meaning c.args.shelf.now).units (g.S.Shelf.meaning c.args.shelf.now).size c.args.config.now c.requires.wanted) c.requires.on).serial
     (sees_of c.args.config.now (Member c.args.good (g.S.Shelf.meaning c.args.shelf.now)) (g.S.Shelf.meaning c.args.shelf.now) c.requires.kept) c.commit_named.ensures.begins.moves.units c.commit_named.ensures.begins.moves.size c.commit_named.ensures.begins.moves.tells
     c.commit_named.new.config.serial c.commit_named.ensures.finds
+
+pub returns-in-Ok-clause-finds : goal.returns-in-Ok-clause-finds
+returns-in-Ok-clause-finds g c =
+    subst (λ (a : Config). FindsFrom (IsTryOf a) (g.S.Shelf.meaning c.args.shelf.now) (g.S.Shelf.meaning c.commit_named.new.shelf)) c.lose.ensures.changed
+    (tried_finds c.args.good c.args.config.now c.lose.new.config c.commit_named.new.config (g.S.Shelf.meaning c.args.shelf.now) (g.S.Shelf.meaning c.commit_named.new.shelf) (g.met.S.Shelf.lawful c.args.shelf.now) (g.met.S.Shelf.lawful c.commit_named.new.shelf)
+    (base_of c.args.config.now (Member c.args.good (g.S.Shelf.meaning c.args.shelf.now)) (g.S.Shelf.meaning c.args.shelf.now) c.requires.kept)
+    (lost_tidy c.args.config.now c.lose.new.config c.lose.ensures.same (g.S.Shelf.meaning c.args.shelf.now) c.requires.tidy)
+    (lost_follows c.args.config.now c.lose.new.config c.lose.ensures.same (wanted_sound (g.S.Shelf.meaning c.args.shelf.now).units (g.S.Shelf.meaning c.args.shelf.now).size c.args.config.now c.requires.wanted) c.requires.on).serial
+    (sees_of c.args.config.now (Member c.args.good (g.S.Shelf.meaning c.args.shelf.now)) (g.S.Shelf.meaning c.args.shelf.now) c.requires.kept) c.commit_named.ensures.begins.moves.units c.commit_named.ensures.begins.moves.size c.commit_named.ensures.begins.moves.tells
+    c.commit_named.new.config.serial c.commit_named.ensures.finds)
+
+pub returns-in-Err-clause-finds : goal.returns-in-Err-clause-finds
+returns-in-Err-clause-finds g c =
+    subst (λ (a : Config). FindsFrom (IsTryOf a) (g.S.Shelf.meaning c.args.shelf.now) (g.S.Shelf.meaning c.commit_named.new.shelf)) c.lose.ensures.changed
+    (tried_finds c.args.good c.args.config.now c.lose.new.config c.commit_named.new.config (g.S.Shelf.meaning c.args.shelf.now) (g.S.Shelf.meaning c.commit_named.new.shelf) (g.met.S.Shelf.lawful c.args.shelf.now) (g.met.S.Shelf.lawful c.commit_named.new.shelf)
+    (base_of c.args.config.now (Member c.args.good (g.S.Shelf.meaning c.args.shelf.now)) (g.S.Shelf.meaning c.args.shelf.now) c.requires.kept)
+    (lost_tidy c.args.config.now c.lose.new.config c.lose.ensures.same (g.S.Shelf.meaning c.args.shelf.now) c.requires.tidy)
+    (lost_follows c.args.config.now c.lose.new.config c.lose.ensures.same (wanted_sound (g.S.Shelf.meaning c.args.shelf.now).units (g.S.Shelf.meaning c.args.shelf.now).size c.args.config.now c.requires.wanted) c.requires.on).serial
+    (sees_of c.args.config.now (Member c.args.good (g.S.Shelf.meaning c.args.shelf.now)) (g.S.Shelf.meaning c.args.shelf.now) c.requires.kept) c.commit_named.ensures.begins.moves.units c.commit_named.ensures.begins.moves.size c.commit_named.ensures.begins.moves.tells
+    c.commit_named.new.config.serial c.commit_named.ensures.finds)

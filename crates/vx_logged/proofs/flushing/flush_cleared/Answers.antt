@@ -11,6 +11,7 @@ use Rattle.vx_groupmaps.specs.Missing.{none_spared}
 use Rattle.vx_groupmaps.proofs.KnowLemmas.{note_same}
 use Rattle.vx_logged.proofs.StandLemmas.{cause_to, each_on, flushed_alike, flushed_then, others_each, others_then, same_fewer}
 use Rattle.vx_group.proofs.LoseLemmas.{then_along}
+use Rattle.vx_group.proofs.FindingLemmas.{then_group}
 use Rattle.vx_logged.proofs.flushing.flush_cleared.Goals as goal
 
 pub clear_group-requires-clause-there : goal.clear_group-requires-clause-there
@@ -131,3 +132,23 @@ pub returns-in-Err-clear_group-clause-loses : goal.returns-in-Err-clear_group-cl
 returns-in-Err-clear_group-clause-loses g c =
     then_along c.args.core.now.inner.config c.flush_group.new.core.inner.config c.clear_group.new.core.inner.config (g.S.Shelf.meaning c.args.shelf.now) (g.S.Shelf.meaning c.flush_group.new.shelf) (g.S.Shelf.meaning c.clear_group.new.shelf)
     (record { loses = c.flush_group.ensures.loses; rises = c.flush_group.ensures.acts.acts.faults }) c.clear_group.ensures.loses
+
+pub returns-in-Err-clause-finds : goal.returns-in-Err-clause-finds
+returns-in-Err-clause-finds g c =
+    c.flush_group.ensures.finds
+
+pub returns-then-not-sure-clause-finds : goal.returns-then-not-sure-clause-finds
+returns-then-not-sure-clause-finds g c =
+    c.flush_group.ensures.finds
+
+pub returns-in-Ok-clear_group-clause-finds : goal.returns-in-Ok-clear_group-clause-finds
+returns-in-Ok-clear_group-clause-finds g c =
+    then_group c.args.core.now c.flush_group.new.core c.clear_group.new.core (g.S.Shelf.meaning c.args.shelf.now) (g.S.Shelf.meaning c.flush_group.new.shelf) (g.S.Shelf.meaning c.clear_group.new.shelf)
+    (c.flush_group.ensures.finds)
+    c.clear_group.ensures.finds
+
+pub returns-in-Err-clear_group-clause-finds : goal.returns-in-Err-clear_group-clause-finds
+returns-in-Err-clear_group-clause-finds g c =
+    then_group c.args.core.now c.flush_group.new.core c.clear_group.new.core (g.S.Shelf.meaning c.args.shelf.now) (g.S.Shelf.meaning c.flush_group.new.shelf) (g.S.Shelf.meaning c.clear_group.new.shelf)
+    (c.flush_group.ensures.finds)
+    c.clear_group.ensures.finds

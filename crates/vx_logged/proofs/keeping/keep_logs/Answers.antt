@@ -11,6 +11,7 @@ use Rattle.vx_logged.proofs.RefuseLemmas.{map_said}
 use Rattle.vx_logged.proofs.StandLemmas.{each_then, narrowed_then}
 use Rattle.vx_group.proofs.LoseLemmas.{then_along}
 use Rattle.vx_group.proofs.UnitLemmas.{then_units}
+use Rattle.vx_group.proofs.FindingLemmas.{then_group}
 use Rattle.vx_logged.proofs.keeping.keep_logs.Goals as goal
 
 pub returns-in-Ok-keep_map-clause-goes : goal.returns-in-Ok-keep_map-clause-goes
@@ -54,3 +55,19 @@ returns-in-Ok-keep_map-clause-below g c = then_units (g.S.Shelf.meaning c.args.s
 
 pub returns-in-Err-keep_map-clause-below : goal.returns-in-Err-keep_map-clause-below
 returns-in-Err-keep_map-clause-below g c = then_units (g.S.Shelf.meaning c.args.shelf.now) (g.S.Shelf.meaning c.keep_log.new.shelf) (g.S.Shelf.meaning c.keep_map.new.shelf) c.keep_log.ensures.below c.keep_map.ensures.below
+
+pub returns-in-Ok-keep_map-clause-finds : goal.returns-in-Ok-keep_map-clause-finds
+returns-in-Ok-keep_map-clause-finds g c =
+    then_group c.args.core.now c.keep_log.new.core c.keep_map.new.core (g.S.Shelf.meaning c.args.shelf.now) (g.S.Shelf.meaning c.keep_log.new.shelf) (g.S.Shelf.meaning c.keep_map.new.shelf)
+    c.keep_log.ensures.finds
+    c.keep_map.ensures.finds
+
+pub returns-in-Err-keep_map-clause-finds : goal.returns-in-Err-keep_map-clause-finds
+returns-in-Err-keep_map-clause-finds g c =
+    then_group c.args.core.now c.keep_log.new.core c.keep_map.new.core (g.S.Shelf.meaning c.args.shelf.now) (g.S.Shelf.meaning c.keep_log.new.shelf) (g.S.Shelf.meaning c.keep_map.new.shelf)
+    c.keep_log.ensures.finds
+    c.keep_map.ensures.finds
+
+pub returns-then-not-done-clause-finds : goal.returns-then-not-done-clause-finds
+returns-then-not-done-clause-finds g c =
+    c.keep_log.ensures.finds

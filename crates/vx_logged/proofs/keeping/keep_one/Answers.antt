@@ -7,6 +7,7 @@ use Rattle.vx_group.proofs.LostLemmas.{if_ok_from}
 use Rattle.vx_group.proofs.UnitLemmas.{acts_units, same_units}
 use Rattle.vx_logged.proofs.StandLemmas.{each_on, each_same, narrowed_acts, narrowed_same}
 use Rattle.vx_group.proofs.LoseLemmas.{along_none}
+use Rattle.vx_group.proofs.FindingLemmas.{still_group}
 use Rattle.vx_logged.proofs.keeping.keep_one.Goals as goal
 
 pub returns-then-is_down-clause-logs : goal.returns-then-is_down-clause-logs
@@ -96,3 +97,23 @@ returns-clause-loses g c = record { loses = c.lose_group.ensures.loses; rises = 
 
 pub returns-then-core-clause-loses : goal.returns-then-core-clause-loses
 returns-then-core-clause-loses g c = along_none c.args.core.now.inner.config (g.S.Shelf.meaning c.args.shelf.now)
+
+pub returns-then-is_down-clause-finds : goal.returns-then-is_down-clause-finds
+returns-then-is_down-clause-finds g c =
+    still_group c.args.core.now (g.S.Shelf.meaning c.args.shelf.now)
+
+pub returns-then-has-clause-finds : goal.returns-then-has-clause-finds
+returns-then-has-clause-finds g c =
+    still_group c.args.core.now (g.S.Shelf.meaning c.args.shelf.now)
+
+pub returns-then-not-is_trusted-clause-finds : goal.returns-then-not-is_trusted-clause-finds
+returns-then-not-is_trusted-clause-finds g c =
+    still_group c.args.core.now (g.S.Shelf.meaning c.args.shelf.now)
+
+pub returns-clause-finds : goal.returns-clause-finds
+returns-clause-finds g c =
+    c.lose_group.ensures.finds
+
+pub returns-then-core-clause-finds : goal.returns-then-core-clause-finds
+returns-then-core-clause-finds g c =
+    still_group c.args.core.now (g.S.Shelf.meaning c.args.shelf.now)

@@ -11,6 +11,7 @@ use Rattle.vx_logged.proofs.StandLemmas.{each_on, each_same, narrowed_acts, narr
 use Rattle.vx_group.proofs.LoseLemmas.{along_none, loses_none}
 use Rattle.vx_group.proofs.UnitLemmas.{acts_units, same_units}
 use Rattle.vx_kept.proofs.Chosen.{active_volumes}
+use Rattle.vx_group.proofs.FindingLemmas.{still_group, as_finds}
 use Rattle.vx_logged.proofs.readying.ready_group.Goals as goal
 
 pub returns-then-is_down-clause-logs : goal.returns-then-is_down-clause-logs
@@ -77,3 +78,18 @@ returns-in-Err-clause-still g c = active_volumes c.release.new.core.inner.config
 
 pub returns-in-Err-clause-below : goal.returns-in-Err-clause-below
 returns-in-Err-clause-below g c = acts_units Nothing _ (g.S.Shelf.meaning c.args.shelf.now) (g.S.Shelf.meaning c.release.new.shelf) c.release.ensures.narrows.acts
+
+pub returns-then-is_down-clause-finds : goal.returns-then-is_down-clause-finds
+returns-then-is_down-clause-finds g c =
+    still_group c.args.core.now (g.S.Shelf.meaning c.args.shelf.now)
+
+pub returns-in-Ok-clause-finds : goal.returns-in-Ok-clause-finds
+returns-in-Ok-clause-finds g c =
+    c.release.ensures.finds
+
+pub returns-in-Err-clause-finds : goal.returns-in-Err-clause-finds
+returns-in-Err-clause-finds g c =
+    record {
+      core = as_finds (wide c.args.core.now) (wide c.release.new.core) _ (g.S.Shelf.meaning c.args.shelf.now) (g.S.Shelf.meaning c.release.new.shelf) refl refl refl c.release.ensures.finds.core;
+      free = c.release.ensures.finds.free;
+    }

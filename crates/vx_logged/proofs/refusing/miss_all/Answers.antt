@@ -7,7 +7,7 @@ use Rattle.vx_group.proofs.Standing.{fit_of, sound_of}
 use Rattle.vx_grouplogs.proofs.LogShape.{fits_same, same_count}
 use Rattle.vx_groupmaps.proofs.KnowLemmas.{note_none}
 use Rattle.vx_logged.specs.Behind.{all_those}
-use Rattle.vx_logged.proofs.RefuseLemmas.{ends_know, ends_note, ends_on, maps_Stands, maps_nothing, maps_others, missed_goes, none_know, none_on}
+use Rattle.vx_logged.proofs.RefuseLemmas.{ends_know, ends_note, ends_on, maps_Stands, maps_nothing, maps_others, missed_goes, none_know, none_on, maps_finds}
 use Rattle.vx_logged.proofs.StandLemmas.{inner_wide}
 use Rattle.vx_logged.proofs.refusing.miss_all.Goals as goal
 
@@ -74,3 +74,11 @@ returns-clause-knows g c = λ know. none_know (wide c.args.core.now).config c.ar
 
 pub returns-clause-notes : goal.returns-clause-notes
 returns-clause-notes g c = note_none all_those _ _ c.args.logs.now (record { drl = c.miss_run.new.logs.drl; fmr = None }) refl
+
+pub returns-clause-less : goal.returns-clause-less
+returns-clause-less g c =
+    maps_finds c.args.core.now c.args.vol (g.S.Shelf.meaning c.args.shelf.now) (g.S.Shelf.meaning c.miss_run.new.shelf) c.requires.stands (missed_goes (wide c.args.core.now).config (sound_of (wide c.args.core.now) (g.S.Shelf.meaning c.args.shelf.now) c.requires.stands.stands) c.args.vol (omega (arith, c.requires.some, c.requires.within)) c.args.logs.now (record { drl = c.miss_run.new.logs.drl; fmr = None }) (g.S.Shelf.meaning c.args.shelf.now) (g.S.Shelf.meaning c.miss_run.new.shelf) (fit_of (wide c.args.core.now) (g.S.Shelf.meaning c.args.shelf.now) c.requires.stands.stands) c.requires.log c.miss_run.ensures.drl c.miss_run.ensures.goes) (g.met.S.Shelf.lawful c.args.shelf.now) (g.met.S.Shelf.lawful c.miss_run.new.shelf)
+
+pub returns-in-Ok-clause-less : goal.returns-in-Ok-clause-less
+returns-in-Ok-clause-less g c =
+    maps_finds c.args.core.now c.args.vol (g.S.Shelf.meaning c.args.shelf.now) (g.S.Shelf.meaning c.miss_run.new.shelf) c.requires.stands (missed_goes (wide c.args.core.now).config (sound_of (wide c.args.core.now) (g.S.Shelf.meaning c.args.shelf.now) c.requires.stands.stands) c.args.vol (omega (arith, c.requires.some, c.requires.within)) c.args.logs.now c.miss_run.new.logs (g.S.Shelf.meaning c.args.shelf.now) (g.S.Shelf.meaning c.miss_run.new.shelf) (fit_of (wide c.args.core.now) (g.S.Shelf.meaning c.args.shelf.now) c.requires.stands.stands) c.requires.log c.miss_run.ensures.drl c.miss_run.ensures.goes) (g.met.S.Shelf.lawful c.args.shelf.now) (g.met.S.Shelf.lawful c.miss_run.new.shelf)

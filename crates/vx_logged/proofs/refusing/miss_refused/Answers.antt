@@ -8,6 +8,8 @@ use Rattle.vx_groupmaps.specs.Missing.{OnMaps}
 use Rattle.vx_groupmaps.proofs.KnowLemmas.{note_same}
 use Rattle.vx_logged.specs.Behind.{all_those}
 use Rattle.vx_logged.proofs.StandLemmas.{each_same, others_each}
+use Rattle.vx_kept.proofs.Findings.{same_from}
+use Rattle.vx_kept.specs.Finds.{NoConfiguration}
 use Rattle.vx_logged.proofs.refusing.miss_refused.Goals as goal
 
 pub miss_all-requires-clause-log : goal.miss_all-requires-clause-log
@@ -36,3 +38,7 @@ returns-clause-log g c = λ is. c.miss_all.ensures.log
 
 pub returns-clause-knows : goal.returns-clause-knows
 returns-clause-knows g c = λ is. c.miss_all.ensures.knows
+
+pub returns-then-stopped-clause-less : goal.returns-then-stopped-clause-less
+returns-then-stopped-clause-less g c =
+    same_from NoConfiguration (g.S.Shelf.meaning c.args.shelf.now)

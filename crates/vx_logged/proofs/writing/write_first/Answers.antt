@@ -14,6 +14,7 @@ use Rattle.vx_logged.specs.Logged.{are_off}
 use Rattle.vx_logged.proofs.MissLemmas.{know_refused, know_run, know_wrote, more_off}
 use Rattle.vx_logged.proofs.StandLemmas.{fits_later, narrowed_acts, narrowed_then, not_false, not_true, others_then, same_only, write_here, write_others}
 use Rattle.vx_group.proofs.LoseLemmas.{then_along}
+use Rattle.vx_group.proofs.FindingLemmas.{then_group}
 use Rattle.vx_logged.proofs.writing.write_first.Goals as goal
 
 pub mark_group-requires-clause-there : goal.mark_group-requires-clause-there
@@ -184,3 +185,17 @@ pub returns-clause-loses : goal.returns-clause-loses
 returns-clause-loses g c =
     then_along c.args.core.now.inner.config c.mark_group.new.core.inner.config c.write_group-2.new.core.inner.config (g.S.Shelf.meaning c.args.shelf.now) (g.S.Shelf.meaning c.mark_group.new.shelf) (g.S.Shelf.meaning c.write_group-2.new.shelf) c.mark_group.ensures.loses
     (record { loses = c.write_group-2.ensures.loses; rises = c.write_group-2.ensures.acts.acts.faults })
+
+pub returns-then-stopped-clause-finds : goal.returns-then-stopped-clause-finds
+returns-then-stopped-clause-finds g c =
+    c.write_group.ensures.finds
+
+pub returns-in-Err-clause-finds : goal.returns-in-Err-clause-finds
+returns-in-Err-clause-finds g c =
+    c.mark_group.ensures.finds
+
+pub returns-clause-finds : goal.returns-clause-finds
+returns-clause-finds g c =
+    then_group c.args.core.now c.mark_group.new.core c.write_group-2.new.core (g.S.Shelf.meaning c.args.shelf.now) (g.S.Shelf.meaning c.mark_group.new.shelf) (g.S.Shelf.meaning c.write_group-2.new.shelf)
+    c.mark_group.ensures.finds
+    (c.write_group-2.ensures.finds)

@@ -16,6 +16,7 @@ use Rattle.vx_logged.proofs.MissLemmas.{more_off}
 use Rattle.vx_logged.proofs.RefuseLemmas.{cause_refused, marks_later, only_same, those_any}
 use Rattle.vx_logged.proofs.StandLemmas.{cause_to, only_then, others_then, wrote_nothing}
 use Rattle.vx_group.proofs.LoseLemmas.{along_same, then_along}
+use Rattle.vx_group.proofs.FindingLemmas.{then_group, idle_group}
 use Rattle.vx_logged.proofs.writing.write_marked.Goals as goal
 
 pub mark_group-requires-clause-some : goal.mark_group-requires-clause-some
@@ -134,3 +135,29 @@ returns-in-Err-mark_group-clause-loses g c =
     then_along c.args.core.now.inner.config c.mark_group.new.core.inner.config c.mark_group.new.core.inner.config (g.S.Shelf.meaning c.args.shelf.now) (g.S.Shelf.meaning c.mark_group.new.shelf) (g.S.Shelf.meaning c.miss_refused-in-Err-mark_group.new.shelf)
     (then_along c.args.core.now.inner.config c.write_first.new.core.inner.config c.mark_group.new.core.inner.config (g.S.Shelf.meaning c.args.shelf.now) (g.S.Shelf.meaning c.write_first.new.shelf) (g.S.Shelf.meaning c.mark_group.new.shelf) c.write_first.ensures.loses c.mark_group.ensures.loses)
     (along_same c.mark_group.new.core.inner.config (g.S.Shelf.meaning c.mark_group.new.shelf) (g.S.Shelf.meaning c.miss_refused-in-Err-mark_group.new.shelf) c.miss_refused-in-Err-mark_group.ensures.below.faults)
+
+pub returns-in-Err-clause-finds : goal.returns-in-Err-clause-finds
+returns-in-Err-clause-finds g c =
+    then_group c.args.core.now c.write_first.new.core c.write_first.new.core (g.S.Shelf.meaning c.args.shelf.now) (g.S.Shelf.meaning c.write_first.new.shelf) (g.S.Shelf.meaning c.miss_refused.new.shelf)
+    c.write_first.ensures.finds
+    (idle_group c.write_first.new.core (g.S.Shelf.meaning c.write_first.new.shelf) (g.S.Shelf.meaning c.miss_refused.new.shelf) c.miss_refused.ensures.less)
+
+pub returns-then-not-done-clause-finds : goal.returns-then-not-done-clause-finds
+returns-then-not-done-clause-finds g c =
+    then_group c.args.core.now c.write_first.new.core c.mark_group.new.core (g.S.Shelf.meaning c.args.shelf.now) (g.S.Shelf.meaning c.write_first.new.shelf) (g.S.Shelf.meaning c.mark_group.new.shelf)
+    c.write_first.ensures.finds
+    c.mark_group.ensures.finds
+
+pub returns-else-not-done-clause-finds : goal.returns-else-not-done-clause-finds
+returns-else-not-done-clause-finds g c =
+    then_group c.args.core.now c.write_first.new.core c.mark_group.new.core (g.S.Shelf.meaning c.args.shelf.now) (g.S.Shelf.meaning c.write_first.new.shelf) (g.S.Shelf.meaning c.mark_group.new.shelf)
+    c.write_first.ensures.finds
+    c.mark_group.ensures.finds
+
+pub returns-in-Err-mark_group-clause-finds : goal.returns-in-Err-mark_group-clause-finds
+returns-in-Err-mark_group-clause-finds g c =
+    then_group c.args.core.now c.mark_group.new.core c.mark_group.new.core (g.S.Shelf.meaning c.args.shelf.now) (g.S.Shelf.meaning c.mark_group.new.shelf) (g.S.Shelf.meaning c.miss_refused-in-Err-mark_group.new.shelf)
+    (then_group c.args.core.now c.write_first.new.core c.mark_group.new.core (g.S.Shelf.meaning c.args.shelf.now) (g.S.Shelf.meaning c.write_first.new.shelf) (g.S.Shelf.meaning c.mark_group.new.shelf)
+    c.write_first.ensures.finds
+    c.mark_group.ensures.finds)
+    (idle_group c.mark_group.new.core (g.S.Shelf.meaning c.mark_group.new.shelf) (g.S.Shelf.meaning c.miss_refused-in-Err-mark_group.new.shelf) c.miss_refused-in-Err-mark_group.ensures.less)

@@ -28,3 +28,11 @@ returns-clause-stands g c =
 
 pub returns-clause-count : goal.returns-clause-count
 returns-clause-count g c = λ off. same_count _ _ c.att_in.result (c.att_in.ensures.count off) (ap (λ (o : Option Missed). missed_regions c.args.core.now.inner.config c.args.vol c.args.plex o) (c.map_of-fmr.ensures.by ∙ ap (λ (ls : List Logs). map_by ls c.args.core.now.inner.config c.args.stopped c.is_down-down.result c.args.vol c.args.plex) c.as_slice.ensures.value ∙ ap (λ (d : Bool). map_by c.args.logs.now.items c.args.core.now.inner.config c.args.stopped d c.args.vol c.args.plex) c.is_down-down.ensures))
+
+pub returns-clause-finds : goal.returns-clause-finds
+returns-clause-finds g c =
+    c.att_in.ensures.finds
+
+pub returns-clause-free : goal.returns-clause-free
+returns-clause-free g c =
+    c.att_in.ensures.free

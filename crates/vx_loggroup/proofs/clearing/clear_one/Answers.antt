@@ -41,4 +41,4 @@ pub returns-then-not-is_alike-clause-settles : goal.returns-then-not-is_alike-cl
 returns-then-not-is_alike-clause-settles g c = settle_none c.args.core.now (g.S.Shelf.meaning c.args.shelf.now)
 
 pub returns-clause-settles : goal.returns-clause-settles
-returns-clause-settles g c = record { goes = c.clear_group.ensures.goes; narrow = c.clear_group.ensures.narrow; loses = c.clear_group.ensures.loses; below = c.clear_group.ensures.below }
+returns-clause-settles g c = record { goes = c.clear_group.ensures.goes; narrow = c.clear_group.ensures.narrow; loses = c.clear_group.ensures.loses; finds = c.clear_group.ensures.finds; below = c.clear_group.ensures.below }

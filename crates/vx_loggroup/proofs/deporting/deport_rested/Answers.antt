@@ -14,6 +14,7 @@ use Rattle.vx_loggroup.proofs.DeportedLogs.{deport_stands}
 use Rattle.vx_loggroup.proofs.RestTells.{rest_tells}
 use Rattle.vx_loggroup.proofs.RestingLemmas.{some_failed}
 use Rattle.vx_loggroup.proofs.StillLemmas.{core_goes}
+use Rattle.vx_group.proofs.FindingLemmas.{idle_group, marked_group, quiet_finds, then_group}
 use Rattle.vx_loggroup.proofs.deporting.deport_rested.Goals as goal
 
 pub flush_disks-requires-clause-disks : goal.flush_disks-requires-clause-disks
@@ -61,3 +62,12 @@ returns-clause-ends g c = closes_later c.args.core.now c.rest_all-maps.new.unsur
 pub returns-clause-tells : goal.returns-clause-tells
 returns-clause-tells g c =
     rest_tells c.args.core.now (with_unsure c.rest_all-maps.new.unsure c.args.core.now) c.args.logs.now.items c.args.alike.now c.rest_all-maps.result (g.S.Shelf.meaning c.args.shelf.now) (g.S.Shelf.meaning c.flush_disks.new.shelf) (g.S.Shelf.meaning c.deport_in.new.shelf) c.requires.stands (unsure_stands c.args.core.now c.rest_all-maps.new.unsure c.args.logs.now.items c.args.alike.now false (g.S.Shelf.meaning c.flush_disks.new.shelf) (still_stands c.args.core.now c.args.logs.now.items c.args.alike.now false (g.S.Shelf.meaning c.args.shelf.now) (g.S.Shelf.meaning c.flush_disks.new.shelf) (g.met.S.Shelf.lawful c.args.shelf.now) (g.met.S.Shelf.lawful c.flush_disks.new.shelf) c.requires.stands c.flush_disks.ensures.goes)) c.in-Ok-deport_in.ensures.ends c.flush_disks.ensures.goes c.in-Ok.ensures.settles.up refl refl c.in-Ok.failed c.in-Ok.ensures.settles c.requires.few c.rest_all-maps.ensures.rests (c.are_kept-kept.ensures c.if-not-kept.false)
+
+pub returns-in-Err-clause-finds : goal.returns-in-Err-clause-finds
+returns-in-Err-clause-finds g c =
+    idle_group c.args.core.now (g.S.Shelf.meaning c.args.shelf.now) (g.S.Shelf.meaning c.flush_disks.new.shelf) (quiet_finds (g.S.Shelf.meaning c.args.shelf.now) (g.S.Shelf.meaning c.flush_disks.new.shelf) (g.met.S.Shelf.lawful c.args.shelf.now) (g.met.S.Shelf.lawful c.flush_disks.new.shelf) c.flush_disks.ensures.goes)
+
+pub returns-in-Err-deport_in-clause-finds : goal.returns-in-Err-deport_in-clause-finds
+returns-in-Err-deport_in-clause-finds g c =
+    then_group c.args.core.now (with_unsure c.rest_all-maps.new.unsure c.args.core.now) c.deport_in.new.core (g.S.Shelf.meaning c.args.shelf.now) (g.S.Shelf.meaning c.flush_disks.new.shelf) (g.S.Shelf.meaning c.deport_in.new.shelf)
+    (marked_group c.args.core.now (with_unsure c.rest_all-maps.new.unsure c.args.core.now) (g.S.Shelf.meaning c.args.shelf.now) (g.S.Shelf.meaning c.flush_disks.new.shelf) refl refl refl refl (quiet_finds (g.S.Shelf.meaning c.args.shelf.now) (g.S.Shelf.meaning c.flush_disks.new.shelf) (g.met.S.Shelf.lawful c.args.shelf.now) (g.met.S.Shelf.lawful c.flush_disks.new.shelf) c.flush_disks.ensures.goes)) c.in-Err-deport_in.ensures.finds

@@ -34,3 +34,11 @@ deport_in-requires g c = record { stands = c.requires.stands.group }
 
 pub returns-in-Err-clause-stands : goal.returns-in-Err-clause-stands
 returns-in-Err-clause-stands g c = deport_stands c.args.core.now c.deport_in.new.core c.args.logs.now.items c.args.alike.now c.args.stopped (g.S.Shelf.meaning c.args.shelf.now) (g.S.Shelf.meaning c.deport_in.new.shelf) c.requires.stands (Err c.in-Err.stop) c.in-Err.ensures.ends c.in-Err.ensures.back
+
+pub returns-then-may_rest-clause-finds : goal.returns-then-may_rest-clause-finds
+returns-then-may_rest-clause-finds g c =
+    c.deport_rested.ensures.finds
+
+pub returns-in-Err-clause-finds : goal.returns-in-Err-clause-finds
+returns-in-Err-clause-finds g c =
+    c.in-Err.ensures.finds

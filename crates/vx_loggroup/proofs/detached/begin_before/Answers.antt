@@ -15,6 +15,7 @@ use Rattle.vx_loggroup.specs.Marks.{region_count}
 use Rattle.vx_loggroup.proofs.DetFresh.{begins_may, some_of}
 use Rattle.vx_loggroup.proofs.DetachedLogs.{active_low, det_cause}
 use Rattle.vx_loggroup.proofs.FreshLemmas.{fresh_still, fresh_taken, lists_none, none_of}
+use Rattle.vx_group.proofs.FindingLemmas.{still_group}
 use Rattle.vx_loggroup.proofs.detached.begin_before.Goals as goal
 
 pub returns-then-is_some-clause-goes : goal.returns-then-is_some-clause-goes
@@ -115,3 +116,27 @@ returns-in-Ok-clause-may g c = λ may. begins_may c.args.vol c.args.plex c.args.
 
 pub returns-in-Err-clause-cause : goal.returns-in-Err-clause-cause
 returns-in-Err-clause-cause g c = subst (λ no. DetStops {T = Unit {0}} (g.S.Shelf.meaning c.args.shelf.now) (g.S.Shelf.meaning c.begin_first.new.shelf) (Err (Refused no))) (sym c.refusal.ensures) (det_cause (Unit {0}) (Unit {0}) (g.S.Shelf.meaning c.args.shelf.now) (g.S.Shelf.meaning c.args.shelf.now) (g.S.Shelf.meaning c.begin_first.new.shelf) c.args.vol (inner_meaning (wide c.args.core.now) (g.S.Shelf.meaning c.args.shelf.now)) (inner_meaning (wide c.begin_first.new.core) (g.S.Shelf.meaning c.begin_first.new.shelf)) refl refl refl (λ u. omega arith) c.in-Err.error c.in-Err.ensures.cause)
+
+pub returns-then-is_some-clause-finds : goal.returns-then-is_some-clause-finds
+returns-then-is_some-clause-finds g c =
+    still_group c.args.core.now (g.S.Shelf.meaning c.args.shelf.now)
+
+pub returns-then-core-clause-finds : goal.returns-then-core-clause-finds
+returns-then-core-clause-finds g c =
+    still_group c.args.core.now (g.S.Shelf.meaning c.args.shelf.now)
+
+pub returns-then-not-is_active-clause-finds : goal.returns-then-not-is_active-clause-finds
+returns-then-not-is_active-clause-finds g c =
+    still_group c.args.core.now (g.S.Shelf.meaning c.args.shelf.now)
+
+pub returns-then-not-takes_fresh-clause-finds : goal.returns-then-not-takes_fresh-clause-finds
+returns-then-not-takes_fresh-clause-finds g c =
+    still_group c.args.core.now (g.S.Shelf.meaning c.args.shelf.now)
+
+pub returns-in-Ok-clause-finds : goal.returns-in-Ok-clause-finds
+returns-in-Ok-clause-finds g c =
+    c.begin_first.ensures.begins.finds
+
+pub returns-in-Err-clause-finds : goal.returns-in-Err-clause-finds
+returns-in-Err-clause-finds g c =
+    c.begin_first.ensures.begins.finds

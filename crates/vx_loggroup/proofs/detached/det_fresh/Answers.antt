@@ -14,6 +14,7 @@ use Rattle.vx_group.specs.declared.group_core.GroupCore.{GroupCore}
 use Rattle.vx_loggroup.proofs.DetFresh.{never_err}
 use Rattle.vx_loggroup.proofs.DetachedLogs.{begin_none, det_later, empty_later}
 use Rattle.vx_loggroup.proofs.FreshLemmas.{fresh_still}
+use Rattle.vx_group.proofs.FindingLemmas.{then_group}
 use Rattle.vx_loggroup.proofs.detached.det_fresh.Goals as goal
 
 pub returns-in-Err-clause-refused : goal.returns-in-Err-clause-refused
@@ -83,3 +84,11 @@ returns-clause-agreed g c = err_from c.det_whole.result (λ keeps is. keeps (c.i
 
 pub returns-clause-cause : goal.returns-clause-cause
 returns-clause-cause g c = λ may. det_later (g.S.Shelf.meaning c.args.shelf.now) (g.S.Shelf.meaning c.begin_before.new.shelf) (g.S.Shelf.meaning c.det_whole.new.shelf) c.begin_before.ensures.goes.disk_faults c.det_whole.result (c.det_whole.ensures.cause (c.in-Ok.ensures.may may))
+
+pub returns-in-Err-clause-finds : goal.returns-in-Err-clause-finds
+returns-in-Err-clause-finds g c =
+    c.begin_before.ensures.finds
+
+pub returns-clause-finds : goal.returns-clause-finds
+returns-clause-finds g c =
+    then_group c.args.core.now c.begin_before.new.core c.det_whole.new.core (g.S.Shelf.meaning c.args.shelf.now) (g.S.Shelf.meaning c.begin_before.new.shelf) (g.S.Shelf.meaning c.det_whole.new.shelf) c.begin_before.ensures.finds c.det_whole.ensures.finds

@@ -11,6 +11,8 @@ use Rattle.vx_loggroup.specs.LoggedVolumes.{is_alike}
 use Rattle.vx_loggroup.proofs.AlikeLemmas.{here_stands, set_stands}
 use Rattle.vx_loggroup.proofs.DetachedLogs.{begin_none, begin_set, empty_none, empty_set}
 use Rattle.vx_loggroup.proofs.SetLemmas.{item_of}
+use Rattle.vx_kept.proofs.Findings.{same_from}
+use Rattle.vx_kept.specs.Finds.{NoConfiguration}
 use Rattle.vx_loggroup.proofs.detaching.begin_missing.Goals as goal
 
 pub index_mut-requires : goal.index_mut-requires
@@ -51,3 +53,11 @@ returns-then-blocks_of-eq0-clause-empty g c = empty_none c.args.core.now.inner.c
 
 pub returns-clause-empty : goal.returns-clause-empty
 returns-clause-empty g c = ok_from c.begin_one.result (empty_set c.args.core.now.inner.config c.args.vol c.args.plex c.args.logs.now.items c.begin_one.new.one) c.begin_one.ensures.empty
+
+pub returns-then-blocks_of-eq0-clause-less : goal.returns-then-blocks_of-eq0-clause-less
+returns-then-blocks_of-eq0-clause-less g c =
+    same_from NoConfiguration (g.S.Shelf.meaning c.args.shelf.now)
+
+pub returns-clause-less : goal.returns-clause-less
+returns-clause-less g c =
+    c.begin_one.ensures.less

@@ -8,7 +8,7 @@ use Rattle.vx_grouplogs.proofs.MapLemmas.{goes_logs, on_mapped}
 use Rattle.vx_grouplogs.proofs.OnCalls.{on_others}
 use Rattle.vx_groupmaps.specs.Missing.{none_spared}
 use Rattle.vx_groupmaps.proofs.BeginLemmas.{down_of}
-use Rattle.vx_logged.proofs.StandLemmas.{inner_fit, inner_others, inner_sound, know_inner, know_wide, logs_Stands, logs_goes, to_inner, to_wide}
+use Rattle.vx_logged.proofs.StandLemmas.{inner_fit, inner_others, inner_sound, know_inner, know_wide, logs_Stands, logs_goes, to_inner, to_wide, logs_finds}
 use Rattle.vx_loggroup.proofs.DetachedLogs.{as_logs, begun_empty, begun_knows, begun_maps, none_begins}
 use Rattle.vx_loggroup.proofs.detaching.begin_one.Goals as goal
 
@@ -67,3 +67,11 @@ returns-in-Err-clause-begins g c = none_begins c.args.plex c.args.one.now (recor
 
 pub returns-in-Err-clause-down : goal.returns-in-Err-clause-down
 returns-in-Err-clause-down g c = (refl, down_of c.args.plex c.args.one.now.fmr c.begin_map.new.logs.fmr (g.S.Shelf.meaning c.args.shelf.now) (g.S.Shelf.meaning c.begin_map.new.shelf) c.in-Err.field-0 c.in-Err.ensures.answers)
+
+pub returns-in-Ok-clause-less : goal.returns-in-Ok-clause-less
+returns-in-Ok-clause-less g c =
+    logs_finds c.args.core.now c.args.vol (g.S.Shelf.meaning c.args.shelf.now) (g.S.Shelf.meaning c.begin_map.new.shelf) c.requires.none c.requires.stands (goes_logs c.args.core.now.inner.config c.args.vol (g.S.Shelf.meaning c.args.shelf.now) (g.S.Shelf.meaning c.begin_map.new.shelf) c.begin_map.ensures.goes) (g.met.S.Shelf.lawful c.args.shelf.now) (g.met.S.Shelf.lawful c.begin_map.new.shelf)
+
+pub returns-in-Err-clause-less : goal.returns-in-Err-clause-less
+returns-in-Err-clause-less g c =
+    logs_finds c.args.core.now c.args.vol (g.S.Shelf.meaning c.args.shelf.now) (g.S.Shelf.meaning c.begin_map.new.shelf) c.requires.none c.requires.stands (goes_logs c.args.core.now.inner.config c.args.vol (g.S.Shelf.meaning c.args.shelf.now) (g.S.Shelf.meaning c.begin_map.new.shelf) c.begin_map.ensures.goes) (g.met.S.Shelf.lawful c.args.shelf.now) (g.met.S.Shelf.lawful c.begin_map.new.shelf)

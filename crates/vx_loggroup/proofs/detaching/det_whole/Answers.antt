@@ -21,6 +21,7 @@ use Rattle.vx_loggroup.proofs.MadeLogs.{ok_clash}
 use Rattle.vx_loggroup.proofs.SetLemmas.{item_at}
 use Rattle.vx_model.specs.declared.errors.Stop.TheVariants.{No as Refused}
 use Rattle.vx_volume.proofs.PlaceLemmas.{active_below}
+use Rattle.vx_group.proofs.FindingLemmas.{idle_group, then_group}
 use Rattle.vx_loggroup.proofs.detaching.det_whole.Goals as goal
 
 pub det_logged-requires : goal.det_logged-requires
@@ -176,3 +177,20 @@ returns-in-Err-begin_missing-clause-rises g c = λ u. let one = c.det_logged.ens
 
 pub returns-clause-rises : goal.returns-clause-rises
 returns-clause-rises g c = λ u. let one = c.det_logged.ensures.narrows.acts.faults u in let two = c.begin_missing.ensures.below.faults u in let last = c.keep_begun.ensures.rises u in omega (arith, one, two, last)
+
+pub returns-in-Err-clause-finds : goal.returns-in-Err-clause-finds
+returns-in-Err-clause-finds g c =
+    c.det_logged.ensures.finds
+
+pub returns-then-not-may_begin-clause-finds : goal.returns-then-not-may_begin-clause-finds
+returns-then-not-may_begin-clause-finds g c =
+    c.det_logged.ensures.finds
+
+pub returns-in-Err-begin_missing-clause-finds : goal.returns-in-Err-begin_missing-clause-finds
+returns-in-Err-begin_missing-clause-finds g c =
+    then_group c.args.core.now c.det_logged.new.core c.det_logged.new.core (g.S.Shelf.meaning c.args.shelf.now) (g.S.Shelf.meaning c.det_logged.new.shelf) (g.S.Shelf.meaning c.begin_missing.new.shelf) c.det_logged.ensures.finds (idle_group c.det_logged.new.core (g.S.Shelf.meaning c.det_logged.new.shelf) (g.S.Shelf.meaning c.begin_missing.new.shelf) c.begin_missing.ensures.less)
+
+pub returns-clause-finds : goal.returns-clause-finds
+returns-clause-finds g c =
+    then_group c.args.core.now c.det_logged.new.core c.keep_begun.new.core (g.S.Shelf.meaning c.args.shelf.now) (g.S.Shelf.meaning c.begin_missing.new.shelf) (g.S.Shelf.meaning c.keep_begun.new.shelf)
+    (then_group c.args.core.now c.det_logged.new.core c.det_logged.new.core (g.S.Shelf.meaning c.args.shelf.now) (g.S.Shelf.meaning c.det_logged.new.shelf) (g.S.Shelf.meaning c.begin_missing.new.shelf) c.det_logged.ensures.finds (idle_group c.det_logged.new.core (g.S.Shelf.meaning c.det_logged.new.shelf) (g.S.Shelf.meaning c.begin_missing.new.shelf) c.begin_missing.ensures.less)) c.keep_begun.ensures.finds

@@ -42,3 +42,11 @@ returns-in-Ok-clause-rises g c = c.keep_map.ensures.loses.rises
 
 pub returns-in-Err-clause-rises : goal.returns-in-Err-clause-rises
 returns-in-Err-clause-rises g c = c.keep_map.ensures.loses.rises
+
+pub returns-in-Ok-clause-finds : goal.returns-in-Ok-clause-finds
+returns-in-Ok-clause-finds g c =
+    c.keep_map.ensures.finds
+
+pub returns-in-Err-clause-finds : goal.returns-in-Err-clause-finds
+returns-in-Err-clause-finds g c =
+    c.keep_map.ensures.finds

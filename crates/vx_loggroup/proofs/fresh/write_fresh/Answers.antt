@@ -15,6 +15,7 @@ use Rattle.vx_logged.proofs.RefuseLemmas.{marks_sooner}
 use Rattle.vx_logged.proofs.StandLemmas.{fits_later}
 use Rattle.vx_loggroup.specs.LoggedVolumes.{LoggedStands}
 use Rattle.vx_loggroup.proofs.FreshLemmas.{begins_stale, fresh_goes, fresh_still, fresh_taken, lists_marks, lists_notes, lists_only, lists_same}
+use Rattle.vx_group.proofs.FindingLemmas.{then_group}
 use Rattle.vx_loggroup.proofs.fresh.write_fresh.Goals as goal
 
 pub takes_fresh-requires : goal.takes_fresh-requires
@@ -98,3 +99,13 @@ returns-clause-agreed g c = err_from c.write_whole-2.result (λ keeps is. keeps 
 
 pub returns-clause-cause : goal.returns-clause-cause
 returns-clause-cause g c = Cause_both (inner_meaning (wide c.args.core.now) (g.S.Shelf.meaning c.args.shelf.now)) (inner_meaning (wide c.begin_first.new.core) (g.S.Shelf.meaning c.begin_first.new.shelf)) (inner_meaning (wide c.write_whole-2.new.core) (g.S.Shelf.meaning c.write_whole-2.new.shelf)) c.args.vol c.write_whole-2.result c.in-Ok.ensures.cause c.begin_first.ensures.begins.goes.faults c.begin_first.ensures.begins.goes.disk_faults c.write_whole-2.ensures.cause
+
+pub returns-in-Err-clause-finds : goal.returns-in-Err-clause-finds
+returns-in-Err-clause-finds g c =
+    c.begin_first.ensures.begins.finds
+
+pub returns-clause-finds : goal.returns-clause-finds
+returns-clause-finds g c =
+    then_group c.args.core.now c.begin_first.new.core c.write_whole-2.new.core (g.S.Shelf.meaning c.args.shelf.now) (g.S.Shelf.meaning c.begin_first.new.shelf) (g.S.Shelf.meaning c.write_whole-2.new.shelf)
+    c.begin_first.ensures.begins.finds
+    c.write_whole-2.ensures.finds

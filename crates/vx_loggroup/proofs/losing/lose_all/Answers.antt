@@ -27,17 +27,17 @@ keep_logs-requires-clause-there g c =
 pub loop-vol-preserved : goal.loop-vol-preserved
 loop-vol-preserved g c =
     one_lost c.args.core.now c.args.logs.now.items c.args.alike.now c.args.stopped (g.S.Shelf.meaning c.args.shelf.now) c.loop-vol.core (g.S.Shelf.meaning c.loop-vol.shelf) c.loop-vol.invariant c.keep_logs.new.core (g.S.Shelf.meaning c.keep_logs.new.shelf) c.keep_logs.ensures.stands
-    (record { goes = c.keep_logs.ensures.goes; narrow = c.keep_logs.ensures.narrow; loses = c.keep_logs.ensures.loses; below = c.keep_logs.ensures.below }) c.keep_logs.ensures.logs c.in-Ok.ensures.trust
+    (record { goes = c.keep_logs.ensures.goes; narrow = c.keep_logs.ensures.narrow; loses = c.keep_logs.ensures.loses; finds = c.keep_logs.ensures.finds; below = c.keep_logs.ensures.below }) c.keep_logs.ensures.logs c.in-Ok.ensures.trust
 
 pub returns-in-Err-clause-stands : goal.returns-in-Err-clause-stands
 returns-in-Err-clause-stands g c =
     lost_stands c.args.core.now c.args.logs.now.items c.args.alike.now c.args.stopped (g.S.Shelf.meaning c.args.shelf.now) c.loop-vol.core (g.S.Shelf.meaning c.loop-vol.shelf) c.loop-vol.invariant c.keep_logs.new.core (g.S.Shelf.meaning c.keep_logs.new.shelf) c.keep_logs.ensures.stands
-    (record { goes = c.keep_logs.ensures.goes; narrow = c.keep_logs.ensures.narrow; loses = c.keep_logs.ensures.loses; below = c.keep_logs.ensures.below }) c.keep_logs.ensures.logs
+    (record { goes = c.keep_logs.ensures.goes; narrow = c.keep_logs.ensures.narrow; loses = c.keep_logs.ensures.loses; finds = c.keep_logs.ensures.finds; below = c.keep_logs.ensures.below }) c.keep_logs.ensures.logs
 
 pub returns-in-Err-clause-settles : goal.returns-in-Err-clause-settles
 returns-in-Err-clause-settles g c =
     lost_on c.args.core.now c.args.logs.now.items c.args.alike.now c.args.stopped (g.S.Shelf.meaning c.args.shelf.now) c.loop-vol.core (g.S.Shelf.meaning c.loop-vol.shelf) c.loop-vol.invariant c.keep_logs.new.core (g.S.Shelf.meaning c.keep_logs.new.shelf) c.keep_logs.ensures.stands
-    (record { goes = c.keep_logs.ensures.goes; narrow = c.keep_logs.ensures.narrow; loses = c.keep_logs.ensures.loses; below = c.keep_logs.ensures.below }) c.keep_logs.ensures.logs
+    (record { goes = c.keep_logs.ensures.goes; narrow = c.keep_logs.ensures.narrow; loses = c.keep_logs.ensures.loses; finds = c.keep_logs.ensures.finds; below = c.keep_logs.ensures.below }) c.keep_logs.ensures.logs
 
 pub returns-in-Err-clause-agreed : goal.returns-in-Err-clause-agreed
 returns-in-Err-clause-agreed g c = λ is. c.in-Err.ensures.agreed (c.loop-vol.invariant.trust is)

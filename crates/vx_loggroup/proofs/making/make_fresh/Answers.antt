@@ -13,6 +13,7 @@ use Rattle.vx_model.specs.declared.errors.Stop.TheVariants.{No as Refused}
 use Rattle.vx_loggroup.specs.LoggedVolumes.{LoggedStands, is_alike}
 use Rattle.vx_loggroup.proofs.FreshLemmas.{fresh_still}
 use Rattle.vx_loggroup.proofs.MadeLogs.{fresh_made, long_one, none_goes, none_made, one_made, refused_volumes, take_front, unmoved_by}
+use Rattle.vx_group.proofs.FindingLemmas.{still_group}
 use Rattle.vx_loggroup.proofs.making.make_fresh.Goals as goal
 
 pub make_in-requires-clause-stands : goal.make_in-requires-clause-stands
@@ -99,3 +100,19 @@ returns-in-Err-make_in-clause-stands g c =
 
 pub returns-in-Err-make_in-clause-fresh : goal.returns-in-Err-make_in-clause-fresh
 returns-in-Err-make_in-clause-fresh g c = fresh_still c.args.core.now c.make_in.new.core c.args.fresh.now (g.S.Shelf.meaning c.args.shelf.now) (g.S.Shelf.meaning c.make_in.new.shelf) (none_goes c.args.core.now c.make_in.new.core (g.S.Shelf.meaning c.args.shelf.now) (g.S.Shelf.meaning c.make_in.new.shelf) c.make_in.ensures.stays (refused_volumes c.args.name.now c.args.want.now c.args.core.now c.make_in.new.core (g.S.Shelf.meaning c.args.shelf.now) (g.S.Shelf.meaning c.make_in.new.shelf) c.in-Err-make_in.stop (λ why is. (c.make_in.ensures.refused why is).1) c.in-Err-make_in.ensures.ends)) c.requires.fresh
+
+pub returns-in-Some-clause-finds : goal.returns-in-Some-clause-finds
+returns-in-Some-clause-finds g c =
+    still_group c.args.core.now (g.S.Shelf.meaning c.args.shelf.now)
+
+pub returns-in-Err-clause-finds : goal.returns-in-Err-clause-finds
+returns-in-Err-clause-finds g c =
+    still_group c.args.core.now (g.S.Shelf.meaning c.args.shelf.now)
+
+pub returns-in-Ok-make_in-clause-finds : goal.returns-in-Ok-make_in-clause-finds
+returns-in-Ok-make_in-clause-finds g c =
+    c.make_in.ensures.finds
+
+pub returns-in-Err-make_in-clause-finds : goal.returns-in-Err-make_in-clause-finds
+returns-in-Err-make_in-clause-finds g c =
+    c.make_in.ensures.finds

@@ -11,6 +11,7 @@ use Rattle.vx_group.proofs.LostLemmas.{error_to}
 use Rattle.vx_group.proofs.MendLemmas.{same_Goes}
 use Rattle.vx_group.proofs.TrustingLemmas.{still_PlexActs}
 use Rattle.vx_loggroup.proofs.FreshLemmas.{counted_Goes}
+use Rattle.vx_group.proofs.FindingLemmas.{as_finds, still_group}
 use Rattle.vx_loggroup.proofs.trusting.trust_first.Goals as goal
 
 pub give_up-requires : goal.give_up-requires
@@ -50,3 +51,18 @@ returns-in-Err-clause-cause g c =
     cause_by (Unit {0}) c.in-Err.error (wide c.args.core.now).config (wide c.trust_group.new.core).config c.args.vol (volume_faults c.args.core.now.inner.faults) (volume_faults c.give_up.new.faults) (g.S.Shelf.meaning c.args.shelf.now) (g.S.Shelf.meaning c.trust_group.new.shelf)
     (not_down c.is_down.result (g.S.Shelf.meaning c.args.shelf.now).down c.is_down.ensures c.if-is_down.false) (error_to Bool (Unit {0}) c.in-Err.error (g.S.Shelf.meaning c.args.shelf.now) (g.S.Shelf.meaning c.trust_group.new.shelf) c.in-Err.ensures.cause)
     (subst (λ (f : List ℕ). CountsRise c.in-Err.error c.args.vol (volume_faults f) (volume_faults c.give_up.new.faults)) c.trust_group.ensures.faults c.give_up.ensures.counts)
+
+pub returns-then-is_down-clause-finds : goal.returns-then-is_down-clause-finds
+returns-then-is_down-clause-finds g c =
+    still_group c.args.core.now (g.S.Shelf.meaning c.args.shelf.now)
+
+pub returns-in-Ok-clause-finds : goal.returns-in-Ok-clause-finds
+returns-in-Ok-clause-finds g c =
+    c.trust_group.ensures.finds
+
+pub returns-in-Err-clause-finds : goal.returns-in-Err-clause-finds
+returns-in-Err-clause-finds g c =
+    record {
+      core = as_finds (wide c.args.core.now) (wide c.trust_group.new.core) _ (g.S.Shelf.meaning c.args.shelf.now) (g.S.Shelf.meaning c.trust_group.new.shelf) refl refl refl c.trust_group.ensures.finds.core;
+      free = c.trust_group.ensures.finds.free;
+    }
