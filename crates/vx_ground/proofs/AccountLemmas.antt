@@ -1,6 +1,6 @@
 -- Accounts of a group that go on, call by call.
-use Rattle.std.proofs.Common.{◌≡◌, ◌∙◌, ◌⊎◌, inl, inr, zero, suc, ℕ, ◌-◌, ◌<◌, ◌≤◌, Bool, true, false, IsTrue, length, sym, subst, refl, arith}
-use Rattle.std.specs.Prelude.{◌^◌, Some}
+use Rattle.std.proofs.Common.{◌≡◌, ◌∙◌, ◌⊎◌, inl, inr, zero, suc, ℕ, ◌-◌, ◌<◌, ◌≤◌, Bool, true, false, IsTrue, length, ap, sym, subst, refl, arith}
+use Rattle.std.specs.Prelude.{◌^◌, Option, Some}
 use Rattle.std.proofs.lemmas.Bool.{cases_lt}
 use Rattle.vx_model.specs.declared.site.PlexState.{PlexState}
 use Rattle.vx_model.specs.declared.site.PlexState.TheVariants.{Active, Clean, Stale}
@@ -12,14 +12,20 @@ use Rattle.vx_disk.specs.Counts.{Rose}
 use Rattle.vx_disk.specs.Shelf.{Meaning}
 use Rattle.vx_layout.specs.Places.{plex_at}
 use Rattle.vx_volume.specs.Plexes.{active, uses}
+use Rattle.vx_kept.specs.Finds.{AllAtOnce, FindsFrom, NoConfiguration}
+use Rattle.vx_group.specs.Finds.{GroupFinds, MissesOpenly}
+use Rattle.vx_group.specs.Holding.{config_by, wide}
 use Rattle.vx_group.specs.Loses.{LosesPlexes}
+use Rattle.vx_group.specs.declared.group_core.Held.{Held}
 use Rattle.vx_group.specs.declared.group_core.GroupCore.{GroupCore}
+use Rattle.vx_group.proofs.FindingLemmas.{newest_goes}
+use Rattle.vx_kept.proofs.Findings.{less_newest}
 use Rattle.vx_group.proofs.LoseLemmas.{loses_same, none_parts, then_parts}
 use Rattle.vx_grouped.specs.ConfigMoves.{AnyRose, LosesSome, StateMoves, none_again}
 use Rattle.vx_grouped.specs.CoreMoves.{BothOn}
 use Rattle.vx_grouped.proofs.MovesLemmas.{config_moves, used_below}
 use Rattle.vx_grouped.proofs.StateChangeLemmas.{live_state, live_there, on_state, on_there}
-use Rattle.vx_ground.specs.Accounts.{GroundSince, NoneRose}
+use Rattle.vx_ground.specs.Accounts.{GroundSince, GroundState, NoneRose, StateOpen, state_of}
 
 rose_on : (a b c : ℕ) → b ≤ c → Rose a b → Rose a c
 rose_on a b c more rose = record {
@@ -46,37 +52,39 @@ bool_same false true up back = let wrong : false ≡ true = back refl in cc
 bool_same false false up back = refl
 
 -- no call yet
-pub since_none : (c : Config) (m : Meaning) → GroundSince c m c m
-since_none c m = record {
-  parts = none_parts c;
+pub since_none : (a : GroundState) (m : Meaning) → GroundSince a m a m
+since_none a m = record {
+  parts = none_parts a.config;
   frames = λ v. refl;
   counts = λ u. omega arith;
   still = λ none v p. refl;
   blocks = λ u. refl;
   blamed = λ u off on none. let clash : false ≡ true = sym off ∙ on in cc;
   stays = λ u on. on;
+  openly = λ clear. clear;
+  newest = λ clear was is. was is;
 }
 
 -- and one call more
-module _ (c0 c d : Config) (m0 m m' : Meaning) (first : (u : ℕ) → m.disk_faults u ≡ m.faults u) (last : (u : ℕ) → m'.disk_faults u ≡ m'.faults u) (since : GroundSince c0 m0 c m) (sound : is_sound c ≡ true)
+module _ (a : GroundState) (c d : GroupCore) (m0 m m' : Meaning) (first : (u : ℕ) → m.disk_faults u ≡ m.faults u) (last : (u : ℕ) → m'.disk_faults u ≡ m'.faults u) (since : GroundSince a m0 (state_of c) m) (sound : is_sound c.inner.config ≡ true)
     (more : (u : ℕ) → m.disk_faults u ≤ m'.disk_faults u) where
-  none_before : NoneRose (length c0.disks) m0 m' → NoneRose (length c0.disks) m0 m
+  none_before : NoneRose (length a.config.disks) m0 m' → NoneRose (length a.config.disks) m0 m
   none_before none u low rose = none u low (rose_on (m0.disk_faults u) (m.disk_faults u) (m'.disk_faults u) (more u) rose)
 
-  none_after : NoneRose (length c0.disks) m0 m' → NoneRose (length c0.disks) m m'
+  none_after : NoneRose (length a.config.disks) m0 m' → NoneRose (length a.config.disks) m m'
   none_after none u low rose = none u low (rose_back (m0.disk_faults u) (m.disk_faults u) (m'.disk_faults u) (since.counts u) rose)
 
   counted : (u : ℕ) → Rose (m.faults u) (m'.faults u) → Rose (m.disk_faults u) (m'.disk_faults u)
   counted u rose = subst (λ (k : ℕ). Rose k (m'.disk_faults u)) (sym (first u)) (subst (λ (k : ℕ). Rose (m.faults u) k) (sym (last u)) rose)
 
   -- a plex lies on disks of the group
-  there : (v p u : ℕ) → IsTrue (uses c v p u) → u < length c0.disks
-  there v p u is = let low = used_below c sound v p u is in let same = since.parts.count in omega (arith, low, same)
+  there : (v p u : ℕ) → IsTrue (uses c.inner.config v p u) → u < length a.config.disks
+  there v p u is = let low = used_below c.inner.config sound v p u is in let same = since.parts.count in omega (arith, low, same)
 
-  module _ (loses : LosesPlexes c d m m') where
-    stays_on : NoneRose (length c0.disks) m m' → (v p : ℕ) → active d v p ≡ active c v p
+  module _ (loses : LosesPlexes c.inner.config d.inner.config m m') where
+    stays_on : NoneRose (length a.config.disks) m m' → (v p : ℕ) → active d.inner.config v p ≡ active c.inner.config v p
     stays_on none v p =
-        bool_same (active d v p) (active c v p)
+        bool_same (active d.inner.config v p) (active c.inner.config v p)
         (λ is. elim (loses.on v p is) [
           | inl on ↦ on
           | inr any ↦ absurd (none any.1.disk (there v any.0 any.1.disk any.1.is_its) (counted any.1.disk any.1.rose))
@@ -86,24 +94,35 @@ module _ (c0 c d : Config) (m0 m m' : Meaning) (first : (u : ℕ) → m.disk_fau
           | inr blamed ↦ absurd (none blamed.disk (there v p blamed.disk blamed.is_its) (counted blamed.disk blamed.rose))
         ])
 
-    blamed_by : (u : ℕ) (t : Bool) → failed_at c.disks u ≡ t → failed_at c0.disks u ≡ false → failed_at d.disks u ≡ true → (Rose (m0.disk_faults u) (m'.disk_faults u) → ⊥) → ⊥
+    blamed_by : (u : ℕ) (t : Bool) → failed_at c.inner.config.disks u ≡ t → failed_at a.config.disks u ≡ false → failed_at d.inner.config.disks u ≡ true → (Rose (m0.disk_faults u) (m'.disk_faults u) → ⊥) → ⊥
     blamed_by u true is off on none = since.blamed u off is (λ rose. none (rose_on (m0.disk_faults u) (m.disk_faults u) (m'.disk_faults u) (more u) rose))
     blamed_by u false is off on none = none (rose_back (m0.disk_faults u) (m.disk_faults u) (m'.disk_faults u) (since.counts u) (counted u (loses.disks.blamed u is on)))
 
-    pub since_loses : GroundSince c0 m0 d m'
-    since_loses = record {
-      parts = then_parts c0 c d since.parts loses.parts;
-      frames = λ v. loses.frames v ∙ since.frames v;
-      counts = λ u. (let low = since.counts u in let high = more u in omega (arith, low, high));
-      still = λ none v p. stays_on (none_after none) v p ∙ since.still (none_before none) v p;
-      blocks = λ u. loses.disks.blocks u ∙ since.blocks u;
-      blamed = λ u. blamed_by u (failed_at c.disks u) refl;
-      stays = λ u on. loses.disks.stays u (since.stays u on);
-    }
+    module _ (openly : MissesOpenly (wide c) → MissesOpenly (wide d)) (newest : MissesOpenly (wide c) → (c.inner.committed ≡ true → AllAtOnce (wide c).config m) → d.inner.committed ≡ true → AllAtOnce (wide d).config m') where
+      pub since_goes : GroundSince a m0 (state_of d) m'
+      since_goes = record {
+        parts = then_parts a.config c.inner.config d.inner.config since.parts loses.parts;
+        frames = λ v. loses.frames v ∙ since.frames v;
+        counts = λ u. (let low = since.counts u in let high = more u in omega (arith, low, high));
+        still = λ none v p. stays_on (none_after none) v p ∙ since.still (none_before none) v p;
+        blocks = λ u. loses.disks.blocks u ∙ since.blocks u;
+        blamed = λ u. blamed_by u (failed_at c.inner.config.disks u) refl;
+        stays = λ u on. loses.disks.stays u (since.stays u on);
+        openly = λ clear. openly (since.openly clear);
+        newest = λ clear was is. newest (since.openly clear) (since.newest clear was) is;
+      }
 
-  -- one that leaves the configuration
-  pub since_same : d ≡ c → GroundSince c0 m0 d m'
-  since_same same = since_loses (subst (λ (x : Config). LosesPlexes c x m m') (sym same) (loses_same c m m'))
+    -- a write or a flush
+    pub since_loses : GroupFinds c d m m' → GroundSince a m0 (state_of d) m'
+    since_loses finds = since_goes finds.core.openly (λ clear was is. newest_goes c d m m' clear was finds.core is)
+
+  -- a read, which leaves the configuration, and no image that there was not
+  pub since_same : d.inner.config ≡ c.inner.config → d.held ≡ c.held → d.inner.committed ≡ c.inner.committed → d.inner.unsettled ≡ c.inner.unsettled → FindsFrom NoConfiguration m m' → GroundSince a m0 (state_of d) m'
+  since_same same held committed unsettled finds =
+      since_goes (subst (λ (x : Config). LosesPlexes c.inner.config x m m') (sym same) (loses_same c.inner.config m m')) (λ clear is. committed ∙ clear (sym unsettled ∙ is))
+      (λ clear was is.
+      let seen : (wide d).config ≡ (wide c).config = ap (λ (x : Config). config_by d.held x) same ∙ ap (λ (o : Option Held). config_by o c.inner.config) held in
+      subst (λ (y : Config). AllAtOnce y m') (sym seen) (less_newest (wide c).config m m' (was (sym committed ∙ is)) finds))
 
 -- ---- what the configuration has lost, of which it can be told whether a call failed
 
@@ -133,7 +152,13 @@ any_rose (suc n) m m' = elim (rose_or (m.disk_faults n) (m'.disk_faults n)) [
   ]
 ]
 
-module _ (c d : Config) (m m' : Meaning) (first : (u : ℕ) → m.disk_faults u ≡ m.faults u) (last : (u : ℕ) → m'.disk_faults u ≡ m'.faults u) (since : GroundSince c m d m') (on : BothOn c d m.units) where
+module _ (a b : GroundState) (m m' : Meaning) (first : (u : ℕ) → m.disk_faults u ≡ m.faults u) (last : (u : ℕ) → m'.disk_faults u ≡ m'.faults u) (since : GroundSince a m b m') (on : BothOn a.config b.config m.units) where
+  abbrev c : Config
+  c = a.config
+
+  abbrev d : Config
+  d = b.config
+
   -- a plex that takes part is ACTIVE
   by_state : (s t : PlexState) → (live_state s ≡ true → on_state s ≡ true) → (live_state t ≡ true → on_state t ≡ true) → AnyRose m m' ⊎ (on_state t ≡ on_state s) → StateMoves m m' s t
   by_state Active Active one two it = inl refl

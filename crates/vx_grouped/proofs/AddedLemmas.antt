@@ -185,13 +185,17 @@ module _ (n : Node) (note : GroupNode) (name : List ℕ) (want : Shape) (c d : G
   called = note_called (nexts_of c d m m' finds.core) d note
 
   pub made_leaves : (vol : ℕ) → d.held ≡ None → (IsTrue m'.down → ⊥) → (c.inner.committed ≡ true → d.inner.committed ≡ true) → VolumeMade name want vol c.inner d.inner m' → VolumeLeaves n note want d m' (Ok vol)
-  made_leaves vol none up trust made = (nexts_of c d m m' finds.core, record {
-    state = at.state;
-    up = up;
-    lies = lies_called n note c d m m' at.lies two units.units (λ u low. units.size u) finds.core (note_added vol want.blocks called) refl refl refl
-        (added_holds c d m m' two lawful stays name want vol none made called
-        (same_holds note (inner_meaning (wide c) m) called.config called.begun called.loose at.lies.holds));
-  }, called_tight note c d m m' at.lies.images finds.core at.lies.committed trust finds.free)
+  made_leaves vol none up trust made = (
+    nexts_of c d m m' finds.core,
+    record {
+      state = at.state;
+      up = up;
+      lies = lies_called n note c d m m' at.lies two units.units (λ u low. units.size u) finds.core (note_added vol want.blocks called) refl refl refl
+          (added_holds c d m m' two lawful stays name want vol none made called
+          (same_holds note (inner_meaning (wide c) m) called.config called.begun called.loose at.lies.holds));
+    },
+    called_tight note c d m m' at.lies.images finds.core at.lies.committed trust finds.free,
+  )
 
   -- the disks are down behind a refusal
   pub volume_cut : (o : Option No) → (o ≡ None → d.inner.config.volumes ≡ c.inner.config.volumes) → ((why : No) → o ≡ Some why → IsTrue m'.down → ⊥) → IsTrue m'.down → VolumeLeaves n note want d m' (Err (Refused refusal.Down))
