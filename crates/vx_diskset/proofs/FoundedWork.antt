@@ -1,7 +1,7 @@
 -- Calls on a replicated volume group over a group of disks that is up, by parts.
 use Rattle.std.proofs.Common.{◌≡◌}
 use Rattle.vx_disk.specs.declared.shelf.Shelf.{Ghosts}
-use Rattle.vx_ground.specs.Accounts.{GroundSince, state_of}
+use Rattle.vx_ground.specs.Accounts.{GroundSince, ground_state}
 use Rattle.vx_ground.specs.Lifted.{laid_volumes}
 use Rattle.vx_grouped.specs.GroupSites.{laid_below, laid_disks}
 use Rattle.vx_grouped.specs.declared.laid.Laid.{Laid}
@@ -14,6 +14,6 @@ use Rattle.vx_diskset.proofs.OverWorks.{carried_core}
 
 module _ {R : Type 0} {g : Ghosts R} where
   pub founded_works : (c c0 d d0 : Core) (l l0 k k0 : Laid R g) → c0 ≡ c → l0 ≡ l → d ≡ d0 → k ≡ k0 → KeepsSound c0 d0 (laid_volumes l0) (laid_volumes k0)
-      → GroundSince (state_of l0.core) (laid_disks l0) (state_of k0.core) (laid_disks k0) → CalledSince (laid_disks l0) (laid_disks k0) → TellsLess (laid_below l0) (laid_below k0) → FoundedWorks c l d k
+      → GroundSince (ground_state l0.core) (laid_disks l0) (ground_state k0.core) (laid_disks k0) → CalledSince (laid_disks l0) (laid_disks k0) → TellsLess (laid_below l0) (laid_below k0) → FoundedWorks c l d k
   founded_works c c0 d d0 l l0 k k0 first laid last new keeps ground since told =
       carried_core (λ x a y b. FoundedWorks x a y b) c c0 d d0 l l0 k k0 first laid last new (record { units = keeps.units; moves = keeps.moves; ground = ground; since = since; told = told })

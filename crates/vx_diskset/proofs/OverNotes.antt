@@ -22,7 +22,7 @@ use Rattle.vx_group.specs.declared.group_core.GroupCore.{GroupCore}
 use Rattle.vx_group.specs.declared.inner.Inner.{Inner}
 use Rattle.vx_watched.specs.Since.{CalledSince}
 use Rattle.vx_watched.specs.Traces.{TellsLess}
-use Rattle.vx_ground.specs.Accounts.{GroundSince, state_of}
+use Rattle.vx_ground.specs.Accounts.{GroundSince, ground_state}
 use Rattle.vx_ground.specs.Lifted.{laid_volumes}
 use Rattle.vx_ground.proofs.AccountLemmas.{account_loses}
 use Rattle.vx_grouped.specs.ConfigMoves.{LosesSome}
@@ -70,7 +70,7 @@ sure_of false is = absurd (let wrong : true ≡ false = is in cc)
 -- ---- the group of a site, behind calls on the replicated volume group over it
 
 module _ {R : Type 0} {g : Ghosts R} (n : Node) (note : GroupNode) (units : Units) (old new : Laid R g) (racks : (s : Shade R) → IsRack (shade_meaning g.meaning s)) (up : GroupUp (below_rvg n) note (laid_below old).tells old.core (laid_disks old))
-    (ground : GroundSince (state_of old.core) (laid_disks old) (state_of new.core) (laid_disks new)) (since : CalledSince (laid_disks old) (laid_disks new)) (less : TellsLess (laid_below old) (laid_below new))
+    (ground : GroundSince (ground_state old.core) (laid_disks old) (ground_state new.core) (laid_disks new)) (since : CalledSince (laid_disks old) (laid_disks new)) (less : TellsLess (laid_below old) (laid_below new))
     (moves : Moves (OfRvg units) Anything (laid_volumes old) (laid_volumes new)) (inside : InsideOf units note) where
   abbrev next : GroupNode
   next = note_ground (noted_config new.core.inner.config) new.core note
@@ -125,7 +125,7 @@ module _ {R : Type 0} {g : Ghosts R} (n : Node) (note : GroupNode) (units : Unit
     has = refl;
     noted = record { is = up.at.lies.config; spells = up.spells };
     noted_now = record { is = refl; spells = spells };
-    change = account_loses (state_of old.core) (state_of new.core) (laid_disks old) (laid_disks new) (racks old.shelf).counts (racks new.shelf).counts ground
+    change = account_loses (ground_state old.core) (ground_state new.core) (laid_disks old) (laid_disks new) (racks old.shelf).counts (racks new.shelf).counts ground
         (both_on old.core new.core (laid_disks old) (laid_disks new) old.stands.group new.stands.group);
   }
 

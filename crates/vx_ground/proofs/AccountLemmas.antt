@@ -25,7 +25,7 @@ use Rattle.vx_grouped.specs.ConfigMoves.{AnyRose, LosesSome, StateMoves, none_ag
 use Rattle.vx_grouped.specs.CoreMoves.{BothOn}
 use Rattle.vx_grouped.proofs.MovesLemmas.{config_moves, used_below}
 use Rattle.vx_grouped.proofs.StateChangeLemmas.{live_state, live_there, on_state, on_there}
-use Rattle.vx_ground.specs.Accounts.{GroundSince, GroundState, NoneRose, StateOpen, state_of}
+use Rattle.vx_ground.specs.Accounts.{GroundSince, GroundState, NoneRose, StateOpen, ground_state}
 
 rose_on : (a b c : ℕ) → b ≤ c → Rose a b → Rose a c
 rose_on a b c more rose = record {
@@ -66,7 +66,7 @@ since_none a m = record {
 }
 
 -- and one call more
-module _ (a : GroundState) (c d : GroupCore) (m0 m m' : Meaning) (first : (u : ℕ) → m.disk_faults u ≡ m.faults u) (last : (u : ℕ) → m'.disk_faults u ≡ m'.faults u) (since : GroundSince a m0 (state_of c) m) (sound : is_sound c.inner.config ≡ true)
+module _ (a : GroundState) (c d : GroupCore) (m0 m m' : Meaning) (first : (u : ℕ) → m.disk_faults u ≡ m.faults u) (last : (u : ℕ) → m'.disk_faults u ≡ m'.faults u) (since : GroundSince a m0 (ground_state c) m) (sound : is_sound c.inner.config ≡ true)
     (more : (u : ℕ) → m.disk_faults u ≤ m'.disk_faults u) where
   none_before : NoneRose (length a.config.disks) m0 m' → NoneRose (length a.config.disks) m0 m
   none_before none u low rose = none u low (rose_on (m0.disk_faults u) (m.disk_faults u) (m'.disk_faults u) (more u) rose)
@@ -99,7 +99,7 @@ module _ (a : GroundState) (c d : GroupCore) (m0 m m' : Meaning) (first : (u : �
     blamed_by u false is off on none = none (rose_back (m0.disk_faults u) (m.disk_faults u) (m'.disk_faults u) (since.counts u) (counted u (loses.disks.blamed u is on)))
 
     module _ (openly : MissesOpenly (wide c) → MissesOpenly (wide d)) (newest : MissesOpenly (wide c) → (c.inner.committed ≡ true → AllAtOnce (wide c).config m) → d.inner.committed ≡ true → AllAtOnce (wide d).config m') where
-      pub since_goes : GroundSince a m0 (state_of d) m'
+      pub since_goes : GroundSince a m0 (ground_state d) m'
       since_goes = record {
         parts = then_parts a.config c.inner.config d.inner.config since.parts loses.parts;
         frames = λ v. loses.frames v ∙ since.frames v;
@@ -113,11 +113,11 @@ module _ (a : GroundState) (c d : GroupCore) (m0 m m' : Meaning) (first : (u : �
       }
 
     -- a write or a flush
-    pub since_loses : GroupFinds c d m m' → GroundSince a m0 (state_of d) m'
+    pub since_loses : GroupFinds c d m m' → GroundSince a m0 (ground_state d) m'
     since_loses finds = since_goes finds.core.openly (λ clear was is. newest_goes c d m m' clear was finds.core is)
 
   -- a read, which leaves the configuration, and no image that there was not
-  pub since_same : d.inner.config ≡ c.inner.config → d.held ≡ c.held → d.inner.committed ≡ c.inner.committed → d.inner.unsettled ≡ c.inner.unsettled → FindsFrom NoConfiguration m m' → GroundSince a m0 (state_of d) m'
+  pub since_same : d.inner.config ≡ c.inner.config → d.held ≡ c.held → d.inner.committed ≡ c.inner.committed → d.inner.unsettled ≡ c.inner.unsettled → FindsFrom NoConfiguration m m' → GroundSince a m0 (ground_state d) m'
   since_same same held committed unsettled finds =
       since_goes (subst (λ (x : Config). LosesPlexes c.inner.config x m m') (sym same) (loses_same c.inner.config m m')) (λ clear is. committed ∙ clear (sym unsettled ∙ is))
       (λ clear was is.

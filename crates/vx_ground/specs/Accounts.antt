@@ -18,8 +18,8 @@ pub record GroundState : Type 0 where
   pub committed : Bool
   pub unsettled : Bool
 
-abbrev pub state_of : GroupCore → GroundState
-state_of core = record { config = core.inner.config; seen = (wide core).config; committed = core.inner.committed; unsettled = core.inner.unsettled }
+abbrev pub ground_state : GroupCore → GroundState
+ground_state core = record { config = core.inner.config; seen = (wide core).config; committed = core.inner.committed; unsettled = core.inner.unsettled }
 
 -- a configuration without disks
 abbrev pub no_config : Config

@@ -1,6 +1,6 @@
 // A group as the shelf of its volumes, with an account of its calls.
 ghost use Rattle.std.specs.Prelude.{◌≡◌, ℕ};
-ghost use Rattle.vx_ground.specs.Accounts.{GroundSince, state_of};
+ghost use Rattle.vx_ground.specs.Accounts.{GroundSince, ground_state};
 
 use crate::founding::Founding;
 use std::marker::PhantomData;
@@ -13,14 +13,14 @@ pub struct Ground<S: Shelf, B: Founding> {
     pub group: LoggedGroup<S>,
     pub of: PhantomData<B>,
     pub ghost counts: { (s : S) (d : ℕ) → (S.meaning s).disk_faults d ≡ (S.meaning s).faults d },
-    pub ghost since: { GroundSince B.state B.disks (state_of group.core) (S.meaning group.shelf) },
+    pub ghost since: { GroundSince B.state B.disks (ground_state group.core) (S.meaning group.shelf) },
 }
 
 impl<S: Shelf, B: Founding> Ground<S, B> {
     /// Begins the account, or goes on with it. It makes no device call.
     pub fn over(group: LoggedGroup<S>) -> Ground<S, B>
         requires counts { (s : S) (d : ℕ) → (S.meaning s).disk_faults d ≡ (S.meaning s).faults d }
-        requires since { GroundSince B.state B.disks (state_of group.core) (S.meaning group.shelf) }
+        requires since { GroundSince B.state B.disks (ground_state group.core) (S.meaning group.shelf) }
         ensures { result.group ≡ group }
     {
         Ground {
@@ -32,7 +32,7 @@ impl<S: Shelf, B: Founding> Ground<S, B> {
     /// Hands the group out, with the account. It makes no device call.
     pub fn into_group(self) -> LoggedGroup<S>
         ensures group { result ≡ self.group }
-        ensures since { GroundSince B.state B.disks (state_of result.core) (S.meaning result.shelf) }
+        ensures since { GroundSince B.state B.disks (ground_state result.core) (S.meaning result.shelf) }
     {
         self.group
     }

@@ -1,7 +1,7 @@
 -- Work over the disks of a site, of which contents are told or not.
 use Rattle.vx_grouped.proofs.TraceLemmas.{carried_both, carried_in, carried_one}
 use Rattle.vx_watched.specs.Since.{CalledSince}
-use Rattle.vx_ground.specs.Accounts.{GroundSince, state_of}
+use Rattle.vx_ground.specs.Accounts.{GroundSince, ground_state}
 use Rattle.vx_ground.specs.Lifted.{volumes_over}
 use Rattle.vx_ground.proofs.lifting.work_traced.Goals as goal
 
@@ -17,7 +17,7 @@ returns-clause-does g c =
 
 pub returns-clause-ground : goal.returns-clause-ground
 returns-clause-ground g c =
-    carried_in (λ x s y t. GroundSince (state_of x) s (state_of y) t)
+    carried_in (λ x s y t. GroundSince (ground_state x) s (ground_state y) t)
     c.args.laid.core c.trace.result.core c.untrace.result.core c.work_watched-group.result.0.core c.args.laid.shelf c.trace.result.shelf c.untrace.result.shelf c.work_watched-group.result.0.shelf
     c.trace.ensures.core c.trace.ensures.shelf c.untrace.ensures.core c.untrace.ensures.shelf c.work_watched-group.ensures.ground
 

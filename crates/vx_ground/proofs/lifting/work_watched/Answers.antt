@@ -1,6 +1,6 @@
 -- Work over disks with an account of their calls.
 use Rattle.std.proofs.Common.{◌∙◌, sym, subst}
-use Rattle.vx_ground.specs.Accounts.{GroundSince, state_of}
+use Rattle.vx_ground.specs.Accounts.{GroundSince, ground_state}
 use Rattle.vx_ground.specs.Lifted.{volumes_over}
 use Rattle.vx_grouped.proofs.CarryLemmas.{carried, shelf_of}
 use Rattle.vx_ground.proofs.AccountLemmas.{carried_back}
@@ -21,7 +21,7 @@ returns-clause-does g c =
 
 pub returns-clause-ground : goal.returns-clause-ground
 returns-clause-ground g c =
-    carried (λ x s y t. GroundSince (state_of x) (g.R.Shelf.meaning s) (state_of y) (g.R.Shelf.meaning t))
+    carried (λ x s y t. GroundSince (ground_state x) (g.R.Shelf.meaning s) (ground_state y) (g.R.Shelf.meaning t))
     c.args.group.core c.together-group.result.core c.together.result.core c.work_grounded-group.result.0.core c.args.group.shelf c.together-group.result.shelf.shelf c.together.result.shelf c.work_grounded-group.result.0.shelf.shelf
     (c.together-group.ensures.core ∙ c.apart-rack.ensures.core) (shelf_of _ _ c.together-group.ensures.shelf ∙ c.over-watched.ensures ∙ c.apart-rack.ensures.shelf)
     (c.together.ensures.core ∙ c.apart-watched.ensures.core) (c.together.ensures.shelf ∙ c.into_shelf-rack.ensures.shelf ∙ shelf_of _ _ c.apart-watched.ensures.shelf)
