@@ -13,6 +13,7 @@ use Rattle.vx_group.specs.declared.group_core.GroupCore.{GroupCore}
 use Rattle.vx_group.proofs.HoldLemmas.{wide_shape}
 use Rattle.vx_group.proofs.MissLemmas.{count_all}
 use Rattle.vx_kept.specs.LogRuns.{log_place, run_or}
+use Rattle.vx_groupmaps.specs.Loading.{on_failed_disk}
 use Rattle.vx_loggroup.specs.Attaching.{fmr_at, fmr_or, map_by}
 use Rattle.vx_loggroup.specs.Facts.{LoggedFact}
 use Rattle.vx_logs.specs.declared.logs.Logs.{Logs}
@@ -47,14 +48,15 @@ module _ (core : GroupCore) (logs : List Logs) (alike : List Bool) (stopped : Bo
       by None is = refl
       by (Some f) is = absurd (let clash : true ≡ false = sym ((((fact.each v l at).on going).fmr f is).run.has) ∙ wide_log core v ∙ none in cc)
 
-  gone_by : (s d b : Bool) → stopped ≡ s → (if s then None else (if d then None else (if b then None else fmr_at logs v))) ≡ None
-  gone_by true d b is = refl
-  gone_by false true b is = refl
-  gone_by false false true is = refl
-  gone_by false false false is = no_map (slice_get logs v) refl is
+  gone_by : (s d b f : Bool) → stopped ≡ s → (if s then None else (if d then None else (if b then None else (if f then None else fmr_at logs v)))) ≡ None
+  gone_by true d b f is = refl
+  gone_by false true b f is = refl
+  gone_by false false true f is = refl
+  gone_by false false false true is = refl
+  gone_by false false false false is = no_map (slice_get logs v) refl is
 
   map_none : map_by logs core.inner.config stopped m.down v p ≡ None
-  map_none = gone_by stopped m.down (nat_le (plexes_of core.inner.config v) p) refl
+  map_none = gone_by stopped m.down (nat_le (plexes_of core.inner.config v) p) (on_failed_disk core.inner.config v) refl
 
 -- so many are copied as the plex has missed by the map in memory
 pub copies_missed : (core : GroupCore) (logs : List Logs) (alike : List Bool) (stopped : Bool) (m : Meaning) → LoggedFact core logs alike stopped m → (v p n : ℕ) → n ≡ missed_regions core.inner.config v p (map_by logs core.inner.config stopped m.down v p)

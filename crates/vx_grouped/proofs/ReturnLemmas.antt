@@ -30,6 +30,7 @@ use Rattle.vx_kept.proofs.Low.{found_same, import_low}
 use Rattle.vx_kept.proofs.Narrower.{on_live, sound_chosen, wanted_sound}
 use Rattle.vx_group.specs.Creates.{SameUnits}
 use Rattle.vx_group.specs.Dets.{any_below}
+use Rattle.vx_group.specs.Holding.{wide}
 use Rattle.vx_group.specs.Imports.{HalfResumed, ImportStops, Resumed}
 use Rattle.vx_group.specs.Resumes.{CanImport, CanImportBehind, TakenUp, stopped}
 use Rattle.vx_group.specs.Stands.{inner_meaning}

@@ -21,9 +21,10 @@ use Rattle.vx_logs.specs.declared.logs.Logs.{Logs}
 use Rattle.vx_model.specs.Sizes.{regions_of}
 use Rattle.vx_loggroup.specs.LoggedVolumes.{LoggedStands, is_alike}
 use Rattle.vx_loggroup.specs.Marks.{ClearsVolume, MarksAreOff, region_count}
-use Rattle.vx_loggroup.specs.Taking.{LogsSettle}
+use Rattle.vx_loggroup.specs.Taking.{LogsSettle, MapsShrink}
 use Rattle.vx_loggroup.proofs.SetLemmas.{item_at}
 use Rattle.vx_loggroup.proofs.SettleLemmas.{settle_none, settle_then}
+use Rattle.vx_loggroup.proofs.TakenMaps.{shrink_none, shrink_then}
 
 -- those of the first volumes were, and the others are as they were
 pub record ClearedSoFar (c0 : GroupCore) (ls0 : List Logs) (a : List Bool) (m0 : Meaning) (n : ℕ) (core : GroupCore) (ls : List Logs) (m : Meaning) : Type 0 where
@@ -32,7 +33,7 @@ pub record ClearedSoFar (c0 : GroupCore) (ls0 : List Logs) (a : List Bool) (m0 :
   pub off : MarksAreOff (wide c0).config a n ls
   pub rest : (v : ℕ) → n ≤ v → slice_get ls v ≡ slice_get ls0 v
   pub trust : c0.inner.committed ≡ true → core.inner.committed ≡ true
-  pub long : length ls ≡ length ls0
+  pub shrink : MapsShrink ls0 ls
 
 pub none_cleared : (c0 : GroupCore) (ls0 : List Logs) (a : List Bool) (m0 : Meaning) → LoggedStands c0 ls0 a false m0 → ClearedSoFar c0 ls0 a m0 0 c0 ls0 m0
 none_cleared c0 ls0 a m0 stands = record {
@@ -41,7 +42,7 @@ none_cleared c0 ls0 a m0 stands = record {
   off = record { each = λ v l lt same_at is. absurd (omega (arith, lt)) };
   rest = λ v le. refl;
   trust = λ is. is;
-  long = refl;
+  shrink = shrink_none ls0;
 }
 
 module _ (c0 : GroupCore) (ls0 : List Logs) (a : List Bool) (m0 : Meaning) (n : ℕ) (core : GroupCore) (ls : List Logs) (m : Meaning) (was : ClearedSoFar c0 ls0 a m0 n core ls m) where
@@ -52,7 +53,7 @@ module _ (c0 : GroupCore) (ls0 : List Logs) (a : List Bool) (m0 : Meaning) (n : 
   pub next_there : n < length ls → n < (inner_meaning (wide core) m).units
   next_there lt = let many = was.stands.many in let same = (wide_shape core).volumes in omega (arith, lt, many, same)
 
-  module _ (next : GroupCore) (ls' : List Logs) (m' : Meaning) (stands : LoggedStands next ls' a false m') (settles : LogsSettle core next m m') (marks : ClearsVolume (wide core).config n ls ls') where
+  module _ (next : GroupCore) (ls' : List Logs) (m' : Meaning) (stands : LoggedStands next ls' a false m') (settles : LogsSettle core next m m') (marks : ClearsVolume (wide core).config n ls ls') (shrink : MapsShrink ls ls') where
     pub goes_on : LogsSettle c0 next m0 m'
     goes_on = settle_then c0 core next m0 m m' was.settles settles
 
@@ -69,14 +70,13 @@ module _ (c0 : GroupCore) (ls0 : List Logs) (a : List Bool) (m0 : Meaning) (n : 
       };
       rest = λ v le. marks.others v (λ same. omega (arith, le, same)) ∙ was.rest v (omega (arith, le));
       trust = λ is. trust (was.trust is);
-      long = let before = was.long in let many = was.stands.many in let more = stands.many in let one = (wide_shape core).volumes in let two = (wide_shape next).volumes in let units = settles.goes.units in omega (arith, before, many, more, one, two, units);
+      shrink = shrink_then ls0 ls ls' was.shrink shrink;
     }
       where
         at_n : (k : Logs) → is_alike a n ≡ true → slice_get ls' n ≡ Some k → NoMarks (region_count (wide c0).config n) k
         at_n k same_at is =
             let low = slice_get_within ls' n k is in
-            let many = was.stands.many in let more = stands.many in let one = (wide_shape core).volumes in let two = (wide_shape next).volumes in let units = settles.goes.units in
-            let old = item_at ls n (omega (arith, low, many, more, one, two, units)) in
+            let old = item_at ls n (let many = shrink.many in omega (arith, low, many)) in
             subst (λ (r : ℕ). NoMarks r k) (ap regions_of (was.settles.goes.size n)) (off same_at old.0 k old.1 (full n old.0 (sym (was.rest n (omega arith)) ∙ old.1)) is)
 
         here : (v : ℕ) (l : Logs) → v ≡ n → is_alike a v ≡ true → slice_get ls' v ≡ Some l → NoMarks (region_count (wide c0).config v) l

@@ -24,3 +24,5 @@ pub mod CloseLemmas
 pub mod AlikeFlags
 pub mod TouchLemmas
 pub mod UsesLemmas
+pub mod HeldMaps
+pub mod MirrorLemmas

@@ -47,10 +47,11 @@ use Rattle.vx_loggroup.specs.Fresh.{FreshStands}
 use Rattle.vx_loggroup.specs.LoggedVolumes.{LoggedStands, is_alike}
 use Rattle.vx_loggroup.specs.Marks.{MarksAreOff}
 use Rattle.vx_loggroup.specs.Opens.{NotSettled, OpensLogged, SettlesLogs}
-use Rattle.vx_loggroup.specs.Taking.{LogsSettle, SameDrls}
+use Rattle.vx_loggroup.specs.Taking.{LogsSettle, MapsWhy, SameDrls}
 use Rattle.vx_loggroup.specs.declared.opening.Opened.{Opened}
 use Rattle.vx_loggroup.proofs.StillLemmas.{core_goes}
 use Rattle.vx_loggroup.proofs.SetLemmas.{item_at}
+use Rattle.vx_loggroup.proofs.TakenMaps.{shrink_why}
 
 -- of which a crash leaves one value, that reads as one
 pub alike_reads : (c : Config) (v : ℕ) (m : Meaning) → Lawful m → AllAlike c v m → ReadsOne c v m
@@ -109,7 +110,7 @@ module _ (old m1 : Meaning) (k : Marked) (law0 : Lawful old) (law : Lawful m1) (
   opened_full : (v : ℕ) (l : Logs) → slice_get k.logs.items v ≡ Some l → HoldsMany l.drl
   opened_full v l is = by l.drl (it.read.each v l is)
     where
-      by : (o : Option Dirty) → LogRead it.opened v o old m1 → HoldsMany o
+      by : (o : Option Dirty) → LogRead k.good it.opened v o old m1 → HoldsMany o
       by None read = tt
       by (Some d) read = read.3
 
@@ -185,8 +186,8 @@ opened_newest old m1 k law it m2 new goes law2 core finds is =
 -- how an import ends
 pub opens_by : {S : Type 0} (meaning : S → Meaning) (moment : S) (old : Meaning) (k : Marked) (law0 : Lawful old) (law : Lawful (meaning moment)) (can : CanImport old) (it : ResumedBy old k (meaning moment)) (r : Rested) (tells : LogsTell r old) (a : List Bool)
     → ((v : ℕ) → v < 32 → is_unsure k.stopped v ≡ true → is_alike a v ≡ true) → ((v : ℕ) → v < 32 → rests r.alike v ≡ true → is_alike a v ≡ true) → (ls : List Logs) (m2 new : Meaning) → SameDrls k.logs.items ls → length ls ≡ length k.logs.items → Goes Nothing (meaning moment) m2 → Lawful m2
-    → (res : Result Opened Stop) → SettlesLogs (record { inner = k.core; held = None }) a m2 new res → OpensLogged meaning r old new res
-opens_by meaning moment old k law0 law can it r tells a mended resting ls m2 new drls long goes law2 (Ok o) fin = (
+    → (res : Result Opened Stop) → SettlesLogs (record { inner = k.core; held = None }) ls a m2 new res → MapsWhy k.good k.core.config k.stopped r ls → OpensLogged meaning r old new res
+opens_by meaning moment old k law0 law can it r tells a mended resting ls m2 new drls long goes law2 (Ok o) fin why = (
   record {
     moment = moment;
     marked = k;
@@ -203,12 +204,13 @@ opens_by meaning moment old k law0 law can it r tells a mended resting ls m2 new
     mended = λ v lt is. ap (λ (f : List Bool). is_alike f v) fin.same ∙ mended v (let few = it.resumed.stands.few in omega (arith, lt, few)) (it.flags v lt ∙ is);
     resting = λ v lt is. ap (λ (f : List Bool). is_alike f v) fin.same ∙ resting v (let few = it.resumed.stands.few in omega (arith, lt, few)) is;
     off = λ going. subst (λ (f : List Bool). MarksAreOff k.core.config f (length o.logs.items) o.logs.items) (sym fin.same) (fin.off going);
+    maps = shrink_why k.good k.core.config k.stopped r ls o.logs.items fin.shrink why;
   },
   fin.stands,
   fin.begins,
 )
-opens_by meaning moment old k law0 law can it r tells a mended resting ls m2 new drls long goes law2 (Err stop) fin = opened_late old (meaning moment) k law0 law can it r tells ls m2 new drls long goes law2 stop fin
+opens_by meaning moment old k law0 law can it r tells a mended resting ls m2 new drls long goes law2 (Err stop) fin why = opened_late old (meaning moment) k law0 law can it r tells ls m2 new drls long goes law2 stop fin
 
-pub settled_below : (c : GroupCore) (a : List Bool) (m m' : Meaning) (res : Result Opened Stop) → SettlesLogs c a m m' res → SameUnits m m'
-settled_below c a m m' (Ok o) fin = fin.settles.below
-settled_below c a m m' (Err stop) fin = fin.settles.below
+pub settled_below : (c : GroupCore) (ls : List Logs) (a : List Bool) (m m' : Meaning) (res : Result Opened Stop) → SettlesLogs c ls a m m' res → SameUnits m m'
+settled_below c ls a m m' (Ok o) fin = fin.settles.below
+settled_below c ls a m m' (Err stop) fin = fin.settles.below

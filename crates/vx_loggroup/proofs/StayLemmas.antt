@@ -39,7 +39,7 @@ use Rattle.vx_logged.specs.Logged.{EachOn, KnownBy, LogOn}
 use Rattle.vx_logged.proofs.StandLemmas.{inner_wide, wide_both}
 use Rattle.vx_loggroup.specs.LoggedVolumes.{LoggedStands}
 use Rattle.vx_loggroup.proofs.AlikeLemmas.{inside_back, many_later, reads_goes}
-use Rattle.vx_loggroup.specs.Attaching.{fmr_at, fmr_or, map_by}
+use Rattle.vx_loggroup.specs.Attaching.{fmr_at, fmr_or, map_there}
 use Rattle.vx_loggroup.proofs.KnownLemmas.{know_goes}
 use Rattle.vx_loggroup.proofs.SetLemmas.{item_at}
 
@@ -91,7 +91,7 @@ not_le : (n p : ℕ) → nat_le n p ≡ false → p < n
 not_le n p is = elim (cases_lt p n) [ inl lt ↦ lt | inr le ↦ absurd (let clash : true ≡ false = sym (le-leb n p le) ∙ is in cc) ]
 
 -- the maps in memory, where the plex is there
-by_map_in : (ls : List Logs) (c : Config) (s down : Bool) (v p : ℕ) → s ≡ false → down ≡ false → Present c v p → map_by ls c s down v p ≡ fmr_at ls v
+by_map_in : (ls : List Logs) (c : Config) (s down : Bool) (v p : ℕ) → s ≡ false → down ≡ false → Present c v p → map_there ls c s down v p ≡ fmr_at ls v
 by_map_in ls c true down v p going up there = absurd (let clash : true ≡ false = going in cc)
 by_map_in ls c false true v p going up there = absurd (let clash : true ≡ false = up in cc)
 by_map_in ls c false false v p going up there = by (nat_le (plexes_of c v) p) refl
@@ -149,18 +149,18 @@ others_attached v p f c d m m' stands may it w l on =
 
 -- whatever the plexes are
 pub att_stands : (v p : ℕ) (c d : GroupCore) (ls : List Logs) (a : List Bool) (s : Bool) (m m' : Meaning) → LoggedStands c ls a s m → GroupStands d m' → att_refusal c.inner.config v p ≡ None
-    → GroupAttaches v p (map_by ls c.inner.config s m.down v p) c d m m' → LoggedStands d ls a s m'
+    → GroupAttaches v p (map_there ls c.inner.config s m.down v p) c d m m' → LoggedStands d ls a s m'
 att_stands v p c d ls a s m m' stands group may it = record {
   group = group;
   many = many_later c d (length ls) it.goes.units stands.many;
   each = λ w l is.
       let was = stands.each w l is in
       record {
-        on = λ going. others_attached v p (map_by ls c.inner.config s m.down v p) c d m m' stands.group may it w l (was.on going);
+        on = λ going. others_attached v p (map_there ls c.inner.config s m.down v p) c d m m' stands.group may it w l (was.on going);
         maps = λ going. record {
           so = λ g at up.
-              let mine : (same : w ≡ v) → map_by ls c.inner.config s m.down v p ≡ Some g = λ same. by_map_in ls c.inner.config s m.down v p going (not_down m.down (λ down. up (it.acts.falls down))) (present c.inner.config v p (may_attach c.inner.config v p may)) ∙ (subst (λ (u : ℕ). fmr_at ls u ≡ Some g) same (ap fmr_or is ∙ at)) in
-              (attached_know v p (map_by ls c.inner.config s m.down v p) c d m m' stands.group may it w none_spared l
+              let mine : (same : w ≡ v) → map_there ls c.inner.config s m.down v p ≡ Some g = λ same. by_map_in ls c.inner.config s m.down v p going (not_down m.down (λ down. up (it.acts.falls down))) (present c.inner.config v p (may_attach c.inner.config v p may)) ∙ (subst (λ (u : ℕ). fmr_at ls u ≡ Some g) same (ap fmr_or is ∙ at)) in
+              (attached_know v p (map_there ls c.inner.config s m.down v p) c d m m' stands.group may it w none_spared l
               (λ h other same r clear. subst (λ (o : Option Missed). missed_or p o r ≡ false) (sym (mine same)) (subst (λ (x : Missed). has_missed x p r ≡ false) (one_of l.fmr h g other at) clear)) (was.maps going)).so g at up;
         };
         alike = λ same_at up. reads_goes Nothing c d m m' it.goes w (λ b x none. none) up (was.alike same_at (λ down. up (it.goes.falls down)));
@@ -179,7 +179,7 @@ same_stands : (c d : GroupCore) (ls : List Logs) (a : List Bool) (s : Bool) (m m
 same_stands c d ls a s m m' core below stands = subst (λ (x : GroupCore). LoggedStands x ls a s m') (sym core) (subst (λ (n : Meaning). LoggedStands c ls a s n) (sym below) stands)
 
 -- an attach, which may be refused before it begins
-pub att_any : (v p : ℕ) (c d : GroupCore) (ls : List Logs) (a : List Bool) (s : Bool) (m m' : Meaning) → LoggedStands c ls a s m → GroupStands d m' → GroupAttaches v p (map_by ls c.inner.config s m.down v p) c d m m'
+pub att_any : (v p : ℕ) (c d : GroupCore) (ls : List Logs) (a : List Bool) (s : Bool) (m m' : Meaning) → LoggedStands c ls a s m → GroupStands d m' → GroupAttaches v p (map_there ls c.inner.config s m.down v p) c d m m'
     → ((no : No) → att_refusal c.inner.config v p ≡ Some no → (d ≡ c) × (m' ≡ m)) → LoggedStands d ls a s m'
 att_any v p c d ls a s m m' stands group it refused = by (att_refusal c.inner.config v p) refl
   where
@@ -201,7 +201,7 @@ has_count c v p k lt inside = record { plex = by (slice_get c.volumes v) refl; b
         ap (λ (o : Option VolumeEntry). is_some (plex_in o p)) at ∙ ap is_some it.1
 
 -- the maps in memory know what the plex missed
-pub knows_by : (v p : ℕ) (c : GroupCore) (ls : List Logs) (a : List Bool) (s : Bool) (m : Meaning) → LoggedStands c ls a s m → KnowsMissed c.inner.config v p (map_by ls c.inner.config s m.down v p) m
+pub knows_by : (v p : ℕ) (c : GroupCore) (ls : List Logs) (a : List Bool) (s : Bool) (m : Meaning) → LoggedStands c ls a s m → KnowsMissed c.inner.config v p (map_there ls c.inner.config s m.down v p) m
 knows_by v p c ls a s m stands = by s m.down (nat_le (plexes_of c.inner.config v) p) (slice_get ls v) refl refl refl refl
   where
     shape : SameShape c.inner.config (wide c).config

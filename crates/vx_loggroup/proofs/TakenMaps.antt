@@ -3,6 +3,8 @@ use Rattle.std.proofs.Common.{◌≡◌, ◌∙◌, ◌⊎◌, inl, inr, ℕ, �
 use Rattle.std.specs.Prelude.{◌-◌, slice_get}
 use Rattle.std.proofs.Math.ListN.{set}
 use Rattle.std.proofs.lemmas.Bool.{cases_eq}
+use Rattle.std.proofs.lemmas.List.{length-set}
+use Rattle.std.proofs.lemmas.Option.{slice_get_within}
 use Rattle.vx_bitmap.specs.Bits.{is_marked}
 use Rattle.vx_bitmap.specs.Maps.{MapOn, map_block_count}
 use Rattle.vx_bitmap.proofs.Blocks.{by_block}
@@ -26,18 +28,21 @@ use Rattle.vx_grouplogs.specs.On.{VolumeOn}
 use Rattle.vx_grouplogs.proofs.KnowActs.{know_none}
 use Rattle.vx_grouplogs.proofs.MapLemmas.{map_low, on_mapped}
 use Rattle.vx_kept.specs.Choice.{live}
+use Rattle.vx_kept.specs.Cleans.{is_unsure}
 use Rattle.vx_kept.proofs.Narrower.{on_live}
 use Rattle.vx_layout.specs.Places.{HasBlock, place}
-use Rattle.vx_logimport.specs.Rests.{MapsTell}
+use Rattle.vx_logimport.specs.Marked.{log_within}
+use Rattle.vx_logimport.specs.Rests.{MapsTell, rests}
+use Rattle.vx_logimport.specs.declared.rested.Rested.{Rested}
 use Rattle.vx_logimport.proofs.RestLemmas.{used_in_use}
 use Rattle.vx_logimport.proofs.TellLemmas.{maps_less}
-use Rattle.vx_logs.specs.Held.{FmrFound, InUse}
+use Rattle.vx_logs.specs.Held.{FmrFound, InUse, is_used}
 use Rattle.vx_logs.specs.declared.logs.Logs.{Logs}
 use Rattle.vx_model.specs.Content.{block_of}
 use Rattle.vx_volume.specs.Plexes.{DisksFit, Inside, active}
 use Rattle.vx_loggroup.specs.LoggedVolumes.{LoggedStands}
-use Rattle.vx_loggroup.specs.Taking.{SameDrls, TakesMap}
-use Rattle.vx_loggroup.proofs.SetLemmas.{set_here, set_other}
+use Rattle.vx_loggroup.specs.Taking.{MapsMay, MapsShrink, MapsWhy, SameDrls, TakesMap}
+use Rattle.vx_loggroup.proofs.SetLemmas.{item_at, set_here, set_other}
 
 -- ---- what a log that was read knows
 
@@ -124,65 +129,129 @@ module _ (c : Config) (sound : is_sound c ≡ true) (v : ℕ) (some : 0 < blocks
     so = λ g is up. subst (λ (h : Missed). PlexesKnow c v (has_missed h) m'.reads) (some_one f g is) (taken_knows c sound v some m m' law fit goes tells f takes.0 up);
   }
 
+-- what was read is in use
+pub taken_used : (c : Config) (v : ℕ) (o : Option Missed) (gone : Bool) (m m' : Meaning) → TakesMaps c v o gone m m' → (o ≡ None → ⊥) → is_used c v Fmr ≡ true
+taken_used c v None gone m m' takes some = absurd (some refl)
+taken_used c v (Some f) true m m' takes some = absurd (some takes.0)
+taken_used c v (Some f) false m m' takes some = takes.0.0
+
 -- ---- one log that was taken up
 
-pub takes_none : (v : ℕ) (ls : List Logs) → TakesMap v ls ls
-takes_none v ls = record {
+pub takes_none : (c : Config) (may : Bool) (v : ℕ) (ls : List Logs) → ((l : Logs) → slice_get ls v ≡ Some l → l.fmr ≡ None) → TakesMap c may v ls ls
+takes_none c may v ls plain = record {
   here = λ l k was now. let same : Some l ≡ Some k = sym was ∙ now in let one : l ≡ k = cc in ap (λ (x : Logs). x.drl) (sym one);
   others = λ w apart. refl;
+  why = λ k now some. absurd (some (plain k now));
 }
 
-pub takes_set : (v : ℕ) (ls : List Logs) (l k : Logs) → slice_get ls v ≡ Some l → k.drl ≡ l.drl → TakesMap v ls (set ls v k)
-takes_set v ls l k is drl = record {
+pub takes_set : (c : Config) (may : Bool) (v : ℕ) (ls : List Logs) (l k : Logs) → slice_get ls v ≡ Some l → k.drl ≡ l.drl → may ≡ true → ((k.fmr ≡ None → ⊥) → is_used c v Fmr ≡ true) → TakesMap c may v ls (set ls v k)
+takes_set c may v ls l k is drl may_so used = record {
   here = λ x y was now.
       let old : Some l ≡ Some x = sym is ∙ was in
       let one : l ≡ x = cc in
       let two : k ≡ y = set_here ls v k y now in
       ap (λ (z : Logs). z.drl) (sym two) ∙ drl ∙ ap (λ (z : Logs). z.drl) one;
   others = λ w apart. set_other ls v k w apart;
+  why = λ y now some. let same : k ≡ y = set_here ls v k y now in (may_so, used (λ none. some (ap (λ (z : Logs). z.fmr) (sym same) ∙ none)));
 }
 
 -- those of the first volumes were taken up, and the others are as they were
-pub record TakenSoFar (c : GroupCore) (a : List Bool) (ls0 : List Logs) (m0 : Meaning) (n : ℕ) (ls : List Logs) (m : Meaning) : Type 0 where
+pub record TakenSoFar (c : GroupCore) (a : List Bool) (good : ℕ) (st : List Bool) (r : Rested) (ls0 : List Logs) (m0 : Meaning) (n : ℕ) (ls : List Logs) (m : Meaning) : Type 0 where
   pub stands : LoggedStands c ls a false m
   pub goes : Goes Nothing m0 m
   pub drls : SameDrls ls0 ls
   pub rest : (v : ℕ) → n ≤ v → slice_get ls v ≡ slice_get ls0 v
   pub long : length ls ≡ length ls0
+  pub why : MapsWhy good c.inner.config st r ls
 
 same_drl : (o : Option Logs) (l k : Logs) → o ≡ Some l → o ≡ Some k → k.drl ≡ l.drl
 same_drl o l k one two = let both : Some l ≡ Some k = sym one ∙ two in let same : l ≡ k = cc in ap (λ (x : Logs). x.drl) (sym same)
 
-pub none_taken : (c : GroupCore) (a : List Bool) (ls : List Logs) (m : Meaning) → LoggedStands c ls a false m → TakenSoFar c a ls m 0 ls m
-none_taken c a ls m stands = record {
+pub none_taken : (c : GroupCore) (a : List Bool) (good : ℕ) (st : List Bool) (r : Rested) (ls : List Logs) (m : Meaning) → LoggedStands c ls a false m → ((v : ℕ) (l : Logs) → slice_get ls v ≡ Some l → l.fmr ≡ None) → TakenSoFar c a good st r ls m 0 ls m
+none_taken c a good st r ls m stands plain = record {
   stands = stands;
   goes = same_Goes m;
   drls = record { each = λ v l k was now. same_drl (slice_get ls v) l k was now };
   rest = λ v le. refl;
   long = refl;
+  why = record { each = λ v l is some. absurd (some (plain v l is)) };
 }
 
-module _ (c : GroupCore) (a : List Bool) (ls0 : List Logs) (m0 : Meaning) (n : ℕ) (ls : List Logs) (m : Meaning) (was : TakenSoFar c a ls0 m0 n ls m) where
+module _ (c : GroupCore) (a : List Bool) (good : ℕ) (st : List Bool) (r : Rested) (ls0 : List Logs) (m0 : Meaning) (n : ℕ) (ls : List Logs) (m : Meaning) (was : TakenSoFar c a good st r ls0 m0 n ls m) where
   -- what is asked of the next one
   pub next_tells : MapsTell c.inner.config n m0 → MapsTell c.inner.config n m
   next_tells tells = maps_less m0 m was.goes.units was.goes.size (λ u b y left. elim (was.goes.leaves u b y left) [ inl old ↦ old | inr none ↦ absurd none ]) c.inner.config n tells
 
-  pub one_taken : (ls' : List Logs) (m' : Meaning) → LoggedStands c ls' a false m' → Goes Nothing m m' → TakesMap n ls ls' → TakenSoFar c a ls0 m0 (n + 1) ls' m'
-  one_taken ls' m' stands goes takes = record {
-    stands = stands;
-    goes = still m0 m m' was.goes goes;
-    drls = record {
-      each = λ v l k old now. elim (cases_eq v n) [
-        | inl same ↦ here v l k same old now
-        | inr apart ↦ was.drls.each v l k old (sym (takes.others v apart) ∙ now)
-      ];
-    };
-    rest = λ v le. takes.others v (λ same. omega (arith, le, same)) ∙ was.rest v (omega (arith, le));
-    long = let many = stands.many in let before = was.stands.many in let long = was.long in omega (arith, many, before, long);
-  }
-    where
-      here : (v : ℕ) (l k : Logs) → v ≡ n → slice_get ls0 v ≡ Some l → slice_get ls' v ≡ Some k → k.drl ≡ l.drl
-      here v l k same old now =
-          let at_n : slice_get ls0 n ≡ Some l = sym (ap (slice_get ls0) same) ∙ old in
-          let now_n : slice_get ls' n ≡ Some k = sym (ap (slice_get ls') same) ∙ now in
-          takes.here l k (was.rest n (omega arith) ∙ at_n) now_n
+  module _ (may : Bool) (clean : may ≡ true → is_unsure st n ≡ false) (maps : may ≡ true → rests r.maps n ≡ true) (within : may ≡ true → log_within good c.inner.config n Fmr ≡ true) where
+    why_here : (ls' : List Logs) → TakesMap c.inner.config may n ls ls' → (v : ℕ) (l : Logs) → v ≡ n → slice_get ls' v ≡ Some l → (l.fmr ≡ None → ⊥) → MapsMay good c.inner.config st r v
+    why_here ls' takes v l same is some =
+        let why = takes.why l (sym (ap (slice_get ls') same) ∙ is) some in
+        subst (λ (w : ℕ). MapsMay good c.inner.config st r w) (sym same) (record { clean = clean why.0; maps = maps why.0; within = within why.0; used = why.1 })
+
+    pub one_taken : (ls' : List Logs) (m' : Meaning) → LoggedStands c ls' a false m' → Goes Nothing m m' → TakesMap c.inner.config may n ls ls' → TakenSoFar c a good st r ls0 m0 (n + 1) ls' m'
+    one_taken ls' m' stands goes takes = record {
+      stands = stands;
+      goes = still m0 m m' was.goes goes;
+      drls = record {
+        each = λ v l k old now. elim (cases_eq v n) [
+          | inl same ↦ here v l k same old now
+          | inr apart ↦ was.drls.each v l k old (sym (takes.others v apart) ∙ now)
+        ];
+      };
+      rest = λ v le. takes.others v (λ same. omega (arith, le, same)) ∙ was.rest v (omega (arith, le));
+      long = let many = stands.many in let before = was.stands.many in let long = was.long in omega (arith, many, before, long);
+      why = record {
+        each = λ v l is some. elim (cases_eq v n) [
+          | inl same ↦ why_here ls' takes v l same is some
+          | inr apart ↦ was.why.each v l (sym (takes.others v apart) ∙ is) some
+        ];
+      };
+    }
+      where
+        here : (v : ℕ) (l k : Logs) → v ≡ n → slice_get ls0 v ≡ Some l → slice_get ls' v ≡ Some k → k.drl ≡ l.drl
+        here v l k same old now =
+            let at_n : slice_get ls0 n ≡ Some l = sym (ap (slice_get ls0) same) ∙ old in
+            let now_n : slice_get ls' n ≡ Some k = sym (ap (slice_get ls') same) ∙ now in
+            takes.here l k (was.rest n (omega arith) ∙ at_n) now_n
+
+-- ---- logs that are in memory no more
+
+pub shrink_none : (ls : List Logs) → MapsShrink ls ls
+shrink_none ls = record { many = refl; each = λ v l k was now none. ap (λ (x : Logs). x.fmr) (sym (one_log (slice_get ls v) l k was now)) ∙ none }
+  where
+    one_log : (o : Option Logs) (l k : Logs) → o ≡ Some l → o ≡ Some k → l ≡ k
+    one_log o l k one two = let both : Some l ≡ Some k = sym one ∙ two in cc
+
+pub shrink_set : (v : ℕ) (ls : List Logs) (l k : Logs) → slice_get ls v ≡ Some l → (l.fmr ≡ None → k.fmr ≡ None) → MapsShrink ls (set ls v k)
+shrink_set v ls l k is gone = record {
+  many = length-set ls v k;
+  each = λ w x y was now none. elim (cases_eq w v) [
+    | inl same ↦ here w x y same was now none
+    | inr apart ↦ (shrink_none ls).each w x y was (sym (set_other ls v k w apart) ∙ now) none
+  ];
+}
+  where
+    here : (w : ℕ) (x y : Logs) → w ≡ v → slice_get ls w ≡ Some x → slice_get (set ls v k) w ≡ Some y → x.fmr ≡ None → y.fmr ≡ None
+    here w x y same was now none =
+        let new : k ≡ y = set_here ls v k y (sym (ap (slice_get (set ls v k)) same) ∙ now) in
+        let both : Some l ≡ Some x = sym is ∙ sym (ap (slice_get ls) same) ∙ was in
+        let old : l ≡ x = cc in
+        ap (λ (z : Logs). z.fmr) (sym new) ∙ gone (ap (λ (z : Logs). z.fmr) old ∙ none)
+
+pub shrink_then : (ls0 ls1 ls2 : List Logs) → MapsShrink ls0 ls1 → MapsShrink ls1 ls2 → MapsShrink ls0 ls2
+shrink_then ls0 ls1 ls2 one two = record {
+  many = two.many ∙ one.many;
+  each = λ v l k was now none.
+      let low = slice_get_within ls0 v l was in
+      let middle = item_at ls1 v (let long = one.many in omega (arith, low, long)) in
+      two.each v middle.0 k middle.1 now (one.each v l middle.0 was middle.1 none);
+}
+
+-- why one is in memory still
+pub shrink_why : (good : ℕ) (c : Config) (st : List Bool) (r : Rested) (ls ls' : List Logs) → MapsShrink ls ls' → MapsWhy good c st r ls → MapsWhy good c st r ls'
+shrink_why good c st r ls ls' shrink why = record {
+  each = λ v k is some.
+      let low = slice_get_within ls' v k is in
+      let was = item_at ls v (let long = shrink.many in omega (arith, low, long)) in
+      why.each v was.0 was.1 (λ none. some (shrink.each v was.0 k was.1 is none));
+}

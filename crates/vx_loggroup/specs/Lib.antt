@@ -7,3 +7,4 @@ pub mod Detaching
 pub mod Taking
 pub mod Fresh
 pub mod Resting
+pub mod Mirrors

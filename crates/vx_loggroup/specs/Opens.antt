@@ -20,15 +20,16 @@ use Rattle.vx_logs.specs.declared.logs.Logs.{Logs}
 use Rattle.vx_loggroup.specs.Fresh.{FreshStands}
 use Rattle.vx_loggroup.specs.LoggedVolumes.{LoggedStands, is_alike}
 use Rattle.vx_loggroup.specs.Marks.{MarksAreOff}
-use Rattle.vx_loggroup.specs.Taking.{LogsSettle}
+use Rattle.vx_loggroup.specs.Taking.{LogsSettle, MapsShrink, MapsWhy}
 use Rattle.vx_loggroup.specs.declared.opening.Opened.{Opened}
 
 -- Of the volumes whose plexes are alike no log has a region, unless logs are stopped. Since then only logs were written, and logs were lost by commits;
--- each log stands, and the newest configuration is committed where the one before was.
-pub record AreSettled (c : GroupCore) (alike : List Bool) (old : Meaning) (o : Opened) (new : Meaning) : Type 0 where
+-- each log stands, none of missed regions is in memory that was not, and the newest configuration is committed where the one before was.
+pub record AreSettled (c : GroupCore) (logs : List Logs) (alike : List Bool) (old : Meaning) (o : Opened) (new : Meaning) : Type 0 where
   pub settles : LogsSettle c o.core old new
   pub trust : c.inner.committed ≡ true → o.core.inner.committed ≡ true
   pub same : o.alike ≡ alike
+  pub shrink : MapsShrink logs o.logs.items
   pub up : IsTrue new.down → ⊥
   pub off : o.stopped ≡ false → MarksAreOff (wide c).config alike (length o.logs.items) o.logs.items
   pub stands : LoggedStands o.core o.logs.items o.alike o.stopped new
@@ -45,12 +46,13 @@ pub record NotSettled (c : GroupCore) (old new : Meaning) (stop : Stop) : Type 0
   pub agreed : c.inner.committed ≡ true → core.inner.agreed ≡ true
   pub cause : DetStops {T = Unit {0}} old new (Err stop)
 
-abbrev pub SettlesLogs : GroupCore → List Bool → Meaning → Meaning → Result Opened Stop → Type 0
-SettlesLogs c alike old new (Ok o) = AreSettled c alike old o new
-SettlesLogs c alike old new (Err stop) = NotSettled c old new stop
+abbrev pub SettlesLogs : GroupCore → List Logs → List Bool → Meaning → Meaning → Result Opened Stop → Type 0
+SettlesLogs c logs alike old new (Ok o) = AreSettled c logs alike old o new
+SettlesLogs c logs alike old new (Err stop) = NotSettled c old new stop
 
 -- There was a moment at which the group was one that was imported by its logs; since then its volumes read as then, and only logs were written, and lost
 -- by commits. Of the volumes that stopped uncleanly, and of those of which the disks told that they are alike, no log has a region, unless logs are stopped.
+-- A log of missed regions is in memory only of a volume that stopped cleanly, where it was not held as lost, nor its disk as failed.
 pub record IsOpened {S : Type 0} (meaning : S → Meaning) (rested : Rested) (old : Meaning) (core : GroupCore) (logs : List Logs) (flags : List Bool) (ended : Bool) (new : Meaning) : Type 0 where
   pub moment : S
   pub marked : Marked
@@ -67,6 +69,7 @@ pub record IsOpened {S : Type 0} (meaning : S → Meaning) (rested : Rested) (ol
   pub mended : (v : ℕ) → v < length marked.core.config.volumes → stopped resumed.config v ≡ true → is_alike flags v ≡ true
   pub resting : (v : ℕ) → v < length marked.core.config.volumes → rests rested.alike v ≡ true → is_alike flags v ≡ true
   pub off : ended ≡ false → MarksAreOff marked.core.config flags (length logs) logs
+  pub maps : MapsWhy marked.good marked.core.config marked.stopped rested logs
 
 -- how it ends, with each log standing
 abbrev pub OpensLogged : {S : Type 0} → (S → Meaning) → Rested → Meaning → Meaning → Result Opened Stop → Type 0

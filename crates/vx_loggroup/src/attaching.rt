@@ -7,7 +7,7 @@ ghost use Rattle.vx_group.specs.Attaches.{GroupAttachEnds, att_refusal, missed_r
 ghost use Rattle.vx_group.specs.Calls.{GroupAttaches};
 ghost use Rattle.vx_group.specs.Dets.{DetStops};
 ghost use Rattle.vx_group.specs.Regains.{HoldsPlex, Regains};
-ghost use Rattle.vx_loggroup.specs.Attaching.{fmr_at, map_by};
+ghost use Rattle.vx_loggroup.specs.Attaching.{fmr_at, map_there};
 ghost use Rattle.vx_loggroup.specs.LoggedVolumes.{LoggedStands};
 ghost use Rattle.vx_model.specs.declared.errors.Stop.TheVariants.{No as Refused};
 ghost use Rattle.vx_model.specs.declared.no.No.{No as NoValue};
@@ -41,7 +41,7 @@ fn map_of<'a>(
     vol: u32,
     plex: u32,
 ) -> Option<&'a Fmr>
-    ensures by { option_copied result ≡ map_by logs.now config.now stopped down vol plex }
+    ensures by { option_copied result ≡ map_there logs.now config.now stopped down vol plex }
 {
     if stopped {
         return None;
@@ -70,8 +70,8 @@ pub fn att_whole<S: Shelf>(
     ensures stands { LoggedStands core.new logs.now.items alike.now stopped (S.meaning shelf.new) }
     ensures refused { (no : NoValue) → att_refusal core.old.inner.config vol plex ≡ Some no → (result ≡ Err (Refused no)) × (core.new ≡ core.old) × (shelf.new ≡ shelf.old) }
     ensures already { att_refusal core.old.inner.config vol plex ≡ None → IsTrue (active core.old.inner.config vol plex) → (result ≡ Ok 0) × (core.new ≡ core.old) × (shelf.new ≡ shelf.old) }
-    ensures count { active core.old.inner.config vol plex ≡ false → IfOk result (λ n. n ≡ missed_regions core.old.inner.config vol plex (map_by logs.now.items core.old.inner.config stopped (S.meaning shelf.old).down vol plex)) }
-    ensures attaches { GroupAttaches vol plex (map_by logs.now.items core.old.inner.config stopped (S.meaning shelf.old).down vol plex) core.old core.new (S.meaning shelf.old) (S.meaning shelf.new) }
+    ensures count { active core.old.inner.config vol plex ≡ false → IfOk result (λ n. n ≡ missed_regions core.old.inner.config vol plex (map_there logs.now.items core.old.inner.config stopped (S.meaning shelf.old).down vol plex)) }
+    ensures attaches { GroupAttaches vol plex (map_there logs.now.items core.old.inner.config stopped (S.meaning shelf.old).down vol plex) core.old core.new (S.meaning shelf.old) (S.meaning shelf.new) }
     ensures ends { active core.old.inner.config vol plex ≡ false → GroupAttachEnds vol plex core.new.inner.config (S.meaning shelf.new) result }
     ensures regains { Regains core.old.inner.config core.new.inner.config vol plex (S.meaning shelf.old) (S.meaning shelf.new) }
     ensures held { active core.old.inner.config vol plex ≡ false → OnOk result (HoldsPlex (λ s. S.meaning s) core.old.inner.config core.new.inner.config vol plex shelf.new) }

@@ -8,7 +8,7 @@ ghost use Rattle.vx_grouplogs.specs.Covering.{AllAlike};
 ghost use Rattle.vx_grouplogs.specs.Marking.{HoldsMany, NoMarks};
 ghost use Rattle.vx_loggroup.specs.LoggedVolumes.{LoggedStands, is_alike as is_alike_is};
 ghost use Rattle.vx_loggroup.specs.Marks.{ClearsVolume, MarksAreOff, region_count};
-ghost use Rattle.vx_loggroup.specs.Taking.{LogsSettle};
+ghost use Rattle.vx_loggroup.specs.Taking.{LogsSettle, MapsShrink};
 ghost use Rattle.vx_logs.specs.declared.logs.Logs.{Logs as LogsValue};
 ghost use Rattle.vx_model.specs.declared.limits.TheConstants.{MOST_VOLUMES};
 
@@ -33,6 +33,7 @@ fn clear_one<S: Shelf>(
     ensures stands { LoggedStands core.new logs.new.items alike.now false (S.meaning shelf.new) }
     ensures settles { LogsSettle core.old core.new (S.meaning shelf.old) (S.meaning shelf.new) }
     ensures marks { ClearsVolume (wide core.old).config vol logs.old.items logs.new.items }
+    ensures shrink { MapsShrink logs.old.items logs.new.items }
     ensures off { IfOk result (λ done. done ≡ true → is_alike_is alike.now vol ≡ true → (l k : LogsValue) → slice_get logs.old.items vol ≡ Some l → HoldsMany l.drl → slice_get logs.new.items vol ≡ Some k → NoMarks (region_count (wide core.old).config vol) k) }
     ensures trust { OnOk result (core.old.inner.committed ≡ true → core.new.inner.committed ≡ true) }
     ensures agreed { IfErr result (λ e. core.old.inner.committed ≡ true → core.new.inner.agreed ≡ true) }
@@ -60,6 +61,7 @@ pub fn clear_all<S: Shelf>(
     requires full { (v : ℕ) (l : LogsValue) → slice_get logs.old.items v ≡ Some l → HoldsMany l.drl }
     ensures stands { LoggedStands core.new logs.new.items alike.now false (S.meaning shelf.new) }
     ensures settles { LogsSettle core.old core.new (S.meaning shelf.old) (S.meaning shelf.new) }
+    ensures shrink { MapsShrink logs.old.items logs.new.items }
     ensures off { IfOk result (λ done. done ≡ true → MarksAreOff (wide core.old).config alike.now (length logs.new.items) logs.new.items) }
     ensures trust { OnOk result (core.old.inner.committed ≡ true → core.new.inner.committed ≡ true) }
     ensures agreed { IfErr result (λ e. core.old.inner.committed ≡ true → core.new.inner.agreed ≡ true) }

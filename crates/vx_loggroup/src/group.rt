@@ -22,12 +22,13 @@ ghost use Rattle.vx_group.specs.Makes.{MakeEnds, Unmoved, make_refusal};
 ghost use Rattle.vx_group.specs.Regains.{HoldsPlex, Regains};
 ghost use Rattle.vx_group.specs.Resumes.{CanImport};
 ghost use Rattle.vx_group.specs.Stands.{inner_meaning};
-ghost use Rattle.vx_loggroup.specs.Attaching.{fmr_at, map_by};
+ghost use Rattle.vx_loggroup.specs.Attaching.{MapsHeld, fmr_at, map_by};
 ghost use Rattle.vx_loggroup.specs.Detaching.{MapIsEmpty, MapsBegin};
 ghost use Rattle.vx_loggroup.specs.Facts.{LoggedFact};
 ghost use Rattle.vx_loggroup.specs.LoggedVolumes.{LoggedStands, is_alike};
 ghost use Rattle.vx_loggroup.specs.Fresh.{FreshStands, LogsFirst};
 ghost use Rattle.vx_loggroup.specs.Marks.{region_count};
+ghost use Rattle.vx_loggroup.specs.Mirrors.{MirrorsKeep, names_none, names_plex};
 ghost use Rattle.vx_loggroup.specs.Opens.{DeportTells, LoggedImported};
 ghost use Rattle.vx_logimport.specs.Rests.{LogsTell, RestsNone};
 ghost use Rattle.vx_logimport.specs.declared.rested.Rested.{Rested as RestedValue};
@@ -38,10 +39,10 @@ ghost use Rattle.vx_model.specs.declared.no.No.{No as NoValue};
 ghost use Rattle.vx_model.specs.declared.no.No.TheVariants.{Size};
 ghost use Rattle.vx_volume.specs.Plexes.{active};
 
-use crate::attaching::att_whole;
 use crate::crashing::crash_whole;
 use crate::deporting::deport_whole;
 use crate::detached::det_fresh;
+use crate::failed_maps::att_held;
 use crate::making::make_fresh;
 use crate::opening::{Opened, open_logged};
 use crate::racking::{fail_whole, fuse_whole};
@@ -100,7 +101,7 @@ impl<S: Shelf> LoggedGroup<S> {
 
     /// Imports a group. Of a volume that stopped uncleanly the regions alone are copied that its log has, and all of them where no log could
     /// be read. Where its plexes are alike then, and where the disks tell that a clean stop left them so, all marks are taken off its log. The log
-    /// of missed regions of one that stopped cleanly goes on. Each refusal is one of the import of a group; then the shelf is handed back.
+    /// of missed regions of one that stopped cleanly goes on. A log on a disk that was held as failed is lost. Each refusal is one of the import of a group; then the shelf is handed back.
     pub fn import(alloc: Global, shelf: S, rested: &Rested) -> Result<LoggedGroup<S>, (S, Stop)>
         requires can { CanImport (S.meaning shelf) }
         requires tells { LogsTell rested.now (S.meaning shelf) }
@@ -164,6 +165,7 @@ impl<S: Shelf> LoggedGroup<S> {
         ensures whole { OnOk result ((self.new.core.inner.committed ≡ true) ⊎ HasFailed self.new.core.inner.config.disks) }
         ensures agreed { IfErr result (λ e. self.old.core.inner.committed ≡ true → self.new.core.inner.agreed ≡ true) }
         ensures finds { GroupFinds self.old.core self.new.core (S.meaning self.old.shelf) (S.meaning self.new.shelf) }
+        ensures mirrors { MirrorsKeep names_none self.old.core self.new.core (S.meaning self.old.shelf) (S.meaning self.new.shelf) }
         ensures unmoved { Unmoved result ((self.new.core ≡ self.old.core) × (self.new.shelf ≡ self.old.shelf)) }
     {
         make_fresh(
@@ -192,6 +194,7 @@ impl<S: Shelf> LoggedGroup<S> {
         ensures begins { OnOk result (self.old.stopped ≡ false → self.new.core.held ≡ None → is_alike self.old.alike vol ≡ true → IsTrue (active self.old.core.inner.config vol plex) → MapIsEmpty self.old.core.inner.config vol plex (fmr_at self.new.logs.items vol)) }
         ensures off { OnOk result (active self.new.core.inner.config vol plex ≡ false) }
         ensures others { (w p : ℕ) → (w ≡ vol → p ≡ plex → ⊥) → active self.new.core.inner.config w p ≡ active self.old.core.inner.config w p }
+        ensures mirrors { MirrorsKeep (names_plex vol plex) self.old.core self.new.core (S.meaning self.old.shelf) (S.meaning self.new.shelf) }
         ensures maps { (ls : List LogsValue) × LogsFirst vol (region_count (wide self.old.core).config vol) self.old.logs.items ls × MapsBegin vol plex ls self.new.logs.items }
         ensures trust { OnOk result (self.old.core.inner.committed ≡ true → self.new.core.inner.committed ≡ true) }
         ensures agreed { IfErr result (λ e. self.old.core.inner.committed ≡ true → self.new.core.inner.agreed ≡ true) }
@@ -211,8 +214,8 @@ impl<S: Shelf> LoggedGroup<S> {
     }
 
     /// Attaches a plex, as a group does without logs, and answers how many regions were copied: those that the plex has missed by its map, or all of
-    /// the volume where no map is in memory, and none where the plex is ACTIVE already. Of the plex it writes blocks of these regions alone, and
-    /// whatever it answers, no map changes.
+    /// the volume where no map is in memory or its disk is held as failed, and none where the plex is ACTIVE already. Of the plex it writes blocks of
+    /// these regions alone, and whatever it answers, no map changes; one on a disk that is held as failed is in memory no more.
     pub fn att(&mut self, vol: u32, plex: u32) -> Result<u64, Stop>
         ensures refused { (no : NoValue) → att_refusal self.old.core.inner.config vol plex ≡ Some no → (result ≡ Err (Refused no)) × (self.new.core ≡ self.old.core) × (self.new.shelf ≡ self.old.shelf) }
         ensures already { att_refusal self.old.core.inner.config vol plex ≡ None → IsTrue (active self.old.core.inner.config vol plex) → (result ≡ Ok 0) × (self.new.core ≡ self.old.core) × (self.new.shelf ≡ self.old.shelf) }
@@ -221,16 +224,17 @@ impl<S: Shelf> LoggedGroup<S> {
         ensures ends { active self.old.core.inner.config vol plex ≡ false → GroupAttachEnds vol plex self.new.core.inner.config (S.meaning self.new.shelf) result }
         ensures regains { Regains self.old.core.inner.config self.new.core.inner.config vol plex (S.meaning self.old.shelf) (S.meaning self.new.shelf) }
         ensures held { active self.old.core.inner.config vol plex ≡ false → OnOk result (HoldsPlex (λ s. S.meaning s) self.old.core.inner.config self.new.core.inner.config vol plex self.new.shelf) }
-        ensures logs { self.new.logs.items ≡ self.old.logs.items }
+        ensures mirrors { MirrorsKeep (names_plex vol plex) self.old.core self.new.core (S.meaning self.old.shelf) (S.meaning self.new.shelf) }
+        ensures logs { MapsHeld self.old.core.inner.config vol self.old.logs.items self.new.logs.items }
         ensures trust { OnOk result (self.old.core.inner.committed ≡ true → self.new.core.inner.committed ≡ true) }
         ensures finds { CoreFinds (wide self.old.core) (wide self.new.core) (S.meaning self.old.shelf) (S.meaning self.new.shelf) }
         ensures free { OnOk result (self.old.core.held ≡ None → self.new.core.held ≡ None) }
         ensures cause { att_refusal self.old.core.inner.config vol plex ≡ None → DetStops (S.meaning self.old.shelf) (S.meaning self.new.shelf) result }
     {
-        att_whole(
+        att_held(
             &mut self.shelf,
             &mut self.core,
-            &self.logs,
+            &mut self.logs,
             &self.alike,
             self.stopped,
             vol,

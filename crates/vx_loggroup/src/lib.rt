@@ -13,6 +13,7 @@ mod crashing;
 mod deporting;
 mod detached;
 mod detaching;
+mod failed_maps;
 mod first;
 mod fresh;
 mod group;

@@ -45,7 +45,7 @@ fn settle_logs<S: Shelf>(
     requires stands { LoggedStands core logs.items alike false (S.meaning shelf.old) }
     requires same { (v : ℕ) → v < length logs.items → is_alike_is alike v ≡ true → AllAlike (wide core).config v (S.meaning shelf.old) }
     requires full { (v : ℕ) (l : LogsValue) → slice_get logs.items v ≡ Some l → HoldsMany l.drl }
-    ensures { SettlesLogs core alike (S.meaning shelf.old) (S.meaning shelf.new) result }
+    ensures { SettlesLogs core logs.items alike (S.meaning shelf.old) (S.meaning shelf.new) result }
 {
     let mut core = core;
     let mut logs = logs;
@@ -71,7 +71,7 @@ fn settle_logs<S: Shelf>(
 
 /// Imports a group by the logs of its volumes. The plexes of a volume that stopped uncleanly are alike then, as are those of one of which the disks
 /// tell that a clean stop left them so; all marks are taken off the logs of these. The log of missed regions of one that stopped cleanly is taken up,
-/// where the disks tell that it knows what plexes miss. A log that is in use, and is not in memory then, is lost, by a commit: so is one of missed regions of a
+/// where the disks tell that it knows what plexes miss, and what was found holds its disk as good. A log that is in use, and is not in memory then, is lost, by a commit: so is one of missed regions of a
 /// volume that stopped uncleanly. Each refusal is one of the import of a group.
 pub fn open_logged<S: Shelf>(alloc: Global, shelf: &mut S, rested: &Rested) -> Result<Opened, Stop>
     requires can { CanImport (S.meaning shelf.old) }
@@ -85,11 +85,14 @@ pub fn open_logged<S: Shelf>(alloc: Global, shelf: &mut S, rested: &Rested) -> R
                 core: inner,
                 logs,
                 stopped,
+                good,
             } = marked;
             let core = GroupCore { inner, held: None };
             let mut logs = logs;
             let alike = alike_of(&stopped, rested);
-            take_all(alloc, shelf, &core, &mut logs, &alike, &stopped, rested);
+            take_all(
+                alloc, shelf, &core, &mut logs, &alike, good, &stopped, rested,
+            );
             settle_logs(shelf, core, logs, alike)
         }
         Err(stop) => Err(stop),

@@ -1,20 +1,24 @@
 // The logs of missed regions that an import takes up.
 ghost use Rattle.std.specs.Prelude.{◌≡◌, ◌<◌, ℕ, false, length, None, Some, slice_get, true};
+ghost use Rattle.vx_config.specs.declared.entry.VolumeLog.TheVariants.{Fmr as FmrLog};
 ghost use Rattle.vx_disk.specs.Shelf.{Goes, Nothing};
 ghost use Rattle.vx_group.specs.Holding.{GroupStands};
 ghost use Rattle.vx_kept.specs.Cleans.{is_unsure};
 ghost use Rattle.vx_logged.specs.Logged.{Known, LogOn};
 ghost use Rattle.vx_loggroup.specs.LoggedVolumes.{LoggedStands, is_alike as is_alike_is};
-ghost use Rattle.vx_loggroup.specs.Taking.{SameDrls, TakesMap};
+ghost use Rattle.vx_loggroup.specs.Taking.{MapsWhy, SameDrls, TakesMap};
+ghost use Rattle.vx_logimport.specs.Marked.{log_within};
 ghost use Rattle.vx_logimport.specs.Rests.{MapsTell, rests};
+ghost use Rattle.vx_logs.specs.Held.{is_used};
 ghost use Rattle.vx_logs.specs.declared.logs.Logs.{Logs as LogsValue};
 ghost use Rattle.vx_model.specs.declared.limits.TheConstants.{MOST_VOLUMES};
 
 use std::alloc::Global;
+use vx_config::{Config, VolumeLog};
 use vx_disk::Shelf;
 use vx_group::GroupCore;
 use vx_groupmaps::{LoadedMaps, load_maps};
-use vx_logimport::Rested;
+use vx_logimport::{Rested, lies_within};
 use vx_logs::Logs;
 use vx_maplog::blocks_of;
 use vx_model::limits::MOST_VOLUMES;
@@ -30,6 +34,7 @@ fn take_one<S: Shelf>(alloc: Global, shelf: &mut S, core: &GroupCore, one: &mut 
     ensures log { LogOn core.now vol one.new (S.meaning shelf.new) }
     ensures known { Known core.now vol one.new (S.meaning shelf.new) }
     ensures drl { one.new.drl ≡ one.old.drl }
+    ensures used { (one.new.fmr ≡ None → ⊥) → is_used core.now.inner.config vol FmrLog ≡ true }
 {
     if blocks_of(&core.inner.config, vol) == 0 {
         return;
@@ -63,7 +68,7 @@ fn take_at<S: Shelf>(
     requires tells { may ≡ true → MapsTell core.now.inner.config vol (S.meaning shelf.old) }
     ensures stands { LoggedStands core.now logs.new.items alike.now false (S.meaning shelf.new) }
     ensures goes { Goes Nothing (S.meaning shelf.old) (S.meaning shelf.new) }
-    ensures takes { TakesMap vol logs.old.items logs.new.items }
+    ensures takes { TakesMap core.now.inner.config may vol logs.old.items logs.new.items }
 {
     // What is known of the plexes stays as it is.
     let _kept = alike.len();
@@ -73,26 +78,38 @@ fn take_at<S: Shelf>(
     take_one(alloc, shelf, core, &mut logs[vol as usize], vol);
 }
 
-// Whether a volume stopped cleanly, and its log knows what its plexes miss.
-fn may_take(stopped: &[bool; MOST_VOLUMES], rested: &Rested, vol: u32) -> bool
+// Whether a volume stopped cleanly, and its log knows what its plexes miss and lies on a disk that was held as good.
+fn may_take(
+    config: &Config,
+    good: u8,
+    stopped: &[bool; MOST_VOLUMES],
+    rested: &Rested,
+    vol: u32,
+) -> bool
     requires inside { vol < MOST_VOLUMES }
     ensures clean { result ≡ true → is_unsure stopped.now vol ≡ false }
     ensures maps { result ≡ true → rests rested.now.maps vol ≡ true }
+    ensures within { result ≡ true → log_within good config.now vol FmrLog ≡ true }
 {
     if stopped[vol as usize] {
+        return false;
+    }
+    if !lies_within(config, good, vol, VolumeLog::Fmr) {
         return false;
     }
     rested.maps[vol as usize]
 }
 
-/// Reads the log of missed regions of each volume that stopped cleanly, where it is in use and knows what plexes miss. It changes nothing, and takes
-/// the memory of the maps; where this is wanting none is in memory, as where a call on a disk fails.
+/// Reads the log of missed regions of each volume that stopped cleanly, where it is in use, lies on a disk of the set, those that were held as good,
+/// and knows what plexes miss. It changes nothing, and takes the memory of the maps; where this is wanting none is in memory, as where a call on a disk
+/// fails.
 pub fn take_all<S: Shelf>(
     alloc: Global,
     shelf: &mut S,
     core: &GroupCore,
     logs: &mut Vec<Logs>,
     alike: &[bool; MOST_VOLUMES],
+    good: u8,
     stopped: &[bool; MOST_VOLUMES],
     rested: &Rested,
 )
@@ -103,9 +120,10 @@ pub fn take_all<S: Shelf>(
     ensures stands { LoggedStands core.now logs.new.items alike.now false (S.meaning shelf.new) }
     ensures goes { Goes Nothing (S.meaning shelf.old) (S.meaning shelf.new) }
     ensures drls { SameDrls logs.old.items logs.new.items }
+    ensures why { MapsWhy good core.now.inner.config stopped.now rested.now logs.new.items }
 {
     for vol in 0..logs.len() {
-        let may = may_take(stopped, rested, vol as u32);
+        let may = may_take(&core.inner.config, good, stopped, rested, vol as u32);
         take_at(alloc, shelf, core, logs, alike, may, vol as u32);
     }
 }

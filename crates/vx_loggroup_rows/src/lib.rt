@@ -7,3 +7,5 @@
 mod misses;
 #[cfg(test)]
 mod recovers;
+#[cfg(test)]
+mod returned;

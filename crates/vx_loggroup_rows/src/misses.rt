@@ -10,10 +10,10 @@ use vx_layout::Shape;
 use vx_loggroup::LoggedGroup;
 use vx_model::{Name, OutOfMemory};
 
-type Disks = Untold<MemShelf>;
+pub type Disks = Untold<MemShelf>;
 
 // 256 blocks on two plexes, with maps of missed regions, and without.
-const MAPPED: Shape = Shape {
+pub const MAPPED: Shape = Shape {
     blocks: 256,
     mirrors: 2,
     ncol: 1,
@@ -45,7 +45,11 @@ const LOGGED: Shape = Shape {
 };
 
 // A group on three disks, of which these calls fail, with such a volume.
-fn group_of(alloc: Global, fails: &[u64], want: &Shape) -> Result<LoggedGroup<Disks>, OutOfMemory>
+pub fn group_of(
+    alloc: Global,
+    fails: &[u64],
+    want: &Shape,
+) -> Result<LoggedGroup<Disks>, OutOfMemory>
     requires { want.now.prefer ≡ None }
 {
     let mut shelf = match MemShelf::new(alloc, fails) {
@@ -72,7 +76,7 @@ fn group_of(alloc: Global, fails: &[u64], want: &Shape) -> Result<LoggedGroup<Di
 }
 
 // Writes one block of these bytes, and answers whether that is done.
-fn put(group: &mut LoggedGroup<Disks>, block: u64, byte: u8) -> bool {
+pub fn put(group: &mut LoggedGroup<Disks>, block: u64, byte: u8) -> bool {
     if group.units() == 0 || block >= group.size(0) {
         return false;
     }
@@ -92,7 +96,7 @@ fn read(group: &mut LoggedGroup<Disks>, block: u64) -> Option<u8> {
 }
 
 // How many regions an attach of a plex copies.
-fn att(group: &mut LoggedGroup<Disks>, plex: u32) -> Option<u64> {
+pub fn att(group: &mut LoggedGroup<Disks>, plex: u32) -> Option<u64> {
     match group.att(0, plex) {
         Ok(copied) => Some(copied),
         Err(_) => None,
@@ -111,7 +115,7 @@ fn is_active(config: &Config, plex: usize) -> bool {
 }
 
 // Whether the maps of the volume are held as lost.
-fn is_lost(config: &Config) -> Option<bool> {
+pub fn is_lost(config: &Config) -> Option<bool> {
     match config.volumes.as_slice().get(0) {
         Some(volume) => match volume.fmr {
             Some(entry) => Some(entry.lost),
@@ -198,20 +202,20 @@ fn failing(alloc: Global, call: u64) -> Result<Option<u64>, OutOfMemory> {
 #[test]
 fn a_write_is_done_whichever_of_its_calls_fails(rt: HostRuntime) -> Result<(), Fail> {
     let alloc = rt.alloc();
-    let mut some = false;
-    let mut all = false;
-    // The calls of the write and of the attach.
-    for call in 160..190 {
+    // The calls of the write: a mark in each log and the flush behind it, and the two plexes that are ACTIVE.
+    for call in 165..171 {
+        // Where the log of missed regions is lost all regions are copied.
+        let is_lost = call == 167 || call == 168;
+        let wanted = if is_lost { Some(4) } else { Some(1) };
+        assert_eq!(rt; failing(alloc, call)?, wanted);
+    }
+    // The read, and the calls of the attach.
+    for call in 171..193 {
         match failing(alloc, call)? {
-            Some(1) => some = true,
-            Some(4) => all = true,
-            Some(_) => assert!(rt; false),
+            Some(copied) => assert_eq!(rt; copied, 1),
             None => {}
         }
     }
-    // Where the log of missed regions is lost all regions are copied.
-    assert!(rt; some);
-    assert!(rt; all);
     Ok(())
 }
 
@@ -247,18 +251,11 @@ fn refused(alloc: Global, call: u64) -> Result<Option<u64>, OutOfMemory> {
 #[test]
 fn a_refused_write_is_noted(rt: HostRuntime) -> Result<(), Fail> {
     let alloc = rt.alloc();
-    let mut some = false;
-    // The write of the one plex that is ACTIVE is among these calls.
-    for call in 120..136 {
-        match refused(alloc, call)? {
-            Some(copied) => {
-                some = true;
-                assert_eq!(rt; copied, 2);
-            }
-            None => {}
-        }
+    // The calls of the detach that write its commit, and those of both writes. That of the first write to the one plex that is ACTIVE is the 128th.
+    for call in 120..132 {
+        let wanted = if call == 128 { Some(2) } else { None };
+        assert_eq!(rt; refused(alloc, call)?, wanted);
     }
-    assert!(rt; some);
     Ok(())
 }
 

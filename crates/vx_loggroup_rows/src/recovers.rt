@@ -251,14 +251,14 @@ fn losing(alloc: Global, from: u64, to: u64) -> u64 {
 
 #[test]
 fn a_log_that_does_not_begin_stays_lost(rt: HostRuntime) -> Result<(), Fail> {
-    // The writing of its blocks, the flush behind it, and their reading.
-    assert_eq!(rt; losing(rt.alloc(), 80, 94), 3);
+    // The writing of its block, the flush behind it, and its reading: the first calls behind the 85 of the making.
+    assert_eq!(rt; losing(rt.alloc(), 86, 89), 3);
     Ok(())
 }
 
 #[test]
 fn a_log_that_a_write_loses_is_not_used(rt: HostRuntime) -> Result<(), Fail> {
-    // The writing of the mark, and the flush behind it.
-    assert_eq!(rt; losing(rt.alloc(), 102, 114), 2);
+    // The writing of the mark, and the flush behind it, between the commit by which the log is trusted and the writing of the plexes.
+    assert_eq!(rt; losing(rt.alloc(), 107, 109), 2);
     Ok(())
 }

@@ -138,7 +138,7 @@ module _ (old m1 : Meaning) (plan : Plan) (taken : IsTaken old m1 plan) (law : L
   }
 
   -- ---- a log that was read
-  module _ (v : ℕ) (d : Dirty) (m2 : Meaning) (read : LogRead opened v (Some d) old m2) where
+  module _ (good : ℕ) (v : ℕ) (d : Dirty) (m2 : Meaning) (read : LogRead good opened v (Some d) old m2) where
     abbrev e : LogEntry
     e = read.1.log.entry
 
@@ -185,50 +185,50 @@ module _ (old m1 : Meaning) (plan : Plan) (taken : IsTaken old m1 plan) (law : L
     disk = disk_of v;
   }
 
-  on_read : (v : ℕ) (o : Option Dirty) (m2 : Meaning) → LogRead opened v o old m2 → VolumeOn opened v (dirty_logs o) m1
-  on_read v None m2 read = on_none v
-  on_read v (Some g) m2 read = record {
+  on_read : (good v : ℕ) (o : Option Dirty) (m2 : Meaning) → LogRead good opened v o old m2 → VolumeOn opened v (dirty_logs o) m1
+  on_read good v None m2 read = on_none v
+  on_read good v (Some g) m2 read = record {
     fits = record { drl = λ d is. subst (λ (h : Dirty). DrlFits opened v h) (some_is g d is) read.1; fmr = λ f is. absurd (let clash : None ≡ Some f = is in cc) };
-    stands = record { drl = λ d is. subst (λ (h : Dirty). MapOn h.map m1) (some_is g d is) (map_of v g m2 read); fmr = λ f is. absurd (let clash : None ≡ Some f = is in cc) };
-    memory = record { so = λ d is. subst (λ (h : Dirty). AlikeBut opened v (is_dirty h) m1) (some_is g d is) (alike_of v g m2 read) };
+    stands = record { drl = λ d is. subst (λ (h : Dirty). MapOn h.map m1) (some_is g d is) (map_of good v g m2 read); fmr = λ f is. absurd (let clash : None ≡ Some f = is in cc) };
+    memory = record { so = λ d is. subst (λ (h : Dirty). AlikeBut opened v (is_dirty h) m1) (some_is g d is) (alike_of good v g m2 read) };
     disk = disk_of v;
   }
 
   -- ---- what the copies go by
 
-  reach_by : (v n : ℕ) (o : Option Dirty) (m2 : Meaning) → n ≡ regions_of (blocks_of opened.volumes v) → LogRead opened v o old m2 → DrlReaches n o
-  reach_by v n None m2 is read = tt
-  reach_by v n (Some d) m2 is read = let regions = read.1.regions in omega (arith, is, regions)
+  reach_by : (good v n : ℕ) (o : Option Dirty) (m2 : Meaning) → n ≡ regions_of (blocks_of opened.volumes v) → LogRead good opened v o old m2 → DrlReaches n o
+  reach_by good v n None m2 is read = tt
+  reach_by good v n (Some d) m2 is read = let regions = read.1.regions in omega (arith, is, regions)
 
-  agree_by : (v : ℕ) (o : Option Dirty) (m2 : Meaning) → LogRead opened v o old m2 → AgreeElsewhere opened v (marked_or o) m1
-  agree_by v None m2 read = record { same = λ p q k y z inside off on_p on_q at_p at_q. absurd (let clash : true ≡ false = off in cc) }
-  agree_by v (Some d) m2 read = record {
+  agree_by : (good v : ℕ) (o : Option Dirty) (m2 : Meaning) → LogRead good opened v o old m2 → AgreeElsewhere opened v (marked_or o) m1
+  agree_by good v None m2 read = record { same = λ p q k y z inside off on_p on_q at_p at_q. absurd (let clash : true ≡ false = off in cc) }
+  agree_by good v (Some d) m2 read = record {
     same = λ p q k y z inside off on_p on_q at_p at_q.
-        (alike_of v d m2 read).one k y z off (record { inside = inside; plex = p; is_on = on_p; value = law1.shown (place opened v p k).0 (place opened v p k).1 y at_p })
+        (alike_of good v d m2 read).one k y z off (record { inside = inside; plex = p; is_on = on_p; value = law1.shown (place opened v p k).0 (place opened v p k).1 y at_p })
         (record { inside = inside; plex = q; is_on = on_q; value = law1.shown (place opened v q k).0 (place opened v q k).1 z at_q });
   }
 
-  module _ (logs : List Logs) (m2 : Meaning) (read : LogsRead opened logs old m2) where
+  module _ (good : ℕ) (logs : List Logs) (m2 : Meaning) (read : LogsRead good opened logs old m2) where
     pub on_opened : (v : ℕ) → VolumeOn opened v (dirty_logs (drl_at logs v)) m1
     on_opened v = by (slice_get logs v) refl
       where
         by : (q : Option Logs) → slice_get logs v ≡ q → VolumeOn opened v (dirty_logs (drl_or q)) m1
         by None is = on_none v
-        by (Some l) is = on_read v l.drl m2 (read.each v l is)
+        by (Some l) is = on_read good v l.drl m2 (read.each v l is)
 
     reach_of : (v n : ℕ) → n ≡ regions_of (blocks_of opened.volumes v) → DrlReaches n (drl_at logs v)
     reach_of v n at = by (slice_get logs v) refl
       where
         by : (q : Option Logs) → slice_get logs v ≡ q → DrlReaches n (drl_or q)
         by None is = tt
-        by (Some l) is = reach_by v n l.drl m2 at (read.each v l is)
+        by (Some l) is = reach_by good v n l.drl m2 at (read.each v l is)
 
     agree_of : (v : ℕ) → AgreeElsewhere opened v (marked_or (drl_at logs v)) m1
     agree_of v = by (slice_get logs v) refl
       where
         by : (q : Option Logs) → slice_get logs v ≡ q → AgreeElsewhere opened v (marked_or (drl_or q)) m1
         by None is = record { same = λ p q k y z inside off on_p on_q at_p at_q. absurd (let clash : true ≡ false = off in cc) }
-        by (Some l) is = agree_by v l.drl m2 (read.each v l is)
+        by (Some l) is = agree_by good v l.drl m2 (read.each v l is)
 
     pub marks_of : (flags : List Bool) → MarksTell opened flags logs m1
     marks_of flags = record {

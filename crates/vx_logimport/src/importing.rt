@@ -22,6 +22,8 @@ pub struct Marked {
     pub logs: Vec<Logs>,
     /// Of each volume whether it stopped uncleanly, so that its plexes were made alike.
     pub stopped: [bool; MOST_VOLUMES],
+    /// The disks that the configuration which was found holds as good.
+    pub good: u8,
 }
 
 /// Imports a group behind a crash: the newest configuration of the disks that can be read is taken up with each plex that is CLEAN in the state
@@ -29,7 +31,7 @@ pub struct Marked {
 /// regions that their log has are copied from the plex that they are gone by, or all of them where no log was read, and it ends with a commit.
 ///
 /// The caller says that where a log on the disks has not a region, the plexes that take part have one value there, whatever a crash leaves; so
-/// nothing else needs a copy. A log that could not be read is not in memory: the caller commits it as lost before it writes. A refusal changes
+/// nothing else needs a copy. A log that could not be read, or lies on a disk that was held as failed, is not in memory: the caller commits it as lost before it writes. A refusal changes
 /// no block of a volume but as a crash might have left it. It takes memory.
 pub fn import_marked<S: Shelf>(alloc: Global, shelf: &mut S) -> Result<Marked, Stop>
     requires can { CanImport (S.meaning shelf.old) }
@@ -51,12 +53,14 @@ pub fn import_marked<S: Shelf>(alloc: Global, shelf: &mut S) -> Result<Marked, S
                 sources,
             } = plan;
             let mut core = core;
-            match read_logs(alloc, shelf, &core.config) {
+            let good = core.good;
+            match read_logs(alloc, shelf, &core.config, good) {
                 Ok(logs) => match renew(shelf, &mut core, &stopped, &sources, logs.as_slice()) {
                     Ok(()) => Ok(Marked {
                         core,
                         logs,
                         stopped,
+                        good,
                     }),
                     Err(no) => Err(Stop::No(no)),
                 },

@@ -9,5 +9,5 @@ mod rested;
 
 pub use crashing::{crash_told, revive_told};
 pub use importing::{Marked, import_marked};
-pub use reading::read_logs;
+pub use reading::{lies_within, read_logs};
 pub use rested::Rested;

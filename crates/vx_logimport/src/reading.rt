@@ -1,30 +1,43 @@
 // The dirty region logs of a group as an import reads them.
-ghost use Rattle.std.specs.Prelude.{IfErr, IfOk, IsTrue, OnOk, length};
+ghost use Rattle.std.specs.Prelude.{◌≡◌, IfErr, IfOk, IsTrue, OnOk, length};
 ghost use Rattle.vx_config.specs.Checks.{is_sound};
 ghost use Rattle.vx_disk.specs.Shelf.{Goes, Nothing};
 ghost use Rattle.vx_grouplogs.specs.Loading.{LoadIsRefused};
-ghost use Rattle.vx_logimport.specs.Marked.{AreDirtyLogs, LogRead, LogsRead};
+ghost use Rattle.vx_logimport.specs.Marked.{AreDirtyLogs, LogRead, LogsRead, log_within};
 ghost use Rattle.vx_volume.specs.Plexes.{DisksFit};
 
 use std::alloc::Global;
-use vx_config::Config;
+use vx_config::{Config, VolumeLog};
+use vx_copyio::is_member;
 use vx_disk::Shelf;
 use vx_drl::Drl;
 use vx_grouplogs::load_marks;
 use vx_logs::Logs;
+use vx_maplog::log_of;
 use vx_model::{No, Stop};
 use vx_volume::blocks_of;
 
-// Reads the log of a volume; none where it has none in use, or where its disk is held as failed or fails.
+/// Whether a log of a volume, where it has one, lies on a disk of a set.
+pub fn lies_within(config: &Config, good: u8, vol: u32, log: VolumeLog) -> bool
+    ensures { result ≡ log_within good config.now vol log }
+{
+    match log_of(config, vol, log) {
+        Some(entry) => is_member(good, u32::from(entry.disk)),
+        None => true,
+    }
+}
+
+// Reads the log of a volume; none where it has none in use, or where its disk was not held as good or fails.
 fn read_log<S: Shelf>(
     alloc: Global,
     shelf: &mut S,
     config: &Config,
+    good: u8,
     vol: u32,
 ) -> Result<Option<Drl>, Stop>
     requires checked { IsTrue (is_sound config.now) }
     requires disks { DisksFit config.now.disks (S.meaning shelf.old) }
-    ensures read { IfOk result (λ drl. LogRead config.now vol drl (S.meaning shelf.old) (S.meaning shelf.new)) }
+    ensures read { IfOk result (λ drl. LogRead good config.now vol drl (S.meaning shelf.old) (S.meaning shelf.new)) }
     ensures up { OnOk result (IsTrue (S.meaning shelf.old).down → ⊥) }
     ensures goes { Goes Nothing (S.meaning shelf.old) (S.meaning shelf.new) }
     ensures cause { IfErr result (LoadIsRefused (S.meaning shelf.new)) }
@@ -35,17 +48,25 @@ fn read_log<S: Shelf>(
     if blocks_of(config, vol) == 0 {
         return Ok(None);
     }
+    if !lies_within(config, good, vol, VolumeLog::Drl) {
+        return Ok(None);
+    }
     match load_marks(alloc, shelf, config, vol) {
         Ok(loaded) => Ok(loaded.drl),
         Err(stop) => Err(stop),
     }
 }
 
-/// Reads the logs of all volumes. It changes nothing, and takes the memory of the logs.
-pub fn read_logs<S: Shelf>(alloc: Global, shelf: &mut S, config: &Config) -> Result<Vec<Logs>, Stop>
+/// Reads the logs of all volumes that lie on disks of a set, those that were held as good. It changes nothing, and takes the memory of the logs.
+pub fn read_logs<S: Shelf>(
+    alloc: Global,
+    shelf: &mut S,
+    config: &Config,
+    good: u8,
+) -> Result<Vec<Logs>, Stop>
     requires checked { IsTrue (is_sound config.now) }
     requires disks { DisksFit config.now.disks (S.meaning shelf.old) }
-    ensures read { IfOk result (λ logs. LogsRead config.now logs.items (S.meaning shelf.old) (S.meaning shelf.new)) }
+    ensures read { IfOk result (λ logs. LogsRead good config.now logs.items (S.meaning shelf.old) (S.meaning shelf.new)) }
     ensures logs { IfOk result (λ logs. AreDirtyLogs (length config.now.volumes) logs.items) }
     ensures up { OnOk result (IsTrue (S.meaning shelf.new).down → ⊥) }
     ensures goes { Goes Nothing (S.meaning shelf.old) (S.meaning shelf.new) }
@@ -53,7 +74,7 @@ pub fn read_logs<S: Shelf>(alloc: Global, shelf: &mut S, config: &Config) -> Res
 {
     let mut logs = Vec::new(alloc);
     for vol in 0..config.volumes.as_slice().len() as u32 {
-        match read_log(alloc, shelf, config, vol) {
+        match read_log(alloc, shelf, config, good, vol) {
             Ok(drl) => match logs.push(Logs { drl, fmr: None }) {
                 Ok(()) => {}
                 Err(_) => return Err(Stop::OutOfMemory),

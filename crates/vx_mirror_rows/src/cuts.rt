@@ -9,9 +9,6 @@ use vx_cli::Status;
 use vx_model::OutOfMemory;
 use vx_runs::answers;
 
-// So many lengths of fuses: more than the calls of any of the lines.
-const LENGTHS: u64 = 80;
-
 // The lines, with a fuse behind the first `place` of them.
 fn script(
     alloc: Global,
@@ -59,7 +56,7 @@ fn are_right<H: Threads + Wait + Sync>(
     pick: u64,
 ) -> Result<bool, OutOfMemory> {
     let mut right = true;
-    for calls in 0..LENGTHS {
+    for calls in 0..kind.lengths {
         let script = script(alloc, kind, place, calls, pick)?;
         let answer = answers(handle, alloc, script.as_bytes())?;
         let is_right = match from_utf8(&answer.text) {

@@ -23,6 +23,8 @@ pub struct Kind {
     first: u64,
     // What an attach is answered that has to copy what one write of two blocks changed.
     copied: &'static str,
+    /// So many lengths of fuses: more than the calls of any of the lines, of which the making of the volume has most.
+    pub lengths: u64,
 }
 
 /// A volume of one region, without logs.
@@ -31,6 +33,7 @@ pub const PLAIN: Kind = Kind {
     shown: "vol v 64 none off",
     first: 0,
     copied: "done 1",
+    lengths: 24,
 };
 
 /// A volume of four regions with both logs. The blocks lie where the first region ends.
@@ -39,6 +42,7 @@ pub const LOGGED: Kind = Kind {
     shown: "vol v 256 drl on",
     first: 62,
     copied: "done 2",
+    lengths: 48,
 };
 
 /// A site whose disks are a group without volumes.

@@ -1,5 +1,5 @@
 -- `flush_group`: clauses goes, loses, cause, stands, ok, gave_up, clear and acts.
-use Rattle.std.proofs.Common.{◌∙◌, ℕ, List, ap, subst, arith}
+use Rattle.std.proofs.Common.{◌∙◌, ℕ, List, refl, ap, subst, arith}
 use Rattle.vx_disk.specs.Shelf.{Flushed, Meaning, Nothing}
 use Rattle.vx_group.specs.Blames.{CountsRise}
 use Rattle.vx_group.specs.Holding.{wide}

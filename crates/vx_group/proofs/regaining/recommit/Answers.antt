@@ -1,5 +1,5 @@
 -- `recommit`: clause narrows; what `detach_named` asks.
-use Rattle.std.proofs.Common.{refl}
+use Rattle.std.proofs.Common.{inl, inr, refl}
 use Rattle.vx_group.proofs.CallLemmas.{both_Narrows}
 use Rattle.vx_group.proofs.DetachLemmas.{zero_bit}
 use Rattle.vx_group.proofs.LoseLemmas.{but_parts, then_parts}

@@ -1,5 +1,5 @@
 -- `regain`: clauses stands, narrows, volumes, few, regains and held; what `recommit` asks.
-use Rattle.std.proofs.Common.{ap, arith, length, refl, subst, sym, true, ◌∙◌}
+use Rattle.std.proofs.Common.{ap, arith, false, length, refl, subst, sym, true, ◌∙◌}
 use Rattle.vx_config.specs.declared.config.Config.{Config}
 use Rattle.vx_group.specs.Stands.{InnerStands}
 use Rattle.vx_group.proofs.CallLemmas.{both_Narrows}

@@ -1,5 +1,5 @@
 -- `release`: clauses stands, narrows, volumes and parts; what `detach_plex-result` asks.
-use Rattle.std.proofs.Common.{◌∙◌, refl, sym, subst}
+use Rattle.std.proofs.Common.{◌∙◌, ◌≡◌, None, Some, refl, sym, subst}
 use Rattle.vx_group.specs.declared.inner.Inner.{Inner}
 use Rattle.vx_group.proofs.HoldLemmas.{back_parts, e_Stands, e_narrows, e_volumes, x_other, e_finds}
 use Rattle.vx_group.proofs.releasing.release.Goals as goal

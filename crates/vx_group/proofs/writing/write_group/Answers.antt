@@ -1,5 +1,5 @@
 -- `write_group`: clauses goes, loses, cause, stands, ok, gave_up, clear and acts.
-use Rattle.std.proofs.Common.{◌/◌, ◌∙◌, ℕ, List, length, ap, subst, arith}
+use Rattle.std.proofs.Common.{◌/◌, ◌∙◌, ℕ, List, length, refl, ap, subst, arith}
 use Rattle.vx_disk.specs.Shelf.{Meaning, Written, Wrote}
 use Rattle.vx_disk.proofs.Runs.{none_written}
 use Rattle.vx_group.specs.Blames.{CountsRise}

@@ -37,5 +37,5 @@ of-requires-clause-can g c = λ κs within agreed. carried_off (λ m. CanImport 
 
 pub of-requires-clause-tells : goal.of-requires-clause-tells
 of-requires-clause-tells g c = λ κs within r agreed is.
-    let it = c.rested_of.ensures r is in
+    let it = c.rested_of.ensures.none r is in
     carried_off (λ m. LogsTell r m) c.untraced.result c.crash_whole.new.rack c.untraced.ensures.shade (c.crash_whole.ensures.tells it.0 r it.1)

@@ -1,5 +1,5 @@
 -- A deport over disks with an account.
-use Rattle.std.proofs.Common.{◌≡◌, ◌∙◌, ◌-◌, None, true, inl, inr, refl, subst, sym}
+use Rattle.std.proofs.Common.{◌≡◌, ◌∙◌, ◌-◌, None, Option, true, inl, inr, refl, subst, sym}
 use Rattle.std.proofs.lemmas.Bool.{cases_lt}
 use Rattle.std.specs.Prelude.{Err}
 use Rattle.vx_model.specs.declared.site.SiteState.TheVariants.{Deported as IsDeported}
@@ -10,6 +10,8 @@ use Rattle.vx_group.specs.Dets.{DetStops, margin}
 use Rattle.vx_group.specs.Holding.{wide}
 use Rattle.vx_group.specs.Resumes.{CanImport}
 use Rattle.vx_loggroup.specs.Opens.{RestTells}
+use Rattle.vx_logimport.specs.declared.rested.Rested.{Rested}
+use Rattle.vx_watched.specs.declared.watched.Watched.{Watched}
 use Rattle.vx_grouped.specs.CoreMoves.{BackMoves}
 use Rattle.vx_grouped.specs.Away.{IsDeportedAt, note_deported}
 use Rattle.vx_grouped.specs.Ends.{CallLeaves}
@@ -39,7 +41,7 @@ returns-in-Err-clause-refusals g c = elim (cases_lt (greatest - margin) c.togeth
       c.args.group.core c.together-group.result.core c.together.result.core c.in-Err.group.core c.args.group.shelf c.together-group.result.shelf.shelf c.together.result.shelf c.in-Err.group.shelf.shelf
       (c.together-group.ensures.core ∙ c.apart-rack.ensures.core) (shelf_of _ _ c.together-group.ensures.shelf ∙ c.over-watched.ensures ∙ c.apart-rack.ensures.shelf)
       (c.together.ensures.core ∙ c.apart-watched.ensures.core) (c.together.ensures.shelf ∙ c.into_shelf-rack.ensures.shelf ∙ shelf_of _ _ c.apart-watched.ensures.shelf)
-      (device_stops (g.R.Shelf.meaning c.together-group.result.shelf.shelf) (λ w. g.R.Shelf.meaning w.0.shelf) (λ y. (y.shelf, None)) c.in-Err.group c.in-Err.stop (c.in-Err.ensures.cause le)))
+      (device_stops {S = Watched _ _ _ _ × Option Rested} (g.R.Shelf.meaning c.together-group.result.shelf.shelf) (λ w. g.R.Shelf.meaning w.0.shelf) (λ y. (y.shelf, None)) c.in-Err.group c.in-Err.stop (c.in-Err.ensures.cause le)))
 ]
 
 pub returns-in-Ok-clause-can : goal.returns-in-Ok-clause-can

@@ -6,7 +6,7 @@ use Rattle.vx_group.specs.Attaches.{KnowsMissed, missed_regions}
 use Rattle.vx_group.specs.Calls.{GroupAttaches}
 use Rattle.vx_group.proofs.MissLemmas.{same_count}
 use Rattle.vx_model.specs.declared.no.No.{No}
-use Rattle.vx_loggroup.specs.Attaching.{map_by}
+use Rattle.vx_loggroup.specs.Attaching.{map_there}
 use Rattle.vx_loggroup.proofs.StayLemmas.{att_any, knows_by}
 use Rattle.vx_loggroup.proofs.attaching.att_whole.Goals as goal
 
@@ -14,19 +14,20 @@ pub att_in-requires-clause-stands : goal.att_in-requires-clause-stands
 att_in-requires-clause-stands g c = c.requires.stands.group
 
 pub att_in-requires-clause-knows : goal.att_in-requires-clause-knows
-att_in-requires-clause-knows g c = subst (λ (o : Option Missed). KnowsMissed c.args.core.now.inner.config c.args.vol c.args.plex o (g.S.Shelf.meaning c.args.shelf.now)) (sym (c.map_of-fmr.ensures.by ∙ ap (λ (ls : List Logs). map_by ls c.args.core.now.inner.config c.args.stopped c.is_down-down.result c.args.vol c.args.plex) c.as_slice.ensures.value ∙ ap (λ (d : Bool). map_by c.args.logs.now.items c.args.core.now.inner.config c.args.stopped d c.args.vol c.args.plex) c.is_down-down.ensures))
+att_in-requires-clause-knows g c = subst (λ (o : Option Missed). KnowsMissed c.args.core.now.inner.config c.args.vol c.args.plex o (g.S.Shelf.meaning c.args.shelf.now)) (sym (c.map_of-fmr.ensures.by ∙ ap (λ (ls : List Logs). map_there ls c.args.core.now.inner.config c.args.stopped c.is_down-down.result c.args.vol c.args.plex) c.as_slice.ensures.value ∙ ap (λ (d : Bool). map_there c.args.logs.now.items c.args.core.now.inner.config c.args.stopped d c.args.vol c.args.plex) c.is_down-down.ensures))
     (knows_by c.args.vol c.args.plex c.args.core.now c.args.logs.now.items c.args.alike.now c.args.stopped (g.S.Shelf.meaning c.args.shelf.now) c.requires.stands)
 
 pub returns-clause-attaches : goal.returns-clause-attaches
-returns-clause-attaches g c = subst (λ (o : Option Missed). GroupAttaches c.args.vol c.args.plex o c.args.core.now c.att_in.new.core (g.S.Shelf.meaning c.args.shelf.now) (g.S.Shelf.meaning c.att_in.new.shelf)) (c.map_of-fmr.ensures.by ∙ ap (λ (ls : List Logs). map_by ls c.args.core.now.inner.config c.args.stopped c.is_down-down.result c.args.vol c.args.plex) c.as_slice.ensures.value ∙ ap (λ (d : Bool). map_by c.args.logs.now.items c.args.core.now.inner.config c.args.stopped d c.args.vol c.args.plex) c.is_down-down.ensures) c.att_in.ensures.attaches
+returns-clause-attaches g c = subst (λ (o : Option Missed). GroupAttaches c.args.vol c.args.plex o c.args.core.now c.att_in.new.core (g.S.Shelf.meaning c.args.shelf.now) (g.S.Shelf.meaning c.att_in.new.shelf)) (c.map_of-fmr.ensures.by ∙ ap (λ (ls : List Logs). map_there ls c.args.core.now.inner.config c.args.stopped c.is_down-down.result c.args.vol c.args.plex) c.as_slice.ensures.value ∙ ap (λ (d : Bool). map_there c.args.logs.now.items c.args.core.now.inner.config c.args.stopped d c.args.vol c.args.plex) c.is_down-down.ensures) c.att_in.ensures.attaches
 
 pub returns-clause-stands : goal.returns-clause-stands
 returns-clause-stands g c =
     att_any c.args.vol c.args.plex c.args.core.now c.att_in.new.core c.args.logs.now.items c.args.alike.now c.args.stopped (g.S.Shelf.meaning c.args.shelf.now) (g.S.Shelf.meaning c.att_in.new.shelf) c.requires.stands c.att_in.ensures.stands
-    (subst (λ (o : Option Missed). GroupAttaches c.args.vol c.args.plex o c.args.core.now c.att_in.new.core (g.S.Shelf.meaning c.args.shelf.now) (g.S.Shelf.meaning c.att_in.new.shelf)) (c.map_of-fmr.ensures.by ∙ ap (λ (ls : List Logs). map_by ls c.args.core.now.inner.config c.args.stopped c.is_down-down.result c.args.vol c.args.plex) c.as_slice.ensures.value ∙ ap (λ (d : Bool). map_by c.args.logs.now.items c.args.core.now.inner.config c.args.stopped d c.args.vol c.args.plex) c.is_down-down.ensures) c.att_in.ensures.attaches)
+    (subst (λ (o : Option Missed). GroupAttaches c.args.vol c.args.plex o c.args.core.now c.att_in.new.core (g.S.Shelf.meaning c.args.shelf.now) (g.S.Shelf.meaning c.att_in.new.shelf)) (c.map_of-fmr.ensures.by ∙ ap (λ (ls : List Logs). map_there ls c.args.core.now.inner.config c.args.stopped c.is_down-down.result c.args.vol c.args.plex) c.as_slice.ensures.value ∙ ap (λ (d : Bool). map_there c.args.logs.now.items c.args.core.now.inner.config c.args.stopped d c.args.vol c.args.plex) c.is_down-down.ensures) c.att_in.ensures.attaches)
     (λ (no : No) is. let r = c.att_in.ensures.refused no is in (r.1, ap g.S.Shelf.meaning r.2))
 
 pub returns-clause-count : goal.returns-clause-count
+<<<<<<< HEAD
 returns-clause-count g c = λ off. same_count _ _ c.att_in.result (c.att_in.ensures.count off) (ap (λ (o : Option Missed). missed_regions c.args.core.now.inner.config c.args.vol c.args.plex o) (c.map_of-fmr.ensures.by ∙ ap (λ (ls : List Logs). map_by ls c.args.core.now.inner.config c.args.stopped c.is_down-down.result c.args.vol c.args.plex) c.as_slice.ensures.value ∙ ap (λ (d : Bool). map_by c.args.logs.now.items c.args.core.now.inner.config c.args.stopped d c.args.vol c.args.plex) c.is_down-down.ensures))
 
 pub returns-clause-finds : goal.returns-clause-finds
@@ -36,3 +37,6 @@ returns-clause-finds g c =
 pub returns-clause-free : goal.returns-clause-free
 returns-clause-free g c =
     c.att_in.ensures.free
+=======
+returns-clause-count g c = λ off. same_count _ _ c.att_in.result (c.att_in.ensures.count off) (ap (λ (o : Option Missed). missed_regions c.args.core.now.inner.config c.args.vol c.args.plex o) (c.map_of-fmr.ensures.by ∙ ap (λ (ls : List Logs). map_there ls c.args.core.now.inner.config c.args.stopped c.is_down-down.result c.args.vol c.args.plex) c.as_slice.ensures.value ∙ ap (λ (d : Bool). map_there c.args.logs.now.items c.args.core.now.inner.config c.args.stopped d c.args.vol c.args.plex) c.is_down-down.ensures))
+>>>>>>> land/P

@@ -36,13 +36,13 @@ pub returns-in-Ok-clause-ends : goal.returns-in-Ok-clause-ends
 returns-in-Ok-clause-ends g c =
     opens_by (λ s. g.S.Shelf.meaning s) c.import_marked.new.shelf (g.S.Shelf.meaning c.args.shelf.now) c.in-Ok.marked (g.met.S.Shelf.lawful c.args.shelf.now) (g.met.S.Shelf.lawful c.import_marked.new.shelf) c.requires.can c.in-Ok.ensures.ends c.args.rested.now c.requires.tells
     c.alike_of-alike.result c.alike_of-alike.ensures.stopped c.alike_of-alike.ensures.rested c.take_all.new.logs.items (g.S.Shelf.meaning c.take_all.new.shelf) (g.S.Shelf.meaning c.settle_logs.new.shelf) c.take_all.ensures.drls (let one = c.take_all.ensures.stands.many in let two = c.in-Ok.ensures.ends.logs.many in omega (arith, one, two))
-    c.take_all.ensures.goes (g.met.S.Shelf.lawful c.take_all.new.shelf) c.settle_logs.result c.settle_logs.ensures
+    c.take_all.ensures.goes (g.met.S.Shelf.lawful c.take_all.new.shelf) c.settle_logs.result c.settle_logs.ensures c.take_all.ensures.why
 
 pub returns-in-Ok-clause-same : goal.returns-in-Ok-clause-same
 returns-in-Ok-clause-same g c =
     then_units (g.S.Shelf.meaning c.args.shelf.now) (g.S.Shelf.meaning c.import_marked.new.shelf) (g.S.Shelf.meaning c.settle_logs.new.shelf) c.import_marked.ensures.same
     (then_units (g.S.Shelf.meaning c.import_marked.new.shelf) (g.S.Shelf.meaning c.take_all.new.shelf) (g.S.Shelf.meaning c.settle_logs.new.shelf) (goes_units _ (g.S.Shelf.meaning c.import_marked.new.shelf) (g.S.Shelf.meaning c.take_all.new.shelf) c.take_all.ensures.goes)
-    (settled_below (record { inner = c.in-Ok.marked.core; held = None }) c.alike_of-alike.result (g.S.Shelf.meaning c.take_all.new.shelf) (g.S.Shelf.meaning c.settle_logs.new.shelf) c.settle_logs.result c.settle_logs.ensures))
+    (settled_below (record { inner = c.in-Ok.marked.core; held = None }) c.take_all.new.logs.items c.alike_of-alike.result (g.S.Shelf.meaning c.take_all.new.shelf) (g.S.Shelf.meaning c.settle_logs.new.shelf) c.settle_logs.result c.settle_logs.ensures))
 
 pub returns-in-Err-clause-same : goal.returns-in-Err-clause-same
 returns-in-Err-clause-same g c = c.import_marked.ensures.same

@@ -53,6 +53,7 @@ returns g c = record {
   settles = settle_then c.args.core c.clear_all.new.core c.lose_all.new.core (g.S.Shelf.meaning c.args.shelf.now) (g.S.Shelf.meaning c.clear_all.new.shelf) (g.S.Shelf.meaning c.lose_all.new.shelf) c.clear_all.ensures.settles c.lose_all.ensures.settles;
   trust = λ is. c.in-Ok-lose_all.ensures.trust (c.in-Ok.ensures.trust is);
   same = refl;
+  shrink = c.clear_all.ensures.shrink;
   up = not_down c.is_down.result (g.S.Shelf.meaning c.lose_all.new.shelf).down c.is_down.ensures c.if-is_down.false;
   off = λ going. c.in-Ok.ensures.off (not_false c.in-Ok.done going);
   stands = c.lose_all.ensures.stands;

@@ -30,7 +30,7 @@ pub returns-then-not-may-clause-goes : goal.returns-then-not-may-clause-goes
 returns-then-not-may-clause-goes g c = same_Goes (g.S.Shelf.meaning c.args.shelf.now)
 
 pub returns-then-not-may-clause-takes : goal.returns-then-not-may-clause-takes
-returns-then-not-may-clause-takes g c = takes_none c.args.vol c.args.logs.now.items
+returns-then-not-may-clause-takes g c = takes_none c.args.core.now.inner.config c.args.may c.args.vol c.args.logs.now.items c.requires.plain
 
 pub returns-clause-stands : goal.returns-clause-stands
 returns-clause-stands g c =
@@ -44,4 +44,4 @@ returns-clause-stands g c =
     (c.requires.stands.each c.args.vol c.index_mut.result.now (item_of c.args.logs.now.items c.args.vol c.index_mut.result.now c.index_mut.ensures.value (let many = c.requires.stands.many in let there = c.requires.there in omega (arith, many, there)))) goes (λ on. c.take_one.ensures.log) (λ know. c.take_one.ensures.known))
 
 pub returns-clause-takes : goal.returns-clause-takes
-returns-clause-takes g c = takes_set c.args.vol c.args.logs.now.items c.index_mut.result.now c.take_one.new.one (item_of c.args.logs.now.items c.args.vol c.index_mut.result.now c.index_mut.ensures.value (let many = c.requires.stands.many in let there = c.requires.there in omega (arith, many, there))) c.take_one.ensures.drl
+returns-clause-takes g c = takes_set c.args.core.now.inner.config c.args.may c.args.vol c.args.logs.now.items c.index_mut.result.now c.take_one.new.one (item_of c.args.logs.now.items c.args.vol c.index_mut.result.now c.index_mut.ensures.value (let many = c.requires.stands.many in let there = c.requires.there in omega (arith, many, there))) c.take_one.ensures.drl c.if-not-may.false c.take_one.ensures.used

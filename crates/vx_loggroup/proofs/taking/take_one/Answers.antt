@@ -8,7 +8,7 @@ use Rattle.vx_group.specs.Holding.{wide}
 use Rattle.vx_logged.proofs.StandLemmas.{inner_fit, inner_sound, know_wide, to_inner, to_wide}
 use Rattle.vx_logged.specs.Logged.{LogOn}
 use Rattle.vx_logs.specs.declared.logs.Logs.{Logs}
-use Rattle.vx_loggroup.proofs.TakenMaps.{none_on, none_same, taken_known, taken_log}
+use Rattle.vx_loggroup.proofs.TakenMaps.{none_on, none_same, taken_known, taken_log, taken_used}
 use Rattle.vx_loggroup.proofs.taking.take_one.Goals as goal
 
 pub load_maps-requires-clause-checked : goal.load_maps-requires-clause-checked
@@ -62,3 +62,15 @@ returns-in-Err-clause-log g c =
 
 pub returns-in-Err-clause-known : goal.returns-in-Err-clause-known
 returns-in-Err-clause-known g c = know_none (wide c.args.core.now).config c.args.vol none_spared c.args.one.now (g.S.Shelf.meaning c.load_maps.new.shelf) c.requires.plain
+
+pub returns-then-blocks_of-eq0-clause-used : goal.returns-then-blocks_of-eq0-clause-used
+returns-then-blocks_of-eq0-clause-used g c = λ some. absurd (some c.requires.plain)
+
+pub returns-then-is_down-clause-used : goal.returns-then-is_down-clause-used
+returns-then-is_down-clause-used g c = λ some. absurd (some c.requires.plain)
+
+pub returns-in-Ok-clause-used : goal.returns-in-Ok-clause-used
+returns-in-Ok-clause-used g c = taken_used c.args.core.now.inner.config c.args.vol c.in-Ok.loaded.fmr c.in-Ok.loaded.gone (g.S.Shelf.meaning c.args.shelf.now) (g.S.Shelf.meaning c.load_maps.new.shelf) c.in-Ok.ensures.takes
+
+pub returns-in-Err-clause-used : goal.returns-in-Err-clause-used
+returns-in-Err-clause-used g c = λ some. absurd (some c.requires.plain)

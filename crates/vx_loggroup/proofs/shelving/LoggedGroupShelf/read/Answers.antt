@@ -1,6 +1,8 @@
 -- `read`: what `read_whole` asks, and what stands then.
 use Rattle.vx_loggroup.proofs.FactLemmas.{from_logged, to_logged}
 use Rattle.vx_loggroup.proofs.FreshLemmas.{fresh_still}
+use Rattle.vx_loggroup.specs.Mirrors.{names_none}
+use Rattle.vx_loggroup.proofs.MirrorLemmas.{keep_same}
 use Rattle.vx_loggroup.proofs.shelving.LoggedGroupShelf.read.Goals as goal
 
 pub read_whole-requires-clause-stands : goal.read_whole-requires-clause-stands
@@ -8,3 +10,6 @@ read_whole-requires-clause-stands g c = from_logged c.args.self.now.core c.args.
 
 pub invariant_of-self : goal.invariant_of-self
 invariant_of-self g c = record { stands = to_logged c.read_whole.new.core c.args.self.now.logs.items c.args.self.now.alike c.args.self.now.stopped (g.S.Shelf.meaning c.read_whole.new.shelf) c.read_whole.ensures.stands; begins = fresh_still c.args.self.now.core c.read_whole.new.core c.args.self.now.fresh (g.S.Shelf.meaning c.args.self.now.shelf) (g.S.Shelf.meaning c.read_whole.new.shelf) c.read_whole.ensures.goes c.args.self.now.begins }
+
+pub returns-clause-mirrors : goal.returns-clause-mirrors
+returns-clause-mirrors g c = keep_same names_none c.args.self.now.core c.read_whole.new.core (g.S.Shelf.meaning c.args.self.now.shelf) (g.S.Shelf.meaning c.read_whole.new.shelf) c.read_whole.ensures.same

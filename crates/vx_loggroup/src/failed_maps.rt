@@ -1,0 +1,96 @@
+// Maps of missed regions on a disk that is held as failed, by which no plex is attached.
+ghost use Rattle.std.specs.Prelude.{◌≡◌, ◌<◌, IfOk, IsTrue, None, Ok, OnOk, Some, Err, false, length, true};
+ghost use Rattle.vx_group.specs.Attaches.{GroupAttachEnds, att_refusal, missed_regions};
+ghost use Rattle.vx_group.specs.Calls.{GroupAttaches};
+ghost use Rattle.vx_group.specs.Dets.{DetStops};
+ghost use Rattle.vx_group.specs.Finds.{CoreFinds};
+ghost use Rattle.vx_group.specs.Holding.{wide};
+ghost use Rattle.vx_group.specs.Regains.{HoldsPlex, Regains};
+ghost use Rattle.vx_groupmaps.specs.Loading.{on_failed_disk};
+ghost use Rattle.vx_loggroup.specs.Attaching.{MapsHeld, map_by};
+ghost use Rattle.vx_loggroup.specs.LoggedVolumes.{LoggedStands};
+ghost use Rattle.vx_model.specs.declared.errors.Stop.TheVariants.{No as Refused};
+ghost use Rattle.vx_model.specs.declared.no.No.{No as NoValue};
+ghost use Rattle.vx_volume.specs.Plexes.{active};
+
+use crate::attaching::att_whole;
+use vx_config::{Config, VolumeLog};
+use vx_disk::Shelf;
+use vx_group::GroupCore;
+use vx_logs::Logs;
+use vx_maplog::log_of;
+use vx_model::Stop;
+use vx_model::limits::MOST_VOLUMES;
+
+// Whether a volume has a log of missed regions that is not lost, on a disk that is held as failed.
+fn lies_on_failed(config: &Config, vol: u32) -> bool
+    ensures { result ≡ on_failed_disk config.now vol }
+{
+    match log_of(config, vol, VolumeLog::Fmr) {
+        Some(entry) => match config.disks.as_slice().get(entry.disk as usize) {
+            Some(disk) => !entry.lost && disk.failed,
+            None => false,
+        },
+        None => false,
+    }
+}
+
+// Takes the maps of a volume out of memory.
+fn drop_maps(one: &mut Logs)
+    ensures drl { one.new.drl ≡ one.old.drl }
+    ensures gone { one.new.fmr ≡ None }
+{
+    one.fmr = None;
+}
+
+// Takes the maps of a volume out of memory, where their disk is held as failed.
+fn give_up<S: Shelf>(
+    shelf: &S,
+    core: &GroupCore,
+    logs: &mut Vec<Logs>,
+    alike: &[bool; MOST_VOLUMES],
+    stopped: bool,
+    vol: u32,
+)
+    requires stands { LoggedStands core.now logs.old.items alike.now stopped (S.meaning shelf.now) }
+    ensures stands { LoggedStands core.now logs.new.items alike.now stopped (S.meaning shelf.now) }
+    ensures held { MapsHeld core.now.inner.config vol logs.old.items logs.new.items }
+{
+    // The volumes stand as they did.
+    let _kept = (shelf.is_down(), alike.len(), stopped);
+    if !lies_on_failed(&core.inner.config, vol) {
+        return;
+    }
+    drop_maps(&mut logs[vol as usize]);
+}
+
+/// Attaches a plex, as a group does without logs, and answers how many regions were copied: those that it has missed by its map, or all of the
+/// volume where no map is in memory, or where its disk is held as failed; then the maps of the volume are in memory no more. It writes blocks of
+/// these regions of the plex alone, and no map changes.
+pub fn att_held<S: Shelf>(
+    shelf: &mut S,
+    core: &mut GroupCore,
+    logs: &mut Vec<Logs>,
+    alike: &[bool; MOST_VOLUMES],
+    stopped: bool,
+    vol: u32,
+    plex: u32,
+) -> Result<u64, Stop>
+    requires stands { LoggedStands core.old logs.old.items alike.now stopped (S.meaning shelf.old) }
+    ensures stands { LoggedStands core.new logs.new.items alike.now stopped (S.meaning shelf.new) }
+    ensures refused { (no : NoValue) → att_refusal core.old.inner.config vol plex ≡ Some no → (result ≡ Err (Refused no)) × (core.new ≡ core.old) × (shelf.new ≡ shelf.old) }
+    ensures already { att_refusal core.old.inner.config vol plex ≡ None → IsTrue (active core.old.inner.config vol plex) → (result ≡ Ok 0) × (core.new ≡ core.old) × (shelf.new ≡ shelf.old) }
+    ensures count { active core.old.inner.config vol plex ≡ false → IfOk result (λ n. n ≡ missed_regions core.old.inner.config vol plex (map_by logs.old.items core.old.inner.config stopped (S.meaning shelf.old).down vol plex)) }
+    ensures attaches { GroupAttaches vol plex (map_by logs.old.items core.old.inner.config stopped (S.meaning shelf.old).down vol plex) core.old core.new (S.meaning shelf.old) (S.meaning shelf.new) }
+    ensures ends { active core.old.inner.config vol plex ≡ false → GroupAttachEnds vol plex core.new.inner.config (S.meaning shelf.new) result }
+    ensures regains { Regains core.old.inner.config core.new.inner.config vol plex (S.meaning shelf.old) (S.meaning shelf.new) }
+    ensures held { active core.old.inner.config vol plex ≡ false → OnOk result (HoldsPlex (λ s. S.meaning s) core.old.inner.config core.new.inner.config vol plex shelf.new) }
+    ensures maps { MapsHeld core.old.inner.config vol logs.old.items logs.new.items }
+    ensures trust { OnOk result (core.old.inner.committed ≡ true → core.new.inner.committed ≡ true) }
+    ensures finds { CoreFinds (wide core.old) (wide core.new) (S.meaning shelf.old) (S.meaning shelf.new) }
+    ensures free { OnOk result (core.old.held ≡ None → core.new.held ≡ None) }
+    ensures cause { att_refusal core.old.inner.config vol plex ≡ None → DetStops (S.meaning shelf.old) (S.meaning shelf.new) result }
+{
+    give_up(shelf, core, logs, alike, stopped, vol);
+    att_whole(shelf, core, logs, alike, stopped, vol, plex)
+}
