@@ -1,19 +1,26 @@
 -- What calls on a replicated volume group over a group make of the group.
-use Rattle.std.proofs.Common.{◌≡◌, refl, subst, sym}
+use Rattle.std.proofs.Common.{◌≡◌, ◌∙◌, refl, subst, sym}
+use Rattle.std.specs.Prelude.{Err, IfErr, None, Ok, Result}
 use Rattle.vx_disk.specs.Racks.{IsRack}
 use Rattle.vx_disk.specs.declared.shelf.Shelf.{Ghosts}
 use Rattle.vx_history.specs.Groups.{GroupNode}
 use Rattle.vx_history.specs.World.{Node}
+use Rattle.vx_model.specs.declared.no.No.{No}
+use Rattle.vx_model.specs.declared.no.No.TheVariants.{Device}
 use Rattle.vx_untold.specs.Shades.{shade_meaning}
 use Rattle.vx_untold.specs.declared.shade.Shade.{Shade}
 use Rattle.vx_watched.specs.Since.{CalledSince}
 use Rattle.vx_watched.specs.Traces.{TellsLess}
 use Rattle.vx_grouped.specs.GroupSites.{UpNoted, laid_below, laid_disks, site_below, site_disks}
 use Rattle.vx_grouped.specs.declared.group_site.GroupSite.TheVariants.{Up}
+use Rattle.vx_diskset.specs.Blames.{BlamesSite}
+use Rattle.vx_diskset.specs.DiskSets.{Later}
+use Rattle.vx_diskset.specs.declared.disk_set.DiskSet.{DiskSet}
+use Rattle.vx_diskset.specs.declared.disk_set.DiskSet.TheVariants.{Over}
 use Rattle.vx_diskset.specs.Aboves.{IsInside, above_site, below_site}
 use Rattle.vx_diskset.specs.Founded.{FoundedWorks}
 use Rattle.vx_diskset.specs.Noted.{NotesWorked, OverCalled, below_rvg}
-use Rattle.vx_diskset.specs.Stands.{RoleBy}
+use Rattle.vx_diskset.specs.Stands.{KeepsRole, RoleBy}
 use Rattle.vx_diskset.specs.declared.founded.Founded.{Founded}
 use Rattle.vx_diskset.specs.declared.founded.FoundedReceiver.{FoundedReceiver}
 use Rattle.vx_diskset.specs.declared.over_set.OverSet.{OverSet}
@@ -52,3 +59,21 @@ module _ {R : Type 0} {g : Ghosts R} (old : OverSet R g) (f f' : FoundedReceiver
     notes = receiver_noted;
     above = λ n role. tt;
   }
+
+-- ---- the same of disk sets
+
+-- a refusal of a site over a group names any disk
+blames_over : (n : Node) (why : No) → (n.group ≡ None → ⊥) → BlamesSite n why
+blames_over n (Device disk) over = λ none. absurd (over none)
+blames_over n other over = tt
+
+pub blamed_over : {T : Type 0} (r : Result T No) (n : Node) → (n.group ≡ None → ⊥) → IfErr r (λ why. BlamesSite n why)
+blamed_over (Ok x) n over = tt
+blamed_over (Err why) n over = blames_over n why over
+
+module _ {R : Type 0} {g : Ghosts R} (e : DiskSet R g) (old new : OverSet R g) (is : e ≡ Over old) (called : OverCalled old new) where
+  pub over_role : KeepsRole e (Over new)
+  over_role = subst (λ (x : DiskSet R g). KeepsRole x (Over new)) (sym is) (record { kept = called.above })
+
+  pub over_later : Later e (Over new)
+  over_later = subst (λ (x : DiskSet R g). Later x (Over new)) (sym is) (record { counts = called.since.counts; told = λ told. sym called.since.tells ∙ told })

@@ -1,13 +1,14 @@
 -- `keep_up`: clauses called, headed and kept.
 use Rattle.vx_diskset.specs.Burning.{NoMore}
 use Rattle.vx_diskset.specs.Keeps.{KeptUp, done_by}
-use Rattle.vx_diskset.specs.declared.disk_set.DiskSet.TheVariants.{Up}
+use Rattle.vx_diskset.specs.declared.disk_set.DiskSet.TheVariants.{Over, Up}
 use Rattle.vx_diskset.proofs.CallsBurn.{called_up, done_called}
 use Rattle.vx_diskset.proofs.HeadCalls.{head_called, head_received, head_up, log_place}
 use Rattle.std.proofs.Common.{refl, subst, sym}
 use Rattle.vx_diskset.specs.Stands.{SiteStands}
 use Rattle.vx_diskset.proofs.KeepGroup.{kept_at}
 use Rattle.vx_diskset.proofs.Receiving.{durable_of, kept_received, receiver_as}
+use Rattle.vx_diskset.proofs.OverCalled.{over_later, over_role}
 use Rattle.vx_diskset.proofs.disk_set.DiskSet.keep_up.Goals as goal
 
 pub returns-in-Up-clause-called : goal.returns-in-Up-clause-called
@@ -43,3 +44,13 @@ returns-in-Up-clause-kept g c = λ beside n stands can.
     let is_rack = (g.met.R.Rack g.world.𝓛 g.world.𝓜 g.world.𝓡 ((λ s x. x), (λ x. x), (λ x. x), λ x. x)).rack in
     subst (λ e. KeptUp beside n c.args.state.now e (Up c.keep_group.new.rvg) c.keep_group.result) (sym c.in-Up.is)
     (kept_at beside n c.args.state.now c.in-Up.rvg c.keep_group.new.rvg c.keep_group.result (is_rack c.in-Up.rvg.shelf) (c.keep_group.ensures.kept beside n (subst (λ e. SiteStands beside n e) c.in-Up.is stands) can))
+
+pub returns-in-Over-clause-kept : goal.returns-in-Over-clause-kept
+returns-in-Over-clause-kept g c = λ beside n stands can.
+    subst (λ e. KeptUp beside n c.args.state.now e (Over c.keep.new.self) c.keep.result) (sym c.in-Over.is) (c.keep.ensures.kept beside n (subst (λ e. SiteStands beside n e) c.in-Over.is stands) can)
+
+pub returns-in-Over-clause-role : goal.returns-in-Over-clause-role
+returns-in-Over-clause-role g c = over_role c.args.self.now c.in-Over.over c.keep.new.self c.in-Over.is c.keep.ensures.called
+
+pub returns-in-Over-clause-later : goal.returns-in-Over-clause-later
+returns-in-Over-clause-later g c = over_later c.args.self.now c.in-Over.over c.keep.new.self c.in-Over.is c.keep.ensures.called
