@@ -4,6 +4,7 @@ ghost use Rattle.vx_history.specs.World.{Node};
 ghost use Rattle.vx_model.specs.Content.{blocks_in};
 ghost use Rattle.vx_model.specs.declared.limits.TheConstants.{MOST_CALL_BYTES};
 ghost use Rattle.vx_diskset.specs.DiskSets.{AppliedUp, CanApply, CanLog, CanRead, LoggedUp, ReadAt};
+ghost use Rattle.vx_diskset.specs.Founded.{FoundedWorks};
 ghost use Rattle.vx_diskset.specs.Holds.{KeptBeside};
 ghost use Rattle.vx_diskset.specs.Keeps.{CanKeep, KeptUp};
 ghost use Rattle.vx_diskset.specs.Needs.{HasRoom};
@@ -25,7 +26,9 @@ use vx_model::{Counted, No, State};
 fn reach<R: Rack>(
     founded: FoundedReceiver<R>,
     count: u64,
-) -> (FoundedReceiver<R>, Result<Reached, No>) {
+) -> (FoundedReceiver<R>, Result<Reached, No>)
+    ensures works { FoundedWorks founded.core founded.laid result.0.core result.0.laid }
+{
     let few = count.min(u64::from(founded.waiting.len())) as u32;
     let number = founded.core.head();
     if few == 0 {

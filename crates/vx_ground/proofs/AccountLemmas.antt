@@ -52,8 +52,8 @@ bool_same false true up back = let wrong : false ≡ true = back refl in cc
 bool_same false false up back = refl
 
 -- no call yet
-pub since_none : (a : GroundState) (m : Meaning) → GroundSince a m a m
-since_none a m = record {
+pub ground_none : (a : GroundState) (m : Meaning) → GroundSince a m a m
+ground_none a m = record {
   parts = none_parts a.config;
   frames = λ v. refl;
   counts = λ u. omega arith;

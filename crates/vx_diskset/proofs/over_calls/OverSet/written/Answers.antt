@@ -2,6 +2,7 @@
 use Rattle.vx_diskset.proofs.OverCalls.{over_logged, over_up}
 use Rattle.vx_untold.specs.Shades.{shade_rack}
 use Rattle.vx_diskset.proofs.OverCalled.{origin_called}
+use Rattle.vx_diskset.proofs.FoundedWork.{founded_none}
 use Rattle.vx_diskset.proofs.over_calls.OverSet.written.Goals as goal
 
 pub returns-then-volume-volumes-clause-wrote : goal.returns-then-volume-volumes-clause-wrote
@@ -13,3 +14,8 @@ pub returns-then-volume-volumes-clause-called : goal.returns-then-volume-volumes
 returns-then-volume-volumes-clause-called g c =
     let is_rack = (g.met.R.Rack g.world.𝓛 g.world.𝓜 g.world.𝓡 ((λ s x. x), (λ x. x), (λ x. x), λ x. x)).rack in
     origin_called c.args.self c.in-Origin.founded c.write-founded.result.0 c.in-Origin.is (shade_rack g.R.Shelf.meaning is_rack) c.write-founded.ensures.works
+
+pub returns-else-volume-volumes-clause-called : goal.returns-else-volume-volumes-clause-called
+returns-else-volume-volumes-clause-called g c =
+    let is_rack = (g.met.R.Rack g.world.𝓛 g.world.𝓜 g.world.𝓡 ((λ s x. x), (λ x. x), (λ x. x), λ x. x)).rack in
+    origin_called c.args.self c.in-Origin.founded c.in-Origin.founded c.in-Origin.is (shade_rack g.R.Shelf.meaning is_rack) (founded_none c.in-Origin.founded.core c.in-Origin.founded.laid)
