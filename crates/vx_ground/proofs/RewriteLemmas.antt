@@ -134,3 +134,7 @@ loop_left (Err e) unit old mid new done blocks at size past goes flushed = tt
 loop_left (Ok x) unit old mid new done blocks at size past goes flushed =
     let all : done ≡ mid.size unit = (let low = at.low in let same = at.goes.size unit in omega (arith, low, past, size, same)) in
     on_left unit mid new (subst (λ (k : ℕ). OneSeen unit 0 k mid) all at.one) (goes.size unit) flushed
+
+pub ok_then : {T E : Type 0} (r : Result T E) (A B : Type 0) → (A → B) → OnOk r A → OnOk r B
+ok_then (Ok x) A B then it = then it
+ok_then (Err e) A B then it = tt
