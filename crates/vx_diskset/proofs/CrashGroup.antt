@@ -33,7 +33,7 @@ use Rattle.vx_diskset.specs.Holds.{HasDoubted, HasWrites, KeptSite, itself, stat
 use Rattle.vx_diskset.specs.Layouts.{LiesOn, raw_units, units_of}
 use Rattle.vx_diskset.specs.Holds.{most_with}
 use Rattle.vx_diskset.specs.Stands.{IsUpAt, IsHeldAt, IsDownAt, CutAt, IsToldAt}
-use Rattle.vx_diskset.proofs.Laying.{lies_as, lies_sized, sizes_of}
+use Rattle.vx_diskset.proofs.Laying.{laid_in, lies_as, lies_sized, sizes_of}
 use Rattle.vx_diskset.proofs.BesideLemmas.{doubted, writes_itself}
 use Rattle.vx_diskset.proofs.StaysUp.{held_up}
 use Rattle.vx_events.proofs.Values.{length-values_from, slice_index-values_from}
@@ -178,7 +178,7 @@ module _ (k : KeptSite) (m new : Meaning) (lies : LiesOn k.node m) (low : k.node
   left_at i has now tells =
       found_left_with (units_of n) n.ring (state_with n k.links) n.session (most_with (sure_of k) n has.count) (take has.count n.log) (fold_writes n.base (drop n.safe (take has.count n.log))) new i tells
       (λ u b. one_value new i u b lawful rack stopped.down tells now)
-      (sizes_of (units_of n) n.ring n.volumes (fold_writes n.base (drop n.safe (take has.count n.log))) new (lies_at has.count).laid)
+      (sizes_of (units_of n) n.ring n.volumes (fold_writes n.base (drop n.safe (take has.count n.log))) new (laid_in (crashed n has.count) new (lies_at has.count)))
       has.found
 
   down_at : (count : ℕ) → n.safe ≤ count → count ≤ length n.log

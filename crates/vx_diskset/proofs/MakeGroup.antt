@@ -44,7 +44,7 @@ use Rattle.vx_diskset.proofs.NeedLemmas.{none_of, takes_none}
 use Rattle.vx_diskset.proofs.StaysUp.{never_both, told_now, fitted_moved, stays_up, writes_found}
 use Rattle.vx_diskset.specs.Holds.{site_alone, state_with}
 use Rattle.vx_diskset.specs.Layouts.{raw_units, CanBeRaw}
-use Rattle.vx_diskset.proofs.Laying.{lies_as, raw_lies, raw_size, raw_none}
+use Rattle.vx_diskset.proofs.Laying.{laid_in, lies_as, raw_lies, raw_none, raw_on, raw_size}
 use Rattle.vx_diskset.specs.Fuses.{FuseOn, LetsOn}
 use Rattle.vx_diskset.specs.Stands.{IsFitted, IsBareAt, bare_with, IsUpAt, faults_at}
 use Rattle.vx_events.proofs.Values.{length-values_from, slice_index-values_from}
@@ -120,7 +120,7 @@ up_still n c m new goes now down fuse up =
 
 -- the volumes of a group are those of its site
 pub up_volumes : {beside : KeptBeside} (n : Node) (c : Core) (m : Meaning) → IsUpAt beside n c m → length c.units.vols ≡ length n.volumes
-up_volumes n c m up = ap (λ (u : Units). length u.vols) up.units ∙ up.lies.laid.count
+up_volumes n c m up = ap (λ (u : Units). length u.vols) up.units ∙ (laid_in n m up.lies).count
 
 -- what was done to disk 0 alone leaves a bare site bare
 pub bare_moved : (n : Node) (count : ℕ) (m new : Meaning) → Moves (Run 0 0 count) Anything m new → IsBareAt n m → IsBareAt n new
@@ -203,7 +203,7 @@ raw_stands site n c m new lawful unit_is bare can is moves stands = record {
   state = refl;
   up = stays_up (Run 0 0 (ring_of (m.size 0) + 2)) Anything m new moves bare.unarmed bare.fitted.up;
   fuse = subst (λ (k : Node). FuseOn k.fuse new) (sym bare.is) (moves.unarmed bare.unarmed);
-  lies = raw_lies n.disks n.blocks new can bare.few bare.some (moves.units ∙ bare.fitted.units) (λ u there. moves.size u ∙ bare.fitted.size u there);
+  lies = raw_on (raw_set site n) new (ap (λ (k : Node). k.group) bare.is) (raw_lies n.disks n.blocks new can bare.few bare.some (moves.units ∙ bare.fitted.units) (λ u there. moves.size u ∙ bare.fitted.size u there));
   units = ap (λ (k : Core). k.units) is;
   ring = ring_here;
   low = ap (λ (k : Node). k.low) bare.is;

@@ -46,7 +46,7 @@ use Rattle.vx_ringio.specs.Spends.{Spends}
 use Rattle.vx_ringio.proofs.Spending.{spends_none, then_spends}
 use Rattle.vx_diskset.proofs.MakeRoom.{rose_later}
 use Rattle.vx_diskset.proofs.Mores.{more_none, more_then, wait_more}
-use Rattle.vx_diskset.proofs.Laying.{lies_sized}
+use Rattle.vx_diskset.proofs.Laying.{laid_in, lies_sized}
 use Rattle.vx_diskset.proofs.CrashGroup.{folded_size}
 use Rattle.vx_diskset.proofs.NeedLemmas.{needs_less}
 use Rattle.vx_diskset.proofs.Receiving.{as_held, as_receiver, durable_of, never_some, receiver_volumes, up_receiver}
@@ -263,7 +263,7 @@ module _ {beside : KeptBeside} (n : Node) (c : Core) (us rest : List Update) (u 
   can_next wait =
       let parts = can_parts c m.size u (wait.fits 0 u (ap (λ (vs : List Update). slice_get vs 0) front)) in
       let volume : u.vol < length n.volumes = omega (arith, parts.0, receiver_volumes n c us m r) in
-      let size = ap (λ (w : Units). m.size (unit_of w.vols u.vol)) r.units ∙ sym (r.lies.laid.each u.vol volume) in
+      let size = ap (λ (w : Units). m.size (unit_of w.vols u.vol)) r.units ∙ sym ((laid_in n m r.lies).each u.vol volume) in
       record { up = r.state; running = can.running; volume_exists = volume; fits = omega (arith, parts.1.0, r.ring); within = omega (arith, parts.1.1, size) }
 
   pub room_next : CanLog (durable_of n) u.vol u.block (blocks_in u.bytes) → (hold : ℕ) → hold ≡ last_of c → HasRoom beside.links (durable_of n) hold (blocks_in u.bytes)

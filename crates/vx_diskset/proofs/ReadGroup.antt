@@ -32,6 +32,7 @@ use Rattle.vx_diskset.specs.Fuses.{FuseOn}
 use Rattle.vx_diskset.specs.Stands.{IsUpAt, SiteStands}
 use Rattle.vx_diskset.specs.Lasts.{StandsHolding}
 use Rattle.vx_diskset.specs.Shelves.{ReadAs}
+use Rattle.vx_diskset.proofs.Laying.{laid_in}
 use Rattle.vx_diskset.proofs.LastWrites.{stands_with, still_with}
 use Rattle.vx_diskset.proofs.MakeGroup.{fuse_untouched}
 use Rattle.vx_diskset.proofs.StaysUp.{told_now, never_both, up_found, up_with}
@@ -73,7 +74,7 @@ module _ {beside : KeptBeside} (n : Node) (c : Core) (m new : Meaning) (volume s
   read_up = reads_up n c m new can.running up lawful after unit_is goes down fuse
 
   size : m.size (unit_of c.units.vols volume) ≡ n.base.size volume
-  size = ap (λ (u : Units). m.size (unit_of u.vols volume)) up.units ∙ sym (up.lies.laid.each volume can.volume_exists)
+  size = ap (λ (u : Units). m.size (unit_of u.vols volume)) up.units ∙ sym ((laid_in n m up.lies).each volume can.volume_exists)
 
   by_reads : (result : Result (Unit {0}) No) → ReadsGroup m new result → OnOk result ((h : Holding) → Stands c h m → IsTrue m.tells → ShowsContent h.content volume start count bytes) → ReadAs beside n volume start count bytes c m new result
   by_reads (Ok done) reads gives = (

@@ -51,7 +51,7 @@ use Rattle.vx_diskset.proofs.ApplyGroup.{applied_log, ended_log}
 use Rattle.vx_diskset.proofs.BesideLemmas.{may_same, never_besides, site_map}
 use Rattle.vx_diskset.proofs.FuseGroup.{alike_stands, lets_by}
 use Rattle.vx_diskset.proofs.LastWrites.{stands_with, still_with}
-use Rattle.vx_diskset.proofs.Laying.{lies_as}
+use Rattle.vx_diskset.proofs.Laying.{laid_in, lies_as}
 use Rattle.vx_diskset.proofs.StaysUp.{SameLog, told_now, writes_found}
 
 -- ---- what waits behind a group
@@ -275,7 +275,7 @@ receiver_fused n c us m new calls pick rack alike down disks r = record {
 
 -- the volumes of its group are those of the site
 pub receiver_volumes : {beside : KeptBeside} (n : Node) (c : Core) (us : List Update) (m : Meaning) → IsReceiverAt beside n c us m → length c.units.vols ≡ length n.volumes
-receiver_volumes n c us m r = ap (λ (u : Units). length u.vols) r.units ∙ r.lies.laid.count
+receiver_volumes n c us m r = ap (λ (u : Units). length u.vols) r.units ∙ (laid_in n m r.lies).count
 
 -- ---- what calls on a receiver that runs leave of it
 

@@ -42,7 +42,7 @@ use Rattle.vx_diskset.proofs.ApplyGroup.{ended_log}
 use Rattle.vx_diskset.proofs.BesideLemmas.{never_besides, site_map}
 use Rattle.vx_diskset.proofs.ExactWrite.{first_pushed, taken_push}
 use Rattle.vx_diskset.proofs.WriteLeaves.{has_begun, half_begins, has_half, has_whole, has_safe, half_of, up_half, up_logged}
-use Rattle.vx_diskset.proofs.Laying.{lies_moved}
+use Rattle.vx_diskset.proofs.Laying.{laid_in, lies_moved}
 use Rattle.vx_diskset.proofs.LastWrites.{stands_with, write_with, writing_found}
 use Rattle.vx_diskset.proofs.MakeRoom.{rose_later}
 use Rattle.vx_diskset.proofs.NeedLemmas.{takes_push}
@@ -95,7 +95,7 @@ module _ {beside : KeptBeside} (n : Node) (volume start : ℕ) (bytes : List ℕ
 
   -- the unit of the volume has the volume's blocks
   size : m.size (unit_of c.units.vols volume) ≡ n.base.size volume
-  size = ap (λ (u : Units). m.size (unit_of u.vols volume)) roomy.units ∙ sym (roomy.lies.laid.each volume can.volume_exists)
+  size = ap (λ (u : Units). m.size (unit_of u.vols volume)) roomy.units ∙ sym ((laid_in n m roomy.lies).each volume can.volume_exists)
 
   fuse_new : FuseOn (burned n.fuse) new
   fuse_new = subst (λ (f : Fuse). FuseOn f new) (burned_twice n.fuse) (fuse_moved (burned n.fuse) (Run c.units.srl 0 (c.log.ring + 2)) (Writing c (x ∷ []) m) m new moves roomy.fuse)

@@ -59,16 +59,15 @@ pub record IsRaw (disks blocks ring : ℕ) (volumes : List Volume) (sizes : ℕ 
   pub few : disks ≤ MOST_DISKS
   pub laid : IsLaid (raw_units disks) ring volumes sizes m
 
--- On the volumes of a group, which are no rack, a replicated volume group on these of them.
+-- On the volumes of a group a replicated volume group on these of them.
 pub record IsOver (u : Units) (ring : ℕ) (volumes : List Volume) (sizes : ℕ → ℕ) (m : Meaning) : Type 0 where
-  pub none : m.disks ≡ None
   pub laid : IsLaid u ring volumes sizes m
 
--- a raw set, or one over a group
-abbrev pub LiesBy : Option GroupNode → Node → Meaning → Type 0
-LiesBy None n m = IsRaw n.disks n.blocks n.ring n.volumes n.base.size m
-LiesBy (Some note) n m = IsOver (config_units (config_of note.config)) n.ring n.volumes n.base.size m
+-- a raw set, or one over a group, with volumes of these sizes
+abbrev pub LiesBy : Option GroupNode → Node → (ℕ → ℕ) → Meaning → Type 0
+LiesBy None n sizes m = IsRaw n.disks n.blocks n.ring n.volumes sizes m
+LiesBy (Some note) n sizes m = IsOver (config_units (config_of note.config)) n.ring n.volumes sizes m
 
 -- the same of a site
 abbrev pub LiesOn : Node → Meaning → Type 0
-LiesOn n m = LiesBy n.group n m
+LiesOn n m = LiesBy n.group n n.base.size m
