@@ -1,5 +1,5 @@
 -- What the calls of a group keep of its plexes and disks.
-use Rattle.std.proofs.Common.{◌≡◌, ◌∙◌, inl, inr, ℕ, ◌<◌, true, false, IsTrue, List, Option, length, sym, ap}
+use Rattle.std.proofs.Common.{◌≡◌, ◌∙◌, inl, inr, ℕ, ◌<◌, true, false, IsTrue, Option, List, length, sym, ap}
 use Rattle.std.proofs.lemmas.Bool.{cases_lt}
 use Rattle.std.proofs.lemmas.Option.{slice_get_past}
 use Rattle.vx_config.specs.declared.config.Config.{Config}

@@ -66,7 +66,7 @@ fn copied(alloc: Global, call: u64) -> Option<u64> {
 fn maps_on_a_disk_that_was_held_as_failed_are_lost(rt: HostRuntime) -> Result<(), Fail> {
     let alloc = rt.alloc();
     let mut seen: u64 = 0;
-    for call in 100..240 {
+    for call in 120..180 {
         match copied(alloc, call) {
             Some(copied) => {
                 seen = seen.wrapping_add(1);

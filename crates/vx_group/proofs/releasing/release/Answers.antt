@@ -1,9 +1,12 @@
 -- `release`: clauses stands, narrows, volumes and parts; what `detach_plex-result` asks.
 use Rattle.std.proofs.Common.{◌∙◌, ◌≡◌, None, Some, refl, sym, subst}
 use Rattle.vx_group.specs.declared.inner.Inner.{Inner}
-use Rattle.vx_group.proofs.HoldLemmas.{back_parts, e_Stands, e_narrows, e_volumes, x_other, e_finds}
+use Rattle.vx_group.proofs.HoldLemmas.{back_parts, e_Stands, e_finds, e_narrows, e_volumes, wide_none, x_other}
 use Rattle.vx_group.proofs.releasing.release.Goals as goal
+use Rattle.vx_group.specs.Finds.{CoreFinds}
+use Rattle.vx_group.specs.Holding.{wide}
 use Rattle.vx_group.specs.Loses.{SameParts}
+use Rattle.vx_group.proofs.FindingLemmas.{none_finds}
 
 pub detach_plex-result-requires-clause-other : goal.detach_plex-result-requires-clause-other
 detach_plex-result-requires-clause-other g c = x_other c.args.core.now c.in-Some.held (g.S.Shelf.meaning c.args.shelf.now) c.requires.stands (sym c.open_held.ensures.held ∙ c.in-Some.is) c.open_held.new.core.inner c.open_held.ensures.inner
@@ -41,3 +44,10 @@ returns-in-Some-clause-finds g c =
     (g.S.Shelf.meaning c.detach_plex-result.new.shelf) c.detach_plex-result.ensures.finds;
       free = λ none. absurd (let clash : None ≡ Some c.in-Some.held = sym none ∙ sym c.open_held.ensures.held ∙ c.in-Some.is in cc);
     }
+
+pub returns-in-None-clause-finds : goal.returns-in-None-clause-finds
+returns-in-None-clause-finds g c = record {
+  core = subst (λ (i : Inner). CoreFinds (wide c.args.core.now) i (g.S.Shelf.meaning c.args.shelf.now) (g.S.Shelf.meaning c.args.shelf.now)) (sym (wide_none c.open_held.new.core c.open_held.ensures.none ∙ c.open_held.ensures.inner))
+      (none_finds (wide c.args.core.now) (g.S.Shelf.meaning c.args.shelf.now));
+  free = λ was. c.open_held.ensures.none;
+}
