@@ -121,6 +121,7 @@ fn copy_to<S: Shelf>(
     ensures trust { core.new.committed ≡ core.old.committed }
     ensures serial { core.new.config.serial ≡ core.old.config.serial }
     ensures disks { core.new.config.disks ≡ core.old.config.disks }
+    ensures same { IfErr result (λ e. core.new ≡ core.old) }
     ensures no_source { NoSource core.old.config vol plex (S.meaning shelf.old) (S.meaning shelf.new) result }
     ensures less { FindsFrom NoConfiguration (S.meaning shelf.old) (S.meaning shelf.new) }
     ensures cause { Blames (S.meaning shelf.old) (S.meaning shelf.new) result }

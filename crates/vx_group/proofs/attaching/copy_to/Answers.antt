@@ -121,3 +121,9 @@ returns-in-Err-Down-clause-less g c =
 pub returns-clause-less : goal.returns-clause-less
 returns-clause-less g c =
     c.loop-source.invariant.0.less
+
+pub returns-in-Err-Down-clause-same : goal.returns-in-Err-Down-clause-same
+returns-in-Err-Down-clause-same g c = c.in-Err-Down.ensures.same ∙ c.loop-source.invariant.1
+
+pub returns-clause-same : goal.returns-clause-same
+returns-clause-same g c = c.loop-source.invariant.1
