@@ -1,11 +1,13 @@
 -- Plexes that a call takes out of use, and disks that it comes to hold as failed.
-use Rattle.std.specs.Prelude.{◌≡◌, ◌⊎◌, ℕ, ◌≤◌, IsTrue, length}
+use Rattle.std.specs.Prelude.{◌≡◌, ◌⊎◌, ℕ, ◌≤◌, IsTrue, length, true}
 use Rattle.vx_disk.specs.Shelf.{Meaning}
 use Rattle.vx_config.specs.declared.config.Config.{Config}
+use Rattle.vx_config.specs.declared.entry.VolumeLog.{VolumeLog}
 use Rattle.vx_copies.specs.Commits.{MoreFailed}
 use Rattle.vx_volume.specs.Plexes.{active, uses}
 use Rattle.vx_volume.specs.Volumes.{PlexBlamed}
 use Rattle.vx_kept.specs.Keeping.{frame_at}
+use Rattle.vx_kept.specs.LogRuns.{log_trusted}
 
 -- the same but for the serial, the volumes, and disks that are held as failed
 pub record SameParts (c d : Config) : Type 0 where
@@ -32,3 +34,11 @@ pub record LosesPlexes (c d : Config) (old new : Meaning) : Type 0 where
 pub record LosesAlong (c d : Config) (old new : Meaning) : Type 0 where
   pub loses : LosesPlexes c d old new
   pub rises : (u : ℕ) → old.faults u ≤ new.faults u
+
+-- no log is held as lost that was not
+pub record TrustsStill (c d : Config) : Type 0 where
+  pub each : (v : ℕ) (log : VolumeLog) → log_trusted c v log ≡ true → log_trusted d v log ≡ true
+
+-- but for this log of volume v
+pub record TrustsBut (v : ℕ) (this : VolumeLog) (c d : Config) : Type 0 where
+  pub each : (w : ℕ) (log : VolumeLog) → ((w ≡ v) × (log ≡ this) → ⊥) → log_trusted c w log ≡ true → log_trusted d w log ≡ true

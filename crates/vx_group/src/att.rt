@@ -1,4 +1,5 @@
 // A plex that is attached by its name.
+ghost use Rattle.vx_group.specs.Loses.{TrustsStill};
 ghost use Rattle.vx_group.specs.Finds.{CoreFinds};
 ghost use Rattle.std.specs.Prelude.{◌≡◌, ◌+◌, ◌<◌, false, IfOk, IsTrue, OnOk, Some, None, Ok, Err, true};
 ghost use Rattle.std.specs.Option.{option_copied};
@@ -74,6 +75,7 @@ fn attach_held<S: Shelf>(
     ensures held { OnOk result (HoldsPlex (λ s. S.meaning s) core.old.config core.new.config vol plex shelf.new) }
     ensures trust { OnOk result (core.old.committed ≡ true → core.new.committed ≡ true) }
     ensures finds { CoreFinds core.old core.new (S.meaning shelf.old) (S.meaning shelf.new) }
+    ensures logs { TrustsStill core.old.config core.new.config }
     ensures cause { Blames (S.meaning shelf.old) (S.meaning shelf.new) result }
     ensures count { IfOk result (λ n. n ≡ missed_regions core.old.config vol plex (option_copied fmr.entry)) }
 {
@@ -111,6 +113,7 @@ pub fn att_in<S: Shelf>(
     ensures trust { OnOk result (core.old.inner.committed ≡ true → core.new.inner.committed ≡ true) }
     ensures finds { CoreFinds (wide core.old) (wide core.new) (S.meaning shelf.old) (S.meaning shelf.new) }
     ensures free { OnOk result (core.old.held ≡ None → core.new.held ≡ None) }
+    ensures logs { TrustsStill core.old.inner.config core.new.inner.config }
     ensures cause { att_refusal core.old.inner.config vol plex ≡ None → DetStops (S.meaning shelf.old) (S.meaning shelf.new) result }
 {
     if let Some(no) = refuse(&core.inner.config, vol, plex) {

@@ -1,4 +1,5 @@
 // The content of a volume that is copied to a plex, and the commit that makes the plex ACTIVE.
+ghost use Rattle.vx_group.specs.Loses.{TrustsStill};
 ghost use Rattle.vx_group.specs.Finds.{CoreFinds, CoreEnds};
 ghost use Rattle.vx_kept.specs.Finds.{FindsFrom, NoConfiguration};
 ghost use Rattle.std.specs.Prelude.{◌≡◌, ◌⊎◌, ◌<◌, false, IfErr, IfOk, IsTrue, Option, true, OnOk};
@@ -148,6 +149,7 @@ fn take_back<S: Shelf>(shelf: &mut S, core: &mut Inner, vol: u32, plex: u32)
     ensures off { (active core.new.config vol plex ≡ false) ⊎ NoCommit core.new (S.meaning shelf.new) }
     ensures failing { MoreFailed (S.meaning shelf.old) (S.meaning shelf.new) core.old.config.disks core.new.config.disks }
     ensures finds { CoreFinds core.old core.new (S.meaning shelf.old) (S.meaning shelf.new) }
+    ensures logs { TrustsStill core.old.config core.new.config }
 {
     if shelf.is_down() {
         return;
@@ -186,6 +188,7 @@ fn commit_open<S: Shelf>(
     ensures failing { MoreFailed (S.meaning shelf.old) (S.meaning shelf.new) core.old.config.disks core.new.config.disks }
     ensures trust { OnOk result (core.old.committed ≡ true → core.new.committed ≡ true) }
     ensures finds { CoreEnds core.new (S.meaning shelf.old) (S.meaning shelf.new) }
+    ensures logs { TrustsStill core.old.config core.new.config }
     ensures cause { Blames (S.meaning shelf.old) (S.meaning shelf.new) result }
 {
     match detach(shelf, core, 0, Failed { set: 0, disk: 0 }) {
@@ -220,6 +223,7 @@ pub fn attach<S: Shelf>(
     ensures failing { MoreFailed (S.meaning shelf.old) (S.meaning shelf.new) core.old.config.disks core.new.config.disks }
     ensures trust { OnOk result (core.old.committed ≡ true → core.new.committed ≡ true) }
     ensures finds { CoreFinds core.old core.new (S.meaning shelf.old) (S.meaning shelf.new) }
+    ensures logs { TrustsStill core.old.config core.new.config }
     ensures cause { Blames (S.meaning shelf.old) (S.meaning shelf.new) result }
     ensures count { IfOk result (λ n. n ≡ missed_regions core.old.config vol plex (option_copied fmr.entry)) }
 {

@@ -1,4 +1,5 @@
 // The flushes and the commit by which a group is deported.
+ghost use Rattle.vx_group.specs.Loses.{TrustsStill};
 ghost use Rattle.vx_group.specs.Finds.{CoreFinds, GroupFinds};
 ghost use Rattle.std.specs.Prelude.{Err, IfErr, IsTrue, OnOk, false, ◌-◌, ◌<◌, ◌≡◌, ◌≤◌};
 ghost use Rattle.vx_disk.specs.Shelf.{Goes, Nothing};
@@ -36,6 +37,7 @@ fn commit_closed<S: Shelf>(shelf: &mut S, core: &mut Inner) -> Result<(), ShelfE
     ensures ends { CommitCloses core.old core.new (S.meaning shelf.old) (S.meaning shelf.new) result }
     ensures up { OnOk result (KeepsUp (S.meaning shelf.old) (S.meaning shelf.new)) }
     ensures finds { IfErr result (λ e. CoreFinds core.old core.new (S.meaning shelf.old) (S.meaning shelf.new)) }
+    ensures logs { IfErr result (λ e. TrustsStill core.old.config core.new.config) }
     ensures cause { StopsByDevice (S.meaning shelf.old) (S.meaning shelf.new) result }
 {
     match commit_clean(
@@ -66,6 +68,7 @@ fn close<S: Shelf>(shelf: &mut S, core: &mut Inner) -> Result<(), ShelfError>
     ensures ends { Closes core.old core.new (S.meaning shelf.old) (S.meaning shelf.new) result }
     ensures up { OnOk result (IsTrue (S.meaning shelf.new).down → ⊥) }
     ensures finds { IfErr result (λ e. CoreFinds core.old core.new (S.meaning shelf.old) (S.meaning shelf.new)) }
+    ensures logs { IfErr result (λ e. TrustsStill core.old.config core.new.config) }
     ensures cause { StopsByDevice (S.meaning shelf.old) (S.meaning shelf.new) result }
 {
     match settle_headers(shelf, core) {
@@ -93,6 +96,7 @@ pub fn deport_in<S: Shelf>(shelf: &mut S, core: &mut GroupCore) -> Result<(), St
     ensures up { OnOk result (IsTrue (S.meaning shelf.new).down → ⊥) }
     ensures back { IfErr result (λ e. Goes Nothing (inner_meaning (wide core.old) (S.meaning shelf.old)) (inner_meaning (wide core.new) (S.meaning shelf.new))) }
     ensures finds { IfErr result (λ e. GroupFinds core.old core.new (S.meaning shelf.old) (S.meaning shelf.new)) }
+    ensures logs { IfErr result (λ e. TrustsStill core.old.inner.config core.new.inner.config) }
     ensures cause { core.old.inner.config.serial ≤ greatest - margin → DetStops (S.meaning shelf.old) (S.meaning shelf.new) result }
 {
     if MOST_NUMBER - MARGIN < core.inner.config.serial {

@@ -11,7 +11,7 @@ ghost use Rattle.vx_kept.specs.Commits.{IsCommitted};
 ghost use Rattle.vx_model.specs.declared.errors.Stop.TheVariants.{No as Refused};
 ghost use Rattle.vx_model.specs.declared.no.No.{No as NoValue};
 ghost use Rattle.vx_volume.specs.Plexes.{active};
-ghost use Rattle.vx_group.specs.Loses.{SameParts};
+ghost use Rattle.vx_group.specs.Loses.{SameParts, TrustsStill};
 
 use crate::group_core::GroupCore;
 use crate::holding::has_other;
@@ -76,6 +76,7 @@ pub fn det_in<S: Shelf>(
     ensures trust { OnOk result (core.old.inner.committed ≡ true → core.new.inner.committed ≡ true) }
     ensures agreed { IfErr result (λ e. core.old.inner.committed ≡ true → core.new.inner.agreed ≡ true) }
     ensures finds { GroupFinds core.old core.new (S.meaning shelf.old) (S.meaning shelf.new) }
+    ensures logs { TrustsStill core.old.inner.config core.new.inner.config }
     ensures cause { det_refusal core.old.inner.config vol plex ≡ None → DetStops (S.meaning shelf.old) (S.meaning shelf.new) result }
 {
     if let Some(no) = refuse_det(&core.inner.config, vol, plex) {

@@ -13,7 +13,7 @@ ghost use Rattle.vx_kept.specs.Commits.{IsCommitted};
 ghost use Rattle.vx_kept.specs.Trusts.{HasFailed};
 ghost use Rattle.vx_kept.specs.States.{AreOn, SomeLeft, staled};
 ghost use Rattle.vx_volume.specs.Plexes.{active, uses};
-ghost use Rattle.vx_group.specs.Loses.{SameParts};
+ghost use Rattle.vx_group.specs.Loses.{SameParts, TrustsStill};
 
 use crate::inner::Inner;
 use crate::marking::is_committed;
@@ -81,6 +81,7 @@ pub fn detach_named<S: Shelf>(
     ensures committed { OnOk result (IsCommitted core.new.config (S.meaning shelf.new)) }
     ensures finds { CoreEnds core.new (S.meaning shelf.old) (S.meaning shelf.new) }
     ensures named { IfOk result (NamesFailed core.old.config core.new.config (S.meaning shelf.old) (S.meaning shelf.new)) }
+    ensures logs { TrustsStill core.old.config core.new.config }
     ensures cause { BlamesOr failed.disk (S.meaning shelf.old) (S.meaning shelf.new) result }
     ensures sure { core.old.config.serial < greatest → Blames (S.meaning shelf.old) (S.meaning shelf.new) result }
 {
@@ -143,6 +144,7 @@ pub fn detach<S: Shelf>(
     ensures whole { OnOk result ((core.new.committed ≡ true) ⊎ HasFailed core.new.config.disks) }
     ensures committed { OnOk result (IsCommitted core.new.config (S.meaning shelf.new)) }
     ensures finds { CoreEnds core.new (S.meaning shelf.old) (S.meaning shelf.new) }
+    ensures logs { TrustsStill core.old.config core.new.config }
     ensures cause { BlamesOr failed.disk (S.meaning shelf.old) (S.meaning shelf.new) result }
     ensures sure { core.old.config.serial < greatest → Blames (S.meaning shelf.old) (S.meaning shelf.new) result }
 {

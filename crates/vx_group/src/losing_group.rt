@@ -5,7 +5,7 @@ ghost use Rattle.vx_config.specs.Table.{greatest};
 ghost use Rattle.vx_disk.specs.Causes.{Cause};
 ghost use Rattle.vx_disk.specs.Shelf.{Goes, Nothing};
 ghost use Rattle.vx_group.specs.Holding.{GroupStands, wide};
-ghost use Rattle.vx_group.specs.Loses.{LosesPlexes};
+ghost use Rattle.vx_group.specs.Loses.{LosesPlexes, TrustsBut};
 ghost use Rattle.vx_group.specs.Stands.{InnerStands, inner_meaning};
 ghost use Rattle.vx_kept.specs.LogRuns.{log_trusted};
 ghost use Rattle.vx_kept.specs.PlexActs.{PlexActs};
@@ -41,6 +41,7 @@ fn lose_in<S: Shelf>(
     ensures trust { OnOk result (core.old.committed ≡ true → core.new.committed ≡ true) }
     ensures agreed { IfErr result (λ e. core.old.committed ≡ true → core.new.agreed ≡ true) }
     ensures finds { CoreFinds core.old core.new (S.meaning shelf.old) (S.meaning shelf.new) }
+    ensures logs { TrustsBut vol log core.old.config core.new.config }
     ensures cause { Cause (inner_meaning core.old (S.meaning shelf.old)) (inner_meaning core.new (S.meaning shelf.new)) vol result }
 {
     if shelf.is_down() {
@@ -80,6 +81,7 @@ pub fn lose_group<S: Shelf>(
     ensures trust { OnOk result (core.old.inner.committed ≡ true → core.new.inner.committed ≡ true) }
     ensures agreed { IfErr result (λ e. core.old.inner.committed ≡ true → core.new.inner.agreed ≡ true) }
     ensures finds { GroupFinds core.old core.new (S.meaning shelf.old) (S.meaning shelf.new) }
+    ensures logs { TrustsBut vol log core.old.inner.config core.new.inner.config }
     ensures cause { Cause (inner_meaning (wide core.old) (S.meaning shelf.old)) (inner_meaning (wide core.new) (S.meaning shelf.new)) vol result }
 {
     if shelf.is_down() {

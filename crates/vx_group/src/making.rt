@@ -9,7 +9,7 @@ ghost use Rattle.vx_model.specs.declared.no.No.{No as NoValue};
 ghost use Rattle.vx_group.specs.Blames.{StopsByDevice};
 ghost use Rattle.vx_group.specs.Calls.{GroupStays};
 ghost use Rattle.vx_group.specs.Holding.{GroupStands};
-ghost use Rattle.vx_group.specs.Loses.{SameParts};
+ghost use Rattle.vx_group.specs.Loses.{SameParts, TrustsStill};
 ghost use Rattle.vx_group.specs.Makes.{MakeEnds, MakesBeside, StayAsWere, Unmoved, ZerosOn, make_refusal};
 ghost use Rattle.vx_group.specs.Nexts.{Adds, IsNextConfig, PlanEnds};
 ghost use Rattle.vx_copies.specs.Commits.{MoreFailed};
@@ -88,6 +88,7 @@ fn add_last<S: Shelf>(shelf: &mut S, core: &mut Inner, next: Config) -> Result<(
     ensures whole { OnOk result ((core.new.committed ≡ true) ⊎ HasFailed core.new.config.disks) }
     ensures agreed { IfErr result (λ e. core.old.committed ≡ true → core.new.agreed ≡ true) }
     ensures finds { CoreFinds core.old core.new (S.meaning shelf.old) (S.meaning shelf.new) }
+    ensures logs { TrustsStill core.old.config core.new.config }
     ensures cause { StopsByDevice (S.meaning shelf.old) (S.meaning shelf.new) result }
 {
     let mut next = next;
@@ -135,6 +136,7 @@ fn add<S: Shelf>(shelf: &mut S, core: &mut Inner, next: Config) -> Result<(), Sh
     ensures whole { OnOk result ((core.new.committed ≡ true) ⊎ HasFailed core.new.config.disks) }
     ensures agreed { IfErr result (λ e. core.old.committed ≡ true → core.new.agreed ≡ true) }
     ensures finds { CoreFinds core.old core.new (S.meaning shelf.old) (S.meaning shelf.new) }
+    ensures logs { TrustsStill core.old.config core.new.config }
     ensures cause { StopsByDevice (S.meaning shelf.old) (S.meaning shelf.new) result }
 {
     match settle_headers(shelf, core) {
@@ -177,6 +179,7 @@ pub fn make_in<S: Shelf>(
     ensures agreed { IfErr result (λ e. core.old.inner.committed ≡ true → core.new.inner.agreed ≡ true) }
     ensures unmoved { Unmoved result ((core.new ≡ core.old) × (shelf.new ≡ shelf.old)) }
     ensures finds { GroupFinds core.old core.new (S.meaning shelf.old) (S.meaning shelf.new) }
+    ensures logs { TrustsStill core.old.inner.config core.new.inner.config }
 {
     if let Some(no) = refuse_volume(&core.inner.config, name, want) {
         return Err(Stop::No(no));

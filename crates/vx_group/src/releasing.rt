@@ -12,7 +12,7 @@ ghost use Rattle.vx_group.specs.Stands.{InnerStands};
 ghost use Rattle.vx_kept.specs.Commits.{IsCommitted};
 ghost use Rattle.vx_kept.specs.States.{stale_at};
 ghost use Rattle.vx_volume.specs.Plexes.{active};
-ghost use Rattle.vx_group.specs.Loses.{SameParts};
+ghost use Rattle.vx_group.specs.Loses.{SameParts, TrustsStill};
 
 use crate::detaching::detach;
 use crate::group_core::GroupCore;
@@ -48,6 +48,7 @@ pub fn detach_plex<S: Shelf>(
     ensures trust { OnOk result (core.old.committed ≡ true → core.new.committed ≡ true) }
     ensures agreed { IfErr result (λ e. core.old.committed ≡ true → core.new.agreed ≡ true) }
     ensures finds { CoreFinds core.old core.new (S.meaning shelf.old) (S.meaning shelf.new) }
+    ensures logs { TrustsStill core.old.config core.new.config }
     ensures cause { Blames (S.meaning shelf.old) (S.meaning shelf.new) result }
 {
     match settle_headers(shelf, core) {
@@ -78,6 +79,8 @@ pub fn release<S: Shelf>(shelf: &mut S, core: &mut GroupCore) -> Result<(), Shel
     ensures trust { OnOk result (core.old.inner.committed ≡ true → core.new.inner.committed ≡ true) }
     ensures agreed { IfErr result (λ e. core.old.inner.committed ≡ true → core.new.inner.agreed ≡ true) }
     ensures finds { GroupFinds core.old core.new (S.meaning shelf.old) (S.meaning shelf.new) }
+    ensures full { greatest ≤ core.old.inner.config.serial → (core.new ≡ core.old) × (shelf.new ≡ shelf.old) }
+    ensures logs { TrustsStill core.old.inner.config core.new.inner.config }
     ensures cause { Blames (S.meaning shelf.old) (S.meaning shelf.new) result }
 {
     if core.inner.config.serial >= MOST_NUMBER {

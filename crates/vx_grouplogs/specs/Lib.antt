@@ -6,3 +6,4 @@ pub mod Loading
 pub mod On
 pub mod Zeroing
 pub mod Mapping
+pub mod Gone

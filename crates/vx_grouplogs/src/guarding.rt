@@ -4,6 +4,7 @@ ghost use Rattle.vx_config.specs.Checks.{blocks_of as blocks_of_is, is_sound};
 ghost use Rattle.vx_disk.specs.Shelf.{Goes};
 ghost use Rattle.vx_grouplogs.specs.Clearing.{DrlFew};
 ghost use Rattle.vx_grouplogs.specs.Covering.{AllAlike, OnLogs};
+ghost use Rattle.vx_grouplogs.specs.Gone.{LogsDrop};
 ghost use Rattle.vx_grouplogs.specs.Keeps.{KeepsGroup};
 ghost use Rattle.vx_grouplogs.specs.Marking.{HoldRegions, HoldsMany, MarksFewer, MarksOnly, NoMarks};
 ghost use Rattle.vx_grouplogs.specs.On.{VolumeOn};
@@ -49,6 +50,7 @@ pub fn guard_run<S: Shelf>(
     ensures missed { OnOk result (HoldMissed config.now vol (first_region block) (last_region block count) logs.new) }
     ensures up { OnOk result (IsTrue (S.meaning shelf.new).down → IsTrue (S.meaning shelf.old).down) }
     ensures down { IfErr result (λ no. IsTrue (S.meaning shelf.new).down) }
+    ensures drops { LogsDrop config.now vol logs.old logs.new (S.meaning shelf.old) (S.meaning shelf.new) }
     ensures adds { MarksOnly (regions_in (blocks_of_is config.now.volumes vol)) (first_region block) (last_region block count) logs.old logs.new }
     ensures knows { (spare : ℕ → ℕ → Bool) → MapsKnowBy config.now vol (or_stale config.now vol (first_region block) (last_region block count) spare) logs.old (S.meaning shelf.old) → MapsKnowBy config.now vol spare logs.new (S.meaning shelf.new) }
     ensures notes { MapsNote (stale config.now vol) (first_region block) (last_region block count) logs.old logs.new }
@@ -85,6 +87,7 @@ pub fn clear_run<S: Shelf>(
     ensures others { (w : ℕ) (l : LogsValue) → (w ≡ vol → ⊥) → VolumeOn config.now w l (S.meaning shelf.old) → VolumeOn config.now w l (S.meaning shelf.new) }
     ensures up { OnOk result (IsTrue (S.meaning shelf.new).down → IsTrue (S.meaning shelf.old).down) }
     ensures down { IfErr result (λ no. IsTrue (S.meaning shelf.new).down) }
+    ensures drops { LogsDrop config.now vol logs.old logs.new (S.meaning shelf.old) (S.meaning shelf.new) }
     ensures fewer { MarksFewer (regions_in (blocks_of_is config.now.volumes vol)) logs.old logs.new }
     ensures maps { (spare : ℕ → ℕ → Bool) → MapsKnowBy config.now vol spare logs.old (S.meaning shelf.old) → MapsKnowBy config.now vol spare logs.new (S.meaning shelf.new) }
     ensures same { OnOk result (logs.new.fmr ≡ logs.old.fmr) }

@@ -8,11 +8,15 @@ use Rattle.vx_group.specs.declared.group_core.GroupCore.{GroupCore}
 use Rattle.vx_groupmaps.specs.Missing.{HoldMissed}
 use Rattle.vx_logs.specs.Held.{LogsStand}
 use Rattle.vx_logs.specs.declared.logs.Logs.{Logs}
-use Rattle.vx_logged.specs.Logged.{LogOn, MapKept, MayWrite, are_off}
+use Rattle.vx_logged.specs.Logged.{LogKept, LogOn, MapKept, MayWrite, are_off}
 
 -- the log of missed regions is in memory, or held as lost, unless no serial is left to say so
 abbrev pub MapSaid : GroupCore → ℕ → Logs → Type 0
 MapSaid core v l = MapKept core v l ⊎ (greatest ≤ core.inner.config.serial + 9)
+
+-- a log of the volume that is in memory no more is held as lost, unless no serial is left to say so
+pub record AreKept (core : GroupCore) (v : ℕ) (l : Logs) : Type 0 where
+  pub so : (LogKept core v l × MapSaid core v l) ⊎ (greatest ≤ core.inner.config.serial + 9)
 
 -- The regions of a run are durably in both logs of a volume, whatever a crash leaves, as dirty, and as missed by each plex that is STALE in c; or the
 -- log is held as lost by what is committed.

@@ -1,11 +1,13 @@
 -- The dirty region log of a volume of a group, between its calls.
-use Rattle.std.specs.Prelude.{◌≡◌, ℕ, Bool, true, not, IsTrue, None}
+use Rattle.std.specs.Prelude.{◌≡◌, ◌⊎◌, ◌+◌, ◌≤◌, ℕ, Bool, true, not, IsTrue, None}
+use Rattle.vx_config.specs.Table.{greatest}
 use Rattle.vx_config.specs.declared.config.Config.{Config}
 use Rattle.vx_config.specs.declared.entry.VolumeLog.{VolumeLog}
 use Rattle.vx_config.specs.declared.entry.VolumeLog.TheVariants.{Drl, Fmr}
 use Rattle.vx_disk.specs.Shelf.{Meaning}
 use Rattle.vx_group.specs.Holding.{wide}
 use Rattle.vx_group.specs.declared.group_core.GroupCore.{GroupCore}
+use Rattle.vx_grouplogs.specs.Gone.{LogsDrop, has_log}
 use Rattle.vx_grouplogs.specs.Marking.{HoldRegions}
 use Rattle.vx_grouplogs.specs.On.{VolumeOn}
 use Rattle.vx_groupmaps.specs.Knowing.{MapsKnow, MapsKnowBy}
@@ -45,6 +47,15 @@ pub record Narrowed (c d : GroupCore) : Type 0 where
   pub shape : SameShape (wide d).config (wide c).config
   pub less : (w : ℕ) (log : VolumeLog) → log_trusted (wide d).config w log ≡ true → log_trusted (wide c).config w log ≡ true
   pub on : (w p : ℕ) → IsTrue (active (wide d).config w p) → IsTrue (active (wide c).config w p)
+
+-- no log is held as lost that was not, but those of volume v that are not in memory
+pub record TrustsIn (v : ℕ) (k : Logs) (c d : Config) : Type 0 where
+  pub each : (w : ℕ) (log : VolumeLog) → (w ≡ v → has_log log k ≡ true) → log_trusted c w log ≡ true → log_trusted d w log ≡ true
+
+-- of a log that is in memory no more the count of its disk rose, unless no serial is left in d to commit that it is lost
+pub record DropsBut (c d : GroupCore) (v : ℕ) (l k : Logs) (old new : Meaning) : Type 0 where
+  pub so : LogsDrop (wide c).config v l k old new ⊎ (greatest ≤ d.inner.config.serial + 9)
+  pub none : (log : VolumeLog) → has_log log k ≡ true → has_log log l ≡ true
 
 -- the plexes of volume v that are not ACTIVE
 abbrev pub are_off : GroupCore → ℕ → ℕ → Bool

@@ -1,4 +1,5 @@
 // Marks of a group that are taken off behind a flush.
+ghost use Rattle.vx_grouplogs.specs.Gone.{LogsDrop};
 ghost use Rattle.vx_group.specs.Finds.{GroupFinds};
 ghost use Rattle.std.specs.Prelude.{◌≡◌, ◌+◌, ◌<◌, ◌≤◌, false, true, IfErr, IfOk, OnOk};
 ghost use Rattle.vx_config.specs.Table.{greatest};
@@ -12,7 +13,7 @@ ghost use Rattle.vx_config.specs.Checks.{blocks_of as blocks_of_is};
 ghost use Rattle.vx_grouplogs.specs.Covering.{AllAlike};
 ghost use Rattle.vx_grouplogs.specs.Marking.{HoldsMany, MarksFewer, NoMarks};
 ghost use Rattle.vx_groupmaps.specs.Knowing.{MapsStay};
-ghost use Rattle.vx_logged.specs.Logged.{Known, LogOn, Narrowed, OthersOn};
+ghost use Rattle.vx_logged.specs.Logged.{Known, LogOn, Narrowed, OthersOn, TrustsIn};
 ghost use Rattle.vx_model.specs.Sizes.{regions_of as regions_in};
 
 use crate::keeping::keep_log;
@@ -48,6 +49,8 @@ pub fn clear_group<S: Shelf>(
     ensures below { SameUnits (S.meaning shelf.old) (S.meaning shelf.new) }
     ensures off { IfOk result (λ done. done ≡ true → HoldsMany logs.old.drl → NoMarks (regions_in (blocks_of_is (wide core.old).config.volumes vol)) logs.new) }
     ensures full { IfOk result (λ done. done ≡ false → greatest ≤ core.old.inner.config.serial + 18) }
+    ensures drops { LogsDrop (wide core.old).config vol logs.old logs.new (S.meaning shelf.old) (S.meaning shelf.new) }
+    ensures trusts { TrustsIn vol logs.new core.old.inner.config core.new.inner.config }
     ensures trust { OnOk result (core.old.inner.committed ≡ true → core.new.inner.committed ≡ true) }
     ensures agreed { IfErr result (λ e. core.old.inner.committed ≡ true → core.new.inner.agreed ≡ true) }
     ensures finds { GroupFinds core.old core.new (S.meaning shelf.old) (S.meaning shelf.new) }

@@ -6,12 +6,12 @@ ghost use Rattle.vx_disk.specs.Causes.{Cause};
 ghost use Rattle.vx_disk.specs.Shelf.{Goes, Nothing};
 ghost use Rattle.vx_group.specs.Creates.{SameUnits};
 ghost use Rattle.vx_group.specs.Holding.{GroupStands, wide};
-ghost use Rattle.vx_group.specs.Loses.{LosesAlong};
+ghost use Rattle.vx_group.specs.Loses.{LosesAlong, TrustsBut, TrustsStill};
 ghost use Rattle.vx_group.specs.Stands.{inner_meaning};
 ghost use Rattle.vx_kept.specs.LogRuns.{log_trusted};
 ghost use Rattle.vx_volume.specs.Plexes.{active};
 ghost use Rattle.vx_logged.specs.Behind.{MapSaid};
-ghost use Rattle.vx_logged.specs.Logged.{EachOn, LogKept, MapKept, Narrowed};
+ghost use Rattle.vx_logged.specs.Logged.{EachOn, LogKept, MapKept, Narrowed, TrustsIn};
 
 use vx_config::{Config, VolumeLog};
 use vx_disk::{Shelf, ShelfError};
@@ -51,6 +51,8 @@ fn keep_one<S: Shelf>(
     ensures kept { IfOk result (λ done. done ≡ true → log_trusted (wide core.new).config vol log ≡ true → has ≡ true) }
     ensures full { IfOk result (λ done. done ≡ false → greatest ≤ core.old.inner.config.serial + 9) }
     ensures spent { IfOk result (λ done. done ≡ false → greatest ≤ core.new.inner.config.serial + 9) }
+    ensures trusts { TrustsBut vol log core.old.inner.config core.new.inner.config }
+    ensures stays { has ≡ true → TrustsStill core.old.inner.config core.new.inner.config }
     ensures trust { OnOk result (core.old.inner.committed ≡ true → core.new.inner.committed ≡ true) }
     ensures agreed { IfErr result (λ e. core.old.inner.committed ≡ true → core.new.inner.agreed ≡ true) }
     ensures finds { GroupFinds core.old core.new (S.meaning shelf.old) (S.meaning shelf.new) }
@@ -89,6 +91,8 @@ pub fn keep_log<S: Shelf>(
     ensures below { SameUnits (S.meaning shelf.old) (S.meaning shelf.new) }
     ensures kept { IfOk result (λ done. done ≡ true → LogKept core.new vol logs.now) }
     ensures full { IfOk result (λ done. done ≡ false → greatest ≤ core.old.inner.config.serial + 9) }
+    ensures spent { IfOk result (λ done. done ≡ false → greatest ≤ core.new.inner.config.serial + 9) }
+    ensures trusts { TrustsIn vol logs.now core.old.inner.config core.new.inner.config }
     ensures trust { OnOk result (core.old.inner.committed ≡ true → core.new.inner.committed ≡ true) }
     ensures agreed { IfErr result (λ e. core.old.inner.committed ≡ true → core.new.inner.agreed ≡ true) }
     ensures finds { GroupFinds core.old core.new (S.meaning shelf.old) (S.meaning shelf.new) }
@@ -115,6 +119,7 @@ pub fn keep_map<S: Shelf>(
     ensures still { core.old.held ≡ None → (w p : ℕ) → active core.new.inner.config w p ≡ active core.old.inner.config w p }
     ensures kept { IfOk result (λ done. done ≡ true → MapKept core.new vol logs.now) }
     ensures spent { IfOk result (λ done. done ≡ false → greatest ≤ core.new.inner.config.serial + 9) }
+    ensures trusts { TrustsIn vol logs.now core.old.inner.config core.new.inner.config }
     ensures trust { OnOk result (core.old.inner.committed ≡ true → core.new.inner.committed ≡ true) }
     ensures agreed { IfErr result (λ e. core.old.inner.committed ≡ true → core.new.inner.agreed ≡ true) }
     ensures finds { GroupFinds core.old core.new (S.meaning shelf.old) (S.meaning shelf.new) }
@@ -141,6 +146,8 @@ pub fn keep_logs<S: Shelf>(
     ensures kept { IfOk result (λ done. done ≡ true → LogKept core.new vol logs.now) }
     ensures said { IfOk result (λ done. done ≡ true → MapSaid core.new vol logs.now) }
     ensures full { IfOk result (λ done. done ≡ false → greatest ≤ core.old.inner.config.serial + 9) }
+    ensures spent { IfOk result (λ done. done ≡ false → greatest ≤ core.new.inner.config.serial + 9) }
+    ensures trusts { TrustsIn vol logs.now core.old.inner.config core.new.inner.config }
     ensures trust { OnOk result (core.old.inner.committed ≡ true → core.new.inner.committed ≡ true) }
     ensures agreed { IfErr result (λ e. core.old.inner.committed ≡ true → core.new.inner.agreed ≡ true) }
     ensures finds { GroupFinds core.old core.new (S.meaning shelf.old) (S.meaning shelf.new) }

@@ -6,7 +6,7 @@ ghost use Rattle.vx_disk.specs.Causes.{Cause};
 ghost use Rattle.vx_disk.specs.Shelf.{Goes, Nothing};
 ghost use Rattle.vx_group.specs.Creates.{SameUnits};
 ghost use Rattle.vx_group.specs.Holding.{GroupStands, wide};
-ghost use Rattle.vx_group.specs.Loses.{LosesAlong};
+ghost use Rattle.vx_group.specs.Loses.{LosesAlong, TrustsStill};
 ghost use Rattle.vx_group.specs.Stands.{inner_meaning};
 ghost use Rattle.vx_logged.specs.Logged.{EachOn, Narrowed};
 ghost use Rattle.vx_volume.specs.Plexes.{active};
@@ -32,6 +32,8 @@ pub fn ready_group<S: Shelf>(
     ensures none { IfOk result (λ done. done ≡ true → core.new.held ≡ None) }
     ensures few { OnOk result (core.new.inner.config.serial ≤ core.old.inner.config.serial + 9) }
     ensures full { IfOk result (λ done. done ≡ false → greatest ≤ core.old.inner.config.serial) }
+    ensures spent { IfOk result (λ done. done ≡ false → greatest ≤ core.new.inner.config.serial) }
+    ensures trusts { TrustsStill core.old.inner.config core.new.inner.config }
     ensures trust { OnOk result (core.old.inner.committed ≡ true → core.new.inner.committed ≡ true) }
     ensures agreed { IfErr result (λ e. core.old.inner.committed ≡ true → core.new.inner.agreed ≡ true) }
     ensures finds { GroupFinds core.old core.new (S.meaning shelf.old) (S.meaning shelf.new) }

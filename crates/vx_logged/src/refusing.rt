@@ -1,4 +1,5 @@
 // Maps of a volume of a group behind a write that was refused.
+ghost use Rattle.vx_grouplogs.specs.Gone.{LogsDrop};
 ghost use Rattle.vx_kept.specs.Finds.{FindsFrom, NoConfiguration};
 ghost use Rattle.std.specs.Prelude.{◌≡◌, ◌+◌, ◌<◌, ◌≤◌, false, IsTrue};
 ghost use Rattle.vx_config.specs.Checks.{blocks_of as blocks_of_is};
@@ -39,6 +40,7 @@ fn miss_all<S: Shelf>(
     ensures knows { KnownBy core.now vol (or_run (first_region block) (last_region block count) none_spared) logs.old (S.meaning shelf.old) → Known core.now vol logs.new (S.meaning shelf.new) }
     ensures less { FindsFrom NoConfiguration (S.meaning shelf.old) (S.meaning shelf.new) }
     ensures notes { MapsNote all_those (first_region block) (last_region block count) logs.old logs.new }
+    ensures drops { LogsDrop (wide core.now).config vol logs.old logs.new (S.meaning shelf.old) (S.meaning shelf.new) }
 {
     match miss_run(logs, &core.inner.config, vol, shelf, block, count) {
         Ok(_) => return,
@@ -76,6 +78,8 @@ pub fn miss_refused<S: Shelf>(
     ensures knows { stopped ≡ false → KnownBy core.now vol (or_run (first_region block) (last_region block count) none_spared) logs.old (S.meaning shelf.old) → Known core.now vol logs.new (S.meaning shelf.new) }
     ensures less { FindsFrom NoConfiguration (S.meaning shelf.old) (S.meaning shelf.new) }
     ensures notes { MapsNote all_those (first_region block) (last_region block count) logs.old logs.new }
+    ensures drops { stopped ≡ false → LogsDrop (wide core.now).config vol logs.old logs.new (S.meaning shelf.old) (S.meaning shelf.new) }
+    ensures stays { stopped ≡ true → logs.new ≡ logs.old }
     ensures same { (IsTrue (S.meaning shelf.new).down → ⊥) → result ≡ error }
     ensures fell { IsTrue (S.meaning shelf.new).down → result ≡ IsDown }
 {

@@ -1,4 +1,5 @@
 // A write of a group that is marked first.
+ghost use Rattle.vx_grouplogs.specs.Gone.{LogsDrop};
 ghost use Rattle.vx_group.specs.Finds.{GroupFinds};
 ghost use Rattle.std.specs.Prelude.{◌≡◌, ◌+◌, ◌/◌, ◌≤◌, false, length, true, IfErr, OnOk};
 ghost use Rattle.vx_config.specs.Table.{greatest};
@@ -11,8 +12,8 @@ ghost use Rattle.vx_config.specs.Checks.{blocks_of as blocks_of_is};
 ghost use Rattle.vx_grouplogs.specs.Marking.{MarksOnly};
 ghost use Rattle.vx_groupmaps.specs.Knowing.{MapsNote, or_off};
 ghost use Rattle.vx_groupmaps.specs.Missing.{none_spared, or_run};
-ghost use Rattle.vx_logged.specs.Behind.{MarkedBefore, those_missing};
-ghost use Rattle.vx_logged.specs.Logged.{Known, KnownBy, LogOn, Narrowed, OthersOn, are_off};
+ghost use Rattle.vx_logged.specs.Behind.{AreKept, MarkedBefore, those_missing};
+ghost use Rattle.vx_logged.specs.Logged.{DropsBut, Known, KnownBy, LogOn, Narrowed, OthersOn, TrustsIn, are_off};
 ghost use Rattle.vx_logs.specs.Writes.{first_region, last_region};
 ghost use Rattle.vx_model.specs.Sizes.{regions_of as regions_in};
 
@@ -49,6 +50,8 @@ fn write_first<S: Shelf>(
     ensures marked { stopped.new ≡ false → MarkedBefore (λ s. S.meaning s) vol block bytes.now (first_region block) (last_region block (length bytes.now / 512)) core.old core.new (S.meaning shelf.old) (S.meaning shelf.new) }
     ensures stays { stopped.old ≡ true → stopped.new ≡ true }
     ensures full { stopped.old ≡ false → stopped.new ≡ true → greatest ≤ core.old.inner.config.serial + 18 }
+    ensures drops { LogsDrop (wide core.old).config vol logs.old logs.new (S.meaning shelf.old) (S.meaning shelf.new) }
+    ensures trusts { TrustsIn vol logs.new core.old.inner.config core.new.inner.config }
     ensures trust { OnOk result (core.old.inner.committed ≡ true → core.new.inner.committed ≡ true) }
     ensures agreed { IfErr result (λ e. core.old.inner.committed ≡ true → core.new.inner.agreed ≡ true) }
     ensures finds { GroupFinds core.old core.new (S.meaning shelf.old) (S.meaning shelf.new) }
@@ -98,6 +101,9 @@ pub fn write_marked<S: Shelf>(
     ensures marked { stopped.new ≡ false → MarkedBefore (λ s. S.meaning s) vol block bytes.now (first_region block) (last_region block (length bytes.now / 512)) core.old core.new (S.meaning shelf.old) (S.meaning shelf.new) }
     ensures stays { stopped.old ≡ true → stopped.new ≡ true }
     ensures full { stopped.old ≡ false → stopped.new ≡ true → greatest ≤ core.old.inner.config.serial + 18 }
+    ensures drops { DropsBut core.old core.new vol logs.old logs.new (S.meaning shelf.old) (S.meaning shelf.new) }
+    ensures trusts { TrustsIn vol logs.new core.old.inner.config core.new.inner.config }
+    ensures kept { stopped.new ≡ false → OnOk result (AreKept core.new vol logs.new) }
     ensures trust { OnOk result (core.old.inner.committed ≡ true → core.new.inner.committed ≡ true) }
     ensures agreed { IfErr result (λ e. core.old.inner.committed ≡ true → core.new.inner.agreed ≡ true) }
     ensures finds { GroupFinds core.old core.new (S.meaning shelf.old) (S.meaning shelf.new) }

@@ -1,5 +1,5 @@
 -- Maps of missed regions that are given up, as their disk is held as failed.
-use Rattle.std.proofs.Common.{◌≡◌, ◌∙◌, inl, inr, ℕ, ◌<◌, Bool, true, false, Option, Some, None, List, length, refl, sym, ap}
+use Rattle.std.proofs.Common.{◌≡◌, ◌∙◌, inl, inr, ℕ, ◌+◌, ◌<◌, ◌≤◌, Bool, true, false, Option, Some, None, List, length, refl, sym, ap, arith}
 use Rattle.std.proofs.Math.ListN.{set}
 use Rattle.std.proofs.lemmas.Bool.{cases_eq}
 use Rattle.std.proofs.lemmas.List.{length-set}
@@ -18,9 +18,9 @@ use Rattle.vx_groupmaps.specs.Loading.{failed_under, on_failed_disk}
 use Rattle.vx_groupmaps.specs.Missing.{none_spared}
 use Rattle.vx_logs.specs.declared.logs.Logs.{Logs}
 use Rattle.vx_maplog.specs.Logs.{log_or}
-use Rattle.vx_loggroup.specs.Attaching.{MapsHeld, fmr_at, fmr_or, map_by, map_there}
+use Rattle.vx_loggroup.specs.Attaching.{MapHeld, MapsHeld, fmr_at, fmr_or, map_by, map_there}
 use Rattle.vx_loggroup.specs.LoggedVolumes.{LoggedStands, VolumeStands, is_alike}
-use Rattle.vx_loggroup.proofs.SetLemmas.{set_each, set_here, set_other}
+use Rattle.vx_loggroup.proofs.SetLemmas.{item_at, set_each, set_here, set_other}
 
 -- such a volume is there
 pub held_there : (c : Config) (v : ℕ) → on_failed_disk c v ≡ true → v < length c.volumes
@@ -48,7 +48,7 @@ drop_stands c ls a s m v l k at same none stands = record {
 }
 
 -- nothing is given up
-pub held_same : (c : Config) (v : ℕ) (ls : List Logs) → on_failed_disk c v ≡ false → MapsHeld c v ls ls
+pub held_same : (c : Config) (v : ℕ) (ls : List Logs) → on_failed_disk c v ≡ false → MapHeld c v ls ls
 held_same c v ls off = record {
   many = refl;
   same = λ is. refl;
@@ -57,7 +57,7 @@ held_same c v ls off = record {
   others = λ w apart. refl;
 }
 
-pub held_set : (c : Config) (v : ℕ) (ls : List Logs) (l k : Logs) → slice_get ls v ≡ Some l → on_failed_disk c v ≡ true → k.drl ≡ l.drl → k.fmr ≡ None → MapsHeld c v ls (set ls v k)
+pub held_set : (c : Config) (v : ℕ) (ls : List Logs) (l k : Logs) → slice_get ls v ≡ Some l → on_failed_disk c v ≡ true → k.drl ≡ l.drl → k.fmr ≡ None → MapHeld c v ls (set ls v k)
 held_set c v ls l k at on same none = record {
   many = length-set ls v k;
   same = λ off. absurd (let clash : true ≡ false = sym on ∙ off in cc);
@@ -83,13 +83,56 @@ held_set c v ls l k at on same none = record {
         let old : l ≡ x = cc in
         ap (λ (z : Logs). z.drl) (sym new) ∙ same ∙ ap (λ (z : Logs). z.drl) old
 
+-- ---- of each volume
+
+-- those of the first volumes were, and the others are as they were
+pub record HeldSoFar (c : GroupCore) (a : List Bool) (s : Bool) (ls0 : List Logs) (m : Meaning) (n : ℕ) (ls : List Logs) : Type 0 where
+  pub stands : LoggedStands c ls a s m
+  pub many : length ls ≡ length ls0
+  pub same : (w : ℕ) → on_failed_disk c.inner.config w ≡ false → slice_get ls w ≡ slice_get ls0 w
+  pub gone : (w : ℕ) → w < n → on_failed_disk c.inner.config w ≡ true → fmr_at ls w ≡ None
+  pub drl : (w : ℕ) (l k : Logs) → slice_get ls0 w ≡ Some l → slice_get ls w ≡ Some k → k.drl ≡ l.drl
+
+same_drls : (o : Option Logs) (l k : Logs) → o ≡ Some l → o ≡ Some k → k.drl ≡ l.drl
+same_drls o l k one two = let both : Some l ≡ Some k = sym one ∙ two in let is : l ≡ k = cc in ap (λ (x : Logs). x.drl) (sym is)
+
+pub none_held : (c : GroupCore) (a : List Bool) (s : Bool) (ls : List Logs) (m : Meaning) → LoggedStands c ls a s m → HeldSoFar c a s ls m 0 ls
+none_held c a s ls m stands = record { stands = stands; many = refl; same = λ w off. refl; gone = λ w lt is. absurd (omega (arith, lt)); drl = λ w l k was now. same_drls (slice_get ls w) l k was now }
+
+module _ (c : GroupCore) (a : List Bool) (s : Bool) (ls0 : List Logs) (m : Meaning) (n : ℕ) (ls : List Logs) (was : HeldSoFar c a s ls0 m n ls) where
+  pub one_held : (ls' : List Logs) → LoggedStands c ls' a s m → MapHeld c.inner.config n ls ls' → HeldSoFar c a s ls0 m (n + 1) ls'
+  one_held ls' stands held = record {
+    stands = stands;
+    many = held.many ∙ was.many;
+    same = λ w off. elim (cases_eq w n) [
+      | inl is ↦ ap (λ (x : List Logs). slice_get x w) (held.same (sym (ap (on_failed_disk c.inner.config) is) ∙ off)) ∙ was.same w off
+      | inr apart ↦ held.others w apart ∙ was.same w off
+    ];
+    gone = λ w lt on. elim (cases_eq w n) [
+      | inl is ↦ ap (fmr_at ls') is ∙ held.gone (sym (ap (on_failed_disk c.inner.config) is) ∙ on)
+      | inr apart ↦ ap fmr_or (held.others w apart) ∙ was.gone w (omega (arith, lt, apart)) on
+    ];
+    drl = λ w l k old now.
+        let low = slice_get_within ls0 w l old in
+        let middle = item_at ls w (let long = was.many in omega (arith, low, long)) in
+        held.drl w middle.0 k middle.1 now ∙ was.drl w l middle.0 old middle.1;
+  }
+
+  pub all_held : length ls ≤ n → MapsHeld c.inner.config ls0 ls
+  all_held le = record {
+    many = was.many;
+    same = was.same;
+    gone = λ w on. let lt = held_there c.inner.config w on in let many = was.stands.many in was.gone w (omega (arith, le, lt, many)) on;
+    drl = was.drl;
+  }
+
 -- what is gone by
-pub by_held : (c : Config) (v p : ℕ) (s down : Bool) (old new : List Logs) → MapsHeld c v old new → map_there new c s down v p ≡ map_by old c s down v p
+pub by_held : (c : Config) (v p : ℕ) (s down : Bool) (old new : List Logs) → MapsHeld c old new → map_there new c s down v p ≡ map_by old c s down v p
 by_held c v p s down old new held = by s down (nat_le (plexes_of c v) p) (on_failed_disk c v) refl
   where
     by : (st dn few bad : Bool) → on_failed_disk c v ≡ bad → (if st then None else (if dn then None else (if few then None else fmr_at new v))) ≡ (if st then None else (if dn then None else (if few then None else (if bad then None else fmr_at old v))))
     by true dn few bad is = refl
     by false true few bad is = refl
     by false false true bad is = refl
-    by false false false true is = held.gone is
-    by false false false false is = ap (λ (ls : List Logs). fmr_at ls v) (held.same is)
+    by false false false true is = held.gone v is
+    by false false false false is = ap fmr_or (held.same v is)

@@ -23,9 +23,16 @@ abbrev pub map_by : List Logs → Config → Bool → Bool → ℕ → ℕ → O
 map_by logs c stopped down v p = if stopped then None else (if down then None else (if nat_le (plexes_of c v) p then None else (if on_failed_disk c v then None else fmr_at logs v)))
 
 -- The maps of volume v are in memory no more where their disk is held as failed; else all logs are as they were.
-pub record MapsHeld (c : Config) (v : ℕ) (old new : List Logs) : Type 0 where
+pub record MapHeld (c : Config) (v : ℕ) (old new : List Logs) : Type 0 where
   pub many : length new ≡ length old
   pub same : on_failed_disk c v ≡ false → new ≡ old
   pub gone : on_failed_disk c v ≡ true → fmr_at new v ≡ None
   pub drl : (w : ℕ) (l k : Logs) → slice_get old w ≡ Some l → slice_get new w ≡ Some k → k.drl ≡ l.drl
   pub others : (w : ℕ) → (w ≡ v → ⊥) → slice_get new w ≡ slice_get old w
+
+-- so it is of each volume
+pub record MapsHeld (c : Config) (old new : List Logs) : Type 0 where
+  pub many : length new ≡ length old
+  pub same : (w : ℕ) → on_failed_disk c w ≡ false → slice_get new w ≡ slice_get old w
+  pub gone : (w : ℕ) → on_failed_disk c w ≡ true → fmr_at new w ≡ None
+  pub drl : (w : ℕ) (l k : Logs) → slice_get old w ≡ Some l → slice_get new w ≡ Some k → k.drl ≡ l.drl

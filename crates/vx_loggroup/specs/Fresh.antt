@@ -6,7 +6,7 @@ use Rattle.vx_fmr.specs.Missed.{Missed}
 use Rattle.vx_group.specs.Finds.{GroupFinds}
 use Rattle.vx_group.specs.Creates.{SameUnits}
 use Rattle.vx_group.specs.Holding.{wide}
-use Rattle.vx_group.specs.Loses.{LosesAlong}
+use Rattle.vx_group.specs.Loses.{LosesAlong, TrustsStill}
 use Rattle.vx_group.specs.Stands.{inner_meaning}
 use Rattle.vx_group.specs.declared.group_core.GroupCore.{GroupCore}
 use Rattle.vx_grouplogs.specs.Covering.{AllAlike}
@@ -41,3 +41,4 @@ pub record LogsStart (v : ℕ) (c d : GroupCore) (old new : Meaning) : Type 0 wh
   pub on : (w p : ℕ) → IsTrue (active (wide d).config w p) → IsTrue (active (wide c).config w p)
   pub units : SameUnits old new
   pub others : OthersOn v c d old new
+  pub trusts : TrustsStill c.inner.config d.inner.config

@@ -8,3 +8,4 @@ pub mod Taking
 pub mod Fresh
 pub mod Resting
 pub mod Mirrors
+pub mod Keeping

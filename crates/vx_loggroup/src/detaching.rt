@@ -1,4 +1,5 @@
 // A plex of a group with logs that is detached, and whose map begins then.
+ghost use Rattle.vx_loggroup.specs.Keeping.{LogsKeep, logs_at};
 ghost use Rattle.vx_kept.specs.Finds.{FindsFrom, NoConfiguration};
 ghost use Rattle.vx_group.specs.Finds.{GroupFinds};
 ghost use Rattle.std.specs.Prelude.{◌≡◌, ◌<◌, ◌≤◌, ℕ, Err, false, IfErr, IsTrue, None, OnOk, Some, length, true};
@@ -13,7 +14,7 @@ ghost use Rattle.vx_kept.specs.Keeping.{frame_at};
 ghost use Rattle.vx_loggroup.specs.Attaching.{fmr_at};
 ghost use Rattle.vx_group.specs.Stands.{inner_meaning};
 ghost use Rattle.vx_groupmaps.specs.Missing.{OnMaps};
-ghost use Rattle.vx_logged.specs.Logged.{Known, LogOn, OthersOn};
+ghost use Rattle.vx_logged.specs.Logged.{Known, LogOn, OthersOn, TrustsIn};
 ghost use Rattle.vx_loggroup.specs.Detaching.{LogsBegin, MapIsEmpty, MapsBegin, ReadsAlike};
 ghost use Rattle.vx_loggroup.specs.LoggedVolumes.{LoggedStands, is_alike as is_alike_is};
 ghost use Rattle.vx_model.specs.declared.limits.TheConstants.{MOST_VOLUMES};
@@ -115,6 +116,7 @@ fn keep_begun<S: Shelf>(
     ensures rises { (u : ℕ) → (S.meaning shelf.old).faults u ≤ (S.meaning shelf.new).faults u }
     ensures still { (w p : ℕ) → active core.new.inner.config w p ≡ active core.old.inner.config w p }
     ensures below { SameUnits (S.meaning shelf.old) (S.meaning shelf.new) }
+    ensures trusts { TrustsIn vol (logs_at logs.now.items vol) core.old.inner.config core.new.inner.config }
     ensures trust { OnOk result (core.old.inner.committed ≡ true → core.new.inner.committed ≡ true) }
     ensures agreed { IfErr result (λ e. core.old.inner.committed ≡ true → core.new.inner.agreed ≡ true) }
     ensures finds { GroupFinds core.old core.new (S.meaning shelf.old) (S.meaning shelf.new) }
@@ -180,6 +182,7 @@ pub fn det_whole<S: Shelf>(
     ensures off { OnOk result (active core.new.inner.config vol plex ≡ false) }
     ensures others { (w p : ℕ) → (w ≡ vol → p ≡ plex → ⊥) → active core.new.inner.config w p ≡ active core.old.inner.config w p }
     ensures maps { MapsBegin vol plex logs.old.items logs.new.items }
+    ensures keeps { LogsKeep core.old core.new logs.old.items logs.new.items (S.meaning shelf.old) (S.meaning shelf.new) }
     ensures trust { OnOk result (core.old.inner.committed ≡ true → core.new.inner.committed ≡ true) }
     ensures agreed { IfErr result (λ e. core.old.inner.committed ≡ true → core.new.inner.agreed ≡ true) }
     ensures finds { GroupFinds core.old core.new (S.meaning shelf.old) (S.meaning shelf.new) }

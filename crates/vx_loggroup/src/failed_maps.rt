@@ -1,4 +1,5 @@
 // Maps of missed regions on a disk that is held as failed, by which no plex is attached.
+ghost use Rattle.vx_loggroup.specs.Keeping.{LogsKeep};
 ghost use Rattle.std.specs.Prelude.{◌≡◌, ◌<◌, IfOk, IsTrue, None, Ok, OnOk, Some, Err, false, length, true};
 ghost use Rattle.vx_group.specs.Attaches.{GroupAttachEnds, att_refusal, missed_regions};
 ghost use Rattle.vx_group.specs.Calls.{GroupAttaches};
@@ -7,7 +8,7 @@ ghost use Rattle.vx_group.specs.Finds.{CoreFinds};
 ghost use Rattle.vx_group.specs.Holding.{wide};
 ghost use Rattle.vx_group.specs.Regains.{HoldsPlex, Regains};
 ghost use Rattle.vx_groupmaps.specs.Loading.{on_failed_disk};
-ghost use Rattle.vx_loggroup.specs.Attaching.{MapsHeld, map_by};
+ghost use Rattle.vx_loggroup.specs.Attaching.{MapHeld, MapsHeld, map_by};
 ghost use Rattle.vx_loggroup.specs.LoggedVolumes.{LoggedStands};
 ghost use Rattle.vx_model.specs.declared.errors.Stop.TheVariants.{No as Refused};
 ghost use Rattle.vx_model.specs.declared.no.No.{No as NoValue};
@@ -54,7 +55,7 @@ fn give_up<S: Shelf>(
 )
     requires stands { LoggedStands core.now logs.old.items alike.now stopped (S.meaning shelf.now) }
     ensures stands { LoggedStands core.now logs.new.items alike.now stopped (S.meaning shelf.now) }
-    ensures held { MapsHeld core.now.inner.config vol logs.old.items logs.new.items }
+    ensures held { MapHeld core.now.inner.config vol logs.old.items logs.new.items }
 {
     // The volumes stand as they did.
     let _kept = (shelf.is_down(), alike.len(), stopped);
@@ -64,9 +65,26 @@ fn give_up<S: Shelf>(
     drop_maps(&mut logs[vol as usize]);
 }
 
+// The same of each volume.
+fn give_up_all<S: Shelf>(
+    shelf: &S,
+    core: &GroupCore,
+    logs: &mut Vec<Logs>,
+    alike: &[bool; MOST_VOLUMES],
+    stopped: bool,
+)
+    requires stands { LoggedStands core.now logs.old.items alike.now stopped (S.meaning shelf.now) }
+    ensures stands { LoggedStands core.now logs.new.items alike.now stopped (S.meaning shelf.now) }
+    ensures held { MapsHeld core.now.inner.config logs.old.items logs.new.items }
+{
+    for vol in 0..logs.len() {
+        give_up(shelf, core, logs, alike, stopped, vol as u32);
+    }
+}
+
 /// Attaches a plex, as a group does without logs, and answers how many regions were copied: those that it has missed by its map, or all of the
-/// volume where no map is in memory, or where its disk is held as failed; then the maps of the volume are in memory no more. It writes blocks of
-/// these regions of the plex alone, and no map changes.
+/// volume where no map is in memory, or where its disk is held as failed; all maps on such disks are in memory no more, as the attach may hold one as
+/// good again. It writes blocks of these regions of the plex alone, and no map changes.
 pub fn att_held<S: Shelf>(
     shelf: &mut S,
     core: &mut GroupCore,
@@ -85,12 +103,13 @@ pub fn att_held<S: Shelf>(
     ensures ends { active core.old.inner.config vol plex ≡ false → GroupAttachEnds vol plex core.new.inner.config (S.meaning shelf.new) result }
     ensures regains { Regains core.old.inner.config core.new.inner.config vol plex (S.meaning shelf.old) (S.meaning shelf.new) }
     ensures held { active core.old.inner.config vol plex ≡ false → OnOk result (HoldsPlex (λ s. S.meaning s) core.old.inner.config core.new.inner.config vol plex shelf.new) }
-    ensures maps { MapsHeld core.old.inner.config vol logs.old.items logs.new.items }
+    ensures maps { MapsHeld core.old.inner.config logs.old.items logs.new.items }
+    ensures keeps { LogsKeep core.old core.new logs.old.items logs.new.items (S.meaning shelf.old) (S.meaning shelf.new) }
     ensures trust { OnOk result (core.old.inner.committed ≡ true → core.new.inner.committed ≡ true) }
     ensures finds { CoreFinds (wide core.old) (wide core.new) (S.meaning shelf.old) (S.meaning shelf.new) }
     ensures free { OnOk result (core.old.held ≡ None → core.new.held ≡ None) }
     ensures cause { att_refusal core.old.inner.config vol plex ≡ None → DetStops (S.meaning shelf.old) (S.meaning shelf.new) result }
 {
-    give_up(shelf, core, logs, alike, stopped, vol);
+    give_up_all(shelf, core, logs, alike, stopped);
     att_whole(shelf, core, logs, alike, stopped, vol, plex)
 }

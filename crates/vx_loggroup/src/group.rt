@@ -1,4 +1,5 @@
 // A group that keeps the dirty region logs of its volumes.
+ghost use Rattle.vx_loggroup.specs.Keeping.{LogsKeep};
 ghost use Rattle.vx_group.specs.Finds.{BackFinds, CoreFinds, GroupFinds};
 ghost use Rattle.std.specs.Prelude.{◌≡◌, ◌≢◌, ◌⊎◌, ◌-◌, ◌<◌, ◌≤◌, ℕ, Err, IfErr, IfOk, IfSome, IsTrue, List, None, Ok, OnOk, Some, true, false};
 ghost use Rattle.vx_config.specs.Table.{greatest};
@@ -161,6 +162,7 @@ impl<S: Shelf> LoggedGroup<S> {
         ensures held { OnOk result (self.new.core.held ≡ None) }
         ensures up { OnOk result (IsTrue (S.meaning self.new.shelf).down → ⊥) }
         ensures newest { OnOk result (IsCommitted self.new.core.inner.config (S.meaning self.new.shelf)) }
+        ensures keeps { LogsKeep self.old.core self.new.core self.old.logs.items self.new.logs.items (S.meaning self.old.shelf) (S.meaning self.new.shelf) }
         ensures trust { OnOk result (self.old.core.inner.committed ≡ true → self.new.core.inner.committed ≡ true) }
         ensures whole { OnOk result ((self.new.core.inner.committed ≡ true) ⊎ HasFailed self.new.core.inner.config.disks) }
         ensures agreed { IfErr result (λ e. self.old.core.inner.committed ≡ true → self.new.core.inner.agreed ≡ true) }
@@ -196,6 +198,7 @@ impl<S: Shelf> LoggedGroup<S> {
         ensures others { (w p : ℕ) → (w ≡ vol → p ≡ plex → ⊥) → active self.new.core.inner.config w p ≡ active self.old.core.inner.config w p }
         ensures mirrors { MirrorsKeep (names_plex vol plex) self.old.core self.new.core (S.meaning self.old.shelf) (S.meaning self.new.shelf) }
         ensures maps { (ls : List LogsValue) × LogsFirst vol (region_count (wide self.old.core).config vol) self.old.logs.items ls × MapsBegin vol plex ls self.new.logs.items }
+        ensures keeps { LogsKeep self.old.core self.new.core self.old.logs.items self.new.logs.items (S.meaning self.old.shelf) (S.meaning self.new.shelf) }
         ensures trust { OnOk result (self.old.core.inner.committed ≡ true → self.new.core.inner.committed ≡ true) }
         ensures agreed { IfErr result (λ e. self.old.core.inner.committed ≡ true → self.new.core.inner.agreed ≡ true) }
         ensures finds { GroupFinds self.old.core self.new.core (S.meaning self.old.shelf) (S.meaning self.new.shelf) }
@@ -225,7 +228,8 @@ impl<S: Shelf> LoggedGroup<S> {
         ensures regains { Regains self.old.core.inner.config self.new.core.inner.config vol plex (S.meaning self.old.shelf) (S.meaning self.new.shelf) }
         ensures held { active self.old.core.inner.config vol plex ≡ false → OnOk result (HoldsPlex (λ s. S.meaning s) self.old.core.inner.config self.new.core.inner.config vol plex self.new.shelf) }
         ensures mirrors { MirrorsKeep (names_plex vol plex) self.old.core self.new.core (S.meaning self.old.shelf) (S.meaning self.new.shelf) }
-        ensures logs { MapsHeld self.old.core.inner.config vol self.old.logs.items self.new.logs.items }
+        ensures logs { MapsHeld self.old.core.inner.config self.old.logs.items self.new.logs.items }
+        ensures keeps { LogsKeep self.old.core self.new.core self.old.logs.items self.new.logs.items (S.meaning self.old.shelf) (S.meaning self.new.shelf) }
         ensures trust { OnOk result (self.old.core.inner.committed ≡ true → self.new.core.inner.committed ≡ true) }
         ensures finds { CoreFinds (wide self.old.core) (wide self.new.core) (S.meaning self.old.shelf) (S.meaning self.new.shelf) }
         ensures free { OnOk result (self.old.core.held ≡ None → self.new.core.held ≡ None) }

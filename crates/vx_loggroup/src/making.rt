@@ -1,4 +1,5 @@
 // A volume of a group with logs that is made.
+ghost use Rattle.vx_loggroup.specs.Keeping.{LogsKeep};
 ghost use Rattle.vx_group.specs.Finds.{GroupFinds};
 ghost use Rattle.std.specs.Prelude.{◌≡◌, ◌⊎◌, ◌<◌, ℕ, true, IfErr, IfSome, IsTrue, None, OnOk, Some, Err};
 ghost use Rattle.vx_copies.specs.Commits.{MoreFailed};
@@ -51,6 +52,7 @@ pub fn make_fresh<S: Shelf>(
     ensures held { OnOk result (core.new.held ≡ None) }
     ensures up { OnOk result (IsTrue (S.meaning shelf.new).down → ⊥) }
     ensures newest { OnOk result (IsCommitted core.new.inner.config (S.meaning shelf.new)) }
+    ensures keeps { LogsKeep core.old core.new logs.old.items logs.new.items (S.meaning shelf.old) (S.meaning shelf.new) }
     ensures trust { OnOk result (core.old.inner.committed ≡ true → core.new.inner.committed ≡ true) }
     ensures whole { OnOk result ((core.new.inner.committed ≡ true) ⊎ HasFailed core.new.inner.config.disks) }
     ensures agreed { IfErr result (λ e. core.old.inner.committed ≡ true → core.new.inner.agreed ≡ true) }

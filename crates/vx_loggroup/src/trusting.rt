@@ -5,7 +5,7 @@ ghost use Rattle.vx_config.specs.Changes.{lost as lost_is};
 ghost use Rattle.vx_disk.specs.Causes.{Cause};
 ghost use Rattle.vx_disk.specs.Shelf.{Goes, Nothing};
 ghost use Rattle.vx_group.specs.Holding.{GroupStands, wide};
-ghost use Rattle.vx_group.specs.Loses.{LosesAlong};
+ghost use Rattle.vx_group.specs.Loses.{LosesAlong, TrustsStill};
 ghost use Rattle.vx_group.specs.Stands.{inner_meaning};
 ghost use Rattle.vx_kept.specs.PlexActs.{PlexActs};
 ghost use Rattle.vx_volume.specs.Plexes.{active};
@@ -32,6 +32,7 @@ pub fn trust_first<S: Shelf>(
     ensures loses { LosesAlong core.old.inner.config core.new.inner.config (S.meaning shelf.old) (S.meaning shelf.new) }
     ensures still { (w p : ℕ) → active core.new.inner.config w p ≡ active core.old.inner.config w p }
     ensures few { OnOk result (core.new.inner.config.serial ≤ core.old.inner.config.serial + 9) }
+    ensures trusts { TrustsStill core.old.inner.config core.new.inner.config }
     ensures trust { OnOk result (core.old.inner.committed ≡ true → core.new.inner.committed ≡ true) }
     ensures agreed { IfErr result (λ e. core.old.inner.committed ≡ true → core.new.inner.agreed ≡ true) }
     ensures finds { GroupFinds core.old core.new (S.meaning shelf.old) (S.meaning shelf.new) }

@@ -1,4 +1,5 @@
 // Calls on a volume of a group with logs, and what they leave of all volumes.
+ghost use Rattle.vx_loggroup.specs.Keeping.{LogsKeep, LogsKept};
 ghost use Rattle.vx_group.specs.Finds.{GroupFinds};
 ghost use Rattle.std.specs.Prelude.{◌≡◌, ◌+◌, ◌/◌, ◌<◌, ◌≤◌, false, length, true, IfErr, OnOk};
 ghost use Rattle.vx_config.specs.Table.{greatest};
@@ -38,6 +39,8 @@ pub fn write_whole<S: Shelf>(
     ensures goes { Goes (Written vol block bytes.now) (inner_meaning (wide core.old) (S.meaning shelf.old)) (inner_meaning (wide core.new) (S.meaning shelf.new)) }
     ensures loses { LosesAlong core.old.inner.config core.new.inner.config (S.meaning shelf.old) (S.meaning shelf.new) }
     ensures ok { OnOk result (Wrote vol block bytes.now (inner_meaning (wide core.old) (S.meaning shelf.old)) (inner_meaning (wide core.new) (S.meaning shelf.new))) }
+    ensures keeps { LogsKeep core.old core.new logs.old.items logs.new.items (S.meaning shelf.old) (S.meaning shelf.new) }
+    ensures kept { stopped.new ≡ false → OnOk result (LogsKept core.new logs.new.items vol) }
     ensures finds { GroupFinds core.old core.new (S.meaning shelf.old) (S.meaning shelf.new) }
     ensures marks { MarksVolume (wide core.old).config vol (first_region block) (last_region block (length bytes.now / 512)) logs.old.items logs.new.items }
     ensures notes { NotesMaps (those_missing core.new vol result) vol (first_region block) (last_region block (length bytes.now / 512)) logs.old.items logs.new.items }
@@ -79,6 +82,7 @@ pub fn flush_whole<S: Shelf>(
     ensures goes { Goes Nothing (inner_meaning (wide core.old) (S.meaning shelf.old)) (inner_meaning (wide core.new) (S.meaning shelf.new)) }
     ensures loses { LosesAlong core.old.inner.config core.new.inner.config (S.meaning shelf.old) (S.meaning shelf.new) }
     ensures ok { OnOk result (Flushed vol (inner_meaning (wide core.old) (S.meaning shelf.old)) (inner_meaning (wide core.new) (S.meaning shelf.new))) }
+    ensures keeps { LogsKeep core.old core.new logs.old.items logs.new.items (S.meaning shelf.old) (S.meaning shelf.new) }
     ensures finds { GroupFinds core.old core.new (S.meaning shelf.old) (S.meaning shelf.new) }
     ensures marks { ClearsVolume (wide core.old).config vol logs.old.items logs.new.items }
     ensures maps { NotesMaps none_missing vol 0 0 logs.old.items logs.new.items }

@@ -8,17 +8,17 @@ use Rattle.vx_loggroup.proofs.HeldMaps.{by_held}
 use Rattle.vx_loggroup.proofs.failed_maps.att_held.Goals as goal
 
 pub att_whole-requires : goal.att_whole-requires
-att_whole-requires g c = record { stands = c.give_up.ensures.stands }
+att_whole-requires g c = record { stands = c.give_up_all.ensures.stands }
 
 pub returns-clause-count : goal.returns-clause-count
 returns-clause-count g c = λ off.
     same_count _ _ c.att_whole.result (c.att_whole.ensures.count off)
-    (ap (λ (o : Option Missed). missed_regions c.args.core.now.inner.config c.args.vol c.args.plex o) (by_held c.args.core.now.inner.config c.args.vol c.args.plex c.args.stopped (g.S.Shelf.meaning c.args.shelf.now).down c.args.logs.now.items c.give_up.new.logs.items c.give_up.ensures.held))
+    (ap (λ (o : Option Missed). missed_regions c.args.core.now.inner.config c.args.vol c.args.plex o) (by_held c.args.core.now.inner.config c.args.vol c.args.plex c.args.stopped (g.S.Shelf.meaning c.args.shelf.now).down c.args.logs.now.items c.give_up_all.new.logs.items c.give_up_all.ensures.held))
 
 pub returns-clause-attaches : goal.returns-clause-attaches
 returns-clause-attaches g c =
     subst (λ (o : Option Missed). GroupAttaches c.args.vol c.args.plex o c.args.core.now c.att_whole.new.core (g.S.Shelf.meaning c.args.shelf.now) (g.S.Shelf.meaning c.att_whole.new.shelf))
-    (by_held c.args.core.now.inner.config c.args.vol c.args.plex c.args.stopped (g.S.Shelf.meaning c.args.shelf.now).down c.args.logs.now.items c.give_up.new.logs.items c.give_up.ensures.held) c.att_whole.ensures.attaches
+    (by_held c.args.core.now.inner.config c.args.vol c.args.plex c.args.stopped (g.S.Shelf.meaning c.args.shelf.now).down c.args.logs.now.items c.give_up_all.new.logs.items c.give_up_all.ensures.held) c.att_whole.ensures.attaches
 
 pub returns-clause-maps : goal.returns-clause-maps
-returns-clause-maps g c = c.give_up.ensures.held
+returns-clause-maps g c = c.give_up_all.ensures.held
