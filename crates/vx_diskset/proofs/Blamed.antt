@@ -25,6 +25,7 @@ use Rattle.vx_ringio.specs.Spends.{Spends, Spent}
 use Rattle.vx_diskset.specs.Stands.{IsReceiverAt, IsUpAt, SiteStands}
 use Rattle.vx_diskset.specs.declared.disk_set.DiskSet.{DiskSet}
 use Rattle.vx_diskset.specs.declared.disk_set.DiskSet.TheVariants.{Up, Receives}
+use Rattle.vx_diskset.proofs.RawSets.{up_there, receiver_there}
 
 -- a rack tells its disks
 pub disks_are : (m : Meaning) → IsRack m → IsSome m.disks
@@ -92,11 +93,11 @@ module _ {R : Type 0} {g : Ghosts R} where
   -- of a site that is up, and of one that receives
   pub blamed_up : {T : Type 0} (r : Result T No) (beside : KeptBeside) (n : Node) (e : DiskSet R g) (rvg : Rvg R g) → e ≡ Up rvg → SiteStands beside n e → IsRack (g.meaning rvg.shelf) → IfErr r (λ why. BlamesRack (g.meaning rvg.shelf).disks rvg.core.units why) → IfErr r (λ why. BlamesSite n why)
   blamed_up r beside n e rvg is stands rack blames =
-      let up : IsUpAt beside n rvg.core (g.meaning rvg.shelf) = subst (λ (x : DiskSet R g). SiteStands beside n x) is stands in
+      let up : IsUpAt beside n rvg.core (g.meaning rvg.shelf) = (up_there beside n e rvg is stands).1 in
       all_site_blamed r n rvg.core.units up.units (rack_blamed r (g.meaning rvg.shelf) rvg.core.units rack blames)
 
   pub blamed_receiver : {T : Type 0} (r : Result T No) (beside : KeptBeside) (n : Node) (e : DiskSet R g) (s : Secondary R g) → e ≡ Receives s → SiteStands beside n e → IsRack (g.meaning s.rvg.shelf)
       → IfErr r (λ why. BlamesRack (g.meaning s.rvg.shelf).disks s.rvg.core.units why) → IfErr r (λ why. BlamesSite n why)
   blamed_receiver r beside n e s is stands rack blames =
-      let at : IsReceiverAt beside n s.rvg.core s.waiting (g.meaning s.rvg.shelf) = subst (λ (x : DiskSet R g). SiteStands beside n x) is stands in
+      let at : IsReceiverAt beside n s.rvg.core s.waiting (g.meaning s.rvg.shelf) = (receiver_there beside n e s is stands).1 in
       all_site_blamed r n s.rvg.core.units at.units (rack_blamed r (g.meaning s.rvg.shelf) s.rvg.core.units rack blames)

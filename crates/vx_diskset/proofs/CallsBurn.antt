@@ -32,6 +32,7 @@ use Rattle.vx_diskset.specs.Stands.{IsUpAt, SiteStands}
 use Rattle.vx_diskset.specs.declared.disk_set.DiskSet.{DiskSet}
 use Rattle.vx_diskset.specs.declared.disk_set.DiskSet.TheVariants.{Up}
 use Rattle.vx_diskset.proofs.StaysUp.{never_both}
+use Rattle.vx_diskset.proofs.RawSets.{up_there}
 
 -- ---- a shelf that is up behind a call of its group was not found down
 
@@ -271,7 +272,7 @@ module _ {R : Type 0} {g : Ghosts R} where
       → (IsFalse (g.meaning there.shelf).down → blocks_in bytes < free_of there.core.log → BodyFits there.core.log bytes → r ≡ Err IsDown → RackIsShort 4 (g.meaning there.shelf).disks) → CutsShort bytes (said_by r) e
   cuts_up beside n e there bytes r at stands cuts = record {
     short = λ rvg is hand fits said.
-        let up : IsUpAt beside n there.core (g.meaning there.shelf) = subst (λ (x : DiskSet R g). SiteStands beside n x) at stands in
+        let up : IsUpAt beside n there.core (g.meaning there.shelf) = (up_there beside n e there at stands).1 in
         let same : there ≡ rvg = up_same rvg there (sym at ∙ is) in
         subst (λ (k : Rvg R g). RackIsShort 4 (g.meaning k.shelf).disks) same
         (cuts up.up (subst (λ (k : Rvg R g). blocks_in bytes < free_of k.core.log) (sym same) hand) (subst (λ (k : Rvg R g). BodyFits k.core.log bytes) (sym same) fits) (off_result r said));
@@ -314,5 +315,4 @@ module _ {R : Type 0} {g : Ghosts R} where
   -- a call on the group of a site that is up
   pub called_up : (P : Disks → Disks → Type 0) (said : Said) (beside : KeptBeside) (n : Node) (e after : DiskSet R g) (rvg : Rvg R g) → e ≡ Up rvg → SiteStands beside n e → (IsUpAt beside n rvg.core (g.meaning rvg.shelf) → LeavesFuse P said (Up rvg) after) → LeavesFuse P said e after
   called_up P said beside n e after rvg is stands called =
-      let up : IsUpAt beside n rvg.core (g.meaning rvg.shelf) = subst (λ (x : DiskSet R g). SiteStands beside n x) is stands in
-      subst (λ (x : DiskSet R g). LeavesFuse P said x after) (sym is) (called up)
+      subst (λ (x : DiskSet R g). LeavesFuse P said x after) (sym is) (called (up_there beside n e rvg is stands).1)

@@ -36,7 +36,7 @@ use Rattle.vx_diskset.specs.Keeps.{CanKeep, KeptAt, KeptUp, doubting, kept_anew,
 use Rattle.vx_diskset.specs.Lasts.{StandsHolding}
 use Rattle.vx_diskset.specs.Layouts.{LiesOn}
 use Rattle.vx_diskset.specs.Needs.{NoneNeeds, hold_of, is_needing}
-use Rattle.vx_diskset.specs.Stands.{CutAt, IsHeldAt, IsUpAt}
+use Rattle.vx_diskset.specs.Stands.{CutAt, IsHeldAt, IsUpAt, IsRawSite}
 use Rattle.vx_diskset.specs.Shelves.{KeptAs}
 use Rattle.vx_diskset.proofs.Blamed.{disks_are}
 use Rattle.vx_diskset.proofs.BesideLemmas.{never_besides, site_sure}
@@ -45,6 +45,7 @@ use Rattle.vx_diskset.proofs.LogDisks.{log_disk}
 use Rattle.vx_diskset.proofs.LastWrites.{stands_with}
 use Rattle.vx_diskset.proofs.NeedLemmas.{takes_same}
 use Rattle.vx_diskset.proofs.StaysUp.{found_below, fuse_moved, fused_by, kept_whole, left_moved, never_both, told_now, up_found, writes_found}
+use Rattle.vx_diskset.proofs.RawSets.{raw_sure, raw_doubting}
 
 -- an image with the site's writes has them of one that is halted, whose log may have one header more
 has_halted : {beside : KeptBeside} (n : Node) (s : State) (disk : ℕ) (i : Image) → HasWrites beside n i → HasWrites (doubting beside n s disk) (halted_at n disk) i
@@ -235,12 +236,12 @@ module _ {beside : KeptBeside} (n : Node) (c c' : Core) (m new : Meaning) (s : S
         (subst (λ (h : Option ℕ). IsSome (halted_or h (if leb most_number c.log.header.stamp then Some no_number else None)) → new ≡ m) runs unchanged) rests blames
 
 module _ {R : Type 0} {g : Ghosts R} where
-  pub kept_at : (beside : KeptBeside) (n : Node) (s : State) (old new : Rvg R g) (result : Result (Unit {0}) No) → IsRack (g.meaning old.shelf) → KeptAs beside n s (g.meaning old.shelf) new.core (g.meaning new.shelf) result → KeptUp beside n s (Up old) (Up new) result
-  kept_at beside n s old new (Ok done) rack is = is
-  kept_at beside n s old new (Err (Device disk)) rack is = (is.0, is.1, is.2 (λ none. disks_are (g.meaning old.shelf) rack))
-  kept_at beside n s old new (Err (Limit what most)) rack is = is
-  kept_at beside n s old new (Err IsOff) rack is = is
-  kept_at beside n s old new (Err other) rack is = is
+  pub kept_at : (beside : KeptBeside) (n : Node) (s : State) (old new : Rvg R g) (result : Result (Unit {0}) No) → IsRawSite beside n → IsRack (g.meaning old.shelf) → KeptAs beside n s (g.meaning old.shelf) new.core (g.meaning new.shelf) result → KeptUp beside n s (Up old) (Up new) result
+  kept_at beside n s old new (Ok done) raw rack is = (raw_sure (kept_anew beside n s) (worked (restated n s)) raw.0, is)
+  kept_at beside n s old new (Err (Device disk)) raw rack is = ((raw_doubting beside n s disk raw.0, is.0), is.1, is.2 (λ none. disks_are (g.meaning old.shelf) rack))
+  kept_at beside n s old new (Err (Limit what most)) raw rack is = (is.0, is.1, (raw, is.2))
+  kept_at beside n s old new (Err IsOff) raw rack is = (is.0, (raw_doubting beside n s 0 raw.0, is.1))
+  kept_at beside n s old new (Err other) raw rack is = is
 
   -- a state whose keeping the fuse cut, and the crash behind it
   pub kept_off : (beside : KeptBeside) (n : Node) (s : State) (old mid new : DiskSet R g) (why : No) → is_off why ≡ true → KeptUp beside n s old mid (Err why) → (CutAt (doubting beside n s 0) (halted_at n 0) mid → CrashedAt (doubting beside n s 0) (halted_at n 0) new)

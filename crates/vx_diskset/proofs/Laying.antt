@@ -20,7 +20,7 @@ use Rattle.vx_rvg.specs.Views.{unit_of}
 use Rattle.std.proofs.lemmas.List.Sums.{sum_by-cons, sum_by_push}
 use Rattle.vx_events.specs.Facts.{values_from}
 use Rattle.vx_events.proofs.Values.{length-values_from, slice_index-values_from, values_from-push}
-use Rattle.vx_diskset.specs.Layouts.{CanBeRaw, IsLaid, IsRaw, LiesBy, LiesOn, config_units, raw_units, units_by, units_of}
+use Rattle.vx_diskset.specs.Layouts.{CanBeRaw, IsLaid, IsRaw, LiesBy, LiesOn, LiesRaw, config_units, raw_units, units_by, units_of}
 
 -- ---- past a call
 
@@ -44,20 +44,26 @@ pub laid_in : (n : Node) (m : Meaning) → LiesOn n m → IsLaid (units_of n) n.
 laid_in n m lies = laid_by n.group n n.base.size m lies
 
 -- of a site that is over no group
-pub raw_in : (n : Node) (m : Meaning) → n.group ≡ None → LiesOn n m → IsRaw n.disks n.blocks n.ring n.volumes n.base.size m
-raw_in n m none lies = subst (λ (o : Option GroupNode). LiesBy o n n.base.size m) none lies
+pub units_raw : (n : Node) → n.group ≡ None → units_of n ≡ raw_units n.disks
+units_raw n none = ap (λ (o : Option GroupNode). units_by o n.disks) none
 
-pub raw_on : (n : Node) (m : Meaning) → n.group ≡ None → IsRaw n.disks n.blocks n.ring n.volumes n.base.size m → LiesOn n m
-raw_on n m none lies = subst (λ (o : Option GroupNode). LiesBy o n n.base.size m) (sym none) lies
-
-lies_by : (o : Option GroupNode) (n : Node) (sizes : ℕ → ℕ) (m new : Meaning) → new.units ≡ m.units → ((k : ℕ) → new.size k ≡ m.size k) → LiesBy o n sizes m → LiesBy o n sizes new
-lies_by None n sizes m new units size lies = record {
+pub raw_as : (disks blocks ring : ℕ) (volumes : List Volume) (sizes : ℕ → ℕ) (m new : Meaning) → new.units ≡ m.units → ((k : ℕ) → new.size k ≡ m.size k) → IsRaw disks blocks ring volumes sizes m → IsRaw disks blocks ring volumes sizes new
+raw_as disks blocks ring volumes sizes m new units size lies = record {
   units = units ∙ lies.units;
   size = λ u there. size u ∙ lies.size u there;
   can = lies.can;
   few = lies.few;
-  laid = laid_as (raw_units n.disks) n.ring n.volumes sizes m new size lies.laid;
+  laid = laid_as (raw_units disks) ring volumes sizes m new size lies.laid;
 }
+
+pub raw_in : (n : Node) (m : Meaning) → n.group ≡ None → LiesOn n m → LiesRaw n m
+raw_in n m none lies = subst (λ (o : Option GroupNode). LiesBy o n n.base.size m) none lies
+
+pub raw_on : (n : Node) (m : Meaning) → n.group ≡ None → LiesRaw n m → LiesOn n m
+raw_on n m none lies = subst (λ (o : Option GroupNode). LiesBy o n n.base.size m) (sym none) lies
+
+lies_by : (o : Option GroupNode) (n : Node) (sizes : ℕ → ℕ) (m new : Meaning) → new.units ≡ m.units → ((k : ℕ) → new.size k ≡ m.size k) → LiesBy o n sizes m → LiesBy o n sizes new
+lies_by None n sizes m new units size lies = raw_as n.disks n.blocks n.ring n.volumes sizes m new units size lies
 lies_by (Some note) n sizes m new units size lies = record { laid = laid_as (config_units (config_of note.config)) n.ring n.volumes sizes m new size lies.laid }
 
 pub lies_as : (n : Node) (m new : Meaning) → new.units ≡ m.units → ((k : ℕ) → new.size k ≡ m.size k) → LiesOn n m → LiesOn n new
@@ -84,6 +90,10 @@ sized_by (Some note) n was sizes m same lies = record { laid = laid_sized (confi
 
 pub lies_sized : (n : Node) (sizes : ℕ → ℕ) (m : Meaning) → ((v : ℕ) → sizes v ≡ n.base.size v) → LiesOn n m → LiesBy n.group n sizes m
 lies_sized n sizes m same lies = sized_by n.group n n.base.size sizes m same lies
+
+-- of a raw set
+pub raw_sized : (n : Node) (sizes : ℕ → ℕ) (m : Meaning) → n.group ≡ None → ((v : ℕ) → sizes v ≡ n.base.size v) → LiesOn n m → IsRaw n.disks n.blocks n.ring n.volumes sizes m
+raw_sized n sizes m none same lies = subst (λ (o : Option GroupNode). LiesBy o n sizes m) none (lies_sized n sizes m same lies)
 
 -- the content has the sizes of its units
 pub sizes_of : (u : Units) (ring : ℕ) (volumes : List Volume) (c : Content) (m : Meaning) → IsLaid u ring volumes c.size m → HasSizes u.vols c m

@@ -15,6 +15,7 @@ pub mod CallsBurn
 pub mod CrashGroup
 pub mod ExactWrite
 pub mod FailGroup
+pub mod FailSets
 pub mod FuseGroup
 pub mod GroupBegun
 pub mod GroupCalling
@@ -35,7 +36,9 @@ pub mod MakeRoom
 pub mod Mores
 pub mod NeedLemmas
 pub mod OverGroups
+pub mod OverSets
 pub mod PumpGroup
+pub mod RawSets
 pub mod Reaching
 pub mod ReadGroup
 pub mod Receiving

@@ -43,8 +43,8 @@ use Rattle.vx_diskset.proofs.LastWrites.{stands_with, still_with}
 use Rattle.vx_diskset.proofs.NeedLemmas.{none_of, takes_none}
 use Rattle.vx_diskset.proofs.StaysUp.{never_both, told_now, fitted_moved, stays_up, writes_found}
 use Rattle.vx_diskset.specs.Holds.{site_alone, state_with}
-use Rattle.vx_diskset.specs.Layouts.{raw_units, CanBeRaw}
-use Rattle.vx_diskset.proofs.Laying.{laid_in, lies_as, raw_lies, raw_none, raw_on, raw_size}
+use Rattle.vx_diskset.specs.Layouts.{raw_units, CanBeRaw, units_of}
+use Rattle.vx_diskset.proofs.Laying.{laid_in, lies_as, raw_lies, raw_none, raw_on, raw_size, units_raw}
 use Rattle.vx_diskset.specs.Fuses.{FuseOn, LetsOn}
 use Rattle.vx_diskset.specs.Stands.{IsFitted, IsBareAt, bare_with, IsUpAt, faults_at}
 use Rattle.vx_events.proofs.Values.{length-values_from, slice_index-values_from}
@@ -204,7 +204,7 @@ raw_stands site n c m new lawful unit_is bare can is moves stands = record {
   up = stays_up (Run 0 0 (ring_of (m.size 0) + 2)) Anything m new moves bare.unarmed bare.fitted.up;
   fuse = subst (λ (k : Node). FuseOn k.fuse new) (sym bare.is) (moves.unarmed bare.unarmed);
   lies = raw_on (raw_set site n) new (ap (λ (k : Node). k.group) bare.is) (raw_lies n.disks n.blocks new can bare.few bare.some (moves.units ∙ bare.fitted.units) (λ u there. moves.size u ∙ bare.fitted.size u there));
-  units = ap (λ (k : Core). k.units) is;
+  units = units_here;
   ring = ring_here;
   low = ap (λ (k : Node). k.low) bare.is;
   found = [];
@@ -225,10 +225,13 @@ raw_stands site n c m new lawful unit_is bare can is moves stands = record {
   may = never_besides None new refl;
   left = λ i now.
       let told = told_now new i lawful now in
-      inl (writes_found (raw_set site n) c i (ap (λ (k : Core). k.units) is) ring_here kept_here (ap (λ (k : Core). k.log.header.incarnation) is)
+      inl (writes_found (raw_set site n) c i units_here ring_here kept_here (ap (λ (k : Core). k.log.header.incarnation) is)
       (omega (arith, ap (λ (k : Core). k.log.header.stamp) is)) refl (stands_with c [] (raw_content n.disks n.blocks) new i unit_is lawful (content told) now));
 }
   where
+    units_here : c.units ≡ units_of (raw_set site n)
+    units_here = ap (λ (k : Core). k.units) is ∙ sym (units_raw (raw_set site n) (ap (λ (k : Node). k.group) bare.is))
+
     ring_here : c.log.ring ≡ ring_of n.blocks
     ring_here = ap (λ (k : Core). k.log.ring) is ∙ ap ring_of (bare.fitted.size 0 (omega (arith, can.some)))
 

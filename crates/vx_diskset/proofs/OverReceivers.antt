@@ -22,7 +22,7 @@ use Rattle.vx_diskset.specs.Holds.{HasDoubted, KeptBeside, KeptSite, MayBe}
 use Rattle.vx_diskset.specs.Keeps.{KeptUp, doubting, restated}
 use Rattle.vx_diskset.specs.Rooms.{AppliedAs}
 use Rattle.vx_diskset.specs.Shelves.{KeptAs}
-use Rattle.vx_diskset.specs.Stands.{IsReceiverAt, IsUpAt, OverStands, SiteStands}
+use Rattle.vx_diskset.specs.Stands.{IsReceiverAt, IsUpAt, OverStands, SiteStands, IsOverSite}
 use Rattle.vx_diskset.specs.declared.founded.FoundedReceiver.{FoundedReceiver}
 use Rattle.vx_diskset.specs.declared.group_set.CutWrite.{CutWrite}
 use Rattle.vx_diskset.specs.declared.disk_set.DiskSet.TheVariants.{Over}
@@ -38,7 +38,7 @@ module _ {R : Type 0} {g : Ghosts R} (beside : KeptBeside) (n : Node) (old : Ove
   here : IsReceiverAt beside n f.core f.waiting (laid_volumes f.laid)
   here = subst (λ (s : OverSite R g). OverStands beside n s) is stands.1
 
-  over : n.group ≡ None → ⊥
+  over : IsOverSite beside n
   over = stands.0
 
   -- as a site with its durable writes
@@ -60,5 +60,5 @@ module _ {R : Type 0} {g : Ghosts R} (beside : KeptBeside) (n : Node) (old : Ove
   pub over_applied : (to : ℕ) (r : Result ℕ No) → AppliedAs beside (durable_of n) to f'.core (laid_volumes f.laid) (laid_volumes f'.laid) r → AppliedUp beside n to (Over old) (Over new) r
   over_applied to (Ok number) l = (l.0, l.1, (over, receives n.halted (burned n.fuse) l.2))
   over_applied to (Err (Device disk)) l = ((over, receives (Some disk) (burned n.fuse) l.0), rose_over disk l.1)
-  over_applied to (Err IsOff) l = (l.0, as_held n (laid_volumes f'.laid) (here.sure running) long l.1)
+  over_applied to (Err IsOff) l = (l.0, (over, as_held n (laid_volumes f'.laid) (here.sure running) long l.1))
   over_applied to (Err other) l = l

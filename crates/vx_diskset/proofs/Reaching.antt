@@ -39,7 +39,7 @@ use Rattle.vx_rvg.specs.Groups.{has_numbers}
 use Rattle.vx_srl.specs.Views.{most_number}
 use Rattle.vx_diskset.specs.Rooms.{AppliedAs, HasNumbers, IsMore, NeverLimit}
 use Rattle.vx_diskset.proofs.LeavesNumbers.{lacks_them}
-use Rattle.vx_diskset.specs.Stands.{IsHeldAt, IsReceiverAt, IsUpAt, CutAt, SiteStands}
+use Rattle.vx_diskset.specs.Stands.{IsHeldAt, IsReceiverAt, IsUpAt, CutAt, SiteStands, IsRawSite}
 use Rattle.vx_events.specs.Fuses.{ring_taken}
 use Rattle.vx_diskset.proofs.BesideLemmas.{never_besides, site_map}
 use Rattle.vx_ringio.specs.Spends.{Spends}
@@ -51,6 +51,7 @@ use Rattle.vx_diskset.proofs.CrashGroup.{folded_size}
 use Rattle.vx_diskset.proofs.NeedLemmas.{needs_less}
 use Rattle.vx_diskset.proofs.Receiving.{as_held, as_receiver, durable_of, never_some, receiver_volumes, up_receiver}
 use Rattle.vx_diskset.proofs.StaysUp.{burned_twice, durable_content, drop-take_none, fuse_burned, fused_before, up_worked}
+use Rattle.vx_diskset.proofs.RawSets.{receiver_there, up_there}
 
 -- ---- lists
 
@@ -455,52 +456,56 @@ module _ {R : Type 0} {g : Ghosts R} where
   count_waits : {beside : KeptBeside} (n : Node) (s : Secondary R g) → IsReceiverAt beside n s.rvg.core s.waiting (g.meaning s.rvg.shelf) → n.halted ≡ None → length s.waiting ≡ length n.log - n.safe
   count_waits n s r running = omega (arith, ap (λ (ws : List Write). length ws) r.waits, length-map s.waiting write_of_update, length-drop (last_of s.rvg.core) n.log, r.head running)
 
-  by_result : (beside : KeptBeside) (n : Node) (count few : ℕ) (s new : Secondary R g) (result : Result Reached No) → IsReceiverAt beside n s.rvg.core s.waiting (g.meaning s.rvg.shelf) → n.halted ≡ None → few ≡ min count (length s.waiting) → 0 < few
+  by_result : (beside : KeptBeside) (n : Node) (count few : ℕ) (s new : Secondary R g) (result : Result Reached No) → IsRawSite beside n → IsReceiverAt beside n s.rvg.core s.waiting (g.meaning s.rvg.shelf) → n.halted ≡ None → few ≡ min count (length s.waiting) → 0 < few
       → ReachedTo beside n few new.waiting new.rvg.core (g.meaning s.rvg.shelf) (g.meaning new.rvg.shelf) result → ReachedUp beside n count (Receives s) (Receives new) result
-  by_result beside n count few s new (Ok r) here running is some h =
-      subst (λ (a : RAction). ReachedBy a beside n r (Receives new)) (sym (rule_some n count few (is ∙ ap (λ (k : ℕ). min count k) (count_waits n s here running)) some (omega (arith, here.least, here.most)))) h
-  by_result beside n count few s new (Err (Device disk)) here running is some h = h
-  by_result beside n count few s new (Err (Limit what most)) here running is some h = absurd h
-  by_result beside n count few s new (Err IsOff) here running is some h = h
-  by_result beside n count few s new (Err other) here running is some h = h
+  by_result beside n count few s new (Ok r) raw here running is some h =
+      subst (λ (a : RAction). ReachedBy a beside n r (Receives new)) (sym (rule_some n count few (is ∙ ap (λ (k : ℕ). min count k) (count_waits n s here running)) some (omega (arith, here.least, here.most)))) (h.0, h.1, (raw, h.2))
+  by_result beside n count few s new (Err (Device disk)) raw here running is some h = ((raw, h.0), h.1)
+  by_result beside n count few s new (Err (Limit what most)) raw here running is some h = absurd h
+  by_result beside n count few s new (Err IsOff) raw here running is some h = (h.0, (raw, h.1))
+  by_result beside n count few s new (Err other) raw here running is some h = h
 
   pub reached_up : (beside : KeptBeside) (n : Node) (count few : ℕ) (old : DiskSet R g) (s new : Secondary R g) (result : Result Reached No) → old ≡ Receives s → few ≡ min count (length s.waiting) → 0 < few
       → (IsReceiverAt beside n s.rvg.core s.waiting (g.meaning s.rvg.shelf) → CanReceive beside n → ReachedTo beside n few new.waiting new.rvg.core (g.meaning s.rvg.shelf) (g.meaning new.rvg.shelf) result)
       → SiteStands beside n old → CanReceive beside n → ReachedUp beside n count old (Receives new) result
   reached_up beside n count few old s new result is few_is some reaches stands can =
-      let here = (let r : IsReceiverAt beside n s.rvg.core s.waiting (g.meaning s.rvg.shelf) = subst (λ (e : DiskSet R g). SiteStands beside n e) is stands in r) in
-      subst (λ (e : DiskSet R g). ReachedUp beside n count e (Receives new) result) (sym is) (by_result beside n count few s new result here can.running few_is some (reaches here can))
+      let at = receiver_there beside n old s is stands in
+      let here = at.1 in
+      subst (λ (e : DiskSet R g). ReachedUp beside n count e (Receives new) result) (sym is) (by_result beside n count few s new result at.0 here can.running few_is some (reaches here can))
 
   -- nothing is asked for, or nothing waits
   pub reached_idle : (beside : KeptBeside) (n : Node) (count few head : ℕ) (old : DiskSet R g) (s : Secondary R g) → old ≡ Receives s → few ≡ min count (length s.waiting) → few ≡ 0 → head ≡ last_of s.rvg.core → SiteStands beside n old → CanReceive beside n
       → ReachedUp beside n count old (Receives s) (Ok (record { number = head; acks = false }))
   reached_idle beside n count few head old s is few_is none head_is stands can =
-      let here = (let r : IsReceiverAt beside n s.rvg.core s.waiting (g.meaning s.rvg.shelf) = subst (λ (e : DiskSet R g). SiteStands beside n e) is stands in r) in
+      let at = receiver_there beside n old s is stands in
+      let here = at.1 in
       subst (λ (a : RAction). ReachedBy a beside n (record { number = head; acks = false }) (Receives s))
       (sym (rule_none n count (sym (ap (λ (k : ℕ). min count k) (count_waits n s here can.running)) ∙ sym few_is ∙ none)))
-      (head_is ∙ here.head can.running, refl, receiver_burned n s.rvg.core s.waiting (g.meaning s.rvg.shelf) here)
+      (head_is ∙ here.head can.running, refl, (at.0, receiver_burned n s.rvg.core s.waiting (g.meaning s.rvg.shelf) here))
 
   -- no number is left for all of them
   pub reached_full : (beside : KeptBeside) (n : Node) (count few : ℕ) (old : DiskSet R g) (s : Secondary R g) → old ≡ Receives s → few ≡ min count (length s.waiting) → has_numbers s.rvg.core few ≡ false → SiteStands beside n old → CanReceive beside n
       → ReachedUp beside n count old (Receives s) (Err (Limit Number most_number))
   reached_full beside n count few old s is few_is full stands can =
-      let here = (let r : IsReceiverAt beside n s.rvg.core s.waiting (g.meaning s.rvg.shelf) = subst (λ (e : DiskSet R g). SiteStands beside n e) is stands in r) in
+      let at = receiver_there beside n old s is stands in
+      let here = at.1 in
       let long = count_waits n s here can.running in (
         refl,
         (λ told.
             let stamp = here.stamp told can.running in
             ⊎_elim (λ one. omega (arith, one, stamp, few_is, long, here.least, here.most)) (λ two. omega (arith, two, few_is, long, here.least, here.most, here.head can.running)) (lacks_them s.rvg.core few full)),
-        here,
+        (at.0, here),
       )
 
   -- nothing waits at a site that was not started as one that receives
   pub reached_none_up : (beside : KeptBeside) (n : Node) (count head : ℕ) (old : DiskSet R g) (rvg : Rvg R g) → old ≡ Up rvg → head ≡ last_of rvg.core → SiteStands beside n old → CanReceive beside n
       → ReachedUp beside n count old (Up rvg) (Ok (record { number = head; acks = false }))
   reached_none_up beside n count head old rvg is head_is stands can =
-      let here = (let r : IsUpAt beside n rvg.core (g.meaning rvg.shelf) = subst (λ (e : DiskSet R g). SiteStands beside n e) is stands in r) in
+      let at = up_there beside n old rvg is stands in
+      let here = at.1 in
       let whole = here.durable can.running in
       subst (λ (a : RAction). ReachedBy a beside n (record { number = head; acks = false }) (Up rvg)) (sym (rule_none n count (omega (arith, whole))))
-      (head_is ∙ here.head, refl, up_worked n rvg.core (g.meaning rvg.shelf) here)
+      (head_is ∙ here.head, refl, (at.0, up_worked n rvg.core (g.meaning rvg.shelf) here))
 
   -- an apply whose fuse ran out, and the crash behind it
   pub reached_off : {beside : KeptBeside} (n : Node) (count : ℕ) (old mid new : DiskSet R g) (why : No) → is_off why ≡ true → ReachedUp beside n count old mid (Err why) → (CutAt beside n mid → CrashedAt beside n new) → ReachedAt beside n count old new (Err why)

@@ -29,13 +29,14 @@ use Rattle.vx_diskset.specs.DiskSets.{CanRead, ReadAt}
 use Rattle.vx_diskset.specs.Fetching.{Gave, GaveAt}
 use Rattle.vx_diskset.specs.Holds.{HasSite}
 use Rattle.vx_diskset.specs.Fuses.{FuseOn}
-use Rattle.vx_diskset.specs.Stands.{IsUpAt, SiteStands}
+use Rattle.vx_diskset.specs.Stands.{IsUpAt, SiteStands, IsRawSite}
 use Rattle.vx_diskset.specs.Lasts.{StandsHolding}
 use Rattle.vx_diskset.specs.Shelves.{ReadAs}
 use Rattle.vx_diskset.proofs.Laying.{laid_in}
 use Rattle.vx_diskset.proofs.LastWrites.{stands_with, still_with}
 use Rattle.vx_diskset.proofs.MakeGroup.{fuse_untouched}
 use Rattle.vx_diskset.proofs.StaysUp.{told_now, never_both, up_found, up_with}
+use Rattle.vx_diskset.proofs.RawSets.{up_there}
 
 -- what was written over a list of the same length is all of it
 pub written_over : (len : ℕ) (xs rest : List ℕ) → len ≡ length xs → take len (xs ++ rest) ≡ xs
@@ -96,11 +97,11 @@ module _ {beside : KeptBeside} (n : Node) (c : Core) (m new : Meaning) (volume s
       by_reads result (subst (λ (o : Option No). ReadIs o m new result) refusal is) gives
 
 module _ {R : Type 0} {g : Ghosts R} where
-  by_disk_set : (beside : KeptBeside) (n : Node) (volume start count : ℕ) (bytes : List ℕ) (rvg new : Rvg R g) (result : Result (Unit {0}) No)
+  by_disk_set : (beside : KeptBeside) (n : Node) (volume start count : ℕ) (bytes : List ℕ) (rvg new : Rvg R g) (result : Result (Unit {0}) No) → IsRawSite beside n
       → ReadAs beside n volume start count bytes new.core (g.meaning rvg.shelf) (g.meaning new.shelf) result → ReadAt beside n volume start count bytes (Up rvg) (Up new) result
-  by_disk_set beside n volume start count bytes rvg new (Ok done) h = h
-  by_disk_set beside n volume start count bytes rvg new (Err (Device disk)) h = h
-  by_disk_set beside n volume start count bytes rvg new (Err other) h = h
+  by_disk_set beside n volume start count bytes rvg new (Ok done) raw h = (h.0, (raw, h.1))
+  by_disk_set beside n volume start count bytes rvg new (Err (Device disk)) raw h = ((raw, h.0), h.1)
+  by_disk_set beside n volume start count bytes rvg new (Err other) raw h = h
 
   -- the disk set of a site whose blocks are read
   pub read_at : (beside : KeptBeside) (n : Node) (volume start count : ℕ) (bytes : List ℕ) (old : DiskSet R g) (rvg new : Rvg R g) (result : Result (Unit {0}) No) → old ≡ Up rvg → SiteStands beside n old
@@ -110,11 +111,11 @@ module _ {R : Type 0} {g : Ghosts R} where
       → Goes Nothing (g.meaning rvg.shelf) (g.meaning new.shelf) → (g.meaning new.shelf).down ≡ (g.meaning rvg.shelf).down
       → OnDisks (g.meaning rvg.shelf).disks (g.meaning new.shelf).disks Untouched → ReadAt beside n volume start count bytes old (Up new) result
   read_at beside n volume start count bytes old rvg new result is stands can lawful after same answers gives goes down disks =
-      let up = subst (SiteStands beside n) is stands in
+      let at = up_there beside n old rvg is stands in
       subst (λ (e : DiskSet R g). ReadAt beside n volume start count bytes e (Up new) result) (sym is)
-      (by_disk_set beside n volume start count bytes rvg new result
+      (by_disk_set beside n volume start count bytes rvg new result at.0
       (subst (λ (k : Core). ReadAs beside n volume start count bytes k (g.meaning rvg.shelf) (g.meaning new.shelf) result) (sym same)
-      (read_as n rvg.core (g.meaning rvg.shelf) (g.meaning new.shelf) volume start count bytes up can lawful after rvg.sound.log_unit goes down (fuse_untouched n.fuse (g.meaning rvg.shelf) (g.meaning new.shelf) disks goes.unarmed up.fuse) result answers gives)))
+      (read_as n rvg.core (g.meaning rvg.shelf) (g.meaning new.shelf) volume start count bytes at.1 can lawful after rvg.sound.log_unit goes down (fuse_untouched n.fuse (g.meaning rvg.shelf) (g.meaning new.shelf) disks goes.unarmed at.1.fuse) result answers gives)))
 
   -- the same with the blocks in a place for them
   pub gave_blocks : (beside : KeptBeside) (n : Node) (volume start count k : ℕ) (bytes items : List ℕ) (old new : DiskSet R g) (done : Unit {0}) → count ≡ k → items ≡ bytes → length bytes ≡ 512 * count

@@ -37,7 +37,7 @@ use Rattle.vx_diskset.specs.DiskSets.{BareUp, BareUpIs, MadeIs}
 use Rattle.vx_events.specs.Found.{SameDisks}
 use Rattle.vx_diskset.specs.Fuses.{FuseOn}
 use Rattle.vx_diskset.specs.Layouts.{raw_units, CanBeRaw}
-use Rattle.vx_diskset.proofs.Laying.{raw_lies, raw_on}
+use Rattle.vx_diskset.proofs.Laying.{raw_lies, raw_on, units_raw}
 use Rattle.vx_diskset.specs.Stands.{IsCleanAt, IsUpAt, faults_at}
 use Rattle.vx_diskset.proofs.MakeGroup.{bare_still, keeps_still}
 use Rattle.vx_diskset.proofs.BesideLemmas.{never_besides}
@@ -116,7 +116,7 @@ module _ (n : Node) (m up new : Meaning) (core : Core) (clean : IsCleanAt n m) (
     up = not_true new.down still;
     lies = raw_on (found_bare n core) new (ap (λ (k : Node). k.group) clean.bare.is) (raw_lies n.disks n.blocks new can clean.bare.few clean.bare.some (moves.units ∙ goes.units ∙ clean.bare.fitted.units) (λ u there. moves.size u ∙ goes.size u ∙ clean.bare.fitted.size u there));
     fuse = subst (λ (k : Node). FuseOn k.fuse new) (sym clean.bare.is) (moves.unarmed (goes.unarmed clean.bare.unarmed));
-    units = started.units_are;
+    units = started.units_are ∙ sym (units_raw (found_bare n core) (ap (λ (k : Node). k.group) clean.bare.is));
     ring = started.ring_is ∙ ring_here;
     low = ap (λ (k : Node). k.low) clean.bare.is;
     found = core.log.header.state.links;

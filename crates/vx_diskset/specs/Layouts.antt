@@ -59,6 +59,10 @@ pub record IsRaw (disks blocks ring : ℕ) (volumes : List Volume) (sizes : ℕ 
   pub few : disks ≤ MOST_DISKS
   pub laid : IsLaid (raw_units disks) ring volumes sizes m
 
+-- so lies a raw set
+abbrev pub LiesRaw : Node → Meaning → Type 0
+LiesRaw n m = IsRaw n.disks n.blocks n.ring n.volumes n.base.size m
+
 -- On the volumes of a group a replicated volume group on these of them.
 pub record IsOver (u : Units) (ring : ℕ) (volumes : List Volume) (sizes : ℕ → ℕ) (m : Meaning) : Type 0 where
   pub laid : IsLaid u ring volumes sizes m

@@ -24,7 +24,7 @@ use Rattle.vx_events.specs.Fuses.{ring_taken}
 use Rattle.vx_diskset.specs.Holds.{HasSite, KeptSite, MayBe, site_alone, state_with}
 use Rattle.vx_diskset.specs.Holds.{most_header}
 use Rattle.vx_diskset.specs.Lasts.{FoundWith, LeftWith, StandsHolding}
-use Rattle.vx_diskset.specs.Layouts.{IsLaidBy, LiesOn, units_of}
+use Rattle.vx_diskset.specs.Layouts.{IsLaidBy, LiesOn, LiesRaw, raw_units, units_of}
 use Rattle.vx_model.specs.declared.site.SiteState.TheVariants.{Deported as IsAway}
 use Rattle.vx_config.specs.Checks.{blocks_of}
 use Rattle.vx_config.specs.declared.config.Config.{Config}
@@ -155,18 +155,19 @@ pub record IsHeldAt (beside : KeptBeside) (n : Node) (m : Meaning) : Type 0 wher
   pub left : (i : Image) → m.now i → HasSite beside n i
   pub may : (k : KeptSite) → beside.doubt ≡ Some k → MayBe k m
 
--- the disks of a site that crashed: they have one log and one content, that of the site
+-- the disks of a raw set that crashed: they have one log and one content, that of the site
 pub record IsDownAt (beside : KeptBeside) (n : Node) (m : Meaning) : Type 0 where
   pub state : n.state ≡ IsDown
   pub unfused : n.fuse ≡ NoFuse
   pub down : IsTrue m.down
   pub unarmed : IsFalse m.armed
   pub sure : beside.doubt ≡ None
-  pub lies : LiesOn n m
+  pub raw : n.group ≡ None
+  pub lies : LiesRaw n m
   pub low : n.low ≡ 1
   pub logged : length n.log ≡ n.safe
   pub begun : IsTrue m.tells → 0 < n.session
-  pub left : IsTrue m.tells → LeftWith (units_of n) n.ring (state_with n beside.links) n.session (most_header beside n) n.log n.base m
+  pub left : IsTrue m.tells → LeftWith (raw_units n.disks) n.ring (state_with n beside.links) n.session (most_header beside n) n.log n.base m
 
 -- The disks of a site that crashed, whose group has a replicated volume group. Of each image that they leave an import finds a configuration by which the volumes
 -- show the site's log, which has all its writes, and its content; and the volumes of the group stopped uncleanly in it, so the import gives one value of each block.
@@ -194,10 +195,36 @@ pub record RestsOver (Left : Config → Type 0) (beside : KeptBeside) (n : Node)
   pub begun : IsTrue m.tells → 0 < n.session
   pub left : IsTrue m.tells → Left config
 
+-- a site that is on no group of disks, whatever it may be besides
+abbrev pub IsRawSite : KeptBeside → Node → Type 0
+IsRawSite beside n = (n.group ≡ None) × ((k : KeptSite) → beside.doubt ≡ Some k → k.node.group ≡ None)
+
+-- one on a group of disks: what it may be besides has the same units
+abbrev pub IsOverSite : KeptBeside → Node → Type 0
+IsOverSite beside n = (n.group ≡ None → ⊥) × ((k : KeptSite) → beside.doubt ≡ Some k → units_of k.node ≡ units_of n)
+
 -- a write is cut only at a site that is down, and lies in its volume
 pub record CutLies (n : Node) (x : CutWrite) : Type 0 where
   pub down : n.state ≡ IsDown
   pub fits : (note : GroupNode) → n.group ≡ Some note → FitsPlain note x.volume x.block (length x.bytes)
+
+-- a replicated volume group over these volumes
+abbrev pub AboveStands : KeptBeside → Node → Above → Meaning → Type 0
+AboveStands beside n Nothing m = ⊥
+AboveStands beside n (Origin core) m = IsUpAt beside n core m
+AboveStands beside n (Receiver core waiting) m = IsReceiverAt beside n core waiting m
+
+-- of an origin, where no updates wait behind it
+abbrev pub RoleBy : Node → Above → Type 0
+RoleBy n Nothing = Unit {0}
+RoleBy n (Origin core) = is_origin n.role ≡ true
+RoleBy n (Receiver core waiting) = Unit {0}
+
+-- all writes up to this number are in the volumes
+abbrev pub AppliedIn : ℕ → Above → Type 0
+AppliedIn number Nothing = ⊥
+AppliedIn number (Origin core) = core.applied ≡ number
+AppliedIn number (Receiver core waiting) = core.applied ≡ number
 
 module _ {R : Type 0} {g : Ghosts R} where
   -- The disks of a site that has a group of disks, and no replicated volume group, with the write that its fuse cut. Such a site is never in doubt, and has no links. On
@@ -211,12 +238,6 @@ module _ {R : Type 0} {g : Ghosts R} where
     pub bare : n.state ≡ IsBare → n ≡ bare_with n
     pub few : n.disks ≤ MOST_DISKS
     pub some : LEAST_BLOCKS ≤ n.blocks
-
-  -- a replicated volume group over these volumes
-  abbrev pub AboveStands : KeptBeside → Node → Above → Meaning → Type 0
-  AboveStands beside n Nothing m = ⊥
-  AboveStands beside n (Origin core) m = IsUpAt beside n core m
-  AboveStands beside n (Receiver core waiting) m = IsReceiverAt beside n core waiting m
 
   -- disks by themselves as an import sees them
   abbrev pub idle_ready : Idle R g → Meaning
@@ -234,21 +255,16 @@ module _ {R : Type 0} {g : Ghosts R} where
   abbrev pub SiteStands : KeptBeside → Node → DiskSet R g → Type 0
   SiteStands beside n (Bare rack) = IsCleanAt n (g.meaning rack)
   SiteStands beside n (Spoiled rack) = IsBareAt n (g.meaning rack)
-  SiteStands beside n (Up rvg) = IsUpAt beside n rvg.core (g.meaning rvg.shelf)
-  SiteStands beside n (Receives s) = IsReceiverAt beside n s.rvg.core s.waiting (g.meaning s.rvg.shelf)
+  SiteStands beside n (Up rvg) = IsRawSite beside n × IsUpAt beside n rvg.core (g.meaning rvg.shelf)
+  SiteStands beside n (Receives s) = IsRawSite beside n × IsReceiverAt beside n s.rvg.core s.waiting (g.meaning s.rvg.shelf)
   SiteStands beside n (Down rack) = IsDownAt beside n (g.meaning rack)
   SiteStands beside n (OfGroup s) = IsGroupSet beside n s
-  SiteStands beside n (Over s) = (n.group ≡ None → ⊥) × OverStands beside n s.site
+  SiteStands beside n (Over s) = IsOverSite beside n × OverStands beside n s.site
   SiteStands beside n Gone = ⊥
 
   -- the same of a site without links, as each is that the lines which are built make
   abbrev pub StandsAlone : Node → DiskSet R g → Type 0
   StandsAlone n e = SiteStands site_alone n e
-
-  abbrev pub RoleBy : Node → Above → Type 0
-  RoleBy n Nothing = Unit {0}
-  RoleBy n (Origin core) = is_origin n.role ≡ true
-  RoleBy n (Receiver core waiting) = Unit {0}
 
   -- a site whose group is up without the room in which updates wait is an origin
   abbrev pub RoleIs : Node → DiskSet R g → Type 0
@@ -274,11 +290,11 @@ module _ {R : Type 0} {g : Ghosts R} where
   abbrev pub CutAt : KeptBeside → Node → DiskSet R g → Type 0
   CutAt beside n (Bare rack) = ⊥
   CutAt beside n (Spoiled rack) = ⊥
-  CutAt beside n (Up rvg) = IsHeldAt beside n (g.meaning rvg.shelf)
-  CutAt beside n (Receives s) = IsHeldAt beside n (g.meaning s.rvg.shelf)
+  CutAt beside n (Up rvg) = IsRawSite beside n × IsHeldAt beside n (g.meaning rvg.shelf)
+  CutAt beside n (Receives s) = IsRawSite beside n × IsHeldAt beside n (g.meaning s.rvg.shelf)
   CutAt beside n (Down rack) = ⊥
   CutAt beside n (OfGroup s) = ⊥
-  CutAt beside n (Over s) = CutOver beside n s.site
+  CutAt beside n (Over s) = IsOverSite beside n × CutOver beside n s.site
   CutAt beside n Gone = ⊥
 
   -- the disk set of a number that no site has
@@ -314,11 +330,6 @@ module _ {R : Type 0} {g : Ghosts R} where
   faults_at (OfGroup s) d = (site_disks s.site).disk_faults d
   faults_at (Over s) d = (site_disks (site_in s)).disk_faults d
   faults_at Gone d = 0
-
-  abbrev pub AppliedIn : ℕ → Above → Type 0
-  AppliedIn number Nothing = ⊥
-  AppliedIn number (Origin core) = core.applied ≡ number
-  AppliedIn number (Receiver core waiting) = core.applied ≡ number
 
   -- all writes up to this number are in the volumes of its group, and none behind it
   abbrev pub InVolumes : ℕ → DiskSet R g → Type 0

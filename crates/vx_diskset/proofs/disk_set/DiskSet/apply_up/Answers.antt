@@ -1,6 +1,8 @@
 -- `apply_up`: clauses called and applied.
 use Rattle.vx_diskset.specs.Burning.{NoMore, said_by}
 use Rattle.vx_diskset.specs.declared.disk_set.DiskSet.TheVariants.{Over, Up}
+use Rattle.vx_diskset.proofs.ApplyGroup.{applied_at}
+use Rattle.vx_diskset.proofs.RawSets.{up_there}
 use Rattle.vx_diskset.proofs.Blamed.{blamed_receiver, blamed_up}
 use Rattle.vx_diskset.proofs.CallsBurn.{called_by, called_up, is_done}
 use Rattle.std.proofs.Common.{refl}
@@ -16,6 +18,11 @@ returns-in-Up-clause-called g c = λ beside n stands.
     called_up NoMore (said_by c.apply_group.result) beside n c.args.self.now (Up c.apply_group.new.rvg) c.in-Up.rvg c.in-Up.is stands
     (λ up. called_by NoMore c.apply_group.result c.in-Up.rvg c.apply_group.new.rvg up.up c.apply_group.ensures.off
     (is_done c.apply_group.result (g.R.Shelf.meaning c.in-Up.rvg.shelf) (g.R.Shelf.meaning c.apply_group.new.rvg.shelf) c.apply_group.ensures.spends) c.apply_group.ensures.spends)
+
+pub returns-in-Up-clause-applied : goal.returns-in-Up-clause-applied
+returns-in-Up-clause-applied g c = λ beside n stands can apart.
+    let at = up_there beside n c.args.self.now c.in-Up.rvg c.in-Up.is stands in
+    applied_at beside n c.args.to c.args.self.now c.in-Up.rvg c.apply_group.new.rvg c.apply_group.result c.in-Up.is at.0 (c.apply_group.ensures.applied beside n at.1 can.running)
 
 pub returns-in-Receives-clause-applied : goal.returns-in-Receives-clause-applied
 returns-in-Receives-clause-applied g c = λ beside n stands can apart.
@@ -45,4 +52,4 @@ pub returns-in-Over-clause-later : goal.returns-in-Over-clause-later
 returns-in-Over-clause-later g c = over_later c.args.self.now c.in-Over.over c.apply.new.self c.in-Over.is c.apply.ensures.called
 
 pub returns-in-Over-clause-blames : goal.returns-in-Over-clause-blames
-returns-in-Over-clause-blames g c = λ beside n stands. blamed_over c.apply.result n (subst (λ e. SiteStands beside n e) c.in-Over.is stands).0
+returns-in-Over-clause-blames g c = λ beside n stands. blamed_over c.apply.result n (subst (λ e. SiteStands beside n e) c.in-Over.is stands).0.0

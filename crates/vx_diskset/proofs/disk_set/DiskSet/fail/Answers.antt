@@ -2,6 +2,7 @@
 use Rattle.std.proofs.Common.{refl, subst}
 use Rattle.vx_rvg.proofs.ReadStands.{rest_sound}
 use Rattle.vx_diskset.specs.Stands.{SiteStands}
+use Rattle.vx_diskset.proofs.RawSets.{receiver_there, up_there}
 use Rattle.vx_diskset.proofs.StartBare.{clean_read}
 use Rattle.vx_diskset.proofs.MakeGroup.{bare_still, up_still, fuse_still}
 use Rattle.vx_diskset.proofs.StartGroup.{down_still}
@@ -20,18 +21,22 @@ returns-in-Spoiled-clause-stands g c = λ beside n stands. bare_still _ _ _ c.fa
 
 pub returns-in-Up-clause-stands : goal.returns-in-Up-clause-stands
 returns-in-Up-clause-stands g c = λ beside n stands.
-    let up = subst (λ e. SiteStands beside n e) c.in-Up.is stands in
-    up_still n c.in-Up.rvg.core _ _ c.fail-in-Up.ensures.goes c.fail-in-Up.ensures.alike.contents.now c.fail-in-Up.ensures.down
-    (fuse_still n.fuse _ _ _ (λ o k is. is.0.fuse) c.fail-in-Up.ensures.armed c.fail-in-Up.ensures.disks up.fuse) up
+    let at = up_there beside n c.args.self.now c.in-Up.rvg c.in-Up.is stands in (
+      at.0,
+      up_still n c.in-Up.rvg.core _ _ c.fail-in-Up.ensures.goes c.fail-in-Up.ensures.alike.contents.now c.fail-in-Up.ensures.down
+    (fuse_still n.fuse _ _ _ (λ o k is. is.0.fuse) c.fail-in-Up.ensures.armed c.fail-in-Up.ensures.disks at.1.fuse) at.1,
+    )
 
 pub returns-in-Down-clause-stands : goal.returns-in-Down-clause-stands
 returns-in-Down-clause-stands g c = λ beside n stands. down_still n _ _ c.fail-in-Down.ensures.goes c.fail-in-Down.ensures.down c.fail-in-Down.ensures.armed (subst (λ e. SiteStands beside n e) c.in-Down.is stands)
 
 pub returns-in-Receives-clause-stands : goal.returns-in-Receives-clause-stands
 returns-in-Receives-clause-stands g c = λ beside n stands.
-    let r = subst (λ e. SiteStands beside n e) c.in-Receives.is stands in
-    receiver_still n c.in-Receives.site.rvg.core c.in-Receives.site.waiting _ _ c.fail-in-Receives.ensures.goes c.fail-in-Receives.ensures.alike.contents.now c.fail-in-Receives.ensures.down
-    (fuse_still n.fuse _ _ _ (λ o k is. is.0.fuse) c.fail-in-Receives.ensures.armed c.fail-in-Receives.ensures.disks r.fuse) r
+    let at = receiver_there beside n c.args.self.now c.in-Receives.site c.in-Receives.is stands in (
+      at.0,
+      receiver_still n c.in-Receives.site.rvg.core c.in-Receives.site.waiting _ _ c.fail-in-Receives.ensures.goes c.fail-in-Receives.ensures.alike.contents.now c.fail-in-Receives.ensures.down
+    (fuse_still n.fuse _ _ _ (λ o k is. is.0.fuse) c.fail-in-Receives.ensures.armed c.fail-in-Receives.ensures.disks at.1.fuse) at.1,
+    )
 
 pub invariant_of-site : goal.invariant_of-site
 invariant_of-site g c = (

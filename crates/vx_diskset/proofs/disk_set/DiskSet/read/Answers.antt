@@ -7,6 +7,7 @@ use Rattle.vx_diskset.proofs.KeepsFailing.{alone_same}
 use Rattle.vx_diskset.proofs.ReadGroup.{read_at}
 use Rattle.vx_diskset.proofs.Receiving.{durable_of, read_received, receiver_as, wait_core}
 use Rattle.vx_diskset.proofs.disk_set.DiskSet.read.Goals as goal
+use Rattle.vx_diskset.proofs.RawSets.{receiver_there}
 
 pub returns-then-volume-volumes-clause-read : goal.returns-then-volume-volumes-clause-read
 returns-then-volume-volumes-clause-read g c = λ beside n stands can.
@@ -31,7 +32,7 @@ returns-then-volume-volumes-2-clause-read g c = λ beside n stands can.
           c.read-then-volume-volumes-2.ensures.core c.read-then-volume-volumes-2.ensures.goes.size c.in-Receives.site.waits;
     }) c.in-Receives.is stands can.running refl c.args.volume c.args.start (blocks_in c.args.into.now) c.read-then-volume-volumes-2.new.into c.read-then-volume-volumes-2.result
     (read_at beside (durable_of n) c.args.volume c.args.start (blocks_in c.args.into.now) c.read-then-volume-volumes-2.new.into (Up c.in-Receives.site.rvg) c.in-Receives.site.rvg c.read-then-volume-volumes-2.new.self c.read-then-volume-volumes-2.result refl
-    (receiver_as beside n c.args.self.now c.in-Receives.site c.in-Receives.is stands can.running (lawful c.in-Receives.site.rvg.shelf))
+    ((receiver_there beside n c.args.self.now c.in-Receives.site c.in-Receives.is stands).0, receiver_as beside n c.args.self.now c.in-Receives.site c.in-Receives.is stands can.running (lawful c.in-Receives.site.rvg.shelf))
     (record { up = can.up; running = can.running; volume_exists = can.volume_exists; within = can.within })
     (lawful c.in-Receives.site.rvg.shelf) (lawful c.read-then-volume-volumes-2.new.self.shelf) c.read-then-volume-volumes-2.ensures.core c.read-then-volume-volumes-2.ensures.answers c.read-then-volume-volumes-2.ensures.gives
     c.read-then-volume-volumes-2.ensures.goes c.read-then-volume-volumes-2.ensures.down c.read-then-volume-volumes-2.ensures.disks)

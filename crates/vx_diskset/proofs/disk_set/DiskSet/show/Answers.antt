@@ -8,7 +8,7 @@ pub returns-then-volume-volumes-clause-shows : goal.returns-then-volume-volumes-
 returns-then-volume-volumes-clause-shows g c = λ beside n stands can.
     let lawful = (g.met.R.Shelf g.world.𝓛 g.world.𝓜 g.world.𝓡 ((λ s x. x), (λ x. x), (λ x. x), λ x. x)).lawful in
     showed_at beside n c.args.self.now (Receives c.show.new.self) c.in-Receives.site c.args.volume c.args.start (blocks_in c.args.into.now) c.show.new.into c.show.result c.in-Receives.is
-    (λ r. showed beside n c.in-Receives.site c.show.new.self c.args.volume c.args.start (blocks_in c.args.into.now) c.show.new.into r can (lawful c.in-Receives.site.rvg.shelf) (lawful c.show.new.self.rvg.shelf) c.show.ensures.core c.show.ensures.waiting
+    (λ raw r. showed beside n c.in-Receives.site c.show.new.self c.args.volume c.args.start (blocks_in c.args.into.now) c.show.new.into raw r can (lawful c.in-Receives.site.rvg.shelf) (lawful c.show.new.self.rvg.shelf) c.show.ensures.core c.show.ensures.waiting
     c.show.ensures.goes c.show.ensures.down c.show.ensures.disks c.show.result c.show.ensures.answers c.show.ensures.gives)
     stands
 

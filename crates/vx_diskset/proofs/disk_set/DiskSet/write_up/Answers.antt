@@ -12,6 +12,7 @@ use Rattle.vx_diskset.proofs.WriteGroup.{logged_at, logged_wrote}
 use Rattle.vx_diskset.proofs.CallsBurn.{burns_up, called_still, called_up, cuts_none, cuts_up}
 use Rattle.vx_diskset.proofs.OverCalled.{blamed_over, over_later, over_role}
 use Rattle.vx_diskset.proofs.disk_set.DiskSet.write_up.Goals as goal
+use Rattle.vx_diskset.proofs.RawSets.{up_there}
 
 pub returns-then-volume-volumes-clause-called : goal.returns-then-volume-volumes-clause-called
 returns-then-volume-volumes-clause-called g c = λ beside n stands. record {
@@ -29,10 +30,11 @@ pub returns-then-volume-volumes-clause-wrote : goal.returns-then-volume-volumes-
 returns-then-volume-volumes-clause-wrote g c = λ beside n stands can has.
     let is_rack = (g.met.R.Rack g.world.𝓛 g.world.𝓜 g.world.𝓡 ((λ s x. x), (λ x. x), (λ x. x), λ x. x)).rack in
     let x = (let w : Write = record { volume = c.args.volume; start = c.args.start; bytes = c.args.bytes.now } in w) in
+    let at = up_there beside n c.args.self.now c.in-Up.rvg c.in-Up.is stands in
     logged_wrote beside n x c.args.self.now (Up c.write_group.new.rvg) c.write_group.result can.origin
     (subst (λ e. LoggedUp beside n x e (Up c.write_group.new.rvg) c.write_group.result) (sym c.in-Up.is)
-    (logged_at beside n x c.in-Up.rvg c.write_group.new.rvg c.write_group.result (is_rack c.write_group.new.rvg.shelf)
-    (c.write_group.ensures.wrote beside n (subst (λ e. SiteStands beside n e) c.in-Up.is stands)
+    (logged_at beside n x c.in-Up.rvg c.write_group.new.rvg c.write_group.result at.0 (is_rack c.write_group.new.rvg.shelf)
+    (c.write_group.ensures.wrote beside n at.1
     (record { up = can.up; running = can.running; volume_exists = can.volume_exists; fits = can.fits; within = can.within }) has)))
 
 pub returns-then-volume-volumes-clause-blames : goal.returns-then-volume-volumes-clause-blames
@@ -55,4 +57,4 @@ pub returns-in-Over-clause-later : goal.returns-in-Over-clause-later
 returns-in-Over-clause-later g c = over_later c.args.self.now c.in-Over.over c.write.new.self c.in-Over.is c.write.ensures.called
 
 pub returns-in-Over-clause-blames : goal.returns-in-Over-clause-blames
-returns-in-Over-clause-blames g c = λ beside n stands. blamed_over c.write.result n (subst (λ e. SiteStands beside n e) c.in-Over.is stands).0
+returns-in-Over-clause-blames g c = λ beside n stands. blamed_over c.write.result n (subst (λ e. SiteStands beside n e) c.in-Over.is stands).0.0
