@@ -5,7 +5,8 @@ use Rattle.vx_model.specs.Content.{zero_block}
 use Rattle.vx_model.specs.declared.errors.Stop.{Stop}
 use Rattle.vx_model.specs.declared.errors.Stop.TheVariants.{No as Refused}
 use Rattle.vx_model.specs.declared.no.No.TheVariants.{NoConfig}
-use Rattle.vx_model.specs.declared.site.SiteState.TheVariants.{Bare as IsBare, Up as IsUp, Down as IsDown}
+use Rattle.vx_model.specs.declared.site.SiteState.TheVariants.{Bare as IsBare, Up as IsUp, Down as IsDown, Deported as IsDeported}
+use Rattle.vx_diskset.specs.declared.over_set.OverSite.TheVariants.{Origin as OriginSite, Receiver as ReceiverSite, Deported as GroupAway, Down as GroupFell, Gone as NoGroup}
 use Rattle.vx_disk.specs.Shelf.{Keeps, Lawful, Meaning}
 use Rattle.vx_disk.specs.declared.shelf.Shelf.{Ghosts}
 use Rattle.vx_history.specs.World.{Node}
@@ -18,13 +19,14 @@ use Rattle.vx_diskset.specs.DiskSets.{Later}
 use Rattle.vx_diskset.specs.GroupCalls.{AtSite, bare_disks, cut_in}
 use Rattle.vx_diskset.specs.GroupFinds.{FindsIs, FindsOn, FoundUp, InBare}
 use Rattle.vx_diskset.specs.Holds.{KeptBeside}
-use Rattle.vx_diskset.specs.Stands.{IsCleanAt, IsGroupSet, IsToldAt, SiteStands}
+use Rattle.vx_diskset.specs.Stands.{IsCleanAt, IsGroupSet, IsToldAt, SiteStands, OverStands}
 use Rattle.vx_diskset.specs.declared.disk_set.DiskSet.{DiskSet}
-use Rattle.vx_diskset.specs.declared.disk_set.DiskSet.TheVariants.{Bare, Spoiled, Up as UpSet, Receives, Down as DownSet, OfGroup, Gone as GoneSet}
+use Rattle.vx_diskset.specs.declared.disk_set.DiskSet.TheVariants.{Bare, Spoiled, Up as UpSet, Receives, Down as DownSet, OfGroup, Over, Gone as GoneSet}
 use Rattle.vx_diskset.specs.declared.group_set.GroupSet.{GroupSet}
 use Rattle.vx_diskset.proofs.GroupCalling.{failing_risen, has_bare, has_group, later_risen, rises_called, rises_returned}
 use Rattle.vx_diskset.proofs.StaysUp.{not_true}
 use Rattle.vx_watched.specs.Traces.{TellsLess}
+use Rattle.vx_diskset.specs.declared.over_set.OverSite.{OverSite}
 
 pub find_can : (n : Node) (m : Meaning) → IsCleanAt n m → n.state ≡ IsBare → CanFind n m
 find_can n m it state = record {
@@ -82,6 +84,7 @@ module _ {R : Type 0} {g : Ghosts R} where
     find_bare (Receives s) stop untold it = absurd it
     find_bare (DownSet last) stop untold it = absurd it
     find_bare (OfGroup s) stop untold it = absurd it
+    find_bare (Over s) stop untold it = absurd it
     find_bare GoneSet stop untold it = absurd it
 
     pub finds_is : (new : DiskSet R g) (r : Result (Unit {0}) Stop) → (IsToldAt new → ⊥) → FindsOn site n (g.meaning rack) new r → FindsIs site n (Bare rack) new r
@@ -106,11 +109,20 @@ module _ {R : Type 0} {g : Ghosts R} where
     some = it.some;
   }
 
+  -- a site with a replicated volume group is not bare
+  over_made : (beside : KeptBeside) (n : Node) (s : OverSite R g) → OverStands beside n s → n.state ≡ IsBare → ⊥
+  over_made beside n (OriginSite f) it state = let e : IsUp ≡ IsBare = sym it.state ∙ state in cc
+  over_made beside n (ReceiverSite f) it state = let e : IsUp ≡ IsBare = sym it.state ∙ state in cc
+  over_made beside n (GroupAway idle) it state = let e : IsDeported ≡ IsBare = sym it.0 ∙ state in cc
+  over_made beside n (GroupFell idle) it state = let e : IsDown ≡ IsBare = sym it.0 ∙ state in cc
+  over_made beside n NoGroup it state = it
+
   pub other_finds : (site : ℕ) (n : Node) → n.state ≡ IsBare → (beside : KeptBeside) (e : DiskSet R g) → SiteStands beside n e → FindsIs site n e e (Err (Refused NoConfig))
   other_finds site n state beside (Bare rack) stands = (λ other. stands, inl refl)
   other_finds site n state beside (Spoiled rack) stands = (λ other. stands, inl refl)
-  other_finds site n state beside (UpSet rvg) stands = absurd (let e : IsUp ≡ IsBare = sym stands.state ∙ state in cc)
-  other_finds site n state beside (Receives s) stands = absurd (let e : IsUp ≡ IsBare = sym stands.state ∙ state in cc)
+  other_finds site n state beside (UpSet rvg) stands = absurd (let e : IsUp ≡ IsBare = sym stands.1.state ∙ state in cc)
+  other_finds site n state beside (Receives s) stands = absurd (let e : IsUp ≡ IsBare = sym stands.1.state ∙ state in cc)
   other_finds site n state beside (DownSet rack) stands = absurd (let e : IsDown ≡ IsBare = sym stands.state ∙ state in cc)
   other_finds site n state beside (OfGroup s) stands = (λ other. marked_beside beside other n s state stands, inl refl)
+  other_finds site n state beside (Over s) stands = absurd (over_made beside n s.site stands.1 state)
   other_finds site n state beside GoneSet stands = absurd stands

@@ -28,6 +28,7 @@ laid_as : (u : Units) (ring : ℕ) (volumes : List Volume) (sizes : ℕ → ℕ)
 laid_as u ring volumes sizes m new size laid = record {
   large = omega (arith, laid.large, size u.srl);
   ring_is = laid.ring_is ∙ ap ring_of (sym (size u.srl));
+  some = laid.some;
   few = laid.few;
   count = laid.count;
   named = laid.named;
@@ -77,6 +78,7 @@ laid_sized : (u : Units) (ring : ℕ) (volumes : List Volume) (was sizes : ℕ �
 laid_sized u ring volumes was sizes m same laid = record {
   large = laid.large;
   ring_is = laid.ring_is;
+  some = laid.some;
   few = laid.few;
   count = laid.count;
   named = λ v x at. same v ∙ laid.named v x at;
@@ -153,6 +155,7 @@ raw_lies disks blocks m can few large units size = record {
   laid = record {
     large = omega (arith, large, first);
     ring_is = ap ring_of (sym first);
+    some = omega (arith, many, can.some);
     few = omega (arith, few, many);
     count = length-values_from (λ (j : ℕ). j) 1 (disks - 2) ∙ sym many;
     named = λ v x at.

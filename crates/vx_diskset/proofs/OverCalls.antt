@@ -51,8 +51,8 @@ module _ {R : Type 0} {g : Ghosts R} (beside : KeptBeside) (n : Node) (old : Ove
     over_applied to (Err other) l = l
 
     pub over_kept : (s : State) (r : Result (Unit {0}) No) → KeptAs beside n s (laid_volumes f.laid) f'.core (laid_volumes f'.laid) r → KeptUp beside n s (Over old) (Over new) r
-    over_kept s (Ok done) l = (over_sure (kept_anew beside n s) (worked (restated n s)) over.0, l)
-    over_kept s (Err (Device disk)) l = ((over_doubting beside n s disk over.0, l.0), rose_over disk l.1, λ none. absurd (over.0 none))
+    over_kept s (Ok done) l = (over_sure (kept_anew beside n s) beside (worked (restated n s)) over, l)
+    over_kept s (Err (Device disk)) l = ((over_doubting beside n s disk over, l.0), rose_over disk l.1, λ none. absurd (over.0 none))
     over_kept s (Err (Limit what most)) l = (l.0, l.1, (over, l.2))
-    over_kept s (Err IsDown) l = (l.0, (over_doubting beside n s 0 over.0, l.1))
+    over_kept s (Err IsDown) l = (l.0, (over_doubting beside n s 0 over, l.1))
     over_kept s (Err other) l = l

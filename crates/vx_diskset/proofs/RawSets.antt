@@ -38,14 +38,14 @@ raw_doubting beside n s disk none = (none, raw_beside (record { node = halted_at
 
 -- ---- the same of one that is on a group
 
-pub over_sure : (k : KeptSite) (n : Node) → (n.group ≡ None → ⊥) → IsOverSite (sure_of k) n
-over_sure k n over = (over, λ x is. absurd (never is))
+pub over_sure : (k : KeptSite) (beside : KeptBeside) (n : Node) → IsOverSite beside n → IsOverSite (sure_of k) n
+over_sure k beside n over = (over.0, (λ x is. absurd (never is)), over.2, over.3)
   where
     never : {A : Type 0} {x : A} → None ≡ Some x → ⊥
     never e = cc
 
-pub over_doubting : (beside : KeptBeside) (n : Node) (s : State) (disk : ℕ) → (n.group ≡ None → ⊥) → IsOverSite (doubting beside n s disk) (halted_at n disk)
-over_doubting beside n s disk over = (over, λ x is. sym (ap (λ (y : KeptSite). units_of y.node) (some_same is)))
+pub over_doubting : (beside : KeptBeside) (n : Node) (s : State) (disk : ℕ) → IsOverSite beside n → IsOverSite (doubting beside n s disk) (halted_at n disk)
+over_doubting beside n s disk over = (over.0, (λ x is. sym (ap (λ (y : KeptSite). units_of y.node) (some_same is))), over.2, over.3)
 
 -- ---- disk sets
 

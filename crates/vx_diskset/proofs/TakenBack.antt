@@ -94,6 +94,7 @@ lies_again n k m was h disks blocks h0 = record {
   laid = record {
     large = omega (arith, h0.laid.large, same 0 (omega (arith, h0.can.some)));
     ring_is = h0.laid.ring_is ∙ ap ring_of (sym (same 0 (omega (arith, h0.can.some))));
+    some = h0.laid.some;
     few = h0.laid.few;
     count = h0.laid.count;
     named = h0.laid.named;

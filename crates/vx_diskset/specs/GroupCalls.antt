@@ -23,6 +23,11 @@ module _ {R : Type 0} {g : Ghosts R} where
   AtSite P (Over s) = P (site_in s)
   AtSite P other = ⊥
 
+  -- and they have no replicated volume group
+  abbrev pub AtPlain : (GroupSite R g → Type 0) → DiskSet R g → Type 0
+  AtPlain P (OfGroup s) = P s.site
+  AtPlain P other = ⊥
+
   -- and so they are behind the call
   abbrev pub OnSites : (GroupSite R g → GroupSite R g → Type 0) → DiskSet R g → DiskSet R g → Type 0
   OnSites P (OfGroup old) new = AtSite (P old.site) new
@@ -56,4 +61,4 @@ module _ {R : Type 0} {g : Ghosts R} where
 
   -- the disks of a bare site are a group without volumes; or a disk failed, or memory was wanted, and labels of it may stand on them
   abbrev pub InitIs : ℕ → Node → DiskSet R g → DiskSet R g → Result (Unit {0}) Stop → Type 0
-  InitIs site n old new result = AtSite (λ e. BeginsGroup site n (bare_disks old) e result) new × (cut_in new ≡ None)
+  InitIs site n old new result = AtPlain (λ e. BeginsGroup site n (bare_disks old) e result) new × (cut_in new ≡ None)

@@ -36,6 +36,7 @@ units_of n = units_by n.group n.disks
 pub record IsLaidBy (u : Units) (ring : ℕ) (volumes : List Volume) (sizes : ℕ → ℕ) (size : ℕ → ℕ) : Type 0 where
   pub large : LEAST_BLOCKS ≤ size u.srl
   pub ring_is : ring ≡ ring_of (size u.srl)
+  pub some : 1 ≤ length volumes
   pub few : length volumes ≤ MOST_DATA_VOLUMES
   pub count : length u.vols ≡ length volumes
   pub named : (v : ℕ) (x : Volume) → slice_get volumes v ≡ Some x → sizes v ≡ x.blocks

@@ -201,7 +201,7 @@ IsRawSite beside n = (n.group ≡ None) × ((k : KeptSite) → beside.doubt ≡ 
 
 -- one on a group of disks: what it may be besides has the same units
 abbrev pub IsOverSite : KeptBeside → Node → Type 0
-IsOverSite beside n = (n.group ≡ None → ⊥) × ((k : KeptSite) → beside.doubt ≡ Some k → units_of k.node ≡ units_of n)
+IsOverSite beside n = (n.group ≡ None → ⊥) × ((k : KeptSite) → beside.doubt ≡ Some k → units_of k.node ≡ units_of n) × (n.disks ≤ MOST_DISKS) × (LEAST_BLOCKS ≤ n.blocks)
 
 -- a write is cut only at a site that is down, and lies in its volume
 pub record CutLies (n : Node) (x : CutWrite) : Type 0 where

@@ -10,7 +10,7 @@ ghost use Rattle.vx_model.specs.declared.site.SiteState.TheVariants.{Bare as Bar
 ghost use Rattle.vx_watched.specs.Since.{CalledSince};
 ghost use Rattle.vx_diskset.specs.Asked.{FuseGoesOn, SameFailing};
 ghost use Rattle.vx_diskset.specs.DiskSets.{Later};
-ghost use Rattle.vx_diskset.specs.GroupCalls.{AtSite, InitIs, OnSites, cut_in};
+ghost use Rattle.vx_diskset.specs.GroupCalls.{AtPlain, AtSite, InitIs, OnSites, cut_in};
 ghost use Rattle.vx_diskset.specs.Holds.{KeptBeside};
 ghost use Rattle.vx_diskset.specs.Recovers.{LooksAt, LooksKept, RaisesGroup, RisesSince, RisesWith, cut_past};
 ghost use Rattle.vx_diskset.specs.Stands.{SiteStands};
@@ -26,7 +26,7 @@ use vx_model::{No, Stop};
 
 // Makes the disks of a bare site a group without volumes.
 fn begin_on<R: Rack>(alloc: Global, rack: R, site: u32) -> (DiskSet<R>, Result<(), Stop>)
-    ensures begun { (n : Node) → CanBegin n (R.meaning rack) → AtSite (λ e. BeginsGroup site n (R.meaning rack) e result.1) result.0 }
+    ensures begun { (n : Node) → CanBegin n (R.meaning rack) → AtPlain (λ e. BeginsGroup site n (R.meaning rack) e result.1) result.0 }
     ensures cut { cut_in result.0 ≡ None }
     ensures since { AtSite (λ e. CalledSince (R.meaning rack) (site_disks e)) result.0 }
     ensures told { AtSite (λ e. TellsLess (R.meaning rack) (site_below e)) result.0 }
@@ -48,7 +48,7 @@ fn begin_again<R: Rack>(
     cut: Option<CutWrite>,
     site: u32,
 ) -> (DiskSet<R>, Result<(), Stop>)
-    ensures begun { (n : Node) → GroupSiteStands n marked → n.state ≡ BareState → CanBegin n (site_disks marked) → AtSite (λ e. BeginsGroup site n (site_disks marked) e result.1) result.0 × (cut_in result.0 ≡ None) }
+    ensures begun { (n : Node) → GroupSiteStands n marked → n.state ≡ BareState → CanBegin n (site_disks marked) → AtPlain (λ e. BeginsGroup site n (site_disks marked) e result.1) result.0 × (cut_in result.0 ≡ None) }
     ensures since { AtSite (λ e. CalledSince (site_disks marked) (site_disks e)) result.0 }
     ensures told { AtSite (λ e. TellsLess (site_below marked) (site_below e)) result.0 }
 {

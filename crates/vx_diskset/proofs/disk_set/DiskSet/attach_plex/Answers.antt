@@ -14,7 +14,7 @@ pub returns-in-OfGroup-clause-called : goal.returns-in-OfGroup-clause-called
 returns-in-OfGroup-clause-called g c = λ n note. on_sites (UpNoted n note) (λ o e. AttCalled n note c.args.volume c.args.plex o e c.att.result) c.args.self.now c.in-OfGroup.group (record c.in-OfGroup.group { site = c.att.new.self }) c.in-OfGroup.is (c.att.ensures.called n note)
 
 pub returns-in_default-clause-called : goal.returns-in_default-clause-called
-returns-in_default-clause-called g c = λ n note. at_none (UpNoted n note) _ c.args.self.now c.in_default.not-OfGroup
+returns-in_default-clause-called g c = λ n note. at_none (UpNoted n note) _ c.args.self.now c.in_default.not-OfGroup c.in_default.not-Over
 
 pub returns-in-OfGroup-clause-fuse : goal.returns-in-OfGroup-clause-fuse
 returns-in-OfGroup-clause-fuse g c = λ n note.
@@ -22,7 +22,7 @@ returns-in-OfGroup-clause-fuse g c = λ n note.
     at_sites (UpNoted n note) (FuseGoesOn c.args.self.now (OfGroup (record c.in-OfGroup.group { site = c.att.new.self }))) c.args.self.now c.in-OfGroup.group c.in-OfGroup.is (λ it. group_fuse c.args.self.now c.in-OfGroup.group (record c.in-OfGroup.group { site = c.att.new.self }) c.in-OfGroup.is c.att.ensures.since (att_settled is_rack n note c.args.volume c.args.plex c.in-OfGroup.group.site c.att.new.self c.att.result (c.att.ensures.called n note it)))
 
 pub returns-in_default-clause-fuse : goal.returns-in_default-clause-fuse
-returns-in_default-clause-fuse g c = λ n note. at_none (UpNoted n note) (FuseGoesOn c.args.self.now c.args.self.now) c.args.self.now c.in_default.not-OfGroup
+returns-in_default-clause-fuse g c = λ n note. at_none (UpNoted n note) (FuseGoesOn c.args.self.now c.args.self.now) c.args.self.now c.in_default.not-OfGroup c.in_default.not-Over
 
 pub returns-in-OfGroup-clause-failing : goal.returns-in-OfGroup-clause-failing
 returns-in-OfGroup-clause-failing g c = group_failing c.args.self.now c.in-OfGroup.group (record c.in-OfGroup.group { site = c.att.new.self }) c.in-OfGroup.is c.att.ensures.since
@@ -42,7 +42,7 @@ returns-in-OfGroup-clause-refused g c = λ n note no up is.
     (λ it. at_sites (λ o. refuses_att o c.args.volume c.args.plex ≡ Some no) (c.att.result ≡ Err (Refused no)) c.args.self.now c.in-OfGroup.group c.in-OfGroup.is (λ at. c.att.ensures.refused n note no it at) is) up
 
 pub returns-in_default-clause-refused : goal.returns-in_default-clause-refused
-returns-in_default-clause-refused g c = λ n note no up is. at_none (UpNoted n note) _ c.args.self.now c.in_default.not-OfGroup up
+returns-in_default-clause-refused g c = λ n note no up is. at_none (UpNoted n note) _ c.args.self.now c.in_default.not-OfGroup c.in_default.not-Over up
 
 pub returns-in-OfGroup-clause-others : goal.returns-in-OfGroup-clause-others
 returns-in-OfGroup-clause-others g c = others_on c.att.result c.args.self.now c.in-OfGroup.group (record c.in-OfGroup.group { site = c.att.new.self }) c.in-OfGroup.is c.args.volume c.args.plex c.att.ensures.others
@@ -57,7 +57,7 @@ returns-in-OfGroup-clause-already g c = λ n note up none on.
     (λ at. at_sites (λ o. IsTrue (is_plex_on o c.args.volume c.args.plex)) (c.att.result ≡ Ok 0) c.args.self.now c.in-OfGroup.group c.in-OfGroup.is (λ is. c.att.ensures.already n note it at is) on) none) up
 
 pub returns-in_default-clause-already : goal.returns-in_default-clause-already
-returns-in_default-clause-already g c = λ n note up none on. at_none (UpNoted n note) _ c.args.self.now c.in_default.not-OfGroup up
+returns-in_default-clause-already g c = λ n note up none on. at_none (UpNoted n note) _ c.args.self.now c.in_default.not-OfGroup c.in_default.not-Over up
 
 pub returns-in-OfGroup-clause-count : goal.returns-in-OfGroup-clause-count
 returns-in-OfGroup-clause-count g c = at_sites (λ o. is_plex_on o c.args.volume c.args.plex ≡ false) (IfOk c.att.result (λ k. AtSite (λ o. RegionsOf o c.args.volume k) c.args.self.now)) c.args.self.now c.in-OfGroup.group c.in-OfGroup.is

@@ -31,13 +31,13 @@ pub returns-in-OfGroup-clause-since : goal.returns-in-OfGroup-clause-since
 returns-in-OfGroup-clause-since g c = subst (λ x. CalledOn x (OfGroup (record c.in-OfGroup.group { site = c.deport-site.result.0 }))) (sym (sym c.replace.ensures.value ∙ c.in-OfGroup.is)) c.deport-site.ensures.since
 
 pub returns-in_default-clause-deported : goal.returns-in_default-clause-deported
-returns-in_default-clause-deported g c = λ n note. at_none (UpNoted n note) _ c.args.self.now (λ o is. c.in_default.not-OfGroup o (c.replace.ensures.value ∙ is))
+returns-in_default-clause-deported g c = λ n note. at_none (UpNoted n note) _ c.args.self.now (λ o is. c.in_default.not-OfGroup o (c.replace.ensures.value ∙ is)) (λ o is. c.in_default.not-Over o (c.replace.ensures.value ∙ is))
 
 pub returns-in_default-clause-cut : goal.returns-in_default-clause-cut
 returns-in_default-clause-cut g c = ap (λ x. cut_in x) c.replace.ensures.value
 
 pub returns-in_default-clause-fuse : goal.returns-in_default-clause-fuse
-returns-in_default-clause-fuse g c = λ n note. at_none (UpNoted n note) _ c.args.self.now (λ o is. c.in_default.not-OfGroup o (c.replace.ensures.value ∙ is))
+returns-in_default-clause-fuse g c = λ n note. at_none (UpNoted n note) _ c.args.self.now (λ o is. c.in_default.not-OfGroup o (c.replace.ensures.value ∙ is)) (λ o is. c.in_default.not-Over o (c.replace.ensures.value ∙ is))
 
 pub returns-in_default-clause-failing : goal.returns-in_default-clause-failing
 returns-in_default-clause-failing g c = subst (λ x. SameFailing c.args.self.now x) (sym c.replace.ensures.value) (failing_same c.args.self.now)

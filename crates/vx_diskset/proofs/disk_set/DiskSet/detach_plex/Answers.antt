@@ -14,7 +14,7 @@ pub returns-in-OfGroup-clause-called : goal.returns-in-OfGroup-clause-called
 returns-in-OfGroup-clause-called g c = λ n note. on_sites (UpNoted n note) (λ o e. DetCalled n note c.args.volume c.args.plex o e c.det.result) c.args.self.now c.in-OfGroup.group (record c.in-OfGroup.group { site = c.det.new.self }) c.in-OfGroup.is (c.det.ensures.called n note)
 
 pub returns-in_default-clause-called : goal.returns-in_default-clause-called
-returns-in_default-clause-called g c = λ n note. at_none (UpNoted n note) _ c.args.self.now c.in_default.not-OfGroup
+returns-in_default-clause-called g c = λ n note. at_none (UpNoted n note) _ c.args.self.now c.in_default.not-OfGroup c.in_default.not-Over
 
 pub returns-in-OfGroup-clause-fuse : goal.returns-in-OfGroup-clause-fuse
 returns-in-OfGroup-clause-fuse g c = λ n note.
@@ -22,7 +22,7 @@ returns-in-OfGroup-clause-fuse g c = λ n note.
     at_sites (UpNoted n note) (FuseGoesOn c.args.self.now (OfGroup (record c.in-OfGroup.group { site = c.det.new.self }))) c.args.self.now c.in-OfGroup.group c.in-OfGroup.is (λ it. group_fuse c.args.self.now c.in-OfGroup.group (record c.in-OfGroup.group { site = c.det.new.self }) c.in-OfGroup.is c.det.ensures.since (det_settled is_rack n note c.args.volume c.args.plex c.in-OfGroup.group.site c.det.new.self c.det.result (c.det.ensures.called n note it)))
 
 pub returns-in_default-clause-fuse : goal.returns-in_default-clause-fuse
-returns-in_default-clause-fuse g c = λ n note. at_none (UpNoted n note) (FuseGoesOn c.args.self.now c.args.self.now) c.args.self.now c.in_default.not-OfGroup
+returns-in_default-clause-fuse g c = λ n note. at_none (UpNoted n note) (FuseGoesOn c.args.self.now c.args.self.now) c.args.self.now c.in_default.not-OfGroup c.in_default.not-Over
 
 pub returns-in-OfGroup-clause-failing : goal.returns-in-OfGroup-clause-failing
 returns-in-OfGroup-clause-failing g c = group_failing c.args.self.now c.in-OfGroup.group (record c.in-OfGroup.group { site = c.det.new.self }) c.in-OfGroup.is c.det.ensures.since
@@ -42,7 +42,7 @@ returns-in-OfGroup-clause-refused g c = λ n note no up is.
     (λ it. at_sites (λ o. refuses_det o c.args.volume c.args.plex ≡ Some no) (c.det.result ≡ Err (Refused no)) c.args.self.now c.in-OfGroup.group c.in-OfGroup.is (λ at. c.det.ensures.refused n note no it at) is) up
 
 pub returns-in_default-clause-refused : goal.returns-in_default-clause-refused
-returns-in_default-clause-refused g c = λ n note no up is. at_none (UpNoted n note) _ c.args.self.now c.in_default.not-OfGroup up
+returns-in_default-clause-refused g c = λ n note no up is. at_none (UpNoted n note) _ c.args.self.now c.in_default.not-OfGroup c.in_default.not-Over up
 
 pub returns-in-OfGroup-clause-others : goal.returns-in-OfGroup-clause-others
 returns-in-OfGroup-clause-others g c = others_on c.det.result c.args.self.now c.in-OfGroup.group (record c.in-OfGroup.group { site = c.det.new.self }) c.in-OfGroup.is c.args.volume c.args.plex c.det.ensures.others

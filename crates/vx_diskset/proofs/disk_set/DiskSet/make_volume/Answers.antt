@@ -14,7 +14,7 @@ pub returns-in-OfGroup-clause-made : goal.returns-in-OfGroup-clause-made
 returns-in-OfGroup-clause-made g c = λ n note. on_sites (UpNoted n note) (λ o e. SiteAdded n note c.args.name.now c.args.want.now o e c.make_volume.result) c.args.self.now c.in-OfGroup.group (record c.in-OfGroup.group { site = c.make_volume.new.self }) c.in-OfGroup.is (c.make_volume.ensures.made n note)
 
 pub returns-in_default-clause-made : goal.returns-in_default-clause-made
-returns-in_default-clause-made g c = λ n note. at_none (UpNoted n note) _ c.args.self.now c.in_default.not-OfGroup
+returns-in_default-clause-made g c = λ n note. at_none (UpNoted n note) _ c.args.self.now c.in_default.not-OfGroup c.in_default.not-Over
 
 pub returns-in-OfGroup-clause-fuse : goal.returns-in-OfGroup-clause-fuse
 returns-in-OfGroup-clause-fuse g c = λ n note.
@@ -22,7 +22,7 @@ returns-in-OfGroup-clause-fuse g c = λ n note.
     at_sites (UpNoted n note) (FuseGoesOn c.args.self.now (OfGroup (record c.in-OfGroup.group { site = c.make_volume.new.self }))) c.args.self.now c.in-OfGroup.group c.in-OfGroup.is (λ it. group_fuse c.args.self.now c.in-OfGroup.group (record c.in-OfGroup.group { site = c.make_volume.new.self }) c.in-OfGroup.is c.make_volume.ensures.since (added_settled is_rack n note c.args.name.now c.args.want.now c.in-OfGroup.group.site c.make_volume.new.self c.make_volume.result (c.make_volume.ensures.made n note it)))
 
 pub returns-in_default-clause-fuse : goal.returns-in_default-clause-fuse
-returns-in_default-clause-fuse g c = λ n note. at_none (UpNoted n note) (FuseGoesOn c.args.self.now c.args.self.now) c.args.self.now c.in_default.not-OfGroup
+returns-in_default-clause-fuse g c = λ n note. at_none (UpNoted n note) (FuseGoesOn c.args.self.now c.args.self.now) c.args.self.now c.in_default.not-OfGroup c.in_default.not-Over
 
 pub returns-in-OfGroup-clause-failing : goal.returns-in-OfGroup-clause-failing
 returns-in-OfGroup-clause-failing g c = group_failing c.args.self.now c.in-OfGroup.group (record c.in-OfGroup.group { site = c.make_volume.new.self }) c.in-OfGroup.is c.make_volume.ensures.since
@@ -42,7 +42,7 @@ returns-in-OfGroup-clause-refused g c = λ n note no up is.
     (λ it. at_sites (λ o. refuses_volume o c.args.name.now c.args.want.now ≡ Some no) (c.make_volume.result ≡ Err (Refused no)) c.args.self.now c.in-OfGroup.group c.in-OfGroup.is (λ at. c.make_volume.ensures.refused n note no it at) is) up
 
 pub returns-in_default-clause-refused : goal.returns-in_default-clause-refused
-returns-in_default-clause-refused g c = λ n note no up is. at_none (UpNoted n note) _ c.args.self.now c.in_default.not-OfGroup up
+returns-in_default-clause-refused g c = λ n note no up is. at_none (UpNoted n note) _ c.args.self.now c.in_default.not-OfGroup c.in_default.not-Over up
 
 pub returns-in-OfGroup-clause-cut : goal.returns-in-OfGroup-clause-cut
 returns-in-OfGroup-clause-cut g c = sym (ap (λ x. cut_in x) c.in-OfGroup.is)

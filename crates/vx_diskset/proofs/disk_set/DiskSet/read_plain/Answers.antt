@@ -13,7 +13,7 @@ returns-in-OfGroup-clause-read g c = λ n note up fits.
     on_sites (UpNoted n note) (λ o e. PlainRead n note c.args.volume c.args.start c.read.new.into o e c.read.result) c.args.self.now c.in-OfGroup.group (record c.in-OfGroup.group { site = c.read.new.self }) c.in-OfGroup.is (λ it. c.read.ensures.read n note it fits) up
 
 pub returns-in_default-clause-read : goal.returns-in_default-clause-read
-returns-in_default-clause-read g c = λ n note up fits. at_none (UpNoted n note) _ c.args.self.now c.in_default.not-OfGroup up
+returns-in_default-clause-read g c = λ n note up fits. at_none (UpNoted n note) _ c.args.self.now c.in_default.not-OfGroup c.in_default.not-Over up
 
 pub returns-in-OfGroup-clause-fuse : goal.returns-in-OfGroup-clause-fuse
 returns-in-OfGroup-clause-fuse g c = λ n note up fits.
@@ -21,7 +21,7 @@ returns-in-OfGroup-clause-fuse g c = λ n note up fits.
     at_sites (UpNoted n note) (FuseGoesOn c.args.self.now (OfGroup (record c.in-OfGroup.group { site = c.read.new.self }))) c.args.self.now c.in-OfGroup.group c.in-OfGroup.is (λ it. group_fuse c.args.self.now c.in-OfGroup.group (record c.in-OfGroup.group { site = c.read.new.self }) c.in-OfGroup.is c.read.ensures.since (read_settled is_rack n note c.args.volume c.args.start c.read.new.into c.in-OfGroup.group.site c.read.new.self c.read.result (c.read.ensures.read n note it fits))) up
 
 pub returns-in_default-clause-fuse : goal.returns-in_default-clause-fuse
-returns-in_default-clause-fuse g c = λ n note up fits. at_none (UpNoted n note) (FuseGoesOn c.args.self.now c.args.self.now) c.args.self.now c.in_default.not-OfGroup up
+returns-in_default-clause-fuse g c = λ n note up fits. at_none (UpNoted n note) (FuseGoesOn c.args.self.now c.args.self.now) c.args.self.now c.in_default.not-OfGroup c.in_default.not-Over up
 
 pub returns-in-OfGroup-clause-failing : goal.returns-in-OfGroup-clause-failing
 returns-in-OfGroup-clause-failing g c = group_failing c.args.self.now c.in-OfGroup.group (record c.in-OfGroup.group { site = c.read.new.self }) c.in-OfGroup.is c.read.ensures.since

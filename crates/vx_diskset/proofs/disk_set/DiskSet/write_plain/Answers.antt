@@ -15,7 +15,7 @@ returns-in-OfGroup-clause-wrote g c = λ n note up fits.
     on_sites (UpNoted n note) (λ o e. PlainWrote n note (plain_write c.args.volume c.args.start c.args.bytes.now) o e c.write_set.result) c.args.self.now c.in-OfGroup.group c.write_set.new.group c.in-OfGroup.is (λ it. c.write_set.ensures.wrote n note it fits) up
 
 pub returns-in_default-clause-wrote : goal.returns-in_default-clause-wrote
-returns-in_default-clause-wrote g c = λ n note up fits. at_none (UpNoted n note) _ c.args.self.now c.in_default.not-OfGroup up
+returns-in_default-clause-wrote g c = λ n note up fits. at_none (UpNoted n note) _ c.args.self.now c.in_default.not-OfGroup c.in_default.not-Over up
 
 pub returns-in-OfGroup-clause-cut : goal.returns-in-OfGroup-clause-cut
 returns-in-OfGroup-clause-cut g c = λ n note up. subst (λ x. cut_in (OfGroup c.write_set.new.group) ≡ cut_behind c.write_set.result (plain_write c.args.volume c.args.start c.args.bytes.now) (cut_in x)) (sym c.in-OfGroup.is) c.write_set.ensures.cut
@@ -27,7 +27,7 @@ returns-in-OfGroup-clause-fuse g c = λ n note up fits.
     (λ it. group_fuse c.args.self.now c.in-OfGroup.group c.write_set.new.group c.in-OfGroup.is c.write_set.ensures.since (wrote_settled is_rack n note (plain_write c.args.volume c.args.start c.args.bytes.now) c.in-OfGroup.group.site c.write_set.new.group.site c.write_set.result (c.write_set.ensures.wrote n note it fits))) up
 
 pub returns-in_default-clause-fuse : goal.returns-in_default-clause-fuse
-returns-in_default-clause-fuse g c = λ n note up fits. at_none (UpNoted n note) _ c.args.self.now c.in_default.not-OfGroup up
+returns-in_default-clause-fuse g c = λ n note up fits. at_none (UpNoted n note) _ c.args.self.now c.in_default.not-OfGroup c.in_default.not-Over up
 
 pub returns-in-OfGroup-clause-failing : goal.returns-in-OfGroup-clause-failing
 returns-in-OfGroup-clause-failing g c = group_failing c.args.self.now c.in-OfGroup.group c.write_set.new.group c.in-OfGroup.is c.write_set.ensures.since
