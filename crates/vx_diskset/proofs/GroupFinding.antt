@@ -110,7 +110,7 @@ module _ {R : Type 0} {g : Ghosts R} where
   }
 
   -- a site with a replicated volume group is not bare
-  over_made : (beside : KeptBeside) (n : Node) (s : OverSite R g) → OverStands beside n s → n.state ≡ IsBare → ⊥
+  pub over_made : (beside : KeptBeside) (n : Node) (s : OverSite R g) → OverStands beside n s → n.state ≡ IsBare → ⊥
   over_made beside n (OriginSite f) it state = let e : IsUp ≡ IsBare = sym it.state ∙ state in cc
   over_made beside n (ReceiverSite f) it state = let e : IsUp ≡ IsBare = sym it.state ∙ state in cc
   over_made beside n (GroupAway idle) it state = let e : IsDeported ≡ IsBare = sym it.0 ∙ state in cc

@@ -45,6 +45,7 @@ use Rattle.vx_diskset.proofs.StartGroup.{found_site}
 use Rattle.vx_diskset.proofs.NeedLemmas.{ins_length, stand_ins, takes_ins}
 use Rattle.vx_diskset.proofs.MakeRoom.{rose_later}
 use Rattle.vx_diskset.proofs.StaysUp.{not_true, never_both, told_now}
+use Rattle.vx_diskset.proofs.RawSets.{raw_alone}
 
 -- ---- a block of zeros is no header
 
@@ -163,7 +164,10 @@ module _ {R : Type 0} {g : Ghosts R} where
         node = found_bare n rvg.core;
         same = found_same n m (g.meaning up) (g.meaning rvg.shelf) rvg.core clean some goes after untold started' moves' still;
         whole = omega (arith, ins_length rvg.core.log, started'.applied);
-        stands = λ beside sure. found_up n m (g.meaning up) (g.meaning rvg.shelf) rvg.core clean some goes after untold started' moves' still beside sure;
+        stands = λ beside sure. (
+          raw_alone beside (found_bare n rvg.core) sure (ap (λ (k : Node). k.group) clean.bare.is),
+          found_up n m (g.meaning up) (g.meaning rvg.shelf) rvg.core clean some goes after untold started' moves' still beside sure,
+        );
       }
 
   -- a start that was refused, where contents are not told

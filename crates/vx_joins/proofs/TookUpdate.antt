@@ -92,7 +92,7 @@ module _ (w : World) (number : ℕ) (p : Packet) (k : ℕ) (x : Write) (at : pac
 
     -- a receiver that is halted
     pub halted_took : (s : Secondary R g) (disk fed : ℕ) (a : Assembled) (f : Flying) → Some disk ≡ s.rvg.core.halted → SiteStands beside there (Receives s) → fed ≡ there.fed_by → TookTo w number p k beside (Receives s) fed a a f f IsIgnored
-    halted_took s disk fed a f is stands = unheard (Receives s) fed a f (inl (inr (halted_off there.halted disk (is ∙ stands.halted)))) stands
+    halted_took s disk fed a f is stands = unheard (Receives s) fed a f (inl (inr (halted_off there.halted disk (is ∙ stands.1.halted)))) stands
 
     -- one that runs
     module _ (old new : Secondary R g) (fed fed' : ℕ) (a a' : Assembled) (f f' : Flying) (same : new.rvg ≡ old.rvg) (r : SiteStands beside there (Receives old)) (running : there.halted ≡ None) (fed_by : fed ≡ there.fed_by) where
@@ -100,16 +100,16 @@ module _ (w : World) (number : ℕ) (p : Packet) (k : ℕ) (x : Write) (at : pac
       m = g.meaning old.rvg.shelf
 
       waits : writes_of_updates old.waiting ≡ drop there.safe there.log
-      waits = r.waits ∙ ap (λ (i : ℕ). drop i there.log) (r.head running)
+      waits = r.1.waits ∙ ap (λ (i : ℕ). drop i there.log) (r.1.head running)
 
-      group_same : (n : Node) → IsReceiverAt beside n old.rvg.core new.waiting m → SiteStands beside n (Receives new)
-      group_same n here = subst (λ (v : Rvg R g). IsReceiverAt beside n v.core new.waiting (g.meaning v.shelf)) (sym same) here
+      group_same : (n : Node) → n.group ≡ there.group → IsReceiverAt beside n old.rvg.core new.waiting m → SiteStands beside n (Receives new)
+      group_same n group here = ((group ∙ r.0.0, r.0.1), subst (λ (v : Rvg R g). IsReceiverAt beside n v.core new.waiting (g.meaning v.shelf)) (sym same) here)
 
       same_waits : new.waiting ≡ old.waiting → IsReceiverAt beside there old.rvg.core new.waiting m
-      same_waits is = same_receiver there old.rvg.core old.waiting m r running new.waiting (ap (λ (us : List Logged). writes_of_updates us) is ∙ waits)
+      same_waits is = same_receiver there old.rvg.core old.waiting m r.1 running new.waiting (ap (λ (us : List Logged). writes_of_updates us) is ∙ waits)
 
       peer : ReceivesAt there old.rvg.core old.waiting fed
-      peer = receives_at there old.rvg.core old.waiting m r running fed fed_by
+      peer = receives_at there old.rvg.core old.waiting m r.1 running fed fed_by
 
       rule : rule_at old.rvg.core old.waiting p.line k ≡ rule_of w p k
       rule = ap (λ (s : RState). (received_step s (HearUpdate p.line k)).action) peer.rule
@@ -123,17 +123,17 @@ module _ (w : World) (number : ℕ) (p : Packet) (k : ℕ) (x : Write) (at : pac
           → TookTo w number p k beside (Receives new) fed' a a' f f' said
       running_took said (OneWaits u n takes is from sends taken) =
           let next : n ≡ k = next_of n (sym rule ∙ takes) in
-          TakesOne (r.state, running) r.role (sym rule ∙ takes ∙ ap (λ (i : ℕ). Take i) next) (write_of_update u) taken
-          (group_same (with_write there p.source (write_of_update u))
-          (more_receiver there old.rvg.core old.waiting m r running p.source (write_of_update u) new.waiting
+          TakesOne (r.1.state, running) r.1.role (sym rule ∙ takes ∙ ap (λ (i : ℕ). Take i) next) (write_of_update u) taken
+          (group_same (with_write there p.source (write_of_update u)) refl
+          (more_receiver there old.rvg.core old.waiting m r.1 running p.source (write_of_update u) new.waiting
           (ap (λ (us : List Logged). writes_of_updates us) is ∙ map-append write_of_update old.waiting (u ∷ []) ∙ ap (λ (ws : List Write). ws ++ write_of_update u ∷ []) waits
-          ∙ sym (drop-append-le there.safe there.log (write_of_update u ∷ []) (omega (arith, r.least, r.most))))))
+          ∙ sym (drop-append-le there.safe there.log (write_of_update u ∷ []) (omega (arith, r.1.least, r.1.most))))))
           from (subst (λ (i : ℕ). Sends (packets_of p.target p.source there.line (NetAck there.session i)) f f') next (acks n sends))
       running_took said (NoneWaits n takes is from still how) =
           let next : n ≡ k = next_of n (sym rule ∙ takes) in
-          TakesNone (r.state, running) r.role (sym rule ∙ takes ∙ ap (λ (i : ℕ). Take i) next) how (group_same there (same_waits is)) (from ∙ fed_by) still
+          TakesNone (r.1.state, running) r.1.role (sym rule ∙ takes ∙ ap (λ (i : ℕ). Take i) next) how (group_same there refl (same_waits is)) (from ∙ fed_by) still
       running_took said (AcksAgain n again is from kept sends how) =
           IsUnheard (packets_of p.target p.source there.line (NetAck there.session n))
-          (heard_is r.state running r.role ∙ ap (λ (x' : RAction). gathers p (update_taken w p x x')) (sym rule ∙ again)) how (group_same there (same_waits is)) (from ∙ fed_by) kept (acks n sends)
+          (heard_is r.1.state running r.1.role ∙ ap (λ (x' : RAction). gathers p (update_taken w p x x')) (sym rule ∙ again)) how (group_same there refl (same_waits is)) (from ∙ fed_by) kept (acks n sends)
       running_took said (NotHeard idle is from kept still how) =
-          IsUnheard [] (heard_is r.state running r.role ∙ idle_ignored (rule_of w p k) (subst IsIdle rule idle) ∙ nothing_sent) how (group_same there (same_waits is)) (from ∙ fed_by) kept (more_none f f' still)
+          IsUnheard [] (heard_is r.1.state running r.1.role ∙ idle_ignored (rule_of w p k) (subst IsIdle rule idle) ∙ nothing_sent) how (group_same there refl (same_waits is)) (from ∙ fed_by) kept (more_none f f' still)

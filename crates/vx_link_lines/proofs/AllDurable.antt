@@ -26,8 +26,8 @@ module _ {R : Type 0} {g : Ghosts R} where
   durable_at : (beside : KeptBeside) (n : Node) (e : DiskSet R g) → SiteStands beside n e → n.state ≡ IsUp → n.halted ≡ None → is_origin n.role ≡ true → length n.log ≤ n.safe
   durable_at beside n (Bare rack) h up none origin = let e : IsBare ≡ IsUp = sym (ap (λ (x : Node). x.state) h.bare.is) ∙ up in absurd (cc)
   durable_at beside n (Spoiled rack) h up none origin = let e : IsBare ≡ IsUp = sym (ap (λ (x : Node). x.state) h.is) ∙ up in absurd (cc)
-  durable_at beside n (Up rvg) h up none origin = h.durable none
-  durable_at beside n (Receives s) h up none origin = let e : true ≡ false = sym origin ∙ h.role in absurd (cc)
+  durable_at beside n (Up rvg) h up none origin = h.1.durable none
+  durable_at beside n (Receives s) h up none origin = let e : true ≡ false = sym origin ∙ h.1.role in absurd (cc)
   durable_at beside n (Down rack) h up none origin = let e : IsDown ≡ IsUp = sym h.state ∙ up in absurd (cc)
   durable_at beside n (OfGroup s) h up none origin = let has = up_has_none beside n s h up in omega (arith, ap (λ (xs : List Write). length xs) has.log)
   durable_at beside n Gone h up none origin = absurd h

@@ -17,7 +17,7 @@ use Rattle.vx_diskset.specs.Layouts.{CanBeRaw}
 use Rattle.vx_diskset.specs.Stands.{IsToldAt, SiteStands}
 use Rattle.vx_diskset.specs.Withdrawn.{IsBareOf}
 use Rattle.vx_diskset.specs.declared.disk_set.DiskSet.{DiskSet}
-use Rattle.vx_diskset.specs.declared.disk_set.DiskSet.TheVariants.{Bare, Spoiled, Up, Receives, Down, OfGroup, Gone}
+use Rattle.vx_diskset.specs.declared.disk_set.DiskSet.TheVariants.{Bare, Spoiled, Up, Receives, Down, OfGroup, Over, Gone}
 use Rattle.vx_diskset.proofs.KeepsFailing.{failing_same, failing_then}
 use Rattle.vx_history.specs.Doubts.{Doubted}
 use Rattle.vx_history.specs.Steps.{raw_set, raw_volumes}
@@ -48,6 +48,7 @@ use Rattle.vx_site_lines.proofs.RiseLeads.{Replaced, stays_down, stood_up, withd
 use Rattle.vx_site_lines.proofs.RiseLine.{shape_at, sure, told_may, told_origin}
 use Rattle.vx_site_lines.proofs.RiseWorlds.{own_sites}
 use Rattle.vx_yard.proofs.WriteLine.{get_there}
+use Rattle.vx_diskset.proofs.GroupFinding.{over_made}
 
 module _ {R : Type 0} {g : Ghosts R} where
   pub later_then : (a b c : DiskSet R g) → Later a b → Later b c → Later a c
@@ -135,10 +136,11 @@ module _ {R : Type 0} {g : Ghosts R} where
   bare_of : (beside : KeptBeside) (n k : Node) (e : DiskSet R g) → SiteStands beside n e → n.state ≡ IsBare → k.disks ≡ n.disks → k.blocks ≡ n.blocks → IsBareOf n k
   bare_of beside n k (Bare rack) h bare disks blocks = record { is = h.bare.is; few = h.bare.few; some = h.bare.some; disks = disks; blocks = blocks }
   bare_of beside n k (Spoiled rack) h bare disks blocks = record { is = h.is; few = h.few; some = h.some; disks = disks; blocks = blocks }
-  bare_of beside n k (Up rvg) h bare disks blocks = absurd (let e : IsBare ≡ IsUp = sym bare ∙ h.state in cc)
-  bare_of beside n k (Receives s) h bare disks blocks = absurd (let e : IsBare ≡ IsUp = sym bare ∙ h.state in cc)
+  bare_of beside n k (Up rvg) h bare disks blocks = absurd (let e : IsBare ≡ IsUp = sym bare ∙ h.1.state in cc)
+  bare_of beside n k (Receives s) h bare disks blocks = absurd (let e : IsBare ≡ IsUp = sym bare ∙ h.1.state in cc)
   bare_of beside n k (Down rack) h bare disks blocks = absurd (let e : IsBare ≡ IsDown = sym bare ∙ h.state in cc)
   bare_of beside n k (OfGroup s) h bare disks blocks = record { is = h.bare bare; few = h.few; some = h.some; disks = disks; blocks = blocks }
+  bare_of beside n k (Over s) h bare disks blocks = absurd (over_made beside n s.site h.1 bare)
   bare_of beside n k Gone h bare disks blocks = absurd h
 
   module _ (d : Doubted) (old : Yard R g) (s : ℕ) (name : List ℕ) (number : site_number d.world name ≡ s) (stands : StandsFor d old) (below : s < d.world.sites)

@@ -10,7 +10,7 @@ use Rattle.vx_model.specs.declared.call.Update.{Update}
 use Rattle.vx_model.specs.Content.{Content, Write, fold_writes}
 use Rattle.vx_disk.specs.Shelf.{Meaning, Lawful}
 use Rattle.vx_disk.specs.declared.shelf.Shelf.{Ghosts}
-use Rattle.vx_diskset.specs.Lasts.{FoundWith}
+use Rattle.vx_diskset.specs.Lasts.{FoundWith, LeftWith}
 use Rattle.vx_rvg.specs.Views.{Core}
 use Rattle.vx_diskset.specs.declared.disk_set.DiskSet.{DiskSet}
 use Rattle.vx_diskset.specs.declared.disk_set.DiskSet.TheVariants.{Bare, Spoiled, Up, Receives, Down, OfGroup, Gone}
@@ -36,6 +36,8 @@ use Rattle.vx_diskset.proofs.CrashGroup.{left_with}
 use Rattle.vx_diskset.proofs.StaysUp.{all_taken, durable_content, told_now}
 use Rattle.std.proofs.lemmas.Bool.{cases_lt}
 use Rattle.std.proofs.Common.{⊎_elim}
+use Rattle.vx_diskset.proofs.Laying.{units_raw}
+use Rattle.vx_model.specs.declared.units.Units.{Units}
 
 never_both : {x : SiteState} → x ≡ IsUp → x ≡ IsDown → ⊥
 never_both a b = let e : IsUp ≡ IsDown = sym a ∙ b in cc
@@ -58,7 +60,8 @@ down_holds {beside} n m lawful is = record {
     most = omega (arith, is.logged);
     found = subst (λ (xs : List Write). FoundWith (units_of n) n.ring (state_with n beside.links) n.session (most_header beside n) i xs (fold_writes n.base (drop n.safe (take n.safe n.log)))) (all_taken n is.logged)
         (subst (λ (c : Content). FoundWith (units_of n) n.ring (state_with n beside.links) n.session (most_header beside n) i n.log c) (durable_content n)
-        (left_with (units_of n) n.ring (state_with n beside.links) n.session (most_header beside n) n.log n.base m i lawful now (is.left (told_now m i lawful now))));
+        (left_with (units_of n) n.ring (state_with n beside.links) n.session (most_header beside n) n.log n.base m i lawful now
+        (subst (λ (u : Units). LeftWith u n.ring (state_with n beside.links) n.session (most_header beside n) n.log n.base m) (sym (units_raw n is.raw)) (is.left (told_now m i lawful now)))));
   });
 }
 
@@ -296,9 +299,9 @@ module _ {R : Type 0} {g : Ghosts R} where
   beside_holds lawful beside n (Some (Spoiled rack)) r apart stands is =
       subst (λ (k : R). HoldsSite beside n (g.meaning k)) (some_same is) (bare_holds n (g.meaning rack) (stands (Spoiled rack) refl))
   beside_holds lawful beside n (Some (Up rvg)) r apart stands is =
-      subst (λ (k : R). HoldsSite beside n (g.meaning k)) (some_same is) (up_holds n rvg.core (g.meaning rvg.shelf) (stands (Up rvg) refl))
+      subst (λ (k : R). HoldsSite beside n (g.meaning k)) (some_same is) (up_holds n rvg.core (g.meaning rvg.shelf) (stands (Up rvg) refl).1)
   beside_holds lawful beside n (Some (Receives s)) r apart stands is =
-      subst (λ (k : R). HoldsSite beside n (g.meaning k)) (some_same is) (receiver_holds n s.rvg.core s.waiting (g.meaning s.rvg.shelf) (stands (Receives s) refl))
+      subst (λ (k : R). HoldsSite beside n (g.meaning k)) (some_same is) (receiver_holds n s.rvg.core s.waiting (g.meaning s.rvg.shelf) (stands (Receives s) refl).1)
   beside_holds lawful beside n (Some (Down rack)) r apart stands is =
       subst (λ (k : R). HoldsSite beside n (g.meaning k)) (some_same is) (down_holds n (g.meaning rack) (lawful rack) (stands (Down rack) refl))
   beside_holds lawful beside n (Some (OfGroup s)) r apart stands is =
