@@ -16,7 +16,7 @@ use Rattle.vx_diskset.specs.Holds.{HasSite}
 use Rattle.vx_diskset.specs.Rooms.{AppliedAs}
 use Rattle.vx_diskset.specs.Fuses.{FuseOn}
 use Rattle.vx_history.specs.Stops.{IsFused}
-use Rattle.vx_diskset.specs.Stands.{IsUpAt, IsHeldAt, IsRawSite}
+use Rattle.vx_diskset.specs.Stands.{IsUpAt, IsHeldAt, IsUngrouped}
 use Rattle.vx_diskset.proofs.LastWrites.{rests_with, resting_found}
 use Rattle.vx_diskset.proofs.StaysUp.{told_now, never_both, left_moved, up_found, SameLog, up_with, held_moved, fused_by, fuse_moved}
 use Rattle.vx_diskset.specs.declared.disk_set.DiskSet.{DiskSet}
@@ -97,7 +97,7 @@ applied_as n to c c' m new result up can sound lawful after still is rests moves
 
 module _ {R : Type 0} {g : Ghosts R} where
   -- an apply over a rack
-  pub applied_at : (beside : KeptBeside) (n : Node) (to : ℕ) (old : DiskSet R g) (rvg new : Rvg R g) (result : Result ℕ No) → old ≡ Up rvg → IsRawSite beside n → AppliedAs beside n to new.core (g.meaning rvg.shelf) (g.meaning new.shelf) result → AppliedUp beside n to old (Up new) result
+  pub applied_at : (beside : KeptBeside) (n : Node) (to : ℕ) (old : DiskSet R g) (rvg new : Rvg R g) (result : Result ℕ No) → old ≡ Up rvg → IsUngrouped beside n → AppliedAs beside n to new.core (g.meaning rvg.shelf) (g.meaning new.shelf) result → AppliedUp beside n to old (Up new) result
   applied_at beside n to old rvg new result is raw it = subst (λ (e : DiskSet R g). AppliedUp beside n to e (Up new) result) (sym is) (by result it)
     where
       by : (r : Result ℕ No) → AppliedAs beside n to new.core (g.meaning rvg.shelf) (g.meaning new.shelf) r → AppliedUp beside n to (Up rvg) (Up new) r

@@ -32,7 +32,7 @@ use Rattle.vx_diskset.specs.Lasts.{FoundWith, LeftWith}
 use Rattle.vx_diskset.specs.Holds.{HasDoubted, HasWrites, KeptSite, itself, state_with, sure_of}
 use Rattle.vx_diskset.specs.Layouts.{LiesOn, raw_units, units_of, LiesRaw}
 use Rattle.vx_diskset.specs.Holds.{most_with}
-use Rattle.vx_diskset.specs.Stands.{IsUpAt, IsHeldAt, IsDownAt, CutAt, IsToldAt, IsRawSite}
+use Rattle.vx_diskset.specs.Stands.{IsUpAt, IsHeldAt, IsDownAt, CutAt, IsToldAt, IsUngrouped}
 use Rattle.vx_diskset.proofs.Laying.{laid_in, lies_as, lies_sized, sizes_of, raw_sized, units_raw}
 use Rattle.vx_diskset.proofs.BesideLemmas.{doubted, writes_itself}
 use Rattle.vx_diskset.proofs.StaysUp.{held_up}
@@ -202,7 +202,7 @@ module _ (k : KeptSite) (other : Node) (none : other.group ≡ None) (raw : k.no
     left = λ tells. subst (λ (u : Units). LeftWith u n.ring (state_with n k.links) n.session (most_with (sure_of k) n count) (take count n.log) (fold_writes n.base (drop n.safe (take count n.log))) new) (units_raw n raw) (left tells);
   }
 
-module _ {beside : KeptBeside} (n : Node) (m new : Meaning) (raw : IsRawSite beside n) (up : IsHeldAt beside n m) (lawful : Lawful new) (rack : IsRack new) (stopped : Stopped m new) where
+module _ {beside : KeptBeside} (n : Node) (m new : Meaning) (raw : IsUngrouped beside n) (up : IsHeldAt beside n m) (lawful : Lawful new) (rack : IsRack new) (stopped : Stopped m new) where
   fell_itself : (i : Image) → HasWrites beside n i → new.now i → IsTrue new.tells → Fell beside n new
   fell_itself i has now tells =
       let own = writes_itself n i has in
@@ -250,13 +250,13 @@ module _ {beside : KeptBeside} (n : Node) (m new : Meaning) (raw : IsRawSite bes
   crash_down = fell_by new.tells refl
 
 module _ {R : Type 0} {g : Ghosts R} where
-  pub held_crashed : {beside : KeptBeside} (n : Node) (old shelf new : R) → shelf ≡ old → IsRawSite beside n → IsHeldAt beside n (g.meaning old) → Lawful (g.meaning new) → IsRack (g.meaning new) → Stopped (g.meaning shelf) (g.meaning new) → CrashedAt {g = g} beside n (Down new)
+  pub held_crashed : {beside : KeptBeside} (n : Node) (old shelf new : R) → shelf ≡ old → IsUngrouped beside n → IsHeldAt beside n (g.meaning old) → Lawful (g.meaning new) → IsRack (g.meaning new) → Stopped (g.meaning shelf) (g.meaning new) → CrashedAt {g = g} beside n (Down new)
   held_crashed n old shelf new is raw held lawful rack stopped =
       let k = crash_down n (g.meaning old) (g.meaning new) raw held lawful rack (subst (λ (r : R). Stopped (g.meaning r) (g.meaning new)) is stopped) in
       record { kept = k.kept; is = k.is; count = k.count; least = k.least; most = k.most; stands = k.down }
 
   -- the disk set of a site that crashed
-  pub crashed_at : {beside : KeptBeside} (n : Node) (core : Core) (old shelf new : R) → shelf ≡ old → IsRawSite beside n → IsUpAt beside n core (g.meaning old) → Lawful (g.meaning new) → IsRack (g.meaning new) → Stopped (g.meaning shelf) (g.meaning new)
+  pub crashed_at : {beside : KeptBeside} (n : Node) (core : Core) (old shelf new : R) → shelf ≡ old → IsUngrouped beside n → IsUpAt beside n core (g.meaning old) → Lawful (g.meaning new) → IsRack (g.meaning new) → Stopped (g.meaning shelf) (g.meaning new)
       → CrashedAt {g = g} beside n (Down new)
   crashed_at n core old shelf new is raw up lawful rack stopped = held_crashed n old shelf new is raw (held_up n core (g.meaning old) up) lawful rack stopped
 

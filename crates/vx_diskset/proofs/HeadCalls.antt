@@ -25,7 +25,7 @@ use Rattle.vx_diskset.specs.Holds.{KeptBeside}
 use Rattle.vx_diskset.specs.Keeps.{done_by}
 use Rattle.vx_diskset.specs.Layouts.{units_of}
 use Rattle.vx_diskset.specs.Received.{reached_by}
-use Rattle.vx_diskset.specs.Stands.{IsReceiverAt, IsUpAt, SiteStands, IsRawSite}
+use Rattle.vx_diskset.specs.Stands.{IsReceiverAt, IsUpAt, SiteStands, IsUngrouped}
 use Rattle.vx_diskset.specs.declared.receivers.Reached.{Reached}
 use Rattle.vx_diskset.specs.declared.disk_set.DiskSet.{DiskSet}
 use Rattle.vx_diskset.specs.declared.disk_set.DiskSet.TheVariants.{Bare, Spoiled, Up, Receives, Down, OfGroup, Over, Gone}
@@ -71,7 +71,7 @@ module _ {R : Type 0} {g : Ghosts R} where
       }
 
   -- of a site that is up
-  pub head_up : (k : ℕ) (said : Said) (beside : KeptBeside) (n : Node) (e after : DiskSet R g) (rvg : Rvg R g) → e ≡ Up rvg → SiteStands beside n e → (IsRawSite beside n → IsUpAt beside n rvg.core (g.meaning rvg.shelf) → HeadUnder k said (Up rvg) after)
+  pub head_up : (k : ℕ) (said : Said) (beside : KeptBeside) (n : Node) (e after : DiskSet R g) (rvg : Rvg R g) → e ≡ Up rvg → SiteStands beside n e → (IsUngrouped beside n → IsUpAt beside n rvg.core (g.meaning rvg.shelf) → HeadUnder k said (Up rvg) after)
       → HeadUnder k said e after
   head_up k said beside n e after rvg is stands headed =
       let at = up_there beside n e rvg is stands in
@@ -79,7 +79,7 @@ module _ {R : Type 0} {g : Ghosts R} where
 
   -- of a site that receives
   pub head_received : (k : ℕ) (said : Said) (beside : KeptBeside) (n : Node) (e : DiskSet R g) (s s' : Secondary R g) → e ≡ Receives s → SiteStands beside n e
-      → (IsRawSite beside n → IsReceiverAt beside n s.rvg.core s.waiting (g.meaning s.rvg.shelf) → HeadUnder k said (Up s.rvg) (Up s'.rvg)) → HeadUnder k said e (Receives s')
+      → (IsUngrouped beside n → IsReceiverAt beside n s.rvg.core s.waiting (g.meaning s.rvg.shelf) → HeadUnder k said (Up s.rvg) (Up s'.rvg)) → HeadUnder k said e (Receives s')
   head_received k said beside n e s s' is stands headed =
       let at = receiver_there beside n e s is stands in
       let here = headed at.0 at.1 in

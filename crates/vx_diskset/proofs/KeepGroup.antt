@@ -36,7 +36,7 @@ use Rattle.vx_diskset.specs.Keeps.{CanKeep, KeptAt, KeptUp, doubting, kept_anew,
 use Rattle.vx_diskset.specs.Lasts.{StandsHolding}
 use Rattle.vx_diskset.specs.Layouts.{LiesOn}
 use Rattle.vx_diskset.specs.Needs.{NoneNeeds, hold_of, is_needing}
-use Rattle.vx_diskset.specs.Stands.{CutAt, IsHeldAt, IsUpAt, IsRawSite}
+use Rattle.vx_diskset.specs.Stands.{CutAt, IsHeldAt, IsUpAt, IsUngrouped}
 use Rattle.vx_diskset.specs.Shelves.{KeptAs}
 use Rattle.vx_diskset.proofs.Blamed.{disks_are}
 use Rattle.vx_diskset.proofs.BesideLemmas.{never_besides, site_sure}
@@ -236,7 +236,7 @@ module _ {beside : KeptBeside} (n : Node) (c c' : Core) (m new : Meaning) (s : S
         (subst (λ (h : Option ℕ). IsSome (halted_or h (if leb most_number c.log.header.stamp then Some no_number else None)) → new ≡ m) runs unchanged) rests blames
 
 module _ {R : Type 0} {g : Ghosts R} where
-  pub kept_at : (beside : KeptBeside) (n : Node) (s : State) (old new : Rvg R g) (result : Result (Unit {0}) No) → IsRawSite beside n → IsRack (g.meaning old.shelf) → KeptAs beside n s (g.meaning old.shelf) new.core (g.meaning new.shelf) result → KeptUp beside n s (Up old) (Up new) result
+  pub kept_at : (beside : KeptBeside) (n : Node) (s : State) (old new : Rvg R g) (result : Result (Unit {0}) No) → IsUngrouped beside n → IsRack (g.meaning old.shelf) → KeptAs beside n s (g.meaning old.shelf) new.core (g.meaning new.shelf) result → KeptUp beside n s (Up old) (Up new) result
   kept_at beside n s old new (Ok done) raw rack is = (raw_sure (kept_anew beside n s) (worked (restated n s)) raw.0, is)
   kept_at beside n s old new (Err (Device disk)) raw rack is = ((raw_doubting beside n s disk raw.0, is.0), is.1, is.2 (λ none. disks_are (g.meaning old.shelf) rack))
   kept_at beside n s old new (Err (Limit what most)) raw rack is = (is.0, is.1, (raw, is.2))

@@ -39,7 +39,7 @@ use Rattle.vx_rvg.specs.Groups.{has_numbers}
 use Rattle.vx_srl.specs.Views.{most_number}
 use Rattle.vx_diskset.specs.Rooms.{AppliedAs, HasNumbers, IsMore, NeverLimit}
 use Rattle.vx_diskset.proofs.LeavesNumbers.{lacks_them}
-use Rattle.vx_diskset.specs.Stands.{IsHeldAt, IsReceiverAt, IsUpAt, CutAt, SiteStands, IsRawSite}
+use Rattle.vx_diskset.specs.Stands.{IsHeldAt, IsReceiverAt, IsUpAt, CutAt, SiteStands, IsUngrouped}
 use Rattle.vx_events.specs.Fuses.{ring_taken}
 use Rattle.vx_diskset.proofs.BesideLemmas.{never_besides, site_map}
 use Rattle.vx_ringio.specs.Spends.{Spends}
@@ -456,7 +456,7 @@ module _ {R : Type 0} {g : Ghosts R} where
   count_waits : {beside : KeptBeside} (n : Node) (s : Secondary R g) → IsReceiverAt beside n s.rvg.core s.waiting (g.meaning s.rvg.shelf) → n.halted ≡ None → length s.waiting ≡ length n.log - n.safe
   count_waits n s r running = omega (arith, ap (λ (ws : List Write). length ws) r.waits, length-map s.waiting write_of_update, length-drop (last_of s.rvg.core) n.log, r.head running)
 
-  by_result : (beside : KeptBeside) (n : Node) (count few : ℕ) (s new : Secondary R g) (result : Result Reached No) → IsRawSite beside n → IsReceiverAt beside n s.rvg.core s.waiting (g.meaning s.rvg.shelf) → n.halted ≡ None → few ≡ min count (length s.waiting) → 0 < few
+  by_result : (beside : KeptBeside) (n : Node) (count few : ℕ) (s new : Secondary R g) (result : Result Reached No) → IsUngrouped beside n → IsReceiverAt beside n s.rvg.core s.waiting (g.meaning s.rvg.shelf) → n.halted ≡ None → few ≡ min count (length s.waiting) → 0 < few
       → ReachedTo beside n few new.waiting new.rvg.core (g.meaning s.rvg.shelf) (g.meaning new.rvg.shelf) result → ReachedUp beside n count (Receives s) (Receives new) result
   by_result beside n count few s new (Ok r) raw here running is some h =
       subst (λ (a : RAction). ReachedBy a beside n r (Receives new)) (sym (rule_some n count few (is ∙ ap (λ (k : ℕ). min count k) (count_waits n s here running)) some (omega (arith, here.least, here.most)))) (h.0, h.1, (raw, h.2))

@@ -29,7 +29,7 @@ use Rattle.vx_diskset.specs.DiskSets.{CanRead, ReadAt}
 use Rattle.vx_diskset.specs.Fetching.{Gave, GaveAt}
 use Rattle.vx_diskset.specs.Holds.{HasSite}
 use Rattle.vx_diskset.specs.Fuses.{FuseOn}
-use Rattle.vx_diskset.specs.Stands.{IsUpAt, SiteStands, IsRawSite}
+use Rattle.vx_diskset.specs.Stands.{IsUpAt, SiteStands, IsUngrouped}
 use Rattle.vx_diskset.specs.Lasts.{StandsHolding}
 use Rattle.vx_diskset.specs.Shelves.{ReadAs}
 use Rattle.vx_diskset.proofs.Laying.{laid_in}
@@ -97,7 +97,7 @@ module _ {beside : KeptBeside} (n : Node) (c : Core) (m new : Meaning) (volume s
       by_reads result (subst (λ (o : Option No). ReadIs o m new result) refusal is) gives
 
 module _ {R : Type 0} {g : Ghosts R} where
-  by_disk_set : (beside : KeptBeside) (n : Node) (volume start count : ℕ) (bytes : List ℕ) (rvg new : Rvg R g) (result : Result (Unit {0}) No) → IsRawSite beside n
+  by_disk_set : (beside : KeptBeside) (n : Node) (volume start count : ℕ) (bytes : List ℕ) (rvg new : Rvg R g) (result : Result (Unit {0}) No) → IsUngrouped beside n
       → ReadAs beside n volume start count bytes new.core (g.meaning rvg.shelf) (g.meaning new.shelf) result → ReadAt beside n volume start count bytes (Up rvg) (Up new) result
   by_disk_set beside n volume start count bytes rvg new (Ok done) raw h = (h.0, (raw, h.1))
   by_disk_set beside n volume start count bytes rvg new (Err (Device disk)) raw h = ((raw, h.0), h.1)

@@ -37,7 +37,7 @@ use Rattle.vx_diskset.specs.Holds.{KeptBeside, HasDoubted, HasWrites, KeptSite, 
 use Rattle.vx_diskset.specs.Lasts.{FoundWith, StandsHolding}
 use Rattle.vx_diskset.specs.Layouts.{units_of}
 use Rattle.vx_diskset.specs.Needs.{TakesAs}
-use Rattle.vx_diskset.specs.Stands.{IsHeldAt, IsReceiverAt, IsUpAt, RoleIs, SiteStands, IsToldAt, IsRawSite}
+use Rattle.vx_diskset.specs.Stands.{IsHeldAt, IsReceiverAt, IsUpAt, RoleIs, SiteStands, IsToldAt, IsUngrouped}
 use Rattle.vx_diskset.specs.Rooms.{AppliedAs}
 use Rattle.vx_diskset.specs.DiskSets.{AppliedUp, ReadAt, halted_at, worked, BareUp, BareUpBy, CameUp, CameUpBy, CanRead}
 use Rattle.vx_diskset.specs.Keeps.{KeptUp, doubting, restated, kept_anew}
@@ -316,7 +316,7 @@ module _ {R : Type 0} {g : Ghosts R} where
       receiver_up n s.rvg.core s.waiting (g.meaning s.rvg.shelf) (receiver_there beside n old s is stands).1 running lawful s.rvg.sound.log_unit
 
   module _ (beside : KeptBeside) (n : Node) (old : DiskSet R g) (s new : Secondary R g) (is : old ≡ Receives s) (stands : SiteStands beside n old) (running : n.halted ≡ None) (waiting : new.waiting ≡ s.waiting) where
-    raw : IsRawSite beside n
+    raw : IsUngrouped beside n
     raw = (receiver_there beside n old s is stands).0
 
     here : At beside n s
@@ -385,7 +385,7 @@ module _ {R : Type 0} {g : Ghosts R} where
 -- ---- what is shown of a receiver
 
 module _ {R : Type 0} {g : Ghosts R} where
-  module _ (beside : KeptBeside) (n : Node) (s new : Secondary R g) (volume start count : ℕ) (bytes : List ℕ) (raw : IsRawSite beside n) (r : IsReceiverAt beside n s.rvg.core s.waiting (g.meaning s.rvg.shelf)) (can : CanRead n volume start count)
+  module _ (beside : KeptBeside) (n : Node) (s new : Secondary R g) (volume start count : ℕ) (bytes : List ℕ) (raw : IsUngrouped beside n) (r : IsReceiverAt beside n s.rvg.core s.waiting (g.meaning s.rvg.shelf)) (can : CanRead n volume start count)
       (lawful : Lawful (g.meaning s.rvg.shelf)) (after : Lawful (g.meaning new.rvg.shelf)) (same : new.rvg.core ≡ s.rvg.core) (waiting : new.waiting ≡ s.waiting) (goes : Goes Nothing (g.meaning s.rvg.shelf) (g.meaning new.rvg.shelf))
       (down : (g.meaning new.rvg.shelf).down ≡ (g.meaning s.rvg.shelf).down) (disks : OnDisks (g.meaning s.rvg.shelf).disks (g.meaning new.rvg.shelf).disks Untouched) where
     up : IsUpAt beside (durable_of n) s.rvg.core (g.meaning s.rvg.shelf)
@@ -429,7 +429,7 @@ module _ {R : Type 0} {g : Ghosts R} where
     showed (Err why) is gives = by_why why (refused why is)
 
   pub showed_at : (beside : KeptBeside) (n : Node) (old new : DiskSet R g) (s : Secondary R g) (volume start count : ℕ) (bytes : List ℕ) (result : Result (Unit {0}) No) → old ≡ Receives s
-      → (IsRawSite beside n → IsReceiverAt beside n s.rvg.core s.waiting (g.meaning s.rvg.shelf) → ShowedAt beside n volume start count bytes (Receives s) new result) → SiteStands beside n old → ShowedAt beside n volume start count bytes old new result
+      → (IsUngrouped beside n → IsReceiverAt beside n s.rvg.core s.waiting (g.meaning s.rvg.shelf) → ShowedAt beside n volume start count bytes (Receives s) new result) → SiteStands beside n old → ShowedAt beside n volume start count bytes old new result
   showed_at beside n old new s volume start count bytes result is shows stands =
       let at = receiver_there beside n old s is stands in
       subst (λ (e : DiskSet R g). ShowedAt beside n volume start count bytes e new result) (sym is) (shows at.0 at.1)
@@ -460,7 +460,7 @@ risen_receiver {beside} n c m up running whole role =
 
 module _ {R : Type 0} {g : Ghosts R} where
   pub risen_at : (beside : KeptBeside) (n : Node) (old : DiskSet R g) (rvg : Rvg R g) (s : Secondary R g) → old ≡ Up rvg → s.rvg ≡ rvg → s.waiting ≡ [] → is_origin rvg.core.log.header.state.role ≡ false → SiteStands beside n old → n.halted ≡ None → length n.log ≡ n.safe
-      → IsRawSite beside n × IsReceiverAt beside n s.rvg.core s.waiting (g.meaning s.rvg.shelf)
+      → IsUngrouped beside n × IsReceiverAt beside n s.rvg.core s.waiting (g.meaning s.rvg.shelf)
   risen_at beside n old rvg s is group none role stands running whole =
       let at = up_there beside n old rvg is stands in (
         at.0,

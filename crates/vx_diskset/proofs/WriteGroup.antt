@@ -35,7 +35,7 @@ use Rattle.vx_diskset.specs.Fuses.{IsFirstLog}
 use Rattle.vx_diskset.specs.Fuses.{FuseOn}
 use Rattle.vx_history.specs.Stops.{IsFused}
 use Rattle.vx_events.specs.Fuses.{IsExact, ring_taken}
-use Rattle.vx_diskset.specs.Stands.{IsUpAt, IsHeldAt, IsRawSite}
+use Rattle.vx_diskset.specs.Stands.{IsUpAt, IsHeldAt, IsUngrouped}
 use Rattle.vx_diskset.specs.Shelves.{IsRackOf, LoggedAs}
 use Rattle.vx_diskset.proofs.Blamed.{disks_are}
 use Rattle.vx_diskset.proofs.ApplyGroup.{ended_log}
@@ -219,7 +219,7 @@ wrote_none n x c m up full = (refl, (λ told. omega (arith, full, up.head)), up_
 
 module _ {R : Type 0} {g : Ghosts R} where
   -- a write over a rack
-  pub logged_at : (beside : KeptBeside) (n : Node) (x : Write) (old new : Rvg R g) (result : Result ℕ No) → IsRawSite beside n → IsRack (g.meaning new.shelf) → LoggedAs beside n x (g.meaning old.shelf) new.core (g.meaning new.shelf) result → LoggedUp beside n x (Up old) (Up new) result
+  pub logged_at : (beside : KeptBeside) (n : Node) (x : Write) (old new : Rvg R g) (result : Result ℕ No) → IsUngrouped beside n → IsRack (g.meaning new.shelf) → LoggedAs beside n x (g.meaning old.shelf) new.core (g.meaning new.shelf) result → LoggedUp beside n x (Up old) (Up new) result
   logged_at beside n x old new (Ok number) raw rack is = (is.0, is.1, (raw, is.2), λ origin calls told exact. is.3 origin calls told (λ none. disks_are (g.meaning new.shelf) rack) exact)
   logged_at beside n x old new (Err (Device disk)) raw rack is = ((raw, is.0), is.1, is.2)
   logged_at beside n x old new (Err (Limit what most)) raw rack is = (is.0, is.1, (raw, is.2))

@@ -196,8 +196,8 @@ pub record RestsOver (Left : Config → Type 0) (beside : KeptBeside) (n : Node)
   pub left : IsTrue m.tells → Left config
 
 -- a site that is on no group of disks, whatever it may be besides
-abbrev pub IsRawSite : KeptBeside → Node → Type 0
-IsRawSite beside n = (n.group ≡ None) × ((k : KeptSite) → beside.doubt ≡ Some k → k.node.group ≡ None)
+abbrev pub IsUngrouped : KeptBeside → Node → Type 0
+IsUngrouped beside n = (n.group ≡ None) × ((k : KeptSite) → beside.doubt ≡ Some k → k.node.group ≡ None)
 
 -- one on a group of disks: what it may be besides has the same units
 abbrev pub IsOverSite : KeptBeside → Node → Type 0
@@ -255,8 +255,8 @@ module _ {R : Type 0} {g : Ghosts R} where
   abbrev pub SiteStands : KeptBeside → Node → DiskSet R g → Type 0
   SiteStands beside n (Bare rack) = IsCleanAt n (g.meaning rack)
   SiteStands beside n (Spoiled rack) = IsBareAt n (g.meaning rack)
-  SiteStands beside n (Up rvg) = IsRawSite beside n × IsUpAt beside n rvg.core (g.meaning rvg.shelf)
-  SiteStands beside n (Receives s) = IsRawSite beside n × IsReceiverAt beside n s.rvg.core s.waiting (g.meaning s.rvg.shelf)
+  SiteStands beside n (Up rvg) = IsUngrouped beside n × IsUpAt beside n rvg.core (g.meaning rvg.shelf)
+  SiteStands beside n (Receives s) = IsUngrouped beside n × IsReceiverAt beside n s.rvg.core s.waiting (g.meaning s.rvg.shelf)
   SiteStands beside n (Down rack) = IsDownAt beside n (g.meaning rack)
   SiteStands beside n (OfGroup s) = IsGroupSet beside n s
   SiteStands beside n (Over s) = IsOverSite beside n × OverStands beside n s.site
@@ -290,8 +290,8 @@ module _ {R : Type 0} {g : Ghosts R} where
   abbrev pub CutAt : KeptBeside → Node → DiskSet R g → Type 0
   CutAt beside n (Bare rack) = ⊥
   CutAt beside n (Spoiled rack) = ⊥
-  CutAt beside n (Up rvg) = IsRawSite beside n × IsHeldAt beside n (g.meaning rvg.shelf)
-  CutAt beside n (Receives s) = IsRawSite beside n × IsHeldAt beside n (g.meaning s.rvg.shelf)
+  CutAt beside n (Up rvg) = IsUngrouped beside n × IsHeldAt beside n (g.meaning rvg.shelf)
+  CutAt beside n (Receives s) = IsUngrouped beside n × IsHeldAt beside n (g.meaning s.rvg.shelf)
   CutAt beside n (Down rack) = ⊥
   CutAt beside n (OfGroup s) = ⊥
   CutAt beside n (Over s) = IsOverSite beside n × CutOver beside n s.site

@@ -16,32 +16,33 @@ use Rattle.vx_diskset.specs.Asked.{HeadUnder, LeavesFuse, disks_told, size_in}
 use Rattle.vx_diskset.specs.Burning.{Burnt, NoMore}
 use Rattle.vx_diskset.specs.DiskSets.{CrashedAt, Later, halted_at, is_off}
 use Rattle.vx_diskset.specs.Holds.{KeptBeside}
-use Rattle.vx_diskset.specs.Stands.{CutAt, IsReceiverAt, SiteStands, IsRawSite}
+use Rattle.vx_diskset.specs.Stands.{CutAt, IsReceiverAt, SiteStands, IsUngrouped}
 use Rattle.vx_diskset.specs.declared.disk_set.DiskSet.{DiskSet}
 use Rattle.vx_diskset.specs.declared.disk_set.DiskSet.TheVariants.{Bare, Spoiled, Up, Receives, Down, OfGroup, Over, Gone}
 use Rattle.vx_diskset.proofs.GroupStands.{apart_bare, none_apart}
 use Rattle.vx_joins.specs.Joins.{CanJoin, JoinedAs, JoinedAt, joins_in_doubt}
-use Rattle.vx_diskset.proofs.RawSets.{raw_beside}
+use Rattle.vx_diskset.proofs.RawSets.{raw_doubted}
+use Rattle.vx_history.specs.Events.{joined}
 
 module _ {R : Type 0} {g : Ghosts R} where
   -- the group with the room for updates
-  pub receives_group : {beside : KeptBeside} (n : Node) (s : Secondary R g) (v : Rvg R g) → s.rvg ≡ v → s.waiting ≡ [] → IsRawSite beside n → IsReceiverAt beside n v.core [] (g.meaning v.shelf) → SiteStands beside n (Receives s)
+  pub receives_group : {beside : KeptBeside} (n : Node) (s : Secondary R g) (v : Rvg R g) → s.rvg ≡ v → s.waiting ≡ [] → IsUngrouped beside n → IsReceiverAt beside n v.core [] (g.meaning v.shelf) → SiteStands beside n (Receives s)
   receives_group {beside} n s v same none raw stands = (
     raw,
     subst (λ (us : List Update). IsReceiverAt beside n s.rvg.core us (g.meaning s.rvg.shelf)) (sym none)
         (subst (λ (k : Rvg R g). IsReceiverAt beside n k.core [] (g.meaning k.shelf)) (sym same) stands),
   )
 
-  raw_joining : (beside : KeptBeside) (a : Node) (p : ℕ) (n : Node) (disk : ℕ) → n.group ≡ None → IsRawSite (joins_in_doubt beside a p n disk) (halted_at n disk)
-  raw_joining beside a p n disk none = (none, raw_beside (record { node = halted_at (joined a p n) disk; links = beside.links; headers = beside.headers + 1 }) n none refl)
+  raw_joining : (beside : KeptBeside) (a : Node) (p : ℕ) (n : Node) (disk : ℕ) → n.group ≡ None → IsUngrouped (joins_in_doubt beside a p n disk) (halted_at n disk)
+  raw_joining beside a p n disk none = (none, raw_doubted (record { node = halted_at (joined a p n) disk; links = beside.links; headers = beside.headers + 1 }) n none refl)
 
   -- the fuse ran out, and the site crashed
-  pub joined_off : (beside : KeptBeside) (a : Node) (p : ℕ) (n : Node) (old mid : Rvg R g) (new : DiskSet R g) (why : No) → IsRawSite beside n → is_off why ≡ true → JoinedAs beside a p n (g.meaning old.shelf) mid.core (g.meaning mid.shelf) (Err why)
+  pub joined_off : (beside : KeptBeside) (a : Node) (p : ℕ) (n : Node) (old mid : Rvg R g) (new : DiskSet R g) (why : No) → IsUngrouped beside n → is_off why ≡ true → JoinedAs beside a p n (g.meaning old.shelf) mid.core (g.meaning mid.shelf) (Err why)
       → (CutAt (joins_in_doubt beside a p n 0) (halted_at n 0) (Up mid) → CrashedAt (joins_in_doubt beside a p n 0) (halted_at n 0) new) → JoinedAt beside a p n (Up old) new (Err why)
   joined_off beside a p n old mid new IsOff raw off is falls = (is.0, falls (raw_joining beside a p n 0 raw.0, is.1))
   joined_off beside a p n old mid new other raw off is falls = absurd (cc)
 
-  pub joined_on : (beside : KeptBeside) (a : Node) (p : ℕ) (n : Node) (old mid : Rvg R g) (why : No) → IsRawSite beside n → is_off why ≡ false → JoinedAs beside a p n (g.meaning old.shelf) mid.core (g.meaning mid.shelf) (Err why)
+  pub joined_on : (beside : KeptBeside) (a : Node) (p : ℕ) (n : Node) (old mid : Rvg R g) (why : No) → IsUngrouped beside n → is_off why ≡ false → JoinedAs beside a p n (g.meaning old.shelf) mid.core (g.meaning mid.shelf) (Err why)
       → JoinedAt beside a p n (Up old) (Up mid) (Err why)
   joined_on beside a p n old mid IsOff raw on is = absurd (cc)
   joined_on beside a p n old mid (Device disk) raw on is = ((raw_joining beside a p n disk raw.0, is.0), is.1, is.2)

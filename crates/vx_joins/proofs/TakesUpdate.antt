@@ -38,7 +38,7 @@ use Rattle.vx_diskset.specs.Holds.{KeptBeside, HasWrites, most_with, state_with}
 use Rattle.vx_diskset.specs.Lasts.{FoundWith, StandsHolding}
 use Rattle.vx_diskset.specs.Layouts.{units_of}
 use Rattle.vx_diskset.specs.Needs.{TakesAs}
-use Rattle.vx_diskset.specs.Stands.{IsReceiverAt, RoleIs, SiteStands, IsRawSite}
+use Rattle.vx_diskset.specs.Stands.{IsReceiverAt, RoleIs, SiteStands, IsUngrouped}
 use Rattle.vx_diskset.specs.declared.disk_set.DiskSet.{DiskSet}
 use Rattle.vx_diskset.specs.declared.disk_set.DiskSet.TheVariants.{Bare, Spoiled, Up, Receives, Down, OfGroup, Gone}
 use Rattle.vx_diskset.proofs.GroupStands.{off_or_origin}
@@ -261,10 +261,10 @@ module _ (w : World) (number : ℕ) (p : Packet) (k : ℕ) (x : Write) (at : pac
         m : Meaning
         m = g.meaning old.rvg.shelf
 
-        raw_still : behind.world.nodes p.target ≡ there → IsRawSite beside (behind.world.nodes p.target)
+        raw_still : behind.world.nodes p.target ≡ there → IsUngrouped beside (behind.world.nodes p.target)
         raw_still is = (ap (λ (n : Node). n.group) is ∙ r.0.0, r.0.1)
 
-        raw_more : behind.world.nodes p.target ≡ with_write there p.source x → IsRawSite beside (behind.world.nodes p.target)
+        raw_more : behind.world.nodes p.target ≡ with_write there p.source x → IsUngrouped beside (behind.world.nodes p.target)
         raw_more is = (ap (λ (n : Node). n.group) is ∙ r.0.0, r.0.1)
 
         still : behind.world.nodes p.target ≡ there → IsReceiverAt beside (behind.world.nodes p.target) old.rvg.core new.waiting m
