@@ -49,3 +49,4 @@ pub mod ActsLemmas
 pub mod LostLemmas
 pub mod UnitLemmas
 pub mod TrustingLemmas
+pub mod TrustStillLemmas

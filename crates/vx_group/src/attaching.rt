@@ -49,6 +49,7 @@ fn copy_from<S: Shelf>(
     ensures serial { core.new.config.serial ≡ core.old.config.serial }
     ensures disks { core.new.config.disks ≡ core.old.config.disks }
     ensures same { IfErr result (λ e. core.new ≡ core.old) }
+    ensures logs { TrustsStill core.old.config core.new.config }
     ensures less { FindsFrom NoConfiguration (S.meaning shelf.old) (S.meaning shelf.new) }
     ensures cause { CopyCause core.old.config vol source plex (S.meaning shelf.old) (S.meaning shelf.new) result }
     ensures count { IfOk result (λ n. n ≡ missed_regions core.old.config vol plex (option_copied fmr.entry)) }
@@ -93,6 +94,7 @@ fn try_from<S: Shelf>(
     ensures tried { CopyTried core.old.config vol source plex device (S.meaning shelf.old) (S.meaning shelf.new) result }
     ensures count { IfOk result (λ n. n ≡ missed_regions core.old.config vol plex (option_copied fmr.entry)) }
     ensures knows { (IsTrue (S.meaning shelf.new).down → ⊥) → KnowsMissed core.old.config vol plex (option_copied fmr.entry) (S.meaning shelf.new) }
+    ensures logs { TrustsStill core.old.config core.new.config }
     ensures less { FindsFrom NoConfiguration (S.meaning shelf.old) (S.meaning shelf.new) }
 {
     if !is_active(&core.config, vol, source) {
@@ -124,6 +126,7 @@ fn copy_to<S: Shelf>(
     ensures disks { core.new.config.disks ≡ core.old.config.disks }
     ensures same { IfErr result (λ e. core.new ≡ core.old) }
     ensures no_source { NoSource core.old.config vol plex (S.meaning shelf.old) (S.meaning shelf.new) result }
+    ensures logs { TrustsStill core.old.config core.new.config }
     ensures less { FindsFrom NoConfiguration (S.meaning shelf.old) (S.meaning shelf.new) }
     ensures cause { Blames (S.meaning shelf.old) (S.meaning shelf.new) result }
     ensures count { IfOk result (λ n. n ≡ missed_regions core.old.config vol plex (option_copied fmr.entry)) }

@@ -262,3 +262,38 @@ fn a_log_that_a_write_loses_is_not_used(rt: HostRuntime) -> Result<(), Fail> {
     assert_eq!(rt; losing(rt.alloc(), 107, 109), 2);
     Ok(())
 }
+
+// How many of these calls the write is done behind, with the log trusted, where they fail, and behind a crash an import leaves this.
+fn trusting(alloc: Global, from: u64, to: u64, want: ([Option<u8>; 6], Option<bool>)) -> u64 {
+    let mut seen: u64 = 0;
+    for call in from..to {
+        match group_on(alloc, &[call]) {
+            Ok(group) => {
+                let mut group = group;
+                if put(&mut group, 70, 0x11) && is_lost(group.config()) == Some(false) {
+                    let (disks, run) = crashed(group);
+                    if again(alloc, disks, run) == want {
+                        seen = seen.saturating_add(1);
+                    }
+                }
+            }
+            Err(_) => {}
+        }
+    }
+    seen
+}
+
+#[test]
+fn a_log_is_used_whose_commit_fails_on_another_disk(rt: HostRuntime) -> Result<(), Fail> {
+    // The calls of the commit by which the log is trusted on the disk of the second plex, and on the one that has nothing: six on each.
+    let want = ([KEPT, KEPT, COPIED, COPIED, KEPT, KEPT], Some(false));
+    assert_eq!(rt; trusting(rt.alloc(), 95, 107, want), 12);
+    Ok(())
+}
+
+#[test]
+fn a_log_is_lost_whose_disk_fails_in_its_commit(rt: HostRuntime) -> Result<(), Fail> {
+    // The calls of that commit on the disk of the log: the plex on it is copied whole from the one on a disk that did not fail.
+    assert_eq!(rt; trusting(rt.alloc(), 89, 95, ([KEPT; 6], Some(true))), 6);
+    Ok(())
+}

@@ -11,6 +11,7 @@ use Rattle.vx_group.proofs.ThroughLemmas.{held_other, holds_first, released_acti
 use Rattle.vx_group.proofs.FoundThrough.{ahead_finds}
 use Rattle.vx_group.proofs.FindingLemmas.{none_finds}
 use Rattle.vx_group.proofs.att.att_in.Goals as goal
+use Rattle.vx_group.proofs.TrustStillLemmas.{back_logs, same_logs, then_logs}
 use Rattle.vx_group.proofs.LoseLemmas.{none_parts}
 
 pub returns-in-Err-clause-attaches : goal.returns-in-Err-clause-attaches
@@ -108,3 +109,22 @@ returns-then-is_active-clause-finds g c =
 pub returns-then-is_down-clause-finds : goal.returns-then-is_down-clause-finds
 returns-then-is_down-clause-finds g c =
     none_finds (wide c.args.core.now) (g.S.Shelf.meaning c.args.shelf.now)
+
+pub returns-in-Some-clause-logs : goal.returns-in-Some-clause-logs
+returns-in-Some-clause-logs g c = same_logs c.args.core.now.inner.config
+
+pub returns-then-is_active-clause-logs : goal.returns-then-is_active-clause-logs
+returns-then-is_active-clause-logs g c = same_logs c.args.core.now.inner.config
+
+pub returns-then-is_down-clause-logs : goal.returns-then-is_down-clause-logs
+returns-then-is_down-clause-logs g c = same_logs c.args.core.now.inner.config
+
+pub returns-in-Err-clause-logs : goal.returns-in-Err-clause-logs
+returns-in-Err-clause-logs g c = c.release.ensures.logs
+
+pub returns-in-Ok-attach_held-clause-logs : goal.returns-in-Ok-attach_held-clause-logs
+returns-in-Ok-attach_held-clause-logs g c = then_logs c.args.core.now.inner.config c.release.new.core.inner.config c.attach_held.new.core.config c.release.ensures.logs c.attach_held.ensures.logs
+
+pub returns-in-Err-attach_held-clause-logs : goal.returns-in-Err-attach_held-clause-logs
+returns-in-Err-attach_held-clause-logs g c =
+    then_logs c.args.core.now.inner.config c.attach_held.new.core.config c.hold_back.new.core.inner.config (then_logs c.args.core.now.inner.config c.release.new.core.inner.config c.attach_held.new.core.config c.release.ensures.logs c.attach_held.ensures.logs) (back_logs c.args.vol c.args.plex (record { inner = c.attach_held.new.core; held = c.release.new.core.held }) c.hold_back.new.core c.hold_back.ensures)

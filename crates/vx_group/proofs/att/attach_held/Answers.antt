@@ -9,6 +9,7 @@ use Rattle.vx_group.proofs.OpeningLemmas.{may_behind, present}
 use Rattle.vx_group.proofs.Standing.{sound_of}
 use Rattle.vx_group.proofs.RegainLemmas.{all_holds, then_regains}
 use Rattle.vx_group.proofs.FindingLemmas.{then_finds}
+use Rattle.vx_group.proofs.TrustStillLemmas.{then_logs, volumes_logs}
 use Rattle.vx_group.proofs.att.attach_held.Goals as goal
 
 pub regain-requires-clause-more : goal.regain-requires-clause-more
@@ -63,3 +64,10 @@ returns-in-Err-clause-finds g c =
 pub returns-clause-finds : goal.returns-clause-finds
 returns-clause-finds g c =
     then_finds c.args.core.now c.regain.new.core c.attach.new.core (g.S.Shelf.meaning c.args.shelf.now) (g.S.Shelf.meaning c.regain.new.shelf) (g.S.Shelf.meaning c.attach.new.shelf) c.regain.ensures.finds c.attach.ensures.finds
+
+pub returns-in-Err-clause-logs : goal.returns-in-Err-clause-logs
+returns-in-Err-clause-logs g c = volumes_logs c.args.core.now.config c.regain.new.core.config c.regain.ensures.volumes
+
+pub returns-clause-logs : goal.returns-clause-logs
+returns-clause-logs g c =
+    then_logs c.args.core.now.config c.regain.new.core.config c.attach.new.core.config (volumes_logs c.args.core.now.config c.regain.new.core.config c.regain.ensures.volumes) c.attach.ensures.logs

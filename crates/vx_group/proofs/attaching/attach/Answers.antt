@@ -14,6 +14,7 @@ use Rattle.vx_group.proofs.FindingLemmas.{before_ends, behind_finds, stays_finds
 use Rattle.vx_kept.specs.Cleans.{at_serial}
 use Rattle.vx_group.specs.declared.inner.Inner.{Inner}
 use Rattle.vx_group.proofs.attaching.attach.Goals as goal
+use Rattle.vx_group.proofs.TrustStillLemmas.{then_logs, volumes_logs}
 use Rattle.vx_group.proofs.LoseLemmas.{but_parts}
 
 pub returns-in-Err-clause-attaches : goal.returns-in-Err-clause-attaches
@@ -115,3 +116,14 @@ pub returns-clause-finds : goal.returns-clause-finds
 returns-clause-finds g c =
     behind_finds c.args.core.now c.settle_headers.new.core c.commit_open.new.core (g.S.Shelf.meaning c.args.shelf.now) (g.S.Shelf.meaning c.settle_headers.new.shelf) (g.S.Shelf.meaning c.commit_open.new.shelf) c.settle_headers.ensures.finds
     (before_ends c.commit_open.new.core (g.S.Shelf.meaning c.settle_headers.new.shelf) (g.S.Shelf.meaning c.copy_to.new.shelf) (g.S.Shelf.meaning c.commit_open.new.shelf) c.copy_to.ensures.less c.commit_open.ensures.finds)
+
+pub returns-in-Err-clause-logs : goal.returns-in-Err-clause-logs
+returns-in-Err-clause-logs g c = volumes_logs c.args.core.now.config c.settle_headers.new.core.config c.settle_headers.ensures.volumes
+
+pub returns-in-Err-copy_to-clause-logs : goal.returns-in-Err-copy_to-clause-logs
+returns-in-Err-copy_to-clause-logs g c =
+    then_logs c.args.core.now.config c.settle_headers.new.core.config c.copy_to.new.core.config (volumes_logs c.args.core.now.config c.settle_headers.new.core.config c.settle_headers.ensures.volumes) c.copy_to.ensures.logs
+
+pub returns-clause-logs : goal.returns-clause-logs
+returns-clause-logs g c =
+    then_logs c.args.core.now.config c.settle_headers.new.core.config c.commit_open.new.core.config (volumes_logs c.args.core.now.config c.settle_headers.new.core.config c.settle_headers.ensures.volumes) (then_logs c.settle_headers.new.core.config c.copy_to.new.core.config c.commit_open.new.core.config c.copy_to.ensures.logs c.commit_open.ensures.logs)

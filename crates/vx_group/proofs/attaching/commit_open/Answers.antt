@@ -7,6 +7,7 @@ use Rattle.vx_group.proofs.MissLemmas.{blames_then}
 use Rattle.vx_group.proofs.FailingLemmas.{then_failing}
 use Rattle.vx_group.proofs.Standing.{some_active}
 use Rattle.vx_group.proofs.FindingLemmas.{ends_then}
+use Rattle.vx_group.proofs.TrustStillLemmas.{then_logs}
 use Rattle.vx_group.proofs.attaching.commit_open.Goals as goal
 
 pub detach-requires-clause-left : goal.detach-requires-clause-left
@@ -59,3 +60,12 @@ returns-then-is_down-clause-finds g c =
 pub returns-else-is_down-clause-finds : goal.returns-else-is_down-clause-finds
 returns-else-is_down-clause-finds g c =
     ends_then c.detach.new.core c.take_back.new.core (g.S.Shelf.meaning c.args.shelf.now) (g.S.Shelf.meaning c.detach.new.shelf) (g.S.Shelf.meaning c.take_back.new.shelf) c.detach.ensures.finds c.take_back.ensures.finds
+
+pub returns-in-Ok-clause-logs : goal.returns-in-Ok-clause-logs
+returns-in-Ok-clause-logs g c = c.detach.ensures.logs
+
+pub returns-then-is_down-clause-logs : goal.returns-then-is_down-clause-logs
+returns-then-is_down-clause-logs g c = then_logs c.args.core.now.config c.detach.new.core.config c.take_back.new.core.config c.detach.ensures.logs c.take_back.ensures.logs
+
+pub returns-else-is_down-clause-logs : goal.returns-else-is_down-clause-logs
+returns-else-is_down-clause-logs g c = then_logs c.args.core.now.config c.detach.new.core.config c.take_back.new.core.config c.detach.ensures.logs c.take_back.ensures.logs

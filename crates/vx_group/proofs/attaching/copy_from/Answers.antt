@@ -12,6 +12,9 @@ use Rattle.vx_group.proofs.OpeningLemmas.{open_on, open_shape, open_sound, open_
 use Rattle.vx_group.proofs.SourcesLemmas.{copy_by}
 use Rattle.vx_group.proofs.UsesLemmas.{uses_stated}
 use Rattle.vx_group.proofs.Standing.{fit_of, sound_of}
+use Rattle.vx_group.proofs.TrustStillLemmas.{same_logs, stated_still}
+use Rattle.vx_group.specs.Loses.{TrustsStill}
+use Rattle.vx_group.specs.declared.inner.Inner.{Inner}
 use Rattle.vx_group.proofs.attaching.copy_from.Goals as goal
 
 pub attach_from-requires-clause-checked : goal.attach_from-requires-clause-checked
@@ -114,3 +117,9 @@ returns-in-Ok-clause-less g c =
 pub returns-in-Err-clause-less : goal.returns-in-Err-clause-less
 returns-in-Err-clause-less g c =
     to_finds c.args.core.now c.args.vol c.args.plex (option_copied c.args.fmr) c.requires.may c.requires.off (g.S.Shelf.meaning c.args.shelf.now) (g.S.Shelf.meaning c.attach_from.new.shelf) (g.met.S.Shelf.lawful c.args.shelf.now) (g.met.S.Shelf.lawful c.attach_from.new.shelf) c.requires.stands c.set_state.new.self c.set_state.ensures.changed (picked_goes c.set_state.new.self c.args.vol c.args.source c.args.plex (option_copied c.args.fmr) (g.S.Shelf.meaning c.args.shelf.now) (g.S.Shelf.meaning c.attach_from.new.shelf) c.attach_from.ensures.moved)
+
+pub returns-in-Ok-clause-logs : goal.returns-in-Ok-clause-logs
+returns-in-Ok-clause-logs g c = subst (λ (x : Config). TrustsStill c.args.core.now.config x) (sym c.set_state.ensures.changed) (stated_still c.args.vol c.args.plex Active false c.args.core.now.config)
+
+pub returns-in-Err-clause-logs : goal.returns-in-Err-clause-logs
+returns-in-Err-clause-logs g c = subst (λ (x : Config). TrustsStill c.args.core.now.config x) (sym (ap (λ (x : Inner). x.config) (returns-in-Err-clause-same g c))) (same_logs c.args.core.now.config)

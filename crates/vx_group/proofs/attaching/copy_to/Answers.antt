@@ -9,6 +9,8 @@ use Rattle.vx_group.proofs.AttachLemmas.{then_attaches}
 use Rattle.vx_group.proofs.SourcesLemmas.{sources_all, sources_blame, sources_next, sources_start, tried_up}
 use Rattle.vx_kept.proofs.Findings.{then_from}
 use Rattle.vx_kept.specs.Finds.{NoConfiguration}
+use Rattle.vx_group.proofs.TrustStillLemmas.{same_logs}
+use Rattle.vx_group.specs.Loses.{TrustsStill}
 use Rattle.vx_group.proofs.attaching.copy_to.Goals as goal
 
 pub loop-source-init : goal.loop-source-init
@@ -127,3 +129,12 @@ returns-in-Err-Down-clause-same g c = c.in-Err-Down.ensures.same ∙ c.loop-sour
 
 pub returns-clause-same : goal.returns-clause-same
 returns-clause-same g c = c.loop-source.invariant.1
+
+pub returns-in-Ok-clause-logs : goal.returns-in-Ok-clause-logs
+returns-in-Ok-clause-logs g c = subst (λ (x : Inner). TrustsStill x.config c.try_from.new.core.config) c.loop-source.invariant.1 c.try_from.ensures.logs
+
+pub returns-in-Err-Down-clause-logs : goal.returns-in-Err-Down-clause-logs
+returns-in-Err-Down-clause-logs g c = subst (λ (x : Inner). TrustsStill x.config c.try_from.new.core.config) c.loop-source.invariant.1 c.try_from.ensures.logs
+
+pub returns-clause-logs : goal.returns-clause-logs
+returns-clause-logs g c = subst (λ (x : Inner). TrustsStill c.args.core.now.config x.config) (sym c.loop-source.invariant.1) (same_logs c.args.core.now.config)

@@ -9,6 +9,7 @@ use Rattle.vx_group.proofs.FailingLemmas.{no_failing, then_failing}
 use Rattle.vx_group.proofs.Standing.{sound_of}
 use Rattle.vx_group.proofs.FindingLemmas.{behind_finds, none_finds}
 use Rattle.vx_group.proofs.attaching.take_back.Goals as goal
+use Rattle.vx_group.proofs.TrustStillLemmas.{same_logs, then_logs, volumes_logs}
 use Rattle.vx_group.proofs.LoseLemmas.{but_parts}
 
 pub returns-in-Err-clause-attaches : goal.returns-in-Err-clause-attaches
@@ -79,3 +80,17 @@ returns-in-Ok-detach-clause-finds g c =
 pub returns-in-Err-detach-clause-finds : goal.returns-in-Err-detach-clause-finds
 returns-in-Err-detach-clause-finds g c =
     behind_finds c.args.core.now c.settle_headers.new.core c.detach.new.core (g.S.Shelf.meaning c.args.shelf.now) (g.S.Shelf.meaning c.settle_headers.new.shelf) (g.S.Shelf.meaning c.detach.new.shelf) c.settle_headers.ensures.finds c.detach.ensures.finds
+
+pub returns-then-is_down-clause-logs : goal.returns-then-is_down-clause-logs
+returns-then-is_down-clause-logs g c = same_logs c.args.core.now.config
+
+pub returns-in-Err-clause-logs : goal.returns-in-Err-clause-logs
+returns-in-Err-clause-logs g c = volumes_logs c.args.core.now.config c.settle_headers.new.core.config c.settle_headers.ensures.volumes
+
+pub returns-in-Ok-detach-clause-logs : goal.returns-in-Ok-detach-clause-logs
+returns-in-Ok-detach-clause-logs g c =
+    then_logs c.args.core.now.config c.settle_headers.new.core.config c.detach.new.core.config (volumes_logs c.args.core.now.config c.settle_headers.new.core.config c.settle_headers.ensures.volumes) c.detach.ensures.logs
+
+pub returns-in-Err-detach-clause-logs : goal.returns-in-Err-detach-clause-logs
+returns-in-Err-detach-clause-logs g c =
+    then_logs c.args.core.now.config c.settle_headers.new.core.config c.detach.new.core.config (volumes_logs c.args.core.now.config c.settle_headers.new.core.config c.settle_headers.ensures.volumes) c.detach.ensures.logs

@@ -4,6 +4,7 @@ use Rattle.std.specs.Option.{option_copied}
 use Rattle.vx_group.proofs.SourcesLemmas.{no_attaches, tried_by}
 use Rattle.vx_kept.proofs.Findings.{same_from}
 use Rattle.vx_kept.specs.Finds.{NoConfiguration}
+use Rattle.vx_group.proofs.TrustStillLemmas.{same_logs}
 use Rattle.vx_group.proofs.attaching.try_from.Goals as goal
 
 pub returns-then-not-is_active-clause-attaches : goal.returns-then-not-is_active-clause-attaches
@@ -28,3 +29,9 @@ returns-then-not-is_active-clause-knows g c = λ up. c.requires.knows
 pub returns-then-not-is_active-clause-less : goal.returns-then-not-is_active-clause-less
 returns-then-not-is_active-clause-less g c =
     same_from NoConfiguration (g.S.Shelf.meaning c.args.shelf.now)
+
+pub returns-then-not-is_active-clause-logs : goal.returns-then-not-is_active-clause-logs
+returns-then-not-is_active-clause-logs g c = same_logs c.args.core.now.config
+
+pub returns-clause-logs : goal.returns-clause-logs
+returns-clause-logs g c = c.copy_from.ensures.logs

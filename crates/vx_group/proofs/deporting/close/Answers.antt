@@ -3,6 +3,7 @@ use Rattle.std.proofs.Common.{Err, arith}
 use Rattle.vx_group.proofs.DeportLemmas.{back_flushed, blames_stop, closes_later, settled_back, stops_later}
 use Rattle.vx_group.proofs.FindingLemmas.{then_finds}
 use Rattle.vx_group.proofs.deporting.close.Goals as goal
+use Rattle.vx_group.proofs.TrustStillLemmas.{then_logs, volumes_logs}
 use Rattle.vx_group.proofs.TrustLemmas.{ok_from, err_from}
 
 pub flush_volumes-requires-clause-more : goal.flush_volumes-requires-clause-more
@@ -51,3 +52,14 @@ returns-clause-finds g c =
     err_from c.commit_closed.result (λ last.
     then_finds c.args.core.now c.flush_volumes.new.core c.commit_closed.new.core (g.S.Shelf.meaning c.args.shelf.now) (g.S.Shelf.meaning c.flush_volumes.new.shelf) (g.S.Shelf.meaning c.commit_closed.new.shelf)
     (then_finds c.args.core.now c.settle_headers.new.core c.flush_volumes.new.core (g.S.Shelf.meaning c.args.shelf.now) (g.S.Shelf.meaning c.settle_headers.new.shelf) (g.S.Shelf.meaning c.flush_volumes.new.shelf) c.settle_headers.ensures.finds c.flush_volumes.ensures.finds) last) c.commit_closed.ensures.finds
+
+pub returns-in-Err-clause-logs : goal.returns-in-Err-clause-logs
+returns-in-Err-clause-logs g c = volumes_logs c.args.core.now.config c.settle_headers.new.core.config c.settle_headers.ensures.volumes
+
+pub returns-in-Err-flush_volumes-clause-logs : goal.returns-in-Err-flush_volumes-clause-logs
+returns-in-Err-flush_volumes-clause-logs g c =
+    then_logs c.args.core.now.config c.settle_headers.new.core.config c.flush_volumes.new.core.config (volumes_logs c.args.core.now.config c.settle_headers.new.core.config c.settle_headers.ensures.volumes) c.flush_volumes.ensures.logs
+
+pub returns-clause-logs : goal.returns-clause-logs
+returns-clause-logs g c =
+    err_from c.commit_closed.result (λ last. then_logs c.args.core.now.config c.flush_volumes.new.core.config c.commit_closed.new.core.config (then_logs c.args.core.now.config c.settle_headers.new.core.config c.flush_volumes.new.core.config (volumes_logs c.args.core.now.config c.settle_headers.new.core.config c.settle_headers.ensures.volumes) c.flush_volumes.ensures.logs) last) c.commit_closed.ensures.logs

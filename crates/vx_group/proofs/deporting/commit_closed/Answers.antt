@@ -13,6 +13,7 @@ use Rattle.vx_group.proofs.DeportLemmas.{blames_stop, closed, given_back}
 use Rattle.vx_group.proofs.DetachLemmas.{stop_sure}
 use Rattle.vx_group.proofs.Standing.{kept_of, tidy_of}
 use Rattle.vx_group.proofs.FindingLemmas.{ends_finds, left_ends}
+use Rattle.vx_group.proofs.TrustStillLemmas.{volumes_logs}
 use Rattle.vx_group.proofs.deporting.commit_closed.Goals as goal
 
 pub commit_clean-requires-clause-kept : goal.commit_clean-requires-clause-kept
@@ -49,3 +50,9 @@ returns-then-is_down-clause-finds g c =
 pub returns-else-is_down-clause-finds : goal.returns-else-is_down-clause-finds
 returns-else-is_down-clause-finds g c =
     ends_finds c.args.core.now _ (g.S.Shelf.meaning c.args.shelf.now) (g.S.Shelf.meaning c.commit_clean.new.shelf) (left_ends (cleaned c.args.core.now.unsure c.args.core.now.config (length c.args.core.now.config.volumes)) _ (g.S.Shelf.meaning c.args.shelf.now) (g.S.Shelf.meaning c.commit_clean.new.shelf) c.commit_clean.ensures.finds refl)
+
+pub returns-then-is_down-clause-logs : goal.returns-then-is_down-clause-logs
+returns-then-is_down-clause-logs g c = volumes_logs c.args.core.now.config c.commit_clean.new.config c.in-Err.ensures.ends.volumes
+
+pub returns-else-is_down-clause-logs : goal.returns-else-is_down-clause-logs
+returns-else-is_down-clause-logs g c = volumes_logs c.args.core.now.config c.commit_clean.new.config c.in-Err.ensures.ends.volumes

@@ -9,6 +9,7 @@ use Rattle.vx_group.proofs.HoldLemmas.{from_none, wide_none}
 use Rattle.vx_group.proofs.ThroughLemmas.{released_goes, through_goes}
 use Rattle.vx_group.proofs.FindingLemmas.{still_group}
 use Rattle.vx_group.proofs.FoundThrough.{second_finds}
+use Rattle.vx_group.proofs.TrustStillLemmas.{same_logs, then_logs}
 use Rattle.vx_group.proofs.deporting.deport_in.Goals as goal
 
 pub returns-in-Err-clause-ends : goal.returns-in-Err-clause-ends
@@ -58,3 +59,15 @@ returns-in-Err-clause-finds g c =
 pub returns-in-Err-close-clause-finds : goal.returns-in-Err-close-clause-finds
 returns-in-Err-close-clause-finds g c =
     second_finds c.args.core.now c.release.new.core c.close.new.core (g.S.Shelf.meaning c.args.shelf.now) (g.S.Shelf.meaning c.release.new.shelf) (g.S.Shelf.meaning c.close.new.shelf) (c.in-Ok.ensures.done (let le = c.if-core.false in omega (arith, le))) c.release.ensures.finds c.in-Err-close.ensures.finds
+
+pub returns-then-core-clause-logs : goal.returns-then-core-clause-logs
+returns-then-core-clause-logs g c = same_logs c.args.core.now.inner.config
+
+pub returns-then-is_down-clause-logs : goal.returns-then-is_down-clause-logs
+returns-then-is_down-clause-logs g c = same_logs c.args.core.now.inner.config
+
+pub returns-in-Err-clause-logs : goal.returns-in-Err-clause-logs
+returns-in-Err-clause-logs g c = c.release.ensures.logs
+
+pub returns-in-Err-close-clause-logs : goal.returns-in-Err-close-clause-logs
+returns-in-Err-close-clause-logs g c = then_logs c.args.core.now.inner.config c.release.new.core.inner.config c.close.new.core.config c.release.ensures.logs c.in-Err-close.ensures.logs

@@ -10,6 +10,7 @@ use Rattle.vx_group.proofs.ThroughLemmas.{released_active, released_goes, releas
 use Rattle.vx_group.proofs.FailingLemmas.{then_failing}
 use Rattle.vx_group.proofs.FoundThrough.{second_finds}
 use Rattle.vx_group.proofs.FindingLemmas.{still_group}
+use Rattle.vx_group.proofs.TrustStillLemmas.{same_logs, then_logs}
 use Rattle.vx_group.proofs.det.det_in.Goals as goal
 
 pub returns-in-Err-clause-goes : goal.returns-in-Err-clause-goes
@@ -110,3 +111,21 @@ returns-then-not-is_active-clause-finds g c =
 pub returns-then-is_down-clause-finds : goal.returns-then-is_down-clause-finds
 returns-then-is_down-clause-finds g c =
     still_group c.args.core.now (g.S.Shelf.meaning c.args.shelf.now)
+
+pub returns-in-Some-clause-logs : goal.returns-in-Some-clause-logs
+returns-in-Some-clause-logs g c = same_logs c.args.core.now.inner.config
+
+pub returns-then-not-is_active-clause-logs : goal.returns-then-not-is_active-clause-logs
+returns-then-not-is_active-clause-logs g c = same_logs c.args.core.now.inner.config
+
+pub returns-then-is_down-clause-logs : goal.returns-then-is_down-clause-logs
+returns-then-is_down-clause-logs g c = same_logs c.args.core.now.inner.config
+
+pub returns-in-Err-clause-logs : goal.returns-in-Err-clause-logs
+returns-in-Err-clause-logs g c = c.release.ensures.logs
+
+pub returns-in-Ok-detach_plex-clause-logs : goal.returns-in-Ok-detach_plex-clause-logs
+returns-in-Ok-detach_plex-clause-logs g c = then_logs c.args.core.now.inner.config c.release.new.core.inner.config c.detach_plex.new.core.config c.release.ensures.logs c.detach_plex.ensures.logs
+
+pub returns-in-Err-detach_plex-clause-logs : goal.returns-in-Err-detach_plex-clause-logs
+returns-in-Err-detach_plex-clause-logs g c = then_logs c.args.core.now.inner.config c.release.new.core.inner.config c.detach_plex.new.core.config c.release.ensures.logs c.detach_plex.ensures.logs

@@ -13,6 +13,7 @@ use Rattle.vx_group.proofs.GiveLemmas.{keeps_volumes, none_changed}
 use Rattle.vx_group.proofs.Standing.{kept_of, tidy_of}
 use Rattle.vx_group.proofs.TrustLemmas.{committed_or, stays_committed}
 use Rattle.vx_group.proofs.FindingLemmas.{done_ends, left_ends}
+use Rattle.vx_group.proofs.TrustStillLemmas.{kept_logs, volumes_logs}
 use Rattle.vx_group.proofs.detaching.detach_named.Goals as goal
 
 pub commit_stale-requires-clause-kept : goal.commit_stale-requires-clause-kept
@@ -175,3 +176,15 @@ returns-then-is_down-2-clause-finds g c =
 pub returns-else-is_down-2-clause-finds : goal.returns-else-is_down-2-clause-finds
 returns-else-is_down-2-clause-finds g c =
     left_ends (staled c.args.vol c.args.failed.set c.args.core.now.config 8) _ (g.S.Shelf.meaning c.args.shelf.now) (g.S.Shelf.meaning c.commit_stale.new.shelf) c.commit_stale.ensures.finds refl
+
+pub returns-then-is_down-clause-logs : goal.returns-then-is_down-clause-logs
+returns-then-is_down-clause-logs g c = kept_logs c.args.vol c.args.failed.set 8 c.args.core.now.config c.commit_stale.new.config (inr c.in-Ok.ensures.ends.grown.volumes)
+
+pub returns-else-is_down-clause-logs : goal.returns-else-is_down-clause-logs
+returns-else-is_down-clause-logs g c = kept_logs c.args.vol c.args.failed.set 8 c.args.core.now.config c.commit_stale.new.config (inr c.in-Ok.ensures.ends.grown.volumes)
+
+pub returns-then-is_down-2-clause-logs : goal.returns-then-is_down-2-clause-logs
+returns-then-is_down-2-clause-logs g c = volumes_logs c.args.core.now.config c.commit_stale.new.config c.in-Err.ensures.ends.volumes
+
+pub returns-else-is_down-2-clause-logs : goal.returns-else-is_down-2-clause-logs
+returns-else-is_down-2-clause-logs g c = volumes_logs c.args.core.now.config c.commit_stale.new.config c.in-Err.ensures.ends.volumes

@@ -10,6 +10,7 @@ use Rattle.vx_group.proofs.CallLemmas.{blames_later, cause_by, counts_less, narr
 use Rattle.vx_kept.proofs.PlexActing.{none_PlexActs}
 use Rattle.vx_group.proofs.ActsLemmas.{narrow_PlexActs, then_PlexActs}
 use Rattle.vx_group.proofs.FindingLemmas.{as_finds, none_finds, then_finds}
+use Rattle.vx_group.proofs.TrustStillLemmas.{same_logs, then_logs, volumes_logs}
 use Rattle.vx_group.proofs.flushing.flush_in.Goals as goal
 
 pub returns-in-Err-clause-goes : goal.returns-in-Err-clause-goes
@@ -114,3 +115,17 @@ pub returns-in-Err-flush_plexes-clause-finds : goal.returns-in-Err-flush_plexes-
 returns-in-Err-flush_plexes-clause-finds g c =
     as_finds c.args.core.now c.flush_plexes.new.core _ (g.S.Shelf.meaning c.args.shelf.now) (g.S.Shelf.meaning c.flush_plexes.new.shelf) refl refl refl
     (then_finds c.args.core.now c.make_ready.new.core c.flush_plexes.new.core (g.S.Shelf.meaning c.args.shelf.now) (g.S.Shelf.meaning c.make_ready.new.shelf) (g.S.Shelf.meaning c.flush_plexes.new.shelf) c.make_ready.ensures.finds c.flush_plexes.ensures.finds)
+
+pub returns-then-is_down-clause-logs : goal.returns-then-is_down-clause-logs
+returns-then-is_down-clause-logs g c = same_logs c.args.core.now.config
+
+pub returns-in-Err-clause-logs : goal.returns-in-Err-clause-logs
+returns-in-Err-clause-logs g c = volumes_logs c.args.core.now.config c.make_ready.new.core.config c.make_ready.ensures.volumes
+
+pub returns-in-Ok-flush_plexes-clause-logs : goal.returns-in-Ok-flush_plexes-clause-logs
+returns-in-Ok-flush_plexes-clause-logs g c =
+    then_logs c.args.core.now.config c.make_ready.new.core.config c.flush_plexes.new.core.config (volumes_logs c.args.core.now.config c.make_ready.new.core.config c.make_ready.ensures.volumes) c.flush_plexes.ensures.logs
+
+pub returns-in-Err-flush_plexes-clause-logs : goal.returns-in-Err-flush_plexes-clause-logs
+returns-in-Err-flush_plexes-clause-logs g c =
+    then_logs c.args.core.now.config c.make_ready.new.core.config c.flush_plexes.new.core.config (volumes_logs c.args.core.now.config c.make_ready.new.core.config c.make_ready.ensures.volumes) c.flush_plexes.ensures.logs

@@ -12,6 +12,7 @@ use Rattle.vx_group.proofs.GiveLemmas.{detach_gives, ends_gives}
 use Rattle.vx_group.proofs.Standing.{fit_of, some_active}
 use Rattle.vx_group.proofs.WriteLemmas.{no_commit, flushed_Goes, flushed_Stands, flushed_Flushed, flushed_Narrows, flushed_all, flushed_finds}
 use Rattle.vx_group.proofs.FindingLemmas.{stays_finds, before_ends, ends_finds}
+use Rattle.vx_group.proofs.TrustStillLemmas.{same_logs}
 use Rattle.vx_group.proofs.flushing.flush_plexes.Goals as goal
 
 pub flush_all-requires-clause-some : goal.flush_all-requires-clause-some
@@ -133,3 +134,15 @@ pub returns-else-core-clause-finds : goal.returns-else-core-clause-finds
 returns-else-core-clause-finds g c =
     ends_finds c.args.core.now c.detach.new.core (g.S.Shelf.meaning c.args.shelf.now) (g.S.Shelf.meaning c.detach.new.shelf) (before_ends c.detach.new.core (g.S.Shelf.meaning c.args.shelf.now) (g.S.Shelf.meaning c.flush_all.new.shelf) (g.S.Shelf.meaning c.detach.new.shelf)
     (flushed_finds c.args.core.now c.args.vol (g.S.Shelf.meaning c.args.shelf.now) (g.S.Shelf.meaning c.flush_all.new.shelf) (g.met.S.Shelf.lawful c.args.shelf.now) (g.met.S.Shelf.lawful c.flush_all.new.shelf) c.requires.stands c.flush_all.ensures.goes) c.detach.ensures.finds)
+
+pub returns-then-failed-eq0-clause-logs : goal.returns-then-failed-eq0-clause-logs
+returns-then-failed-eq0-clause-logs g c = same_logs c.args.core.now.config
+
+pub returns-then-core-clause-logs : goal.returns-then-core-clause-logs
+returns-then-core-clause-logs g c = same_logs c.args.core.now.config
+
+pub returns-in-Err-clause-logs : goal.returns-in-Err-clause-logs
+returns-in-Err-clause-logs g c = same_logs c.args.core.now.config
+
+pub returns-else-core-clause-logs : goal.returns-else-core-clause-logs
+returns-else-core-clause-logs g c = c.detach.ensures.logs

@@ -8,6 +8,7 @@ use Rattle.vx_group.proofs.LoseLemmas.{but_parts, then_parts}
 use Rattle.vx_group.proofs.LostLemmas.{later_keeps, left_plexes}
 use Rattle.vx_group.proofs.TrustLemmas.{err_from, ok_from}
 use Rattle.vx_group.proofs.FindingLemmas.{behind_finds}
+use Rattle.vx_group.proofs.TrustStillLemmas.{still_but, then_but, volumes_logs}
 use Rattle.vx_group.proofs.losing.lose_log.Goals as goal
 
 pub lose_settled-requires-clause-more : goal.lose_settled-requires-clause-more
@@ -72,3 +73,11 @@ returns-clause-parts g c = then_parts c.args.core.now.config c.settle_headers.ne
 pub returns-clause-finds : goal.returns-clause-finds
 returns-clause-finds g c =
     behind_finds c.args.core.now c.settle_headers.new.core c.lose_settled.new.core (g.S.Shelf.meaning c.args.shelf.now) (g.S.Shelf.meaning c.settle_headers.new.shelf) (g.S.Shelf.meaning c.lose_settled.new.shelf) c.settle_headers.ensures.finds c.lose_settled.ensures.finds
+
+pub returns-in-Err-clause-logs : goal.returns-in-Err-clause-logs
+returns-in-Err-clause-logs g c =
+    still_but c.args.vol c.args.log c.args.core.now.config c.settle_headers.new.core.config (volumes_logs c.args.core.now.config c.settle_headers.new.core.config c.settle_headers.ensures.volumes)
+
+pub returns-clause-logs : goal.returns-clause-logs
+returns-clause-logs g c =
+    then_but c.args.vol c.args.log c.args.core.now.config c.settle_headers.new.core.config c.lose_settled.new.core.config (volumes_logs c.args.core.now.config c.settle_headers.new.core.config c.settle_headers.ensures.volumes) c.lose_settled.ensures.logs

@@ -12,6 +12,7 @@ use Rattle.vx_group.proofs.LostLemmas.{gone_Narrows, gone_Stands, gone_off, gone
 use Rattle.vx_group.proofs.Standing.{kept_of, tidy_of}
 use Rattle.vx_group.proofs.TrustLemmas.{stays_committed}
 use Rattle.vx_group.proofs.FindingLemmas.{done_ends, left_ends}
+use Rattle.vx_group.proofs.TrustStillLemmas.{but_logs, still_but, volumes_logs}
 use Rattle.vx_group.proofs.losing.lose_settled.Goals as goal
 
 pub commit_lost-requires-clause-kept : goal.commit_lost-requires-clause-kept
@@ -159,3 +160,19 @@ returns-then-is_down-2-clause-finds g c =
 pub returns-else-is_down-2-clause-finds : goal.returns-else-is_down-2-clause-finds
 returns-else-is_down-2-clause-finds g c =
     left_ends (lost c.args.vol c.args.log true c.args.core.now.config) _ (g.S.Shelf.meaning c.args.shelf.now) (g.S.Shelf.meaning c.commit_lost.new.shelf) c.commit_lost.ensures.finds refl
+
+pub returns-then-is_down-clause-logs : goal.returns-then-is_down-clause-logs
+returns-then-is_down-clause-logs g c =
+    but_logs c.args.vol c.args.log c.args.core.now.config c.commit_lost.new.config (gone_others c.args.vol c.args.log c.args.core.now.config c.commit_lost.new.config c.in-Ok.ensures.ends.grown.volumes)
+
+pub returns-then-is_down-2-clause-logs : goal.returns-then-is_down-2-clause-logs
+returns-then-is_down-2-clause-logs g c =
+    still_but c.args.vol c.args.log c.args.core.now.config c.commit_lost.new.config (volumes_logs c.args.core.now.config c.commit_lost.new.config c.in-Err.ensures.ends.volumes)
+
+pub returns-else-is_down-clause-logs : goal.returns-else-is_down-clause-logs
+returns-else-is_down-clause-logs g c =
+    but_logs c.args.vol c.args.log c.args.core.now.config c.commit_lost.new.config (gone_others c.args.vol c.args.log c.args.core.now.config c.commit_lost.new.config c.in-Ok.ensures.ends.grown.volumes)
+
+pub returns-else-is_down-2-clause-logs : goal.returns-else-is_down-2-clause-logs
+returns-else-is_down-2-clause-logs g c =
+    still_but c.args.vol c.args.log c.args.core.now.config c.commit_lost.new.config (volumes_logs c.args.core.now.config c.commit_lost.new.config c.in-Err.ensures.ends.volumes)

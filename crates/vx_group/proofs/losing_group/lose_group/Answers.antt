@@ -17,6 +17,7 @@ use Rattle.vx_group.proofs.LostLemmas.{error_to, if_ok_from}
 use Rattle.vx_group.proofs.ThroughLemmas.{new_Stands, new_wide, released_goes, through_cause, through_goes, through_loses, through_still}
 use Rattle.vx_group.proofs.FindingLemmas.{still_group, as_finds}
 use Rattle.vx_group.proofs.FoundThrough.{through_finds}
+use Rattle.vx_group.proofs.TrustStillLemmas.{same_logs, still_but, through_but}
 use Rattle.vx_group.proofs.losing_group.lose_group.Goals as goal
 
 pub returns-in-Err-clause-goes : goal.returns-in-Err-clause-goes
@@ -105,3 +106,13 @@ returns-clause-finds g c =
     through_finds c.args.core.now c.release.new.core (record { inner = c.lose_in-result.new.core; held = c.open_held-held.new.core.held }) c.close_held.new.core c.open_held-held.new.core.inner c.lose_in-result.new.core (g.S.Shelf.meaning c.args.shelf.now) (g.S.Shelf.meaning c.release.new.shelf) (g.S.Shelf.meaning c.lose_in-result.new.shelf) c.open_held-held.ensures.inner
     (new_wide c.args.core.now c.release.new.core (record { inner = c.lose_in-result.new.core; held = c.open_held-held.new.core.held }) c.close_held.new.core c.open_held-held.new.core.inner (g.S.Shelf.meaning c.args.shelf.now) (g.S.Shelf.meaning c.release.new.shelf) (g.S.Shelf.meaning c.lose_in-result.new.shelf) c.requires.stands c.release.ensures.stands c.release.ensures.narrows c.release.ensures.volumes c.open_held-held.result c.open_held-held.ensures.held c.open_held-held.ensures.inner c.open_held-held.ensures.none c.close_held.ensures)
     c.open_held-held.result c.open_held-held.ensures.held c.open_held-held.ensures.none c.close_held.ensures c.release.ensures.finds c.lose_in-result.ensures.finds
+
+pub returns-then-is_down-clause-logs : goal.returns-then-is_down-clause-logs
+returns-then-is_down-clause-logs g c = still_but c.args.vol c.args.log c.args.core.now.inner.config c.args.core.now.inner.config (same_logs c.args.core.now.inner.config)
+
+pub returns-in-Err-clause-logs : goal.returns-in-Err-clause-logs
+returns-in-Err-clause-logs g c = still_but c.args.vol c.args.log c.args.core.now.inner.config c.release.new.core.inner.config c.release.ensures.logs
+
+pub returns-clause-logs : goal.returns-clause-logs
+returns-clause-logs g c =
+    through_but c.args.core.now c.release.new.core (record { inner = c.lose_in-result.new.core; held = c.open_held-held.new.core.held }) c.close_held.new.core c.open_held-held.new.core.inner c.open_held-held.result c.open_held-held.ensures.inner c.close_held.ensures c.release.ensures.logs c.args.vol c.args.log c.lose_in-result.ensures.logs

@@ -9,6 +9,7 @@ use Rattle.vx_group.proofs.CallLemmas.{cause_by, counts_less, narrows_Goes, not_
 use Rattle.vx_group.proofs.LoseLemmas.{loses_plexes, loses_same}
 use Rattle.vx_group.proofs.LostLemmas.{error_to}
 use Rattle.vx_group.proofs.FindingLemmas.{as_finds, none_finds}
+use Rattle.vx_group.proofs.TrustStillLemmas.{same_logs, still_but}
 use Rattle.vx_group.proofs.losing_group.lose_in.Goals as goal
 
 pub returns-then-is_down-clause-acts : goal.returns-then-is_down-clause-acts
@@ -82,3 +83,15 @@ returns-in-Ok-clause-finds g c =
 pub returns-in-Err-clause-finds : goal.returns-in-Err-clause-finds
 returns-in-Err-clause-finds g c =
     as_finds c.args.core.now c.lose_log.new.core _ (g.S.Shelf.meaning c.args.shelf.now) (g.S.Shelf.meaning c.lose_log.new.shelf) refl refl refl c.lose_log.ensures.finds
+
+pub returns-then-is_down-clause-logs : goal.returns-then-is_down-clause-logs
+returns-then-is_down-clause-logs g c = still_but c.args.vol c.args.log c.args.core.now.config c.args.core.now.config (same_logs c.args.core.now.config)
+
+pub returns-then-core-ge-MOST_NUMBER-clause-logs : goal.returns-then-core-ge-MOST_NUMBER-clause-logs
+returns-then-core-ge-MOST_NUMBER-clause-logs g c = still_but c.args.vol c.args.log c.args.core.now.config c.args.core.now.config (same_logs c.args.core.now.config)
+
+pub returns-in-Ok-clause-logs : goal.returns-in-Ok-clause-logs
+returns-in-Ok-clause-logs g c = c.lose_log.ensures.logs
+
+pub returns-in-Err-clause-logs : goal.returns-in-Err-clause-logs
+returns-in-Err-clause-logs g c = c.lose_log.ensures.logs

@@ -15,6 +15,7 @@ use Rattle.vx_group.proofs.TrustLemmas.{committed_or}
 use Rattle.vx_config.specs.declared.config.Config.{Config}
 use Rattle.vx_group.proofs.FailingLemmas.{no_failing, then_failing}
 use Rattle.vx_group.proofs.FindingLemmas.{before_ends, done_ends, ends_finds, left_ends, stays_finds}
+use Rattle.vx_group.proofs.TrustStillLemmas.{added_logs, same_logs, volumes_logs}
 use Rattle.vx_group.proofs.making.add_last.Goals as goal
 
 pub zero_volume-requires-clause-checked : goal.zero_volume-requires-clause-checked
@@ -171,3 +172,18 @@ returns-else-is_down-clause-finds g c =
     ends_finds c.args.core.now _ (g.S.Shelf.meaning c.args.shelf.now) (g.S.Shelf.meaning c.commit_next.new.shelf) (before_ends _ (g.S.Shelf.meaning c.args.shelf.now) (g.S.Shelf.meaning c.zero_volume.new.shelf) (g.S.Shelf.meaning c.commit_next.new.shelf)
     (zero_finds c.args.core.now c.args.next (g.S.Shelf.meaning c.args.shelf.now) c.requires.stands c.requires.is_next (g.S.Shelf.meaning c.zero_volume.new.shelf) (g.met.S.Shelf.lawful c.args.shelf.now) (g.met.S.Shelf.lawful c.zero_volume.new.shelf) (subst (λ (k : ℕ). Goes (ZerosOn c.args.next k) (g.S.Shelf.meaning c.args.shelf.now) (g.S.Shelf.meaning c.zero_volume.new.shelf)) (ap length c.as_slice.ensures.volumes) c.zero_volume.ensures.goes))
     (left_ends c.args.next _ (g.S.Shelf.meaning c.zero_volume.new.shelf) (g.S.Shelf.meaning c.commit_next.new.shelf) c.commit_next.ensures.finds refl))
+
+pub returns-in-Err-clause-logs : goal.returns-in-Err-clause-logs
+returns-in-Err-clause-logs g c = same_logs c.args.core.now.config
+
+pub returns-in-Ok-commit_next-clause-logs : goal.returns-in-Ok-commit_next-clause-logs
+returns-in-Ok-commit_next-clause-logs g c =
+    added_logs c.args.core.now.config c.args.next c.commit_next.new.next c.requires.is_next.volume c.requires.is_next.is c.in-Ok-commit_next.ensures.ends.grown.volumes
+
+pub returns-then-is_down-clause-logs : goal.returns-then-is_down-clause-logs
+returns-then-is_down-clause-logs g c =
+    volumes_logs c.args.core.now.config (record { serial = c.commit_next.new.next.serial; site = c.args.core.now.config.site; disks = c.args.core.now.config.disks; volumes = c.args.core.now.config.volumes; rvg = c.args.core.now.config.rvg }) refl
+
+pub returns-else-is_down-clause-logs : goal.returns-else-is_down-clause-logs
+returns-else-is_down-clause-logs g c =
+    volumes_logs c.args.core.now.config (record { serial = c.commit_next.new.next.serial; site = c.args.core.now.config.site; disks = c.args.core.now.config.disks; volumes = c.args.core.now.config.volumes; rvg = c.args.core.now.config.rvg }) refl

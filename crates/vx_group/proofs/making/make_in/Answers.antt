@@ -15,6 +15,7 @@ use Rattle.vx_group.proofs.ShapeLemmas.{may_make}
 use Rattle.vx_group.proofs.FailingLemmas.{no_failing, then_failing}
 use Rattle.vx_group.proofs.FindingLemmas.{still_group}
 use Rattle.vx_group.proofs.FoundThrough.{second_finds}
+use Rattle.vx_group.proofs.TrustStillLemmas.{same_logs, then_logs}
 use Rattle.vx_group.proofs.making.make_in.Goals as goal
 
 pub returns-in-Some-clause-stays : goal.returns-in-Some-clause-stays
@@ -179,3 +180,21 @@ returns-in-Ok-add-clause-finds g c =
 pub returns-in-Err-add-clause-finds : goal.returns-in-Err-add-clause-finds
 returns-in-Err-add-clause-finds g c =
     second_finds c.args.core.now c.release.new.core c.add.new.core (g.S.Shelf.meaning c.args.shelf.now) (g.S.Shelf.meaning c.release.new.shelf) (g.S.Shelf.meaning c.add.new.shelf) (c.in-Ok-release.ensures.done (may_make c.args.core.now.inner.config c.args.name.now c.args.want.now c.plan.ensures.may).serial) c.release.ensures.finds c.add.ensures.finds
+
+pub returns-in-Some-clause-logs : goal.returns-in-Some-clause-logs
+returns-in-Some-clause-logs g c = same_logs c.args.core.now.inner.config
+
+pub returns-in-Err-clause-logs : goal.returns-in-Err-clause-logs
+returns-in-Err-clause-logs g c = same_logs c.args.core.now.inner.config
+
+pub returns-then-is_down-clause-logs : goal.returns-then-is_down-clause-logs
+returns-then-is_down-clause-logs g c = same_logs c.args.core.now.inner.config
+
+pub returns-in-Err-release-clause-logs : goal.returns-in-Err-release-clause-logs
+returns-in-Err-release-clause-logs g c = c.release.ensures.logs
+
+pub returns-in-Ok-add-clause-logs : goal.returns-in-Ok-add-clause-logs
+returns-in-Ok-add-clause-logs g c = then_logs c.args.core.now.inner.config c.release.new.core.inner.config c.add.new.core.config c.release.ensures.logs c.add.ensures.logs
+
+pub returns-in-Err-add-clause-logs : goal.returns-in-Err-add-clause-logs
+returns-in-Err-add-clause-logs g c = then_logs c.args.core.now.inner.config c.release.new.core.inner.config c.add.new.core.config c.release.ensures.logs c.add.ensures.logs

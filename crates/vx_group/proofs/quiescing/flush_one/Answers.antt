@@ -11,6 +11,7 @@ use Rattle.vx_group.proofs.QuiesceLemmas.{missed_back, one_back, one_on, same_pa
 use Rattle.vx_group.proofs.Standing.{fit_of, some_active, sound_of}
 use Rattle.vx_group.proofs.WriteLemmas.{flushed_Narrows, flushed_Stands, flushed_all, no_commit, flushed_finds}
 use Rattle.vx_group.proofs.FindingLemmas.{as_finds, before_ends, ends_finds, stays_finds}
+use Rattle.vx_group.proofs.TrustStillLemmas.{same_logs}
 use Rattle.vx_group.proofs.quiescing.flush_one.Goals as goal
 
 pub flush_all-requires-clause-checked : goal.flush_all-requires-clause-checked
@@ -80,3 +81,18 @@ pub returns-in-Err-clause-finds : goal.returns-in-Err-clause-finds
 returns-in-Err-clause-finds g c =
     stays_finds c.args.core.now _ (g.S.Shelf.meaning c.args.shelf.now) (g.S.Shelf.meaning c.flush_all.new.shelf) refl refl refl
     (flushed_finds c.args.core.now c.args.vol (g.S.Shelf.meaning c.args.shelf.now) (g.S.Shelf.meaning c.flush_all.new.shelf) (g.met.S.Shelf.lawful c.args.shelf.now) (g.met.S.Shelf.lawful c.flush_all.new.shelf) c.requires.stands c.flush_all.ensures.goes)
+
+pub returns-then-failed-eq0-clause-logs : goal.returns-then-failed-eq0-clause-logs
+returns-then-failed-eq0-clause-logs g c = same_logs c.args.core.now.config
+
+pub returns-then-core-ge-MOST_NUMBER-clause-logs : goal.returns-then-core-ge-MOST_NUMBER-clause-logs
+returns-then-core-ge-MOST_NUMBER-clause-logs g c = c.detach.ensures.logs
+
+pub returns-else-core-ge-MOST_NUMBER-clause-logs : goal.returns-else-core-ge-MOST_NUMBER-clause-logs
+returns-else-core-ge-MOST_NUMBER-clause-logs g c = c.detach.ensures.logs
+
+pub returns-in-Err-detach-clause-logs : goal.returns-in-Err-detach-clause-logs
+returns-in-Err-detach-clause-logs g c = c.detach.ensures.logs
+
+pub returns-in-Err-clause-logs : goal.returns-in-Err-clause-logs
+returns-in-Err-clause-logs g c = same_logs c.args.core.now.config

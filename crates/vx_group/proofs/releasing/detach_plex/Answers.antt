@@ -10,6 +10,7 @@ use Rattle.vx_group.proofs.HoldLemmas.{one_kept}
 use Rattle.vx_group.proofs.Standing.{sound_of}
 use Rattle.vx_group.proofs.TrustLemmas.{err_from, ok_from}
 use Rattle.vx_group.proofs.FindingLemmas.{behind_finds}
+use Rattle.vx_group.proofs.TrustStillLemmas.{then_logs, volumes_logs}
 use Rattle.vx_group.proofs.releasing.detach_plex.Goals as goal
 
 pub bounds-flags-plex : goal.bounds-flags-plex
@@ -85,3 +86,10 @@ returns-clause-few g c =
 pub returns-clause-finds : goal.returns-clause-finds
 returns-clause-finds g c =
     behind_finds c.args.core.now c.settle_headers.new.core c.detach.new.core (g.S.Shelf.meaning c.args.shelf.now) (g.S.Shelf.meaning c.settle_headers.new.shelf) (g.S.Shelf.meaning c.detach.new.shelf) c.settle_headers.ensures.finds c.detach.ensures.finds
+
+pub returns-in-Err-clause-logs : goal.returns-in-Err-clause-logs
+returns-in-Err-clause-logs g c = volumes_logs c.args.core.now.config c.settle_headers.new.core.config c.settle_headers.ensures.volumes
+
+pub returns-clause-logs : goal.returns-clause-logs
+returns-clause-logs g c =
+    then_logs c.args.core.now.config c.settle_headers.new.core.config c.detach.new.core.config (volumes_logs c.args.core.now.config c.settle_headers.new.core.config c.settle_headers.ensures.volumes) c.detach.ensures.logs

@@ -1,11 +1,12 @@
 -- `release`: clauses stands, narrows, volumes and parts; what `detach_plex-result` asks.
-use Rattle.std.proofs.Common.{◌∙◌, ◌≡◌, None, Some, refl, sym, subst}
+use Rattle.std.proofs.Common.{arith, ◌∙◌, ◌≡◌, None, Some, refl, sym, subst}
 use Rattle.vx_group.specs.declared.inner.Inner.{Inner}
 use Rattle.vx_group.proofs.HoldLemmas.{back_parts, e_Stands, e_finds, e_narrows, e_volumes, wide_none, x_other}
 use Rattle.vx_group.proofs.releasing.release.Goals as goal
 use Rattle.vx_group.specs.Finds.{CoreFinds}
 use Rattle.vx_group.specs.Holding.{wide}
-use Rattle.vx_group.specs.Loses.{SameParts}
+use Rattle.vx_group.specs.Loses.{SameParts, TrustsStill}
+use Rattle.vx_group.proofs.TrustStillLemmas.{held_logs, same_logs, volumes_logs}
 use Rattle.vx_group.proofs.FindingLemmas.{none_finds}
 
 pub detach_plex-result-requires-clause-other : goal.detach_plex-result-requires-clause-other
@@ -40,8 +41,8 @@ pub returns-in-Some-clause-finds : goal.returns-in-Some-clause-finds
 returns-in-Some-clause-finds g c =
     record {
       core = e_finds c.args.core.now c.in-Some.held (g.S.Shelf.meaning c.args.shelf.now) c.requires.stands (sym c.open_held.ensures.held ∙ c.in-Some.is) c.open_held.new.core.inner c.open_held.ensures.inner
-    c.detach_plex-result.new.core c.detach_plex-result.ensures.others _ c.hold_back.new.core refl c.open_held.ensures.none c.hold_back.ensures
-    (g.S.Shelf.meaning c.detach_plex-result.new.shelf) c.detach_plex-result.ensures.finds;
+          c.detach_plex-result.new.core c.detach_plex-result.ensures.others _ c.hold_back.new.core refl c.open_held.ensures.none c.hold_back.ensures
+          (g.S.Shelf.meaning c.detach_plex-result.new.shelf) c.detach_plex-result.ensures.finds;
       free = λ none. absurd (let clash : None ≡ Some c.in-Some.held = sym none ∙ sym c.open_held.ensures.held ∙ c.in-Some.is in cc);
     }
 
@@ -51,3 +52,21 @@ returns-in-None-clause-finds g c = record {
       (none_finds (wide c.args.core.now) (g.S.Shelf.meaning c.args.shelf.now));
   free = λ was. c.open_held.ensures.none;
 }
+
+pub returns-then-core-ge-MOST_NUMBER-clause-logs : goal.returns-then-core-ge-MOST_NUMBER-clause-logs
+returns-then-core-ge-MOST_NUMBER-clause-logs g c = same_logs c.args.core.now.inner.config
+
+pub returns-in-Some-clause-logs : goal.returns-in-Some-clause-logs
+returns-in-Some-clause-logs g c = volumes_logs c.args.core.now.inner.config c.hold_back.new.core.inner.config (returns-in-Some-clause-volumes g c)
+
+pub returns-in-None-clause-logs : goal.returns-in-None-clause-logs
+returns-in-None-clause-logs g c = subst (λ (i : Inner). TrustsStill c.args.core.now.inner.config i.config) (sym c.open_held.ensures.inner) (held_logs c.args.core.now.held c.args.core.now.inner.config)
+
+pub returns-then-core-ge-MOST_NUMBER-clause-full : goal.returns-then-core-ge-MOST_NUMBER-clause-full
+returns-then-core-ge-MOST_NUMBER-clause-full g c = λ full. (refl, refl)
+
+pub returns-in-Some-clause-full : goal.returns-in-Some-clause-full
+returns-in-Some-clause-full g c = λ full. absurd (let left = c.if-core-ge-MOST_NUMBER.false in omega (arith, full, left))
+
+pub returns-in-None-clause-full : goal.returns-in-None-clause-full
+returns-in-None-clause-full g c = λ full. absurd (let left = c.if-core-ge-MOST_NUMBER.false in omega (arith, full, left))

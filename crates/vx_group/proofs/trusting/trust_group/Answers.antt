@@ -13,6 +13,7 @@ use Rattle.vx_group.proofs.MendLemmas.{same_Goes}
 use Rattle.vx_group.proofs.TrustingLemmas.{still_PlexActs}
 use Rattle.vx_group.proofs.FindingLemmas.{still_group}
 use Rattle.vx_group.proofs.FoundThrough.{alone_finds}
+use Rattle.vx_group.proofs.TrustStillLemmas.{same_logs}
 use Rattle.vx_group.proofs.trusting.trust_group.Goals as goal
 
 pub trust_log-requires-clause-stands : goal.trust_log-requires-clause-stands
@@ -92,3 +93,15 @@ returns-in-Ok-clause-finds g c =
 pub returns-in-Err-clause-finds : goal.returns-in-Err-clause-finds
 returns-in-Err-clause-finds g c =
     alone_finds c.args.core.now _ (g.S.Shelf.meaning c.args.shelf.now) (g.S.Shelf.meaning c.trust_log.new.shelf) c.requires.none c.requires.none c.trust_log.ensures.finds
+
+pub returns-then-is_down-clause-logs : goal.returns-then-is_down-clause-logs
+returns-then-is_down-clause-logs g c = same_logs c.args.core.now.inner.config
+
+pub returns-then-core-ge-MOST_NUMBER-clause-logs : goal.returns-then-core-ge-MOST_NUMBER-clause-logs
+returns-then-core-ge-MOST_NUMBER-clause-logs g c = same_logs c.args.core.now.inner.config
+
+pub returns-in-Ok-clause-logs : goal.returns-in-Ok-clause-logs
+returns-in-Ok-clause-logs g c = c.trust_log.ensures.logs
+
+pub returns-in-Err-clause-logs : goal.returns-in-Err-clause-logs
+returns-in-Err-clause-logs g c = c.trust_log.ensures.logs

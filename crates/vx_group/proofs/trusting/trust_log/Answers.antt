@@ -1,6 +1,6 @@
 -- `trust_log`: clauses goes and acts; what `detach` asks.
 use Rattle.vx_group.proofs.DetachLemmas.{zero_bit}
-use Rattle.std.proofs.Common.{◌∙◌, ℕ, length, refl, arith, List, ap}
+use Rattle.std.proofs.Common.{◌∙◌, ℕ, length, refl, arith, List, ap, subst, sym}
 use Rattle.vx_config.specs.declared.config.Config.{Config}
 use Rattle.vx_layout.specs.Places.{plex_at}
 use Rattle.vx_group.specs.Stands.{volume_faults}
@@ -12,6 +12,8 @@ use Rattle.vx_group.proofs.Standing.{some_active}
 use Rattle.vx_group.proofs.LoseLemmas.{but_parts, loses_none}
 use Rattle.vx_group.proofs.TrustingLemmas.{both_acts, both_goes, early_PlexActs, now_Stands, trusted_loses, trusting_plexes}
 use Rattle.vx_group.proofs.FindingLemmas.{behind_finds}
+use Rattle.vx_group.proofs.TrustStillLemmas.{again_logs, then_logs, volumes_logs}
+use Rattle.vx_group.specs.Loses.{TrustsStill}
 use Rattle.vx_group.proofs.trusting.trust_log.Goals as goal
 
 pub returns-in-Err-clause-goes : goal.returns-in-Err-clause-goes
@@ -81,3 +83,10 @@ returns-in-Err-clause-finds g c =
 pub returns-clause-finds : goal.returns-clause-finds
 returns-clause-finds g c =
     behind_finds c.args.core.now c.settle_headers.new.core c.detach.new.core (g.S.Shelf.meaning c.args.shelf.now) (g.S.Shelf.meaning c.settle_headers.new.shelf) (g.S.Shelf.meaning c.detach.new.shelf) c.settle_headers.ensures.finds c.detach.ensures.finds
+
+pub returns-in-Err-clause-logs : goal.returns-in-Err-clause-logs
+returns-in-Err-clause-logs g c = volumes_logs c.args.core.now.config c.settle_headers.new.core.config c.settle_headers.ensures.volumes
+
+pub returns-clause-logs : goal.returns-clause-logs
+returns-clause-logs g c =
+    then_logs c.args.core.now.config c.settle_headers.new.core.config c.detach.new.core.config (volumes_logs c.args.core.now.config c.settle_headers.new.core.config c.settle_headers.ensures.volumes) (then_logs c.settle_headers.new.core.config c.trust.new.config c.detach.new.core.config (subst (λ (x : Config). TrustsStill c.settle_headers.new.core.config x) (sym c.trust.ensures.changed) (again_logs c.args.vol c.args.log c.settle_headers.new.core.config)) c.detach.ensures.logs)

@@ -16,6 +16,7 @@ use Rattle.vx_kept.proofs.PlexActing.{none_PlexActs, on_wider}
 use Rattle.vx_group.proofs.ActsLemmas.{narrow_PlexActs, through_PlexActs}
 use Rattle.vx_group.proofs.FindingLemmas.{still_group, as_finds}
 use Rattle.vx_group.proofs.FoundThrough.{through_finds}
+use Rattle.vx_group.proofs.TrustStillLemmas.{same_logs, through_logs}
 use Rattle.vx_group.proofs.writing.write_group.Goals as goal
 
 pub returns-in-Err-clause-goes : goal.returns-in-Err-clause-goes
@@ -96,3 +97,13 @@ returns-clause-finds g c =
     through_finds c.args.core.now c.release.new.core (record { inner = c.write_in-result.new.core; held = c.open_held-held.new.core.held }) c.close_held.new.core c.open_held-held.new.core.inner c.write_in-result.new.core (g.S.Shelf.meaning c.args.shelf.now) (g.S.Shelf.meaning c.release.new.shelf) (g.S.Shelf.meaning c.write_in-result.new.shelf) c.open_held-held.ensures.inner
     (new_wide c.args.core.now c.release.new.core (record { inner = c.write_in-result.new.core; held = c.open_held-held.new.core.held }) c.close_held.new.core c.open_held-held.new.core.inner (g.S.Shelf.meaning c.args.shelf.now) (g.S.Shelf.meaning c.release.new.shelf) (g.S.Shelf.meaning c.write_in-result.new.shelf) c.requires.stands c.release.ensures.stands c.release.ensures.narrows c.release.ensures.volumes c.open_held-held.result c.open_held-held.ensures.held c.open_held-held.ensures.inner c.open_held-held.ensures.none c.close_held.ensures)
     c.open_held-held.result c.open_held-held.ensures.held c.open_held-held.ensures.none c.close_held.ensures c.release.ensures.finds c.write_in-result.ensures.finds
+
+pub returns-then-is_down-clause-logs : goal.returns-then-is_down-clause-logs
+returns-then-is_down-clause-logs g c = same_logs c.args.core.now.inner.config
+
+pub returns-in-Err-clause-logs : goal.returns-in-Err-clause-logs
+returns-in-Err-clause-logs g c = c.release.ensures.logs
+
+pub returns-clause-logs : goal.returns-clause-logs
+returns-clause-logs g c =
+    through_logs c.args.core.now c.release.new.core (record { inner = c.write_in-result.new.core; held = c.open_held-held.new.core.held }) c.close_held.new.core c.open_held-held.new.core.inner c.open_held-held.result c.open_held-held.ensures.inner c.close_held.ensures c.release.ensures.logs c.write_in-result.ensures.logs

@@ -14,6 +14,7 @@ use Rattle.vx_volume.specs.Volumes.{OnPlexes}
 use Rattle.vx_kept.proofs.PlexActing.{only_PlexActs}
 use Rattle.vx_group.proofs.ActsLemmas.{then_PlexActs}
 use Rattle.vx_group.proofs.FindingLemmas.{stays_finds, before_ends, ends_finds}
+use Rattle.vx_group.proofs.TrustStillLemmas.{same_logs}
 use Rattle.vx_group.proofs.writing.write_plexes.Goals as goal
 
 pub write_all-requires-clause-some : goal.write_all-requires-clause-some
@@ -144,3 +145,15 @@ pub returns-else-core-clause-finds : goal.returns-else-core-clause-finds
 returns-else-core-clause-finds g c =
     ends_finds c.args.core.now c.detach.new.core (g.S.Shelf.meaning c.args.shelf.now) (g.S.Shelf.meaning c.detach.new.shelf) (before_ends c.detach.new.core (g.S.Shelf.meaning c.args.shelf.now) (g.S.Shelf.meaning c.write_all.new.shelf) (g.S.Shelf.meaning c.detach.new.shelf)
     (wrote_finds c.args.core.now c.args.vol c.args.block c.args.bytes.now (g.S.Shelf.meaning c.args.shelf.now) (g.S.Shelf.meaning c.write_all.new.shelf) (g.met.S.Shelf.lawful c.args.shelf.now) (g.met.S.Shelf.lawful c.write_all.new.shelf) c.requires.stands c.requires.fits c.write_all.ensures.goes) c.detach.ensures.finds)
+
+pub returns-then-failed-eq0-clause-logs : goal.returns-then-failed-eq0-clause-logs
+returns-then-failed-eq0-clause-logs g c = same_logs c.args.core.now.config
+
+pub returns-then-core-clause-logs : goal.returns-then-core-clause-logs
+returns-then-core-clause-logs g c = same_logs c.args.core.now.config
+
+pub returns-in-Err-clause-logs : goal.returns-in-Err-clause-logs
+returns-in-Err-clause-logs g c = same_logs c.args.core.now.config
+
+pub returns-else-core-clause-logs : goal.returns-else-core-clause-logs
+returns-else-core-clause-logs g c = c.detach.ensures.logs
