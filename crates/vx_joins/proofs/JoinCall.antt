@@ -1,6 +1,6 @@
 -- A change of the line over the disks of a site, and the crash behind one that the fuse cut.
-use Rattle.std.proofs.Common.{◌≡◌, ◌≤◌, ◌∙◌, ℕ, true, false, List, [], ap, sym, subst, refl, arith, IsTrue}
-use Rattle.std.specs.Prelude.{Err}
+use Rattle.std.proofs.Common.{◌≡◌, ◌≤◌, ◌∙◌, ◌+◌, ℕ, true, false, List, [], ap, sym, subst, refl, arith, IsTrue}
+use Rattle.std.specs.Prelude.{Err, None}
 use Rattle.vx_model.specs.declared.call.Update.{Update}
 use Rattle.vx_model.specs.declared.no.No.{No}
 use Rattle.vx_model.specs.declared.no.No.TheVariants.{Device, Limit, Down as IsOff}
