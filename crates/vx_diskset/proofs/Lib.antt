@@ -8,6 +8,7 @@ pub mod OverWorks
 pub mod FoundedWork
 pub mod OverNotes
 pub mod OverCalls
+pub mod OverDisks
 pub mod OverReads
 pub mod OverReceivers
 pub mod OverCalled

@@ -243,14 +243,14 @@ receiver_still n c us m new goes now down fuse r =
       may = λ k is. may_same k m new goes.units goes.size goes.tells (r.may k is);
     }
 
--- with its fuse
-pub receiver_fused : {beside : KeptBeside} (n : Node) (c : Core) (us : List Update) (m new : Meaning) (calls pick : ℕ) → IsRack new → Alike m new → new.down ≡ m.down → OnDisks m.disks new.disks (λ o n. SameBlocks o n × (n.fuse ≡ Some (calls, pick)))
-    → IsReceiverAt beside n c us m → IsReceiverAt beside (record n { fuse = FuseSet calls }) c us new
-receiver_fused n c us m new calls pick rack alike down disks r = record {
+-- on a shelf of which only the fuse changed
+pub receiver_alike : {beside : KeptBeside} (n : Node) (fuse : Fuse) (c : Core) (us : List Update) (m new : Meaning) → Alike m new → new.down ≡ m.down → FuseOn fuse new
+    → IsReceiverAt beside n c us m → IsReceiverAt beside (record n { fuse = fuse }) c us new
+receiver_alike n fuse c us m new alike down on r = record {
   state = r.state;
   role = r.role;
   up = down ∙ r.up;
-  fuse = lets_by calls pick m.disks new.disks disks rack.told rack.is;
+  fuse = on;
   lies = lies_as n m new alike.contents.units alike.contents.size r.lies;
   low = r.low;
   units = r.units;
@@ -269,10 +269,15 @@ receiver_fused n c us m new calls pick rack alike down disks r = record {
   waits = r.waits;
   takes = r.takes;
   content = λ none told. still_with c (take n.safe n.log) n.base m new (alike_stands c m new alike) (r.content none (sym alike.contents.tells ∙ told));
-  left = λ i now. site_map n (record n { fuse = FuseSet calls }) i (λ has. record { count = has.count; least = has.least; most = has.most; found = has.found }) (r.left i (alike.contents.now i now));
+  left = λ i now. site_map n (record n { fuse = fuse }) i (λ has. record { count = has.count; least = has.least; most = has.most; found = has.found }) (r.left i (alike.contents.now i now));
   sure = r.sure;
   may = λ k is. may_same k m new alike.contents.units alike.contents.size alike.contents.tells (r.may k is);
 }
+
+-- with its fuse
+pub receiver_fused : {beside : KeptBeside} (n : Node) (c : Core) (us : List Update) (m new : Meaning) (calls pick : ℕ) → IsRack new → Alike m new → new.down ≡ m.down → OnDisks m.disks new.disks (λ o n. SameBlocks o n × (n.fuse ≡ Some (calls, pick)))
+    → IsReceiverAt beside n c us m → IsReceiverAt beside (record n { fuse = FuseSet calls }) c us new
+receiver_fused n c us m new calls pick rack alike down disks r = receiver_alike n (FuseSet calls) c us m new alike down (lets_by calls pick m.disks new.disks disks rack.told rack.is) r
 
 -- the volumes of its group are those of the site
 pub receiver_volumes : {beside : KeptBeside} (n : Node) (c : Core) (us : List Update) (m : Meaning) → IsReceiverAt beside n c us m → length c.units.vols ≡ length n.volumes

@@ -5,7 +5,7 @@ use Rattle.vx_model.specs.declared.site.Role.TheVariants.{Primary}
 use Rattle.vx_history.specs.Groups.{GroupNode, NoteWorks}
 use Rattle.vx_history.specs.Steps.{crashed}
 use Rattle.vx_history.specs.Stops.{IsFused}
-use Rattle.vx_history.specs.World.{Node}
+use Rattle.vx_history.specs.World.{FuseSet, Node}
 use Rattle.vx_model.specs.Content.{Write}
 use Rattle.vx_grouped.specs.ConfigMoves.{LosesSome}
 use Rattle.vx_grouped.specs.GroupSites.{AwayNoted, CutNoted, DownNoted, UpNoted, site_below, site_disks, with_note}
@@ -69,3 +69,13 @@ module _ {R : Type 0} {g : Ghosts R} where
     pub cut : cut_value new.cut ≡ cut_value old.cut
     pub notes : (n : Node) (note : GroupNode) → UpNoted (below_rvg n) note (site_in old) → IsInside note (above_in old) → NotesWorked n note (site_in old) (site_in new)
     pub above : (n : Node) → RoleBy n (above_in old) → RoleBy n (above_in new)
+
+  -- a call that leaves the note of a site over a group as it is
+  pub record StaysNoted (old new : OverSet R g) : Type 0 where
+    pub cut : cut_value new.cut ≡ cut_value old.cut
+    pub each : (n : Node) (note : GroupNode) → NotedOn n note (site_in old) → NotedOn n note (site_in new)
+
+  -- one that sets the fuse of a site that is up
+  pub record FusesNoted (calls : ℕ) (old new : OverSet R g) : Type 0 where
+    pub cut : cut_value new.cut ≡ cut_value old.cut
+    pub each : (n : Node) (note : GroupNode) → UpNoted n note (site_in old) → UpNoted (record n { fuse = FuseSet calls }) note (site_in new)

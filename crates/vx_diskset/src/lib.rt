@@ -13,6 +13,7 @@ mod keeping;
 mod labels;
 mod over_asked;
 mod over_calls;
+mod over_disks;
 mod over_group;
 mod over_set;
 mod over_work;

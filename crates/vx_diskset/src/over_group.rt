@@ -187,20 +187,6 @@ pub(crate) fn with_rvg<R: Rack>(
 }
 
 impl<R: Rack> OverSet<R> {
-    pub(crate) fn fail(&mut self, disk: u64, on: bool) {
-        let (site, above, cut) = mem::replace(self, OverSet::gone()).parts();
-        let mut site = site;
-        site.fail(disk, on);
-        *self = OverSet::of(site, above, cut);
-    }
-
-    pub(crate) fn fuse(&mut self, calls: u64, pick: u64) {
-        let (site, above, cut) = mem::replace(self, OverSet::gone()).parts();
-        let mut site = site;
-        site.fuse(calls, pick);
-        *self = OverSet::of(site, above, cut);
-    }
-
     pub(crate) fn crash(self, pick: u64) -> OverSet<R> {
         let (site, _above, cut) = self.parts();
         OverSet::of(site.crash(pick), Above::Nothing, cut)

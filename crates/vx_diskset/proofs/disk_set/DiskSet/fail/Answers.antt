@@ -7,6 +7,7 @@ use Rattle.vx_diskset.proofs.StartBare.{clean_read}
 use Rattle.vx_diskset.proofs.MakeGroup.{bare_still, up_still, fuse_still}
 use Rattle.vx_diskset.proofs.StartGroup.{down_still}
 use Rattle.vx_diskset.proofs.Receiving.{receiver_still, wait_as}
+use Rattle.vx_diskset.proofs.OverDisks.{set_asked, set_in, set_over, set_role, set_later as over_later}
 use Rattle.vx_diskset.proofs.OverGroups.{set_alike, set_later}
 use Rattle.vx_diskset.proofs.disk_set.DiskSet.fail.Goals as goal
 
@@ -53,3 +54,15 @@ returns-in-OfGroup-clause-stands g c = λ beside n stands. set_alike beside n c.
 
 pub returns-in-OfGroup-clause-later : goal.returns-in-OfGroup-clause-later
 returns-in-OfGroup-clause-later g c = set_later c.args.self.now c.in-OfGroup.group c.fail-in-OfGroup.new.self c.in-OfGroup.is c.fail-in-OfGroup.ensures.later
+
+pub returns-in-Over-clause-stands : goal.returns-in-Over-clause-stands
+returns-in-Over-clause-stands g c = λ beside n stands. set_over c.args.self.now c.in-Over.over c.fail-in-Over.new.self c.in-Over.is n n beside (λ over. over) (λ it. c.fail-in-Over.ensures.stands beside n it) stands
+
+pub returns-in-Over-clause-asked : goal.returns-in-Over-clause-asked
+returns-in-Over-clause-asked g c = λ low. set_asked c.args.self.now c.in-Over.over c.fail-in-Over.new.self c.in-Over.is c.args.disk c.args.on c.fail-in-Over.ensures.asked low
+
+pub returns-in-Over-clause-role : goal.returns-in-Over-clause-role
+returns-in-Over-clause-role g c = set_role c.args.self.now c.in-Over.over c.fail-in-Over.new.self c.in-Over.is c.fail-in-Over.ensures.above
+
+pub returns-in-Over-clause-later : goal.returns-in-Over-clause-later
+returns-in-Over-clause-later g c = over_later c.args.self.now c.in-Over.over c.fail-in-Over.new.self c.in-Over.is c.fail-in-Over.ensures.later

@@ -1,8 +1,10 @@
 -- `fuse`: clauses fused and asked.
+use Rattle.vx_history.specs.World.{FuseSet}
 use Rattle.vx_diskset.proofs.RawSets.{receiver_there, up_there}
 use Rattle.vx_diskset.proofs.Asking.{fuse_did}
 use Rattle.vx_diskset.proofs.FuseGroup.{up_fused}
 use Rattle.vx_diskset.proofs.Receiving.{receiver_fused}
+use Rattle.vx_diskset.proofs.OverDisks.{set_fuse, set_in, set_over, set_role, set_later as over_later}
 use Rattle.vx_diskset.proofs.OverGroups.{set_asked, set_fused, set_later}
 use Rattle.vx_diskset.proofs.disk_set.DiskSet.fuse.Goals as goal
 
@@ -33,3 +35,18 @@ returns-in-OfGroup-clause-asked g c = λ beside n stands state.
 
 pub returns-in-OfGroup-clause-later : goal.returns-in-OfGroup-clause-later
 returns-in-OfGroup-clause-later g c = set_later c.args.self.now c.in-OfGroup.group c.fuse-in-OfGroup.new.self c.in-OfGroup.is c.fuse-in-OfGroup.ensures.later
+
+pub returns-in-Over-clause-fused : goal.returns-in-Over-clause-fused
+returns-in-Over-clause-fused g c = λ beside n stands state.
+    set_over c.args.self.now c.in-Over.over c.fuse-in-Over.new.self c.in-Over.is n (record n { fuse = FuseSet c.args.calls }) beside (λ over. over) (λ it. c.fuse-in-Over.ensures.fused beside n it state) stands
+
+pub returns-in-Over-clause-asked : goal.returns-in-Over-clause-asked
+returns-in-Over-clause-asked g c = λ beside n stands state.
+    set_fuse c.args.self.now c.in-Over.over c.fuse-in-Over.new.self c.in-Over.is c.args.calls c.args.pick
+    (c.fuse-in-Over.ensures.asked beside n (set_in c.args.self.now c.in-Over.over c.fuse-in-Over.new.self c.in-Over.is beside n stands) state)
+
+pub returns-in-Over-clause-role : goal.returns-in-Over-clause-role
+returns-in-Over-clause-role g c = set_role c.args.self.now c.in-Over.over c.fuse-in-Over.new.self c.in-Over.is c.fuse-in-Over.ensures.above
+
+pub returns-in-Over-clause-later : goal.returns-in-Over-clause-later
+returns-in-Over-clause-later g c = over_later c.args.self.now c.in-Over.over c.fuse-in-Over.new.self c.in-Over.is c.fuse-in-Over.ensures.later
