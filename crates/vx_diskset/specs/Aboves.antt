@@ -23,6 +23,12 @@ IsAboveOn Nothing m = ⊥
 IsAboveOn (Origin core) m = IsSound core m
 IsAboveOn (Receiver core waiting) m = IsSound core m × Wait core m.size waiting
 
+-- no updates wait behind it: it takes none
+abbrev pub IsDeaf : Above → Type 0
+IsDeaf Nothing = Unit {0}
+IsDeaf (Origin core) = Unit {0}
+IsDeaf (Receiver core waiting) = ⊥
+
 -- nothing is noted of the blocks of these units
 abbrev pub InsideOf : Units → GroupNode → Type 0
 InsideOf units note = (u : ℕ) → IsGroupDisk units u → note.inside u ≡ true

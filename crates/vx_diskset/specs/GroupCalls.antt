@@ -28,11 +28,22 @@ module _ {R : Type 0} {g : Ghosts R} where
   AtPlain P (OfGroup s) = P s.site
   AtPlain P other = ⊥
 
-  -- and so they are behind the call
+  -- or they have one
+  abbrev pub AtOver : (GroupSite R g → Type 0) → DiskSet R g → Type 0
+  AtOver P (Over s) = P (site_in s)
+  AtOver P other = ⊥
+
+  -- and so they are behind the call, which makes no replicated volume group
   abbrev pub OnSites : (GroupSite R g → GroupSite R g → Type 0) → DiskSet R g → DiskSet R g → Type 0
-  OnSites P (OfGroup old) new = AtSite (P old.site) new
-  OnSites P (Over old) new = AtSite (P (site_in old)) new
+  OnSites P (OfGroup old) new = AtPlain (P old.site) new
+  OnSites P (Over old) new = AtOver (P (site_in old)) new
   OnSites P old new = ⊥
+
+  -- the same behind an import, which may find one
+  abbrev pub ImportsOn : (GroupSite R g → GroupSite R g → Type 0) → DiskSet R g → DiskSet R g → Type 0
+  ImportsOn P (OfGroup old) new = AtSite (P old.site) new
+  ImportsOn P (Over old) new = AtSite (P (site_in old)) new
+  ImportsOn P old new = ⊥
 
   -- the write that the fuse cut
   abbrev pub cut_in : DiskSet R g → Option Write

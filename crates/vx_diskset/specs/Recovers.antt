@@ -19,7 +19,7 @@ use Rattle.vx_watched.specs.Since.{is_rack}
 use Rattle.vx_grouped.specs.SiteEnds.{burned_site}
 use Rattle.vx_grouped.specs.SiteReturns.{SiteRecovers}
 use Rattle.vx_grouped.specs.declared.group_site.GroupSite.{GroupSite}
-use Rattle.vx_diskset.specs.GroupCalls.{AtSite, cut_in}
+use Rattle.vx_diskset.specs.GroupCalls.{AtPlain, AtSite, cut_in}
 use Rattle.vx_diskset.specs.GroupSets.{cut_value}
 use Rattle.vx_diskset.specs.declared.disk_set.DiskSet.{DiskSet}
 use Rattle.vx_diskset.specs.declared.disk_set.DiskSet.TheVariants.{OfGroup}
@@ -59,10 +59,10 @@ module _ {R : Type 0} {g : Ghosts R} where
   -- A group that came up says what is kept of the write that was cut, which is cut no longer. Where a disk failed in that, it is down again, and the write
   -- is cut still.
   abbrev pub RisesWith : Node → GroupNode → Option CutWrite → GroupSite R g → DiskSet R g → Result (Option KeptWrite) Stop → Type 0
-  RisesWith n note cut old new (Ok kept) = AtSite (UpNoted (burned_site n) note) new × (cut_in new ≡ None) × KeptIs note (site_disks old) cut kept
+  RisesWith n note cut old new (Ok kept) = AtPlain (UpNoted (burned_site n) note) new × (cut_in new ≡ None) × KeptIs note (site_disks old) cut kept
   RisesWith n note cut old new (Err (Refused (Device disk))) =
-      AtSite (DownNoted (crashed (with_note (still_cut cut note) n) 0) (still_cut cut note)) new × (cut_in new ≡ cut_value cut) × CutFits note cut
-      × AtSite (λ e. Rose ((site_disks old).disk_faults disk) ((site_disks e).disk_faults disk)) new
+      AtPlain (DownNoted (crashed (with_note (still_cut cut note) n) 0) (still_cut cut note)) new × (cut_in new ≡ cut_value cut) × CutFits note cut
+      × AtPlain (λ e. Rose ((site_disks old).disk_faults disk) ((site_disks e).disk_faults disk)) new
   RisesWith n note cut old new (Err other) = ⊥
 
   -- a recovery that was refused in its import leaves the write that was cut

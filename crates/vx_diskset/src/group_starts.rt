@@ -10,7 +10,7 @@ ghost use Rattle.vx_model.specs.declared.site.SiteState.TheVariants.{Bare as Bar
 ghost use Rattle.vx_watched.specs.Since.{CalledSince};
 ghost use Rattle.vx_diskset.specs.Asked.{FuseGoesOn, SameFailing};
 ghost use Rattle.vx_diskset.specs.DiskSets.{Later};
-ghost use Rattle.vx_diskset.specs.GroupCalls.{AtPlain, AtSite, InitIs, OnSites, cut_in};
+ghost use Rattle.vx_diskset.specs.GroupCalls.{AtPlain, AtSite, ImportsOn, InitIs, cut_in};
 ghost use Rattle.vx_diskset.specs.Holds.{KeptBeside};
 ghost use Rattle.vx_diskset.specs.Recovers.{LooksAt, LooksKept, RaisesGroup, RisesSince, RisesWith, cut_past};
 ghost use Rattle.vx_diskset.specs.Stands.{SiteStands};
@@ -224,7 +224,7 @@ impl<R: Rack> DiskSet<R> {
 
     /// Imports the group of a site that was deported. Where it is refused, the site stays as it was, or is down where its fuse ran out.
     pub fn import_group(self, alloc: Global) -> (DiskSet<R>, Result<(), Stop>)
-        ensures imported { (n : Node) (note : GroupNode) → AtSite (AwayNoted n note) self → OnSites (λ o e. SiteImports n note o e result.1) self result.0 }
+        ensures imported { (n : Node) (note : GroupNode) → AtSite (AwayNoted n note) self → ImportsOn (λ o e. SiteImports n note o e result.1) self result.0 }
         ensures cut { cut_in result.0 ≡ cut_past result.1 self }
         ensures fuse { (n : Node) (note : GroupNode) → AtSite (AwayNoted n note) self → FuseGoesOn self result.0 }
         ensures failing { SameFailing self result.0 }

@@ -40,10 +40,11 @@ use Rattle.vx_diskset.specs.Layouts.{units_of}
 use Rattle.vx_diskset.specs.Needs.{TakesAs}
 use Rattle.vx_diskset.specs.Stands.{IsReceiverAt, RoleIs, SiteStands, IsUngrouped}
 use Rattle.vx_diskset.specs.declared.disk_set.DiskSet.{DiskSet}
-use Rattle.vx_diskset.specs.declared.disk_set.DiskSet.TheVariants.{Bare, Spoiled, Up, Receives, Down, OfGroup, Gone}
+use Rattle.vx_diskset.specs.declared.disk_set.DiskSet.TheVariants.{Bare, Spoiled, Up, Receives, Down, OfGroup, Over, Gone}
 use Rattle.vx_diskset.proofs.GroupStands.{off_or_origin}
+use Rattle.vx_diskset.proofs.OverSets.{over_deaf}
 use Rattle.vx_diskset.proofs.BesideLemmas.{site_sure}
-use Rattle.vx_joins.specs.Deliveries.{DeliveredTo}
+use Rattle.vx_joins.specs.Deliveries.{DeliveredTo, TakesRaw}
 
 -- ---- a receiver as its rule sees it
 
@@ -232,15 +233,16 @@ module _ (w : World) (number : ℕ) (p : Packet) (k : ℕ) (x : Write) (at : pac
         (record { says = refl; stands = stands; fed_by = fed_by; assembly = assembly; flight = flight })
 
     -- disks that receive nothing
-    pub never_heard : (e : DiskSet R g) (fed : ℕ) (a : Assembled) (f : Flying) → ((s : Secondary R g) → e ≡ Receives s → ⊥) → RoleIs there e
+    pub never_heard : (e : DiskSet R g) (fed : ℕ) (a : Assembled) (f : Flying) → ((s : Secondary R g) → e ≡ Receives s → ⊥) → RoleIs there e → TakesRaw e
         → SiteStands beside there e → fed ≡ there.fed_by → AssemblyStands w.packets p.target (w.gathering p.target) a → FlightStands w.packets f → DeliveredTo behind beside p.target e fed a f IsIgnored
-    never_heard (Bare rack) fed a f other role stands = ignored_to (Bare rack) fed a f (inl (inl (ap (λ (n : Node). is_up n.state) stands.bare.is))) stands
-    never_heard (Spoiled rack) fed a f other role stands = ignored_to (Spoiled rack) fed a f (inl (inl (ap (λ (n : Node). is_up n.state) stands.is))) stands
-    never_heard (Up rvg) fed a f other role stands = ignored_to (Up rvg) fed a f (inr role) stands
-    never_heard (Receives s) fed a f other role stands = absurd (other s refl)
-    never_heard (Down rack) fed a f other role stands = ignored_to (Down rack) fed a f (inl (inl (ap is_up stands.state))) stands
-    never_heard (OfGroup s) fed a f other role stands = ignored_to (OfGroup s) fed a f (⊎_elim (λ off. inl (inl off)) (λ origin. inr origin) (off_or_origin beside there s stands)) stands
-    never_heard Gone fed a f other role stands = absurd stands
+    never_heard (Bare rack) fed a f other role raw stands = ignored_to (Bare rack) fed a f (inl (inl (ap (λ (n : Node). is_up n.state) stands.bare.is))) stands
+    never_heard (Spoiled rack) fed a f other role raw stands = ignored_to (Spoiled rack) fed a f (inl (inl (ap (λ (n : Node). is_up n.state) stands.is))) stands
+    never_heard (Up rvg) fed a f other role raw stands = ignored_to (Up rvg) fed a f (inr role) stands
+    never_heard (Receives s) fed a f other role raw stands = absurd (other s refl)
+    never_heard (Down rack) fed a f other role raw stands = ignored_to (Down rack) fed a f (inl (inl (ap is_up stands.state))) stands
+    never_heard (OfGroup s) fed a f other role raw stands = ignored_to (OfGroup s) fed a f (⊎_elim (λ off. inl (inl off)) (λ origin. inr origin) (off_or_origin beside there s stands)) stands
+    never_heard (Over s) fed a f other role raw stands = ignored_to (Over s) fed a f (⊎_elim (λ off. inl (inl off)) (λ origin. inr origin) (over_deaf beside there s.site raw role stands.1)) stands
+    never_heard Gone fed a f other role raw stands = absurd stands
 
     -- a receiver that is halted
     pub halted_to : (s : Secondary R g) (disk : ℕ) (fed : ℕ) (a : Assembled) (f : Flying) → Some disk ≡ s.rvg.core.halted → SiteStands beside there (Receives s) → fed ≡ there.fed_by → AssemblyStands w.packets p.target (w.gathering p.target) a

@@ -34,9 +34,10 @@ use Rattle.vx_secondary.specs.declared.secondary.Secondary.{Secondary}
 use Rattle.vx_diskset.specs.Holds.{KeptBeside}
 use Rattle.vx_diskset.specs.Stands.{IsReceiverAt, RoleIs, SiteStands}
 use Rattle.vx_diskset.specs.declared.disk_set.DiskSet.{DiskSet}
-use Rattle.vx_diskset.specs.declared.disk_set.DiskSet.TheVariants.{Bare, Spoiled, Up, Receives, Down, OfGroup, Gone}
+use Rattle.vx_diskset.specs.declared.disk_set.DiskSet.TheVariants.{Bare, Spoiled, Up, Receives, Down, OfGroup, Over, Gone}
 use Rattle.vx_diskset.proofs.GroupStands.{off_or_origin}
-use Rattle.vx_joins.specs.Deliveries.{IsUnheard, TakesNone, TakesOne, TookTo}
+use Rattle.vx_diskset.proofs.OverSets.{over_deaf}
+use Rattle.vx_joins.specs.Deliveries.{IsUnheard, TakesNone, TakesOne, TakesRaw, TookTo}
 use Rattle.vx_joins.proofs.TakesUpdate.{halted_off, ignored_is, more_receiver, receives_at, same_receiver}
 
 abbrev received : RState → RAction → Received
@@ -81,14 +82,15 @@ module _ (w : World) (number : ℕ) (p : Packet) (k : ℕ) (x : Write) (at : pac
     unheard e fed a f why stands fed_by = IsUnheard [] (ignored_is w number p k x at message why ∙ nothing_sent) refl stands fed_by refl (more_none f f refl)
 
     -- disks that receive nothing
-    pub other_took : (e : DiskSet R g) (fed : ℕ) (a : Assembled) (f : Flying) → ((s : Secondary R g) → e ≡ Receives s → ⊥) → RoleIs there e → SiteStands beside there e → fed ≡ there.fed_by → TookTo w number p k beside e fed a a f f IsIgnored
-    other_took (Bare rack) fed a f other role stands = unheard (Bare rack) fed a f (inl (inl (ap (λ (n : Node). is_up n.state) stands.bare.is))) stands
-    other_took (Spoiled rack) fed a f other role stands = unheard (Spoiled rack) fed a f (inl (inl (ap (λ (n : Node). is_up n.state) stands.is))) stands
-    other_took (Up rvg) fed a f other role stands = unheard (Up rvg) fed a f (inr role) stands
-    other_took (Receives s) fed a f other role stands = absurd (other s refl)
-    other_took (Down rack) fed a f other role stands = unheard (Down rack) fed a f (inl (inl (ap is_up stands.state))) stands
-    other_took (OfGroup s) fed a f other role stands = unheard (OfGroup s) fed a f (⊎_elim (λ off. inl (inl off)) (λ origin. inr origin) (off_or_origin beside there s stands)) stands
-    other_took Gone fed a f other role stands = absurd stands
+    pub other_took : (e : DiskSet R g) (fed : ℕ) (a : Assembled) (f : Flying) → ((s : Secondary R g) → e ≡ Receives s → ⊥) → RoleIs there e → TakesRaw e → SiteStands beside there e → fed ≡ there.fed_by → TookTo w number p k beside e fed a a f f IsIgnored
+    other_took (Bare rack) fed a f other role raw stands = unheard (Bare rack) fed a f (inl (inl (ap (λ (n : Node). is_up n.state) stands.bare.is))) stands
+    other_took (Spoiled rack) fed a f other role raw stands = unheard (Spoiled rack) fed a f (inl (inl (ap (λ (n : Node). is_up n.state) stands.is))) stands
+    other_took (Up rvg) fed a f other role raw stands = unheard (Up rvg) fed a f (inr role) stands
+    other_took (Receives s) fed a f other role raw stands = absurd (other s refl)
+    other_took (Down rack) fed a f other role raw stands = unheard (Down rack) fed a f (inl (inl (ap is_up stands.state))) stands
+    other_took (OfGroup s) fed a f other role raw stands = unheard (OfGroup s) fed a f (⊎_elim (λ off. inl (inl off)) (λ origin. inr origin) (off_or_origin beside there s stands)) stands
+    other_took (Over s) fed a f other role raw stands = unheard (Over s) fed a f (⊎_elim (λ off. inl (inl off)) (λ origin. inr origin) (over_deaf beside there s.site raw role stands.1)) stands
+    other_took Gone fed a f other role raw stands = absurd stands
 
     -- a receiver that is halted
     pub halted_took : (s : Secondary R g) (disk fed : ℕ) (a : Assembled) (f : Flying) → Some disk ≡ s.rvg.core.halted → SiteStands beside there (Receives s) → fed ≡ there.fed_by → TookTo w number p k beside (Receives s) fed a a f f IsIgnored

@@ -3,7 +3,7 @@ use Rattle.std.proofs.Common.{ap, subst, sym, ◌∙◌}
 use Rattle.vx_grouped.specs.GroupSites.{AwayNoted}
 use Rattle.vx_grouped.specs.SiteReturns.{SiteImports}
 use Rattle.vx_diskset.specs.Asked.{FuseGoesOn}
-use Rattle.vx_diskset.specs.GroupCalls.{OnSites, cut_in}
+use Rattle.vx_diskset.specs.GroupCalls.{ImportsOn, cut_in}
 use Rattle.vx_diskset.specs.Recovers.{cut_past}
 use Rattle.vx_diskset.proofs.GroupCalling.{at_none, at_sites}
 use Rattle.vx_diskset.proofs.GroupRising.{import_settled, rise_failing, rise_fuse, rise_later}
@@ -11,7 +11,7 @@ use Rattle.vx_diskset.proofs.disk_set.DiskSet.import_group.Goals as goal
 
 pub returns-in-OfGroup-clause-imported : goal.returns-in-OfGroup-clause-imported
 returns-in-OfGroup-clause-imported g c = λ n note away.
-    subst (λ x. OnSites (λ o e. SiteImports n note o e c.import_in.result.1) x c.import_in.result.0) (sym c.in-OfGroup.is)
+    subst (λ x. ImportsOn (λ o e. SiteImports n note o e c.import_in.result.1) x c.import_in.result.0) (sym c.in-OfGroup.is)
     (c.import_in.ensures.imported n note (at_sites (AwayNoted n note) (AwayNoted n note c.in-OfGroup.group.site) c.args.self c.in-OfGroup.group c.in-OfGroup.is (λ it. it) away))
 
 pub returns-in-OfGroup-clause-cut : goal.returns-in-OfGroup-clause-cut
