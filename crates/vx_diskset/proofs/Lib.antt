@@ -9,6 +9,7 @@ pub mod FoundedWork
 pub mod OverNotes
 pub mod OverCalls
 pub mod OverDisks
+pub mod OverFrames
 pub mod OverReads
 pub mod OverReceivers
 pub mod OverCalled

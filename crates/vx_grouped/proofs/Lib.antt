@@ -40,4 +40,5 @@ pub mod SinceReturns
 pub mod ReadyLemmas
 pub mod FindLemmas
 pub mod TraceLemmas
+pub mod VolumeLemmas
 pub mod LitLemmas

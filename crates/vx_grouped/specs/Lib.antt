@@ -21,4 +21,5 @@ pub mod SiteKeeps
 pub mod SiteReturns
 pub mod StateChanges
 pub mod Tracings
+pub mod Volumes
 pub mod Watches
