@@ -10,6 +10,7 @@ pub mod OverNotes
 pub mod OverCalls
 pub mod OverDisks
 pub mod OverFrames
+pub mod OverPlain
 pub mod OverReads
 pub mod OverReceivers
 pub mod OverCalled

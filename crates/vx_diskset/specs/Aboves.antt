@@ -1,5 +1,5 @@
 -- What stands over the volumes of a group of disks.
-use Rattle.std.specs.Prelude.{◌≡◌, ℕ, true, List, [], Option, Some, None}
+use Rattle.std.specs.Prelude.{◌≡◌, ℕ, ◌<◌, true, List, [], length, Option, Some, None}
 use Rattle.vx_disk.specs.Shelf.{Meaning}
 use Rattle.vx_disk.specs.declared.shelf.Shelf.{Ghosts}
 use Rattle.vx_ground.specs.Lifted.{laid_volumes}
@@ -8,7 +8,7 @@ use Rattle.vx_grouped.specs.declared.group_site.GroupSite.TheVariants.{Up, Depor
 use Rattle.vx_history.specs.Groups.{GroupNode}
 use Rattle.vx_model.specs.declared.call.Update.{Update}
 use Rattle.vx_model.specs.declared.units.Units.{Units}
-use Rattle.vx_rvg.specs.Views.{Core, IsSound}
+use Rattle.vx_rvg.specs.Views.{Core, IsSound, unit_of}
 use Rattle.vx_secondary.specs.Receivers.{Wait}
 use Rattle.vx_diskset.specs.Blames.{IsGroupDisk}
 use Rattle.vx_diskset.specs.declared.above.Above.{Above}
@@ -28,6 +28,17 @@ abbrev pub IsDeaf : Above → Type 0
 IsDeaf Nothing = Unit {0}
 IsDeaf (Origin core) = Unit {0}
 IsDeaf (Receiver core waiting) = ⊥
+
+-- this volume is none of these units
+pub record IsOutsideOf (units : Units) (volume : ℕ) : Type 0 where
+  pub log : volume ≡ units.srl → ⊥
+  pub maps : volume ≡ units.maps → ⊥
+  pub vols : (v : ℕ) → v < length units.vols → volume ≡ unit_of units.vols v → ⊥
+
+abbrev pub IsOutside : ℕ → Above → Type 0
+IsOutside volume Nothing = Unit {0}
+IsOutside volume (Origin core) = IsOutsideOf core.units volume
+IsOutside volume (Receiver core waiting) = IsOutsideOf core.units volume
 
 -- nothing is noted of the blocks of these units
 abbrev pub InsideOf : Units → GroupNode → Type 0

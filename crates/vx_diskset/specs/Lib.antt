@@ -27,3 +27,4 @@ pub mod Withdrawn
 pub mod Zeroing
 pub mod Zeros
 pub mod Works
+pub mod OverKeeps

@@ -9,6 +9,8 @@ ghost use Rattle.vx_history.specs.World.{Node};
 ghost use Rattle.vx_model.specs.declared.errors.Stop.TheVariants.{No as Refused};
 ghost use Rattle.vx_model.specs.declared.limits.TheConstants.{MOST_CALL_BYTES};
 ghost use Rattle.vx_model.specs.declared.no.No.{No as NoValue};
+ghost use Rattle.vx_disk.specs.Shelf.{Covers};
+ghost use Rattle.vx_grouped.specs.Volumes.{SiteGoes};
 ghost use Rattle.vx_watched.specs.Since.{CalledSince};
 ghost use Rattle.vx_diskset.specs.Asked.{FuseGoesOn, SameFailing};
 ghost use Rattle.vx_diskset.specs.DiskSets.{Later};
@@ -27,7 +29,7 @@ use vx_layout::Shape;
 use vx_model::{Blocks, Name, No, Stop};
 
 // Writes to a volume of a group. The write in which the fuse runs out is cut.
-fn write_set<R: Rack>(
+pub(crate) fn write_set<R: Rack>(
     group: &mut GroupSet<R>,
     volume: u32,
     block: u64,
@@ -38,6 +40,7 @@ fn write_set<R: Rack>(
     requires whole { length bytes.now % 512 ≡ 0 }
     ensures wrote { (n : Node) (note : GroupNode) → UpNoted n note group.old.site → FitsPlain note volume block (length bytes.now) → PlainWrote n note (plain_write volume block bytes.now) group.old.site group.new.site result }
     ensures cut { cut_value group.new.cut ≡ cut_behind result (plain_write volume block bytes.now) (cut_value group.old.cut) }
+    ensures volumes { SiteGoes (Covers volume block bytes.now) group.old.site group.new.site }
     ensures since { CalledSince (site_disks group.old.site) (site_disks group.new.site) }
     ensures told { TellsLess (site_below group.old.site) (site_below group.new.site) }
 {

@@ -15,6 +15,7 @@ mod over_asked;
 mod over_calls;
 mod over_disks;
 mod over_group;
+mod over_plain;
 mod over_set;
 mod over_work;
 mod pumping;

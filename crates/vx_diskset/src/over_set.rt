@@ -1,6 +1,7 @@
 // The disks of a site whose group has a replicated volume group.
 ghost use Rattle.std.specs.Prelude.{◌≡◌};
 ghost use Rattle.vx_diskset.specs.Aboves.{AboveStays, above_in, site_in};
+ghost use Rattle.vx_diskset.specs.OverKeeps.{StaysAbove};
 
 use crate::above::Above;
 use crate::founded::{Founded, FoundedReceiver};
@@ -66,6 +67,7 @@ impl<R: Rack> OverSet<R> {
         requires { AboveStays above site }
         ensures cut { result.cut ≡ cut }
         ensures site { site_in result ≡ site }
+        ensures above { StaysAbove above site (above_in result) }
     {
         let site = match site {
             GroupSite::Up(laid) => match above {

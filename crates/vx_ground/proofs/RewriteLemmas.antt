@@ -5,6 +5,7 @@ use Rattle.std.proofs.lemmas.Bool.{cases_lt}
 use Rattle.vx_disk.specs.Causes.{Cause, StaysUp}
 use Rattle.vx_disk.specs.Shelf.{Covers, Flushed, Goes, Lawful, Meaning, Nothing, Or, Read, Written, Wrote, piece}
 use Rattle.vx_disk.specs.declared.shelf.ShelfError.{ShelfError}
+use Rattle.vx_disk.specs.declared.shelf.ShelfError.TheVariants.{Down, Fault}
 use Rattle.vx_disk.proofs.Causing.{Cause_both}
 use Rattle.vx_disk.proofs.Runs.{both_Goes, nothing_then, same_Goes, weaker}
 use Rattle.vx_ground.specs.Rewrites.{OneSeen, OneRests, Rewrote, WasLeft}
@@ -98,35 +99,30 @@ on_left unit old new each size flushed = record { one = λ b x y low here there.
 
 -- ---- the loop over runs
 
-pub record RewriteLoop (unit : ℕ) (old new : Meaning) (done blocks : ℕ) : Type 1 where
+pub record RewriteLoop (unit : ℕ) (old new : Meaning) (done blocks : ℕ) : Type 0 where
   pub goes : Goes (WasLeft unit old) old new
   pub one : OneSeen unit 0 done new
   pub low : done ≤ blocks
-  pub up : (new ≡ old) ⊎ StaysUp old new
 
 pub loop_none : (unit : ℕ) (m : Meaning) (blocks : ℕ) → RewriteLoop unit m m 0 blocks
 loop_none unit m blocks = record {
   goes = same_Goes (WasLeft unit m) m;
   one = record { one = λ b x y low high here there. absurd (omega (arith, high)) };
   low = omega arith;
-  up = inl refl;
 }
 
 module _ (unit : ℕ) (old mid new : Meaning) (done blocks : ℕ) (at : RewriteLoop unit old mid done blocks) where
-  pub loop_up : StaysUp mid new → (new ≡ old) ⊎ StaysUp old new
-  loop_up stays = elim at.up [
-    | inl same ↦ inr (subst (λ (m : Meaning). StaysUp m new) same stays)
-    | inr up ↦ inr (record { before = up.before; after = stays.after })
-  ]
+  pub loop_more : (count : ℕ) → Goes (WasLeft unit mid) mid new → Rewrote unit done count mid new → done + count ≤ blocks → RewriteLoop unit old new (done + count) blocks
+  loop_more count goes wrote low = record { goes = on_goes unit old mid new at.goes goes; one = on_one unit done count mid new at.one wrote; low = low }
 
-  pub loop_more : (count : ℕ) → Goes (WasLeft unit mid) mid new → Rewrote unit done count mid new → StaysUp mid new → done + count ≤ blocks → RewriteLoop unit old new (done + count) blocks
-  loop_more count goes wrote stays low = record { goes = on_goes unit old mid new at.goes goes; one = on_one unit done count mid new at.one wrote; low = low; up = loop_up stays }
+  -- a shelf that is up was up
+  stays_first : StaysUp mid new → StaysUp old mid
+  stays_first stays = record { before = λ down. stays.before (at.goes.falls down); after = stays.before }
 
   pub loop_cause : {T : Type 0} (r : Result T ShelfError) → Cause mid new unit r → Cause old new unit r
-  loop_cause r cause = elim at.up [
-    | inl same ↦ subst (λ (m : Meaning). Cause m new unit r) same cause
-    | inr up ↦ Cause_both old mid new unit r up at.goes.faults at.goes.disk_faults cause
-  ]
+  loop_cause (Ok x) stays = record { before = λ down. stays.before (at.goes.falls down); after = stays.after }
+  loop_cause (Err (Fault disk)) cause = Cause_both old mid new unit (Err (Fault disk)) (stays_first cause.1) at.goes.faults at.goes.disk_faults cause
+  loop_cause (Err Down) down = down
 
 -- the flush behind it
 pub loop_left : {T E : Type 0} (r : Result T E) (unit : ℕ) (old mid new : Meaning) (done blocks : ℕ) → RewriteLoop unit old mid done blocks → blocks ≡ old.size unit → blocks ≤ done → Goes Nothing mid new → OnOk r (Flushed unit mid new) → OnOk r (OneRests unit new)
