@@ -9,6 +9,7 @@ pub mod FoundedWork
 pub mod OverNotes
 pub mod OverCalls
 pub mod OverDisks
+pub mod OverFalls
 pub mod OverFrames
 pub mod OverPlain
 pub mod OverReads

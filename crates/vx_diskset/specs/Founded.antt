@@ -1,14 +1,20 @@
 -- A replicated volume group over a group of disks that is up.
 use Rattle.std.specs.Prelude.{◌≡◌, ◌≢◌, ℕ, Bool, Some}
 use Rattle.vx_disk.specs.Causes.{OnDisks, WithDisks}
-use Rattle.vx_disk.specs.Disks.{Disks, SameBlocks, Untouched}
-use Rattle.vx_disk.specs.Racks.{Alike}
+use Rattle.vx_disk.specs.Disks.{Crashed, Disks, SameBlocks, Untouched}
+use Rattle.vx_disk.specs.Racks.{Alike, Stopped}
 use Rattle.vx_disk.specs.declared.shelf.Shelf.{Ghosts}
 use Rattle.vx_ground.specs.Accounts.{GroundSince, ground_state}
 use Rattle.vx_ground.specs.Lifted.{laid_volumes}
-use Rattle.vx_grouped.specs.GroupSites.{laid_below, laid_disks, site_below, site_disks}
+use Rattle.vx_grouped.specs.GroupSites.{idle_below, idle_disks, laid_below, laid_disks, site_below, site_disks}
 use Rattle.vx_grouped.specs.declared.group_site.GroupSite.{GroupSite}
+use Rattle.vx_grouped.specs.Away.{IsAwayAt}
+use Rattle.vx_grouped.specs.GroupNotes.{GroupLies}
+use Rattle.vx_grouped.specs.declared.idle.Idle.{Idle}
 use Rattle.vx_grouped.specs.declared.laid.Laid.{Laid}
+use Rattle.vx_history.specs.Groups.{GroupNode}
+use Rattle.vx_history.specs.World.{Node}
+use Rattle.vx_model.specs.declared.site.SiteState.TheVariants.{Down as IsDown}
 use Rattle.vx_rvg.specs.Views.{Core}
 use Rattle.vx_watched.specs.Since.{CalledSince}
 use Rattle.vx_watched.specs.Traces.{TellsLess}
@@ -55,3 +61,11 @@ module _ {R : Type 0} {g : Ghosts R} where
     pub counts : (d : ℕ) → (site_disks new).disk_faults d ≡ (site_disks old).disk_faults d
     pub tells : (site_disks new).tells ≡ (site_disks old).tells
     pub told : TellsLess (site_below old) (site_below new)
+
+  -- the disks of it crashed with this pick
+  pub record LaidFell (pick : ℕ) (old : Laid R g) (idle : Idle R g) : Type 0 where
+    pub away : (n : Node) (note : GroupNode) → GroupLies n note old.core (laid_disks old) → IsAwayAt (record n { state = IsDown }) note old.core.inner.config (idle_disks idle)
+    pub stopped : Stopped (laid_disks old) (idle_disks idle)
+    pub agreed : idle.agreed ≡ old.core.inner.agreed
+    pub disks : OnDisks (laid_disks old).disks (idle_disks idle).disks (Crashed (laid_disks old).size pick)
+    pub told : TellsLess (laid_below old) (idle_below idle)

@@ -2,8 +2,20 @@
 ghost use Rattle.std.specs.Prelude.{◌≡◌, None, Some, false, true};
 ghost use Rattle.vx_config.specs.Checks.{is_group};
 ghost use Rattle.vx_config.specs.declared.config.Config.{Config as ConfigValue};
+ghost use Rattle.vx_disk.specs.Causes.{OnDisks};
+ghost use Rattle.vx_disk.specs.Disks.{Crashed};
+ghost use Rattle.vx_diskset.specs.Aboves.{above_in, site_in};
 ghost use Rattle.vx_diskset.specs.Asked.{FuseGoesOn, SameFailing};
-ghost use Rattle.vx_diskset.specs.DiskSets.{Later};
+ghost use Rattle.vx_diskset.specs.DiskSets.{CrashedAt, Later};
+ghost use Rattle.vx_diskset.specs.Holds.{KeptBeside};
+ghost use Rattle.vx_diskset.specs.OverKeeps.{KeepsOver};
+ghost use Rattle.vx_diskset.specs.Stands.{CutAt, RoleBy, SiteStands};
+ghost use Rattle.vx_diskset.specs.declared.disk_set.DiskSet.TheVariants.{Over as OverSites};
+ghost use Rattle.vx_grouped.specs.GroupSites.{CutNoted, DownNoted, UpNoted, site_below, site_disks};
+ghost use Rattle.vx_grouped.specs.SiteEnds.{MayCrashSite, SiteDeported};
+ghost use Rattle.vx_history.specs.Steps.{crashed};
+ghost use Rattle.vx_watched.specs.Since.{CalledSince};
+ghost use Rattle.vx_watched.specs.Traces.{TellsLess};
 ghost use Rattle.vx_diskset.specs.GroupCalls.{config_in};
 ghost use Rattle.vx_diskset.specs.Makings.{MadeOver};
 ghost use Rattle.vx_diskset.specs.Noted.{SiteNoted};
@@ -15,16 +27,15 @@ ghost use Rattle.vx_model.specs.declared.site.SiteState.TheVariants.{Up as UpSta
 use crate::group_set::CutWrite;
 use crate::over_work::{Makes, Rewrites, Starts};
 use crate::writing::is_off;
-use crate::{Above, DiskSet, GroupSet, OverSet};
+use crate::{Above, DiskSet, GroupSet, OverSet, OverSite};
 use std::alloc::Global;
 use std::mem;
 use vx_config::Config;
 use vx_disk::{Rack, refusal};
 use vx_ground::{name_rvg, work_over};
 use vx_grouped::{GroupSite, Laid};
-use vx_layout::Shape;
 use vx_model::limits::LEAST_BLOCKS;
-use vx_model::{Blocks, Name, No, Role, State, Stop, Units};
+use vx_model::{No, Role, State, Stop, Units};
 use vx_rvg::{RvgCore, StartRoom};
 use vx_secondary::Waiting;
 
@@ -187,12 +198,55 @@ pub(crate) fn with_rvg<R: Rack>(
 }
 
 impl<R: Rack> OverSet<R> {
-    pub(crate) fn crash(self, pick: u64) -> OverSet<R> {
-        let (site, _above, cut) = self.parts();
-        OverSet::of(site.crash(pick), Above::Nothing, cut)
+    /// Crashes the disks, up or down: of the loose blocks each takes its latest value where its bit in `pick` is 1.
+    pub(crate) fn crash(self, pick: u64) -> OverSet<R>
+        ensures crashed { (beside : KeptBeside) (n : Node) → SiteStands beside n (OverSites self) → n.state ≡ UpState → CrashedAt beside n (OverSites result) }
+        ensures held { (beside : KeptBeside) (n : Node) → CutAt beside n (OverSites self) → CrashedAt beside n (OverSites result) }
+        ensures noted { (n : Node) (note : GroupNode) → UpNoted n note (site_in self) → DownNoted (crashed n 0) note (site_in result) }
+        ensures fallen { (n : Node) (note : GroupNode) → CutNoted n note (site_in self) → DownNoted (crashed n 0) note (site_in result) }
+        ensures cut { result.cut ≡ self.cut }
+        ensures asked { (n : Node) (note : GroupNode) → UpNoted n note (site_in self) → OnDisks (site_disks (site_in self)).disks (site_disks (site_in result)).disks (Crashed (site_disks (site_in self)).size pick) }
+        ensures stopped { MayCrashSite pick (site_in self) (site_in result) }
+        ensures told { TellsLess (site_below (site_in self)) (site_below (site_in result)) }
+        ensures above { (n : Node) → RoleBy n (above_in result) }
+    {
+        let OverSet { site, cut } = self;
+        match site {
+            OverSite::Origin(founded) => {
+                let (laid, _core) = founded.apart();
+                let idle = laid.crash(pick);
+                let site = OverSite::Down(idle);
+                OverSet { site, cut }
+            }
+            OverSite::Receiver(founded) => {
+                let (laid, _core, _waiting) = founded.apart();
+                let idle = laid.crash(pick);
+                let site = OverSite::Down(idle);
+                OverSet { site, cut }
+            }
+            OverSite::Deported(idle) => {
+                let site = OverSite::Deported(idle);
+                OverSet { site, cut }
+            }
+            OverSite::Down(idle) => {
+                let site = OverSite::Down(idle);
+                OverSet { site, cut }
+            }
+            OverSite::Gone => {
+                let site = OverSite::Gone;
+                OverSet { site, cut }
+            }
+        }
     }
 
-    pub(crate) fn deport(&mut self) -> Result<(), Stop> {
+    /// Deports the group below. What stood over it is gone then; a refusal leaves it, and a site whose fuse runs out crashes.
+    pub(crate) fn deport(&mut self) -> Result<(), Stop>
+        ensures deported { (n : Node) (note : GroupNode) → UpNoted n note (site_in self.old) → SiteDeported n note (site_in self.old) (site_in self.new) result }
+        ensures cut { self.new.cut ≡ self.old.cut }
+        ensures kept { KeepsOver self.old self.new }
+        ensures since { CalledSince (site_disks (site_in self.old)) (site_disks (site_in self.new)) }
+        ensures told { TellsLess (site_below (site_in self.old)) (site_below (site_in self.new)) }
+    {
         let (site, above, cut) = mem::replace(self, OverSet::gone()).parts();
         let (site, answer) = site.deport();
         *self = OverSet::of(site, above, cut);

@@ -4,6 +4,7 @@ use Rattle.vx_disk.specs.Moves.{Blocks}
 use Rattle.vx_disk.specs.Racks.{Stopped}
 use Rattle.vx_disk.specs.Shelf.{Meaning}
 use Rattle.vx_disk.specs.declared.shelf.Shelf.{Ghosts}
+use Rattle.vx_group.specs.Deports.{DeportedBy}
 use Rattle.vx_group.specs.Holding.{wide}
 use Rattle.vx_group.specs.Stands.{inner_meaning}
 use Rattle.vx_grouped.specs.GroupSites.{idle_disks, laid_disks}
@@ -33,6 +34,11 @@ module _ {R : Type 0} {g : Ghosts R} where
     pub goes : VolumesGo mine (laid_seen old) (laid_seen mid)
     pub stopped : Stopped (laid_disks mid) (idle_disks idle)
     pub agreed : idle.agreed ≡ mid.core.inner.agreed
+
+  -- a group that was deported
+  abbrev pub SiteCloses : GroupSite R g → GroupSite R g → Type 0
+  SiteCloses (Up old) (Deported idle) = DeportedBy (wide old.core).config old.core.inner (laid_disks old) (idle_disks idle)
+  SiteCloses old new = Unit {0}
 
   -- of a group that was up, which may be down behind it
   abbrev pub SiteGoes : Blocks → GroupSite R g → GroupSite R g → Type 0
