@@ -7,6 +7,7 @@ pub mod RvgMoves
 pub mod OverWorks
 pub mod FoundedWork
 pub mod OverNotes
+pub mod OverCalling
 pub mod OverCalls
 pub mod OverDisks
 pub mod OverFalls
