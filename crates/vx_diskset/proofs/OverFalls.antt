@@ -1,5 +1,5 @@
 -- The disks below a replicated volume group, which crash.
-use Rattle.std.proofs.Common.{◌≡◌, ◌∙◌, ◌⊎◌, ℕ, refl, subst, sym}
+use Rattle.std.proofs.Common.{◌≡◌, ◌∙◌, ℕ, ap, arith, refl, subst, sym}
 use Rattle.vx_disk.specs.Causes.{OnDisks}
 use Rattle.vx_disk.specs.Disks.{Crashed}
 use Rattle.vx_disk.specs.declared.shelf.Shelf.{Ghosts}
@@ -10,14 +10,20 @@ use Rattle.vx_watched.specs.Traces.{TellsLess}
 use Rattle.vx_grouped.specs.GroupSites.{CutNoted, DownNoted, UpNoted, idle_below, idle_disks, laid_below, laid_disks, site_below, site_disks}
 use Rattle.vx_grouped.specs.SiteEnds.{MayCrashSite}
 use Rattle.vx_grouped.specs.declared.group_site.GroupSite.{GroupSite}
-use Rattle.vx_grouped.specs.declared.group_site.GroupSite.TheVariants.{Up, Deported, Down, Gone}
+use Rattle.vx_grouped.specs.declared.group_site.GroupSite.TheVariants.{Up, Deported, Down, Marked, Gone}
 use Rattle.vx_grouped.specs.declared.idle.Idle.{Idle}
 use Rattle.vx_grouped.specs.declared.laid.Laid.{Laid}
 use Rattle.vx_grouped.proofs.SiteLemmas.{down_noted}
 use Rattle.vx_grouped.proofs.TraceLemmas.{lit_since}
-use Rattle.vx_diskset.specs.Aboves.{below_site}
+use Rattle.vx_diskset.specs.Aboves.{above_in, site_in}
+use Rattle.vx_diskset.specs.Asked.{CrashesBy, MayCrash}
+use Rattle.vx_diskset.specs.DiskSets.{Later}
 use Rattle.vx_diskset.specs.Founded.{LaidFell}
-use Rattle.vx_diskset.specs.declared.over_set.OverSite.{OverSite}
+use Rattle.vx_diskset.specs.Stands.{KeepsRole, RoleBy}
+use Rattle.vx_diskset.specs.declared.disk_set.DiskSet.{DiskSet}
+use Rattle.vx_diskset.specs.declared.disk_set.DiskSet.TheVariants.{Over}
+use Rattle.vx_diskset.specs.declared.over_set.OverSet.{OverSet}
+use Rattle.vx_diskset.proofs.OverGroups.{may_by}
 
 module _ {R : Type 0} {g : Ghosts R} where
   pub fell_of : (pick : ℕ) (a b : Laid R g) (idle : Idle R g) → b ≡ a → LaidFell pick b idle → LaidFell pick a idle
@@ -62,3 +68,39 @@ module _ {R : Type 0} {g : Ghosts R} where
 
     pub still_told : TellsLess (site_below e) (site_below s)
     still_told = subst (λ (x : GroupSite R g). TellsLess (site_below e) (site_below x)) is (λ told. told)
+
+    pub still_stopped : (pick : ℕ) → ((l : Laid R g) → s ≡ Up l → ⊥) → MayCrashSite pick e s
+    still_stopped pick never = subst (λ (x : GroupSite R g). MayCrashSite pick x s) (sym is) (rests s never)
+      where
+        rests : (x : GroupSite R g) → ((l : Laid R g) → x ≡ Up l → ⊥) → MayCrashSite pick x x
+        rests (Up l) never = absurd (never l refl)
+        rests (Deported idle) never = refl
+        rests (Down idle) never = refl
+        rests (Marked rack) never = refl
+        rests Gone never = refl
+
+  -- ---- the same of a disk set
+
+  told_by : (pick : ℕ) (o s : GroupSite R g) → MayCrashSite pick o s → (site_disks s).tells ≡ (site_disks o).tells
+  told_by pick (Up l) s it = it.0.tells
+  told_by pick other s it = ap (λ (x : GroupSite R g). (site_disks x).tells) it
+
+  counts_by : (pick : ℕ) (o s : GroupSite R g) → MayCrashSite pick o s → (d : ℕ) → (site_disks s).disk_faults d ≡ (site_disks o).disk_faults d
+  counts_by pick (Up l) s it d = it.0.counts.disk_faults d
+  counts_by pick other s it d = ap (λ (x : GroupSite R g). (site_disks x).disk_faults d) it
+
+  module _ (pick : ℕ) (e : DiskSet R g) (o s : OverSet R g) (is : e ≡ Over o) (it : MayCrashSite pick (site_in o) (site_in s)) where
+    pub fell_stopped : MayCrash pick e (Over s)
+    fell_stopped =
+        let may = may_by pick (site_in o) (site_in s) it in
+        subst (λ (x : DiskSet R g). MayCrash pick x (Over s)) (sym is) (record { told = may.0; sizes = may.1 })
+
+    pub fell_later : Later e (Over s)
+    fell_later = subst (λ (x : DiskSet R g). Later x (Over s)) (sym is)
+        (record { counts = λ d. let same = counts_by pick (site_in o) (site_in s) it d in omega (arith, same); told = λ told. sym (told_by pick (site_in o) (site_in s) it) ∙ told })
+
+    pub fell_role : ((n : Node) → RoleBy n (above_in s)) → KeepsRole e (Over s)
+    fell_role role = record { kept = λ n was. role n }
+
+    pub fell_asked : OnDisks (site_disks (site_in o)).disks (site_disks (site_in s)).disks (Crashed (site_disks (site_in o)).size pick) → CrashesBy pick e (Over s)
+    fell_asked asked = subst (λ (x : DiskSet R g). CrashesBy pick x (Over s)) (sym is) asked

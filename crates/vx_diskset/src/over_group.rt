@@ -205,7 +205,7 @@ impl<R: Rack> OverSet<R> {
         ensures noted { (n : Node) (note : GroupNode) → UpNoted n note (site_in self) → DownNoted (crashed n 0) note (site_in result) }
         ensures fallen { (n : Node) (note : GroupNode) → CutNoted n note (site_in self) → DownNoted (crashed n 0) note (site_in result) }
         ensures cut { result.cut ≡ self.cut }
-        ensures asked { (n : Node) (note : GroupNode) → UpNoted n note (site_in self) → OnDisks (site_disks (site_in self)).disks (site_disks (site_in result)).disks (Crashed (site_disks (site_in self)).size pick) }
+        ensures asked { (beside : KeptBeside) (n : Node) → SiteStands beside n (OverSites self) → n.state ≡ UpState → OnDisks (site_disks (site_in self)).disks (site_disks (site_in result)).disks (Crashed (site_disks (site_in self)).size pick) }
         ensures stopped { MayCrashSite pick (site_in self) (site_in result) }
         ensures told { TellsLess (site_below (site_in self)) (site_below (site_in result)) }
         ensures above { (n : Node) → RoleBy n (above_in result) }

@@ -1,5 +1,7 @@
 -- `crash`: clauses crashed, cut, asked and stopped.
-use Rattle.std.proofs.Common.{◌∙◌, ap}
+use Rattle.std.proofs.Common.{◌∙◌, ap, subst}
+use Rattle.vx_diskset.specs.Stands.{CutAt, SiteStands}
+use Rattle.vx_diskset.proofs.OverFalls.{fell_asked, fell_later, fell_role, fell_stopped}
 use Rattle.vx_diskset.proofs.RawSets.{cut_received, receiver_there, up_there}
 use Rattle.vx_diskset.proofs.CrashGroup.{crashed_at, cut_crashed, held_crashed}
 use Rattle.vx_diskset.proofs.Asking.{crash_did}
@@ -58,3 +60,22 @@ returns-in-OfGroup-clause-stopped g c = set_stopped c.args.pick c.args.self c.in
 
 pub returns-in-OfGroup-clause-later : goal.returns-in-OfGroup-clause-later
 returns-in-OfGroup-clause-later g c = set_fell c.args.pick c.args.self c.in-OfGroup.group c.crash-in-OfGroup.result c.in-OfGroup.is c.crash-in-OfGroup.ensures.stopped c.crash-in-OfGroup.ensures.told
+
+pub returns-in-Over-clause-crashed : goal.returns-in-Over-clause-crashed
+returns-in-Over-clause-crashed g c = λ beside n stands state. c.crash-in-Over.ensures.crashed beside n (subst (λ e. SiteStands beside n e) c.in-Over.is stands) state
+
+pub returns-in-Over-clause-cut : goal.returns-in-Over-clause-cut
+returns-in-Over-clause-cut g c = λ beside n cut. c.crash-in-Over.ensures.held beside n (subst (λ e. CutAt beside n e) c.in-Over.is cut)
+
+pub returns-in-Over-clause-asked : goal.returns-in-Over-clause-asked
+returns-in-Over-clause-asked g c = λ beside n stands state.
+    fell_asked c.args.pick c.args.self c.in-Over.over c.crash-in-Over.result c.in-Over.is c.crash-in-Over.ensures.stopped (c.crash-in-Over.ensures.asked beside n (subst (λ e. SiteStands beside n e) c.in-Over.is stands) state)
+
+pub returns-in-Over-clause-stopped : goal.returns-in-Over-clause-stopped
+returns-in-Over-clause-stopped g c = fell_stopped c.args.pick c.args.self c.in-Over.over c.crash-in-Over.result c.in-Over.is c.crash-in-Over.ensures.stopped
+
+pub returns-in-Over-clause-role : goal.returns-in-Over-clause-role
+returns-in-Over-clause-role g c = fell_role c.args.pick c.args.self c.in-Over.over c.crash-in-Over.result c.in-Over.is c.crash-in-Over.ensures.stopped c.crash-in-Over.ensures.above
+
+pub returns-in-Over-clause-later : goal.returns-in-Over-clause-later
+returns-in-Over-clause-later g c = fell_later c.args.pick c.args.self c.in-Over.over c.crash-in-Over.result c.in-Over.is c.crash-in-Over.ensures.stopped
