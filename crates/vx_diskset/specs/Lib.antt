@@ -28,3 +28,4 @@ pub mod Zeroing
 pub mod Zeros
 pub mod Works
 pub mod OverKeeps
+pub mod OverStarts

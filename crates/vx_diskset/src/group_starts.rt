@@ -10,6 +10,8 @@ ghost use Rattle.vx_model.specs.declared.site.SiteState.TheVariants.{Bare as Bar
 ghost use Rattle.vx_watched.specs.Since.{CalledSince};
 ghost use Rattle.vx_diskset.specs.Asked.{FuseGoesOn, SameFailing};
 ghost use Rattle.vx_diskset.specs.DiskSets.{Later};
+ghost use Rattle.vx_diskset.specs.Aboves.{site_in};
+ghost use Rattle.vx_diskset.specs.OverStarts.{ImportsBy, RaisesBy, RisesOver};
 ghost use Rattle.vx_diskset.specs.GroupCalls.{AtPlain, AtSite, ImportsOn, InitIs, cut_in};
 ghost use Rattle.vx_diskset.specs.Holds.{KeptBeside};
 ghost use Rattle.vx_diskset.specs.Recovers.{LooksAt, LooksKept, RaisesGroup, RisesSince, RisesWith, cut_past};
@@ -121,6 +123,7 @@ fn stand_up<R: Rack>(
 // Imports the group of a site that crashed or was deported.
 fn import_in<R: Rack>(group: GroupSet<R>, alloc: Global) -> (DiskSet<R>, Result<(), Stop>)
     ensures imported { (n : Node) (note : GroupNode) → AwayNoted n note group.site → AtSite (λ e. SiteImports n note group.site e result.1) result.0 }
+    ensures brought { ImportsBy group.site group.cut result.0 result.1 }
     ensures cut { cut_in result.0 ≡ cut_past result.1 (DiskSet.OfGroup group) }
     ensures since { AtSite (λ e. RisesSince (site_disks group.site) (site_disks e)) result.0 }
     ensures told { AtSite (λ e. TellsLess (site_below group.site) (site_below e)) result.0 }
@@ -157,7 +160,9 @@ fn raise_in<R: Rack>(
 }
 
 // The same of a site with a replicated volume group.
-fn import_over<R: Rack>(over: OverSet<R>, alloc: Global) -> (DiskSet<R>, Result<(), Stop>) {
+fn import_over<R: Rack>(over: OverSet<R>, alloc: Global) -> (DiskSet<R>, Result<(), Stop>)
+    ensures brought { ImportsBy (site_in over) over.cut result.0 result.1 }
+{
     let (site, _above, cut) = over.parts();
     let (site, answer) = site.import(alloc);
     match answer {
@@ -172,7 +177,9 @@ fn import_over<R: Rack>(over: OverSet<R>, alloc: Global) -> (DiskSet<R>, Result<
 fn raise_over<R: Rack>(
     over: OverSet<R>,
     alloc: Global,
-) -> (DiskSet<R>, Result<Option<CutWrite>, Stop>) {
+) -> (DiskSet<R>, Result<Option<CutWrite>, Stop>)
+    ensures brought { RaisesBy (site_in over) over.cut result.0 result.1 }
+{
     let (site, _above, cut) = over.parts();
     let (site, answer) = site.import(alloc);
     match answer {
@@ -193,7 +200,11 @@ fn raise_over<R: Rack>(
 fn stand_over<R: Rack>(
     over: OverSet<R>,
     cut: Option<CutWrite>,
-) -> (DiskSet<R>, Result<Option<KeptWrite>, Stop>) {
+) -> (DiskSet<R>, Result<Option<KeptWrite>, Stop>)
+    ensures rises { (n : Node) (note : GroupNode) → UpNoted n note (site_in over) → RisesOver n note cut (site_in over) result.0 result.1 }
+    ensures since { AtSite (λ e. RisesSince (site_disks (site_in over)) (site_disks e)) result.0 }
+    ensures told { AtSite (λ e. TellsLess (site_below (site_in over)) (site_below e)) result.0 }
+{
     let (site, above, _cut) = over.parts();
     let mut site = site;
     match look_kept(&mut site, &cut) {

@@ -1,5 +1,5 @@
 // Calls on the disk group below a replicated volume group.
-ghost use Rattle.std.specs.Prelude.{◌≡◌, None, Some, false, true};
+ghost use Rattle.std.specs.Prelude.{◌≡◌, Err, None, Some, false, true};
 ghost use Rattle.vx_config.specs.Checks.{is_group};
 ghost use Rattle.vx_config.specs.declared.config.Config.{Config as ConfigValue};
 ghost use Rattle.vx_disk.specs.Causes.{OnDisks};
@@ -9,6 +9,9 @@ ghost use Rattle.vx_diskset.specs.Asked.{FuseGoesOn, SameFailing};
 ghost use Rattle.vx_diskset.specs.DiskSets.{CrashedAt, Later};
 ghost use Rattle.vx_diskset.specs.Holds.{KeptBeside};
 ghost use Rattle.vx_diskset.specs.OverKeeps.{KeepsOver};
+ghost use Rattle.vx_diskset.specs.OverStarts.{FellBack, StartsOver, WithRvg};
+ghost use Rattle.vx_ground.specs.Lifted.{laid_volumes};
+ghost use Rattle.vx_rvg.specs.Views.{UnitsPlaced};
 ghost use Rattle.vx_diskset.specs.Stands.{CutAt, RoleBy, SiteStands};
 ghost use Rattle.vx_diskset.specs.declared.disk_set.DiskSet.TheVariants.{Over as OverSites};
 ghost use Rattle.vx_grouped.specs.GroupSites.{CutNoted, DownNoted, UpNoted, site_below, site_disks};
@@ -16,7 +19,8 @@ ghost use Rattle.vx_grouped.specs.SiteEnds.{MayCrashSite, SiteDeported};
 ghost use Rattle.vx_history.specs.Steps.{crashed};
 ghost use Rattle.vx_watched.specs.Since.{CalledSince};
 ghost use Rattle.vx_watched.specs.Traces.{TellsLess};
-ghost use Rattle.vx_diskset.specs.GroupCalls.{config_in};
+ghost use Rattle.vx_diskset.specs.GroupCalls.{AtOver, config_in, cut_in};
+ghost use Rattle.vx_diskset.specs.GroupSets.{cut_value};
 ghost use Rattle.vx_diskset.specs.Makings.{MadeOver};
 ghost use Rattle.vx_diskset.specs.Noted.{SiteNoted};
 ghost use Rattle.vx_events.specs.GroupLines.{is_over_group};
@@ -122,7 +126,10 @@ fn start_over<R: Rack>(
     cut: Option<CutWrite>,
     units: &Units,
     away: bool,
-) -> (DiskSet<R>, Result<(), Stop>) {
+) -> (DiskSet<R>, Result<(), Stop>)
+    requires there { UnitsPlaced units.now (laid_volumes laid) }
+    ensures starts { StartsOver units.now laid cut result.0 result.1 }
+{
     let blocks = laid.size(units.srl);
     let room = match StartRoom::new(alloc, blocks) {
         Ok(room) => room,
@@ -151,7 +158,11 @@ fn back_over<R: Rack>(
     cut: Option<CutWrite>,
     away: bool,
     stop: Stop,
-) -> (DiskSet<R>, Result<(), Stop>) {
+) -> (DiskSet<R>, Result<(), Stop>)
+    ensures cut { cut_in result.0 ≡ cut_value cut }
+    ensures fell { AtOver (FellBack laid) result.0 }
+    ensures is { result.1 ≡ Err stop }
+{
     let idle = laid.crash(u64::MAX);
     let site = if away {
         GroupSite::Deported(idle.revive())
@@ -165,7 +176,9 @@ fn back_over<R: Rack>(
 }
 
 // The replicated volume group that a configuration has.
-fn units_in(config: &Config) -> Option<Units> {
+fn units_in(config: &Config) -> Option<Units>
+    ensures { result ≡ config.now.rvg }
+{
     match &config.rvg {
         Some(units) => Some(units.copy()),
         None => None,
@@ -178,7 +191,9 @@ pub(crate) fn with_rvg<R: Rack>(
     site: GroupSite<R>,
     cut: Option<CutWrite>,
     away: bool,
-) -> (DiskSet<R>, Result<(), Stop>) {
+) -> (DiskSet<R>, Result<(), Stop>)
+    ensures over { WithRvg site cut result.0 result.1 }
+{
     match site {
         GroupSite::Up(laid) => match units_in(laid.config()) {
             Some(units) => start_over(alloc, laid, cut, &units, away),
