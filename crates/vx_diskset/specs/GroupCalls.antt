@@ -39,10 +39,15 @@ module _ {R : Type 0} {g : Ghosts R} where
   OnSites P (Over old) new = AtOver (P (site_in old)) new
   OnSites P old new = ⊥
 
-  -- the same behind an import, which may find one
+  -- So they are behind an import, where it found no replicated volume group. Where it did, more is said elsewhere.
+  abbrev pub AtFound : (GroupSite R g → Type 0) → DiskSet R g → Type 0
+  AtFound P (OfGroup s) = P s.site
+  AtFound P (Over s) = Unit {0}
+  AtFound P other = ⊥
+
   abbrev pub ImportsOn : (GroupSite R g → GroupSite R g → Type 0) → DiskSet R g → DiskSet R g → Type 0
-  ImportsOn P (OfGroup old) new = AtSite (P old.site) new
-  ImportsOn P (Over old) new = AtSite (P (site_in old)) new
+  ImportsOn P (OfGroup old) new = AtFound (P old.site) new
+  ImportsOn P (Over old) new = AtFound (P (site_in old)) new
   ImportsOn P old new = ⊥
 
   -- the write that the fuse cut

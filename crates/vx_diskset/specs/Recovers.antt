@@ -19,7 +19,7 @@ use Rattle.vx_watched.specs.Since.{is_rack}
 use Rattle.vx_grouped.specs.SiteEnds.{burned_site}
 use Rattle.vx_grouped.specs.SiteReturns.{SiteRecovers}
 use Rattle.vx_grouped.specs.declared.group_site.GroupSite.{GroupSite}
-use Rattle.vx_diskset.specs.GroupCalls.{AtPlain, AtSite, cut_in}
+use Rattle.vx_diskset.specs.GroupCalls.{AtFound, AtPlain, cut_in}
 use Rattle.vx_diskset.specs.GroupSets.{cut_value}
 use Rattle.vx_diskset.specs.declared.disk_set.DiskSet.{DiskSet}
 use Rattle.vx_diskset.specs.declared.disk_set.DiskSet.TheVariants.{OfGroup}
@@ -67,12 +67,12 @@ module _ {R : Type 0} {g : Ghosts R} where
 
   -- a recovery that was refused in its import leaves the write that was cut
   pub record StaysBack (n : Node) (note : GroupNode) (old : GroupSite R g) (cut : Option CutWrite) (new : DiskSet R g) (stop : Stop) : Type 0 where
-    pub refused : AtSite (λ e. SiteRecovers n note old e (Err stop)) new
+    pub refused : AtFound (λ e. SiteRecovers n note old e (Err stop)) new
     pub cut_stays : cut_in new ≡ cut_value cut
 
   -- A recovery of the group of a site that crashed, as far as its import: the write that was cut is handed out.
   abbrev pub RaisesGroup : Node → GroupNode → DiskSet R g → DiskSet R g → Result (Option CutWrite) Stop → Type 0
-  RaisesGroup n note (OfGroup s) new (Ok cut) = AtSite (λ e. SiteRecovers n note s.site e (Ok tt)) new × (cut_in new ≡ None) × (cut ≡ s.cut)
+  RaisesGroup n note (OfGroup s) new (Ok cut) = AtFound (λ e. SiteRecovers n note s.site e (Ok tt)) new × (cut_in new ≡ None) × (cut ≡ s.cut)
   RaisesGroup n note (OfGroup s) new (Err stop) = StaysBack n note s.site s.cut new stop
   RaisesGroup n note old new r = ⊥
 

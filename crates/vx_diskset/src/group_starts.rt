@@ -12,7 +12,7 @@ ghost use Rattle.vx_diskset.specs.Asked.{FuseGoesOn, SameFailing};
 ghost use Rattle.vx_diskset.specs.DiskSets.{Later};
 ghost use Rattle.vx_diskset.specs.Aboves.{site_in};
 ghost use Rattle.vx_diskset.specs.OverStarts.{ImportsBy, RaisesBy, RisesOver};
-ghost use Rattle.vx_diskset.specs.GroupCalls.{AtPlain, AtSite, ImportsOn, InitIs, cut_in};
+ghost use Rattle.vx_diskset.specs.GroupCalls.{AtFound, AtPlain, AtSite, ImportsOn, InitIs, cut_in};
 ghost use Rattle.vx_diskset.specs.Holds.{KeptBeside};
 ghost use Rattle.vx_diskset.specs.Recovers.{LooksAt, LooksKept, RaisesGroup, RisesSince, RisesWith, cut_past};
 ghost use Rattle.vx_diskset.specs.Stands.{SiteStands};
@@ -122,7 +122,7 @@ fn stand_up<R: Rack>(
 
 // Imports the group of a site that crashed or was deported.
 fn import_in<R: Rack>(group: GroupSet<R>, alloc: Global) -> (DiskSet<R>, Result<(), Stop>)
-    ensures imported { (n : Node) (note : GroupNode) → AwayNoted n note group.site → AtSite (λ e. SiteImports n note group.site e result.1) result.0 }
+    ensures imported { (n : Node) (note : GroupNode) → AwayNoted n note group.site → AtFound (λ e. SiteImports n note group.site e result.1) result.0 }
     ensures brought { ImportsBy group.site group.cut result.0 result.1 }
     ensures cut { cut_in result.0 ≡ cut_past result.1 (DiskSet.OfGroup group) }
     ensures since { AtSite (λ e. RisesSince (site_disks group.site) (site_disks e)) result.0 }
