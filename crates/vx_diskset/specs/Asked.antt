@@ -61,6 +61,11 @@ module _ {R : Type 0} {g : Ghosts R} where
   size_in (Over s) = (site_disks (site_in s)).size
   size_in Gone = λ u. 0
 
+  -- Calls on a replicated volume group over a group of disks are accounted for in another way: one may make any number of device calls.
+  abbrev pub IsRawSet : DiskSet R g → Type 0
+  IsRawSet (Over s) = ⊥
+  IsRawSet other = Unit {0}
+
   -- how many disks it has
   abbrev pub units_in : DiskSet R g → ℕ
   units_in (Bare rack) = (g.meaning rack).units

@@ -8,7 +8,7 @@ ghost use Rattle.vx_history.specs.World.{Node};
 ghost use Rattle.vx_ringio.specs.Spends.{Spends};
 ghost use Rattle.vx_srlfmt.specs.Headers.{CanSpellState};
 ghost use Rattle.vx_secondary.specs.Receivers.{Wait};
-ghost use Rattle.vx_diskset.specs.Asked.{HeadUnder, LeavesFuse};
+ghost use Rattle.vx_diskset.specs.Asked.{HeadUnder, IsRawSet, LeavesFuse};
 ghost use Rattle.vx_diskset.specs.Burning.{NoMore, OffIf};
 ghost use Rattle.vx_diskset.specs.DiskSets.{Later};
 ghost use Rattle.vx_diskset.specs.Holds.{KeptBeside};
@@ -55,8 +55,8 @@ impl<R: Rack> DiskSet<R> {
     pub fn keep(&mut self, state: &State) -> Result<(), No>
         requires state { CanSpellState state.now }
         ensures kept { (beside : KeptBeside) (n : Node) → SiteStands beside n self.old → CanKeep beside n state.now → KeptAt beside n state.now self.old self.new result }
-        ensures called { (beside : KeptBeside) (n : Node) → SiteStands beside n self.old → LeavesFuse NoMore (done_by result) self.old self.new }
-        ensures headed { (beside : KeptBeside) (n : Node) → SiteStands beside n self.old → HeadUnder 2 (done_by result) self.old self.new }
+        ensures called { (beside : KeptBeside) (n : Node) → SiteStands beside n self.old → IsRawSet self.old → LeavesFuse NoMore (done_by result) self.old self.new }
+        ensures headed { (beside : KeptBeside) (n : Node) → SiteStands beside n self.old → IsRawSet self.old → HeadUnder 2 (done_by result) self.old self.new }
         ensures role { KeepsRole self.old self.new }
         ensures notes { NotesOn self.old self.new }
         ensures later { Later self.old self.new }
@@ -77,8 +77,8 @@ impl<R: Rack> DiskSet<R> {
     fn keep_up(&mut self, state: &State) -> Result<(), No>
         requires state { CanSpellState state.now }
         ensures kept { (beside : KeptBeside) (n : Node) → SiteStands beside n self.old → CanKeep beside n state.now → KeptUp beside n state.now self.old self.new result }
-        ensures called { (beside : KeptBeside) (n : Node) → SiteStands beside n self.old → LeavesFuse NoMore (done_by result) self.old self.new }
-        ensures headed { (beside : KeptBeside) (n : Node) → SiteStands beside n self.old → HeadUnder 2 (done_by result) self.old self.new }
+        ensures called { (beside : KeptBeside) (n : Node) → SiteStands beside n self.old → IsRawSet self.old → LeavesFuse NoMore (done_by result) self.old self.new }
+        ensures headed { (beside : KeptBeside) (n : Node) → SiteStands beside n self.old → IsRawSet self.old → HeadUnder 2 (done_by result) self.old self.new }
         ensures role { KeepsRole self.old self.new }
         ensures later { Later self.old self.new }
     {

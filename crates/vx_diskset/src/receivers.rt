@@ -6,7 +6,7 @@ ghost use Rattle.vx_model.specs.declared.site.SiteState.TheVariants.{Up as UpSta
 ghost use Rattle.vx_history.specs.World.{Node};
 ghost use Rattle.vx_ringio.specs.Spends.{Spends};
 ghost use Rattle.vx_secondary.specs.Receivers.{Wait};
-ghost use Rattle.vx_diskset.specs.Asked.{LeavesAlone, LeavesFuse};
+ghost use Rattle.vx_diskset.specs.Asked.{IsRawSet, LeavesAlone, LeavesFuse};
 ghost use Rattle.vx_diskset.specs.Blames.{BlamesSite};
 ghost use Rattle.vx_diskset.specs.Burning.{NoMore, OffIf};
 ghost use Rattle.vx_diskset.specs.DiskSets.{CanRead, Later};
@@ -141,7 +141,7 @@ impl<R: Rack> DiskSet<R> {
         requires whole { length into.old % 512 ≡ 0 }
         ensures shows { (beside : KeptBeside) (n : Node) → SiteStands beside n self.old → CanRead n volume start (blocks_in into.old)
             → ShowedAt beside n volume start (blocks_in into.old) into.new self.old self.new result }
-        ensures still { LeavesAlone self.old self.new }
+        ensures still { IsRawSet self.old → LeavesAlone self.old self.new }
         ensures role { KeepsRole self.old self.new }
         ensures notes { NotesOn self.old self.new }
         ensures later { Later self.old self.new }
@@ -173,7 +173,7 @@ impl<R: Rack> DiskSet<R> {
     pub fn apply_waiting(&mut self, count: u64) -> Result<Reached, No>
         ensures applied { (beside : KeptBeside) (n : Node) → SiteStands beside n self.old → CanReceive beside n → ReachedAt beside n count self.old self.new result }
         ensures brought { (beside : KeptBeside) (n : Node) → SiteStands beside n self.old → CanReceive beside n → IfOk result (λ r. r.acks ≡ true → InVolumes r.number self.new) }
-        ensures called { (beside : KeptBeside) (n : Node) → SiteStands beside n self.old → LeavesFuse NoMore (reached_by result) self.old self.new }
+        ensures called { (beside : KeptBeside) (n : Node) → SiteStands beside n self.old → IsRawSet self.old → LeavesFuse NoMore (reached_by result) self.old self.new }
         ensures role { KeepsRole self.old self.new }
         ensures blames { (beside : KeptBeside) (n : Node) → SiteStands beside n self.old → IfErr result (BlamesSite n) }
         ensures notes { NotesOn self.old self.new }
@@ -195,7 +195,7 @@ impl<R: Rack> DiskSet<R> {
     fn apply_received(&mut self, count: u64) -> Result<Reached, No>
         ensures applied { (beside : KeptBeside) (n : Node) → SiteStands beside n self.old → CanReceive beside n → ReachedUp beside n count self.old self.new result }
         ensures brought { (beside : KeptBeside) (n : Node) → SiteStands beside n self.old → CanReceive beside n → IfOk result (λ r. r.acks ≡ true → InVolumes r.number self.new) }
-        ensures called { (beside : KeptBeside) (n : Node) → SiteStands beside n self.old → LeavesFuse NoMore (reached_by result) self.old self.new }
+        ensures called { (beside : KeptBeside) (n : Node) → SiteStands beside n self.old → IsRawSet self.old → LeavesFuse NoMore (reached_by result) self.old self.new }
         ensures role { KeepsRole self.old self.new }
         ensures blames { (beside : KeptBeside) (n : Node) → SiteStands beside n self.old → IfErr result (BlamesSite n) }
         ensures later { Later self.old self.new }

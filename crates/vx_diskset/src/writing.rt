@@ -12,7 +12,7 @@ ghost use Rattle.vx_disk.specs.Burns.{RackIsShort};
 ghost use Rattle.vx_model.specs.declared.no.No.TheVariants.{Down as IsOff};
 ghost use Rattle.vx_events.specs.Fuses.{ring_taken};
 ghost use Rattle.vx_srl.specs.Views.{BodyFits, free_of};
-ghost use Rattle.vx_diskset.specs.Asked.{LeavesFuse, WritesUnder};
+ghost use Rattle.vx_diskset.specs.Asked.{IsRawSet, LeavesFuse, WritesUnder};
 ghost use Rattle.vx_diskset.specs.Blames.{BlamesSite};
 ghost use Rattle.vx_diskset.specs.Burning.{NoMore, IsLogged, OffIf, said_by};
 ghost use Rattle.vx_diskset.specs.DiskSets.{Later, CanLog, CanWrite, LoggedUp, WroteUp, is_off};
@@ -175,7 +175,7 @@ impl<R: Rack> DiskSet<R> {
         requires whole { length bytes.now % 512 ≡ 0 }
         ensures wrote { (n : Node) → StandsAlone n self.old → CanWrite n volume start (blocks_in bytes.now)
             → WroteAt site_alone n (record { volume = volume; start = start; bytes = bytes.now }) self.old self.new result }
-        ensures called { (beside : KeptBeside) (n : Node) → SiteStands beside n self.old → WritesUnder bytes.now (said_by result) self.old self.new }
+        ensures called { (beside : KeptBeside) (n : Node) → SiteStands beside n self.old → IsRawSet self.old → WritesUnder bytes.now (said_by result) self.old self.new }
         ensures blames { (beside : KeptBeside) (n : Node) → SiteStands beside n self.old → IfErr result (BlamesSite n) }
         ensures notes { NotesOn self.old self.new }
         ensures later { Later self.old self.new }
@@ -199,7 +199,7 @@ impl<R: Rack> DiskSet<R> {
         requires whole { length bytes.now % 512 ≡ 0 }
         ensures wrote { (beside : KeptBeside) (n : Node) → SiteStands beside n self.old → CanWrite n volume start (blocks_in bytes.now) → HasRoom beside.links n hold (blocks_in bytes.now)
             → WroteAt beside n (record { volume = volume; start = start; bytes = bytes.now }) self.old self.new result }
-        ensures called { (beside : KeptBeside) (n : Node) → SiteStands beside n self.old → WritesUnder bytes.now (said_by result) self.old self.new }
+        ensures called { (beside : KeptBeside) (n : Node) → SiteStands beside n self.old → IsRawSet self.old → WritesUnder bytes.now (said_by result) self.old self.new }
         ensures role { KeepsRole self.old self.new }
         ensures blames { (beside : KeptBeside) (n : Node) → SiteStands beside n self.old → IfErr result (BlamesSite n) }
         ensures notes { NotesOn self.old self.new }
@@ -225,7 +225,7 @@ impl<R: Rack> DiskSet<R> {
         requires whole { length bytes.now % 512 ≡ 0 }
         ensures wrote { (beside : KeptBeside) (n : Node) → SiteStands beside n self.old → CanWrite n volume start (blocks_in bytes.now) → HasRoom beside.links n hold (blocks_in bytes.now)
             → WroteUp beside n (record { volume = volume; start = start; bytes = bytes.now }) self.old self.new result }
-        ensures called { (beside : KeptBeside) (n : Node) → SiteStands beside n self.old → WritesUnder bytes.now (said_by result) self.old self.new }
+        ensures called { (beside : KeptBeside) (n : Node) → SiteStands beside n self.old → IsRawSet self.old → WritesUnder bytes.now (said_by result) self.old self.new }
         ensures role { KeepsRole self.old self.new }
         ensures blames { (beside : KeptBeside) (n : Node) → SiteStands beside n self.old → IfErr result (BlamesSite n) }
         ensures later { Later self.old self.new }
@@ -256,7 +256,7 @@ impl<R: Rack> DiskSet<R> {
         requires whole { length into.old % 512 ≡ 0 }
         ensures read { (beside : KeptBeside) (n : Node) → SiteStands beside n self.old → CanRead n volume start (blocks_in into.old)
             → ReadAt beside n volume start (blocks_in into.old) into.new self.old self.new result }
-        ensures still { LeavesAlone self.old self.new }
+        ensures still { IsRawSet self.old → LeavesAlone self.old self.new }
         ensures role { KeepsRole self.old self.new }
         ensures notes { NotesOn self.old self.new }
         ensures later { Later self.old self.new }
@@ -290,7 +290,7 @@ impl<R: Rack> DiskSet<R> {
     pub fn apply(&mut self, to: u64) -> Result<u64, No>
         ensures applied { (beside : KeptBeside) (n : Node) → SiteStands beside n self.old → CanApply n → is_over_group n ≡ false → AppliedAt beside n to self.old self.new result }
         ensures brought { IfOk result (λ number. InVolumes number self.new) }
-        ensures called { (beside : KeptBeside) (n : Node) → SiteStands beside n self.old → LeavesFuse NoMore (said_by result) self.old self.new }
+        ensures called { (beside : KeptBeside) (n : Node) → SiteStands beside n self.old → IsRawSet self.old → LeavesFuse NoMore (said_by result) self.old self.new }
         ensures role { KeepsRole self.old self.new }
         ensures blames { (beside : KeptBeside) (n : Node) → SiteStands beside n self.old → IfErr result (BlamesSite n) }
         ensures notes { NotesOn self.old self.new }
@@ -312,7 +312,7 @@ impl<R: Rack> DiskSet<R> {
     fn apply_up(&mut self, to: u64) -> Result<u64, No>
         ensures applied { (beside : KeptBeside) (n : Node) → SiteStands beside n self.old → CanApply n → is_over_group n ≡ false → AppliedUp beside n to self.old self.new result }
         ensures brought { IfOk result (λ number. InVolumes number self.new) }
-        ensures called { (beside : KeptBeside) (n : Node) → SiteStands beside n self.old → LeavesFuse NoMore (said_by result) self.old self.new }
+        ensures called { (beside : KeptBeside) (n : Node) → SiteStands beside n self.old → IsRawSet self.old → LeavesFuse NoMore (said_by result) self.old self.new }
         ensures role { KeepsRole self.old self.new }
         ensures blames { (beside : KeptBeside) (n : Node) → SiteStands beside n self.old → IfErr result (BlamesSite n) }
         ensures later { Later self.old self.new }

@@ -5,16 +5,17 @@ use Rattle.vx_diskset.proofs.ApplyGroup.{applied_at}
 use Rattle.vx_diskset.proofs.RawSets.{up_there}
 use Rattle.vx_diskset.proofs.Blamed.{blamed_receiver, blamed_up}
 use Rattle.vx_diskset.proofs.CallsBurn.{called_by, called_up, is_done}
-use Rattle.std.proofs.Common.{refl}
+use Rattle.std.proofs.Common.{refl, subst}
 use Rattle.vx_diskset.proofs.Receiving.{applied_received, durable_of, receiver_as}
 use Rattle.std.proofs.Common.{subst, sym}
 use Rattle.vx_diskset.specs.DiskSets.{AppliedUp}
 use Rattle.vx_diskset.specs.Stands.{SiteStands}
+use Rattle.vx_diskset.specs.Asked.{IsRawSet}
 use Rattle.vx_diskset.proofs.OverCalled.{blamed_over, over_later, over_role}
 use Rattle.vx_diskset.proofs.disk_set.DiskSet.apply_up.Goals as goal
 
 pub returns-in-Up-clause-called : goal.returns-in-Up-clause-called
-returns-in-Up-clause-called g c = λ beside n stands.
+returns-in-Up-clause-called g c = λ beside n stands raw.
     called_up NoMore (said_by c.apply_group.result) beside n c.args.self.now (Up c.apply_group.new.rvg) c.in-Up.rvg c.in-Up.is stands
     (λ up. called_by NoMore c.apply_group.result c.in-Up.rvg c.apply_group.new.rvg up.up c.apply_group.ensures.off
     (is_done c.apply_group.result (g.R.Shelf.meaning c.in-Up.rvg.shelf) (g.R.Shelf.meaning c.apply_group.new.rvg.shelf) c.apply_group.ensures.spends) c.apply_group.ensures.spends)
@@ -53,3 +54,6 @@ returns-in-Over-clause-later g c = over_later c.args.self.now c.in-Over.over c.a
 
 pub returns-in-Over-clause-blames : goal.returns-in-Over-clause-blames
 returns-in-Over-clause-blames g c = λ beside n stands. blamed_over c.apply.result n (subst (λ e. SiteStands beside n e) c.in-Over.is stands).0.0
+
+pub returns-in-Over-clause-called : goal.returns-in-Over-clause-called
+returns-in-Over-clause-called g c = λ beside n stands raw. absurd (subst (λ e. IsRawSet e) c.in-Over.is raw)

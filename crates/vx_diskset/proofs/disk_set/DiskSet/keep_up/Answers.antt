@@ -9,21 +9,22 @@ use Rattle.vx_diskset.specs.Stands.{SiteStands}
 use Rattle.vx_diskset.proofs.KeepGroup.{kept_at}
 use Rattle.vx_diskset.proofs.RawSets.{receiver_there, up_there}
 use Rattle.vx_diskset.proofs.Receiving.{durable_of, kept_received, receiver_as}
+use Rattle.vx_diskset.specs.Asked.{IsRawSet}
 use Rattle.vx_diskset.proofs.OverCalled.{over_later, over_role}
 use Rattle.vx_diskset.proofs.disk_set.DiskSet.keep_up.Goals as goal
 
 pub returns-in-Up-clause-called : goal.returns-in-Up-clause-called
-returns-in-Up-clause-called g c = λ beside n stands.
+returns-in-Up-clause-called g c = λ beside n stands raw.
     called_up NoMore (done_by c.keep_group.result) beside n c.args.self.now (Up c.keep_group.new.rvg) c.in-Up.rvg c.in-Up.is stands
     (λ up. done_called c.keep_group.result c.in-Up.rvg c.keep_group.new.rvg up.up (c.keep_group.ensures.off up.up) c.keep_group.ensures.spends)
 
 pub returns-in-Up-clause-headed : goal.returns-in-Up-clause-headed
-returns-in-Up-clause-headed g c = λ beside n stands.
+returns-in-Up-clause-headed g c = λ beside n stands raw.
     head_up 2 (done_by c.keep_group.result) beside n c.args.self.now (Up c.keep_group.new.rvg) c.in-Up.rvg c.in-Up.is stands
     (λ raw up. head_called 2 c.keep_group.result c.in-Up.rvg c.keep_group.new.rvg (log_place c.in-Up.rvg n raw.0 up.units) up.up (c.keep_group.ensures.off up.up) c.keep_group.ensures.calls c.keep_group.ensures.short c.keep_group.ensures.works c.keep_group.ensures.spends)
 
 pub returns-in-Receives-clause-headed : goal.returns-in-Receives-clause-headed
-returns-in-Receives-clause-headed g c = λ beside n stands.
+returns-in-Receives-clause-headed g c = λ beside n stands raw.
     head_received 2 (done_by c.keep_group-in-Receives.result) beside n c.args.self.now c.in-Receives.site
     (record { rvg = c.keep_group-in-Receives.new.rvg; waiting = c.in-Receives.site.waiting; waits = c.site-in-Receives-2-1.given.0 }) c.in-Receives.is stands
     (λ raw at.
@@ -56,3 +57,9 @@ returns-in-Over-clause-role g c = over_role c.args.self.now c.in-Over.over c.kee
 
 pub returns-in-Over-clause-later : goal.returns-in-Over-clause-later
 returns-in-Over-clause-later g c = over_later c.args.self.now c.in-Over.over c.keep.new.self c.in-Over.is c.keep.ensures.called
+
+pub returns-in-Over-clause-called : goal.returns-in-Over-clause-called
+returns-in-Over-clause-called g c = λ beside n stands raw. absurd (subst (λ e. IsRawSet e) c.in-Over.is raw)
+
+pub returns-in-Over-clause-headed : goal.returns-in-Over-clause-headed
+returns-in-Over-clause-headed g c = λ beside n stands raw. absurd (subst (λ e. IsRawSet e) c.in-Over.is raw)

@@ -1,7 +1,7 @@
 -- `read`: clauses read and still.
 use Rattle.std.proofs.Common.{refl, subst, sym}
 use Rattle.vx_model.specs.Content.{blocks_in}
-use Rattle.vx_diskset.specs.Asked.{LeavesAlone}
+use Rattle.vx_diskset.specs.Asked.{IsRawSet, LeavesAlone}
 use Rattle.vx_diskset.specs.declared.disk_set.DiskSet.TheVariants.{Up}
 use Rattle.vx_diskset.proofs.KeepsFailing.{alone_same}
 use Rattle.vx_diskset.proofs.ReadGroup.{read_at}
@@ -16,10 +16,10 @@ returns-then-volume-volumes-clause-read g c = λ beside n stands can.
     (lawful c.in-Up.rvg.shelf) (lawful c.read.new.self.shelf) c.read.ensures.core c.read.ensures.answers c.read.ensures.gives c.read.ensures.goes c.read.ensures.down c.read.ensures.disks
 
 pub returns-then-volume-volumes-clause-still : goal.returns-then-volume-volumes-clause-still
-returns-then-volume-volumes-clause-still g c = subst (λ e. LeavesAlone e (Up c.read.new.self)) (sym c.in-Up.is) (record { told = c.read.ensures.disks; sizes = c.read.ensures.goes.size })
+returns-then-volume-volumes-clause-still g c = λ raw. subst (λ e. LeavesAlone e (Up c.read.new.self)) (sym c.in-Up.is) (record { told = c.read.ensures.disks; sizes = c.read.ensures.goes.size })
 
 pub returns-else-volume-volumes-clause-still : goal.returns-else-volume-volumes-clause-still
-returns-else-volume-volumes-clause-still g c = subst (λ e. LeavesAlone e (Up c.in-Up.rvg)) (sym c.in-Up.is) (alone_same (Up c.in-Up.rvg))
+returns-else-volume-volumes-clause-still g c = λ raw. subst (λ e. LeavesAlone e (Up c.in-Up.rvg)) (sym c.in-Up.is) (alone_same (Up c.in-Up.rvg))
 
 pub returns-then-volume-volumes-2-clause-read : goal.returns-then-volume-volumes-2-clause-read
 returns-then-volume-volumes-2-clause-read g c = λ beside n stands can.
@@ -36,3 +36,6 @@ returns-then-volume-volumes-2-clause-read g c = λ beside n stands can.
     (record { up = can.up; running = can.running; volume_exists = can.volume_exists; within = can.within })
     (lawful c.in-Receives.site.rvg.shelf) (lawful c.read-then-volume-volumes-2.new.self.shelf) c.read-then-volume-volumes-2.ensures.core c.read-then-volume-volumes-2.ensures.answers c.read-then-volume-volumes-2.ensures.gives
     c.read-then-volume-volumes-2.ensures.goes c.read-then-volume-volumes-2.ensures.down c.read-then-volume-volumes-2.ensures.disks)
+
+pub returns-in-Over-clause-still : goal.returns-in-Over-clause-still
+returns-in-Over-clause-still g c = λ raw. absurd (subst (λ e. IsRawSet e) c.in-Over.is raw)

@@ -1,6 +1,8 @@
 -- What is shown, case by case.
+use Rattle.std.proofs.Common.{subst}
 use Rattle.vx_model.specs.Content.{blocks_in}
 use Rattle.vx_diskset.specs.declared.disk_set.DiskSet.TheVariants.{Receives}
+use Rattle.vx_diskset.specs.Asked.{IsRawSet}
 use Rattle.vx_diskset.proofs.Receiving.{read_showed, showed, showed_at}
 use Rattle.vx_diskset.proofs.disk_set.DiskSet.show.Goals as goal
 
@@ -15,3 +17,6 @@ returns-then-volume-volumes-clause-shows g c = λ beside n stands can.
 pub returns-in-Up-clause-shows : goal.returns-in-Up-clause-shows
 returns-in-Up-clause-shows g c = λ beside n stands can.
     read_showed beside n c.args.self.now c.read.new.self _ c.args.volume c.args.start (blocks_in c.args.into.now) c.read.new.into c.read.result c.in-Up.is stands can.running (c.read.ensures.read beside n stands can)
+
+pub returns-in-Over-clause-still : goal.returns-in-Over-clause-still
+returns-in-Over-clause-still g c = λ raw. absurd (subst (λ e. IsRawSet e) c.in-Over.is raw)

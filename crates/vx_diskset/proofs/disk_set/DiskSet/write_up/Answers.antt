@@ -12,16 +12,17 @@ use Rattle.vx_diskset.proofs.WriteGroup.{logged_at, logged_wrote}
 use Rattle.vx_diskset.proofs.CallsBurn.{burns_up, called_still, called_up, cuts_none, cuts_up}
 use Rattle.vx_diskset.proofs.OverCalled.{blamed_over, over_later, over_role}
 use Rattle.vx_diskset.proofs.disk_set.DiskSet.write_up.Goals as goal
+use Rattle.vx_diskset.specs.Asked.{IsRawSet}
 use Rattle.vx_diskset.proofs.RawSets.{up_there}
 
 pub returns-then-volume-volumes-clause-called : goal.returns-then-volume-volumes-clause-called
-returns-then-volume-volumes-clause-called g c = λ beside n stands. record {
+returns-then-volume-volumes-clause-called g c = λ beside n stands raw. record {
   burns = called_up IsLogged (said_by c.write_group.result) beside n c.args.self.now (Up c.write_group.new.rvg) c.in-Up.rvg c.in-Up.is stands (λ up. burns_up IsLogged (said_by c.write_group.result) c.in-Up.rvg c.write_group.new.rvg (c.write_group.ensures.called beside n up));
   cuts = cuts_up beside n c.args.self.now c.in-Up.rvg c.args.bytes.now c.write_group.result c.in-Up.is stands c.write_group.ensures.cuts;
 }
 
 pub returns-else-volume-volumes-clause-called : goal.returns-else-volume-volumes-clause-called
-returns-else-volume-volumes-clause-called g c = λ beside n stands. record {
+returns-else-volume-volumes-clause-called g c = λ beside n stands raw. record {
   burns = called_up IsLogged (Refused Role) beside n c.args.self.now (Up c.in-Up.rvg) c.in-Up.rvg c.in-Up.is stands (λ up. called_still IsLogged Role (Up c.in-Up.rvg) refl);
   cuts = cuts_none c.args.bytes.now Role c.args.self.now refl;
 }
@@ -58,3 +59,6 @@ returns-in-Over-clause-later g c = over_later c.args.self.now c.in-Over.over c.w
 
 pub returns-in-Over-clause-blames : goal.returns-in-Over-clause-blames
 returns-in-Over-clause-blames g c = λ beside n stands. blamed_over c.write.result n (subst (λ e. SiteStands beside n e) c.in-Over.is stands).0.0
+
+pub returns-in-Over-clause-called : goal.returns-in-Over-clause-called
+returns-in-Over-clause-called g c = λ beside n stands raw. absurd (subst (λ e. IsRawSet e) c.in-Over.is raw)
