@@ -77,10 +77,6 @@ module _ (beside : KeptBeside) (n : Node) (m m' : Meaning) (less : LeavesLess m 
   rests_less : (P Q : Config → Type 0) → ((c : Config) → P c → Q c) → RestsOver P beside n m → RestsOver Q beside n m'
   rests_less P Q like it = record {
     config = it.config;
-    note = it.note;
-    group = it.group;
-    is = it.is;
-    has = it.has;
     sure = it.sure;
     lies = it.lies;
     low = it.low;
@@ -92,6 +88,7 @@ module _ (beside : KeptBeside) (n : Node) (m m' : Meaning) (less : LeavesLess m 
   pub fell_less : RestsOver (λ c. FellOver c beside n m) beside n m → RestsOver (λ c. FellOver c beside n m') beside n m'
   fell_less = rests_less (λ c. FellOver c beside n m) (λ c. FellOver c beside n m')
       (λ c it. record {
+        extends = λ i x each is. it.extends i x (before i each) (was_found i x is);
         found = λ i x above each is shows. it.found i x above (before i each) (was_found i x is) shows;
         unclean = λ i x v each is inside. it.unclean i x v (before i each) (was_found i x is) inside;
       })

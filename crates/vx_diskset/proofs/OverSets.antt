@@ -26,10 +26,6 @@ module _ (beside : KeptBeside) (n : Node) (fuse : FuseOf) (failing : ℕ → Boo
   rests_like : (P Q : Config → Type 0) → ((c : Config) → P c → Q c) → RestsOver P beside n m → RestsOver Q beside k m
   rests_like P Q like it = record {
     config = it.config;
-    note = it.note;
-    group = it.group;
-    is = it.is;
-    has = it.has;
     sure = it.sure;
     lies = it.lies;
     low = it.low;
@@ -42,7 +38,7 @@ module _ (beside : KeptBeside) (n : Node) (fuse : FuseOf) (failing : ℕ → Boo
   away_like = rests_like (λ c. AwayOver c beside n m) (λ c. AwayOver c beside k m) (λ c it. record { left = it.left })
 
   fell_like : RestsOver (λ c. FellOver c beside n m) beside n m → RestsOver (λ c. FellOver c beside k m) beside k m
-  fell_like = rests_like (λ c. FellOver c beside n m) (λ c. FellOver c beside k m) (λ c it. record { found = it.found; unclean = it.unclean })
+  fell_like = rests_like (λ c. FellOver c beside n m) (λ c. FellOver c beside k m) (λ c it. record { extends = it.extends; found = it.found; unclean = it.unclean })
 
 module _ {R : Type 0} {g : Ghosts R} where
   -- some writes and flushes may have been made

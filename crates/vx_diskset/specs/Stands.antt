@@ -1,5 +1,5 @@
 -- What the disks of a site stand for: how its rack, or the group over it, agrees with its node of the world.
-use Rattle.std.specs.Prelude.{◌≡◌, ℕ, ◌+◌, ◌<◌, ◌≤◌, List, [], Some, length, take, drop, None, Bool, IsSome, IsTrue, IsFalse, true, false}
+use Rattle.std.specs.Prelude.{◌≡◌, ℕ, ◌+◌, ◌<◌, ◌≤◌, List, [], Some, length, take, drop, None, Bool, IsTrue, IsFalse, true, false}
 use Rattle.vx_model.specs.declared.limits.TheConstants.{LEAST_BLOCKS, MOST_DISKS}
 use Rattle.vx_model.specs.Content.{zero_block}
 use Rattle.vx_model.specs.Sites.{is_origin}
@@ -32,12 +32,12 @@ use Rattle.vx_copies.specs.Answers.{returned}
 use Rattle.vx_copyfmt.specs.Imports.{Found}
 use Rattle.vx_disk.specs.Shelf.{Each}
 use Rattle.vx_kept.specs.Groups.{Shows, found as finds, group_meaning}
+use Rattle.vx_kept.specs.Keeping.{Extends}
 use Rattle.vx_kept.specs.Opens.{OpenVolumes}
 use Rattle.vx_group.specs.Resumes.{stopped}
 use Rattle.vx_grouped.specs.Readies.{ready_of}
 use Rattle.vx_grouped.specs.declared.idle.Idle.{Idle}
 use Rattle.vx_untold.specs.Shades.{shade_meaning}
-use Rattle.vx_events.specs.GroupViews.{config_of}
 use Rattle.vx_events.specs.RvgNotes.{inside_of}
 use Rattle.vx_ground.specs.Lifted.{laid_volumes}
 use Rattle.vx_diskset.specs.Aboves.{above_in, site_in}
@@ -172,6 +172,7 @@ pub record IsDownAt (beside : KeptBeside) (n : Node) (m : Meaning) : Type 0 wher
 -- The disks of a site that crashed, whose group has a replicated volume group. Of each image that they leave an import finds a configuration by which the volumes
 -- show the site's log, which has all its writes, and its content; and the volumes of the group stopped uncleanly in it, so the import gives one value of each block.
 pub record FellOver (c : Config) (beside : KeptBeside) (n : Node) (m : Meaning) : Type 0 where
+  pub extends : (i : Image) (x : Config) → Each m.leaves i → finds m i ≡ Found x → Extends x c
   pub found : (i : Image) (x : Config) (above : Image) → Each m.leaves i → finds m i ≡ Found x → Shows c x i above
       → FoundWith (units_of n) n.ring (state_with n beside.links) n.session (most_header beside n) above n.log n.base
   pub unclean : (i : Image) (x : Config) (v : ℕ) → Each m.leaves i → finds m i ≡ Found x → inside_of (units_of n) v ≡ true → stopped x v ≡ true
@@ -181,13 +182,10 @@ pub record AwayOver (c : Config) (beside : KeptBeside) (n : Node) (m : Meaning) 
   pub left : (i : Image) (x opened : Config) (readable : ℕ → Bool) → Each m.leaves i → finds m i ≡ Found x → OpenVolumes 0 (returned readable x) opened
       → LeftWith (units_of n) n.ring (state_with n beside.links) n.session (most_header beside n) n.log n.base (group_meaning opened (λ v. 0) m)
 
--- The same of either, as an import sees the disks: where imports may disagree nothing is told.
+-- The same of either, as an import sees the disks: where imports may disagree nothing is told. Which replicated volume group a configuration has that is found is said of
+-- the note of the site, apart.
 pub record RestsOver (Left : Config → Type 0) (beside : KeptBeside) (n : Node) (m : Meaning) : Type 0 where
   pub config : Config
-  pub note : GroupNode
-  pub group : n.group ≡ Some note
-  pub is : config_of note.config ≡ Some config
-  pub has : IsSome config.rvg
   pub sure : beside.doubt ≡ None
   pub lies : IsLaidBy (units_of n) n.ring n.volumes n.base.size (blocks_of config.volumes)
   pub low : n.low ≡ 1
@@ -199,9 +197,15 @@ pub record RestsOver (Left : Config → Type 0) (beside : KeptBeside) (n : Node)
 abbrev pub IsUngrouped : KeptBeside → Node → Type 0
 IsUngrouped beside n = (n.group ≡ None) × ((k : KeptSite) → beside.doubt ≡ Some k → k.node.group ≡ None)
 
--- one on a group of disks: what it may be besides has the same units
+-- two sites on the same disks, with the same units
+pub record SameGround (k n : Node) : Type 0 where
+  pub units : units_of k ≡ units_of n
+  pub disks : k.disks ≡ n.disks
+  pub blocks : k.blocks ≡ n.blocks
+
+-- one on a group of disks: what it may be besides lies on the same
 abbrev pub IsOverSite : KeptBeside → Node → Type 0
-IsOverSite beside n = (n.group ≡ None → ⊥) × ((k : KeptSite) → beside.doubt ≡ Some k → units_of k.node ≡ units_of n) × (n.disks ≤ MOST_DISKS) × (LEAST_BLOCKS ≤ n.blocks)
+IsOverSite beside n = (n.group ≡ None → ⊥) × ((k : KeptSite) → beside.doubt ≡ Some k → SameGround k.node n) × (n.disks ≤ MOST_DISKS) × (LEAST_BLOCKS ≤ n.blocks)
 
 -- a write is cut only at a site that is down, and lies in its volume
 pub record CutLies (n : Node) (x : CutWrite) : Type 0 where
