@@ -12,7 +12,7 @@ use Rattle.vx_disk.specs.Racks.{IsRack}
 use Rattle.vx_disk.specs.Shelf.{Meaning}
 use Rattle.vx_disk.specs.declared.shelf.Shelf.{Ghosts}
 use Rattle.vx_history.specs.Groups.{GroupNode}
-use Rattle.vx_history.specs.World.{Fuse as FuseOf, Node, NoFuse}
+use Rattle.vx_history.specs.World.{Node}
 use Rattle.vx_grouped.specs.Begins.{BeginsGroup, CanBegin, group_begun}
 use Rattle.vx_watched.specs.Since.{CalledSince}
 use Rattle.vx_grouped.specs.GroupSites.{GroupSiteStands, IsMarkedSite, site_disks, site_below}
@@ -21,15 +21,15 @@ use Rattle.vx_diskset.specs.DiskSets.{Later}
 use Rattle.vx_diskset.specs.Recovers.{RisesSince}
 use Rattle.vx_grouped.specs.declared.group_site.GroupSite.{GroupSite}
 use Rattle.vx_grouped.specs.declared.group_site.GroupSite.TheVariants.{Up, Deported, Down, Marked, Gone}
-use Rattle.vx_diskset.specs.GroupCalls.{AtSite, InitIs, bare_disks, cut_in, AtPlain}
+use Rattle.vx_diskset.specs.GroupCalls.{AtSite, bare_disks, cut_in, AtPlain}
 use Rattle.vx_diskset.specs.GroupSets.{cut_value, noted_cut}
 use Rattle.vx_diskset.specs.Holds.{KeptBeside}
 use Rattle.vx_diskset.specs.Stands.{IsBareAt, IsGroupSet, SiteStands, bare_with, IsToldAt}
 use Rattle.vx_diskset.specs.declared.disk_set.DiskSet.{DiskSet}
-use Rattle.vx_diskset.specs.declared.disk_set.DiskSet.TheVariants.{Bare, Spoiled, OfGroup}
+use Rattle.vx_diskset.specs.declared.disk_set.DiskSet.TheVariants.{Bare, OfGroup}
 use Rattle.vx_diskset.specs.declared.group_set.CutWrite.{CutWrite}
 use Rattle.vx_diskset.specs.declared.group_set.GroupSet.{GroupSet}
-use Rattle.vx_diskset.proofs.GroupCalling.{HasDisks, IsSettled, OnGroup, failing_risen, fuse_risen, has_group, later_risen, on_group, rises_called, settled, up_settled, told_behind, plain_set, at_both}
+use Rattle.vx_diskset.proofs.GroupCalling.{HasDisks, IsSettled, OnGroup, failing_risen, fuse_risen, later_risen, on_group, rises_called, settled, up_settled, told_behind, plain_set, at_both}
 use Rattle.vx_watched.specs.Traces.{TellsLess}
 
 -- ---- disks of which a group can be made

@@ -1,6 +1,6 @@
 -- A group that is found on the disks of a bare site.
-use Rattle.std.proofs.Common.{◌≡◌, ◌∙◌, ◌⊎◌, inl, inr, ℕ, ap, refl, subst, sym, IsTrue}
-use Rattle.std.specs.Prelude.{Result, Ok, Err, IfErr, None}
+use Rattle.std.proofs.Common.{◌≡◌, ◌∙◌, ◌⊎◌, inl, inr, ℕ, ap, refl, sym, IsTrue}
+use Rattle.std.specs.Prelude.{Result, Ok, Err}
 use Rattle.vx_model.specs.Content.{zero_block}
 use Rattle.vx_model.specs.declared.errors.Stop.{Stop}
 use Rattle.vx_model.specs.declared.errors.Stop.TheVariants.{No as Refused}
@@ -11,13 +11,12 @@ use Rattle.vx_disk.specs.Shelf.{Keeps, Lawful, Meaning}
 use Rattle.vx_disk.specs.declared.shelf.Shelf.{Ghosts}
 use Rattle.vx_history.specs.World.{Node}
 use Rattle.vx_watched.specs.Since.{CalledSince}
-use Rattle.vx_grouped.specs.Finds.{CanFind, FindStops, FindsUp, FoundSince}
+use Rattle.vx_grouped.specs.Finds.{CanFind, FindStops, FoundSince}
 use Rattle.vx_grouped.specs.GroupSites.{site_disks, site_below}
 use Rattle.vx_grouped.specs.declared.group_site.GroupSite.{GroupSite}
 use Rattle.vx_diskset.specs.Asked.{SameFailing}
 use Rattle.vx_diskset.specs.DiskSets.{Later}
-use Rattle.vx_diskset.specs.GroupCalls.{AtSite, bare_disks, cut_in}
-use Rattle.vx_diskset.specs.GroupFinds.{FindsIs, FindsOn, FoundUp, InBare}
+use Rattle.vx_diskset.specs.GroupFinds.{FindsIs, FindsOn, InBare}
 use Rattle.vx_diskset.specs.Holds.{KeptBeside}
 use Rattle.vx_diskset.specs.Stands.{IsCleanAt, IsGroupSet, IsToldAt, SiteStands, OverStands}
 use Rattle.vx_diskset.specs.declared.disk_set.DiskSet.{DiskSet}

@@ -74,7 +74,7 @@ pub lies_moved : (n : Node) (mine : Blocks) (P : Says) (m new : Meaning) → Mov
 lies_moved n mine P m new moves lies = lies_as n m new moves.units moves.size lies
 
 -- with another content of the same sizes
-laid_sized : (u : Units) (ring : ℕ) (volumes : List Volume) (was sizes : ℕ → ℕ) (m : Meaning) → ((v : ℕ) → sizes v ≡ was v) → IsLaid u ring volumes was m → IsLaid u ring volumes sizes m
+pub laid_sized : (u : Units) (ring : ℕ) (volumes : List Volume) (was sizes : ℕ → ℕ) (m : Meaning) → ((v : ℕ) → sizes v ≡ was v) → IsLaid u ring volumes was m → IsLaid u ring volumes sizes m
 laid_sized u ring volumes was sizes m same laid = record {
   large = laid.large;
   ring_is = laid.ring_is;

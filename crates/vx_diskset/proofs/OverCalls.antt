@@ -1,6 +1,6 @@
 -- What calls on a replicated volume group over a group answer of its site.
-use Rattle.std.proofs.Common.{◌≡◌, ℕ, refl, subst, sym}
-use Rattle.std.specs.Prelude.{None, Option, Result, Ok, Err}
+use Rattle.std.proofs.Common.{◌≡◌, ℕ, subst, sym}
+use Rattle.std.specs.Prelude.{Option, Result, Ok, Err}
 use Rattle.vx_disk.specs.Counts.{Rose}
 use Rattle.vx_disk.specs.declared.shelf.Shelf.{Ghosts}
 use Rattle.vx_history.specs.World.{Node}
@@ -15,7 +15,7 @@ use Rattle.vx_diskset.specs.DiskSets.{AppliedUp, LoggedUp, worked}
 use Rattle.vx_diskset.specs.Holds.{KeptBeside}
 use Rattle.vx_diskset.specs.Keeps.{KeptUp, kept_anew, restated}
 use Rattle.vx_diskset.specs.Rooms.{AppliedAs}
-use Rattle.vx_diskset.specs.Shelves.{IsRackOf, KeptAs, LoggedAs}
+use Rattle.vx_diskset.specs.Shelves.{KeptAs, LoggedAs}
 use Rattle.vx_diskset.specs.Stands.{IsUpAt, OverStands, SiteStands, IsOverSite}
 use Rattle.vx_diskset.specs.declared.founded.Founded.{Founded}
 use Rattle.vx_diskset.specs.declared.group_set.CutWrite.{CutWrite}

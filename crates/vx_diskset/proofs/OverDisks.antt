@@ -1,7 +1,6 @@
 -- The disks below a replicated volume group, of which some are made to fail, or whose fuse is set: what stood over them stands.
 use Rattle.std.proofs.Common.{◌≡◌, ◌∙◌, ◌<◌, arith, inl, inr, ℕ, Bool, true, false, List, ap, refl, subst, sym, IsTrue}
 use Rattle.vx_config.specs.declared.config.Config.{Config}
-use Rattle.vx_copies.specs.Answers.{returned}
 use Rattle.vx_copyfmt.specs.Imports.{Found}
 use Rattle.vx_disk.specs.Causes.{OnDisks, WithDisks}
 use Rattle.vx_disk.specs.Racks.{Alike, IsRack}

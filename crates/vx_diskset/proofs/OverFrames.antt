@@ -1,5 +1,5 @@
 -- A replicated volume group over the volumes of a group of which others changed, or were made.
-use Rattle.std.proofs.Common.{◌≡◌, ◌∙◌, ◌⊎◌, inl, inr, ⊎_elim, ℕ, zero, suc, ◌*◌, ◌<◌, ◌≤◌, Bool, true, false, List, [], ◌∷◌, length, drop, ltb, Option, Some, None, MatchOption, IsTrue, ap, subst, sym, refl, arith}
+use Rattle.std.proofs.Common.{◌≡◌, ◌∙◌, ◌⊎◌, inl, ⊎_elim, ℕ, zero, suc, ◌*◌, ◌<◌, ◌≤◌, Bool, true, false, List, [], ◌∷◌, length, drop, ltb, Option, Some, None, MatchOption, IsTrue, ap, subst, sym, refl, arith}
 use Rattle.std.proofs.lemmas.Bool.{cases_lt, le-ltb}
 use Rattle.std.proofs.lemmas.List.Sums.{sum_by-cons}
 use Rattle.std.specs.List.{sum_by}
@@ -26,7 +26,6 @@ use Rattle.vx_diskset.proofs.Laying.{laid_in}
 use Rattle.vx_diskset.proofs.Receiving.{as_receiver, durable_of, receiver_up}
 use Rattle.vx_diskset.proofs.StaysUp.{kept_whole, told_now, writes_found}
 use Rattle.vx_model.specs.declared.call.Update.{Update}
-use Rattle.vx_model.specs.declared.limits.TheConstants.{LINK_PLACES}
 use Rattle.vx_history.specs.Steps.{burned}
 use Rattle.vx_history.specs.World.{Fuse, NoFuse, FuseSet, FuseLit, Node}
 use Rattle.vx_disk.specs.Maps.{maps_of}

@@ -1,27 +1,22 @@
 -- What calls on a replicated volume group that receives answer of its site, over a group.
-use Rattle.std.proofs.Common.{◌≡◌, ◌∙◌, ℕ, ◌+◌, ◌-◌, ◌<◌, ◌≤◌, List, length, drop, ap, refl, subst, sym, arith}
-use Rattle.std.specs.Prelude.{None, Option, Some, Result, Ok, Err, min}
+use Rattle.std.proofs.Common.{◌≡◌, ◌∙◌, ℕ, ◌+◌, ◌-◌, ◌<◌, ◌≤◌, List, length, drop, ap, subst, sym, arith}
+use Rattle.std.specs.Prelude.{None, Option, Some, Result, Ok, Err}
 use Rattle.vx_disk.specs.Counts.{Rose}
-use Rattle.vx_disk.specs.Shelf.{Lawful, Meaning}
+use Rattle.vx_disk.specs.Shelf.{Lawful}
 use Rattle.vx_disk.specs.declared.shelf.Shelf.{Ghosts}
 use Rattle.vx_history.specs.Steps.{burned}
 use Rattle.vx_history.specs.World.{Fuse, Node}
 use Rattle.vx_model.specs.Content.{Write}
-use Rattle.vx_model.specs.Sites.{is_origin}
 use Rattle.vx_model.specs.declared.call.Update.{Update}
 use Rattle.vx_model.specs.declared.no.No.{No}
-use Rattle.vx_model.specs.declared.no.No.TheVariants.{Device, Limit, Down as IsOff}
-use Rattle.vx_model.specs.declared.state.State.{State}
-use Rattle.vx_rvg.specs.Views.{Core}
+use Rattle.vx_model.specs.declared.no.No.TheVariants.{Device, Down as IsOff}
 use Rattle.vx_secondary.specs.Receivers.{writes_of_updates}
 use Rattle.vx_ground.specs.Lifted.{laid_volumes}
 use Rattle.vx_grouped.specs.GroupSites.{laid_disks, site_disks}
 use Rattle.vx_diskset.specs.Aboves.{below_site}
-use Rattle.vx_diskset.specs.DiskSets.{AppliedUp, halted_at, worked}
-use Rattle.vx_diskset.specs.Holds.{HasDoubted, KeptBeside, KeptSite, MayBe}
-use Rattle.vx_diskset.specs.Keeps.{KeptUp, doubting, restated}
+use Rattle.vx_diskset.specs.DiskSets.{AppliedUp}
+use Rattle.vx_diskset.specs.Holds.{KeptBeside}
 use Rattle.vx_diskset.specs.Rooms.{AppliedAs}
-use Rattle.vx_diskset.specs.Shelves.{KeptAs}
 use Rattle.vx_diskset.specs.Stands.{IsReceiverAt, IsUpAt, OverStands, SiteStands, IsOverSite}
 use Rattle.vx_diskset.specs.declared.founded.FoundedReceiver.{FoundedReceiver}
 use Rattle.vx_diskset.specs.declared.group_set.CutWrite.{CutWrite}

@@ -1,9 +1,9 @@
 -- Disks that tell no contents stand for a site whatever links its log keeps and whoever feeds it; and where it goes down again, for any that was down on them.
-use Rattle.std.proofs.Common.{◌≡◌, ◌∙◌, ◌<◌, ◌+◌, ◌-◌, ℕ, List, length, ap, sym, subst, refl, arith, false, IsTrue}
-use Rattle.std.specs.Prelude.{Option, Some, None, IsFalse}
+use Rattle.std.proofs.Common.{◌≡◌, ◌∙◌, ◌<◌, ◌+◌, ◌-◌, ℕ, List, length, ap, sym, arith, IsTrue}
+use Rattle.std.specs.Prelude.{None}
 use Rattle.vx_model.specs.Content.{zero_block}
 use Rattle.vx_model.specs.declared.site.SiteState.TheVariants.{Bare as IsBare, Up as IsUp, Down as IsDown}
-use Rattle.vx_history.specs.World.{Node, NoFuse}
+use Rattle.vx_history.specs.World.{Node}
 use Rattle.vx_disk.specs.Shelf.{Keeps, Lawful, Meaning}
 use Rattle.vx_disk.specs.declared.shelf.Shelf.{Ghosts}
 use Rattle.vx_rvg.specs.Views.{Core, unit_of}

@@ -1,5 +1,5 @@
 -- What a status shows of a group in memory is what its site notes.
-use Rattle.std.proofs.Common.{◌≡◌, ◌∙◌, ◌<◌, ◌≤◌, ℕ, List, [], length, map, ap, sym, subst, refl, arith}
+use Rattle.std.proofs.Common.{◌≡◌, ◌∙◌, ◌<◌, ◌≤◌, ℕ, List, [], map, ap, sym, subst, refl, arith}
 use Rattle.std.specs.Prelude.{Bool, true, Option, Some, None, slice_get}
 use Rattle.vx_model.specs.declared.limits.TheConstants.{MOST_PLEXES}
 use Rattle.vx_model.specs.declared.site.SiteState.{SiteState}

@@ -7,7 +7,7 @@ use Rattle.vx_diskset.proofs.StartBare.{clean_read}
 use Rattle.vx_diskset.proofs.MakeGroup.{bare_still, up_still, fuse_still}
 use Rattle.vx_diskset.proofs.StartGroup.{down_still}
 use Rattle.vx_diskset.proofs.Receiving.{receiver_still, wait_as}
-use Rattle.vx_diskset.proofs.OverDisks.{set_asked, set_in, set_over, set_role, set_later as over_later}
+use Rattle.vx_diskset.proofs.OverDisks.{set_asked, set_over, set_role, set_later as over_later}
 use Rattle.vx_diskset.proofs.OverGroups.{set_alike, set_later}
 use Rattle.vx_diskset.proofs.disk_set.DiskSet.fail.Goals as goal
 

@@ -2,7 +2,7 @@
 use Rattle.std.proofs.Common.{ap, subst, sym}
 use Rattle.vx_grouped.specs.Begins.{BeginsGroup}
 use Rattle.vx_grouped.specs.GroupSites.{site_disks, site_below}
-use Rattle.vx_diskset.specs.GroupCalls.{AtSite, bare_disks, AtPlain}
+use Rattle.vx_diskset.specs.GroupCalls.{bare_disks, AtPlain}
 use Rattle.vx_diskset.specs.Stands.{SiteStands, IsToldAt}
 use Rattle.vx_diskset.proofs.GroupBegun.{begin_bare, begin_failing, begin_fuse, begin_later, begin_settled, begun_stays, marked_at, marked_bare, marked_can}
 use Rattle.vx_diskset.proofs.GroupCalling.{has_bare, has_group, has_spoiled, told_before}

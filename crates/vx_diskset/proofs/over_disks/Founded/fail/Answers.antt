@@ -1,6 +1,5 @@
 -- Disks that are made to fail, below a replicated volume group.
 use Rattle.std.proofs.Common.{◌<◌, ◌∙◌, subst, sym}
-use Rattle.vx_ground.specs.Lifted.{laid_volumes}
 use Rattle.vx_grouped.specs.GroupSites.{laid_disks}
 use Rattle.vx_diskset.specs.Founded.{LaidFails}
 use Rattle.vx_diskset.proofs.OverDisks.{carried_laid, laid_sound}
