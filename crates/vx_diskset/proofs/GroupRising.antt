@@ -78,6 +78,7 @@ module _ {R : Type 0} {g : Ghosts R} where
     away = record {
       state = it.away.state;
       config = it.away.config;
+      found = record { each = it.away.found.each };
       lies = record { units = it.away.lies.units; size = it.away.lies.size; can = it.away.lies.can; sizes = it.away.lies.sizes; finds = it.away.lies.finds; volumes = it.away.lies.volumes; has = it.away.lies.has };
     };
   }

@@ -88,6 +88,7 @@ module _ (n k : Node) (like : IsLikeGroup n k) where
       state = sym like.state ∙ it.away.state;
       config = it.away.config;
       frames = it.away.frames;
+      found = it.away.found;
       lies = lies_like n k note it.last m like.disks like.blocks it.away.lies;
     };
   }
@@ -101,7 +102,12 @@ module _ (n k : Node) (like : IsLikeGroup n k) where
     stopped = it.stopped;
     last = it.last;
     spells = it.spells;
-    away = record { state = sym like.state ∙ it.away.state; config = it.away.config; lies = lies_like n k note it.last m like.disks like.blocks it.away.lies };
+    away = record {
+      state = sym like.state ∙ it.away.state;
+      config = it.away.config;
+      found = it.away.found;
+      lies = lies_like n k note it.last m like.disks like.blocks it.away.lies;
+    };
   }
 
   cut_like : (x : CutWrite) → CutLies n x → CutLies k x

@@ -189,6 +189,7 @@ module _ {R : Type 0} {g : Ghosts R} where
       state = it.away.state;
       config = it.away.config;
       frames = it.away.frames;
+      found = it.away.found;
       lies = record {
         units = it.away.lies.units;
         size = it.away.lies.size;

@@ -33,7 +33,8 @@ use Rattle.vx_grouped.specs.declared.group_site.GroupSite.TheVariants.{Up}
 use Rattle.vx_grouped.proofs.NotedLemmas.{spells_zero}
 use Rattle.vx_grouped.proofs.SinceReturns.{returns_unarmed}
 use Rattle.vx_grouped.proofs.SiteLemmas.{lies_as}
-use Rattle.vx_grouped.proofs.SiteReturnLemmas.{down_of, is_up}
+use Rattle.vx_grouped.proofs.SiteReturnLemmas.{is_up}
+use Rattle.vx_grouped.proofs.StopLemmas.{down_of}
 use Rattle.vx_grouped.proofs.WhyLemmas.{why_by}
 
 -- nothing is asked of disks that tell nothing

@@ -77,10 +77,12 @@ called_sure next more d note note' begun none = none_begun (is_sure d) next more
 
 -- another note with the same configurations
 pub noted_as : (note next : GroupNode) (c : Config) (m : Meaning) → next.begun ≡ note.begun → next.loose ≡ note.loose → NotesFound note c m → NotesFound next c m
-noted_as note next c m begun loose it = record { each = λ tight i x each is. elim (it.each (sym loose ∙ tight) i x each is) [
-  | inl same ↦ inl same
-  | inr has ↦ inr (subst (λ (l : List (List ℕ)). Contains l (noted_try x)) (sym begun) has)
-] }
+noted_as note next c m begun loose it = record {
+  each = λ tight i x each is. elim (it.each (sym loose ∙ tight) i x each is) [
+    | inl same ↦ inl same
+    | inr has ↦ inr (subst (λ (l : List (List ℕ)). Contains l (noted_try x)) (sym begun) has)
+  ];
+}
 
 -- the same of what else is known of images
 pub images_as : (note next : GroupNode) (c : GroupCore) (m : Meaning) → next.begun ≡ note.begun → next.loose ≡ note.loose → ImagesAre note c m → ImagesAre next c m
@@ -93,10 +95,12 @@ images_as note next c m begun loose it = record {
 
 -- fewer images
 pub less_noted : (note : GroupNode) (c : Config) (m m' : Meaning) → FindsFrom NoConfiguration m m' → NotesFound note c m → NotesFound note c m'
-less_noted note c m m' finds it = record { each = λ tight i x each is. elim (finds.each i x each is) [
-  | inl left ↦ it.each tight left.image x left.left left.found
-  | inr none ↦ absurd none
-] }
+less_noted note c m m' finds it = record {
+  each = λ tight i x each is. elim (finds.each i x each is) [
+    | inl left ↦ it.each tight left.image x left.left left.found
+    | inr none ↦ absurd none
+  ];
+}
 
 pub images_less : (note : GroupNode) (c d : GroupCore) (m m' : Meaning) → d ≡ c → FindsFrom NoConfiguration m m' → ImagesAre note c m → ImagesAre note d m'
 images_less note c d m m' core finds it = subst (λ (x : GroupCore). ImagesAre note x m') (sym core) (record {
@@ -145,11 +149,15 @@ module _ (note : GroupNode) (c d : GroupCore) (m m' : Meaning) (was : ImagesAre 
   begun_by x tight (inr new) = contains_left (noted_try x) (nexts_of c d m m' finds) note.begun (contains_next (noted_try x) (noted_try c.inner.config) (tries finds.begun) (contains_try finds.begun x new))
 
   noted_by : (sure : Bool) → sure ≡ is_sure d → (next : GroupNode) → next.begun ≡ (if sure then [] else nexts_of c d m m' finds ++ note.begun) → next.loose ≡ (if sure then false else (note.loose || not d.inner.agreed)) → NotesFound next d.inner.config m'
-  noted_by true is next begun loose = record { each = λ tight i x each found. inl (
-      let config : (wide d).config ≡ d.inner.config = ap (λ (e : Inner). e.config) (wide_none d (sure_free d.inner.committed d.held (sym is))) in
-      subst (λ (y : Config). at_serial 0 x ≡ at_serial 0 y) config ((newest (sure_kept d.inner.committed d.held (sym is))).each i x each found)) }
-  noted_by false is next begun loose = record { each = λ tight i x each found. inr (subst (λ (l : List (List ℕ)). Contains l (noted_try x)) (sym begun)
-      (begun_by x (still_tight d.inner.agreed note.loose (sym loose ∙ tight)) (finds.finds.each i x each found))) }
+  noted_by true is next begun loose = record {
+    each = λ tight i x each found. inl (
+        let config : (wide d).config ≡ d.inner.config = ap (λ (e : Inner). e.config) (wide_none d (sure_free d.inner.committed d.held (sym is))) in
+        subst (λ (y : Config). at_serial 0 x ≡ at_serial 0 y) config ((newest (sure_kept d.inner.committed d.held (sym is))).each i x each found));
+  }
+  noted_by false is next begun loose = record {
+    each = λ tight i x each found. inr (subst (λ (l : List (List ℕ)). Contains l (noted_try x)) (sym begun)
+        (begun_by x (still_tight d.inner.agreed note.loose (sym loose ∙ tight)) (finds.finds.each i x each found)));
+  }
 
   -- behind a call
   pub images_called : (next : GroupNode) → next.begun ≡ (note_called (nexts_of c d m m' finds) d note).begun → next.loose ≡ loose_by d note.loose → ImagesAre next d m'

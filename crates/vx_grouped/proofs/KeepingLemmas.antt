@@ -4,7 +4,7 @@ use Rattle.std.proofs.lemmas.List.{take_at}
 use Rattle.vx_model.specs.Content.{block_of}
 use Rattle.vx_disk.specs.Shelf.{Meaning}
 use Rattle.vx_history.specs.Groups.{BlockMay, GroupNode}
-use Rattle.vx_grouped.specs.Keepings.{AreKept, KeepsPlain}
+use Rattle.vx_grouped.specs.Keepings.{BytesKept, KeepsPlain}
 use Rattle.vx_grouped.specs.Plain.{ReadsPlain}
 
 pub set_here : {A : Type 0} (xs : List A) (i : ℕ) (x : A) → i < length xs → slice_get (slice_set xs i x) i ≡ Some x
@@ -48,7 +48,7 @@ one_more seen bytes bits n bit few is it = (
 )
 
 -- what a read tells of the blocks
-pub keeps_plain : (note : GroupNode) (m : Meaning) (v block : ℕ) (seen bytes : List ℕ) (bits : List Bool) → length seen ≡ length bytes → ReadsPlain note m v block seen → AreKept seen bytes bits → KeepsPlain note m v block bytes bits
+pub keeps_plain : (note : GroupNode) (m : Meaning) (v block : ℕ) (seen bytes : List ℕ) (bits : List Bool) → length seen ≡ length bytes → ReadsPlain note m v block seen → BytesKept seen bytes bits → KeepsPlain note m v block bytes bits
 keeps_plain note m v block seen bytes bits long read kept = record {
   each = λ told k lt.
       let place : block + k - block ≡ k = omega arith in
@@ -58,6 +58,6 @@ keeps_plain note m v block seen bytes bits long read kept = record {
 
 -- the same where what was read stands at the front of a longer list
 pub keeps_front : (note : GroupNode) (m : Meaning) (v block : ℕ) (seen bytes : List ℕ) (bits : List Bool) (rest : List ℕ) → length seen ≡ length bytes → ReadsPlain note m v block seen
-    → AreKept (take (length bytes) (seen ++ rest)) bytes bits → KeepsPlain note m v block bytes bits
+    → BytesKept (take (length bytes) (seen ++ rest)) bytes bits → KeepsPlain note m v block bytes bits
 keeps_front note m v block seen bytes bits rest long read kept =
-    keeps_plain note m v block seen bytes bits long read (subst (λ (xs : List ℕ). AreKept xs bytes bits) (take_at seen rest (length bytes) long) kept)
+    keeps_plain note m v block seen bytes bits long read (subst (λ (xs : List ℕ). BytesKept xs bytes bits) (take_at seen rest (length bytes) long) kept)

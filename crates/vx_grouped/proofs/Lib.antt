@@ -25,6 +25,7 @@ pub mod SiteCarry
 pub mod SiteKeepLemmas
 pub mod SiteLemmas
 pub mod SiteReturnLemmas
+pub mod StopLemmas
 pub mod TellLemmas
 pub mod WriteLemmas
 pub mod WroteLemmas

@@ -1,17 +1,14 @@
 -- A recovery of a site's group, by its note.
 use Rattle.std.proofs.Common.{⊎_elim, ◌≡◌, ◌⊎◌, inl, inr, ℕ, zero, suc, ◌<◌, Bool, true, false, List, [], ◌∷◌, length, IsTrue, IsFalse, refl, sym, ◌∙◌, ap, subst, arith, not}
-use Rattle.std.specs.Prelude.{if◌then◌else◌, slice_get, Option, Some, None, Result, Ok, Err}
+use Rattle.std.specs.Prelude.{if◌then◌else◌, slice_get, Option, Some, None, Ok, Err}
 use Rattle.std.proofs.lemmas.Option.{slice_get_within}
 use Rattle.vx_model.specs.declared.errors.Stop.{Stop}
 use Rattle.vx_model.specs.declared.errors.Stop.TheVariants.{No as Refused, OutOfMemory}
-use Rattle.vx_model.specs.declared.no.Counted.TheVariants.{Number as Numbers}
-use Rattle.vx_model.specs.declared.no.No.{No}
-use Rattle.vx_model.specs.declared.no.No.TheVariants.{Damaged as IsDamaged, Device, Down as IsOff, Format as HasFormat, Limit, Missing as Lacks, NoConfig}
+use Rattle.vx_model.specs.declared.no.No.TheVariants.{Device, Down as IsOff}
 use Rattle.vx_model.specs.declared.site.SiteState.TheVariants.{Up as IsUp}
-use Rattle.vx_disk.specs.Causes.{DeviceCause}
 use Rattle.vx_disk.specs.Counts.{Rose}
 use Rattle.vx_disk.specs.Racks.{Alike, Stopped, IsRack}
-use Rattle.vx_disk.specs.Shelf.{Goes, Meaning, Nothing, Each, Image, Lawful}
+use Rattle.vx_disk.specs.Shelf.{Meaning, Each, Image, Lawful}
 use Rattle.vx_disk.specs.declared.shelf.Shelf.{Ghosts}
 use Rattle.vx_history.specs.Groups.{BlockMay, GroupNode}
 use Rattle.vx_history.specs.Steps.{burned, crashed}
@@ -21,19 +18,14 @@ use Rattle.vx_config.specs.declared.config.Config.{Config}
 use Rattle.vx_config.specs.declared.entry.DiskEntry.{DiskEntry}
 use Rattle.vx_config.specs.declared.entry.VolumeEntry.{VolumeEntry}
 use Rattle.vx_untold.specs.declared.shade.Shade.{Shade}
-use Rattle.vx_config.specs.Table.{greatest}
-use Rattle.vx_copyfmt.specs.Imports.{ImportOutcome, Found, Missing, NoConfig as NothingFound, Damaged, Format, import_of}
-use Rattle.vx_copies.specs.Answers.{IsAnswer, answer_to}
-use Rattle.vx_copies.specs.Bodies.{failed_in}
-use Rattle.vx_copies.specs.Looking.{on_shelf}
+use Rattle.vx_copyfmt.specs.Imports.{ImportOutcome, Found, Missing, NoConfig as NothingFound, Damaged, Format}
 use Rattle.vx_volume.specs.Plexes.{Inside}
-use Rattle.vx_group.specs.Imports.{ImportStops, StopsEarly}
+use Rattle.vx_group.specs.Imports.{ImportStops}
 use Rattle.vx_group.specs.Resumes.{CanImport}
-use Rattle.vx_group.proofs.AgainLemmas.{goes_can}
 use Rattle.vx_group.specs.declared.group_core.GroupCore.{GroupCore}
 use Rattle.vx_watched.specs.Since.{CalledSince}
 use Rattle.vx_grouped.specs.Away.{AwayLies}
-use Rattle.vx_grouped.specs.GroupSites.{GroupAway, GroupDown, GroupUp, NotesGroup, idle_disks, laid_disks, AreStopped, IsLit, dimmed_site, laid_below}
+use Rattle.vx_grouped.specs.GroupSites.{GroupAway, GroupDown, GroupUp, NotesGroup, laid_disks, AreStopped, IsLit, dimmed_site, laid_below}
 use Rattle.vx_grouped.specs.Returns.{GroupReturns, note_imported}
 use Rattle.vx_grouped.specs.SetFuses.{HasFuse}
 use Rattle.vx_grouped.specs.SiteEnds.{stops_down, burned_site}
@@ -43,10 +35,9 @@ use Rattle.vx_grouped.specs.declared.laid.Laid.{Laid}
 use Rattle.vx_grouped.specs.declared.group_site.GroupSite.{GroupSite}
 use Rattle.vx_grouped.specs.declared.group_site.GroupSite.TheVariants.{Up, Deported, Down}
 use Rattle.vx_grouped.proofs.AlikeLemmas.{less_away}
-use Rattle.vx_grouped.proofs.CalledLemmas.{err_is}
 use Rattle.vx_grouped.proofs.SettleLemmas.{fell_fused, fuse_burned}
 use Rattle.vx_grouped.proofs.ImageLemmas.{less_from, less_noted, none_noted, noted_as}
-use Rattle.vx_grouped.proofs.SiteLemmas.{lies_as, away_as, noted_dimmed, away_dimmed, lit_dimmed}
+use Rattle.vx_grouped.proofs.SiteLemmas.{lies_as, noted_dimmed, away_dimmed, lit_dimmed}
 use Rattle.vx_grouped.specs.ConfigMoves.{AnyState, ConfigBack}
 use Rattle.vx_config.specs.Configs.{HasSpelling}
 use Rattle.vx_grouped.specs.GroupNotes.{NotesConfig, NotesFound, note_dimmed}
@@ -61,6 +52,7 @@ use Rattle.vx_grouped.proofs.NotedLemmas.{spells_zero}
 use Rattle.vx_grouped.proofs.WhyLemmas.{why_by}
 use Rattle.vx_watched.specs.Traces.{TellsLess}
 use Rattle.vx_grouped.proofs.TraceLemmas.{lit_since}
+use Rattle.vx_grouped.proofs.StopLemmas.{down_of, early_goes}
 
 -- ---- notes
 
@@ -112,86 +104,6 @@ module _ (n : Node) (note : GroupNode) (last : Config) (m0 m : Meaning) (told : 
 
 no_fuse : (f : Fuse) (m : Meaning) → f ≡ NoFuse → IsFalse m.armed → HasFuse (burned f) m
 no_fuse f m is none = subst (λ (x : Fuse). HasFuse (burned x) m) (sym is) none
-
--- ---- why it was refused
-
--- it names a device, or says that the disks are down
-abbrev is_blame : No → Bool
-is_blame (Device disk) = true
-is_blame IsOff = true
-is_blame other = false
-
-not_blame : (why x : No) → why ≡ x → is_blame x ≡ false → is_blame why ≡ true → ⊥
-not_blame why x same off on = let clash : true ≡ false = sym (subst (λ (y : No). is_blame y ≡ true) same on) ∙ off in never_both clash
-  where
-    never_both : true ≡ false → ⊥
-    never_both clash = cc
-
-answer_is : (why x : No) (r : Result (Config × ℕ) Stop) → r ≡ Err (Refused why) → (r ≡ Err OutOfMemory) ⊎ (r ≡ Err (Refused x)) → why ≡ x
-answer_is why x r is (inl none) = let clash : Refused why ≡ OutOfMemory = err_is r (Refused why) OutOfMemory is none in absurd (never_memory why clash)
-  where
-    never_memory : (y : No) → Refused y ≡ OutOfMemory → ⊥
-    never_memory y clash = cc
-answer_is why x r is (inr other) = let same : Refused why ≡ Refused x = err_is r (Refused why) (Refused x) is other in cc
-
-never_answer : (readable : ℕ → Bool) (o : ImportOutcome Config) (why : No) (r : Result (Config × ℕ) Stop) → r ≡ Err (Refused why) → is_blame why ≡ true → IsAnswer (answer_to readable o) r → ⊥
-never_answer readable (Found x) why r is on (inl none) = not_blame why NoConfig (answer_is why NoConfig r is (inl none)) refl on
-never_answer readable (Found x) why r is on (inr done) = never_done (sym is ∙ done)
-  where
-    never_done : {a : Config × ℕ} → Err (Refused why) ≡ Ok a → ⊥
-    never_done clash = cc
-never_answer readable (Missing d) why r is on it = not_blame why (Lacks d) (answer_is why (Lacks d) r is it) refl on
-never_answer readable NothingFound why r is on it = not_blame why NoConfig (answer_is why NoConfig r is it) refl on
-never_answer readable (Damaged d block stored computed) why r is on it = not_blame why (IsDamaged d block stored computed) (answer_is why (IsDamaged d block stored computed) r is it) refl on
-never_answer readable (Format version) why r is on it = not_blame why (HasFormat version) (answer_is why (HasFormat version) r is it) refl on
-
-early_blames : (m m' : Meaning) (why : No) → is_blame why ≡ true → Goes Nothing m m' → StopsEarly m m' (Refused why) → DeviceCause m m' why
-early_blames m m' why on goes (inl down) = subst (λ (x : No). DeviceCause m m' x) (sym down.1) (goes.falls down.0)
-early_blames m m' why on goes (inr (inl small)) = absurd (not_blame why NoConfig small.1 refl on)
-early_blames m m' why on goes (inr (inr (inl imported))) =
-    absurd (never_answer imported.readable (import_of (on_shelf m) failed_in m.units imported.readable imported.image) why (Err (Refused why)) refl on imported.answer)
-early_blames m m' why on goes (inr (inr (inr not))) = elim not.refuses [
-  | inl full ↦ absurd (not_blame why (Limit Numbers greatest) full.1 refl on)
-  | inr none ↦ absurd (not_blame why NoConfig none.1 refl on)
-]
-
-blames : (m m' : Meaning) (why : No) → is_blame why ≡ true → ImportStops m m' (Refused why) → DeviceCause m m' why
-blames m m' why on (inl early) = early_blames m m' why on early.0 early.1
-blames m m' why on (inr late) = elim late.1 [
-  | inl cause ↦ cause
-  | inr full ↦ absurd (not_blame why (Limit Numbers greatest) full.0 refl on)
-]
-
--- where it says that they are down they are
-pub down_of : (m m' : Meaning) (stop : Stop) → stops_down stop ≡ true → ImportStops m m' stop → IsTrue m'.down
-down_of m m' (Refused IsOff) off stops = blames m m' IsOff refl stops
-down_of m m' (Refused (Device disk)) off stops = cc
-down_of m m' (Refused other) off stops = cc
-down_of m m' OutOfMemory off stops = cc
-
--- an import that was refused so had written nothing
-not_limit : (why : No) → stops_early (Refused why) ≡ true → why ≡ Limit Numbers greatest → ⊥
-not_limit why early is = let clash : false ≡ true = subst (λ (x : No). stops_early (Refused x) ≡ true) is early in never_both clash
-  where
-    never_both : false ≡ true → ⊥
-    never_both clash = cc
-
-late_none : (m m' : Meaning) (why : No) → stops_early (Refused why) ≡ true → DeviceCause m m' why → ⊥
-late_none m m' (Device disk) early cause = cc
-late_none m m' IsOff early cause = cc
-late_none m m' other early cause = cause
-
-pub early_goes : (m m' : Meaning) (stop : Stop) → stops_early stop ≡ true → ImportStops m m' stop → Goes Nothing m m'
-early_goes m m' stop early (inl it) = it.0
-early_goes m m' (Refused why) early (inr it) = elim it.1 [
-  | inl cause ↦ absurd (late_none m m' why early cause)
-  | inr full ↦ absurd (not_limit why early full.0)
-]
-early_goes m m' OutOfMemory early (inr it) = absurd it.1
-
--- the disks may be imported still
-pub still_can : (m m' : Meaning) (stop : Stop) → stops_early stop ≡ true → CanImport m → ImportStops m m' stop → CanImport m'
-still_can m m' stop early can stops = goes_can m m' (early_goes m m' stop early stops) can
 
 -- ---- what an import made of the site
 
@@ -353,11 +265,11 @@ module _ {R : Type 0} {g : Ghosts R} (n : Node) (note : GroupNode) (racks : (s :
           early_lies n note down.last (shade_meaning g.meaning first) (shade_meaning g.meaning middle) (shade_meaning g.meaning fallen) (laws first) lies can stop stops it stopped.units stopped.size stopped.leaves
       lies_by false it = dark_away n note down.last (shade_meaning g.meaning first) (shade_meaning g.meaning fallen) (kept.units ∙ since.units) (λ u. kept.size u ∙ since.size u) (dark it) lies
 
-      found_by : (t : Bool) → stops_early stop ≡ t → NotesFound note down.last (shade_meaning g.meaning fallen)
-      found_by true it =
+      fallen_found : (t : Bool) → stops_early stop ≡ t → NotesFound note down.last (shade_meaning g.meaning fallen)
+      fallen_found true it =
           let stopped = early it in
           early_noted n note down.last (shade_meaning g.meaning first) (shade_meaning g.meaning middle) (shade_meaning g.meaning fallen) (laws first) lies can stop stops it stopped.units stopped.size stopped.leaves down.last found_first
-      found_by false it = none_noted note down.last (shade_meaning g.meaning fallen) (dark it).leaves
+      fallen_found false it = none_noted note down.last (shade_meaning g.meaning fallen) (dark it).leaves
 
       lit_by : (t : Bool) → stops_early stop ≡ t → IsLit (note_dimmed (not t) note) (g.meaning (rack_of fallen)).tells (shade_meaning g.meaning fallen)
       lit_by true it = λ bright told. (early it).tells ∙ since.tells ∙ lit_first bright (rises (goes (falls told)))
@@ -375,7 +287,7 @@ module _ {R : Type 0} {g : Ghosts R} (n : Node) (note : GroupNode) (racks : (s :
         away = record {
           state = down.away.state;
           config = down.away.config;
-          found = noted_as note (note_dimmed (not t) note) down.last (shade_meaning g.meaning fallen) refl refl (found_by t it);
+          found = noted_as note (note_dimmed (not t) note) down.last (shade_meaning g.meaning fallen) refl refl (fallen_found t it);
           lies = away_dimmed (not t) n (dimmed_site (not t) note n) note down.last (shade_meaning g.meaning fallen) refl refl (lies_by t it);
         };
       }

@@ -11,7 +11,7 @@ use Rattle.vx_untold.specs.Shades.{rack_of, shade_meaning}
 use Rattle.vx_untold.specs.declared.shade.Shade.{Shade}
 use Rattle.vx_untold.specs.declared.shade.Shade.TheVariants.{Dark}
 use Rattle.vx_grouped.specs.SiteReturns.{TellsNone, stops_early}
-use Rattle.vx_grouped.proofs.SiteReturnLemmas.{early_goes}
+use Rattle.vx_grouped.proofs.StopLemmas.{early_goes}
 
 module _ (r : Rested) (m m' : Meaning) where
   pub alike_tells : Alike m m' → LogsTell r m → LogsTell r m'

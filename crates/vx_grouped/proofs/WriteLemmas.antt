@@ -54,14 +54,18 @@ module _ (n : Node) (note : GroupNode) (v block : ℕ) (bytes : List ℕ) (c d :
   pub write_done : (b : Meaning) → Lawful (inner_meaning (wide c) m) → Fits (inner_meaning (wide c) m) v block (length bytes) → Goes (Written v block bytes) (inner_meaning (wide c) m) b → Wrote v block bytes (inner_meaning (wide c) m) b
       → Goes Nothing b (inner_meaning (wide d) m') → Flushed v b (inner_meaning (wide d) m') → StaysUp b (inner_meaning (wide d) m') → (c.inner.committed ≡ true → d.inner.committed ≡ true)
       → (nexts : List (List ℕ)) × IsGroupAt n (note_write (plain_write v block bytes) (note_called nexts d note)) d m' × IsTight note d
-  write_done b lawful room goes wrote still flushed up trust = (nexts, record {
-    state = at.state;
-    up = up.after;
-    lies = lies_called n note c d m m' at.lies two (rack_units c d m m' one two loses.disks) (rack_size c d m m' one two loses.disks) finds.core
-        (note_write (plain_write v block bytes) called) refl refl refl
-        (write_holds called v block bytes (inner_meaning (wide c) m) b (inner_meaning (wide d) m') lawful
-        (same_holds note (inner_meaning (wide c) m) called.config called.begun called.loose at.lies.holds) room goes wrote still flushed);
-  }, called_tight note c d m m' at.lies.images finds.core at.lies.committed trust finds.free)
+  write_done b lawful room goes wrote still flushed up trust = (
+    nexts,
+    record {
+      state = at.state;
+      up = up.after;
+      lies = lies_called n note c d m m' at.lies two (rack_units c d m m' one two loses.disks) (rack_size c d m m' one two loses.disks) finds.core
+          (note_write (plain_write v block bytes) called) refl refl refl
+          (write_holds called v block bytes (inner_meaning (wide c) m) b (inner_meaning (wide d) m') lawful
+          (same_holds note (inner_meaning (wide c) m) called.config called.begun called.loose at.lies.holds) room goes wrote still flushed);
+    },
+    called_tight note c d m m' at.lies.images finds.core at.lies.committed trust finds.free,
+  )
 
 -- two calls over a rack, whose units are its disks
 rack_rises : (m m' : Meaning) → IsRack m → IsRack m' → ((disk : ℕ) → m.disk_faults disk ≤ m'.disk_faults disk) → (u : ℕ) → m.faults u ≤ m'.faults u

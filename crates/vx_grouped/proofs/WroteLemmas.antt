@@ -76,7 +76,7 @@ module _ {R : Type 0} {g : Ghosts R} (n : Node) (note : GroupNode) (v b : ℕ) (
     }
 
     -- a write that is done
-    done_by : PlainWrites v b bytes group.core (laid_disks group) new.core (laid_disks new) (Ok tt) → WriteLeaves n note own new.core (laid_disks new) (Ok tt) → PlainWrote n note own (Up group) (Up new) (Ok tt)
+    done_by : PlainWrites v b bytes group.core (laid_disks group) new.core (laid_disks new) (Ok tt) → WriteLeaves {T = Unit {0}} n note own new.core (laid_disks new) (Ok tt) → PlainWrote n note own (Up group) (Up new) (Ok tt)
     done_by it leaves = (
       note_called leaves.0 new.core note,
       called_settles leaves.0 new.core note leaves.2,

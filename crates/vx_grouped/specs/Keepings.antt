@@ -5,7 +5,7 @@ use Rattle.vx_disk.specs.Shelf.{Meaning}
 use Rattle.vx_history.specs.Groups.{BlockMay, GroupNode}
 
 -- block by block whether what was found is what was to be written; false behind that
-pub record AreKept (seen bytes : List ℕ) (bits : List Bool) : Type 0 where
+pub record BytesKept (seen bytes : List ℕ) (bits : List Bool) : Type 0 where
   pub each : (k : ℕ) → 512 * k < length bytes → slice_get bits k ≡ Some (bytes_eq (block_of seen k) (block_of bytes k))
   pub rest : (k : ℕ) → length bytes ≤ 512 * k → k < 16 → slice_get bits k ≡ Some false
 

@@ -5,7 +5,7 @@ ghost use Rattle.vx_disk.specs.Shelf.{Fits, Goes, Nothing};
 ghost use Rattle.vx_group.specs.Holding.{wide};
 ghost use Rattle.vx_group.specs.Stands.{inner_meaning};
 ghost use Rattle.vx_grouped.specs.GroupNotes.{IsGroupAt};
-ghost use Rattle.vx_grouped.specs.Keepings.{AreKept, KeepsPlain};
+ghost use Rattle.vx_grouped.specs.Keepings.{BytesKept, KeepsPlain};
 ghost use Rattle.vx_grouped.specs.Plain.{HoldsPlain};
 ghost use Rattle.vx_history.specs.Groups.{GroupNode};
 ghost use Rattle.vx_history.specs.World.{Node};
@@ -32,7 +32,7 @@ fn compared(found: &[u8], bytes: &[u8]) -> [bool; MOST_CALL_BLOCKS as usize]
     requires same { length found.now ≡ length bytes.now }
     requires few { length bytes.now ≤ MOST_CALL_BYTES }
     requires whole { length bytes.now % 512 ≡ 0 }
-    ensures { AreKept found.now bytes.now result }
+    ensures { BytesKept found.now bytes.now result }
 {
     let mut bits = [false; MOST_CALL_BLOCKS as usize];
     for block in 0..bytes.len() / BLOCK {

@@ -12,3 +12,4 @@ pub mod DirtyLemmas
 pub mod SeenLemmas
 pub mod ZeroRuns
 pub mod BeginLemmas
+pub mod GoneLemmas

@@ -100,6 +100,7 @@ begins_none v c m = record {
   goes = same_Goes (inner_meaning (wide c) m);
   loses = along_none c.inner.config m;
   finds = still_group c m;
+  trusts = record { each = λ w log told. told };
   still = λ w p. refl;
   on = λ w p is. is;
   units = same_units m;
@@ -111,6 +112,7 @@ begins_then v c d e m0 m1 m2 one two = record {
   goes = then_nothing Nothing (inner_meaning (wide c) m0) (inner_meaning (wide d) m1) (inner_meaning (wide e) m2) one.goes two.goes;
   loses = then_along c.inner.config d.inner.config e.inner.config m0 m1 m2 one.loses two.loses;
   finds = then_group c d e m0 m1 m2 one.finds two.finds;
+  trusts = record { each = λ w log told. two.trusts.each w log (one.trusts.each w log told) };
   still = λ w p. two.still w p ∙ one.still w p;
   on = λ w p is. one.on w p (two.on w p is);
   units = then_units m0 m1 m2 one.units two.units;

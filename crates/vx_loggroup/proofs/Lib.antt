@@ -26,3 +26,5 @@ pub mod TouchLemmas
 pub mod UsesLemmas
 pub mod HeldMaps
 pub mod MirrorLemmas
+pub mod KeepingLemmas
+pub mod KeepingCalls

@@ -196,7 +196,7 @@ opens_by meaning moment old k law0 law can it r tells a mended resting ls m2 new
     committed = fin.trust it.resumed.committed;
     newest = opened_newest old (meaning moment) k law it m2 new goes law2 o.core fin.settles.finds (fin.trust it.resumed.committed);
     free = fin.settles.finds.free refl;
-    openly = λ un. fin.settles.finds.core.openly (λ open. absurd (settled_not k.core.unsettled it.resumed.settled open)) un;
+    openly = λ un. fin.settles.finds.core.openly (λ missed. absurd (settled_not k.core.unsettled it.resumed.settled missed)) un;
     up = fin.up;
     same = settled_units old (meaning moment) k law0 law can it r tells ls m2 new drls long goes law2 o.core fin.settles;
     counts = (settled_loses old (meaning moment) k law0 law can it r tells ls m2 new drls long goes law2 o.core fin.settles).rises;

@@ -37,7 +37,11 @@ lies_well c (Some s) = not (failed_at c.disks s.disk)
 unfoldable pub uses_log : Config → List Logs → ℕ → VolumeLog → Bool
 uses_log c logs v log = in_memory logs v log && (log_trusted c v log && lies_well c (log_place c v log))
 
--- A log in use stays in use, or the count of its disk rose, or the shelf is down, or no serial is left to commit that a log is lost.
+-- a log in use stays in use, or the count of its disk rose, or the shelf is down
+pub record LogsStay (c d : Config) (l k : List Logs) (old new : Meaning) : Type 0 where
+  pub each : (v : ℕ) (log : VolumeLog) (s : Subdisk) → log_place c v log ≡ Some s → uses_log c l v log ≡ true → (uses_log d k v log ≡ true) ⊎ Rose (old.faults s.disk) (new.faults s.disk) ⊎ IsTrue new.down
+
+-- The same of a group, or no serial is left to commit that a log is lost.
 pub record LogsKeep (c d : GroupCore) (l k : List Logs) (old new : Meaning) : Type 0 where
   pub each : (v : ℕ) (log : VolumeLog) (s : Subdisk) → log_place c.inner.config v log ≡ Some s → uses_log c.inner.config l v log ≡ true
       → (uses_log d.inner.config k v log ≡ true) ⊎ Rose (old.faults s.disk) (new.faults s.disk) ⊎ IsTrue new.down ⊎ (greatest ≤ d.inner.config.serial + 9)

@@ -1,5 +1,5 @@
 // A plex of a volume whose logs may not have begun, that is detached.
-ghost use Rattle.vx_loggroup.specs.Keeping.{LogsKeep};
+ghost use Rattle.vx_loggroup.specs.Keeping.{LogsKeep, LogsStay};
 ghost use Rattle.vx_group.specs.Finds.{GroupFinds};
 ghost use Rattle.std.specs.Prelude.{◌≡◌, ℕ, Err, false, IfErr, IsOk, IsTrue, List, None, OnOk, Some, true};
 ghost use Rattle.vx_copies.specs.Commits.{MoreFailed};
@@ -56,7 +56,7 @@ fn begin_before<S: Shelf>(
     ensures first { LogsFirst vol (region_count (wide core.old).config vol) logs.old.items logs.new.items }
     ensures refused { (no : NoValue) → det_refusal core.old.inner.config vol plex ≡ Some no → IsOk result × (core.new ≡ core.old) × (shelf.new ≡ shelf.old) }
     ensures may { det_refusal core.old.inner.config vol plex ≡ None → OnOk result (det_refusal core.new.inner.config vol plex ≡ None) }
-    ensures keeps { LogsKeep core.old core.new logs.old.items logs.new.items (S.meaning shelf.old) (S.meaning shelf.new) }
+    ensures stays { LogsStay core.old.inner.config core.new.inner.config logs.old.items logs.new.items (S.meaning shelf.old) (S.meaning shelf.new) }
     ensures trust { OnOk result (core.old.inner.committed ≡ true → core.new.inner.committed ≡ true) }
     ensures agreed { IfErr result (λ e. core.old.inner.committed ≡ true → core.new.inner.agreed ≡ true) }
     ensures finds { GroupFinds core.old core.new (S.meaning shelf.old) (S.meaning shelf.new) }

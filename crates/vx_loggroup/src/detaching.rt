@@ -1,5 +1,5 @@
 // A plex of a group with logs that is detached, and whose map begins then.
-ghost use Rattle.vx_loggroup.specs.Keeping.{LogsKeep, logs_at};
+ghost use Rattle.vx_loggroup.specs.Keeping.{LogsKeep, LogsStay, logs_at};
 ghost use Rattle.vx_kept.specs.Finds.{FindsFrom, NoConfiguration};
 ghost use Rattle.vx_group.specs.Finds.{GroupFinds};
 ghost use Rattle.std.specs.Prelude.{◌≡◌, ◌<◌, ◌≤◌, ℕ, Err, false, IfErr, IsTrue, None, OnOk, Some, length, true};
@@ -13,6 +13,7 @@ ghost use Rattle.vx_group.specs.Loses.{LosesPlexes, SameParts};
 ghost use Rattle.vx_kept.specs.Keeping.{frame_at};
 ghost use Rattle.vx_loggroup.specs.Attaching.{fmr_at};
 ghost use Rattle.vx_group.specs.Stands.{inner_meaning};
+ghost use Rattle.vx_grouplogs.specs.Gone.{LogsDrop};
 ghost use Rattle.vx_groupmaps.specs.Missing.{OnMaps};
 ghost use Rattle.vx_logged.specs.Logged.{Known, LogOn, OthersOn, TrustsIn};
 ghost use Rattle.vx_loggroup.specs.Detaching.{LogsBegin, MapIsEmpty, MapsBegin, ReadsAlike};
@@ -58,6 +59,7 @@ fn begin_one<S: Shelf>(
     ensures begins { LogsBegin plex one.old one.new }
     ensures empty { OnOk result (MapIsEmpty core.now.inner.config vol plex one.new.fmr) }
     ensures less { FindsFrom NoConfiguration (S.meaning shelf.old) (S.meaning shelf.new) }
+    ensures drops { LogsDrop core.now.inner.config vol one.old one.new (S.meaning shelf.old) (S.meaning shelf.new) }
     ensures down { IfErr result (λ stop. (stop ≡ Refused DownNo) × IsTrue (S.meaning shelf.new).down) }
 {
     match begin_map(one, &core.inner.config, vol, shelf, plex) {
@@ -89,6 +91,7 @@ fn begin_missing<S: Shelf>(
     ensures maps { MapsBegin vol plex logs.old.items logs.new.items }
     ensures empty { OnOk result (MapIsEmpty core.now.inner.config vol plex (fmr_at logs.new.items vol)) }
     ensures less { FindsFrom NoConfiguration (S.meaning shelf.old) (S.meaning shelf.new) }
+    ensures stays { LogsStay core.now.inner.config core.now.inner.config logs.old.items logs.new.items (S.meaning shelf.old) (S.meaning shelf.new) }
     ensures down { IfErr result (λ stop. (stop ≡ Refused DownNo) × IsTrue (S.meaning shelf.new).down) }
 {
     // What is known of the plexes stays as it is.

@@ -1,12 +1,9 @@
 // A group that keeps the dirty region logs of its volumes.
 ghost use Rattle.vx_loggroup.specs.Keeping.{LogsKeep};
 ghost use Rattle.vx_group.specs.Finds.{BackFinds, CoreFinds, GroupFinds};
-ghost use Rattle.std.specs.Prelude.{◌≡◌, ◌≢◌, ◌⊎◌, ◌-◌, ◌<◌, ◌≤◌, ℕ, Err, IfErr, IfOk, IfSome, IsTrue, List, None, Ok, OnOk, Some, true, false};
+ghost use Rattle.std.specs.Prelude.{◌≡◌, ◌⊎◌, ◌-◌, ◌<◌, ◌≤◌, ℕ, Err, IfErr, IfOk, IfSome, IsTrue, List, None, Ok, OnOk, Some, true, false};
 ghost use Rattle.vx_config.specs.Table.{greatest};
 ghost use Rattle.vx_copyio.specs.Labelling.{HasSmall};
-ghost use Rattle.vx_disk.specs.Causes.{OnDisks, WithDisks};
-ghost use Rattle.vx_disk.specs.Disks.{Crashed, SameBlocks, Untouched};
-ghost use Rattle.vx_disk.specs.Racks.{Alike, Stopped};
 ghost use Rattle.vx_disk.specs.Shelf.{Goes, Nothing};
 ghost use Rattle.vx_group.specs.Attaches.{GroupAttachEnds, att_refusal, missed_regions};
 ghost use Rattle.vx_group.specs.Calls.{GivesBack, GroupAttaches, GroupCreated, GroupDeported, GroupStays, ImportsAgain, IsFull, KeepsUnits};
@@ -31,8 +28,7 @@ ghost use Rattle.vx_loggroup.specs.Fresh.{FreshStands, LogsFirst};
 ghost use Rattle.vx_loggroup.specs.Marks.{region_count};
 ghost use Rattle.vx_loggroup.specs.Mirrors.{MirrorsKeep, names_none, names_plex};
 ghost use Rattle.vx_loggroup.specs.Opens.{DeportTells, LoggedImported};
-ghost use Rattle.vx_logimport.specs.Rests.{LogsTell, RestsNone};
-ghost use Rattle.vx_logimport.specs.declared.rested.Rested.{Rested as RestedValue};
+ghost use Rattle.vx_logimport.specs.Rests.{LogsTell};
 ghost use Rattle.vx_logs.specs.declared.logs.Logs.{Logs as LogsValue};
 ghost use Rattle.vx_model.specs.declared.errors.Stop.TheVariants.{No as Refused};
 ghost use Rattle.vx_model.specs.declared.limits.TheConstants.{MOST_DISKS};
@@ -40,16 +36,14 @@ ghost use Rattle.vx_model.specs.declared.no.No.{No as NoValue};
 ghost use Rattle.vx_model.specs.declared.no.No.TheVariants.{Size};
 ghost use Rattle.vx_volume.specs.Plexes.{active};
 
-use crate::crashing::crash_whole;
 use crate::deporting::deport_whole;
 use crate::detached::det_fresh;
 use crate::failed_maps::att_held;
 use crate::making::make_fresh;
 use crate::opening::{Opened, open_logged};
-use crate::racking::{fail_whole, fuse_whole};
 use std::alloc::Global;
 use vx_config::Config;
-use vx_disk::{Rack, Shelf};
+use vx_disk::Shelf;
 use vx_group::{GroupCore, start};
 use vx_layout::Shape;
 use vx_logimport::Rested;
@@ -334,70 +328,5 @@ impl<S: Shelf> LoggedGroup<S> {
             fresh,
             stopped,
         }
-    }
-}
-
-impl<R: Rack> LoggedGroup<R> {
-    /// Crashes the disks, and hands them out, down. To the volumes this is a crash too. Where imports agree, and logs are not stopped, the disks
-    /// may be imported again by their logs once they are revived.
-    pub fn crash(self, pick: u64) -> R
-        ensures stopped { Stopped (R.meaning self.shelf) (R.meaning result) }
-        ensures disks { OnDisks (R.meaning self.shelf).disks (R.meaning result).disks (Crashed (R.meaning self.shelf).size pick) }
-        ensures volumes { Stopped (inner_meaning (wide self.core) (R.meaning self.shelf)) (inner_meaning (wide self.core) (R.meaning result)) }
-        ensures can { self.core.inner.agreed ≡ true → CanImport (R.meaning result) }
-        ensures tells { self.stopped ≡ false → (r : RestedValue) → RestsNone r → LogsTell r (R.meaning result) }
-    {
-        let mut rack = self.shelf;
-        let core = self.core;
-        let logs = self.logs;
-        let alike = self.alike;
-        crash_whole(&mut rack, &core, &logs, &alike, self.stopped, pick);
-        rack
-    }
-
-    /// Makes each later call on a disk fail, or ends that. The group stays as it is, and to its volumes nothing changes.
-    pub fn fail(&mut self, disk: u32, on: bool)
-        requires inside { disk < (R.meaning self.old.shelf).units }
-        ensures core { self.new.core ≡ self.old.core }
-        ensures goes { Goes Nothing (R.meaning self.old.shelf) (R.meaning self.new.shelf) }
-        ensures alike { Alike (R.meaning self.old.shelf) (R.meaning self.new.shelf) }
-        ensures down { (R.meaning self.new.shelf).down ≡ (R.meaning self.old.shelf).down }
-        ensures armed { (R.meaning self.new.shelf).armed ≡ (R.meaning self.old.shelf).armed }
-        ensures disks { WithDisks (R.meaning self.old.shelf).disks (R.meaning self.new.shelf).disks (λ o n. Untouched o n × (n.failing disk ≡ on) × ((u : ℕ) → u ≢ disk → n.failing u ≡ o.failing u)) }
-        ensures volumes { Alike (inner_meaning (wide self.old.core) (R.meaning self.old.shelf)) (inner_meaning (wide self.new.core) (R.meaning self.new.shelf)) }
-        ensures still { Goes Nothing (inner_meaning (wide self.old.core) (R.meaning self.old.shelf)) (inner_meaning (wide self.new.core) (R.meaning self.new.shelf)) }
-    {
-        fail_whole(
-            &mut self.shelf,
-            &self.core,
-            &self.logs,
-            &self.alike,
-            &self.fresh,
-            self.stopped,
-            disk,
-            on,
-        );
-    }
-
-    /// Lets that many writes and flushes of the disks pass; reads do not count. The next changes nothing and is a crash. The group stays as it is,
-    /// and to its volumes nothing changes.
-    pub fn fuse(&mut self, calls: u64, pick: u64)
-        ensures core { self.new.core ≡ self.old.core }
-        ensures alike { Alike (R.meaning self.old.shelf) (R.meaning self.new.shelf) }
-        ensures down { (R.meaning self.new.shelf).down ≡ (R.meaning self.old.shelf).down }
-        ensures armed { IsTrue (R.meaning self.new.shelf).armed }
-        ensures disks { OnDisks (R.meaning self.old.shelf).disks (R.meaning self.new.shelf).disks (λ o n. SameBlocks o n × (n.fuse ≡ Some (calls, pick))) }
-        ensures volumes { Alike (inner_meaning (wide self.old.core) (R.meaning self.old.shelf)) (inner_meaning (wide self.new.core) (R.meaning self.new.shelf)) }
-    {
-        fuse_whole(
-            &mut self.shelf,
-            &self.core,
-            &self.logs,
-            &self.alike,
-            &self.fresh,
-            self.stopped,
-            calls,
-            pick,
-        );
     }
 }

@@ -2,7 +2,7 @@
 //!
 //! Of a block of which the log of its volume has not the region, each plex that is ACTIVE has the same, whatever a crash leaves, at each moment
 //! between calls; so an import copies the regions alone that a log has. A log has no region but those of writes since the last import that
-//! took its marks off.
+//! took its marks off. A log in use goes out of use only in a call in which one on its disk failed, or where the shelf is down or no serial is left.
 #![tactic(auto)]
 
 mod alike;
@@ -21,6 +21,7 @@ mod keeping;
 mod losing;
 mod making;
 mod opening;
+mod racked;
 mod racking;
 mod resting;
 mod shelving;

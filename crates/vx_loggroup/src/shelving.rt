@@ -67,7 +67,8 @@ impl<S: Shelf> Shelf for LoggedGroup<S> {
 
     /// Writes to each plex that is ACTIVE; the logs of a volume begin in its first write. The regions of the run are durably marked first, and no
     /// others: as dirty, and as missed by each plex that is STALE; a log of which the disk fails is lost by a commit before a plex is written. A plex that fails in the write misses these regions too.
-    /// Behind a refusal they are noted as missed by each plex.
+    /// Behind a refusal they are noted as missed by each plex. Behind an Ok each log of the volume is in memory or held as lost, unless logs are stopped or
+    /// no serial is left.
     fn write(&mut self, unit: u32, block: u64, bytes: &[u8]) -> Result<(), ShelfError>
         requires { Fits (inner_meaning (wide self.old.core) (S.meaning self.old.shelf)) unit block (length bytes.now) }
         ensures goes { Goes (Written unit block bytes.now) (inner_meaning (wide self.old.core) (S.meaning self.old.shelf)) (inner_meaning (wide self.new.core) (S.meaning self.new.shelf)) }

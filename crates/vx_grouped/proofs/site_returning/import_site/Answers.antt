@@ -3,7 +3,8 @@ use Rattle.std.proofs.Common.{◌∙◌, IsTrue, subst, sym}
 use Rattle.vx_group.proofs.CallLemmas.{not_down}
 use Rattle.vx_untold.specs.Shades.{rack_of, shade_lawful, shade_meaning, shade_rack}
 use Rattle.vx_grouped.proofs.SinceReturns.{return_all, return_at, return_calls, return_none, return_then}
-use Rattle.vx_grouped.proofs.SiteReturnLemmas.{imported_down, imported_early, imported_late, imported_up, is_up, still_can}
+use Rattle.vx_grouped.proofs.SiteReturnLemmas.{imported_down, imported_early, imported_late, imported_up, is_up}
+use Rattle.vx_grouped.proofs.StopLemmas.{still_can}
 use Rattle.vx_grouped.proofs.GivenUpLemmas.{rested_tells}
 use Rattle.vx_grouped.proofs.TellLemmas.{alike_tells, early_tells, fallen_tells}
 use Rattle.vx_grouped.proofs.BringLemmas.{alike_self}

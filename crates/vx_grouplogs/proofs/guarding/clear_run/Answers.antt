@@ -1,6 +1,7 @@
 -- The log of a volume behind marks that were taken off.
 use Rattle.std.proofs.Common.{None, refl}
 use Rattle.vx_grouplogs.proofs.DirtyLemmas.{gone_fewer, marks_fewer, marks_off}
+use Rattle.vx_grouplogs.proofs.GoneLemmas.{drops_cleared, drops_down}
 use Rattle.vx_grouplogs.proofs.KnowActs.{know_logs, know_none, know_same}
 use Rattle.vx_grouplogs.proofs.OnCalls.{clear_down, on_gone, on_others}
 use Rattle.vx_grouplogs.proofs.guarding.clear_run.Goals as goal
@@ -56,3 +57,12 @@ returns-in-Ok-clause-same g c = c.in-Ok.ensures.clears.1
 
 pub returns-in-Err-clause-maps : goal.returns-in-Err-clause-maps
 returns-in-Err-clause-maps g c = λ spare know. know_none c.args.config.now c.args.vol spare (record { drl = None; fmr = None }) (g.S.Shelf.meaning c.clear_marks.new.shelf) refl
+
+pub returns-in-Ok-clause-drops : goal.returns-in-Ok-clause-drops
+returns-in-Ok-clause-drops g c =
+    drops_cleared c.args.config.now c.args.vol c.in-Ok.field-0.drl c.args.logs.now c.clear_marks.new.logs (g.S.Shelf.meaning c.args.shelf.now) (g.S.Shelf.meaning c.clear_marks.new.shelf) c.requires.on.fits c.in-Ok.ensures.clears.0 c.in-Ok.ensures.clears.1
+
+pub returns-in-Err-clause-drops : goal.returns-in-Err-clause-drops
+returns-in-Err-clause-drops g c =
+    drops_down c.args.config.now c.args.vol c.args.logs.now (g.S.Shelf.meaning c.args.shelf.now) (g.S.Shelf.meaning c.clear_marks.new.shelf)
+    (clear_down c.args.logs.now c.clear_marks.new.logs (g.S.Shelf.meaning c.args.shelf.now) (g.S.Shelf.meaning c.clear_marks.new.shelf) c.in-Err.no c.in-Err.ensures.clears)

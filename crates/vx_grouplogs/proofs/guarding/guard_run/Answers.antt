@@ -1,6 +1,7 @@
 -- The log of a volume behind its marks.
 use Rattle.std.proofs.Common.{◌+◌, ◌-◌, ◌/◌, None, refl, arith}
 use Rattle.vx_grouplogs.proofs.DirtyLemmas.{gone_only, marks_only}
+use Rattle.vx_grouplogs.proofs.GoneLemmas.{drops_down, drops_marked}
 use Rattle.vx_grouplogs.proofs.OnCalls.{mark_down, on_gone, on_others}
 use Rattle.vx_grouplogs.proofs.KnowActs.{know_none, logs_off_plex}
 use Rattle.vx_groupmaps.proofs.BetweenLemmas.{goes_reads}
@@ -71,3 +72,12 @@ pub returns-in-Ok-clause-missed : goal.returns-in-Ok-clause-missed
 returns-in-Ok-clause-missed g c =
     noted_holds c.args.config.now c.requires.checked c.args.vol (omega (arith, c.requires.some, c.requires.within)) c.args.logs.now c.requires.on.fits (g.S.Shelf.meaning c.args.shelf.now) c.requires.disks (c.args.block / 64) ((c.args.block + c.args.count - 1) / 64)
     c.mark_run.new.logs (g.S.Shelf.meaning c.mark_run.new.shelf) (omega (arith, c.requires.some, c.requires.within)) (Ok c.in-Ok.field-0) c.in-Ok.ensures.marks
+
+pub returns-in-Ok-clause-drops : goal.returns-in-Ok-clause-drops
+returns-in-Ok-clause-drops g c =
+    drops_marked c.args.config.now c.args.vol (c.args.block / 64) ((c.args.block + c.args.count - 1) / 64) c.in-Ok.field-0 c.args.logs.now c.mark_run.new.logs (g.S.Shelf.meaning c.args.shelf.now) (g.S.Shelf.meaning c.mark_run.new.shelf) c.requires.on.fits c.in-Ok.ensures.marks
+
+pub returns-in-Err-clause-drops : goal.returns-in-Err-clause-drops
+returns-in-Err-clause-drops g c =
+    drops_down c.args.config.now c.args.vol c.args.logs.now (g.S.Shelf.meaning c.args.shelf.now) (g.S.Shelf.meaning c.mark_run.new.shelf)
+    (mark_down c.args.config.now c.args.vol (c.args.block / 64) ((c.args.block + c.args.count - 1) / 64) c.args.logs.now c.mark_run.new.logs (g.S.Shelf.meaning c.args.shelf.now) (g.S.Shelf.meaning c.mark_run.new.shelf) c.in-Err.no c.in-Err.ensures.marks)

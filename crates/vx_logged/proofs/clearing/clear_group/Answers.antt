@@ -16,6 +16,8 @@ use Rattle.vx_logged.proofs.StandLemmas.{alike_goes, config_is, if_ok_any, inner
 use Rattle.vx_group.proofs.LoseLemmas.{along_same, then_along}
 use Rattle.vx_group.proofs.UnitLemmas.{goes_units, then_units}
 use Rattle.vx_group.proofs.FindingLemmas.{then_group, idle_group}
+use Rattle.vx_logged.proofs.GoneLogs.{inner_places, trusts_in, trusts_then}
+use Rattle.vx_grouplogs.proofs.GoneLemmas.{drop_before, drop_behind, drop_same}
 use Rattle.vx_logged.proofs.clearing.clear_group.Goals as goal
 
 pub clear_run-requires-clause-checked : goal.clear_run-requires-clause-checked
@@ -260,3 +262,44 @@ returns-clause-finds g c =
     c.ready_group.ensures.finds
     (idle_group c.ready_group.new.core (g.S.Shelf.meaning c.ready_group.new.shelf) (g.S.Shelf.meaning c.clear_run.new.shelf) (logs_finds c.ready_group.new.core c.args.vol (g.S.Shelf.meaning c.ready_group.new.shelf) (g.S.Shelf.meaning c.clear_run.new.shelf) (c.in-Ok.ensures.none c.if-not-ready.false) c.ready_group.ensures.stands c.clear_run.ensures.goes (g.met.S.Shelf.lawful c.ready_group.new.shelf) (g.met.S.Shelf.lawful c.clear_run.new.shelf))))
     c.keep_log.ensures.finds
+
+pub returns-in-Err-clause-drops : goal.returns-in-Err-clause-drops
+returns-in-Err-clause-drops g c =
+    drop_same (wide c.args.core.now).config c.args.vol c.args.logs.now (g.S.Shelf.meaning c.args.shelf.now) (g.S.Shelf.meaning c.ready_group.new.shelf)
+
+pub returns-in-Err-clause-trusts : goal.returns-in-Err-clause-trusts
+returns-in-Err-clause-trusts g c =
+    trusts_in c.args.vol c.args.logs.now c.args.core.now.inner.config c.ready_group.new.core.inner.config c.ready_group.ensures.trusts
+
+pub returns-then-not-ready-clause-drops : goal.returns-then-not-ready-clause-drops
+returns-then-not-ready-clause-drops g c =
+    drop_same (wide c.args.core.now).config c.args.vol c.args.logs.now (g.S.Shelf.meaning c.args.shelf.now) (g.S.Shelf.meaning c.ready_group.new.shelf)
+
+pub returns-then-not-ready-clause-trusts : goal.returns-then-not-ready-clause-trusts
+returns-then-not-ready-clause-trusts g c =
+    trusts_in c.args.vol c.args.logs.now c.args.core.now.inner.config c.ready_group.new.core.inner.config c.ready_group.ensures.trusts
+
+pub returns-then-blocks-eq0-clause-drops : goal.returns-then-blocks-eq0-clause-drops
+returns-then-blocks-eq0-clause-drops g c =
+    drop_same (wide c.args.core.now).config c.args.vol c.args.logs.now (g.S.Shelf.meaning c.args.shelf.now) (g.S.Shelf.meaning c.ready_group.new.shelf)
+
+pub returns-then-blocks-eq0-clause-trusts : goal.returns-then-blocks-eq0-clause-trusts
+returns-then-blocks-eq0-clause-trusts g c =
+    trusts_in c.args.vol c.args.logs.now c.args.core.now.inner.config c.ready_group.new.core.inner.config c.ready_group.ensures.trusts
+
+pub returns-in-Err-clear_run-clause-drops : goal.returns-in-Err-clear_run-clause-drops
+returns-in-Err-clear_run-clause-drops g c =
+    drop_behind (wide c.args.core.now).config c.ready_group.new.core.inner.config c.args.vol c.args.logs.now c.clear_run.new.logs (g.S.Shelf.meaning c.args.shelf.now) (g.S.Shelf.meaning c.ready_group.new.shelf) (g.S.Shelf.meaning c.clear_run.new.shelf) (inner_places c.args.core.now c.ready_group.new.core c.args.vol (c.in-Ok.ensures.none c.if-not-ready.false) c.ready_group.ensures.narrow) c.ready_group.ensures.loses.rises c.clear_run.ensures.drops
+
+pub returns-in-Err-clear_run-clause-trusts : goal.returns-in-Err-clear_run-clause-trusts
+returns-in-Err-clear_run-clause-trusts g c =
+    trusts_in c.args.vol c.clear_run.new.logs c.args.core.now.inner.config c.ready_group.new.core.inner.config c.ready_group.ensures.trusts
+
+pub returns-clause-drops : goal.returns-clause-drops
+returns-clause-drops g c =
+    drop_before (wide c.args.core.now).config c.args.vol c.args.logs.now c.clear_run.new.logs (g.S.Shelf.meaning c.args.shelf.now) (g.S.Shelf.meaning c.clear_run.new.shelf) (g.S.Shelf.meaning c.keep_log.new.shelf) c.keep_log.ensures.loses.rises c.keep_log.ensures.goes.falls
+    (drop_behind (wide c.args.core.now).config c.ready_group.new.core.inner.config c.args.vol c.args.logs.now c.clear_run.new.logs (g.S.Shelf.meaning c.args.shelf.now) (g.S.Shelf.meaning c.ready_group.new.shelf) (g.S.Shelf.meaning c.clear_run.new.shelf) (inner_places c.args.core.now c.ready_group.new.core c.args.vol (c.in-Ok.ensures.none c.if-not-ready.false) c.ready_group.ensures.narrow) c.ready_group.ensures.loses.rises c.clear_run.ensures.drops)
+
+pub returns-clause-trusts : goal.returns-clause-trusts
+returns-clause-trusts g c =
+    trusts_then c.args.vol c.clear_run.new.logs c.args.core.now.inner.config c.ready_group.new.core.inner.config c.keep_log.new.core.inner.config (trusts_in c.args.vol c.clear_run.new.logs c.args.core.now.inner.config c.ready_group.new.core.inner.config c.ready_group.ensures.trusts) c.keep_log.ensures.trusts

@@ -12,6 +12,8 @@ use Rattle.vx_groupmaps.proofs.KnowLemmas.{note_same}
 use Rattle.vx_logged.proofs.StandLemmas.{cause_to, each_on, flushed_alike, flushed_then, others_each, others_then, same_fewer}
 use Rattle.vx_group.proofs.LoseLemmas.{then_along}
 use Rattle.vx_group.proofs.FindingLemmas.{then_group}
+use Rattle.vx_logged.proofs.GoneLogs.{trusts_in, trusts_then}
+use Rattle.vx_grouplogs.proofs.GoneLemmas.{drop_behind, drop_same}
 use Rattle.vx_logged.proofs.flushing.flush_cleared.Goals as goal
 
 pub clear_group-requires-clause-there : goal.clear_group-requires-clause-there
@@ -152,3 +154,35 @@ returns-in-Err-clear_group-clause-finds g c =
     then_group c.args.core.now c.flush_group.new.core c.clear_group.new.core (g.S.Shelf.meaning c.args.shelf.now) (g.S.Shelf.meaning c.flush_group.new.shelf) (g.S.Shelf.meaning c.clear_group.new.shelf)
     (c.flush_group.ensures.finds)
     c.clear_group.ensures.finds
+
+pub returns-in-Err-clause-drops : goal.returns-in-Err-clause-drops
+returns-in-Err-clause-drops g c =
+    drop_same (wide c.args.core.now).config c.args.vol c.args.logs.now (g.S.Shelf.meaning c.args.shelf.now) (g.S.Shelf.meaning c.flush_group.new.shelf)
+
+pub returns-in-Err-clause-trusts : goal.returns-in-Err-clause-trusts
+returns-in-Err-clause-trusts g c =
+    trusts_in c.args.vol c.args.logs.now c.args.core.now.inner.config c.flush_group.new.core.inner.config c.flush_group.ensures.logs
+
+pub returns-then-not-sure-clause-drops : goal.returns-then-not-sure-clause-drops
+returns-then-not-sure-clause-drops g c =
+    drop_same (wide c.args.core.now).config c.args.vol c.args.logs.now (g.S.Shelf.meaning c.args.shelf.now) (g.S.Shelf.meaning c.flush_group.new.shelf)
+
+pub returns-then-not-sure-clause-trusts : goal.returns-then-not-sure-clause-trusts
+returns-then-not-sure-clause-trusts g c =
+    trusts_in c.args.vol c.args.logs.now c.args.core.now.inner.config c.flush_group.new.core.inner.config c.flush_group.ensures.logs
+
+pub returns-in-Ok-clear_group-clause-drops : goal.returns-in-Ok-clear_group-clause-drops
+returns-in-Ok-clear_group-clause-drops g c =
+    drop_behind (wide c.args.core.now).config (wide c.flush_group.new.core).config c.args.vol c.args.logs.now c.clear_group.new.logs (g.S.Shelf.meaning c.args.shelf.now) (g.S.Shelf.meaning c.flush_group.new.shelf) (g.S.Shelf.meaning c.clear_group.new.shelf) (c.flush_group.ensures.acts.shape.logs c.args.vol) c.flush_group.ensures.acts.acts.faults c.clear_group.ensures.drops
+
+pub returns-in-Ok-clear_group-clause-trusts : goal.returns-in-Ok-clear_group-clause-trusts
+returns-in-Ok-clear_group-clause-trusts g c =
+    trusts_then c.args.vol c.clear_group.new.logs c.args.core.now.inner.config c.flush_group.new.core.inner.config c.clear_group.new.core.inner.config (trusts_in c.args.vol c.clear_group.new.logs c.args.core.now.inner.config c.flush_group.new.core.inner.config c.flush_group.ensures.logs) c.clear_group.ensures.trusts
+
+pub returns-in-Err-clear_group-clause-drops : goal.returns-in-Err-clear_group-clause-drops
+returns-in-Err-clear_group-clause-drops g c =
+    drop_behind (wide c.args.core.now).config (wide c.flush_group.new.core).config c.args.vol c.args.logs.now c.clear_group.new.logs (g.S.Shelf.meaning c.args.shelf.now) (g.S.Shelf.meaning c.flush_group.new.shelf) (g.S.Shelf.meaning c.clear_group.new.shelf) (c.flush_group.ensures.acts.shape.logs c.args.vol) c.flush_group.ensures.acts.acts.faults c.clear_group.ensures.drops
+
+pub returns-in-Err-clear_group-clause-trusts : goal.returns-in-Err-clear_group-clause-trusts
+returns-in-Err-clear_group-clause-trusts g c =
+    trusts_then c.args.vol c.clear_group.new.logs c.args.core.now.inner.config c.flush_group.new.core.inner.config c.clear_group.new.core.inner.config (trusts_in c.args.vol c.clear_group.new.logs c.args.core.now.inner.config c.flush_group.new.core.inner.config c.flush_group.ensures.logs) c.clear_group.ensures.trusts

@@ -12,6 +12,7 @@ use Rattle.vx_logged.proofs.StandLemmas.{each_then, narrowed_then}
 use Rattle.vx_group.proofs.LoseLemmas.{then_along}
 use Rattle.vx_group.proofs.UnitLemmas.{then_units}
 use Rattle.vx_group.proofs.FindingLemmas.{then_group}
+use Rattle.vx_logged.proofs.GoneLogs.{trusts_then}
 use Rattle.vx_logged.proofs.keeping.keep_logs.Goals as goal
 
 pub returns-in-Ok-keep_map-clause-goes : goal.returns-in-Ok-keep_map-clause-goes
@@ -71,3 +72,27 @@ returns-in-Err-keep_map-clause-finds g c =
 pub returns-then-not-done-clause-finds : goal.returns-then-not-done-clause-finds
 returns-then-not-done-clause-finds g c =
     c.keep_log.ensures.finds
+
+pub returns-in-Err-clause-trusts : goal.returns-in-Err-clause-trusts
+returns-in-Err-clause-trusts g c =
+    c.keep_log.ensures.trusts
+
+pub returns-then-not-done-clause-trusts : goal.returns-then-not-done-clause-trusts
+returns-then-not-done-clause-trusts g c =
+    c.keep_log.ensures.trusts
+
+pub returns-in-Ok-keep_map-clause-trusts : goal.returns-in-Ok-keep_map-clause-trusts
+returns-in-Ok-keep_map-clause-trusts g c =
+    trusts_then c.args.vol c.args.logs.now c.args.core.now.inner.config c.keep_log.new.core.inner.config c.keep_map.new.core.inner.config c.keep_log.ensures.trusts c.keep_map.ensures.trusts
+
+pub returns-in-Err-keep_map-clause-trusts : goal.returns-in-Err-keep_map-clause-trusts
+returns-in-Err-keep_map-clause-trusts g c =
+    trusts_then c.args.vol c.args.logs.now c.args.core.now.inner.config c.keep_log.new.core.inner.config c.keep_map.new.core.inner.config c.keep_log.ensures.trusts c.keep_map.ensures.trusts
+
+pub returns-then-not-done-clause-spent : goal.returns-then-not-done-clause-spent
+returns-then-not-done-clause-spent g c =
+    λ is. c.in-Ok.ensures.spent c.if-not-done.true
+
+pub returns-in-Ok-keep_map-clause-spent : goal.returns-in-Ok-keep_map-clause-spent
+returns-in-Ok-keep_map-clause-spent g c =
+    λ is. absurd (let clash : true ≡ false = is in cc)

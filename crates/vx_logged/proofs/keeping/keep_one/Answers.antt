@@ -8,6 +8,7 @@ use Rattle.vx_group.proofs.UnitLemmas.{acts_units, same_units}
 use Rattle.vx_logged.proofs.StandLemmas.{each_on, each_same, narrowed_acts, narrowed_same}
 use Rattle.vx_group.proofs.LoseLemmas.{along_none}
 use Rattle.vx_group.proofs.FindingLemmas.{still_group}
+use Rattle.vx_logged.proofs.GoneLogs.{trusts_all, trusts_same}
 use Rattle.vx_logged.proofs.keeping.keep_one.Goals as goal
 
 pub returns-then-is_down-clause-logs : goal.returns-then-is_down-clause-logs
@@ -117,3 +118,43 @@ returns-clause-finds g c =
 pub returns-then-core-clause-finds : goal.returns-then-core-clause-finds
 returns-then-core-clause-finds g c =
     still_group c.args.core.now (g.S.Shelf.meaning c.args.shelf.now)
+
+pub returns-then-is_down-clause-trusts : goal.returns-then-is_down-clause-trusts
+returns-then-is_down-clause-trusts g c =
+    trusts_all c.args.vol c.args.log c.args.core.now.inner.config
+
+pub returns-then-has-clause-trusts : goal.returns-then-has-clause-trusts
+returns-then-has-clause-trusts g c =
+    trusts_all c.args.vol c.args.log c.args.core.now.inner.config
+
+pub returns-then-not-is_trusted-clause-trusts : goal.returns-then-not-is_trusted-clause-trusts
+returns-then-not-is_trusted-clause-trusts g c =
+    trusts_all c.args.vol c.args.log c.args.core.now.inner.config
+
+pub returns-then-core-clause-trusts : goal.returns-then-core-clause-trusts
+returns-then-core-clause-trusts g c =
+    trusts_all c.args.vol c.args.log c.args.core.now.inner.config
+
+pub returns-clause-trusts : goal.returns-clause-trusts
+returns-clause-trusts g c =
+    c.lose_group.ensures.logs
+
+pub returns-then-is_down-clause-stays : goal.returns-then-is_down-clause-stays
+returns-then-is_down-clause-stays g c =
+    λ has. trusts_same c.args.core.now.inner.config
+
+pub returns-then-has-clause-stays : goal.returns-then-has-clause-stays
+returns-then-has-clause-stays g c =
+    λ has. trusts_same c.args.core.now.inner.config
+
+pub returns-then-not-is_trusted-clause-stays : goal.returns-then-not-is_trusted-clause-stays
+returns-then-not-is_trusted-clause-stays g c =
+    λ has. trusts_same c.args.core.now.inner.config
+
+pub returns-then-core-clause-stays : goal.returns-then-core-clause-stays
+returns-then-core-clause-stays g c =
+    λ has. trusts_same c.args.core.now.inner.config
+
+pub returns-clause-stays : goal.returns-clause-stays
+returns-clause-stays g c =
+    λ has. absurd (let clash : true ≡ false = sym has ∙ c.if-has.false in cc)

@@ -1,5 +1,7 @@
 -- A group that is made ready.
-use Rattle.std.proofs.Common.{ℕ, Bool, List, ap, refl, subst, arith}
+use Rattle.std.proofs.Common.{◌≡◌, ◌∙◌, ℕ, Bool, List, None, Option, true, false, ap, refl, subst, sym, arith}
+use Rattle.std.specs.Prelude.{is_some, not}
+use Rattle.vx_group.specs.declared.group_core.Held.{Held}
 use Rattle.vx_disk.specs.Shelf.{Nothing}
 use Rattle.vx_group.specs.Blames.{CountsRise}
 use Rattle.vx_group.specs.Holding.{wide}
@@ -12,6 +14,7 @@ use Rattle.vx_group.proofs.LoseLemmas.{along_none, loses_none}
 use Rattle.vx_group.proofs.UnitLemmas.{acts_units, same_units}
 use Rattle.vx_kept.proofs.Chosen.{active_volumes}
 use Rattle.vx_group.proofs.FindingLemmas.{still_group, as_finds}
+use Rattle.vx_logged.proofs.GoneLogs.{ready_spent, trusts_same}
 use Rattle.vx_logged.proofs.readying.ready_group.Goals as goal
 
 pub returns-then-is_down-clause-logs : goal.returns-then-is_down-clause-logs
@@ -93,3 +96,24 @@ returns-in-Err-clause-finds g c =
       core = as_finds (wide c.args.core.now) (wide c.release.new.core) _ (g.S.Shelf.meaning c.args.shelf.now) (g.S.Shelf.meaning c.release.new.shelf) refl refl refl c.release.ensures.finds.core;
       free = c.release.ensures.finds.free;
     }
+
+pub returns-then-is_down-clause-trusts : goal.returns-then-is_down-clause-trusts
+returns-then-is_down-clause-trusts g c =
+    trusts_same c.args.core.now.inner.config
+
+pub returns-in-Ok-clause-trusts : goal.returns-in-Ok-clause-trusts
+returns-in-Ok-clause-trusts g c =
+    c.release.ensures.logs
+
+pub returns-in-Err-clause-trusts : goal.returns-in-Err-clause-trusts
+returns-in-Err-clause-trusts g c =
+    record { each = c.release.ensures.logs.each }
+
+pub returns-in-Ok-clause-spent : goal.returns-in-Ok-clause-spent
+returns-in-Ok-clause-spent g c =
+    λ is. ready_spent c.args.core.now c.release.new.core c.in-Ok.ensures.done (λ none. (c.release.ensures.full none).0) (λ none.
+    let was = c.is_none.ensures in
+    let on : not c.is_none.result ≡ true = ap not is in
+    let gone : is_some c.release.new.core.held ≡ false = ap (λ (o : Option Held). is_some o) none in
+    let turned : not (is_some c.release.new.core.held) ≡ true = ap not gone in
+    cc)

@@ -1,5 +1,5 @@
 -- `miss_all`: what `miss_run` asks; its clauses.
-use Rattle.std.proofs.Common.{◌≡◌, ◌∙◌, ◌+◌, ◌-◌, ◌/◌, Bool, None, refl, sym, ap, arith}
+use Rattle.std.proofs.Common.{◌≡◌, ◌∙◌, ◌+◌, ◌-◌, ◌/◌, Bool, None, refl, sym, ap, arith, false}
 use Rattle.vx_config.specs.Checks.{plexes_of}
 use Rattle.vx_group.specs.Holding.{wide}
 use Rattle.vx_group.proofs.HoldLemmas.{narrow_sound}
@@ -9,6 +9,8 @@ use Rattle.vx_groupmaps.proofs.KnowLemmas.{note_none}
 use Rattle.vx_logged.specs.Behind.{all_those}
 use Rattle.vx_logged.proofs.RefuseLemmas.{ends_know, ends_note, ends_on, maps_Stands, maps_nothing, maps_others, missed_goes, none_know, none_on, maps_finds}
 use Rattle.vx_logged.proofs.StandLemmas.{inner_wide}
+use Rattle.vx_grouplogs.proofs.GoneLemmas.{drops_maps, drops_noted, noted_down}
+use Rattle.vx_groupmaps.specs.Refusing.{first_plexes}
 use Rattle.vx_logged.proofs.refusing.miss_all.Goals as goal
 
 pub miss_run-requires-clause-checked : goal.miss_run-requires-clause-checked
@@ -82,3 +84,12 @@ returns-clause-less g c =
 pub returns-in-Ok-clause-less : goal.returns-in-Ok-clause-less
 returns-in-Ok-clause-less g c =
     maps_finds c.args.core.now c.args.vol (g.S.Shelf.meaning c.args.shelf.now) (g.S.Shelf.meaning c.miss_run.new.shelf) c.requires.stands (missed_goes (wide c.args.core.now).config (sound_of (wide c.args.core.now) (g.S.Shelf.meaning c.args.shelf.now) c.requires.stands.stands) c.args.vol (omega (arith, c.requires.some, c.requires.within)) c.args.logs.now c.miss_run.new.logs (g.S.Shelf.meaning c.args.shelf.now) (g.S.Shelf.meaning c.miss_run.new.shelf) (fit_of (wide c.args.core.now) (g.S.Shelf.meaning c.args.shelf.now) c.requires.stands.stands) c.requires.log c.miss_run.ensures.drl c.miss_run.ensures.goes) (g.met.S.Shelf.lawful c.args.shelf.now) (g.met.S.Shelf.lawful c.miss_run.new.shelf)
+
+pub returns-in-Ok-clause-drops : goal.returns-in-Ok-clause-drops
+returns-in-Ok-clause-drops g c =
+    drops_noted (wide c.args.core.now).config c.args.vol (first_plexes (plexes_of c.args.core.now.inner.config c.args.vol)) false (c.args.block / 64) ((c.args.block + c.args.count - 1) / 64) c.in-Ok.field-0 c.args.logs.now c.miss_run.new.logs (g.S.Shelf.meaning c.args.shelf.now) (g.S.Shelf.meaning c.miss_run.new.shelf) c.requires.log.fits c.miss_run.ensures.drl c.in-Ok.ensures.answers.0
+
+pub returns-clause-drops : goal.returns-clause-drops
+returns-clause-drops g c =
+    drops_maps (wide c.args.core.now).config c.args.vol c.args.logs.now (record { drl = c.miss_run.new.logs.drl; fmr = None }) (g.S.Shelf.meaning c.args.shelf.now) (g.S.Shelf.meaning c.miss_run.new.shelf) c.miss_run.ensures.drl refl
+    (noted_down (first_plexes (plexes_of c.args.core.now.inner.config c.args.vol)) false (c.args.block / 64) ((c.args.block + c.args.count - 1) / 64) c.args.logs.now.fmr c.miss_run.new.logs.fmr (g.S.Shelf.meaning c.args.shelf.now) (g.S.Shelf.meaning c.miss_run.new.shelf) c.in-Err.field-0 c.in-Err.ensures.answers)

@@ -42,3 +42,19 @@ returns-clause-knows g c = λ is. c.miss_all.ensures.knows
 pub returns-then-stopped-clause-less : goal.returns-then-stopped-clause-less
 returns-then-stopped-clause-less g c =
     same_from NoConfiguration (g.S.Shelf.meaning c.args.shelf.now)
+
+pub returns-then-stopped-clause-drops : goal.returns-then-stopped-clause-drops
+returns-then-stopped-clause-drops g c =
+    λ is. absurd (let clash : true ≡ false = sym c.if-stopped.true ∙ is in cc)
+
+pub returns-clause-drops : goal.returns-clause-drops
+returns-clause-drops g c =
+    λ is. c.miss_all.ensures.drops
+
+pub returns-then-stopped-clause-stays : goal.returns-then-stopped-clause-stays
+returns-then-stopped-clause-stays g c =
+    λ is. refl
+
+pub returns-clause-stays : goal.returns-clause-stays
+returns-clause-stays g c =
+    λ is. absurd (let clash : true ≡ false = sym is ∙ c.if-stopped.false in cc)

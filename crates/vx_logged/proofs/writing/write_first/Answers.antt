@@ -15,6 +15,8 @@ use Rattle.vx_logged.proofs.MissLemmas.{know_refused, know_run, know_wrote, more
 use Rattle.vx_logged.proofs.StandLemmas.{fits_later, narrowed_acts, narrowed_then, not_false, not_true, others_then, same_only, write_here, write_others}
 use Rattle.vx_group.proofs.LoseLemmas.{then_along}
 use Rattle.vx_group.proofs.FindingLemmas.{then_group}
+use Rattle.vx_logged.proofs.GoneLogs.{trusts_in, trusts_then}
+use Rattle.vx_grouplogs.proofs.GoneLemmas.{drop_before, drop_same}
 use Rattle.vx_logged.proofs.writing.write_first.Goals as goal
 
 pub mark_group-requires-clause-there : goal.mark_group-requires-clause-there
@@ -199,3 +201,28 @@ returns-clause-finds g c =
     then_group c.args.core.now c.mark_group.new.core c.write_group-2.new.core (g.S.Shelf.meaning c.args.shelf.now) (g.S.Shelf.meaning c.mark_group.new.shelf) (g.S.Shelf.meaning c.write_group-2.new.shelf)
     c.mark_group.ensures.finds
     (c.write_group-2.ensures.finds)
+
+pub returns-then-stopped-clause-drops : goal.returns-then-stopped-clause-drops
+returns-then-stopped-clause-drops g c =
+    drop_same (wide c.args.core.now).config c.args.vol c.args.logs.now (g.S.Shelf.meaning c.args.shelf.now) (g.S.Shelf.meaning c.write_group.new.shelf)
+
+pub returns-then-stopped-clause-trusts : goal.returns-then-stopped-clause-trusts
+returns-then-stopped-clause-trusts g c =
+    trusts_in c.args.vol c.args.logs.now c.args.core.now.inner.config c.write_group.new.core.inner.config c.write_group.ensures.logs
+
+pub returns-in-Err-clause-drops : goal.returns-in-Err-clause-drops
+returns-in-Err-clause-drops g c =
+    c.mark_group.ensures.drops
+
+pub returns-in-Err-clause-trusts : goal.returns-in-Err-clause-trusts
+returns-in-Err-clause-trusts g c =
+    c.mark_group.ensures.trusts
+
+pub returns-clause-drops : goal.returns-clause-drops
+returns-clause-drops g c =
+    drop_before (wide c.args.core.now).config c.args.vol c.args.logs.now c.mark_group.new.logs (g.S.Shelf.meaning c.args.shelf.now) (g.S.Shelf.meaning c.mark_group.new.shelf) (g.S.Shelf.meaning c.write_group-2.new.shelf) c.write_group-2.ensures.acts.acts.faults c.write_group-2.ensures.acts.acts.falls c.mark_group.ensures.drops
+
+pub returns-clause-trusts : goal.returns-clause-trusts
+returns-clause-trusts g c =
+    trusts_then c.args.vol c.mark_group.new.logs c.args.core.now.inner.config c.mark_group.new.core.inner.config c.write_group-2.new.core.inner.config c.mark_group.ensures.trusts
+    (trusts_in c.args.vol c.mark_group.new.logs c.mark_group.new.core.inner.config c.write_group-2.new.core.inner.config c.write_group-2.ensures.logs)

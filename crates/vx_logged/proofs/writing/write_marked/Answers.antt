@@ -1,5 +1,5 @@
 -- A write that is marked first, and whose failed plexes miss it.
-use Rattle.std.proofs.Common.{◌/◌, Bool, ap, length, refl, arith}
+use Rattle.std.proofs.Common.{◌/◌, Bool, ap, length, refl, arith, ◌≡◌, ◌∙◌, true, false, inl, inr, sym, None}
 use Rattle.std.specs.Prelude.{Err}
 use Rattle.vx_disk.specs.Shelf.{Written}
 use Rattle.vx_disk.proofs.Causing.{Cause_both}
@@ -14,9 +14,11 @@ use Rattle.vx_logged.specs.Behind.{all_those}
 use Rattle.vx_logged.specs.Logged.{are_off}
 use Rattle.vx_logged.proofs.MissLemmas.{more_off}
 use Rattle.vx_logged.proofs.RefuseLemmas.{cause_refused, marks_later, only_same, those_any}
-use Rattle.vx_logged.proofs.StandLemmas.{cause_to, only_then, others_then, wrote_nothing}
+use Rattle.vx_logged.proofs.StandLemmas.{cause_to, only_then, others_then, wrote_nothing, narrowed_then}
 use Rattle.vx_group.proofs.LoseLemmas.{along_same, then_along}
 use Rattle.vx_group.proofs.FindingLemmas.{then_group, idle_group}
+use Rattle.vx_logged.proofs.GoneLogs.{drops_refused, drops_so, drops_spent, no_map, trusts_less, trusts_then}
+use Rattle.vx_grouplogs.proofs.GoneLemmas.{drop_then}
 use Rattle.vx_logged.proofs.writing.write_marked.Goals as goal
 
 pub mark_group-requires-clause-some : goal.mark_group-requires-clause-some
@@ -161,3 +163,72 @@ returns-in-Err-mark_group-clause-finds g c =
     c.write_first.ensures.finds
     c.mark_group.ensures.finds)
     (idle_group c.mark_group.new.core (g.S.Shelf.meaning c.mark_group.new.shelf) (g.S.Shelf.meaning c.miss_refused-in-Err-mark_group.new.shelf) c.miss_refused-in-Err-mark_group.ensures.less)
+
+pub returns-in-Err-clause-drops : goal.returns-in-Err-clause-drops
+returns-in-Err-clause-drops g c =
+    drops_so c.args.core.now c.write_first.new.core c.args.vol c.args.logs.now c.miss_refused.new.logs (g.S.Shelf.meaning c.args.shelf.now) (g.S.Shelf.meaning c.miss_refused.new.shelf)
+    (drop_then (wide c.args.core.now).config (wide c.write_first.new.core).config c.args.vol c.args.logs.now c.write_first.new.logs c.miss_refused.new.logs (g.S.Shelf.meaning c.args.shelf.now) (g.S.Shelf.meaning c.write_first.new.shelf) (g.S.Shelf.meaning c.miss_refused.new.shelf) (c.write_first.ensures.narrow.shape.logs c.args.vol) c.write_first.ensures.loses.rises c.miss_refused.ensures.below.faults c.miss_refused.ensures.below.falls c.write_first.ensures.drops (drops_refused (wide c.write_first.new.core).config c.args.vol c.write_first.new.logs c.miss_refused.new.logs (g.S.Shelf.meaning c.write_first.new.shelf) (g.S.Shelf.meaning c.miss_refused.new.shelf) c.write_first.new.stopped c.miss_refused.ensures.drops c.miss_refused.ensures.stays))
+
+pub returns-then-stopped-clause-drops : goal.returns-then-stopped-clause-drops
+returns-then-stopped-clause-drops g c =
+    drops_so c.args.core.now c.write_first.new.core c.args.vol c.args.logs.now c.write_first.new.logs (g.S.Shelf.meaning c.args.shelf.now) (g.S.Shelf.meaning c.write_first.new.shelf) c.write_first.ensures.drops
+
+pub returns-then-not-done-clause-drops : goal.returns-then-not-done-clause-drops
+returns-then-not-done-clause-drops g c =
+    drops_spent c.args.core.now c.mark_group.new.core c.args.vol c.args.logs.now c.mark_group.new.logs (g.S.Shelf.meaning c.args.shelf.now) (g.S.Shelf.meaning c.mark_group.new.shelf) (g.S.Shelf.meaning c.mark_group.new.shelf) (c.in-Ok-mark_group.ensures.spent c.if-not-done.true)
+    (drop_then (wide c.args.core.now).config (wide c.write_first.new.core).config c.args.vol c.args.logs.now c.write_first.new.logs c.mark_group.new.logs (g.S.Shelf.meaning c.args.shelf.now) (g.S.Shelf.meaning c.write_first.new.shelf) (g.S.Shelf.meaning c.mark_group.new.shelf) (c.write_first.ensures.narrow.shape.logs c.args.vol) c.write_first.ensures.loses.rises c.mark_group.ensures.loses.rises c.mark_group.ensures.goes.falls c.write_first.ensures.drops c.mark_group.ensures.drops)
+
+pub returns-else-not-done-clause-drops : goal.returns-else-not-done-clause-drops
+returns-else-not-done-clause-drops g c =
+    drops_so c.args.core.now c.mark_group.new.core c.args.vol c.args.logs.now c.mark_group.new.logs (g.S.Shelf.meaning c.args.shelf.now) (g.S.Shelf.meaning c.mark_group.new.shelf)
+    (drop_then (wide c.args.core.now).config (wide c.write_first.new.core).config c.args.vol c.args.logs.now c.write_first.new.logs c.mark_group.new.logs (g.S.Shelf.meaning c.args.shelf.now) (g.S.Shelf.meaning c.write_first.new.shelf) (g.S.Shelf.meaning c.mark_group.new.shelf) (c.write_first.ensures.narrow.shape.logs c.args.vol) c.write_first.ensures.loses.rises c.mark_group.ensures.loses.rises c.mark_group.ensures.goes.falls c.write_first.ensures.drops c.mark_group.ensures.drops)
+
+pub returns-in-Err-mark_group-clause-drops : goal.returns-in-Err-mark_group-clause-drops
+returns-in-Err-mark_group-clause-drops g c =
+    drops_so c.args.core.now c.mark_group.new.core c.args.vol c.args.logs.now c.miss_refused-in-Err-mark_group.new.logs (g.S.Shelf.meaning c.args.shelf.now) (g.S.Shelf.meaning c.miss_refused-in-Err-mark_group.new.shelf)
+    (drop_then (wide c.args.core.now).config (wide c.mark_group.new.core).config c.args.vol c.args.logs.now c.mark_group.new.logs c.miss_refused-in-Err-mark_group.new.logs (g.S.Shelf.meaning c.args.shelf.now) (g.S.Shelf.meaning c.mark_group.new.shelf) (g.S.Shelf.meaning c.miss_refused-in-Err-mark_group.new.shelf) ((narrowed_then c.args.core.now c.write_first.new.core c.mark_group.new.core c.write_first.ensures.narrow c.mark_group.ensures.narrow).shape.logs c.args.vol)
+    (then_along c.args.core.now.inner.config c.write_first.new.core.inner.config c.mark_group.new.core.inner.config (g.S.Shelf.meaning c.args.shelf.now) (g.S.Shelf.meaning c.write_first.new.shelf) (g.S.Shelf.meaning c.mark_group.new.shelf) c.write_first.ensures.loses c.mark_group.ensures.loses).rises c.miss_refused-in-Err-mark_group.ensures.below.faults c.miss_refused-in-Err-mark_group.ensures.below.falls
+    (drop_then (wide c.args.core.now).config (wide c.write_first.new.core).config c.args.vol c.args.logs.now c.write_first.new.logs c.mark_group.new.logs (g.S.Shelf.meaning c.args.shelf.now) (g.S.Shelf.meaning c.write_first.new.shelf) (g.S.Shelf.meaning c.mark_group.new.shelf) (c.write_first.ensures.narrow.shape.logs c.args.vol) c.write_first.ensures.loses.rises c.mark_group.ensures.loses.rises c.mark_group.ensures.goes.falls c.write_first.ensures.drops c.mark_group.ensures.drops) (c.miss_refused-in-Err-mark_group.ensures.drops refl))
+
+pub returns-in-Err-clause-trusts : goal.returns-in-Err-clause-trusts
+returns-in-Err-clause-trusts g c =
+    trusts_less c.args.vol c.write_first.new.logs c.miss_refused.new.logs c.args.core.now.inner.config c.write_first.new.core.inner.config
+    (drops_refused (wide c.write_first.new.core).config c.args.vol c.write_first.new.logs c.miss_refused.new.logs (g.S.Shelf.meaning c.write_first.new.shelf) (g.S.Shelf.meaning c.miss_refused.new.shelf) c.write_first.new.stopped c.miss_refused.ensures.drops c.miss_refused.ensures.stays).none c.write_first.ensures.trusts
+
+pub returns-then-stopped-clause-trusts : goal.returns-then-stopped-clause-trusts
+returns-then-stopped-clause-trusts g c =
+    c.write_first.ensures.trusts
+
+pub returns-then-not-done-clause-trusts : goal.returns-then-not-done-clause-trusts
+returns-then-not-done-clause-trusts g c =
+    trusts_less c.args.vol c.mark_group.new.logs (record { drl = c.mark_group.new.logs.drl; fmr = None }) c.args.core.now.inner.config c.mark_group.new.core.inner.config (no_map c.mark_group.new.logs)
+    (trusts_then c.args.vol c.mark_group.new.logs c.args.core.now.inner.config c.write_first.new.core.inner.config c.mark_group.new.core.inner.config (trusts_less c.args.vol c.write_first.new.logs c.mark_group.new.logs c.args.core.now.inner.config c.write_first.new.core.inner.config c.mark_group.ensures.drops.none c.write_first.ensures.trusts) c.mark_group.ensures.trusts)
+
+pub returns-else-not-done-clause-trusts : goal.returns-else-not-done-clause-trusts
+returns-else-not-done-clause-trusts g c =
+    trusts_then c.args.vol c.mark_group.new.logs c.args.core.now.inner.config c.write_first.new.core.inner.config c.mark_group.new.core.inner.config (trusts_less c.args.vol c.write_first.new.logs c.mark_group.new.logs c.args.core.now.inner.config c.write_first.new.core.inner.config c.mark_group.ensures.drops.none c.write_first.ensures.trusts) c.mark_group.ensures.trusts
+
+pub returns-in-Err-mark_group-clause-trusts : goal.returns-in-Err-mark_group-clause-trusts
+returns-in-Err-mark_group-clause-trusts g c =
+    trusts_less c.args.vol c.mark_group.new.logs c.miss_refused-in-Err-mark_group.new.logs c.args.core.now.inner.config c.mark_group.new.core.inner.config (c.miss_refused-in-Err-mark_group.ensures.drops refl).none
+    (trusts_then c.args.vol c.mark_group.new.logs c.args.core.now.inner.config c.write_first.new.core.inner.config c.mark_group.new.core.inner.config (trusts_less c.args.vol c.write_first.new.logs c.mark_group.new.logs c.args.core.now.inner.config c.write_first.new.core.inner.config c.mark_group.ensures.drops.none c.write_first.ensures.trusts) c.mark_group.ensures.trusts)
+
+pub returns-in-Err-clause-kept : goal.returns-in-Err-clause-kept
+returns-in-Err-clause-kept g c =
+    λ off. tt
+
+pub returns-then-stopped-clause-kept : goal.returns-then-stopped-clause-kept
+returns-then-stopped-clause-kept g c =
+    λ off. absurd (let clash : true ≡ false = sym c.if-stopped.true ∙ off in cc)
+
+pub returns-then-not-done-clause-kept : goal.returns-then-not-done-clause-kept
+returns-then-not-done-clause-kept g c =
+    λ off. record { so = inr (c.in-Ok-mark_group.ensures.spent c.if-not-done.true) }
+
+pub returns-else-not-done-clause-kept : goal.returns-else-not-done-clause-kept
+returns-else-not-done-clause-kept g c =
+    λ off. record { so = inl ((c.in-Ok-mark_group.ensures.may c.if-not-done.false).some, c.in-Ok-mark_group.ensures.said c.if-not-done.false) }
+
+pub returns-in-Err-mark_group-clause-kept : goal.returns-in-Err-mark_group-clause-kept
+returns-in-Err-mark_group-clause-kept g c =
+    λ off. tt

@@ -8,6 +8,7 @@ use Rattle.vx_group.proofs.MissLemmas.{same_count}
 use Rattle.vx_model.specs.declared.no.No.{No}
 use Rattle.vx_loggroup.specs.Attaching.{map_there}
 use Rattle.vx_loggroup.proofs.StayLemmas.{att_any, knows_by}
+use Rattle.vx_loggroup.proofs.KeepingLemmas.{shape_places, stay_keeps, stays_same}
 use Rattle.vx_loggroup.proofs.attaching.att_whole.Goals as goal
 
 pub att_in-requires-clause-stands : goal.att_in-requires-clause-stands
@@ -27,8 +28,7 @@ returns-clause-stands g c =
     (λ (no : No) is. let r = c.att_in.ensures.refused no is in (r.1, ap g.S.Shelf.meaning r.2))
 
 pub returns-clause-count : goal.returns-clause-count
-<<<<<<< HEAD
-returns-clause-count g c = λ off. same_count _ _ c.att_in.result (c.att_in.ensures.count off) (ap (λ (o : Option Missed). missed_regions c.args.core.now.inner.config c.args.vol c.args.plex o) (c.map_of-fmr.ensures.by ∙ ap (λ (ls : List Logs). map_by ls c.args.core.now.inner.config c.args.stopped c.is_down-down.result c.args.vol c.args.plex) c.as_slice.ensures.value ∙ ap (λ (d : Bool). map_by c.args.logs.now.items c.args.core.now.inner.config c.args.stopped d c.args.vol c.args.plex) c.is_down-down.ensures))
+returns-clause-count g c = λ off. same_count _ _ c.att_in.result (c.att_in.ensures.count off) (ap (λ (o : Option Missed). missed_regions c.args.core.now.inner.config c.args.vol c.args.plex o) (c.map_of-fmr.ensures.by ∙ ap (λ (ls : List Logs). map_there ls c.args.core.now.inner.config c.args.stopped c.is_down-down.result c.args.vol c.args.plex) c.as_slice.ensures.value ∙ ap (λ (d : Bool). map_there c.args.logs.now.items c.args.core.now.inner.config c.args.stopped d c.args.vol c.args.plex) c.is_down-down.ensures))
 
 pub returns-clause-finds : goal.returns-clause-finds
 returns-clause-finds g c =
@@ -37,6 +37,8 @@ returns-clause-finds g c =
 pub returns-clause-free : goal.returns-clause-free
 returns-clause-free g c =
     c.att_in.ensures.free
-=======
-returns-clause-count g c = λ off. same_count _ _ c.att_in.result (c.att_in.ensures.count off) (ap (λ (o : Option Missed). missed_regions c.args.core.now.inner.config c.args.vol c.args.plex o) (c.map_of-fmr.ensures.by ∙ ap (λ (ls : List Logs). map_there ls c.args.core.now.inner.config c.args.stopped c.is_down-down.result c.args.vol c.args.plex) c.as_slice.ensures.value ∙ ap (λ (d : Bool). map_there c.args.logs.now.items c.args.core.now.inner.config c.args.stopped d c.args.vol c.args.plex) c.is_down-down.ensures))
->>>>>>> land/P
+
+pub returns-clause-keeps : goal.returns-clause-keeps
+returns-clause-keeps g c =
+    stay_keeps c.args.core.now c.att_in.new.core c.args.logs.now.items c.args.logs.now.items (g.S.Shelf.meaning c.args.shelf.now) (g.S.Shelf.meaning c.att_in.new.shelf)
+    (stays_same c.args.core.now.inner.config c.att_in.new.core.inner.config c.args.logs.now.items (g.S.Shelf.meaning c.args.shelf.now) (g.S.Shelf.meaning c.att_in.new.shelf) (shape_places c.args.core.now.inner.config c.att_in.new.core.inner.config c.att_in.ensures.attaches.shape) c.att_in.ensures.regains.blamed c.att_in.ensures.logs)

@@ -42,10 +42,7 @@ pub returns-then-not-is_alike-clause-settles : goal.returns-then-not-is_alike-cl
 returns-then-not-is_alike-clause-settles g c = settle_none c.args.core.now (g.S.Shelf.meaning c.args.shelf.now)
 
 pub returns-clause-settles : goal.returns-clause-settles
-<<<<<<< HEAD
 returns-clause-settles g c = record { goes = c.clear_group.ensures.goes; narrow = c.clear_group.ensures.narrow; loses = c.clear_group.ensures.loses; finds = c.clear_group.ensures.finds; below = c.clear_group.ensures.below }
-=======
-returns-clause-settles g c = record { goes = c.clear_group.ensures.goes; narrow = c.clear_group.ensures.narrow; loses = c.clear_group.ensures.loses; below = c.clear_group.ensures.below }
 
 pub returns-then-is_down-clause-shrink : goal.returns-then-is_down-clause-shrink
 returns-then-is_down-clause-shrink g c = shrink_none c.args.logs.now.items
@@ -55,4 +52,3 @@ returns-then-not-is_alike-clause-shrink g c = shrink_none c.args.logs.now.items
 
 pub returns-clause-shrink : goal.returns-clause-shrink
 returns-clause-shrink g c = shrink_set c.args.vol c.args.logs.now.items c.index_mut.result.now c.clear_group.new.logs (item_of c.args.logs.now.items c.args.vol c.index_mut.result.now c.index_mut.ensures.value (index_low c.args.core.now c.args.logs.now.items c.args.alike.now false (g.S.Shelf.meaning c.args.shelf.now) c.args.vol c.requires.stands c.requires.there)) c.clear_group.ensures.stay.gone
->>>>>>> land/P

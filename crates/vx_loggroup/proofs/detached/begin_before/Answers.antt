@@ -16,6 +16,8 @@ use Rattle.vx_loggroup.proofs.DetFresh.{begins_may, some_of}
 use Rattle.vx_loggroup.proofs.DetachedLogs.{active_low, det_cause}
 use Rattle.vx_loggroup.proofs.FreshLemmas.{fresh_still, fresh_taken, lists_none, none_of}
 use Rattle.vx_group.proofs.FindingLemmas.{still_group}
+use Rattle.vx_loggroup.proofs.KeepingLemmas.{stays_none}
+use Rattle.vx_loggroup.proofs.KeepingCalls.{begins_stay}
 use Rattle.vx_loggroup.proofs.detached.begin_before.Goals as goal
 
 pub returns-then-is_some-clause-goes : goal.returns-then-is_some-clause-goes
@@ -140,3 +142,21 @@ returns-in-Ok-clause-finds g c =
 pub returns-in-Err-clause-finds : goal.returns-in-Err-clause-finds
 returns-in-Err-clause-finds g c =
     c.begin_first.ensures.begins.finds
+
+pub returns-then-is_some-clause-stays : goal.returns-then-is_some-clause-stays
+returns-then-is_some-clause-stays g c = stays_none c.args.core.now.inner.config c.args.logs.now.items (g.S.Shelf.meaning c.args.shelf.now) (g.S.Shelf.meaning c.args.shelf.now)
+
+pub returns-then-core-clause-stays : goal.returns-then-core-clause-stays
+returns-then-core-clause-stays g c = stays_none c.args.core.now.inner.config c.args.logs.now.items (g.S.Shelf.meaning c.args.shelf.now) (g.S.Shelf.meaning c.args.shelf.now)
+
+pub returns-then-not-is_active-clause-stays : goal.returns-then-not-is_active-clause-stays
+returns-then-not-is_active-clause-stays g c = stays_none c.args.core.now.inner.config c.args.logs.now.items (g.S.Shelf.meaning c.args.shelf.now) (g.S.Shelf.meaning c.args.shelf.now)
+
+pub returns-then-not-takes_fresh-clause-stays : goal.returns-then-not-takes_fresh-clause-stays
+returns-then-not-takes_fresh-clause-stays g c = stays_none c.args.core.now.inner.config c.args.logs.now.items (g.S.Shelf.meaning c.args.shelf.now) (g.S.Shelf.meaning c.args.shelf.now)
+
+pub returns-in-Ok-clause-stays : goal.returns-in-Ok-clause-stays
+returns-in-Ok-clause-stays g c = begins_stay c.args.vol (region_count (wide c.args.core.now).config c.args.vol) c.args.core.now c.begin_first.new.core c.args.logs.now.items c.begin_first.new.logs.items (g.S.Shelf.meaning c.args.shelf.now) (g.S.Shelf.meaning c.begin_first.new.shelf) c.begin_first.ensures.begins c.begin_first.ensures.first
+
+pub returns-in-Err-clause-stays : goal.returns-in-Err-clause-stays
+returns-in-Err-clause-stays g c = begins_stay c.args.vol (region_count (wide c.args.core.now).config c.args.vol) c.args.core.now c.begin_first.new.core c.args.logs.now.items c.begin_first.new.logs.items (g.S.Shelf.meaning c.args.shelf.now) (g.S.Shelf.meaning c.begin_first.new.shelf) c.begin_first.ensures.begins c.begin_first.ensures.first

@@ -15,6 +15,7 @@ use Rattle.vx_loggroup.proofs.DetFresh.{never_err}
 use Rattle.vx_loggroup.proofs.DetachedLogs.{begin_none, det_later, empty_later}
 use Rattle.vx_loggroup.proofs.FreshLemmas.{fresh_still}
 use Rattle.vx_group.proofs.FindingLemmas.{then_group}
+use Rattle.vx_loggroup.proofs.KeepingLemmas.{frames_places, stay_keeps, then_keeps}
 use Rattle.vx_loggroup.proofs.detached.det_fresh.Goals as goal
 
 pub returns-in-Err-clause-refused : goal.returns-in-Err-clause-refused
@@ -92,3 +93,9 @@ returns-in-Err-clause-finds g c =
 pub returns-clause-finds : goal.returns-clause-finds
 returns-clause-finds g c =
     then_group c.args.core.now c.begin_before.new.core c.det_whole.new.core (g.S.Shelf.meaning c.args.shelf.now) (g.S.Shelf.meaning c.begin_before.new.shelf) (g.S.Shelf.meaning c.det_whole.new.shelf) c.begin_before.ensures.finds c.det_whole.ensures.finds
+
+pub returns-in-Err-clause-keeps : goal.returns-in-Err-clause-keeps
+returns-in-Err-clause-keeps g c = stay_keeps c.args.core.now c.begin_before.new.core c.args.logs.now.items c.begin_before.new.logs.items (g.S.Shelf.meaning c.args.shelf.now) (g.S.Shelf.meaning c.begin_before.new.shelf) c.begin_before.ensures.stays
+
+pub returns-clause-keeps : goal.returns-clause-keeps
+returns-clause-keeps g c = then_keeps c.args.core.now c.begin_before.new.core c.det_whole.new.core c.args.logs.now.items c.begin_before.new.logs.items c.det_whole.new.logs.items (g.S.Shelf.meaning c.args.shelf.now) (g.S.Shelf.meaning c.begin_before.new.shelf) (g.S.Shelf.meaning c.det_whole.new.shelf) (frames_places c.args.core.now.inner.config c.begin_before.new.core.inner.config c.begin_before.ensures.loses.loses.frames) c.begin_before.ensures.loses.rises c.det_whole.ensures.rises c.det_whole.ensures.goes.falls c.begin_before.ensures.stays c.det_whole.ensures.keeps

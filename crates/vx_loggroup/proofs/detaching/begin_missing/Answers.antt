@@ -13,6 +13,8 @@ use Rattle.vx_loggroup.proofs.DetachedLogs.{begin_none, begin_set, empty_none, e
 use Rattle.vx_loggroup.proofs.SetLemmas.{item_of}
 use Rattle.vx_kept.proofs.Findings.{same_from}
 use Rattle.vx_kept.specs.Finds.{NoConfiguration}
+use Rattle.vx_loggroup.proofs.KeepingLemmas.{stays_none}
+use Rattle.vx_loggroup.proofs.KeepingCalls.{dropped_stay}
 use Rattle.vx_loggroup.proofs.detaching.begin_missing.Goals as goal
 
 pub index_mut-requires : goal.index_mut-requires
@@ -61,3 +63,9 @@ returns-then-blocks_of-eq0-clause-less g c =
 pub returns-clause-less : goal.returns-clause-less
 returns-clause-less g c =
     c.begin_one.ensures.less
+
+pub returns-then-blocks_of-eq0-clause-stays : goal.returns-then-blocks_of-eq0-clause-stays
+returns-then-blocks_of-eq0-clause-stays g c = stays_none c.args.core.now.inner.config c.args.logs.now.items (g.S.Shelf.meaning c.args.shelf.now) (g.S.Shelf.meaning c.args.shelf.now)
+
+pub returns-clause-stays : goal.returns-clause-stays
+returns-clause-stays g c = dropped_stay c.args.core.now.inner.config c.args.vol c.args.logs.now.items c.index_mut.result.now c.begin_one.new.one (g.S.Shelf.meaning c.args.shelf.now) (g.S.Shelf.meaning c.begin_one.new.shelf) (item_of c.args.logs.now.items c.args.vol c.index_mut.result.now c.index_mut.ensures.value (let many = c.requires.stands.many in let there = c.requires.there in omega (arith, many, there))) c.begin_one.ensures.drops

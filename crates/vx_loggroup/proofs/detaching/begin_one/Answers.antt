@@ -10,6 +10,7 @@ use Rattle.vx_groupmaps.specs.Missing.{none_spared}
 use Rattle.vx_groupmaps.proofs.BeginLemmas.{down_of}
 use Rattle.vx_logged.proofs.StandLemmas.{inner_fit, inner_others, inner_sound, know_inner, know_wide, logs_Stands, logs_goes, to_inner, to_wide, logs_finds}
 use Rattle.vx_loggroup.proofs.DetachedLogs.{as_logs, begun_empty, begun_knows, begun_maps, none_begins}
+use Rattle.vx_loggroup.proofs.KeepingCalls.{begun_drops, none_drops}
 use Rattle.vx_loggroup.proofs.detaching.begin_one.Goals as goal
 
 pub begin_map-requires-clause-checked : goal.begin_map-requires-clause-checked
@@ -75,3 +76,9 @@ returns-in-Ok-clause-less g c =
 pub returns-in-Err-clause-less : goal.returns-in-Err-clause-less
 returns-in-Err-clause-less g c =
     logs_finds c.args.core.now c.args.vol (g.S.Shelf.meaning c.args.shelf.now) (g.S.Shelf.meaning c.begin_map.new.shelf) c.requires.none c.requires.stands (goes_logs c.args.core.now.inner.config c.args.vol (g.S.Shelf.meaning c.args.shelf.now) (g.S.Shelf.meaning c.begin_map.new.shelf) c.begin_map.ensures.goes) (g.met.S.Shelf.lawful c.args.shelf.now) (g.met.S.Shelf.lawful c.begin_map.new.shelf)
+
+pub returns-in-Ok-clause-drops : goal.returns-in-Ok-clause-drops
+returns-in-Ok-clause-drops g c = begun_drops c.args.core.now.inner.config c.args.vol c.args.plex c.args.one.now c.begin_map.new.logs _ (g.S.Shelf.meaning c.args.shelf.now) (g.S.Shelf.meaning c.begin_map.new.shelf) (to_inner c.args.core.now c.args.vol (g.S.Shelf.meaning c.args.shelf.now) (g.S.Shelf.meaning c.args.shelf.now) c.requires.none c.requires.stands c.args.vol c.args.one.now c.requires.log).fits c.begin_map.ensures.drl c.in-Ok.ensures.answers.0
+
+pub returns-in-Err-clause-drops : goal.returns-in-Err-clause-drops
+returns-in-Err-clause-drops g c = none_drops c.args.core.now.inner.config c.args.vol c.args.one.now (record { drl = c.begin_map.new.logs.drl; fmr = None }) (g.S.Shelf.meaning c.args.shelf.now) (g.S.Shelf.meaning c.begin_map.new.shelf) c.begin_map.ensures.drl refl (down_of c.args.plex c.args.one.now.fmr c.begin_map.new.logs.fmr (g.S.Shelf.meaning c.args.shelf.now) (g.S.Shelf.meaning c.begin_map.new.shelf) c.in-Err.field-0 c.in-Err.ensures.answers)

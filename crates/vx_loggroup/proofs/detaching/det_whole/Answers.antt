@@ -22,6 +22,7 @@ use Rattle.vx_loggroup.proofs.SetLemmas.{item_at}
 use Rattle.vx_model.specs.declared.errors.Stop.TheVariants.{No as Refused}
 use Rattle.vx_volume.proofs.PlaceLemmas.{active_below}
 use Rattle.vx_group.proofs.FindingLemmas.{idle_group, then_group}
+use Rattle.vx_loggroup.proofs.KeepingLemmas.{frames_places, shape_places, stay_keeps, stays_in, stays_same, then_stays}
 use Rattle.vx_loggroup.proofs.detaching.det_whole.Goals as goal
 
 pub det_logged-requires : goal.det_logged-requires
@@ -194,3 +195,16 @@ pub returns-clause-finds : goal.returns-clause-finds
 returns-clause-finds g c =
     then_group c.args.core.now c.det_logged.new.core c.keep_begun.new.core (g.S.Shelf.meaning c.args.shelf.now) (g.S.Shelf.meaning c.begin_missing.new.shelf) (g.S.Shelf.meaning c.keep_begun.new.shelf)
     (then_group c.args.core.now c.det_logged.new.core c.det_logged.new.core (g.S.Shelf.meaning c.args.shelf.now) (g.S.Shelf.meaning c.det_logged.new.shelf) (g.S.Shelf.meaning c.begin_missing.new.shelf) c.det_logged.ensures.finds (idle_group c.det_logged.new.core (g.S.Shelf.meaning c.det_logged.new.shelf) (g.S.Shelf.meaning c.begin_missing.new.shelf) c.begin_missing.ensures.less)) c.keep_begun.ensures.finds
+
+pub returns-in-Err-clause-keeps : goal.returns-in-Err-clause-keeps
+returns-in-Err-clause-keeps g c = stay_keeps c.args.core.now c.det_logged.new.core c.args.logs.now.items c.args.logs.now.items (g.S.Shelf.meaning c.args.shelf.now) (g.S.Shelf.meaning c.det_logged.new.shelf) (stays_same c.args.core.now.inner.config c.det_logged.new.core.inner.config c.args.logs.now.items (g.S.Shelf.meaning c.args.shelf.now) (g.S.Shelf.meaning c.det_logged.new.shelf) (shape_places c.args.core.now.inner.config c.det_logged.new.core.inner.config c.det_logged.ensures.narrows.shape) c.det_logged.ensures.disks.blamed c.det_logged.ensures.trusts)
+
+pub returns-then-not-may_begin-clause-keeps : goal.returns-then-not-may_begin-clause-keeps
+returns-then-not-may_begin-clause-keeps g c = stay_keeps c.args.core.now c.det_logged.new.core c.args.logs.now.items c.args.logs.now.items (g.S.Shelf.meaning c.args.shelf.now) (g.S.Shelf.meaning c.det_logged.new.shelf) (stays_same c.args.core.now.inner.config c.det_logged.new.core.inner.config c.args.logs.now.items (g.S.Shelf.meaning c.args.shelf.now) (g.S.Shelf.meaning c.det_logged.new.shelf) (shape_places c.args.core.now.inner.config c.det_logged.new.core.inner.config c.det_logged.ensures.narrows.shape) c.det_logged.ensures.disks.blamed c.det_logged.ensures.trusts)
+
+pub returns-in-Err-begin_missing-clause-keeps : goal.returns-in-Err-begin_missing-clause-keeps
+returns-in-Err-begin_missing-clause-keeps g c = stay_keeps c.args.core.now c.det_logged.new.core c.args.logs.now.items c.begin_missing.new.logs.items (g.S.Shelf.meaning c.args.shelf.now) (g.S.Shelf.meaning c.begin_missing.new.shelf) (then_stays c.args.core.now.inner.config c.det_logged.new.core.inner.config c.det_logged.new.core.inner.config c.args.logs.now.items c.args.logs.now.items c.begin_missing.new.logs.items (g.S.Shelf.meaning c.args.shelf.now) (g.S.Shelf.meaning c.det_logged.new.shelf) (g.S.Shelf.meaning c.begin_missing.new.shelf) (shape_places c.args.core.now.inner.config c.det_logged.new.core.inner.config c.det_logged.ensures.narrows.shape) (λ u. c.det_logged.ensures.narrows.acts.faults u) (λ u. c.begin_missing.ensures.below.faults u) c.begin_missing.ensures.below.falls (stays_same c.args.core.now.inner.config c.det_logged.new.core.inner.config c.args.logs.now.items (g.S.Shelf.meaning c.args.shelf.now) (g.S.Shelf.meaning c.det_logged.new.shelf) (shape_places c.args.core.now.inner.config c.det_logged.new.core.inner.config c.det_logged.ensures.narrows.shape) c.det_logged.ensures.disks.blamed c.det_logged.ensures.trusts) c.begin_missing.ensures.stays)
+
+pub returns-clause-keeps : goal.returns-clause-keeps
+returns-clause-keeps g c = stay_keeps c.args.core.now c.keep_begun.new.core c.args.logs.now.items c.begin_missing.new.logs.items (g.S.Shelf.meaning c.args.shelf.now) (g.S.Shelf.meaning c.keep_begun.new.shelf)
+    (then_stays c.args.core.now.inner.config c.det_logged.new.core.inner.config c.keep_begun.new.core.inner.config c.args.logs.now.items c.begin_missing.new.logs.items c.begin_missing.new.logs.items (g.S.Shelf.meaning c.args.shelf.now) (g.S.Shelf.meaning c.begin_missing.new.shelf) (g.S.Shelf.meaning c.keep_begun.new.shelf) (shape_places c.args.core.now.inner.config c.det_logged.new.core.inner.config c.det_logged.ensures.narrows.shape) (λ u. let one = c.det_logged.ensures.narrows.acts.faults u in let two = c.begin_missing.ensures.below.faults u in omega (arith, one, two)) c.keep_begun.ensures.rises c.keep_begun.ensures.goes.falls (then_stays c.args.core.now.inner.config c.det_logged.new.core.inner.config c.det_logged.new.core.inner.config c.args.logs.now.items c.args.logs.now.items c.begin_missing.new.logs.items (g.S.Shelf.meaning c.args.shelf.now) (g.S.Shelf.meaning c.det_logged.new.shelf) (g.S.Shelf.meaning c.begin_missing.new.shelf) (shape_places c.args.core.now.inner.config c.det_logged.new.core.inner.config c.det_logged.ensures.narrows.shape) (λ u. c.det_logged.ensures.narrows.acts.faults u) (λ u. c.begin_missing.ensures.below.faults u) c.begin_missing.ensures.below.falls (stays_same c.args.core.now.inner.config c.det_logged.new.core.inner.config c.args.logs.now.items (g.S.Shelf.meaning c.args.shelf.now) (g.S.Shelf.meaning c.det_logged.new.shelf) (shape_places c.args.core.now.inner.config c.det_logged.new.core.inner.config c.det_logged.ensures.narrows.shape) c.det_logged.ensures.disks.blamed c.det_logged.ensures.trusts) c.begin_missing.ensures.stays) (stays_in c.det_logged.new.core.inner.config c.keep_begun.new.core.inner.config c.args.vol c.begin_missing.new.logs.items (g.S.Shelf.meaning c.begin_missing.new.shelf) (g.S.Shelf.meaning c.keep_begun.new.shelf) (frames_places c.det_logged.new.core.inner.config c.keep_begun.new.core.inner.config c.keep_begun.ensures.loses.frames) c.keep_begun.ensures.loses.disks.blamed c.keep_begun.ensures.trusts))

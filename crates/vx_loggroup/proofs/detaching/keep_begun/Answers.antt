@@ -7,6 +7,8 @@ use Rattle.vx_group.specs.Stands.{inner_meaning}
 use Rattle.vx_group.proofs.HoldLemmas.{wide_shape}
 use Rattle.vx_loggroup.proofs.AlikeLemmas.{all_whole}
 use Rattle.vx_loggroup.proofs.DetachedLogs.{det_cause}
+use Rattle.vx_loggroup.proofs.KeepingLemmas.{here_trusts}
+use Rattle.vx_loggroup.proofs.SetLemmas.{item_of}
 use Rattle.vx_loggroup.proofs.detaching.keep_begun.Goals as goal
 
 pub keep_map-requires-clause-stands : goal.keep_map-requires-clause-stands
@@ -50,3 +52,9 @@ returns-in-Ok-clause-finds g c =
 pub returns-in-Err-clause-finds : goal.returns-in-Err-clause-finds
 returns-in-Err-clause-finds g c =
     c.keep_map.ensures.finds
+
+pub returns-in-Ok-clause-trusts : goal.returns-in-Ok-clause-trusts
+returns-in-Ok-clause-trusts g c = here_trusts c.args.vol c.args.logs.now.items c.index.result.now (item_of c.args.logs.now.items c.args.vol c.index.result.now c.index.ensures (let many = c.requires.stands.many in let there = c.requires.there in omega (arith, many, there))) c.args.core.now.inner.config c.keep_map.new.core.inner.config c.keep_map.ensures.trusts
+
+pub returns-in-Err-clause-trusts : goal.returns-in-Err-clause-trusts
+returns-in-Err-clause-trusts g c = here_trusts c.args.vol c.args.logs.now.items c.index.result.now (item_of c.args.logs.now.items c.args.vol c.index.result.now c.index.ensures (let many = c.requires.stands.many in let there = c.requires.there in omega (arith, many, there))) c.args.core.now.inner.config c.keep_map.new.core.inner.config c.keep_map.ensures.trusts

@@ -24,7 +24,7 @@ pub returns-in-Err-clause-stands : goal.returns-in-Err-clause-stands
 returns-in-Err-clause-stands g c = all_whole c.args.core.now c.ready_group.new.core c.args.logs.now.items c.args.alike.now false (g.S.Shelf.meaning c.args.shelf.now) (g.S.Shelf.meaning c.ready_group.new.shelf) c.requires.stands c.ready_group.ensures.stands c.ready_group.ensures.goes c.ready_group.ensures.logs
 
 pub returns-in-Err-clause-begins : goal.returns-in-Err-clause-begins
-returns-in-Err-clause-begins g c = (record { goes = c.ready_group.ensures.goes; loses = c.ready_group.ensures.loses; finds = c.ready_group.ensures.finds; still = c.ready_group.ensures.still; on = c.ready_group.ensures.narrow.on; units = c.ready_group.ensures.below; others = others_each c.args.vol c.args.core.now c.ready_group.new.core (g.S.Shelf.meaning c.args.shelf.now) (g.S.Shelf.meaning c.ready_group.new.shelf) c.ready_group.ensures.logs })
+returns-in-Err-clause-begins g c = (record { goes = c.ready_group.ensures.goes; loses = c.ready_group.ensures.loses; finds = c.ready_group.ensures.finds; trusts = c.ready_group.ensures.trusts; still = c.ready_group.ensures.still; on = c.ready_group.ensures.narrow.on; units = c.ready_group.ensures.below; others = others_each c.args.vol c.args.core.now c.ready_group.new.core (g.S.Shelf.meaning c.args.shelf.now) (g.S.Shelf.meaning c.ready_group.new.shelf) c.ready_group.ensures.logs })
 
 pub returns-in-Err-clause-first : goal.returns-in-Err-clause-first
 returns-in-Err-clause-first g c = lists_none c.args.vol (region_count (wide c.args.core.now).config c.args.vol) c.args.logs.now.items
@@ -33,7 +33,7 @@ pub returns-then-not-ready-clause-stands : goal.returns-then-not-ready-clause-st
 returns-then-not-ready-clause-stands g c = all_whole c.args.core.now c.ready_group.new.core c.args.logs.now.items c.args.alike.now false (g.S.Shelf.meaning c.args.shelf.now) (g.S.Shelf.meaning c.ready_group.new.shelf) c.requires.stands c.ready_group.ensures.stands c.ready_group.ensures.goes c.ready_group.ensures.logs
 
 pub returns-then-not-ready-clause-begins : goal.returns-then-not-ready-clause-begins
-returns-then-not-ready-clause-begins g c = (record { goes = c.ready_group.ensures.goes; loses = c.ready_group.ensures.loses; finds = c.ready_group.ensures.finds; still = c.ready_group.ensures.still; on = c.ready_group.ensures.narrow.on; units = c.ready_group.ensures.below; others = others_each c.args.vol c.args.core.now c.ready_group.new.core (g.S.Shelf.meaning c.args.shelf.now) (g.S.Shelf.meaning c.ready_group.new.shelf) c.ready_group.ensures.logs })
+returns-then-not-ready-clause-begins g c = (record { goes = c.ready_group.ensures.goes; loses = c.ready_group.ensures.loses; finds = c.ready_group.ensures.finds; trusts = c.ready_group.ensures.trusts; still = c.ready_group.ensures.still; on = c.ready_group.ensures.narrow.on; units = c.ready_group.ensures.below; others = others_each c.args.vol c.args.core.now c.ready_group.new.core (g.S.Shelf.meaning c.args.shelf.now) (g.S.Shelf.meaning c.ready_group.new.shelf) c.ready_group.ensures.logs })
 
 pub returns-then-not-ready-clause-first : goal.returns-then-not-ready-clause-first
 returns-then-not-ready-clause-first g c = lists_none c.args.vol (region_count (wide c.args.core.now).config c.args.vol) c.args.logs.now.items
@@ -42,7 +42,7 @@ pub returns-then-blocks_of-eq0-clause-stands : goal.returns-then-blocks_of-eq0-c
 returns-then-blocks_of-eq0-clause-stands g c = all_whole c.args.core.now c.ready_group.new.core c.args.logs.now.items c.args.alike.now false (g.S.Shelf.meaning c.args.shelf.now) (g.S.Shelf.meaning c.ready_group.new.shelf) c.requires.stands c.ready_group.ensures.stands c.ready_group.ensures.goes c.ready_group.ensures.logs
 
 pub returns-then-blocks_of-eq0-clause-begins : goal.returns-then-blocks_of-eq0-clause-begins
-returns-then-blocks_of-eq0-clause-begins g c = (record { goes = c.ready_group.ensures.goes; loses = c.ready_group.ensures.loses; finds = c.ready_group.ensures.finds; still = c.ready_group.ensures.still; on = c.ready_group.ensures.narrow.on; units = c.ready_group.ensures.below; others = others_each c.args.vol c.args.core.now c.ready_group.new.core (g.S.Shelf.meaning c.args.shelf.now) (g.S.Shelf.meaning c.ready_group.new.shelf) c.ready_group.ensures.logs })
+returns-then-blocks_of-eq0-clause-begins g c = (record { goes = c.ready_group.ensures.goes; loses = c.ready_group.ensures.loses; finds = c.ready_group.ensures.finds; trusts = c.ready_group.ensures.trusts; still = c.ready_group.ensures.still; on = c.ready_group.ensures.narrow.on; units = c.ready_group.ensures.below; others = others_each c.args.vol c.args.core.now c.ready_group.new.core (g.S.Shelf.meaning c.args.shelf.now) (g.S.Shelf.meaning c.ready_group.new.shelf) c.ready_group.ensures.logs })
 
 pub returns-then-blocks_of-eq0-clause-first : goal.returns-then-blocks_of-eq0-clause-first
 returns-then-blocks_of-eq0-clause-first g c = lists_none c.args.vol (region_count (wide c.args.core.now).config c.args.vol) c.args.logs.now.items
@@ -75,13 +75,13 @@ pub begin_both-requires-clause-alike : goal.begin_both-requires-clause-alike
 begin_both-requires-clause-alike g c = alike_goes c.args.core.now c.ready_group.new.core c.args.vol (g.S.Shelf.meaning c.args.shelf.now) (g.S.Shelf.meaning c.ready_group.new.shelf) c.ready_group.ensures.goes c.requires.same
 
 pub returns-clause-begins : goal.returns-clause-begins
-returns-clause-begins g c = (begins_then c.args.vol c.args.core.now c.ready_group.new.core c.begin_both.new.core (g.S.Shelf.meaning c.args.shelf.now) (g.S.Shelf.meaning c.ready_group.new.shelf) (g.S.Shelf.meaning c.begin_both.new.shelf) (record { goes = c.ready_group.ensures.goes; loses = c.ready_group.ensures.loses; finds = c.ready_group.ensures.finds; still = c.ready_group.ensures.still; on = c.ready_group.ensures.narrow.on; units = c.ready_group.ensures.below; others = others_each c.args.vol c.args.core.now c.ready_group.new.core (g.S.Shelf.meaning c.args.shelf.now) (g.S.Shelf.meaning c.ready_group.new.shelf) c.ready_group.ensures.logs }) c.begin_both.ensures.begins)
+returns-clause-begins g c = (begins_then c.args.vol c.args.core.now c.ready_group.new.core c.begin_both.new.core (g.S.Shelf.meaning c.args.shelf.now) (g.S.Shelf.meaning c.ready_group.new.shelf) (g.S.Shelf.meaning c.begin_both.new.shelf) (record { goes = c.ready_group.ensures.goes; loses = c.ready_group.ensures.loses; finds = c.ready_group.ensures.finds; trusts = c.ready_group.ensures.trusts; still = c.ready_group.ensures.still; on = c.ready_group.ensures.narrow.on; units = c.ready_group.ensures.below; others = others_each c.args.vol c.args.core.now c.ready_group.new.core (g.S.Shelf.meaning c.args.shelf.now) (g.S.Shelf.meaning c.ready_group.new.shelf) c.ready_group.ensures.logs }) c.begin_both.ensures.begins)
 
 pub returns-clause-stands : goal.returns-clause-stands
 returns-clause-stands g c =
-    set_stands Nothing c.args.core.now c.begin_both.new.core c.args.logs.now.items c.args.alike.now c.args.alike.now false false c.args.vol c.begin_both.new.one (g.S.Shelf.meaning c.args.shelf.now) (g.S.Shelf.meaning c.begin_both.new.shelf) c.requires.stands c.begin_both.ensures.stands (begins_then c.args.vol c.args.core.now c.ready_group.new.core c.begin_both.new.core (g.S.Shelf.meaning c.args.shelf.now) (g.S.Shelf.meaning c.ready_group.new.shelf) (g.S.Shelf.meaning c.begin_both.new.shelf) (record { goes = c.ready_group.ensures.goes; loses = c.ready_group.ensures.loses; finds = c.ready_group.ensures.finds; still = c.ready_group.ensures.still; on = c.ready_group.ensures.narrow.on; units = c.ready_group.ensures.below; others = others_each c.args.vol c.args.core.now c.ready_group.new.core (g.S.Shelf.meaning c.args.shelf.now) (g.S.Shelf.meaning c.ready_group.new.shelf) c.ready_group.ensures.logs }) c.begin_both.ensures.begins).goes
-    (λ w b x apart none. none) (λ off. off) (begins_then c.args.vol c.args.core.now c.ready_group.new.core c.begin_both.new.core (g.S.Shelf.meaning c.args.shelf.now) (g.S.Shelf.meaning c.ready_group.new.shelf) (g.S.Shelf.meaning c.begin_both.new.shelf) (record { goes = c.ready_group.ensures.goes; loses = c.ready_group.ensures.loses; finds = c.ready_group.ensures.finds; still = c.ready_group.ensures.still; on = c.ready_group.ensures.narrow.on; units = c.ready_group.ensures.below; others = others_each c.args.vol c.args.core.now c.ready_group.new.core (g.S.Shelf.meaning c.args.shelf.now) (g.S.Shelf.meaning c.ready_group.new.shelf) c.ready_group.ensures.logs }) c.begin_both.ensures.begins).others (λ w apart. refl)
-    (here_stands c.args.core.now c.begin_both.new.core c.args.vol c.index_mut.result.now c.begin_both.new.one (is_alike c.args.alike.now c.args.vol) false (g.S.Shelf.meaning c.args.shelf.now) (g.S.Shelf.meaning c.begin_both.new.shelf) (c.requires.stands.each c.args.vol c.index_mut.result.now (item_of c.args.logs.now.items c.args.vol c.index_mut.result.now c.index_mut.ensures.value (index_low c.args.core.now c.args.logs.now.items c.args.alike.now false (g.S.Shelf.meaning c.args.shelf.now) c.args.vol c.requires.stands c.requires.there))) (begins_then c.args.vol c.args.core.now c.ready_group.new.core c.begin_both.new.core (g.S.Shelf.meaning c.args.shelf.now) (g.S.Shelf.meaning c.ready_group.new.shelf) (g.S.Shelf.meaning c.begin_both.new.shelf) (record { goes = c.ready_group.ensures.goes; loses = c.ready_group.ensures.loses; finds = c.ready_group.ensures.finds; still = c.ready_group.ensures.still; on = c.ready_group.ensures.narrow.on; units = c.ready_group.ensures.below; others = others_each c.args.vol c.args.core.now c.ready_group.new.core (g.S.Shelf.meaning c.args.shelf.now) (g.S.Shelf.meaning c.ready_group.new.shelf) c.ready_group.ensures.logs }) c.begin_both.ensures.begins).goes (λ on. c.begin_both.ensures.log) (λ know. c.begin_both.ensures.maps))
+    set_stands Nothing c.args.core.now c.begin_both.new.core c.args.logs.now.items c.args.alike.now c.args.alike.now false false c.args.vol c.begin_both.new.one (g.S.Shelf.meaning c.args.shelf.now) (g.S.Shelf.meaning c.begin_both.new.shelf) c.requires.stands c.begin_both.ensures.stands (begins_then c.args.vol c.args.core.now c.ready_group.new.core c.begin_both.new.core (g.S.Shelf.meaning c.args.shelf.now) (g.S.Shelf.meaning c.ready_group.new.shelf) (g.S.Shelf.meaning c.begin_both.new.shelf) (record { goes = c.ready_group.ensures.goes; loses = c.ready_group.ensures.loses; finds = c.ready_group.ensures.finds; trusts = c.ready_group.ensures.trusts; still = c.ready_group.ensures.still; on = c.ready_group.ensures.narrow.on; units = c.ready_group.ensures.below; others = others_each c.args.vol c.args.core.now c.ready_group.new.core (g.S.Shelf.meaning c.args.shelf.now) (g.S.Shelf.meaning c.ready_group.new.shelf) c.ready_group.ensures.logs }) c.begin_both.ensures.begins).goes
+    (λ w b x apart none. none) (λ off. off) (begins_then c.args.vol c.args.core.now c.ready_group.new.core c.begin_both.new.core (g.S.Shelf.meaning c.args.shelf.now) (g.S.Shelf.meaning c.ready_group.new.shelf) (g.S.Shelf.meaning c.begin_both.new.shelf) (record { goes = c.ready_group.ensures.goes; loses = c.ready_group.ensures.loses; finds = c.ready_group.ensures.finds; trusts = c.ready_group.ensures.trusts; still = c.ready_group.ensures.still; on = c.ready_group.ensures.narrow.on; units = c.ready_group.ensures.below; others = others_each c.args.vol c.args.core.now c.ready_group.new.core (g.S.Shelf.meaning c.args.shelf.now) (g.S.Shelf.meaning c.ready_group.new.shelf) c.ready_group.ensures.logs }) c.begin_both.ensures.begins).others (λ w apart. refl)
+    (here_stands c.args.core.now c.begin_both.new.core c.args.vol c.index_mut.result.now c.begin_both.new.one (is_alike c.args.alike.now c.args.vol) false (g.S.Shelf.meaning c.args.shelf.now) (g.S.Shelf.meaning c.begin_both.new.shelf) (c.requires.stands.each c.args.vol c.index_mut.result.now (item_of c.args.logs.now.items c.args.vol c.index_mut.result.now c.index_mut.ensures.value (index_low c.args.core.now c.args.logs.now.items c.args.alike.now false (g.S.Shelf.meaning c.args.shelf.now) c.args.vol c.requires.stands c.requires.there))) (begins_then c.args.vol c.args.core.now c.ready_group.new.core c.begin_both.new.core (g.S.Shelf.meaning c.args.shelf.now) (g.S.Shelf.meaning c.ready_group.new.shelf) (g.S.Shelf.meaning c.begin_both.new.shelf) (record { goes = c.ready_group.ensures.goes; loses = c.ready_group.ensures.loses; finds = c.ready_group.ensures.finds; trusts = c.ready_group.ensures.trusts; still = c.ready_group.ensures.still; on = c.ready_group.ensures.narrow.on; units = c.ready_group.ensures.below; others = others_each c.args.vol c.args.core.now c.ready_group.new.core (g.S.Shelf.meaning c.args.shelf.now) (g.S.Shelf.meaning c.ready_group.new.shelf) c.ready_group.ensures.logs }) c.begin_both.ensures.begins).goes (λ on. c.begin_both.ensures.log) (λ know. c.begin_both.ensures.maps))
 
 pub returns-clause-first : goal.returns-clause-first
 returns-clause-first g c = lists_set c.args.vol (region_count (wide c.args.core.now).config c.args.vol) (region_count (wide c.ready_group.new.core).config c.args.vol) c.args.logs.now.items c.index_mut.result.now c.begin_both.new.one (item_of c.args.logs.now.items c.args.vol c.index_mut.result.now c.index_mut.ensures.value (index_low c.args.core.now c.args.logs.now.items c.args.alike.now false (g.S.Shelf.meaning c.args.shelf.now) c.args.vol c.requires.stands c.requires.there)) (ap regions_of (c.ready_group.ensures.goes.size c.args.vol)) c.begin_both.ensures.first

@@ -16,6 +16,9 @@ use Rattle.vx_logged.proofs.StandLemmas.{fits_later}
 use Rattle.vx_loggroup.specs.LoggedVolumes.{LoggedStands}
 use Rattle.vx_loggroup.proofs.FreshLemmas.{begins_stale, fresh_goes, fresh_still, fresh_taken, lists_marks, lists_notes, lists_only, lists_same}
 use Rattle.vx_group.proofs.FindingLemmas.{then_group}
+use Rattle.vx_loggroup.proofs.KeepingLemmas.{frames_places, stay_keeps, then_keeps}
+use Rattle.vx_loggroup.proofs.KeepingCalls.{begins_stay}
+use Rattle.vx_loggroup.specs.Marks.{region_count}
 use Rattle.vx_loggroup.proofs.fresh.write_fresh.Goals as goal
 
 pub takes_fresh-requires : goal.takes_fresh-requires
@@ -109,3 +112,18 @@ returns-clause-finds g c =
     then_group c.args.core.now c.begin_first.new.core c.write_whole-2.new.core (g.S.Shelf.meaning c.args.shelf.now) (g.S.Shelf.meaning c.begin_first.new.shelf) (g.S.Shelf.meaning c.write_whole-2.new.shelf)
     c.begin_first.ensures.begins.finds
     c.write_whole-2.ensures.finds
+
+pub returns-then-not-takes_fresh-clause-keeps : goal.returns-then-not-takes_fresh-clause-keeps
+returns-then-not-takes_fresh-clause-keeps g c = c.write_whole.ensures.keeps
+
+pub returns-then-not-takes_fresh-clause-kept : goal.returns-then-not-takes_fresh-clause-kept
+returns-then-not-takes_fresh-clause-kept g c = c.write_whole.ensures.kept
+
+pub returns-in-Err-clause-keeps : goal.returns-in-Err-clause-keeps
+returns-in-Err-clause-keeps g c = stay_keeps c.args.core.now c.begin_first.new.core c.args.logs.now.items c.begin_first.new.logs.items (g.S.Shelf.meaning c.args.shelf.now) (g.S.Shelf.meaning c.begin_first.new.shelf) (begins_stay c.args.vol (region_count (wide c.args.core.now).config c.args.vol) c.args.core.now c.begin_first.new.core c.args.logs.now.items c.begin_first.new.logs.items (g.S.Shelf.meaning c.args.shelf.now) (g.S.Shelf.meaning c.begin_first.new.shelf) c.begin_first.ensures.begins c.begin_first.ensures.first)
+
+pub returns-clause-keeps : goal.returns-clause-keeps
+returns-clause-keeps g c = then_keeps c.args.core.now c.begin_first.new.core c.write_whole-2.new.core c.args.logs.now.items c.begin_first.new.logs.items c.write_whole-2.new.logs.items (g.S.Shelf.meaning c.args.shelf.now) (g.S.Shelf.meaning c.begin_first.new.shelf) (g.S.Shelf.meaning c.write_whole-2.new.shelf) (frames_places c.args.core.now.inner.config c.begin_first.new.core.inner.config c.begin_first.ensures.begins.loses.loses.frames) c.begin_first.ensures.begins.loses.rises c.write_whole-2.ensures.loses.rises c.write_whole-2.ensures.goes.falls (begins_stay c.args.vol (region_count (wide c.args.core.now).config c.args.vol) c.args.core.now c.begin_first.new.core c.args.logs.now.items c.begin_first.new.logs.items (g.S.Shelf.meaning c.args.shelf.now) (g.S.Shelf.meaning c.begin_first.new.shelf) c.begin_first.ensures.begins c.begin_first.ensures.first) c.write_whole-2.ensures.keeps
+
+pub returns-clause-kept : goal.returns-clause-kept
+returns-clause-kept g c = c.write_whole-2.ensures.kept

@@ -1,5 +1,5 @@
 -- `make_fresh`: its clauses; what the calls ask.
-use Rattle.std.proofs.Common.{◌≡◌, ◌∙◌, ◌-◌, inl, inr, ℕ, None, true, List, [], ◌∷◌, length, refl, ap, sym, subst, arith, vec_len}
+use Rattle.std.proofs.Common.{◌≡◌, ◌∙◌, ◌-◌, inl, inr, ℕ, None, true, List, [], ◌∷◌, ◌++◌, length, refl, ap, sym, subst, arith, vec_len}
 use Rattle.std.specs.Prelude.{Some, take}
 use Rattle.vx_config.specs.declared.entry.VolumeLog.TheVariants.{Drl}
 use Rattle.vx_group.specs.Makes.{AreZero}
@@ -14,6 +14,8 @@ use Rattle.vx_loggroup.specs.LoggedVolumes.{LoggedStands, is_alike}
 use Rattle.vx_loggroup.proofs.FreshLemmas.{fresh_still}
 use Rattle.vx_loggroup.proofs.MadeLogs.{fresh_made, long_one, none_goes, none_made, one_made, refused_volumes, take_front, unmoved_by}
 use Rattle.vx_group.proofs.FindingLemmas.{still_group}
+use Rattle.vx_loggroup.proofs.KeepingLemmas.{extends_places, memory_more, stay_keeps, stays_more, stays_none, stays_same}
+use Rattle.vx_loggroup.specs.Keeping.{LogsKeep}
 use Rattle.vx_loggroup.proofs.making.make_fresh.Goals as goal
 
 pub make_in-requires-clause-stands : goal.make_in-requires-clause-stands
@@ -116,3 +118,21 @@ returns-in-Ok-make_in-clause-finds g c =
 pub returns-in-Err-make_in-clause-finds : goal.returns-in-Err-make_in-clause-finds
 returns-in-Err-make_in-clause-finds g c =
     c.make_in.ensures.finds
+
+pub returns-in-Some-clause-keeps : goal.returns-in-Some-clause-keeps
+returns-in-Some-clause-keeps g c = stay_keeps c.args.core.now c.args.core.now c.args.logs.now.items c.args.logs.now.items (g.S.Shelf.meaning c.args.shelf.now) (g.S.Shelf.meaning c.args.shelf.now) (stays_none c.args.core.now.inner.config c.args.logs.now.items (g.S.Shelf.meaning c.args.shelf.now) (g.S.Shelf.meaning c.args.shelf.now))
+
+pub returns-in-Err-clause-keeps : goal.returns-in-Err-clause-keeps
+returns-in-Err-clause-keeps g c = subst (λ (ls : List Logs). LogsKeep c.args.core.now c.args.core.now c.args.logs.now.items ls (g.S.Shelf.meaning c.args.shelf.now) (g.S.Shelf.meaning c.args.shelf.now)) (sym c.in-Err.ensures.items) (stay_keeps c.args.core.now c.args.core.now c.args.logs.now.items c.args.logs.now.items (g.S.Shelf.meaning c.args.shelf.now) (g.S.Shelf.meaning c.args.shelf.now) (stays_none c.args.core.now.inner.config c.args.logs.now.items (g.S.Shelf.meaning c.args.shelf.now) (g.S.Shelf.meaning c.args.shelf.now)))
+
+pub returns-in-Ok-make_in-clause-keeps : goal.returns-in-Ok-make_in-clause-keeps
+returns-in-Ok-make_in-clause-keeps g c =
+    subst (λ (ls : List Logs). LogsKeep c.args.core.now c.make_in.new.core c.args.logs.now.items ls (g.S.Shelf.meaning c.args.shelf.now) (g.S.Shelf.meaning c.make_in.new.shelf)) (sym c.in-Ok.ensures.items)
+    (stay_keeps c.args.core.now c.make_in.new.core c.args.logs.now.items (c.args.logs.now.items ++ ((record { drl = None; fmr = None }) ∷ [])) (g.S.Shelf.meaning c.args.shelf.now) (g.S.Shelf.meaning c.make_in.new.shelf)
+    (stays_more c.args.core.now.inner.config c.make_in.new.core.inner.config c.args.logs.now.items (c.args.logs.now.items ++ ((record { drl = None; fmr = None }) ∷ [])) (g.S.Shelf.meaning c.args.shelf.now) (g.S.Shelf.meaning c.make_in.new.shelf) (extends_places c.args.core.now.inner.config c.make_in.new.core.inner.config c.make_in.ensures.stays.shape) c.make_in.ensures.disks.blamed c.make_in.ensures.logs (λ v log has. memory_more c.args.logs.now.items ((record { drl = None; fmr = None }) ∷ []) v log has)))
+
+pub returns-in-Err-make_in-clause-keeps : goal.returns-in-Err-make_in-clause-keeps
+returns-in-Err-make_in-clause-keeps g c =
+    subst (λ (ls : List Logs). LogsKeep c.args.core.now c.make_in.new.core c.args.logs.now.items ls (g.S.Shelf.meaning c.args.shelf.now) (g.S.Shelf.meaning c.make_in.new.shelf)) (sym (c.pop.ensures.rest ∙ ap (take (vec_len c.push.new.self - 1)) c.in-Ok.ensures.items ∙ take_front c.args.logs.now.items ((record { drl = None; fmr = None }) ∷ []) (vec_len c.push.new.self - 1) (let long = ap length c.in-Ok.ensures.items ∙ long_one c.args.logs.now.items (record { drl = None; fmr = None }) in omega (arith, c.push.new.self.ok, long))))
+    (stay_keeps c.args.core.now c.make_in.new.core c.args.logs.now.items c.args.logs.now.items (g.S.Shelf.meaning c.args.shelf.now) (g.S.Shelf.meaning c.make_in.new.shelf)
+    (stays_same c.args.core.now.inner.config c.make_in.new.core.inner.config c.args.logs.now.items (g.S.Shelf.meaning c.args.shelf.now) (g.S.Shelf.meaning c.make_in.new.shelf) (extends_places c.args.core.now.inner.config c.make_in.new.core.inner.config c.make_in.ensures.stays.shape) c.make_in.ensures.disks.blamed c.make_in.ensures.logs))

@@ -66,3 +66,12 @@ returns-in-Err-clause-finds g c =
       core = as_finds (wide c.args.core.now) (wide c.trust_group.new.core) _ (g.S.Shelf.meaning c.args.shelf.now) (g.S.Shelf.meaning c.trust_group.new.shelf) refl refl refl c.trust_group.ensures.finds.core;
       free = c.trust_group.ensures.finds.free;
     }
+
+pub returns-then-is_down-clause-trusts : goal.returns-then-is_down-clause-trusts
+returns-then-is_down-clause-trusts g c = record { each = λ w log told. told }
+
+pub returns-in-Ok-clause-trusts : goal.returns-in-Ok-clause-trusts
+returns-in-Ok-clause-trusts g c = c.trust_group.ensures.logs
+
+pub returns-in-Err-clause-trusts : goal.returns-in-Err-clause-trusts
+returns-in-Err-clause-trusts g c = c.trust_group.ensures.logs

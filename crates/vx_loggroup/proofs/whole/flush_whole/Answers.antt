@@ -7,6 +7,7 @@ use Rattle.vx_loggroup.specs.LoggedVolumes.{is_alike}
 use Rattle.vx_loggroup.proofs.AlikeLemmas.{clears_set, notes_set, here_stands, index_low, set_stands}
 use Rattle.vx_loggroup.proofs.SetLemmas.{item_of}
 use Rattle.vx_logged.specs.Behind.{none_missing}
+use Rattle.vx_loggroup.proofs.KeepingCalls.{cleared_keeps}
 use Rattle.vx_loggroup.proofs.whole.flush_whole.Goals as goal
 
 pub index_mut-requires : goal.index_mut-requires
@@ -31,3 +32,6 @@ returns-clause-marks g c = clears_set (wide c.args.core.now).config c.args.vol c
 
 pub returns-clause-maps : goal.returns-clause-maps
 returns-clause-maps g c = notes_set none_missing c.args.vol 0 0 c.args.logs.now.items c.index_mut.result.now c.flush_cleared.new.logs (item_of c.args.logs.now.items c.args.vol c.index_mut.result.now c.index_mut.ensures.value (index_low c.args.core.now c.args.logs.now.items c.args.alike.now c.args.stopped (g.S.Shelf.meaning c.args.shelf.now) c.args.vol c.requires.stands c.requires.there)) c.flush_cleared.ensures.stay
+
+pub returns-clause-keeps : goal.returns-clause-keeps
+returns-clause-keeps g c = cleared_keeps c.args.core.now c.flush_cleared.new.core c.args.vol c.args.logs.now.items c.index_mut.result.now c.flush_cleared.new.logs (g.S.Shelf.meaning c.args.shelf.now) (g.S.Shelf.meaning c.flush_cleared.new.shelf) (item_of c.args.logs.now.items c.args.vol c.index_mut.result.now c.index_mut.ensures.value (index_low c.args.core.now c.args.logs.now.items c.args.alike.now c.args.stopped (g.S.Shelf.meaning c.args.shelf.now) c.args.vol c.requires.stands c.requires.there)) c.flush_cleared.ensures.loses.loses c.flush_cleared.ensures.trusts c.flush_cleared.ensures.drops

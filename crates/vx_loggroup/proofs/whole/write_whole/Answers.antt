@@ -7,6 +7,8 @@ use Rattle.vx_loggroup.proofs.AlikeLemmas.{going_back, index_low, marks_set, not
 use Rattle.vx_logged.specs.Behind.{all_those}
 use Rattle.vx_logged.specs.Logged.{are_off}
 use Rattle.vx_loggroup.proofs.SetLemmas.{item_of}
+use Rattle.vx_loggroup.proofs.KeepingLemmas.{kept_set}
+use Rattle.vx_loggroup.proofs.KeepingCalls.{marked_keeps}
 use Rattle.vx_loggroup.proofs.whole.write_whole.Goals as goal
 
 pub index_mut-requires : goal.index_mut-requires
@@ -53,3 +55,12 @@ returns-in-Err-clause-notes g c = notes_set all_those c.args.vol (first_region c
 
 pub returns-in-Err-clause-marked : goal.returns-in-Err-clause-marked
 returns-in-Err-clause-marked g c = c.write_marked.ensures.marked
+
+pub returns-in-Ok-clause-keeps : goal.returns-in-Ok-clause-keeps
+returns-in-Ok-clause-keeps g c = marked_keeps c.args.core.now c.write_marked.new.core c.args.vol c.args.logs.now.items c.index_mut.result.now c.write_marked.new.logs (g.S.Shelf.meaning c.args.shelf.now) (g.S.Shelf.meaning c.write_marked.new.shelf) (item_of c.args.logs.now.items c.args.vol c.index_mut.result.now c.index_mut.ensures.value (index_low c.args.core.now c.args.logs.now.items c.args.alike.now c.args.stopped.now (g.S.Shelf.meaning c.args.shelf.now) c.args.vol c.requires.stands c.requires.fits.exists)) c.write_marked.ensures.loses.loses c.write_marked.ensures.trusts c.write_marked.ensures.drops
+
+pub returns-in-Err-clause-keeps : goal.returns-in-Err-clause-keeps
+returns-in-Err-clause-keeps g c = marked_keeps c.args.core.now c.write_marked.new.core c.args.vol c.args.logs.now.items c.index_mut.result.now c.write_marked.new.logs (g.S.Shelf.meaning c.args.shelf.now) (g.S.Shelf.meaning c.write_marked.new.shelf) (item_of c.args.logs.now.items c.args.vol c.index_mut.result.now c.index_mut.ensures.value (index_low c.args.core.now c.args.logs.now.items c.args.alike.now c.args.stopped.now (g.S.Shelf.meaning c.args.shelf.now) c.args.vol c.requires.stands c.requires.fits.exists)) c.write_marked.ensures.loses.loses c.write_marked.ensures.trusts c.write_marked.ensures.drops
+
+pub returns-in-Ok-clause-kept : goal.returns-in-Ok-clause-kept
+returns-in-Ok-clause-kept g c = λ off. kept_set c.write_marked.new.core c.args.logs.now.items c.args.vol c.write_marked.new.logs (c.in-Ok.ensures.kept off)

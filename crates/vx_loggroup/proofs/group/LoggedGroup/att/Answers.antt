@@ -13,3 +13,6 @@ invariant_of-self g c = record { stands = to_logged c.att_held.new.core c.att_he
 
 pub returns-clause-mirrors : goal.returns-clause-mirrors
 returns-clause-mirrors g c = keep_att c.args.vol c.args.plex (map_by c.args.self.now.logs.items c.args.self.now.core.inner.config c.args.self.now.stopped (g.S.Shelf.meaning c.args.self.now.shelf).down c.args.vol c.args.plex) c.args.self.now.core c.att_held.new.core (g.S.Shelf.meaning c.args.self.now.shelf) (g.S.Shelf.meaning c.att_held.new.shelf) c.att_held.ensures.attaches c.att_held.ensures.regains
+
+pub returns-clause-keeps : goal.returns-clause-keeps
+returns-clause-keeps g c = c.att_held.ensures.keeps

@@ -14,3 +14,6 @@ invariant_of-self g c = record { stands = to_logged c.det_fresh.new.core c.det_f
 
 pub returns-clause-mirrors : goal.returns-clause-mirrors
 returns-clause-mirrors g c = keep_det c.args.vol c.args.plex c.args.self.now.core c.det_fresh.new.core (g.S.Shelf.meaning c.args.self.now.shelf) (g.S.Shelf.meaning c.det_fresh.new.shelf) c.det_fresh.ensures.others c.det_fresh.ensures.disks
+
+pub returns-clause-keeps : goal.returns-clause-keeps
+returns-clause-keeps g c = c.det_fresh.ensures.keeps

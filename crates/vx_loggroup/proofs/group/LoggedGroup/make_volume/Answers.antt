@@ -14,3 +14,6 @@ invariant_of-self g c = record { stands = to_logged c.make_fresh.new.core c.make
 
 pub returns-clause-mirrors : goal.returns-clause-mirrors
 returns-clause-mirrors g c = keep_make c.args.self.now.core c.make_fresh.new.core (g.S.Shelf.meaning c.args.self.now.shelf) (g.S.Shelf.meaning c.make_fresh.new.shelf) c.make_fresh.ensures.stays c.make_fresh.ensures.disks
+
+pub returns-clause-keeps : goal.returns-clause-keeps
+returns-clause-keeps g c = c.make_fresh.ensures.keeps

@@ -16,3 +16,6 @@ invariant_of-self g c = record { stands = to_logged c.flush_whole.new.core c.flu
 
 pub returns-clause-mirrors : goal.returns-clause-mirrors
 returns-clause-mirrors g c = keep_loses names_none c.args.self.now.core c.flush_whole.new.core (g.S.Shelf.meaning c.args.self.now.shelf) (g.S.Shelf.meaning c.flush_whole.new.shelf) c.flush_whole.ensures.loses.loses
+
+pub returns-clause-keeps : goal.returns-clause-keeps
+returns-clause-keeps g c = c.flush_whole.ensures.keeps

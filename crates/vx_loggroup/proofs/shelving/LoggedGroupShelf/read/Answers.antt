@@ -3,6 +3,7 @@ use Rattle.vx_loggroup.proofs.FactLemmas.{from_logged, to_logged}
 use Rattle.vx_loggroup.proofs.FreshLemmas.{fresh_still}
 use Rattle.vx_loggroup.specs.Mirrors.{names_none}
 use Rattle.vx_loggroup.proofs.MirrorLemmas.{keep_same}
+use Rattle.vx_loggroup.proofs.KeepingLemmas.{config_keeps}
 use Rattle.vx_loggroup.proofs.shelving.LoggedGroupShelf.read.Goals as goal
 
 pub read_whole-requires-clause-stands : goal.read_whole-requires-clause-stands
@@ -13,3 +14,6 @@ invariant_of-self g c = record { stands = to_logged c.read_whole.new.core c.args
 
 pub returns-clause-mirrors : goal.returns-clause-mirrors
 returns-clause-mirrors g c = keep_same names_none c.args.self.now.core c.read_whole.new.core (g.S.Shelf.meaning c.args.self.now.shelf) (g.S.Shelf.meaning c.read_whole.new.shelf) c.read_whole.ensures.same
+
+pub returns-clause-keeps : goal.returns-clause-keeps
+returns-clause-keeps g c = config_keeps c.args.self.now.core c.read_whole.new.core c.args.self.now.logs.items (g.S.Shelf.meaning c.args.self.now.shelf) (g.S.Shelf.meaning c.read_whole.new.shelf) c.read_whole.ensures.same

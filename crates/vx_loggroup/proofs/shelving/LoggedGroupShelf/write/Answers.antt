@@ -18,3 +18,9 @@ invariant_of-self g c = record { stands = to_logged c.write_fresh.new.core c.wri
 
 pub returns-clause-mirrors : goal.returns-clause-mirrors
 returns-clause-mirrors g c = keep_loses names_none c.args.self.now.core c.write_fresh.new.core (g.S.Shelf.meaning c.args.self.now.shelf) (g.S.Shelf.meaning c.write_fresh.new.shelf) c.write_fresh.ensures.loses.loses
+
+pub returns-clause-keeps : goal.returns-clause-keeps
+returns-clause-keeps g c = c.write_fresh.ensures.keeps
+
+pub returns-clause-kept : goal.returns-clause-kept
+returns-clause-kept g c = c.write_fresh.ensures.kept
