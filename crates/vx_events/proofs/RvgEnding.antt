@@ -23,6 +23,7 @@ use Rattle.vx_events.specs.Doubts.{IsAs, run_as, with_disks}
 use Rattle.vx_events.specs.Ends.{place_of}
 use Rattle.vx_events.specs.Facts.{site_number}
 use Rattle.vx_events.specs.Fails.{Fails}
+use Rattle.vx_events.specs.GroupEnds.{BringsUp}
 use Rattle.vx_events.specs.GroupLines.{group_events, group_noted, noting}
 use Rattle.vx_events.specs.GroupNotes.{IsKnown, note_at}
 use Rattle.vx_events.specs.Lists.{Choice, events_of, recovery_of}
@@ -187,19 +188,18 @@ opens_at w other opens c h = absurd h
 
 -- ---- any line at such a site
 
-module _ (told : Type 0) (is_told : told) (d : Doubted) (s : ℕ) (bright : (note_at (d.world.nodes s)).dark ≡ false) (agree : (note_at (d.world.nodes s)).loose ≡ false)
-    (fails : Fails) (said : Said) (new : Doubted) where
-  -- what the disks hold is known, so nothing else is found on them
-  pub never_found : (line : ScriptLine) → RvgFinds told d line s fails said new → ⊥
-  never_found line (FindsRvg kept taken next mid n k row c units are brings (inl untold) dark is same comes config fits says left) = untold is_told
-  never_found line (FindsRvg kept taken next mid n k row c units are brings (inr (inl loose)) dark is same comes config fits says left) = absurd (let e : true ≡ false = sym loose ∙ agree in cc)
-  never_found line (FindsRvg kept taken next mid n k row c units are brings (inr (inr unknown)) dark is same comes config fits says left) = absurd (let e : true ≡ false = sym unknown ∙ bright in cc)
-  never_found line (FindsPlain kept taken next mid has are brings (inl untold) dark is none says left) = untold is_told
-  never_found line (FindsPlain kept taken next mid has are brings (inr (inl loose)) dark is none says left) = absurd (let e : true ≡ false = sym loose ∙ agree in cc)
-  never_found line (FindsPlain kept taken next mid has are brings (inr (inr unknown)) dark is none says left) = absurd (let e : true ≡ false = sym unknown ∙ bright in cc)
-  never_found line (FindsNoRvg kept taken next why are brings (inl untold) free notes says left) = untold is_told
-  never_found line (FindsNoRvg kept taken next why are brings (inr (inl loose)) free notes says left) = absurd (let e : true ≡ false = sym loose ∙ agree in cc)
-  never_found line (FindsNoRvg kept taken next why are brings (inr (inr unknown)) free notes says left) = absurd (let e : true ≡ false = sym unknown ∙ bright in cc)
+module _ (told : Type 0) (is_told : told) (d : Doubted) (s : ℕ) (bright : (note_at (d.world.nodes s)).dark ≡ false) (fails : Fails) (said : Said) (new : Doubted) where
+  -- what the disks hold is known, and imports agree, so nothing else is found on them
+  pub never_found : (line : ScriptLine) → (note_at (d.world.nodes s)).loose ≡ false → RvgFinds told d line s fails said new → ⊥
+  never_found line agree (FindsRvg kept taken next mid n k row c units are brings (inl untold) dark is same comes config fits says left) = untold is_told
+  never_found line agree (FindsRvg kept taken next mid n k row c units are brings (inr (inl loose)) dark is same comes config fits says left) = absurd (let e : true ≡ false = sym loose ∙ agree in cc)
+  never_found line agree (FindsRvg kept taken next mid n k row c units are brings (inr (inr unknown)) dark is same comes config fits says left) = absurd (let e : true ≡ false = sym unknown ∙ bright in cc)
+  never_found line agree (FindsPlain kept taken next mid has are brings (inl untold) dark is none says left) = untold is_told
+  never_found line agree (FindsPlain kept taken next mid has are brings (inr (inl loose)) dark is none says left) = absurd (let e : true ≡ false = sym loose ∙ agree in cc)
+  never_found line agree (FindsPlain kept taken next mid has are brings (inr (inr unknown)) dark is none says left) = absurd (let e : true ≡ false = sym unknown ∙ bright in cc)
+  never_found line agree (FindsNoRvg kept taken next why are brings (inl untold) free notes says left) = untold is_told
+  never_found line agree (FindsNoRvg kept taken next why are brings (inr (inl loose)) free notes says left) = absurd (let e : true ≡ false = sym loose ∙ agree in cc)
+  never_found line agree (FindsNoRvg kept taken next why are brings (inr (inr unknown)) free notes says left) = absurd (let e : true ≡ false = sym unknown ∙ bright in cc)
 
   unchanged : IsAs d d.world new → RvgStops d new
   unchanged left = record {
@@ -215,24 +215,26 @@ module _ (told : Type 0) (is_told : told) (d : Doubted) (s : ℕ) (bright : (not
   shows_or true line opens (ShowFails disk are has says left) = unchanged left
   shows_or false line opens ends = over_stops told d line s fails said new (is_told, bright) (opens_at d.world line opens) ends
 
-  back_or : (line : ScriptLine) → RvgBack told d line s fails said new ⊎ RvgFinds told d line s fails said new → RvgStops d new
-  back_or line (inl back) = back_stops told d line s fails said new back
-  back_or line (inr finds) = absurd (never_found line finds)
+  back_or : (line : ScriptLine) → (note_at (d.world.nodes s)).loose ≡ false → RvgBack told d line s fails said new ⊎ RvgFinds told d line s fails said new → RvgStops d new
+  back_or line agree (inl back) = back_stops told d line s fails said new back
+  back_or line agree (inr finds) = absurd (never_found line agree finds)
 
-  takes_or : (line : ScriptLine) → OpensFor d.world line → TakesOr told d line s fails said new → RvgStops d new
-  takes_or (GroupImport site) opens ends = back_or (GroupImport site) ends
-  takes_or (Recover site) opens ends = back_or (Recover site) ends
-  takes_or other opens ends = shows_or (is_inside (note_at (d.world.nodes s)) other) other opens ends
+  takes_or : (line : ScriptLine) → (BringsUp line → (note_at (d.world.nodes s)).loose ≡ false) → OpensFor d.world line → TakesOr told d line s fails said new → RvgStops d new
+  takes_or (GroupImport site) agree opens ends = back_or (GroupImport site) (agree tt) ends
+  takes_or (Recover site) agree opens ends = back_or (Recover site) (agree tt) ends
+  takes_or other agree opens ends = shows_or (is_inside (note_at (d.world.nodes s)) other) other opens ends
 
-  by_place : (below : Bool) (line : ScriptLine) → OpensFor d.world line → OverRvgBy below told d line s fails said new → RvgStops d new
-  by_place true line opens (inl ends) =
+  by_place : (below : Bool) (line : ScriptLine) → (BringsUp line → (note_at (d.world.nodes s)).loose ≡ false) → OpensFor d.world line
+      → OverRvgBy below told d line s fails said new → RvgStops d new
+  by_place true line agree opens (inl ends) =
       let stops = group_stops told d line s fails said new ends in
       record { before = d; like = same_doubted d; events = stops.events; ending = []; stops = stops.stops }
-  by_place true line opens (inr cut) = below_stops told d line s fails said new cut
-  by_place false line opens ends = takes_or line opens ends
+  by_place true line agree opens (inr cut) = below_stops told d line s fails said new cut
+  by_place false line agree opens ends = takes_or line agree opens ends
 
-  pub over_rvg_stops : (line : ScriptLine) → OpensFor d.world line → OverRvg told d line s fails said new → RvgStops d new
-  over_rvg_stops line opens ends = by_place (is_below (note_at (d.world.nodes s)) line) line opens ends
+  pub over_rvg_stops : (line : ScriptLine) → (BringsUp line → (note_at (d.world.nodes s)).loose ≡ false) → OpensFor d.world line → OverRvg told d line s fails said new
+      → RvgStops d new
+  over_rvg_stops line agree opens ends = by_place (is_below (note_at (d.world.nodes s)) line) line agree opens ends
 
 -- ---- lines of links
 

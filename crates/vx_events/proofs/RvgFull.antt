@@ -80,7 +80,7 @@ brings_back told d line s fails said new (GroupCutOff next site is has are fused
 brings_back told d line s fails said new (GroupUnfound kept taken why next has are brings not leaves says left) = brings
 brings_back told d line s fails said new (GroupHeld kept taken disk next has are failed brings notes says left) = brings
 
-brings_found : (told : Type 0) (d : Doubted) (line : ScriptLine) (s : ℕ) (fails : Fails) (said : Said) (new : Doubted) → RvgFinds told d line s fails said new → BringsUp line
+pub brings_found : (told : Type 0) (d : Doubted) (line : ScriptLine) (s : ℕ) (fails : Fails) (said : Said) (new : Doubted) → RvgFinds told d line s fails said new → BringsUp line
 brings_found told d line s fails said new (FindsRvg kept taken next mid n k row c units are brings unknown dark is same comes config fits says left) = brings
 brings_found told d line s fails said new (FindsPlain kept taken next mid has are brings unknown dark is none says left) = brings
 brings_found told d line s fails said new (FindsNoRvg kept taken next why are brings unknown free notes says left) = brings

@@ -25,7 +25,7 @@ ghost use Rattle.vx_events.specs.declared.said.Said.TheVariants.{Done as SaysDon
 ghost use Rattle.vx_events.specs.RvgLinks.{AllKnown, LinksOver};
 ghost use Rattle.vx_events.specs.RvgMakes.{MakesRvg, RvgStops};
 ghost use Rattle.vx_events.specs.RvgOver.{OpensFor, OverRvg};
-ghost use Rattle.vx_events.specs.RvgSteps.{AllAgree, FoundPlain, HasNoRvgs, MakesNoRvg, StepFull};
+ghost use Rattle.vx_events.specs.RvgSteps.{AgreeFor, FoundPlain, HasNoRvgs, MakesNoRvg, StepFull};
 ghost use Rattle.vx_events.specs.Fails.{AreBorne, Fails};
 ghost use Rattle.vx_events.specs.Lines.{LineStep, is_of_links};
 ghost use Rattle.vx_events.specs.Lists.{Choice};
@@ -112,11 +112,12 @@ pub fn made_rvgs_fit()
         → MakesRvg (IsTrue tells) d line s fails said new → said ≡ SaysDone → config_of (note_at (new.world.nodes s)).config ≡ Some c → FitsSome (new.world.nodes s) c }
 {}
 
-/// So does each line at a site over a group of disks with a replicated volume group, and each of links of such a site, where it is known what the disks hold and
-/// imports agree.
+/// So does each line at a site over a group of disks with a replicated volume group, and each of links of such a site, where it is known what the disks hold; of one
+/// that brings the site up, where imports agree.
 pub fn lines_over_rvgs_are_events()
     ensures over { (d : Doubted) (line : ScriptLine) (s : ℕ) (fails : Fails) (said : Said) (new : Doubted) → OpensFor d.world line
-        → (note_at (d.world.nodes s)).dark ≡ false → (note_at (d.world.nodes s)).loose ≡ false → OverRvg (Unit {0}) d line s fails said new → RvgStops d new }
+        → (note_at (d.world.nodes s)).dark ≡ false → (BringsUp line → (note_at (d.world.nodes s)).loose ≡ false) → OverRvg (Unit {0}) d line s fails said new
+        → RvgStops d new }
     ensures links { (d : Doubted) (line : ScriptLine) (fails : Fails) (said : Said) (new : Doubted) → AllKnown (Unit {0}) d.world line
         → LinksOver (Unit {0}) d line fails said new → RvgStops d new }
 {}
@@ -133,9 +134,9 @@ pub fn steps_over_groups()
 {}
 
 /// However a line ends that is refused or not, in worlds in which sites are over groups of disks with replicated volume groups or without: it ends as events of the
-/// world do, where it is known what the disks of groups hold, and imports agree.
+/// world do, where it is known what the disks of groups hold, and imports agree of a group that the line brings up.
 pub fn full_lines_are_events()
-    ensures { (files : Bool) (d : Doubted) (line : ScriptLine) (fails : Fails) (said : Said) (new : Doubted) → AllAgree d.world
+    ensures { (files : Bool) (d : Doubted) (line : ScriptLine) (fails : Fails) (said : Said) (new : Doubted) → AgreeFor d.world line
         → StepFull (Unit {0}) files d line fails said new → RvgStops d new }
 {}
 
