@@ -10,6 +10,8 @@ pub mod RvgSeats
 pub mod RvgFull
 pub mod RvgGains
 pub mod RvgKnown
+pub mod RvgConfigs
+pub mod RvgStays
 pub mod Keeping
 pub mod KnownLaws
 pub mod LinkAgreeing

@@ -41,7 +41,7 @@ apart_of true true e = absurd (let f : false ≡ true = e in cc)
 apart_of true false e = refl
 apart_of false none e = refl
 
-rvg_apart : (n : Node) → is_over_rvg n ≡ true → is_over_group n ≡ false
+pub rvg_apart : (n : Node) → is_over_rvg n ≡ true → is_over_group n ≡ false
 rvg_apart n over = apart_of (is_some n.group) (eqb (length n.volumes) 0) over
 
 module _ (told : Type 0) (is_told : told) (files : Bool) (d : Doubted) (fails : Fails) (said : Said) (new : Doubted) where

@@ -29,7 +29,7 @@ use Rattle.vx_events.specs.declared.said.Said.{Said}
 of_note : (w : World) (s : ℕ) (next : GroupNode) → (w.nodes s).group ≡ Some next → next.dark ≡ false → (note_at (w.nodes s)).dark ≡ false
 of_note w s next is known = ap (λ (o : Option GroupNode). (unwrap_or o no_note).dark) is ∙ known
 
-noted_here : (v : World) (s : ℕ) (next : GroupNode) → ((noting v s next).nodes s).group ≡ Some next
+pub noted_here : (v : World) (s : ℕ) (next : GroupNode) → ((noting v s next).nodes s).group ≡ Some next
 noted_here v s next = ap (λ (n : Node). n.group) (at_place v.nodes s (record (v.nodes s) { group = Some next }))
 
 back_note : (s : ℕ) (line : ScriptLine) (taken : Bool) (next : GroupNode) (before last new : Doubted) → IsLeftBack s line taken next before last new → next.dark ≡ false
