@@ -12,6 +12,7 @@ pub mod RvgGains
 pub mod RvgKnown
 pub mod RvgConfigs
 pub mod RvgStays
+pub mod RvgAgain
 pub mod Keeping
 pub mod KnownLaws
 pub mod LinkAgreeing

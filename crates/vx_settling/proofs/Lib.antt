@@ -14,3 +14,4 @@ pub mod Burning
 pub mod WithinOne
 pub mod WithinLines
 pub mod WithinApply
+pub mod RvgRooms

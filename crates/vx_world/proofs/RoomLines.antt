@@ -190,6 +190,16 @@ like_room d last new like stays = record {
     noted : (i : ℕ) → SameRoom (last.world.nodes i) (new.world.nodes i)
     noted i = record { ring = ap (λ (n : Node). n.ring) (like.worlds.nodes i); volumes = ap (λ (n : Node). n.volumes) (like.worlds.nodes i) }
 
+-- worlds that differ in notes alone have the same sites, with the same data volumes
+pub like_stays : (d e : Doubted) → IsLikeDoubted d e → DoubtsAlike d → RoomStays d e
+like_stays d e like alike = like_room d d e like (goes_self d alike).stays
+
+pub like_has : (d e : Doubted) → IsLikeDoubted d e → (i : ℕ) → HasData (d.world.nodes i) → HasData (e.world.nodes i)
+like_has d e like i has = (
+  λ bare. has.0 (sym (ap (λ (n : Node). n.state) (like.worlds.nodes i)) ∙ bare),
+  λ none. has.1 (sym (ap (λ (n : Node). n.volumes) (like.worlds.nodes i)) ∙ none),
+)
+
 stays_then : (d e f : Doubted) → RoomGoes d e → RoomStays e f → RoomStays d f
 stays_then d e f x y = record {
   sites = λ i has. room_then (d.world.nodes i) (e.world.nodes i) (f.world.nodes i) (x.stays.sites i has) (y.sites i (x.has i has));
