@@ -13,6 +13,7 @@ pub mod RvgKnown
 pub mod RvgConfigs
 pub mod RvgStays
 pub mod RvgAgain
+pub mod RvgRows
 pub mod Keeping
 pub mod KnownLaws
 pub mod LinkAgreeing

@@ -1,5 +1,5 @@
 -- A site that keeps its log and its data volumes, and notes the replicated volume group that it noted, has that one.
-use Rattle.std.proofs.Common.{◌≡◌, ◌∙◌, ℕ, List, [], ◌∷◌, Option, Some, ap, map, refl, sym}
+use Rattle.std.proofs.Common.{◌≡◌, ◌∙◌, ℕ, List, [], ◌∷◌, Option, ap, map, refl, sym}
 use Rattle.std.specs.List.{AllByRecursion}
 use Rattle.std.specs.Prelude.{slice_get}
 use Rattle.vx_model.specs.Sizes.{ring_of}
@@ -11,7 +11,7 @@ use Rattle.vx_config.specs.Checks.{blocks_of, blocks_or_none}
 use Rattle.vx_config.specs.declared.config.Config.{Config}
 use Rattle.vx_config.specs.declared.entry.VolumeEntry.{VolumeEntry}
 use Rattle.vx_events.specs.GroupNotes.{note_at}
-use Rattle.vx_events.specs.RvgFits.{FitsNoted, HasUnits, HasVolume, KeepsRvg, KeptConfig, KeptVolume, NoteKeepsRvg, data_at, data_of, entry_name}
+use Rattle.vx_events.specs.RvgFits.{FitsNoted, HasVolume, KeepsRvg, KeptConfig, KeptVolume, NoteKeepsRvg, data_at, entry_name}
 
 module _ (c d : Config) (keeps : KeepsRvg c d) where
   has_kept : (v : ℕ) → HasVolume c.volumes v → HasVolume d.volumes v

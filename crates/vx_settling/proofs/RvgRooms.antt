@@ -1,6 +1,6 @@
 -- Behind a line over groups of disks each site has the log and the data volumes that it had, and one with a replicated volume group the one that it notes.
-use Rattle.std.proofs.Common.{◌≡◌, ◌∙◌, ℕ, List, [], length, Bool, true, false, ap, sym, subst}
-use Rattle.std.specs.Prelude.{◌&&◌, eqb, is_some, not}
+use Rattle.std.proofs.Common.{◌≡◌, ◌∙◌, ℕ, List, [], length, true, false, ap, sym, subst}
+use Rattle.std.specs.Prelude.{eqb, is_some, not}
 use Rattle.vx_history.proofs.Updates.{and_right, eqb_self}
 use Rattle.vx_history.specs.Doubts.{Doubted}
 use Rattle.vx_history.specs.Good.{IsMade}

@@ -5,7 +5,7 @@ use Rattle.vx_order.specs.declared.facts.VolumeFacts.{VolumeFacts}
 use Rattle.vx_events.specs.RvgViews.{kinds_from}
 use Rattle.std.proofs.lemmas.List.{length-take}
 use Rattle.std.proofs.lemmas.Option.{slice_get-get_or}
-use Rattle.vx_group_facts.proofs.Kinds.{kinds_more, length_kinds}
+use Rattle.vx_group_facts.proofs.KindPlaces.{kinds_more, length_kinds}
 use Rattle.vx_group_facts.proofs.seen.kinds_seen.Goals as goal
 
 pub push-requires : goal.push-requires
