@@ -14,6 +14,7 @@ pub mod RvgConfigs
 pub mod RvgStays
 pub mod RvgAgain
 pub mod RvgRows
+pub mod RvgTests
 pub mod Keeping
 pub mod KnownLaws
 pub mod LinkAgreeing

@@ -14,10 +14,10 @@ use Rattle.vx_events.specs.GroupNotes.{note_at}
 use Rattle.vx_events.specs.RvgFits.{FitsNoted, HasVolume, KeepsRvg, KeptConfig, KeptVolume, NoteKeepsRvg, data_at, entry_name}
 
 module _ (c d : Config) (keeps : KeepsRvg c d) where
-  has_kept : (v : ℕ) → HasVolume c.volumes v → HasVolume d.volumes v
+  pub has_kept : (v : ℕ) → HasVolume c.volumes v → HasVolume d.volumes v
   has_kept v (e, at) = let k : KeptVolume e (slice_get d.volumes v) = keeps.volumes v e at in (k.now, k.is)
 
-  all_kept : (places : List ℕ) → AllByRecursion (HasVolume c.volumes) places → AllByRecursion (HasVolume d.volumes) places
+  pub all_kept : (places : List ℕ) → AllByRecursion (HasVolume c.volumes) places → AllByRecursion (HasVolume d.volumes) places
   all_kept [] all = tt
   all_kept (x ∷ xs) (here, rest) = (has_kept x here, all_kept xs rest)
 

@@ -13,19 +13,19 @@ ghost use Rattle.vx_history.specs.declared.event.Event.TheVariants.{Site as Make
 ghost use Rattle.vx_history.specs.declared.event.Said.TheVariants.{Done, DoneAt, Got};
 ghost use Rattle.vx_order.specs.Order.{line_refusal};
 ghost use Rattle.vx_script.specs.declared.line.ScriptLine.{ScriptLine};
-ghost use Rattle.vx_script.specs.declared.line.ScriptLine.TheVariants.{Site, Raw, Crash, Write as WriteLine, Put, Read, Show, Apply};
+ghost use Rattle.vx_script.specs.declared.line.ScriptLine.TheVariants.{Site, Raw, Crash, Rvg, Write as WriteLine, Put, Read, Show, Apply};
 ghost use Rattle.vx_events.specs.Facts.{facts_of, site_number, volume_number};
 ghost use Rattle.vx_events.specs.GroupEnds.{BringsUp, GroupEnds, GroupStops};
 ghost use Rattle.vx_events.specs.GroupNotes.{note_at};
 ghost use Rattle.vx_events.specs.Known.{MayDarken};
 ghost use Rattle.vx_config.specs.declared.config.Config.{Config};
 ghost use Rattle.vx_events.specs.GroupViews.{config_of};
-ghost use Rattle.vx_events.specs.RvgFits.{FitsSome, MayGetRvg, NoteKeepsRvg};
+ghost use Rattle.vx_events.specs.RvgFits.{FitsNoted, FitsSome, MayGetRvg, NoteKeepsRvg};
 ghost use Rattle.vx_events.specs.declared.said.Said.TheVariants.{Done as SaysDone};
 ghost use Rattle.vx_events.specs.RvgLinks.{AllKnown, LinksOver};
 ghost use Rattle.vx_events.specs.RvgMakes.{MakesRvg, RvgStops};
 ghost use Rattle.vx_events.specs.RvgOver.{OpensFor, OverRvg};
-ghost use Rattle.vx_events.specs.RvgSteps.{AgreeFor, FoundPlain, HasNoRvgs, MakesNoRvg, StepFull};
+ghost use Rattle.vx_events.specs.RvgSteps.{AgreeFor, FoundPlain, HasNoRvgs, MakesNoRvg, StepFull, refused_full};
 ghost use Rattle.vx_events.specs.RvgViews.{is_over_rvg};
 ghost use Rattle.vx_events.specs.Fails.{AreBorne, Fails};
 ghost use Rattle.vx_events.specs.Lines.{LineStep, is_of_links};
@@ -107,10 +107,14 @@ pub fn rvg_lines_are_events()
         → RvgStops d new }
 {}
 
-/// Where it is done its site has the replicated volume group of the configuration.
+/// Where it is done its site has the replicated volume group of the configuration; and where no test refused the line, its units are volumes of the group.
 pub fn made_rvgs_fit()
-    ensures { (tells : Bool) (d : Doubted) (line : ScriptLine) (s : ℕ) (fails : Fails) (said : Said) (new : Doubted) (c : Config) → MayGetRvg d.world s
+    ensures fits { (tells : Bool) (d : Doubted) (line : ScriptLine) (s : ℕ) (fails : Fails) (said : Said) (new : Doubted) (c : Config) → MayGetRvg d.world s
         → MakesRvg (IsTrue tells) d line s fails said new → said ≡ SaysDone → config_of (note_at (new.world.nodes s)).config ≡ Some c → FitsSome (new.world.nodes s) c }
+    ensures noted { (tells files : Bool) (d : Doubted) (site srl maps : List ℕ) (volumes : List (List ℕ)) (fails : Fails) (said : Said) (new : Doubted)
+        → MayGetRvg d.world (site_number d.world site) → refused_full d.world files (Rvg site srl maps volumes) ≡ None
+        → MakesRvg (IsTrue tells) d (Rvg site srl maps volumes) (site_number d.world site) fails said new → said ≡ SaysDone
+        → FitsNoted (new.world.nodes (site_number d.world site)) }
 {}
 
 /// So does each line at a site over a group of disks with a replicated volume group, and each of links of such a site, where it is known what the disks hold; of one
