@@ -127,7 +127,7 @@ cuts_known s note other fails next known free cuts = absurd cuts
 pub no_rise : (note : GroupNode) (line : ScriptLine) (said : Said) (why : No) → said ≡ Refused why → (MayDarken note line said → ⊥) → BringsUp line → ⊥
 no_rise note line said why is free brings = free (brings, inr (subst SaysNo (sym is) tt))
 
-never : false ≡ true → ⊥
+pub never : false ≡ true → ⊥
 never e = absurd (cc)
 
 pub finds_none : (told : Type 0) → told → (note : GroupNode) → note.dark ≡ false → (note.loose ≡ true → ⊥) → KnowsNothing told note → ⊥

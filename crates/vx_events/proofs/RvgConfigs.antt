@@ -94,17 +94,17 @@ again_keeps c = record { rvg = refl; volumes = λ v e at. mapped volume_again (�
 pub closed_keeps : (c : Config) → KeepsRvg (opened_again c) c
 closed_keeps c = record { rvg = refl; volumes = λ v e at. unmapped volume_again (λ _. (refl, refl)) c.volumes v e at }
 
-stated_keeps : (v p : ℕ) (state : PlexState) (whole : Bool) (c : Config) → KeepsRvg c (stated v p state whole c)
-stated_keeps v p state whole c = record { rvg = refl; volumes = λ w e at. changed (with_plex p state whole) (λ _. (refl, refl)) v c.volumes w e at }
+stated_keeps : (v p : ℕ) (kind : PlexState) (whole : Bool) (c : Config) → KeepsRvg c (stated v p kind whole c)
+stated_keeps v p kind whole c = record { rvg = refl; volumes = λ w e at. changed (with_plex p kind whole) (λ _. (refl, refl)) v c.volumes w e at }
 
-pub puts_keeps : (v p : ℕ) (state : PlexState) (c d : Config) → PutsPlex v p state c d → KeepsRvg c d
-puts_keeps v p state c d x = subst (λ (k : Config). KeepsRvg c k) (sym x.is) (stated_keeps v p state x.whole c)
+pub puts_keeps : (v p : ℕ) (kind : PlexState) (c d : Config) → PutsPlex v p kind c d → KeepsRvg c d
+puts_keeps v p kind c d x = subst (λ (k : Config). KeepsRvg c k) (sym x.is) (stated_keeps v p kind x.whole c)
 
--- a plex is in another state, or not, and calls failed
-pub puts_or : (again : ℕ → Bool) (s : ℕ) (fails : Fails) (v p : ℕ) (state : PlexState) (c d : Config)
-    → ConfigLosesBut again s fails c d ⊎ ((x : Config) × PutsPlex v p state c x × ConfigLosesBut again s fails x d) → KeepsRvg c d
-puts_or again s fails v p state c d (inl loses) = loses_keeps again s fails c d loses
-puts_or again s fails v p state c d (inr (x, puts, loses)) = keeps_then c x d (puts_keeps v p state c x puts) (loses_keeps again s fails x d loses)
+-- a plex is in another kind, or not, and calls failed
+pub puts_or : (again : ℕ → Bool) (s : ℕ) (fails : Fails) (v p : ℕ) (kind : PlexState) (c d : Config)
+    → ConfigLosesBut again s fails c d ⊎ ((x : Config) × PutsPlex v p kind c x × ConfigLosesBut again s fails x d) → KeepsRvg c d
+puts_or again s fails v p kind c d (inl loses) = loses_keeps again s fails c d loses
+puts_or again s fails v p kind c d (inr (x, puts, loses)) = keeps_then c x d (puts_keeps v p kind c x puts) (loses_keeps again s fails x d loses)
 
 -- ---- one volume more
 

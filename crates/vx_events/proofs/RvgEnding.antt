@@ -9,14 +9,14 @@ use Rattle.vx_history.specs.Doubts.{Doubted}
 use Rattle.vx_history.specs.Groups.{GroupNode}
 use Rattle.vx_history.specs.Likes.{IsLike}
 use Rattle.vx_history.specs.Stops.{EventsEnd, AllDone as EventsDone, Halts, Cuts, Reads, IsLikeDoubted, IsOpen, all_fails, told_fails}
-use Rattle.vx_history.specs.World.{Node, World}
+use Rattle.vx_history.specs.World.{NoFuse, Node, World}
 use Rattle.vx_history.specs.declared.event.Event.{Event}
 use Rattle.vx_history.specs.declared.event.Event.TheVariants.{Crash as CrashAt, Fall as FallAt, Recover as RecoverAt}
 use Rattle.vx_script.specs.declared.line.ScriptLine.{ScriptLine}
 use Rattle.vx_script.specs.declared.line.ScriptLine.TheVariants.{Site, Raw, Disk as DiskLine, Crash, Fuse as FuseLine, GroupImport, Recover, Write, Put, Read, Show, Apply, Status}
 use Rattle.vx_events.proofs.GroupStopping.{events_tell, group_stops, noted_like}
 use Rattle.vx_events.proofs.LinkStopping.{link_stops}
-use Rattle.vx_events.proofs.Noting.{as_like, disks_like, like_disks, like_self, like_then, same_like}
+use Rattle.vx_events.proofs.Noting.{as_like, disks_like, like_disks, like_noted, like_self, like_then, same_like}
 use Rattle.vx_events.proofs.RvgStopping.{noted_doubted, same_doubted}
 use Rattle.vx_events.proofs.Stopping.{BeginsWrite, ended, runs_as}
 use Rattle.vx_events.specs.Doubts.{IsAs, run_as, with_disks}
@@ -27,7 +27,7 @@ use Rattle.vx_events.specs.GroupEnds.{BringsUp}
 use Rattle.vx_events.specs.GroupLines.{group_events, group_noted, noting}
 use Rattle.vx_events.specs.GroupNotes.{IsKnown, note_at}
 use Rattle.vx_events.specs.Lists.{Choice, events_of, recovery_of}
-use Rattle.vx_events.specs.RvgBack.{FindsNoRvg, FindsPlain, FindsRvg, GetsRvg, GroupCutOff, GroupHeld, GroupUnfound, HadRvg, IsLeftBack, KeptLost, LogCut, LogFails, LogLacks, RestsWithRvg, RvgBack, RvgFinds, RvgUp, fall_first, fall_last}
+use Rattle.vx_events.specs.RvgBack.{FindsNoRvg, FindsPlain, FindsRvg, GetsRvg, GroupCutOff, GroupHeld, GroupUnfound, HadRvg, IsLeftBack, KeptLost, IsLeftBut, LogCut, LogFails, LogLacks, RestsWithRvg, RvgBack, RvgFinds, RvgUp, fall_first, fuse_left, rest_again}
 use Rattle.vx_events.specs.RvgLinks.{AllKnown, LinksOver, noting_each}
 use Rattle.vx_events.specs.RvgMakes.{RvgStops, noting_in}
 use Rattle.vx_events.specs.RvgNotes.{volume_events}
@@ -65,16 +65,17 @@ falls_tell Up s kept = refl
 falls_tell Deported s kept = refl
 falls_tell Down s kept = refl
 
-last_tells : (away : Bool) (s : ℕ) → all_fails (fall_last away s) ≡ []
-last_tells true s = refl
-last_tells false s = refl
+again_tells : (line : ScriptLine) (s : ℕ) → all_fails (rest_again line s) ≡ []
+again_tells (GroupImport site) s = refl
+again_tells other s = refl
 
 rests_tell : (d : Doubted) (line : ScriptLine) (s kept : ℕ) (middle next : GroupNode) (from : Doubted) (events : List Event) → RestsWithRvg d line s kept middle next from events
     → all_fails events ≡ []
 rests_tell d line s kept middle next from events (HadRvg has same noted is fall) = ap all_fails fall ∙ falls_tell (d.world.nodes s).state s kept
 rests_tell d line s kept middle next from events (GetsRvg units over has one noted is all) =
     ap all_fails all
-    ∙ told_behind (group_events (d.world.nodes s) s line) (volume_events middle s units ++ CrashAt s 0 ∷ []) (events_tell (d.world.nodes s) s line)
+    ∙ told_behind (group_events (d.world.nodes s) s line) (volume_events middle s units ++ rest_again line s) (events_tell (d.world.nodes s) s line)
+    ∙ again_tells line s
 
 rests_like : (d : Doubted) (line : ScriptLine) (s kept : ℕ) (middle next : GroupNode) (from : Doubted) (events : List Event) → RestsWithRvg d line s kept middle next from events
     → IsLikeDoubted d from
@@ -90,16 +91,34 @@ back_like s line taken next before last new is =
     as_like last new (group_noted s line v)
     (like_then (disks_like taken s before.world last.world) (like_then (like_disks u s (u.nodes s).failing (Some next)) (noted_like s line v))) is
 
+lost_like : (lost : Bool) (v : World) (s : ℕ) → IsLike v (fuse_left lost v s)
+lost_like true v s = like_noted v s NoFuse
+lost_like false v s = like_self v
+
+but_like : (lost : Bool) (s : ℕ) (line : ScriptLine) (taken : Bool) (next : GroupNode) (before last new : Doubted) → IsLeftBut lost s line taken next before last new
+    → IsLikeDoubted last new
+but_like lost s line taken next before last new is =
+    let u : World = with_disks taken s before.world last.world in
+    let v : World = noting u s next in
+    let x : World = group_noted s line v in
+    as_like last new (fuse_left lost x s)
+    (like_then (disks_like taken s before.world last.world)
+    (like_then (like_disks u s (u.nodes s).failing (Some next)) (like_then (noted_like s line v) (lost_like lost x s)))) is
+
 -- events that are all done, and of which one may tell of a disk, from such worlds on
-done_by : (d from : Doubted) → IsLikeDoubted d from → (s : ℕ) (line : ScriptLine) (taken : Bool) (next : GroupNode) (events : List Event) (ending : Fails) (new : Doubted)
-    → all_fails events ≡ ending → IsLeftBack s line taken next from (run_as taken from events) new → RvgStops d new
-done_by d from like s line taken next events ending new tells left = record {
+but_by : (lost : Bool) (d from : Doubted) → IsLikeDoubted d from → (s : ℕ) (line : ScriptLine) (taken : Bool) (next : GroupNode) (events : List Event) (ending : Fails)
+    (new : Doubted) → all_fails events ≡ ending → IsLeftBut lost s line taken next from (run_as taken from events) new → RvgStops d new
+but_by lost d from like s line taken next events ending new tells left = record {
   before = from;
   like = like;
   events = events;
   ending = ending;
-  stops = EventsDone (run_as taken from events) (runs_as taken from events) (sym tells) (back_like s line taken next from (run_as taken from events) new left);
+  stops = EventsDone (run_as taken from events) (runs_as taken from events) (sym tells) (but_like lost s line taken next from (run_as taken from events) new left);
 }
+
+done_by : (d from : Doubted) → IsLikeDoubted d from → (s : ℕ) (line : ScriptLine) (taken : Bool) (next : GroupNode) (events : List Event) (ending : Fails) (new : Doubted)
+    → all_fails events ≡ ending → IsLeftBack s line taken next from (run_as taken from events) new → RvgStops d new
+done_by d from like s line taken next events ending new tells left = but_by false d from like s line taken next events ending new tells left
 
 -- ---- recoveries and imports
 
@@ -109,31 +128,29 @@ module _ (told : Type 0) (d : Doubted) (line : ScriptLine) (s : ℕ) (fails : Fa
       done_by d from (rests_like d line s kept middle next from rest rests) s line taken next (rest ++ RecoverAt s None ∷ []) [] new
       (told_behind rest (RecoverAt s None ∷ []) (rests_tell d line s kept middle next from rest rests)) left
   back_stops (LogFails kept taken disk middle found next from rest left are has brings back rests is (inl none) says leads) =
-      done_by d from (rests_like d line s kept middle found from rest rests) s line taken next (rest ++ left) [] new
+      but_by true d from (rests_like d line s kept middle found from rest rests) s line taken next (rest ++ left) [] new
       (told_behind rest left (rests_tell d line s kept middle found from rest rests) ∙ ap all_fails none) leads
   back_stops (LogFails kept taken disk middle found next from rest left are has brings back rests is (inr begun) says leads) =
-      done_by d from (rests_like d line s kept middle found from rest rests) s line taken next (rest ++ left) ((s, disk) ∷ []) new
+      but_by true d from (rests_like d line s kept middle found from rest rests) s line taken next (rest ++ left) ((s, disk) ∷ []) new
       (told_behind rest left (rests_tell d line s kept middle found from rest rests) ∙ ap all_fails begun) leads
   back_stops (LogLacks kept taken middle found next from rest are brings back rests is lacks says left) =
-      done_by d from (rests_like d line s kept middle found from rest rests) s line taken next rest [] new (rests_tell d line s kept middle found from rest rests) left
+      but_by true d from (rests_like d line s kept middle found from rest rests) s line taken next rest [] new (rests_tell d line s kept middle found from rest rests) left
   back_stops (KeptLost kept taken disk middle found next from rest site is are has back rests notes says left) =
       done_by d from (rests_like d line s kept middle found from rest rests) s line taken next (rest ++ RecoverAt s None ∷ CrashAt s 0 ∷ []) [] new
       (told_behind rest (RecoverAt s None ∷ CrashAt s 0 ∷ []) (rests_tell d line s kept middle found from rest rests)) left
   back_stops (LogCut middle found next from rest left site is are fused back rests noted (inl none) says leads) =
-      done_by d from (rests_like d line s 0 middle found from rest rests) s line false next (rest ++ (left ++ fall_last (is_over_rvg (d.world.nodes s)) s)) [] new
-      (told_behind rest (left ++ fall_last (is_over_rvg (d.world.nodes s)) s) (rests_tell d line s 0 middle found from rest rests)
-      ∙ told_behind left (fall_last (is_over_rvg (d.world.nodes s)) s) (ap all_fails none) ∙ last_tells (is_over_rvg (d.world.nodes s)) s) leads
+      done_by d from (rests_like d line s 0 middle found from rest rests) s line false next (rest ++ (left ++ FallAt s ∷ [])) [] new
+      (told_behind rest (left ++ FallAt s ∷ []) (rests_tell d line s 0 middle found from rest rests) ∙ told_behind left (FallAt s ∷ []) (ap all_fails none)) leads
   back_stops (LogCut middle found next from rest left site is are fused back rests noted (inr begun) says leads) =
-      done_by d from (rests_like d line s 0 middle found from rest rests) s line false next (rest ++ (left ++ fall_last (is_over_rvg (d.world.nodes s)) s)) ((s, 0) ∷ []) new
-      (told_behind rest (left ++ fall_last (is_over_rvg (d.world.nodes s)) s) (rests_tell d line s 0 middle found from rest rests)
-      ∙ told_both left (fall_last (is_over_rvg (d.world.nodes s)) s) ∙ ap (λ (es : List Event). all_fails es ++ all_fails (fall_last (is_over_rvg (d.world.nodes s)) s)) begun
-      ∙ ap (λ (fs : Fails). (s, 0) ∷ fs) (last_tells (is_over_rvg (d.world.nodes s)) s)) leads
+      done_by d from (rests_like d line s 0 middle found from rest rests) s line false next (rest ++ (left ++ FallAt s ∷ [])) ((s, 0) ∷ []) new
+      (told_behind rest (left ++ FallAt s ∷ []) (rests_tell d line s 0 middle found from rest rests) ∙ told_both left (FallAt s ∷ [])
+      ∙ ap (λ (es : List Event). all_fails es ++ all_fails (FallAt s ∷ [])) begun) leads
   back_stops (GroupCutOff next site is has are fused notes says left) =
       done_by d d (same_doubted d) s line false next (FallAt s ∷ []) [] new refl left
-  back_stops (GroupUnfound kept taken why next has are brings not leaves says left) =
-      done_by d d (same_doubted d) s line taken next (fall_first (d.world.nodes s).state s kept) [] new (falls_tell (d.world.nodes s).state s kept) left
-  back_stops (GroupHeld kept taken disk next has are failed brings notes says left) =
-      done_by d d (same_doubted d) s line taken next (fall_first (d.world.nodes s).state s kept) [] new (falls_tell (d.world.nodes s).state s kept) left
+  back_stops (GroupUnfound kept taken lost why next has are brings not leaves says left) =
+      but_by lost d d (same_doubted d) s line taken next (fall_first (d.world.nodes s).state s kept) [] new (falls_tell (d.world.nodes s).state s kept) left
+  back_stops (GroupHeld kept taken lost disk next has are failed brings notes says left) =
+      but_by lost d d (same_doubted d) s line taken next (fall_first (d.world.nodes s).state s kept) [] new (falls_tell (d.world.nodes s).state s kept) left
 
   -- ---- other lines
 
@@ -197,9 +214,9 @@ module _ (told : Type 0) (is_told : told) (d : Doubted) (s : ℕ) (bright : (not
   never_found line agree (FindsPlain kept taken next mid has are brings (inl untold) dark is none says left) = untold is_told
   never_found line agree (FindsPlain kept taken next mid has are brings (inr (inl loose)) dark is none says left) = absurd (let e : true ≡ false = sym loose ∙ agree in cc)
   never_found line agree (FindsPlain kept taken next mid has are brings (inr (inr unknown)) dark is none says left) = absurd (let e : true ≡ false = sym unknown ∙ bright in cc)
-  never_found line agree (FindsNoRvg kept taken next why are brings (inl untold) free notes says left) = untold is_told
-  never_found line agree (FindsNoRvg kept taken next why are brings (inr (inl loose)) free notes says left) = absurd (let e : true ≡ false = sym loose ∙ agree in cc)
-  never_found line agree (FindsNoRvg kept taken next why are brings (inr (inr unknown)) free notes says left) = absurd (let e : true ≡ false = sym unknown ∙ bright in cc)
+  never_found line agree (FindsNoRvg kept taken lost next why are brings (inl untold) free notes says left) = untold is_told
+  never_found line agree (FindsNoRvg kept taken lost next why are brings (inr (inl loose)) free notes says left) = absurd (let e : true ≡ false = sym loose ∙ agree in cc)
+  never_found line agree (FindsNoRvg kept taken lost next why are brings (inr (inr unknown)) free notes says left) = absurd (let e : true ≡ false = sym unknown ∙ bright in cc)
 
   unchanged : IsAs d d.world new → RvgStops d new
   unchanged left = record {

@@ -5,7 +5,7 @@ use Rattle.vx_history.proofs.Updates.{at_place}
 use Rattle.vx_history.specs.Doubts.{Doubted}
 use Rattle.vx_history.specs.Groups.{GroupNode, NoteSettles, NoteUnsettles, NoteWorks}
 use Rattle.vx_history.specs.Steps.{burned}
-use Rattle.vx_history.specs.World.{Node, World}
+use Rattle.vx_history.specs.World.{NoFuse, Node, World}
 use Rattle.vx_history.specs.declared.event.Event.{Event}
 use Rattle.vx_config.specs.declared.config.Config.{Config}
 use Rattle.vx_model.specs.declared.units.Units.{Units}
@@ -18,7 +18,7 @@ use Rattle.vx_events.specs.GroupEnds.{BringsUp}
 use Rattle.vx_events.specs.GroupLines.{noting}
 use Rattle.vx_events.specs.GroupNotes.{Reconfigures, no_note, note_at}
 use Rattle.vx_events.specs.Known.{MayDarken}
-use Rattle.vx_events.specs.RvgBack.{FindsNoRvg, FindsPlain, FindsRvg, GetsRvg, GroupCutOff, GroupHeld, GroupUnfound, HadRvg, IsLeftBack, KeptLost, LogCut, LogFails, LogLacks, RestsWithRvg, RvgBack, RvgFinds, RvgUp}
+use Rattle.vx_events.specs.RvgBack.{FindsNoRvg, FindsPlain, FindsRvg, GetsRvg, GroupCutOff, GroupHeld, GroupUnfound, HadRvg, IsLeftBack, KeptLost, LogCut, LogFails, LogLacks, RestsWithRvg, RvgBack, RvgFinds, RvgUp, fuse_left}
 use Rattle.vx_events.specs.RvgMakes.{IsLeftRvg, MakesRvg, RvgCut, RvgDone, RvgFails, RvgLacks, units_at}
 use Rattle.vx_events.specs.RvgNotes.{NotesNarrowed}
 use Rattle.vx_events.specs.RvgOver.{EndsOrShows, NotesLine, OverRvg, OverRvgBy, ShowFails, ShowsAny, TakesOr, is_below, is_inside}
@@ -37,6 +37,11 @@ back_note : (s : ℕ) (line : ScriptLine) (taken : Bool) (next : GroupNode) (bef
 back_note s line taken next before last new left known =
     let u : World = with_disks taken s before.world last.world in
     of_note new.world s next (ap (λ (w : World). (w.nodes s).group) left.world ∙ group_stays s line (noting u s next) ∙ noted_here u s next) known
+
+-- whatever becomes of the fuse
+pub lost_group : (lost : Bool) (v : World) (s : ℕ) → ((fuse_left lost v s).nodes s).group ≡ (v.nodes s).group
+lost_group true v s = ap (λ (n : Node). n.group) (at_place v.nodes s (record (v.nodes s) { fuse = NoFuse }))
+lost_group false v s = refl
 
 made_note : (s : ℕ) (next : GroupNode) (last new : Doubted) → IsLeftRvg s next last new → next.dark ≡ false → (note_at (new.world.nodes s)).dark ≡ false
 made_note s next last new left known =
@@ -96,15 +101,15 @@ module _ (told : Type 0) (tells : told) (d : Doubted) (s : ℕ) (known : (note_a
   back_known_too line free (LogCut middle found next from rest left site is are fused back rests notes begun says leads) =
       absurd (no_rise here line said _ says free (subst BringsUp (sym is) tt))
   back_known_too line free (GroupCutOff next site is has are fused notes says left) = absurd (no_rise here line said _ says free (subst BringsUp (sym is) tt))
-  back_known_too line free (GroupUnfound kept taken why next has are brings not leaves says left) = absurd (no_rise here line said why says free brings)
-  back_known_too line free (GroupHeld kept taken disk next has are failed brings notes says left) = absurd (no_rise here line said _ says free brings)
+  back_known_too line free (GroupUnfound kept taken lost why next has are brings not leaves says left) = absurd (no_rise here line said why says free brings)
+  back_known_too line free (GroupHeld kept taken lost disk next has are failed brings notes says left) = absurd (no_rise here line said _ says free brings)
 
   finds_known : (line : ScriptLine) → (MayDarken here line said → ⊥) → RvgFinds told d line s fails said new → ⊥
   finds_known line free (FindsRvg kept taken next mid n k row c units are brings unknown dark is same comes config fits says left) =
       finds_none told tells here known (λ loose. free (brings, inl loose)) unknown
   finds_known line free (FindsPlain kept taken next mid has are brings unknown dark is none says left) =
       finds_none told tells here known (λ loose. free (brings, inl loose)) unknown
-  finds_known line free (FindsNoRvg kept taken next why are brings unknown device notes says left) =
+  finds_known line free (FindsNoRvg kept taken lost next why are brings unknown device notes says left) =
       finds_none told tells here known (λ loose. free (brings, inl loose)) unknown
 
   -- ---- other lines

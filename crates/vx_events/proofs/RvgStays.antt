@@ -18,15 +18,15 @@ use Rattle.vx_events.proofs.KnownLaws.{group_stays, left_note, never}
 use Rattle.vx_events.proofs.Places.{some_same}
 use Rattle.vx_events.proofs.RvgConfigs.{adds_keeps, again_keeps, closed_keeps, keeps_self, keeps_then, loses_keeps, puts_or, stayed}
 use Rattle.vx_events.proofs.RvgEvents.{rvg_apart}
-use Rattle.vx_events.proofs.RvgKnown.{noted_here}
+use Rattle.vx_events.proofs.RvgKnown.{lost_group, noted_here}
 use Rattle.vx_events.specs.Doubts.{IsAs, with_disks}
 use Rattle.vx_events.specs.Fails.{Fails}
 use Rattle.vx_events.specs.GroupConfigs.{ConfigLoses, lies_on_disk, opened_again}
 use Rattle.vx_events.specs.GroupEnds.{BringsUp, FindsGroup, FindsNoGroup, GroupCut, GroupCuts, GroupDoes, GroupDone, GroupEnds, GroupFails, GroupLacks, GroupNotFound, GroupSpoils, ImportFails, InitFails, KeptUnread, NotFoundLeaves}
-use Rattle.vx_events.specs.GroupLines.{noting, plain_number}
+use Rattle.vx_events.specs.GroupLines.{group_noted, noting, plain_number}
 use Rattle.vx_events.specs.GroupNotes.{IsKnown, NotesBack, NotesCut, NotesDoubt, NotesRefused, NotesVolume, NotesWrite, Reconfigures, no_note, note_at}
 use Rattle.vx_events.specs.GroupViews.{config_of}
-use Rattle.vx_events.specs.RvgBack.{FindsNoRvg, FindsPlain, FindsRvg, GetsRvg, GroupCutOff, GroupHeld, GroupUnfound, HadRvg, IsLeftBack, KeptLost, LogCut, LogFails, LogLacks, RestsWithRvg, RvgBack, RvgFinds, RvgUp}
+use Rattle.vx_events.specs.RvgBack.{FindsNoRvg, FindsPlain, FindsRvg, GetsRvg, GroupCutOff, GroupHeld, GroupUnfound, HadRvg, IsLeftBack, IsLeftBut, KeptLost, LogCut, LogFails, LogLacks, RestsWithRvg, RvgBack, RvgFinds, RvgUp}
 use Rattle.vx_events.specs.RvgFits.{KeepsRvg, KeptConfig, NoteKeepsRvg, config_rvg, rvg_noted}
 use Rattle.vx_events.specs.RvgLinks.{LinksOver, NotesThere, noting_each, works_at}
 use Rattle.vx_events.specs.RvgOver.{EndsOrShows, NotesLine, OverRvg, OverRvgBy, ShowFails, ShowsAny, TakesOr, is_below, is_inside}
@@ -153,27 +153,27 @@ cuts_keeps s note (Put site volume start bytes) fails next cuts = cut_off s fail
 cuts_keeps s note other fails next cuts = absurd cuts
 
 module _ (told : Type 0) (d : Doubted) (line : ScriptLine) (s : ℕ) (fails : Fails) (said : Said) (new : Doubted) where
-  abbrev note : GroupNode
-  note = note_at (d.world.nodes s)
+  abbrev noted : GroupNode
+  noted = note_at (d.world.nodes s)
 
   unchanged : IsAs d d.world new → NoteKeepsRvg (note_at (d.world.nodes s)) (note_at (new.world.nodes s))
-  unchanged left = subst (λ (w : World). NoteKeepsRvg (note_at (d.world.nodes s)) (note_at (w.nodes s))) (sym left.world) (same_config note note refl)
+  unchanged left = subst (λ (w : World). NoteKeepsRvg (note_at (d.world.nodes s)) (note_at (w.nodes s))) (sym left.world) (same_config noted noted refl)
 
   group_keeps : is_below (note_at (d.world.nodes s)) line ≡ true → GroupEnds told d line s fails said new
       → NoteKeepsRvg (note_at (d.world.nodes s)) (note_at (new.world.nodes s))
   group_keeps below (GroupDone next are does left) =
-      by_note (new.world.nodes s) note next (left_note s line next _ new left) (does_keeps told s (d.world.nodes s) note line fails said next below does)
-  group_keeps below (GroupLacks why wants none says left) = by_note (new.world.nodes s) note note (left_note s line note d new left) (same_config note note refl)
+      by_note (new.world.nodes s) noted next (left_note s line next _ new left) (does_keeps told s (d.world.nodes s) noted line fails said next below does)
+  group_keeps below (GroupLacks why wants none says left) = by_note (new.world.nodes s) noted noted (left_note s line noted d new left) (same_config noted noted refl)
   group_keeps below (GroupFails disk next are has spoils says left) =
-      by_note (new.world.nodes s) note next (left_note s line next _ new left) (spoils_keeps s note line fails next spoils)
+      by_note (new.world.nodes s) noted next (left_note s line next _ new left) (spoils_keeps s noted line fails next spoils)
   group_keeps below (InitFails disk site is are has says left) = unchanged left
-  group_keeps below (ImportFails why next site is are refuses begun says left) = absurd (not_below note line (subst BringsUp (sym is) tt) below)
-  group_keeps below (KeptUnread disk next site is are has back says left) = absurd (not_below note line (subst BringsUp (sym is) tt) below)
+  group_keeps below (ImportFails why next site is are refuses begun says left) = absurd (not_below noted line (subst BringsUp (sym is) tt) below)
+  group_keeps below (KeptUnread disk next site is are has back says left) = absurd (not_below noted line (subst BringsUp (sym is) tt) below)
   group_keeps below (GroupCut next are fused cuts says left) =
-      by_note (new.world.nodes s) note next (left_note s line next _ new left) (cuts_keeps s note line fails next cuts)
-  group_keeps below (GroupNotFound why next are brings not leaves says left) = absurd (not_below note line brings below)
-  group_keeps below (FindsGroup next are brings unknown dark says left) = absurd (not_below note line brings below)
-  group_keeps below (FindsNoGroup next why are brings unknown device refused says left) = absurd (not_below note line brings below)
+      by_note (new.world.nodes s) noted next (left_note s line next _ new left) (cuts_keeps s noted line fails next cuts)
+  group_keeps below (GroupNotFound why next are brings not leaves says left) = absurd (not_below noted line brings below)
+  group_keeps below (FindsGroup next are brings unknown dark says left) = absurd (not_below noted line brings below)
+  group_keeps below (FindsNoGroup next why are brings unknown device refused says left) = absurd (not_below noted line brings below)
 
 -- ---- recoveries and imports
 
@@ -183,6 +183,13 @@ back_group : (s : ℕ) (line : ScriptLine) (taken : Bool) (next : GroupNode) (be
 back_group s line taken next before last new left =
     let u : World = with_disks taken s before.world last.world in
     ap (λ (w : World). (w.nodes s).group) left.world ∙ group_stays s line (noting u s next) ∙ noted_here u s next
+
+but_group : (lost : Bool) (s : ℕ) (line : ScriptLine) (taken : Bool) (next : GroupNode) (before last new : Doubted) → IsLeftBut lost s line taken next before last new
+    → (new.world.nodes s).group ≡ Some next
+but_group lost s line taken next before last new left =
+    let u : World = with_disks taken s before.world last.world in
+    let v : World = noting u s next in
+    ap (λ (w : World). (w.nodes s).group) left.world ∙ lost_group lost (group_noted s line v) s ∙ group_stays s line v ∙ noted_here u s next
 
 rests_noted : (d : Doubted) (line : ScriptLine) (s kept : ℕ) (middle next : GroupNode) (from : Doubted) (events : List Event) → is_over_rvg (d.world.nodes s) ≡ true
     → RestsWithRvg d line s kept middle next from events → (rvg_noted middle ≡ rvg_noted (note_at (d.world.nodes s))) × (next ≡ middle)
@@ -220,14 +227,18 @@ module _ (told : Type 0) (tells : told) (d : Doubted) (line : ScriptLine) (s : �
       → (note_at (new.world.nodes s)).dark ≡ false → NoteKeepsRvg here (note_at (new.world.nodes s))
   left_keeps taken next before last left keeps = by_known (new.world.nodes s) here next (back_group s line taken next before last new left) keeps
 
+  but_keeps : (lost taken : Bool) (next : GroupNode) (before last : Doubted) → IsLeftBut lost s line taken next before last new → (next.dark ≡ false → NoteKeepsRvg here next)
+      → (note_at (new.world.nodes s)).dark ≡ false → NoteKeepsRvg here (note_at (new.world.nodes s))
+  but_keeps lost taken next before last left keeps = by_known (new.world.nodes s) here next (but_group lost s line taken next before last new left) keeps
+
   back_stays : RvgBack told d line s fails said new → (note_at (new.world.nodes s)).dark ≡ false → NoteKeepsRvg here (note_at (new.world.nodes s))
   back_stays (RvgUp kept taken middle next from rest are brings back rests says left) =
       left_keeps taken next from _ left (came_keeps kept middle next next from rest back rests refl refl)
   back_stays (LogFails kept taken disk middle found next from rest events are has brings back rests is begun says left) =
-      left_keeps taken next from _ left
+      but_keeps true taken next from _ left
       (came_keeps kept middle found next from rest back rests (ap (λ (g : GroupNode). g.config) is) (ap (λ (g : GroupNode). g.dark) is))
   back_stays (LogLacks kept taken middle found next from rest are brings back rests is lacks says left) =
-      left_keeps taken next from _ left
+      but_keeps true taken next from _ left
       (came_keeps kept middle found next from rest back rests (ap (λ (g : GroupNode). g.config) is) (ap (λ (g : GroupNode). g.dark) is))
   back_stays (KeptLost kept taken disk middle found next from rest site is are has back rests noted says left) =
       left_keeps taken next from _ left
@@ -237,10 +248,10 @@ module _ (told : Type 0) (tells : told) (d : Doubted) (line : ScriptLine) (s : �
       (came_keeps 0 middle found next from rest back rests (ap (λ (g : GroupNode). g.config) noted) (ap (λ (g : GroupNode). g.dark) noted))
   back_stays (GroupCutOff next site is has are fused notes says left) =
       left_keeps false next d _ left (λ _. same_config here next (refused_config here next notes))
-  back_stays (GroupUnfound kept taken why next has are brings not leaves says left) =
-      left_keeps taken next d _ left (λ _. same_config here next (unfound_config why here next leaves))
-  back_stays (GroupHeld kept taken disk next has are failed brings notes says left) =
-      left_keeps taken next d _ left (λ _. same_config here next (refused_config here next notes))
+  back_stays (GroupUnfound kept taken lost why next has are brings not leaves says left) =
+      but_keeps lost taken next d _ left (λ _. same_config here next (unfound_config why here next leaves))
+  back_stays (GroupHeld kept taken lost disk next has are failed brings notes says left) =
+      but_keeps lost taken next d _ left (λ _. same_config here next (refused_config here next notes))
 
   -- what is found on disks of which nothing is known stays unknown
   finds_stays : RvgFinds told d line s fails said new → (note_at (new.world.nodes s)).dark ≡ false → NoteKeepsRvg here (note_at (new.world.nodes s))
@@ -248,8 +259,8 @@ module _ (told : Type 0) (tells : told) (d : Doubted) (line : ScriptLine) (s : �
       left_keeps taken next d _ left (λ known. absurd (never (sym known ∙ dark tells)))
   finds_stays (FindsPlain kept taken next mid has are brings unknown dark is none says left) =
       left_keeps taken next d _ left (λ known. absurd (never (sym known ∙ dark tells)))
-  finds_stays (FindsNoRvg kept taken next why are brings unknown device notes says left) =
-      left_keeps taken next d _ left (λ _. same_config here next (refused_config here next notes))
+  finds_stays (FindsNoRvg kept taken lost next why are brings unknown device notes says left) =
+      but_keeps lost taken next d _ left (λ _. same_config here next (refused_config here next notes))
 
   -- ---- other lines
 
