@@ -32,6 +32,7 @@ use Rattle.vx_events.specs.RvgLinks.{AllKnown, LinksOver, noting_each}
 use Rattle.vx_events.specs.RvgMakes.{RvgStops, noting_in}
 use Rattle.vx_events.specs.RvgNotes.{volume_events}
 use Rattle.vx_events.specs.RvgOver.{CutBelow, EndsOrShows, EndsOver, OpensFor, OverRvg, OverRvgBy, ShowFails, ShowsAny, TakesOr, is_below, is_inside}
+use Rattle.vx_events.specs.RvgParts.{RvgShort, ShortGroup, ShortLog}
 use Rattle.vx_events.specs.RvgViews.{is_over_rvg}
 use Rattle.vx_events.specs.declared.said.Said.{Said}
 
@@ -178,6 +179,13 @@ module _ (told : Type 0) (d : Doubted) (line : ScriptLine) (s : ℕ) (fails : Fa
         stops = ends_like d stops.events stops.ending h.middle new stops.stops
             (as_like h.middle new (noting h.middle.world s h.next) (like_disks h.middle.world s (h.middle.world.nodes s).failing (Some h.next)) h.left);
       }
+
+-- what want of memory leaves of a recovery or an import
+pub short_stops : (told : Type 0) (d : Doubted) (line : ScriptLine) (s : ℕ) (new : Doubted) → RvgShort told d line s new → RvgStops d new
+short_stops told d line s new (ShortGroup kept taken lost next over brings notes left) =
+    but_by lost d d (same_doubted d) s line taken next (fall_first (d.world.nodes s).state s kept) [] new (falls_tell (d.world.nodes s).state s kept) left
+short_stops told d line s new (ShortLog kept taken fails middle found next from rest are brings back rests is left) =
+    but_by true d from (rests_like d line s kept middle found from rest rests) s line taken next rest [] new (rests_tell d line s kept middle found from rest rests) left
 
 -- ---- where a line writes its site is open
 

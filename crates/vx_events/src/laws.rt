@@ -25,6 +25,7 @@ ghost use Rattle.vx_events.specs.declared.said.Said.TheVariants.{Done as SaysDon
 ghost use Rattle.vx_events.specs.RvgLinks.{AllKnown, LinksOver};
 ghost use Rattle.vx_events.specs.RvgMakes.{MakesRvg, RvgStops};
 ghost use Rattle.vx_events.specs.RvgOver.{OpensFor, OverRvg};
+ghost use Rattle.vx_events.specs.RvgParts.{RvgShort};
 ghost use Rattle.vx_events.specs.RvgSteps.{AgreeFor, FoundPlain, HasNoRvgs, MakesNoRvg, StepFull, refused_full};
 ghost use Rattle.vx_events.specs.RvgViews.{is_over_rvg};
 ghost use Rattle.vx_events.specs.Fails.{AreBorne, Fails};
@@ -125,6 +126,11 @@ pub fn lines_over_rvgs_are_events()
         → RvgStops d new }
     ensures links { (d : Doubted) (line : ScriptLine) (fails : Fails) (said : Said) (new : Doubted) → AllKnown (Unit {0}) d.world line
         → LinksOver (Unit {0}) d line fails said new → RvgStops d new }
+{}
+
+/// So does what want of memory leaves of a recovery or an import of such a site.
+pub fn rvg_shorts_are_events()
+    ensures { (tells : Bool) (d : Doubted) (line : ScriptLine) (s : ℕ) (new : Doubted) → RvgShort (IsTrue tells) d line s new → RvgStops d new }
 {}
 
 /// However a line at such a site ends, the configuration that the site notes has the replicated volume group that it had, and the volumes that it had with their names
