@@ -73,7 +73,7 @@ again_tells other s = refl
 rests_tell : (d : Doubted) (line : ScriptLine) (s kept : ℕ) (middle next : GroupNode) (from : Doubted) (events : List Event) → RestsWithRvg d line s kept middle next from events
     → all_fails events ≡ []
 rests_tell d line s kept middle next from events (HadRvg has same noted is fall) = ap all_fails fall ∙ falls_tell (d.world.nodes s).state s kept
-rests_tell d line s kept middle next from events (GetsRvg units over has one noted is all) =
+rests_tell d line s kept middle next from events (GetsRvg units over has there one noted is all) =
     ap all_fails all
     ∙ told_behind (group_events (d.world.nodes s) s line) (volume_events middle s units ++ rest_again line s) (events_tell (d.world.nodes s) s line)
     ∙ again_tells line s
@@ -81,11 +81,11 @@ rests_tell d line s kept middle next from events (GetsRvg units over has one not
 rests_like : (d : Doubted) (line : ScriptLine) (s kept : ℕ) (middle next : GroupNode) (from : Doubted) (events : List Event) → RestsWithRvg d line s kept middle next from events
     → IsLikeDoubted d from
 rests_like d line s kept middle next from events (HadRvg has same noted is fall) = same_like d from is
-rests_like d line s kept middle next from events (GetsRvg units over has one noted is all) = doubted_then d (noting_in d s middle) from (noted_doubted d s middle) (same_like (noting_in d s middle) from is)
+rests_like d line s kept middle next from events (GetsRvg units over has there one noted is all) = doubted_then d (noting_in d s middle) from (noted_doubted d s middle) (same_like (noting_in d s middle) from is)
 
 -- ---- what is left is no more than notes
 
-back_like : (s : ℕ) (line : ScriptLine) (taken : Bool) (next : GroupNode) (before last new : Doubted) → IsLeftBack s line taken next before last new → IsLikeDoubted last new
+pub back_like : (s : ℕ) (line : ScriptLine) (taken : Bool) (next : GroupNode) (before last new : Doubted) → IsLeftBack s line taken next before last new → IsLikeDoubted last new
 back_like s line taken next before last new is =
     let u : World = with_disks taken s before.world last.world in
     let v : World = noting u s next in

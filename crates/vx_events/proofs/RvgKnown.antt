@@ -83,7 +83,7 @@ making_known told d line s fails said new (RvgCut site srl maps volumes next is 
 rests_dark : (d : Doubted) (line : ScriptLine) (s kept : ℕ) (middle next : GroupNode) (from : Doubted) (events : List Event) → RestsWithRvg d line s kept middle next from events
     → next.dark ≡ middle.dark
 rests_dark d line s kept middle next from events (HadRvg has same noted is fall) = ap (λ (g : GroupNode). g.dark) noted
-rests_dark d line s kept middle next from events (GetsRvg units over has one noted is all) = ap (λ (g : GroupNode). g.dark) noted
+rests_dark d line s kept middle next from events (GetsRvg units over has there one noted is all) = ap (λ (g : GroupNode). g.dark) noted
 
 module _ (told : Type 0) (tells : told) (d : Doubted) (s : ℕ) (known : (note_at (d.world.nodes s)).dark ≡ false) (fails : Fails) (said : Said) (new : Doubted) where
   abbrev here : GroupNode

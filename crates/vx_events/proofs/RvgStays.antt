@@ -178,7 +178,7 @@ module _ (told : Type 0) (d : Doubted) (line : ScriptLine) (s : ℕ) (fails : Fa
 -- ---- recoveries and imports
 
 -- the note that such a line leaves
-back_group : (s : ℕ) (line : ScriptLine) (taken : Bool) (next : GroupNode) (before last new : Doubted) → IsLeftBack s line taken next before last new
+pub back_group : (s : ℕ) (line : ScriptLine) (taken : Bool) (next : GroupNode) (before last new : Doubted) → IsLeftBack s line taken next before last new
     → (new.world.nodes s).group ≡ Some next
 back_group s line taken next before last new left =
     let u : World = with_disks taken s before.world last.world in
@@ -194,7 +194,7 @@ but_group lost s line taken next before last new left =
 rests_noted : (d : Doubted) (line : ScriptLine) (s kept : ℕ) (middle next : GroupNode) (from : Doubted) (events : List Event) → is_over_rvg (d.world.nodes s) ≡ true
     → RestsWithRvg d line s kept middle next from events → (rvg_noted middle ≡ rvg_noted (note_at (d.world.nodes s))) × (next ≡ middle)
 rests_noted d line s kept middle next from events over (HadRvg has same noted is fall) = (same, noted)
-rests_noted d line s kept middle next from events over (GetsRvg units group has one noted is all) = absurd (never (sym (rvg_apart (d.world.nodes s) over) ∙ group))
+rests_noted d line s kept middle next from events over (GetsRvg units group has there one noted is all) = absurd (never (sym (rvg_apart (d.world.nodes s) over) ∙ group))
 
 -- a group that came up with the replicated volume group that it had
 back_keeps : (told : Type 0) (s : ℕ) (n : Node) (fails : Fails) (note middle : GroupNode) → IsKnown told middle → rvg_noted middle ≡ rvg_noted note

@@ -29,7 +29,7 @@ use Rattle.vx_events.specs.GroupNotes.{NotesBack, NotesRefused, note_at}
 use Rattle.vx_events.specs.GroupReplies.{ShowsKept}
 use Rattle.vx_events.specs.GroupViews.{config_of}
 use Rattle.vx_events.specs.LinkViews.{linked_view}
-use Rattle.vx_events.specs.RvgFits.{FitsRvg, rvg_noted}
+use Rattle.vx_events.specs.RvgFits.{FitsRvg, HasUnits, entries_noted, rvg_noted}
 use Rattle.vx_events.specs.RvgMakes.{noting_in}
 use Rattle.vx_events.specs.RvgNotes.{HasOneValue, note_gained, volume_events}
 use Rattle.vx_events.specs.RvgViews.{is_over_rvg, over_disks}
@@ -56,7 +56,7 @@ rest_again other s = CrashAt s 0 ∷ []
 pub data RestsWithRvg (d : Doubted) (line : ScriptLine) (s kept : ℕ) (middle next : GroupNode) (from : Doubted) (events : List Event) : Type 0 where
   HadRvg : is_over_rvg (d.world.nodes s) ≡ true → rvg_noted middle ≡ rvg_noted (note_at (d.world.nodes s)) → next ≡ middle → from ≡ d
       → events ≡ fall_first (d.world.nodes s).state s kept → RestsWithRvg d line s kept middle next from events
-  GetsRvg : (units : Units) → is_over_group (d.world.nodes s) ≡ true → rvg_noted middle ≡ Some units → HasOneValue units middle → next ≡ note_gained units middle
+  GetsRvg : (units : Units) → is_over_group (d.world.nodes s) ≡ true → rvg_noted middle ≡ Some units → HasUnits (entries_noted middle) units → HasOneValue units middle → next ≡ note_gained units middle
       → from ≡ noting_in d s middle → events ≡ group_events (d.world.nodes s) s line ++ (volume_events middle s units ++ rest_again line s)
       → RestsWithRvg d line s kept middle next from events
 

@@ -15,3 +15,4 @@ pub mod WithinOne
 pub mod WithinLines
 pub mod WithinApply
 pub mod RvgRooms
+pub mod RvgGained

@@ -31,7 +31,7 @@ some_volumes vs some none =
     let other : not (eqb (length vs) 0) ≡ false = ap not empty in
     let f : true ≡ false = sym some ∙ other in cc
 
-has_data : (n : Node) → IsMade n → is_over_rvg n ≡ true → HasData n
+pub has_data : (n : Node) → IsMade n → is_over_rvg n ≡ true → HasData n
 has_data n made over = (made, some_volumes n.volumes (and_right (is_some n.group) (not (eqb (length n.volumes) 0)) over))
 
 -- ---- lines

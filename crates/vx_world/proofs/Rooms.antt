@@ -69,6 +69,14 @@ abbrev pub GivesNone : Event → Node → Type 0
 GivesNone (Volumes p log xs) n = n.volumes ≡ [] → is_running n.halted ≡ false
 GivesNone other n = Unit {0}
 
+-- the event makes no site, and nothing of one
+abbrev pub MakesNothing : Event → Type 0
+MakesNothing (Site name disks blocks) = ⊥
+MakesNothing (Raw q) = ⊥
+MakesNothing (Group q) = ⊥
+MakesNothing (Volumes q log xs) = ⊥
+MakesNothing other = Unit {0}
+
 module _ (w : World) (i : ℕ) where
   abbrev Stays : World → Type 0
   Stays v = SameRoom (w.nodes i) (v.nodes i)
@@ -188,6 +196,75 @@ module _ (w : World) (i : ℕ) where
   on_link_room : (p q : ℕ) (e : SEvent) → Leaves (on_link w p q (done (Events.link_event w p q e)))
   on_link_room p q e = Guards.on_link_holds Stays keeps_links w p q (done (Events.link_event w p q e)) still (λ _ _ _. still)
 
+  -- ---- events that make nothing
+
+  calm_room : (e : Event) → MakesNothing e → Leaves (outcome_of w e)
+  calm_room (Site name disks blocks) calm = absurd calm
+  calm_room (Raw q) calm = absurd calm
+  calm_room (Group q) calm = absurd calm
+  calm_room (Volumes q log xs) calm = absurd calm
+  calm_room (WriteAt p volume start bytes fails) calm =
+      let x : Write = record { volume = volume; start = start; bytes = bytes } in
+      Guards.on_volume_holds Stays w p volume start (blocks_in bytes) (is_too_large (w.nodes p).ring (blocks_in bytes))
+      (Events.written_if (Events.admitted w p x) w p x fails) still (λ _ _ _. written_room (Events.admitted w p x) p x fails)
+  calm_room (Read p volume start count) calm = Guards.on_volume_holds Stays w p volume start count false _ still (λ _ _ _. still)
+  calm_room (Apply q count reached) calm =
+      let o : Outcome = if is_origin (w.nodes q).role then Events.reached_at w q count reached else Events.apply_at w q count in
+      let r : Received = received_step (plain_receiver (w.nodes q)) (Applied count) in
+      Guards.at_site_holds Stays w q (at_work w q o) still
+      (λ _. Guards.at_work_holds Stays w q o still
+      (λ _ _. by_test Leaves (is_origin (w.nodes q).role) (Events.reached_at w q count reached) (Events.apply_at w q count) (λ _. still)
+      (λ _. applied_room q r.state r.action)))
+  calm_room (Pump p q) calm =
+      let o : Outcome = done (Events.link_event w p q PumpLink) in
+      Guards.on_link_holds Stays keeps_links w p q (when_live w q (w.links p q) o) still (λ _ _ _. Guards.when_live_holds Stays w q (w.links p q) o still still)
+  calm_room (Tick p q) calm = Guards.on_link_holds Stays keeps_links w p q (done (Events.ticked_at w p q)) still (λ _ _ _. still)
+  calm_room (Deliver number) calm = delivered_room number (Events.packet_at w.packets number)
+  calm_room (Connect p q) calm =
+      let v : World = Events.link_event w p q ConnectLink in
+      Guards.on_link_holds Stays keeps_links w p q (done (sending v (Events.greeting_back w p q))) still (λ _ _ _. still)
+  calm_room (Cut p q) calm = on_link_room p q CutLink
+  calm_room (Pause p q) calm = on_link_room p q PauseLink
+  calm_room (Resume p q) calm = on_link_room p q ResumeLink
+  calm_room (Wait p number) calm =
+      let unconfirmed : Bool = some_below w.sites (λ k. is_unconfirmed number k (w.links p k)) in
+      let held : Bool = some_below w.sites (λ k. holds_back number k (w.links p k)) in
+      let promised : Outcome = says (promising w (Events.promises_of (w.nodes p) number (w.links p) w.sites)) (DoneAt number) in
+      let answered : Outcome = if held then says w (Pending number) else promised in
+      let known : Outcome = unless unconfirmed (Unconfirmed number) w answered in
+      let o : Outcome = unless (not (is_origin (w.nodes p).role)) WrongRole w (unless (eqb number 0 || ltb (w.nodes p).safe number) (Unknown (ByNumber number)) w known) in
+      Guards.at_site_holds Stays w p (at_work w p o) still
+      (λ _. Guards.at_work_holds Stays w p o still
+      (λ _ _. Guards.unless_holds Stays (not (is_origin (w.nodes p).role)) WrongRole w
+      (unless (eqb number 0 || ltb (w.nodes p).safe number) (Unknown (ByNumber number)) w known) still
+      (λ _. Guards.unless_holds Stays (eqb number 0 || ltb (w.nodes p).safe number) (Unknown (ByNumber number)) w known still
+      (λ _. Guards.unless_holds Stays unconfirmed (Unconfirmed number) w answered still
+      (λ _. by_test Leaves held (says w (Pending number)) promised (λ _. still) (λ _. still))))))
+  calm_room (Link p q sync part) calm =
+      Guards.at_site_holds Stays w p _ still
+      (λ _. Guards.at_site_holds Stays w q _ still
+      (λ _. Guards.both_holds Stays w p q (link_part part w p q sync) still (λ _ _ _ _. part_room part p q sync)))
+  calm_room (Set p q sync) calm =
+      let l : LinkRecord = record (w.links p q) { sync = sync; prot = FailsWhenFull } in
+      Guards.on_link_holds Stays is_origin w p q (done (with_link w p q l)) still (λ _ _ _. still)
+  calm_room (Crash q kept) calm =
+      let o : Outcome = done (Events.crash_at w q (Events.kept_of (w.nodes q) kept)) in
+      Guards.at_site_holds Stays w q (unless (not (is_up (w.nodes q).state)) NotUp w o) still
+      (λ _. Guards.unless_holds Stays (not (is_up (w.nodes q).state)) NotUp w o still (λ _. crash_room q (Events.kept_of (w.nodes q) kept)))
+  calm_room (Deport q) calm =
+      let o : Outcome = done (Events.deport_at w q) in
+      Guards.at_site_holds Stays w q (at_work w q o) still (λ _. Guards.at_work_holds Stays w q o still (λ _ _. deport_room q))
+  calm_room (Fall q) calm = Guards.at_site_holds Stays w q _ still (λ _. fall_room (w.nodes q).state q)
+  calm_room (Recover q fails) calm = Guards.at_site_holds Stays w q _ still (λ _. recover_room (w.nodes q).state q fails)
+  calm_room (Fault q disk) calm =
+      let n : Node = record (w.nodes q) { halted = Some disk; fuse = burned (w.nodes q).fuse } in
+      Guards.at_site_holds Stays w q _ still
+      (λ _. Guards.unless_holds Stays (not (is_up (w.nodes q).state)) NotUp w (says (stopped_by w q disk) _) still
+      (λ _. moved q n (record { ring = refl; volumes = refl })))
+
+  pub calm_step : (e : Event) → MakesNothing e → SameRoom (w.nodes i) ((step w e).world.nodes i)
+  calm_step e calm = calm_room e calm
+
   -- ---- a site that is more than bare
 
   module _ (s : Sound w) (made : IsMade (w.nodes i)) where
@@ -250,64 +327,7 @@ module _ (w : World) (i : ℕ) where
         (λ _ runs. Guards.unless_holds Stays (not (Events.is_plain_group n)) WrongRole w o still
         (λ plain. room_at w i q (volumes_set log xs n)
         (volumes_room q (volumes_set log xs n) gives runs (not_false (Events.is_plain_group n) plain)))))
-    outcome_room (WriteAt p volume start bytes fails) gives =
-        let x : Write = record { volume = volume; start = start; bytes = bytes } in
-        Guards.on_volume_holds Stays w p volume start (blocks_in bytes) (is_too_large (w.nodes p).ring (blocks_in bytes))
-        (Events.written_if (Events.admitted w p x) w p x fails) still (λ _ _ _. written_room (Events.admitted w p x) p x fails)
-    outcome_room (Read p volume start count) gives = Guards.on_volume_holds Stays w p volume start count false _ still (λ _ _ _. still)
-    outcome_room (Apply q count reached) gives =
-        let o : Outcome = if is_origin (w.nodes q).role then Events.reached_at w q count reached else Events.apply_at w q count in
-        let r : Received = received_step (plain_receiver (w.nodes q)) (Applied count) in
-        Guards.at_site_holds Stays w q (at_work w q o) still
-        (λ _. Guards.at_work_holds Stays w q o still
-        (λ _ _. by_test Leaves (is_origin (w.nodes q).role) (Events.reached_at w q count reached) (Events.apply_at w q count) (λ _. still)
-        (λ _. applied_room q r.state r.action)))
-    outcome_room (Pump p q) gives =
-        let o : Outcome = done (Events.link_event w p q PumpLink) in
-        Guards.on_link_holds Stays keeps_links w p q (when_live w q (w.links p q) o) still (λ _ _ _. Guards.when_live_holds Stays w q (w.links p q) o still still)
-    outcome_room (Tick p q) gives = Guards.on_link_holds Stays keeps_links w p q (done (Events.ticked_at w p q)) still (λ _ _ _. still)
-    outcome_room (Deliver number) gives = delivered_room number (Events.packet_at w.packets number)
-    outcome_room (Connect p q) gives =
-        let v : World = Events.link_event w p q ConnectLink in
-        Guards.on_link_holds Stays keeps_links w p q (done (sending v (Events.greeting_back w p q))) still (λ _ _ _. still)
-    outcome_room (Cut p q) gives = on_link_room p q CutLink
-    outcome_room (Pause p q) gives = on_link_room p q PauseLink
-    outcome_room (Resume p q) gives = on_link_room p q ResumeLink
-    outcome_room (Wait p number) gives =
-        let unconfirmed : Bool = some_below w.sites (λ k. is_unconfirmed number k (w.links p k)) in
-        let held : Bool = some_below w.sites (λ k. holds_back number k (w.links p k)) in
-        let promised : Outcome = says (promising w (Events.promises_of (w.nodes p) number (w.links p) w.sites)) (DoneAt number) in
-        let answered : Outcome = if held then says w (Pending number) else promised in
-        let known : Outcome = unless unconfirmed (Unconfirmed number) w answered in
-        let o : Outcome = unless (not (is_origin (w.nodes p).role)) WrongRole w (unless (eqb number 0 || ltb (w.nodes p).safe number) (Unknown (ByNumber number)) w known) in
-        Guards.at_site_holds Stays w p (at_work w p o) still
-        (λ _. Guards.at_work_holds Stays w p o still
-        (λ _ _. Guards.unless_holds Stays (not (is_origin (w.nodes p).role)) WrongRole w
-        (unless (eqb number 0 || ltb (w.nodes p).safe number) (Unknown (ByNumber number)) w known) still
-        (λ _. Guards.unless_holds Stays (eqb number 0 || ltb (w.nodes p).safe number) (Unknown (ByNumber number)) w known still
-        (λ _. Guards.unless_holds Stays unconfirmed (Unconfirmed number) w answered still
-        (λ _. by_test Leaves held (says w (Pending number)) promised (λ _. still) (λ _. still))))))
-    outcome_room (Link p q sync part) gives =
-        Guards.at_site_holds Stays w p _ still
-        (λ _. Guards.at_site_holds Stays w q _ still
-        (λ _. Guards.both_holds Stays w p q (link_part part w p q sync) still (λ _ _ _ _. part_room part p q sync)))
-    outcome_room (Set p q sync) gives =
-        let l : LinkRecord = record (w.links p q) { sync = sync; prot = FailsWhenFull } in
-        Guards.on_link_holds Stays is_origin w p q (done (with_link w p q l)) still (λ _ _ _. still)
-    outcome_room (Crash q kept) gives =
-        let o : Outcome = done (Events.crash_at w q (Events.kept_of (w.nodes q) kept)) in
-        Guards.at_site_holds Stays w q (unless (not (is_up (w.nodes q).state)) NotUp w o) still
-        (λ _. Guards.unless_holds Stays (not (is_up (w.nodes q).state)) NotUp w o still (λ _. crash_room q (Events.kept_of (w.nodes q) kept)))
-    outcome_room (Deport q) gives =
-        let o : Outcome = done (Events.deport_at w q) in
-        Guards.at_site_holds Stays w q (at_work w q o) still (λ _. Guards.at_work_holds Stays w q o still (λ _ _. deport_room q))
-    outcome_room (Fall q) gives = Guards.at_site_holds Stays w q _ still (λ _. fall_room (w.nodes q).state q)
-    outcome_room (Recover q fails) gives = Guards.at_site_holds Stays w q _ still (λ _. recover_room (w.nodes q).state q fails)
-    outcome_room (Fault q disk) gives =
-        let n : Node = record (w.nodes q) { halted = Some disk; fuse = burned (w.nodes q).fuse } in
-        Guards.at_site_holds Stays w q _ still
-        (λ _. Guards.unless_holds Stays (not (is_up (w.nodes q).state)) NotUp w (says (stopped_by w q disk) _) still
-        (λ _. moved q n (record { ring = refl; volumes = refl })))
+    outcome_room other gives = calm_room other tt
 
     pub step_room : (e : Event) → GivesNone e (w.nodes i) → SameRoom (w.nodes i) ((step w e).world.nodes i)
     step_room e gives = outcome_room e gives
