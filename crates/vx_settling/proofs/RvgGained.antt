@@ -36,9 +36,9 @@ use Rattle.vx_events.specs.GroupLines.{group_events, group_recovery}
 use Rattle.vx_events.specs.GroupNotes.{NotesBack, no_note, note_at}
 use Rattle.vx_events.specs.Known.{SaysNo}
 use Rattle.vx_events.specs.RvgBack.{GetsRvg, GroupCutOff, GroupHeld, GroupUnfound, HadRvg, IsLeftBack, KeptLost, LogCut, LogFails, LogLacks, RestsWithRvg, RvgBack, RvgUp, rest_again}
-use Rattle.vx_events.specs.RvgFits.{FitsNoted}
+use Rattle.vx_events.specs.RvgFits.{FitsNoted, data_of, entries_noted}
 use Rattle.vx_events.specs.RvgMakes.{noting_in}
-use Rattle.vx_events.specs.RvgNotes.{volume_events}
+use Rattle.vx_events.specs.RvgNotes.{log_blocks, volume_events}
 use Rattle.vx_events.specs.RvgViews.{is_over_rvg}
 use Rattle.vx_events.specs.declared.said.Said.{Said}
 use Rattle.vx_events.specs.declared.said.Said.TheVariants.{Refused}
@@ -88,6 +88,9 @@ take_none (suc k) = refl
 blank_crashed : (n : Node) (k : ℕ) → IsBlankGroup n → IsBlankGroup (crashed n k)
 blank_crashed n k blank = record { role = blank.role; volumes = blank.volumes; log = ap (λ (ws : List Write). take k ws) blank.log ∙ take_none k }
 
+blank_again : (n : Node) → IsBlankGroup n → IsBlankGroup (group_up n)
+blank_again n blank = record { role = blank.role; volumes = blank.volumes; log = blank.log }
+
 module _ (w : World) (s : ℕ) where
   -- the node that a crash leaves
   crash_node : (k : ℕ) → (crash_at w s k).nodes s ≡ crashed (w.nodes s) k
@@ -104,7 +107,7 @@ module _ (w : World) (s : ℕ) where
         below = subst (λ (k : ℕ). s < k) (sym (ap (λ (o : Outcome). o.world.sites) done)) below;
         up = ap (λ (m : Node). m.state) here;
         running = ap (λ (m : Node). m.halted) here;
-        blank = subst (λ (m : Node). IsBlankGroup m) (sym here) (record { role = blank.role; volumes = blank.volumes; log = blank.log });
+        blank = subst (λ (m : Node). IsBlankGroup m) (sym here) (blank_again n blank);
       }
 
   -- what a group that gets its volumes has
@@ -183,13 +186,13 @@ noted_may : (d : Doubted) (line : ScriptLine) (s : ℕ) (note : GroupNode) → M
     → MayGain (noting_in d s note).world.sites line s ((noting_in d s note).world.nodes s)
 noted_may d line s note may =
     let m : Node = record (d.world.nodes s) { group = Some note } in
-    subst (λ (n : Node). MayGain d.world.sites line s n) (sym (at_place d.world.nodes s m))
-    (record {
+    let noted : MayGain d.world.sites line s m = record {
       below = may.below;
       made = may.made;
       rests = may.rests;
       blank = record { role = may.blank.role; volumes = may.blank.volumes; log = may.blank.log };
-    })
+    } in
+    subst (λ (n : Node). MayGain d.world.sites line s n) (sym (at_place d.world.nodes s m)) noted
 
 module _ (told : Type 0) (d : Doubted) (line : ScriptLine) (s : ℕ) (fails : Fails) (said : Said) (new : Doubted) (may : MayGain d.world.sites line s (d.world.nodes s))
     (free : d.after s ≡ None) where
@@ -208,8 +211,11 @@ module _ (told : Type 0) (d : Doubted) (line : ScriptLine) (s : ℕ) (fails : Fa
       let start : Doubted = noting_in d s middle in
       let same : (d.world.nodes s).state ≡ (start.world.nodes s).state =
       ap (λ (n : Node). n.state) (sym (at_place d.world.nodes s (record (d.world.nodes s) { group = Some middle }))) in
-      let got = gains line s _ _ taken start (d.world.nodes s) same brings free (noted_may d line s middle may) in
-      let led : last.world.nodes s ≡ (run_as taken start ((group_events (d.world.nodes s) s line ++ (volume_events middle s units ++ rest_again line s)) ++ RecoverAt s None ∷ [])).world.nodes s =
+      let end : Node =
+      (run_as taken start ((group_events (d.world.nodes s) s line ++ (volume_events middle s units ++ rest_again line s)) ++ RecoverAt s None ∷ [])).world.nodes s in
+      let got : HasGained (log_blocks middle units) (data_of (entries_noted middle) units) end =
+      gains line s (log_blocks middle units) (data_of (entries_noted middle) units) taken start (d.world.nodes s) same brings free (noted_may d line s middle may) in
+      let led : last.world.nodes s ≡ end =
       ap (λ (e : Doubted). (run_as taken e (rest ++ RecoverAt s None ∷ [])).world.nodes s) is
       ∙ ap (λ (es : List Event). (run_as taken start (es ++ RecoverAt s None ∷ [])).world.nodes s) all in
       fits_gained told s (d.world.nodes s) fails (note_at (d.world.nodes s)) middle next units (new.world.nodes s) back has there noted
