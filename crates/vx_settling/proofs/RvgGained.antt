@@ -38,7 +38,7 @@ use Rattle.vx_events.specs.Known.{SaysNo}
 use Rattle.vx_events.specs.RvgBack.{GetsRvg, GroupCutOff, GroupHeld, GroupUnfound, HadRvg, IsLeftBack, KeptLost, LogCut, LogFails, LogLacks, RestsWithRvg, RvgBack, RvgUp, rest_again}
 use Rattle.vx_events.specs.RvgFits.{FitsNoted, data_of, entries_noted}
 use Rattle.vx_events.specs.RvgMakes.{noting_in}
-use Rattle.vx_events.specs.RvgNotes.{log_blocks, volume_events}
+use Rattle.vx_events.specs.RvgNotes.{srl_blocks, volume_events}
 use Rattle.vx_events.specs.RvgViews.{is_over_rvg}
 use Rattle.vx_events.specs.declared.said.Said.{Said}
 use Rattle.vx_events.specs.declared.said.Said.TheVariants.{Refused}
@@ -213,8 +213,8 @@ module _ (told : Type 0) (d : Doubted) (line : ScriptLine) (s : ℕ) (fails : Fa
       ap (λ (n : Node). n.state) (sym (at_place d.world.nodes s (record (d.world.nodes s) { group = Some middle }))) in
       let end : Node =
       (run_as taken start ((group_events (d.world.nodes s) s line ++ (volume_events middle s units ++ rest_again line s)) ++ RecoverAt s None ∷ [])).world.nodes s in
-      let got : HasGained (log_blocks middle units) (data_of (entries_noted middle) units) end =
-      gains line s (log_blocks middle units) (data_of (entries_noted middle) units) taken start (d.world.nodes s) same brings free (noted_may d line s middle may) in
+      let got : HasGained (srl_blocks middle units) (data_of (entries_noted middle) units) end =
+      gains line s (srl_blocks middle units) (data_of (entries_noted middle) units) taken start (d.world.nodes s) same brings free (noted_may d line s middle may) in
       let led : last.world.nodes s ≡ end =
       ap (λ (e : Doubted). (run_as taken e (rest ++ RecoverAt s None ∷ [])).world.nodes s) is
       ∙ ap (λ (es : List Event). (run_as taken start (es ++ RecoverAt s None ∷ [])).world.nodes s) all in
