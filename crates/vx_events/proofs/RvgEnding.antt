@@ -17,7 +17,7 @@ use Rattle.vx_script.specs.declared.line.ScriptLine.TheVariants.{Site, Raw, Disk
 use Rattle.vx_events.proofs.GroupStopping.{events_tell, group_stops, noted_like}
 use Rattle.vx_events.proofs.LinkStopping.{link_stops}
 use Rattle.vx_events.proofs.Noting.{as_like, disks_like, like_disks, like_noted, like_self, like_then, same_like}
-use Rattle.vx_events.proofs.RvgStopping.{noted_doubted, same_doubted}
+use Rattle.vx_events.proofs.RvgStopping.{ended as ended_rvg, noted_doubted, same_doubted}
 use Rattle.vx_events.proofs.Stopping.{BeginsWrite, ended, runs_as}
 use Rattle.vx_events.specs.Doubts.{IsAs, run_as, with_disks}
 use Rattle.vx_events.specs.Ends.{place_of}
@@ -32,7 +32,7 @@ use Rattle.vx_events.specs.RvgLinks.{AllKnown, LinksOver, noting_each}
 use Rattle.vx_events.specs.RvgMakes.{RvgStops, noting_in}
 use Rattle.vx_events.specs.RvgNotes.{volume_events}
 use Rattle.vx_events.specs.RvgOver.{CutBelow, EndsOrShows, EndsOver, OpensFor, OverRvg, OverRvgBy, ShowFails, ShowsAny, TakesOr, is_below, is_inside}
-use Rattle.vx_events.specs.RvgParts.{RvgShort, ShortGroup, ShortLog}
+use Rattle.vx_events.specs.RvgParts.{RvgShort, ShortGroup, ShortLog, ShortMade}
 use Rattle.vx_events.specs.RvgViews.{is_over_rvg}
 use Rattle.vx_events.specs.declared.said.Said.{Said}
 
@@ -186,6 +186,7 @@ short_stops told d line s new (ShortGroup kept taken lost next over brings notes
     but_by lost d d (same_doubted d) s line taken next (fall_first (d.world.nodes s).state s kept) [] new (falls_tell (d.world.nodes s).state s kept) left
 short_stops told d line s new (ShortLog kept taken fails middle found next from rest are brings back rests is left) =
     but_by true d from (rests_like d line s kept middle found from rest rests) s line taken next rest [] new (rests_tell d line s kept middle found from rest rests) left
+short_stops told d line s new (ShortMade site srl maps volumes fails next is are notes left) = ended_rvg d d new (same_doubted d) s next [] refl left
 
 -- ---- where a line writes its site is open
 

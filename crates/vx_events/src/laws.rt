@@ -128,7 +128,7 @@ pub fn lines_over_rvgs_are_events()
         → LinksOver (Unit {0}) d line fails said new → RvgStops d new }
 {}
 
-/// So does what want of memory leaves of a recovery or an import of such a site.
+/// So does what want of memory leaves of a recovery or an import of such a site, or of a line that makes a replicated volume group.
 pub fn rvg_shorts_are_events()
     ensures { (tells : Bool) (d : Doubted) (line : ScriptLine) (s : ℕ) (new : Doubted) → RvgShort (IsTrue tells) d line s new → RvgStops d new }
 {}
