@@ -51,7 +51,7 @@ made_note s next last new left known =
 
 -- ---- a line that makes a replicated volume group
 
-narrowed_dark : (told : Type 0) (units : Units) (note new : GroupNode) → NotesNarrowed told units note new → new.dark ≡ note.dark
+pub narrowed_dark : (told : Type 0) (units : Units) (note new : GroupNode) → NotesNarrowed told units note new → new.dark ≡ note.dark
 narrowed_dark told units note new x = ap (λ (g : GroupNode). g.dark) x.same
 
 settles_dark : {C : Config → Config → Type 0} (note new : GroupNode) → Reconfigures C NoteSettles note new → new.dark ≡ note.dark
@@ -89,7 +89,7 @@ module _ (told : Type 0) (tells : told) (d : Doubted) (s : ℕ) (known : (note_a
   abbrev here : GroupNode
   here = note_at (d.world.nodes s)
 
-  back_known_too : (line : ScriptLine) → (MayDarken here line said → ⊥) → RvgBack told d line s fails said new → (note_at (new.world.nodes s)).dark ≡ false
+  pub back_known_too : (line : ScriptLine) → (MayDarken here line said → ⊥) → RvgBack told d line s fails said new → (note_at (new.world.nodes s)).dark ≡ false
   back_known_too line free (RvgUp kept taken middle next from rest are brings back rests says left) =
       back_note s line taken next from _ new left
       (rests_dark d line s kept middle next from rest rests ∙ back_known told s (d.world.nodes s) fails here middle known (λ loose. free (brings, inl loose)) back)

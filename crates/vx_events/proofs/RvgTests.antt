@@ -143,7 +143,7 @@ rvg_may w files site srl maps volumes e =
 -- ---- the line that is done
 
 -- what the site notes then
-gained_note : (s : ℕ) (next : GroupNode) (last new : Doubted) → IsLeftRvg s next last new → note_at (new.world.nodes s) ≡ next
+pub gained_note : (s : ℕ) (next : GroupNode) (last new : Doubted) → IsLeftRvg s next last new → note_at (new.world.nodes s) ≡ next
 gained_note s next last new left =
     let v : World = noting last.world s next in
     ap (λ (w : World). note_at (w.nodes s)) left.world

@@ -16,3 +16,5 @@ pub mod WithinLines
 pub mod WithinApply
 pub mod RvgRooms
 pub mod RvgGained
+pub mod Brights
+pub mod BrightLines

@@ -23,7 +23,7 @@ use Rattle.vx_history.specs.declared.event.Event.TheVariants.{Crash as CrashAt, 
 use Rattle.vx_history.specs.declared.volumes.DataVolume.{DataVolume}
 use Rattle.vx_script.specs.declared.line.ScriptLine.{ScriptLine}
 use Rattle.vx_script.specs.declared.line.ScriptLine.TheVariants.{GroupImport, Recover}
-use Rattle.vx_world.proofs.Rooms.{calm_step, room_then}
+use Rattle.vx_world.proofs.Rooms.{calm_room, room_then}
 use Rattle.vx_world.specs.Lines.{SameRoom}
 use Rattle.vx_events.proofs.RvgAgain.{fits_gained}
 use Rattle.vx_events.proofs.RvgEnding.{back_like}
@@ -55,7 +55,7 @@ module _ (s : ℕ) where
 
   crash_room : (d : Doubted) (taken : Bool) (kept : ℕ) → d.after s ≡ None → SameRoom (d.world.nodes s) ((happened d (CrashAt s kept) taken).world.nodes s)
   crash_room d taken kept none =
-      subst (λ (w : World). SameRoom (d.world.nodes s) ((step w (CrashAt s kept)).world.nodes s)) (sym (free_world d taken none)) (calm_step d.world s (CrashAt s kept) tt)
+      subst (λ (w : World). SameRoom (d.world.nodes s) ((step w (CrashAt s kept)).world.nodes s)) (sym (free_world d taken none)) (calm_room d.world s (CrashAt s kept) tt)
 
   crash_free : (d : Doubted) (taken : Bool) (kept : ℕ) → (happened d (CrashAt s kept) taken).after s ≡ None
   crash_free d taken kept = at_place d.after s None
@@ -65,12 +65,12 @@ module _ (s : ℕ) where
       → SameRoom (d.world.nodes s) ((run_as taken d (rest_again line s ++ RecoverAt s None ∷ [])).world.nodes s)
   tail_room (GroupImport site) d taken none =
       let e : Doubted = happened d (DeportAt s) taken in
-      room_then (d.world.nodes s) (e.world.nodes s) ((happened e (RecoverAt s None) taken).world.nodes s) (calm_step d.world s (DeportAt s) tt)
-      (calm_step e.world s (RecoverAt s None) tt)
+      room_then (d.world.nodes s) (e.world.nodes s) ((happened e (RecoverAt s None) taken).world.nodes s) (calm_room d.world s (DeportAt s) tt)
+      (calm_room e.world s (RecoverAt s None) tt)
   tail_room other d taken none =
       let e : Doubted = happened d (CrashAt s 0) taken in
       room_then (d.world.nodes s) (e.world.nodes s) ((happened e (RecoverAt s None) taken).world.nodes s) (crash_room d taken 0 none)
-      (calm_step e.world s (RecoverAt s None) tt)
+      (calm_room e.world s (RecoverAt s None) tt)
 
 -- ---- a group without volumes and without a log
 

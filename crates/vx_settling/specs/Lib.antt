@@ -5,3 +5,4 @@ pub mod Between
 pub mod Works
 pub mod Burnt
 pub mod Gains
+pub mod Brights

@@ -14,7 +14,9 @@ ghost use Rattle.vx_events.specs.RvgLinks.{AllKnown, LinksOver};
 ghost use Rattle.vx_events.specs.RvgOver.{OpensFor, OverRvg};
 ghost use Rattle.vx_events.specs.RvgSteps.{AgreeFor, StepFull};
 ghost use Rattle.vx_events.specs.RvgViews.{is_over_rvg};
+ghost use Rattle.vx_events.specs.StepsOver.{group_place};
 ghost use Rattle.vx_events.specs.declared.said.Said.{Said};
+ghost use Rattle.vx_settling.specs.Brights.{AllBright, IsHeldDown};
 ghost use Rattle.vx_settling.specs.Gains.{MayGain};
 
 /// However a line ends over groups of disks, with replicated volume groups or without, where it is known what they hold, and imports agree of a group that it brings
@@ -22,6 +24,14 @@ ghost use Rattle.vx_settling.specs.Gains.{MayGain};
 pub fn full_lines_stay_good()
     ensures { (files : Bool) (d : Doubted) (line : ScriptLine) (fails : Fails) (said : Said) (new : Doubted) → GoodDoubted d → AgreeFor d.world line
         → StepFull (Unit {0}) files d line fails said new → GoodDoubted new }
+{}
+
+/// It stays known what the disks of all groups hold, also as they may be on disks of sites in doubt, however a line ends that is no refused recovery or import, where
+/// imports agree of a group that it brings up.
+pub fn full_lines_stay_known()
+    ensures { (files : Bool) (d : Doubted) (line : ScriptLine) (fails : Fails) (said : Said) (new : Doubted) → AllBright d
+        → (BringsUp line → (note_at (d.world.nodes (group_place d.world line))).loose ≡ false) → (IsHeldDown line said → ⊥)
+        → StepFull (Unit {0}) files d line fails said new → AllBright new }
 {}
 
 /// Where it is known what the disks hold, and imports agree of a group that the line brings up, each site that has data volumes has these behind a line as before it,

@@ -16,7 +16,7 @@ use Rattle.vx_history.specs.declared.event.Event.TheVariants.{Volumes}
 use Rattle.vx_world.proofs.Doubting.{happened_good, others, resolve_good, runs_good, world_good}
 use Rattle.vx_world.proofs.Grows.{step_grows}
 use Rattle.vx_world.proofs.Halving.{half}
-use Rattle.vx_world.proofs.Rooms.{GivesNone, crash_room, room_at, room_back, room_self, room_then, step_room}
+use Rattle.vx_world.proofs.Rooms.{GivesNone, crash_room, room_at, room_back, room_of, room_self, room_then, step_room}
 use Rattle.vx_world.specs.Lines.{DoubtsAlike, GoodDoubted, HasData, IsDoubt, NoDoubts, RoomStays, SameRoom}
 
 -- no event gives data volumes to a site that has some, or that a disk halted
@@ -61,7 +61,9 @@ has_still n m same made has = (made, λ none. has.1 (sym same.volumes ∙ none))
 -- ---- an event that is done
 
 stepped_room : (d : Doubted) (e : Event) → GoodDoubted d → (i : ℕ) → HasData (d.world.nodes i) → SameRoom (d.world.nodes i) ((step d.world e).world.nodes i)
-stepped_room d e g i has = step_room d.world i (world_good d g).sound has.0 e (gives_none e (d.world.nodes i) (λ none. absurd (has.1 none)))
+stepped_room d e g i has =
+    room_of (d.world.nodes i) ((step d.world e).world.nodes i)
+    (step_room d.world i (world_good d g).sound has.0 e (gives_none e (d.world.nodes i) (λ none. absurd (has.1 none))))
 
 stepped_alike : (d : Doubted) (e : Event) → GoodDoubted d → DoubtsAlike d → DoubtsAlike (record d { world = (step d.world e).world })
 stepped_alike d e g alike s a is =
@@ -69,7 +71,7 @@ stepped_alike d e g alike s a is =
     let m : Node = (step d.world e).world.nodes s in
     let doubt : IsDoubt d.world s a = g.doubts s a is in
     room_then m n a.node
-    (room_back n m (step_room d.world s (world_good d g).sound (up_is_made n doubt.up) e (gives_none e n (λ _. doubt.halted)))) (alike s a is)
+    (room_back n m (room_of n m (step_room d.world s (world_good d g).sound (up_is_made n doubt.up) e (gives_none e n (λ _. doubt.halted))))) (alike s a is)
 
 stepped_has : (d : Doubted) (e : Event) → GoodDoubted d → (i : ℕ) → HasData (d.world.nodes i) → HasData ((step d.world e).world.nodes i)
 stepped_has d e g i has =
@@ -149,7 +151,7 @@ module _ (d : Doubted) (e : Event) (site disk : ℕ) (g : GoodDoubted d) (alike 
       let n : Node = d.world.nodes site in
       let m : Node = done.nodes site in
       subst (λ (k : Node). SameRoom n k) (sym (at_place done.nodes site (half m disk)))
-      (room_then n m (half m disk) (step_room d.world site (world_good d g).sound (up_is_made n opens.0) e (writes_none d.world e site n at))
+      (room_then n m (half m disk) (room_of n m (step_room d.world site (world_good d g).sound (up_is_made n opens.0) e (writes_none d.world e site n at)))
       (record { ring = refl; volumes = refl }))
 
   halved_alike : DoubtsAlike h
@@ -166,7 +168,9 @@ module _ (d : Doubted) (e : Event) (site disk : ℕ) (g : GoodDoubted d) (alike 
 
 -- a crash of a site in doubt
 crash_falls : (d : Doubted) (s kept : ℕ) (taken : Bool) (i : ℕ) → SameRoom ((resolved_at d s taken).world.nodes i) ((crashed_as d s kept taken).world.nodes i)
-crash_falls d s kept taken i = crash_room (resolved_at d s taken).world i s (kept_of ((resolved_at d s taken).world.nodes s) kept)
+crash_falls d s kept taken i =
+    let r : World = (resolved_at d s taken).world in
+    room_of (r.nodes i) ((crashed_as d s kept taken).world.nodes i) (crash_room r i s (kept_of (r.nodes s) kept))
 
 crashed_stays : (d : Doubted) (s kept : ℕ) (taken : Bool) → DoubtsAlike d → RoomStays d (crashed_as d s kept taken)
 crashed_stays d s kept taken alike =

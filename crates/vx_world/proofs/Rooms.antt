@@ -45,6 +45,25 @@ use Rattle.vx_world.proofs.Lists.{not_false}
 use Rattle.vx_world.proofs.Nodes
 use Rattle.vx_world.specs.Lines.{SameRoom}
 
+-- ---- what an event leaves of a site
+
+-- its log, its data volumes, and what it notes of its group of disks
+pub record Unmoved (n m : Node) : Type 0 where
+  pub ring : m.ring ≡ n.ring
+  pub volumes : m.volumes ≡ n.volumes
+  pub group : m.group ≡ n.group
+
+pub room_of : (n m : Node) → Unmoved n m → SameRoom n m
+room_of n m x = record { ring = x.ring; volumes = x.volumes }
+
+pub unmoved_self : (n : Node) → Unmoved n n
+unmoved_self n = record { ring = refl; volumes = refl; group = refl }
+
+pub unmoved_then : (a b c : Node) → Unmoved a b → Unmoved b c → Unmoved a c
+unmoved_then a b c f g = record { ring = g.ring ∙ f.ring; volumes = g.volumes ∙ f.volumes; group = g.group ∙ f.group }
+
+-- ---- sites of the same log and data volumes
+
 pub room_self : (n : Node) → SameRoom n n
 room_self n = record { ring = refl; volumes = refl }
 
@@ -60,9 +79,17 @@ room_at w i q n here =
     by_test (λ (m : Node). SameRoom (w.nodes i) m) (eqb i q) n (w.nodes i)
     (λ e. subst (λ (k : ℕ). SameRoom (w.nodes k) n) (sym (eqb_equal i q e)) (here (eqb_equal i q e))) (λ _. room_self (w.nodes i))
 
+-- ---- events
+
+-- a site i of a world of which site q is another one
+pub unmoved_at : (w : World) (i q : ℕ) (n : Node) → (i ≡ q → Unmoved (w.nodes q) n) → Unmoved (w.nodes i) (updated w.nodes q n i)
+unmoved_at w i q n here =
+    by_test (λ (m : Node). Unmoved (w.nodes i) m) (eqb i q) n (w.nodes i)
+    (λ e. subst (λ (k : ℕ). Unmoved (w.nodes k) n) (sym (eqb_equal i q e)) (here (eqb_equal i q e))) (λ _. unmoved_self (w.nodes i))
+
 -- a site that comes back has them
-back_room : (n : Node) → SameRoom n (Events.come_back n)
-back_room n = Nodes.back_by (λ (m : Node). SameRoom n m) n (λ mark _ _ _. record { ring = refl; volumes = refl })
+back_room : (n : Node) → Unmoved n (Events.come_back n)
+back_room n = Nodes.back_by (λ (m : Node). Unmoved n m) n (λ mark _ _ _. record { ring = refl; volumes = refl; group = refl })
 
 -- A site without data volumes gets some by one event alone, and not where a disk halted it.
 abbrev pub GivesNone : Event → Node → Type 0
@@ -79,22 +106,22 @@ MakesNothing other = Unit {0}
 
 module _ (w : World) (i : ℕ) where
   abbrev Stays : World → Type 0
-  Stays v = SameRoom (w.nodes i) (v.nodes i)
+  Stays v = Unmoved (w.nodes i) (v.nodes i)
 
   abbrev Leaves : Outcome → Type 0
-  Leaves o = SameRoom (w.nodes i) (o.world.nodes i)
+  Leaves o = Unmoved (w.nodes i) (o.world.nodes i)
 
-  still : SameRoom (w.nodes i) (w.nodes i)
-  still = room_self (w.nodes i)
+  still : Unmoved (w.nodes i) (w.nodes i)
+  still = unmoved_self (w.nodes i)
 
   -- site q is another node with the same
-  moved : (q : ℕ) (n : Node) → SameRoom (w.nodes q) n → SameRoom (w.nodes i) (updated w.nodes q n i)
-  moved q n same = room_at w i q n (λ _. same)
+  moved : (q : ℕ) (n : Node) → Unmoved (w.nodes q) n → Unmoved (w.nodes i) (updated w.nodes q n i)
+  moved q n same = unmoved_at w i q n (λ _. same)
 
   put_room : (p : ℕ) (x : Write) (fails : Option ℕ) → Leaves (Events.put_in (Events.links_changed w p x) p x fails)
-  put_room p x None = moved p (logged (w.nodes p) x) (record { ring = refl; volumes = refl })
+  put_room p x None = moved p (logged (w.nodes p) x) (record { ring = refl; volumes = refl; group = refl })
   put_room p x (Some disk) =
-      moved p (record (w.nodes p) { log = (w.nodes p).log ++ x ∷ []; halted = Some disk; fuse = burned (w.nodes p).fuse }) (record { ring = refl; volumes = refl })
+      moved p (record (w.nodes p) { log = (w.nodes p).log ++ x ∷ []; halted = Some disk; fuse = burned (w.nodes p).fuse }) (record { ring = refl; volumes = refl; group = refl })
 
   written_room : (admitted : Admitted) (p : ℕ) (x : Write) (fails : Option ℕ) → Leaves (Events.written_if admitted w p x fails)
   written_room (Held_by why) p x fails = still
@@ -106,14 +133,14 @@ module _ (w : World) (i : ℕ) where
   applied_room q r Ignores = still
   applied_room q r (IgnoredAck number) = still
   applied_room q r (Take number) = still
-  applied_room q r (AcksFromDisk number) = moved q (Events.applied (w.nodes q) number r.mark) (record { ring = refl; volumes = refl })
+  applied_room q r (AcksFromDisk number) = moved q (Events.applied (w.nodes q) number r.mark) (record { ring = refl; volumes = refl; group = refl })
 
   link_heard_room : (p : Packet) (e : SEvent) → Leaves (Events.link_heard w p e)
   link_heard_room p e =
       by_test Leaves (keeps_links (w.nodes p.target).role && is_linked (w.links p.target p.source)) _ (says w IsIgnored) (λ _. still) (λ _. still)
 
   taken_room : (whole : Bool) (p : Packet) (x : Write) (number : ℕ) → Leaves (Events.taken_if whole w p x number)
-  taken_room true p x number = moved p.target (Events.with_write (w.nodes p.target) p.source x) (record { ring = refl; volumes = refl })
+  taken_room true p x number = moved p.target (Events.with_write (w.nodes p.target) p.source x) (record { ring = refl; volumes = refl; group = refl })
   taken_room false p x number = still
 
   update_room : (p : Packet) (x : Write) (action : RAction) → Leaves (Events.update_taken w p x action)
@@ -145,19 +172,19 @@ module _ (w : World) (i : ℕ) where
   crash_room q k =
       let row : ℕ → LinkRecord = λ to. Events.lost_touch (w.links q to) in
       by_test (λ (v : World). Stays (emptied (with_links v q row) q)) (is_origin (w.nodes q).role) (crash_left w q k) (with_node w q (crashed (w.nodes q) k))
-      (λ _. moved q (crashed (w.nodes q) k) (record { ring = refl; volumes = refl }))
-      (λ _. moved q (crashed (w.nodes q) k) (record { ring = refl; volumes = refl }))
+      (λ _. moved q (crashed (w.nodes q) k) (record { ring = refl; volumes = refl; group = refl }))
+      (λ _. moved q (crashed (w.nodes q) k) (record { ring = refl; volumes = refl; group = refl }))
 
   deport_room : (q : ℕ) → Stays (Events.deport_at w q)
   deport_room q =
       let v : World = Events.crash_at w q (Events.kept_of (w.nodes q) 0) in
       let n : Node = deported_site (w.nodes q).fuse (v.nodes q) in
-      room_then (w.nodes i) (v.nodes i) (updated v.nodes q n i) (crash_room q (Events.kept_of (w.nodes q) 0))
-      (room_at v i q n (λ _. record { ring = refl; volumes = refl }))
+      unmoved_then (w.nodes i) (v.nodes i) (updated v.nodes q n i) (crash_room q (Events.kept_of (w.nodes q) 0))
+      (unmoved_at v i q n (λ _. record { ring = refl; volumes = refl; group = refl }))
 
   recovery_room : (q : ℕ) (fails : Option ℕ) → Leaves (Events.recovery w q fails)
   recovery_room q None = moved q (Events.come_back (w.nodes q)) (back_room (w.nodes q))
-  recovery_room q (Some disk) = moved q (record (w.nodes q) { session = (w.nodes q).session + 1 }) (record { ring = refl; volumes = refl })
+  recovery_room q (Some disk) = moved q (record (w.nodes q) { session = (w.nodes q).session + 1 }) (record { ring = refl; volumes = refl; group = refl })
 
   recover_room : (state : SiteState) (q : ℕ) (fails : Option ℕ) → Leaves (Events.recover_from state w q fails)
   recover_room Bare q fails = still
@@ -168,7 +195,7 @@ module _ (w : World) (i : ℕ) where
   fall_room : (state : SiteState) (q : ℕ) → Leaves (Events.fall_from state w q)
   fall_room Bare q = still
   fall_room Up q = still
-  fall_room Deported q = moved q (fallen_site (w.nodes q)) (record { ring = refl; volumes = refl })
+  fall_room Deported q = moved q (fallen_site (w.nodes q)) (record { ring = refl; volumes = refl; group = refl })
   fall_room Down q = still
 
   part_room : (part : LinkPart) (p q : ℕ) (sync : SyncMode) → Leaves (link_part part w p q sync)
@@ -181,7 +208,7 @@ module _ (w : World) (i : ℕ) where
       (λ _. Guards.unless_holds Stays (is_linked (w.links p q)) (Exists (w.nodes q).name) w few still
       (λ _. Guards.unless_holds Stays (leb MOST_LINKS (count_links_of w p)) (Limit Links MOST_LINKS) w fits still
       (λ _. Guards.unless_holds Stays (not (sizes_meet (w.nodes p).volumes (w.nodes q).volumes && rings_fit (w.nodes p) (w.nodes q))) Size w o still
-      (λ _. moved q n (record { ring = refl; volumes = refl })))))
+      (λ _. moved q n (record { ring = refl; volumes = refl; group = refl })))))
   part_room Made p q sync =
       let l : LinkRecord = Events.new_link (count_links_of w p) sync (w.nodes q) in
       Guards.unless_holds Stays (not (is_primary (w.nodes p).role && follows w p q)) WrongRole w
@@ -189,7 +216,7 @@ module _ (w : World) (i : ℕ) where
       (λ _. Guards.unless_holds Stays (is_linked (w.links p q)) (Exists (w.nodes q).name) w (done (with_link w p q l)) still (λ _. still))
   part_room Marked p q sync =
       let n : Node = record (w.nodes q) { mark = Consistent } in
-      Guards.unless_holds Stays _ WrongRole w (done (with_node w q n)) still (λ _. moved q n (record { ring = refl; volumes = refl }))
+      Guards.unless_holds Stays _ WrongRole w (done (with_node w q n)) still (λ _. moved q n (record { ring = refl; volumes = refl; group = refl }))
   part_room Opened p q sync =
       Guards.unless_holds Stays _ WrongRole w (done (with_link w p q (Events.opened (w.links p q) (w.nodes p).safe))) still (λ _. still)
 
@@ -198,35 +225,35 @@ module _ (w : World) (i : ℕ) where
 
   -- ---- events that make nothing
 
-  calm_room : (e : Event) → MakesNothing e → Leaves (outcome_of w e)
-  calm_room (Site name disks blocks) calm = absurd calm
-  calm_room (Raw q) calm = absurd calm
-  calm_room (Group q) calm = absurd calm
-  calm_room (Volumes q log xs) calm = absurd calm
-  calm_room (WriteAt p volume start bytes fails) calm =
+  calm_outcome : (e : Event) → MakesNothing e → Leaves (outcome_of w e)
+  calm_outcome (Site name disks blocks) calm = absurd calm
+  calm_outcome (Raw q) calm = absurd calm
+  calm_outcome (Group q) calm = absurd calm
+  calm_outcome (Volumes q log xs) calm = absurd calm
+  calm_outcome (WriteAt p volume start bytes fails) calm =
       let x : Write = record { volume = volume; start = start; bytes = bytes } in
       Guards.on_volume_holds Stays w p volume start (blocks_in bytes) (is_too_large (w.nodes p).ring (blocks_in bytes))
       (Events.written_if (Events.admitted w p x) w p x fails) still (λ _ _ _. written_room (Events.admitted w p x) p x fails)
-  calm_room (Read p volume start count) calm = Guards.on_volume_holds Stays w p volume start count false _ still (λ _ _ _. still)
-  calm_room (Apply q count reached) calm =
+  calm_outcome (Read p volume start count) calm = Guards.on_volume_holds Stays w p volume start count false _ still (λ _ _ _. still)
+  calm_outcome (Apply q count reached) calm =
       let o : Outcome = if is_origin (w.nodes q).role then Events.reached_at w q count reached else Events.apply_at w q count in
       let r : Received = received_step (plain_receiver (w.nodes q)) (Applied count) in
       Guards.at_site_holds Stays w q (at_work w q o) still
       (λ _. Guards.at_work_holds Stays w q o still
       (λ _ _. by_test Leaves (is_origin (w.nodes q).role) (Events.reached_at w q count reached) (Events.apply_at w q count) (λ _. still)
       (λ _. applied_room q r.state r.action)))
-  calm_room (Pump p q) calm =
+  calm_outcome (Pump p q) calm =
       let o : Outcome = done (Events.link_event w p q PumpLink) in
       Guards.on_link_holds Stays keeps_links w p q (when_live w q (w.links p q) o) still (λ _ _ _. Guards.when_live_holds Stays w q (w.links p q) o still still)
-  calm_room (Tick p q) calm = Guards.on_link_holds Stays keeps_links w p q (done (Events.ticked_at w p q)) still (λ _ _ _. still)
-  calm_room (Deliver number) calm = delivered_room number (Events.packet_at w.packets number)
-  calm_room (Connect p q) calm =
+  calm_outcome (Tick p q) calm = Guards.on_link_holds Stays keeps_links w p q (done (Events.ticked_at w p q)) still (λ _ _ _. still)
+  calm_outcome (Deliver number) calm = delivered_room number (Events.packet_at w.packets number)
+  calm_outcome (Connect p q) calm =
       let v : World = Events.link_event w p q ConnectLink in
       Guards.on_link_holds Stays keeps_links w p q (done (sending v (Events.greeting_back w p q))) still (λ _ _ _. still)
-  calm_room (Cut p q) calm = on_link_room p q CutLink
-  calm_room (Pause p q) calm = on_link_room p q PauseLink
-  calm_room (Resume p q) calm = on_link_room p q ResumeLink
-  calm_room (Wait p number) calm =
+  calm_outcome (Cut p q) calm = on_link_room p q CutLink
+  calm_outcome (Pause p q) calm = on_link_room p q PauseLink
+  calm_outcome (Resume p q) calm = on_link_room p q ResumeLink
+  calm_outcome (Wait p number) calm =
       let unconfirmed : Bool = some_below w.sites (λ k. is_unconfirmed number k (w.links p k)) in
       let held : Bool = some_below w.sites (λ k. holds_back number k (w.links p k)) in
       let promised : Outcome = says (promising w (Events.promises_of (w.nodes p) number (w.links p) w.sites)) (DoneAt number) in
@@ -240,49 +267,52 @@ module _ (w : World) (i : ℕ) where
       (λ _. Guards.unless_holds Stays (eqb number 0 || ltb (w.nodes p).safe number) (Unknown (ByNumber number)) w known still
       (λ _. Guards.unless_holds Stays unconfirmed (Unconfirmed number) w answered still
       (λ _. by_test Leaves held (says w (Pending number)) promised (λ _. still) (λ _. still))))))
-  calm_room (Link p q sync part) calm =
+  calm_outcome (Link p q sync part) calm =
       Guards.at_site_holds Stays w p _ still
       (λ _. Guards.at_site_holds Stays w q _ still
       (λ _. Guards.both_holds Stays w p q (link_part part w p q sync) still (λ _ _ _ _. part_room part p q sync)))
-  calm_room (Set p q sync) calm =
+  calm_outcome (Set p q sync) calm =
       let l : LinkRecord = record (w.links p q) { sync = sync; prot = FailsWhenFull } in
       Guards.on_link_holds Stays is_origin w p q (done (with_link w p q l)) still (λ _ _ _. still)
-  calm_room (Crash q kept) calm =
+  calm_outcome (Crash q kept) calm =
       let o : Outcome = done (Events.crash_at w q (Events.kept_of (w.nodes q) kept)) in
       Guards.at_site_holds Stays w q (unless (not (is_up (w.nodes q).state)) NotUp w o) still
       (λ _. Guards.unless_holds Stays (not (is_up (w.nodes q).state)) NotUp w o still (λ _. crash_room q (Events.kept_of (w.nodes q) kept)))
-  calm_room (Deport q) calm =
+  calm_outcome (Deport q) calm =
       let o : Outcome = done (Events.deport_at w q) in
       Guards.at_site_holds Stays w q (at_work w q o) still (λ _. Guards.at_work_holds Stays w q o still (λ _ _. deport_room q))
-  calm_room (Fall q) calm = Guards.at_site_holds Stays w q _ still (λ _. fall_room (w.nodes q).state q)
-  calm_room (Recover q fails) calm = Guards.at_site_holds Stays w q _ still (λ _. recover_room (w.nodes q).state q fails)
-  calm_room (Fault q disk) calm =
+  calm_outcome (Fall q) calm = Guards.at_site_holds Stays w q _ still (λ _. fall_room (w.nodes q).state q)
+  calm_outcome (Recover q fails) calm = Guards.at_site_holds Stays w q _ still (λ _. recover_room (w.nodes q).state q fails)
+  calm_outcome (Fault q disk) calm =
       let n : Node = record (w.nodes q) { halted = Some disk; fuse = burned (w.nodes q).fuse } in
       Guards.at_site_holds Stays w q _ still
       (λ _. Guards.unless_holds Stays (not (is_up (w.nodes q).state)) NotUp w (says (stopped_by w q disk) _) still
-      (λ _. moved q n (record { ring = refl; volumes = refl })))
+      (λ _. moved q n (record { ring = refl; volumes = refl; group = refl })))
 
-  pub calm_step : (e : Event) → MakesNothing e → SameRoom (w.nodes i) ((step w e).world.nodes i)
-  calm_step e calm = calm_room e calm
+  pub calm_step : (e : Event) → MakesNothing e → Unmoved (w.nodes i) ((step w e).world.nodes i)
+  calm_step e calm = calm_outcome e calm
+
+  pub calm_room : (e : Event) → MakesNothing e → SameRoom (w.nodes i) ((step w e).world.nodes i)
+  calm_room e calm = room_of (w.nodes i) ((step w e).world.nodes i) (calm_outcome e calm)
 
   -- ---- a site that is more than bare
 
   module _ (s : Sound w) (made : IsMade (w.nodes i)) where
-    not_bare : (q : ℕ) (n : Node) → (w.nodes q).state ≡ Bare → i ≡ q → SameRoom (w.nodes q) n
+    not_bare : (q : ℕ) (n : Node) → (w.nodes q).state ≡ Bare → i ≡ q → Unmoved (w.nodes q) n
     not_bare q n bare e = absurd (made (subst (λ (k : ℕ). (w.nodes k).state ≡ Bare) (sym e) bare))
 
     site_room : (name : List ℕ) (disks blocks : ℕ) → Stays (site_made w name disks blocks)
-    site_room name disks blocks = room_at w i w.sites (bare_site name disks blocks) (not_bare w.sites (bare_site name disks blocks) (s.good.later w.sites (omega arith)))
+    site_room name disks blocks = unmoved_at w i w.sites (bare_site name disks blocks) (not_bare w.sites (bare_site name disks blocks) (s.good.later w.sites (omega arith)))
 
     begun_room : (q ring : ℕ) (volumes : List Volume) (content : Content) → (w.nodes q).state ≡ Bare
-        → SameRoom (w.nodes i) (updated w.nodes q (begun_site q ring volumes content (w.nodes q)) i)
+        → Unmoved (w.nodes i) (updated w.nodes q (begun_site q ring volumes content (w.nodes q)) i)
     begun_room q ring volumes content bare =
-        room_at w i q (begun_site q ring volumes content (w.nodes q)) (not_bare q (begun_site q ring volumes content (w.nodes q)) bare)
+        unmoved_at w i q (begun_site q ring volumes content (w.nodes q)) (not_bare q (begun_site q ring volumes content (w.nodes q)) bare)
 
     again_room : (q : ℕ) → Leaves (Events.group_again w q)
     again_room q =
         Guards.unless_holds Stays (not (Events.is_plain_group (w.nodes q))) WrongRole w (says (group_back w q) Done) still
-        (λ _. moved q (group_up (w.nodes q)) (record { ring = refl; volumes = refl }))
+        (λ _. moved q (group_up (w.nodes q)) (record { ring = refl; volumes = refl; group = refl }))
 
     group_room : (q : ℕ) (state : SiteState) → (w.nodes q).state ≡ state → Leaves (Events.group_from state w q)
     group_room q Bare e = begun_room q 0 [] no_volumes e
@@ -292,7 +322,7 @@ module _ (w : World) (i : ℕ) where
 
     -- a site that gets data volumes runs, and has none
     volumes_room : (q : ℕ) (n : Node) → ((w.nodes i).volumes ≡ [] → is_running (w.nodes i).halted ≡ false) → (w.nodes q).halted ≡ None
-        → Events.is_plain_group (w.nodes q) ≡ true → i ≡ q → SameRoom (w.nodes q) n
+        → Events.is_plain_group (w.nodes q) ≡ true → i ≡ q → Unmoved (w.nodes q) n
     volumes_room q n gives runs plain e =
         let none : (w.nodes i).volumes ≡ [] = subst (λ (k : ℕ). (w.nodes k).volumes ≡ []) (sym e) (group_facts (w.nodes q) plain).1 in
         let running : is_running (w.nodes i).halted ≡ true = ap is_running (subst (λ (k : ℕ). (w.nodes k).halted ≡ None) (sym e) runs) in
@@ -325,9 +355,9 @@ module _ (w : World) (i : ℕ) where
         Guards.at_site_holds Stays w q (at_work w q tested) still
         (λ _. Guards.at_work_holds Stays w q tested still
         (λ _ runs. Guards.unless_holds Stays (not (Events.is_plain_group n)) WrongRole w o still
-        (λ plain. room_at w i q (volumes_set log xs n)
+        (λ plain. unmoved_at w i q (volumes_set log xs n)
         (volumes_room q (volumes_set log xs n) gives runs (not_false (Events.is_plain_group n) plain)))))
-    outcome_room other gives = calm_room other tt
+    outcome_room other gives = calm_outcome other tt
 
-    pub step_room : (e : Event) → GivesNone e (w.nodes i) → SameRoom (w.nodes i) ((step w e).world.nodes i)
+    pub step_room : (e : Event) → GivesNone e (w.nodes i) → Unmoved (w.nodes i) ((step w e).world.nodes i)
     step_room e gives = outcome_room e gives
