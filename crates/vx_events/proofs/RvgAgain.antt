@@ -55,10 +55,10 @@ fits_again n m ring volumes keeps f =
       is = k.is;
       units = f.units;
       fits = record {
-          rvg = k.keeps.rvg ∙ f.fits.rvg;
-          volumes = volumes ∙ f.fits.volumes ∙ ap (λ (ys : List DataVolume). map as_volume ys) (sym (data_kept c k.now k.keeps units.vols f.has.vols));
-          ring = ring ∙ f.fits.ring ∙ ap ring_of (sym (blocks_kept c k.now k.keeps units.srl f.has.srl));
-        };
+        rvg = k.keeps.rvg ∙ f.fits.rvg;
+        volumes = volumes ∙ f.fits.volumes ∙ ap (λ (ys : List DataVolume). map as_volume ys) (sym (data_kept c k.now k.keeps units.vols f.has.vols));
+        ring = ring ∙ f.fits.ring ∙ ap ring_of (sym (blocks_kept c k.now k.keeps units.srl f.has.srl));
+      };
       has = record { srl = has_kept c k.now k.keeps units.srl f.has.srl; vols = all_kept c k.now k.keeps units.vols f.has.vols };
     }
 
@@ -75,9 +75,9 @@ fits_gained told s n fails note middle next units m back named has is noted ring
       is = config;
       units = units;
       fits = record {
-          rvg = sym (ap (λ (o : Option Config). config_rvg o) back.is) ∙ named;
-          volumes = volumes ∙ ap (λ (vs : List VolumeEntry). map as_volume (data_of vs units)) entries;
-          ring = ring ∙ ap (λ (vs : List VolumeEntry). ring_of (blocks_of vs units.srl)) entries;
-        };
+        rvg = sym (ap (λ (o : Option Config). config_rvg o) back.is) ∙ named;
+        volumes = volumes ∙ ap (λ (vs : List VolumeEntry). map as_volume (data_of vs units)) entries;
+        ring = ring ∙ ap (λ (vs : List VolumeEntry). ring_of (blocks_of vs units.srl)) entries;
+      };
       has = subst (λ (vs : List VolumeEntry). HasUnits vs units) entries has;
     }

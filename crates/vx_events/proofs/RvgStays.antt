@@ -205,10 +205,10 @@ back_keeps told s n fails note middle known same x c at =
       now = x.now;
       is = x.is;
       keeps = record {
-          rvg = sym (ap (λ (o : Option Config). config_rvg o) x.is) ∙ same ∙ ap (λ (o : Option Config). config_rvg o) at;
-          volumes = λ v e get.
-              stayed (slice_get x.now.volumes v) e (x.volumes known v e (subst (λ (k : Config). slice_get k.volumes v ≡ Some e) (sym old) get));
-        };
+        rvg = sym (ap (λ (o : Option Config). config_rvg o) x.is) ∙ same ∙ ap (λ (o : Option Config). config_rvg o) at;
+        volumes = λ v e get.
+            stayed (slice_get x.now.volumes v) e (x.volumes known v e (subst (λ (k : Config). slice_get k.volumes v ≡ Some e) (sym old) get));
+      };
     }
 
 module _ (told : Type 0) (tells : told) (d : Doubted) (line : ScriptLine) (s : ℕ) (fails : Fails) (said : Said) (new : Doubted) (over : is_over_rvg (d.world.nodes s) ≡ true) where
