@@ -15,6 +15,7 @@ pub mod RvgStays
 pub mod RvgAgain
 pub mod RvgRows
 pub mod RvgTests
+pub mod RvgShorts
 pub mod Keeping
 pub mod KnownLaws
 pub mod LinkAgreeing

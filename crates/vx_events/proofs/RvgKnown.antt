@@ -26,7 +26,7 @@ use Rattle.vx_events.specs.declared.said.Said.{Said}
 
 -- ---- the note that a line leaves
 
-of_note : (w : World) (s : ℕ) (next : GroupNode) → (w.nodes s).group ≡ Some next → next.dark ≡ false → (note_at (w.nodes s)).dark ≡ false
+pub of_note : (w : World) (s : ℕ) (next : GroupNode) → (w.nodes s).group ≡ Some next → next.dark ≡ false → (note_at (w.nodes s)).dark ≡ false
 of_note w s next is known = ap (λ (o : Option GroupNode). (unwrap_or o no_note).dark) is ∙ known
 
 pub noted_here : (v : World) (s : ℕ) (next : GroupNode) → ((noting v s next).nodes s).group ≡ Some next
@@ -57,7 +57,7 @@ narrowed_dark told units note new x = ap (λ (g : GroupNode). g.dark) x.same
 settles_dark : {C : Config → Config → Type 0} (note new : GroupNode) → Reconfigures C NoteSettles note new → new.dark ≡ note.dark
 settles_dark note new x = x.keeps.same.dark
 
-unsettles_dark : {C : Config → Config → Type 0} (note new : GroupNode) → Reconfigures C NoteUnsettles note new → new.dark ≡ note.dark
+pub unsettles_dark : {C : Config → Config → Type 0} (note new : GroupNode) → Reconfigures C NoteUnsettles note new → new.dark ≡ note.dark
 unsettles_dark note new x = x.keeps.same.dark
 
 works_dark : {C : Config → Config → Type 0} (note new : GroupNode) → Reconfigures C NoteWorks note new → new.dark ≡ note.dark
@@ -80,7 +80,7 @@ making_known told d line s fails said new (RvgCut site srl maps volumes next is 
 
 -- ---- recoveries and imports
 
-rests_dark : (d : Doubted) (line : ScriptLine) (s kept : ℕ) (middle next : GroupNode) (from : Doubted) (events : List Event) → RestsWithRvg d line s kept middle next from events
+pub rests_dark : (d : Doubted) (line : ScriptLine) (s kept : ℕ) (middle next : GroupNode) (from : Doubted) (events : List Event) → RestsWithRvg d line s kept middle next from events
     → next.dark ≡ middle.dark
 rests_dark d line s kept middle next from events (HadRvg has same noted is fall) = ap (λ (g : GroupNode). g.dark) noted
 rests_dark d line s kept middle next from events (GetsRvg units over has there one noted is all) = ap (λ (g : GroupNode). g.dark) noted

@@ -35,7 +35,7 @@ use Rattle.vx_events.specs.declared.said.Said.{Said}
 
 -- ---- notes
 
-same_config : (note next : GroupNode) → next.config ≡ note.config → NoteKeepsRvg note next
+pub same_config : (note next : GroupNode) → next.config ≡ note.config → NoteKeepsRvg note next
 same_config note next same c at = record { now = c; is = ap (λ (bytes : List ℕ). config_of bytes) same ∙ at; keeps = keeps_self c }
 
 same_note : (note next : GroupNode) → next ≡ note → NoteKeepsRvg note next
@@ -53,7 +53,7 @@ reconfigured note next keeps x c at = record {
   keeps = subst (λ (k : Config). KeepsRvg k x.now) (some_same (sym x.was ∙ at)) (keeps x.old x.now x.change);
 }
 
-loses : {K : GroupNode → GroupNode → Type 0} (s : ℕ) (fails : Fails) (note next : GroupNode) → Reconfigures (ConfigLoses s fails) K note next → NoteKeepsRvg note next
+pub loses : {K : GroupNode → GroupNode → Type 0} (s : ℕ) (fails : Fails) (note next : GroupNode) → Reconfigures (ConfigLoses s fails) K note next → NoteKeepsRvg note next
 loses s fails note next x = reconfigured note next (λ c d. loses_keeps (λ _. false) s fails c d) x
 
 with_volume_more : (s : ℕ) (fails : Fails) (name : List ℕ) (want : Shape) (note next : GroupNode) → NotesVolume s fails name want note next → NoteKeepsRvg note next
@@ -184,7 +184,7 @@ back_group s line taken next before last new left =
     let u : World = with_disks taken s before.world last.world in
     ap (λ (w : World). (w.nodes s).group) left.world ∙ group_stays s line (noting u s next) ∙ noted_here u s next
 
-but_group : (lost : Bool) (s : ℕ) (line : ScriptLine) (taken : Bool) (next : GroupNode) (before last new : Doubted) → IsLeftBut lost s line taken next before last new
+pub but_group : (lost : Bool) (s : ℕ) (line : ScriptLine) (taken : Bool) (next : GroupNode) (before last new : Doubted) → IsLeftBut lost s line taken next before last new
     → (new.world.nodes s).group ≡ Some next
 but_group lost s line taken next before last new left =
     let u : World = with_disks taken s before.world last.world in
@@ -216,7 +216,7 @@ module _ (told : Type 0) (tells : told) (d : Doubted) (line : ScriptLine) (s : �
   here = note_at (d.world.nodes s)
 
   -- it came up, perhaps with what is kept of a write still to be read
-  came_keeps : (kept : ℕ) (middle found next : GroupNode) (from : Doubted) (rest : List Event) → NotesBack told s (d.world.nodes s) fails here middle
+  pub came_keeps : (kept : ℕ) (middle found next : GroupNode) (from : Doubted) (rest : List Event) → NotesBack told s (d.world.nodes s) fails here middle
       → RestsWithRvg d line s kept middle found from rest → next.config ≡ found.config → next.dark ≡ found.dark → next.dark ≡ false → NoteKeepsRvg here next
   came_keeps kept middle found next from rest back rests config dark known =
       let noted = rests_noted d line s kept middle found from rest over rests in
@@ -227,7 +227,7 @@ module _ (told : Type 0) (tells : told) (d : Doubted) (line : ScriptLine) (s : �
       → (note_at (new.world.nodes s)).dark ≡ false → NoteKeepsRvg here (note_at (new.world.nodes s))
   left_keeps taken next before last left keeps = by_known (new.world.nodes s) here next (back_group s line taken next before last new left) keeps
 
-  but_keeps : (lost taken : Bool) (next : GroupNode) (before last : Doubted) → IsLeftBut lost s line taken next before last new → (next.dark ≡ false → NoteKeepsRvg here next)
+  pub but_keeps : (lost taken : Bool) (next : GroupNode) (before last : Doubted) → IsLeftBut lost s line taken next before last new → (next.dark ≡ false → NoteKeepsRvg here next)
       → (note_at (new.world.nodes s)).dark ≡ false → NoteKeepsRvg here (note_at (new.world.nodes s))
   but_keeps lost taken next before last left keeps = by_known (new.world.nodes s) here next (but_group lost s line taken next before last new left) keeps
 

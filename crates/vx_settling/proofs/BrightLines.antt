@@ -49,7 +49,7 @@ left_bright s line taken d last new left before b =
     as_bright last (noted s line u) new left (noted_bright s line u (disks_bright taken s d.world last.world before.sites b.sites)) b
 
 -- what the site notes is bright, where the site is
-next_bright : (m : Node) (next : GroupNode) → m.group ≡ Some next → IsBright m → next.dark ≡ false
+pub next_bright : (m : Node) (next : GroupNode) → m.group ≡ Some next → IsBright m → next.dark ≡ false
 next_bright m next is bright = sym (ap (λ (o : Option GroupNode). (unwrap_or o no_note).dark) is) ∙ bright
 
 over_bright : (s : ℕ) (line : ScriptLine) (next : GroupNode) (last new : Doubted) → IsLeftOver s line next last new → IsBright (new.world.nodes s) → AllBright last
@@ -68,7 +68,7 @@ back_bright s line taken next d last new left here before b =
     as_bright last (group_noted s line v) new left
     (group_noted_bright s line v (noting_bright u s next known (disks_bright taken s d.world last.world before.sites b.sites))) b
 
-made_bright : (s : ℕ) (next : GroupNode) (last new : Doubted) → IsLeftRvg s next last new → IsBright (new.world.nodes s) → AllBright last → AllBright new
+pub made_bright : (s : ℕ) (next : GroupNode) (last new : Doubted) → IsLeftRvg s next last new → IsBright (new.world.nodes s) → AllBright last → AllBright new
 made_bright s next last new left here b =
     let known : next.dark ≡ false = sym (ap (λ (g : GroupNode). g.dark) (gained_note s next last new left)) ∙ here in
     let v : World = noting last.world s next in
@@ -155,7 +155,7 @@ module _ (told : Type 0) (tells : told) (d : Doubted) (b : AllBright d) (fails :
       over_bright s line next (run_as false d (refused_events (d.world.nodes s) s line)) new left here (run_bright false d (refused_events (d.world.nodes s) s line) b)
 
   -- the worlds from which the log of a group that came up comes up
-  from_bright : (line : ScriptLine) (s kept : ℕ) (middle next : GroupNode) (from : Doubted) (rest : List Event) → next.dark ≡ false
+  pub from_bright : (line : ScriptLine) (s kept : ℕ) (middle next : GroupNode) (from : Doubted) (rest : List Event) → next.dark ≡ false
       → RestsWithRvg d line s kept middle next from rest → AllBright from
   from_bright line s kept middle next from rest known (HadRvg has same noted is fall) = subst (λ (e : Doubted). AllBright e) (sym is) b
   from_bright line s kept middle next from rest known (GetsRvg units over has there one noted is all) =

@@ -18,3 +18,4 @@ pub mod RvgRooms
 pub mod RvgGained
 pub mod Brights
 pub mod BrightLines
+pub mod Shorts
