@@ -41,7 +41,7 @@ group_stays s (Read site volume start count) v = placed v s (record (v.nodes s) 
 group_stays s (Show site volume start count) v = placed v s (record (v.nodes s) { fuse = burned (v.nodes s).fuse }) refl
 group_stays s other v = refl
 
-left_note : (s : ℕ) (line : ScriptLine) (next : GroupNode) (last new : Doubted) → IsLeftOver s line next last new → (new.world.nodes s).group ≡ Some next
+pub left_note : (s : ℕ) (line : ScriptLine) (next : GroupNode) (last new : Doubted) → IsLeftOver s line next last new → (new.world.nodes s).group ≡ Some next
 left_note s line next last new left =
     ap (λ (w : World). (w.nodes s).group) left.world ∙ group_stays s line (noting last.world s next)
     ∙ ap (λ (n : Node). n.group) (at_place last.world.nodes s (record (last.world.nodes s) { group = Some next }))
@@ -127,7 +127,7 @@ cuts_known s note other fails next known free cuts = absurd cuts
 pub no_rise : (note : GroupNode) (line : ScriptLine) (said : Said) (why : No) → said ≡ Refused why → (MayDarken note line said → ⊥) → BringsUp line → ⊥
 no_rise note line said why is free brings = free (brings, inr (subst SaysNo (sym is) tt))
 
-never : false ≡ true → ⊥
+pub never : false ≡ true → ⊥
 never e = absurd (cc)
 
 pub finds_none : (told : Type 0) → told → (note : GroupNode) → note.dark ≡ false → (note.loose ≡ true → ⊥) → KnowsNothing told note → ⊥

@@ -10,6 +10,12 @@ pub mod RvgSeats
 pub mod RvgFull
 pub mod RvgGains
 pub mod RvgKnown
+pub mod RvgConfigs
+pub mod RvgStays
+pub mod RvgAgain
+pub mod RvgRows
+pub mod RvgTests
+pub mod RvgShorts
 pub mod Keeping
 pub mod KnownLaws
 pub mod LinkAgreeing

@@ -77,13 +77,13 @@ brings_back told d line s fails said new (KeptLost kept taken disk middle found 
 brings_back told d line s fails said new (LogCut middle found next from rest left site is are fused back rests noted begun says leads) =
     subst (λ (l : ScriptLine). BringsUp l) (sym is) tt
 brings_back told d line s fails said new (GroupCutOff next site is has are fused notes says left) = subst (λ (l : ScriptLine). BringsUp l) (sym is) tt
-brings_back told d line s fails said new (GroupUnfound kept taken why next has are brings not leaves says left) = brings
-brings_back told d line s fails said new (GroupHeld kept taken disk next has are failed brings notes says left) = brings
+brings_back told d line s fails said new (GroupUnfound kept taken lost why next has are brings not leaves says left) = brings
+brings_back told d line s fails said new (GroupHeld kept taken lost disk next has are failed brings notes says left) = brings
 
-brings_found : (told : Type 0) (d : Doubted) (line : ScriptLine) (s : ℕ) (fails : Fails) (said : Said) (new : Doubted) → RvgFinds told d line s fails said new → BringsUp line
+pub brings_found : (told : Type 0) (d : Doubted) (line : ScriptLine) (s : ℕ) (fails : Fails) (said : Said) (new : Doubted) → RvgFinds told d line s fails said new → BringsUp line
 brings_found told d line s fails said new (FindsRvg kept taken next mid n k row c units are brings unknown dark is same comes config fits says left) = brings
 brings_found told d line s fails said new (FindsPlain kept taken next mid has are brings unknown dark is none says left) = brings
-brings_found told d line s fails said new (FindsNoRvg kept taken next why are brings unknown free notes says left) = brings
+brings_found told d line s fails said new (FindsNoRvg kept taken lost next why are brings unknown free notes says left) = brings
 
 module _ (told : Type 0) (files : Bool) (d : Doubted) (none : HasNoRvgs d.world) (fails : Fails) (said : Said) (new : Doubted) where
   abbrev Full : ScriptLine → Type 0

@@ -111,7 +111,7 @@ module _ (told : Type 0) (d : Doubted) (s : ℕ) (fails : Fails) (new : Doubted)
         },
       )
 
-refused_done : (why : No) → Refused why ≡ Done → ⊥
+pub refused_done : (why : No) → Refused why ≡ Done → ⊥
 refused_done why e = cc
 
 pub made_fits : (told : Type 0) (d : Doubted) (line : ScriptLine) (s : ℕ) (fails : Fails) (said : Said) (new : Doubted) (c : Config) → MayGetRvg d.world s

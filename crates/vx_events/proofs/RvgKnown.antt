@@ -5,7 +5,7 @@ use Rattle.vx_history.proofs.Updates.{at_place}
 use Rattle.vx_history.specs.Doubts.{Doubted}
 use Rattle.vx_history.specs.Groups.{GroupNode, NoteSettles, NoteUnsettles, NoteWorks}
 use Rattle.vx_history.specs.Steps.{burned}
-use Rattle.vx_history.specs.World.{Node, World}
+use Rattle.vx_history.specs.World.{NoFuse, Node, World}
 use Rattle.vx_history.specs.declared.event.Event.{Event}
 use Rattle.vx_config.specs.declared.config.Config.{Config}
 use Rattle.vx_model.specs.declared.units.Units.{Units}
@@ -18,7 +18,7 @@ use Rattle.vx_events.specs.GroupEnds.{BringsUp}
 use Rattle.vx_events.specs.GroupLines.{noting}
 use Rattle.vx_events.specs.GroupNotes.{Reconfigures, no_note, note_at}
 use Rattle.vx_events.specs.Known.{MayDarken}
-use Rattle.vx_events.specs.RvgBack.{FindsNoRvg, FindsPlain, FindsRvg, GetsRvg, GroupCutOff, GroupHeld, GroupUnfound, HadRvg, IsLeftBack, KeptLost, LogCut, LogFails, LogLacks, RestsWithRvg, RvgBack, RvgFinds, RvgUp}
+use Rattle.vx_events.specs.RvgBack.{FindsNoRvg, FindsPlain, FindsRvg, GetsRvg, GroupCutOff, GroupHeld, GroupUnfound, HadRvg, IsLeftBack, KeptLost, LogCut, LogFails, LogLacks, RestsWithRvg, RvgBack, RvgFinds, RvgUp, fuse_left}
 use Rattle.vx_events.specs.RvgMakes.{IsLeftRvg, MakesRvg, RvgCut, RvgDone, RvgFails, RvgLacks, units_at}
 use Rattle.vx_events.specs.RvgNotes.{NotesNarrowed}
 use Rattle.vx_events.specs.RvgOver.{EndsOrShows, NotesLine, OverRvg, OverRvgBy, ShowFails, ShowsAny, TakesOr, is_below, is_inside}
@@ -26,10 +26,10 @@ use Rattle.vx_events.specs.declared.said.Said.{Said}
 
 -- ---- the note that a line leaves
 
-of_note : (w : World) (s : ℕ) (next : GroupNode) → (w.nodes s).group ≡ Some next → next.dark ≡ false → (note_at (w.nodes s)).dark ≡ false
+pub of_note : (w : World) (s : ℕ) (next : GroupNode) → (w.nodes s).group ≡ Some next → next.dark ≡ false → (note_at (w.nodes s)).dark ≡ false
 of_note w s next is known = ap (λ (o : Option GroupNode). (unwrap_or o no_note).dark) is ∙ known
 
-noted_here : (v : World) (s : ℕ) (next : GroupNode) → ((noting v s next).nodes s).group ≡ Some next
+pub noted_here : (v : World) (s : ℕ) (next : GroupNode) → ((noting v s next).nodes s).group ≡ Some next
 noted_here v s next = ap (λ (n : Node). n.group) (at_place v.nodes s (record (v.nodes s) { group = Some next }))
 
 back_note : (s : ℕ) (line : ScriptLine) (taken : Bool) (next : GroupNode) (before last new : Doubted) → IsLeftBack s line taken next before last new → next.dark ≡ false
@@ -37,6 +37,11 @@ back_note : (s : ℕ) (line : ScriptLine) (taken : Bool) (next : GroupNode) (bef
 back_note s line taken next before last new left known =
     let u : World = with_disks taken s before.world last.world in
     of_note new.world s next (ap (λ (w : World). (w.nodes s).group) left.world ∙ group_stays s line (noting u s next) ∙ noted_here u s next) known
+
+-- whatever becomes of the fuse
+pub lost_group : (lost : Bool) (v : World) (s : ℕ) → ((fuse_left lost v s).nodes s).group ≡ (v.nodes s).group
+lost_group true v s = ap (λ (n : Node). n.group) (at_place v.nodes s (record (v.nodes s) { fuse = NoFuse }))
+lost_group false v s = refl
 
 made_note : (s : ℕ) (next : GroupNode) (last new : Doubted) → IsLeftRvg s next last new → next.dark ≡ false → (note_at (new.world.nodes s)).dark ≡ false
 made_note s next last new left known =
@@ -46,13 +51,13 @@ made_note s next last new left known =
 
 -- ---- a line that makes a replicated volume group
 
-narrowed_dark : (told : Type 0) (units : Units) (note new : GroupNode) → NotesNarrowed told units note new → new.dark ≡ note.dark
+pub narrowed_dark : (told : Type 0) (units : Units) (note new : GroupNode) → NotesNarrowed told units note new → new.dark ≡ note.dark
 narrowed_dark told units note new x = ap (λ (g : GroupNode). g.dark) x.same
 
 settles_dark : {C : Config → Config → Type 0} (note new : GroupNode) → Reconfigures C NoteSettles note new → new.dark ≡ note.dark
 settles_dark note new x = x.keeps.same.dark
 
-unsettles_dark : {C : Config → Config → Type 0} (note new : GroupNode) → Reconfigures C NoteUnsettles note new → new.dark ≡ note.dark
+pub unsettles_dark : {C : Config → Config → Type 0} (note new : GroupNode) → Reconfigures C NoteUnsettles note new → new.dark ≡ note.dark
 unsettles_dark note new x = x.keeps.same.dark
 
 works_dark : {C : Config → Config → Type 0} (note new : GroupNode) → Reconfigures C NoteWorks note new → new.dark ≡ note.dark
@@ -75,16 +80,16 @@ making_known told d line s fails said new (RvgCut site srl maps volumes next is 
 
 -- ---- recoveries and imports
 
-rests_dark : (d : Doubted) (line : ScriptLine) (s kept : ℕ) (middle next : GroupNode) (from : Doubted) (events : List Event) → RestsWithRvg d line s kept middle next from events
+pub rests_dark : (d : Doubted) (line : ScriptLine) (s kept : ℕ) (middle next : GroupNode) (from : Doubted) (events : List Event) → RestsWithRvg d line s kept middle next from events
     → next.dark ≡ middle.dark
 rests_dark d line s kept middle next from events (HadRvg has same noted is fall) = ap (λ (g : GroupNode). g.dark) noted
-rests_dark d line s kept middle next from events (GetsRvg units over has one noted is all) = ap (λ (g : GroupNode). g.dark) noted
+rests_dark d line s kept middle next from events (GetsRvg units over has there one noted is all) = ap (λ (g : GroupNode). g.dark) noted
 
 module _ (told : Type 0) (tells : told) (d : Doubted) (s : ℕ) (known : (note_at (d.world.nodes s)).dark ≡ false) (fails : Fails) (said : Said) (new : Doubted) where
   abbrev here : GroupNode
   here = note_at (d.world.nodes s)
 
-  back_known_too : (line : ScriptLine) → (MayDarken here line said → ⊥) → RvgBack told d line s fails said new → (note_at (new.world.nodes s)).dark ≡ false
+  pub back_known_too : (line : ScriptLine) → (MayDarken here line said → ⊥) → RvgBack told d line s fails said new → (note_at (new.world.nodes s)).dark ≡ false
   back_known_too line free (RvgUp kept taken middle next from rest are brings back rests says left) =
       back_note s line taken next from _ new left
       (rests_dark d line s kept middle next from rest rests ∙ back_known told s (d.world.nodes s) fails here middle known (λ loose. free (brings, inl loose)) back)
@@ -96,15 +101,15 @@ module _ (told : Type 0) (tells : told) (d : Doubted) (s : ℕ) (known : (note_a
   back_known_too line free (LogCut middle found next from rest left site is are fused back rests notes begun says leads) =
       absurd (no_rise here line said _ says free (subst BringsUp (sym is) tt))
   back_known_too line free (GroupCutOff next site is has are fused notes says left) = absurd (no_rise here line said _ says free (subst BringsUp (sym is) tt))
-  back_known_too line free (GroupUnfound kept taken why next has are brings not leaves says left) = absurd (no_rise here line said why says free brings)
-  back_known_too line free (GroupHeld kept taken disk next has are failed brings notes says left) = absurd (no_rise here line said _ says free brings)
+  back_known_too line free (GroupUnfound kept taken lost why next has are brings not leaves says left) = absurd (no_rise here line said why says free brings)
+  back_known_too line free (GroupHeld kept taken lost disk next has are failed brings notes says left) = absurd (no_rise here line said _ says free brings)
 
   finds_known : (line : ScriptLine) → (MayDarken here line said → ⊥) → RvgFinds told d line s fails said new → ⊥
   finds_known line free (FindsRvg kept taken next mid n k row c units are brings unknown dark is same comes config fits says left) =
       finds_none told tells here known (λ loose. free (brings, inl loose)) unknown
   finds_known line free (FindsPlain kept taken next mid has are brings unknown dark is none says left) =
       finds_none told tells here known (λ loose. free (brings, inl loose)) unknown
-  finds_known line free (FindsNoRvg kept taken next why are brings unknown device notes says left) =
+  finds_known line free (FindsNoRvg kept taken lost next why are brings unknown device notes says left) =
       finds_none told tells here known (λ loose. free (brings, inl loose)) unknown
 
   -- ---- other lines

@@ -54,11 +54,11 @@ seats_full w name =
     ∙ sym (position_from-zero (λ (site : SiteFacts). bytes_eq site.name name) (facts_of w))
 
 -- a site that a line names
-record SeatFull (w : World) (name : List ℕ) : Type 0 where
-  below : site_number w name < w.sites
-  found : site_named (facts_full w) name ≡ Some (fact_full w (site_number w name))
+pub record SeatFull (w : World) (name : List ℕ) : Type 0 where
+  pub below : site_number w name < w.sites
+  pub found : site_named (facts_full w) name ≡ Some (fact_full w (site_number w name))
 
-seat_full : (w : World) (name : List ℕ) → Named (facts_full w) name → SeatFull w name
+pub seat_full : (w : World) (name : List ℕ) → Named (facts_full w) name → SeatFull w name
 seat_full w name n =
     let number : site_number w name ≡ n.at.place = ap (λ (o : Option ℕ). unwrap_or o 0) (sym (seats_full w name) ∙ n.at.is) in
     let inside : n.at.place < length (facts_full w) = position_within (λ site. bytes_eq site.name name) (facts_full w) n.at.place n.at.is in

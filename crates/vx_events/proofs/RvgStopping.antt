@@ -31,7 +31,7 @@ noted_doubted d s note = record { worlds = like_disks d.world s (d.world.nodes s
 pub same_doubted : (d : Doubted) → IsLikeDoubted d d
 same_doubted d = record { worlds = like_self d.world; after = λ i. refl }
 
-ended : (d before new : Doubted) → IsLikeDoubted d before → (s : ℕ) (next : GroupNode) (events : List Event) → all_fails events ≡ []
+pub ended : (d before new : Doubted) → IsLikeDoubted d before → (s : ℕ) (next : GroupNode) (events : List Event) → all_fails events ≡ []
     → IsLeftRvg s next (run_as false before events) new → RvgStops d new
 ended d before new like s next events tells left = record {
   before = before;

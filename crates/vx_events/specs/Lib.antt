@@ -30,6 +30,7 @@ pub mod RvgLinks
 pub mod RvgMakes
 pub mod RvgNotes
 pub mod RvgOver
+pub mod RvgParts
 pub mod RvgSteps
 pub mod RvgViews
 pub mod Sayings

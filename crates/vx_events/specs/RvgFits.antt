@@ -1,5 +1,6 @@
 -- How a site over a group of disks with a replicated volume group fits the configuration of its group.
 use Rattle.std.specs.Prelude.{◌≡◌, ℕ, ◌<◌, List, [], map, Option, Some, None, slice_get}
+use Rattle.std.specs.List.{AllByRecursion}
 use Rattle.vx_model.specs.declared.site.Role.TheVariants.{Primary}
 use Rattle.vx_model.specs.declared.site.SiteState.TheVariants.{Up}
 use Rattle.vx_model.specs.Sizes.{ring_of}
@@ -11,6 +12,7 @@ use Rattle.vx_history.specs.Groups.{GroupNode}
 use Rattle.vx_history.specs.Volumes.{as_volume}
 use Rattle.vx_history.specs.World.{Node, World}
 use Rattle.vx_history.specs.declared.volumes.DataVolume.{DataVolume}
+use Rattle.vx_events.specs.GroupNotes.{note_at}
 use Rattle.vx_events.specs.GroupViews.{config_of, volumes_of}
 
 -- the name of a volume
@@ -48,6 +50,49 @@ pub record FitsRvg (n : Node) (c : Config) (units : Units) : Type 0 where
 -- the site has the replicated volume group of this configuration
 abbrev pub FitsSome : Node → Config → Type 0
 FitsSome n c = (units : Units) × FitsRvg n c units
+
+-- a volume stands in this place
+abbrev pub HasVolume : List VolumeEntry → (place : ℕ) → Type 0
+HasVolume volumes place = (e : VolumeEntry) × (slice_get volumes place ≡ Some e)
+
+-- the log and the data volumes are volumes of the group
+pub record HasUnits (volumes : List VolumeEntry) (units : Units) : Type 0 where
+  pub srl : HasVolume volumes units.srl
+  pub vols : AllByRecursion (HasVolume volumes) units.vols
+
+-- the site has the replicated volume group of the configuration that it notes
+pub record FitsNoted (n : Node) : Type 0 where
+  pub config : Config
+  pub is : config_of (note_at n).config ≡ Some config
+  pub units : Units
+  pub fits : FitsRvg n config units
+  pub has : HasUnits config.volumes units
+
+-- ---- what lines keep of a configuration
+
+-- a volume stands there still, with its name and its blocks
+pub record KeptVolume (e : VolumeEntry) (o : Option VolumeEntry) : Type 0 where
+  pub now : VolumeEntry
+  pub is : o ≡ Some now
+  pub name : now.name ≡ e.name
+  pub blocks : now.blocks ≡ e.blocks
+
+-- d has the replicated volume group of c, and the volumes of c
+pub record KeepsRvg (c d : Config) : Type 0 where
+  pub rvg : d.rvg ≡ c.rvg
+  pub volumes : (v : ℕ) (e : VolumeEntry) → slice_get c.volumes v ≡ Some e → KeptVolume e (slice_get d.volumes v)
+
+-- a note has a configuration that has those of c
+pub record KeptConfig (c : Config) (note : GroupNode) : Type 0 where
+  pub now : Config
+  pub is : config_of note.config ≡ Some now
+  pub keeps : KeepsRvg c now
+
+-- the configuration that is noted has those of the one that was noted before
+abbrev pub NoteKeepsRvg : (note next : GroupNode) → Type 0
+NoteKeepsRvg note next = (c : Config) → config_of note.config ≡ Some c → KeptConfig c next
+
+-- ---- sites that may get one
 
 -- a site over a group of disks that runs, without a replicated volume group
 pub record MayGetRvg (w : World) (s : ℕ) : Type 0 where

@@ -19,9 +19,13 @@ use Rattle.vx_events.specs.RvgFits.{data_of, entries_noted}
 abbrev pub units_named : GroupNode → (srl maps : List ℕ) → (volumes : List (List ℕ)) → Units
 units_named note srl maps volumes = record { srl = plain_number note srl; maps = plain_number note maps; vols = map (plain_number note) volumes }
 
+-- the blocks of the volume of the log on these units
+abbrev pub srl_blocks : GroupNode → Units → ℕ
+srl_blocks note units = blocks_of (entries_noted note) units.srl
+
 -- the event by which the site gets a replicated volume group on these units, where it notes this of its group
 abbrev pub volume_events : GroupNode → (site : ℕ) → Units → List Event
-volume_events note s units = VolumesAt s (blocks_of (entries_noted note) units.srl) (data_of (entries_noted note) units) ∷ []
+volume_events note s units = VolumesAt s (srl_blocks note units) (data_of (entries_noted note) units) ∷ []
 
 -- the volumes of a replicated volume group on these units
 abbrev pub inside_of : Units → ℕ → Bool

@@ -110,6 +110,7 @@ abbrev pub MakesNoRvg : ScriptLine → Type 0
 MakesNoRvg (Rvg site srl maps volumes) = ⊥
 MakesNoRvg other = Unit {0}
 
--- it is known what the disks of groups hold, and imports of them agree
-abbrev pub AllAgree : World → Type 0
-AllAgree w = (i : ℕ) → ((note_at (w.nodes i)).dark ≡ false) × ((note_at (w.nodes i)).loose ≡ false)
+-- it is known what the disks of groups hold; and where the line brings a group up, imports of it agree
+pub record AgreeFor (w : World) (line : ScriptLine) : Type 0 where
+  pub known : (i : ℕ) → (note_at (w.nodes i)).dark ≡ false
+  pub agree : BringsUp line → (note_at (w.nodes (group_place w line))).loose ≡ false

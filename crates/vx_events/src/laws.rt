@@ -13,19 +13,21 @@ ghost use Rattle.vx_history.specs.declared.event.Event.TheVariants.{Site as Make
 ghost use Rattle.vx_history.specs.declared.event.Said.TheVariants.{Done, DoneAt, Got};
 ghost use Rattle.vx_order.specs.Order.{line_refusal};
 ghost use Rattle.vx_script.specs.declared.line.ScriptLine.{ScriptLine};
-ghost use Rattle.vx_script.specs.declared.line.ScriptLine.TheVariants.{Site, Raw, Crash, Write as WriteLine, Put, Read, Show, Apply};
+ghost use Rattle.vx_script.specs.declared.line.ScriptLine.TheVariants.{Site, Raw, Crash, Rvg, Write as WriteLine, Put, Read, Show, Apply};
 ghost use Rattle.vx_events.specs.Facts.{facts_of, site_number, volume_number};
 ghost use Rattle.vx_events.specs.GroupEnds.{BringsUp, GroupEnds, GroupStops};
 ghost use Rattle.vx_events.specs.GroupNotes.{note_at};
 ghost use Rattle.vx_events.specs.Known.{MayDarken};
 ghost use Rattle.vx_config.specs.declared.config.Config.{Config};
 ghost use Rattle.vx_events.specs.GroupViews.{config_of};
-ghost use Rattle.vx_events.specs.RvgFits.{FitsSome, MayGetRvg};
+ghost use Rattle.vx_events.specs.RvgFits.{FitsNoted, FitsSome, MayGetRvg, NoteKeepsRvg};
 ghost use Rattle.vx_events.specs.declared.said.Said.TheVariants.{Done as SaysDone};
 ghost use Rattle.vx_events.specs.RvgLinks.{AllKnown, LinksOver};
 ghost use Rattle.vx_events.specs.RvgMakes.{MakesRvg, RvgStops};
 ghost use Rattle.vx_events.specs.RvgOver.{OpensFor, OverRvg};
-ghost use Rattle.vx_events.specs.RvgSteps.{AllAgree, FoundPlain, HasNoRvgs, MakesNoRvg, StepFull};
+ghost use Rattle.vx_events.specs.RvgParts.{RvgShort};
+ghost use Rattle.vx_events.specs.RvgSteps.{AgreeFor, FoundPlain, HasNoRvgs, MakesNoRvg, StepFull, refused_full};
+ghost use Rattle.vx_events.specs.RvgViews.{is_over_rvg};
 ghost use Rattle.vx_events.specs.Fails.{AreBorne, Fails};
 ghost use Rattle.vx_events.specs.Lines.{LineStep, is_of_links};
 ghost use Rattle.vx_events.specs.Lists.{Choice};
@@ -106,19 +108,38 @@ pub fn rvg_lines_are_events()
         → RvgStops d new }
 {}
 
-/// Where it is done its site has the replicated volume group of the configuration.
+/// Where it is done its site has the replicated volume group of the configuration; and where no test refused the line, its units are volumes of the group.
 pub fn made_rvgs_fit()
-    ensures { (tells : Bool) (d : Doubted) (line : ScriptLine) (s : ℕ) (fails : Fails) (said : Said) (new : Doubted) (c : Config) → MayGetRvg d.world s
+    ensures fits { (tells : Bool) (d : Doubted) (line : ScriptLine) (s : ℕ) (fails : Fails) (said : Said) (new : Doubted) (c : Config) → MayGetRvg d.world s
         → MakesRvg (IsTrue tells) d line s fails said new → said ≡ SaysDone → config_of (note_at (new.world.nodes s)).config ≡ Some c → FitsSome (new.world.nodes s) c }
+    ensures noted { (tells files : Bool) (d : Doubted) (site srl maps : List ℕ) (volumes : List (List ℕ)) (fails : Fails) (said : Said) (new : Doubted)
+        → MayGetRvg d.world (site_number d.world site) → refused_full d.world files (Rvg site srl maps volumes) ≡ None
+        → MakesRvg (IsTrue tells) d (Rvg site srl maps volumes) (site_number d.world site) fails said new → said ≡ SaysDone
+        → FitsNoted (new.world.nodes (site_number d.world site)) }
 {}
 
-/// So does each line at a site over a group of disks with a replicated volume group, and each of links of such a site, where it is known what the disks hold and
-/// imports agree.
+/// So does each line at a site over a group of disks with a replicated volume group, and each of links of such a site, where it is known what the disks hold; of one
+/// that brings the site up, where imports agree.
 pub fn lines_over_rvgs_are_events()
     ensures over { (d : Doubted) (line : ScriptLine) (s : ℕ) (fails : Fails) (said : Said) (new : Doubted) → OpensFor d.world line
-        → (note_at (d.world.nodes s)).dark ≡ false → (note_at (d.world.nodes s)).loose ≡ false → OverRvg (Unit {0}) d line s fails said new → RvgStops d new }
+        → (note_at (d.world.nodes s)).dark ≡ false → (BringsUp line → (note_at (d.world.nodes s)).loose ≡ false) → OverRvg (Unit {0}) d line s fails said new
+        → RvgStops d new }
     ensures links { (d : Doubted) (line : ScriptLine) (fails : Fails) (said : Said) (new : Doubted) → AllKnown (Unit {0}) d.world line
         → LinksOver (Unit {0}) d line fails said new → RvgStops d new }
+{}
+
+/// So does what want of memory leaves of a recovery or an import of such a site, or of a line that makes a replicated volume group.
+pub fn rvg_shorts_are_events()
+    ensures { (tells : Bool) (d : Doubted) (line : ScriptLine) (s : ℕ) (new : Doubted) → RvgShort (IsTrue tells) d line s new → RvgStops d new }
+{}
+
+/// However a line at such a site ends, the configuration that the site notes has the replicated volume group that it had, and the volumes that it had with their names
+/// and their blocks, as long as it is known what the disks hold. So has it behind a line of links.
+pub fn rvgs_stay_noted()
+    ensures over { (d : Doubted) (line : ScriptLine) (s : ℕ) (fails : Fails) (said : Said) (new : Doubted) → is_over_rvg (d.world.nodes s) ≡ true
+        → OverRvg (Unit {0}) d line s fails said new → (note_at (new.world.nodes s)).dark ≡ false → NoteKeepsRvg (note_at (d.world.nodes s)) (note_at (new.world.nodes s)) }
+    ensures links { (tells : Bool) (d : Doubted) (line : ScriptLine) (fails : Fails) (said : Said) (new : Doubted) → LinksOver (IsTrue tells) d line fails said new
+        → (i : ℕ) → is_over_rvg (d.world.nodes i) ≡ true → NoteKeepsRvg (note_at (d.world.nodes i)) (note_at (new.world.nodes i)) }
 {}
 
 /// In a world without groups of disks, over disks that tell their contents, a line that makes none does what it does there. A line that works on a group, and is refused or not, ends as
@@ -133,9 +154,9 @@ pub fn steps_over_groups()
 {}
 
 /// However a line ends that is refused or not, in worlds in which sites are over groups of disks with replicated volume groups or without: it ends as events of the
-/// world do, where it is known what the disks of groups hold, and imports agree.
+/// world do, where it is known what the disks of groups hold, and imports agree of a group that the line brings up.
 pub fn full_lines_are_events()
-    ensures { (files : Bool) (d : Doubted) (line : ScriptLine) (fails : Fails) (said : Said) (new : Doubted) → AllAgree d.world
+    ensures { (files : Bool) (d : Doubted) (line : ScriptLine) (fails : Fails) (said : Said) (new : Doubted) → AgreeFor d.world line
         → StepFull (Unit {0}) files d line fails said new → RvgStops d new }
 {}
 

@@ -364,20 +364,19 @@ fn volumes(site: u32) -> Event {
 #[test]
 fn groups_get_volumes(rt: HostRuntime) -> Result<(), Fail> {
     let mut world = World::new(rt.alloc())?;
-    let (joins, ..) = link(1, SyncMode::Off, LinkPart::Joins);
     let rows = [
         site(b"a", 64),
         site(b"b", 64),
         (volumes(0), "no", 0, None),
         (Event::Group { site: 0 }, "done", 0, None),
         (Event::Group { site: 1 }, "done", 0, None),
-        (joins, "no", 0, None),
+        (link(1, SyncMode::Off, LinkPart::Joins).0, "no", 0, None),
         (volumes(0), "done", 0, None),
         (volumes(0), "role", 0, None),
-        (joins, "no", 0, None),
+        (link(1, SyncMode::Off, LinkPart::Joins).0, "no", 0, None),
         (volumes(1), "done", 0, None),
         (read(0, 0), "got", 0, None),
-        (joins, "done", 0, None),
+        (link(1, SyncMode::Off, LinkPart::Joins).0, "done", 0, None),
         (volumes(1), "role", 0, None),
         (put(0, Blocks::filled(1, 0x11)), "done", 1, None),
         (Event::Crash { site: 0, kept: 0 }, "done", 0, None),

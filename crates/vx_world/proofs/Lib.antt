@@ -57,3 +57,5 @@ pub mod Still
 pub mod Several
 pub mod Doubting
 pub mod Lining
+pub mod Rooms
+pub mod RoomLines

@@ -1,5 +1,5 @@
 -- A group of disks that gets its replicated volume group: all that holds of the world goes on to hold.
-use Rattle.std.proofs.Common.{◌≡◌, ◌∙◌, ℕ, zero, suc, ◌+◌, ◌≤◌, List, [], ◌∷◌, length, take, refl, ap, sym, subst, arith, Bool, true, false}
+use Rattle.std.proofs.Common.{◌≡◌, ◌∙◌, ℕ, zero, suc, ◌+◌, ◌≤◌, List, [], take, refl, ap, sym, subst, arith, true}
 use Rattle.std.specs.List.{AllByRecursion}
 use Rattle.vx_model.specs.Content.{Content, Write, blocks_in, fold_writes}
 use Rattle.vx_model.specs.Sites.{is_origin}
@@ -14,7 +14,7 @@ use Rattle.vx_history.specs.Good.{Good, GoodNode, IsMade}
 use Rattle.vx_history.specs.GoodGatherings.{MayGather}
 use Rattle.vx_history.specs.Sound.{Sound}
 use Rattle.vx_history.specs.Volumes.{data_content, starting_with, volumes_made, volumes_set}
-use Rattle.vx_history.specs.World.{History, Node, Volume, World, updated, line_updated}
+use Rattle.vx_history.specs.World.{History, Node, Volume, World, updated}
 use Rattle.vx_history.specs.declared.volumes.DataVolume.{DataVolume}
 use Rattle.vx_world.proofs.Carry.{IsLater}
 use Rattle.vx_world.proofs.Keeping.{Keeps, gather_up}

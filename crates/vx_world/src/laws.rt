@@ -22,7 +22,7 @@ ghost use Rattle.vx_history.specs.declared.event.LinkPart.TheVariants.{Joins, Ma
 ghost use Rattle.vx_model.specs.declared.link.SyncMode.{SyncMode};
 ghost use Rattle.vx_model.specs.declared.site.SiteState.TheVariants.{Up};
 ghost use Rattle.vx_history.specs.Stops.{EventsEnd, IsOpen, WritesAt};
-ghost use Rattle.vx_world.specs.Lines.{NoDoubts, GoodDoubted};
+ghost use Rattle.vx_world.specs.Lines.{DoubtsAlike, GoodDoubted, NoDoubts, RoomStays};
 ghost use Rattle.vx_world.specs.Twins.{Twin, IsAlone, IsElsewhere, GoodTwin};
 ghost use Rattle.vx_history.specs.Step.{step, run};
 
@@ -132,6 +132,13 @@ pub fn lines_stay_good()
     ensures begins { (d : Doubted) → GoodWorld d.world → NoDoubts d → GoodDoubted d }
     ensures world { (d : Doubted) → GoodDoubted d → GoodWorld d.world }
     ensures twins { (d : Doubted) (s : ℕ) (a : After) → GoodDoubted d → d.after s ≡ Some a → GoodTwin s d.world (resolved d.world s a) }
+{}
+
+/// However a line ends, each site that has data volumes has these still, and its log: a site gets them once. What a site in doubt may be on its disks has those that
+/// the site has.
+pub fn keeps_data_volumes()
+    ensures line { (d new : Doubted) (events : List Event) (fails : List (ℕ × ℕ)) → GoodDoubted d → DoubtsAlike d → EventsEnd d events fails new → RoomStays d new }
+    ensures begins { (d : Doubted) → NoDoubts d → DoubtsAlike d }
 {}
 
 /// A deport keeps of a site's writes those that a crash keeps for certain, and no others.

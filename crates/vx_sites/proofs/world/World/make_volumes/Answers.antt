@@ -1,12 +1,11 @@
 -- `make_volumes`: its result.
-use Rattle.std.proofs.Common.{◌≡◌, ◌∙◌, ℕ, List, map, refl, ap, sym}
+use Rattle.std.proofs.Common.{◌≡◌, ◌∙◌, ℕ, List, map, refl, ap}
 use Rattle.std.specs.Prelude.{None}
 use Rattle.vx_model.specs.Content.{zeros}
 use Rattle.vx_history.specs.World.{Node}
-use Rattle.vx_history.specs.Volumes.{data_content, volumes_set}
+use Rattle.vx_history.specs.Volumes.{volumes_set}
 use Rattle.vx_history.specs.declared.volumes.DataVolume.{DataVolume}
 use Rattle.vx_sites.specs.Shapes.{sizes, world_of, node_of, content_of, lines_of}
-use Rattle.vx_sites.proofs.Volumes.{data_of_none}
 use Rattle.vx_sites.proofs.Worlds.{node_changed, node_at, volumes_is, volumes_made_is}
 use Rattle.vx_sites.proofs.world.World.make_volumes.Goals as goal
 

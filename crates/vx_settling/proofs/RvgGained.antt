@@ -1,0 +1,237 @@
+-- A group of disks that comes up, and is found to have a replicated volume group, has the one of its configuration.
+use Rattle.std.proofs.Common.{◌≡◌, ◌∙◌, ◌<◌, ℕ, zero, suc, List, [], ◌∷◌, ◌++◌, map, take, Bool, true, false, Some, None, refl, ap, sym, subst}
+use Rattle.std.specs.Prelude.{Option, unwrap_or}
+use Rattle.vx_model.specs.Content.{Write}
+use Rattle.vx_model.specs.Sites.{is_origin}
+use Rattle.vx_model.specs.Sizes.{ring_of}
+use Rattle.vx_model.specs.declared.no.No.{No}
+use Rattle.vx_model.specs.declared.site.SiteState.{SiteState}
+use Rattle.vx_model.specs.declared.site.SiteState.TheVariants.{Bare, Up, Deported, Down}
+use Rattle.vx_history.proofs.Updates.{at_place, by_test}
+use Rattle.vx_history.specs.Doubts.{After, Doubted, happened, resolved_at, taken_up}
+use Rattle.vx_history.specs.Events.{crash_at, kept_of}
+use Rattle.vx_history.specs.Groups.{GroupNode}
+use Rattle.vx_history.specs.Refusals.{Outcome}
+use Rattle.vx_history.specs.Sound.{is_at_rest}
+use Rattle.vx_history.specs.Step.{step}
+use Rattle.vx_history.specs.Steps.{crash_left, crashed, group_up}
+use Rattle.vx_history.specs.Stops.{IsLikeDoubted}
+use Rattle.vx_history.specs.Volumes.{as_volume, volumes_set}
+use Rattle.vx_history.specs.World.{Node, World, with_node}
+use Rattle.vx_history.specs.declared.event.Event.{Event}
+use Rattle.vx_history.specs.declared.event.Event.TheVariants.{Crash as CrashAt, Deport as DeportAt, Group as GroupAt, Recover as RecoverAt, Volumes as VolumesAt}
+use Rattle.vx_history.specs.declared.volumes.DataVolume.{DataVolume}
+use Rattle.vx_script.specs.declared.line.ScriptLine.{ScriptLine}
+use Rattle.vx_script.specs.declared.line.ScriptLine.TheVariants.{GroupImport, Recover}
+use Rattle.vx_world.proofs.Rooms.{calm_room, room_then}
+use Rattle.vx_world.specs.Lines.{SameRoom}
+use Rattle.vx_events.proofs.RvgAgain.{fits_gained}
+use Rattle.vx_events.proofs.RvgEnding.{back_like}
+use Rattle.vx_events.proofs.RvgStays.{back_group}
+use Rattle.vx_events.proofs.Steps.{again_step, crash_step, data_step}
+use Rattle.vx_events.specs.Doubts.{run_as}
+use Rattle.vx_events.specs.Fails.{Fails}
+use Rattle.vx_events.specs.GroupEnds.{BringsUp}
+use Rattle.vx_events.specs.GroupLines.{group_events, group_recovery}
+use Rattle.vx_events.specs.GroupNotes.{NotesBack, no_note, note_at}
+use Rattle.vx_events.specs.Known.{SaysNo}
+use Rattle.vx_events.specs.RvgBack.{GetsRvg, GroupCutOff, GroupHeld, GroupUnfound, HadRvg, IsLeftBack, KeptLost, LogCut, LogFails, LogLacks, RestsWithRvg, RvgBack, RvgUp, rest_again}
+use Rattle.vx_events.specs.RvgFits.{FitsNoted, data_of, entries_noted}
+use Rattle.vx_events.specs.RvgMakes.{noting_in}
+use Rattle.vx_events.specs.RvgNotes.{srl_blocks, volume_events}
+use Rattle.vx_events.specs.RvgViews.{is_over_rvg}
+use Rattle.vx_events.specs.declared.said.Said.{Said}
+use Rattle.vx_events.specs.declared.said.Said.TheVariants.{Refused}
+use Rattle.vx_settling.specs.Gains.{IsBlankGroup, MayGain}
+use Rattle.vx_settling.proofs.RvgRooms.{has_data}
+
+-- ---- a site that is in no doubt
+
+module _ (s : ℕ) where
+  -- a crash finds it as it is
+  free_world : (d : Doubted) (taken : Bool) → d.after s ≡ None → (resolved_at d s taken).world ≡ d.world
+  free_world d true none = ap (λ (o : Option After). taken_up d.world s o) none
+  free_world d false none = refl
+
+  crash_room : (d : Doubted) (taken : Bool) (kept : ℕ) → d.after s ≡ None → SameRoom (d.world.nodes s) ((happened d (CrashAt s kept) taken).world.nodes s)
+  crash_room d taken kept none =
+      subst (λ (w : World). SameRoom (d.world.nodes s) ((step w (CrashAt s kept)).world.nodes s)) (sym (free_world d taken none)) (calm_room d.world s (CrashAt s kept) tt)
+
+  crash_free : (d : Doubted) (taken : Bool) (kept : ℕ) → (happened d (CrashAt s kept) taken).after s ≡ None
+  crash_free d taken kept = at_place d.after s None
+
+  -- it is at rest again, and comes up
+  tail_room : (line : ScriptLine) (d : Doubted) (taken : Bool) → d.after s ≡ None
+      → SameRoom (d.world.nodes s) ((run_as taken d (rest_again line s ++ RecoverAt s None ∷ [])).world.nodes s)
+  tail_room (GroupImport site) d taken none =
+      let e : Doubted = happened d (DeportAt s) taken in
+      room_then (d.world.nodes s) (e.world.nodes s) ((happened e (RecoverAt s None) taken).world.nodes s) (calm_room d.world s (DeportAt s) tt)
+      (calm_room e.world s (RecoverAt s None) tt)
+  tail_room other d taken none =
+      let e : Doubted = happened d (CrashAt s 0) taken in
+      room_then (d.world.nodes s) (e.world.nodes s) ((happened e (RecoverAt s None) taken).world.nodes s) (crash_room d taken 0 none)
+      (calm_room e.world s (RecoverAt s None) tt)
+
+-- ---- a group without volumes and without a log
+
+-- it is up and runs
+record IsReady (w : World) (s : ℕ) : Type 0 where
+  below : s < w.sites
+  up : (w.nodes s).state ≡ Up
+  running : (w.nodes s).halted ≡ None
+  blank : IsBlankGroup (w.nodes s)
+
+take_none : (k : ℕ) → take k (let none : List Write = [] in none) ≡ []
+take_none zero = refl
+take_none (suc k) = refl
+
+blank_crashed : (n : Node) (k : ℕ) → IsBlankGroup n → IsBlankGroup (crashed n k)
+blank_crashed n k blank = record { role = blank.role; volumes = blank.volumes; log = ap (λ (ws : List Write). take k ws) blank.log ∙ take_none k }
+
+blank_again : (n : Node) → IsBlankGroup n → IsBlankGroup (group_up n)
+blank_again n blank = record { role = blank.role; volumes = blank.volumes; log = blank.log }
+
+module _ (w : World) (s : ℕ) where
+  -- the node that a crash leaves
+  crash_node : (k : ℕ) → (crash_at w s k).nodes s ≡ crashed (w.nodes s) k
+  crash_node k =
+      by_test (λ (v : World). v.nodes s ≡ crashed (w.nodes s) k) (is_origin (w.nodes s).role) (crash_left w s k) (with_node w s (crashed (w.nodes s) k))
+      (λ _. at_place w.nodes s (crashed (w.nodes s) k)) (λ _. at_place w.nodes s (crashed (w.nodes s) k))
+
+  ready_again : s < w.sites → is_at_rest (w.nodes s).state ≡ true → IsBlankGroup (w.nodes s) → IsReady (step w (GroupAt s)).world s
+  ready_again below rest blank =
+      let n : Node = w.nodes s in
+      let done = again_step w s below rest blank.role blank.volumes blank.log in
+      let here : (step w (GroupAt s)).world.nodes s ≡ group_up n = ap (λ (o : Outcome). o.world.nodes s) done ∙ at_place w.nodes s (group_up n) in
+      record {
+        below = subst (λ (k : ℕ). s < k) (sym (ap (λ (o : Outcome). o.world.sites) done)) below;
+        up = ap (λ (m : Node). m.state) here;
+        running = ap (λ (m : Node). m.halted) here;
+        blank = subst (λ (m : Node). IsBlankGroup m) (sym here) (blank_again n blank);
+      }
+
+  -- what a group that gets its volumes has
+  volumes_node : (log : ℕ) (xs : List DataVolume) → IsReady w s → (step w (VolumesAt s log xs)).world.nodes s ≡ volumes_set log xs (w.nodes s)
+  volumes_node log xs ready =
+      ap (λ (o : Outcome). o.world.nodes s) (data_step w s log xs ready.below ready.up ready.running ready.blank.role ready.blank.volumes ready.blank.log)
+      ∙ at_place w.nodes s (volumes_set log xs (w.nodes s))
+
+  -- a site that is up crashes first
+  rest_crashed : s < w.sites → (w.nodes s).state ≡ Up → IsBlankGroup (w.nodes s)
+      → (s < (step w (CrashAt s 0)).world.sites) × (is_at_rest ((step w (CrashAt s 0)).world.nodes s).state ≡ true) × IsBlankGroup ((step w (CrashAt s 0)).world.nodes s)
+  rest_crashed below up blank =
+      let n : Node = w.nodes s in
+      let k : ℕ = kept_of n 0 in
+      let done = crash_step w s 0 below up in
+      let here : (step w (CrashAt s 0)).world.nodes s ≡ crashed n k = ap (λ (o : Outcome). o.world.nodes s) done ∙ crash_node k in
+      let sites : (step w (CrashAt s 0)).world.sites ≡ w.sites =
+      ap (λ (o : Outcome). o.world.sites) done
+      ∙ by_test (λ (v : World). v.sites ≡ w.sites) (is_origin n.role) (crash_left w s k) (with_node w s (crashed n k)) (λ _. refl) (λ _. refl) in (
+        subst (λ (j : ℕ). s < j) (sym sites) below,
+        subst (λ (m : Node). is_at_rest m.state ≡ true) (sym here) refl,
+        subst (λ (m : Node). IsBlankGroup m) (sym here) (blank_crashed n k blank),
+      )
+
+-- ---- what it has in the end
+
+-- the data volumes of the event, and a log as large as it says
+record HasGained (log : ℕ) (xs : List DataVolume) (n : Node) : Type 0 where
+  ring : n.ring ≡ ring_of log
+  volumes : n.volumes ≡ map as_volume xs
+
+module _ (s log : ℕ) (xs : List DataVolume) (line : ScriptLine) (taken : Bool) where
+  -- from a group that is up on
+  ready_gains : (d : Doubted) → d.after s ≡ None → IsReady d.world s
+      → HasGained log xs ((run_as taken d (VolumesAt s log xs ∷ (rest_again line s ++ RecoverAt s None ∷ []))).world.nodes s)
+  ready_gains d none ready =
+      let e : Doubted = happened d (VolumesAt s log xs) taken in
+      let last : Node = (run_as taken e (rest_again line s ++ RecoverAt s None ∷ [])).world.nodes s in
+      let here : e.world.nodes s ≡ volumes_set log xs (d.world.nodes s) = volumes_node d.world s log xs ready in
+      let same : SameRoom (e.world.nodes s) last = tail_room s line e taken none in
+      record { ring = same.ring ∙ ap (λ (m : Node). m.ring) here; volumes = same.volumes ∙ ap (λ (m : Node). m.volumes) here }
+
+  -- from one that is at rest on
+  rest_gains : (d : Doubted) → d.after s ≡ None → s < d.world.sites → is_at_rest (d.world.nodes s).state ≡ true → IsBlankGroup (d.world.nodes s)
+      → HasGained log xs ((run_as taken d (GroupAt s ∷ VolumesAt s log xs ∷ (rest_again line s ++ RecoverAt s None ∷ []))).world.nodes s)
+  rest_gains d none below rest blank = ready_gains (happened d (GroupAt s) taken) none (ready_again d.world s below rest blank)
+
+  -- a site that is up crashes first
+  up_gains : (d : Doubted) → d.after s ≡ None → s < d.world.sites → (d.world.nodes s).state ≡ Up → IsBlankGroup (d.world.nodes s)
+      → HasGained log xs ((run_as taken d (CrashAt s 0 ∷ GroupAt s ∷ VolumesAt s log xs ∷ (rest_again line s ++ RecoverAt s None ∷ []))).world.nodes s)
+  up_gains d none below up blank =
+      let e : Doubted = happened d (CrashAt s 0) taken in
+      let there = rest_crashed d.world s below up blank in
+      let same : e.world ≡ (step d.world (CrashAt s 0)).world = ap (λ (w : World). (step w (CrashAt s 0)).world) (free_world s d taken none) in
+      rest_gains e (crash_free s d taken 0) (subst (λ (w : World). s < w.sites) (sym same) there.0)
+      (subst (λ (w : World). is_at_rest (w.nodes s).state ≡ true) (sym same) there.1) (subst (λ (w : World). IsBlankGroup (w.nodes s)) (sym same) there.2)
+
+gains : (line : ScriptLine) (s log : ℕ) (xs : List DataVolume) (taken : Bool) (d : Doubted) (n : Node) → n.state ≡ (d.world.nodes s).state → BringsUp line → d.after s ≡ None
+    → MayGain d.world.sites line s (d.world.nodes s)
+    → HasGained log xs ((run_as taken d ((group_events n s line ++ (VolumesAt s log xs ∷ rest_again line s)) ++ RecoverAt s None ∷ [])).world.nodes s)
+gains (GroupImport site) s log xs taken d n same brings none may = rest_gains s log xs (GroupImport site) taken d none may.below (may.rests site refl) may.blank
+gains (Recover site) s log xs taken d n same brings none may = by_state n.state (sym same)
+  where
+    by_state : (t : SiteState) → (d.world.nodes s).state ≡ t
+        → HasGained log xs ((run_as taken d ((group_recovery t s ++ (VolumesAt s log xs ∷ rest_again (Recover site) s)) ++ RecoverAt s None ∷ [])).world.nodes s)
+    by_state Bare is = absurd (may.made is)
+    by_state Up is = up_gains s log xs (Recover site) taken d none may.below is may.blank
+    by_state Deported is = rest_gains s log xs (Recover site) taken d none may.below (ap is_at_rest is) may.blank
+    by_state Down is = rest_gains s log xs (Recover site) taken d none may.below (ap is_at_rest is) may.blank
+gains other s log xs taken d n same brings none may = absurd brings
+
+-- ---- the line
+
+-- the site with another note of its group
+noted_may : (d : Doubted) (line : ScriptLine) (s : ℕ) (note : GroupNode) → MayGain d.world.sites line s (d.world.nodes s)
+    → MayGain (noting_in d s note).world.sites line s ((noting_in d s note).world.nodes s)
+noted_may d line s note may =
+    let m : Node = record (d.world.nodes s) { group = Some note } in
+    let noted : MayGain d.world.sites line s m = record {
+      below = may.below;
+      made = may.made;
+      rests = may.rests;
+      blank = record { role = may.blank.role; volumes = may.blank.volumes; log = may.blank.log };
+    } in
+    subst (λ (n : Node). MayGain d.world.sites line s n) (sym (at_place d.world.nodes s m)) noted
+
+module _ (told : Type 0) (d : Doubted) (line : ScriptLine) (s : ℕ) (fails : Fails) (said : Said) (new : Doubted) (may : MayGain d.world.sites line s (d.world.nodes s))
+    (free : d.after s ≡ None) where
+  -- it has no replicated volume group before
+  had_none : is_over_rvg (d.world.nodes s) ≡ true → ⊥
+  had_none over = (has_data (d.world.nodes s) may.made over).1 may.blank.volumes
+
+  -- the same with the events that the line has
+  gains_by : (kept : ℕ) (taken : Bool) (middle next : GroupNode) (from : Doubted) (rest : List Event) → BringsUp line
+      → NotesBack told s (d.world.nodes s) fails (note_at (d.world.nodes s)) middle → RestsWithRvg d line s kept middle next from rest
+      → IsLeftBack s line taken next from (run_as taken from (rest ++ RecoverAt s None ∷ [])) new → FitsNoted (new.world.nodes s)
+  gains_by kept taken middle next from rest brings back (HadRvg has same noted is fall) left = absurd (had_none has)
+  gains_by kept taken middle next from rest brings back (GetsRvg units over has there one noted is all) left =
+      let last : Doubted = run_as taken from (rest ++ RecoverAt s None ∷ []) in
+      let like : IsLikeDoubted last new = back_like s line taken next from last new left in
+      let start : Doubted = noting_in d s middle in
+      let same : (d.world.nodes s).state ≡ (start.world.nodes s).state =
+      ap (λ (n : Node). n.state) (sym (at_place d.world.nodes s (record (d.world.nodes s) { group = Some middle }))) in
+      let end : Node =
+      (run_as taken start ((group_events (d.world.nodes s) s line ++ (volume_events middle s units ++ rest_again line s)) ++ RecoverAt s None ∷ [])).world.nodes s in
+      let got : HasGained (srl_blocks middle units) (data_of (entries_noted middle) units) end =
+      gains line s (srl_blocks middle units) (data_of (entries_noted middle) units) taken start (d.world.nodes s) same brings free (noted_may d line s middle may) in
+      let led : last.world.nodes s ≡ end =
+      ap (λ (e : Doubted). (run_as taken e (rest ++ RecoverAt s None ∷ [])).world.nodes s) is
+      ∙ ap (λ (es : List Event). (run_as taken start (es ++ RecoverAt s None ∷ [])).world.nodes s) all in
+      fits_gained told s (d.world.nodes s) fails (note_at (d.world.nodes s)) middle next units (new.world.nodes s) back has there noted
+      (ap (λ (o : Option GroupNode). unwrap_or o no_note) (back_group s line taken next from last new left))
+      (ap (λ (n : Node). n.ring) (like.worlds.nodes s) ∙ ap (λ (n : Node). n.ring) led ∙ got.ring)
+      (ap (λ (n : Node). n.volumes) (like.worlds.nodes s) ∙ ap (λ (n : Node). n.volumes) led ∙ got.volumes)
+
+  loud : (why : No) → said ≡ Refused why → (SaysNo said → ⊥) → ⊥
+  loud why is quiet = quiet (subst SaysNo (sym is) tt)
+
+  pub gained_fits : (SaysNo said → ⊥) → RvgBack told d line s fails said new → FitsNoted (new.world.nodes s)
+  gained_fits quiet (RvgUp kept taken middle next from rest are brings back rests says left) = gains_by kept taken middle next from rest brings back rests left
+  gained_fits quiet (LogFails kept taken disk middle found next from rest events are has brings back rests is begun says left) = absurd (loud _ says quiet)
+  gained_fits quiet (LogLacks kept taken middle found next from rest are brings back rests is lacks says left) = absurd (loud _ says quiet)
+  gained_fits quiet (KeptLost kept taken disk middle found next from rest site is are has back rests noted says left) = absurd (loud _ says quiet)
+  gained_fits quiet (LogCut middle found next from rest events site is are fused back rests noted begun says left) = absurd (loud _ says quiet)
+  gained_fits quiet (GroupCutOff next site is has are fused notes says left) = absurd (loud _ says quiet)
+  gained_fits quiet (GroupUnfound kept taken lost why next has are brings not leaves says left) = absurd (loud _ says quiet)
+  gained_fits quiet (GroupHeld kept taken lost disk next has are failed brings notes says left) = absurd (loud _ says quiet)
