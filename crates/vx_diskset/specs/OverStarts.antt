@@ -61,14 +61,14 @@ module _ {R : Type 0} {g : Ghosts R} where
     pub since : CalledSince (laid_disks old) (laid_disks new)
     pub told : TellsLess (laid_below old) (laid_below new)
 
-  -- it stands over the group
-  pub record Started (units : Units) (old : Laid R g) (cut : Option CutWrite) (s : OverSet R g) : Type 0 where
+  -- it stands over the group, and no write is cut any more
+  pub record Started (units : Units) (old : Laid R g) (s : OverSet R g) : Type 0 where
     pub laid : Laid R g
     pub core : Core
     pub starts : StartsOn units old laid (Ok core)
     pub site : site_in s ≡ Up laid
     pub above : above_in s ≡ above_by core
-    pub cut_is : s.cut ≡ cut
+    pub cut : s.cut ≡ None
 
   -- disks that crashed, and were brought up by themselves
   pub record Revived (fell idle : Idle R g) : Type 0 where
@@ -89,7 +89,7 @@ module _ {R : Type 0} {g : Ghosts R} where
   TriedOn units old mid (Refused why) = StartsOn units old mid (Err why)
   TriedOn units old mid other = mid ≡ old
 
-  -- then the disks crashed
+  -- then the disks crashed, and the write is cut still
   pub record StartFails (units : Units) (old : Laid R g) (cut : Option CutWrite) (s : OverSet R g) (stop : Stop) : Type 0 where
     pub mid : Laid R g
     pub tried : TriedOn units old mid stop
@@ -97,13 +97,13 @@ module _ {R : Type 0} {g : Ghosts R} where
     pub cut_is : s.cut ≡ cut
 
   abbrev pub StartsOver : Units → Laid R g → Option CutWrite → DiskSet R g → Result (Unit {0}) Stop → Type 0
-  StartsOver units old cut (Over s) (Ok done) = Started units old cut s
+  StartsOver units old cut (Over s) (Ok done) = Started units old s
   StartsOver units old cut (Over s) (Err stop) = StartFails units old cut s stop
   StartsOver units old cut other r = ⊥
 
   -- A group that came up, with its replicated volume group where its configuration has one.
   abbrev pub WithUnits : Option Units → Laid R g → Option CutWrite → DiskSet R g → Result (Unit {0}) Stop → Type 0
-  WithUnits None laid cut new r = (new ≡ (let s : GroupSet R g = record { site = Up laid; cut = cut } in OfGroup s)) × (r ≡ Ok tt)
+  WithUnits None laid cut new r = (new ≡ (let s : GroupSet R g = record { site = Up laid; cut = None } in OfGroup s)) × (r ≡ Ok tt)
   WithUnits (Some units) laid cut new r = StartsOver units laid cut new r
 
   abbrev pub WithRvg : GroupSite R g → Option CutWrite → DiskSet R g → Result (Unit {0}) Stop → Type 0
@@ -112,7 +112,7 @@ module _ {R : Type 0} {g : Ghosts R} where
 
   -- behind an import of the group: its replicated volume group, or what the refused import left
   abbrev pub BehindImport : GroupSite R g → Option CutWrite → DiskSet R g → Result (Unit {0}) Stop → Result (Unit {0}) Stop → Type 0
-  BehindImport mid cut new (Ok done) r = WithRvg mid None new r
+  BehindImport mid cut new (Ok done) r = WithRvg mid cut new r
   BehindImport mid cut new (Err stop) r = AtSite (λ e. e ≡ mid) new × (cut_in new ≡ cut_value cut) × (r ≡ Err stop)
 
   pub record ImportsBy (old : GroupSite R g) (cut : Option CutWrite) (new : DiskSet R g) (r : Result (Unit {0}) Stop) : Type 0 where

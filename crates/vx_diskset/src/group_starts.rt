@@ -131,7 +131,7 @@ fn import_in<R: Rack>(group: GroupSet<R>, alloc: Global) -> (DiskSet<R>, Result<
     let cut = group.cut;
     let (site, answer) = group.site.import(alloc);
     match answer {
-        Ok(()) => with_rvg(alloc, site, None, true),
+        Ok(()) => with_rvg(alloc, site, cut, true),
         Err(stop) => (DiskSet::OfGroup(GroupSet { site, cut }), Err(stop)),
     }
 }
@@ -149,7 +149,7 @@ fn raise_in<R: Rack>(
     let (site, answer) = group.site.import(alloc);
     match answer {
         Ok(()) => {
-            let (disk_set, started) = with_rvg(alloc, site, None, false);
+            let (disk_set, started) = with_rvg(alloc, site, cut, false);
             match started {
                 Ok(()) => (disk_set, Ok(cut)),
                 Err(stop) => (disk_set, Err(stop)),
@@ -166,7 +166,7 @@ fn import_over<R: Rack>(over: OverSet<R>, alloc: Global) -> (DiskSet<R>, Result<
     let (site, _above, cut) = over.parts();
     let (site, answer) = site.import(alloc);
     match answer {
-        Ok(()) => with_rvg(alloc, site, None, true),
+        Ok(()) => with_rvg(alloc, site, cut, true),
         Err(stop) => (
             DiskSet::Over(OverSet::of(site, Above::Nothing, cut)),
             Err(stop),
@@ -184,7 +184,7 @@ fn raise_over<R: Rack>(
     let (site, answer) = site.import(alloc);
     match answer {
         Ok(()) => {
-            let (disk_set, started) = with_rvg(alloc, site, None, false);
+            let (disk_set, started) = with_rvg(alloc, site, cut, false);
             match started {
                 Ok(()) => (disk_set, Ok(cut)),
                 Err(stop) => (disk_set, Err(stop)),

@@ -142,7 +142,11 @@ fn start_over<R: Rack>(
     let (laid, started) = work_over(laid, Starts { room, units });
     match started {
         Ok(core) => (
-            DiskSet::Over(OverSet::of(GroupSite::Up(laid), by_role(core, waiting), cut)),
+            DiskSet::Over(OverSet::of(
+                GroupSite::Up(laid),
+                by_role(core, waiting),
+                None,
+            )),
             Ok(()),
         ),
         Err(no) => {
@@ -185,7 +189,8 @@ fn units_in(config: &Config) -> Option<Units>
     }
 }
 
-/// A group that came up, with its replicated volume group where its configuration has one.
+/// A group that came up, with its replicated volume group where its configuration has one. No write is cut any more then; where that does not start, it is cut
+/// still.
 pub(crate) fn with_rvg<R: Rack>(
     alloc: Global,
     site: GroupSite<R>,
@@ -200,7 +205,7 @@ pub(crate) fn with_rvg<R: Rack>(
             None => (
                 DiskSet::OfGroup(GroupSet {
                     site: GroupSite::Up(laid),
-                    cut,
+                    cut: None,
                 }),
                 Ok(()),
             ),
