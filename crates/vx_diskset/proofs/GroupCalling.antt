@@ -53,7 +53,7 @@ with_by P (Some x) None same each = absurd (let e : false ≡ true = same in cc)
 with_by P (Some x) (Some y) same each = each x y refl refl
 
 -- no fuse is set on a rack that has none
-never_set : (m : Meaning) → IsRack m → IsFalse m.armed → (y : Disks) → m.disks ≡ Some y → is_set y.fuse ≡ true → ⊥
+pub never_set : (m : Meaning) → IsRack m → IsFalse m.armed → (y : Disks) → m.disks ≡ Some y → is_set y.fuse ≡ true → ⊥
 never_set m rack unarmed y is on =
     let told : rack.told ≡ y = ap (λ (o : Option Disks). unwrap_or o y) (sym rack.is ∙ is) in
     let e : true ≡ false = sym on ∙ sym (ap (λ (d : Disks). is_set d.fuse) told) ∙ sym rack.armed ∙ unarmed in

@@ -42,6 +42,7 @@ pub mod MakeRoom
 pub mod Mores
 pub mod NeedLemmas
 pub mod OverGroups
+pub mod OverImports
 pub mod OverSets
 pub mod PumpGroup
 pub mod RawSets
