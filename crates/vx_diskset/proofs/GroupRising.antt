@@ -141,7 +141,7 @@ module _ {R : Type 0} {g : Ghosts R} where
     refused_settled true n note m stop s it = down_settled rackful (crashed (returned_with (note_dimmed true note) n) 0) (note_dimmed true note) s it.0
     refused_settled false n note m stop s it = away_settled rackful (burned_site (dimmed_site (not (stops_early stop)) note n)) (note_dimmed (not (stops_early stop)) note) s it.0
 
-    imported_settled : (n : Node) (note : GroupNode) (o s : GroupSite R g) (r : Result (Unit {0}) Stop) → SiteImports n note o s r → IsSettled s
+    pub imported_settled : (n : Node) (note : GroupNode) (o s : GroupSite R g) (r : Result (Unit {0}) Stop) → SiteImports n note o s r → IsSettled s
     imported_settled n note o s (Ok done) it = up_settled rackful (returned_with it.0.0 n) it.0.0 s it.0.2
     imported_settled n note o s (Err stop) it = refused_settled (stops_down stop) (dimmed_site (is_dimmed o) note n) (note_dimmed (is_dimmed o) note) (as_imported o) stop s it
 

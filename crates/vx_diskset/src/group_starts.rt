@@ -11,7 +11,7 @@ ghost use Rattle.vx_watched.specs.Since.{CalledSince};
 ghost use Rattle.vx_diskset.specs.Asked.{FuseGoesOn, SameFailing};
 ghost use Rattle.vx_diskset.specs.DiskSets.{Later};
 ghost use Rattle.vx_diskset.specs.Aboves.{site_in};
-ghost use Rattle.vx_diskset.specs.OverStarts.{ImportsBy, RaisesBy, RisesOver};
+ghost use Rattle.vx_diskset.specs.OverStarts.{HandsOut, ImportsBy, RaisesBy, RisesOver};
 ghost use Rattle.vx_diskset.specs.GroupCalls.{AtFound, AtPlain, AtSite, ImportsOn, InitIs, cut_in};
 ghost use Rattle.vx_diskset.specs.Holds.{KeptBeside};
 ghost use Rattle.vx_diskset.specs.Recovers.{LooksAt, LooksKept, RaisesGroup, RisesSince, RisesWith, cut_past};
@@ -136,12 +136,23 @@ fn import_in<R: Rack>(group: GroupSet<R>, alloc: Global) -> (DiskSet<R>, Result<
     }
 }
 
+// The write that was cut, where the group came up.
+fn hands_out(started: Result<(), Stop>, cut: Option<CutWrite>) -> Result<Option<CutWrite>, Stop>
+    ensures { HandsOut cut started result }
+{
+    match started {
+        Ok(()) => Ok(cut),
+        Err(stop) => Err(stop),
+    }
+}
+
 // The same of a site that crashed, which hands out the write that its crash cut.
 fn raise_in<R: Rack>(
     group: GroupSet<R>,
     alloc: Global,
 ) -> (DiskSet<R>, Result<Option<CutWrite>, Stop>)
     ensures raised { (n : Node) (note : GroupNode) → DownNoted n note group.site → RaisesGroup n note (DiskSet.OfGroup group) result.0 result.1 }
+    ensures brought { RaisesBy group.site group.cut result.0 result.1 }
     ensures since { AtSite (λ e. RisesSince (site_disks group.site) (site_disks e)) result.0 }
     ensures told { AtSite (λ e. TellsLess (site_below group.site) (site_below e)) result.0 }
 {
@@ -150,27 +161,21 @@ fn raise_in<R: Rack>(
     match answer {
         Ok(()) => {
             let (disk_set, started) = with_rvg(alloc, site, cut, false);
-            match started {
-                Ok(()) => (disk_set, Ok(cut)),
-                Err(stop) => (disk_set, Err(stop)),
-            }
+            (disk_set, hands_out(started, cut))
         }
         Err(stop) => (DiskSet::OfGroup(GroupSet { site, cut }), Err(stop)),
     }
 }
 
-// The same of a site with a replicated volume group.
+// The same of a site with a replicated volume group. One that is up is refused, and stays so.
 fn import_over<R: Rack>(over: OverSet<R>, alloc: Global) -> (DiskSet<R>, Result<(), Stop>)
     ensures brought { ImportsBy (site_in over) over.cut result.0 result.1 }
 {
-    let (site, _above, cut) = over.parts();
+    let (site, above, cut) = over.parts();
     let (site, answer) = site.import(alloc);
     match answer {
         Ok(()) => with_rvg(alloc, site, cut, true),
-        Err(stop) => (
-            DiskSet::Over(OverSet::of(site, Above::Nothing, cut)),
-            Err(stop),
-        ),
+        Err(stop) => (DiskSet::Over(OverSet::of(site, above, cut)), Err(stop)),
     }
 }
 
@@ -180,20 +185,14 @@ fn raise_over<R: Rack>(
 ) -> (DiskSet<R>, Result<Option<CutWrite>, Stop>)
     ensures brought { RaisesBy (site_in over) over.cut result.0 result.1 }
 {
-    let (site, _above, cut) = over.parts();
+    let (site, above, cut) = over.parts();
     let (site, answer) = site.import(alloc);
     match answer {
         Ok(()) => {
             let (disk_set, started) = with_rvg(alloc, site, cut, false);
-            match started {
-                Ok(()) => (disk_set, Ok(cut)),
-                Err(stop) => (disk_set, Err(stop)),
-            }
+            (disk_set, hands_out(started, cut))
         }
-        Err(stop) => (
-            DiskSet::Over(OverSet::of(site, Above::Nothing, cut)),
-            Err(stop),
-        ),
+        Err(stop) => (DiskSet::Over(OverSet::of(site, above, cut)), Err(stop)),
     }
 }
 

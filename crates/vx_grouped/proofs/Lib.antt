@@ -43,3 +43,4 @@ pub mod FindLemmas
 pub mod TraceLemmas
 pub mod VolumeLemmas
 pub mod LitLemmas
+pub mod ComeLemmas

@@ -56,3 +56,16 @@ module _ {R : Type 0} {g : Ghosts R} where
   abbrev pub BringsAtSite : Meaning → GroupSite R g → Result (Unit {0}) Stop → Type 0
   BringsAtSite old (Up laid) (Ok done) = BringsSite old laid
   BringsAtSite old other r = Unit {0}
+
+  -- It came up where the answer says so, and is not up where it was refused.
+  abbrev pub AnswersUp : GroupSite R g → Result (Unit {0}) Stop → Type 0
+  AnswersUp (Up laid) (Ok done) = Unit {0}
+  AnswersUp (Up laid) (Err stop) = ⊥
+  AnswersUp other (Ok done) = ⊥
+  AnswersUp other (Err stop) = Unit {0}
+
+  -- so it is of one that was not up; one that was is as it was, and is refused
+  abbrev pub ComesUp : GroupSite R g → GroupSite R g → Result (Unit {0}) Stop → Type 0
+  ComesUp (Up laid) new (Ok done) = ⊥
+  ComesUp (Up laid) new (Err stop) = new ≡ Up laid
+  ComesUp other new r = AnswersUp new r

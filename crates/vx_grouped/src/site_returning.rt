@@ -8,7 +8,7 @@ ghost use Rattle.vx_group.specs.Imports.{ImportStops};
 ghost use Rattle.vx_group.specs.Resumes.{CanImport, CanImportBehind};
 ghost use Rattle.vx_grouped.specs.Away.{AwayLies};
 ghost use Rattle.vx_grouped.specs.Begins.{CreateSince};
-ghost use Rattle.vx_grouped.specs.Brings.{BringsAtSite, BringsGroup};
+ghost use Rattle.vx_grouped.specs.Brings.{AnswersUp, BringsAtSite, BringsGroup, ComesUp};
 ghost use Rattle.vx_grouped.specs.GroupSites.{AreStopped, AwayNoted, DownNoted, GroupAway, GroupDown, idle_below, idle_disks, site_below, site_disks};
 ghost use Rattle.vx_grouped.specs.Readies.{ready_of};
 ghost use Rattle.vx_grouped.specs.Returns.{ImportLeaves};
@@ -189,6 +189,7 @@ fn recover_site<R: Rack>(
     ensures since { ReturnSince (shade_meaning (λ s. R.meaning s) rack) (site_disks result.0) }
     ensures told { TellsLess (R.meaning (rack_of rack)) (site_below result.0) }
     ensures brings { BringsAtSite (shade_meaning (λ s. R.meaning s) rack) result.0 result.1 }
+    ensures comes { AnswersUp result.0 result.1 }
 {
     if !rack.is_down() {
         return (
@@ -224,6 +225,7 @@ fn import_site<R: Rack>(
     ensures since { ReturnSince (shade_meaning (λ s. R.meaning s) rack) (site_disks result.0) }
     ensures told { TellsLess (R.meaning (rack_of rack)) (site_below result.0) }
     ensures brings { BringsAtSite (shade_meaning (λ s. R.meaning s) rack) result.0 result.1 }
+    ensures comes { AnswersUp result.0 result.1 }
 {
     if rack.is_down() {
         return (
@@ -283,6 +285,7 @@ fn recover_idle<R: Rack>(alloc: Global, idle: Idle<R>) -> (GroupSite<R>, Result<
     ensures since { ReturnSince (idle_disks idle) (site_disks result.0) }
     ensures told { TellsLess (idle_below idle) (site_below result.0) }
     ensures brings { BringsAtSite (shade_meaning (λ s. R.meaning s) (ready_of idle.agreed idle.rack)) result.0 result.1 }
+    ensures comes { AnswersUp result.0 result.1 }
 {
     let rested = idle.rested;
     match rested {
@@ -297,6 +300,7 @@ fn import_idle<R: Rack>(alloc: Global, idle: Idle<R>) -> (GroupSite<R>, Result<(
     ensures since { ReturnSince (idle_disks idle) (site_disks result.0) }
     ensures told { TellsLess (idle_below idle) (site_below result.0) }
     ensures brings { BringsAtSite (shade_meaning (λ s. R.meaning s) (ready_of idle.agreed idle.rack)) result.0 result.1 }
+    ensures comes { AnswersUp result.0 result.1 }
 {
     let rested = idle.rested;
     match rested {
@@ -316,6 +320,7 @@ impl<R: Rack> GroupSite<R> {
         ensures since { ReturnSince (site_disks self) (site_disks result.0) }
         ensures told { TellsLess (site_below self) (site_below result.0) }
         ensures brings { BringsAtSite (as_imported self) result.0 result.1 }
+        ensures comes { ComesUp self result.0 result.1 }
     {
         match self {
             GroupSite::Down(idle) => recover_idle(alloc, idle),

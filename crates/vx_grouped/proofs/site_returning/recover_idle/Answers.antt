@@ -32,3 +32,6 @@ returns-in-None-clause-told g c = λ told. subst (λ s. IsTrue (g.R.Shelf.meanin
 
 pub returns-in-Some-clause-brings : goal.returns-in-Some-clause-brings
 returns-in-Some-clause-brings g c = subst (λ s. BringsAtSite (shade_meaning g.R.Shelf.meaning s) c.recover_site.result.0 c.recover_site.result.1) c.into_ready.ensures.ready c.recover_site.ensures.brings
+
+pub returns-in-Some-clause-comes : goal.returns-in-Some-clause-comes
+returns-in-Some-clause-comes g c = c.recover_site.ensures.comes

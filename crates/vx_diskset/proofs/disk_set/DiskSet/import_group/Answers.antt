@@ -6,7 +6,9 @@ use Rattle.vx_diskset.specs.Asked.{FuseGoesOn}
 use Rattle.vx_diskset.specs.GroupCalls.{ImportsOn, cut_in}
 use Rattle.vx_diskset.specs.Recovers.{cut_past}
 use Rattle.vx_diskset.proofs.GroupCalling.{at_none, at_sites}
-use Rattle.vx_diskset.proofs.GroupRising.{import_settled, rise_failing, rise_fuse, rise_later}
+use Rattle.vx_diskset.proofs.GroupRising.{imported_settled, rise_failing, rise_fuse, rise_later}
+use Rattle.vx_diskset.proofs.OverImports.{import_settles}
+use Rattle.vx_untold.specs.Shades.{shade_rack}
 use Rattle.vx_diskset.proofs.disk_set.DiskSet.import_group.Goals as goal
 
 pub returns-in-OfGroup-clause-imported : goal.returns-in-OfGroup-clause-imported
@@ -21,7 +23,11 @@ pub returns-in-OfGroup-clause-fuse : goal.returns-in-OfGroup-clause-fuse
 returns-in-OfGroup-clause-fuse g c = λ n note.
     let is_rack = (g.met.R.Rack g.world.𝓛 g.world.𝓜 g.world.𝓡 ((λ s x. x), (λ x. x), (λ x. x), λ x. x)).rack in
     at_sites (AwayNoted n note) (FuseGoesOn c.args.self c.import_in.result.0) c.args.self c.in-OfGroup.group c.in-OfGroup.is
-    (λ it. rise_fuse c.args.self c.import_in.result.0 c.in-OfGroup.group c.in-OfGroup.is c.import_in.ensures.since c.import_in.ensures.told (import_settled is_rack n note c.in-OfGroup.group.site c.import_in.result.0 c.import_in.result.1 (c.import_in.ensures.imported n note it)))
+    (λ it.
+    let by = c.import_in.ensures.brought in
+    rise_fuse c.args.self c.import_in.result.0 c.in-OfGroup.group c.in-OfGroup.is c.import_in.ensures.since c.import_in.ensures.told
+    (import_settles (shade_rack g.R.Shelf.meaning is_rack) c.in-OfGroup.group.site c.in-OfGroup.group.cut c.import_in.result.0 c.import_in.result.1 by
+    (imported_settled is_rack n note c.in-OfGroup.group.site by.mid by.answer (by.imported n note it))))
 
 pub returns-in-OfGroup-clause-failing : goal.returns-in-OfGroup-clause-failing
 returns-in-OfGroup-clause-failing g c = rise_failing c.args.self c.import_in.result.0 c.in-OfGroup.group c.in-OfGroup.is c.import_in.ensures.since c.import_in.ensures.told
