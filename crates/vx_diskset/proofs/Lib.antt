@@ -61,3 +61,5 @@ pub mod Worked
 pub mod WriteGroup
 pub mod WriteLeaves
 pub mod Zeroes
+pub mod OverStarting
+pub mod UnitsLie

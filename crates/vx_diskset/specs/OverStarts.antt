@@ -84,6 +84,11 @@ module _ {R : Type 0} {g : Ghosts R} where
   FellBack mid (Deported idle) = (fell : Idle R g) × LaidFell all_latest mid fell × Revived fell idle
   FellBack mid other = ⊥
 
+  -- so the disks are, and the write is cut still
+  abbrev pub BackOver : Laid R g → Option CutWrite → DiskSet R g → Type 0
+  BackOver mid cut (Over s) = FellBack mid (site_in s) × (s.cut ≡ cut)
+  BackOver mid cut other = ⊥
+
   -- why it does not stand there: memory was wanted, or it was refused
   abbrev pub TriedOn : Units → Laid R g → Laid R g → Stop → Type 0
   TriedOn units old mid (Refused why) = StartsOn units old mid (Err why)

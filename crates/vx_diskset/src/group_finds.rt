@@ -11,7 +11,7 @@ ghost use Rattle.vx_diskset.specs.Stands.{IsToldAt, SiteStands};
 
 use crate::DiskSet;
 use crate::labels::has_label;
-use crate::over_group::with_rvg;
+use crate::over_starts::with_rvg;
 use std::alloc::Global;
 use vx_disk::Rack;
 use vx_grouped::find_group;

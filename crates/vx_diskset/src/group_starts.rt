@@ -19,7 +19,7 @@ ghost use Rattle.vx_diskset.specs.Stands.{SiteStands};
 ghost use Rattle.vx_watched.specs.Traces.{TellsLess};
 
 use crate::group_set::{CutWrite, KeptWrite};
-use crate::over_group::with_rvg;
+use crate::over_starts::with_rvg;
 use crate::{Above, DiskSet, GroupSet, OverSet};
 use std::alloc::Global;
 use vx_disk::Rack;

@@ -1,5 +1,5 @@
 // Calls on the disk group below a replicated volume group.
-ghost use Rattle.std.specs.Prelude.{◌≡◌, Err, None, Some, false, true};
+ghost use Rattle.std.specs.Prelude.{◌≡◌, None, Some, true};
 ghost use Rattle.vx_config.specs.Checks.{is_group};
 ghost use Rattle.vx_config.specs.declared.config.Config.{Config as ConfigValue};
 ghost use Rattle.vx_disk.specs.Causes.{OnDisks};
@@ -9,9 +9,6 @@ ghost use Rattle.vx_diskset.specs.Asked.{FuseGoesOn, SameFailing};
 ghost use Rattle.vx_diskset.specs.DiskSets.{CrashedAt, Later};
 ghost use Rattle.vx_diskset.specs.Holds.{KeptBeside};
 ghost use Rattle.vx_diskset.specs.OverKeeps.{KeepsOver};
-ghost use Rattle.vx_diskset.specs.OverStarts.{FellBack, StartsOver, WithRvg};
-ghost use Rattle.vx_ground.specs.Lifted.{laid_volumes};
-ghost use Rattle.vx_rvg.specs.Views.{UnitsPlaced};
 ghost use Rattle.vx_diskset.specs.Stands.{CutAt, RoleBy, SiteStands};
 ghost use Rattle.vx_diskset.specs.declared.disk_set.DiskSet.TheVariants.{Over as OverSites};
 ghost use Rattle.vx_grouped.specs.GroupSites.{CutNoted, DownNoted, UpNoted, site_below, site_disks};
@@ -19,8 +16,7 @@ ghost use Rattle.vx_grouped.specs.SiteEnds.{MayCrashSite, SiteDeported};
 ghost use Rattle.vx_history.specs.Steps.{crashed};
 ghost use Rattle.vx_watched.specs.Since.{CalledSince};
 ghost use Rattle.vx_watched.specs.Traces.{TellsLess};
-ghost use Rattle.vx_diskset.specs.GroupCalls.{AtOver, config_in, cut_in};
-ghost use Rattle.vx_diskset.specs.GroupSets.{cut_value};
+ghost use Rattle.vx_diskset.specs.GroupCalls.{config_in};
 ghost use Rattle.vx_diskset.specs.Makings.{MadeOver};
 ghost use Rattle.vx_diskset.specs.Noted.{SiteNoted};
 ghost use Rattle.vx_events.specs.GroupLines.{is_over_group};
@@ -29,19 +25,15 @@ ghost use Rattle.vx_history.specs.World.{Node};
 ghost use Rattle.vx_model.specs.declared.site.SiteState.TheVariants.{Up as UpState};
 
 use crate::group_set::CutWrite;
-use crate::over_work::{Makes, Rewrites, Starts};
-use crate::writing::is_off;
+use crate::over_work::{Makes, Rewrites};
 use crate::{Above, DiskSet, GroupSet, OverSet, OverSite};
 use std::alloc::Global;
 use std::mem;
-use vx_config::Config;
 use vx_disk::{Rack, refusal};
 use vx_ground::{name_rvg, work_over};
 use vx_grouped::{GroupSite, Laid};
 use vx_model::limits::LEAST_BLOCKS;
-use vx_model::{No, Role, State, Stop, Units};
-use vx_rvg::{RvgCore, StartRoom};
-use vx_secondary::Waiting;
+use vx_model::{No, State, Stop, Units};
 
 // Disks that are down behind a call.
 fn fallen<R: Rack>(laid: Laid<R>) -> GroupSite<R> {
@@ -107,113 +99,6 @@ fn make_over<R: Rack>(
             }
         }
         Err(stop) => left(laid, cut, stop),
-    }
-}
-
-// What stands over a group, by the role of its site.
-fn by_role(core: RvgCore, waiting: Waiting) -> Above {
-    match core.state().role {
-        Role::Primary | Role::Handing { to: _ } => Above::Origin(core),
-        _ => Above::Receiver { core, waiting },
-    }
-}
-
-// Starts the replicated volume group of a group that came up. Where it is refused, the disks crash; those of a site that was deported are by
-// themselves again, unless its fuse ran out.
-fn start_over<R: Rack>(
-    alloc: Global,
-    laid: Laid<R>,
-    cut: Option<CutWrite>,
-    units: &Units,
-    away: bool,
-) -> (DiskSet<R>, Result<(), Stop>)
-    requires there { UnitsPlaced units.now (laid_volumes laid) }
-    ensures starts { StartsOver units.now laid cut result.0 result.1 }
-{
-    let blocks = laid.size(units.srl);
-    let room = match StartRoom::new(alloc, blocks) {
-        Ok(room) => room,
-        Err(_) => return back_over(laid, cut, away, Stop::OutOfMemory),
-    };
-    let waiting = match Waiting::new(alloc) {
-        Ok(waiting) => waiting,
-        Err(_) => return back_over(laid, cut, away, Stop::OutOfMemory),
-    };
-    let (laid, started) = work_over(laid, Starts { room, units });
-    match started {
-        Ok(core) => (
-            DiskSet::Over(OverSet::of(
-                GroupSite::Up(laid),
-                by_role(core, waiting),
-                None,
-            )),
-            Ok(()),
-        ),
-        Err(no) => {
-            let away = away && !is_off(&no);
-            back_over(laid, cut, away, Stop::No(no))
-        }
-    }
-}
-
-// The disks of a group that came up whose replicated volume group did not.
-fn back_over<R: Rack>(
-    laid: Laid<R>,
-    cut: Option<CutWrite>,
-    away: bool,
-    stop: Stop,
-) -> (DiskSet<R>, Result<(), Stop>)
-    ensures cut { cut_in result.0 ≡ cut_value cut }
-    ensures fell { AtOver (FellBack laid) result.0 }
-    ensures is { result.1 ≡ Err stop }
-{
-    let idle = laid.crash(u64::MAX);
-    let site = if away {
-        GroupSite::Deported(idle.revive())
-    } else {
-        GroupSite::Down(idle)
-    };
-    (
-        DiskSet::Over(OverSet::of(site, Above::Nothing, cut)),
-        Err(stop),
-    )
-}
-
-// The replicated volume group that a configuration has.
-fn units_in(config: &Config) -> Option<Units>
-    ensures { result ≡ config.now.rvg }
-{
-    match &config.rvg {
-        Some(units) => Some(units.copy()),
-        None => None,
-    }
-}
-
-/// A group that came up, with its replicated volume group where its configuration has one. No write is cut any more then; where that does not start, it is cut
-/// still.
-pub(crate) fn with_rvg<R: Rack>(
-    alloc: Global,
-    site: GroupSite<R>,
-    cut: Option<CutWrite>,
-    away: bool,
-) -> (DiskSet<R>, Result<(), Stop>)
-    ensures over { WithRvg site cut result.0 result.1 }
-{
-    match site {
-        GroupSite::Up(laid) => match units_in(laid.config()) {
-            Some(units) => start_over(alloc, laid, cut, &units, away),
-            None => (
-                DiskSet::OfGroup(GroupSet {
-                    site: GroupSite::Up(laid),
-                    cut: None,
-                }),
-                Ok(()),
-            ),
-        },
-        site => (
-            DiskSet::OfGroup(GroupSet { site, cut }),
-            Err(Stop::No(No::Role)),
-        ),
     }
 }
 

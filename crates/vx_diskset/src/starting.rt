@@ -176,7 +176,7 @@ fn start_bare<R: Rack>(rack: R, room: StartRoom) -> (DiskSet<R>, Result<(), No>)
 }
 
 // Whether writes of a line arise at a site of this role.
-fn is_origin(role: &Role) -> bool
+pub(crate) fn is_origin(role: &Role) -> bool
     ensures { result ≡ is_origin_is role.now }
 {
     matches!(role, Role::Primary | Role::Handing { to: _ })
