@@ -5,9 +5,9 @@ use Rattle.vx_disk.specs.Racks.{Stopped}
 use Rattle.vx_disk.specs.Shelf.{Covers, Goes, Meaning, Nothing, Values, Written}
 use Rattle.vx_disk.specs.declared.shelf.Shelf.{Ghosts}
 use Rattle.vx_grouped.specs.GroupSites.{idle_disks, laid_disks}
-use Rattle.vx_grouped.specs.Volumes.{FellBehind, SiteGoes, VolumesGo, laid_seen}
+use Rattle.vx_grouped.specs.Volumes.{FellBehind, IsNotUp, SiteCloses, SiteGoes, VolumesGo, laid_seen}
 use Rattle.vx_grouped.specs.declared.group_site.GroupSite.{GroupSite}
-use Rattle.vx_grouped.specs.declared.group_site.GroupSite.TheVariants.{Up}
+use Rattle.vx_grouped.specs.declared.group_site.GroupSite.TheVariants.{Deported, Down, Gone, Marked, Up}
 use Rattle.vx_grouped.specs.declared.idle.Idle.{Idle}
 use Rattle.vx_grouped.specs.declared.laid.Laid.{Laid}
 
@@ -53,3 +53,28 @@ module _ {R : Type 0} {g : Ghosts R} where
   -- of a site that was taken out for the call
   pub site_goes : (mine : Blocks) (e : GroupSite R g) (old : Laid R g) (new : GroupSite R g) → e ≡ Up old → SiteGoes mine (Up old) new → SiteGoes mine e new
   site_goes mine e old new is goes = subst (λ (x : GroupSite R g). SiteGoes mine x new) (sym is) goes
+
+  -- of one that was not up, and is as it was
+  pub rest_goes : (mine : Blocks) (e x : GroupSite R g) → x ≡ e → ((laid : Laid R g) → x ≡ Up laid → ⊥) → SiteGoes mine e x
+  rest_goes mine (Up laid) x is never = absurd (never laid is)
+  rest_goes mine (Deported idle) x is never = is
+  rest_goes mine (Down idle) x is never = is
+  rest_goes mine (Marked rack) x is never = is
+  rest_goes mine Gone x is never = is
+
+  pub site_closes : (e : GroupSite R g) (old : Laid R g) (new : GroupSite R g) → e ≡ Up old → SiteCloses (Up old) new → SiteCloses e new
+  site_closes e old new is closes = subst (λ (x : GroupSite R g). SiteCloses x new) (sym is) closes
+
+  pub rest_closes : (e : GroupSite R g) → ((laid : Laid R g) → e ≡ Up laid → ⊥) → SiteCloses e e
+  rest_closes (Up laid) never = absurd (never laid refl)
+  rest_closes (Deported idle) never = tt
+  rest_closes (Down idle) never = tt
+  rest_closes (Marked rack) never = tt
+  rest_closes Gone never = tt
+
+  pub rest_off : (e : GroupSite R g) → ((laid : Laid R g) → e ≡ Up laid → ⊥) → IsNotUp e
+  rest_off (Up laid) never = absurd (never laid refl)
+  rest_off (Deported idle) never = tt
+  rest_off (Down idle) never = tt
+  rest_off (Marked rack) never = tt
+  rest_off Gone never = tt

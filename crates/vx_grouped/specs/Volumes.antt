@@ -47,3 +47,8 @@ module _ {R : Type 0} {g : Ghosts R} where
   SiteGoes mine (Up old) (Deported idle) = Unit {0}
   SiteGoes mine (Up old) other = ⊥
   SiteGoes mine old new = new ≡ old
+
+  -- the site is not up
+  abbrev pub IsNotUp : GroupSite R g → Type 0
+  IsNotUp (Up laid) = ⊥
+  IsNotUp other = Unit {0}

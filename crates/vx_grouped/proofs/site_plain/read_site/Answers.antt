@@ -3,7 +3,7 @@ use Rattle.std.proofs.Common.{subst}
 use Rattle.vx_untold.specs.Shades.{shade_meaning}
 use Rattle.vx_grouped.specs.Watches.{PlainReads}
 use Rattle.vx_grouped.proofs.WroteLemmas.{read_done, read_failed}
-use Rattle.vx_grouped.proofs.VolumeLemmas.{none_go}
+use Rattle.vx_grouped.proofs.VolumeLemmas.{none_go, same_go}
 use Rattle.vx_grouped.specs.Volumes.{laid_seen}
 use Rattle.vx_grouped.proofs.site_plain.read_site.Goals as goal
 
@@ -22,3 +22,6 @@ returns-in-Ok-clause-volumes g c = none_go (laid_seen c.args.laid) (laid_seen c.
 
 pub returns-in-Err-clause-volumes : goal.returns-in-Err-clause-volumes
 returns-in-Err-clause-volumes g c = none_go (laid_seen c.args.laid) (laid_seen c.read_watched-laid.result.0) c.read_watched-laid.ensures.works.goes
+
+pub returns-then-not-fits-clause-volumes : goal.returns-then-not-fits-clause-volumes
+returns-then-not-fits-clause-volumes g c = same_go (laid_seen c.args.laid)
