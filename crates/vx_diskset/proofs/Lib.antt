@@ -63,3 +63,5 @@ pub mod WriteLeaves
 pub mod Zeroes
 pub mod OverStarting
 pub mod UnitsLie
+pub mod OverRising
+pub mod OverRisen

@@ -26,7 +26,7 @@ use Rattle.vx_diskset.specs.Aboves.{AboveStays, site_in}
 use Rattle.vx_diskset.specs.GroupCalls.{AtFound, AtSite, cut_in}
 use Rattle.vx_diskset.specs.GroupSets.{cut_value}
 use Rattle.vx_diskset.specs.OverStarts.{BehindImport, FellBack, HandsOut, ImportsBy, RaisesBy, StartFails, Started, StartsOver, TriedOn, WithRvg, WithUnits}
-use Rattle.vx_diskset.specs.Recovers.{RaisesGroup, RisesSince, cut_past}
+use Rattle.vx_diskset.specs.Recovers.{RaisesAt, RisesSince, cut_past}
 use Rattle.vx_diskset.specs.declared.above.Above.{Above}
 use Rattle.vx_diskset.specs.declared.disk_set.DiskSet.{DiskSet}
 use Rattle.vx_diskset.specs.declared.disk_set.DiskSet.TheVariants.{Bare, Spoiled, Up as UpSet, Receives, Down as DownSet, OfGroup, Over, Gone as GoneSet}
@@ -335,13 +335,13 @@ module _ {R : Type 0} {g : Ghosts R} where
 
   -- ---- a recovery
 
-  module _ (s : GroupSet R g) (n : Node) (note : GroupNode) (new : DiskSet R g) where
-    pub import_raises : (answer : Result (Unit {0}) Stop) (r : Result (Option CutWrite) Stop) → ImportsBy s.site s.cut new answer → HandsOut s.cut answer r → DownNoted n note s.site → RaisesGroup n note (OfGroup s) new r
+  module _ (old : GroupSite R g) (was : Option CutWrite) (n : Node) (note : GroupNode) (new : DiskSet R g) where
+    pub import_raises : (answer : Result (Unit {0}) Stop) (r : Result (Option CutWrite) Stop) → ImportsBy old was new answer → HandsOut was answer r → DownNoted n note old → RaisesAt n note old was new r
     import_raises (Ok done) r by hands down =
-        subst (λ (x : Result (Option CutWrite) Stop). RaisesGroup n note (OfGroup s) new x) (sym hands) (recover_found s.site n note s.cut new (Ok done) by down, import_cut s.site s.cut new (Ok done) by, refl)
+        subst (λ (x : Result (Option CutWrite) Stop). RaisesAt n note old was new x) (sym hands) (recover_found old n note was new (Ok done) by down, import_cut old was new (Ok done) by, refl)
     import_raises (Err stop) r by hands down =
-        subst (λ (x : Result (Option CutWrite) Stop). RaisesGroup n note (OfGroup s) new x) (sym hands)
-        (record { refused = recover_found s.site n note s.cut new (Err stop) by down; cut_stays = import_cut s.site s.cut new (Err stop) by })
+        subst (λ (x : Result (Option CutWrite) Stop). RaisesAt n note old was new x) (sym hands)
+        (record { refused = recover_found old n note was new (Err stop) by down; cut_stays = import_cut old was new (Err stop) by })
 
   pub raises_by : (old : GroupSite R g) (cut : Option CutWrite) (new : DiskSet R g) (answer : Result (Unit {0}) Stop) (r : Result (Option CutWrite) Stop) → ImportsBy old cut new answer → HandsOut cut answer r → RaisesBy old cut new r
   raises_by old cut new answer r by hands = record { answer = answer; by = by; is = hands }

@@ -5,31 +5,27 @@ use Rattle.vx_disk.specs.declared.shelf.Shelf.{Ghosts}
 use Rattle.vx_ground.specs.Accounts.{GroundSince, ground_state}
 use Rattle.vx_ground.specs.Lifted.{laid_volumes}
 use Rattle.vx_grouped.specs.Brings.{BringsAtSite}
-use Rattle.vx_grouped.specs.GroupSites.{AwayNoted, DownNoted, UpNoted, idle_below, idle_disks, laid_below, laid_disks, site_below, site_disks, with_note}
-use Rattle.vx_grouped.specs.SiteEnds.{burned_site}
+use Rattle.vx_grouped.specs.GroupSites.{AwayNoted, DownNoted, idle_below, idle_disks, laid_below, laid_disks, site_below, site_disks}
 use Rattle.vx_grouped.specs.SiteReturns.{ReturnSince, SiteImports, SiteRecovers, as_imported}
 use Rattle.vx_grouped.specs.declared.group_site.GroupSite.{GroupSite}
 use Rattle.vx_grouped.specs.declared.group_site.GroupSite.TheVariants.{Up, Deported, Down}
 use Rattle.vx_grouped.specs.declared.idle.Idle.{Idle}
 use Rattle.vx_grouped.specs.declared.laid.Laid.{Laid}
 use Rattle.vx_history.specs.Groups.{GroupNode}
-use Rattle.vx_history.specs.Steps.{crashed}
 use Rattle.vx_history.specs.World.{Node}
 use Rattle.vx_model.specs.Sites.{is_origin}
 use Rattle.vx_model.specs.declared.errors.Stop.{Stop}
 use Rattle.vx_model.specs.declared.errors.Stop.TheVariants.{No as Refused}
 use Rattle.vx_model.specs.declared.no.No.{No}
-use Rattle.vx_model.specs.declared.no.No.TheVariants.{Device, Role as NoRole}
+use Rattle.vx_model.specs.declared.no.No.TheVariants.{Role as NoRole}
 use Rattle.vx_model.specs.declared.units.Units.{Units}
-use Rattle.vx_disk.specs.Counts.{Rose}
 use Rattle.vx_rvg.specs.Views.{Core}
 use Rattle.vx_watched.specs.Since.{CalledSince}
 use Rattle.vx_watched.specs.Traces.{TellsLess}
 use Rattle.vx_diskset.specs.Aboves.{above_in, site_in}
 use Rattle.vx_diskset.specs.Founded.{LaidFell}
-use Rattle.vx_diskset.specs.GroupCalls.{AtOver, AtSite, cut_in}
+use Rattle.vx_diskset.specs.GroupCalls.{AtSite, cut_in}
 use Rattle.vx_diskset.specs.GroupSets.{cut_value}
-use Rattle.vx_diskset.specs.Recovers.{CutFits, KeptIs, still_cut}
 use Rattle.vx_diskset.specs.Works.{DoesStart}
 use Rattle.vx_diskset.specs.declared.above.Above.{Above}
 use Rattle.vx_diskset.specs.declared.above.Above.TheVariants.{Origin, Receiver}
@@ -37,7 +33,6 @@ use Rattle.vx_diskset.specs.declared.disk_set.DiskSet.{DiskSet}
 use Rattle.vx_diskset.specs.declared.disk_set.DiskSet.TheVariants.{OfGroup, Over}
 use Rattle.vx_diskset.specs.declared.group_set.CutWrite.{CutWrite}
 use Rattle.vx_diskset.specs.declared.group_set.GroupSet.{GroupSet}
-use Rattle.vx_diskset.specs.declared.group_set.KeptWrite.{KeptWrite}
 use Rattle.vx_diskset.specs.declared.over_set.OverSet.{OverSet}
 
 -- what stands over a group, by the role of its site; nothing waits behind it
@@ -135,11 +130,3 @@ module _ {R : Type 0} {g : Ghosts R} where
     pub answer : Result (Unit {0}) Stop
     pub by : ImportsBy old cut new answer
     pub is : HandsOut cut answer r
-
-  -- where a group came up with its replicated volume group, what is read of that write
-  abbrev pub RisesOver : Node → GroupNode → Option CutWrite → GroupSite R g → DiskSet R g → Result (Option KeptWrite) Stop → Type 0
-  RisesOver n note cut old new (Ok kept) = AtOver (UpNoted (burned_site n) note) new × (cut_in new ≡ None) × KeptIs note (site_disks old) cut kept
-  RisesOver n note cut old new (Err (Refused (Device disk))) =
-      AtOver (DownNoted (crashed (with_note (still_cut cut note) n) 0) (still_cut cut note)) new × (cut_in new ≡ cut_value cut) × CutFits note cut
-      × AtOver (λ e. Rose ((site_disks old).disk_faults disk) ((site_disks e).disk_faults disk)) new
-  RisesOver n note cut old new (Err other) = ⊥

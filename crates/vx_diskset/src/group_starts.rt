@@ -3,7 +3,9 @@ ghost use Rattle.std.specs.Prelude.{◌≡◌, ◌<◌, ◌≤◌, IfErr, None, 
 ghost use Rattle.vx_copyio.specs.Labelling.{least_blocks};
 ghost use Rattle.vx_grouped.specs.GroupSites.{AwayNoted, DownNoted, GroupSiteStands, UpNoted, site_below, site_disks};
 ghost use Rattle.vx_grouped.specs.Begins.{BeginsGroup, CanBegin};
+ghost use Rattle.vx_disk.specs.Moves.{Nowhere};
 ghost use Rattle.vx_grouped.specs.SiteReturns.{SiteImports};
+ghost use Rattle.vx_grouped.specs.Volumes.{SiteGoes};
 ghost use Rattle.vx_history.specs.Groups.{GroupNode};
 ghost use Rattle.vx_history.specs.World.{Node};
 ghost use Rattle.vx_model.specs.declared.site.SiteState.TheVariants.{Bare as BareState};
@@ -11,10 +13,10 @@ ghost use Rattle.vx_watched.specs.Since.{CalledSince};
 ghost use Rattle.vx_diskset.specs.Asked.{FuseGoesOn, SameFailing};
 ghost use Rattle.vx_diskset.specs.DiskSets.{Later};
 ghost use Rattle.vx_diskset.specs.Aboves.{site_in};
-ghost use Rattle.vx_diskset.specs.OverStarts.{HandsOut, ImportsBy, RaisesBy, RisesOver};
+ghost use Rattle.vx_diskset.specs.OverStarts.{HandsOut, ImportsBy, RaisesBy};
 ghost use Rattle.vx_diskset.specs.GroupCalls.{AtFound, AtPlain, AtSite, ImportsOn, InitIs, cut_in};
 ghost use Rattle.vx_diskset.specs.Holds.{KeptBeside};
-ghost use Rattle.vx_diskset.specs.Recovers.{LooksAt, LooksKept, RaisesGroup, RisesSince, RisesWith, cut_past};
+ghost use Rattle.vx_diskset.specs.Recovers.{LooksAt, LooksKept, RaisesGroup, RisesOver, RisesSince, RisesWith, cut_past};
 ghost use Rattle.vx_diskset.specs.Stands.{SiteStands};
 ghost use Rattle.vx_watched.specs.Traces.{TellsLess};
 
@@ -66,6 +68,7 @@ fn begin_again<R: Rack>(
 // Reads what is kept of a write that is cut, at a group that is up. Nothing is said of one whose volume is not there any more.
 fn kept_at<R: Rack>(site: &mut GroupSite<R>, write: &CutWrite) -> Result<Option<KeptWrite>, No>
     ensures looks { (n : Node) (note : GroupNode) → UpNoted n note site.old → LooksKept n note (Some write.now) site.old site.new result }
+    ensures volumes { SiteGoes Nowhere site.old site.new }
     ensures since { CalledSince (site_disks site.old) (site_disks site.new) }
     ensures told { TellsLess (site_below site.old) (site_below site.new) }
 {
@@ -89,6 +92,7 @@ fn look_kept<R: Rack>(
     cut: &Option<CutWrite>,
 ) -> Result<Option<KeptWrite>, No>
     ensures looks { (n : Node) (note : GroupNode) → UpNoted n note site.old → LooksKept n note cut.now site.old site.new result }
+    ensures volumes { SiteGoes Nowhere site.old site.new }
     ensures since { CalledSince (site_disks site.old) (site_disks site.new) }
     ensures told { TellsLess (site_below site.old) (site_below site.new) }
 {

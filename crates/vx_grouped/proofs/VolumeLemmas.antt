@@ -78,3 +78,11 @@ module _ {R : Type 0} {g : Ghosts R} where
   rest_off (Down idle) never = tt
   rest_off (Marked rack) never = tt
   rest_off Gone never = tt
+
+  -- no call was made
+  pub site_same : (e : GroupSite R g) → SiteGoes Nowhere e e
+  site_same (Up laid) = same_go (laid_seen laid)
+  site_same (Deported idle) = refl
+  site_same (Down idle) = refl
+  site_same (Marked rack) = refl
+  site_same Gone = refl

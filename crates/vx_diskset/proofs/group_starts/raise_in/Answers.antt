@@ -17,7 +17,7 @@ returns-in-Ok-clause-brought g c =
 pub returns-in-Ok-clause-raised : goal.returns-in-Ok-clause-raised
 returns-in-Ok-clause-raised g c = λ n note down.
     let by = returns-in-Ok-clause-brought g c in
-    import_raises c.args.group n note c.with_rvg-disk_set.result.0 by.answer c.hands_out.result by.by by.is down
+    import_raises c.args.group.site c.args.group.cut n note c.with_rvg-disk_set.result.0 by.answer c.hands_out.result by.by by.is down
 
 pub returns-in-Ok-clause-since : goal.returns-in-Ok-clause-since
 returns-in-Ok-clause-since g c =
