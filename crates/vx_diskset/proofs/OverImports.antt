@@ -209,7 +209,7 @@ module _ {R : Type 0} {g : Ghosts R} where
     tried_rises m units old mid (Refused why) since tried = rises_on m (laid_disks old) (laid_disks mid) since tried.since
     tried_rises m units old mid OutOfMemory since tried = subst (λ (x : Laid R g). RisesSince m (laid_disks x)) (sym tried) since
 
-    over_rises : (m : Meaning) (units : Units) (laid : Laid R g) (cut : Option CutWrite) (new : DiskSet R g) (r : Result (Unit {0}) Stop) → RisesSince m (laid_disks laid) → StartsOver units laid cut new r → AtSite (λ e. RisesSince m (site_disks e)) new
+    pub over_rises : (m : Meaning) (units : Units) (laid : Laid R g) (cut : Option CutWrite) (new : DiskSet R g) (r : Result (Unit {0}) Stop) → RisesSince m (laid_disks laid) → StartsOver units laid cut new r → AtSite (λ e. RisesSince m (site_disks e)) new
     over_rises m units laid cut (Bare rack) r since it = absurd it
     over_rises m units laid cut (Spoiled rack) r since it = absurd it
     over_rises m units laid cut (UpSet rvg) r since it = absurd it
@@ -227,6 +227,10 @@ module _ {R : Type 0} {g : Ghosts R} where
     pub import_rises : (old : GroupSite R g) (cut : Option CutWrite) (new : DiskSet R g) (r : Result (Unit {0}) Stop) → ImportsBy old cut new r → AtSite (λ e. RisesSince (site_disks old) (site_disks e)) new
     import_rises old cut new r it =
         at_behind (λ e. RisesSince (site_disks old) (site_disks e)) (λ laid units cut new r since over. over_rises (site_disks old) units laid cut new r since over) it.mid cut new it.answer r (rises_returned (site_disks old) (site_disks it.mid) it.since) it.behind
+
+    -- the same of a group that was found
+    pub with_rises : (m : Meaning) (e : GroupSite R g) (cut : Option CutWrite) (new : DiskSet R g) (r : Result (Unit {0}) Stop) → RisesSince m (site_disks e) → WithRvg e cut new r → AtSite (λ x. RisesSince m (site_disks x)) new
+    with_rises m e cut new r since over = at_behind (λ x. RisesSince m (site_disks x)) (λ laid units cut new r up starts. over_rises m units laid cut new r up starts) e cut new (Ok tt) r since over
 
   -- ---- what is told of them
 
@@ -259,6 +263,9 @@ module _ {R : Type 0} {g : Ghosts R} where
   pub import_tells : (old : GroupSite R g) (cut : Option CutWrite) (new : DiskSet R g) (r : Result (Unit {0}) Stop) → ImportsBy old cut new r → AtSite (λ e. TellsLess (site_below old) (site_below e)) new
   import_tells old cut new r it =
       at_behind (λ e. TellsLess (site_below old) (site_below e)) (λ laid units cut new r less over. over_tells (site_below old) units laid cut new r less over) it.mid cut new it.answer r it.told it.behind
+
+  pub with_tells : (m : Meaning) (e : GroupSite R g) (cut : Option CutWrite) (new : DiskSet R g) (r : Result (Unit {0}) Stop) → TellsLess m (site_below e) → WithRvg e cut new r → AtSite (λ x. TellsLess m (site_below x)) new
+  with_tells m e cut new r less over = at_behind (λ x. TellsLess m (site_below x)) (λ laid units cut new r up starts. over_tells m units laid cut new r up starts) e cut new (Ok tt) r less over
 
   -- ---- they are up, or have no fuse
 
