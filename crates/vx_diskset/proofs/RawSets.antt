@@ -45,11 +45,16 @@ over_sure k beside n over = (over.0, (λ x is. absurd (never is)), over.2, over.
     never e = cc
 
 pub over_doubting : (beside : KeptBeside) (n : Node) (s : State) (disk : ℕ) → IsOverSite beside n → IsOverSite (doubting beside n s disk) (halted_at n disk)
-over_doubting beside n s disk over = (over.0, (λ x is. record {
-  units = sym (ap (λ (y : KeptSite). units_of y.node) (some_same is));
-  disks = sym (ap (λ (y : KeptSite). y.node.disks) (some_same is));
-  blocks = sym (ap (λ (y : KeptSite). y.node.blocks) (some_same is));
-}), over.2, over.3)
+over_doubting beside n s disk over = (
+  over.0,
+  (λ x is. record {
+    units = sym (ap (λ (y : KeptSite). units_of y.node) (some_same is));
+    disks = sym (ap (λ (y : KeptSite). y.node.disks) (some_same is));
+    blocks = sym (ap (λ (y : KeptSite). y.node.blocks) (some_same is));
+  }),
+  over.2,
+  over.3,
+)
 
 -- ---- disk sets
 

@@ -375,8 +375,11 @@ module _ {R : Type 0} {g : Ghosts R} where
         up_receiver None (worked (restated (durable_of n) k)) n.log new.rvg.core new.waiting (g.meaning new.rvg.shelf) (same_role ∙ here.role) refl long waits_new (λ i has. has) (λ x none. absurd (never_some (sym none))) (λ none. refl) h.1,
       )
       by_keep (Err (Device disk)) h = (
-        (raw_doubting beside n k disk raw.0, up_receiver (Some (doubted disk)) (halted_at (durable_of n) disk) n.log new.rvg.core new.waiting (g.meaning new.rvg.shelf) here.role refl long waits_new (has_doubted disk) (may_doubted disk (g.meaning new.rvg.shelf) h.0.1.may)
-            (λ none. absurd (never_some none)) h.0.1),
+        (
+          raw_doubting beside n k disk raw.0,
+          up_receiver (Some (doubted disk)) (halted_at (durable_of n) disk) n.log new.rvg.core new.waiting (g.meaning new.rvg.shelf) here.role refl long waits_new (has_doubted disk) (may_doubted disk (g.meaning new.rvg.shelf) h.0.1.may)
+              (λ none. absurd (never_some none)) h.0.1,
+        ),
         h.1,
         h.2,
       )

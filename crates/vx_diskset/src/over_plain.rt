@@ -108,12 +108,7 @@ impl<R: Rack> OverSet<R> {
     }
 
     /// Reads a volume outside the replicated volume group.
-    pub(crate) fn read_plain(
-        &mut self,
-        volume: u32,
-        block: u64,
-        into: &mut [u8],
-    ) -> Result<(), No>
+    pub(crate) fn read_plain(&mut self, volume: u32, block: u64, into: &mut [u8]) -> Result<(), No>
         ensures read { (n : Node) (note : GroupNode) → UpNoted n note (site_in self.old) → FitsPlain note volume block (length into.old) → PlainRead n note volume block into.new (site_in self.old) (site_in self.new) result }
         ensures cut { self.new.cut ≡ self.old.cut }
         ensures kept { KeepsOver self.old self.new }

@@ -89,11 +89,7 @@ fn start_with<R: Rack>(
     let (laid, started) = work_over(laid, Starts { room, units });
     match started {
         Ok(core) => (
-            DiskSet::Over(OverSet::of(
-                GroupSite::Up(laid),
-                by_role(core, waiting),
-                None,
-            )),
+            DiskSet::Over(OverSet::of(GroupSite::Up(laid), by_role(core, waiting), None)),
             Ok(()),
         ),
         Err(no) => {

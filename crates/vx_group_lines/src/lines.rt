@@ -50,7 +50,10 @@ fn is_plain<R: Rack>(yard: &Yard<R>, name: &Name, volume: &Name) -> bool {
         return false;
     }
     let place = yard.volume_of(site, volume);
-    !matches!(yard.facts[site].volumes.as_slice()[place].kind, VolumeKind::Data)
+    !matches!(
+        yard.facts[site].volumes.as_slice()[place].kind,
+        VolumeKind::Data
+    )
 }
 
 // Whether such a line goes to a group, whatever its site is.

@@ -71,7 +71,11 @@ pub(crate) fn view_at<R: Rack>(
         state: yard.facts[site].state,
         disks,
         volumes,
-        rvg: rvg_view(&yard.facts, yard.disk_sets[site].session(), &yard.facts[site]),
+        rvg: rvg_view(
+            &yard.facts,
+            yard.disk_sets[site].session(),
+            &yard.facts[site],
+        ),
         links: LinkViews::new(alloc),
     }
 }

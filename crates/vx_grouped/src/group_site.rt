@@ -29,7 +29,7 @@ impl<R: Rack> GroupSite<R> {
     ghost use Rattle.vx_grouped.specs.GroupSites.{CutNoted, DownNoted, GroupSiteStands, UpNoted, site_agrees, site_below, site_config, site_disks};
     ghost use Rattle.vx_watched.specs.Traces.{TellsLess};
     ghost use Rattle.vx_grouped.specs.SiteEnds.{CountsAlike, MayCrashSite, StaysAlike};
-ghost use Rattle.vx_grouped.specs.Volumes.{IsNotUp};
+    ghost use Rattle.vx_grouped.specs.Volumes.{IsNotUp};
 
     /// How many disks it has.
     pub fn disks(&self) -> u32

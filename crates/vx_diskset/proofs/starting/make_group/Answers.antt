@@ -28,11 +28,11 @@ create-requires g c = record {
 
 pub returns-in-Ok-clause-made : goal.returns-in-Ok-clause-made
 returns-in-Ok-clause-made g c = λ n bare some. (
-    raw_alone site_alone (raw_set c.args.site n) refl (ap (λ (k : Node). k.group) bare.is),
-    made_stands c.args.site c.units-disks.result n c.in-Ok.rvg.core c.raw_units.result c.first.result (g.R.Shelf.meaning c.args.rack) (g.R.Shelf.meaning c.in-Ok.rvg.shelf)
-    c.raw_units.ensures c.first.ensures c.units-disks.ensures ((g.met.R.Shelf g.world.𝓛 g.world.𝓜 g.world.𝓡 ((λ s x. x), (λ x. x), (λ x. x), λ x. x)).lawful c.in-Ok.rvg.shelf) c.in-Ok.rvg.sound.log_unit
-    bare some c.in-Ok.ensures.core c.in-Ok.ensures.moves c.in-Ok.ensures.stands,
-    )
+  raw_alone site_alone (raw_set c.args.site n) refl (ap (λ (k : Node). k.group) bare.is),
+  made_stands c.args.site c.units-disks.result n c.in-Ok.rvg.core c.raw_units.result c.first.result (g.R.Shelf.meaning c.args.rack) (g.R.Shelf.meaning c.in-Ok.rvg.shelf)
+      c.raw_units.ensures c.first.ensures c.units-disks.ensures ((g.met.R.Shelf g.world.𝓛 g.world.𝓜 g.world.𝓡 ((λ s x. x), (λ x. x), (λ x. x), λ x. x)).lawful c.in-Ok.rvg.shelf) c.in-Ok.rvg.sound.log_unit
+      bare some c.in-Ok.ensures.core c.in-Ok.ensures.moves c.in-Ok.ensures.stands,
+)
 
 pub returns-in-Err-clause-made : goal.returns-in-Err-clause-made
 returns-in-Err-clause-made g c = λ n bare some.

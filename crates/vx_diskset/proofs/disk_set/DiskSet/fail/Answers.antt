@@ -25,7 +25,7 @@ returns-in-Up-clause-stands g c = λ beside n stands.
     let at = up_there beside n c.args.self.now c.in-Up.rvg c.in-Up.is stands in (
       at.0,
       up_still n c.in-Up.rvg.core _ _ c.fail-in-Up.ensures.goes c.fail-in-Up.ensures.alike.contents.now c.fail-in-Up.ensures.down
-    (fuse_still n.fuse _ _ _ (λ o k is. is.0.fuse) c.fail-in-Up.ensures.armed c.fail-in-Up.ensures.disks at.1.fuse) at.1,
+          (fuse_still n.fuse _ _ _ (λ o k is. is.0.fuse) c.fail-in-Up.ensures.armed c.fail-in-Up.ensures.disks at.1.fuse) at.1,
     )
 
 pub returns-in-Down-clause-stands : goal.returns-in-Down-clause-stands
@@ -36,7 +36,7 @@ returns-in-Receives-clause-stands g c = λ beside n stands.
     let at = receiver_there beside n c.args.self.now c.in-Receives.site c.in-Receives.is stands in (
       at.0,
       receiver_still n c.in-Receives.site.rvg.core c.in-Receives.site.waiting _ _ c.fail-in-Receives.ensures.goes c.fail-in-Receives.ensures.alike.contents.now c.fail-in-Receives.ensures.down
-    (fuse_still n.fuse _ _ _ (λ o k is. is.0.fuse) c.fail-in-Receives.ensures.armed c.fail-in-Receives.ensures.disks at.1.fuse) at.1,
+          (fuse_still n.fuse _ _ _ (λ o k is. is.0.fuse) c.fail-in-Receives.ensures.armed c.fail-in-Receives.ensures.disks at.1.fuse) at.1,
     )
 
 pub invariant_of-site : goal.invariant_of-site
