@@ -42,34 +42,34 @@ at_once (x ∷ xs) all (suc v) (suc w) low high is =
 
 -- ---- what is checked of them
 
-module _ (vs : List VolumeEntry) (u : Units) (is : is_group vs u ≡ true) where
-  abbrev names : List ℕ
-  names = u.srl ∷ (u.maps ∷ u.vols)
+abbrev names_of : Units → List ℕ
+names_of u = u.srl ∷ (u.maps ∷ u.vols)
 
-  fit : (nat_le 1 (length u.vols) && nat_le (length u.vols) MOST_DATA_VOLUMES && list_all (λ n. nat_lt n (length vs)) names && pairwise other_than names && nat_le LEAST_BLOCKS (blocks_of vs u.srl) ≡ true) × (nat_le (LINK_PLACES * sum_by (map_blocks_of vs) u.vols) (blocks_of vs u.maps) ≡ true)
+module _ (vs : List VolumeEntry) (u : Units) (is : is_group vs u ≡ true) where
+  fit : ((nat_le 1 (length u.vols) && nat_le (length u.vols) MOST_DATA_VOLUMES && list_all (λ n. nat_lt n (length vs)) (names_of u) && pairwise other_than (names_of u) && nat_le LEAST_BLOCKS (blocks_of vs u.srl)) ≡ true) × (nat_le (LINK_PLACES * sum_by (map_blocks_of vs) u.vols) (blocks_of vs u.maps) ≡ true)
   fit =
-      and_parts (nat_le 1 (length u.vols) && nat_le (length u.vols) MOST_DATA_VOLUMES && list_all (λ n. nat_lt n (length vs)) names && pairwise other_than names && nat_le LEAST_BLOCKS (blocks_of vs u.srl))
+      and_parts (nat_le 1 (length u.vols) && nat_le (length u.vols) MOST_DATA_VOLUMES && list_all (λ n. nat_lt n (length vs)) (names_of u) && pairwise other_than (names_of u) && nat_le LEAST_BLOCKS (blocks_of vs u.srl))
       (nat_le (LINK_PLACES * sum_by (map_blocks_of vs) u.vols) (blocks_of vs u.maps)) is
 
-  log : (nat_le 1 (length u.vols) && nat_le (length u.vols) MOST_DATA_VOLUMES && list_all (λ n. nat_lt n (length vs)) names && pairwise other_than names ≡ true) × (nat_le LEAST_BLOCKS (blocks_of vs u.srl) ≡ true)
-  log = and_parts (nat_le 1 (length u.vols) && nat_le (length u.vols) MOST_DATA_VOLUMES && list_all (λ n. nat_lt n (length vs)) names && pairwise other_than names) (nat_le LEAST_BLOCKS (blocks_of vs u.srl)) fit.0
+  log : ((nat_le 1 (length u.vols) && nat_le (length u.vols) MOST_DATA_VOLUMES && list_all (λ n. nat_lt n (length vs)) (names_of u) && pairwise other_than (names_of u)) ≡ true) × (nat_le LEAST_BLOCKS (blocks_of vs u.srl) ≡ true)
+  log = and_parts (nat_le 1 (length u.vols) && nat_le (length u.vols) MOST_DATA_VOLUMES && list_all (λ n. nat_lt n (length vs)) (names_of u) && pairwise other_than (names_of u)) (nat_le LEAST_BLOCKS (blocks_of vs u.srl)) fit.0
 
-  apart : (nat_le 1 (length u.vols) && nat_le (length u.vols) MOST_DATA_VOLUMES && list_all (λ n. nat_lt n (length vs)) names ≡ true) × (pairwise other_than names ≡ true)
-  apart = and_parts (nat_le 1 (length u.vols) && nat_le (length u.vols) MOST_DATA_VOLUMES && list_all (λ n. nat_lt n (length vs)) names) (pairwise other_than names) log.0
+  apart : ((nat_le 1 (length u.vols) && nat_le (length u.vols) MOST_DATA_VOLUMES && list_all (λ n. nat_lt n (length vs)) (names_of u)) ≡ true) × (pairwise other_than (names_of u) ≡ true)
+  apart = and_parts (nat_le 1 (length u.vols) && nat_le (length u.vols) MOST_DATA_VOLUMES && list_all (λ n. nat_lt n (length vs)) (names_of u)) (pairwise other_than (names_of u)) log.0
 
-  below : list_all (λ n. nat_lt n (length vs)) names ≡ true
-  below = (and_parts (nat_le 1 (length u.vols) && nat_le (length u.vols) MOST_DATA_VOLUMES) (list_all (λ n. nat_lt n (length vs)) names) apart.0).1
+  below : list_all (λ n. nat_lt n (length vs)) (names_of u) ≡ true
+  below = (and_parts (nat_le 1 (length u.vols) && nat_le (length u.vols) MOST_DATA_VOLUMES) (list_all (λ n. nat_lt n (length vs)) (names_of u)) apart.0).1
 
   pub units_large : LEAST_BLOCKS ≤ blocks_of vs u.srl
   units_large = leb-true LEAST_BLOCKS (blocks_of vs u.srl) log.1
 
   module _ (m : Meaning) (many : m.units ≡ length vs) (sizes : m.size ≡ blocks_of vs) where
-    exists : (v : ℕ) → v < length names → get_or names v 0 < m.units
-    exists v low = let lt = ltb-true (get_or names v 0) (length vs) (at_list (λ n. nat_lt n (length vs)) names v below low) in omega (arith, lt, many)
+    exists : (v : ℕ) → v < length (names_of u) → get_or (names_of u) v 0 < m.units
+    exists v low = let lt = ltb-true (get_or (names_of u) v 0) (length vs) (at_list (λ n. nat_lt n (length vs)) (names_of u) v below low) in omega (arith, lt, many)
 
     -- no two of them are one
-    once : (v w : ℕ) → v < length names → w < length names → get_or names v 0 ≡ get_or names w 0 → v ≡ w
-    once v w low high same = at_once names apart.1 v w low high same
+    once : (v w : ℕ) → v < length (names_of u) → w < length (names_of u) → get_or (names_of u) v 0 ≡ get_or (names_of u) w 0 → v ≡ w
+    once v w low high same = at_once (names_of u) apart.1 v w low high same
 
     pub units_placed : UnitsPlaced u m
     units_placed = record {

@@ -5,10 +5,11 @@ use Rattle.vx_diskset.specs.OverStarts.{WithUnits}
 use Rattle.vx_diskset.proofs.UnitsLie.{laid_large, laid_placed}
 use Rattle.vx_diskset.proofs.over_starts.with_units.Goals as goal
 
-pub start_over-requires : goal.start_over-requires
-start_over-requires g c =
-    let at = sym (ap (λ k. k.rvg) c.config.ensures) ∙ sym c.units_in.ensures ∙ c.in-Some.is in
-    record { there = laid_placed c.args.laid c.in-Some.units at; large = laid_large c.args.laid c.in-Some.units at }
+pub start_over-requires-clause-there : goal.start_over-requires-clause-there
+start_over-requires-clause-there g c = λ κs lives. laid_placed c.args.laid c.in-Some.units (sym (ap (λ k. k.rvg) c.config.ensures) ∙ sym c.units_in.ensures ∙ c.in-Some.is)
+
+pub start_over-requires-clause-large : goal.start_over-requires-clause-large
+start_over-requires-clause-large g c = λ κs lives. laid_large c.args.laid c.in-Some.units (sym (ap (λ k. k.rvg) c.config.ensures) ∙ sym c.units_in.ensures ∙ c.in-Some.is)
 
 pub returns-in-Some : goal.returns-in-Some
 returns-in-Some g c = record {
