@@ -95,9 +95,9 @@ module _ (beside : KeptBeside) (n : Node) (m m' : Meaning) (less : LeavesLess m 
   pub away_less : RestsOver (λ c. AwayOver c beside n m) beside n m → RestsOver (λ c. AwayOver c beside n m') beside n m'
   away_less = rests_less (λ c. AwayOver c beside n m) (λ c. AwayOver c beside n m')
       (λ c it. record {
-        left = λ i x opened readable each is open.
+        left = λ i x opened readable each is opens.
             left_still_with (units_of n) n.ring (state_with n beside.links) n.session (most_header beside n) n.log n.base (group_meaning opened (λ v. 0) m) (group_meaning opened (λ v. 0) m') less.tells (λ u. refl)
-            (seen_less m.tells m'.tells opened m.leaves m'.leaves (λ told. sym less.tells ∙ told) less.leaves) (it.left i x opened readable (before i each) (was_found i x is) open);
+            (seen_less m.tells m'.tells opened m.leaves m'.leaves (λ told. sym less.tells ∙ told) less.leaves) (it.left i x opened readable (before i each) (was_found i x is) opens);
       })
 
 origin_of : Core → Above

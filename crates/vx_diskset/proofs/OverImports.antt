@@ -52,18 +52,18 @@ between m a x rack is = some_rack a.disks (rack ∙ ap (λ (o : Option Disks). i
 
 -- and then calls
 pub rises_on : (m a b : Meaning) → RisesSince m a → CalledSince a b → RisesSince m b
-rises_on m a b first then = record {
-  counts = λ d. let one = first.counts d in let two = then.counts d in omega (arith, one, two);
-  rack = then.rack ∙ first.rack;
+rises_on m a b first after = record {
+  counts = λ d. let one = first.counts d in let two = after.counts d in omega (arith, one, two);
+  rack = after.rack ∙ first.rack;
   failing = λ x z was is u.
       let mid = between m a x first.rack was in
-      (then.told mid.0 z mid.1 is).failing u ∙ first.failing x mid.0 was mid.1 u;
+      (after.told mid.0 z mid.1 is).failing u ∙ first.failing x mid.0 was mid.1 u;
   passes = λ x z was is up.
       let mid = between m a x first.rack was in
-      let one = first.passes x mid.0 was mid.1 (was_up a.down b.down then.falls up) in
-      let two = (then.told mid.0 z mid.1 is).fuse up in
+      let one = first.passes x mid.0 was mid.1 (was_up a.down b.down after.falls up) in
+      let two = (after.told mid.0 z mid.1 is).fuse up in
       record {
-        failing = λ u. (then.told mid.0 z mid.1 is).failing u ∙ one.failing u;
+        failing = λ u. (after.told mid.0 z mid.1 is).failing u ∙ one.failing u;
         set = λ on. one.set (sym two.set ∙ on);
         left = λ on. let later = one.left (sym two.set ∙ on) in let more = two.left in omega (arith, later, more);
       };
@@ -71,16 +71,16 @@ rises_on m a b first then = record {
 
 -- and then, of disks without a fuse, a rise by themselves
 pub rises_alone : (m a b : Meaning) → RisesSince m a → ReturnSince a b → IsRack b → IsFalse b.armed → RisesSince m b
-rises_alone m a b first then rack unarmed = record {
-  counts = λ d. let one = first.counts d in let two = then.counts d in omega (arith, one, two);
-  rack = then.rack ∙ first.rack;
+rises_alone m a b first after rack unarmed = record {
+  counts = λ d. let one = first.counts d in let two = after.counts d in omega (arith, one, two);
+  rack = after.rack ∙ first.rack;
   failing = λ x z was is u.
       let mid = between m a x first.rack was in
-      (then.told mid.0 z mid.1 is).failing u ∙ first.failing x mid.0 was mid.1 u;
+      (after.told mid.0 z mid.1 is).failing u ∙ first.failing x mid.0 was mid.1 u;
   passes = λ x z was is up.
       let mid = between m a x first.rack was in
       record {
-        failing = λ u. (then.told mid.0 z mid.1 is).failing u ∙ first.failing x mid.0 was mid.1 u;
+        failing = λ u. (after.told mid.0 z mid.1 is).failing u ∙ first.failing x mid.0 was mid.1 u;
         set = λ on. absurd (never_set b rack unarmed z is on);
         left = λ on. absurd (never_set b rack unarmed z is on);
       };
