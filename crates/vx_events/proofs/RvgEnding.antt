@@ -125,9 +125,9 @@ done_by d from like s line taken next events ending new tells left = but_by fals
 
 module _ (told : Type 0) (d : Doubted) (line : ScriptLine) (s : ℕ) (fails : Fails) (said : Said) (new : Doubted) where
   pub back_stops : RvgBack told d line s fails said new → RvgStops d new
-  back_stops (RvgUp kept taken middle next from rest are brings back rests says left) =
-      done_by d from (rests_like d line s kept middle next from rest rests) s line taken next (rest ++ RecoverAt s None ∷ []) [] new
-      (told_behind rest (RecoverAt s None ∷ []) (rests_tell d line s kept middle next from rest rests)) left
+  back_stops (RvgUp kept taken middle found next from rest are brings back rests works says left) =
+      done_by d from (rests_like d line s kept middle found from rest rests) s line taken next (rest ++ RecoverAt s None ∷ []) [] new
+      (told_behind rest (RecoverAt s None ∷ []) (rests_tell d line s kept middle found from rest rests)) left
   back_stops (LogFails kept taken disk middle found next from rest left are has brings back rests is (inl none) says leads) =
       but_by true d from (rests_like d line s kept middle found from rest rests) s line taken next (rest ++ left) [] new
       (told_behind rest left (rests_tell d line s kept middle found from rest rests) ∙ ap all_fails none) leads

@@ -1,6 +1,6 @@
 -- A group of disks that comes up, and is found to have a replicated volume group, has the one of its configuration.
 use Rattle.std.proofs.Common.{◌≡◌, ◌∙◌, ◌<◌, ℕ, zero, suc, List, [], ◌∷◌, ◌++◌, map, take, Bool, true, false, Some, None, refl, ap, sym, subst}
-use Rattle.std.specs.Prelude.{Option, unwrap_or}
+use Rattle.std.specs.Prelude.{Option}
 use Rattle.vx_model.specs.Content.{Write}
 use Rattle.vx_model.specs.Sites.{is_origin}
 use Rattle.vx_model.specs.Sizes.{ring_of}
@@ -25,21 +25,22 @@ use Rattle.vx_script.specs.declared.line.ScriptLine.{ScriptLine}
 use Rattle.vx_script.specs.declared.line.ScriptLine.TheVariants.{GroupImport, Recover}
 use Rattle.vx_world.proofs.Rooms.{calm_room, room_then}
 use Rattle.vx_world.specs.Lines.{SameRoom}
-use Rattle.vx_events.proofs.RvgAgain.{fits_gained}
+use Rattle.vx_events.proofs.RvgAgain.{fits_again, fits_gained}
 use Rattle.vx_events.proofs.RvgEnding.{back_like}
-use Rattle.vx_events.proofs.RvgStays.{back_group}
+use Rattle.vx_events.proofs.RvgStays.{back_group, by_note, loses}
 use Rattle.vx_events.proofs.Steps.{again_step, crash_step, data_step}
 use Rattle.vx_events.specs.Doubts.{run_as}
 use Rattle.vx_events.specs.Fails.{Fails}
 use Rattle.vx_events.specs.GroupEnds.{BringsUp}
 use Rattle.vx_events.specs.GroupLines.{group_events, group_recovery}
-use Rattle.vx_events.specs.GroupNotes.{NotesBack, no_note, note_at}
+use Rattle.vx_events.specs.GroupNotes.{NotesBack, note_at}
 use Rattle.vx_events.specs.Known.{SaysNo}
 use Rattle.vx_events.specs.RvgBack.{GetsRvg, GroupCutOff, GroupHeld, GroupUnfound, HadRvg, IsLeftBack, KeptLost, LogCut, LogFails, LogLacks, RestsWithRvg, RvgBack, RvgUp, rest_again}
 use Rattle.vx_events.specs.RvgFits.{FitsNoted, data_of, entries_noted}
 use Rattle.vx_events.specs.RvgMakes.{noting_in}
 use Rattle.vx_events.specs.RvgNotes.{srl_blocks, volume_events}
 use Rattle.vx_events.specs.RvgViews.{is_over_rvg}
+use Rattle.vx_events.specs.RvgWorks.{NotesWork}
 use Rattle.vx_events.specs.declared.said.Said.{Said}
 use Rattle.vx_events.specs.declared.said.Said.TheVariants.{Refused}
 use Rattle.vx_settling.specs.Gains.{IsBlankGroup, MayGain}
@@ -201,11 +202,11 @@ module _ (told : Type 0) (d : Doubted) (line : ScriptLine) (s : ℕ) (fails : Fa
   had_none over = (has_data (d.world.nodes s) may.made over).1 may.blank.volumes
 
   -- the same with the events that the line has
-  gains_by : (kept : ℕ) (taken : Bool) (middle next : GroupNode) (from : Doubted) (rest : List Event) → BringsUp line
-      → NotesBack told s (d.world.nodes s) fails (note_at (d.world.nodes s)) middle → RestsWithRvg d line s kept middle next from rest
+  gains_by : (kept : ℕ) (taken : Bool) (middle found next : GroupNode) (from : Doubted) (rest : List Event) → BringsUp line
+      → NotesBack told s (d.world.nodes s) fails (note_at (d.world.nodes s)) middle → RestsWithRvg d line s kept middle found from rest → NotesWork ⊥ s fails found next
       → IsLeftBack s line taken next from (run_as taken from (rest ++ RecoverAt s None ∷ [])) new → FitsNoted (new.world.nodes s)
-  gains_by kept taken middle next from rest brings back (HadRvg has same noted is fall) left = absurd (had_none has)
-  gains_by kept taken middle next from rest brings back (GetsRvg units over has there one noted is all) left =
+  gains_by kept taken middle found next from rest brings back (HadRvg has same noted is fall) works left = absurd (had_none has)
+  gains_by kept taken middle found next from rest brings back (GetsRvg units over has there one noted is all) works left =
       let last : Doubted = run_as taken from (rest ++ RecoverAt s None ∷ []) in
       let like : IsLikeDoubted last new = back_like s line taken next from last new left in
       let start : Doubted = noting_in d s middle in
@@ -218,16 +219,19 @@ module _ (told : Type 0) (d : Doubted) (line : ScriptLine) (s : ℕ) (fails : Fa
       let led : last.world.nodes s ≡ end =
       ap (λ (e : Doubted). (run_as taken e (rest ++ RecoverAt s None ∷ [])).world.nodes s) is
       ∙ ap (λ (es : List Event). (run_as taken start (es ++ RecoverAt s None ∷ [])).world.nodes s) all in
-      fits_gained told s (d.world.nodes s) fails (note_at (d.world.nodes s)) middle next units (new.world.nodes s) back has there noted
-      (ap (λ (o : Option GroupNode). unwrap_or o no_note) (back_group s line taken next from last new left))
+      let m : Node = new.world.nodes s in
+      let k : Node = record (new.world.nodes s) { group = Some found } in
+      let fits : FitsNoted k =
+      fits_gained told s (d.world.nodes s) fails (note_at (d.world.nodes s)) middle found units k back has there noted refl
       (ap (λ (n : Node). n.ring) (like.worlds.nodes s) ∙ ap (λ (n : Node). n.ring) led ∙ got.ring)
-      (ap (λ (n : Node). n.volumes) (like.worlds.nodes s) ∙ ap (λ (n : Node). n.volumes) led ∙ got.volumes)
+      (ap (λ (n : Node). n.volumes) (like.worlds.nodes s) ∙ ap (λ (n : Node). n.volumes) led ∙ got.volumes) in
+      fits_again k m refl refl (by_note m found next (back_group s line taken next from last new left) (loses s fails found next works)) fits
 
   loud : (why : No) → said ≡ Refused why → (SaysNo said → ⊥) → ⊥
   loud why is quiet = quiet (subst SaysNo (sym is) tt)
 
   pub gained_fits : (SaysNo said → ⊥) → RvgBack told d line s fails said new → FitsNoted (new.world.nodes s)
-  gained_fits quiet (RvgUp kept taken middle next from rest are brings back rests says left) = gains_by kept taken middle next from rest brings back rests left
+  gained_fits quiet (RvgUp kept taken middle found next from rest are brings back rests works says left) = gains_by kept taken middle found next from rest brings back rests works left
   gained_fits quiet (LogFails kept taken disk middle found next from rest events are has brings back rests is begun says left) = absurd (loud _ says quiet)
   gained_fits quiet (LogLacks kept taken middle found next from rest are brings back rests is lacks says left) = absurd (loud _ says quiet)
   gained_fits quiet (KeptLost kept taken disk middle found next from rest site is are has back rests noted says left) = absurd (loud _ says quiet)
