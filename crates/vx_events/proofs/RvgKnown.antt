@@ -40,6 +40,13 @@ back_note s line taken next before last new left known =
     let u : World = with_disks taken s before.world last.world in
     of_note new.world s next (ap (λ (w : World). (w.nodes s).group) left.world ∙ group_stays s line (noting u s next) ∙ noted_here u s next) known
 
+pub back_dark : (s : ℕ) (line : ScriptLine) (taken : Bool) (next : GroupNode) (before last new : Doubted) → IsLeftBack s line taken next before last new
+    → (note_at (new.world.nodes s)).dark ≡ next.dark
+back_dark s line taken next before last new left =
+    let u : World = with_disks taken s before.world last.world in
+    ap (λ (o : Option GroupNode). (unwrap_or o no_note).dark)
+    (ap (λ (w : World). (w.nodes s).group) left.world ∙ group_stays s line (noting u s next) ∙ noted_here u s next)
+
 -- whatever becomes of the fuse
 pub lost_group : (lost : Bool) (v : World) (s : ℕ) → ((fuse_left lost v s).nodes s).group ≡ (v.nodes s).group
 lost_group true v s = ap (λ (n : Node). n.group) (at_place v.nodes s (record (v.nodes s) { fuse = NoFuse }))

@@ -21,6 +21,7 @@ ghost use Rattle.vx_events.specs.Known.{MayDarken};
 ghost use Rattle.vx_config.specs.declared.config.Config.{Config};
 ghost use Rattle.vx_events.specs.GroupViews.{config_of};
 ghost use Rattle.vx_events.specs.RvgFits.{FitsNoted, FitsSome, MayGetRvg, NoteKeepsRvg};
+ghost use Rattle.vx_events.specs.RvgWorks.{AgreesOr};
 ghost use Rattle.vx_events.specs.declared.said.Said.TheVariants.{Done as SaysDone};
 ghost use Rattle.vx_events.specs.RvgLinks.{AllKnown, LinksOver};
 ghost use Rattle.vx_events.specs.RvgMakes.{MakesRvg, RvgStops};
@@ -119,10 +120,10 @@ pub fn made_rvgs_fit()
 {}
 
 /// So does each line at a site over a group of disks with a replicated volume group, and each of links of such a site, where it is known what the disks hold; of one
-/// that brings the site up, where imports agree.
+/// that brings the site up, where imports agree, or it is known behind it too.
 pub fn lines_over_rvgs_are_events()
     ensures over { (d : Doubted) (line : ScriptLine) (s : ℕ) (fails : Fails) (said : Said) (new : Doubted) → OpensFor d.world line
-        → (note_at (d.world.nodes s)).dark ≡ false → (BringsUp line → (note_at (d.world.nodes s)).loose ≡ false) → OverRvg (Unit {0}) d line s fails said new
+        → (note_at (d.world.nodes s)).dark ≡ false → (BringsUp line → AgreesOr (note_at (d.world.nodes s)) (note_at (new.world.nodes s))) → OverRvg (Unit {0}) d line s fails said new
         → RvgStops d new }
     ensures links { (d : Doubted) (line : ScriptLine) (fails : Fails) (said : Said) (new : Doubted) → AllKnown (Unit {0}) d.world line
         → LinksOver (Unit {0}) d line fails said new → RvgStops d new }
@@ -154,9 +155,10 @@ pub fn steps_over_groups()
 {}
 
 /// However a line ends that is refused or not, in worlds in which sites are over groups of disks with replicated volume groups or without: it ends as events of the
-/// world do, where it is known what the disks of groups hold, and imports agree of a group that the line brings up.
+/// world do, where it is known what the disks of groups hold, and imports agree of a group that the line brings up, or it is known behind the line too what its disks
+/// hold.
 pub fn full_lines_are_events()
-    ensures { (files : Bool) (d : Doubted) (line : ScriptLine) (fails : Fails) (said : Said) (new : Doubted) → AgreeFor d.world line
+    ensures { (files : Bool) (d : Doubted) (line : ScriptLine) (fails : Fails) (said : Said) (new : Doubted) → AgreeFor d.world line new.world
         → StepFull (Unit {0}) files d line fails said new → RvgStops d new }
 {}
 
