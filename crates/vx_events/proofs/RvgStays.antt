@@ -102,7 +102,7 @@ by_known m note next is keeps =
 -- ---- lines on the group alone
 
 -- none of them brings the group up
-not_below : (note : GroupNode) (line : ScriptLine) → BringsUp line → is_below note line ≡ true → ⊥
+pub not_below : (note : GroupNode) (line : ScriptLine) → BringsUp line → is_below note line ≡ true → ⊥
 not_below note (GroupImport site) brings below = never below
 not_below note (Recover site) brings below = never below
 not_below note other brings below = absurd brings
@@ -325,7 +325,7 @@ there_keeps : (works : Bool) (Off : Type 0) (i : ℕ) (fails : Fails) (note next
 there_keeps true Off i fails note next x = loses i fails note next x
 there_keeps false Off i fails note next same = same_note note next same
 
-each_group : (w : World) (next : ℕ → GroupNode) (v : World) (i : ℕ) → is_over_rvg (w.nodes i) ≡ true → ((noting_each w next v).nodes i).group ≡ Some (next i)
+pub each_group : (w : World) (next : ℕ → GroupNode) (v : World) (i : ℕ) → is_over_rvg (w.nodes i) ≡ true → ((noting_each w next v).nodes i).group ≡ Some (next i)
 each_group w next v i over =
     ap (λ (b : Bool). let n : Node = (if b then record (v.nodes i) { group = Some (next i) } else v.nodes i) in n.group) over
 

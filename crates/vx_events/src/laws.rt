@@ -21,7 +21,7 @@ ghost use Rattle.vx_events.specs.Known.{MayDarken};
 ghost use Rattle.vx_config.specs.declared.config.Config.{Config};
 ghost use Rattle.vx_events.specs.GroupViews.{config_of};
 ghost use Rattle.vx_events.specs.RvgFits.{FitsNoted, FitsSome, MayGetRvg, NoteKeepsRvg};
-ghost use Rattle.vx_events.specs.RvgWorks.{AgreesOr};
+ghost use Rattle.vx_events.specs.RvgWorks.{AgreesOr, FuseRanOut, NoneFailed, NoteAgrees};
 ghost use Rattle.vx_events.specs.declared.said.Said.TheVariants.{Done as SaysDone};
 ghost use Rattle.vx_events.specs.RvgLinks.{AllKnown, LinksOver};
 ghost use Rattle.vx_events.specs.RvgMakes.{MakesRvg, RvgStops};
@@ -132,6 +132,17 @@ pub fn lines_over_rvgs_are_events()
 /// So does what want of memory leaves of a recovery or an import of such a site, or of a line that makes a replicated volume group.
 pub fn rvg_shorts_are_events()
     ensures { (tells : Bool) (d : Doubted) (line : ScriptLine) (s : ℕ) (new : Doubted) → RvgShort (IsTrue tells) d line s new → RvgStops d new }
+{}
+
+/// Where no call of a line failed at such a site, and its fuse did not run out, imports of its group agree behind the line as before, and nothing is begun. So do they
+/// behind a line of links.
+pub fn quiet_rvgs_stay_agreed()
+    ensures over { (d : Doubted) (line : ScriptLine) (s : ℕ) (fails : Fails) (said : Said) (new : Doubted) → NoneFailed s fails
+        → (FuseRanOut (d.world.nodes s) said → ⊥) → (note_at (d.world.nodes s)).dark ≡ false → NoteAgrees (note_at (d.world.nodes s))
+        → OverRvg (Unit {0}) d line s fails said new → NoteAgrees (note_at (new.world.nodes s)) }
+    ensures links { (tells : Bool) (d : Doubted) (line : ScriptLine) (fails : Fails) (said : Said) (new : Doubted) → LinksOver (IsTrue tells) d line fails said new
+        → (i : ℕ) → is_over_rvg (d.world.nodes i) ≡ true → NoneFailed i fails → (FuseRanOut (d.world.nodes i) said → ⊥) → NoteAgrees (note_at (d.world.nodes i))
+        → NoteAgrees (note_at (new.world.nodes i)) }
 {}
 
 /// However a line at such a site ends, the configuration that the site notes has the replicated volume group that it had, and the volumes that it had with their names
