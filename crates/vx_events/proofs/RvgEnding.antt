@@ -98,7 +98,7 @@ lost_like : (lost : Bool) (v : World) (s : ℕ) → IsLike v (fuse_left lost v s
 lost_like true v s = like_noted v s NoFuse
 lost_like false v s = like_self v
 
-but_like : (lost : Bool) (s : ℕ) (line : ScriptLine) (taken : Bool) (next : GroupNode) (before last new : Doubted) → IsLeftBut lost s line taken next before last new
+pub but_like : (lost : Bool) (s : ℕ) (line : ScriptLine) (taken : Bool) (next : GroupNode) (before last new : Doubted) → IsLeftBut lost s line taken next before last new
     → IsLikeDoubted last new
 but_like lost s line taken next before last new is =
     let u : World = with_disks taken s before.world last.world in

@@ -7,7 +7,6 @@ ghost use Rattle.vx_world.specs.Lines.{DoubtsAlike, GoodDoubted, RoomStays};
 ghost use Rattle.vx_events.specs.Fails.{Fails};
 ghost use Rattle.vx_events.specs.GroupEnds.{BringsUp};
 ghost use Rattle.vx_events.specs.GroupNotes.{note_at};
-ghost use Rattle.vx_events.specs.Known.{SaysNo};
 ghost use Rattle.vx_events.specs.RvgBack.{RvgBack};
 ghost use Rattle.vx_events.specs.RvgFits.{FitsNoted};
 ghost use Rattle.vx_events.specs.RvgLinks.{AllKnown, LinksOver};
@@ -36,7 +35,7 @@ pub fn full_lines_stay_known()
 
 /// Where it is known what the disks hold, and imports agree of a group that the line brings up, or it is known behind it too, each site that has data volumes has these behind a line as before it,
 /// with its log. And a site that has the replicated volume group which it notes has the one that it notes then, as long as it is known what its disks hold: behind a line
-/// at the site, and behind one of links. So has a site without one of which a recovery or an import finds that it has one.
+/// at the site, and behind one of links. So has a site without one of which a recovery or an import finds that it has one, also where its log did not come up.
 pub fn rvgs_stay_fit()
     ensures rooms { (files : Bool) (d : Doubted) (line : ScriptLine) (fails : Fails) (said : Said) (new : Doubted) → GoodDoubted d → DoubtsAlike d → AgreeFor d.world line new.world
         → StepFull (Unit {0}) files d line fails said new → RoomStays d new }
@@ -48,5 +47,5 @@ pub fn rvgs_stay_fit()
         → LinksOver (Unit {0}) d line fails said new → (i : ℕ) → IsMade (d.world.nodes i) → is_over_rvg (d.world.nodes i) ≡ true → FitsNoted (d.world.nodes i)
         → FitsNoted (new.world.nodes i) }
     ensures gained { (d : Doubted) (line : ScriptLine) (s : ℕ) (fails : Fails) (said : Said) (new : Doubted) → MayGain d.world.sites line s (d.world.nodes s)
-        → d.after s ≡ None → (SaysNo said → ⊥) → RvgBack (Unit {0}) d line s fails said new → FitsNoted (new.world.nodes s) }
+        → d.after s ≡ None → RvgBack (Unit {0}) d line s fails said new → FitsNoted (new.world.nodes s) }
 {}

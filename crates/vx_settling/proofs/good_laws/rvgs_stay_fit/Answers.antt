@@ -10,5 +10,5 @@ returns c = record {
   over = λ d line s fails said new good alike made over opens bright ends fits known.
       over_fits (Unit {0}) tt d good alike line fails said new s made over opens bright ends fits known;
   links = λ d line fails said new good alike known ends i made over fits. links_fit (Unit {0}) tt d good alike line fails said new known ends i made over fits;
-  gained = λ d line s fails said new may free quiet back. gained_fits (Unit {0}) d line s fails said new may free quiet back;
+  gained = λ d line s fails said new may free back. gained_fits (Unit {0}) d line s fails said new may free back;
 }
