@@ -16,6 +16,7 @@ pub mod RvgAgain
 pub mod RvgRows
 pub mod RvgTests
 pub mod RvgShorts
+pub mod RvgQuiet
 pub mod Keeping
 pub mod KnownLaws
 pub mod LinkAgreeing

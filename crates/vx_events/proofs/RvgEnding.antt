@@ -17,6 +17,7 @@ use Rattle.vx_script.specs.declared.line.ScriptLine.TheVariants.{Site, Raw, Disk
 use Rattle.vx_events.proofs.GroupStopping.{events_tell, group_stops, noted_like}
 use Rattle.vx_events.proofs.LinkStopping.{link_stops}
 use Rattle.vx_events.proofs.Noting.{as_like, disks_like, like_disks, like_noted, like_self, like_then, same_like}
+use Rattle.vx_events.proofs.RvgKnown.{back_dark}
 use Rattle.vx_events.proofs.RvgStopping.{ended as ended_rvg, noted_doubted, same_doubted}
 use Rattle.vx_events.proofs.Stopping.{BeginsWrite, ended, runs_as}
 use Rattle.vx_events.specs.Doubts.{IsAs, run_as, with_disks}
@@ -34,6 +35,7 @@ use Rattle.vx_events.specs.RvgNotes.{volume_events}
 use Rattle.vx_events.specs.RvgOver.{CutBelow, EndsOrShows, EndsOver, OpensFor, OverRvg, OverRvgBy, ShowFails, ShowsAny, TakesOr, is_below, is_inside}
 use Rattle.vx_events.specs.RvgParts.{RvgShort, ShortGroup, ShortLog, ShortMade}
 use Rattle.vx_events.specs.RvgViews.{is_over_rvg}
+use Rattle.vx_events.specs.RvgWorks.{AgreesOr}
 use Rattle.vx_events.specs.declared.said.Said.{Said}
 
 -- ---- ends in worlds that differ in notes alone
@@ -96,7 +98,7 @@ lost_like : (lost : Bool) (v : World) (s : ℕ) → IsLike v (fuse_left lost v s
 lost_like true v s = like_noted v s NoFuse
 lost_like false v s = like_self v
 
-but_like : (lost : Bool) (s : ℕ) (line : ScriptLine) (taken : Bool) (next : GroupNode) (before last new : Doubted) → IsLeftBut lost s line taken next before last new
+pub but_like : (lost : Bool) (s : ℕ) (line : ScriptLine) (taken : Bool) (next : GroupNode) (before last new : Doubted) → IsLeftBut lost s line taken next before last new
     → IsLikeDoubted last new
 but_like lost s line taken next before last new is =
     let u : World = with_disks taken s before.world last.world in
@@ -125,9 +127,9 @@ done_by d from like s line taken next events ending new tells left = but_by fals
 
 module _ (told : Type 0) (d : Doubted) (line : ScriptLine) (s : ℕ) (fails : Fails) (said : Said) (new : Doubted) where
   pub back_stops : RvgBack told d line s fails said new → RvgStops d new
-  back_stops (RvgUp kept taken middle next from rest are brings back rests says left) =
-      done_by d from (rests_like d line s kept middle next from rest rests) s line taken next (rest ++ RecoverAt s None ∷ []) [] new
-      (told_behind rest (RecoverAt s None ∷ []) (rests_tell d line s kept middle next from rest rests)) left
+  back_stops (RvgUp kept taken middle found next from rest are brings back rests works says left) =
+      done_by d from (rests_like d line s kept middle found from rest rests) s line taken next (rest ++ RecoverAt s None ∷ []) [] new
+      (told_behind rest (RecoverAt s None ∷ []) (rests_tell d line s kept middle found from rest rests)) left
   back_stops (LogFails kept taken disk middle found next from rest left are has brings back rests is (inl none) says leads) =
       but_by true d from (rests_like d line s kept middle found from rest rests) s line taken next (rest ++ left) [] new
       (told_behind rest left (rests_tell d line s kept middle found from rest rests) ∙ ap all_fails none) leads
@@ -227,6 +229,16 @@ module _ (told : Type 0) (is_told : told) (d : Doubted) (s : ℕ) (bright : (not
   never_found line agree (FindsNoRvg kept taken lost next why are brings (inr (inl loose)) free notes says left) = absurd (let e : true ≡ false = sym loose ∙ agree in cc)
   never_found line agree (FindsNoRvg kept taken lost next why are brings (inr (inr unknown)) free notes says left) = absurd (let e : true ≡ false = sym unknown ∙ bright in cc)
 
+  -- Where it is known behind the line what they hold, nothing else was found either: at most none was found, and a site that is up crashed.
+  pub finds_stops : (line : ScriptLine) → AgreesOr (note_at (d.world.nodes s)) (note_at (new.world.nodes s)) → RvgFinds told d line s fails said new → RvgStops d new
+  finds_stops line (inl agree) finds = absurd (never_found line agree finds)
+  finds_stops line (inr known) (FindsRvg kept taken next mid n k row c units are brings unknown dark is same comes config fits says left) =
+      absurd (let e : true ≡ false = sym (dark is_told) ∙ sym (back_dark s line taken next d _ new left) ∙ known in cc)
+  finds_stops line (inr known) (FindsPlain kept taken next mid has are brings unknown dark is none says left) =
+      absurd (let e : true ≡ false = sym (dark is_told) ∙ sym (back_dark s line taken next d _ new left) ∙ known in cc)
+  finds_stops line (inr known) (FindsNoRvg kept taken lost next why are brings unknown free notes says left) =
+      but_by lost d d (same_doubted d) s line taken next (fall_first (d.world.nodes s).state s kept) [] new (falls_tell (d.world.nodes s).state s kept) left
+
   unchanged : IsAs d d.world new → RvgStops d new
   unchanged left = record {
     before = d;
@@ -241,16 +253,17 @@ module _ (told : Type 0) (is_told : told) (d : Doubted) (s : ℕ) (bright : (not
   shows_or true line opens (ShowFails disk are has says left) = unchanged left
   shows_or false line opens ends = over_stops told d line s fails said new (is_told, bright) (opens_at d.world line opens) ends
 
-  back_or : (line : ScriptLine) → (note_at (d.world.nodes s)).loose ≡ false → RvgBack told d line s fails said new ⊎ RvgFinds told d line s fails said new → RvgStops d new
+  back_or : (line : ScriptLine) → AgreesOr (note_at (d.world.nodes s)) (note_at (new.world.nodes s)) → RvgBack told d line s fails said new ⊎ RvgFinds told d line s fails said new → RvgStops d new
   back_or line agree (inl back) = back_stops told d line s fails said new back
-  back_or line agree (inr finds) = absurd (never_found line agree finds)
+  back_or line agree (inr finds) = finds_stops line agree finds
 
-  takes_or : (line : ScriptLine) → (BringsUp line → (note_at (d.world.nodes s)).loose ≡ false) → OpensFor d.world line → TakesOr told d line s fails said new → RvgStops d new
+  takes_or : (line : ScriptLine) → (BringsUp line → AgreesOr (note_at (d.world.nodes s)) (note_at (new.world.nodes s))) → OpensFor d.world line
+      → TakesOr told d line s fails said new → RvgStops d new
   takes_or (GroupImport site) agree opens ends = back_or (GroupImport site) (agree tt) ends
   takes_or (Recover site) agree opens ends = back_or (Recover site) (agree tt) ends
   takes_or other agree opens ends = shows_or (is_inside (note_at (d.world.nodes s)) other) other opens ends
 
-  by_place : (below : Bool) (line : ScriptLine) → (BringsUp line → (note_at (d.world.nodes s)).loose ≡ false) → OpensFor d.world line
+  by_place : (below : Bool) (line : ScriptLine) → (BringsUp line → AgreesOr (note_at (d.world.nodes s)) (note_at (new.world.nodes s))) → OpensFor d.world line
       → OverRvgBy below told d line s fails said new → RvgStops d new
   by_place true line agree opens (inl ends) =
       let stops = group_stops told d line s fails said new ends in
@@ -258,8 +271,8 @@ module _ (told : Type 0) (is_told : told) (d : Doubted) (s : ℕ) (bright : (not
   by_place true line agree opens (inr cut) = below_stops told d line s fails said new cut
   by_place false line agree opens ends = takes_or line agree opens ends
 
-  pub over_rvg_stops : (line : ScriptLine) → (BringsUp line → (note_at (d.world.nodes s)).loose ≡ false) → OpensFor d.world line → OverRvg told d line s fails said new
-      → RvgStops d new
+  pub over_rvg_stops : (line : ScriptLine) → (BringsUp line → AgreesOr (note_at (d.world.nodes s)) (note_at (new.world.nodes s))) → OpensFor d.world line
+      → OverRvg told d line s fails said new → RvgStops d new
   over_rvg_stops line agree opens ends = by_place (is_below (note_at (d.world.nodes s)) line) line agree opens ends
 
 -- ---- lines of links

@@ -3,8 +3,9 @@ use Rattle.std.proofs.Common.{◌≡◌, ◌∙◌, ◌⊎◌, inl, inr, ℕ, Bo
 use Rattle.std.specs.Prelude.{unwrap_or}
 use Rattle.vx_history.proofs.Updates.{at_place}
 use Rattle.vx_history.specs.Doubts.{Doubted}
-use Rattle.vx_history.specs.Groups.{GroupNode, NoteSettles, NoteUnsettles, NoteWorks}
+use Rattle.vx_history.specs.Groups.{GroupNode, NoteSettles}
 use Rattle.vx_history.specs.Steps.{burned}
+use Rattle.vx_history.specs.Stops.{IsFused}
 use Rattle.vx_history.specs.World.{NoFuse, Node, World}
 use Rattle.vx_history.specs.declared.event.Event.{Event}
 use Rattle.vx_config.specs.declared.config.Config.{Config}
@@ -22,6 +23,7 @@ use Rattle.vx_events.specs.RvgBack.{FindsNoRvg, FindsPlain, FindsRvg, GetsRvg, G
 use Rattle.vx_events.specs.RvgMakes.{IsLeftRvg, MakesRvg, RvgCut, RvgDone, RvgFails, RvgLacks, units_at}
 use Rattle.vx_events.specs.RvgNotes.{NotesNarrowed}
 use Rattle.vx_events.specs.RvgOver.{EndsOrShows, NotesLine, OverRvg, OverRvgBy, ShowFails, ShowsAny, TakesOr, is_below, is_inside}
+use Rattle.vx_events.specs.RvgWorks.{NotesWork, FuseRanOut}
 use Rattle.vx_events.specs.declared.said.Said.{Said}
 
 -- ---- the note that a line leaves
@@ -37,6 +39,13 @@ back_note : (s : ℕ) (line : ScriptLine) (taken : Bool) (next : GroupNode) (bef
 back_note s line taken next before last new left known =
     let u : World = with_disks taken s before.world last.world in
     of_note new.world s next (ap (λ (w : World). (w.nodes s).group) left.world ∙ group_stays s line (noting u s next) ∙ noted_here u s next) known
+
+pub back_dark : (s : ℕ) (line : ScriptLine) (taken : Bool) (next : GroupNode) (before last new : Doubted) → IsLeftBack s line taken next before last new
+    → (note_at (new.world.nodes s)).dark ≡ next.dark
+back_dark s line taken next before last new left =
+    let u : World = with_disks taken s before.world last.world in
+    ap (λ (o : Option GroupNode). (unwrap_or o no_note).dark)
+    (ap (λ (w : World). (w.nodes s).group) left.world ∙ group_stays s line (noting u s next) ∙ noted_here u s next)
 
 -- whatever becomes of the fuse
 pub lost_group : (lost : Bool) (v : World) (s : ℕ) → ((fuse_left lost v s).nodes s).group ≡ (v.nodes s).group
@@ -57,11 +66,8 @@ narrowed_dark told units note new x = ap (λ (g : GroupNode). g.dark) x.same
 settles_dark : {C : Config → Config → Type 0} (note new : GroupNode) → Reconfigures C NoteSettles note new → new.dark ≡ note.dark
 settles_dark note new x = x.keeps.same.dark
 
-pub unsettles_dark : {C : Config → Config → Type 0} (note new : GroupNode) → Reconfigures C NoteUnsettles note new → new.dark ≡ note.dark
-unsettles_dark note new x = x.keeps.same.dark
-
-works_dark : {C : Config → Config → Type 0} (note new : GroupNode) → Reconfigures C NoteWorks note new → new.dark ≡ note.dark
-works_dark note new x = x.keeps.same.dark
+pub works_dark : (Off : Type 0) (s : ℕ) (fails : Fails) (note new : GroupNode) → NotesWork Off s fails note new → new.dark ≡ note.dark
+works_dark Off s fails note new x = x.keeps.works.same.dark
 
 pub making_known : (told : Type 0) (d : Doubted) (line : ScriptLine) (s : ℕ) (fails : Fails) (said : Said) (new : Doubted) → MakesRvg told d line s fails said new
     → (note_at (d.world.nodes s)).dark ≡ false → (note_at (new.world.nodes s)).dark ≡ false
@@ -70,13 +76,13 @@ making_known told d line s fails said new (RvgDone site srl maps volumes middle 
     (ap (λ (g : GroupNode). g.dark) x.is ∙ settles_dark middle x.settled x.moves ∙ narrowed_dark told (units_at d s srl maps volumes) (note_at (d.world.nodes s)) middle x.narrowed ∙ known)
 making_known told d line s fails said new (RvgLacks site srl maps volumes next is are x says left) known =
     made_note s next _ new left
-    (settles_dark x.middle next x.moves ∙ narrowed_dark told (units_at d s srl maps volumes) (note_at (d.world.nodes s)) x.middle x.narrowed ∙ known)
+    (works_dark ⊥ s fails x.middle next x.moves ∙ narrowed_dark told (units_at d s srl maps volumes) (note_at (d.world.nodes s)) x.middle x.narrowed ∙ known)
 making_known told d line s fails said new (RvgFails site srl maps volumes disk next is are has x says left) known =
     made_note s next _ new left
-    (unsettles_dark x.middle next x.moves ∙ narrowed_dark told (units_at d s srl maps volumes) (note_at (d.world.nodes s)) x.middle x.narrowed ∙ known)
+    (works_dark ⊥ s fails x.middle next x.moves ∙ narrowed_dark told (units_at d s srl maps volumes) (note_at (d.world.nodes s)) x.middle x.narrowed ∙ known)
 making_known told d line s fails said new (RvgCut site srl maps volumes next is are fused x says left) known =
     made_note s next _ new left
-    (unsettles_dark x.middle next x.moves ∙ narrowed_dark told (units_at d s srl maps volumes) (note_at (d.world.nodes s)) x.middle x.narrowed ∙ known)
+    (works_dark (IsFused (d.world.nodes s).fuse) s fails x.middle next x.moves ∙ narrowed_dark told (units_at d s srl maps volumes) (note_at (d.world.nodes s)) x.middle x.narrowed ∙ known)
 
 -- ---- recoveries and imports
 
@@ -90,9 +96,9 @@ module _ (told : Type 0) (tells : told) (d : Doubted) (s : ℕ) (known : (note_a
   here = note_at (d.world.nodes s)
 
   pub back_known_too : (line : ScriptLine) → (MayDarken here line said → ⊥) → RvgBack told d line s fails said new → (note_at (new.world.nodes s)).dark ≡ false
-  back_known_too line free (RvgUp kept taken middle next from rest are brings back rests says left) =
+  back_known_too line free (RvgUp kept taken middle found next from rest are brings back rests works says left) =
       back_note s line taken next from _ new left
-      (rests_dark d line s kept middle next from rest rests ∙ back_known told s (d.world.nodes s) fails here middle known (λ loose. free (brings, inl loose)) back)
+      (works_dark ⊥ s fails found next works ∙ rests_dark d line s kept middle found from rest rests ∙ back_known told s (d.world.nodes s) fails here middle known (λ loose. free (brings, inl loose)) back)
   back_known_too line free (LogFails kept taken disk middle found next from rest left are has brings back rests is begun says leads) =
       absurd (no_rise here line said _ says free brings)
   back_known_too line free (LogLacks kept taken middle found next from rest are brings back rests is lacks says left) = absurd (no_rise here line said _ says free brings)
@@ -114,17 +120,17 @@ module _ (told : Type 0) (tells : told) (d : Doubted) (s : ℕ) (known : (note_a
 
   -- ---- other lines
 
-  line_dark : (line : ScriptLine) (next : GroupNode) → NotesLine s fails line here next → next.dark ≡ false
-  line_dark (Write site volume start count fill) next x = works_dark here next x ∙ known
-  line_dark (Put site volume start bytes) next x = works_dark here next x ∙ known
-  line_dark (Apply site to) next x = works_dark here next x ∙ known
-  line_dark other next same = same_note here next same known
+  line_dark : (Off : Type 0) (line : ScriptLine) (next : GroupNode) → NotesLine Off s fails line here next → next.dark ≡ false
+  line_dark Off (Write site volume start count fill) next x = works_dark Off s fails here next x ∙ known
+  line_dark Off (Put site volume start bytes) next x = works_dark Off s fails here next x ∙ known
+  line_dark Off (Apply site to) next x = works_dark Off s fails here next x ∙ known
+  line_dark Off other next same = same_note here next same known
 
   shows_known : (inside : Bool) (line : ScriptLine) → EndsOrShows inside told d line s fails said new → (note_at (new.world.nodes s)).dark ≡ false
   shows_known true line (ShowsAny site volume start count bytes is are got size left) = subst (λ (w : World). (note_at (w.nodes s)).dark ≡ false) (sym left.world) known
   shows_known true line (ShowFails disk are has says left) = subst (λ (w : World). (note_at (w.nodes s)).dark ≡ false) (sym left.world) known
   shows_known false line h =
-      of_note new.world s h.next (ap (λ (w : World). (w.nodes s).group) h.left.world ∙ noted_here h.middle.world s h.next) (line_dark line h.next h.notes)
+      of_note new.world s h.next (ap (λ (w : World). (w.nodes s).group) h.left.world ∙ noted_here h.middle.world s h.next) (line_dark (FuseRanOut (d.world.nodes s) h.inner) line h.next h.notes)
 
   back_or_known : (line : ScriptLine) → (MayDarken here line said → ⊥) → RvgBack told d line s fails said new ⊎ RvgFinds told d line s fails said new
       → (note_at (new.world.nodes s)).dark ≡ false

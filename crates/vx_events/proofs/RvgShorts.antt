@@ -6,8 +6,8 @@ use Rattle.vx_history.specs.Doubts.{Doubted}
 use Rattle.vx_history.specs.Groups.{GroupNode}
 use Rattle.vx_script.specs.declared.line.ScriptLine.{ScriptLine}
 use Rattle.vx_events.proofs.KnownLaws.{back_known}
-use Rattle.vx_events.proofs.RvgKnown.{narrowed_dark, of_note, rests_dark, unsettles_dark}
-use Rattle.vx_events.proofs.RvgStays.{but_group, but_keeps, came_keeps, loses, same_config}
+use Rattle.vx_events.proofs.RvgKnown.{narrowed_dark, of_note, rests_dark, works_dark}
+use Rattle.vx_events.proofs.RvgStays.{but_group, but_keeps, came_keeps, loses, same_config, then_same}
 use Rattle.vx_events.proofs.RvgTests.{gained_note}
 use Rattle.vx_events.specs.Fails.{Fails}
 use Rattle.vx_events.specs.GroupEnds.{BringsUp}
@@ -29,7 +29,7 @@ short_dark : (note next : GroupNode) → note.dark ≡ false → note.loose ≡ 
 short_dark note next known agree (inl same) = ap (λ (g : GroupNode). g.dark) same ∙ known
 short_dark note next known agree (inr (loose, dark)) = absurd (let f : true ≡ false = sym loose ∙ agree in cc)
 
-unmade_keeps : (told : Type 0) (s : ℕ) (fails : Fails) (units : Units) (note next : GroupNode) → NotesNoRvg told s fails units note next → NoteKeepsRvg note next
+unmade_keeps : (told : Type 0) (s : ℕ) (fails : Fails) (units : Units) (note next : GroupNode) → NotesNoRvg told ⊥ s fails units note next → NoteKeepsRvg note next
 unmade_keeps told s fails units note next x c at =
     loses s fails x.middle next x.moves c (ap (λ (bytes : List ℕ). config_of bytes) (ap (λ (g : GroupNode). g.config) x.narrowed.same) ∙ at)
 
@@ -43,8 +43,9 @@ module _ (told : Type 0) (tells : told) (d : Doubted) (line : ScriptLine) (s : �
       but_keeps told tells d line s [] Done new over lost taken next d _ left (λ _. same_config here next (short_config here next notes)) known
   short_stays over (ShortLog kept taken fails middle found next from rest are brings back rests is left) known =
       but_keeps told tells d line s fails Done new over true taken next from _ left
-      (came_keeps told tells d line s fails Done new over kept middle found next from rest back rests (ap (λ (g : GroupNode). g.config) is)
-      (ap (λ (g : GroupNode). g.dark) is)) known
+      (λ bright. then_same here found next
+      (came_keeps told tells d line s fails Done new over kept middle found from rest back rests (sym (ap (λ (g : GroupNode). g.dark) is) ∙ bright))
+      (ap (λ (g : GroupNode). g.config) is)) known
   short_stays over (ShortMade site srl maps volumes fails next is are notes left) known =
       subst (λ (g : GroupNode). NoteKeepsRvg here g) (sym (gained_note s next d new left)) (unmade_keeps told s fails (units_at d s srl maps volumes) here next notes)
 
@@ -56,5 +57,5 @@ module _ (told : Type 0) (tells : told) (d : Doubted) (line : ScriptLine) (s : �
       (ap (λ (g : GroupNode). g.dark) is ∙ rests_dark d line s kept middle found from rest rests
       ∙ back_known told s (d.world.nodes s) fails here middle known (λ loose. let f : true ≡ false = sym loose ∙ agree brings in cc) back)
   short_known known agree (ShortMade site srl maps volumes fails next is are notes left) =
-      ap (λ (g : GroupNode). g.dark) (gained_note s next d new left) ∙ unsettles_dark notes.middle next notes.moves
+      ap (λ (g : GroupNode). g.dark) (gained_note s next d new left) ∙ works_dark ⊥ s fails notes.middle next notes.moves
       ∙ narrowed_dark told (units_at d s srl maps volumes) here notes.middle notes.narrowed ∙ known

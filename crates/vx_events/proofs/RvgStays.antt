@@ -8,6 +8,7 @@ use Rattle.vx_model.specs.declared.no.No.TheVariants.{Limit}
 use Rattle.vx_model.specs.declared.site.PlexState.TheVariants.{Active, Stale}
 use Rattle.vx_history.specs.Doubts.{Doubted}
 use Rattle.vx_history.specs.Groups.{GroupNode}
+use Rattle.vx_history.specs.Stops.{IsFused}
 use Rattle.vx_history.specs.World.{Node, World}
 use Rattle.vx_history.specs.declared.event.Event.{Event}
 use Rattle.vx_config.specs.declared.config.Config.{Config}
@@ -18,7 +19,7 @@ use Rattle.vx_events.proofs.KnownLaws.{group_stays, left_note, never}
 use Rattle.vx_events.proofs.Places.{some_same}
 use Rattle.vx_events.proofs.RvgConfigs.{adds_keeps, again_keeps, closed_keeps, keeps_self, keeps_then, loses_keeps, puts_or, stayed}
 use Rattle.vx_events.proofs.RvgEvents.{rvg_apart}
-use Rattle.vx_events.proofs.RvgKnown.{lost_group, noted_here}
+use Rattle.vx_events.proofs.RvgKnown.{lost_group, noted_here, works_dark}
 use Rattle.vx_events.specs.Doubts.{IsAs, with_disks}
 use Rattle.vx_events.specs.Fails.{Fails}
 use Rattle.vx_events.specs.GroupConfigs.{ConfigLoses, lies_on_disk, opened_again}
@@ -31,6 +32,7 @@ use Rattle.vx_events.specs.RvgFits.{KeepsRvg, KeptConfig, NoteKeepsRvg, config_r
 use Rattle.vx_events.specs.RvgLinks.{LinksOver, NotesThere, noting_each, works_at}
 use Rattle.vx_events.specs.RvgOver.{EndsOrShows, NotesLine, OverRvg, OverRvgBy, ShowFails, ShowsAny, TakesOr, is_below, is_inside}
 use Rattle.vx_events.specs.RvgViews.{is_over_rvg}
+use Rattle.vx_events.specs.RvgWorks.{NotesWork, FuseRanOut, WorksCut}
 use Rattle.vx_events.specs.declared.said.Said.{Said}
 
 -- ---- notes
@@ -41,9 +43,15 @@ same_config note next same c at = record { now = c; is = ap (λ (bytes : List �
 same_note : (note next : GroupNode) → next ≡ note → NoteKeepsRvg note next
 same_note note next same = same_config note next (ap (λ (g : GroupNode). g.config) same)
 
-then_same : (note middle next : GroupNode) → NoteKeepsRvg note middle → next.config ≡ middle.config → NoteKeepsRvg note next
+pub then_same : (note middle next : GroupNode) → NoteKeepsRvg note middle → next.config ≡ middle.config → NoteKeepsRvg note next
 then_same note middle next f same c at =
     let x : KeptConfig c middle = f c at in record { now = x.now; is = ap (λ (bytes : List ℕ). config_of bytes) same ∙ x.is; keeps = x.keeps }
+
+then_keeps : (note middle next : GroupNode) → NoteKeepsRvg note middle → NoteKeepsRvg middle next → NoteKeepsRvg note next
+then_keeps note middle next f g c at =
+    let x : KeptConfig c middle = f c at in
+    let y : KeptConfig x.now next = g x.now x.is in
+    record { now = y.now; is = y.is; keeps = keeps_then c x.now y.now x.keeps y.keeps }
 
 reconfigured : {C : Config → Config → Type 0} {K : GroupNode → GroupNode → Type 0} (note next : GroupNode) → ((c d : Config) → C c d → KeepsRvg c d)
     → Reconfigures C K note next → NoteKeepsRvg note next
@@ -82,7 +90,7 @@ unfound_config (Limit Number most) note next leaves = refused_config note next l
 unfound_config other note next leaves = ap (λ (g : GroupNode). g.config) leaves
 
 -- what a site notes of its group
-by_note : (m : Node) (note next : GroupNode) → m.group ≡ Some next → NoteKeepsRvg note next → NoteKeepsRvg note (note_at m)
+pub by_note : (m : Node) (note next : GroupNode) → m.group ≡ Some next → NoteKeepsRvg note next → NoteKeepsRvg note (note_at m)
 by_note m note next is keeps = subst (λ (g : GroupNode). NoteKeepsRvg note g) (sym (ap (λ (o : Option GroupNode). unwrap_or o no_note) is)) keeps
 
 -- where it is known what the disks hold
@@ -94,7 +102,7 @@ by_known m note next is keeps =
 -- ---- lines on the group alone
 
 -- none of them brings the group up
-not_below : (note : GroupNode) (line : ScriptLine) → BringsUp line → is_below note line ≡ true → ⊥
+pub not_below : (note : GroupNode) (line : ScriptLine) → BringsUp line → is_below note line ≡ true → ⊥
 not_below note (GroupImport site) brings below = never below
 not_below note (Recover site) brings below = never below
 not_below note other brings below = absurd brings
@@ -215,13 +223,28 @@ module _ (told : Type 0) (tells : told) (d : Doubted) (line : ScriptLine) (s : �
   abbrev here : GroupNode
   here = note_at (d.world.nodes s)
 
-  -- it came up, perhaps with what is kept of a write still to be read
-  pub came_keeps : (kept : ℕ) (middle found next : GroupNode) (from : Doubted) (rest : List Event) → NotesBack told s (d.world.nodes s) fails here middle
-      → RestsWithRvg d line s kept middle found from rest → next.config ≡ found.config → next.dark ≡ found.dark → next.dark ≡ false → NoteKeepsRvg here next
-  came_keeps kept middle found next from rest back rests config dark known =
+  -- it came up
+  pub came_keeps : (kept : ℕ) (middle found : GroupNode) (from : Doubted) (rest : List Event) → NotesBack told s (d.world.nodes s) fails here middle
+      → RestsWithRvg d line s kept middle found from rest → found.dark ≡ false → NoteKeepsRvg here found
+  came_keeps kept middle found from rest back rests known =
       let noted = rests_noted d line s kept middle found from rest over rests in
-      let bright : middle.dark ≡ false = sym (ap (λ (g : GroupNode). g.dark) noted.1) ∙ sym dark ∙ known in
-      then_same here middle next (back_keeps told s (d.world.nodes s) fails here middle (tells, bright) noted.0 back) (config ∙ ap (λ (g : GroupNode). g.config) noted.1)
+      let bright : middle.dark ≡ false = sym (ap (λ (g : GroupNode). g.dark) noted.1) ∙ known in
+      then_same here middle found (back_keeps told s (d.world.nodes s) fails here middle (tells, bright) noted.0 back) (ap (λ (g : GroupNode). g.config) noted.1)
+
+  -- and the log was worked on
+  works_keeps : (Off : Type 0) (kept : ℕ) (middle found worked : GroupNode) (from : Doubted) (rest : List Event) → NotesBack told s (d.world.nodes s) fails here middle
+      → RestsWithRvg d line s kept middle found from rest → NotesWork Off s fails found worked → worked.dark ≡ false → NoteKeepsRvg here worked
+  works_keeps Off kept middle found worked from rest back rests works known =
+      then_keeps here found worked (came_keeps kept middle found from rest back rests (sym (works_dark Off s fails found worked works) ∙ known))
+      (loses s fails found worked works)
+
+  -- while what is kept of a write is still to be read
+  left_cut : (Off : Type 0) (kept : ℕ) (middle found next : GroupNode) (from : Doubted) (rest : List Event) → NotesBack told s (d.world.nodes s) fails here middle
+      → RestsWithRvg d line s kept middle found from rest → WorksCut Off s fails here.cut found next → next.dark ≡ false → NoteKeepsRvg here next
+  left_cut Off kept middle found next from rest back rests x known =
+      then_same here x.worked next
+      (works_keeps Off kept middle found x.worked from rest back rests x.works (sym (ap (λ (g : GroupNode). g.dark) x.is) ∙ known))
+      (ap (λ (g : GroupNode). g.config) x.is)
 
   left_keeps : (taken : Bool) (next : GroupNode) (before last : Doubted) → IsLeftBack s line taken next before last new → (next.dark ≡ false → NoteKeepsRvg here next)
       → (note_at (new.world.nodes s)).dark ≡ false → NoteKeepsRvg here (note_at (new.world.nodes s))
@@ -232,20 +255,16 @@ module _ (told : Type 0) (tells : told) (d : Doubted) (line : ScriptLine) (s : �
   but_keeps lost taken next before last left keeps = by_known (new.world.nodes s) here next (but_group lost s line taken next before last new left) keeps
 
   back_stays : RvgBack told d line s fails said new → (note_at (new.world.nodes s)).dark ≡ false → NoteKeepsRvg here (note_at (new.world.nodes s))
-  back_stays (RvgUp kept taken middle next from rest are brings back rests says left) =
-      left_keeps taken next from _ left (came_keeps kept middle next next from rest back rests refl refl)
+  back_stays (RvgUp kept taken middle found next from rest are brings back rests works says left) =
+      left_keeps taken next from _ left (works_keeps ⊥ kept middle found next from rest back rests works)
   back_stays (LogFails kept taken disk middle found next from rest events are has brings back rests is begun says left) =
-      but_keeps true taken next from _ left
-      (came_keeps kept middle found next from rest back rests (ap (λ (g : GroupNode). g.config) is) (ap (λ (g : GroupNode). g.dark) is))
+      but_keeps true taken next from _ left (left_cut ⊥ kept middle found next from rest back rests is)
   back_stays (LogLacks kept taken middle found next from rest are brings back rests is lacks says left) =
-      but_keeps true taken next from _ left
-      (came_keeps kept middle found next from rest back rests (ap (λ (g : GroupNode). g.config) is) (ap (λ (g : GroupNode). g.dark) is))
+      but_keeps true taken next from _ left (left_cut ⊥ kept middle found next from rest back rests is)
   back_stays (KeptLost kept taken disk middle found next from rest site is are has back rests noted says left) =
-      left_keeps taken next from _ left
-      (came_keeps kept middle found next from rest back rests (ap (λ (g : GroupNode). g.config) noted) (ap (λ (g : GroupNode). g.dark) noted))
+      left_keeps taken next from _ left (left_cut ⊥ kept middle found next from rest back rests noted)
   back_stays (LogCut middle found next from rest events site is are fused back rests noted begun says left) =
-      left_keeps false next from _ left
-      (came_keeps 0 middle found next from rest back rests (ap (λ (g : GroupNode). g.config) noted) (ap (λ (g : GroupNode). g.dark) noted))
+      left_keeps false next from _ left (left_cut (IsFused (d.world.nodes s).fuse) 0 middle found next from rest back rests noted)
   back_stays (GroupCutOff next site is has are fused notes says left) =
       left_keeps false next d _ left (λ _. same_config here next (refused_config here next notes))
   back_stays (GroupUnfound kept taken lost why next has are brings not leaves says left) =
@@ -264,17 +283,17 @@ module _ (told : Type 0) (tells : told) (d : Doubted) (line : ScriptLine) (s : �
 
   -- ---- other lines
 
-  line_keeps : (l : ScriptLine) (next : GroupNode) → NotesLine s fails l here next → NoteKeepsRvg here next
-  line_keeps (Write site volume start count fill) next x = loses s fails here next x
-  line_keeps (Put site volume start bytes) next x = loses s fails here next x
-  line_keeps (Apply site to) next x = loses s fails here next x
-  line_keeps other next same = same_note here next same
+  line_keeps : (Off : Type 0) (l : ScriptLine) (next : GroupNode) → NotesLine Off s fails l here next → NoteKeepsRvg here next
+  line_keeps Off (Write site volume start count fill) next x = loses s fails here next x
+  line_keeps Off (Put site volume start bytes) next x = loses s fails here next x
+  line_keeps Off (Apply site to) next x = loses s fails here next x
+  line_keeps Off other next same = same_note here next same
 
   shows_keeps : (inside : Bool) → EndsOrShows inside told d line s fails said new → NoteKeepsRvg here (note_at (new.world.nodes s))
   shows_keeps true (ShowsAny site volume start count bytes is are got size left) = unchanged told d line s fails said new left
   shows_keeps true (ShowFails disk are has says left) = unchanged told d line s fails said new left
   shows_keeps false h =
-      by_note (new.world.nodes s) here h.next (ap (λ (w : World). (w.nodes s).group) h.left.world ∙ noted_here h.middle.world s h.next) (line_keeps line h.next h.notes)
+      by_note (new.world.nodes s) here h.next (ap (λ (w : World). (w.nodes s).group) h.left.world ∙ noted_here h.middle.world s h.next) (line_keeps (FuseRanOut (d.world.nodes s) h.inner) line h.next h.notes)
 
 module _ (told : Type 0) (tells : told) (d : Doubted) (s : ℕ) (fails : Fails) (said : Said) (new : Doubted) (over : is_over_rvg (d.world.nodes s) ≡ true) where
   back_or : (line : ScriptLine) → RvgBack told d line s fails said new ⊎ RvgFinds told d line s fails said new → (note_at (new.world.nodes s)).dark ≡ false
@@ -302,11 +321,11 @@ module _ (told : Type 0) (tells : told) (d : Doubted) (s : ℕ) (fails : Fails) 
 
 -- ---- lines of links
 
-there_keeps : (works : Bool) (i : ℕ) (fails : Fails) (note next : GroupNode) → NotesThere works i fails note next → NoteKeepsRvg note next
-there_keeps true i fails note next x = loses i fails note next x
-there_keeps false i fails note next same = same_note note next same
+there_keeps : (works : Bool) (Off : Type 0) (i : ℕ) (fails : Fails) (note next : GroupNode) → NotesThere works Off i fails note next → NoteKeepsRvg note next
+there_keeps true Off i fails note next x = loses i fails note next x
+there_keeps false Off i fails note next same = same_note note next same
 
-each_group : (w : World) (next : ℕ → GroupNode) (v : World) (i : ℕ) → is_over_rvg (w.nodes i) ≡ true → ((noting_each w next v).nodes i).group ≡ Some (next i)
+pub each_group : (w : World) (next : ℕ → GroupNode) (v : World) (i : ℕ) → is_over_rvg (w.nodes i) ≡ true → ((noting_each w next v).nodes i).group ≡ Some (next i)
 each_group w next v i over =
     ap (λ (b : Bool). let n : Node = (if b then record (v.nodes i) { group = Some (next i) } else v.nodes i) in n.group) over
 
@@ -315,4 +334,4 @@ pub links_stay : (told : Type 0) (d : Doubted) (line : ScriptLine) (fails : Fail
 links_stay told d line fails said new h i over =
     by_note (new.world.nodes i) (note_at (d.world.nodes i)) (h.next i)
     (ap (λ (w : World). (w.nodes i).group) h.left.world ∙ each_group d.world h.next h.middle.world i over)
-    (there_keeps (works_at d.world line i) i fails (note_at (d.world.nodes i)) (h.next i) (h.notes i over))
+    (there_keeps (works_at d.world line i) (FuseRanOut (d.world.nodes i) said) i fails (note_at (d.world.nodes i)) (h.next i) (h.notes i over))

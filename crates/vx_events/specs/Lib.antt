@@ -33,6 +33,7 @@ pub mod RvgOver
 pub mod RvgParts
 pub mod RvgSteps
 pub mod RvgViews
+pub mod RvgWorks
 pub mod Sayings
 pub mod Sent
 pub mod Settles

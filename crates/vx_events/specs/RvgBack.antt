@@ -33,6 +33,7 @@ use Rattle.vx_events.specs.RvgFits.{FitsRvg, HasUnits, entries_noted, rvg_noted}
 use Rattle.vx_events.specs.RvgMakes.{noting_in}
 use Rattle.vx_events.specs.RvgNotes.{HasOneValue, note_gained, volume_events}
 use Rattle.vx_events.specs.RvgViews.{is_over_rvg, over_disks}
+use Rattle.vx_events.specs.RvgWorks.{NotesWork, WorksCut}
 use Rattle.vx_events.specs.Stamps.{most_stamp_at}
 use Rattle.vx_events.specs.declared.said.Said.{Said}
 use Rattle.vx_events.specs.declared.said.Said.TheVariants.{Done, Refused, Resumed}
@@ -99,29 +100,29 @@ SessionLeft s disk left = (left ≡ []) ⊎ (left ≡ RecoverAt s (Some disk) �
 -- A recovery or an import at site s that no test refuses, where what the disks hold is known and imports agree.
 pub data RvgBack (told : Type 0) (d : Doubted) (line : ScriptLine) (s : ℕ) (fails : Fails) (said : Said) (new : Doubted) : Type 0 where
   -- it is done
-  RvgUp : (kept : ℕ) (taken : Bool) (middle next : GroupNode) (from : Doubted) (rest : List Event) → AreOf s fails → BringsUp line
-      → NotesBack told s (d.world.nodes s) fails (note_at (d.world.nodes s)) middle → RestsWithRvg d line s kept middle next from rest
+  RvgUp : (kept : ℕ) (taken : Bool) (middle found next : GroupNode) (from : Doubted) (rest : List Event) → AreOf s fails → BringsUp line
+      → NotesBack told s (d.world.nodes s) fails (note_at (d.world.nodes s)) middle → RestsWithRvg d line s kept middle found from rest → NotesWork ⊥ s fails found next
       → SaysUp told s line (note_at (d.world.nodes s)) next (run_as taken from (rest ++ RecoverAt s None ∷ [])).world said
       → IsLeftBack s line taken next from (run_as taken from (rest ++ RecoverAt s None ∷ [])) new → RvgBack told d line s fails said new
   -- the group came up, and the log could not be read, or be brought to its next session, as a disk failed: the disks crashed
   LogFails : (kept : ℕ) (taken : Bool) (disk : ℕ) (middle found next : GroupNode) (from : Doubted) (rest left : List Event) → AreOf s fails → Contains fails (s, disk)
       → BringsUp line → NotesBack told s (d.world.nodes s) fails (note_at (d.world.nodes s)) middle → RestsWithRvg d line s kept middle found from rest
-      → next ≡ record found { cut = (note_at (d.world.nodes s)).cut } → SessionLeft s disk left → said ≡ Refused (Device disk)
+      → WorksCut ⊥ s fails (note_at (d.world.nodes s)).cut found next → SessionLeft s disk left → said ≡ Refused (Device disk)
       → IsLeftBut true s line taken next from (run_as taken from (rest ++ left)) new → RvgBack told d line s fails said new
   -- no number is left for its next session
   LogLacks : (kept : ℕ) (taken : Bool) (middle found next : GroupNode) (from : Doubted) (rest : List Event) → AreOf s fails → BringsUp line
       → NotesBack told s (d.world.nodes s) fails (note_at (d.world.nodes s)) middle → RestsWithRvg d line s kept middle found from rest
-      → next ≡ record found { cut = (note_at (d.world.nodes s)).cut } → LacksSession told (run_as taken from rest).world s
+      → WorksCut ⊥ s fails (note_at (d.world.nodes s)).cut found next → LacksSession told (run_as taken from rest).world s
       → said ≡ Refused (Limit Number MOST_NUMBER) → IsLeftBut true s line taken next from (run_as taken from rest) new → RvgBack told d line s fails said new
   -- the site came up, and what is kept of a write that was cut could not be read: it is down again
   KeptLost : (kept : ℕ) (taken : Bool) (disk : ℕ) (middle found next : GroupNode) (from : Doubted) (rest : List Event) (site : List ℕ) → line ≡ Recover site
       → AreOf s fails → Contains fails (s, disk) → NotesBack told s (d.world.nodes s) fails (note_at (d.world.nodes s)) middle
-      → RestsWithRvg d line s kept middle found from rest → next ≡ record found { cut = (note_at (d.world.nodes s)).cut } → said ≡ Refused (Device disk)
+      → RestsWithRvg d line s kept middle found from rest → WorksCut ⊥ s fails (note_at (d.world.nodes s)).cut found next → said ≡ Refused (Device disk)
       → IsLeftBack s line taken next from (run_as taken from (rest ++ RecoverAt s None ∷ CrashAt s 0 ∷ [])) new → RvgBack told d line s fails said new
   -- the fuse of the disks ran out in an import, behind the group or before it came up: the site is down
   LogCut : (middle found next : GroupNode) (from : Doubted) (rest left : List Event) (site : List ℕ) → line ≡ GroupImport site → AreOf s fails
       → IsFused (d.world.nodes s).fuse → NotesBack told s (d.world.nodes s) fails (note_at (d.world.nodes s)) middle
-      → RestsWithRvg d line s 0 middle found from rest → next ≡ record found { cut = (note_at (d.world.nodes s)).cut } → SessionLeft s 0 left
+      → RestsWithRvg d line s 0 middle found from rest → WorksCut (IsFused (d.world.nodes s).fuse) s fails (note_at (d.world.nodes s)).cut found next → SessionLeft s 0 left
       → said ≡ Refused IsOff → IsLeftBack s line false next from (run_as false from (rest ++ (left ++ FallAt s ∷ []))) new
       → RvgBack told d line s fails said new
   GroupCutOff : (next : GroupNode) (site : List ℕ) → line ≡ GroupImport site → is_over_rvg (d.world.nodes s) ≡ true → AreOf s fails

@@ -13,8 +13,8 @@ use Rattle.vx_events.specs.Fails.{AreBorne, Fails}
 use Rattle.vx_events.specs.Fuses.{NeedsCalls}
 use Rattle.vx_events.specs.GroupNotes.{note_at}
 use Rattle.vx_events.specs.LinkEnds.{LinkEnds}
-use Rattle.vx_events.specs.RvgOver.{NotesWork}
 use Rattle.vx_events.specs.RvgViews.{is_over_rvg}
+use Rattle.vx_events.specs.RvgWorks.{NotesWork, FuseRanOut}
 use Rattle.vx_events.specs.declared.said.Said.{Said}
 use Rattle.vx_events.specs.declared.said.Said.TheVariants.{Done}
 
@@ -49,9 +49,9 @@ links_rvg w other = false
 -- ---- notes
 
 -- what is noted of a group at which the line works, or not
-abbrev pub NotesThere : (works : Bool) → (i : ℕ) → Fails → GroupNode → GroupNode → Type 0
-NotesThere true i fails note next = NotesWork i fails note next
-NotesThere false i fails note next = next ≡ note
+abbrev pub NotesThere : (works : Bool) → (Off : Type 0) → (i : ℕ) → Fails → GroupNode → GroupNode → Type 0
+NotesThere true Off i fails note next = NotesWork Off i fails note next
+NotesThere false Off i fails note next = next ≡ note
 
 -- the world v in which each site that was over such a group has this note of it
 abbrev pub noting_each : World → (ℕ → GroupNode) → World → World
@@ -81,7 +81,7 @@ pub record LinksOver (told : Type 0) (d : Doubted) (line : ScriptLine) (fails : 
   pub middle : Doubted
   pub ends : LinkEnds (AllKnown told d.world line) d line ending said middle
   pub next : ℕ → GroupNode
-  pub notes : (i : ℕ) → is_over_rvg (d.world.nodes i) ≡ true → NotesThere (works_at d.world line i) i fails (note_at (d.world.nodes i)) (next i)
+  pub notes : (i : ℕ) → is_over_rvg (d.world.nodes i) ≡ true → NotesThere (works_at d.world line i) (FuseRanOut (d.world.nodes i) said) i fails (note_at (d.world.nodes i)) (next i)
   pub left : IsAs middle (noting_each d.world next middle.world) new
   pub works : NeedsLogs d.world line said
   pub calls : NeedsCalls d.world line said

@@ -46,12 +46,12 @@ pub data MakesRvg (told : Type 0) (d : Doubted) (line : ScriptLine) (s : ℕ) (f
       → said ≡ Refused (Limit Number MOST_NUMBER) → IsLeftRvg s next d new → MakesRvg told d line s fails said new
   -- calls on disks failed, and by the last of them the line
   RvgFails : (site srl maps : List ℕ) (volumes : List (List ℕ)) (disk : ℕ) (next : GroupNode) → line ≡ Rvg site srl maps volumes → AreOf s fails
-      → Contains fails (s, disk) → NotesNoRvg told s fails (units_at d s srl maps volumes) (note_at (d.world.nodes s)) next
+      → Contains fails (s, disk) → NotesNoRvg told ⊥ s fails (units_at d s srl maps volumes) (note_at (d.world.nodes s)) next
       → said ≡ Refused (Device disk) → IsLeftRvg s next d new → MakesRvg told d line s fails said new
   -- the fuse of the disks ran out
   RvgCut : (site srl maps : List ℕ) (volumes : List (List ℕ)) (next : GroupNode) → line ≡ Rvg site srl maps volumes → AreOf s fails
       → IsFused (d.world.nodes s).fuse
-      → NotesNoRvg told s fails (units_at d s srl maps volumes) (note_at (d.world.nodes s)) next
+      → NotesNoRvg told (IsFused (d.world.nodes s).fuse) s fails (units_at d s srl maps volumes) (note_at (d.world.nodes s)) next
       → said ≡ Refused IsOff → IsLeftRvg s next (run_as false d (CrashAt s 0 ∷ [])) new → MakesRvg told d line s fails said new
 
 -- the line ended as these events do, from a world on that differs in notes alone, in worlds that differ in notes alone; and so the failed calls of which events tell

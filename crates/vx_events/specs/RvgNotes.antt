@@ -2,7 +2,7 @@
 use Rattle.std.specs.Prelude.{◌≡◌, ℕ, ◌<◌, ◌==◌, ◌||◌, Bool, List, [], ◌∷◌, map, Some, Contains}
 use Rattle.std.specs.List.{list_any}
 use Rattle.vx_model.specs.declared.units.Units.{Units}
-use Rattle.vx_history.specs.Groups.{BlockMay, GroupNode, NoteSettles, NoteUnsettles}
+use Rattle.vx_history.specs.Groups.{BlockMay, GroupNode, NoteSettles}
 use Rattle.vx_history.specs.declared.event.Event.{Event}
 use Rattle.vx_history.specs.declared.event.Event.TheVariants.{Volumes as VolumesAt}
 use Rattle.vx_config.specs.Checks.{blocks_of}
@@ -12,6 +12,7 @@ use Rattle.vx_events.specs.GroupConfigs.{ConfigLoses}
 use Rattle.vx_events.specs.GroupLines.{plain_number}
 use Rattle.vx_events.specs.GroupNotes.{IsKnown, Reconfigures}
 use Rattle.vx_events.specs.RvgFits.{data_of, entries_noted}
+use Rattle.vx_events.specs.RvgWorks.{NotesWork}
 
 -- ---- what the line names
 
@@ -66,13 +67,13 @@ pub record NotesRvg (told : Type 0) (s : ℕ) (fails : Fails) (units : Units) (n
 
 -- The line was ended by a failing disk or by a fuse: the configuration in memory has no replicated volume group, and that with one may be on the
 -- disks.
-pub record NotesNoRvg (told : Type 0) (s : ℕ) (fails : Fails) (units : Units) (note new : GroupNode) : Type 0 where
+pub record NotesNoRvg (told Off : Type 0) (s : ℕ) (fails : Fails) (units : Units) (note new : GroupNode) : Type 0 where
   pub middle : GroupNode
   pub narrowed : NotesNarrowed told units note middle
-  pub moves : Reconfigures (ConfigLoses s fails) NoteUnsettles middle new
+  pub moves : NotesWork Off s fails middle new
 
 -- no serial is left for the configuration with one
 pub record NotesLacking (told : Type 0) (s : ℕ) (fails : Fails) (units : Units) (note new : GroupNode) : Type 0 where
   pub middle : GroupNode
   pub narrowed : NotesNarrowed told units note middle
-  pub moves : Reconfigures (ConfigLoses s fails) NoteSettles middle new
+  pub moves : NotesWork ⊥ s fails middle new

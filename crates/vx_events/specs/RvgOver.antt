@@ -3,7 +3,7 @@
 use Rattle.std.specs.Prelude.{◌≡◌, ◌⊎◌, ℕ, ◌*◌, ◌<◌, Bool, true, false, List, [], ◌∷◌, ◌++◌, Option, Some, None, length, slice_get, unwrap_or, Contains}
 use Rattle.vx_model.specs.declared.no.No.TheVariants.{Device, Down as IsOff}
 use Rattle.vx_history.specs.Doubts.{Doubted}
-use Rattle.vx_history.specs.Groups.{GroupNode, NoteWorks}
+use Rattle.vx_history.specs.Groups.{GroupNode}
 use Rattle.vx_history.specs.Stops.{IsFused, IsOpen}
 use Rattle.vx_history.specs.World.{Node, World}
 use Rattle.vx_history.specs.declared.event.Event.TheVariants.{Crash as CrashAt}
@@ -16,12 +16,12 @@ use Rattle.vx_events.specs.Doubts.{IsAs, run_as, with_disks}
 use Rattle.vx_events.specs.Ends.{Ends, place_of as site_of}
 use Rattle.vx_events.specs.Facts.{place_of, site_number}
 use Rattle.vx_events.specs.Fails.{Fails}
-use Rattle.vx_events.specs.GroupConfigs.{ConfigLoses}
 use Rattle.vx_events.specs.GroupEnds.{AreOf, GroupCuts, GroupEnds}
 use Rattle.vx_events.specs.GroupLines.{group_noted, noting}
-use Rattle.vx_events.specs.GroupNotes.{IsKnown, Reconfigures, note_at}
+use Rattle.vx_events.specs.GroupNotes.{IsKnown, note_at}
 use Rattle.vx_events.specs.RvgBack.{RvgBack, RvgFinds}
 use Rattle.vx_events.specs.RvgViews.{kinds_noted, over_disks}
+use Rattle.vx_events.specs.RvgWorks.{NotesWork, FuseRanOut}
 use Rattle.vx_events.specs.declared.said.Said.{Said}
 use Rattle.vx_events.specs.declared.said.Said.TheVariants.{Got, Refused, Shown}
 
@@ -68,16 +68,12 @@ is_inside note other = false
 
 -- ---- notes
 
--- what calls of a line leave of the note of a group: disks may be held as failed, and commits may have been refused
-abbrev pub NotesWork : (s : ℕ) → Fails → GroupNode → GroupNode → Type 0
-NotesWork s fails note next = Reconfigures (ConfigLoses s fails) NoteWorks note next
-
--- only lines that write have such calls
-abbrev pub NotesLine : (s : ℕ) → Fails → ScriptLine → GroupNode → GroupNode → Type 0
-NotesLine s fails (Write site volume start count fill) note next = NotesWork s fails note next
-NotesLine s fails (Put site volume start bytes) note next = NotesWork s fails note next
-NotesLine s fails (Apply site to) note next = NotesWork s fails note next
-NotesLine s fails other note next = next ≡ note
+-- what calls of a line leave of the note of a group: only lines that write have such calls
+abbrev pub NotesLine : (Off : Type 0) → (s : ℕ) → Fails → ScriptLine → GroupNode → GroupNode → Type 0
+NotesLine Off s fails (Write site volume start count fill) note next = NotesWork Off s fails note next
+NotesLine Off s fails (Put site volume start bytes) note next = NotesWork Off s fails note next
+NotesLine Off s fails (Apply site to) note next = NotesWork Off s fails note next
+NotesLine Off s fails other note next = next ≡ note
 
 -- ---- replies
 
@@ -98,7 +94,7 @@ pub record EndsOver (told : Type 0) (d : Doubted) (line : ScriptLine) (s : ℕ) 
   pub middle : Doubted
   pub ends : Ends (IsKnown told (note_at (d.world.nodes s))) d line (site_of d.world line) ending inner middle
   pub next : GroupNode
-  pub notes : NotesLine s fails line (note_at (d.world.nodes s)) next
+  pub notes : NotesLine (FuseRanOut (d.world.nodes s) inner) s fails line (note_at (d.world.nodes s)) next
   pub says : SaysOver (d.world.nodes s) next inner said
   pub left : IsAs middle (noting middle.world s next) new
 

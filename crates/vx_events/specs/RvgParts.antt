@@ -30,7 +30,7 @@ pub data RvgShort (told : Type 0) (d : Doubted) (line : ScriptLine) (s : ℕ) (n
       → RvgShort told d line s new
   -- none was made, but calls on disks were
   ShortMade : (site srl maps : List ℕ) (volumes : List (List ℕ)) (fails : Fails) (next : GroupNode) → line ≡ Rvg site srl maps volumes → AreOf s fails
-      → NotesNoRvg told s fails (units_at d s srl maps volumes) (note_at (d.world.nodes s)) next → IsLeftRvg s next d new → RvgShort told d line s new
+      → NotesNoRvg told ⊥ s fails (units_at d s srl maps volumes) (note_at (d.world.nodes s)) next → IsLeftRvg s next d new → RvgShort told d line s new
 
 -- the site of such a line
 abbrev pub short_place : World → ScriptLine → ℕ

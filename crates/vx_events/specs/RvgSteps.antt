@@ -22,6 +22,7 @@ use Rattle.vx_events.specs.RvgLinks.{LinksOver, links_rvg}
 use Rattle.vx_events.specs.RvgMakes.{MakesRvg}
 use Rattle.vx_events.specs.RvgOver.{OverRvg}
 use Rattle.vx_events.specs.RvgViews.{is_over_rvg, over_facts}
+use Rattle.vx_events.specs.RvgWorks.{AgreesOr}
 use Rattle.vx_events.specs.StepsOver.{WorksOver, fact_over, group_place, is_for_group}
 use Rattle.vx_events.specs.declared.said.Said.{Said}
 
@@ -110,7 +111,7 @@ abbrev pub MakesNoRvg : ScriptLine → Type 0
 MakesNoRvg (Rvg site srl maps volumes) = ⊥
 MakesNoRvg other = Unit {0}
 
--- it is known what the disks of groups hold; and where the line brings a group up, imports of it agree
-pub record AgreeFor (w : World) (line : ScriptLine) : Type 0 where
+-- it is known what the disks of groups hold; and where the line brings a group up, imports of it agree, or it is known too what its disks hold in the world behind it
+pub record AgreeFor (w : World) (line : ScriptLine) (v : World) : Type 0 where
   pub known : (i : ℕ) → (note_at (w.nodes i)).dark ≡ false
-  pub agree : BringsUp line → (note_at (w.nodes (group_place w line))).loose ≡ false
+  pub agree : BringsUp line → AgreesOr (note_at (w.nodes (group_place w line))) (note_at (v.nodes (group_place w line)))

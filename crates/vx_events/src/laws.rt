@@ -21,6 +21,7 @@ ghost use Rattle.vx_events.specs.Known.{MayDarken};
 ghost use Rattle.vx_config.specs.declared.config.Config.{Config};
 ghost use Rattle.vx_events.specs.GroupViews.{config_of};
 ghost use Rattle.vx_events.specs.RvgFits.{FitsNoted, FitsSome, MayGetRvg, NoteKeepsRvg};
+ghost use Rattle.vx_events.specs.RvgWorks.{AgreesOr, FuseRanOut, NoneFailed, NoteAgrees};
 ghost use Rattle.vx_events.specs.declared.said.Said.TheVariants.{Done as SaysDone};
 ghost use Rattle.vx_events.specs.RvgLinks.{AllKnown, LinksOver};
 ghost use Rattle.vx_events.specs.RvgMakes.{MakesRvg, RvgStops};
@@ -119,10 +120,10 @@ pub fn made_rvgs_fit()
 {}
 
 /// So does each line at a site over a group of disks with a replicated volume group, and each of links of such a site, where it is known what the disks hold; of one
-/// that brings the site up, where imports agree.
+/// that brings the site up, where imports agree, or it is known behind it too.
 pub fn lines_over_rvgs_are_events()
     ensures over { (d : Doubted) (line : ScriptLine) (s : ℕ) (fails : Fails) (said : Said) (new : Doubted) → OpensFor d.world line
-        → (note_at (d.world.nodes s)).dark ≡ false → (BringsUp line → (note_at (d.world.nodes s)).loose ≡ false) → OverRvg (Unit {0}) d line s fails said new
+        → (note_at (d.world.nodes s)).dark ≡ false → (BringsUp line → AgreesOr (note_at (d.world.nodes s)) (note_at (new.world.nodes s))) → OverRvg (Unit {0}) d line s fails said new
         → RvgStops d new }
     ensures links { (d : Doubted) (line : ScriptLine) (fails : Fails) (said : Said) (new : Doubted) → AllKnown (Unit {0}) d.world line
         → LinksOver (Unit {0}) d line fails said new → RvgStops d new }
@@ -131,6 +132,17 @@ pub fn lines_over_rvgs_are_events()
 /// So does what want of memory leaves of a recovery or an import of such a site, or of a line that makes a replicated volume group.
 pub fn rvg_shorts_are_events()
     ensures { (tells : Bool) (d : Doubted) (line : ScriptLine) (s : ℕ) (new : Doubted) → RvgShort (IsTrue tells) d line s new → RvgStops d new }
+{}
+
+/// Where no call of a line failed at such a site, and its fuse did not run out, imports of its group agree behind the line as before, and nothing is begun. So do they
+/// behind a line of links.
+pub fn quiet_rvgs_stay_agreed()
+    ensures over { (d : Doubted) (line : ScriptLine) (s : ℕ) (fails : Fails) (said : Said) (new : Doubted) → NoneFailed s fails
+        → (FuseRanOut (d.world.nodes s) said → ⊥) → (note_at (d.world.nodes s)).dark ≡ false → NoteAgrees (note_at (d.world.nodes s))
+        → OverRvg (Unit {0}) d line s fails said new → NoteAgrees (note_at (new.world.nodes s)) }
+    ensures links { (tells : Bool) (d : Doubted) (line : ScriptLine) (fails : Fails) (said : Said) (new : Doubted) → LinksOver (IsTrue tells) d line fails said new
+        → (i : ℕ) → is_over_rvg (d.world.nodes i) ≡ true → NoneFailed i fails → (FuseRanOut (d.world.nodes i) said → ⊥) → NoteAgrees (note_at (d.world.nodes i))
+        → NoteAgrees (note_at (new.world.nodes i)) }
 {}
 
 /// However a line at such a site ends, the configuration that the site notes has the replicated volume group that it had, and the volumes that it had with their names
@@ -154,9 +166,10 @@ pub fn steps_over_groups()
 {}
 
 /// However a line ends that is refused or not, in worlds in which sites are over groups of disks with replicated volume groups or without: it ends as events of the
-/// world do, where it is known what the disks of groups hold, and imports agree of a group that the line brings up.
+/// world do, where it is known what the disks of groups hold, and imports agree of a group that the line brings up, or it is known behind the line too what its disks
+/// hold.
 pub fn full_lines_are_events()
-    ensures { (files : Bool) (d : Doubted) (line : ScriptLine) (fails : Fails) (said : Said) (new : Doubted) → AgreeFor d.world line
+    ensures { (files : Bool) (d : Doubted) (line : ScriptLine) (fails : Fails) (said : Said) (new : Doubted) → AgreeFor d.world line new.world
         → StepFull (Unit {0}) files d line fails said new → RvgStops d new }
 {}
 

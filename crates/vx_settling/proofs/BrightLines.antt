@@ -13,7 +13,7 @@ use Rattle.vx_script.specs.declared.line.ScriptLine.TheVariants.{GroupImport, Re
 use Rattle.vx_events.proofs.KnownLaws.{group_known, left_note}
 use Rattle.vx_events.proofs.RvgEnding.{never_found}
 use Rattle.vx_events.proofs.RvgFull.{brings_found}
-use Rattle.vx_events.proofs.RvgKnown.{back_known_too, making_known, narrowed_dark, noted_here, over_known}
+use Rattle.vx_events.proofs.RvgKnown.{back_known_too, making_known, narrowed_dark, noted_here, over_known, works_dark}
 use Rattle.vx_events.proofs.RvgStays.{back_group}
 use Rattle.vx_events.proofs.RvgTests.{gained_note}
 use Rattle.vx_events.specs.Doubts.{IsAs, run_as, with_disks}
@@ -35,6 +35,7 @@ use Rattle.vx_events.specs.RvgNotes.{volume_events}
 use Rattle.vx_events.specs.RvgOver.{EndsOrShows, OverRvg, OverRvgBy, ShowFails, ShowsAny, TakesOr, is_below, is_inside}
 use Rattle.vx_events.specs.RvgSteps.{AsBefore, FoundOne, FullBy, Gained, StepFull, WorksAbove, WorksBeside, WorksFull, is_for_rvg, refused_full, rvg_place}
 use Rattle.vx_events.specs.RvgViews.{is_over_rvg}
+use Rattle.vx_events.specs.RvgWorks.{FuseRanOut}
 use Rattle.vx_events.specs.StepsOver.{WorksOver, group_place, is_for_group}
 use Rattle.vx_events.specs.declared.said.Said.{Said}
 use Rattle.vx_events.specs.declared.said.Said.TheVariants.{Refused}
@@ -162,10 +163,10 @@ module _ (told : Type 0) (tells : told) (d : Doubted) (b : AllBright d) (fails :
       subst (λ (e : Doubted). AllBright e) (sym is) (in_bright d s middle (sym (ap (λ (g : GroupNode). g.dark) noted) ∙ known) b)
 
   rises_bright : (line : ScriptLine) (s : ℕ) → (IsHeldDown line said → ⊥) → IsBright (new.world.nodes s) → RvgBack told d line s fails said new → AllBright new
-  rises_bright line s held here (RvgUp kept taken middle next from rest are brings back rests says left) =
+  rises_bright line s held here (RvgUp kept taken middle found next from rest are brings back rests works says left) =
       let last : Doubted = run_as taken from (rest ++ RecoverAt s None ∷ []) in
       let known : next.dark ≡ false = next_bright (new.world.nodes s) next (back_group s line taken next from last new left) here in
-      let start : AllBright from = from_bright line s kept middle next from rest known rests in
+      let start : AllBright from = from_bright line s kept middle found from rest (sym (works_dark ⊥ s fails found next works) ∙ known) rests in
       back_bright s line taken next from last new left here start (run_bright taken from (rest ++ RecoverAt s None ∷ []) start)
   rises_bright line s held here (LogFails kept taken disk middle found next from rest events are has brings back rests is begun says left) =
       absurd (loud line _ held says brings)
@@ -230,16 +231,16 @@ module _ (told : Type 0) (tells : told) (d : Doubted) (b : AllBright d) (fails :
   makes_bright line s here (RvgCut site srl maps volumes next is are fused x says left) =
       made_bright s next (run_as false d (CrashAt s 0 ∷ [])) new left here (run_bright false d (CrashAt s 0 ∷ []) b)
 
-  there_bright : (works : Bool) (i : ℕ) (fs : Fails) (note next : GroupNode) → note.dark ≡ false → NotesThere works i fs note next → next.dark ≡ false
-  there_bright true i fs note next known x = x.keeps.same.dark ∙ known
-  there_bright false i fs note next known same = ap (λ (g : GroupNode). g.dark) same ∙ known
+  there_bright : (works : Bool) (Off : Type 0) (i : ℕ) (fs : Fails) (note next : GroupNode) → note.dark ≡ false → NotesThere works Off i fs note next → next.dark ≡ false
+  there_bright true Off i fs note next known x = works_dark Off i fs note next x ∙ known
+  there_bright false Off i fs note next known same = ap (λ (g : GroupNode). g.dark) same ∙ known
 
   each_bright : (line : ScriptLine) → LinksOver told d line fails said new → AllBright new
   each_bright line h =
       let middle : AllBright h.middle = links_bright (AllKnown told d.world line) (tells, λ i _. b.sites i) d line h.ending said h.middle b h.ends in
       as_bright h.middle (noting_each d.world h.next h.middle.world) new h.left
       (λ i. by_test IsBright (is_over_rvg (d.world.nodes i)) (record (h.middle.world.nodes i) { group = Some (h.next i) }) (h.middle.world.nodes i)
-      (λ over. there_bright (works_at d.world line i) i fails (note_at (d.world.nodes i)) (h.next i) (b.sites i) (h.notes i over)) (λ _. middle.sites i)) middle
+      (λ over. there_bright (works_at d.world line i) (FuseRanOut (d.world.nodes i) said) i fails (note_at (d.world.nodes i)) (h.next i) (b.sites i) (h.notes i over)) (λ _. middle.sites i)) middle
 
   -- ---- any line
 

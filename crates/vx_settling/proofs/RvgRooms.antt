@@ -1,5 +1,5 @@
 -- Behind a line over groups of disks each site has the log and the data volumes that it had, and one with a replicated volume group the one that it notes.
-use Rattle.std.proofs.Common.{◌≡◌, ◌∙◌, ℕ, List, [], length, true, false, ap, sym, subst}
+use Rattle.std.proofs.Common.{◌≡◌, ◌∙◌, inr, ℕ, List, [], length, true, false, ap, sym, subst}
 use Rattle.std.specs.Prelude.{eqb, is_some, not}
 use Rattle.vx_history.proofs.Updates.{and_right, eqb_self}
 use Rattle.vx_history.specs.Doubts.{Doubted}
@@ -14,7 +14,6 @@ use Rattle.vx_events.proofs.RvgAgain.{fits_again}
 use Rattle.vx_events.proofs.RvgEnding.{links_over_stop, over_rvg_stops}
 use Rattle.vx_events.proofs.RvgStays.{links_stay, over_stays}
 use Rattle.vx_events.specs.Fails.{Fails}
-use Rattle.vx_events.specs.GroupEnds.{BringsUp}
 use Rattle.vx_events.specs.GroupNotes.{note_at}
 use Rattle.vx_events.specs.RvgFits.{FitsNoted}
 use Rattle.vx_events.specs.RvgLinks.{AllKnown, LinksOver}
@@ -49,10 +48,10 @@ stops_room d new good alike x =
 
 module _ (told : Type 0) (tells : told) (d : Doubted) (good : GoodDoubted d) (alike : DoubtsAlike d) (line : ScriptLine) (fails : Fails) (said : Said) (new : Doubted) where
   pub over_fits : (s : ℕ) → IsMade (d.world.nodes s) → is_over_rvg (d.world.nodes s) ≡ true → OpensFor d.world line → (note_at (d.world.nodes s)).dark ≡ false
-      → (BringsUp line → (note_at (d.world.nodes s)).loose ≡ false) → OverRvg told d line s fails said new → FitsNoted (d.world.nodes s)
+      → OverRvg told d line s fails said new → FitsNoted (d.world.nodes s)
       → (note_at (new.world.nodes s)).dark ≡ false → FitsNoted (new.world.nodes s)
-  over_fits s made over opens bright agree ends fits known =
-      let stays : RoomStays d new = stops_room d new good alike (over_rvg_stops told tells d s bright fails said new line agree opens ends) in
+  over_fits s made over opens bright ends fits known =
+      let stays : RoomStays d new = stops_room d new good alike (over_rvg_stops told tells d s bright fails said new line (λ _. inr known) opens ends) in
       let same : SameRoom (d.world.nodes s) (new.world.nodes s) = stays.sites s (has_data (d.world.nodes s) made over) in
       fits_again (d.world.nodes s) (new.world.nodes s) same.ring same.volumes (over_stays told tells d s fails said new over line ends known) fits
 
