@@ -1,8 +1,7 @@
 -- What the maps of missed regions know of a volume of a group beside marks, and behind a write.
-use Rattle.std.proofs.Common.{◌≡◌, ◌∙◌, ◌⊎◌, inl, inr, ℕ, ◌+◌, ◌/◌, ◌<◌, ◌≤◌, Bool, true, false, Option, Some, None, List, IsTrue, length, refl, sym, ap, subst, arith}
-use Rattle.std.specs.Prelude.{◌&&◌, ◌||◌, ◌-◌, ◌*◌, not}
+use Rattle.std.proofs.Common.{◌≡◌, ◌∙◌, ◌⊎◌, inl, inr, ℕ, ◌+◌, ◌/◌, ◌≤◌, Bool, true, false, Some, None, List, IsTrue, length, refl, sym, ap, subst, arith}
+use Rattle.std.specs.Prelude.{◌&&◌, ◌||◌, ◌-◌, not}
 use Rattle.vx_bitmap.specs.Bits.{is_among}
-use Rattle.vx_config.specs.Checks.{is_sound}
 use Rattle.vx_config.specs.declared.config.Config.{Config}
 use Rattle.vx_disk.specs.Shelf.{Covers, Fits, Meaning, Written, Wrote}
 use Rattle.vx_fmr.specs.Missed.{Missed, has_missed}
@@ -12,8 +11,8 @@ use Rattle.vx_group.specs.declared.group_core.GroupCore.{GroupCore}
 use Rattle.vx_group.specs.declared.inner.Inner.{Inner}
 use Rattle.vx_group.proofs.HoldLemmas.{wide_none}
 use Rattle.vx_group.proofs.Standing.{sound_of}
-use Rattle.vx_groupmaps.specs.Knowing.{MapsKnow, MapsKnowBy, or_off, or_stale}
-use Rattle.vx_groupmaps.specs.Missing.{none_spared, or_run, or_spared}
+use Rattle.vx_groupmaps.specs.Knowing.{MapsKnowBy, PlexesKnow, or_off, or_stale}
+use Rattle.vx_groupmaps.specs.Missing.{none_spared, or_run}
 use Rattle.vx_groupmaps.proofs.KnowLemmas.{know_less, read_old}
 use Rattle.vx_groupmaps.proofs.MapPlaces.{stale_off}
 use Rattle.vx_grouplogs.proofs.FreshLemmas.{fresh_active}
@@ -106,24 +105,35 @@ not_off true is = refl
 not_off false is = absurd (let clash : true ≡ false = is in cc)
 
 module _ (c d : GroupCore) (v block : ℕ) (bytes : List ℕ) (m m' : Meaning) (stands : GroupStands c m) (fits : Fits (inner_meaning (wide c) m) v block (length bytes))
+    (acts : PlexActs (OnPlexes (wide c).config v block (length bytes / 512) bytes) (wide c).config (wide d).config m m') where
+  -- what a plex reads out of the run
+  old_read : (IsTrue m'.down → ⊥) → (p b : ℕ) (x : List ℕ) → HasBlock (wide d).config v p b → (InRun block (length bytes / 512) b → ⊥) → m'.reads (place (wide d).config v p b).0 (place (wide d).config v p b).1 x → m.reads (place (wide c).config v p b).0 (place (wide c).config v p b).1 x
+  old_read up p b x has out read =
+      let has_c = has_back (wide c).config (wide d).config v (acts.shape.frames v) (acts.shape.blocks v) p b has in
+      read_old (wide c).config (sound_of (wide c) m stands.stands) v (OnPlexes (wide c).config v block (length bytes / 512) bytes) m m' (record { so = acts.acts.reads; falls = acts.acts.falls }) up p b x has_c
+      (λ put. out (put_at c d v block bytes m m' stands fits acts v p b x has_c put).1)
+      (subst (λ (s : ℕ × ℕ). m'.reads s.0 s.1 x) (acts.shape.place v p b) read)
+
+  -- plexes that read alike out of some regions go on to do so out of these and the run
+  pub plexes_wrote : (missed : ℕ → ℕ → Bool) → (IsTrue m'.down → ⊥) → PlexesKnow (wide c).config v missed m.reads → PlexesKnow (wide d).config v (or_run (first_region block) (last_region block (length bytes / 512)) missed) m'.reads
+  plexes_wrote missed up know = record {
+    so = λ p q b x y has on inside clear at_p at_q.
+        let free = split_or (is_among (first_region block) (last_region block (length bytes / 512)) (b / 64)) (missed p (b / 64)) clear in
+        know.so p q b x y (has_back (wide c).config (wide d).config v (acts.shape.frames v) (acts.shape.blocks v) p b has) (acts.on v q on) (inside_same (wide d).config (wide c).config acts.shape v b inside) free.1
+        (old_read up p b x has (out_of block (length bytes / 512) b free.0) at_p) (old_read up q b y (has_of (wide d).config v q b on inside) (out_of block (length bytes / 512) b free.0) at_q);
+  }
+
+module _ (c d : GroupCore) (v block : ℕ) (bytes : List ℕ) (m m' : Meaning) (stands : GroupStands c m) (fits : Fits (inner_meaning (wide c) m) v block (length bytes))
     (acts : PlexActs (OnPlexes (wide c).config v block (length bytes / 512) bytes) (wide c).config (wide d).config m m') (l : Logs) (know : Known c v l m) where
   abbrev n : ℕ
   n = length bytes / 512
-
-  -- what a plex reads out of the run
-  old_read : (IsTrue m'.down → ⊥) → (p b : ℕ) (x : List ℕ) → HasBlock (wide d).config v p b → (InRun block n b → ⊥) → m'.reads (place (wide d).config v p b).0 (place (wide d).config v p b).1 x → m.reads (place (wide c).config v p b).0 (place (wide c).config v p b).1 x
-  old_read up p b x has out read =
-      let has_c = has_back (wide c).config (wide d).config v (acts.shape.frames v) (acts.shape.blocks v) p b has in
-      read_old (wide c).config (sound_of (wide c) m stands.stands) v (OnPlexes (wide c).config v block n bytes) m m' (record { so = acts.acts.reads; falls = acts.acts.falls }) up p b x has_c
-      (λ put. out (put_at c d v block bytes m m' stands fits acts v p b x has_c put).1)
-      (subst (λ (s : ℕ × ℕ). m'.reads s.0 s.1 x) (acts.shape.place v p b) read)
 
   -- out of the run the maps know what they knew
   know_out : (f : Missed) → l.fmr ≡ Some f → (IsTrue m'.down → ⊥) → (p q b : ℕ) (x y : List ℕ) → HasBlock (wide d).config v p b → IsTrue (active (wide d).config v q) → Inside (wide d).config v b → has_missed f p (b / 64) ≡ false → (InRun block n b → ⊥)
       → m'.reads (place (wide d).config v p b).0 (place (wide d).config v p b).1 x → m'.reads (place (wide d).config v q b).0 (place (wide d).config v q b).1 y → x ≡ y
   know_out f is up p q b x y has on inside clear out at_p at_q =
       (know.so f is (λ down. up (acts.acts.falls down))).so p q b x y (has_back (wide c).config (wide d).config v (acts.shape.frames v) (acts.shape.blocks v) p b has) (acts.on v q on) (inside_same (wide d).config (wide c).config acts.shape v b inside) clear
-      (old_read up p b x has out at_p) (old_read up q b y (has_of (wide d).config v q b on inside) out at_q)
+      (old_read c d v block bytes m m' stands fits acts up p b x has out at_p) (old_read c d v block bytes m m' stands fits acts up q b y (has_of (wide d).config v q b on inside) out at_q)
 
   -- whatever a write did, what any plex misses of it is spared
   pub know_refused : KnownBy d v (or_run (first_region block) (last_region block n) none_spared) l m'

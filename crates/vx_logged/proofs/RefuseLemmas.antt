@@ -1,6 +1,6 @@
 -- Maps of a volume of a group behind a write that was refused, and what stands before one.
-use Rattle.std.proofs.Common.{◌≡◌, ◌∙◌, ◌⊎◌, inl, inr, ℕ, ◌+◌, ◌/◌, ◌<◌, ◌≤◌, Bool, true, false, Option, Some, None, List, IsTrue, length, refl, sym, ap, subst, arith}
-use Rattle.std.specs.Prelude.{◌&&◌, ◌||◌, OnOk, Result, Ok, Err}
+use Rattle.std.proofs.Common.{◌≡◌, ◌∙◌, inl, inr, ℕ, ◌+◌, ◌/◌, ◌<◌, ◌≤◌, Bool, true, false, Option, Some, None, List, IsTrue, refl, sym, ap, subst, arith}
+use Rattle.std.specs.Prelude.{◌&&◌, ◌||◌, Err}
 use Rattle.std.proofs.lemmas.Bool.{lt-ltb}
 use Rattle.vx_bitmap.specs.Bits.{is_among}
 use Rattle.vx_bitmap.specs.Maps.{MapOn}
@@ -9,14 +9,13 @@ use Rattle.vx_config.specs.Table.{greatest}
 use Rattle.vx_config.specs.declared.config.Config.{Config}
 use Rattle.vx_disk.specs.Blocks.{bit_at}
 use Rattle.vx_disk.specs.Causes.{Cause}
-use Rattle.vx_disk.specs.Counts.{Rose}
-use Rattle.vx_disk.specs.Shelf.{Fits, Goes, Lawful, Meaning, Nothing, Written}
+use Rattle.vx_disk.specs.Shelf.{Goes, Lawful, Meaning, Nothing, Written}
 use Rattle.vx_disk.specs.declared.shelf.ShelfError.{ShelfError}
 use Rattle.vx_disk.specs.declared.shelf.ShelfError.TheVariants.{Fault, Down}
 use Rattle.vx_disk.proofs.Causing.{Rose_after}
-use Rattle.vx_disk.proofs.Runs.{nothing_then, then_nothing, weaker}
+use Rattle.vx_disk.proofs.Runs.{then_nothing, weaker}
 use Rattle.vx_drl.specs.Dirty.{Dirty}
-use Rattle.vx_fmr.specs.Missed.{FmrLoaded, Missed, has_missed}
+use Rattle.vx_fmr.specs.Missed.{FmrLoaded, Missed}
 use Rattle.vx_group.specs.Holding.{GroupStands, wide}
 use Rattle.vx_group.specs.Stands.{inner_meaning, volume_faults}
 use Rattle.vx_group.specs.declared.group_core.GroupCore.{GroupCore}
@@ -31,30 +30,27 @@ use Rattle.vx_grouplogs.proofs.FreshLemmas.{fresh_active}
 use Rattle.vx_grouplogs.proofs.GroupLemmas.{logs_keep}
 use Rattle.vx_grouplogs.proofs.KnowActs.{know_logs, know_none, logs_off_plex}
 use Rattle.vx_grouplogs.proofs.LogPlaces.{logs_above}
-use Rattle.vx_grouplogs.proofs.LogShape.{fits_same, has_back, same_count}
+use Rattle.vx_grouplogs.proofs.LogShape.{has_back}
 use Rattle.vx_grouplogs.proofs.MapLemmas.{goes_logs, maps_logs, on_mapped}
 use Rattle.vx_grouplogs.proofs.OnCalls.{on_others}
 use Rattle.vx_groupmaps.specs.Knowing.{MapsKnow, MapsKnowBy, MapsNote, or_those}
 use Rattle.vx_groupmaps.specs.Missing.{HoldMissed, OnMaps, none_spared, or_run}
 use Rattle.vx_groupmaps.specs.Refusing.{MapBlocks, all_plexes, first_plexes}
 use Rattle.vx_groupmaps.proofs.BetweenLemmas.{goes_reads}
-use Rattle.vx_groupmaps.proofs.KnowLemmas.{know_less, note_more, note_none, plex_below, those_know, those_noted}
+use Rattle.vx_groupmaps.proofs.KnowLemmas.{know_less, note_more, plex_below, those_know, those_noted}
 use Rattle.vx_groupmaps.proofs.MapPlaces.{has_stale, maps_on, stale_off}
 use Rattle.vx_groupmaps.proofs.RefusedLemmas.{has_all}
 use Rattle.vx_kept.specs.Finds.{FindsFrom, NoConfiguration}
 use Rattle.vx_kept.specs.Keeping.{frame_at}
 use Rattle.vx_layout.specs.Places.{HasBlock, place}
-use Rattle.vx_logs.specs.Held.{FmrRun, LogsFit, LogsStand, stale}
-use Rattle.vx_logs.specs.Noting.{FmrAnswers, FmrEnds, FmrKeeps}
+use Rattle.vx_logs.specs.Held.{FmrRun, stale}
+use Rattle.vx_logs.specs.Noting.{FmrEnds, FmrKeeps}
 use Rattle.vx_logs.specs.declared.logs.Logs.{Logs}
 use Rattle.vx_logs.proofs.MarkLemmas.{fits_later as logs_later, same_drl}
-use Rattle.vx_model.specs.declared.no.No.{No}
-use Rattle.vx_model.specs.declared.no.No.TheVariants as refusal
 use Rattle.vx_volume.specs.Plexes.{DisksFit, Inside, active}
 use Rattle.vx_volume.proofs.PlaceLemmas.{count_few}
 use Rattle.vx_logged.specs.Behind.{MapSaid, MarkedBefore, all_those}
 use Rattle.vx_logged.specs.Logged.{MapKept, Narrowed, OthersOn}
-use Rattle.vx_logged.proofs.StandLemmas.{inner_wide}
 
 -- ---- calls on the log of missed regions of a volume, whatever plex is held back
 

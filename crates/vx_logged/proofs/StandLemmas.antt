@@ -1,5 +1,5 @@
 -- The logs of a group beside its calls, and the group beside calls on a log.
-use Rattle.std.proofs.Common.{◌≡◌, ◌∙◌, inl, inr, ⊎_elim, ℕ, ◌/◌, ◌≤◌, Bool, true, false, IsTrue, Option, Some, None, List, length, refl, sym, ap, subst, arith}
+use Rattle.std.proofs.Common.{◌≡◌, ◌∙◌, inl, inr, ⊎_elim, ℕ, ◌/◌, Bool, true, false, IsTrue, Option, Some, None, List, length, refl, sym, ap, subst, arith}
 use Rattle.vx_config.specs.Checks.{blocks_of, is_sound}
 use Rattle.vx_config.specs.declared.config.Config.{Config}
 use Rattle.vx_model.specs.declared.site.PlexState.TheVariants.{Stale}
@@ -8,10 +8,9 @@ use Rattle.vx_disk.specs.Causes.{Cause}
 use Rattle.vx_disk.specs.declared.shelf.ShelfError.{ShelfError}
 use Rattle.vx_disk.specs.declared.shelf.ShelfError.TheVariants.{Fault, Down}
 use Rattle.vx_disk.specs.Shelf.{Fits, Flushed, Goes, Lawful, Meaning, Nothing, Values, Wrote}
-use Rattle.vx_disk.proofs.Runs.{then_nothing}
 use Rattle.vx_kept.specs.Commits.{Member}
 use Rattle.vx_kept.specs.Finds.{FindsFrom, NoConfiguration}
-use Rattle.vx_kept.specs.Groups.{OnSome, OutsideVolumes}
+use Rattle.vx_kept.specs.Groups.{OnSome}
 use Rattle.vx_kept.specs.Keeping.{Kept, SameShape}
 use Rattle.vx_kept.specs.PlexActs.{PlexActs}
 use Rattle.vx_kept.specs.States.{whole_of}
@@ -29,7 +28,7 @@ use Rattle.vx_groupmaps.specs.Missing.{none_spared}
 use Rattle.vx_volume.specs.Volumes.{OnPlexes}
 use Rattle.vx_group.specs.Calls.{GroupNarrows}
 use Rattle.vx_group.specs.Holding.{GroupStands, active_at, config_by, wide}
-use Rattle.vx_group.specs.Stands.{InnerStands, inner_meaning, volume_faults}
+use Rattle.vx_group.specs.Stands.{inner_meaning, volume_faults}
 use Rattle.vx_group.specs.declared.group_core.GroupCore.{GroupCore}
 use Rattle.vx_group.specs.declared.group_core.Held.{Held}
 use Rattle.vx_group.specs.declared.inner.Inner.{Inner}
@@ -37,13 +36,13 @@ use Rattle.vx_group.proofs.HoldLemmas.{wide_none, wide_shape}
 use Rattle.vx_group.proofs.Standing.{fit_of, kept_of, low_Stands, low_finds, sound_of}
 use Rattle.vx_grouplogs.specs.Covering.{AllAlike, OnLogs}
 use Rattle.vx_grouplogs.specs.Keeps.{KeepsGroup}
-use Rattle.vx_grouplogs.specs.Marking.{HoldRegions, MarksFewer, MarksOnly, NoMarks}
+use Rattle.vx_grouplogs.specs.Marking.{MarksFewer, MarksOnly, NoMarks}
 use Rattle.vx_model.specs.Sizes.{regions_of as regions_in}
-use Rattle.vx_grouplogs.specs.On.{ReadsOne, SparesVolume, VolumeOn}
+use Rattle.vx_grouplogs.specs.On.{ReadsOne, VolumeOn}
 use Rattle.vx_grouplogs.proofs.KnowActs.{know_acts, know_idle, know_logs}
 use Rattle.vx_grouplogs.proofs.LogPlaces.{logs_above}
 use Rattle.vx_grouplogs.proofs.OnLemmas.{on_acts, spares_marked, spares_none, spares_other}
-use Rattle.vx_logged.specs.Logged.{EachOn, Known, KnownBy, LogKept, LogOn, MayWrite, Narrowed, OthersOn}
+use Rattle.vx_logged.specs.Logged.{EachOn, KnownBy, LogOn, MayWrite, Narrowed, OthersOn}
 
 -- ---- calls that write no block of a plex or a log
 

@@ -1,22 +1,16 @@
 -- What the logs of a group tell of each image.
-use Rattle.std.proofs.Common.{◌≡◌, ◌∙◌, ℕ, ◌+◌, ◌/◌, ◌%◌, ◌<◌, true, false, IsTrue, List, length, refl, sym, ap, subst, arith}
+use Rattle.std.proofs.Common.{◌≡◌, ◌∙◌, ℕ, ◌+◌, ◌/◌, ◌%◌, ◌<◌, true, false, List, length, sym, ap, arith}
 use Rattle.std.specs.Prelude.{not}
 use Rattle.vx_bitmap.specs.Bits.{is_marked}
 use Rattle.vx_config.specs.declared.config.Config.{Config}
 use Rattle.vx_config.specs.declared.entry.LogEntry.{LogEntry}
-use Rattle.vx_config.specs.declared.entry.VolumeEntry.{VolumeEntry}
 use Rattle.vx_config.specs.declared.entry.VolumeLog.TheVariants.{Drl}
-use Rattle.vx_copyfmt.specs.Imports.{Found}
 use Rattle.vx_disk.specs.Shelf.{Each, Image, Meaning}
-use Rattle.vx_kept.specs.Choice.{live}
-use Rattle.vx_kept.specs.Groups.{found}
 use Rattle.vx_kept.specs.Keeping.{Kin}
 use Rattle.vx_kept.specs.LogRuns.{log_trusted, trusted_or}
 use Rattle.vx_kept.proofs.Low.{found_same}
-use Rattle.vx_layout.specs.Places.{place}
 use Rattle.vx_logs.specs.Held.{InUse, logged_in}
 use Rattle.vx_logs.specs.declared.logs.Logs.{Logs}
-use Rattle.vx_maplog.specs.Logs.{log_of}
 use Rattle.vx_volume.specs.Plexes.{Inside}
 use Rattle.vx_group.specs.Holding.{GroupStands, wide}
 use Rattle.vx_group.specs.declared.group_core.GroupCore.{GroupCore}

@@ -1,5 +1,5 @@
 -- What stands in the logs of a volume before its plexes are written.
-use Rattle.std.specs.Prelude.{◌≡◌, ◌⊎◌, ◌+◌, ◌≤◌, ℕ, Bool, false, true, List, Result, Ok, Err}
+use Rattle.std.specs.Prelude.{◌⊎◌, ◌+◌, ◌≤◌, ℕ, Bool, false, true, List, Result, Ok, Err}
 use Rattle.vx_config.specs.Table.{greatest}
 use Rattle.vx_disk.specs.Shelf.{Goes, Meaning, Nothing, Written}
 use Rattle.vx_group.specs.Holding.{GroupStands, wide}
@@ -8,7 +8,7 @@ use Rattle.vx_group.specs.declared.group_core.GroupCore.{GroupCore}
 use Rattle.vx_groupmaps.specs.Missing.{HoldMissed}
 use Rattle.vx_logs.specs.Held.{LogsStand}
 use Rattle.vx_logs.specs.declared.logs.Logs.{Logs}
-use Rattle.vx_logged.specs.Logged.{LogKept, LogOn, MapKept, MayWrite, are_off}
+use Rattle.vx_logged.specs.Logged.{LogKept, MapKept, MayWrite, are_off}
 
 -- the log of missed regions is in memory, or held as lost, unless no serial is left to say so
 abbrev pub MapSaid : GroupCore → ℕ → Logs → Type 0

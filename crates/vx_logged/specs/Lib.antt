@@ -1,3 +1,4 @@
 pub mod Logged
 pub mod Tells
 pub mod Behind
+pub mod Begun

@@ -1,7 +1,7 @@
 // Marks of a group that are taken off behind a flush.
 ghost use Rattle.vx_grouplogs.specs.Gone.{LogsDrop};
 ghost use Rattle.vx_group.specs.Finds.{GroupFinds};
-ghost use Rattle.std.specs.Prelude.{◌≡◌, ◌+◌, ◌<◌, ◌≤◌, false, true, IfErr, IfOk, OnOk};
+ghost use Rattle.std.specs.Prelude.{◌≡◌, ◌+◌, ◌<◌, ◌≤◌, ℕ, false, true, IfErr, IfOk, OnOk};
 ghost use Rattle.vx_config.specs.Table.{greatest};
 ghost use Rattle.vx_disk.specs.Causes.{Cause};
 ghost use Rattle.vx_disk.specs.Shelf.{Goes, Nothing};
@@ -15,6 +15,7 @@ ghost use Rattle.vx_grouplogs.specs.Marking.{HoldsMany, MarksFewer, NoMarks};
 ghost use Rattle.vx_groupmaps.specs.Knowing.{MapsStay};
 ghost use Rattle.vx_logged.specs.Logged.{Known, LogOn, Narrowed, OthersOn, TrustsIn};
 ghost use Rattle.vx_model.specs.Sizes.{regions_of as regions_in};
+ghost use Rattle.vx_volume.specs.Plexes.{active};
 
 use crate::keeping::keep_log;
 use crate::readying::ready_group;
@@ -46,6 +47,7 @@ pub fn clear_group<S: Shelf>(
     ensures maps { Known core.old vol logs.old (S.meaning shelf.old) → Known core.new vol logs.new (S.meaning shelf.new) }
     ensures stay { MapsStay logs.old logs.new }
     ensures narrow { Narrowed core.old core.new }
+    ensures still { (w p : ℕ) → active core.new.inner.config w p ≡ active core.old.inner.config w p }
     ensures below { SameUnits (S.meaning shelf.old) (S.meaning shelf.new) }
     ensures off { IfOk result (λ done. done ≡ true → HoldsMany logs.old.drl → NoMarks (regions_in (blocks_of_is (wide core.old).config.volumes vol)) logs.new) }
     ensures full { IfOk result (λ done. done ≡ false → greatest ≤ core.old.inner.config.serial + 18) }

@@ -1,7 +1,8 @@
 // A flush of a group behind which marks are taken off.
 ghost use Rattle.vx_grouplogs.specs.Gone.{LogsDrop};
 ghost use Rattle.vx_group.specs.Finds.{GroupFinds};
-ghost use Rattle.std.specs.Prelude.{◌≡◌, ◌<◌, false, true, IfErr, IsTrue, OnOk};
+ghost use Rattle.std.specs.Prelude.{◌≡◌, ◌⊎◌, ◌+◌, ◌<◌, ◌≤◌, false, true, IfErr, IsTrue, OnOk};
+ghost use Rattle.vx_config.specs.Table.{greatest};
 ghost use Rattle.vx_disk.specs.Causes.{Cause};
 ghost use Rattle.vx_disk.specs.Shelf.{Flushed, Goes, Nothing};
 ghost use Rattle.vx_group.specs.Holding.{GroupStands, wide};
@@ -10,10 +11,12 @@ ghost use Rattle.vx_group.specs.Stands.{inner_meaning};
 ghost use Rattle.vx_config.specs.Checks.{blocks_of as blocks_of_is};
 ghost use Rattle.vx_grouplogs.specs.Marking.{MarksFewer};
 ghost use Rattle.vx_grouplogs.specs.On.{ReadsOne};
-ghost use Rattle.vx_groupmaps.specs.Knowing.{MapsStay};
+ghost use Rattle.vx_logged.specs.Begun.{MapsBut, MapsOff, fell_in};
+ghost use Rattle.vx_logged.specs.Behind.{none_missing};
 ghost use Rattle.vx_logged.specs.Logged.{Known, LogOn, OthersOn, TrustsIn};
 ghost use Rattle.vx_model.specs.Sizes.{regions_of as regions_in};
 
+use crate::beginning::{actives, keep_fallen};
 use crate::clearing::clear_group;
 use vx_disk::{Shelf, ShelfError};
 use vx_group::{GroupCore, flush_group};
@@ -21,7 +24,7 @@ use vx_logs::Logs;
 
 /// Makes a volume durable, and takes the marks off its log where more than 64 regions were marked since. So it is only where logs are not
 /// stopped, and where the caller is sure that each block of the volume reads as one value on all plexes that are ACTIVE: else it is a flush
-/// and no more.
+/// and no more. A plex that fails in the flush has missed nothing: its map is empty then, unless no serial is left.
 pub fn flush_cleared<S: Shelf>(
     shelf: &mut S,
     core: &mut GroupCore,
@@ -41,7 +44,8 @@ pub fn flush_cleared<S: Shelf>(
     ensures others { OthersOn vol core.old core.new (S.meaning shelf.old) (S.meaning shelf.new) }
     ensures fewer { MarksFewer (regions_in (blocks_of_is (wide core.old).config.volumes vol)) logs.old logs.new }
     ensures maps { Known core.old vol logs.old (S.meaning shelf.old) → Known core.new vol logs.new (S.meaning shelf.new) }
-    ensures stay { MapsStay logs.old logs.new }
+    ensures notes { MapsBut (fell_in core.old core.new vol) none_missing 0 0 logs.old logs.new }
+    ensures begins { sure ≡ true → OnOk result (MapsOff (fell_in core.old core.new vol) logs.new ⊎ (greatest ≤ core.new.inner.config.serial + 9)) }
     ensures drops { LogsDrop (wide core.old).config vol logs.old logs.new (S.meaning shelf.old) (S.meaning shelf.new) }
     ensures trusts { TrustsIn vol logs.new core.old.inner.config core.new.inner.config }
     ensures trust { OnOk result (core.old.inner.committed ≡ true → core.new.inner.committed ≡ true) }
@@ -49,11 +53,19 @@ pub fn flush_cleared<S: Shelf>(
     ensures finds { GroupFinds core.old core.new (S.meaning shelf.old) (S.meaning shelf.new) }
     ensures cause { Cause (inner_meaning (wide core.old) (S.meaning shelf.old)) (inner_meaning (wide core.new) (S.meaning shelf.new)) vol result }
 {
+    let was = actives(&core.inner.config, vol);
     match flush_group(shelf, core, vol) {
         Ok(()) => {}
         Err(error) => return Err(error),
     }
     if !sure {
+        return Ok(());
+    }
+    let done = match keep_fallen(shelf, core, logs, &was, vol) {
+        Ok(done) => done,
+        Err(refused) => return Err(refused),
+    };
+    if !done {
         return Ok(());
     }
     match clear_group(shelf, core, logs, vol) {

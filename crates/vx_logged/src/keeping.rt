@@ -89,6 +89,7 @@ pub fn keep_log<S: Shelf>(
     ensures logs { EachOn core.old core.new (S.meaning shelf.old) (S.meaning shelf.new) }
     ensures narrow { Narrowed core.old core.new }
     ensures below { SameUnits (S.meaning shelf.old) (S.meaning shelf.new) }
+    ensures still { core.old.held ≡ None → (w p : ℕ) → active core.new.inner.config w p ≡ active core.old.inner.config w p }
     ensures kept { IfOk result (λ done. done ≡ true → LogKept core.new vol logs.now) }
     ensures full { IfOk result (λ done. done ≡ false → greatest ≤ core.old.inner.config.serial + 9) }
     ensures spent { IfOk result (λ done. done ≡ false → greatest ≤ core.new.inner.config.serial + 9) }
@@ -143,6 +144,7 @@ pub fn keep_logs<S: Shelf>(
     ensures logs { EachOn core.old core.new (S.meaning shelf.old) (S.meaning shelf.new) }
     ensures narrow { Narrowed core.old core.new }
     ensures below { SameUnits (S.meaning shelf.old) (S.meaning shelf.new) }
+    ensures still { core.old.held ≡ None → (w p : ℕ) → active core.new.inner.config w p ≡ active core.old.inner.config w p }
     ensures kept { IfOk result (λ done. done ≡ true → LogKept core.new vol logs.now) }
     ensures said { IfOk result (λ done. done ≡ true → MapSaid core.new vol logs.now) }
     ensures full { IfOk result (λ done. done ≡ false → greatest ≤ core.old.inner.config.serial + 9) }

@@ -4,6 +4,7 @@
 //! Of a block of which the log has not the region, each plex that is ACTIVE has the same, whatever a crash leaves, at each moment between calls.
 #![tactic(auto)]
 
+mod beginning;
 mod clearing;
 mod crashing;
 mod detaching;

@@ -1,7 +1,7 @@
 // Marks of a group before a write.
 ghost use Rattle.vx_grouplogs.specs.Gone.{LogsDrop};
 ghost use Rattle.vx_group.specs.Finds.{GroupFinds};
-ghost use Rattle.std.specs.Prelude.{◌≡◌, ◌+◌, ◌<◌, ◌≤◌, ℕ, Bool, false, true, IfErr, IfOk, OnOk};
+ghost use Rattle.std.specs.Prelude.{◌≡◌, ◌+◌, ◌<◌, ◌≤◌, ℕ, Bool, false, true, IfErr, IfOk, IsTrue, OnOk};
 ghost use Rattle.vx_config.specs.Table.{greatest};
 ghost use Rattle.vx_config.specs.Checks.{blocks_of as blocks_of_is};
 ghost use Rattle.vx_disk.specs.Causes.{Cause};
@@ -10,12 +10,13 @@ ghost use Rattle.vx_group.specs.Holding.{GroupStands, wide};
 ghost use Rattle.vx_group.specs.Loses.{LosesAlong};
 ghost use Rattle.vx_group.specs.Stands.{inner_meaning};
 ghost use Rattle.vx_grouplogs.specs.Marking.{MarksOnly};
-ghost use Rattle.vx_groupmaps.specs.Knowing.{MapsNote, or_off};
+ghost use Rattle.vx_groupmaps.specs.Knowing.{MapsNote, PlexesKnow, or_off};
 ghost use Rattle.vx_groupmaps.specs.Missing.{HoldMissed};
 ghost use Rattle.vx_logged.specs.Behind.{MapSaid};
 ghost use Rattle.vx_logged.specs.Logged.{KnownBy, LogOn, MayWrite, Narrowed, OthersOn, TrustsIn, are_off};
 ghost use Rattle.vx_logs.specs.Writes.{first_region, last_region};
 ghost use Rattle.vx_model.specs.Sizes.{regions_of as regions_in};
+ghost use Rattle.vx_volume.specs.Plexes.{active};
 
 use crate::keeping::keep_logs;
 use crate::readying::ready_group;
@@ -47,6 +48,8 @@ pub fn mark_group<S: Shelf>(
     ensures others { OthersOn vol core.old core.new (S.meaning shelf.old) (S.meaning shelf.new) }
     ensures adds { MarksOnly (regions_in (blocks_of_is (wide core.old).config.volumes vol)) (first_region block) (last_region block count) logs.old logs.new }
     ensures narrow { Narrowed core.old core.new }
+    ensures still { (w p : ℕ) → active core.new.inner.config w p ≡ active core.old.inner.config w p }
+    ensures plexes { (missed : ℕ → ℕ → Bool) → (IsTrue (S.meaning shelf.new).down → ⊥) → PlexesKnow (wide core.old).config vol missed (S.meaning shelf.old).reads → PlexesKnow (wide core.new).config vol missed (S.meaning shelf.new).reads }
     ensures maps { (spare : ℕ → ℕ → Bool) → KnownBy core.old vol spare logs.old (S.meaning shelf.old) → KnownBy core.new vol spare logs.new (S.meaning shelf.new) }
     ensures knows { (spare : ℕ → ℕ → Bool) → KnownBy core.old vol (or_off (wide core.old).config vol (first_region block) (last_region block count) spare) logs.old (S.meaning shelf.old) → IfOk result (λ done. done ≡ true → KnownBy core.new vol spare logs.new (S.meaning shelf.new)) }
     ensures notes { MapsNote (are_off core.new vol) (first_region block) (last_region block count) logs.old logs.new }

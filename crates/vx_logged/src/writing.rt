@@ -10,13 +10,17 @@ ghost use Rattle.vx_group.specs.Loses.{LosesAlong};
 ghost use Rattle.vx_group.specs.Stands.{inner_meaning};
 ghost use Rattle.vx_config.specs.Checks.{blocks_of as blocks_of_is};
 ghost use Rattle.vx_grouplogs.specs.Marking.{MarksOnly};
+ghost use Rattle.vx_grouplogs.specs.On.{ReadsOne};
 ghost use Rattle.vx_groupmaps.specs.Knowing.{MapsNote, or_off};
 ghost use Rattle.vx_groupmaps.specs.Missing.{none_spared, or_run};
+ghost use Rattle.vx_logged.specs.Begun.{MapsBut, MapsOfRun, ReadsBut, fell_in};
 ghost use Rattle.vx_logged.specs.Behind.{AreKept, MarkedBefore, those_missing};
 ghost use Rattle.vx_logged.specs.Logged.{DropsBut, Known, KnownBy, LogOn, Narrowed, OthersOn, TrustsIn, are_off};
 ghost use Rattle.vx_logs.specs.Writes.{first_region, last_region};
 ghost use Rattle.vx_model.specs.Sizes.{regions_of as regions_in};
+ghost use Rattle.vx_volume.specs.Plexes.{active};
 
+use crate::beginning::{actives, mark_fallen};
 use crate::marking::mark_group;
 use crate::refusing::miss_refused;
 use vx_disk::{Shelf, ShelfError};
@@ -47,6 +51,7 @@ fn write_first<S: Shelf>(
     ensures written { stopped.new ≡ false → OnOk result (Known core.old vol logs.old (S.meaning shelf.old) → KnownBy core.new vol (or_off (wide core.new).config vol (first_region block) (last_region block (length bytes.now / 512)) none_spared) logs.new (S.meaning shelf.new)) }
     ensures notes { MapsNote (are_off core.new vol) (first_region block) (last_region block (length bytes.now / 512)) logs.old logs.new }
     ensures missed { stopped.new ≡ false → Known core.old vol logs.old (S.meaning shelf.old) → KnownBy core.new vol (or_run (first_region block) (last_region block (length bytes.now / 512)) none_spared) logs.new (S.meaning shelf.new) }
+    ensures alike { stopped.new ≡ false → OnOk result (ReadsOne (wide core.old).config vol (S.meaning shelf.old) → ReadsBut (wide core.new).config vol (active (wide core.old).config vol) (first_region block) (last_region block (length bytes.now / 512)) (S.meaning shelf.new)) }
     ensures marked { stopped.new ≡ false → MarkedBefore (λ s. S.meaning s) vol block bytes.now (first_region block) (last_region block (length bytes.now / 512)) core.old core.new (S.meaning shelf.old) (S.meaning shelf.new) }
     ensures stays { stopped.old ≡ true → stopped.new ≡ true }
     ensures full { stopped.old ≡ false → stopped.new ≡ true → greatest ≤ core.old.inner.config.serial + 18 }
@@ -82,6 +87,7 @@ pub fn write_marked<S: Shelf>(
     core: &mut GroupCore,
     logs: &mut Logs,
     stopped: &mut bool,
+    sure: bool,
     vol: u32,
     block: u64,
     bytes: &[u8],
@@ -89,6 +95,7 @@ pub fn write_marked<S: Shelf>(
     requires stands { GroupStands core.old (S.meaning shelf.old) }
     requires fits { Fits (inner_meaning (wide core.old) (S.meaning shelf.old)) vol block (length bytes.now) }
     requires log { stopped.old ≡ false → LogOn core.old vol logs.old (S.meaning shelf.old) }
+    requires one { sure ≡ true → ReadsOne (wide core.old).config vol (S.meaning shelf.old) }
     ensures stands { GroupStands core.new (S.meaning shelf.new) }
     ensures goes { Goes (Written vol block bytes.now) (inner_meaning (wide core.old) (S.meaning shelf.old)) (inner_meaning (wide core.new) (S.meaning shelf.new)) }
     ensures loses { LosesAlong core.old.inner.config core.new.inner.config (S.meaning shelf.old) (S.meaning shelf.new) }
@@ -97,7 +104,8 @@ pub fn write_marked<S: Shelf>(
     ensures others { OthersOn vol core.old core.new (S.meaning shelf.old) (S.meaning shelf.new) }
     ensures adds { MarksOnly (regions_in (blocks_of_is (wide core.old).config.volumes vol)) (first_region block) (last_region block (length bytes.now / 512)) logs.old logs.new }
     ensures maps { stopped.new ≡ false → Known core.old vol logs.old (S.meaning shelf.old) → Known core.new vol logs.new (S.meaning shelf.new) }
-    ensures notes { MapsNote (those_missing core.new vol result) (first_region block) (last_region block (length bytes.now / 512)) logs.old logs.new }
+    ensures notes { MapsBut (fell_in core.old core.new vol) (those_missing core.new vol result) (first_region block) (last_region block (length bytes.now / 512)) logs.old logs.new }
+    ensures begins { sure ≡ true → stopped.new ≡ false → OnOk result (MapsOfRun (fell_in core.old core.new vol) (first_region block) (last_region block (length bytes.now / 512)) logs.new) }
     ensures marked { stopped.new ≡ false → MarkedBefore (λ s. S.meaning s) vol block bytes.now (first_region block) (last_region block (length bytes.now / 512)) core.old core.new (S.meaning shelf.old) (S.meaning shelf.new) }
     ensures stays { stopped.old ≡ true → stopped.new ≡ true }
     ensures full { stopped.old ≡ false → stopped.new ≡ true → greatest ≤ core.old.inner.config.serial + 18 }
@@ -110,6 +118,7 @@ pub fn write_marked<S: Shelf>(
     ensures cause { Cause (inner_meaning (wide core.old) (S.meaning shelf.old)) (inner_meaning (wide core.new) (S.meaning shelf.new)) vol result }
 {
     let count = (bytes.len() / 512) as u64;
+    let was = actives(&core.inner.config, vol);
     match write_first(shelf, core, logs, stopped, vol, block, bytes) {
         Ok(()) => {}
         Err(error) => {
@@ -119,7 +128,7 @@ pub fn write_marked<S: Shelf>(
     if *stopped {
         return Ok(());
     }
-    match mark_group(shelf, core, logs, vol, block, count) {
+    match mark_fallen(shelf, core, logs, sure, &was, vol, block, count) {
         Ok(done) => {
             if !done {
                 logs.fmr = None;

@@ -2,8 +2,10 @@
 use Rattle.std.proofs.Common.{◌≡◌, ◌⊎◌, ◌∙◌, inl, inr, ℕ, ◌<◌, Bool, true, false, IsTrue, Option, Some, List, length, refl, sym, ap, subst, arith}
 use Rattle.std.proofs.Math.ListN.{set}
 use Rattle.std.proofs.lemmas.List.{length-set}
-use Rattle.std.specs.Prelude.{slice_get}
+use Rattle.std.specs.Prelude.{OnOk, Result, Ok, Err, slice_get}
 use Rattle.vx_config.specs.declared.config.Config.{Config}
+use Rattle.vx_disk.specs.Causes.{Cause}
+use Rattle.vx_disk.specs.declared.shelf.ShelfError.{ShelfError}
 use Rattle.vx_disk.specs.Shelf.{Covers, Goes, Meaning, Nothing, Values, Written, Wrote}
 use Rattle.vx_kept.specs.Groups.{OnSome, OutsideVolumes}
 use Rattle.vx_volume.specs.Plexes.{Inside}
@@ -16,13 +18,13 @@ use Rattle.vx_group.specs.declared.group_core.Held.{Held}
 use Rattle.vx_group.proofs.HoldLemmas.{wide_shape}
 use Rattle.vx_grouplogs.specs.Marking.{MarksFewer, MarksOnly}
 use Rattle.vx_grouplogs.specs.On.{ReadsOne}
-use Rattle.vx_groupmaps.specs.Knowing.{MapsNote}
 use Rattle.vx_groupmaps.specs.Missing.{none_spared}
+use Rattle.vx_logged.specs.Begun.{MapsBut, MapsOff, MapsOfRun}
 use Rattle.vx_logged.specs.Logged.{EachOn, Known, LogOn, OthersOn}
 use Rattle.vx_logged.proofs.StandLemmas.{each_on, same_fewer, same_only}
 use Rattle.vx_logs.specs.declared.logs.Logs.{Logs}
 use Rattle.vx_loggroup.specs.LoggedVolumes.{LoggedStands, OthersStand, VolumeStands, is_alike}
-use Rattle.vx_loggroup.specs.Marks.{ClearsVolume, MarksVolume, NotesMaps, region_count}
+use Rattle.vx_loggroup.specs.Marks.{ClearsVolume, EmptyMaps, MarksVolume, NotesMaps, RunsMaps, region_count}
 use Rattle.vx_loggroup.proofs.SetLemmas.{set_each, set_here, set_other}
 
 module _ (W : Values) (c d : GroupCore) (m m' : Meaning) (goes : Goes W (inner_meaning (wide c) m) (inner_meaning (wide d) m')) where
@@ -150,13 +152,19 @@ marks_set c v first last ls l k is marks = record {
 }
 
 -- which regions of maps are noted then
-pub notes_set : (those : ℕ → Bool) (v first last : ℕ) (ls : List Logs) (l k : Logs) → slice_get ls v ≡ Some l → MapsNote those first last l k → NotesMaps those v first last ls (set ls v k)
-notes_set those v first last ls l k is notes = record {
+pub notes_set : (fell those : ℕ → Bool) (v first last : ℕ) (ls : List Logs) (l k : Logs) → slice_get ls v ≡ Some l → MapsBut fell those first last l k → NotesMaps fell those v first last ls (set ls v k)
+notes_set fell those v first last ls l k is notes = record {
   here = λ x y f g was now at on.
       let old : l ≡ x = same_item (slice_get ls v) l x is was in
       let new : k ≡ y = set_here ls v k y now in
       notes.each f g (ap (λ (z : Logs). z.fmr) old ∙ at) (ap (λ (z : Logs). z.fmr) new ∙ on);
 }
+
+pub runs_set : (these : ℕ → Bool) (v first last : ℕ) (ls : List Logs) (k : Logs) → MapsOfRun these first last k → RunsMaps these v first last (set ls v k)
+runs_set these v first last ls k run = record { here = λ y now. subst (λ (z : Logs). MapsOfRun these first last z) (set_here ls v k y now) run }
+
+pub off_set : (these : ℕ → Bool) (v : ℕ) (ls : List Logs) (k : Logs) → MapsOff these k → EmptyMaps these v (set ls v k)
+off_set these v ls k off = record { here = λ y now. subst (λ (z : Logs). MapsOff these z) (set_here ls v k y now) off }
 
 pub clears_none : (c : Config) (v : ℕ) (ls : List Logs) → ClearsVolume c v ls ls
 clears_none c v ls = record {
@@ -171,3 +179,12 @@ clears_set c v ls l k is fewer = record {
       subst (MarksFewer (region_count c v) x) (set_here ls v k y now) (subst (λ (z : Logs). MarksFewer (region_count c v) z k) old fewer);
   others = λ w apart. set_other ls v k w apart;
 }
+
+pub up_false : (b : Bool) → (IsTrue b → ⊥) → b ≡ false
+up_false true up = absurd (up refl)
+up_false false up = refl
+
+-- what is said where a call began up is said of each that was done
+pub done_up : {T P Q : Type 0} (r : Result T ShelfError) (a b : Meaning) (v : ℕ) → Cause a b v r → ((IsTrue a.down → ⊥) → OnOk r P) → (P → Q) → OnOk r Q
+done_up (Ok x) a b v cause so to = to (so cause.before)
+done_up (Err e) a b v cause so to = tt

@@ -1,6 +1,6 @@
 -- Volumes of which a crash leaves one value of each block, beside calls; and logs that begin.
 use Rattle.std.proofs.Common.{◌≡◌, ◌∙◌, inl, inr, ℕ, ◌<◌, ◌≤◌, Bool, true, false, IsTrue, Option, Some, None, List, length, refl, sym, ap, subst, arith}
-use Rattle.std.specs.Prelude.{is_some, slice_get}
+use Rattle.std.specs.Prelude.{◌&&◌, is_some, not, slice_get}
 use Rattle.std.proofs.Math.ListN.{set}
 use Rattle.std.proofs.lemmas.Bool.{cases_eq}
 use Rattle.std.proofs.lemmas.List.{length-set}
@@ -27,10 +27,13 @@ use Rattle.vx_logged.proofs.StandLemmas.{others_then, same_only}
 use Rattle.vx_logs.specs.Held.{stale}
 use Rattle.vx_logs.specs.declared.logs.Logs.{Logs}
 use Rattle.vx_model.specs.Sizes.{regions_of}
-use Rattle.vx_volume.specs.Plexes.{Inside}
+use Rattle.vx_volume.specs.Plexes.{active, Inside}
 use Rattle.vx_loggroup.specs.Fresh.{LogsStart, FirstLogs, FreshStands, LogsFirst}
 use Rattle.vx_loggroup.specs.LoggedVolumes.{is_alike}
-use Rattle.vx_loggroup.specs.Marks.{MarksVolume, NotesMaps, region_count}
+use Rattle.vx_loggroup.specs.Marks.{MarksVolume, NotesMaps, RunsMaps, region_count}
+use Rattle.vx_logged.specs.Begun.{fell_in}
+use Rattle.vx_logged.proofs.BeginLemmas.{but_note}
+use Rattle.vx_logged.proofs.FallenLemmas.{run_less}
 use Rattle.vx_loggroup.proofs.SetLemmas.{item_at, set_here, set_other}
 
 -- ---- volumes that are fresh
@@ -208,15 +211,25 @@ lists_only c v first last ls ks one = record {
 }
 
 -- notes of a write
-pub lists_notes : (those : ℕ → Bool) (v n first last : ℕ) (ls ks js : List Logs) → LogsFirst v n ls ks → NotesMaps those v first last ks js → NotesMaps those v first last ls js
-lists_notes those v n first last ls ks js one two = record {
-  here = λ l j f h was now has gets. let k = kept_item v n ls ks l one was in two.here k.0 j f h k.1 now ((one.here l k.0 was k.1).fmr f has) gets;
+pub lists_notes : (fell fall those : ℕ → Bool) (v n first last : ℕ) (ls ks js : List Logs) → ((p : ℕ) → fell p ≡ fall p) → LogsFirst v n ls ks → NotesMaps fell those v first last ks js → NotesMaps fall those v first last ls js
+lists_notes fell fall those v n first last ls ks js same one two = record {
+  here = λ l j f h was now has gets.
+      let k = kept_item v n ls ks l one was in
+      let it = two.here k.0 j f h k.1 now ((one.here l k.0 was k.1).fmr f has) gets in
+      record { shape = it.shape; stay = λ p r lt low off on. it.stay p r lt low (same p ∙ off) on; only = it.only };
 }
 
-pub lists_same : (those : ℕ → Bool) (v n first last : ℕ) (ls ks : List Logs) → LogsFirst v n ls ks → NotesMaps those v first last ls ks
-lists_same those v n first last ls ks one = record {
-  here = λ l k f h was now has gets. (note_same those first last k k refl).each f h ((one.here l k was now).fmr f has) gets;
+pub lists_same : (fell those : ℕ → Bool) (v n first last : ℕ) (ls ks : List Logs) → LogsFirst v n ls ks → NotesMaps fell those v first last ls ks
+lists_same fell those v n first last ls ks one = record {
+  here = λ l k f h was now has gets. (but_note fell those first last k k (note_same those first last k k refl)).each f h ((one.here l k was now).fmr f has) gets;
 }
+
+-- the same plexes fell since logs began
+pub fell_first : (c d e : GroupCore) (v : ℕ) → ((w p : ℕ) → active d.inner.config w p ≡ active c.inner.config w p) → (p : ℕ) → fell_in d e v p ≡ fell_in c e v p
+fell_first c d e v still p = ap (λ (t : Bool). t && not (active e.inner.config v p)) (still v p)
+
+pub runs_same : (fell fall : ℕ → Bool) (v first last : ℕ) (ls : List Logs) → ((p : ℕ) → fell p ≡ fall p) → RunsMaps fell v first last ls → RunsMaps fall v first last ls
+runs_same fell fall v first last ls same runs = record { here = λ l is. run_less fall fell first last l (λ p on. same p ∙ on) (runs.here l is) }
 
 -- ---- the plexes behind it
 

@@ -3,8 +3,8 @@ use Rattle.std.specs.Prelude.{◌≡◌, ℕ, ◌<◌, Bool, true, Some, List, s
 use Rattle.vx_config.specs.Checks.{blocks_of}
 use Rattle.vx_config.specs.declared.config.Config.{Config}
 use Rattle.vx_fmr.specs.Missed.{Missed}
-use Rattle.vx_groupmaps.specs.Knowing.{NotesMore}
 use Rattle.vx_grouplogs.specs.Marking.{MarksFewer, MarksOnly, NoMarks}
+use Rattle.vx_logged.specs.Begun.{MapsOff, MapsOfRun, NotesBut}
 use Rattle.vx_logs.specs.declared.logs.Logs.{Logs}
 use Rattle.vx_model.specs.Sizes.{regions_of}
 use Rattle.vx_loggroup.specs.LoggedVolumes.{is_alike}
@@ -23,9 +23,18 @@ pub record ClearsVolume (c : Config) (v : ℕ) (old new : List Logs) : Type 0 wh
   pub here : (l k : Logs) → slice_get old v ≡ Some l → slice_get new v ≡ Some k → MarksFewer (region_count c v) l k
   pub others : (w : ℕ) → (w ≡ v → ⊥) → slice_get new w ≡ slice_get old w
 
--- The maps of volume v, where they were in memory and are, have what they had, and beside it regions from first to last of those plexes alone.
-pub record NotesMaps (those : ℕ → Bool) (v first last : ℕ) (old new : List Logs) : Type 0 where
-  pub here : (l k : Logs) (f g : Missed) → slice_get old v ≡ Some l → slice_get new v ≡ Some k → l.fmr ≡ Some f → k.fmr ≡ Some g → NotesMore those first last f g
+-- The maps of volume v, where they were in memory and are, have what they had, but those of plexes that fell, and beside it regions from first to
+-- last of those plexes alone.
+pub record NotesMaps (fell those : ℕ → Bool) (v first last : ℕ) (old new : List Logs) : Type 0 where
+  pub here : (l k : Logs) (f g : Missed) → slice_get old v ≡ Some l → slice_get new v ≡ Some k → l.fmr ≡ Some f → k.fmr ≡ Some g → NotesBut fell those first last f g
+
+-- the maps of these plexes of volume v have regions from first to last alone
+pub record RunsMaps (these : ℕ → Bool) (v first last : ℕ) (logs : List Logs) : Type 0 where
+  pub here : (l : Logs) → slice_get logs v ≡ Some l → MapsOfRun these first last l
+
+-- they have no region
+pub record EmptyMaps (these : ℕ → Bool) (v : ℕ) (logs : List Logs) : Type 0 where
+  pub here : (l : Logs) → slice_get logs v ≡ Some l → MapsOff these l
 
 -- of the volumes below n whose plexes are said to be alike no log has a region
 pub record MarksAreOff (c : Config) (alike : List Bool) (n : ℕ) (logs : List Logs) : Type 0 where

@@ -27,6 +27,7 @@ pub fn is_sure(alike: bool, stopped: bool, down: bool) -> bool
     ensures alike { result ≡ true → alike ≡ true }
     ensures going { result ≡ true → stopped ≡ false }
     ensures up { result ≡ true → down ≡ false }
+    ensures all { alike ≡ true → stopped ≡ false → down ≡ false → result ≡ true }
 {
     if alike {
         return !stopped && !down;

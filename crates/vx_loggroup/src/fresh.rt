@@ -8,10 +8,11 @@ ghost use Rattle.vx_disk.specs.Shelf.{Fits, Goes, Written, Wrote};
 ghost use Rattle.vx_group.specs.Holding.{wide};
 ghost use Rattle.vx_group.specs.Loses.{LosesAlong};
 ghost use Rattle.vx_group.specs.Stands.{inner_meaning};
+ghost use Rattle.vx_logged.specs.Begun.{fell_in};
 ghost use Rattle.vx_logged.specs.Behind.{MarkedBefore, those_missing};
 ghost use Rattle.vx_loggroup.specs.Fresh.{FreshStands};
 ghost use Rattle.vx_loggroup.specs.LoggedVolumes.{LoggedStands, is_alike as is_alike_is};
-ghost use Rattle.vx_loggroup.specs.Marks.{MarksVolume, NotesMaps};
+ghost use Rattle.vx_loggroup.specs.Marks.{MarksVolume, NotesMaps, RunsMaps};
 ghost use Rattle.vx_logs.specs.Writes.{first_region, last_region};
 ghost use Rattle.vx_model.specs.declared.limits.TheConstants.{MOST_VOLUMES};
 
@@ -64,7 +65,8 @@ pub fn write_fresh<S: Shelf>(
     ensures kept { stopped.new ≡ false → OnOk result (LogsKept core.new logs.new.items vol) }
     ensures finds { GroupFinds core.old core.new (S.meaning shelf.old) (S.meaning shelf.new) }
     ensures marks { MarksVolume (wide core.old).config vol (first_region block) (last_region block (length bytes.now / 512)) logs.old.items logs.new.items }
-    ensures notes { NotesMaps (those_missing core.new vol result) vol (first_region block) (last_region block (length bytes.now / 512)) logs.old.items logs.new.items }
+    ensures notes { NotesMaps (fell_in core.old core.new vol) (those_missing core.new vol result) vol (first_region block) (last_region block (length bytes.now / 512)) logs.old.items logs.new.items }
+    ensures begins { is_alike_is alike.old vol ≡ true → stopped.new ≡ false → OnOk result (RunsMaps (fell_in core.old core.new vol) vol (first_region block) (last_region block (length bytes.now / 512)) logs.new.items) }
     ensures marked { stopped.new ≡ false → MarkedBefore (λ s. S.meaning s) vol block bytes.now (first_region block) (last_region block (length bytes.now / 512)) core.old core.new (S.meaning shelf.old) (S.meaning shelf.new) }
     ensures full { stopped.old ≡ false → stopped.new ≡ true → greatest ≤ core.old.inner.config.serial + 45 }
     ensures trust { OnOk result (core.old.inner.committed ≡ true → core.new.inner.committed ≡ true) }

@@ -1,7 +1,7 @@
 // A group with logs as a shelf.
 ghost use Rattle.vx_loggroup.specs.Keeping.{LogsKeep, LogsKept};
 ghost use Rattle.vx_group.specs.Finds.{GroupFinds};
-ghost use Rattle.std.specs.Prelude.{◌≡◌, ◌+◌, ◌/◌, ◌<◌, ◌≤◌, IfErr, OnOk, true, false, length};
+ghost use Rattle.std.specs.Prelude.{◌≡◌, ◌⊎◌, ◌+◌, ◌/◌, ◌<◌, ◌≤◌, IfErr, OnOk, true, false, length};
 ghost use Rattle.vx_config.specs.Table.{greatest};
 ghost use Rattle.vx_disk.specs.Causes.{Calls, Cause, CountsOnly, Names, OnDisks, Works};
 ghost use Rattle.vx_disk.specs.Disks.{Untouched};
@@ -10,8 +10,10 @@ ghost use Rattle.vx_group.specs.Holding.{wide};
 ghost use Rattle.vx_group.specs.Laws.{group_lawful};
 ghost use Rattle.vx_group.specs.Loses.{LosesPlexes};
 ghost use Rattle.vx_group.specs.Stands.{inner_meaning};
+ghost use Rattle.vx_loggroup.specs.LoggedVolumes.{is_alike};
+ghost use Rattle.vx_logged.specs.Begun.{fell_in};
 ghost use Rattle.vx_logged.specs.Behind.{MarkedBefore, none_missing, those_missing};
-ghost use Rattle.vx_loggroup.specs.Marks.{ClearsVolume, MarksVolume, NotesMaps};
+ghost use Rattle.vx_loggroup.specs.Marks.{ClearsVolume, EmptyMaps, MarksVolume, NotesMaps, RunsMaps};
 ghost use Rattle.vx_loggroup.specs.Mirrors.{MirrorsKeep, names_none};
 ghost use Rattle.vx_logs.specs.Writes.{first_region, last_region};
 
@@ -82,7 +84,8 @@ impl<S: Shelf> Shelf for LoggedGroup<S> {
         ensures mirrors { MirrorsKeep names_none self.old.core self.new.core (S.meaning self.old.shelf) (S.meaning self.new.shelf) }
         ensures loses { LosesPlexes self.old.core.inner.config self.new.core.inner.config (S.meaning self.old.shelf) (S.meaning self.new.shelf) }
         ensures marks { MarksVolume (wide self.old.core).config unit (first_region block) (last_region block (length bytes.now / 512)) self.old.logs.items self.new.logs.items }
-        ensures notes { NotesMaps (those_missing self.new.core unit result) unit (first_region block) (last_region block (length bytes.now / 512)) self.old.logs.items self.new.logs.items }
+        ensures notes { NotesMaps (fell_in self.old.core self.new.core unit) (those_missing self.new.core unit result) unit (first_region block) (last_region block (length bytes.now / 512)) self.old.logs.items self.new.logs.items }
+        ensures begins { is_alike self.old.alike unit ≡ true → self.new.stopped ≡ false → OnOk result (RunsMaps (fell_in self.old.core self.new.core unit) unit (first_region block) (last_region block (length bytes.now / 512)) self.new.logs.items) }
         ensures marked { self.new.stopped ≡ false → MarkedBefore (λ s. S.meaning s) unit block bytes.now (first_region block) (last_region block (length bytes.now / 512)) self.old.core self.new.core (S.meaning self.old.shelf) (S.meaning self.new.shelf) }
         ensures full { self.old.stopped ≡ false → self.new.stopped ≡ true → greatest ≤ self.old.core.inner.config.serial + 45 }
         ensures trust { OnOk result (self.old.core.inner.committed ≡ true → self.new.core.inner.committed ≡ true) }
@@ -115,7 +118,8 @@ impl<S: Shelf> Shelf for LoggedGroup<S> {
         ensures mirrors { MirrorsKeep names_none self.old.core self.new.core (S.meaning self.old.shelf) (S.meaning self.new.shelf) }
         ensures loses { LosesPlexes self.old.core.inner.config self.new.core.inner.config (S.meaning self.old.shelf) (S.meaning self.new.shelf) }
         ensures marks { ClearsVolume (wide self.old.core).config unit self.old.logs.items self.new.logs.items }
-        ensures maps { NotesMaps none_missing unit 0 0 self.old.logs.items self.new.logs.items }
+        ensures maps { NotesMaps (fell_in self.old.core self.new.core unit) none_missing unit 0 0 self.old.logs.items self.new.logs.items }
+        ensures begins { is_alike self.old.alike unit ≡ true → self.old.stopped ≡ false → OnOk result (EmptyMaps (fell_in self.old.core self.new.core unit) unit self.new.logs.items ⊎ (greatest ≤ self.new.core.inner.config.serial + 9)) }
         ensures trust { OnOk result (self.old.core.inner.committed ≡ true → self.new.core.inner.committed ≡ true) }
         ensures agreed { IfErr result (λ e. self.old.core.inner.committed ≡ true → self.new.core.inner.agreed ≡ true) }
         ensures finds { GroupFinds self.old.core self.new.core (S.meaning self.old.shelf) (S.meaning self.new.shelf) }

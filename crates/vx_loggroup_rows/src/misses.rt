@@ -179,6 +179,39 @@ fn a_plex_that_fails_in_a_write_misses_it(rt: HostRuntime) -> Result<(), Fail> {
     Ok(())
 }
 
+// Attaches the second plex behind a write that it missed, and writes another block, as this call fails. Answers how many regions an attach of it
+// copies then, where it failed in that write.
+fn missed_anew(alloc: Global, call: u64) -> Result<Option<u64>, OutOfMemory> {
+    let mut group = group_of(alloc, &[call], &MAPPED)?;
+    if group.det(0, 1).is_err() || !put(&mut group, 70, 0xbb) {
+        return Ok(None);
+    }
+    if att(&mut group, 1) != Some(1) || !is_active(group.config(), 1) {
+        return Ok(None);
+    }
+    if !put(&mut group, 10, 0xcc) || is_active(group.config(), 1) {
+        return Ok(None);
+    }
+    Ok(att(&mut group, 1))
+}
+
+#[test]
+fn a_plex_that_fails_behind_an_attach_misses_that_write_alone(rt: HostRuntime) -> Result<(), Fail> {
+    let alloc = rt.alloc();
+    let mut seen: u64 = 0;
+    for call in 120..180 {
+        match missed_anew(alloc, call)? {
+            Some(copied) => {
+                seen = seen.wrapping_add(1);
+                assert_eq!(rt; copied, 1);
+            }
+            None => {}
+        }
+    }
+    assert_eq!(rt; seen, 1);
+    Ok(())
+}
+
 // Writes a block while the third plex is detached, as this call fails, and attaches the plex then. Answers how many regions were copied; none,
 // where the detach or the attach is refused.
 fn failing(alloc: Global, call: u64) -> Result<Option<u64>, OutOfMemory> {

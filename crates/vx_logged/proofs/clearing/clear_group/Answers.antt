@@ -1,5 +1,5 @@
 -- Marks that are taken off.
-use Rattle.std.proofs.Common.{◌≡◌, ◌+◌, ◌<◌, ◌≤◌, ℕ, Bool, false, true, ap, refl, subst, sym, arith}
+use Rattle.std.proofs.Common.{◌≡◌, ◌∙◌, ℕ, Bool, false, true, refl, subst, arith}
 use Rattle.vx_config.specs.declared.config.Config.{Config}
 use Rattle.vx_disk.specs.Shelf.{Nothing}
 use Rattle.vx_disk.proofs.Causing.{Cause_both}
@@ -303,3 +303,6 @@ returns-clause-drops g c =
 pub returns-clause-trusts : goal.returns-clause-trusts
 returns-clause-trusts g c =
     trusts_then c.args.vol c.clear_run.new.logs c.args.core.now.inner.config c.ready_group.new.core.inner.config c.keep_log.new.core.inner.config (trusts_in c.args.vol c.clear_run.new.logs c.args.core.now.inner.config c.ready_group.new.core.inner.config c.ready_group.ensures.trusts) c.keep_log.ensures.trusts
+
+pub returns-clause-still : goal.returns-clause-still
+returns-clause-still g c = λ w p. c.keep_log.ensures.still (c.in-Ok.ensures.none c.if-not-ready.false) w p ∙ c.ready_group.ensures.still w p

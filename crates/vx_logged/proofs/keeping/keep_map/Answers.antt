@@ -1,5 +1,5 @@
 -- A log that is committed as lost, where it is wanted.
-use Rattle.std.proofs.Common.{◌≡◌, ◌∙◌, Bool, true, false, None, ap, sym}
+use Rattle.std.proofs.Common.{◌≡◌, ◌∙◌, Bool, true, false, ap, sym}
 use Rattle.std.specs.Prelude.{is_some}
 use Rattle.vx_group.proofs.LostLemmas.{if_ok_from}
 use Rattle.vx_logged.proofs.GoneLogs.{there_some, trusts_but}

@@ -1,5 +1,5 @@
 -- Marks of a group before a write.
-use Rattle.std.proofs.Common.{◌≡◌, ◌+◌, ◌<◌, ◌≤◌, ℕ, Bool, false, true, ap, refl, subst, sym, arith}
+use Rattle.std.proofs.Common.{IsTrue, ◌≡◌, ◌+◌, ◌≤◌, ℕ, Bool, false, true, refl, subst, sym, arith}
 use Rattle.vx_config.specs.Checks.{blocks_of}
 use Rattle.vx_config.specs.declared.config.Config.{Config}
 use Rattle.vx_disk.specs.Shelf.{Nothing}
@@ -11,10 +11,11 @@ use Rattle.vx_grouplogs.specs.Marking.{MarksOnly}
 use Rattle.vx_logs.specs.Writes.{first_region, last_region}
 use Rattle.vx_group.proofs.LostLemmas.{if_ok_from}
 use Rattle.vx_group.proofs.TrustLemmas.{err_from, ok_from}
-use Rattle.vx_groupmaps.specs.Knowing.{or_off}
+use Rattle.vx_groupmaps.specs.Knowing.{PlexesKnow, or_off}
 use Rattle.vx_groupmaps.proofs.KnowLemmas.{note_more, note_same}
 use Rattle.vx_logs.specs.Held.{stale}
 use Rattle.vx_logged.specs.Logged.{are_off}
+use Rattle.vx_logged.proofs.BeginLemmas.{plexes_each, plexes_logs}
 use Rattle.vx_logged.proofs.MissLemmas.{know_stale, know_wider, stale_are_off}
 use Rattle.vx_logged.proofs.RefuseLemmas.{hold_older}
 use Rattle.vx_logged.proofs.StandLemmas.{config_is, if_ok_any, inner_fit, inner_others, inner_sound, know_inner, know_wide, logs_Stands, logs_goes, narrowed_same, narrowed_then, others_each, others_then, same_only, same_regions, to_inner, to_wide, logs_finds}
@@ -288,3 +289,21 @@ returns-then-not-ready-clause-spent g c =
 pub returns-clause-spent : goal.returns-clause-spent
 returns-clause-spent g c =
     c.keep_logs.ensures.spent
+
+pub returns-in-Err-clause-plexes : goal.returns-in-Err-clause-plexes
+returns-in-Err-clause-plexes g c = plexes_each c.args.core.now c.ready_group.new.core c.args.vol (g.S.Shelf.meaning c.args.shelf.now) (g.S.Shelf.meaning c.ready_group.new.shelf) c.ready_group.ensures.logs
+
+pub returns-then-not-ready-clause-plexes : goal.returns-then-not-ready-clause-plexes
+returns-then-not-ready-clause-plexes g c = plexes_each c.args.core.now c.ready_group.new.core c.args.vol (g.S.Shelf.meaning c.args.shelf.now) (g.S.Shelf.meaning c.ready_group.new.shelf) c.ready_group.ensures.logs
+
+pub returns-clause-plexes : goal.returns-clause-plexes
+returns-clause-plexes g c = λ missed up know.
+    let none = c.in-Ok.ensures.none c.if-not-ready.false in
+    let mid : IsTrue (g.S.Shelf.meaning c.guard_run.new.shelf).down → ⊥ = λ down. up (c.keep_logs.ensures.goes.falls down) in
+    let first : IsTrue (g.S.Shelf.meaning c.ready_group.new.shelf).down → ⊥ = λ down. mid (c.guard_run.ensures.goes.falls down) in
+    let same = config_is c.ready_group.new.core c.args.vol (g.S.Shelf.meaning c.ready_group.new.shelf) (g.S.Shelf.meaning c.ready_group.new.shelf) none c.ready_group.ensures.stands in
+    let ready = plexes_each c.args.core.now c.ready_group.new.core c.args.vol (g.S.Shelf.meaning c.args.shelf.now) (g.S.Shelf.meaning c.ready_group.new.shelf) c.ready_group.ensures.logs missed first know in
+    let guarded = plexes_logs c.ready_group.new.core.inner.config (inner_sound c.ready_group.new.core c.args.vol (g.S.Shelf.meaning c.ready_group.new.shelf) (g.S.Shelf.meaning c.ready_group.new.shelf) none c.ready_group.ensures.stands) c.args.vol (g.S.Shelf.meaning c.ready_group.new.shelf) (g.S.Shelf.meaning c.guard_run.new.shelf) c.guard_run.ensures.goes missed mid
+    (subst (λ (x : Config). PlexesKnow x c.args.vol missed (g.S.Shelf.meaning c.ready_group.new.shelf).reads) same ready) in
+    plexes_each c.ready_group.new.core c.keep_logs.new.core c.args.vol (g.S.Shelf.meaning c.guard_run.new.shelf) (g.S.Shelf.meaning c.keep_logs.new.shelf) c.keep_logs.ensures.logs missed up
+    (subst (λ (x : Config). PlexesKnow x c.args.vol missed (g.S.Shelf.meaning c.guard_run.new.shelf).reads) (sym same) guarded)

@@ -1,5 +1,5 @@
 -- A group that is made ready.
-use Rattle.std.proofs.Common.{◌≡◌, ◌∙◌, ℕ, Bool, List, None, Option, true, false, ap, refl, subst, sym, arith}
+use Rattle.std.proofs.Common.{◌≡◌, ℕ, Bool, List, Option, true, false, ap, refl, subst, arith}
 use Rattle.std.specs.Prelude.{is_some, not}
 use Rattle.vx_group.specs.declared.group_core.Held.{Held}
 use Rattle.vx_disk.specs.Shelf.{Nothing}

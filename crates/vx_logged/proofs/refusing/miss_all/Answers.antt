@@ -1,5 +1,5 @@
 -- `miss_all`: what `miss_run` asks; its clauses.
-use Rattle.std.proofs.Common.{◌≡◌, ◌∙◌, ◌+◌, ◌-◌, ◌/◌, Bool, None, refl, sym, ap, arith, false}
+use Rattle.std.proofs.Common.{◌+◌, ◌-◌, ◌/◌, None, refl, arith, false}
 use Rattle.vx_config.specs.Checks.{plexes_of}
 use Rattle.vx_group.specs.Holding.{wide}
 use Rattle.vx_group.proofs.HoldLemmas.{narrow_sound}

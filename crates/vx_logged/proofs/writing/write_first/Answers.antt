@@ -1,5 +1,6 @@
 -- A write that is marked first.
 use Rattle.std.proofs.Common.{◌≡◌, ◌∙◌, inl, inr, ◌/◌, true, false, length, refl, sym, arith}
+use Rattle.std.specs.Prelude.{not}
 use Rattle.vx_disk.specs.Shelf.{Written}
 use Rattle.vx_disk.proofs.Causing.{Cause_both}
 use Rattle.vx_disk.proofs.Runs.{none_written, nothing_then}
@@ -11,7 +12,9 @@ use Rattle.vx_groupmaps.specs.Missing.{none_spared}
 use Rattle.vx_groupmaps.proofs.KnowLemmas.{note_more, note_same}
 use Rattle.vx_logs.specs.Writes.{first_region, last_region}
 use Rattle.vx_logged.specs.Logged.{are_off}
-use Rattle.vx_logged.proofs.MissLemmas.{know_refused, know_run, know_wrote, more_off}
+use Rattle.vx_logged.proofs.BeginLemmas.{but_of, plexes_one}
+use Rattle.vx_logged.proofs.MissLemmas.{know_refused, know_run, know_wrote, more_off, plexes_wrote}
+use Rattle.vx_volume.specs.Plexes.{active}
 use Rattle.vx_logged.proofs.StandLemmas.{fits_later, narrowed_acts, narrowed_then, not_false, not_true, others_then, same_only, write_here, write_others}
 use Rattle.vx_group.proofs.LoseLemmas.{then_along}
 use Rattle.vx_group.proofs.FindingLemmas.{then_group}
@@ -226,3 +229,17 @@ pub returns-clause-trusts : goal.returns-clause-trusts
 returns-clause-trusts g c =
     trusts_then c.args.vol c.mark_group.new.logs c.args.core.now.inner.config c.mark_group.new.core.inner.config c.write_group-2.new.core.inner.config c.mark_group.ensures.trusts
     (trusts_in c.args.vol c.mark_group.new.logs c.mark_group.new.core.inner.config c.write_group-2.new.core.inner.config c.write_group-2.ensures.logs)
+
+pub returns-then-stopped-clause-alike : goal.returns-then-stopped-clause-alike
+returns-then-stopped-clause-alike g c = λ off. absurd (let clash : true ≡ false = sym c.if-stopped.true ∙ off in cc)
+
+pub returns-in-Err-clause-alike : goal.returns-in-Err-clause-alike
+returns-in-Err-clause-alike g c = λ off. tt
+
+pub returns-clause-alike : goal.returns-clause-alike
+returns-clause-alike g c = λ off. ok_from c.write_group-2.result (λ wrote one.
+    but_of (wide c.write_group-2.new.core).config c.args.vol (first_region c.args.block) (last_region c.args.block (length c.args.bytes.now / 512)) (λ p. active (wide c.args.core.now).config c.args.vol p) (g.S.Shelf.meaning c.write_group-2.new.shelf)
+    (λ up. plexes_wrote c.mark_group.new.core c.write_group-2.new.core c.args.vol c.args.block c.args.bytes.now (g.S.Shelf.meaning c.mark_group.new.shelf) (g.S.Shelf.meaning c.write_group-2.new.shelf) c.mark_group.ensures.stands
+    (fits_later c.args.core.now c.mark_group.new.core c.args.vol c.args.block (length c.args.bytes.now) (g.S.Shelf.meaning c.args.shelf.now) (g.S.Shelf.meaning c.mark_group.new.shelf) c.mark_group.ensures.goes c.requires.fits) c.write_group-2.ensures.acts
+    (λ p r. not (active (wide c.args.core.now).config c.args.vol p)) up
+    (c.mark_group.ensures.plexes (λ p r. not (active (wide c.args.core.now).config c.args.vol p)) (λ down. up (c.write_group-2.ensures.acts.acts.falls down)) (plexes_one (wide c.args.core.now).config c.args.vol (g.S.Shelf.meaning c.args.shelf.now) one)))) c.write_group-2.ensures.ok

@@ -9,9 +9,14 @@ use Rattle.vx_group.specs.Stands.{inner_meaning}
 use Rattle.vx_groupmaps.proofs.KnowLemmas.{note_more, note_then}
 use Rattle.vx_logs.specs.Writes.{first_region, last_region}
 use Rattle.vx_model.specs.Sizes.{regions_of as regions_in}
-use Rattle.vx_groupmaps.specs.Missing.{none_spared, or_run}
+use Rattle.vx_group.proofs.HoldLemmas.{narrow_sound, narrow_wider}
+use Rattle.vx_volume.specs.Plexes.{active}
+use Rattle.vx_volume.proofs.PlaceLemmas.{active_few}
+use Rattle.vx_logged.specs.Begun.{fell_in, fell_now, was_on}
 use Rattle.vx_logged.specs.Behind.{all_those}
 use Rattle.vx_logged.specs.Logged.{are_off}
+use Rattle.vx_logged.proofs.BeginLemmas.{but_less, but_more, but_none, but_note, but_then}
+use Rattle.vx_logged.proofs.FallenLemmas.{fell_all, fell_some, run_less, run_none, was_there}
 use Rattle.vx_logged.proofs.MissLemmas.{more_off}
 use Rattle.vx_logged.proofs.RefuseLemmas.{cause_refused, marks_later, only_same, those_any}
 use Rattle.vx_logged.proofs.StandLemmas.{cause_to, only_then, others_then, wrote_nothing, narrowed_then}
@@ -21,25 +26,21 @@ use Rattle.vx_logged.proofs.GoneLogs.{drops_refused, drops_so, drops_spent, no_m
 use Rattle.vx_grouplogs.proofs.GoneLemmas.{drop_then}
 use Rattle.vx_logged.proofs.writing.write_marked.Goals as goal
 
-pub mark_group-requires-clause-some : goal.mark_group-requires-clause-some
-mark_group-requires-clause-some g c =
+pub mark_fallen-requires-clause-some : goal.mark_fallen-requires-clause-some
+mark_fallen-requires-clause-some g c =
     omega (arith, c.requires.fits.some, c.requires.fits.whole)
 
 pub returns-then-not-done-clause-goes : goal.returns-then-not-done-clause-goes
-returns-then-not-done-clause-goes g c = then_nothing (Written c.args.vol c.args.block c.args.bytes.now) (inner_meaning (wide c.args.core.now) (g.S.Shelf.meaning c.args.shelf.now)) (inner_meaning (wide c.write_first.new.core) (g.S.Shelf.meaning c.write_first.new.shelf)) (inner_meaning (wide c.mark_group.new.core) (g.S.Shelf.meaning c.mark_group.new.shelf)) c.write_first.ensures.goes c.mark_group.ensures.goes
+returns-then-not-done-clause-goes g c = then_nothing (Written c.args.vol c.args.block c.args.bytes.now) (inner_meaning (wide c.args.core.now) (g.S.Shelf.meaning c.args.shelf.now)) (inner_meaning (wide c.write_first.new.core) (g.S.Shelf.meaning c.write_first.new.shelf)) (inner_meaning (wide c.mark_fallen.new.core) (g.S.Shelf.meaning c.mark_fallen.new.shelf)) c.write_first.ensures.goes c.mark_fallen.ensures.goes
 
 pub returns-else-not-done-clause-goes : goal.returns-else-not-done-clause-goes
-returns-else-not-done-clause-goes g c = then_nothing (Written c.args.vol c.args.block c.args.bytes.now) (inner_meaning (wide c.args.core.now) (g.S.Shelf.meaning c.args.shelf.now)) (inner_meaning (wide c.write_first.new.core) (g.S.Shelf.meaning c.write_first.new.shelf)) (inner_meaning (wide c.mark_group.new.core) (g.S.Shelf.meaning c.mark_group.new.shelf)) c.write_first.ensures.goes c.mark_group.ensures.goes
+returns-else-not-done-clause-goes g c = then_nothing (Written c.args.vol c.args.block c.args.bytes.now) (inner_meaning (wide c.args.core.now) (g.S.Shelf.meaning c.args.shelf.now)) (inner_meaning (wide c.write_first.new.core) (g.S.Shelf.meaning c.write_first.new.shelf)) (inner_meaning (wide c.mark_fallen.new.core) (g.S.Shelf.meaning c.mark_fallen.new.shelf)) c.write_first.ensures.goes c.mark_fallen.ensures.goes
 
 pub returns-then-not-done-clause-ok : goal.returns-then-not-done-clause-ok
-returns-then-not-done-clause-ok g c = wrote_nothing c.args.vol c.args.block c.args.bytes.now (inner_meaning (wide c.args.core.now) (g.S.Shelf.meaning c.args.shelf.now)) (inner_meaning (wide c.write_first.new.core) (g.S.Shelf.meaning c.write_first.new.shelf)) (inner_meaning (wide c.mark_group.new.core) (g.S.Shelf.meaning c.mark_group.new.shelf)) c.in-Ok.ensures.ok c.mark_group.ensures.goes c.in-Ok-mark_group.ensures.cause.after
+returns-then-not-done-clause-ok g c = wrote_nothing c.args.vol c.args.block c.args.bytes.now (inner_meaning (wide c.args.core.now) (g.S.Shelf.meaning c.args.shelf.now)) (inner_meaning (wide c.write_first.new.core) (g.S.Shelf.meaning c.write_first.new.shelf)) (inner_meaning (wide c.mark_fallen.new.core) (g.S.Shelf.meaning c.mark_fallen.new.shelf)) c.in-Ok.ensures.ok c.mark_fallen.ensures.goes c.in-Ok-mark_fallen.ensures.cause.after
 
 pub returns-else-not-done-clause-ok : goal.returns-else-not-done-clause-ok
-returns-else-not-done-clause-ok g c = wrote_nothing c.args.vol c.args.block c.args.bytes.now (inner_meaning (wide c.args.core.now) (g.S.Shelf.meaning c.args.shelf.now)) (inner_meaning (wide c.write_first.new.core) (g.S.Shelf.meaning c.write_first.new.shelf)) (inner_meaning (wide c.mark_group.new.core) (g.S.Shelf.meaning c.mark_group.new.shelf)) c.in-Ok.ensures.ok c.mark_group.ensures.goes c.in-Ok-mark_group.ensures.cause.after
-
-pub returns-else-not-done-clause-notes : goal.returns-else-not-done-clause-notes
-returns-else-not-done-clause-notes g c = note_then (are_off c.mark_group.new.core c.args.vol) (first_region c.args.block) (last_region c.args.block (length c.args.bytes.now / 512)) c.args.logs.now c.write_first.new.logs c.mark_group.new.logs
-    (note_more (are_off c.write_first.new.core c.args.vol) (are_off c.mark_group.new.core c.args.vol) (first_region c.args.block) (last_region c.args.block (length c.args.bytes.now / 512)) c.args.logs.now c.write_first.new.logs (more_off c.write_first.new.core c.mark_group.new.core c.args.vol c.mark_group.ensures.narrow) c.write_first.ensures.notes) c.mark_group.ensures.notes
+returns-else-not-done-clause-ok g c = wrote_nothing c.args.vol c.args.block c.args.bytes.now (inner_meaning (wide c.args.core.now) (g.S.Shelf.meaning c.args.shelf.now)) (inner_meaning (wide c.write_first.new.core) (g.S.Shelf.meaning c.write_first.new.shelf)) (inner_meaning (wide c.mark_fallen.new.core) (g.S.Shelf.meaning c.mark_fallen.new.shelf)) c.in-Ok.ensures.ok c.mark_fallen.ensures.goes c.in-Ok-mark_fallen.ensures.cause.after
 
 pub miss_refused-requires-clause-some : goal.miss_refused-requires-clause-some
 miss_refused-requires-clause-some g c = omega (arith, c.requires.fits.some, c.requires.fits.whole)
@@ -47,14 +48,14 @@ miss_refused-requires-clause-some g c = omega (arith, c.requires.fits.some, c.re
 pub miss_refused-requires-clause-within : goal.miss_refused-requires-clause-within
 miss_refused-requires-clause-within g c = let same = c.write_first.ensures.goes.size c.args.vol in omega (arith, c.requires.fits.within, same)
 
-pub miss_refused-requires-in-Err-mark_group-clause-some : goal.miss_refused-requires-in-Err-mark_group-clause-some
-miss_refused-requires-in-Err-mark_group-clause-some g c = omega (arith, c.requires.fits.some, c.requires.fits.whole)
+pub miss_refused-requires-in-Err-mark_fallen-clause-some : goal.miss_refused-requires-in-Err-mark_fallen-clause-some
+miss_refused-requires-in-Err-mark_fallen-clause-some g c = omega (arith, c.requires.fits.some, c.requires.fits.whole)
 
-pub miss_refused-requires-in-Err-mark_group-clause-within : goal.miss_refused-requires-in-Err-mark_group-clause-within
-miss_refused-requires-in-Err-mark_group-clause-within g c = let same = c.write_first.ensures.goes.size c.args.vol in let next = c.mark_group.ensures.goes.size c.args.vol in omega (arith, c.requires.fits.within, same, next)
+pub miss_refused-requires-in-Err-mark_fallen-clause-within : goal.miss_refused-requires-in-Err-mark_fallen-clause-within
+miss_refused-requires-in-Err-mark_fallen-clause-within g c = let same = c.write_first.ensures.goes.size c.args.vol in let next = c.mark_fallen.ensures.goes.size c.args.vol in omega (arith, c.requires.fits.within, same, next)
 
-pub miss_refused-requires-in-Err-mark_group-clause-log : goal.miss_refused-requires-in-Err-mark_group-clause-log
-miss_refused-requires-in-Err-mark_group-clause-log g c = λ off. c.mark_group.ensures.log
+pub miss_refused-requires-in-Err-mark_fallen-clause-log : goal.miss_refused-requires-in-Err-mark_fallen-clause-log
+miss_refused-requires-in-Err-mark_fallen-clause-log g c = λ off. c.mark_fallen.ensures.log
 
 pub returns-in-Err-clause-goes : goal.returns-in-Err-clause-goes
 returns-in-Err-clause-goes g c = then_nothing (Written c.args.vol c.args.block c.args.bytes.now) (inner_meaning (wide c.args.core.now) (g.S.Shelf.meaning c.args.shelf.now)) (inner_meaning (wide c.write_first.new.core) (g.S.Shelf.meaning c.write_first.new.shelf)) (inner_meaning (wide c.write_first.new.core) (g.S.Shelf.meaning c.miss_refused.new.shelf)) c.write_first.ensures.goes c.miss_refused.ensures.goes
@@ -71,9 +72,6 @@ returns-in-Err-clause-adds g c = only_same _ (first_region c.args.block) (last_r
 pub returns-in-Err-clause-maps : goal.returns-in-Err-clause-maps
 returns-in-Err-clause-maps g c = λ off know. c.miss_refused.ensures.knows off (c.write_first.ensures.missed off know)
 
-pub returns-in-Err-clause-notes : goal.returns-in-Err-clause-notes
-returns-in-Err-clause-notes g c = note_then all_those (first_region c.args.block) (last_region c.args.block (length c.args.bytes.now / 512)) c.args.logs.now c.write_first.new.logs c.miss_refused.new.logs (those_any (are_off c.write_first.new.core c.args.vol) (first_region c.args.block) (last_region c.args.block (length c.args.bytes.now / 512)) c.args.logs.now c.write_first.new.logs c.write_first.ensures.notes) c.miss_refused.ensures.notes
-
 pub returns-in-Err-clause-marked : goal.returns-in-Err-clause-marked
 returns-in-Err-clause-marked g c = λ off. marks_later (λ s. g.S.Shelf.meaning s) c.args.vol c.args.block c.args.bytes.now (first_region c.args.block) (last_region c.args.block (length c.args.bytes.now / 512)) c.args.core.now c.write_first.new.core c.write_first.new.core (g.S.Shelf.meaning c.args.shelf.now) (g.S.Shelf.meaning c.write_first.new.shelf) (g.S.Shelf.meaning c.miss_refused.new.shelf) (c.write_first.ensures.marked off) c.miss_refused.ensures.goes
 
@@ -83,43 +81,36 @@ returns-in-Err-clause-agreed g c = c.in-Err.ensures.agreed
 pub returns-in-Err-clause-cause : goal.returns-in-Err-clause-cause
 returns-in-Err-clause-cause g c = cause_refused (Unit {0}) (inner_meaning (wide c.args.core.now) (g.S.Shelf.meaning c.args.shelf.now)) (inner_meaning (wide c.write_first.new.core) (g.S.Shelf.meaning c.write_first.new.shelf)) (inner_meaning (wide c.write_first.new.core) (g.S.Shelf.meaning c.miss_refused.new.shelf)) c.args.vol c.in-Err.error c.miss_refused.result c.in-Err.ensures.cause c.miss_refused.ensures.goes.faults c.miss_refused.ensures.goes.disk_faults c.miss_refused.ensures.same c.miss_refused.ensures.fell c.miss_refused.ensures.goes.falls
 
-pub returns-in-Err-mark_group-clause-goes : goal.returns-in-Err-mark_group-clause-goes
-returns-in-Err-mark_group-clause-goes g c = then_nothing (Written c.args.vol c.args.block c.args.bytes.now) (inner_meaning (wide c.args.core.now) (g.S.Shelf.meaning c.args.shelf.now)) (inner_meaning (wide c.mark_group.new.core) (g.S.Shelf.meaning c.mark_group.new.shelf)) (inner_meaning (wide c.mark_group.new.core) (g.S.Shelf.meaning c.miss_refused-in-Err-mark_group.new.shelf)) (then_nothing (Written c.args.vol c.args.block c.args.bytes.now) (inner_meaning (wide c.args.core.now) (g.S.Shelf.meaning c.args.shelf.now)) (inner_meaning (wide c.write_first.new.core) (g.S.Shelf.meaning c.write_first.new.shelf)) (inner_meaning (wide c.mark_group.new.core) (g.S.Shelf.meaning c.mark_group.new.shelf)) c.write_first.ensures.goes c.mark_group.ensures.goes) c.miss_refused-in-Err-mark_group.ensures.goes
+pub returns-in-Err-mark_fallen-clause-goes : goal.returns-in-Err-mark_fallen-clause-goes
+returns-in-Err-mark_fallen-clause-goes g c = then_nothing (Written c.args.vol c.args.block c.args.bytes.now) (inner_meaning (wide c.args.core.now) (g.S.Shelf.meaning c.args.shelf.now)) (inner_meaning (wide c.mark_fallen.new.core) (g.S.Shelf.meaning c.mark_fallen.new.shelf)) (inner_meaning (wide c.mark_fallen.new.core) (g.S.Shelf.meaning c.miss_refused-in-Err-mark_fallen.new.shelf)) (then_nothing (Written c.args.vol c.args.block c.args.bytes.now) (inner_meaning (wide c.args.core.now) (g.S.Shelf.meaning c.args.shelf.now)) (inner_meaning (wide c.write_first.new.core) (g.S.Shelf.meaning c.write_first.new.shelf)) (inner_meaning (wide c.mark_fallen.new.core) (g.S.Shelf.meaning c.mark_fallen.new.shelf)) c.write_first.ensures.goes c.mark_fallen.ensures.goes) c.miss_refused-in-Err-mark_fallen.ensures.goes
 
-pub returns-in-Err-mark_group-clause-log : goal.returns-in-Err-mark_group-clause-log
-returns-in-Err-mark_group-clause-log g c = λ off. c.miss_refused-in-Err-mark_group.ensures.log refl
+pub returns-in-Err-mark_fallen-clause-log : goal.returns-in-Err-mark_fallen-clause-log
+returns-in-Err-mark_fallen-clause-log g c = λ off. c.miss_refused-in-Err-mark_fallen.ensures.log refl
 
-pub returns-in-Err-mark_group-clause-others : goal.returns-in-Err-mark_group-clause-others
-returns-in-Err-mark_group-clause-others g c = others_then c.args.vol c.args.core.now c.mark_group.new.core c.mark_group.new.core (g.S.Shelf.meaning c.args.shelf.now) (g.S.Shelf.meaning c.mark_group.new.shelf) (g.S.Shelf.meaning c.miss_refused-in-Err-mark_group.new.shelf) (others_then c.args.vol c.args.core.now c.write_first.new.core c.mark_group.new.core (g.S.Shelf.meaning c.args.shelf.now) (g.S.Shelf.meaning c.write_first.new.shelf) (g.S.Shelf.meaning c.mark_group.new.shelf) c.write_first.ensures.others c.mark_group.ensures.others) c.miss_refused-in-Err-mark_group.ensures.others
+pub returns-in-Err-mark_fallen-clause-others : goal.returns-in-Err-mark_fallen-clause-others
+returns-in-Err-mark_fallen-clause-others g c = others_then c.args.vol c.args.core.now c.mark_fallen.new.core c.mark_fallen.new.core (g.S.Shelf.meaning c.args.shelf.now) (g.S.Shelf.meaning c.mark_fallen.new.shelf) (g.S.Shelf.meaning c.miss_refused-in-Err-mark_fallen.new.shelf) (others_then c.args.vol c.args.core.now c.write_first.new.core c.mark_fallen.new.core (g.S.Shelf.meaning c.args.shelf.now) (g.S.Shelf.meaning c.write_first.new.shelf) (g.S.Shelf.meaning c.mark_fallen.new.shelf) c.write_first.ensures.others c.mark_fallen.ensures.others) c.miss_refused-in-Err-mark_fallen.ensures.others
 
-pub returns-in-Err-mark_group-clause-adds : goal.returns-in-Err-mark_group-clause-adds
-returns-in-Err-mark_group-clause-adds g c = only_same _ (first_region c.args.block) (last_region c.args.block (length c.args.bytes.now / 512)) c.args.logs.now c.mark_group.new.logs c.miss_refused-in-Err-mark_group.new.logs c.miss_refused-in-Err-mark_group.ensures.drl (only_then _ _ (first_region c.args.block) (last_region c.args.block (length c.args.bytes.now / 512)) c.args.logs.now c.write_first.new.logs c.mark_group.new.logs (ap regions_in (c.write_first.ensures.goes.size c.args.vol)) c.write_first.ensures.adds c.mark_group.ensures.adds)
+pub returns-in-Err-mark_fallen-clause-adds : goal.returns-in-Err-mark_fallen-clause-adds
+returns-in-Err-mark_fallen-clause-adds g c = only_same _ (first_region c.args.block) (last_region c.args.block (length c.args.bytes.now / 512)) c.args.logs.now c.mark_fallen.new.logs c.miss_refused-in-Err-mark_fallen.new.logs c.miss_refused-in-Err-mark_fallen.ensures.drl (only_then _ _ (first_region c.args.block) (last_region c.args.block (length c.args.bytes.now / 512)) c.args.logs.now c.write_first.new.logs c.mark_fallen.new.logs (ap regions_in (c.write_first.ensures.goes.size c.args.vol)) c.write_first.ensures.adds c.mark_fallen.ensures.adds)
 
-pub returns-in-Err-mark_group-clause-maps : goal.returns-in-Err-mark_group-clause-maps
-returns-in-Err-mark_group-clause-maps g c = λ off know. c.miss_refused-in-Err-mark_group.ensures.knows refl (c.mark_group.ensures.maps (or_run (first_region c.args.block) (last_region c.args.block (length c.args.bytes.now / 512)) none_spared) (c.write_first.ensures.missed off know))
+pub returns-in-Err-mark_fallen-clause-marked : goal.returns-in-Err-mark_fallen-clause-marked
+returns-in-Err-mark_fallen-clause-marked g c = λ off. marks_later (λ s. g.S.Shelf.meaning s) c.args.vol c.args.block c.args.bytes.now (first_region c.args.block) (last_region c.args.block (length c.args.bytes.now / 512)) c.args.core.now c.mark_fallen.new.core c.mark_fallen.new.core (g.S.Shelf.meaning c.args.shelf.now) (g.S.Shelf.meaning c.mark_fallen.new.shelf) (g.S.Shelf.meaning c.miss_refused-in-Err-mark_fallen.new.shelf)
+    (marks_later (λ s. g.S.Shelf.meaning s) c.args.vol c.args.block c.args.bytes.now (first_region c.args.block) (last_region c.args.block (length c.args.bytes.now / 512)) c.args.core.now c.write_first.new.core c.mark_fallen.new.core (g.S.Shelf.meaning c.args.shelf.now) (g.S.Shelf.meaning c.write_first.new.shelf) (g.S.Shelf.meaning c.mark_fallen.new.shelf) (c.write_first.ensures.marked off) c.mark_fallen.ensures.goes) c.miss_refused-in-Err-mark_fallen.ensures.goes
 
-pub returns-in-Err-mark_group-clause-notes : goal.returns-in-Err-mark_group-clause-notes
-returns-in-Err-mark_group-clause-notes g c = note_then all_those (first_region c.args.block) (last_region c.args.block (length c.args.bytes.now / 512)) c.args.logs.now c.mark_group.new.logs c.miss_refused-in-Err-mark_group.new.logs
-    (note_then all_those (first_region c.args.block) (last_region c.args.block (length c.args.bytes.now / 512)) c.args.logs.now c.write_first.new.logs c.mark_group.new.logs (those_any (are_off c.write_first.new.core c.args.vol) (first_region c.args.block) (last_region c.args.block (length c.args.bytes.now / 512)) c.args.logs.now c.write_first.new.logs c.write_first.ensures.notes) (those_any (are_off c.mark_group.new.core c.args.vol) (first_region c.args.block) (last_region c.args.block (length c.args.bytes.now / 512)) c.write_first.new.logs c.mark_group.new.logs c.mark_group.ensures.notes)) c.miss_refused-in-Err-mark_group.ensures.notes
+pub returns-in-Err-mark_fallen-clause-agreed : goal.returns-in-Err-mark_fallen-clause-agreed
+returns-in-Err-mark_fallen-clause-agreed g c = λ is. c.in-Err-mark_fallen.ensures.agreed (c.in-Ok.ensures.trust is)
 
-pub returns-in-Err-mark_group-clause-marked : goal.returns-in-Err-mark_group-clause-marked
-returns-in-Err-mark_group-clause-marked g c = λ off. marks_later (λ s. g.S.Shelf.meaning s) c.args.vol c.args.block c.args.bytes.now (first_region c.args.block) (last_region c.args.block (length c.args.bytes.now / 512)) c.args.core.now c.mark_group.new.core c.mark_group.new.core (g.S.Shelf.meaning c.args.shelf.now) (g.S.Shelf.meaning c.mark_group.new.shelf) (g.S.Shelf.meaning c.miss_refused-in-Err-mark_group.new.shelf)
-    (marks_later (λ s. g.S.Shelf.meaning s) c.args.vol c.args.block c.args.bytes.now (first_region c.args.block) (last_region c.args.block (length c.args.bytes.now / 512)) c.args.core.now c.write_first.new.core c.mark_group.new.core (g.S.Shelf.meaning c.args.shelf.now) (g.S.Shelf.meaning c.write_first.new.shelf) (g.S.Shelf.meaning c.mark_group.new.shelf) (c.write_first.ensures.marked off) c.mark_group.ensures.goes) c.miss_refused-in-Err-mark_group.ensures.goes
-
-pub returns-in-Err-mark_group-clause-agreed : goal.returns-in-Err-mark_group-clause-agreed
-returns-in-Err-mark_group-clause-agreed g c = λ is. c.in-Err-mark_group.ensures.agreed (c.in-Ok.ensures.trust is)
-
-pub returns-in-Err-mark_group-clause-cause : goal.returns-in-Err-mark_group-clause-cause
-returns-in-Err-mark_group-clause-cause g c = cause_refused (Unit {0}) (inner_meaning (wide c.args.core.now) (g.S.Shelf.meaning c.args.shelf.now)) (inner_meaning (wide c.mark_group.new.core) (g.S.Shelf.meaning c.mark_group.new.shelf)) (inner_meaning (wide c.mark_group.new.core) (g.S.Shelf.meaning c.miss_refused-in-Err-mark_group.new.shelf)) c.args.vol c.in-Err-mark_group.error c.miss_refused-in-Err-mark_group.result
-    (Cause_both {T = Unit {0}} (inner_meaning (wide c.args.core.now) (g.S.Shelf.meaning c.args.shelf.now)) (inner_meaning (wide c.write_first.new.core) (g.S.Shelf.meaning c.write_first.new.shelf)) (inner_meaning (wide c.mark_group.new.core) (g.S.Shelf.meaning c.mark_group.new.shelf)) c.args.vol (Err c.in-Err-mark_group.error) c.in-Ok.ensures.cause c.write_first.ensures.goes.faults c.write_first.ensures.goes.disk_faults
-    (cause_to Bool (Unit {0}) c.args.vol c.in-Err-mark_group.error (inner_meaning (wide c.write_first.new.core) (g.S.Shelf.meaning c.write_first.new.shelf)) (inner_meaning (wide c.mark_group.new.core) (g.S.Shelf.meaning c.mark_group.new.shelf)) c.in-Err-mark_group.ensures.cause))
-    c.miss_refused-in-Err-mark_group.ensures.goes.faults c.miss_refused-in-Err-mark_group.ensures.goes.disk_faults c.miss_refused-in-Err-mark_group.ensures.same c.miss_refused-in-Err-mark_group.ensures.fell c.miss_refused-in-Err-mark_group.ensures.goes.falls
+pub returns-in-Err-mark_fallen-clause-cause : goal.returns-in-Err-mark_fallen-clause-cause
+returns-in-Err-mark_fallen-clause-cause g c = cause_refused (Unit {0}) (inner_meaning (wide c.args.core.now) (g.S.Shelf.meaning c.args.shelf.now)) (inner_meaning (wide c.mark_fallen.new.core) (g.S.Shelf.meaning c.mark_fallen.new.shelf)) (inner_meaning (wide c.mark_fallen.new.core) (g.S.Shelf.meaning c.miss_refused-in-Err-mark_fallen.new.shelf)) c.args.vol c.in-Err-mark_fallen.error c.miss_refused-in-Err-mark_fallen.result
+    (Cause_both {T = Unit {0}} (inner_meaning (wide c.args.core.now) (g.S.Shelf.meaning c.args.shelf.now)) (inner_meaning (wide c.write_first.new.core) (g.S.Shelf.meaning c.write_first.new.shelf)) (inner_meaning (wide c.mark_fallen.new.core) (g.S.Shelf.meaning c.mark_fallen.new.shelf)) c.args.vol (Err c.in-Err-mark_fallen.error) c.in-Ok.ensures.cause c.write_first.ensures.goes.faults c.write_first.ensures.goes.disk_faults
+    (cause_to Bool (Unit {0}) c.args.vol c.in-Err-mark_fallen.error (inner_meaning (wide c.write_first.new.core) (g.S.Shelf.meaning c.write_first.new.shelf)) (inner_meaning (wide c.mark_fallen.new.core) (g.S.Shelf.meaning c.mark_fallen.new.shelf)) c.in-Err-mark_fallen.ensures.cause))
+    c.miss_refused-in-Err-mark_fallen.ensures.goes.faults c.miss_refused-in-Err-mark_fallen.ensures.goes.disk_faults c.miss_refused-in-Err-mark_fallen.ensures.same c.miss_refused-in-Err-mark_fallen.ensures.fell c.miss_refused-in-Err-mark_fallen.ensures.goes.falls
 
 pub returns-then-not-done-clause-marked : goal.returns-then-not-done-clause-marked
-returns-then-not-done-clause-marked g c = λ off. marks_later (λ s. g.S.Shelf.meaning s) c.args.vol c.args.block c.args.bytes.now (first_region c.args.block) (last_region c.args.block (length c.args.bytes.now / 512)) c.args.core.now c.write_first.new.core c.mark_group.new.core (g.S.Shelf.meaning c.args.shelf.now) (g.S.Shelf.meaning c.write_first.new.shelf) (g.S.Shelf.meaning c.mark_group.new.shelf) (c.write_first.ensures.marked off) c.mark_group.ensures.goes
+returns-then-not-done-clause-marked g c = λ off. marks_later (λ s. g.S.Shelf.meaning s) c.args.vol c.args.block c.args.bytes.now (first_region c.args.block) (last_region c.args.block (length c.args.bytes.now / 512)) c.args.core.now c.write_first.new.core c.mark_fallen.new.core (g.S.Shelf.meaning c.args.shelf.now) (g.S.Shelf.meaning c.write_first.new.shelf) (g.S.Shelf.meaning c.mark_fallen.new.shelf) (c.write_first.ensures.marked off) c.mark_fallen.ensures.goes
 
 pub returns-else-not-done-clause-marked : goal.returns-else-not-done-clause-marked
-returns-else-not-done-clause-marked g c = λ off. marks_later (λ s. g.S.Shelf.meaning s) c.args.vol c.args.block c.args.bytes.now (first_region c.args.block) (last_region c.args.block (length c.args.bytes.now / 512)) c.args.core.now c.write_first.new.core c.mark_group.new.core (g.S.Shelf.meaning c.args.shelf.now) (g.S.Shelf.meaning c.write_first.new.shelf) (g.S.Shelf.meaning c.mark_group.new.shelf) (c.write_first.ensures.marked off) c.mark_group.ensures.goes
+returns-else-not-done-clause-marked g c = λ off. marks_later (λ s. g.S.Shelf.meaning s) c.args.vol c.args.block c.args.bytes.now (first_region c.args.block) (last_region c.args.block (length c.args.bytes.now / 512)) c.args.core.now c.write_first.new.core c.mark_fallen.new.core (g.S.Shelf.meaning c.args.shelf.now) (g.S.Shelf.meaning c.write_first.new.shelf) (g.S.Shelf.meaning c.mark_fallen.new.shelf) (c.write_first.ensures.marked off) c.mark_fallen.ensures.goes
 
 pub returns-in-Err-clause-loses : goal.returns-in-Err-clause-loses
 returns-in-Err-clause-loses g c =
@@ -127,16 +118,16 @@ returns-in-Err-clause-loses g c =
     (along_same c.write_first.new.core.inner.config (g.S.Shelf.meaning c.write_first.new.shelf) (g.S.Shelf.meaning c.miss_refused.new.shelf) c.miss_refused.ensures.below.faults)
 
 pub returns-then-not-done-clause-loses : goal.returns-then-not-done-clause-loses
-returns-then-not-done-clause-loses g c = then_along c.args.core.now.inner.config c.write_first.new.core.inner.config c.mark_group.new.core.inner.config (g.S.Shelf.meaning c.args.shelf.now) (g.S.Shelf.meaning c.write_first.new.shelf) (g.S.Shelf.meaning c.mark_group.new.shelf) c.write_first.ensures.loses c.mark_group.ensures.loses
+returns-then-not-done-clause-loses g c = then_along c.args.core.now.inner.config c.write_first.new.core.inner.config c.mark_fallen.new.core.inner.config (g.S.Shelf.meaning c.args.shelf.now) (g.S.Shelf.meaning c.write_first.new.shelf) (g.S.Shelf.meaning c.mark_fallen.new.shelf) c.write_first.ensures.loses c.mark_fallen.ensures.loses
 
 pub returns-else-not-done-clause-loses : goal.returns-else-not-done-clause-loses
-returns-else-not-done-clause-loses g c = then_along c.args.core.now.inner.config c.write_first.new.core.inner.config c.mark_group.new.core.inner.config (g.S.Shelf.meaning c.args.shelf.now) (g.S.Shelf.meaning c.write_first.new.shelf) (g.S.Shelf.meaning c.mark_group.new.shelf) c.write_first.ensures.loses c.mark_group.ensures.loses
+returns-else-not-done-clause-loses g c = then_along c.args.core.now.inner.config c.write_first.new.core.inner.config c.mark_fallen.new.core.inner.config (g.S.Shelf.meaning c.args.shelf.now) (g.S.Shelf.meaning c.write_first.new.shelf) (g.S.Shelf.meaning c.mark_fallen.new.shelf) c.write_first.ensures.loses c.mark_fallen.ensures.loses
 
-pub returns-in-Err-mark_group-clause-loses : goal.returns-in-Err-mark_group-clause-loses
-returns-in-Err-mark_group-clause-loses g c =
-    then_along c.args.core.now.inner.config c.mark_group.new.core.inner.config c.mark_group.new.core.inner.config (g.S.Shelf.meaning c.args.shelf.now) (g.S.Shelf.meaning c.mark_group.new.shelf) (g.S.Shelf.meaning c.miss_refused-in-Err-mark_group.new.shelf)
-    (then_along c.args.core.now.inner.config c.write_first.new.core.inner.config c.mark_group.new.core.inner.config (g.S.Shelf.meaning c.args.shelf.now) (g.S.Shelf.meaning c.write_first.new.shelf) (g.S.Shelf.meaning c.mark_group.new.shelf) c.write_first.ensures.loses c.mark_group.ensures.loses)
-    (along_same c.mark_group.new.core.inner.config (g.S.Shelf.meaning c.mark_group.new.shelf) (g.S.Shelf.meaning c.miss_refused-in-Err-mark_group.new.shelf) c.miss_refused-in-Err-mark_group.ensures.below.faults)
+pub returns-in-Err-mark_fallen-clause-loses : goal.returns-in-Err-mark_fallen-clause-loses
+returns-in-Err-mark_fallen-clause-loses g c =
+    then_along c.args.core.now.inner.config c.mark_fallen.new.core.inner.config c.mark_fallen.new.core.inner.config (g.S.Shelf.meaning c.args.shelf.now) (g.S.Shelf.meaning c.mark_fallen.new.shelf) (g.S.Shelf.meaning c.miss_refused-in-Err-mark_fallen.new.shelf)
+    (then_along c.args.core.now.inner.config c.write_first.new.core.inner.config c.mark_fallen.new.core.inner.config (g.S.Shelf.meaning c.args.shelf.now) (g.S.Shelf.meaning c.write_first.new.shelf) (g.S.Shelf.meaning c.mark_fallen.new.shelf) c.write_first.ensures.loses c.mark_fallen.ensures.loses)
+    (along_same c.mark_fallen.new.core.inner.config (g.S.Shelf.meaning c.mark_fallen.new.shelf) (g.S.Shelf.meaning c.miss_refused-in-Err-mark_fallen.new.shelf) c.miss_refused-in-Err-mark_fallen.ensures.below.faults)
 
 pub returns-in-Err-clause-finds : goal.returns-in-Err-clause-finds
 returns-in-Err-clause-finds g c =
@@ -146,23 +137,23 @@ returns-in-Err-clause-finds g c =
 
 pub returns-then-not-done-clause-finds : goal.returns-then-not-done-clause-finds
 returns-then-not-done-clause-finds g c =
-    then_group c.args.core.now c.write_first.new.core c.mark_group.new.core (g.S.Shelf.meaning c.args.shelf.now) (g.S.Shelf.meaning c.write_first.new.shelf) (g.S.Shelf.meaning c.mark_group.new.shelf)
+    then_group c.args.core.now c.write_first.new.core c.mark_fallen.new.core (g.S.Shelf.meaning c.args.shelf.now) (g.S.Shelf.meaning c.write_first.new.shelf) (g.S.Shelf.meaning c.mark_fallen.new.shelf)
     c.write_first.ensures.finds
-    c.mark_group.ensures.finds
+    c.mark_fallen.ensures.finds
 
 pub returns-else-not-done-clause-finds : goal.returns-else-not-done-clause-finds
 returns-else-not-done-clause-finds g c =
-    then_group c.args.core.now c.write_first.new.core c.mark_group.new.core (g.S.Shelf.meaning c.args.shelf.now) (g.S.Shelf.meaning c.write_first.new.shelf) (g.S.Shelf.meaning c.mark_group.new.shelf)
+    then_group c.args.core.now c.write_first.new.core c.mark_fallen.new.core (g.S.Shelf.meaning c.args.shelf.now) (g.S.Shelf.meaning c.write_first.new.shelf) (g.S.Shelf.meaning c.mark_fallen.new.shelf)
     c.write_first.ensures.finds
-    c.mark_group.ensures.finds
+    c.mark_fallen.ensures.finds
 
-pub returns-in-Err-mark_group-clause-finds : goal.returns-in-Err-mark_group-clause-finds
-returns-in-Err-mark_group-clause-finds g c =
-    then_group c.args.core.now c.mark_group.new.core c.mark_group.new.core (g.S.Shelf.meaning c.args.shelf.now) (g.S.Shelf.meaning c.mark_group.new.shelf) (g.S.Shelf.meaning c.miss_refused-in-Err-mark_group.new.shelf)
-    (then_group c.args.core.now c.write_first.new.core c.mark_group.new.core (g.S.Shelf.meaning c.args.shelf.now) (g.S.Shelf.meaning c.write_first.new.shelf) (g.S.Shelf.meaning c.mark_group.new.shelf)
+pub returns-in-Err-mark_fallen-clause-finds : goal.returns-in-Err-mark_fallen-clause-finds
+returns-in-Err-mark_fallen-clause-finds g c =
+    then_group c.args.core.now c.mark_fallen.new.core c.mark_fallen.new.core (g.S.Shelf.meaning c.args.shelf.now) (g.S.Shelf.meaning c.mark_fallen.new.shelf) (g.S.Shelf.meaning c.miss_refused-in-Err-mark_fallen.new.shelf)
+    (then_group c.args.core.now c.write_first.new.core c.mark_fallen.new.core (g.S.Shelf.meaning c.args.shelf.now) (g.S.Shelf.meaning c.write_first.new.shelf) (g.S.Shelf.meaning c.mark_fallen.new.shelf)
     c.write_first.ensures.finds
-    c.mark_group.ensures.finds)
-    (idle_group c.mark_group.new.core (g.S.Shelf.meaning c.mark_group.new.shelf) (g.S.Shelf.meaning c.miss_refused-in-Err-mark_group.new.shelf) c.miss_refused-in-Err-mark_group.ensures.less)
+    c.mark_fallen.ensures.finds)
+    (idle_group c.mark_fallen.new.core (g.S.Shelf.meaning c.mark_fallen.new.shelf) (g.S.Shelf.meaning c.miss_refused-in-Err-mark_fallen.new.shelf) c.miss_refused-in-Err-mark_fallen.ensures.less)
 
 pub returns-in-Err-clause-drops : goal.returns-in-Err-clause-drops
 returns-in-Err-clause-drops g c =
@@ -175,20 +166,20 @@ returns-then-stopped-clause-drops g c =
 
 pub returns-then-not-done-clause-drops : goal.returns-then-not-done-clause-drops
 returns-then-not-done-clause-drops g c =
-    drops_spent c.args.core.now c.mark_group.new.core c.args.vol c.args.logs.now c.mark_group.new.logs (g.S.Shelf.meaning c.args.shelf.now) (g.S.Shelf.meaning c.mark_group.new.shelf) (g.S.Shelf.meaning c.mark_group.new.shelf) (c.in-Ok-mark_group.ensures.spent c.if-not-done.true)
-    (drop_then (wide c.args.core.now).config (wide c.write_first.new.core).config c.args.vol c.args.logs.now c.write_first.new.logs c.mark_group.new.logs (g.S.Shelf.meaning c.args.shelf.now) (g.S.Shelf.meaning c.write_first.new.shelf) (g.S.Shelf.meaning c.mark_group.new.shelf) (c.write_first.ensures.narrow.shape.logs c.args.vol) c.write_first.ensures.loses.rises c.mark_group.ensures.loses.rises c.mark_group.ensures.goes.falls c.write_first.ensures.drops c.mark_group.ensures.drops)
+    drops_spent c.args.core.now c.mark_fallen.new.core c.args.vol c.args.logs.now c.mark_fallen.new.logs (g.S.Shelf.meaning c.args.shelf.now) (g.S.Shelf.meaning c.mark_fallen.new.shelf) (g.S.Shelf.meaning c.mark_fallen.new.shelf) (c.in-Ok-mark_fallen.ensures.spent c.if-not-done.true)
+    (drop_then (wide c.args.core.now).config (wide c.write_first.new.core).config c.args.vol c.args.logs.now c.write_first.new.logs c.mark_fallen.new.logs (g.S.Shelf.meaning c.args.shelf.now) (g.S.Shelf.meaning c.write_first.new.shelf) (g.S.Shelf.meaning c.mark_fallen.new.shelf) (c.write_first.ensures.narrow.shape.logs c.args.vol) c.write_first.ensures.loses.rises c.mark_fallen.ensures.loses.rises c.mark_fallen.ensures.goes.falls c.write_first.ensures.drops c.mark_fallen.ensures.drops)
 
 pub returns-else-not-done-clause-drops : goal.returns-else-not-done-clause-drops
 returns-else-not-done-clause-drops g c =
-    drops_so c.args.core.now c.mark_group.new.core c.args.vol c.args.logs.now c.mark_group.new.logs (g.S.Shelf.meaning c.args.shelf.now) (g.S.Shelf.meaning c.mark_group.new.shelf)
-    (drop_then (wide c.args.core.now).config (wide c.write_first.new.core).config c.args.vol c.args.logs.now c.write_first.new.logs c.mark_group.new.logs (g.S.Shelf.meaning c.args.shelf.now) (g.S.Shelf.meaning c.write_first.new.shelf) (g.S.Shelf.meaning c.mark_group.new.shelf) (c.write_first.ensures.narrow.shape.logs c.args.vol) c.write_first.ensures.loses.rises c.mark_group.ensures.loses.rises c.mark_group.ensures.goes.falls c.write_first.ensures.drops c.mark_group.ensures.drops)
+    drops_so c.args.core.now c.mark_fallen.new.core c.args.vol c.args.logs.now c.mark_fallen.new.logs (g.S.Shelf.meaning c.args.shelf.now) (g.S.Shelf.meaning c.mark_fallen.new.shelf)
+    (drop_then (wide c.args.core.now).config (wide c.write_first.new.core).config c.args.vol c.args.logs.now c.write_first.new.logs c.mark_fallen.new.logs (g.S.Shelf.meaning c.args.shelf.now) (g.S.Shelf.meaning c.write_first.new.shelf) (g.S.Shelf.meaning c.mark_fallen.new.shelf) (c.write_first.ensures.narrow.shape.logs c.args.vol) c.write_first.ensures.loses.rises c.mark_fallen.ensures.loses.rises c.mark_fallen.ensures.goes.falls c.write_first.ensures.drops c.mark_fallen.ensures.drops)
 
-pub returns-in-Err-mark_group-clause-drops : goal.returns-in-Err-mark_group-clause-drops
-returns-in-Err-mark_group-clause-drops g c =
-    drops_so c.args.core.now c.mark_group.new.core c.args.vol c.args.logs.now c.miss_refused-in-Err-mark_group.new.logs (g.S.Shelf.meaning c.args.shelf.now) (g.S.Shelf.meaning c.miss_refused-in-Err-mark_group.new.shelf)
-    (drop_then (wide c.args.core.now).config (wide c.mark_group.new.core).config c.args.vol c.args.logs.now c.mark_group.new.logs c.miss_refused-in-Err-mark_group.new.logs (g.S.Shelf.meaning c.args.shelf.now) (g.S.Shelf.meaning c.mark_group.new.shelf) (g.S.Shelf.meaning c.miss_refused-in-Err-mark_group.new.shelf) ((narrowed_then c.args.core.now c.write_first.new.core c.mark_group.new.core c.write_first.ensures.narrow c.mark_group.ensures.narrow).shape.logs c.args.vol)
-    (then_along c.args.core.now.inner.config c.write_first.new.core.inner.config c.mark_group.new.core.inner.config (g.S.Shelf.meaning c.args.shelf.now) (g.S.Shelf.meaning c.write_first.new.shelf) (g.S.Shelf.meaning c.mark_group.new.shelf) c.write_first.ensures.loses c.mark_group.ensures.loses).rises c.miss_refused-in-Err-mark_group.ensures.below.faults c.miss_refused-in-Err-mark_group.ensures.below.falls
-    (drop_then (wide c.args.core.now).config (wide c.write_first.new.core).config c.args.vol c.args.logs.now c.write_first.new.logs c.mark_group.new.logs (g.S.Shelf.meaning c.args.shelf.now) (g.S.Shelf.meaning c.write_first.new.shelf) (g.S.Shelf.meaning c.mark_group.new.shelf) (c.write_first.ensures.narrow.shape.logs c.args.vol) c.write_first.ensures.loses.rises c.mark_group.ensures.loses.rises c.mark_group.ensures.goes.falls c.write_first.ensures.drops c.mark_group.ensures.drops) (c.miss_refused-in-Err-mark_group.ensures.drops refl))
+pub returns-in-Err-mark_fallen-clause-drops : goal.returns-in-Err-mark_fallen-clause-drops
+returns-in-Err-mark_fallen-clause-drops g c =
+    drops_so c.args.core.now c.mark_fallen.new.core c.args.vol c.args.logs.now c.miss_refused-in-Err-mark_fallen.new.logs (g.S.Shelf.meaning c.args.shelf.now) (g.S.Shelf.meaning c.miss_refused-in-Err-mark_fallen.new.shelf)
+    (drop_then (wide c.args.core.now).config (wide c.mark_fallen.new.core).config c.args.vol c.args.logs.now c.mark_fallen.new.logs c.miss_refused-in-Err-mark_fallen.new.logs (g.S.Shelf.meaning c.args.shelf.now) (g.S.Shelf.meaning c.mark_fallen.new.shelf) (g.S.Shelf.meaning c.miss_refused-in-Err-mark_fallen.new.shelf) ((narrowed_then c.args.core.now c.write_first.new.core c.mark_fallen.new.core c.write_first.ensures.narrow c.mark_fallen.ensures.narrow).shape.logs c.args.vol)
+    (then_along c.args.core.now.inner.config c.write_first.new.core.inner.config c.mark_fallen.new.core.inner.config (g.S.Shelf.meaning c.args.shelf.now) (g.S.Shelf.meaning c.write_first.new.shelf) (g.S.Shelf.meaning c.mark_fallen.new.shelf) c.write_first.ensures.loses c.mark_fallen.ensures.loses).rises c.miss_refused-in-Err-mark_fallen.ensures.below.faults c.miss_refused-in-Err-mark_fallen.ensures.below.falls
+    (drop_then (wide c.args.core.now).config (wide c.write_first.new.core).config c.args.vol c.args.logs.now c.write_first.new.logs c.mark_fallen.new.logs (g.S.Shelf.meaning c.args.shelf.now) (g.S.Shelf.meaning c.write_first.new.shelf) (g.S.Shelf.meaning c.mark_fallen.new.shelf) (c.write_first.ensures.narrow.shape.logs c.args.vol) c.write_first.ensures.loses.rises c.mark_fallen.ensures.loses.rises c.mark_fallen.ensures.goes.falls c.write_first.ensures.drops c.mark_fallen.ensures.drops) (c.miss_refused-in-Err-mark_fallen.ensures.drops refl))
 
 pub returns-in-Err-clause-trusts : goal.returns-in-Err-clause-trusts
 returns-in-Err-clause-trusts g c =
@@ -201,17 +192,17 @@ returns-then-stopped-clause-trusts g c =
 
 pub returns-then-not-done-clause-trusts : goal.returns-then-not-done-clause-trusts
 returns-then-not-done-clause-trusts g c =
-    trusts_less c.args.vol c.mark_group.new.logs (record { drl = c.mark_group.new.logs.drl; fmr = None }) c.args.core.now.inner.config c.mark_group.new.core.inner.config (no_map c.mark_group.new.logs)
-    (trusts_then c.args.vol c.mark_group.new.logs c.args.core.now.inner.config c.write_first.new.core.inner.config c.mark_group.new.core.inner.config (trusts_less c.args.vol c.write_first.new.logs c.mark_group.new.logs c.args.core.now.inner.config c.write_first.new.core.inner.config c.mark_group.ensures.drops.none c.write_first.ensures.trusts) c.mark_group.ensures.trusts)
+    trusts_less c.args.vol c.mark_fallen.new.logs (record { drl = c.mark_fallen.new.logs.drl; fmr = None }) c.args.core.now.inner.config c.mark_fallen.new.core.inner.config (no_map c.mark_fallen.new.logs)
+    (trusts_then c.args.vol c.mark_fallen.new.logs c.args.core.now.inner.config c.write_first.new.core.inner.config c.mark_fallen.new.core.inner.config (trusts_less c.args.vol c.write_first.new.logs c.mark_fallen.new.logs c.args.core.now.inner.config c.write_first.new.core.inner.config c.mark_fallen.ensures.drops.none c.write_first.ensures.trusts) c.mark_fallen.ensures.trusts)
 
 pub returns-else-not-done-clause-trusts : goal.returns-else-not-done-clause-trusts
 returns-else-not-done-clause-trusts g c =
-    trusts_then c.args.vol c.mark_group.new.logs c.args.core.now.inner.config c.write_first.new.core.inner.config c.mark_group.new.core.inner.config (trusts_less c.args.vol c.write_first.new.logs c.mark_group.new.logs c.args.core.now.inner.config c.write_first.new.core.inner.config c.mark_group.ensures.drops.none c.write_first.ensures.trusts) c.mark_group.ensures.trusts
+    trusts_then c.args.vol c.mark_fallen.new.logs c.args.core.now.inner.config c.write_first.new.core.inner.config c.mark_fallen.new.core.inner.config (trusts_less c.args.vol c.write_first.new.logs c.mark_fallen.new.logs c.args.core.now.inner.config c.write_first.new.core.inner.config c.mark_fallen.ensures.drops.none c.write_first.ensures.trusts) c.mark_fallen.ensures.trusts
 
-pub returns-in-Err-mark_group-clause-trusts : goal.returns-in-Err-mark_group-clause-trusts
-returns-in-Err-mark_group-clause-trusts g c =
-    trusts_less c.args.vol c.mark_group.new.logs c.miss_refused-in-Err-mark_group.new.logs c.args.core.now.inner.config c.mark_group.new.core.inner.config (c.miss_refused-in-Err-mark_group.ensures.drops refl).none
-    (trusts_then c.args.vol c.mark_group.new.logs c.args.core.now.inner.config c.write_first.new.core.inner.config c.mark_group.new.core.inner.config (trusts_less c.args.vol c.write_first.new.logs c.mark_group.new.logs c.args.core.now.inner.config c.write_first.new.core.inner.config c.mark_group.ensures.drops.none c.write_first.ensures.trusts) c.mark_group.ensures.trusts)
+pub returns-in-Err-mark_fallen-clause-trusts : goal.returns-in-Err-mark_fallen-clause-trusts
+returns-in-Err-mark_fallen-clause-trusts g c =
+    trusts_less c.args.vol c.mark_fallen.new.logs c.miss_refused-in-Err-mark_fallen.new.logs c.args.core.now.inner.config c.mark_fallen.new.core.inner.config (c.miss_refused-in-Err-mark_fallen.ensures.drops refl).none
+    (trusts_then c.args.vol c.mark_fallen.new.logs c.args.core.now.inner.config c.write_first.new.core.inner.config c.mark_fallen.new.core.inner.config (trusts_less c.args.vol c.write_first.new.logs c.mark_fallen.new.logs c.args.core.now.inner.config c.write_first.new.core.inner.config c.mark_fallen.ensures.drops.none c.write_first.ensures.trusts) c.mark_fallen.ensures.trusts)
 
 pub returns-in-Err-clause-kept : goal.returns-in-Err-clause-kept
 returns-in-Err-clause-kept g c =
@@ -223,12 +214,61 @@ returns-then-stopped-clause-kept g c =
 
 pub returns-then-not-done-clause-kept : goal.returns-then-not-done-clause-kept
 returns-then-not-done-clause-kept g c =
-    λ off. record { so = inr (c.in-Ok-mark_group.ensures.spent c.if-not-done.true) }
+    λ off. record { so = inr (c.in-Ok-mark_fallen.ensures.spent c.if-not-done.true) }
 
 pub returns-else-not-done-clause-kept : goal.returns-else-not-done-clause-kept
 returns-else-not-done-clause-kept g c =
-    λ off. record { so = inl ((c.in-Ok-mark_group.ensures.may c.if-not-done.false).some, c.in-Ok-mark_group.ensures.said c.if-not-done.false) }
+    λ off. record { so = inl ((c.in-Ok-mark_fallen.ensures.may c.if-not-done.false).some, c.in-Ok-mark_fallen.ensures.said c.if-not-done.false) }
 
-pub returns-in-Err-mark_group-clause-kept : goal.returns-in-Err-mark_group-clause-kept
-returns-in-Err-mark_group-clause-kept g c =
+pub returns-in-Err-mark_fallen-clause-kept : goal.returns-in-Err-mark_fallen-clause-kept
+returns-in-Err-mark_fallen-clause-kept g c =
     λ off. tt
+
+pub mark_fallen-requires-clause-has : goal.mark_fallen-requires-clause-has
+mark_fallen-requires-clause-has g c = λ p on. was_there c.args.core.now c.write_first.new.core c.args.vol p (g.S.Shelf.meaning c.args.shelf.now) c.requires.stands c.write_first.ensures.narrow (record { volume = c.requires.fits.exists; within = omega (arith, c.requires.fits.some, c.requires.fits.whole, c.requires.fits.within) }) (c.actives-was.ensures.some p on)
+
+pub mark_fallen-requires-clause-reads : goal.mark_fallen-requires-clause-reads
+mark_fallen-requires-clause-reads g c = λ is. but_less (wide c.write_first.new.core).config c.args.vol (first_region c.args.block) (last_region c.args.block (length c.args.bytes.now / 512)) (was_on c.actives-was.result) (active (wide c.args.core.now).config c.args.vol) (g.S.Shelf.meaning c.write_first.new.shelf) (λ p on. narrow_wider c.args.core.now (g.S.Shelf.meaning c.args.shelf.now) c.requires.stands c.args.vol p (c.actives-was.ensures.some p on)) (c.in-Ok.ensures.alike c.if-stopped.false (c.requires.one is))
+
+pub returns-in-Err-clause-notes : goal.returns-in-Err-clause-notes
+returns-in-Err-clause-notes g c = but_note (fell_in c.args.core.now c.write_first.new.core c.args.vol) all_those (first_region c.args.block) (last_region c.args.block (length c.args.bytes.now / 512)) c.args.logs.now c.miss_refused.new.logs (note_then all_those (first_region c.args.block) (last_region c.args.block (length c.args.bytes.now / 512)) c.args.logs.now c.write_first.new.logs c.miss_refused.new.logs (those_any (are_off c.write_first.new.core c.args.vol) (first_region c.args.block) (last_region c.args.block (length c.args.bytes.now / 512)) c.args.logs.now c.write_first.new.logs c.write_first.ensures.notes) c.miss_refused.ensures.notes)
+
+pub returns-then-stopped-clause-notes : goal.returns-then-stopped-clause-notes
+returns-then-stopped-clause-notes g c = but_note (fell_in c.args.core.now c.write_first.new.core c.args.vol) (are_off c.write_first.new.core c.args.vol) (first_region c.args.block) (last_region c.args.block (length c.args.bytes.now / 512)) c.args.logs.now c.write_first.new.logs c.write_first.ensures.notes
+
+pub returns-then-not-done-clause-notes : goal.returns-then-not-done-clause-notes
+returns-then-not-done-clause-notes g c = but_none (fell_in c.args.core.now c.mark_fallen.new.core c.args.vol) (are_off c.mark_fallen.new.core c.args.vol) (first_region c.args.block) (last_region c.args.block (length c.args.bytes.now / 512)) c.args.logs.now (record { drl = c.mark_fallen.new.logs.drl; fmr = None }) refl
+
+pub returns-else-not-done-clause-notes : goal.returns-else-not-done-clause-notes
+returns-else-not-done-clause-notes g c = but_then (fell_in c.args.core.now c.mark_fallen.new.core c.args.vol) (are_off c.mark_fallen.new.core c.args.vol) (first_region c.args.block) (last_region c.args.block (length c.args.bytes.now / 512)) c.args.logs.now c.write_first.new.logs c.mark_fallen.new.logs
+    (but_note (fell_in c.args.core.now c.mark_fallen.new.core c.args.vol) (are_off c.mark_fallen.new.core c.args.vol) (first_region c.args.block) (last_region c.args.block (length c.args.bytes.now / 512)) c.args.logs.now c.write_first.new.logs (note_more (are_off c.write_first.new.core c.args.vol) (are_off c.mark_fallen.new.core c.args.vol) (first_region c.args.block) (last_region c.args.block (length c.args.bytes.now / 512)) c.args.logs.now c.write_first.new.logs (more_off c.write_first.new.core c.mark_fallen.new.core c.args.vol c.mark_fallen.ensures.narrow) c.write_first.ensures.notes))
+    (but_more (fell_now c.actives-was.result c.mark_fallen.new.core c.args.vol) (fell_in c.args.core.now c.mark_fallen.new.core c.args.vol) (are_off c.mark_fallen.new.core c.args.vol) (are_off c.mark_fallen.new.core c.args.vol) (first_region c.args.block) (last_region c.args.block (length c.args.bytes.now / 512)) c.write_first.new.logs c.mark_fallen.new.logs (fell_some c.args.core.now c.mark_fallen.new.core c.args.vol c.actives-was.result c.actives-was.ensures.some) (λ p is. is) c.mark_fallen.ensures.notes)
+
+pub returns-in-Err-mark_fallen-clause-notes : goal.returns-in-Err-mark_fallen-clause-notes
+returns-in-Err-mark_fallen-clause-notes g c = but_then (fell_in c.args.core.now c.mark_fallen.new.core c.args.vol) all_those (first_region c.args.block) (last_region c.args.block (length c.args.bytes.now / 512)) c.args.logs.now c.mark_fallen.new.logs c.miss_refused-in-Err-mark_fallen.new.logs
+    (but_then (fell_in c.args.core.now c.mark_fallen.new.core c.args.vol) all_those (first_region c.args.block) (last_region c.args.block (length c.args.bytes.now / 512)) c.args.logs.now c.write_first.new.logs c.mark_fallen.new.logs (but_note (fell_in c.args.core.now c.mark_fallen.new.core c.args.vol) all_those (first_region c.args.block) (last_region c.args.block (length c.args.bytes.now / 512)) c.args.logs.now c.write_first.new.logs (those_any (are_off c.write_first.new.core c.args.vol) (first_region c.args.block) (last_region c.args.block (length c.args.bytes.now / 512)) c.args.logs.now c.write_first.new.logs c.write_first.ensures.notes))
+    (but_more (fell_now c.actives-was.result c.mark_fallen.new.core c.args.vol) (fell_in c.args.core.now c.mark_fallen.new.core c.args.vol) (are_off c.mark_fallen.new.core c.args.vol) all_those (first_region c.args.block) (last_region c.args.block (length c.args.bytes.now / 512)) c.write_first.new.logs c.mark_fallen.new.logs (fell_some c.args.core.now c.mark_fallen.new.core c.args.vol c.actives-was.result c.actives-was.ensures.some) (λ p is. refl) c.mark_fallen.ensures.notes))
+    (but_note (fell_in c.args.core.now c.mark_fallen.new.core c.args.vol) all_those (first_region c.args.block) (last_region c.args.block (length c.args.bytes.now / 512)) c.mark_fallen.new.logs c.miss_refused-in-Err-mark_fallen.new.logs c.miss_refused-in-Err-mark_fallen.ensures.notes)
+
+pub returns-in-Err-mark_fallen-clause-maps : goal.returns-in-Err-mark_fallen-clause-maps
+returns-in-Err-mark_fallen-clause-maps g c = λ off know. c.miss_refused-in-Err-mark_fallen.ensures.knows refl (c.mark_fallen.ensures.maps (c.write_first.ensures.missed off know))
+
+pub returns-else-not-done-clause-maps : goal.returns-else-not-done-clause-maps
+returns-else-not-done-clause-maps g c = λ off know. c.in-Ok-mark_fallen.ensures.knows (c.in-Ok.ensures.written off know) c.if-not-done.false
+
+pub returns-in-Err-clause-begins : goal.returns-in-Err-clause-begins
+returns-in-Err-clause-begins g c = λ is off. tt
+
+pub returns-in-Err-mark_fallen-clause-begins : goal.returns-in-Err-mark_fallen-clause-begins
+returns-in-Err-mark_fallen-clause-begins g c = λ is off. tt
+
+pub returns-then-stopped-clause-begins : goal.returns-then-stopped-clause-begins
+returns-then-stopped-clause-begins g c = λ is off. absurd (let clash : true ≡ false = sym c.if-stopped.true ∙ off in cc)
+
+pub returns-then-not-done-clause-begins : goal.returns-then-not-done-clause-begins
+returns-then-not-done-clause-begins g c = λ is off. run_none (fell_in c.args.core.now c.mark_fallen.new.core c.args.vol) (first_region c.args.block) (last_region c.args.block (length c.args.bytes.now / 512)) (record { drl = c.mark_fallen.new.logs.drl; fmr = None }) refl
+
+pub returns-else-not-done-clause-begins : goal.returns-else-not-done-clause-begins
+returns-else-not-done-clause-begins g c = λ is off. run_less (fell_in c.args.core.now c.mark_fallen.new.core c.args.vol) (fell_now c.actives-was.result c.mark_fallen.new.core c.args.vol) (first_region c.args.block) (last_region c.args.block (length c.args.bytes.now / 512)) c.mark_fallen.new.logs
+    (fell_all c.args.core.now c.mark_fallen.new.core c.args.vol c.actives-was.result (λ p on. c.actives-was.ensures.all p (active_few c.args.core.now.inner.config (narrow_sound c.args.core.now (g.S.Shelf.meaning c.args.shelf.now) c.requires.stands) c.args.vol p on) on))
+    (c.in-Ok-mark_fallen.ensures.begins is c.if-not-done.false)

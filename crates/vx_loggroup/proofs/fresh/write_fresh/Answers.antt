@@ -14,7 +14,8 @@ use Rattle.vx_logged.specs.Behind.{those_missing}
 use Rattle.vx_logged.proofs.RefuseLemmas.{marks_sooner}
 use Rattle.vx_logged.proofs.StandLemmas.{fits_later}
 use Rattle.vx_loggroup.specs.LoggedVolumes.{LoggedStands}
-use Rattle.vx_loggroup.proofs.FreshLemmas.{begins_stale, fresh_goes, fresh_still, fresh_taken, lists_marks, lists_notes, lists_only, lists_same}
+use Rattle.vx_loggroup.proofs.FreshLemmas.{begins_stale, fresh_goes, fresh_still, fresh_taken, lists_marks, lists_notes, lists_only, lists_same, fell_first, runs_same}
+use Rattle.vx_logged.specs.Begun.{fell_in}
 use Rattle.vx_group.proofs.FindingLemmas.{then_group}
 use Rattle.vx_loggroup.proofs.KeepingLemmas.{frames_places, stay_keeps, then_keeps}
 use Rattle.vx_loggroup.proofs.KeepingCalls.{begins_stay}
@@ -61,7 +62,7 @@ pub returns-in-Err-clause-marks : goal.returns-in-Err-clause-marks
 returns-in-Err-clause-marks g c = lists_only (wide c.args.core.now).config c.args.vol (first_region c.args.block) (last_region c.args.block (length c.args.bytes.now / 512)) c.args.logs.now.items c.begin_first.new.logs.items c.begin_first.ensures.first
 
 pub returns-in-Err-clause-notes : goal.returns-in-Err-clause-notes
-returns-in-Err-clause-notes g c = lists_same _ c.args.vol _ (first_region c.args.block) (last_region c.args.block (length c.args.bytes.now / 512)) c.args.logs.now.items c.begin_first.new.logs.items c.begin_first.ensures.first
+returns-in-Err-clause-notes g c = lists_same _ _ c.args.vol _ (first_region c.args.block) (last_region c.args.block (length c.args.bytes.now / 512)) c.args.logs.now.items c.begin_first.new.logs.items c.begin_first.ensures.first
 
 pub returns-in-Err-clause-marked : goal.returns-in-Err-clause-marked
 returns-in-Err-clause-marked g c = λ off. inl c.begin_first.ensures.begins.goes
@@ -85,7 +86,7 @@ pub returns-clause-marks : goal.returns-clause-marks
 returns-clause-marks g c = lists_marks (wide c.args.core.now).config (wide c.begin_first.new.core).config c.args.vol (first_region c.args.block) (last_region c.args.block (length c.args.bytes.now / 512)) c.args.logs.now.items c.begin_first.new.logs.items c.write_whole-2.new.logs.items (c.begin_first.ensures.begins.goes.size c.args.vol) c.begin_first.ensures.first c.write_whole-2.ensures.marks
 
 pub returns-clause-notes : goal.returns-clause-notes
-returns-clause-notes g c = lists_notes (those_missing c.write_whole-2.new.core c.args.vol c.write_whole-2.result) c.args.vol _ (first_region c.args.block) (last_region c.args.block (length c.args.bytes.now / 512)) c.args.logs.now.items c.begin_first.new.logs.items c.write_whole-2.new.logs.items c.begin_first.ensures.first c.write_whole-2.ensures.notes
+returns-clause-notes g c = lists_notes (fell_in c.begin_first.new.core c.write_whole-2.new.core c.args.vol) (fell_in c.args.core.now c.write_whole-2.new.core c.args.vol) (those_missing c.write_whole-2.new.core c.args.vol c.write_whole-2.result) c.args.vol _ (first_region c.args.block) (last_region c.args.block (length c.args.bytes.now / 512)) c.args.logs.now.items c.begin_first.new.logs.items c.write_whole-2.new.logs.items (fell_first c.args.core.now c.begin_first.new.core c.write_whole-2.new.core c.args.vol c.begin_first.ensures.begins.still) c.begin_first.ensures.first c.write_whole-2.ensures.notes
 
 pub returns-clause-marked : goal.returns-clause-marked
 returns-clause-marked g c = λ off. marks_sooner (λ s. g.S.Shelf.meaning s) c.args.vol c.args.block c.args.bytes.now (first_region c.args.block) (last_region c.args.block (length c.args.bytes.now / 512)) c.args.core.now c.begin_first.new.core c.write_whole-2.new.core (g.S.Shelf.meaning c.args.shelf.now) (g.S.Shelf.meaning c.begin_first.new.shelf) (g.S.Shelf.meaning c.write_whole-2.new.shelf) c.begin_first.ensures.begins.goes
@@ -127,3 +128,9 @@ returns-clause-keeps g c = then_keeps c.args.core.now c.begin_first.new.core c.w
 
 pub returns-clause-kept : goal.returns-clause-kept
 returns-clause-kept g c = c.write_whole-2.ensures.kept
+
+pub returns-in-Err-clause-begins : goal.returns-in-Err-clause-begins
+returns-in-Err-clause-begins g c = λ alike going. tt
+
+pub returns-clause-begins : goal.returns-clause-begins
+returns-clause-begins g c = λ alike going. ok_from c.write_whole-2.result (λ runs. runs_same (fell_in c.begin_first.new.core c.write_whole-2.new.core c.args.vol) (fell_in c.args.core.now c.write_whole-2.new.core c.args.vol) c.args.vol (first_region c.args.block) (last_region c.args.block (length c.args.bytes.now / 512)) c.write_whole-2.new.logs.items (fell_first c.args.core.now c.begin_first.new.core c.write_whole-2.new.core c.args.vol c.begin_first.ensures.begins.still) runs) (c.write_whole-2.ensures.begins alike going)

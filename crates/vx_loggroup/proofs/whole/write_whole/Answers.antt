@@ -3,7 +3,9 @@ use Rattle.std.proofs.Common.{◌≡◌, ◌∙◌, ◌/◌, true, false, length
 use Rattle.vx_disk.specs.Shelf.{Written}
 use Rattle.vx_group.specs.Holding.{wide}
 use Rattle.vx_logs.specs.Writes.{first_region, last_region}
-use Rattle.vx_loggroup.proofs.AlikeLemmas.{going_back, index_low, marks_set, notes_set, reads_wrote, set_stands}
+use Rattle.vx_loggroup.proofs.AlikeLemmas.{going_back, index_low, marks_set, notes_set, reads_wrote, set_stands, runs_set, up_false}
+use Rattle.vx_group.proofs.CallLemmas.{not_down}
+use Rattle.vx_logged.specs.Begun.{fell_in}
 use Rattle.vx_logged.specs.Behind.{all_those}
 use Rattle.vx_logged.specs.Logged.{are_off}
 use Rattle.vx_loggroup.proofs.SetLemmas.{item_of}
@@ -45,13 +47,13 @@ pub returns-in-Err-clause-marks : goal.returns-in-Err-clause-marks
 returns-in-Err-clause-marks g c = marks_set (wide c.args.core.now).config c.args.vol (first_region c.args.block) (last_region c.args.block (length c.args.bytes.now / 512)) c.args.logs.now.items c.index_mut.result.now c.write_marked.new.logs (item_of c.args.logs.now.items c.args.vol c.index_mut.result.now c.index_mut.ensures.value (index_low c.args.core.now c.args.logs.now.items c.args.alike.now c.args.stopped.now (g.S.Shelf.meaning c.args.shelf.now) c.args.vol c.requires.stands c.requires.fits.exists)) c.write_marked.ensures.adds
 
 pub returns-in-Ok-clause-notes : goal.returns-in-Ok-clause-notes
-returns-in-Ok-clause-notes g c = notes_set (are_off c.write_marked.new.core c.args.vol) c.args.vol (first_region c.args.block) (last_region c.args.block (length c.args.bytes.now / 512)) c.args.logs.now.items c.index_mut.result.now c.write_marked.new.logs (item_of c.args.logs.now.items c.args.vol c.index_mut.result.now c.index_mut.ensures.value (index_low c.args.core.now c.args.logs.now.items c.args.alike.now c.args.stopped.now (g.S.Shelf.meaning c.args.shelf.now) c.args.vol c.requires.stands c.requires.fits.exists)) c.in-Ok.ensures.notes
+returns-in-Ok-clause-notes g c = notes_set (fell_in c.args.core.now c.write_marked.new.core c.args.vol) (are_off c.write_marked.new.core c.args.vol) c.args.vol (first_region c.args.block) (last_region c.args.block (length c.args.bytes.now / 512)) c.args.logs.now.items c.index_mut.result.now c.write_marked.new.logs (item_of c.args.logs.now.items c.args.vol c.index_mut.result.now c.index_mut.ensures.value (index_low c.args.core.now c.args.logs.now.items c.args.alike.now c.args.stopped.now (g.S.Shelf.meaning c.args.shelf.now) c.args.vol c.requires.stands c.requires.fits.exists)) c.in-Ok.ensures.notes
 
 pub returns-in-Ok-clause-marked : goal.returns-in-Ok-clause-marked
 returns-in-Ok-clause-marked g c = c.write_marked.ensures.marked
 
 pub returns-in-Err-clause-notes : goal.returns-in-Err-clause-notes
-returns-in-Err-clause-notes g c = notes_set all_those c.args.vol (first_region c.args.block) (last_region c.args.block (length c.args.bytes.now / 512)) c.args.logs.now.items c.index_mut.result.now c.write_marked.new.logs (item_of c.args.logs.now.items c.args.vol c.index_mut.result.now c.index_mut.ensures.value (index_low c.args.core.now c.args.logs.now.items c.args.alike.now c.args.stopped.now (g.S.Shelf.meaning c.args.shelf.now) c.args.vol c.requires.stands c.requires.fits.exists)) c.in-Err.ensures.notes
+returns-in-Err-clause-notes g c = notes_set (fell_in c.args.core.now c.write_marked.new.core c.args.vol) all_those c.args.vol (first_region c.args.block) (last_region c.args.block (length c.args.bytes.now / 512)) c.args.logs.now.items c.index_mut.result.now c.write_marked.new.logs (item_of c.args.logs.now.items c.args.vol c.index_mut.result.now c.index_mut.ensures.value (index_low c.args.core.now c.args.logs.now.items c.args.alike.now c.args.stopped.now (g.S.Shelf.meaning c.args.shelf.now) c.args.vol c.requires.stands c.requires.fits.exists)) c.in-Err.ensures.notes
 
 pub returns-in-Err-clause-marked : goal.returns-in-Err-clause-marked
 returns-in-Err-clause-marked g c = c.write_marked.ensures.marked
@@ -64,3 +66,14 @@ returns-in-Err-clause-keeps g c = marked_keeps c.args.core.now c.write_marked.ne
 
 pub returns-in-Ok-clause-kept : goal.returns-in-Ok-clause-kept
 returns-in-Ok-clause-kept g c = λ off. kept_set c.write_marked.new.core c.args.logs.now.items c.args.vol c.write_marked.new.logs (c.in-Ok.ensures.kept off)
+
+pub write_marked-requires-clause-one : goal.write_marked-requires-clause-one
+write_marked-requires-clause-one g c = λ is. (c.requires.stands.each c.args.vol c.index_mut.result.now (item_of c.args.logs.now.items c.args.vol c.index_mut.result.now c.index_mut.ensures.value (index_low c.args.core.now c.args.logs.now.items c.args.alike.now c.args.stopped.now (g.S.Shelf.meaning c.args.shelf.now) c.args.vol c.requires.stands c.requires.fits.exists))).alike (sym c.is_alike.ensures ∙ c.is_sure-sure.ensures.alike is)
+    (not_down c.is_down-down.result (g.S.Shelf.meaning c.args.shelf.now).down c.is_down-down.ensures (c.is_sure-sure.ensures.up is))
+
+pub returns-in-Ok-clause-begins : goal.returns-in-Ok-clause-begins
+returns-in-Ok-clause-begins g c = λ alike going. runs_set (fell_in c.args.core.now c.write_marked.new.core c.args.vol) c.args.vol (first_region c.args.block) (last_region c.args.block (length c.args.bytes.now / 512)) c.args.logs.now.items c.write_marked.new.logs
+    (c.in-Ok.ensures.begins (c.is_sure-sure.ensures.all (c.is_alike.ensures ∙ alike) (going_back c.args.stopped.now c.write_marked.new.stopped c.write_marked.ensures.stays going) (c.is_down-down.ensures ∙ up_false (g.S.Shelf.meaning c.args.shelf.now).down c.in-Ok.ensures.cause.before)) going)
+
+pub returns-in-Err-clause-begins : goal.returns-in-Err-clause-begins
+returns-in-Err-clause-begins g c = λ alike going. tt
