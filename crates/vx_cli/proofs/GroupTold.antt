@@ -43,6 +43,7 @@ module _ {T U : Type 0} (f : U → T) where
     cut = x.cut;
     missed = x.missed;
     perhaps = x.perhaps;
+    inside = x.inside;
   }
 
   unread_told : (s : ℕ) (n : Node) (fails : Fails) (note new : GroupNode) → NotesUnread T s n fails note new → NotesUnread U s n fails note new

@@ -24,6 +24,7 @@ no_note = record {
   cut = None;
   missed = λ v p. None;
   perhaps = λ v p r. false;
+  inside = λ v. false;
 }
 
 abbrev pub note_at : Node → GroupNode
@@ -66,6 +67,7 @@ pub record FirstNote (s disks blocks : ℕ) (new : GroupNode) : Type 0 where
   pub others : (v b : ℕ) → new.others v b ≡ []
   pub cut : new.cut ≡ None
   pub perhaps : (v p r : ℕ) → new.perhaps v p r ≡ false
+  pub inside : (v : ℕ) → new.inside v ≡ false
 
 -- ---- volumes
 
@@ -130,6 +132,7 @@ pub record NotesBack (told : Type 0) (s : ℕ) (n : Node) (fails : Fails) (note 
   pub cut : new.cut ≡ None
   pub missed : new.missed ≡ note.missed
   pub perhaps : new.perhaps ≡ note.perhaps
+  pub inside : new.inside ≡ note.inside
 
 -- the same where what is kept of a write that was cut is still to be read
 pub record NotesUnread (told : Type 0) (s : ℕ) (n : Node) (fails : Fails) (note new : GroupNode) : Type 0 where

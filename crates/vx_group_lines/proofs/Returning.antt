@@ -90,6 +90,7 @@ module _ {R : Type 0} {g : Ghosts R} where
     cut = back.cut;
     missed = back.missed;
     perhaps = back.perhaps;
+    inside = back.inside;
   }
     where
       within : (k : ℕ) (disk : DiskEntry) → slice_get config.now.disks k ≡ Some disk → k < n.disks

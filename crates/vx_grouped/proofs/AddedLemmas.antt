@@ -122,11 +122,12 @@ module _ (c d : GroupCore) (m m' : Meaning) (two : GroupStands d m') (lawful : L
       added_last : (v b : ℕ) (x : List ℕ) → v ≡ vol → OnSome new m'.leaves v b x → BlockMay added v b x
       added_last v b x same is =
           let at : OnSome new m'.leaves vol b x = subst (λ (w : ℕ). OnSome new m'.leaves w b x) same is in
-          inl (made.begins.each at.plex b x at.is_on at.inside at.value ∙ sym (if_same v vol zero_block (note.bytes.block v b) same))
+          inr (inl (made.begins.each at.plex b x at.is_on at.inside at.value ∙ sym (if_same v vol zero_block (note.bytes.block v b) same)))
 
       may_else : (v b : ℕ) (x : List ℕ) → (v ≡ vol → ⊥) → BlockMay note v b x → BlockMay added v b x
-      may_else v b x apart (inl is) = inl (is ∙ sym (if_apart v vol zero_block (note.bytes.block v b) apart))
-      may_else v b x apart (inr among) = inr (subst (λ (xs : List (List ℕ)). Contains xs x) (sym (if_apart v vol [] (note.others v b) apart)) among)
+      may_else v b x apart (inl within) = inl within
+      may_else v b x apart (inr (inl is)) = inr (inl (is ∙ sym (if_apart v vol zero_block (note.bytes.block v b) apart)))
+      may_else v b x apart (inr (inr among)) = inr (inr (subst (λ (xs : List (List ℕ)). Contains xs x) (sym (if_apart v vol [] (note.others v b) apart)) among))
 
       -- of the others each is what it was
       added_else : (v b : ℕ) (x : List ℕ) → v < length old.volumes → OnSome new m'.leaves v b x → BlockMay added v b x

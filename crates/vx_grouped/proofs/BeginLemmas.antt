@@ -57,6 +57,7 @@ first_note core = record {
   cut = None;
   missed = λ v p. None;
   perhaps = λ v p r. false;
+  inside = λ v. false;
 }
 
 was_kept : (kept : Bool) → not kept ≡ false → kept ≡ true
@@ -155,7 +156,7 @@ module _ (m m' : Meaning) (n : Node) (can : CanBegin n m) (since : CalledSince m
     }
 
     first : IsFirstNote (first_note core.inner)
-    first = record { begun = refl; size = λ v. refl; others = λ v b. refl; cut = refl; dark = refl; perhaps = λ v p r. refl }
+    first = record { begun = refl; size = λ v. refl; others = λ v b. refl; cut = refl; dark = refl; perhaps = λ v p r. refl; inside = λ v. refl }
 
     trusted : (P : Type 0) → (HasFailed core.inner.config.disks → P) → ((first_note core.inner).loose ≡ false) ⊎ P
     trusted P failed = elim new.trust [

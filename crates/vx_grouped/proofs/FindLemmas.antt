@@ -57,6 +57,7 @@ seen_note last = record {
   cut = None;
   missed = λ v p. None;
   perhaps = λ v p r. false;
+  inside = λ v. false;
 }
 
 seen_lies : (n : Node) (m : Meaning) (can : CanFind n m) (last : Config) → AwayLies n (seen_note last) last (untold m)
@@ -99,6 +100,7 @@ module _ {R : Type 0} {g : Ghosts R} (site : ℕ) (n : Node) (m : Meaning) (can 
     size = λ v. refl;
     cut = refl;
     perhaps = λ v p r. refl;
+    inside = λ v. refl;
   }
 
   pub found_up : (S : Type 0) → FindsUp {S = S} site n (Ok (Up group))

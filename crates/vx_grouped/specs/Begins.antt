@@ -41,6 +41,7 @@ pub record IsFirstNote (note : GroupNode) : Type 0 where
   pub cut : note.cut ≡ None
   pub dark : note.dark ≡ false
   pub perhaps : (v p r : ℕ) → note.perhaps v p r ≡ false
+  pub inside : (v : ℕ) → note.inside v ≡ false
 
 -- a bare site as a group with this note
 abbrev pub group_begun : GroupNode → ℕ → Node → Node

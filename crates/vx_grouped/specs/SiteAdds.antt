@@ -14,6 +14,7 @@ use Rattle.vx_config.specs.declared.config.Config.{Config}
 use Rattle.vx_layout.specs.Space.{IsSpaceShort}
 use Rattle.vx_layout.specs.declared.shape.Shape.{Shape}
 use Rattle.vx_copies.specs.Commits.{MoreFailed}
+use Rattle.vx_group.specs.Calls.{GroupStays}
 use Rattle.vx_group.specs.Loses.{SameParts}
 use Rattle.vx_group.specs.Makes.{HasMany, MakeEnds, VolumeMade, make_refusal}
 use Rattle.vx_group.specs.declared.group_core.GroupCore.{GroupCore}
@@ -32,6 +33,7 @@ pub record MakesVolume (name : List ℕ) (want : Shape) (c : GroupCore) (m : Mea
   pub leaves : (n : Node) (note : GroupNode) → IsGroupAt n note c m → VolumeLeaves n note want d m' r
   pub ends : make_refusal c.inner.config name want ≡ None → MakeEnds name want c.inner d.inner m m' r
   pub trust : OnOk r (c.inner.committed ≡ true → d.inner.committed ≡ true)
+  pub stays : GroupStays c d m m'
   pub parts : SameParts c.inner.config d.inner.config
   pub disks : MoreFailed m m' c.inner.config.disks d.inner.config.disks
 

@@ -29,6 +29,7 @@ impl<R: Rack> GroupSite<R> {
     ghost use Rattle.vx_grouped.specs.GroupSites.{CutNoted, DownNoted, GroupSiteStands, UpNoted, site_agrees, site_below, site_config, site_disks};
     ghost use Rattle.vx_watched.specs.Traces.{TellsLess};
     ghost use Rattle.vx_grouped.specs.SiteEnds.{CountsAlike, MayCrashSite, StaysAlike};
+    ghost use Rattle.vx_grouped.specs.Volumes.{IsNotUp};
 
     /// How many disks it has.
     pub fn disks(&self) -> u32
@@ -119,6 +120,7 @@ impl<R: Rack> GroupSite<R> {
         ensures cut { (n : Node) (note : GroupNode) → CutNoted n note self → DownNoted (crashed n 0) note result }
         ensures asked { (n : Node) (note : GroupNode) → UpNoted n note self → OnDisks (site_disks self).disks (site_disks result).disks (Crashed (site_disks self).size pick) }
         ensures stopped { MayCrashSite pick self result }
+        ensures off { IsNotUp result }
         ensures told { TellsLess (site_below self) (site_below result) }
     {
         match self {

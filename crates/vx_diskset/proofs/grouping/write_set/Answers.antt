@@ -33,3 +33,12 @@ returns-then-is_off-clause-told g c = c.write.ensures.told
 
 pub returns-else-is_off-clause-told : goal.returns-else-is_off-clause-told
 returns-else-is_off-clause-told g c = c.write.ensures.told
+
+pub returns-in-Ok-clause-volumes : goal.returns-in-Ok-clause-volumes
+returns-in-Ok-clause-volumes g c = c.write.ensures.volumes
+
+pub returns-then-is_off-clause-volumes : goal.returns-then-is_off-clause-volumes
+returns-then-is_off-clause-volumes g c = c.write.ensures.volumes
+
+pub returns-else-is_off-clause-volumes : goal.returns-else-is_off-clause-volumes
+returns-else-is_off-clause-volumes g c = c.write.ensures.volumes

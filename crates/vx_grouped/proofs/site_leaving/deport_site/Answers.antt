@@ -1,10 +1,15 @@
 -- A site's group that is deported: what it leaves of the site and of its disks.
 use Rattle.std.proofs.Common.{◌∙◌, sym, subst}
 use Rattle.vx_disk.specs.Disks.{Crashed}
+use Rattle.vx_disk.specs.Moves.{Nowhere}
+use Rattle.vx_group.specs.Deports.{DeportedBy}
+use Rattle.vx_group.specs.Holding.{wide}
 use Rattle.vx_untold.specs.Shades.{rack_of, shade_meaning, shade_rack}
 use Rattle.vx_watched.specs.Since.{CalledSince}
 use Rattle.vx_watched.specs.Traces.{TellsLess}
 use Rattle.vx_watched.proofs.SinceLemmas.{since_stop}
+use Rattle.vx_grouped.specs.Volumes.{laid_seen}
+use Rattle.vx_grouped.proofs.VolumeLemmas.{fell_behind, none_go, same_go}
 use Rattle.vx_grouped.proofs.GivenUpLemmas.{rest_tells}
 use Rattle.vx_grouped.proofs.LeavingLemmas.{deport_cut, deport_down, deport_up, deported_from}
 use Rattle.vx_grouped.proofs.site_leaving.deport_site.Goals as goal
@@ -44,3 +49,15 @@ returns-in-Ok-clause-told g c = subst (λ s. TellsLess (g.R.Shelf.meaning (rack_
 
 pub of-requires-clause-tells : goal.of-requires-clause-tells
 of-requires-clause-tells g c = λ κs lives r agreed is. rest_tells c.in-Ok.rested (shade_meaning g.R.Shelf.meaning c.in-Ok.rack) c.in-Ok.ensures.tells r is
+
+pub returns-then-is_down-clause-volumes : goal.returns-then-is_down-clause-volumes
+returns-then-is_down-clause-volumes g c = same_go (laid_seen c.args.laid)
+
+pub returns-else-is_down_stop-clause-volumes : goal.returns-else-is_down_stop-clause-volumes
+returns-else-is_down_stop-clause-volumes g c = none_go (laid_seen c.args.laid) (laid_seen c.in-Err.laid) c.in-Err.ensures.moves.goes
+
+pub returns-then-is_down_stop-clause-volumes : goal.returns-then-is_down_stop-clause-volumes
+returns-then-is_down_stop-clause-volumes g c = fell_behind Nowhere c.args.laid c.in-Err.laid c.crash.result (none_go (laid_seen c.args.laid) (laid_seen c.in-Err.laid) c.in-Err.ensures.moves.goes) c.crash.ensures.stopped c.crash.ensures.agreed
+
+pub returns-in-Ok-clause-closes : goal.returns-in-Ok-clause-closes
+returns-in-Ok-clause-closes g c = subst (λ s. DeportedBy (wide c.args.laid.core).config c.args.laid.core.inner (shade_meaning g.R.Shelf.meaning c.args.laid.shelf) (shade_meaning g.R.Shelf.meaning s)) (sym c.of.ensures.rack) c.in-Ok.ensures.moves

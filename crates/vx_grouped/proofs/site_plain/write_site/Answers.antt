@@ -5,6 +5,10 @@ use Rattle.vx_untold.specs.Shades.{shade_meaning, shade_rack}
 use Rattle.vx_watched.proofs.SinceLemmas.{since_stop}
 use Rattle.vx_grouped.specs.Watches.{PlainWrites}
 use Rattle.vx_grouped.proofs.WroteLemmas.{down_by, wrote_cut, wrote_done, wrote_up}
+use Rattle.vx_grouped.proofs.VolumeLemmas.{fell_behind, same_go, wider_go, write_goes}
+use Rattle.vx_grouped.specs.Volumes.{laid_seen}
+use Rattle.vx_disk.specs.Shelf.{Covers}
+use Rattle.vx_disk.specs.Moves.{Nowhere}
 use Rattle.vx_grouped.proofs.site_plain.write_site.Goals as goal
 
 pub returns-then-is_down_no-clause-wrote : goal.returns-then-is_down_no-clause-wrote
@@ -36,3 +40,15 @@ returns-else-is_down_no-clause-wrote g c = λ n note up fits.
 
 pub returns-then-is_down_no-clause-told : goal.returns-then-is_down_no-clause-told
 returns-then-is_down_no-clause-told g c = λ told. c.write_watched-laid.ensures.told (c.crash.ensures.told told)
+
+pub returns-in-Ok-clause-volumes : goal.returns-in-Ok-clause-volumes
+returns-in-Ok-clause-volumes g c = write_goes c.args.vol c.args.block c.args.bytes.now (laid_seen c.args.laid) (laid_seen c.write_watched-laid.result.0) c.write_watched-laid.ensures.works.goes
+
+pub returns-else-is_down_no-clause-volumes : goal.returns-else-is_down_no-clause-volumes
+returns-else-is_down_no-clause-volumes g c = write_goes c.args.vol c.args.block c.args.bytes.now (laid_seen c.args.laid) (laid_seen c.write_watched-laid.result.0) c.write_watched-laid.ensures.works.goes
+
+pub returns-then-is_down_no-clause-volumes : goal.returns-then-is_down_no-clause-volumes
+returns-then-is_down_no-clause-volumes g c = fell_behind (Covers c.args.vol c.args.block c.args.bytes.now) c.args.laid c.write_watched-laid.result.0 c.crash.result (write_goes c.args.vol c.args.block c.args.bytes.now (laid_seen c.args.laid) (laid_seen c.write_watched-laid.result.0) c.write_watched-laid.ensures.works.goes) c.crash.ensures.stopped c.crash.ensures.agreed
+
+pub returns-then-not-fits-clause-volumes : goal.returns-then-not-fits-clause-volumes
+returns-then-not-fits-clause-volumes g c = wider_go Nowhere (Covers c.args.vol c.args.block c.args.bytes.now) (laid_seen c.args.laid) (laid_seen c.args.laid) (λ u b none. absurd none) (same_go (laid_seen c.args.laid))

@@ -7,6 +7,9 @@ use Rattle.vx_watched.proofs.SinceLemmas.{since_stop}
 use Rattle.vx_grouped.specs.Watches.{PlexAtts}
 use Rattle.vx_grouped.proofs.CalledLemmas.{down_by_stop}
 use Rattle.vx_grouped.proofs.SitePlexLemmas.{att_never_off, att_site_cut, att_site_done, att_site_up}
+use Rattle.vx_grouped.proofs.VolumeLemmas.{fell_behind, none_go, same_go}
+use Rattle.vx_grouped.specs.Volumes.{laid_seen}
+use Rattle.vx_disk.specs.Moves.{Nowhere}
 use Rattle.vx_grouped.proofs.site_plexes.att_site.Goals as goal
 
 pub returns-then-is_down_stop-clause-called : goal.returns-then-is_down_stop-clause-called
@@ -38,3 +41,15 @@ returns-else-is_down_stop-clause-called g c = λ n note up.
 
 pub returns-then-is_down_stop-clause-told : goal.returns-then-is_down_stop-clause-told
 returns-then-is_down_stop-clause-told g c = λ told. c.att_watched-laid.ensures.told (c.crash.ensures.told told)
+
+pub returns-then-is_down-clause-volumes : goal.returns-then-is_down-clause-volumes
+returns-then-is_down-clause-volumes g c = same_go (laid_seen c.args.laid)
+
+pub returns-in-Ok-clause-volumes : goal.returns-in-Ok-clause-volumes
+returns-in-Ok-clause-volumes g c = none_go (laid_seen c.args.laid) (laid_seen c.att_watched-laid.result.0) c.att_watched-laid.ensures.works.goes
+
+pub returns-else-is_down_stop-clause-volumes : goal.returns-else-is_down_stop-clause-volumes
+returns-else-is_down_stop-clause-volumes g c = none_go (laid_seen c.args.laid) (laid_seen c.att_watched-laid.result.0) c.att_watched-laid.ensures.works.goes
+
+pub returns-then-is_down_stop-clause-volumes : goal.returns-then-is_down_stop-clause-volumes
+returns-then-is_down_stop-clause-volumes g c = fell_behind Nowhere c.args.laid c.att_watched-laid.result.0 c.crash.result (none_go (laid_seen c.args.laid) (laid_seen c.att_watched-laid.result.0) c.att_watched-laid.ensures.works.goes) c.crash.ensures.stopped c.crash.ensures.agreed

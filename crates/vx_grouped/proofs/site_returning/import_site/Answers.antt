@@ -7,6 +7,7 @@ use Rattle.vx_grouped.proofs.SiteReturnLemmas.{imported_down, imported_early, im
 use Rattle.vx_grouped.proofs.StopLemmas.{still_can}
 use Rattle.vx_grouped.proofs.GivenUpLemmas.{rested_tells}
 use Rattle.vx_grouped.proofs.TellLemmas.{alike_tells, early_tells, fallen_tells}
+use Rattle.vx_grouped.proofs.BringLemmas.{alike_self}
 use Rattle.vx_grouped.proofs.site_returning.import_site.Goals as goal
 
 pub returns-then-is_down-clause-since : goal.returns-then-is_down-clause-since
@@ -98,3 +99,6 @@ of-requires-in-Err-clause-tells g c = λ κs lives r agreed is.
     rested_tells r c.args.rested (shade_meaning g.R.Shelf.meaning c.risen.result) is
     (alike_tells c.args.rested (shade_meaning g.R.Shelf.meaning c.fallen-rack.result) (shade_meaning g.R.Shelf.meaning c.risen.result) c.risen.ensures.alike
     (fallen_tells c.args.rested (shade_meaning g.R.Shelf.meaning c.args.rack) (shade_meaning g.R.Shelf.meaning c.in-Err.rack) (shade_meaning g.R.Shelf.meaning c.fallen-rack.result) c.in-Err.stop c.is_early-early.result c.is_early-early.ensures c.requires.tells c.in-Err.ensures.stops c.fallen-rack.ensures.stopped c.fallen-rack.ensures.dark))
+
+pub returns-in-Ok-clause-brings : goal.returns-in-Ok-clause-brings
+returns-in-Ok-clause-brings g c = record { first = c.args.rack; revived = alike_self (shade_meaning g.R.Shelf.meaning c.args.rack); brings = c.in-Ok.ensures.brings }

@@ -7,6 +7,7 @@ use Rattle.vx_watched.specs.Since.{CalledSince}
 use Rattle.vx_grouped.specs.Away.{AwayLies}
 use Rattle.vx_grouped.specs.Returns.{GroupReturns, ImportLeft}
 use Rattle.vx_grouped.proofs.TraceLemmas.{carried_both, carried_in, carried_off, carried_on}
+use Rattle.vx_grouped.specs.Brings.{BringsVolumes}
 use Rattle.vx_grouped.proofs.site_returning.import_traced.Goals as goal
 
 pub import_from-came-requires-clause-can : goal.import_from-came-requires-clause-can
@@ -45,3 +46,9 @@ returns-in-Err-clause-since g c = carried_both (λ s t. CalledSince s t) c.args.
 
 pub returns-in-Err-clause-told : goal.returns-in-Err-clause-told
 returns-in-Err-clause-told g c = c.untraced.ensures.told
+
+pub returns-in-Ok-clause-brings : goal.returns-in-Ok-clause-brings
+returns-in-Ok-clause-brings g c =
+    carried_in (λ x s y t. BringsVolumes s y t)
+    c.in-Ok.group.core c.in-Ok.group.core c.untrace.result.core c.in-Ok.group.core c.args.rack c.traced.result c.untrace.result.shelf c.in-Ok.group.shelf refl c.traced.ensures c.untrace.ensures.core c.untrace.ensures.shelf
+    c.in-Ok.ensures.brings

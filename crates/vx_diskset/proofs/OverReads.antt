@@ -1,0 +1,40 @@
+-- Reads of a replicated volume group on any shelf, by parts.
+use Rattle.std.proofs.Common.{◌≡◌, ℕ, List, take, ap, subst, sym, IsTrue}
+use Rattle.std.specs.Prelude.{OnOk, Result}
+use Rattle.vx_model.specs.Content.{blocks_in}
+use Rattle.vx_model.specs.declared.no.No.{No}
+use Rattle.vx_model.specs.declared.units.Units.{Units}
+use Rattle.vx_history.specs.World.{Node}
+use Rattle.vx_disk.specs.Causes.{OnDisks}
+use Rattle.vx_disk.specs.Disks.{Untouched}
+use Rattle.vx_disk.specs.Shelf.{Goes, Lawful, Meaning, Nothing}
+use Rattle.vx_rvg.specs.Contents.{ShowsContent}
+use Rattle.vx_rvg.specs.Groups.{ReadIs, read_refusal}
+use Rattle.vx_rvg.specs.Holdings.{Holding}
+use Rattle.vx_rvg.specs.Stands.{Stands}
+use Rattle.vx_rvg.specs.Views.{Core, IsSound, unit_of}
+use Rattle.vx_diskset.specs.DiskSets.{CanRead}
+use Rattle.vx_diskset.specs.Holds.{KeptBeside}
+use Rattle.vx_diskset.specs.Shelves.{ReadAs}
+use Rattle.vx_diskset.specs.Stands.{IsUpAt}
+use Rattle.vx_diskset.specs.Works.{DoesRead}
+use Rattle.vx_diskset.proofs.MakeGroup.{fuse_untouched}
+use Rattle.vx_diskset.proofs.ReadGroup.{read_as}
+use Rattle.vx_diskset.proofs.RvgMoves.{read_moves}
+
+module _ (c c' : Core) (volume start count : ℕ) (bytes : List ℕ) (m new : Meaning) (result : Result (Unit {0}) No) (lawful : Lawful m) (after : Lawful new) (sound : IsSound c m) (same : c' ≡ c) (sound' : IsSound c' new)
+    (answers : ReadIs (read_refusal c (m.size (unit_of c.units.vols volume)) start (blocks_in bytes)) m new result) (gives : OnOk result ((h : Holding) → Stands c h m → IsTrue m.tells → ShowsContent h.content volume start (blocks_in bytes) bytes))
+    (goes : Goes Nothing m new) (down : new.down ≡ m.down) (disks : OnDisks m.disks new.disks Untouched) where
+  read_of : (beside : KeptBeside) (n : Node) → IsUpAt beside n c m → CanRead n volume start (blocks_in bytes) → ReadAs beside n volume start (blocks_in bytes) bytes c' m new result
+  read_of beside n up can =
+      subst (λ (k : Core). ReadAs beside n volume start (blocks_in bytes) bytes k m new result) (sym same)
+      (read_as n c m new volume start (blocks_in bytes) bytes up can lawful after sound.log_unit goes down (fuse_untouched n.fuse m new disks goes.unarmed up.fuse) result answers gives)
+
+  pub does_read : (room : List ℕ) → take count room ≡ bytes → DoesRead c volume start count m c' room new result
+  does_read room front = record {
+    keeps = record { sound = sound'; units = ap (λ (k : Core). k.units) same; moves = read_moves c m new goes };
+    same = same;
+    read = λ beside n up.
+        subst (λ (b : List ℕ). CanRead n volume start (blocks_in b) → ReadAs beside n volume start (blocks_in b) b c' m new result) (sym front) (read_of beside n up);
+    down = down;
+  }

@@ -1,0 +1,20 @@
+-- A header with another state, by what the site is.
+use Rattle.vx_diskset.proofs.OverCalls.{over_kept, over_up}
+use Rattle.vx_untold.specs.Shades.{shade_rack}
+use Rattle.vx_diskset.proofs.OverCalled.{origin_called, receiver_called}
+use Rattle.vx_diskset.proofs.over_calls.OverSet.kept.Goals as goal
+
+pub returns-in-Origin-clause-kept : goal.returns-in-Origin-clause-kept
+returns-in-Origin-clause-kept g c = λ beside n stands can.
+    over_kept beside n c.args.self c.in-Origin.founded c.keep-founded.result.0 c.args.self.cut c.in-Origin.is stands.0 c.args.state.now c.keep-founded.result.1
+    (c.keep-founded.ensures.kept beside n (over_up beside n c.args.self c.in-Origin.founded c.keep-founded.result.0 c.args.self.cut c.in-Origin.is stands) can)
+
+pub returns-in-Origin-clause-called : goal.returns-in-Origin-clause-called
+returns-in-Origin-clause-called g c =
+    let is_rack = (g.met.R.Rack g.world.𝓛 g.world.𝓜 g.world.𝓡 ((λ s x. x), (λ x. x), (λ x. x), λ x. x)).rack in
+    origin_called c.args.self c.in-Origin.founded c.keep-founded.result.0 c.in-Origin.is (shade_rack g.R.Shelf.meaning is_rack) c.keep-founded.ensures.works
+
+pub returns-in-Receiver-clause-called : goal.returns-in-Receiver-clause-called
+returns-in-Receiver-clause-called g c =
+    let is_rack = (g.met.R.Rack g.world.𝓛 g.world.𝓜 g.world.𝓡 ((λ s x. x), (λ x. x), (λ x. x), λ x. x)).rack in
+    receiver_called c.args.self c.in-Receiver.founded c.keep-founded-in-Receiver.result.0 c.in-Receiver.is (shade_rack g.R.Shelf.meaning is_rack) c.keep-founded-in-Receiver.ensures.works
