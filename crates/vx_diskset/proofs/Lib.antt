@@ -9,6 +9,7 @@ pub mod FoundedWork
 pub mod OverNotes
 pub mod OverCalling
 pub mod OverCalls
+pub mod OverCame
 pub mod OverCrash
 pub mod OverDisks
 pub mod OverFalls

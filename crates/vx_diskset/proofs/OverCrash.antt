@@ -40,7 +40,7 @@ use Rattle.vx_diskset.specs.declared.group_set.CutWrite.{CutWrite}
 use Rattle.vx_diskset.specs.declared.over_set.OverSite.TheVariants.{Down as GroupFell}
 use Rattle.vx_diskset.proofs.BesideLemmas.{doubted, writes_itself}
 use Rattle.vx_diskset.proofs.CrashGroup.{folded_size, one_value}
-use Rattle.vx_diskset.proofs.Laying.{laid_in, laid_sized}
+use Rattle.vx_diskset.proofs.Laying.{laid_in, laid_sized, over_there}
 
 -- ---- images of the disks, and of the volumes
 
@@ -58,10 +58,10 @@ module _ (c x : Config) (j : Image) where
   by_beyond v b out (inl held) = absurd (out held)
   by_beyond v b out (inr not) = refl
 
-  shown : Image
+  pub shown : Image
   shown v b = value_by v b (inside c v b)
 
-  shows : Shows c x j shown
+  pub shows : Shows c x j shown
   shows = record { here = λ v b in_it. by_here v b in_it (inside c v b); beyond = λ v b out. by_beyond v b out (inside c v b) }
 
   -- there is no other
@@ -104,7 +104,8 @@ module _ {R : Type 0} {g : Ghosts R} where
   -- ---- the site, or what it may be besides
 
   module _ (k : KeptSite) (n : Node) (pick : ℕ) (l : Laid R g) (idle : Idle R g) (good : ℕ → Type 0) (same : SameGround k.node n) (fell : LaidFell pick l idle) (law : Lawful (idle_disks idle)) (rack : IsRack (idle_disks idle))
-      (kept : KeptFact (wide l.core).config good (laid_disks l)) (active : ImagesActive (units_of n) (laid_disks l)) (lies : LiesOn k.node (laid_volumes l)) (low : k.node.low ≡ 1) (begun : IsTrue (laid_volumes l).tells → 0 < k.node.session) where
+      (kept : KeptFact (wide l.core).config good (laid_disks l)) (active : ImagesActive (units_of n) (laid_disks l)) (lies : LiesOn k.node (laid_volumes l)) (low : k.node.low ≡ 1) (begun : IsTrue (laid_volumes l).tells → 0 < k.node.session)
+      (there : (u : ℕ) → inside_of (units_of n) u ≡ true → u < (laid_volumes l).units) where
     abbrev m : Meaning
     m = laid_disks l
 
@@ -143,6 +144,7 @@ module _ {R : Type 0} {g : Ghosts R} where
       config = c;
       sure = refl;
       lies = lies_down count;
+      there = there;
       low = low;
       logged = omega (arith, length-take count k.node.log, most);
       begun = λ tells. begun (told_up tells);
@@ -184,6 +186,9 @@ module _ {R : Type 0} {g : Ghosts R} where
     abbrev volumes_config : Config
     volumes_config = (wide l.core).config
 
+    here : (u : ℕ) → inside_of (units_of n) u ≡ true → u < (laid_volumes l).units
+    here = over_there n (laid_volumes l) over.0 held.lies
+
     own : SameGround n n
     own = record { units = refl; disks = refl; blocks = refl }
 
@@ -197,7 +202,7 @@ module _ {R : Type 0} {g : Ghosts R} where
           count = writes.count;
           least = writes.least;
           most = writes.most;
-          rests = rests_by (itself beside n) n pick l idle good own fell law rack kept active held.lies held.low held.begun j x now is writes;
+          rests = rests_by (itself beside n) n pick l idle good own fell law rack kept active held.lies held.low held.begun here j x now is writes;
         }
 
     fell_besides : (j : Image) (x : Config) → (idle_disks idle).now j → finds (laid_disks l) j ≡ Found x → HasDoubted beside.doubt (shown volumes_config x j) → FellAs beside n idle
@@ -212,7 +217,7 @@ module _ {R : Type 0} {g : Ghosts R} where
           count = d.2.count;
           least = d.2.least;
           most = d.2.most;
-          rests = rests_by k n pick l idle good (over.1 k d.1) fell law rack kept active may.lies may.low may.begun j x now is d.2;
+          rests = rests_by k n pick l idle good (over.1 k d.1) fell law rack kept active may.lies may.low may.begun here j x now is d.2;
         }
 
     fell_by : (b : Bool) → (idle_ready idle).tells ≡ b → FellAs beside n idle
@@ -230,7 +235,7 @@ module _ {R : Type 0} {g : Ghosts R} where
       count = n.safe;
       least = omega arith;
       most = held.logged;
-      rests = rests (itself beside n) n pick l idle good own fell law rack kept active held.lies held.low held.begun n.safe (omega arith) held.logged (λ tells. absurd (let e : true ≡ false = sym tells ∙ untold in cc));
+      rests = rests (itself beside n) n pick l idle good own fell law rack kept active held.lies held.low held.begun here n.safe (omega arith) held.logged (λ tells. absurd (let e : true ≡ false = sym tells ∙ untold in cc));
     }
 
     pub over_fell : (cut : Option CutWrite) → CrashedAt beside n (Over (record { site = GroupFell idle; cut = cut }))

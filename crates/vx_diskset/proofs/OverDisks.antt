@@ -62,7 +62,7 @@ pub less_alike : (m m' : Meaning) → Alike m m' → LeavesLess m m'
 less_alike m m' alike = record { units = alike.contents.units; size = alike.contents.size; tells = alike.contents.tells; leaves = alike.contents.leaves }
 
 -- and of its volumes
-seen_less : (tells tells' : Bool) (c : Config) (old new : Values) → (IsTrue tells' → IsTrue tells) → ((u b : ℕ) (v : List ℕ) → new u b v → old u b v) → (u b : ℕ) (v : List ℕ) → seen tells' c new u b v → seen tells c old u b v
+pub seen_less : (tells tells' : Bool) (c : Config) (old new : Values) → (IsTrue tells' → IsTrue tells) → ((u b : ℕ) (v : List ℕ) → new u b v → old u b v) → (u b : ℕ) (v : List ℕ) → seen tells' c new u b v → seen tells c old u b v
 seen_less tells tells' c old new told less u b v (inl on) = inl (record { inside = on.inside; plex = on.plex; is_on = on.is_on; value = less _ _ v on.value })
 seen_less tells tells' c old new told less u b v (inr out) = inr (record { tells = told out.tells; outside = out.outside; empty = out.empty })
 
@@ -78,6 +78,7 @@ module _ (beside : KeptBeside) (n : Node) (m m' : Meaning) (less : LeavesLess m 
     config = it.config;
     sure = it.sure;
     lies = it.lies;
+    there = it.there;
     low = it.low;
     logged = it.logged;
     begun = λ told. it.begun (sym less.tells ∙ told);
@@ -95,6 +96,7 @@ module _ (beside : KeptBeside) (n : Node) (m m' : Meaning) (less : LeavesLess m 
   pub away_less : RestsOver (λ c. AwayOver c beside n m) beside n m → RestsOver (λ c. AwayOver c beside n m') beside n m'
   away_less = rests_less (λ c. AwayOver c beside n m) (λ c. AwayOver c beside n m')
       (λ c it. record {
+        extends = λ i x each is. it.extends i x (before i each) (was_found i x is);
         left = λ i x opened readable each is opens.
             left_still_with (units_of n) n.ring (state_with n beside.links) n.session (most_header beside n) n.log n.base (group_meaning opened (λ v. 0) m) (group_meaning opened (λ v. 0) m') less.tells (λ u. refl)
             (seen_less m.tells m'.tells opened m.leaves m'.leaves (λ told. sym less.tells ∙ told) less.leaves) (it.left i x opened readable (before i each) (was_found i x is) opens);

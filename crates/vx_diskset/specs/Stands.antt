@@ -179,6 +179,7 @@ pub record FellOver (c : Config) (beside : KeptBeside) (n : Node) (m : Meaning) 
 
 -- Those of one that was deported: by each configuration that an import finds the volumes have that log and that content, whatever a crash leaves of them.
 pub record AwayOver (c : Config) (beside : KeptBeside) (n : Node) (m : Meaning) : Type 0 where
+  pub extends : (i : Image) (x : Config) → Each m.leaves i → finds m i ≡ Found x → Extends x c
   pub left : (i : Image) (x opened : Config) (readable : ℕ → Bool) → Each m.leaves i → finds m i ≡ Found x → OpenVolumes 0 (returned readable x) opened
       → LeftWith (units_of n) n.ring (state_with n beside.links) n.session (most_header beside n) n.log n.base (group_meaning opened (λ v. 0) m)
 
@@ -188,6 +189,7 @@ pub record RestsOver (Left : Config → Type 0) (beside : KeptBeside) (n : Node)
   pub config : Config
   pub sure : beside.doubt ≡ None
   pub lies : IsLaidBy (units_of n) n.ring n.volumes n.base.size (blocks_of config.volumes)
+  pub there : (k : ℕ) → inside_of (units_of n) k ≡ true → k < length config.volumes
   pub low : n.low ≡ 1
   pub logged : length n.log ≡ n.safe
   pub begun : IsTrue m.tells → 0 < n.session
