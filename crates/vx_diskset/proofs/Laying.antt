@@ -25,7 +25,7 @@ use Rattle.vx_diskset.specs.Layouts.{CanBeRaw, IsLaid, IsRaw, LiesBy, LiesOn, Li
 
 -- ---- past a call
 
-laid_as : (u : Units) (ring : ℕ) (volumes : List Volume) (sizes : ℕ → ℕ) (m new : Meaning) → ((k : ℕ) → new.size k ≡ m.size k) → IsLaid u ring volumes sizes m → IsLaid u ring volumes sizes new
+pub laid_as : (u : Units) (ring : ℕ) (volumes : List Volume) (sizes : ℕ → ℕ) (m new : Meaning) → ((k : ℕ) → new.size k ≡ m.size k) → IsLaid u ring volumes sizes m → IsLaid u ring volumes sizes new
 laid_as u ring volumes sizes m new size laid = record {
   large = omega (arith, laid.large, size u.srl);
   ring_is = laid.ring_is ∙ ap ring_of (sym (size u.srl));

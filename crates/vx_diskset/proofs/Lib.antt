@@ -10,6 +10,8 @@ pub mod OverNotes
 pub mod OverCalling
 pub mod OverCalls
 pub mod OverCame
+pub mod OverUp
+pub mod OverReturns
 pub mod OverCrash
 pub mod OverDisks
 pub mod OverFalls

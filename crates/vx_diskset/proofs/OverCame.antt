@@ -1,12 +1,12 @@
 -- What the volumes of a group have of a replicated volume group behind an import of disks that crashed, or were deported.
-use Rattle.std.proofs.Common.{◌≡◌, ◌∙◌, inl, inr, ⊎_elim, ℕ, zero, suc, ◌+◌, ◌<◌, Bool, true, false, List, [], ◌∷◌, length, IsTrue, ap, arith, refl, subst, sym}
+use Rattle.std.proofs.Common.{◌≡◌, ◌∙◌, inl, inr, ⊎_elim, ℕ, zero, suc, ◌+◌, ◌<◌, ◌≤◌, Bool, true, false, List, [], ◌∷◌, length, IsTrue, ap, arith, refl, subst, sym}
 use Rattle.std.specs.Prelude.{◌||◌, ◌==◌, None, Some, get_or}
 use Rattle.std.specs.List.{list_any}
 use Rattle.std.proofs.lemmas.Bool.{cases_lt, eq-eqb}
 use Rattle.vx_config.specs.Checks.{blocks_of}
 use Rattle.vx_config.specs.declared.config.Config.{Config}
 use Rattle.vx_copyfmt.specs.Imports.{Found}
-use Rattle.vx_disk.specs.Racks.{Alike}
+use Rattle.vx_disk.specs.Racks.{Alike, IsRack}
 use Rattle.vx_disk.specs.Shelf.{Each, Image, Keeps, Meaning}
 use Rattle.vx_events.specs.RvgNotes.{inside_of}
 use Rattle.vx_history.specs.World.{Node}
@@ -129,6 +129,10 @@ module _ (r first : Meaning) (core : GroupCore) (m : Meaning) (alike : Alike r f
     volume_size : (v : ℕ) → v < length c.volumes → (inner_meaning (wide core) m).size v ≡ blocks_of c.volumes v
     volume_size v low = took.goes.size v ∙ took.opens.alike.shape.blocks v ∙ extends.blocks v low
 
+    -- no volume is gone
+    units_low : length c.volumes ≤ (inner_meaning (wide core) m).units
+    units_low = let here = took.goes.units in let shape = took.opens.alike.shape.volumes in let more = extends.volumes in omega (arith, here, shape, more)
+
     module _ (n : Node) (lies : IsLaidBy (units_of n) n.ring n.volumes n.base.size (blocks_of c.volumes)) (there : (k : ℕ) → inside_of (units_of n) k ≡ true → k < length c.volumes) where
       -- it lies there as it did
       pub laid_up : IsLaid (units_of n) n.ring n.volumes n.base.size (inner_meaning (wide core) m)
@@ -144,6 +148,16 @@ module _ (r first : Meaning) (core : GroupCore) (m : Meaning) (alike : Alike r f
       }
 
 -- ---- of disks that crashed
+
+-- a rack that is down has one value of each block
+pub rack_rests : (m : Meaning) → IsRack m → IsTrue m.down → IsTrue m.tells → AtRest m
+rack_rests m rack down tells = record { one = λ u b x y left right. latest u b x left ∙ sym (latest u b y right) }
+  where
+    latest : (u b : ℕ) (x : List ℕ) → m.leaves u b x → x ≡ rack.told.latest u b
+    latest u b x left = rack.latest tells u b x (rack.at_rest down u b x left)
+
+pub alike_rests : (m new : Meaning) → Alike m new → AtRest m → AtRest new
+alike_rests m new alike rest = record { one = λ u b x y left right. rest.one u b x y (alike.contents.leaves u b x left) (alike.contents.leaves u b y right) }
 
 module _ {beside : KeptBeside} (n : Node) (r first : Meaning) (core : GroupCore) (m : Meaning) (alike : Alike r first) (brings : BringsVolumes first core m) (one : AtRest first) (rests : RestsOver (λ c. FellOver c beside n r) beside n r) (told : IsTrue m.tells) where
   abbrev mine : TookVolumes first core m
@@ -177,6 +191,9 @@ module _ {beside : KeptBeside} (n : Node) (r first : Meaning) (core : GroupCore)
   vol_low : (v b : ℕ) → v < length (units_of n).vols → b < n.base.size v → b < blocks_of rests.config.volumes (unit_of (units_of n).vols v)
   vol_low v b there low = let same = rests.lies.each v (let count = rests.lies.count in omega (arith, there, count)) in omega (arith, low, same)
 
+  pub fell_there : (k : ℕ) → inside_of (units_of n) k ≡ true → k < (inner_meaning (wide core) m).units
+  fell_there k is = let low = rests.there k is in let many = units_low r first core m alike brings told rests.config seen_extends in omega (arith, low, many)
+
   pub fell_left : LeftWith (units_of n) n.ring (state_with n beside.links) n.session (most_header beside n) n.log n.base (inner_meaning (wide core) m)
   fell_left =
       by_image_with (units_of n) n.ring (state_with n beside.links) n.session (most_header beside n) (inner_meaning (wide core) m) (shown rests.config mine.config mine.image) told
@@ -202,6 +219,9 @@ module _ {beside : KeptBeside} (n : Node) (r first : Meaning) (core : GroupCore)
 
   pub away_laid : IsLaid (units_of n) n.ring n.volumes n.base.size (inner_meaning (wide core) m)
   away_laid = laid_up r first core m alike brings told rests.config (away.extends given.image given.config given_each given_config) n rests.lies rests.there
+
+  pub away_there : (k : ℕ) → inside_of (units_of n) k ≡ true → k < (inner_meaning (wide core) m).units
+  away_there k is = let low = rests.there k is in let many = units_low r first core m alike brings told rests.config (away.extends given.image given.config given_each given_config) in omega (arith, low, many)
 
   pub away_left : LeftWith (units_of n) n.ring (state_with n beside.links) n.session (most_header beside n) n.log n.base (inner_meaning (wide core) m)
   away_left =
