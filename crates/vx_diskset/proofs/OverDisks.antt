@@ -326,7 +326,7 @@ module _ {R : Type 0} {g : Ghosts R} where
     set_role same = subst (λ (x : DiskSet R g). KeepsRole x (Over new)) (sym is) (record { kept = λ n role. subst (λ (a : Above). RoleBy n a) (sym same) role })
 
     pub set_later : DisksAlike (site_in old) (site_in new) → Later e (Over new)
-    set_later same = subst (λ (x : DiskSet R g). Later x (Over new)) (sym is) (record { counts = λ d. let now = same.counts d in omega (arith, now); told = λ told. sym same.tells ∙ told })
+    set_later same = subst (λ (x : DiskSet R g). Later x (Over new)) (sym is) (record { counts = λ d. let now = same.counts d in omega (arith, now); told = same.told })
 
     pub set_asked : (disk : ℕ) (on : Bool) → (disk < (site_disks (site_in old)).units → WithDisks (site_disks (site_in old)).disks (site_disks (site_in new)).disks (FailsOne disk on)) → disk < units_in e → SetsDisk disk on e (Over new)
     set_asked disk on asked low = subst (λ (x : DiskSet R g). SetsDisk disk on x (Over new)) (sym is) (asked (subst (λ (x : DiskSet R g). disk < units_in x) is low))

@@ -326,6 +326,11 @@ module _ {R : Type 0} {g : Ghosts R} where
   IsToldAt (Over s) = IsTrue (site_disks (site_in s)).tells
   IsToldAt Gone = ⊥
 
+  -- Whether its rack tells its contents, whatever is known of them: this is what calls keep, as an import may find disks of which it is not known what they hold.
+  abbrev pub IsRackTold : DiskSet R g → Type 0
+  IsRackTold (Over s) = IsTrue (site_below (site_in s)).tells
+  IsRackTold other = IsToldAt other
+
   -- the count of the faults of a disk
   abbrev pub faults_at : DiskSet R g → ℕ → ℕ
   faults_at (Bare rack) d = (g.meaning rack).disk_faults d

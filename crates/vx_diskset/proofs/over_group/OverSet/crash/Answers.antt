@@ -1,6 +1,7 @@
 -- The disks below a replicated volume group that crash: the note, and what is told of the disks.
-use Rattle.std.proofs.Common.{ap}
+use Rattle.std.proofs.Common.{ap, subst}
 use Rattle.vx_diskset.specs.Aboves.{below_site}
+use Rattle.vx_diskset.specs.Stands.{CutOver}
 use Rattle.vx_grouped.specs.declared.group_site.GroupSite.TheVariants.{Deported, Down, Gone}
 use Rattle.vx_diskset.proofs.OverDisks.{away_up, fell_up, gone_up}
 use Rattle.vx_diskset.proofs.OverFalls.{crash_asked, crash_fallen, crash_noted, crash_stopped, crash_told, fell_of, still_fallen, still_noted, still_stopped, still_told}
@@ -80,3 +81,21 @@ returns-in-Gone-clause-told g c = still_told (below_site c.args.self.site) Gone 
 
 pub returns-in-Gone-clause-asked : goal.returns-in-Gone-clause-asked
 returns-in-Gone-clause-asked g c = λ beside n stands up. absurd (gone_up beside n c.args.self.site c.in-Gone.is stands.1)
+
+pub returns-in-Deported-clause-crashed : goal.returns-in-Deported-clause-crashed
+returns-in-Deported-clause-crashed g c = λ beside n stands up. absurd (away_up beside n c.args.self.site c.in-Deported.idle c.in-Deported.is stands.1 up)
+
+pub returns-in-Deported-clause-held : goal.returns-in-Deported-clause-held
+returns-in-Deported-clause-held g c = λ beside n cut. absurd (subst (λ s. CutOver beside n s) c.in-Deported.is cut.1)
+
+pub returns-in-Down-clause-crashed : goal.returns-in-Down-clause-crashed
+returns-in-Down-clause-crashed g c = λ beside n stands up. absurd (fell_up beside n c.args.self.site c.in-Down.idle c.in-Down.is stands.1 up)
+
+pub returns-in-Down-clause-held : goal.returns-in-Down-clause-held
+returns-in-Down-clause-held g c = λ beside n cut. absurd (subst (λ s. CutOver beside n s) c.in-Down.is cut.1)
+
+pub returns-in-Gone-clause-crashed : goal.returns-in-Gone-clause-crashed
+returns-in-Gone-clause-crashed g c = λ beside n stands up. absurd (gone_up beside n c.args.self.site c.in-Gone.is stands.1)
+
+pub returns-in-Gone-clause-held : goal.returns-in-Gone-clause-held
+returns-in-Gone-clause-held g c = λ beside n cut. absurd (subst (λ s. CutOver beside n s) c.in-Gone.is cut.1)
