@@ -52,6 +52,7 @@ pub mod RawSets
 pub mod Reaching
 pub mod ReadGroup
 pub mod Receiving
+pub mod Showing
 pub mod Roles
 pub mod Sessions
 pub mod StartBare
