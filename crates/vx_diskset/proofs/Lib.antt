@@ -13,6 +13,7 @@ pub mod OverCame
 pub mod OverUp
 pub mod OverReturns
 pub mod OverCrash
+pub mod OverDowns
 pub mod OverDisks
 pub mod OverFalls
 pub mod OverFrames

@@ -10,6 +10,7 @@ use Rattle.vx_disk.specs.Racks.{Alike, IsRack}
 use Rattle.vx_disk.specs.Shelf.{Each, Image, Keeps, Meaning}
 use Rattle.vx_events.specs.RvgNotes.{inside_of}
 use Rattle.vx_history.specs.World.{Node}
+use Rattle.vx_group.specs.Resumes.{stopped}
 use Rattle.vx_kept.specs.Groups.{found as finds, group_meaning}
 use Rattle.vx_kept.specs.Keeping.{Extends}
 use Rattle.vx_kept.proofs.Low.{found_same}
@@ -149,6 +150,10 @@ module _ (r first : Meaning) (core : GroupCore) (m : Meaning) (alike : Alike r f
 
 -- ---- of disks that crashed
 
+-- each configuration that is found has an ACTIVE plex of each volume of the replicated volume group
+pub record ImagesActive (units : Units) (m : Meaning) : Type 0 where
+  pub each : (i : Image) (x : Config) (v : ℕ) → Each m.leaves i → finds m i ≡ Found x → inside_of units v ≡ true → stopped x v ≡ true
+
 -- a rack that is down has one value of each block
 pub rack_rests : (m : Meaning) → IsRack m → IsTrue m.down → IsTrue m.tells → AtRest m
 rack_rests m rack down tells = record { one = λ u b x y left right. latest u b x left ∙ sym (latest u b y right) }
@@ -159,7 +164,8 @@ rack_rests m rack down tells = record { one = λ u b x y left right. latest u b 
 pub alike_rests : (m new : Meaning) → Alike m new → AtRest m → AtRest new
 alike_rests m new alike rest = record { one = λ u b x y left right. rest.one u b x y (alike.contents.leaves u b x left) (alike.contents.leaves u b y right) }
 
-module _ {beside : KeptBeside} (n : Node) (r first : Meaning) (core : GroupCore) (m : Meaning) (alike : Alike r first) (brings : BringsVolumes first core m) (one : AtRest first) (rests : RestsOver (λ c. FellOver c beside n r) beside n r) (told : IsTrue m.tells) where
+module _ {beside : KeptBeside} (n : Node) (r first : Meaning) (core : GroupCore) (m : Meaning) (alike : Alike r first) (brings : BringsVolumes first core m) (one : AtRest first) (rests : RestsOver (λ c. FellOver c beside n r) beside n r) (active : ImagesActive (units_of n) r)
+    (told : IsTrue m.tells) where
   abbrev mine : TookVolumes first core m
   mine = took r first core m alike brings told
 
@@ -182,7 +188,7 @@ module _ {beside : KeptBeside} (n : Node) (r first : Meaning) (core : GroupCore)
   keeps_block : (v b : ℕ) → inside_of (units_of n) v ≡ true → b < blocks_of rests.config.volumes v → Keeps (inner_meaning (wide core) m) v b (shown rests.config mine.config mine.image v b)
   keeps_block v b inside low = record {
     only = λ value is. brings.unclean (told_first r first core m alike brings told) rests.config mine.config mine.image (shown rests.config mine.config mine.image) v b value one mine.each mine.is seen_extends
-        (shows rests.config mine.config mine.image) (fell.unclean mine.image mine.config v seen_each seen_config inside) (record { volume = rests.there v inside; within = low }) is;
+        (shows rests.config mine.config mine.image) (active.each mine.image mine.config v seen_each seen_config inside) (record { volume = rests.there v inside; within = low }) is;
   }
 
   log_low : (b : ℕ) → b < n.ring + 2 → b < blocks_of rests.config.volumes (units_of n).srl

@@ -90,7 +90,6 @@ module _ (beside : KeptBeside) (n : Node) (m m' : Meaning) (less : LeavesLess m 
       (λ c it. record {
         extends = λ i x each is. it.extends i x (before i each) (was_found i x is);
         found = λ i x above each is shows. it.found i x above (before i each) (was_found i x is) shows;
-        unclean = λ i x v each is inside. it.unclean i x v (before i each) (was_found i x is) inside;
       })
 
   pub away_less : RestsOver (λ c. AwayOver c beside n m) beside n m → RestsOver (λ c. AwayOver c beside n m') beside n m'

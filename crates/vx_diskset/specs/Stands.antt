@@ -34,7 +34,6 @@ use Rattle.vx_disk.specs.Shelf.{Each}
 use Rattle.vx_kept.specs.Groups.{Shows, found as finds, group_meaning}
 use Rattle.vx_kept.specs.Keeping.{Extends}
 use Rattle.vx_kept.specs.Opens.{OpenVolumes}
-use Rattle.vx_group.specs.Resumes.{stopped}
 use Rattle.vx_grouped.specs.Readies.{ready_of}
 use Rattle.vx_grouped.specs.declared.idle.Idle.{Idle}
 use Rattle.vx_untold.specs.Shades.{shade_meaning}
@@ -170,12 +169,11 @@ pub record IsDownAt (beside : KeptBeside) (n : Node) (m : Meaning) : Type 0 wher
   pub left : IsTrue m.tells → LeftWith (raw_units n.disks) n.ring (state_with n beside.links) n.session (most_header beside n) n.log n.base m
 
 -- The disks of a site that crashed, whose group has a replicated volume group. Of each image that they leave an import finds a configuration by which the volumes
--- show the site's log, which has all its writes, and its content; and the volumes of the group stopped uncleanly in it, so the import gives one value of each block.
+-- show the site's log, which has all its writes, and its content.
 pub record FellOver (c : Config) (beside : KeptBeside) (n : Node) (m : Meaning) : Type 0 where
   pub extends : (i : Image) (x : Config) → Each m.leaves i → finds m i ≡ Found x → Extends x c
   pub found : (i : Image) (x : Config) (above : Image) → Each m.leaves i → finds m i ≡ Found x → Shows c x i above
       → FoundWith (units_of n) n.ring (state_with n beside.links) n.session (most_header beside n) above n.log n.base
-  pub unclean : (i : Image) (x : Config) (v : ℕ) → Each m.leaves i → finds m i ≡ Found x → inside_of (units_of n) v ≡ true → stopped x v ≡ true
 
 -- Those of one that was deported: by each configuration that an import finds the volumes have that log and that content, whatever a crash leaves of them.
 pub record AwayOver (c : Config) (beside : KeptBeside) (n : Node) (m : Meaning) : Type 0 where
