@@ -17,6 +17,7 @@ pub mod OverDowns
 pub mod OverDisks
 pub mod OverFalls
 pub mod OverFrames
+pub mod OverKept
 pub mod OverPlain
 pub mod OverReads
 pub mod OverReceivers
