@@ -1,21 +1,21 @@
 -- What calls on a replicated volume group over a group answer of its site.
-use Rattle.std.proofs.Common.{◌≡◌, ℕ, subst, sym}
-use Rattle.std.specs.Prelude.{Option, Result, Ok, Err}
+use Rattle.std.proofs.Common.{◌≡◌, ℕ, subst, sym, List, ap}
+use Rattle.std.specs.Prelude.{Option, Result, Ok, Err, None}
 use Rattle.vx_disk.specs.Counts.{Rose}
 use Rattle.vx_disk.specs.declared.shelf.Shelf.{Ghosts}
 use Rattle.vx_history.specs.World.{Node}
-use Rattle.vx_model.specs.Content.{Write}
+use Rattle.vx_model.specs.Content.{Write, Content, fold_writes}
 use Rattle.vx_model.specs.declared.no.No.{No}
 use Rattle.vx_model.specs.declared.no.No.TheVariants.{Device, Limit, Down as IsDown}
 use Rattle.vx_model.specs.declared.state.State.{State}
 use Rattle.vx_ground.specs.Lifted.{laid_volumes}
 use Rattle.vx_grouped.specs.GroupSites.{laid_disks, site_disks}
 use Rattle.vx_diskset.specs.Aboves.{below_site}
-use Rattle.vx_diskset.specs.DiskSets.{AppliedUp, LoggedUp, worked}
+use Rattle.vx_diskset.specs.DiskSets.{AppliedUp, LoggedUp, worked, ReadAt}
 use Rattle.vx_diskset.specs.Holds.{KeptBeside}
 use Rattle.vx_diskset.specs.Keeps.{KeptUp, kept_anew, restated}
 use Rattle.vx_diskset.specs.Rooms.{AppliedAs}
-use Rattle.vx_diskset.specs.Shelves.{KeptAs, LoggedAs}
+use Rattle.vx_diskset.specs.Shelves.{KeptAs, LoggedAs, ReadAs}
 use Rattle.vx_diskset.specs.Stands.{IsUpAt, OverStands, SiteStands, IsOverSite}
 use Rattle.vx_diskset.specs.declared.founded.Founded.{Founded}
 use Rattle.vx_diskset.specs.declared.group_set.CutWrite.{CutWrite}
@@ -24,6 +24,9 @@ use Rattle.vx_diskset.specs.declared.over_set.OverSet.{OverSet}
 use Rattle.vx_diskset.specs.declared.over_set.OverSite.{OverSite}
 use Rattle.vx_diskset.specs.declared.over_set.OverSite.TheVariants.{Origin as OriginSite}
 use Rattle.vx_diskset.proofs.RawSets.{over_sure, over_doubting}
+use Rattle.std.proofs.lemmas.List.{drop_all}
+use Rattle.vx_rvg.specs.Contents.{ShowsContent}
+use Rattle.vx_diskset.specs.Received.{ShowedAt}
 
 module _ {R : Type 0} {g : Ghosts R} (beside : KeptBeside) (n : Node) (old : OverSet R g) (f f' : Founded R g) (cut : Option CutWrite) (is : old.site ≡ OriginSite f) where
   abbrev new : OverSet R g
@@ -49,6 +52,19 @@ module _ {R : Type 0} {g : Ghosts R} (beside : KeptBeside) (n : Node) (old : Ove
     over_applied to (Err (Device disk)) l = ((over, l.0), rose_over disk l.1)
     over_applied to (Err IsDown) l = (l.0, (over, l.1))
     over_applied to (Err other) l = l
+
+    pub over_read : (volume start count : ℕ) (bytes : List ℕ) (r : Result (Unit {0}) No) → ReadAs beside n volume start count bytes f'.core (laid_volumes f.laid) (laid_volumes f'.laid) r → ReadAt beside n volume start count bytes (Over old) (Over new) r
+    over_read volume start count bytes (Ok done) l = (l.0, (over, l.1))
+    over_read volume start count bytes (Err (Device disk)) l = ((over, l.0), rose_over disk l.1)
+    over_read volume start count bytes (Err other) l = l
+
+    -- of a site that does not receive the content is what it shows
+    pub over_showed : n.halted ≡ None → IsUpAt beside n f.core (laid_volumes f.laid) → (volume start count : ℕ) (bytes : List ℕ) (r : Result (Unit {0}) No) → ReadAs beside n volume start count bytes f'.core (laid_volumes f.laid) (laid_volumes f'.laid) r
+        → ShowedAt beside n volume start count bytes (Over old) (Over new) r
+    over_showed running up volume start count bytes (Ok done) l =
+        ((λ told. subst (λ (c : Content). ShowsContent c volume start count bytes) (ap (λ (xs : List Write). fold_writes n.base xs) (sym (drop_all n.safe n.log (up.durable running)))) (l.0 told)), (over, l.1))
+    over_showed running up volume start count bytes (Err (Device disk)) l = ((over, l.0), rose_over disk l.1)
+    over_showed running up volume start count bytes (Err other) l = l
 
     pub over_kept : (s : State) (r : Result (Unit {0}) No) → KeptAs beside n s (laid_volumes f.laid) f'.core (laid_volumes f'.laid) r → KeptUp beside n s (Over old) (Over new) r
     over_kept s (Ok done) l = (over_sure (kept_anew beside n s) beside (worked (restated n s)) over, l)

@@ -14,7 +14,7 @@ use Rattle.vx_secondary.specs.Receivers.{writes_of_updates}
 use Rattle.vx_ground.specs.Lifted.{laid_volumes}
 use Rattle.vx_grouped.specs.GroupSites.{laid_disks, site_disks}
 use Rattle.vx_diskset.specs.Aboves.{below_site}
-use Rattle.vx_diskset.specs.DiskSets.{AppliedUp}
+use Rattle.vx_diskset.specs.DiskSets.{AppliedUp, ReadAt}
 use Rattle.vx_diskset.specs.Holds.{KeptBeside}
 use Rattle.vx_diskset.specs.Rooms.{AppliedAs}
 use Rattle.vx_diskset.specs.Stands.{IsReceiverAt, IsUpAt, OverStands, SiteStands, IsOverSite}
@@ -25,6 +25,9 @@ use Rattle.vx_diskset.specs.declared.over_set.OverSet.{OverSet}
 use Rattle.vx_diskset.specs.declared.over_set.OverSite.{OverSite}
 use Rattle.vx_diskset.specs.declared.over_set.OverSite.TheVariants.{Receiver as ReceiverSite}
 use Rattle.vx_diskset.proofs.Receiving.{as_held, as_receiver, durable_of, receiver_up}
+use Rattle.vx_diskset.specs.Shelves.{ReadAs}
+use Rattle.vx_diskset.specs.Received.{ShowedAt}
+use Rattle.vx_diskset.specs.Works.{ShownAs}
 
 module _ {R : Type 0} {g : Ghosts R} (beside : KeptBeside) (n : Node) (old : OverSet R g) (f f' : FoundedReceiver R g) (cut : Option CutWrite) (is : old.site ≡ ReceiverSite f) (waiting : f'.waiting ≡ f.waiting) (stands : SiteStands beside n (Over old)) (running : n.halted ≡ None) where
   abbrev new : OverSet R g
@@ -57,3 +60,19 @@ module _ {R : Type 0} {g : Ghosts R} (beside : KeptBeside) (n : Node) (old : Ove
   over_applied to (Err (Device disk)) l = ((over, receives (Some disk) (burned n.fuse) l.0), rose_over disk l.1)
   over_applied to (Err IsOff) l = (l.0, (over, as_held n (laid_volumes f'.laid) (here.sure running) long l.1))
   over_applied to (Err other) l = l
+
+  pub over_read : (volume start count : ℕ) (bytes : List ℕ) (r : Result (Unit {0}) No) → ReadAs beside (durable_of n) volume start count bytes f'.core (laid_volumes f.laid) (laid_volumes f'.laid) r → ReadAt beside n volume start count bytes (Over old) (Over new) r
+  over_read volume start count bytes (Ok done) l = (l.0, (over, receives n.halted n.fuse l.1))
+  over_read volume start count bytes (Err (Device disk)) l = ((over, receives n.halted n.fuse l.0), rose_over disk l.1)
+  over_read volume start count bytes (Err other) l = l
+
+module _ {R : Type 0} {g : Ghosts R} (beside : KeptBeside) (n : Node) (old : OverSet R g) (f f' : FoundedReceiver R g) (cut : Option CutWrite) (is : old.site ≡ ReceiverSite f) (stands : SiteStands beside n (Over old)) where
+  pub receiver_in : IsReceiverAt beside n f.core f.waiting (laid_volumes f.laid)
+  receiver_in = subst (λ (s : OverSite R g). OverStands beside n s) is stands.1
+
+  pub over_shown : (volume start count : ℕ) (bytes : List ℕ) (r : Result (Unit {0}) No) → ShownAs beside n volume start count bytes f'.core f'.waiting (laid_volumes f.laid) (laid_volumes f'.laid) r
+      → ShowedAt beside n volume start count bytes (Over old) (Over (record { site = ReceiverSite f'; cut = cut })) r
+  over_shown volume start count bytes (Ok done) l = (l.0, (stands.0, l.1))
+  over_shown volume start count bytes (Err (Device disk)) l =
+      ((stands.0, l.0), subst (λ (s : OverSite R g). Rose ((site_disks (below_site s)).disk_faults disk) ((laid_disks f'.laid).disk_faults disk)) (sym is) l.1)
+  over_shown volume start count bytes (Err other) l = l
