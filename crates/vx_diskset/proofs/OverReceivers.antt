@@ -1,5 +1,5 @@
 -- What calls on a replicated volume group that receives answer of its site, over a group.
-use Rattle.std.proofs.Common.{◌≡◌, ◌∙◌, ℕ, ◌+◌, ◌-◌, ◌<◌, ◌≤◌, List, length, drop, ap, subst, sym, arith}
+use Rattle.std.proofs.Common.{◌≡◌, ◌∙◌, ℕ, ◌+◌, ◌-◌, ◌<◌, ◌≤◌, List, length, drop, ap, subst, sym, arith, refl}
 use Rattle.std.specs.Prelude.{None, Option, Some, Result, Ok, Err}
 use Rattle.vx_disk.specs.Counts.{Rose}
 use Rattle.vx_disk.specs.Shelf.{Lawful}
@@ -9,12 +9,12 @@ use Rattle.vx_history.specs.World.{Fuse, Node}
 use Rattle.vx_model.specs.Content.{Write}
 use Rattle.vx_model.specs.declared.call.Update.{Update}
 use Rattle.vx_model.specs.declared.no.No.{No}
-use Rattle.vx_model.specs.declared.no.No.TheVariants.{Device, Down as IsOff}
+use Rattle.vx_model.specs.declared.no.No.TheVariants.{Device, Limit, Down as IsOff}
 use Rattle.vx_secondary.specs.Receivers.{writes_of_updates}
 use Rattle.vx_ground.specs.Lifted.{laid_volumes}
 use Rattle.vx_grouped.specs.GroupSites.{laid_disks, site_disks}
 use Rattle.vx_diskset.specs.Aboves.{below_site}
-use Rattle.vx_diskset.specs.DiskSets.{AppliedUp, ReadAt}
+use Rattle.vx_diskset.specs.DiskSets.{AppliedUp, ReadAt, halted_at, worked}
 use Rattle.vx_diskset.specs.Holds.{KeptBeside}
 use Rattle.vx_diskset.specs.Rooms.{AppliedAs}
 use Rattle.vx_diskset.specs.Stands.{IsReceiverAt, IsUpAt, OverStands, SiteStands, IsOverSite}
@@ -24,10 +24,14 @@ use Rattle.vx_diskset.specs.declared.disk_set.DiskSet.TheVariants.{Over}
 use Rattle.vx_diskset.specs.declared.over_set.OverSet.{OverSet}
 use Rattle.vx_diskset.specs.declared.over_set.OverSite.{OverSite}
 use Rattle.vx_diskset.specs.declared.over_set.OverSite.TheVariants.{Receiver as ReceiverSite}
-use Rattle.vx_diskset.proofs.Receiving.{as_held, as_receiver, durable_of, receiver_up}
-use Rattle.vx_diskset.specs.Shelves.{ReadAs}
+use Rattle.vx_diskset.proofs.Receiving.{as_held, as_receiver, durable_of, receiver_up, doubted, has_doubted, held_receiver, may_doubted, never_some, up_receiver}
+use Rattle.vx_diskset.specs.Shelves.{ReadAs, KeptAs}
 use Rattle.vx_diskset.specs.Received.{ShowedAt}
 use Rattle.vx_diskset.specs.Works.{ShownAs}
+use Rattle.vx_model.specs.declared.state.State.{State}
+use Rattle.vx_diskset.specs.Keeps.{KeptUp, kept_anew, restated}
+use Rattle.vx_diskset.proofs.RawSets.{over_doubting, over_sure}
+use Rattle.vx_model.specs.Sites.{is_origin}
 
 module _ {R : Type 0} {g : Ghosts R} (beside : KeptBeside) (n : Node) (old : OverSet R g) (f f' : FoundedReceiver R g) (cut : Option CutWrite) (is : old.site ≡ ReceiverSite f) (waiting : f'.waiting ≡ f.waiting) (stands : SiteStands beside n (Over old)) (running : n.halted ≡ None) where
   abbrev new : OverSet R g
@@ -65,6 +69,27 @@ module _ {R : Type 0} {g : Ghosts R} (beside : KeptBeside) (n : Node) (old : Ove
   over_read volume start count bytes (Ok done) l = (l.0, (over, receives n.halted n.fuse l.1))
   over_read volume start count bytes (Err (Device disk)) l = ((over, receives n.halted n.fuse l.0), rose_over disk l.1)
   over_read volume start count bytes (Err other) l = l
+
+  -- a state that is kept
+  module _ (k : State) (same_role : is_origin k.role ≡ is_origin n.role) where
+    pub over_kept : (r : Result (Unit {0}) No) → KeptAs beside (durable_of n) k (laid_volumes f.laid) f'.core (laid_volumes f'.laid) r → KeptUp beside n k (Over old) (Over new) r
+    over_kept (Ok done) h = (
+      over_sure (kept_anew beside n k) beside (worked (restated n k)) over,
+      up_receiver None (worked (restated (durable_of n) k)) n.log f'.core f'.waiting (laid_volumes f'.laid) (same_role ∙ here.role) refl long waits_new (λ i has. has) (λ x none. absurd (never_some (sym none))) (λ none. refl) h,
+    )
+    over_kept (Err (Device disk)) h = (
+      (
+        over_doubting beside n k disk over,
+        up_receiver (Some (doubted beside n k long disk)) (halted_at (durable_of n) disk) n.log f'.core f'.waiting (laid_volumes f'.laid) here.role refl long waits_new (has_doubted beside n k long disk) (may_doubted beside n k long disk (laid_volumes f'.laid) h.0.may)
+            (λ none. absurd (never_some none)) h.0,
+      ),
+      rose_over disk h.1,
+      (λ none. absurd (over.0 none)),
+    )
+    over_kept (Err (Limit what most)) h = (h.0, h.1, (over, receives n.halted n.fuse h.2))
+    over_kept (Err IsOff) h =
+        (h.0, (over_doubting beside n k 0 over, held_receiver (Some (doubted beside n k long 0)) (halted_at (durable_of n) 0) n.log (laid_volumes f'.laid) refl long (has_doubted beside n k long 0) (may_doubted beside n k long 0 (laid_volumes f'.laid) h.1.may) h.1))
+    over_kept (Err other) h = h
 
 module _ {R : Type 0} {g : Ghosts R} (beside : KeptBeside) (n : Node) (old : OverSet R g) (f f' : FoundedReceiver R g) (cut : Option CutWrite) (is : old.site ≡ ReceiverSite f) (stands : SiteStands beside n (Over old)) where
   pub receiver_in : IsReceiverAt beside n f.core f.waiting (laid_volumes f.laid)
