@@ -9,6 +9,7 @@ pub mod FoundedWork
 pub mod OverNotes
 pub mod OverCalling
 pub mod OverCalls
+pub mod OverClean
 pub mod OverCame
 pub mod OverUp
 pub mod OverReturns
