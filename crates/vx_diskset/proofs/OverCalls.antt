@@ -1,5 +1,5 @@
 -- What calls on a replicated volume group over a group answer of its site.
-use Rattle.std.proofs.Common.{◌≡◌, ℕ, subst, sym, List, ap}
+use Rattle.std.proofs.Common.{◌≡◌, ℕ, subst, sym, List, ap, refl}
 use Rattle.std.specs.Prelude.{Option, Result, Ok, Err, None}
 use Rattle.vx_disk.specs.Counts.{Rose}
 use Rattle.vx_disk.specs.declared.shelf.Shelf.{Ghosts}
@@ -11,7 +11,8 @@ use Rattle.vx_model.specs.declared.state.State.{State}
 use Rattle.vx_ground.specs.Lifted.{laid_volumes}
 use Rattle.vx_grouped.specs.GroupSites.{laid_disks, site_disks}
 use Rattle.vx_diskset.specs.Aboves.{below_site}
-use Rattle.vx_diskset.specs.DiskSets.{AppliedUp, LoggedUp, worked, ReadAt}
+use Rattle.vx_history.specs.Steps.{half_begun, logged}
+use Rattle.vx_diskset.specs.DiskSets.{AppliedUp, LoggedUp, worked, ReadAt, halted_with, halted_at}
 use Rattle.vx_diskset.specs.Holds.{KeptBeside}
 use Rattle.vx_diskset.specs.Keeps.{KeptUp, kept_anew, restated}
 use Rattle.vx_diskset.specs.Rooms.{AppliedAs}
@@ -23,7 +24,7 @@ use Rattle.vx_diskset.specs.declared.disk_set.DiskSet.TheVariants.{Over}
 use Rattle.vx_diskset.specs.declared.over_set.OverSet.{OverSet}
 use Rattle.vx_diskset.specs.declared.over_set.OverSite.{OverSite}
 use Rattle.vx_diskset.specs.declared.over_set.OverSite.TheVariants.{Origin as OriginSite}
-use Rattle.vx_diskset.proofs.RawSets.{over_sure, over_doubting}
+use Rattle.vx_diskset.proofs.RawSets.{over_sure, over_doubting, over_on}
 use Rattle.std.proofs.lemmas.List.{drop_all}
 use Rattle.vx_rvg.specs.Contents.{ShowsContent}
 use Rattle.vx_diskset.specs.Received.{ShowedAt}
@@ -41,15 +42,15 @@ module _ {R : Type 0} {g : Ghosts R} (beside : KeptBeside) (n : Node) (old : Ove
 
   module _ (over : IsOverSite beside n) where
     pub over_logged : (x : Write) (r : Result ℕ No) → LoggedAs beside n x (laid_volumes f.laid) f'.core (laid_volumes f'.laid) r → LoggedUp beside n x (Over old) (Over new) r
-    over_logged x (Ok number) l = (l.0, l.1, (over, l.2), λ origin calls told exact. absurd (over.0 exact.raw))
-    over_logged x (Err (Device disk)) l = ((over, l.0), rose_over disk l.1, l.2)
-    over_logged x (Err (Limit what most)) l = (l.0, l.1, (over, l.2))
-    over_logged x (Err IsDown) l = (l.0, (over, l.1), (λ origin calls told exact. absurd (over.0 exact.raw)), l.3)
+    over_logged x (Ok number) l = (l.0, l.1, (over_on beside n (logged n x) refl refl refl over, l.2), λ origin calls told exact. absurd (over.0 exact.raw))
+    over_logged x (Err (Device disk)) l = ((over_on beside n (halted_with n x disk) refl refl refl over, l.0), rose_over disk l.1, l.2)
+    over_logged x (Err (Limit what most)) l = (l.0, l.1, (over_on beside n (worked n) refl refl refl over, l.2))
+    over_logged x (Err IsDown) l = (l.0, (over_on beside n (half_begun n x) refl refl refl over, l.1), (λ origin calls told exact. absurd (over.0 exact.raw)), l.3)
     over_logged x (Err other) l = l
 
     pub over_applied : (to : ℕ) (r : Result ℕ No) → AppliedAs beside n to f'.core (laid_volumes f.laid) (laid_volumes f'.laid) r → AppliedUp beside n to (Over old) (Over new) r
-    over_applied to (Ok number) l = (l.0, l.1, (over, l.2))
-    over_applied to (Err (Device disk)) l = ((over, l.0), rose_over disk l.1)
+    over_applied to (Ok number) l = (l.0, l.1, (over_on beside n (worked n) refl refl refl over, l.2))
+    over_applied to (Err (Device disk)) l = ((over_on beside n (halted_at n disk) refl refl refl over, l.0), rose_over disk l.1)
     over_applied to (Err IsDown) l = (l.0, (over, l.1))
     over_applied to (Err other) l = l
 
@@ -67,7 +68,7 @@ module _ {R : Type 0} {g : Ghosts R} (beside : KeptBeside) (n : Node) (old : Ove
     over_showed running up volume start count bytes (Err other) l = l
 
     pub over_kept : (s : State) (r : Result (Unit {0}) No) → KeptAs beside n s (laid_volumes f.laid) f'.core (laid_volumes f'.laid) r → KeptUp beside n s (Over old) (Over new) r
-    over_kept s (Ok done) l = (over_sure (kept_anew beside n s) beside (worked (restated n s)) over, l)
+    over_kept s (Ok done) l = (over_sure (kept_anew beside n s) beside (worked (restated n s)) (over_on beside n (worked (restated n s)) refl refl refl over), l)
     over_kept s (Err (Device disk)) l = ((over_doubting beside n s disk over, l.0), rose_over disk l.1, λ none. absurd (over.0 none))
     over_kept s (Err (Limit what most)) l = (l.0, l.1, (over, l.2))
     over_kept s (Err IsDown) l = (l.0, (over_doubting beside n s 0 over, l.1))

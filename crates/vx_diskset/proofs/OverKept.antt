@@ -1,5 +1,6 @@
 -- Calls on the group below a replicated volume group: it stands as it did, or the site crashed behind the call.
 use Rattle.std.proofs.Common.{◌≡◌, ℕ, ◌<◌, List, length, refl, ap, sym, ◌∙◌, subst}
+use Rattle.vx_diskset.proofs.RawSets.{over_on}
 use Rattle.std.specs.Prelude.{IsFalse, None, Option}
 use Rattle.vx_disk.specs.Moves.{Blocks, Nowhere}
 use Rattle.vx_disk.specs.Racks.{IsRack}
@@ -58,10 +59,6 @@ covers_aside volume block bytes Nothing out = tt
 covers_aside volume block bytes (Origin core) out = record { log = λ b here. out.log (sym here.there); maps = λ b here. out.maps (sym here.there); vols = λ v b low here. out.vols v low (sym here.there) }
 covers_aside volume block bytes (Receiver core waiting) out = record { log = λ b here. out.log (sym here.there); maps = λ b here. out.maps (sym here.there); vols = λ v b low here. out.vols v low (sym here.there) }
 
--- a site that worked is on the same ground
-over_worked : (beside : KeptBeside) (n : Node) → IsOverSite beside n → IsOverSite beside (worked n)
-over_worked beside n over = (over.0, (λ k is. let same = over.1 k is in record { units = same.units; disks = same.disks; blocks = same.blocks }), over.2, over.3)
-
 module _ {R : Type 0} {g : Ghosts R} where
   fell_idle : (x y : Idle R g) → ◌≡◌ {A = GroupSite R g} (Down x) (Down y) → x ≡ y
   fell_idle x y is = cc
@@ -113,7 +110,7 @@ module _ {R : Type 0} {g : Ghosts R} (laws : (s : Shade R) → Lawful (shade_mea
   module _ (beside : KeptBeside) (n : Node) (a : Above) (new : OverSet R g) (aside : IsAside mine a) (over : IsOverSite beside n) (running : n.halted ≡ None) where
     kept_by : (e e' : GroupSite R g) → site_in new ≡ e' → StaysAbove a e' (above_in new) → SiteGoes mine e e' → AboveStays a e → OverUp beside n a e → StaysHere e' → KeptBy beside n new e'
     kept_by (Up old) (Up mid) at above goes sound it here = (
-      over_worked beside n over,
+      over_on beside n (worked n) refl refl refl over,
       over_from beside (worked n) new.site
           (subst (λ (x : GroupSite R g). OverUp beside (worked n) (above_in new) x) (sym at)
           (subst (λ (x : Above). AboveStands beside (worked n) x (laid_volumes mid)) (sym above) (stands_up beside n a old mid goes sound aside over.0 running here it))),

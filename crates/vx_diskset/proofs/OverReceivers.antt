@@ -30,7 +30,7 @@ use Rattle.vx_diskset.specs.Received.{ShowedAt}
 use Rattle.vx_diskset.specs.Works.{ShownAs}
 use Rattle.vx_model.specs.declared.state.State.{State}
 use Rattle.vx_diskset.specs.Keeps.{KeptUp, kept_anew, restated}
-use Rattle.vx_diskset.proofs.RawSets.{over_doubting, over_sure}
+use Rattle.vx_diskset.proofs.RawSets.{over_doubting, over_sure, over_on}
 use Rattle.vx_model.specs.Sites.{is_origin}
 
 module _ {R : Type 0} {g : Ghosts R} (beside : KeptBeside) (n : Node) (old : OverSet R g) (f f' : FoundedReceiver R g) (cut : Option CutWrite) (is : old.site ≡ ReceiverSite f) (waiting : f'.waiting ≡ f.waiting) (stands : SiteStands beside n (Over old)) (running : n.halted ≡ None) where
@@ -60,8 +60,8 @@ module _ {R : Type 0} {g : Ghosts R} (beside : KeptBeside) (n : Node) (old : Ove
   receives halted fuse up = as_receiver n f'.waiting halted fuse f'.core (laid_volumes f'.laid) (here.sure running) here.role long waits_new up
 
   pub over_applied : (to : ℕ) (r : Result ℕ No) → AppliedAs beside (durable_of n) to f'.core (laid_volumes f.laid) (laid_volumes f'.laid) r → AppliedUp beside n to (Over old) (Over new) r
-  over_applied to (Ok number) l = (l.0, l.1, (over, receives n.halted (burned n.fuse) l.2))
-  over_applied to (Err (Device disk)) l = ((over, receives (Some disk) (burned n.fuse) l.0), rose_over disk l.1)
+  over_applied to (Ok number) l = (l.0, l.1, (over_on beside n (worked n) refl refl refl over, receives n.halted (burned n.fuse) l.2))
+  over_applied to (Err (Device disk)) l = ((over_on beside n (halted_at n disk) refl refl refl over, receives (Some disk) (burned n.fuse) l.0), rose_over disk l.1)
   over_applied to (Err IsOff) l = (l.0, (over, as_held n (laid_volumes f'.laid) (here.sure running) long l.1))
   over_applied to (Err other) l = l
 
@@ -74,7 +74,7 @@ module _ {R : Type 0} {g : Ghosts R} (beside : KeptBeside) (n : Node) (old : Ove
   module _ (k : State) (same_role : is_origin k.role ≡ is_origin n.role) where
     pub over_kept : (r : Result (Unit {0}) No) → KeptAs beside (durable_of n) k (laid_volumes f.laid) f'.core (laid_volumes f'.laid) r → KeptUp beside n k (Over old) (Over new) r
     over_kept (Ok done) h = (
-      over_sure (kept_anew beside n k) beside (worked (restated n k)) over,
+      over_sure (kept_anew beside n k) beside (worked (restated n k)) (over_on beside n (worked (restated n k)) refl refl refl over),
       up_receiver None (worked (restated (durable_of n) k)) n.log f'.core f'.waiting (laid_volumes f'.laid) (same_role ∙ here.role) refl long waits_new (λ i has. has) (λ x none. absurd (never_some (sym none))) (λ none. refl) h,
     )
     over_kept (Err (Device disk)) h = (
