@@ -53,6 +53,7 @@ pub mod OverSets
 pub mod PumpGroup
 pub mod RawSets
 pub mod Reaching
+pub mod OverReaching
 pub mod ReadGroup
 pub mod Receiving
 pub mod Showing

@@ -1,6 +1,6 @@
 -- What calls on a replicated volume group over a group answer of its site.
-use Rattle.std.proofs.Common.{◌≡◌, ℕ, subst, sym, List, ap, refl}
-use Rattle.std.specs.Prelude.{Option, Result, Ok, Err, None}
+use Rattle.std.proofs.Common.{◌≡◌, ℕ, subst, sym, List, ap, refl, arith, ◌∙◌}
+use Rattle.std.specs.Prelude.{Option, Result, Ok, Err, None, false}
 use Rattle.vx_disk.specs.Counts.{Rose}
 use Rattle.vx_disk.specs.declared.shelf.Shelf.{Ghosts}
 use Rattle.vx_history.specs.World.{Node}
@@ -27,7 +27,11 @@ use Rattle.vx_diskset.specs.declared.over_set.OverSite.TheVariants.{Origin as Or
 use Rattle.vx_diskset.proofs.RawSets.{over_sure, over_doubting, over_on}
 use Rattle.std.proofs.lemmas.List.{drop_all}
 use Rattle.vx_rvg.specs.Contents.{ShowsContent}
-use Rattle.vx_diskset.specs.Received.{ShowedAt}
+use Rattle.vx_diskset.specs.Received.{ShowedAt, ReachedBy, ReachedUp}
+use Rattle.vx_history.specs.declared.receiver.RAction.{RAction}
+use Rattle.vx_rvg.specs.Views.{last_of}
+use Rattle.vx_diskset.proofs.StaysUp.{up_worked}
+use Rattle.vx_diskset.proofs.Reaching.{rule_none}
 
 module _ {R : Type 0} {g : Ghosts R} (beside : KeptBeside) (n : Node) (old : OverSet R g) (f f' : Founded R g) (cut : Option CutWrite) (is : old.site ≡ OriginSite f) where
   abbrev new : OverSet R g
@@ -66,6 +70,13 @@ module _ {R : Type 0} {g : Ghosts R} (beside : KeptBeside) (n : Node) (old : Ove
         ((λ told. subst (λ (c : Content). ShowsContent c volume start count bytes) (ap (λ (xs : List Write). fold_writes n.base xs) (sym (drop_all n.safe n.log (up.durable running)))) (l.0 told)), (over, l.1))
     over_showed running up volume start count bytes (Err (Device disk)) l = ((over, l.0), rose_over disk l.1)
     over_showed running up volume start count bytes (Err other) l = l
+
+    -- nothing waits at a site that does not receive
+    pub over_idle : (count head : ℕ) → IsUpAt beside n f.core (laid_volumes f.laid) → n.halted ≡ None → head ≡ last_of f.core → ReachedUp beside n count (Over old) (Over (record { site = OriginSite f; cut = cut })) (Ok (record { number = head; acks = false }))
+    over_idle count head here running head_is =
+        let whole = here.durable running in
+        subst (λ (a : RAction). ReachedBy a beside n (record { number = head; acks = false }) (Over (record { site = OriginSite f; cut = cut }))) (sym (rule_none n count (omega (arith, whole))))
+        (head_is ∙ here.head, refl, (over_on beside n (worked n) refl refl refl over, up_worked n f.core (laid_volumes f.laid) here))
 
     pub over_kept : (s : State) (r : Result (Unit {0}) No) → KeptAs beside n s (laid_volumes f.laid) f'.core (laid_volumes f'.laid) r → KeptUp beside n s (Over old) (Over new) r
     over_kept s (Ok done) l = (over_sure (kept_anew beside n s) beside (worked (restated n s)) (over_on beside n (worked (restated n s)) refl refl refl over), l)

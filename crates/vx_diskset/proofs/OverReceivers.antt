@@ -26,12 +26,18 @@ use Rattle.vx_diskset.specs.declared.over_set.OverSite.{OverSite}
 use Rattle.vx_diskset.specs.declared.over_set.OverSite.TheVariants.{Receiver as ReceiverSite}
 use Rattle.vx_diskset.proofs.Receiving.{as_held, as_receiver, durable_of, receiver_up, doubted, has_doubted, held_receiver, may_doubted, never_some, up_receiver}
 use Rattle.vx_diskset.specs.Shelves.{ReadAs, KeptAs}
-use Rattle.vx_diskset.specs.Received.{ShowedAt}
+use Rattle.vx_diskset.specs.Received.{ShowedAt, ReachedBy, ReachedOf, ReachedOn, ReachedUp, reached}
 use Rattle.vx_diskset.specs.Works.{ShownAs}
 use Rattle.vx_model.specs.declared.state.State.{State}
 use Rattle.vx_diskset.specs.Keeps.{KeptUp, kept_anew, restated}
 use Rattle.vx_diskset.proofs.RawSets.{over_doubting, over_sure, over_on}
 use Rattle.vx_model.specs.Sites.{is_origin}
+use Rattle.vx_history.specs.declared.receiver.RAction.{RAction}
+use Rattle.vx_history.specs.declared.receiver.RAction.TheVariants.{DataAck, Ignored, IgnoredAck, Take, Nothing as NoAction}
+use Rattle.vx_history.specs.declared.receiver.REvent.TheVariants.{Applied}
+use Rattle.vx_history.specs.LinkForms.{plain_receiver}
+use Rattle.vx_history.specs.Receiving.{received_step}
+use Rattle.vx_diskset.specs.declared.receivers.Reached.{Reached}
 
 module _ {R : Type 0} {g : Ghosts R} (beside : KeptBeside) (n : Node) (old : OverSet R g) (f f' : FoundedReceiver R g) (cut : Option CutWrite) (is : old.site ≡ ReceiverSite f) (waiting : f'.waiting ≡ f.waiting) (stands : SiteStands beside n (Over old)) (running : n.halted ≡ None) where
   abbrev new : OverSet R g
@@ -101,3 +107,19 @@ module _ {R : Type 0} {g : Ghosts R} (beside : KeptBeside) (n : Node) (old : Ove
   over_shown volume start count bytes (Err (Device disk)) l =
       ((stands.0, l.0), subst (λ (s : OverSite R g). Rose ((site_disks (below_site s)).disk_faults disk) ((laid_disks f'.laid).disk_faults disk)) (sym is) l.1)
   over_shown volume start count bytes (Err other) l = l
+
+  -- what waits is brought into the volumes
+  reached_by_rule : (a : RAction) (r : Reached) → ReachedOf a beside n r f'.waiting f'.core (laid_volumes f'.laid) → ReachedBy a beside n r (Over (record { site = ReceiverSite f'; cut = cut }))
+  reached_by_rule (DataAck number) r l = (l.0, l.1, (over_on beside n (reached n number) refl refl refl stands.0, l.2))
+  reached_by_rule (Ignored) r l = (l.0, l.1, (over_on beside n (worked n) refl refl refl stands.0, l.2))
+  reached_by_rule (IgnoredAck number) r l = (l.0, l.1, (over_on beside n (worked n) refl refl refl stands.0, l.2))
+  reached_by_rule (Take ack) r l = (l.0, l.1, (over_on beside n (worked n) refl refl refl stands.0, l.2))
+  reached_by_rule NoAction r l = (l.0, l.1, (over_on beside n (worked n) refl refl refl stands.0, l.2))
+
+  pub over_reached : (count : ℕ) (r : Result Reached No) → ReachedOn beside n count f'.waiting f'.core (laid_volumes f.laid) (laid_volumes f'.laid) r → ReachedUp beside n count (Over old) (Over (record { site = ReceiverSite f'; cut = cut })) r
+  over_reached count (Ok r) l = reached_by_rule (received_step (plain_receiver n) (Applied count)).action r l
+  over_reached count (Err (Device disk)) l =
+      ((over_on beside n (halted_at n disk) refl refl refl stands.0, l.0), subst (λ (s : OverSite R g). Rose ((site_disks (below_site s)).disk_faults disk) ((laid_disks f'.laid).disk_faults disk)) (sym is) l.1)
+  over_reached count (Err (Limit what most)) l = (l.0, l.1, (stands.0, l.2))
+  over_reached count (Err IsOff) l = (l.0, (stands.0, l.1))
+  over_reached count (Err other) l = l
