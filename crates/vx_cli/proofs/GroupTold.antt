@@ -41,6 +41,7 @@ module _ {T U : Type 0} (f : U → T) where
     block = x.block;
     may = λ u. x.may (known_told new u);
     cut = x.cut;
+    inside = x.inside;
   }
 
   unread_told : (s : ℕ) (n : Node) (fails : Fails) (note new : GroupNode) → NotesUnread T s n fails note new → NotesUnread U s n fails note new

@@ -8,8 +8,10 @@ mod event;
 pub mod laws;
 mod receiver;
 mod sender;
+mod volumes;
 
 pub use admission::{Change, FullLog};
 pub use event::{Event, LinkPart, Said};
 pub use receiver::{RAction, REvent, RState};
 pub use sender::{Action, SEvent, SFacts};
+pub use volumes::{DataVolume, DataVolumes};

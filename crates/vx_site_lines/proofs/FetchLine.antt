@@ -24,9 +24,11 @@ use Rattle.vx_diskset.specs.DiskSets.{CanRead}
 use Rattle.vx_diskset.specs.Fetching.{GaveAt}
 use Rattle.vx_diskset.specs.Fuses.{LeftAs}
 use Rattle.vx_diskset.specs.Holds.{KeptBeside, beside_of}
-use Rattle.vx_diskset.specs.Stands.{IsToldAt, KeepsRole, SiteStands}
+use Rattle.vx_diskset.specs.Stands.{IsToldAt, KeepsRole, SiteStands, OverStands}
 use Rattle.vx_diskset.specs.declared.disk_set.DiskSet.{DiskSet}
-use Rattle.vx_diskset.specs.declared.disk_set.DiskSet.TheVariants.{Bare, Spoiled, Up, Receives, Down, OfGroup, Gone}
+use Rattle.vx_diskset.specs.declared.disk_set.DiskSet.TheVariants.{Bare, Spoiled, Up, Receives, Down, OfGroup, Over, Gone}
+use Rattle.vx_diskset.specs.declared.over_set.OverSite.{OverSite}
+use Rattle.vx_diskset.specs.declared.over_set.OverSite.TheVariants.{Origin as OriginSite, Receiver as ReceiverSite, Deported as OverAway, Down as OverFell, Gone as NoOver}
 use Rattle.vx_events.proofs.Blocks.{shown_are}
 use Rattle.vx_events.proofs.Keeping.{read_stays}
 use Rattle.vx_events.proofs.Places.{some_same}
@@ -62,6 +64,8 @@ use Rattle.vx_yard.proofs.OneSite.{Changed, Comes, beside_same, role_kept, rose_
 use Rattle.vx_site_lines.proofs.Apart.{never_up}
 use Rattle.vx_site_lines.proofs.ReadLine.{volume_at}
 use Rattle.vx_yard.proofs.SiteEvents.{first_choice}
+use Rattle.vx_diskset.proofs.Laying.{laid_in}
+use Rattle.vx_ground.specs.Lifted.{laid_volumes}
 
 -- ---- the event
 
@@ -122,13 +126,21 @@ record Whole (n : Node) : Type 0 where
   named : (v : ℕ) (x : Volume) → slice_get n.volumes v ≡ Some x → n.base.size v ≡ x.blocks
 
 module _ {R : Type 0} {g : Ghosts R} where
+  over_whole : (beside : KeptBeside) (n : Node) (s : OverSite R g) → OverStands beside n s → Whole n
+  over_whole beside n (OriginSite f) h = let laid = laid_in n (laid_volumes f.laid) h.lies in record { few = laid.few; named = laid.named }
+  over_whole beside n (ReceiverSite f) h = let laid = laid_in n (laid_volumes f.laid) h.lies in record { few = laid.few; named = laid.named }
+  over_whole beside n (OverAway idle) h = record { few = h.1.lies.few; named = h.1.lies.named }
+  over_whole beside n (OverFell idle) h = record { few = h.2.lies.few; named = h.2.lies.named }
+  over_whole beside n NoOver h = absurd h
+
   whole_at : (beside : KeptBeside) (n : Node) (e : DiskSet R g) → is_over_group n ≡ false → n.state ≡ IsUp → SiteStands beside n e → Whole n
   whole_at beside n (Bare rack) apart up h = absurd (let e : IsBare ≡ IsUp = sym (ap (λ (k : Node). k.state) h.bare.is) ∙ up in cc)
   whole_at beside n (Spoiled rack) apart up h = absurd (let e : IsBare ≡ IsUp = sym (ap (λ (k : Node). k.state) h.is) ∙ up in cc)
-  whole_at beside n (Up rvg) apart up h = record { few = h.lies.laid.few; named = h.lies.laid.named }
-  whole_at beside n (Receives site) apart up h = record { few = h.lies.laid.few; named = h.lies.laid.named }
+  whole_at beside n (Up rvg) apart up h = let laid = laid_in n (g.meaning rvg.shelf) h.1.lies in record { few = laid.few; named = laid.named }
+  whole_at beside n (Receives site) apart up h = let laid = laid_in n (g.meaning site.rvg.shelf) h.1.lies in record { few = laid.few; named = laid.named }
   whole_at beside n (Down rack) apart up h = record { few = h.lies.laid.few; named = h.lies.laid.named }
   whole_at beside n (OfGroup s) apart up h = never_up beside n s h apart up
+  whole_at beside n (Over s) apart up h = over_whole beside n s.site h.1
   whole_at beside n Gone apart up h = absurd h
 
   -- a run of blocks, by the numbers of its site and its volume

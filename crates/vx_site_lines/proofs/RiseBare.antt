@@ -63,20 +63,21 @@ use Rattle.vx_yard.specs.declared.yard.Yard.{Yard}
 use Rattle.vx_yard.proofs.Carrying.{SameLoad, carries_on, carries_same, feeds_same}
 use Rattle.vx_yard.proofs.CrashLine.{rose_still}
 use Rattle.vx_yard.proofs.FailsStay.{fails_then}
-use Rattle.vx_site_lines.proofs.Apart.{bare_over, over_as, over_is}
+use Rattle.vx_site_lines.proofs.Apart.{bare_over, over_is}
 use Rattle.vx_site_lines.proofs.FetchLine.{no_more, recounted, recounted_fits}
 use Rattle.vx_yard.proofs.FuseStays.{fused_none}
 use Rattle.vx_yard.proofs.Lists.{get-set_same, set_same, set_twice}
 use Rattle.vx_yard.proofs.NamedSite.{fact_of}
 use Rattle.vx_yard.proofs.NoteSite.{comes_same, one_left}
 use Rattle.vx_yard.proofs.OneSite.{Changed, Comes, beside_same, role_off, rose_at, stands_still, told_by}
-use Rattle.vx_site_lines.proofs.RawSite.{bare_at, bare_sure, raw_apart}
+use Rattle.vx_site_lines.proofs.RawSite.{bare_at, bare_sure}
 use Rattle.vx_site_lines.proofs.RiseLeads.{Replaced, never_told}
 use Rattle.vx_yard.proofs.RecoverLine.{bare_events, recover_done}
 use Rattle.vx_site_lines.proofs.RiseLine.{effect_as, plain_of, quiet_is, row_starts, shape_at}
 use Rattle.vx_site_lines.proofs.RiseSite.{ComesUp, IsWhole, SeesDisks, up_carries, up_stands}
 use Rattle.vx_site_lines.proofs.RiseWorlds.{found_effect}
 use Rattle.vx_yard.proofs.SiteEvents.{first_choice}
+use Rattle.vx_diskset.proofs.GroupStands.{none_apart}
 
 module _ {R : Type 0} {g : Ghosts R} where
   -- a site of which a refused event counts no header
@@ -208,11 +209,14 @@ module _ {R : Type 0} {g : Ghosts R} where
       abbrev beside_now : KeptBeside
       beside_now = record { links = row_links row d.world.sites; headers = d.world.headers s; doubt = None }
 
+      none : k.group ≡ None
+      none = found.same.group ∙ (bare_at (beside_of d s) n before stood bare).3
+
       apart : is_over_group k ≡ false
-      apart = over_as (raw_set 0 n) k found.same.group found.same.volumes (raw_apart 0 n (bare_at (beside_of d s) n before stood bare).3)
+      apart = none_apart k none
 
       stands_now : SiteStands beside_now k after
-      stands_now = any_links lawful beside_now beside_now found.node found.node.other after found.untold refl found.same.up apart (found.stands beside_now refl)
+      stands_now = any_links lawful beside_now beside_now found.node found.node.other after found.untold refl found.same.up none (found.stands beside_now refl)
 
       fact_is : site ≡ linked_fact d.world s
       fact_is = some_same (sym site_at ∙ fact_of d old s stands below) ∙ fact_apart d.world s (bare_over d old s stands below bare)
@@ -222,7 +226,7 @@ module _ {R : Type 0} {g : Ghosts R} where
 
       whole_now : IsWhole k ring
       whole_now =
-          let shape = shape_at beside_now k after stands_now apart (λ is. let e : IsUp ≡ IsBare = sym found.same.up ∙ is in cc) in
+          let shape = shape_at beside_now k after stands_now none (λ is. let e : IsUp ≡ IsBare = sym found.same.up ∙ is in cc) in
           record {
             up = found.same.up;
             running = found.same.running;

@@ -13,7 +13,7 @@ use Rattle.vx_disk.specs.Shelf.{Lawful}
 use Rattle.vx_disk.specs.declared.shelf.Shelf.{Ghosts}
 use Rattle.vx_courier.specs.UnderWay.{FlightStands}
 use Rattle.vx_diskset.specs.Asked.{FailsAs, FusedAs, SameFailing}
-use Rattle.vx_diskset.specs.DiskSets.{CameUp, CameUpIs, CrashedAt, Later, RoseAt, StillDown, no_number}
+use Rattle.vx_diskset.specs.DiskSets.{CameUp, CameUpIs, CrashedAt, Later, RoseAt, StillDown, no_number, fell_to}
 use Rattle.vx_diskset.specs.Holds.{KeptBeside, KeptSite, beside_of, doubt_of, itself, header_links, row_links, state_with, sure_of}
 use Rattle.vx_diskset.specs.Stands.{IsToldAt, RoleIs, SiteStands}
 use Rattle.vx_diskset.specs.declared.disk_set.DiskSet.{DiskSet}
@@ -21,7 +21,6 @@ use Rattle.vx_diskset.specs.declared.disk_set.DiskSet.TheVariants.{Bare, Spoiled
 use Rattle.vx_diskset.proofs.TakenBack.{any_down}
 use Rattle.vx_history.specs.Doubts.{After, Doubted, happened}
 use Rattle.vx_history.specs.Events.{come_back, restarted_link}
-use Rattle.vx_history.specs.Steps.{crashed}
 use Rattle.vx_history.specs.World.{Link, Node, Packet, World}
 use Rattle.vx_history.specs.declared.event.Event.TheVariants.{Recover as RecoverAt}
 use Rattle.vx_effects.proofs.Fitting.{fit_happened}
@@ -62,12 +61,13 @@ use Rattle.vx_yard.proofs.NamedSite.{fact_of}
 use Rattle.vx_yard.proofs.NoteSite.{comes_same}
 use Rattle.vx_yard.proofs.OneSite.{Changed, Comes, beside_same, role_off, rose_at, stands_still, told_by}
 use Rattle.vx_yard.proofs.RecoverLine.{recover_done, session_fact, told_or}
-use Rattle.vx_site_lines.proofs.Apart.{fact_stays, over_as, over_is}
+use Rattle.vx_site_lines.proofs.Apart.{fact_stays, over_is}
 use Rattle.vx_site_lines.proofs.RiseEnds.{begun_ends, found_ends, none_ends, refused_ends, rose_ends, unread_ends}
 use Rattle.vx_site_lines.proofs.RiseLine.{down_h, effect_as, fit_h, found_as, free_h, own_at, own_safe, sure, told_comes, told_kept, told_last, unfused_down, untold_comes, untold_kept}
 use Rattle.vx_site_lines.proofs.RiseSite.{ComesUp, SeesDisks, up_carries, up_stands}
 use Rattle.vx_site_lines.proofs.RiseWorlds.{behind_disks, own_gathering, own_headers, own_is, own_links, own_node, own_packets, own_session, own_sites, own_view}
 use Rattle.vx_yard.proofs.Rows.{fact_like, fact_same}
+use Rattle.vx_diskset.proofs.GroupStands.{none_apart}
 
 module _ {R : Type 0} {g : Ghosts R} where
   -- the disk set of a site is another, and the rest of the yard is as it was
@@ -86,7 +86,7 @@ module _ {R : Type 0} {g : Ghosts R} where
 
   module _ (lawful : (r : R) → Lawful (g.meaning r)) (d h : Doubted) (old : Yard R g) (s ring : ℕ) (c : Choice) (taken : Bool) (name : List ℕ) (number : site_number d.world name ≡ s)
       (from : RisesFrom d s c taken h) (fit_d : LinksFit d)
-      (stands : StandsFor (own_disks taken s d.world h) old) (below : s < h.world.sites) (down : ((own_disks taken s d.world h).world.nodes s).state ≡ IsDown) (apart : is_over_group ((own_disks taken s d.world h).world.nodes s) ≡ false)
+      (stands : StandsFor (own_disks taken s d.world h) old) (below : s < h.world.sites) (down : ((own_disks taken s d.world h).world.nodes s).state ≡ IsDown) (apart : ((own_disks taken s d.world h).world.nodes s).group ≡ None)
       (ring_is : ring ≡ ring_of ((own_disks taken s d.world h).world.nodes s).blocks) (before after : DiskSet R g) (there : slice_get old.disk_sets.items s ≡ Some before) (later : Later before after)
       (same : SameFailing before after) where
     abbrev mid : Doubted
@@ -107,7 +107,7 @@ module _ {R : Type 0} {g : Ghosts R} where
       f = linked_fact mid.world s
 
       at_y : slice_get y.facts.items s ≡ Some f
-      at_y = ap (λ fs. slice_get fs.items s) replaced.facts ∙ fact_of mid old s stands below_mid ∙ ap (λ (x : SiteFacts). Some x) (fact_apart mid.world s apart)
+      at_y = ap (λ fs. slice_get fs.items s) replaced.facts ∙ fact_of mid old s stands below_mid ∙ ap (λ (x : SiteFacts). Some x) (fact_apart mid.world s (none_apart (mid.world.nodes s) apart))
 
       changed : Changed old new s before after
       changed = record { there = there; later = later; disk_sets = ap (λ es. es.items) rises.disk_sets ∙ replaced.disk_sets; racks = rises.racks ∙ replaced.racks }
@@ -119,7 +119,7 @@ module _ {R : Type 0} {g : Ghosts R} where
       last_is = rises.last_is.each (beside_of mid s) came.node after here came.stands came.same.up came.same.running
 
       session_is : rises.session ≡ came.node.session
-      session_is = rises.session_is.each (beside_of mid s) came.node after here came.stands came.same.up (over_as m came.node came.same.group came.same.volumes apart)
+      session_is = rises.session_is.each (beside_of mid s) came.node after here came.stands came.same.up (none_apart came.node (came.same.group ∙ apart))
 
       facts_are : new.facts.items ≡ slice_set old.facts.items s (risen_facts state came.node.safe ring used f)
       facts_are =
@@ -354,7 +354,7 @@ module _ {R : Type 0} {g : Ghosts R} where
           next = begun_next;
           fails = (s, disk) ∷ [];
           done = recover_done (IsTold new) d begun_next s name ((s, disk) ∷ []) (Refused (Device disk)) number (begun_ends (IsTold new) d h s c taken name number from disk);
-          stands = stands_still mid begun_next old new s before after stands below_mid changed_down begun_comes (fact_stays mid.world begun_next.world s apart (over_is begun (begun_next.world.nodes s) eff.is.node apart) begun_fact) facts_still;
+          stands = stands_still mid begun_next old new s before after stands below_mid changed_down begun_comes (fact_stays mid.world begun_next.world s (none_apart (mid.world.nodes s) apart) (over_is begun (begun_next.world.nodes s) eff.is.node (none_apart begun apart)) begun_fact) facts_still;
           carries = carries_node s mid begun_next begun old new load eff.site eff.sent eff.gathering eff.is.node refl refl refl told_was;
           rose = rose_at old new s disk before after changed_down rose;
         }
@@ -387,8 +387,8 @@ module _ {R : Type 0} {g : Ghosts R} where
           down_leads [] (Refused NoConfig) (refused_ends (IsTold new) d h s c taken name number from (never_told old.disk_sets.items new.disk_sets.items s before after there replaced.disk_sets untold) NoConfig tt)
           (⊎_elim
           (λ (own : fell.kept ≡ itself b k).
-          any_down (sure_of fell.kept) (beside_of mid s) m (crashed fell.kept.node fell.count) before after untold down refl
+          any_down (sure_of fell.kept) (beside_of mid s) m (fell_to k fell.kept.node fell.count) before after untold down refl
           (ap (λ (x : KeptSite). x.node.disks) own ∙ disks.disks) (ap (λ (x : KeptSite). x.node.blocks) own ∙ disks.blocks) apart
-          (over_as k fell.kept.node (ap (λ (x : KeptSite). x.node.group) own) (ap (λ (x : KeptSite). x.node.volumes) own) (over_as m k disks.group disks.volumes apart)) stood_down fell.stands)
+          (disks.group ∙ apart) stood_down fell.stands)
           (λ other. absurd (never_some (sym sure ∙ other))) fell.is)
           rose_none_here

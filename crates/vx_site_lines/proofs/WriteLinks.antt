@@ -29,7 +29,7 @@ use Rattle.vx_events.specs.Fails.{IsSiteDisk, Fails}
 use Rattle.vx_diskset.specs.Blames.{BlamesSite}
 use Rattle.vx_diskset.specs.Asked.{FailsAs, FusedAs, LeavesFuse, WritesUnder, disks_told, size_in}
 use Rattle.vx_diskset.specs.Burning.{Burnt, IsLogged}
-use Rattle.vx_diskset.specs.DiskSets.{WroteAt, halted_with, worked}
+use Rattle.vx_diskset.specs.DiskSets.{WroteAt, halted_with, worked, fell_to}
 use Rattle.vx_diskset.specs.Holds.{KeptSite, beside_of, itself, sure_of}
 use Rattle.vx_diskset.specs.Needs.{HasRoom}
 use Rattle.vx_diskset.specs.Stands.{IsToldAt, KeepsRole, RoleIs, SiteStands}
@@ -324,9 +324,9 @@ module _ {R : Type 0} {g : Ghosts R} where
         sure : (beside_of d s).doubt ≡ None
         sure = sure_at (beside_of d s) n before stood to.can.up to.can.running
 
-        by_own : (k : KeptSite) → k ≡ itself (beside_of d s) (half_begun n x) → (count : ℕ) → k.node.safe ≤ count → count ≤ length k.node.log → SiteStands (sure_of k) (crashed k.node count) after → Leads d line (Refused Off) old new
+        by_own : (k : KeptSite) → k ≡ itself (beside_of d s) (half_begun n x) → (count : ℕ) → k.node.safe ≤ count → count ≤ length k.node.log → SiteStands (sure_of k) (fell_to (half_begun n x) k.node count) after → Leads d line (Refused Off) old new
         by_own k own =
-            subst (λ (q : KeptSite). (count : ℕ) → q.node.safe ≤ count → count ≤ length q.node.log → SiteStands (sure_of q) (crashed q.node count) after → Leads d line (Refused Off) old new) (sym own)
+            subst (λ (q : KeptSite). (count : ℕ) → q.node.safe ≤ count → count ≤ length q.node.log → SiteStands (sure_of q) (fell_to (half_begun n x) q.node count) after → Leads d line (Refused Off) old new) (sym own)
             (λ count least most stays.
             let e : Doubted = cut_for d s x count in
             let eff = worked_effect s d (cut_events d s x count) (crashed (half_begun n x) count) (line_cut d s x (stands.links.rows s) can count least most) in
