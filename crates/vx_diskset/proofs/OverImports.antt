@@ -18,6 +18,7 @@ use Rattle.vx_watched.specs.Since.{CalledSince, is_rack}
 use Rattle.vx_watched.specs.Traces.{TellsLess}
 use Rattle.vx_grouped.specs.Brings.{AnswersUp, BringsAtSite, ComesUp}
 use Rattle.vx_grouped.specs.GroupSites.{AwayNoted, DownNoted, idle_disks, laid_below, laid_disks, site_below, site_disks}
+use Rattle.vx_grouped.specs.SiteMaps.{CameMapped}
 use Rattle.vx_grouped.specs.SiteReturns.{ReturnSince, SiteImports, SiteRecovers, as_imported}
 use Rattle.vx_grouped.specs.declared.group_site.GroupSite.{GroupSite}
 use Rattle.vx_grouped.specs.declared.group_site.GroupSite.TheVariants.{Up, Deported, Down, Marked, Gone}
@@ -26,7 +27,7 @@ use Rattle.vx_diskset.specs.Aboves.{AboveStays, site_in}
 use Rattle.vx_diskset.specs.GroupCalls.{AtFound, AtSite, cut_in}
 use Rattle.vx_diskset.specs.GroupSets.{cut_value}
 use Rattle.vx_diskset.specs.OverStarts.{BehindImport, FellBack, HandsOut, ImportsBy, RaisesBy, StartFails, Started, StartsOver, TriedOn, WithRvg, WithUnits}
-use Rattle.vx_diskset.specs.Recovers.{RaisesAt, RisesSince, cut_past}
+use Rattle.vx_diskset.specs.Recovers.{RaisesAt, RaisesMapsAt, RisesSince, cut_past}
 use Rattle.vx_diskset.specs.declared.above.Above.{Above}
 use Rattle.vx_diskset.specs.declared.disk_set.DiskSet.{DiskSet}
 use Rattle.vx_diskset.specs.declared.disk_set.DiskSet.TheVariants.{Bare, Spoiled, Up as UpSet, Receives, Down as DownSet, OfGroup, Over, Gone as GoneSet}
@@ -90,7 +91,7 @@ module _ {R : Type 0} {g : Ghosts R} where
   -- ---- the import, and what is behind it
 
   module _ (old mid : GroupSite R g) (cut : Option CutWrite) (new : DiskSet R g) (answer r : Result (Unit {0}) Stop) (imported : (n : Node) (note : GroupNode) → AwayNoted n note old → SiteImports n note old mid answer)
-      (recovered : (n : Node) (note : GroupNode) → DownNoted n note old → SiteRecovers n note old mid answer) (brings : BringsAtSite (as_imported old) mid answer) (since : ReturnSince (site_disks old) (site_disks mid)) (told : TellsLess (site_below old) (site_below mid)) where
+      (recovered : (n : Node) (note : GroupNode) → DownNoted n note old → SiteRecovers n note old mid answer) (brings : BringsAtSite (as_imported old) mid answer) (since : ReturnSince (site_disks old) (site_disks mid)) (told : TellsLess (site_below old) (site_below mid)) (maps : CameMapped old mid answer) where
     pub imports_ok : answer ≡ Ok tt → WithRvg mid cut new r → ImportsBy old cut new r
     imports_ok is over = record {
       mid = mid;
@@ -100,6 +101,7 @@ module _ {R : Type 0} {g : Ghosts R} where
       brings = brings;
       since = since;
       told = told;
+      maps = maps;
       behind = subst (λ (a : Result (Unit {0}) Stop). BehindImport mid cut new a r) (sym is) over;
     }
 
@@ -112,6 +114,7 @@ module _ {R : Type 0} {g : Ghosts R} where
       brings = brings;
       since = since;
       told = told;
+      maps = maps;
       behind = subst (λ (a : Result (Unit {0}) Stop). BehindImport mid cut new a r) (sym is) (at, cut_is, answers);
     }
 
@@ -165,6 +168,36 @@ module _ {R : Type 0} {g : Ghosts R} where
 
     pub recover_found : (cut : Option CutWrite) (new : DiskSet R g) (r : Result (Unit {0}) Stop) → ImportsBy old cut new r → DownNoted n note old → AtFound (λ e. SiteRecovers n note old e r) new
     recover_found cut new r it down = risen_by it.mid cut new it.answer r it.behind (it.recovered n note down)
+
+    -- so far what is noted of the maps goes on
+    mapped_by : (mid : GroupSite R g) (cut : Option CutWrite) (new : DiskSet R g) (answer r : Result (Unit {0}) Stop) → BehindImport mid cut new answer r → SiteImports n note old mid answer → CameMapped old mid answer → AtFound (λ e. CameMapped old e r) new
+    mapped_by (Up laid) cut new (Ok done) r behind it maps = at_units (λ e a. CameMapped old e a) laid laid.core.inner.config.rvg cut new r behind maps
+    mapped_by (Deported idle) cut new (Ok done) r behind it maps = absurd it.0.2
+    mapped_by (Down idle) cut new (Ok done) r behind it maps = absurd it.0.2
+    mapped_by (Marked rack) cut new (Ok done) r behind it maps = absurd it.0.2
+    mapped_by Gone cut new (Ok done) r behind it maps = absurd it.0.2
+    mapped_by mid cut new (Err stop) r behind it maps =
+        subst (λ (x : Result (Unit {0}) Stop). AtFound (λ e. CameMapped old e x) new) (sym behind.2) (at_refused (λ e. CameMapped old e (Err stop)) mid new behind.0 maps)
+
+    lifted_by : (mid : GroupSite R g) (cut : Option CutWrite) (new : DiskSet R g) (answer r : Result (Unit {0}) Stop) → BehindImport mid cut new answer r → SiteRecovers n note old mid answer → CameMapped old mid answer → AtFound (λ e. CameMapped old e r) new
+    lifted_by (Up laid) cut new (Ok done) r behind it maps = at_units (λ e a. CameMapped old e a) laid laid.core.inner.config.rvg cut new r behind maps
+    lifted_by (Deported idle) cut new (Ok done) r behind it maps = absurd it.2
+    lifted_by (Down idle) cut new (Ok done) r behind it maps = absurd it.2
+    lifted_by (Marked rack) cut new (Ok done) r behind it maps = absurd it.2
+    lifted_by Gone cut new (Ok done) r behind it maps = absurd it.2
+    lifted_by mid cut new (Err stop) r behind it maps =
+        subst (λ (x : Result (Unit {0}) Stop). AtFound (λ e. CameMapped old e x) new) (sym behind.2) (at_refused (λ e. CameMapped old e (Err stop)) mid new behind.0 maps)
+
+    pub import_mapped : (cut : Option CutWrite) (new : DiskSet R g) (r : Result (Unit {0}) Stop) → ImportsBy old cut new r → AwayNoted n note old → AtFound (λ e. CameMapped old e r) new
+    import_mapped cut new r it away = mapped_by it.mid cut new it.answer r it.behind (it.imported n note away) it.maps
+
+    recover_mapped : (cut : Option CutWrite) (new : DiskSet R g) (answer : Result (Unit {0}) Stop) → ImportsBy old cut new answer → DownNoted n note old → AtFound (λ e. CameMapped old e answer) new
+    recover_mapped cut new answer it down = lifted_by it.mid cut new it.answer answer it.behind (it.recovered n note down) it.maps
+
+    -- the same where the write that was cut is handed out
+    pub raise_mapped : (cut : Option CutWrite) (new : DiskSet R g) (answer : Result (Unit {0}) Stop) (r : Result (Option CutWrite) Stop) → ImportsBy old cut new answer → HandsOut cut answer r → DownNoted n note old → RaisesMapsAt old new r
+    raise_mapped cut new (Ok done) r by hands down = subst (λ (x : Result (Option CutWrite) Stop). RaisesMapsAt old new x) (sym hands) (recover_mapped cut new (Ok done) by down)
+    raise_mapped cut new (Err stop) r by hands down = subst (λ (x : Result (Option CutWrite) Stop). RaisesMapsAt old new x) (sym hands) (recover_mapped cut new (Err stop) by down)
 
   -- ---- what holds of the group behind the import, and stays so in a start, holds behind both
 

@@ -83,9 +83,13 @@ module _ {R : Type 0} {g : Ghosts R} where
   RaisesGroup n note old new r = ⊥
 
   -- so far what is noted of the maps goes on
+  abbrev pub RaisesMapsAt : GroupSite R g → DiskSet R g → Result (Option CutWrite) Stop → Type 0
+  RaisesMapsAt old new (Ok cut) = AtFound (λ e. CameMapped old e (Ok tt)) new
+  RaisesMapsAt old new (Err stop) = AtFound (λ e. CameMapped old e (Err stop)) new
+
   abbrev pub RaisesMaps : DiskSet R g → DiskSet R g → Result (Option CutWrite) Stop → Type 0
-  RaisesMaps (OfGroup s) new (Ok cut) = AtSite (λ e. CameMapped s.site e (Ok tt)) new
-  RaisesMaps (OfGroup s) new (Err stop) = AtSite (λ e. CameMapped s.site e (Err stop)) new
+  RaisesMaps (OfGroup s) new r = RaisesMapsAt s.site new r
+  RaisesMaps (Over s) new r = RaisesMapsAt (site_in s) new r
   RaisesMaps old new r = ⊥
 
   -- the same where a group came up with its replicated volume group

@@ -15,7 +15,7 @@ ghost use Rattle.vx_diskset.specs.Asked.{FuseGoesOn, SameFailing};
 ghost use Rattle.vx_diskset.specs.DiskSets.{Later};
 ghost use Rattle.vx_diskset.specs.Aboves.{site_in};
 ghost use Rattle.vx_diskset.specs.OverStarts.{HandsOut, ImportsBy, RaisesBy};
-ghost use Rattle.vx_diskset.specs.GroupCalls.{AtFound, AtPlain, AtSite, ImportsOn, InitIs, cut_in};
+ghost use Rattle.vx_diskset.specs.GroupCalls.{AtFound, AtOver, AtPlain, AtSite, ImportsOn, InitIs, cut_in};
 ghost use Rattle.vx_diskset.specs.Holds.{KeptBeside};
 ghost use Rattle.vx_diskset.specs.Recovers.{LooksAt, LooksKept, RaisesGroup, RisesOver, RisesSince, RisesWith, cut_past, RaisesMaps};
 ghost use Rattle.vx_diskset.specs.Stands.{SiteStands};
@@ -131,7 +131,7 @@ fn stand_up<R: Rack>(
 // Imports the group of a site that crashed or was deported.
 fn import_in<R: Rack>(group: GroupSet<R>, alloc: Global) -> (DiskSet<R>, Result<(), Stop>)
     ensures imported { (n : Node) (note : GroupNode) → AwayNoted n note group.site → AtFound (λ e. SiteImports n note group.site e result.1) result.0 }
-    ensures maps { AtSite (λ e. CameMapped group.site e result.1) result.0 }
+    ensures maps { (n : Node) (note : GroupNode) → AwayNoted n note group.site → AtFound (λ e. CameMapped group.site e result.1) result.0 }
     ensures brought { ImportsBy group.site group.cut result.0 result.1 }
     ensures cut { cut_in result.0 ≡ cut_past result.1 (DiskSet.OfGroup group) }
     ensures since { AtSite (λ e. RisesSince (site_disks group.site) (site_disks e)) result.0 }
@@ -161,7 +161,7 @@ fn raise_in<R: Rack>(
     alloc: Global,
 ) -> (DiskSet<R>, Result<Option<CutWrite>, Stop>)
     ensures raised { (n : Node) (note : GroupNode) → DownNoted n note group.site → RaisesGroup n note (DiskSet.OfGroup group) result.0 result.1 }
-    ensures maps { RaisesMaps (DiskSet.OfGroup group) result.0 result.1 }
+    ensures maps { (n : Node) (note : GroupNode) → DownNoted n note group.site → RaisesMaps (DiskSet.OfGroup group) result.0 result.1 }
     ensures brought { RaisesBy group.site group.cut result.0 result.1 }
     ensures since { AtSite (λ e. RisesSince (site_disks group.site) (site_disks e)) result.0 }
     ensures told { AtSite (λ e. TellsLess (site_below group.site) (site_below e)) result.0 }
@@ -211,6 +211,7 @@ fn stand_over<R: Rack>(
     cut: Option<CutWrite>,
 ) -> (DiskSet<R>, Result<Option<KeptWrite>, Stop>)
     ensures rises { (n : Node) (note : GroupNode) → UpNoted n note (site_in over) → RisesOver n note cut (site_in over) result.0 result.1 }
+    ensures maps { (n : Node) (note : GroupNode) → UpNoted n note (site_in over) → AtOver (StaysMapped (site_in over)) result.0 }
     ensures since { AtSite (λ e. RisesSince (site_disks (site_in over)) (site_disks e)) result.0 }
     ensures told { AtSite (λ e. TellsLess (site_below (site_in over)) (site_below e)) result.0 }
 {
@@ -245,7 +246,7 @@ impl<R: Rack> DiskSet<R> {
     /// Imports the group of a site that was deported. Where it is refused, the site stays as it was, or is down where its fuse ran out.
     pub fn import_group(self, alloc: Global) -> (DiskSet<R>, Result<(), Stop>)
         ensures imported { (n : Node) (note : GroupNode) → AtSite (AwayNoted n note) self → ImportsOn (λ o e. SiteImports n note o e result.1) self result.0 }
-        ensures maps { (n : Node) (note : GroupNode) → AtSite (AwayNoted n note) self → OnSites (λ o e. CameMapped o e result.1) self result.0 }
+        ensures maps { (n : Node) (note : GroupNode) → AtSite (AwayNoted n note) self → ImportsOn (λ o e. CameMapped o e result.1) self result.0 }
         ensures cut { cut_in result.0 ≡ cut_past result.1 self }
         ensures fuse { (n : Node) (note : GroupNode) → AtSite (AwayNoted n note) self → FuseGoesOn self result.0 }
         ensures failing { SameFailing self result.0 }

@@ -13,6 +13,7 @@ ghost use Rattle.vx_diskset.specs.Stands.{CutAt, RoleBy, SiteStands};
 ghost use Rattle.vx_diskset.specs.declared.disk_set.DiskSet.TheVariants.{Over as OverSites};
 ghost use Rattle.vx_grouped.specs.GroupSites.{CutNoted, DownNoted, UpNoted, site_below, site_disks};
 ghost use Rattle.vx_grouped.specs.SiteEnds.{MayCrashSite, SiteDeported};
+ghost use Rattle.vx_grouped.specs.SiteMaps.{DeportMapped};
 ghost use Rattle.vx_history.specs.Steps.{crashed};
 ghost use Rattle.vx_watched.specs.Since.{CalledSince};
 ghost use Rattle.vx_watched.specs.Traces.{TellsLess};
@@ -147,6 +148,7 @@ impl<R: Rack> OverSet<R> {
     /// Deports the group below. What stood over it is gone then; a refusal leaves it, and a site whose fuse runs out crashes.
     pub(crate) fn deport(&mut self) -> Result<(), Stop>
         ensures deported { (n : Node) (note : GroupNode) → UpNoted n note (site_in self.old) → SiteDeported n note (site_in self.old) (site_in self.new) result }
+        ensures maps { (n : Node) (note : GroupNode) → UpNoted n note (site_in self.old) → DeportMapped (site_in self.old) (site_in self.new) result }
         ensures cut { self.new.cut ≡ self.old.cut }
         ensures kept { KeepsOver self.old self.new }
         ensures away { DeportsOver self.old self.new }

@@ -8,6 +8,7 @@ ghost use Rattle.vx_grouped.specs.Ends.{plain_write};
 ghost use Rattle.vx_grouped.specs.GroupSites.{FitsPlain, UpNoted, site_below, site_disks};
 ghost use Rattle.vx_grouped.specs.SiteAdds.{SiteAdded, VolumeIn, refuses_volume};
 ghost use Rattle.vx_grouped.specs.SiteEnds.{AttCalled, DetCalled, PlainRead, PlainWrote, RegionsOf, is_plex_on, refuses_att, refuses_det};
+ghost use Rattle.vx_grouped.specs.SiteMaps.{AddedMapped, AttMapped, DetMapped, StaysMapped, WroteMapped};
 ghost use Rattle.vx_history.specs.Groups.{GroupNode};
 ghost use Rattle.vx_history.specs.World.{Node};
 ghost use Rattle.vx_model.specs.declared.errors.Stop.TheVariants.{No as Refused};
@@ -35,6 +36,7 @@ impl<R: Rack> OverSet<R> {
     ) -> Result<u32, Stop>
         requires prefer { IfSome want.now.prefer (λ p. p < want.now.mirrors) }
         ensures made { (n : Node) (note : GroupNode) → UpNoted n note (site_in self.old) → SiteAdded n note name.now want.now (site_in self.old) (site_in self.new) result }
+        ensures maps { (n : Node) (note : GroupNode) → UpNoted n note (site_in self.old) → AddedMapped (site_in self.old) (site_in self.new) result }
         ensures refused { (n : Node) (note : GroupNode) (no : NoValue) → UpNoted n note (site_in self.old) → refuses_volume (site_in self.old) name.now want.now ≡ Some no → result ≡ Err (Refused no) }
         ensures volume { (n : Node) (note : GroupNode) → UpNoted n note (site_in self.old) → IfOk result (λ vol. VolumeIn name.now want.now vol (site_in self.old) (site_in self.new)) }
         ensures cut { self.new.cut ≡ self.old.cut }
@@ -52,6 +54,7 @@ impl<R: Rack> OverSet<R> {
     /// Detaches a plex of a volume of the group below. A site whose fuse runs out crashes.
     pub(crate) fn det(&mut self, volume: u32, plex: u32) -> Result<(), Stop>
         ensures called { (n : Node) (note : GroupNode) → UpNoted n note (site_in self.old) → DetCalled n note volume plex (site_in self.old) (site_in self.new) result }
+        ensures maps { (n : Node) (note : GroupNode) → UpNoted n note (site_in self.old) → DetMapped volume plex (site_in self.old) (site_in self.new) result }
         ensures refused { (n : Node) (note : GroupNode) (no : NoValue) → UpNoted n note (site_in self.old) → refuses_det (site_in self.old) volume plex ≡ Some no → result ≡ Err (Refused no) }
         ensures off { OnOk result (is_plex_on (site_in self.new) volume plex ≡ false) }
         ensures others { OnOk result ((w p : ℕ) → (w ≡ volume → p ≡ plex → ⊥) → is_plex_on (site_in self.new) w p ≡ is_plex_on (site_in self.old) w p) }
@@ -70,6 +73,7 @@ impl<R: Rack> OverSet<R> {
     /// Attaches a plex of a volume of the group below. A site whose fuse runs out crashes.
     pub(crate) fn att(&mut self, volume: u32, plex: u32) -> Result<u64, Stop>
         ensures called { (n : Node) (note : GroupNode) → UpNoted n note (site_in self.old) → AttCalled n note volume plex (site_in self.old) (site_in self.new) result }
+        ensures maps { (n : Node) (note : GroupNode) → UpNoted n note (site_in self.old) → AttMapped volume plex (site_in self.old) (site_in self.new) result }
         ensures refused { (n : Node) (note : GroupNode) (no : NoValue) → UpNoted n note (site_in self.old) → refuses_att (site_in self.old) volume plex ≡ Some no → result ≡ Err (Refused no) }
         ensures already { (n : Node) (note : GroupNode) → UpNoted n note (site_in self.old) → refuses_att (site_in self.old) volume plex ≡ None → IsTrue (is_plex_on (site_in self.old) volume plex) → result ≡ Ok 0 }
         ensures count { is_plex_on (site_in self.old) volume plex ≡ false → IfOk result (λ k. RegionsOf (site_in self.old) volume k) }
@@ -93,6 +97,7 @@ impl<R: Rack> OverSet<R> {
         requires few { length bytes.now ≤ MOST_CALL_BYTES }
         requires whole { length bytes.now % 512 ≡ 0 }
         ensures wrote { (n : Node) (note : GroupNode) → UpNoted n note (site_in self.old) → FitsPlain note volume block (length bytes.now) → PlainWrote n note (plain_write volume block bytes.now) (site_in self.old) (site_in self.new) result }
+        ensures maps { (n : Node) (note : GroupNode) → UpNoted n note (site_in self.old) → FitsPlain note volume block (length bytes.now) → WroteMapped (plain_write volume block bytes.now) (site_in self.old) (site_in self.new) result }
         ensures cut { cut_value self.new.cut ≡ cut_behind result (plain_write volume block bytes.now) (cut_value self.old.cut) }
         ensures kept { IsOutside volume (above_in self.old) → KeepsOver self.old self.new }
         ensures above { (n : Node) → RoleBy n (above_in self.old) → RoleBy n (above_in self.new) }
@@ -110,6 +115,7 @@ impl<R: Rack> OverSet<R> {
     /// Reads a volume outside the replicated volume group.
     pub(crate) fn read_plain(&mut self, volume: u32, block: u64, into: &mut [u8]) -> Result<(), No>
         ensures read { (n : Node) (note : GroupNode) → UpNoted n note (site_in self.old) → FitsPlain note volume block (length into.old) → PlainRead n note volume block into.new (site_in self.old) (site_in self.new) result }
+        ensures maps { (n : Node) (note : GroupNode) → UpNoted n note (site_in self.old) → FitsPlain note volume block (length into.old) → StaysMapped (site_in self.old) (site_in self.new) }
         ensures cut { self.new.cut ≡ self.old.cut }
         ensures kept { KeepsOver self.old self.new }
         ensures since { CalledSince (site_disks (site_in self.old)) (site_disks (site_in self.new)) }

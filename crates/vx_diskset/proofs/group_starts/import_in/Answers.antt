@@ -4,14 +4,14 @@ use Rattle.vx_untold.specs.Shades.{shade_rack}
 use Rattle.vx_grouped.specs.GroupSites.{site_disks}
 use Rattle.vx_grouped.specs.SiteReturns.{SiteImports}
 use Rattle.vx_diskset.proofs.GroupCalling.{rises_returned}
-use Rattle.vx_diskset.proofs.OverImports.{import_found, import_rises, import_tells, imports_err, imports_ok, past_group}
+use Rattle.vx_diskset.proofs.OverImports.{import_found, import_mapped, import_rises, import_tells, imports_err, imports_ok, past_group}
 use Rattle.vx_grouped.specs.SiteMaps.{CameMapped}
 use Rattle.vx_diskset.proofs.group_starts.import_in.Goals as goal
 
 pub returns-in-Ok-clause-brought : goal.returns-in-Ok-clause-brought
 returns-in-Ok-clause-brought g c =
     imports_ok c.args.group.site c.import-site.result.0 c.args.group.cut c.with_rvg.result.0 c.import-site.result.1 c.with_rvg.result.1
-    c.import-site.ensures.imported c.import-site.ensures.recovered c.import-site.ensures.brings c.import-site.ensures.since c.import-site.ensures.told c.in-Ok.is c.with_rvg.ensures.over
+    c.import-site.ensures.imported c.import-site.ensures.recovered c.import-site.ensures.brings c.import-site.ensures.since c.import-site.ensures.told c.import-site.ensures.maps c.in-Ok.is c.with_rvg.ensures.over
 
 pub returns-in-Ok-clause-imported : goal.returns-in-Ok-clause-imported
 returns-in-Ok-clause-imported g c = λ n note away.
@@ -31,7 +31,7 @@ returns-in-Ok-clause-told g c = import_tells c.args.group.site c.args.group.cut 
 pub returns-in-Err-clause-brought : goal.returns-in-Err-clause-brought
 returns-in-Err-clause-brought g c =
     imports_err c.args.group.site c.import-site.result.0 c.args.group.cut _ c.import-site.result.1 _
-    c.import-site.ensures.imported c.import-site.ensures.recovered c.import-site.ensures.brings c.import-site.ensures.since c.import-site.ensures.told c.in-Err.stop c.in-Err.is refl refl refl
+    c.import-site.ensures.imported c.import-site.ensures.recovered c.import-site.ensures.brings c.import-site.ensures.since c.import-site.ensures.told c.import-site.ensures.maps c.in-Err.stop c.in-Err.is refl refl refl
 
 pub returns-in-Err-clause-imported : goal.returns-in-Err-clause-imported
 returns-in-Err-clause-imported g c = λ n note away.
@@ -47,7 +47,7 @@ pub returns-in-Err-clause-told : goal.returns-in-Err-clause-told
 returns-in-Err-clause-told g c = c.import-site.ensures.told
 
 pub returns-in-Ok-clause-maps : goal.returns-in-Ok-clause-maps
-returns-in-Ok-clause-maps g c = subst (λ r. CameMapped c.args.group.site c.import-site.result.0 r) c.in-Ok.is c.import-site.ensures.maps
+returns-in-Ok-clause-maps g c = λ n note away. import_mapped c.args.group.site n note c.args.group.cut c.with_rvg.result.0 c.with_rvg.result.1 (returns-in-Ok-clause-brought g c) away
 
 pub returns-in-Err-clause-maps : goal.returns-in-Err-clause-maps
-returns-in-Err-clause-maps g c = subst (λ r. CameMapped c.args.group.site c.import-site.result.0 r) c.in-Err.is c.import-site.ensures.maps
+returns-in-Err-clause-maps g c = λ n note away. subst (λ r. CameMapped c.args.group.site c.import-site.result.0 r) c.in-Err.is c.import-site.ensures.maps

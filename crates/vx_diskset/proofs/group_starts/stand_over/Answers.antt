@@ -5,6 +5,7 @@ use Rattle.vx_model.specs.declared.errors.Stop.TheVariants.{No as Refused}
 use Rattle.vx_disk.specs.Moves.{Nowhere}
 use Rattle.vx_watched.specs.Traces.{TellsLess}
 use Rattle.vx_grouped.specs.GroupSites.{UpNoted, site_below, site_disks}
+use Rattle.vx_grouped.specs.SiteMaps.{StaysMapped}
 use Rattle.vx_diskset.specs.Aboves.{site_in}
 use Rattle.vx_diskset.specs.Recovers.{LooksKept, RisesOver, RisesSince}
 use Rattle.vx_diskset.specs.declared.above.Above.TheVariants.{Nothing}
@@ -53,3 +54,13 @@ pub returns-in-Err-clause-told : goal.returns-in-Err-clause-told
 returns-in-Err-clause-told g c =
     carried_site (λ o e. TellsLess (site_below o) (site_below e)) (site_in c.args.over) c.parts-site.result.0 (site_in c.of-in-Err.result) c.crash.result c.parts-site.ensures.site c.of-in-Err.ensures.site
     (λ told. c.look_kept.ensures.told (c.crash.ensures.told told))
+
+pub returns-in-Ok-clause-maps : goal.returns-in-Ok-clause-maps
+returns-in-Ok-clause-maps g c = λ n note up.
+    carried_site (λ o e. StaysMapped o e) (site_in c.args.over) c.parts-site.result.0 (site_in c.of.result) c.look_kept.new.site c.parts-site.ensures.site c.of.ensures.site
+    (c.look_kept.ensures.maps n note (subst (λ s. UpNoted n note s) (sym c.parts-site.ensures.site) up))
+
+pub returns-in-Err-clause-maps : goal.returns-in-Err-clause-maps
+returns-in-Err-clause-maps g c = λ n note up.
+    carried_site (λ o e. StaysMapped o e) (site_in c.args.over) c.parts-site.result.0 (site_in c.of-in-Err.result) c.crash.result c.parts-site.ensures.site c.of-in-Err.ensures.site
+    (λ own it. c.crash.ensures.maps own (c.look_kept.ensures.maps n note (subst (λ s. UpNoted n note s) (sym c.parts-site.ensures.site) up) own it))

@@ -79,6 +79,9 @@ returns-in_default-clause-maps g c = λ n note. at_none (UpNoted n note) _ c.arg
 pub returns-in-Over-clause-called : goal.returns-in-Over-clause-called
 returns-in-Over-clause-called g c = λ n note. on_overs (UpNoted n note) (λ o e. AttCalled n note c.args.volume c.args.plex o e c.att-in-Over.result) c.args.self.now c.in-Over.over c.att-in-Over.new.self c.in-Over.is (c.att-in-Over.ensures.called n note)
 
+pub returns-in-Over-clause-maps : goal.returns-in-Over-clause-maps
+returns-in-Over-clause-maps g c = λ n note. on_overs (UpNoted n note) (λ o e. AttMapped c.args.volume c.args.plex o e c.att-in-Over.result) c.args.self.now c.in-Over.over c.att-in-Over.new.self c.in-Over.is (c.att-in-Over.ensures.maps n note)
+
 pub returns-in-Over-clause-fuse : goal.returns-in-Over-clause-fuse
 returns-in-Over-clause-fuse g c = λ n note.
     let is_rack = (g.met.R.Rack g.world.𝓛 g.world.𝓜 g.world.𝓡 ((λ s x. x), (λ x. x), (λ x. x), λ x. x)).rack in

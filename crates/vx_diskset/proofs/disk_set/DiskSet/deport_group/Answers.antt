@@ -58,6 +58,9 @@ returns-in_default-clause-maps g c = λ n note. at_none (UpNoted n note) _ c.arg
 pub returns-in-Over-clause-deported : goal.returns-in-Over-clause-deported
 returns-in-Over-clause-deported g c = λ n note. on_overs (UpNoted n note) (λ o e. SiteDeported n note o e c.deport-answer.result) c.args.self.now c.in-Over.over c.deport-answer.new.self (sym c.replace.ensures.value ∙ c.in-Over.is) (c.deport-answer.ensures.deported n note)
 
+pub returns-in-Over-clause-maps : goal.returns-in-Over-clause-maps
+returns-in-Over-clause-maps g c = λ n note. on_overs (UpNoted n note) (λ o e. DeportMapped o e c.deport-answer.result) c.args.self.now c.in-Over.over c.deport-answer.new.self (sym c.replace.ensures.value ∙ c.in-Over.is) (c.deport-answer.ensures.maps n note)
+
 pub returns-in-Over-clause-cut : goal.returns-in-Over-clause-cut
 returns-in-Over-clause-cut g c = ap (λ x. cut_value x) c.deport-answer.ensures.cut ∙ sym (ap (λ x. cut_in x) (sym c.replace.ensures.value ∙ c.in-Over.is))
 

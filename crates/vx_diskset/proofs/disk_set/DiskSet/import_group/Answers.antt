@@ -10,7 +10,7 @@ use Rattle.vx_diskset.proofs.GroupCalling.{at_sites}
 use Rattle.vx_diskset.proofs.OverCalling.{at_overs}
 use Rattle.vx_diskset.proofs.OverRisen.{over_failing, over_fuse, over_later}
 use Rattle.vx_diskset.proofs.GroupRising.{imported_settled, rise_failing, rise_fuse, rise_later}
-use Rattle.vx_diskset.proofs.OverImports.{import_found, import_rises, import_settles, import_tells, past_over}
+use Rattle.vx_diskset.proofs.OverImports.{import_found, import_mapped, import_rises, import_settles, import_tells, past_over}
 use Rattle.vx_untold.specs.Shades.{shade_rack}
 use Rattle.vx_grouped.specs.SiteMaps.{CameMapped}
 use Rattle.vx_diskset.proofs.disk_set.DiskSet.import_group.Goals as goal
@@ -40,7 +40,15 @@ pub returns-in-OfGroup-clause-later : goal.returns-in-OfGroup-clause-later
 returns-in-OfGroup-clause-later g c = rise_later c.args.self c.import_in.result.0 c.in-OfGroup.group c.in-OfGroup.is c.import_in.ensures.since c.import_in.ensures.told
 
 pub returns-in-OfGroup-clause-maps : goal.returns-in-OfGroup-clause-maps
-returns-in-OfGroup-clause-maps g c = λ n note away. subst (λ x. OnSites (λ o e. CameMapped o e c.import_in.result.1) x c.import_in.result.0) (sym c.in-OfGroup.is) c.import_in.ensures.maps
+returns-in-OfGroup-clause-maps g c = λ n note away.
+    subst (λ x. ImportsOn (λ o e. CameMapped o e c.import_in.result.1) x c.import_in.result.0) (sym c.in-OfGroup.is)
+    (c.import_in.ensures.maps n note (at_sites (AwayNoted n note) (AwayNoted n note c.in-OfGroup.group.site) c.args.self c.in-OfGroup.group c.in-OfGroup.is (λ it. it) away))
+
+pub returns-in-Over-clause-maps : goal.returns-in-Over-clause-maps
+returns-in-Over-clause-maps g c = λ n note away.
+    subst (λ x. ImportsOn (λ o e. CameMapped o e c.import_over.result.1) x c.import_over.result.0) (sym c.in-Over.is)
+    (import_mapped (site_in c.in-Over.over) n note c.in-Over.over.cut c.import_over.result.0 c.import_over.result.1 c.import_over.ensures.brought
+    (at_overs (AwayNoted n note) (AwayNoted n note (site_in c.in-Over.over)) c.args.self c.in-Over.over c.in-Over.is (λ it. it) away))
 
 pub returns-in-Over-clause-imported : goal.returns-in-Over-clause-imported
 returns-in-Over-clause-imported g c = λ n note away.

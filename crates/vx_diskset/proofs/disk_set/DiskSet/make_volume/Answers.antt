@@ -65,6 +65,9 @@ returns-in_default-clause-maps g c = λ n note. at_none (UpNoted n note) _ c.arg
 pub returns-in-Over-clause-made : goal.returns-in-Over-clause-made
 returns-in-Over-clause-made g c = λ n note. on_overs (UpNoted n note) (λ o e. SiteAdded n note c.args.name.now c.args.want.now o e c.make_volume-in-Over.result) c.args.self.now c.in-Over.over c.make_volume-in-Over.new.self c.in-Over.is (c.make_volume-in-Over.ensures.made n note)
 
+pub returns-in-Over-clause-maps : goal.returns-in-Over-clause-maps
+returns-in-Over-clause-maps g c = λ n note. on_overs (UpNoted n note) (λ o e. AddedMapped o e c.make_volume-in-Over.result) c.args.self.now c.in-Over.over c.make_volume-in-Over.new.self c.in-Over.is (c.make_volume-in-Over.ensures.maps n note)
+
 pub returns-in-Over-clause-fuse : goal.returns-in-Over-clause-fuse
 returns-in-Over-clause-fuse g c = λ n note.
     let is_rack = (g.met.R.Rack g.world.𝓛 g.world.𝓜 g.world.𝓡 ((λ s x. x), (λ x. x), (λ x. x), λ x. x)).rack in

@@ -5,7 +5,7 @@ use Rattle.vx_diskset.specs.Recovers.{RaisesGroup, RaisesMaps}
 use Rattle.vx_diskset.specs.Aboves.{site_in}
 use Rattle.vx_diskset.proofs.GroupCalling.{at_sites}
 use Rattle.vx_diskset.proofs.OverCalling.{at_overs}
-use Rattle.vx_diskset.proofs.OverImports.{import_raises, import_rises, import_tells}
+use Rattle.vx_diskset.proofs.OverImports.{import_raises, import_rises, import_tells, raise_mapped}
 use Rattle.vx_diskset.proofs.OverRisen.{over_failing, over_later}
 use Rattle.vx_untold.specs.Shades.{shade_rack}
 use Rattle.vx_diskset.proofs.GroupRising.{rise_failing, rise_later}
@@ -23,7 +23,16 @@ pub returns-in-OfGroup-clause-later : goal.returns-in-OfGroup-clause-later
 returns-in-OfGroup-clause-later g c = rise_later c.args.self c.raise_in.result.0 c.in-OfGroup.group c.in-OfGroup.is c.raise_in.ensures.since c.raise_in.ensures.told
 
 pub returns-in-OfGroup-clause-maps : goal.returns-in-OfGroup-clause-maps
-returns-in-OfGroup-clause-maps g c = λ n note down. subst (λ x. RaisesMaps x c.raise_in.result.0 c.raise_in.result.1) (sym c.in-OfGroup.is) c.raise_in.ensures.maps
+returns-in-OfGroup-clause-maps g c = λ n note down.
+    subst (λ x. RaisesMaps x c.raise_in.result.0 c.raise_in.result.1) (sym c.in-OfGroup.is)
+    (c.raise_in.ensures.maps n note (at_sites (DownNoted n note) (DownNoted n note c.in-OfGroup.group.site) c.args.self c.in-OfGroup.group c.in-OfGroup.is (λ it. it) down))
+
+pub returns-in-Over-clause-maps : goal.returns-in-Over-clause-maps
+returns-in-Over-clause-maps g c = λ n note down.
+    let by = c.raise_over.ensures.brought in
+    subst (λ x. RaisesMaps x c.raise_over.result.0 c.raise_over.result.1) (sym c.in-Over.is)
+    (raise_mapped (site_in c.in-Over.over) n note c.in-Over.over.cut c.raise_over.result.0 by.answer c.raise_over.result.1 by.by by.is
+    (at_overs (DownNoted n note) (DownNoted n note (site_in c.in-Over.over)) c.args.self c.in-Over.over c.in-Over.is (λ it. it) down))
 
 pub returns-in-Over-clause-raised : goal.returns-in-Over-clause-raised
 returns-in-Over-clause-raised g c = λ n note down.

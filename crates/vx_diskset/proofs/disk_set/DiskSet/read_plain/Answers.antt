@@ -53,6 +53,10 @@ pub returns-in-Over-clause-read : goal.returns-in-Over-clause-read
 returns-in-Over-clause-read g c = λ n note up fits.
     on_overs (UpNoted n note) (λ o e. PlainRead n note c.args.volume c.args.start c.read_plain.new.into o e c.read_plain.result) c.args.self.now c.in-Over.over c.read_plain.new.self c.in-Over.is (λ it. c.read_plain.ensures.read n note it fits) up
 
+pub returns-in-Over-clause-maps : goal.returns-in-Over-clause-maps
+returns-in-Over-clause-maps g c = λ n note up fits.
+    on_overs (UpNoted n note) (λ o e. StaysMapped o e) c.args.self.now c.in-Over.over c.read_plain.new.self c.in-Over.is (λ it. c.read_plain.ensures.maps n note it fits) up
+
 pub returns-in-Over-clause-fuse : goal.returns-in-Over-clause-fuse
 returns-in-Over-clause-fuse g c = λ n note up fits.
     let is_rack = (g.met.R.Rack g.world.𝓛 g.world.𝓜 g.world.𝓡 ((λ s x. x), (λ x. x), (λ x. x), λ x. x)).rack in

@@ -55,6 +55,10 @@ pub returns-in-Over-clause-wrote : goal.returns-in-Over-clause-wrote
 returns-in-Over-clause-wrote g c = λ n note up fits.
     on_overs (UpNoted n note) (λ o e. PlainWrote n note (plain_write c.args.volume c.args.start c.args.bytes.now) o e c.write_plain.result) c.args.self.now c.in-Over.over c.write_plain.new.self c.in-Over.is (λ it. c.write_plain.ensures.wrote n note it fits) up
 
+pub returns-in-Over-clause-maps : goal.returns-in-Over-clause-maps
+returns-in-Over-clause-maps g c = λ n note up fits.
+    on_overs (UpNoted n note) (λ o e. WroteMapped (plain_write c.args.volume c.args.start c.args.bytes.now) o e c.write_plain.result) c.args.self.now c.in-Over.over c.write_plain.new.self c.in-Over.is (λ it. c.write_plain.ensures.maps n note it fits) up
+
 pub returns-in-Over-clause-cut : goal.returns-in-Over-clause-cut
 returns-in-Over-clause-cut g c = λ n note up. subst (λ x. cut_in (Over c.write_plain.new.self) ≡ cut_behind c.write_plain.result (plain_write c.args.volume c.args.start c.args.bytes.now) (cut_in x)) (sym c.in-Over.is) c.write_plain.ensures.cut
 

@@ -18,6 +18,9 @@ of-requires g c = site_stays Nowhere c.parts-site.result.1 c.parts-site.result.0
 pub returns-clause-deported : goal.returns-clause-deported
 returns-clause-deported g c = λ n note up. carried_site (λ o e. SiteDeported n note o e c.deport-site.result.1) (site_in c.args.self.now) c.parts-site.result.0 (site_in c.of.result) c.deport-site.result.0 (c.parts-site.ensures.site ∙ ap (λ s. site_in s) c.replace.ensures.value) c.of.ensures.site (c.deport-site.ensures.deported n note (subst (λ s. UpNoted n note s) (sym (c.parts-site.ensures.site ∙ ap (λ s. site_in s) c.replace.ensures.value)) up))
 
+pub returns-clause-maps : goal.returns-clause-maps
+returns-clause-maps g c = λ n note up. carried_site (λ o e. DeportMapped o e c.deport-site.result.1) (site_in c.args.self.now) c.parts-site.result.0 (site_in c.of.result) c.deport-site.result.0 (c.parts-site.ensures.site ∙ ap (λ s. site_in s) c.replace.ensures.value) c.of.ensures.site (c.deport-site.ensures.maps n note (subst (λ s. UpNoted n note s) (sym (c.parts-site.ensures.site ∙ ap (λ s. site_in s) c.replace.ensures.value)) up))
+
 pub returns-clause-cut : goal.returns-clause-cut
 returns-clause-cut g c = c.of.ensures.cut ∙ c.parts-site.ensures.cut ∙ ap (λ s. s.cut) c.replace.ensures.value
 

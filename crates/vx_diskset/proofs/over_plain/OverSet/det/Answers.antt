@@ -19,6 +19,9 @@ of-requires g c = site_stays Nowhere c.parts-site.result.1 c.parts-site.result.0
 pub returns-clause-called : goal.returns-clause-called
 returns-clause-called g c = λ n note up. carried_site (λ o e. DetCalled n note c.args.volume c.args.plex o e c.det-answer.result) (site_in c.args.self.now) c.parts-site.result.0 (site_in c.of.result) c.det-answer.new.self (c.parts-site.ensures.site ∙ ap (λ s. site_in s) c.replace.ensures.value) c.of.ensures.site (c.det-answer.ensures.called n note (subst (λ s. UpNoted n note s) (sym (c.parts-site.ensures.site ∙ ap (λ s. site_in s) c.replace.ensures.value)) up))
 
+pub returns-clause-maps : goal.returns-clause-maps
+returns-clause-maps g c = λ n note up. carried_site (λ o e. DetMapped c.args.volume c.args.plex o e c.det-answer.result) (site_in c.args.self.now) c.parts-site.result.0 (site_in c.of.result) c.det-answer.new.self (c.parts-site.ensures.site ∙ ap (λ s. site_in s) c.replace.ensures.value) c.of.ensures.site (c.det-answer.ensures.maps n note (subst (λ s. UpNoted n note s) (sym (c.parts-site.ensures.site ∙ ap (λ s. site_in s) c.replace.ensures.value)) up))
+
 pub returns-clause-refused : goal.returns-clause-refused
 returns-clause-refused g c = λ n note why up is. c.det-answer.ensures.refused n note why (subst (λ s. UpNoted n note s) (sym (c.parts-site.ensures.site ∙ ap (λ s. site_in s) c.replace.ensures.value)) up) (subst (λ s. refuses_det s c.args.volume c.args.plex ≡ Some why) (sym (c.parts-site.ensures.site ∙ ap (λ s. site_in s) c.replace.ensures.value)) is)
 

@@ -19,6 +19,9 @@ of-requires g c = site_stays Nowhere c.parts-site.result.1 c.parts-site.result.0
 pub returns-clause-made : goal.returns-clause-made
 returns-clause-made g c = λ n note up. carried_site (λ o e. SiteAdded n note c.args.name.now c.args.want.now o e c.make_volume-answer.result) (site_in c.args.self.now) c.parts-site.result.0 (site_in c.of.result) c.make_volume-answer.new.self (c.parts-site.ensures.site ∙ ap (λ s. site_in s) c.replace.ensures.value) c.of.ensures.site (c.make_volume-answer.ensures.made n note (subst (λ s. UpNoted n note s) (sym (c.parts-site.ensures.site ∙ ap (λ s. site_in s) c.replace.ensures.value)) up))
 
+pub returns-clause-maps : goal.returns-clause-maps
+returns-clause-maps g c = λ n note up. carried_site (λ o e. AddedMapped o e c.make_volume-answer.result) (site_in c.args.self.now) c.parts-site.result.0 (site_in c.of.result) c.make_volume-answer.new.self (c.parts-site.ensures.site ∙ ap (λ s. site_in s) c.replace.ensures.value) c.of.ensures.site (c.make_volume-answer.ensures.maps n note (subst (λ s. UpNoted n note s) (sym (c.parts-site.ensures.site ∙ ap (λ s. site_in s) c.replace.ensures.value)) up))
+
 pub returns-clause-refused : goal.returns-clause-refused
 returns-clause-refused g c = λ n note why up is. c.make_volume-answer.ensures.refused n note why (subst (λ s. UpNoted n note s) (sym (c.parts-site.ensures.site ∙ ap (λ s. site_in s) c.replace.ensures.value)) up) (subst (λ s. refuses_volume s c.args.name.now c.args.want.now ≡ Some why) (sym (c.parts-site.ensures.site ∙ ap (λ s. site_in s) c.replace.ensures.value)) is)
 

@@ -18,6 +18,9 @@ of-requires g c = site_stays Nowhere c.parts-site.result.1 c.parts-site.result.0
 pub returns-clause-read : goal.returns-clause-read
 returns-clause-read g c = λ n note up fits. carried_site (λ o e. PlainRead n note c.args.volume c.args.block c.read-answer.new.into o e c.read-answer.result) (site_in c.args.self.now) c.parts-site.result.0 (site_in c.of.result) c.read-answer.new.self (c.parts-site.ensures.site ∙ ap (λ s. site_in s) c.replace.ensures.value) c.of.ensures.site (c.read-answer.ensures.read n note (subst (λ s. UpNoted n note s) (sym (c.parts-site.ensures.site ∙ ap (λ s. site_in s) c.replace.ensures.value)) up) fits)
 
+pub returns-clause-maps : goal.returns-clause-maps
+returns-clause-maps g c = λ n note up fits. carried_site (λ o e. StaysMapped o e) (site_in c.args.self.now) c.parts-site.result.0 (site_in c.of.result) c.read-answer.new.self (c.parts-site.ensures.site ∙ ap (λ s. site_in s) c.replace.ensures.value) c.of.ensures.site (c.read-answer.ensures.maps n note (subst (λ s. UpNoted n note s) (sym (c.parts-site.ensures.site ∙ ap (λ s. site_in s) c.replace.ensures.value)) up) fits)
+
 pub returns-clause-cut : goal.returns-clause-cut
 returns-clause-cut g c = c.of.ensures.cut ∙ c.parts-site.ensures.cut ∙ ap (λ s. s.cut) c.replace.ensures.value
 

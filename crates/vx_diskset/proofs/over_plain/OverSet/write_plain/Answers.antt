@@ -21,6 +21,9 @@ of-requires g c = site_stays (Covers c.args.volume c.args.block c.args.bytes.now
 pub returns-clause-wrote : goal.returns-clause-wrote
 returns-clause-wrote g c = λ n note up fits. carried_site (λ o e. PlainWrote n note (plain_write c.args.volume c.args.block c.args.bytes.now) o e c.write_set-answer.result) (site_in c.args.self.now) c.parts-site.result.0 (site_in c.of.result) c.write_set-answer.new.group.site (c.parts-site.ensures.site ∙ ap (λ s. site_in s) c.replace.ensures.value) c.of.ensures.site (c.write_set-answer.ensures.wrote n note (subst (λ s. UpNoted n note s) (sym (c.parts-site.ensures.site ∙ ap (λ s. site_in s) c.replace.ensures.value)) up) fits)
 
+pub returns-clause-maps : goal.returns-clause-maps
+returns-clause-maps g c = λ n note up fits. carried_site (λ o e. WroteMapped (plain_write c.args.volume c.args.block c.args.bytes.now) o e c.write_set-answer.result) (site_in c.args.self.now) c.parts-site.result.0 (site_in c.of.result) c.write_set-answer.new.group.site (c.parts-site.ensures.site ∙ ap (λ s. site_in s) c.replace.ensures.value) c.of.ensures.site (c.write_set-answer.ensures.maps n note (subst (λ s. UpNoted n note s) (sym (c.parts-site.ensures.site ∙ ap (λ s. site_in s) c.replace.ensures.value)) up) fits)
+
 pub returns-clause-cut : goal.returns-clause-cut
 returns-clause-cut g c = ap (λ x. cut_value x) c.of.ensures.cut ∙ c.write_set-answer.ensures.cut ∙ ap (λ x. cut_behind c.write_set-answer.result (plain_write c.args.volume c.args.block c.args.bytes.now) (cut_value x)) (c.parts-site.ensures.cut ∙ ap (λ s. s.cut) c.replace.ensures.value)
 
