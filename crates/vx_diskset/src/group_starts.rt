@@ -15,7 +15,7 @@ ghost use Rattle.vx_diskset.specs.Asked.{FuseGoesOn, SameFailing};
 ghost use Rattle.vx_diskset.specs.DiskSets.{Later};
 ghost use Rattle.vx_diskset.specs.Aboves.{site_in};
 ghost use Rattle.vx_diskset.specs.OverStarts.{HandsOut, ImportsBy, RaisesBy};
-ghost use Rattle.vx_diskset.specs.GroupCalls.{AtFound, AtOver, AtPlain, AtSite, ImportsOn, InitIs, cut_in};
+ghost use Rattle.vx_diskset.specs.GroupCalls.{AtFound, AtOver, AtPlain, AtSite, ImportsOn, InitIs, OnSites, cut_in};
 ghost use Rattle.vx_diskset.specs.Holds.{KeptBeside};
 ghost use Rattle.vx_diskset.specs.Recovers.{LooksAt, LooksKept, RaisesGroup, RisesOver, RisesSince, RisesWith, cut_past, RaisesMaps};
 ghost use Rattle.vx_diskset.specs.Stands.{SiteStands};

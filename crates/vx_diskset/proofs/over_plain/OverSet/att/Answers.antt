@@ -4,6 +4,7 @@ use Rattle.vx_disk.specs.Moves.{Nowhere}
 use Rattle.vx_watched.specs.Since.{CalledSince}
 use Rattle.vx_watched.specs.Traces.{TellsLess}
 use Rattle.vx_grouped.specs.GroupSites.{UpNoted, site_below, site_disks}
+use Rattle.vx_grouped.specs.SiteMaps.{AttMapped}
 use Rattle.vx_diskset.specs.Aboves.{above_in, site_in}
 use Rattle.vx_diskset.proofs.OverFrames.{site_stays}
 use Rattle.vx_diskset.proofs.OverKept.{keeps_over, nowhere_aside}

@@ -3,6 +3,7 @@ use Rattle.std.proofs.Common.{◌≡◌, ◌∙◌, ap, sym, subst}
 use Rattle.vx_watched.specs.Since.{CalledSince}
 use Rattle.vx_watched.specs.Traces.{TellsLess}
 use Rattle.vx_grouped.specs.GroupSites.{UpNoted, site_below, site_disks}
+use Rattle.vx_grouped.specs.SiteMaps.{WroteMapped}
 use Rattle.vx_diskset.specs.Aboves.{IsOutside, above_in, site_in}
 use Rattle.vx_diskset.specs.Stands.{RoleBy}
 use Rattle.vx_diskset.proofs.OverFrames.{site_stays}
