@@ -68,7 +68,7 @@ module _ (w : World) (none : HasNoRvgs w) where
   for_none other = refl
 
 -- what finds a replicated volume group brings a group up
-brings_back : (told : Type 0) (d : Doubted) (line : ScriptLine) (s : ℕ) (fails : Fails) (said : Said) (new : Doubted) → RvgBack told d line s fails said new → BringsUp line
+pub brings_back : (told : Type 0) (d : Doubted) (line : ScriptLine) (s : ℕ) (fails : Fails) (said : Said) (new : Doubted) → RvgBack told d line s fails said new → BringsUp line
 brings_back told d line s fails said new (RvgUp kept taken middle found next from rest are brings back rests works says left) = brings
 brings_back told d line s fails said new (LogFails kept taken disk middle found next from rest left are has brings back rests is begun says leads) = brings
 brings_back told d line s fails said new (LogLacks kept taken middle found next from rest are brings back rests is lacks says left) = brings
