@@ -42,40 +42,40 @@ use Rattle.vx_settling.proofs.OtherNotes
 -- ---- the sites of lines
 
 group_apart : (w : World) (line : ScriptLine) (i : ℕ) → may_note w line i ≡ false → is_for_group w line ≡ true → eqb i (group_place w line) ≡ false
-group_apart w (GroupInit site) i off for = off
-group_apart w (GroupDeport site) i off for = off
-group_apart w (GroupImport site) i off for = off
-group_apart w (Volume site volume blocks mirrors layout log map policy) i off for = off
-group_apart w (PlexDetach site volume plex) i off for = off
-group_apart w (PlexAttach site volume plex) i off for = off
-group_apart w (Disk site disk state) i off for = off
-group_apart w (Crash site pick) i off for = off
-group_apart w (Fuse site calls pick) i off for = off
-group_apart w (Recover site) i off for = off
-group_apart w (Write site volume start count fill) i off for = off
-group_apart w (Put site volume start bytes) i off for = off
-group_apart w (Read site volume start count) i off for = off
-group_apart w (Show site volume start count) i off for = off
-group_apart w (Status site) i off for = off
-group_apart w other i off for = absurd (let f : false ≡ true = for in cc)
+group_apart w (GroupInit site) i off is = off
+group_apart w (GroupDeport site) i off is = off
+group_apart w (GroupImport site) i off is = off
+group_apart w (Volume site volume blocks mirrors layout log map policy) i off is = off
+group_apart w (PlexDetach site volume plex) i off is = off
+group_apart w (PlexAttach site volume plex) i off is = off
+group_apart w (Disk site disk state) i off is = off
+group_apart w (Crash site pick) i off is = off
+group_apart w (Fuse site calls pick) i off is = off
+group_apart w (Recover site) i off is = off
+group_apart w (Write site volume start count fill) i off is = off
+group_apart w (Put site volume start bytes) i off is = off
+group_apart w (Read site volume start count) i off is = off
+group_apart w (Show site volume start count) i off is = off
+group_apart w (Status site) i off is = off
+group_apart w other i off is = absurd (let f : false ≡ true = is in cc)
 
 rvg_apart : (w : World) (line : ScriptLine) (i : ℕ) → may_note w line i ≡ false → is_for_rvg w line ≡ true → eqb i (rvg_place w line) ≡ false
-rvg_apart w (GroupDeport site) i off for = off
-rvg_apart w (GroupImport site) i off for = off
-rvg_apart w (Volume site volume blocks mirrors layout log map policy) i off for = off
-rvg_apart w (PlexDetach site volume plex) i off for = off
-rvg_apart w (PlexAttach site volume plex) i off for = off
-rvg_apart w (Disk site disk state) i off for = off
-rvg_apart w (Crash site pick) i off for = off
-rvg_apart w (Fuse site calls pick) i off for = off
-rvg_apart w (Recover site) i off for = off
-rvg_apart w (Write site volume start count fill) i off for = off
-rvg_apart w (Put site volume start bytes) i off for = off
-rvg_apart w (Read site volume start count) i off for = off
-rvg_apart w (Show site volume start count) i off for = off
-rvg_apart w (Apply site to) i off for = off
-rvg_apart w (Status site) i off for = off
-rvg_apart w other i off for = absurd (let f : false ≡ true = for in cc)
+rvg_apart w (GroupDeport site) i off is = off
+rvg_apart w (GroupImport site) i off is = off
+rvg_apart w (Volume site volume blocks mirrors layout log map policy) i off is = off
+rvg_apart w (PlexDetach site volume plex) i off is = off
+rvg_apart w (PlexAttach site volume plex) i off is = off
+rvg_apart w (Disk site disk state) i off is = off
+rvg_apart w (Crash site pick) i off is = off
+rvg_apart w (Fuse site calls pick) i off is = off
+rvg_apart w (Recover site) i off is = off
+rvg_apart w (Write site volume start count fill) i off is = off
+rvg_apart w (Put site volume start bytes) i off is = off
+rvg_apart w (Read site volume start count) i off is = off
+rvg_apart w (Show site volume start count) i off is = off
+rvg_apart w (Apply site to) i off is = off
+rvg_apart w (Status site) i off is = off
+rvg_apart w other i off is = absurd (let f : false ≡ true = is in cc)
 
 brings_apart : (w : World) (line : ScriptLine) (i : ℕ) → may_note w line i ≡ false → BringsUp line → eqb i (group_place w line) ≡ false
 brings_apart w (GroupImport site) i off brings = off
@@ -83,12 +83,12 @@ brings_apart w (Recover site) i off brings = off
 brings_apart w other i off brings = absurd brings
 
 links_apart : (w : World) (line : ScriptLine) (i : ℕ) → may_note w line i ≡ false → links_rvg w line ≡ true → works_at w line i ≡ false
-links_apart w (Link p s sync prot) i off for = off
-links_apart w (Set p s sync prot) i off for = off
-links_apart w (Pump p s) i off for = off
-links_apart w (Deliver number) i off for = off
-links_apart w (Settle p s) i off for = off
-links_apart w other i off for = absurd (let f : false ≡ true = for in cc)
+links_apart w (Link p s sync prot) i off is = off
+links_apart w (Set p s sync prot) i off is = off
+links_apart w (Pump p s) i off is = off
+links_apart w (Deliver number) i off is = off
+links_apart w (Settle p s) i off is = off
+links_apart w other i off is = absurd (let f : false ≡ true = is in cc)
 
 -- a site over such a group notes something
 some_note : (g : Option GroupNode) (b : Bool) → (is_some g && b) ≡ true → g ≡ Some (unwrap_or g no_note)
@@ -340,9 +340,9 @@ module _ (i : ℕ) (o : Option GroupNode) where
       beside_notes line off (AsBefore works found) = by_group (is_for_group d.world line) refl works
         where
           by_group : (group : Bool) → is_for_group d.world line ≡ group → WorksOver group told d line fails said new → HasNote i o new
-          by_group true for ends = group_notes line (group_place d.world line) (group_apart d.world line i off for) ends
-          by_group false for (inl step) = by_kind told tells (is_of_links line) line fails said new step.ends
-          by_group false for (inr kept) = absurd (kept.untold tells)
+          by_group true is ends = group_notes line (group_place d.world line) (group_apart d.world line i off is) ends
+          by_group false is (inl step) = by_kind told tells (is_of_links line) line fails said new step.ends
+          by_group false is (inr kept) = absurd (kept.untold tells)
       beside_notes line off (Gained back) =
           let s : ℕ = group_place d.world line in
           rises_notes line s (brings_apart d.world line i off (brings_back told d line s fails said new back)) back
@@ -352,11 +352,11 @@ module _ (i : ℕ) (o : Option GroupNode) where
 
       above_notes : (links above : Bool) (line : ScriptLine) → links_rvg d.world line ≡ links → is_for_rvg d.world line ≡ above → may_note d.world line i ≡ false
           → WorksAbove links above told d line fails said new → HasNote i o new
-      above_notes true above line on for off ends = each_notes line (links_apart d.world line i off on) ends
-      above_notes false true line on for off ends =
+      above_notes true above line on is off ends = each_notes line (links_apart d.world line i off on) ends
+      above_notes false true line on is off ends =
           let s : ℕ = rvg_place d.world line in
-          place_notes (is_below (note_at (d.world.nodes s)) line) line s (rvg_apart d.world line i off for) ends
-      above_notes false false line on for off ends = beside_notes line off ends
+          place_notes (is_below (note_at (d.world.nodes s)) line) line s (rvg_apart d.world line i off is) ends
+      above_notes false false line on is off ends = beside_notes line off ends
 
       full_notes : (line : ScriptLine) → may_note d.world line i ≡ false → WorksFull told d line fails said new → HasNote i o new
       full_notes (Rvg site srl maps volumes) off ends = makes_notes (Rvg site srl maps volumes) (site_number d.world site) off ends
