@@ -21,7 +21,7 @@ use Rattle.vx_script.specs.declared.line.ScriptLine.TheVariants.{Apply, Deliver,
 use Rattle.vx_world.proofs.Doubting.{happened_good, others, resolve_good, world_good}
 use Rattle.vx_world.proofs.Grows.{step_grows}
 use Rattle.vx_world.proofs.Guards
-use Rattle.vx_world.proofs.Rooms.{crash_room, step_room}
+use Rattle.vx_world.proofs.Rooms.{MakesNothing, calm_step, crash_room, step_room}
 use Rattle.vx_world.specs.Lines.{GoodDoubted}
 use Rattle.vx_events.specs.Doubts.{IsAs, run_as, with_disks}
 use Rattle.vx_events.specs.Ends.{noted}
@@ -45,12 +45,12 @@ module _ (i : ℕ) (o : Option GroupNode) where
   -- ---- worlds in which a site is another node
 
   -- one that notes the same of its group
-  node_notes : (v : World) (s : ℕ) (n : Node) → n.group ≡ (v.nodes s).group → Notes v → Notes (with_node v s n)
+  pub node_notes : (v : World) (s : ℕ) (n : Node) → n.group ≡ (v.nodes s).group → Notes v → Notes (with_node v s n)
   node_notes v s n same h =
       by_test (λ (m : Node). m.group ≡ o) (eqb i s) n (v.nodes i) (λ e. same ∙ subst (λ (k : ℕ). (v.nodes k).group ≡ o) (eqb_equal i s e) h) (λ _. h)
 
   -- or another site than this
-  apart_notes : (v : World) (s : ℕ) (n : Node) → eqb i s ≡ false → Notes v → Notes (with_node v s n)
+  pub apart_notes : (v : World) (s : ℕ) (n : Node) → eqb i s ≡ false → Notes v → Notes (with_node v s n)
   apart_notes v s n apart h =
       by_test (λ (m : Node). m.group ≡ o) (eqb i s) n (v.nodes i) (λ e. absurd (let f : true ≡ false = sym e ∙ apart in cc)) (λ _. h)
 
@@ -132,6 +132,10 @@ module _ (i : ℕ) (o : Option GroupNode) where
       (λ _ _. Guards.unless_holds Notes (not (is_plain_group n)) WrongRole w last h (λ _. node_notes w q (volumes_set log xs n) refl h)))
   event_notes w other s made h = (step_room w i s made other tt).group ∙ h
 
+  -- one that makes nothing, of any world
+  pub calm_notes : (w : World) (e : Event) → MakesNothing e → Notes w → Notes (step w e).world
+  calm_notes w e calm h = (calm_step w i e calm).group ∙ h
+
   -- the site in doubt that may be this one
   taken_notes : (d : Doubted) (t : ℕ) (a : After) → d.after t ≡ Some a → HasNote i o d → (updated d.world.nodes t a.node i).group ≡ o
   taken_notes d t a is h =
@@ -210,6 +214,16 @@ module _ (i : ℕ) (o : Option GroupNode) where
             subst (λ (y : After). y.node.group ≡ o) here (subst (λ (k : ℕ). ((stopped_by next site disk).nodes k).group ≡ o) (eqb_equal i site e) may))
             (λ _ same. x.has.doubt a same) is;
       }
+
+  -- an event of another site that a disk ended
+  pub halved_apart : (d : Doubted) (e : Event) (site disk : ℕ) → eqb i site ≡ false → HasNote i o d → HasNote i o (halved d e site disk)
+  halved_apart d e site disk apart h = record {
+    note = stopped_notes d.world site disk h.note;
+    doubt = λ a is.
+        by_test (λ (p : Option After). p ≡ Some a → a.node.group ≡ o) (eqb i site)
+        (Some (record { node = (stopped_by (step d.world e).world site disk).nodes site; row = (step d.world e).world.links site })) (d.after i)
+        (λ same. absurd (let f : true ≡ false = sym same ∙ apart in cc)) (λ _ same. h.doubt a same) is;
+  }
 
   pub crashed_notes : (d : Doubted) (s kept : ℕ) (taken : Bool) → HasNote i o d → HasNote i o (crashed_as d s kept taken)
   crashed_notes d s kept taken h =
