@@ -59,7 +59,7 @@ use Rattle.vx_yard.specs.Yards.{IsTold, count_of}
 use Rattle.vx_yard.specs.declared.yard.Yard.{Yard}
 use Rattle.vx_group_lines.specs.Founds.{IsBareUntold}
 use Rattle.vx_group_lines.specs.Views.{view_with}
-use Rattle.vx_group_lines.proofs.Arriving.{arrives_made, arrives_none, arrives_noted, noted_at}
+use Rattle.vx_group_lines.proofs.Arriving.{Arrives, arrives_made, arrives_none, arrives_noted, noted_at}
 use Rattle.vx_group_lines.proofs.BareSites.{IsBareSite, bare_counts, bare_sure, bare_unfused, blank_links, never_up, over_state}
 use Rattle.vx_group_lines.proofs.GroupAt.{up_notes}
 use Rattle.vx_group_lines.proofs.GroupCalls.{SetThen, set_then}
@@ -163,6 +163,7 @@ module _ {R : Type 0} {g : Ghosts R} where
           recovers = refl;
           bare = site.bare;
           shows = refl;
+          up = ap (λ (x : Node). x.state) comes.node ∙ (up_notes m note to.set.site up).1;
           ends = ends;
         }));
         stands = follows.stands;
@@ -203,13 +204,17 @@ module _ {R : Type 0} {g : Ghosts R} where
           cut : cut_value to.set.cut ≡ None
           cut = ap (λ (x : DiskSet R g). cut_in x) (sym to.is) ∙ found.2
 
+          comes : Arrives d e s m (d.world.gathering s)
+          comes =
+              arrives_noted d h s (group_set s n) note (d.world.gathering s)
+              (arrives_made d d s n (d.world.gathering s)
+              (arrives_none d s stands.links (bare_sure d s site.bare stands.links) (blank_links d s (stands.links.bare s site.bare))) site.below site.bare)
+
           follows : Follows d e old new
           follows =
               follows_on d e s m note facts_now old new before to.set stands site.below
               (subst (λ (x : DiskSet R g). Changed old new s before x) to.is changed)
-              (arrives_noted d h s (group_set s n) note (d.world.gathering s)
-              (arrives_made d d s n (d.world.gathering s)
-              (arrives_none d s stands.links (bare_sure d s site.bare stands.links) (blank_links d s (stands.links.bare s site.bare))) site.below site.bare))
+              comes
               (up_notes m note to.set.site up).0
               (up_set m note to.set (record { few = site.few; some = site.some }) up cut to.holds.2.cut)
               (subst (λ (x : DiskSet R g). FailsAs m x) to.is (fails_as m refl)) (fused_none m (OfGroup to.set) unfused) fact so.0 load
