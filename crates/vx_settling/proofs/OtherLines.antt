@@ -420,11 +420,11 @@ module _ (i : ℕ) (o : Option GroupNode) where
 
       above_notes : (links above : Bool) (line : ScriptLine) → links_rvg d.world line ≡ links → is_for_rvg d.world line ≡ above → may_note d.world line i ≡ false
           → WorksAbove links above told d line fails said new → HasNote i o new
-      above_notes true above line on is off ends = each_notes line off (links_apart d.world line i off on) ends
-      above_notes false true line on is off ends =
+      above_notes true above line links_is is off ends = each_notes line off (links_apart d.world line i off links_is) ends
+      above_notes false true line links_is is off ends =
           let s : ℕ = rvg_place d.world line in
           place_notes (is_below (note_at (d.world.nodes s)) line) line s off (rvg_apart d.world line i off is) ends
-      above_notes false false line on is off ends = beside_notes line off ends
+      above_notes false false line links_is is off ends = beside_notes line off ends
 
       full_notes : (line : ScriptLine) → may_note d.world line i ≡ false → WorksFull told d line fails said new → HasNote i o new
       full_notes (Rvg site srl maps volumes) off ends = makes_notes (Rvg site srl maps volumes) (site_number d.world site) off ends
