@@ -35,7 +35,7 @@ abbrev pub NoneRose : ℕ → Meaning → Meaning → Type 0
 NoneRose count old new = (u : ℕ) → u < count → Rose (old.disk_faults u) (new.disk_faults u) → ⊥
 
 -- a call on some disk failed
-pub record SomeRose (old new : Meaning) : Type 0 where
+pub record DiskRose (old new : Meaning) : Type 0 where
   pub disk : ℕ
   pub rose : Rose (old.disk_faults disk) (new.disk_faults disk)
 
@@ -57,4 +57,4 @@ pub record GroundSince (a : GroundState) (m : Meaning) (b : GroundState) (m' : M
   pub openly : StateOpen a → StateOpen b
   pub newest : StateOpen a → (a.committed ≡ true → AllAtOnce a.seen m) → b.committed ≡ true → AllAtOnce b.seen m'
   pub falls : IsTrue m.down → IsTrue m'.down
-  pub sure : a.sure ≡ true → (b.sure ≡ true) ⊎ (SomeRose m m' ⊎ IsTrue m'.down)
+  pub sure : a.sure ≡ true → (b.sure ≡ true) ⊎ (DiskRose m m' ⊎ IsTrue m'.down)
