@@ -8,6 +8,7 @@ use Rattle.vx_group.specs.Loses.{SameParts}
 use Rattle.vx_group.specs.Holding.{wide}
 use Rattle.vx_group.specs.declared.group_core.GroupCore.{GroupCore}
 use Rattle.vx_grouped.specs.GroupNotes.{is_sure}
+use Rattle.vx_grouplogs.specs.Loading.{SomeRose}
 use Rattle.vx_kept.specs.Finds.{AllAtOnce}
 use Rattle.vx_kept.specs.Keeping.{frame_at}
 use Rattle.vx_volume.specs.Plexes.{active}
@@ -34,11 +35,6 @@ no_state = record { config = no_config; seen = no_config; committed = false; uns
 abbrev pub NoneRose : ℕ → Meaning → Meaning → Type 0
 NoneRose count old new = (u : ℕ) → u < count → Rose (old.disk_faults u) (new.disk_faults u) → ⊥
 
--- a call on some disk failed
-pub record DiskRose (old new : Meaning) : Type 0 where
-  pub disk : ℕ
-  pub rose : Rose (old.disk_faults disk) (new.disk_faults disk)
-
 -- the newest configuration is not said to be committed while a commit is missed
 abbrev pub StateOpen : GroundState → Type 0
 StateOpen a = a.unsettled ≡ true → a.committed ≡ false
@@ -57,4 +53,4 @@ pub record GroundSince (a : GroundState) (m : Meaning) (b : GroundState) (m' : M
   pub openly : StateOpen a → StateOpen b
   pub newest : StateOpen a → (a.committed ≡ true → AllAtOnce a.seen m) → b.committed ≡ true → AllAtOnce b.seen m'
   pub falls : IsTrue m.down → IsTrue m'.down
-  pub sure : a.sure ≡ true → (b.sure ≡ true) ⊎ (DiskRose m m' ⊎ IsTrue m'.down)
+  pub sure : a.sure ≡ true → (b.sure ≡ true) ⊎ (SomeRose m m' ⊎ IsTrue m'.down)
