@@ -52,7 +52,7 @@ one_value m i u b lawful rack down tells now = record {
 
 -- ---- one image says what is left
 
-keeps_option : (m : Meaning) (u b : ℕ) (here bytes : List ℕ) (o : Option (List ℕ)) → Keeps m u b here
+pub keeps_option : (m : Meaning) (u b : ℕ) (here bytes : List ℕ) (o : Option (List ℕ)) → Keeps m u b here
     → MatchOption o (here ≡ bytes) (λ new. new ≡ bytes) → MatchOption o (Keeps m u b bytes) (λ new. new ≡ bytes)
 keeps_option m u b here bytes (Some new) keeps is = is
 keeps_option m u b here bytes None keeps is = record { only = λ v left. keeps.only v left ∙ is }

@@ -24,7 +24,7 @@ use Rattle.vx_grouped.specs.declared.group_site.GroupSite.TheVariants.{Up, Depor
 use Rattle.vx_diskset.specs.GroupCalls.{AtSite, bare_disks, cut_in, AtPlain}
 use Rattle.vx_diskset.specs.GroupSets.{cut_value, noted_cut}
 use Rattle.vx_diskset.specs.Holds.{KeptBeside}
-use Rattle.vx_diskset.specs.Stands.{IsBareAt, IsGroupSet, SiteStands, bare_with, IsToldAt}
+use Rattle.vx_diskset.specs.Stands.{IsBareAt, IsGroupSet, SiteStands, bare_with, IsRackTold}
 use Rattle.vx_diskset.specs.declared.disk_set.DiskSet.{DiskSet}
 use Rattle.vx_diskset.specs.declared.disk_set.DiskSet.TheVariants.{Bare, OfGroup}
 use Rattle.vx_diskset.specs.declared.group_set.CutWrite.{CutWrite}
@@ -115,7 +115,7 @@ module _ {R : Type 0} {g : Ghosts R} where
     pub begin_failing : SameFailing old new
     begin_failing = failing_risen old new m (site_disks now.site) was now.disks risen
 
-    pub begin_later : (below : Meaning) → (IsTrue below.tells → IsToldAt old) → AtSite (λ e. TellsLess below (site_below e)) new → Later old new
+    pub begin_later : (below : Meaning) → (IsTrue below.tells → IsRackTold old) → AtSite (λ e. TellsLess below (site_below e)) new → Later old new
     begin_later below was_told less = later_risen old new m (site_disks now.site) was now.disks risen (λ told. was_told (told_behind below new less told))
 
     pub begin_fuse : AtSite IsSettled new → FuseGoesOn old new

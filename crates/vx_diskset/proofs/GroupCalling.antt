@@ -35,7 +35,7 @@ use Rattle.vx_grouped.specs.declared.group_site.GroupSite.TheVariants.{Up, Depor
 use Rattle.vx_diskset.specs.Asked.{FuseGoesOn, SameFailing, disks_told}
 use Rattle.vx_diskset.specs.DiskSets.{Later}
 use Rattle.vx_diskset.specs.GroupCalls.{AtSite, CalledOn, OnSites, AtPlain}
-use Rattle.vx_diskset.specs.Stands.{IsToldAt, faults_at}
+use Rattle.vx_diskset.specs.Stands.{IsRackTold, IsToldAt, faults_at}
 use Rattle.vx_diskset.specs.declared.disk_set.DiskSet.{DiskSet}
 use Rattle.vx_diskset.specs.declared.disk_set.DiskSet.TheVariants.{Bare, Spoiled, Up as UpSet, Receives, Down as DownSet, OfGroup, Over, Gone as GoneSet}
 use Rattle.vx_diskset.specs.declared.group_set.GroupSet.{GroupSet}
@@ -122,7 +122,7 @@ module _ {R : Type 0} {g : Ghosts R} where
     pub site : GroupSite R g
     pub has : P site
     pub disks : HasDisks e (site_disks site)
-    pub told : IsToldAt e → IsTrue (site_below site).tells
+    pub told : IsRackTold e → IsTrue (site_below site).tells
 
   shade_bright : (s : Shade R) → IsTrue (shade_meaning g.meaning s).tells → IsTrue (g.meaning (rack_of s)).tells
   shade_bright (Bright rack) told = told
@@ -135,6 +135,17 @@ module _ {R : Type 0} {g : Ghosts R} where
   told_below (Marked rack) told = told
   told_below Gone told = told
 
+  -- contents that are told are told by the rack
+  pub rack_tells : (e : DiskSet R g) → IsToldAt e → IsRackTold e
+  rack_tells (Bare rack) told = told
+  rack_tells (Spoiled rack) told = told
+  rack_tells (UpSet rvg) told = told
+  rack_tells (Receives s) told = told
+  rack_tells (DownSet rack) told = told
+  rack_tells (OfGroup s) told = told
+  rack_tells (Over s) told = told_below (site_in s) told
+  rack_tells GoneSet told = told
+
   pub on_group : (P : GroupSite R g → Type 0) (e : DiskSet R g) → AtSite P e → OnGroup e P
   on_group P (Bare rack) it = absurd it
   on_group P (Spoiled rack) it = absurd it
@@ -142,7 +153,7 @@ module _ {R : Type 0} {g : Ghosts R} where
   on_group P (Receives s) it = absurd it
   on_group P (DownSet rack) it = absurd it
   on_group P (OfGroup s) it = record { site = s.site; has = it; disks = record { disks = refl; faults = λ d. refl }; told = λ told. told }
-  on_group P (Over s) it = record { site = site_in s; has = it; disks = record { disks = refl; faults = λ d. refl }; told = told_below (site_in s) }
+  on_group P (Over s) it = record { site = site_in s; has = it; disks = record { disks = refl; faults = λ d. refl }; told = λ told. told }
   on_group P GoneSet it = absurd it
 
   -- ---- behind calls on them
@@ -155,7 +166,7 @@ module _ {R : Type 0} {g : Ghosts R} where
           (with_by (λ x y. (u : ℕ) → y.failing u ≡ x.failing u) m.disks m'.disks rack each));
     }
 
-    later_by : ((d : ℕ) → m.disk_faults d ≤ m'.disk_faults d) → (IsToldAt new → IsToldAt old) → Later old new
+    later_by : ((d : ℕ) → m.disk_faults d ≤ m'.disk_faults d) → (IsRackTold new → IsRackTold old) → Later old new
     later_by counts told = record {
       counts = λ d. omega (arith, was.faults d, now.faults d, counts d);
       told = told;
@@ -164,7 +175,7 @@ module _ {R : Type 0} {g : Ghosts R} where
     pub failing_risen : RisesSince m m' → SameFailing old new
     failing_risen since = failing_by since.rack since.failing
 
-    pub later_risen : RisesSince m m' → (IsToldAt new → IsToldAt old) → Later old new
+    pub later_risen : RisesSince m m' → (IsRackTold new → IsRackTold old) → Later old new
     later_risen since told = later_by since.counts told
 
     -- of disks that are up, or have no fuse
@@ -182,10 +193,10 @@ module _ {R : Type 0} {g : Ghosts R} where
   group_failing old o s is since = failing_risen old (OfGroup s) (site_disks o.site) (site_disks s.site) (has_group old o is) (has_group (OfGroup s) s refl) (rises_called (site_disks o.site) (site_disks s.site) since)
 
   -- what is told of them
-  pub told_before : (old : DiskSet R g) (o : GroupSet R g) → old ≡ OfGroup o → IsTrue (site_below o.site).tells → IsToldAt old
-  told_before old o is told = subst (λ (x : DiskSet R g). IsToldAt x) (sym is) told
+  pub told_before : (old : DiskSet R g) (o : GroupSet R g) → old ≡ OfGroup o → IsTrue (site_below o.site).tells → IsRackTold old
+  told_before old o is told = subst (λ (x : DiskSet R g). IsRackTold x) (sym is) told
 
-  pub told_behind : (m : Meaning) (new : DiskSet R g) → AtSite (λ e. TellsLess m (site_below e)) new → IsToldAt new → IsTrue m.tells
+  pub told_behind : (m : Meaning) (new : DiskSet R g) → AtSite (λ e. TellsLess m (site_below e)) new → IsRackTold new → IsTrue m.tells
   told_behind m new at told =
       let on = on_group (λ e. TellsLess m (site_below e)) new at in
       on.has (on.told told)

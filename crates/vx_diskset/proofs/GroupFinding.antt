@@ -21,7 +21,7 @@ use Rattle.vx_diskset.specs.Asked.{SameFailing}
 use Rattle.vx_diskset.specs.DiskSets.{Later}
 use Rattle.vx_diskset.specs.GroupFinds.{FindsIs, FindsOn, FoundUp, InBare}
 use Rattle.vx_diskset.specs.Holds.{KeptBeside}
-use Rattle.vx_diskset.specs.Stands.{IsCleanAt, IsGroupSet, IsToldAt, SiteStands, OverStands}
+use Rattle.vx_diskset.specs.Stands.{IsCleanAt, IsGroupSet, IsRackTold, IsToldAt, SiteStands, OverStands}
 use Rattle.vx_diskset.specs.declared.disk_set.DiskSet.{DiskSet}
 use Rattle.vx_diskset.specs.declared.disk_set.DiskSet.TheVariants.{Bare, Spoiled, Up as UpSet, Receives, Down as DownSet, OfGroup, Over, Gone as GoneSet}
 use Rattle.vx_diskset.specs.declared.group_set.CutWrite.{CutWrite}
@@ -30,7 +30,7 @@ use Rattle.vx_diskset.specs.GroupCalls.{AtSite}
 use Rattle.vx_diskset.specs.GroupSets.{cut_value}
 use Rattle.vx_diskset.specs.OverStarts.{Started, StartsOver, WithRvg, WithUnits}
 use Rattle.vx_diskset.specs.Recovers.{RisesSince}
-use Rattle.vx_diskset.proofs.GroupCalling.{failing_risen, has_bare, later_risen, on_group, rises_called, told_behind}
+use Rattle.vx_diskset.proofs.GroupCalling.{failing_risen, has_bare, later_risen, on_group, rack_tells, rises_called, told_behind}
 use Rattle.vx_diskset.proofs.StaysUp.{not_true}
 use Rattle.vx_watched.specs.Traces.{TellsLess}
 use Rattle.vx_diskset.specs.declared.over_set.OverSite.{OverSite}
@@ -126,8 +126,8 @@ module _ {R : Type 0} {g : Ghosts R} where
     finds_is new (Err stop) untold it = find_bare new stop untold it
 
   -- a rack that is no group's now was none's before
-  pub untold_later : (old new : DiskSet R g) → Later old new → (IsToldAt old → ⊥) → IsToldAt new → ⊥
-  untold_later old new later untold told = untold (later.told told)
+  pub untold_later : (rack : R) (old new : DiskSet R g) → old ≡ Bare rack → Later old new → (IsToldAt old → ⊥) → IsToldAt new → ⊥
+  untold_later rack old new is later untold told = untold (subst (λ (x : DiskSet R g). IsToldAt x) (sym is) (subst (λ (x : DiskSet R g). IsRackTold x) is (later.told (rack_tells new told))))
 
   -- ---- other disks of a bare site
 

@@ -1,5 +1,5 @@
 -- How a site lies on its disks, past calls that leave their number and sizes alone, and of a raw set as it is made.
-use Rattle.std.proofs.Common.{◌≡◌, ◌∙◌, ℕ, zero, suc, ◌+◌, ◌-◌, ◌*◌, ◌<◌, ◌≤◌, List, [], ◌++◌, length, ap, sym, subst, refl, arith}
+use Rattle.std.proofs.Common.{◌≡◌, ◌∙◌, ℕ, zero, suc, ◌+◌, ◌-◌, ◌*◌, ◌<◌, ◌≤◌, true, List, [], ◌++◌, length, ap, sym, subst, refl, arith}
 use Rattle.std.specs.Fmt.{decimal}
 use Rattle.std.specs.Prelude.{None, Option, Some, slice_get, codes}
 use Rattle.std.proofs.lemmas.Bool.Decides.{nat_tests}
@@ -11,6 +11,7 @@ use Rattle.vx_model.specs.declared.limits.TheConstants.{LINK_PLACES}
 use Rattle.vx_model.specs.declared.units.Units.{Units}
 use Rattle.vx_history.specs.Steps.{raw_volumes, raw_content}
 use Rattle.vx_events.specs.GroupViews.{config_of}
+use Rattle.vx_events.specs.RvgNotes.{inside_of}
 use Rattle.vx_history.specs.Groups.{GroupNode}
 use Rattle.vx_history.specs.World.{Node, Volume}
 use Rattle.vx_disk.specs.Moves.{Blocks, Says, Moves}
@@ -24,7 +25,7 @@ use Rattle.vx_diskset.specs.Layouts.{CanBeRaw, IsLaid, IsRaw, LiesBy, LiesOn, Li
 
 -- ---- past a call
 
-laid_as : (u : Units) (ring : ℕ) (volumes : List Volume) (sizes : ℕ → ℕ) (m new : Meaning) → ((k : ℕ) → new.size k ≡ m.size k) → IsLaid u ring volumes sizes m → IsLaid u ring volumes sizes new
+pub laid_as : (u : Units) (ring : ℕ) (volumes : List Volume) (sizes : ℕ → ℕ) (m new : Meaning) → ((k : ℕ) → new.size k ≡ m.size k) → IsLaid u ring volumes sizes m → IsLaid u ring volumes sizes new
 laid_as u ring volumes sizes m new size laid = record {
   large = omega (arith, laid.large, size u.srl);
   ring_is = laid.ring_is ∙ ap ring_of (sym (size u.srl));
@@ -43,6 +44,14 @@ laid_by (Some note) n sizes m lies = lies.laid
 
 pub laid_in : (n : Node) (m : Meaning) → LiesOn n m → IsLaid (units_of n) n.ring n.volumes n.base.size m
 laid_in n m lies = laid_by n.group n n.base.size m lies
+
+-- over a group its volumes are there
+there_by : (o : Option GroupNode) (n : Node) (sizes : ℕ → ℕ) (m : Meaning) → (o ≡ None → ⊥) → LiesBy o n sizes m → (k : ℕ) → inside_of (units_by o n.disks) k ≡ true → k < m.units
+there_by None n sizes m over lies k is = absurd (over refl)
+there_by (Some note) n sizes m over lies k is = lies.there k is
+
+pub over_there : (n : Node) (m : Meaning) → (n.group ≡ None → ⊥) → LiesOn n m → (k : ℕ) → inside_of (units_of n) k ≡ true → k < m.units
+over_there n m over lies = there_by n.group n n.base.size m over lies
 
 -- of a site that is over no group
 pub units_raw : (n : Node) → n.group ≡ None → units_of n ≡ raw_units n.disks
@@ -65,7 +74,10 @@ raw_on n m none lies = subst (λ (o : Option GroupNode). LiesBy o n n.base.size 
 
 lies_by : (o : Option GroupNode) (n : Node) (sizes : ℕ → ℕ) (m new : Meaning) → new.units ≡ m.units → ((k : ℕ) → new.size k ≡ m.size k) → LiesBy o n sizes m → LiesBy o n sizes new
 lies_by None n sizes m new units size lies = raw_as n.disks n.blocks n.ring n.volumes sizes m new units size lies
-lies_by (Some note) n sizes m new units size lies = record { laid = laid_as (config_units (config_of note.config)) n.ring n.volumes sizes m new size lies.laid }
+lies_by (Some note) n sizes m new units size lies = record {
+  laid = laid_as (config_units (config_of note.config)) n.ring n.volumes sizes m new size lies.laid;
+  there = λ k is. (let low = lies.there k is in omega (arith, low, units));
+}
 
 pub lies_as : (n : Node) (m new : Meaning) → new.units ≡ m.units → ((k : ℕ) → new.size k ≡ m.size k) → LiesOn n m → LiesOn n new
 lies_as n m new units size lies = lies_by n.group n n.base.size m new units size lies
@@ -88,7 +100,7 @@ laid_sized u ring volumes was sizes m same laid = record {
 
 sized_by : (o : Option GroupNode) (n : Node) (was sizes : ℕ → ℕ) (m : Meaning) → ((v : ℕ) → sizes v ≡ was v) → LiesBy o n was m → LiesBy o n sizes m
 sized_by None n was sizes m same lies = record { units = lies.units; size = lies.size; can = lies.can; few = lies.few; laid = laid_sized (raw_units n.disks) n.ring n.volumes was sizes m same lies.laid }
-sized_by (Some note) n was sizes m same lies = record { laid = laid_sized (config_units (config_of note.config)) n.ring n.volumes was sizes m same lies.laid }
+sized_by (Some note) n was sizes m same lies = record { laid = laid_sized (config_units (config_of note.config)) n.ring n.volumes was sizes m same lies.laid; there = lies.there }
 
 pub lies_sized : (n : Node) (sizes : ℕ → ℕ) (m : Meaning) → ((v : ℕ) → sizes v ≡ n.base.size v) → LiesOn n m → LiesBy n.group n sizes m
 lies_sized n sizes m same lies = sized_by n.group n n.base.size sizes m same lies

@@ -9,7 +9,11 @@ pub mod FoundedWork
 pub mod OverNotes
 pub mod OverCalling
 pub mod OverCalls
+pub mod OverCame
+pub mod OverUp
+pub mod OverReturns
 pub mod OverCrash
+pub mod OverDowns
 pub mod OverDisks
 pub mod OverFalls
 pub mod OverFrames
@@ -49,6 +53,7 @@ pub mod RawSets
 pub mod Reaching
 pub mod ReadGroup
 pub mod Receiving
+pub mod Showing
 pub mod Roles
 pub mod Sessions
 pub mod StartBare

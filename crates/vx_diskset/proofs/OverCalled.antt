@@ -76,4 +76,4 @@ module _ {R : Type 0} {g : Ghosts R} (e : DiskSet R g) (old new : OverSet R g) (
   over_role = subst (λ (x : DiskSet R g). KeepsRole x (Over new)) (sym is) (record { kept = called.above })
 
   pub over_later : Later e (Over new)
-  over_later = subst (λ (x : DiskSet R g). Later x (Over new)) (sym is) (record { counts = called.since.counts; told = λ told. sym called.since.tells ∙ told })
+  over_later = subst (λ (x : DiskSet R g). Later x (Over new)) (sym is) (record { counts = called.since.counts; told = called.told })

@@ -4,14 +4,15 @@ use Rattle.std.specs.Prelude.{Err, Ok, OnOk, Result}
 use Rattle.vx_disk.specs.declared.shelf.Shelf.{Ghosts}
 use Rattle.vx_model.specs.declared.errors.Stop.{Stop}
 use Rattle.vx_watched.specs.Since.{CalledSince}
-use Rattle.vx_grouped.specs.GroupSites.{site_disks}
+use Rattle.vx_watched.specs.Traces.{TellsLess}
+use Rattle.vx_grouped.specs.GroupSites.{site_below, site_disks}
 use Rattle.vx_grouped.specs.SiteEnds.{is_plex_on}
 use Rattle.vx_grouped.specs.declared.group_site.GroupSite.{GroupSite}
 use Rattle.vx_diskset.specs.Aboves.{site_in}
 use Rattle.vx_diskset.specs.Asked.{FuseGoesOn, SameFailing}
 use Rattle.vx_diskset.specs.DiskSets.{Later}
 use Rattle.vx_diskset.specs.GroupCalls.{AtSite, OnSites}
-use Rattle.vx_diskset.specs.Stands.{IsToldAt}
+use Rattle.vx_diskset.specs.Stands.{IsRackTold}
 use Rattle.vx_diskset.specs.declared.disk_set.DiskSet.{DiskSet}
 use Rattle.vx_diskset.specs.declared.disk_set.DiskSet.TheVariants.{Over}
 use Rattle.vx_diskset.specs.declared.over_set.OverSet.{OverSet}
@@ -37,9 +38,9 @@ module _ {R : Type 0} {g : Ghosts R} where
     pub plain_failing : SameFailing e (Over s)
     plain_failing = failing_risen e (Over s) (site_disks (site_in o)) (site_disks (site_in s)) (has_over e o is) (has_over (Over s) s refl) (rises_called (site_disks (site_in o)) (site_disks (site_in s)) since)
 
-    pub plain_later : Later e (Over s)
-    plain_later = later_risen e (Over s) (site_disks (site_in o)) (site_disks (site_in s)) (has_over e o is) (has_over (Over s) s refl) (rises_called (site_disks (site_in o)) (site_disks (site_in s)) since)
-        (λ told. subst (λ (x : DiskSet R g). IsToldAt x) (sym is) (sym since.tells ∙ told))
+    pub plain_later : TellsLess (site_below (site_in o)) (site_below (site_in s)) → Later e (Over s)
+    plain_later less = later_risen e (Over s) (site_disks (site_in o)) (site_disks (site_in s)) (has_over e o is) (has_over (Over s) s refl) (rises_called (site_disks (site_in o)) (site_disks (site_in s)) since)
+        (λ told. subst (λ (x : DiskSet R g). IsRackTold x) (sym is) (less told))
 
     pub plain_fuse : IsSettled (site_in s) → FuseGoesOn e (Over s)
     plain_fuse it = fuse_risen e (Over s) (site_disks (site_in o)) (site_disks (site_in s)) (has_over e o is) (has_over (Over s) s refl) (rises_called (site_disks (site_in o)) (site_disks (site_in s)) since) it.rack it.at

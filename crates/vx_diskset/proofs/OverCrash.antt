@@ -5,12 +5,11 @@ use Rattle.std.proofs.lemmas.List.{length-take}
 use Rattle.vx_config.specs.Checks.{blocks_of}
 use Rattle.vx_config.specs.declared.config.Config.{Config}
 use Rattle.vx_copyfmt.specs.Imports.{Found, ImportOutcome}
-use Rattle.vx_disk.specs.Racks.{IsRack}
+use Rattle.vx_disk.specs.Racks.{IsRack, Stopped}
 use Rattle.vx_disk.specs.Shelf.{Each, Image, Lawful, Meaning}
 use Rattle.vx_disk.specs.declared.shelf.Shelf.{Ghosts}
 use Rattle.vx_events.specs.RvgNotes.{inside_of}
 use Rattle.vx_group.specs.Holding.{wide}
-use Rattle.vx_group.specs.Resumes.{stopped}
 use Rattle.vx_history.specs.World.{Node}
 use Rattle.vx_kept.specs.Facts.{KeptFact, is_found}
 use Rattle.vx_kept.specs.Choice.{chosen}
@@ -30,7 +29,6 @@ use Rattle.vx_grouped.specs.Readies.{ready_of}
 use Rattle.vx_grouped.specs.declared.idle.Idle.{Idle}
 use Rattle.vx_grouped.specs.declared.laid.Laid.{Laid}
 use Rattle.vx_diskset.specs.DiskSets.{CrashedAt, fell_to}
-use Rattle.vx_diskset.specs.Founded.{LaidFell}
 use Rattle.vx_diskset.specs.Holds.{HasDoubted, HasWrites, KeptBeside, KeptSite, itself, most_with, state_with, sure_of}
 use Rattle.vx_diskset.specs.Lasts.{FoundWith}
 use Rattle.vx_diskset.specs.Layouts.{IsLaidBy, LiesOn, units_of}
@@ -40,7 +38,7 @@ use Rattle.vx_diskset.specs.declared.group_set.CutWrite.{CutWrite}
 use Rattle.vx_diskset.specs.declared.over_set.OverSite.TheVariants.{Down as GroupFell}
 use Rattle.vx_diskset.proofs.BesideLemmas.{doubted, writes_itself}
 use Rattle.vx_diskset.proofs.CrashGroup.{folded_size, one_value}
-use Rattle.vx_diskset.proofs.Laying.{laid_in, laid_sized}
+use Rattle.vx_diskset.proofs.Laying.{laid_in, laid_sized, over_there}
 
 -- ---- images of the disks, and of the volumes
 
@@ -58,10 +56,10 @@ module _ (c x : Config) (j : Image) where
   by_beyond v b out (inl held) = absurd (out held)
   by_beyond v b out (inr not) = refl
 
-  shown : Image
+  pub shown : Image
   shown v b = value_by v b (inside c v b)
 
-  shows : Shows c x j shown
+  pub shows : Shows c x j shown
   shows = record { here = λ v b in_it. by_here v b in_it (inside c v b); beyond = λ v b out. by_beyond v b out (inside c v b) }
 
   -- there is no other
@@ -82,10 +80,6 @@ image_one m i j lawful rack down tells now each = λ t. λ u. λ b. same u b t
     same : (u b : ℕ) → i u b ≡ j u b
     same u b = (one_value m j u b lawful rack down tells now).only (i u b) (each u b)
 
--- each configuration that is found has an ACTIVE plex of each volume of the replicated volume group
-pub record ImagesActive (units : Units) (m : Meaning) : Type 0 where
-  pub active : (i : Image) (x : Config) (v : ℕ) → Each m.leaves i → finds m i ≡ Found x → inside_of units v ≡ true → stopped x v ≡ true
-
 -- ---- disks as an import sees them
 
 -- no more is left of them
@@ -103,8 +97,9 @@ module _ {R : Type 0} {g : Ghosts R} where
 
   -- ---- the site, or what it may be besides
 
-  module _ (k : KeptSite) (n : Node) (pick : ℕ) (l : Laid R g) (idle : Idle R g) (good : ℕ → Type 0) (same : SameGround k.node n) (fell : LaidFell pick l idle) (law : Lawful (idle_disks idle)) (rack : IsRack (idle_disks idle))
-      (kept : KeptFact (wide l.core).config good (laid_disks l)) (active : ImagesActive (units_of n) (laid_disks l)) (lies : LiesOn k.node (laid_volumes l)) (low : k.node.low ≡ 1) (begun : IsTrue (laid_volumes l).tells → 0 < k.node.session) where
+  module _ (k : KeptSite) (n : Node) (l : Laid R g) (idle : Idle R g) (good : ℕ → Type 0) (same : SameGround k.node n) (stop : Stopped (laid_disks l) (idle_disks idle)) (law : Lawful (idle_disks idle)) (rack : IsRack (idle_disks idle))
+      (kept : KeptFact (wide l.core).config good (laid_disks l)) (lies : LiesOn k.node (laid_volumes l)) (low : k.node.low ≡ 1) (begun : IsTrue (laid_volumes l).tells → 0 < k.node.session)
+      (there : (u : ℕ) → inside_of (units_of n) u ≡ true → u < (laid_volumes l).units) where
     abbrev m : Meaning
     m = laid_disks l
 
@@ -121,13 +116,13 @@ module _ {R : Type 0} {g : Ghosts R} where
     under = ready_under idle.agreed idle.rack
 
     up_leaves : (i : Image) → Each r.leaves i → Each m.leaves i
-    up_leaves i each u b = fell.stopped.leaves u b (i u b) (under.leaves u b (i u b) (each u b))
+    up_leaves i each u b = stop.leaves u b (i u b) (under.leaves u b (i u b) (each u b))
 
     up_finds : (i : Image) (x : Config) → finds r i ≡ Found x → finds m i ≡ Found x
-    up_finds i x is = sym (found_same m r (under.units ∙ fell.stopped.units) (λ u. under.size u ∙ fell.stopped.size u) (λ u. true) i) ∙ is
+    up_finds i x is = sym (found_same m r (under.units ∙ stop.units) (λ u. under.size u ∙ stop.size u) (λ u. true) i) ∙ is
 
     told_up : IsTrue r.tells → IsTrue m.tells
-    told_up tells = sym fell.stopped.tells ∙ under.tells tells
+    told_up tells = sym stop.tells ∙ under.tells tells
 
     lies_down : (count : ℕ) → IsLaidBy (units_of n) k.node.ring k.node.volumes (fold_writes k.node.base (drop k.node.safe (take count k.node.log))).size (blocks_of c.volumes)
     lies_down count =
@@ -143,6 +138,7 @@ module _ {R : Type 0} {g : Ghosts R} where
       config = c;
       sure = refl;
       lies = lies_down count;
+      there = there;
       low = low;
       logged = omega (arith, length-take count k.node.log, most);
       begun = λ tells. begun (told_up tells);
@@ -151,14 +147,13 @@ module _ {R : Type 0} {g : Ghosts R} where
         found = λ i x above each is shows.
             subst (λ (u : Units). FoundWith u k.node.ring (state_with k.node k.links) k.node.session (most_with (sure_of k) k.node count) above (take count k.node.log) (fold_writes k.node.base (drop k.node.safe (take count k.node.log)))) same.units
             (found tells i x above each is shows);
-        unclean = λ i x v each is inside. active.active i x v (up_leaves i each) (up_finds i x is) inside;
       };
     }
 
     -- with so many of its writes, where this image of the disks is what they hold
     rests_by : (j : Image) (x : Config) → m'.now j → finds m j ≡ Found x → (has : HasWrites (sure_of k) k.node (shown c x j)) → RestsOver (λ y. FellOver y (sure_of k) (fell_to n k.node has.count) r) (sure_of k) (fell_to n k.node has.count) r
     rests_by j x now is has = rests has.count has.least has.most (λ tells i y above each finds_y shows_y.
-        let i_is : i ≡ j = image_one m' i j law rack fell.stopped.down (under.tells tells) now (λ u b. under.leaves u b (i u b) (each u b)) in
+        let i_is : i ≡ j = image_one m' i j law rack stop.down (under.tells tells) now (λ u b. under.leaves u b (i u b) (each u b)) in
         let at_j : finds m j ≡ Found y = subst (λ (h : Image). finds m h ≡ Found y) i_is (up_finds i y finds_y) in
         let y_is : y ≡ x = found_inj (sym at_j ∙ is) in
         let shows_j : Shows c x j above = subst (λ (z : Config). Shows c z j above) y_is (subst (λ (h : Image). Shows c y h above) i_is shows_y) in
@@ -179,10 +174,13 @@ module _ {R : Type 0} {g : Ghosts R} where
     pub most : count ≤ length kept.node.log
     pub rests : RestsOver (λ x. FellOver x (sure_of kept) (fell_to n kept.node count) (idle_ready idle)) (sure_of kept) (fell_to n kept.node count) (idle_ready idle)
 
-  module _ {beside : KeptBeside} (n : Node) (pick : ℕ) (l : Laid R g) (idle : Idle R g) (good : ℕ → Type 0) (over : IsOverSite beside n) (held : IsHeldAt beside n (laid_volumes l)) (fell : LaidFell pick l idle) (law : Lawful (idle_disks idle)) (rack : IsRack (idle_disks idle))
-      (kept : KeptFact (wide l.core).config good (laid_disks l)) (active : ImagesActive (units_of n) (laid_disks l)) where
+  module _ {beside : KeptBeside} (n : Node) (l : Laid R g) (idle : Idle R g) (good : ℕ → Type 0) (over : IsOverSite beside n) (held : IsHeldAt beside n (laid_volumes l)) (stop : Stopped (laid_disks l) (idle_disks idle)) (law : Lawful (idle_disks idle)) (rack : IsRack (idle_disks idle))
+      (kept : KeptFact (wide l.core).config good (laid_disks l)) where
     abbrev volumes_config : Config
     volumes_config = (wide l.core).config
+
+    here : (u : ℕ) → inside_of (units_of n) u ≡ true → u < (laid_volumes l).units
+    here = over_there n (laid_volumes l) over.0 held.lies
 
     own : SameGround n n
     own = record { units = refl; disks = refl; blocks = refl }
@@ -197,7 +195,7 @@ module _ {R : Type 0} {g : Ghosts R} where
           count = writes.count;
           least = writes.least;
           most = writes.most;
-          rests = rests_by (itself beside n) n pick l idle good own fell law rack kept active held.lies held.low held.begun j x now is writes;
+          rests = rests_by (itself beside n) n l idle good own stop law rack kept held.lies held.low held.begun here j x now is writes;
         }
 
     fell_besides : (j : Image) (x : Config) → (idle_disks idle).now j → finds (laid_disks l) j ≡ Found x → HasDoubted beside.doubt (shown volumes_config x j) → FellAs beside n idle
@@ -212,17 +210,17 @@ module _ {R : Type 0} {g : Ghosts R} where
           count = d.2.count;
           least = d.2.least;
           most = d.2.most;
-          rests = rests_by k n pick l idle good (over.1 k d.1) fell law rack kept active may.lies may.low may.begun j x now is d.2;
+          rests = rests_by k n l idle good (over.1 k d.1) stop law rack kept may.lies may.low may.begun here j x now is d.2;
         }
 
     fell_by : (b : Bool) → (idle_ready idle).tells ≡ b → FellAs beside n idle
     fell_by true tells =
         let it = law.image ((ready_under idle.agreed idle.rack).tells tells) in
         let j : Image = it.0 in
-        let each : Each (laid_disks l).leaves j = λ u b. fell.stopped.leaves u b (j u b) (law.within j it.1 u b) in
+        let each : Each (laid_disks l).leaves j = λ u b. stop.leaves u b (j u b) (law.within j it.1 u b) in
         let some = found_some (finds (laid_disks l) j) (kept.finds j each) in
         ⊎_elim (λ has. fell_itself j some.0 it.1 some.1 has) (λ has. fell_besides j some.0 it.1 some.1 has)
-        (held.left (shown volumes_config some.0 j) (record { image = j; left = fell.stopped.now j it.1; config = some.0; found = some.1; shows = shows volumes_config some.0 j }))
+        (held.left (shown volumes_config some.0 j) (record { image = j; left = stop.now j it.1; config = some.0; found = some.1; shows = shows volumes_config some.0 j }))
     fell_by false untold = record {
       kept = itself beside n;
       is = inl refl;
@@ -230,7 +228,7 @@ module _ {R : Type 0} {g : Ghosts R} where
       count = n.safe;
       least = omega arith;
       most = held.logged;
-      rests = rests (itself beside n) n pick l idle good own fell law rack kept active held.lies held.low held.begun n.safe (omega arith) held.logged (λ tells. absurd (let e : true ≡ false = sym tells ∙ untold in cc));
+      rests = rests (itself beside n) n l idle good own stop law rack kept held.lies held.low held.begun here n.safe (omega arith) held.logged (λ tells. absurd (let e : true ≡ false = sym tells ∙ untold in cc));
     }
 
     pub over_fell : (cut : Option CutWrite) → CrashedAt beside n (Over (record { site = GroupFell idle; cut = cut }))

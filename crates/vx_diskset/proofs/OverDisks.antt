@@ -62,7 +62,7 @@ pub less_alike : (m m' : Meaning) → Alike m m' → LeavesLess m m'
 less_alike m m' alike = record { units = alike.contents.units; size = alike.contents.size; tells = alike.contents.tells; leaves = alike.contents.leaves }
 
 -- and of its volumes
-seen_less : (tells tells' : Bool) (c : Config) (old new : Values) → (IsTrue tells' → IsTrue tells) → ((u b : ℕ) (v : List ℕ) → new u b v → old u b v) → (u b : ℕ) (v : List ℕ) → seen tells' c new u b v → seen tells c old u b v
+pub seen_less : (tells tells' : Bool) (c : Config) (old new : Values) → (IsTrue tells' → IsTrue tells) → ((u b : ℕ) (v : List ℕ) → new u b v → old u b v) → (u b : ℕ) (v : List ℕ) → seen tells' c new u b v → seen tells c old u b v
 seen_less tells tells' c old new told less u b v (inl on) = inl (record { inside = on.inside; plex = on.plex; is_on = on.is_on; value = less _ _ v on.value })
 seen_less tells tells' c old new told less u b v (inr out) = inr (record { tells = told out.tells; outside = out.outside; empty = out.empty })
 
@@ -78,6 +78,7 @@ module _ (beside : KeptBeside) (n : Node) (m m' : Meaning) (less : LeavesLess m 
     config = it.config;
     sure = it.sure;
     lies = it.lies;
+    there = it.there;
     low = it.low;
     logged = it.logged;
     begun = λ told. it.begun (sym less.tells ∙ told);
@@ -89,12 +90,12 @@ module _ (beside : KeptBeside) (n : Node) (m m' : Meaning) (less : LeavesLess m 
       (λ c it. record {
         extends = λ i x each is. it.extends i x (before i each) (was_found i x is);
         found = λ i x above each is shows. it.found i x above (before i each) (was_found i x is) shows;
-        unclean = λ i x v each is inside. it.unclean i x v (before i each) (was_found i x is) inside;
       })
 
   pub away_less : RestsOver (λ c. AwayOver c beside n m) beside n m → RestsOver (λ c. AwayOver c beside n m') beside n m'
   away_less = rests_less (λ c. AwayOver c beside n m) (λ c. AwayOver c beside n m')
       (λ c it. record {
+        extends = λ i x each is. it.extends i x (before i each) (was_found i x is);
         left = λ i x opened readable each is opens.
             left_still_with (units_of n) n.ring (state_with n beside.links) n.session (most_header beside n) n.log n.base (group_meaning opened (λ v. 0) m) (group_meaning opened (λ v. 0) m') less.tells (λ u. refl)
             (seen_less m.tells m'.tells opened m.leaves m'.leaves (λ told. sym less.tells ∙ told) less.leaves) (it.left i x opened readable (before i each) (was_found i x is) opens);
@@ -324,7 +325,7 @@ module _ {R : Type 0} {g : Ghosts R} where
     set_role same = subst (λ (x : DiskSet R g). KeepsRole x (Over new)) (sym is) (record { kept = λ n role. subst (λ (a : Above). RoleBy n a) (sym same) role })
 
     pub set_later : DisksAlike (site_in old) (site_in new) → Later e (Over new)
-    set_later same = subst (λ (x : DiskSet R g). Later x (Over new)) (sym is) (record { counts = λ d. let now = same.counts d in omega (arith, now); told = λ told. sym same.tells ∙ told })
+    set_later same = subst (λ (x : DiskSet R g). Later x (Over new)) (sym is) (record { counts = λ d. let now = same.counts d in omega (arith, now); told = same.told })
 
     pub set_asked : (disk : ℕ) (on : Bool) → (disk < (site_disks (site_in old)).units → WithDisks (site_disks (site_in old)).disks (site_disks (site_in new)).disks (FailsOne disk on)) → disk < units_in e → SetsDisk disk on e (Over new)
     set_asked disk on asked low = subst (λ (x : DiskSet R g). SetsDisk disk on x (Over new)) (sym is) (asked (subst (λ (x : DiskSet R g). disk < units_in x) is low))

@@ -19,7 +19,7 @@ use Rattle.vx_diskset.specs.Aboves.{above_in, site_in}
 use Rattle.vx_diskset.specs.Asked.{CrashesBy, MayCrash}
 use Rattle.vx_diskset.specs.DiskSets.{Later}
 use Rattle.vx_diskset.specs.Founded.{LaidFell}
-use Rattle.vx_diskset.specs.Stands.{KeepsRole, RoleBy}
+use Rattle.vx_diskset.specs.Stands.{IsToldAt, KeepsRole, RoleBy}
 use Rattle.vx_diskset.specs.declared.disk_set.DiskSet.{DiskSet}
 use Rattle.vx_diskset.specs.declared.disk_set.DiskSet.TheVariants.{Over}
 use Rattle.vx_diskset.specs.declared.over_set.OverSet.{OverSet}
@@ -95,9 +95,13 @@ module _ {R : Type 0} {g : Ghosts R} where
         let may = may_by pick (site_in o) (site_in s) it in
         subst (λ (x : DiskSet R g). MayCrash pick x (Over s)) (sym is) (record { told = may.0; sizes = may.1 })
 
-    pub fell_later : Later e (Over s)
-    fell_later = subst (λ (x : DiskSet R g). Later x (Over s)) (sym is)
-        (record { counts = λ d. let same = counts_by pick (site_in o) (site_in s) it d in omega (arith, same); told = λ told. sym (told_by pick (site_in o) (site_in s) it) ∙ told })
+    pub fell_later : TellsLess (site_below (site_in o)) (site_below (site_in s)) → Later e (Over s)
+    fell_later less = subst (λ (x : DiskSet R g). Later x (Over s)) (sym is)
+        (record { counts = λ d. let same = counts_by pick (site_in o) (site_in s) it d in omega (arith, same); told = less })
+
+    -- as much is told of the disks
+    pub fell_seen : IsToldAt (Over s) → IsToldAt e
+    fell_seen told = subst (λ (x : DiskSet R g). IsToldAt x) (sym is) (sym (told_by pick (site_in o) (site_in s) it) ∙ told)
 
     pub fell_role : ((n : Node) → RoleBy n (above_in s)) → KeepsRole e (Over s)
     fell_role role = record { kept = λ n was. role n }

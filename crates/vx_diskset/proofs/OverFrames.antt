@@ -22,7 +22,8 @@ use Rattle.vx_diskset.specs.declared.above.Above.TheVariants.{Nothing, Origin, R
 use Rattle.vx_diskset.specs.declared.over_set.OverSite.{OverSite}
 use Rattle.vx_diskset.specs.declared.over_set.OverSite.TheVariants.{Origin as OriginSite, Receiver as ReceiverSite, Deported as GroupAway, Down as GroupFell, Gone as NoGroup}
 use Rattle.vx_diskset.proofs.BesideLemmas.{never_besides}
-use Rattle.vx_diskset.proofs.Laying.{laid_in}
+use Rattle.vx_diskset.proofs.Laying.{laid_in, over_there}
+use Rattle.vx_events.specs.RvgNotes.{inside_of}
 use Rattle.vx_diskset.proofs.Receiving.{as_receiver, durable_of, receiver_up}
 use Rattle.vx_diskset.proofs.StaysUp.{kept_whole, told_now, writes_found}
 use Rattle.vx_model.specs.declared.call.Update.{Update}
@@ -174,9 +175,9 @@ module _ (c : Core) (m m' : Meaning) (mine : Blocks) (goes : VolumesGo mine m m'
 -- ---- a site that is up and runs
 
 -- a replicated volume group that is laid on these volumes of a group
-lies_over : (o : Option GroupNode) (n : Node) (sizes : ℕ → ℕ) (m : Meaning) → (o ≡ None → ⊥) → IsLaid (units_by o n.disks) n.ring n.volumes sizes m → LiesBy o n sizes m
-lies_over None n sizes m over laid = absurd (over refl)
-lies_over (Some note) n sizes m over laid = record { laid = laid }
+lies_over : (o : Option GroupNode) (n : Node) (sizes : ℕ → ℕ) (m : Meaning) → (o ≡ None → ⊥) → IsLaid (units_by o n.disks) n.ring n.volumes sizes m → ((k : ℕ) → inside_of (units_by o n.disks) k ≡ true → k < m.units) → LiesBy o n sizes m
+lies_over None n sizes m over laid there = absurd (over refl)
+lies_over (Some note) n sizes m over laid there = record { laid = laid; there = there }
 
 module _ {beside : KeptBeside} (n : Node) (c : Core) (m m' : Meaning) (mine : Blocks) (goes : VolumesGo mine m m') (sound : IsSound c m) (over : n.group ≡ None → ⊥) (running : n.halted ≡ None) (after : Lawful m') (still : IsFalse m'.down) (fuse : FuseOn (burned n.fuse) m')
     (log_aside : (b : ℕ) → mine c.units.srl b → ⊥) (maps_aside : (b : ℕ) → mine c.units.maps b → ⊥) (vols_aside : (v b : ℕ) → v < length c.units.vols → mine (unit_of c.units.vols v) b → ⊥) where
@@ -195,7 +196,7 @@ module _ {beside : KeptBeside} (n : Node) (c : Core) (m m' : Meaning) (mine : Bl
   lies_kept : c.units ≡ units_of n → LiesOn n m → LiesOn n m'
   lies_kept units lies =
       lies_over n.group n n.base.size m' over
-      (subst (λ (u : Units). IsLaidBy u n.ring n.volumes n.base.size m'.size) units (laid_kept (subst (λ (u : Units). IsLaidBy u n.ring n.volumes n.base.size m.size) (sym units) (laid_in n m lies))))
+      (subst (λ (u : Units). IsLaidBy u n.ring n.volumes n.base.size m'.size) units (laid_kept (subst (λ (u : Units). IsLaidBy u n.ring n.volumes n.base.size m.size) (sym units) (laid_in n m lies)))) (λ k is. (let low = over_there n m over lies k is in let more = goes.units in omega (arith, low, more)))
 
   pub frame_up : IsUpAt beside n c m → IsUpAt beside (worked n) c m'
   frame_up up = record {

@@ -1,5 +1,5 @@
 -- Reads of a replicated volume group on any shelf, by parts.
-use Rattle.std.proofs.Common.{◌≡◌, ℕ, List, take, ap, subst, sym, IsTrue}
+use Rattle.std.proofs.Common.{◌≡◌, ◌∙◌, ◌/◌, ◌%◌, ◌<◌, ◌≤◌, ℕ, List, length, take, length-take-le, ap, arith, subst, sym, IsTrue}
 use Rattle.std.specs.Prelude.{OnOk, Result}
 use Rattle.vx_model.specs.Content.{blocks_in}
 use Rattle.vx_model.specs.declared.no.No.{No}
@@ -8,6 +8,7 @@ use Rattle.vx_history.specs.World.{Node}
 use Rattle.vx_disk.specs.Causes.{OnDisks}
 use Rattle.vx_disk.specs.Disks.{Untouched}
 use Rattle.vx_disk.specs.Shelf.{Goes, Lawful, Meaning, Nothing}
+use Rattle.vx_ringio.specs.Bodies.{IsBlocks}
 use Rattle.vx_rvg.specs.Contents.{ShowsContent}
 use Rattle.vx_rvg.specs.Groups.{ReadIs, read_refusal}
 use Rattle.vx_rvg.specs.Holdings.{Holding}
@@ -38,3 +39,23 @@ module _ (c c' : Core) (volume start count : ℕ) (bytes : List ℕ) (m new : Me
         subst (λ (b : List ℕ). CanRead n volume start (blocks_in b) → ReadAs beside n volume start (blocks_in b) b c' m new result) (sym front) (read_of beside n up);
     down = down;
   }
+
+-- so many bytes of a room are whole blocks
+pub front_blocks : (count : ℕ) (room : List ℕ) → length room ≡ 8192 → 0 < count → count ≤ 8192 → count % 512 ≡ 0 → IsBlocks (take count room)
+front_blocks count room long some few whole =
+    let same : length (take count room) ≡ count = length-take-le count room (omega (arith, few, long)) in
+    record {
+      some = omega (arith, some, same);
+      few = omega (arith, few, same);
+      whole = subst (λ (n : ℕ). n % 512 ≡ 0) (sym same) whole;
+    }
+
+-- the same where as many bytes were given as were read
+module _ (c c' : Core) (volume start count : ℕ) (bytes room : List ℕ) (given : ℕ) (long : given ≡ length bytes) (m new : Meaning) (result : Result (Unit {0}) No) (lawful : Lawful m) (after : Lawful new) (sound : IsSound c m) (same : c' ≡ c) (sound' : IsSound c' new)
+    (answers : ReadIs (read_refusal c (m.size (unit_of c.units.vols volume)) start (given / 512)) m new result) (gives : OnOk result ((h : Holding) → Stands c h m → IsTrue m.tells → ShowsContent h.content volume start (given / 512) bytes))
+    (goes : Goes Nothing m new) (down : new.down ≡ m.down) (disks : OnDisks m.disks new.disks Untouched) (front : take count room ≡ bytes) where
+  pub reads_room : DoesRead c volume start count m c' room new result
+  reads_room =
+      does_read c c' volume start count bytes m new result lawful after sound same sound'
+      (subst (λ (k : ℕ). ReadIs (read_refusal c (m.size (unit_of c.units.vols volume)) start (k / 512)) m new result) long answers)
+      (subst (λ (k : ℕ). OnOk result ((h : Holding) → Stands c h m → IsTrue m.tells → ShowsContent h.content volume start (k / 512) bytes)) long gives) goes down disks room front

@@ -33,14 +33,6 @@ module _ {R : Type 0} {g : Ghosts R} where
   off_stays above (Marked rack) off = tt
   off_stays above Gone off = tt
 
-  -- a crash takes nothing from what is told of the disks
-  pub crash_tells : (pick : ℕ) (mid new : GroupSite R g) → MayCrashSite pick mid new → (site_disks new).tells ≡ (site_disks mid).tells
-  crash_tells pick (Up laid) new it = it.0.tells
-  crash_tells pick (Deported idle) new it = ap (λ (e : GroupSite R g). (site_disks e).tells) it
-  crash_tells pick (Down idle) new it = ap (λ (e : GroupSite R g). (site_disks e).tells) it
-  crash_tells pick (Marked rack) new it = ap (λ (e : GroupSite R g). (site_disks e).tells) it
-  crash_tells pick Gone new it = ap (λ (e : GroupSite R g). (site_disks e).tells) it
-
   module _ (n : Node) (note : GroupNode) (cut : Option CutWrite) (old mid : GroupSite R g) (s : OverSet R g) where
     pub over_kept : (kept : Option KeptWrite) → LooksKept n note cut old mid (Ok kept) → site_in s ≡ mid → s.cut ≡ None → RisesOver n note cut old (Over s) (Ok kept)
     over_kept kept it same none = (

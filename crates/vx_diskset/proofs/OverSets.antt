@@ -28,6 +28,7 @@ module _ (beside : KeptBeside) (n : Node) (fuse : FuseOf) (failing : ℕ → Boo
     config = it.config;
     sure = it.sure;
     lies = it.lies;
+    there = it.there;
     low = it.low;
     logged = it.logged;
     begun = it.begun;
@@ -35,10 +36,10 @@ module _ (beside : KeptBeside) (n : Node) (fuse : FuseOf) (failing : ℕ → Boo
   }
 
   away_like : RestsOver (λ c. AwayOver c beside n m) beside n m → RestsOver (λ c. AwayOver c beside k m) beside k m
-  away_like = rests_like (λ c. AwayOver c beside n m) (λ c. AwayOver c beside k m) (λ c it. record { left = it.left })
+  away_like = rests_like (λ c. AwayOver c beside n m) (λ c. AwayOver c beside k m) (λ c it. record { extends = it.extends; left = it.left })
 
   fell_like : RestsOver (λ c. FellOver c beside n m) beside n m → RestsOver (λ c. FellOver c beside k m) beside k m
-  fell_like = rests_like (λ c. FellOver c beside n m) (λ c. FellOver c beside k m) (λ c it. record { extends = it.extends; found = it.found; unclean = it.unclean })
+  fell_like = rests_like (λ c. FellOver c beside n m) (λ c. FellOver c beside k m) (λ c it. record { extends = it.extends; found = it.found })
 
 module _ {R : Type 0} {g : Ghosts R} where
   -- some writes and flushes may have been made

@@ -1,8 +1,8 @@
 -- A receiver that runs, seen as a site whose writes end with those that are durable; and what waits behind its group, past calls.
 use Rattle.std.proofs.Common.{◌≡◌, ◌∙◌, inl, inr, ⊎_elim, ℕ, ◌+◌, ◌≤◌, Bool, true, false, List, [], length, take, drop, ap, sym, subst, refl, arith}
-use Rattle.std.specs.Prelude.{IsFalse, Option, Some, None, Result, Ok, Err, OnOk, IsTrue}
+use Rattle.std.specs.Prelude.{IsFalse, Option, Some, None, Result, Ok, Err}
 use Rattle.std.proofs.lemmas.List.{drop_all, length-take, take_all}
-use Rattle.vx_model.specs.Content.{Write, fold_writes, Content}
+use Rattle.vx_model.specs.Content.{Write, fold_writes}
 use Rattle.vx_model.specs.Sites.{is_origin}
 use Rattle.vx_model.specs.declared.call.Update.{Update}
 use Rattle.vx_model.specs.declared.no.No.{No}
@@ -10,28 +10,20 @@ use Rattle.vx_model.specs.declared.no.No.TheVariants.{Device, Limit, Down as IsO
 use Rattle.vx_model.specs.declared.state.KeptLink.{KeptLink}
 use Rattle.vx_model.specs.declared.state.State.{State}
 use Rattle.vx_model.specs.declared.units.Units.{Units}
-use Rattle.vx_rvg.specs.Contents.{ShowsContent}
-use Rattle.vx_rvg.specs.Holdings.{Holding}
-use Rattle.vx_rvg.specs.Stands.{Stands}
 use Rattle.vx_rvg.specs.declared.group.Rvg.{Rvg}
 use Rattle.vx_history.specs.World.{Node, Fuse, FuseSet}
 use Rattle.vx_srlfmt.specs.declared.header.Header.{Header}
 use Rattle.vx_srl.specs.declared.kept.Kept.{Kept as KeptRecord}
 use Rattle.vx_disk.specs.Causes.{OnDisks}
-use Rattle.vx_disk.specs.Disks.{SameBlocks, Untouched}
+use Rattle.vx_disk.specs.Disks.{SameBlocks}
 use Rattle.vx_disk.specs.Racks.{Alike, IsRack}
 use Rattle.vx_disk.specs.Shelf.{Goes, Image, Lawful, Meaning, Nothing}
-use Rattle.vx_rvg.specs.Groups.{ApplyIs, GroupFails, ReadIs, read_refusal}
+use Rattle.vx_rvg.specs.Groups.{ApplyIs, GroupFails}
 use Rattle.vx_rvg.specs.Saves.{SaveIs, with_new_state}
-use Rattle.vx_rvg.specs.Views.{Core, last_of, unit_of}
+use Rattle.vx_rvg.specs.Views.{Core, last_of}
 use Rattle.vx_rvg.proofs.ReadStands.{rest_stands}
 use Rattle.vx_secondary.specs.Receivers.{Wait, writes_of_updates}
 use Rattle.vx_secondary.proofs.Writings.{can_same}
-use Rattle.vx_diskset.proofs.MakeGroup.{fuse_untouched}
-use Rattle.vx_diskset.specs.Shelves.{ReadAs}
-use Rattle.vx_diskset.proofs.ReadGroup.{read_as, reads_up}
-use Rattle.vx_events.specs.Sayings.{received_content}
-use Rattle.vx_diskset.specs.Received.{ShowedAt}
 use Rattle.vx_diskset.specs.Fuses.{FuseOn}
 use Rattle.vx_diskset.specs.Holds.{KeptBeside, HasDoubted, HasWrites, KeptSite, MayBe, site_alone, most_with, state_with}
 use Rattle.vx_diskset.specs.Lasts.{FoundWith, StandsHolding}
@@ -39,7 +31,7 @@ use Rattle.vx_diskset.specs.Layouts.{units_of}
 use Rattle.vx_diskset.specs.Needs.{TakesAs}
 use Rattle.vx_diskset.specs.Stands.{IsHeldAt, IsReceiverAt, IsUpAt, RoleIs, SiteStands, IsToldAt, IsUngrouped}
 use Rattle.vx_diskset.specs.Rooms.{AppliedAs}
-use Rattle.vx_diskset.specs.DiskSets.{AppliedUp, ReadAt, halted_at, worked, BareUp, BareUpBy, CameUp, CameUpBy, CanRead}
+use Rattle.vx_diskset.specs.DiskSets.{AppliedUp, ReadAt, halted_at, worked, BareUp, BareUpBy, CameUp, CameUpBy}
 use Rattle.vx_diskset.specs.Keeps.{KeptUp, doubting, restated, kept_anew}
 use Rattle.vx_diskset.specs.declared.disk_set.DiskSet.{DiskSet}
 use Rattle.vx_diskset.specs.declared.disk_set.DiskSet.TheVariants.{Up, Receives}
@@ -389,74 +381,6 @@ module _ {R : Type 0} {g : Ghosts R} where
 
       pub kept_received : (result : Result (Unit {0}) No) → KeptUp beside (durable_of n) k (Up s.rvg) (Up new.rvg) result → KeptUp beside n k old (Receives new) result
       kept_received result h = subst (λ (e : DiskSet R g). KeptUp beside n k e (Receives new) result) (sym is) (by_keep result h)
-
--- ---- what is shown of a receiver
-
-module _ {R : Type 0} {g : Ghosts R} where
-  module _ (beside : KeptBeside) (n : Node) (s new : Secondary R g) (volume start count : ℕ) (bytes : List ℕ) (raw : IsUngrouped beside n) (r : IsReceiverAt beside n s.rvg.core s.waiting (g.meaning s.rvg.shelf)) (can : CanRead n volume start count)
-      (lawful : Lawful (g.meaning s.rvg.shelf)) (after : Lawful (g.meaning new.rvg.shelf)) (same : new.rvg.core ≡ s.rvg.core) (waiting : new.waiting ≡ s.waiting) (goes : Goes Nothing (g.meaning s.rvg.shelf) (g.meaning new.rvg.shelf))
-      (down : (g.meaning new.rvg.shelf).down ≡ (g.meaning s.rvg.shelf).down) (disks : OnDisks (g.meaning s.rvg.shelf).disks (g.meaning new.rvg.shelf).disks Untouched) where
-    up : IsUpAt beside (durable_of n) s.rvg.core (g.meaning s.rvg.shelf)
-    up = receiver_up n s.rvg.core s.waiting (g.meaning s.rvg.shelf) r can.running lawful s.rvg.sound.log_unit
-
-    fuse : FuseOn n.fuse (g.meaning new.rvg.shelf)
-    fuse = fuse_untouched n.fuse (g.meaning s.rvg.shelf) (g.meaning new.rvg.shelf) disks goes.unarmed r.fuse
-
-    waits : writes_of_updates s.waiting ≡ drop n.safe n.log
-    waits = r.waits ∙ ap (λ (k : ℕ). drop k n.log) (r.head can.running)
-
-    shown_with : (c : Core) → c ≡ s.rvg.core → IsUpAt beside (durable_of n) c (g.meaning new.rvg.shelf) → IsReceiverAt beside n c new.waiting (g.meaning new.rvg.shelf)
-    shown_with c is here =
-        as_receiver n new.waiting n.halted n.fuse c (g.meaning new.rvg.shelf) (r.sure can.running) r.role (omega (arith, r.least, r.most)) (ap (λ (us : List Update). writes_of_updates us) waiting ∙ waits) here
-
-    stands : IsReceiverAt beside n new.rvg.core new.waiting (g.meaning new.rvg.shelf)
-    stands = shown_with new.rvg.core same (subst (λ (c : Core). IsUpAt beside (durable_of n) c (g.meaning new.rvg.shelf)) (sym same)
-        (reads_up (durable_of n) s.rvg.core (g.meaning s.rvg.shelf) (g.meaning new.rvg.shelf) can.running up lawful after s.rvg.sound.log_unit goes down fuse))
-
-    -- a read that was refused
-    refused : (why : No) → ReadIs (read_refusal s.rvg.core ((g.meaning s.rvg.shelf).size (unit_of s.rvg.core.units.vols volume)) start count) (g.meaning s.rvg.shelf) (g.meaning new.rvg.shelf) (Err why)
-        → ReadAs beside (durable_of n) volume start count bytes s.rvg.core (g.meaning s.rvg.shelf) (g.meaning new.rvg.shelf) (Err why)
-    refused why is =
-        read_as (durable_of n) s.rvg.core (g.meaning s.rvg.shelf) (g.meaning new.rvg.shelf) volume start count bytes up
-        (record { up = can.up; running = can.running; volume_exists = can.volume_exists; within = can.within }) lawful after s.rvg.sound.log_unit goes down fuse (Err why) is tt
-
-    by_why : (why : No) → ReadAs beside (durable_of n) volume start count bytes s.rvg.core (g.meaning s.rvg.shelf) (g.meaning new.rvg.shelf) (Err why) → ShowedAt beside n volume start count bytes (Receives s) (Receives new) (Err why)
-    by_why (Device disk) is = ((raw, stands), is.1)
-    by_why other is = is
-
-    pub showed : (result : Result (Unit {0}) No) → ReadIs (read_refusal s.rvg.core ((g.meaning s.rvg.shelf).size (unit_of s.rvg.core.units.vols volume)) start count) (g.meaning s.rvg.shelf) (g.meaning new.rvg.shelf) result
-        → OnOk result ((h : Holding) → Stands s.rvg.core h (g.meaning s.rvg.shelf) → IsTrue (g.meaning s.rvg.shelf).tells → ShowsContent (fold_writes h.content (writes_of_updates s.waiting)) volume start count bytes)
-        → ShowedAt beside n volume start count bytes (Receives s) (Receives new) result
-    showed (Ok done) is gives = (
-      (λ told.
-          let here : IsTrue (g.meaning s.rvg.shelf).tells = sym goes.tells ∙ told in
-          let stood = r.content can.running here in
-          subst (λ (c : Content). ShowsContent c volume start count bytes) (ap (λ (c : Content). fold_writes c (writes_of_updates s.waiting)) stood.has.content ∙ ap (λ (xs : List Write). fold_writes n.base xs) waits) (gives stood.held stood.stands here)),
-      (raw, stands),
-    )
-    showed (Err why) is gives = by_why why (refused why is)
-
-  pub showed_at : (beside : KeptBeside) (n : Node) (old new : DiskSet R g) (s : Secondary R g) (volume start count : ℕ) (bytes : List ℕ) (result : Result (Unit {0}) No) → old ≡ Receives s
-      → (IsUngrouped beside n → IsReceiverAt beside n s.rvg.core s.waiting (g.meaning s.rvg.shelf) → ShowedAt beside n volume start count bytes (Receives s) new result) → SiteStands beside n old → ShowedAt beside n volume start count bytes old new result
-  showed_at beside n old new s volume start count bytes result is shows stands =
-      let at = receiver_there beside n old s is stands in
-      subst (λ (e : DiskSet R g). ShowedAt beside n volume start count bytes e new result) (sym is) (shows at.0 at.1)
-
-  -- nothing waits at a site that does not receive
-  pub read_showed : (beside : KeptBeside) (n : Node) (old new : DiskSet R g) (rvg : Rvg R g) (volume start count : ℕ) (bytes : List ℕ) (result : Result (Unit {0}) No) → old ≡ Up rvg → SiteStands beside n old → n.halted ≡ None
-      → ReadAt beside n volume start count bytes old new result → ShowedAt beside n volume start count bytes old new result
-  read_showed beside n old new rvg volume start count bytes result is stands running read = by result read
-    where
-      up : IsUpAt beside n rvg.core (g.meaning rvg.shelf)
-      up = (up_there beside n old rvg is stands).1
-
-      same : n.base ≡ received_content n
-      same = ap (λ (xs : List Write). fold_writes n.base xs) (sym (drop_all n.safe n.log (up.durable running)))
-
-      by : (result : Result (Unit {0}) No) → ReadAt beside n volume start count bytes old new result → ShowedAt beside n volume start count bytes old new result
-      by (Ok done) h = ((λ told. subst (λ (c : Content). ShowsContent c volume start count bytes) same (h.0 told)), h.1)
-      by (Err (Device disk)) h = h
-      by (Err other) h = h
 
 -- ---- a site that came up
 

@@ -26,7 +26,7 @@ use Rattle.vx_diskset.specs.Holds.{most_header}
 use Rattle.vx_history.specs.Stops.{IsFused}
 use Rattle.vx_events.specs.Fuses.{IsExact}
 use Rattle.vx_diskset.specs.Layouts.{raw_units}
-use Rattle.vx_diskset.specs.Stands.{SiteStands, StandsAlone, CutAt, IsUnused, IsToldAt, RoleIs, faults_at}
+use Rattle.vx_diskset.specs.Stands.{CutAt, IsRackTold, IsToldAt, IsUnused, RoleIs, SiteStands, StandsAlone, faults_at}
 
 -- a write that nothing but a failing disk or want of a number can refuse
 pub record CanWrite (n : Node) (volume start count : ℕ) : Type 0 where
@@ -98,7 +98,7 @@ module _ {R : Type 0} {g : Ghosts R} where
   -- no count of a disk falls, and contents that are told now were told before
   pub record Later (old new : DiskSet R g) : Type 0 where
     pub counts : (d : ℕ) → faults_at old d ≤ faults_at new d
-    pub told : IsToldAt new → IsToldAt old
+    pub told : IsRackTold new → IsRackTold old
 
   -- the count of this disk rose
   abbrev pub RoseAt : DiskSet R g → DiskSet R g → ℕ → Type 0

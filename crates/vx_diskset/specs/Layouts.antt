@@ -1,5 +1,5 @@
 -- How the replicated volume group of a site lies on the units of a shelf: that of a raw set on its disks, and one over a group of disks on the volumes of that.
-use Rattle.std.specs.Prelude.{◌≡◌, ℕ, ◌-◌, ◌*◌, ◌<◌, ◌≤◌, List, length, Option, None, Some, slice_get}
+use Rattle.std.specs.Prelude.{◌≡◌, ℕ, ◌-◌, ◌*◌, ◌<◌, ◌≤◌, true, List, length, Option, None, Some, slice_get}
 use Rattle.vx_model.specs.declared.limits.TheConstants.{LEAST_BLOCKS, LINK_PLACES, MOST_DATA_VOLUMES, MOST_DISKS}
 use Rattle.vx_model.specs.Sizes.{map_blocks, ring_of}
 use Rattle.vx_model.specs.declared.units.Units.{Units}
@@ -10,6 +10,7 @@ use Rattle.vx_disk.specs.Shelf.{Meaning}
 use Rattle.vx_rvg.specs.Views.{unit_of}
 use Rattle.vx_events.specs.Facts.{values_from}
 use Rattle.vx_events.specs.GroupViews.{config_of}
+use Rattle.vx_events.specs.RvgNotes.{inside_of}
 
 -- the units of a raw set: its log on disk 0, its maps on the last disk, and a volume on each disk between
 abbrev pub raw_units : ℕ → Units
@@ -64,9 +65,10 @@ pub record IsRaw (disks blocks ring : ℕ) (volumes : List Volume) (sizes : ℕ 
 abbrev pub LiesRaw : Node → Meaning → Type 0
 LiesRaw n m = IsRaw n.disks n.blocks n.ring n.volumes n.base.size m
 
--- On the volumes of a group a replicated volume group on these of them.
+-- On the volumes of a group a replicated volume group on these of them, each of which is there.
 pub record IsOver (u : Units) (ring : ℕ) (volumes : List Volume) (sizes : ℕ → ℕ) (m : Meaning) : Type 0 where
   pub laid : IsLaid u ring volumes sizes m
+  pub there : (k : ℕ) → inside_of u k ≡ true → k < m.units
 
 -- a raw set, or one over a group, with volumes of these sizes
 abbrev pub LiesBy : Option GroupNode → Node → (ℕ → ℕ) → Meaning → Type 0

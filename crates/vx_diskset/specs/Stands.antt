@@ -34,7 +34,6 @@ use Rattle.vx_disk.specs.Shelf.{Each}
 use Rattle.vx_kept.specs.Groups.{Shows, found as finds, group_meaning}
 use Rattle.vx_kept.specs.Keeping.{Extends}
 use Rattle.vx_kept.specs.Opens.{OpenVolumes}
-use Rattle.vx_group.specs.Resumes.{stopped}
 use Rattle.vx_grouped.specs.Readies.{ready_of}
 use Rattle.vx_grouped.specs.declared.idle.Idle.{Idle}
 use Rattle.vx_untold.specs.Shades.{shade_meaning}
@@ -170,15 +169,15 @@ pub record IsDownAt (beside : KeptBeside) (n : Node) (m : Meaning) : Type 0 wher
   pub left : IsTrue m.tells → LeftWith (raw_units n.disks) n.ring (state_with n beside.links) n.session (most_header beside n) n.log n.base m
 
 -- The disks of a site that crashed, whose group has a replicated volume group. Of each image that they leave an import finds a configuration by which the volumes
--- show the site's log, which has all its writes, and its content; and the volumes of the group stopped uncleanly in it, so the import gives one value of each block.
+-- show the site's log, which has all its writes, and its content.
 pub record FellOver (c : Config) (beside : KeptBeside) (n : Node) (m : Meaning) : Type 0 where
   pub extends : (i : Image) (x : Config) → Each m.leaves i → finds m i ≡ Found x → Extends x c
   pub found : (i : Image) (x : Config) (above : Image) → Each m.leaves i → finds m i ≡ Found x → Shows c x i above
       → FoundWith (units_of n) n.ring (state_with n beside.links) n.session (most_header beside n) above n.log n.base
-  pub unclean : (i : Image) (x : Config) (v : ℕ) → Each m.leaves i → finds m i ≡ Found x → inside_of (units_of n) v ≡ true → stopped x v ≡ true
 
 -- Those of one that was deported: by each configuration that an import finds the volumes have that log and that content, whatever a crash leaves of them.
 pub record AwayOver (c : Config) (beside : KeptBeside) (n : Node) (m : Meaning) : Type 0 where
+  pub extends : (i : Image) (x : Config) → Each m.leaves i → finds m i ≡ Found x → Extends x c
   pub left : (i : Image) (x opened : Config) (readable : ℕ → Bool) → Each m.leaves i → finds m i ≡ Found x → OpenVolumes 0 (returned readable x) opened
       → LeftWith (units_of n) n.ring (state_with n beside.links) n.session (most_header beside n) n.log n.base (group_meaning opened (λ v. 0) m)
 
@@ -188,6 +187,7 @@ pub record RestsOver (Left : Config → Type 0) (beside : KeptBeside) (n : Node)
   pub config : Config
   pub sure : beside.doubt ≡ None
   pub lies : IsLaidBy (units_of n) n.ring n.volumes n.base.size (blocks_of config.volumes)
+  pub there : (k : ℕ) → inside_of (units_of n) k ≡ true → k < length config.volumes
   pub low : n.low ≡ 1
   pub logged : length n.log ≡ n.safe
   pub begun : IsTrue m.tells → 0 < n.session
@@ -323,6 +323,11 @@ module _ {R : Type 0} {g : Ghosts R} where
   IsToldAt (OfGroup s) = IsTrue (site_below s.site).tells
   IsToldAt (Over s) = IsTrue (site_disks (site_in s)).tells
   IsToldAt Gone = ⊥
+
+  -- Whether its rack tells its contents, whatever is known of them: this is what calls keep, as an import may find disks of which it is not known what they hold.
+  abbrev pub IsRackTold : DiskSet R g → Type 0
+  IsRackTold (Over s) = IsTrue (site_below (site_in s)).tells
+  IsRackTold other = IsToldAt other
 
   -- the count of the faults of a disk
   abbrev pub faults_at : DiskSet R g → ℕ → ℕ

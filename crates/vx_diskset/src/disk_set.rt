@@ -122,6 +122,7 @@ impl<R: Rack> DiskSet<R> {
         ensures asked { (beside : KeptBeside) (n : Node) → SiteStands beside n self → n.state ≡ UpState → CrashesBy pick self result }
         ensures cut { (beside : KeptBeside) (n : Node) → CutAt beside n self → CrashedAt beside n result }
         ensures stopped { MayCrash pick self result }
+        ensures seen { IsToldAt result → IsToldAt self }
         ensures role { KeepsRole self result }
         ensures later { Later self result }
     {

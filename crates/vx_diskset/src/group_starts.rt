@@ -14,7 +14,7 @@ ghost use Rattle.vx_diskset.specs.Asked.{FuseGoesOn, SameFailing};
 ghost use Rattle.vx_diskset.specs.DiskSets.{Later};
 ghost use Rattle.vx_diskset.specs.Aboves.{site_in};
 ghost use Rattle.vx_diskset.specs.OverStarts.{HandsOut, ImportsBy, RaisesBy};
-ghost use Rattle.vx_diskset.specs.GroupCalls.{AtFound, AtOver, AtPlain, AtSite, ImportsOn, InitIs, cut_in};
+ghost use Rattle.vx_diskset.specs.GroupCalls.{AtFound, AtPlain, AtSite, ImportsOn, InitIs, cut_in};
 ghost use Rattle.vx_diskset.specs.Holds.{KeptBeside};
 ghost use Rattle.vx_diskset.specs.Recovers.{LooksAt, LooksKept, RaisesGroup, RisesOver, RisesSince, RisesWith, cut_past};
 ghost use Rattle.vx_diskset.specs.Stands.{SiteStands};
@@ -207,7 +207,6 @@ fn stand_over<R: Rack>(
     ensures rises { (n : Node) (note : GroupNode) → UpNoted n note (site_in over) → RisesOver n note cut (site_in over) result.0 result.1 }
     ensures since { AtSite (λ e. RisesSince (site_disks (site_in over)) (site_disks e)) result.0 }
     ensures told { AtSite (λ e. TellsLess (site_below (site_in over)) (site_below e)) result.0 }
-    ensures tells { AtOver (λ e. TellsLess (site_disks (site_in over)) (site_disks e)) result.0 }
 {
     let (site, above, _cut) = over.parts();
     let mut site = site;

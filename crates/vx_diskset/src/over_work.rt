@@ -88,7 +88,8 @@ impl Work for Shows {
     ghost does = { λ w m n r. DoesShow w.core w.waiting w.volume w.start w.count m r.0 r.1 r.2 n r.3 };
 
     fn run<S: Shelf>(self, shelf: S) -> (S, (RvgCore, Waiting, Room, Result<(), No>)) {
-        let mut site = Secondary::together(Rvg::together(shelf, self.core), self.waiting);
+        let rvg = Rvg::together(shelf, self.core);
+        let mut site = Secondary::together(rvg, self.waiting);
         let mut room = [0; MOST_CALL_BYTES as usize];
         let answer = site.show(self.volume, self.start, &mut room[..self.count]);
         let (rvg, waiting) = site.apart();

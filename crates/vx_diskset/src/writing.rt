@@ -155,12 +155,13 @@ pub(crate) fn write_group<S: Shelf>(
 impl<R: Rack> DiskSet<R> {
     ghost use Rattle.vx_diskset.specs.DiskSets.{CanRead, CanApply, ReadAt, WroteAt, AppliedUp, AppliedAt, CrashedAt};
     ghost use Rattle.vx_diskset.specs.Asked.{LeavesAlone, MayCrash};
-    ghost use Rattle.vx_diskset.specs.Stands.{CutAt, InVolumes};
+    ghost use Rattle.vx_diskset.specs.Stands.{CutAt, InVolumes, IsToldAt};
 
     /// Crashes the disks of a group whose shelf is down.
     pub(crate) fn fall(&mut self)
         ensures falls { (beside : KeptBeside) (n : Node) → CutAt beside n self.old → CrashedAt beside n self.new }
         ensures stopped { MayCrash 0xffff_ffff_ffff_ffff self.old self.new }
+        ensures seen { IsToldAt self.new → IsToldAt self.old }
         ensures role { KeepsRole self.old self.new }
         ensures later { Later self.old self.new }
     {

@@ -95,4 +95,4 @@ module _ (old : Meaning) (law : Lawful old) {S : Type 0} (meaning : S → Meanin
       ]
 
   pub opened_brings : BringsVolumes old core new
-  opened_brings = record { took = took; unclean = unclean }
+  opened_brings = record { tells = it.goes.tells ∙ r.goes.tells; took = took; unclean = unclean }

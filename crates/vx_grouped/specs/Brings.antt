@@ -34,8 +34,10 @@ pub record TookVolumes (old : Meaning) (core : GroupCore) (m : Meaning) : Type 0
   pub goes : Goes Nothing (group_meaning opened (λ v. 0) old) (inner_meaning (wide core) m)
   pub rvg : core.inner.config.rvg ≡ config.rvg
 
--- So it is where contents are told; and of disks that crashed a volume that stopped uncleanly has what an image of them shows, one value of each block.
+-- So it is where contents are told, which they are as before; and of disks that crashed a volume that stopped uncleanly has what an image of them shows, one value
+-- of each block.
 pub record BringsVolumes (old : Meaning) (core : GroupCore) (m : Meaning) : Type 0 where
+  pub tells : m.tells ≡ old.tells
   pub took : IsTrue old.tells → TookVolumes old core m
   pub unclean : IsTrue old.tells → (c x : Config) (i above : Image) (v b : ℕ) (value : List ℕ) → AtRest old → Each old.leaves i → found old i ≡ Found x → Extends x c → Shows c x i above → stopped x v ≡ true → Inside c v b
       → (inner_meaning (wide core) m).leaves v b value → value ≡ above v b

@@ -13,7 +13,7 @@ use Rattle.vx_diskset.proofs.GroupCalling.{rises_called}
 use Rattle.vx_diskset.proofs.GroupRising.{rises_crash}
 use Rattle.vx_diskset.proofs.OverFrames.{site_stays}
 use Rattle.vx_diskset.proofs.OverPlain.{carried_site}
-use Rattle.vx_diskset.proofs.OverRising.{crash_tells, off_stays, over_kept, over_unread}
+use Rattle.vx_diskset.proofs.OverRising.{off_stays, over_kept, over_unread}
 use Rattle.vx_diskset.proofs.group_starts.stand_over.Goals as goal
 
 pub of-requires : goal.of-requires
@@ -53,12 +53,3 @@ pub returns-in-Err-clause-told : goal.returns-in-Err-clause-told
 returns-in-Err-clause-told g c =
     carried_site (λ o e. TellsLess (site_below o) (site_below e)) (site_in c.args.over) c.parts-site.result.0 (site_in c.of-in-Err.result) c.crash.result c.parts-site.ensures.site c.of-in-Err.ensures.site
     (λ told. c.look_kept.ensures.told (c.crash.ensures.told told))
-
-pub returns-in-Ok-clause-tells : goal.returns-in-Ok-clause-tells
-returns-in-Ok-clause-tells g c =
-    carried_site (λ o e. TellsLess (site_disks o) (site_disks e)) (site_in c.args.over) c.parts-site.result.0 (site_in c.of.result) c.look_kept.new.site c.parts-site.ensures.site c.of.ensures.site (λ told. sym c.look_kept.ensures.since.tells ∙ told)
-
-pub returns-in-Err-clause-tells : goal.returns-in-Err-clause-tells
-returns-in-Err-clause-tells g c =
-    carried_site (λ o e. TellsLess (site_disks o) (site_disks e)) (site_in c.args.over) c.parts-site.result.0 (site_in c.of-in-Err.result) c.crash.result c.parts-site.ensures.site c.of-in-Err.ensures.site
-    (λ told. sym c.look_kept.ensures.since.tells ∙ sym (crash_tells 0xffff_ffff_ffff_ffff c.look_kept.new.site c.crash.result c.crash.ensures.stopped) ∙ told)

@@ -68,8 +68,8 @@ returns-in-Err-clause-on g c = both_on c.args.group.now.core c.write.new.self.co
 pub returns-in-Err-clause-goes : goal.returns-in-Err-clause-goes
 returns-in-Err-clause-goes g c = c.write.ensures.goes
 
-pub returns-in-Ok-flush-clause-goes : goal.returns-in-Ok-flush-clause-goes
-returns-in-Ok-flush-clause-goes g c = then_nothing (Written c.args.vol c.args.block c.args.bytes.now) (inner_meaning (wide c.args.group.now.core) (g.S.Shelf.meaning c.args.group.now.shelf)) (inner_meaning (wide c.write.new.self.core) (g.S.Shelf.meaning c.write.new.self.shelf)) (inner_meaning (wide c.flush.new.self.core) (g.S.Shelf.meaning c.flush.new.self.shelf)) c.write.ensures.goes c.flush.ensures.goes
+pub returns-in-Ok-flush_run-clause-goes : goal.returns-in-Ok-flush_run-clause-goes
+returns-in-Ok-flush_run-clause-goes g c = then_nothing (Written c.args.vol c.args.block c.args.bytes.now) (inner_meaning (wide c.args.group.now.core) (g.S.Shelf.meaning c.args.group.now.shelf)) (inner_meaning (wide c.write.new.self.core) (g.S.Shelf.meaning c.write.new.self.shelf)) (inner_meaning (wide c.flush_run.new.self.core) (g.S.Shelf.meaning c.flush_run.new.self.shelf)) c.write.ensures.goes c.flush_run.ensures.goes
 
-pub returns-in-Err-flush-clause-goes : goal.returns-in-Err-flush-clause-goes
-returns-in-Err-flush-clause-goes g c = then_nothing (Written c.args.vol c.args.block c.args.bytes.now) (inner_meaning (wide c.args.group.now.core) (g.S.Shelf.meaning c.args.group.now.shelf)) (inner_meaning (wide c.write.new.self.core) (g.S.Shelf.meaning c.write.new.self.shelf)) (inner_meaning (wide c.flush.new.self.core) (g.S.Shelf.meaning c.flush.new.self.shelf)) c.write.ensures.goes c.flush.ensures.goes
+pub returns-in-Err-flush_run-clause-goes : goal.returns-in-Err-flush_run-clause-goes
+returns-in-Err-flush_run-clause-goes g c = then_nothing (Written c.args.vol c.args.block c.args.bytes.now) (inner_meaning (wide c.args.group.now.core) (g.S.Shelf.meaning c.args.group.now.shelf)) (inner_meaning (wide c.write.new.self.core) (g.S.Shelf.meaning c.write.new.self.shelf)) (inner_meaning (wide c.flush_run.new.self.core) (g.S.Shelf.meaning c.flush_run.new.self.shelf)) c.write.ensures.goes c.flush_run.ensures.goes

@@ -1,11 +1,14 @@
 -- A volume that is made in a site's group: what it leaves of the site and of its disks.
 use Rattle.std.proofs.Common.{◌≡◌, ◌∙◌, ℕ, subst, sym}
 use Rattle.vx_disk.specs.Disks.{Crashed}
+use Rattle.vx_disk.specs.Moves.{Nowhere}
 use Rattle.vx_untold.specs.Shades.{shade_meaning, shade_rack}
 use Rattle.vx_watched.proofs.SinceLemmas.{since_stop}
 use Rattle.vx_grouped.specs.Added.{IsUnmoved}
 use Rattle.vx_grouped.specs.SiteAdds.{MakesVolume}
 use Rattle.vx_grouped.proofs.SiteAddLemmas.{made_cut, made_done, made_up, made_volume, make_down}
+use Rattle.vx_grouped.specs.Volumes.{laid_seen}
+use Rattle.vx_grouped.proofs.VolumeLemmas.{fell_behind, same_go}
 use Rattle.vx_grouped.proofs.site_making.make_site.Goals as goal
 
 pub returns-then-is_down_stop-clause-made : goal.returns-then-is_down_stop-clause-made
@@ -40,3 +43,15 @@ returns-else-is_down_stop-clause-made g c = λ n note up.
 
 pub returns-then-is_down_stop-clause-told : goal.returns-then-is_down_stop-clause-told
 returns-then-is_down_stop-clause-told g c = λ told. c.make_watched-laid.ensures.told (c.crash.ensures.told told)
+
+pub returns-then-is_down-clause-volumes : goal.returns-then-is_down-clause-volumes
+returns-then-is_down-clause-volumes g c = same_go (laid_seen c.args.laid)
+
+pub returns-in-Ok-clause-volumes : goal.returns-in-Ok-clause-volumes
+returns-in-Ok-clause-volumes g c = c.make_watched-laid.ensures.works.goes
+
+pub returns-then-is_down_stop-clause-volumes : goal.returns-then-is_down_stop-clause-volumes
+returns-then-is_down_stop-clause-volumes g c = fell_behind Nowhere c.args.laid c.make_watched-laid.result.0 c.crash.result c.make_watched-laid.ensures.works.goes c.crash.ensures.stopped c.crash.ensures.agreed
+
+pub returns-else-is_down_stop-clause-volumes : goal.returns-else-is_down_stop-clause-volumes
+returns-else-is_down_stop-clause-volumes g c = c.make_watched-laid.ensures.works.goes

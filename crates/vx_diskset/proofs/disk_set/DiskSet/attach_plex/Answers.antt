@@ -81,7 +81,7 @@ pub returns-in-Over-clause-failing : goal.returns-in-Over-clause-failing
 returns-in-Over-clause-failing g c = plain_failing c.args.self.now c.in-Over.over c.att-in-Over.new.self c.in-Over.is c.att-in-Over.ensures.since
 
 pub returns-in-Over-clause-later : goal.returns-in-Over-clause-later
-returns-in-Over-clause-later g c = plain_later c.args.self.now c.in-Over.over c.att-in-Over.new.self c.in-Over.is c.att-in-Over.ensures.since
+returns-in-Over-clause-later g c = plain_later c.args.self.now c.in-Over.over c.att-in-Over.new.self c.in-Over.is c.att-in-Over.ensures.since c.att-in-Over.ensures.told
 
 pub returns-in-Over-clause-since : goal.returns-in-Over-clause-since
 returns-in-Over-clause-since g c = subst (λ x. CalledOn x (Over c.att-in-Over.new.self)) (sym c.in-Over.is) c.att-in-Over.ensures.since

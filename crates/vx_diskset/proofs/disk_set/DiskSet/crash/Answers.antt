@@ -1,7 +1,7 @@
 -- `crash`: clauses crashed, cut, asked and stopped.
-use Rattle.std.proofs.Common.{◌∙◌, ap, subst}
-use Rattle.vx_diskset.specs.Stands.{CutAt, SiteStands}
-use Rattle.vx_diskset.proofs.OverFalls.{fell_asked, fell_later, fell_role, fell_stopped}
+use Rattle.std.proofs.Common.{◌≡◌, ◌∙◌, IsTrue, ap, subst, sym}
+use Rattle.vx_diskset.specs.Stands.{CutAt, IsToldAt, SiteStands}
+use Rattle.vx_diskset.proofs.OverFalls.{fell_asked, fell_later, fell_role, fell_seen, fell_stopped}
 use Rattle.vx_diskset.proofs.RawSets.{cut_received, receiver_there, up_there}
 use Rattle.vx_diskset.proofs.CrashGroup.{crashed_at, cut_crashed, held_crashed}
 use Rattle.vx_diskset.proofs.Asking.{crash_did}
@@ -78,4 +78,18 @@ pub returns-in-Over-clause-role : goal.returns-in-Over-clause-role
 returns-in-Over-clause-role g c = fell_role c.args.pick c.args.self c.in-Over.over c.crash-in-Over.result c.in-Over.is c.crash-in-Over.ensures.stopped c.crash-in-Over.ensures.above
 
 pub returns-in-Over-clause-later : goal.returns-in-Over-clause-later
-returns-in-Over-clause-later g c = fell_later c.args.pick c.args.self c.in-Over.over c.crash-in-Over.result c.in-Over.is c.crash-in-Over.ensures.stopped
+returns-in-Over-clause-later g c = fell_later c.args.pick c.args.self c.in-Over.over c.crash-in-Over.result c.in-Over.is c.crash-in-Over.ensures.stopped c.crash-in-Over.ensures.told
+
+pub returns-in-Over-clause-seen : goal.returns-in-Over-clause-seen
+returns-in-Over-clause-seen g c = fell_seen c.args.pick c.args.self c.in-Over.over c.crash-in-Over.result c.in-Over.is c.crash-in-Over.ensures.stopped
+
+pub returns-in-OfGroup-clause-seen : goal.returns-in-OfGroup-clause-seen
+returns-in-OfGroup-clause-seen g c = λ told. subst (λ e. IsToldAt e) (sym c.in-OfGroup.is) (c.crash-in-OfGroup.ensures.told told)
+
+pub returns-in-Up-clause-seen : goal.returns-in-Up-clause-seen
+returns-in-Up-clause-seen g c = λ told.
+    subst (λ e. IsToldAt e) (sym c.in-Up.is) (subst (λ r. IsTrue (g.R.Shelf.meaning r).tells) c.into_shelf-rack.ensures (sym c.crash.ensures.stopped.tells ∙ told))
+
+pub returns-in-Receives-clause-seen : goal.returns-in-Receives-clause-seen
+returns-in-Receives-clause-seen g c = λ told.
+    subst (λ e. IsToldAt e) (sym c.in-Receives.is) (subst (λ r. IsTrue (g.R.Shelf.meaning r).tells) (c.into_shelf-rack-in-Receives.ensures ∙ ap (λ r. r.shelf) c.into_rvg.ensures) (sym c.crash-in-Receives.ensures.stopped.tells ∙ told))

@@ -64,7 +64,7 @@ pub returns-in-Over-clause-failing : goal.returns-in-Over-clause-failing
 returns-in-Over-clause-failing g c = plain_failing c.args.self.now c.in-Over.over c.deport-answer.new.self (sym c.replace.ensures.value ∙ c.in-Over.is) c.deport-answer.ensures.since
 
 pub returns-in-Over-clause-later : goal.returns-in-Over-clause-later
-returns-in-Over-clause-later g c = plain_later c.args.self.now c.in-Over.over c.deport-answer.new.self (sym c.replace.ensures.value ∙ c.in-Over.is) c.deport-answer.ensures.since
+returns-in-Over-clause-later g c = plain_later c.args.self.now c.in-Over.over c.deport-answer.new.self (sym c.replace.ensures.value ∙ c.in-Over.is) c.deport-answer.ensures.since c.deport-answer.ensures.told
 
 pub returns-in-Over-clause-since : goal.returns-in-Over-clause-since
 returns-in-Over-clause-since g c = subst (λ x. CalledOn x (Over c.deport-answer.new.self)) (sym (sym c.replace.ensures.value ∙ c.in-Over.is)) c.deport-answer.ensures.since

@@ -8,9 +8,9 @@ use Rattle.vx_diskset.specs.Recovers.{cut_past}
 use Rattle.vx_diskset.specs.Aboves.{site_in}
 use Rattle.vx_diskset.proofs.GroupCalling.{at_sites}
 use Rattle.vx_diskset.proofs.OverCalling.{at_overs}
-use Rattle.vx_diskset.proofs.OverRisen.{over_failing, over_fuse}
+use Rattle.vx_diskset.proofs.OverRisen.{over_failing, over_fuse, over_later}
 use Rattle.vx_diskset.proofs.GroupRising.{imported_settled, rise_failing, rise_fuse, rise_later}
-use Rattle.vx_diskset.proofs.OverImports.{import_found, import_rises, import_settles, past_over}
+use Rattle.vx_diskset.proofs.OverImports.{import_found, import_rises, import_settles, import_tells, past_over}
 use Rattle.vx_untold.specs.Shades.{shade_rack}
 use Rattle.vx_diskset.proofs.disk_set.DiskSet.import_group.Goals as goal
 
@@ -61,3 +61,9 @@ returns-in-Over-clause-fuse g c = λ n note.
     over_fuse c.args.self c.import_over.result.0 c.in-Over.over c.in-Over.is (import_rises (shade_rack g.R.Shelf.meaning is_rack) (site_in c.in-Over.over) c.in-Over.over.cut c.import_over.result.0 c.import_over.result.1 by)
     (import_settles (shade_rack g.R.Shelf.meaning is_rack) (site_in c.in-Over.over) c.in-Over.over.cut c.import_over.result.0 c.import_over.result.1 by
     (imported_settled is_rack n note (site_in c.in-Over.over) by.mid by.answer (by.imported n note it))))
+
+pub returns-in-Over-clause-later : goal.returns-in-Over-clause-later
+returns-in-Over-clause-later g c =
+    let is_rack = (g.met.R.Rack g.world.𝓛 g.world.𝓜 g.world.𝓡 ((λ s x. x), (λ x. x), (λ x. x), λ x. x)).rack in
+    over_later c.args.self c.import_over.result.0 c.in-Over.over c.in-Over.is (import_rises (shade_rack g.R.Shelf.meaning is_rack) (site_in c.in-Over.over) c.in-Over.over.cut c.import_over.result.0 c.import_over.result.1 c.import_over.ensures.brought)
+    (import_tells (site_in c.in-Over.over) c.in-Over.over.cut c.import_over.result.0 c.import_over.result.1 c.import_over.ensures.brought)

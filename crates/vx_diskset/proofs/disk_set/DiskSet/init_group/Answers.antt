@@ -3,7 +3,7 @@ use Rattle.std.proofs.Common.{ap, subst, sym}
 use Rattle.vx_grouped.specs.Begins.{BeginsGroup}
 use Rattle.vx_grouped.specs.GroupSites.{site_disks, site_below}
 use Rattle.vx_diskset.specs.GroupCalls.{bare_disks, AtPlain}
-use Rattle.vx_diskset.specs.Stands.{SiteStands, IsToldAt}
+use Rattle.vx_diskset.specs.Stands.{SiteStands, IsRackTold}
 use Rattle.vx_diskset.proofs.GroupBegun.{begin_bare, begin_failing, begin_fuse, begin_later, begin_settled, begun_stays, marked_at, marked_bare, marked_can}
 use Rattle.vx_diskset.proofs.GroupCalling.{has_bare, has_group, has_spoiled, told_before}
 use Rattle.vx_diskset.proofs.disk_set.DiskSet.init_group.Goals as goal
@@ -28,7 +28,7 @@ pub returns-in-Bare-clause-failing : goal.returns-in-Bare-clause-failing
 returns-in-Bare-clause-failing g c = begin_failing c.args.self c.begin_on.result.0 (g.R.Shelf.meaning c.in-Bare.rack) (has_bare c.args.self c.in-Bare.rack c.in-Bare.is) c.begin_on.ensures.since
 
 pub returns-in-Bare-clause-later : goal.returns-in-Bare-clause-later
-returns-in-Bare-clause-later g c = begin_later c.args.self c.begin_on.result.0 (g.R.Shelf.meaning c.in-Bare.rack) (has_bare c.args.self c.in-Bare.rack c.in-Bare.is) c.begin_on.ensures.since (g.R.Shelf.meaning c.in-Bare.rack) (λ told. subst (λ e. IsToldAt e) (sym c.in-Bare.is) told) c.begin_on.ensures.told
+returns-in-Bare-clause-later g c = begin_later c.args.self c.begin_on.result.0 (g.R.Shelf.meaning c.in-Bare.rack) (has_bare c.args.self c.in-Bare.rack c.in-Bare.is) c.begin_on.ensures.since (g.R.Shelf.meaning c.in-Bare.rack) (λ told. subst (λ e. IsRackTold e) (sym c.in-Bare.is) told) c.begin_on.ensures.told
 
 pub returns-in-Spoiled-clause-begun : goal.returns-in-Spoiled-clause-begun
 returns-in-Spoiled-clause-begun g c = λ beside n stands state some large.
@@ -50,7 +50,7 @@ pub returns-in-Spoiled-clause-failing : goal.returns-in-Spoiled-clause-failing
 returns-in-Spoiled-clause-failing g c = begin_failing c.args.self c.begin_on-in-Spoiled.result.0 (g.R.Shelf.meaning c.in-Spoiled.rack) (has_spoiled c.args.self c.in-Spoiled.rack c.in-Spoiled.is) c.begin_on-in-Spoiled.ensures.since
 
 pub returns-in-Spoiled-clause-later : goal.returns-in-Spoiled-clause-later
-returns-in-Spoiled-clause-later g c = begin_later c.args.self c.begin_on-in-Spoiled.result.0 (g.R.Shelf.meaning c.in-Spoiled.rack) (has_spoiled c.args.self c.in-Spoiled.rack c.in-Spoiled.is) c.begin_on-in-Spoiled.ensures.since (g.R.Shelf.meaning c.in-Spoiled.rack) (λ told. subst (λ e. IsToldAt e) (sym c.in-Spoiled.is) told) c.begin_on-in-Spoiled.ensures.told
+returns-in-Spoiled-clause-later g c = begin_later c.args.self c.begin_on-in-Spoiled.result.0 (g.R.Shelf.meaning c.in-Spoiled.rack) (has_spoiled c.args.self c.in-Spoiled.rack c.in-Spoiled.is) c.begin_on-in-Spoiled.ensures.since (g.R.Shelf.meaning c.in-Spoiled.rack) (λ told. subst (λ e. IsRackTold e) (sym c.in-Spoiled.is) told) c.begin_on-in-Spoiled.ensures.told
 
 pub returns-in-OfGroup-clause-begun : goal.returns-in-OfGroup-clause-begun
 returns-in-OfGroup-clause-begun g c = λ beside n stands state some large.

@@ -29,4 +29,4 @@ pub returns-in-Over-clause-failing : goal.returns-in-Over-clause-failing
 returns-in-Over-clause-failing g c = over_failing c.args.self c.stand_over.result.0 c.in-Over.over c.in-Over.is c.stand_over.ensures.since
 
 pub returns-in-Over-clause-later : goal.returns-in-Over-clause-later
-returns-in-Over-clause-later g c = over_later c.args.self c.stand_over.result.0 c.in-Over.over c.in-Over.is c.stand_over.ensures.since c.stand_over.ensures.tells
+returns-in-Over-clause-later g c = over_later c.args.self c.stand_over.result.0 c.in-Over.over c.in-Over.is c.stand_over.ensures.since c.stand_over.ensures.told

@@ -5,8 +5,8 @@ use Rattle.vx_diskset.specs.Recovers.{RaisesGroup}
 use Rattle.vx_diskset.specs.Aboves.{site_in}
 use Rattle.vx_diskset.proofs.GroupCalling.{at_sites}
 use Rattle.vx_diskset.proofs.OverCalling.{at_overs}
-use Rattle.vx_diskset.proofs.OverImports.{import_raises, import_rises}
-use Rattle.vx_diskset.proofs.OverRisen.{over_failing}
+use Rattle.vx_diskset.proofs.OverImports.{import_raises, import_rises, import_tells}
+use Rattle.vx_diskset.proofs.OverRisen.{over_failing, over_later}
 use Rattle.vx_untold.specs.Shades.{shade_rack}
 use Rattle.vx_diskset.proofs.GroupRising.{rise_failing, rise_later}
 use Rattle.vx_diskset.proofs.disk_set.DiskSet.raise_group.Goals as goal
@@ -34,3 +34,10 @@ returns-in-Over-clause-failing g c =
     let is_rack = (g.met.R.Rack g.world.𝓛 g.world.𝓜 g.world.𝓡 ((λ s x. x), (λ x. x), (λ x. x), λ x. x)).rack in
     let by = c.raise_over.ensures.brought in
     over_failing c.args.self c.raise_over.result.0 c.in-Over.over c.in-Over.is (import_rises (shade_rack g.R.Shelf.meaning is_rack) (site_in c.in-Over.over) c.in-Over.over.cut c.raise_over.result.0 by.answer by.by)
+
+pub returns-in-Over-clause-later : goal.returns-in-Over-clause-later
+returns-in-Over-clause-later g c =
+    let is_rack = (g.met.R.Rack g.world.𝓛 g.world.𝓜 g.world.𝓡 ((λ s x. x), (λ x. x), (λ x. x), λ x. x)).rack in
+    let by = c.raise_over.ensures.brought in
+    over_later c.args.self c.raise_over.result.0 c.in-Over.over c.in-Over.is (import_rises (shade_rack g.R.Shelf.meaning is_rack) (site_in c.in-Over.over) c.in-Over.over.cut c.raise_over.result.0 by.answer by.by)
+    (import_tells (site_in c.in-Over.over) c.in-Over.over.cut c.raise_over.result.0 by.answer by.by)

@@ -54,7 +54,7 @@ pub returns-in-Over-clause-failing : goal.returns-in-Over-clause-failing
 returns-in-Over-clause-failing g c = plain_failing c.args.self.now c.in-Over.over c.read_plain.new.self c.in-Over.is c.read_plain.ensures.since
 
 pub returns-in-Over-clause-later : goal.returns-in-Over-clause-later
-returns-in-Over-clause-later g c = plain_later c.args.self.now c.in-Over.over c.read_plain.new.self c.in-Over.is c.read_plain.ensures.since
+returns-in-Over-clause-later g c = plain_later c.args.self.now c.in-Over.over c.read_plain.new.self c.in-Over.is c.read_plain.ensures.since c.read_plain.ensures.told
 
 pub returns-in-Over-clause-since : goal.returns-in-Over-clause-since
 returns-in-Over-clause-since g c = subst (λ x. CalledOn x (Over c.read_plain.new.self)) (sym c.in-Over.is) c.read_plain.ensures.since

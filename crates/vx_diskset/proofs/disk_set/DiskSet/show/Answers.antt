@@ -3,7 +3,7 @@ use Rattle.std.proofs.Common.{subst}
 use Rattle.vx_model.specs.Content.{blocks_in}
 use Rattle.vx_diskset.specs.declared.disk_set.DiskSet.TheVariants.{Receives}
 use Rattle.vx_diskset.specs.Asked.{IsRawSet}
-use Rattle.vx_diskset.proofs.Receiving.{read_showed, showed, showed_at}
+use Rattle.vx_diskset.proofs.Showing.{read_showed, showed, showed_at}
 use Rattle.vx_diskset.proofs.disk_set.DiskSet.show.Goals as goal
 
 pub returns-then-volume-volumes-clause-shows : goal.returns-then-volume-volumes-clause-shows

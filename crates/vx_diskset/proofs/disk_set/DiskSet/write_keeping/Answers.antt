@@ -10,7 +10,7 @@ use Rattle.vx_diskset.proofs.disk_set.DiskSet.write_keeping.Goals as goal
 pub returns-then-is_off-clause-wrote : goal.returns-then-is_off-clause-wrote
 returns-then-is_off-clause-wrote g c = λ beside n stands can has.
     wrote_off n (record { volume = c.args.volume; start = c.args.start; bytes = c.args.bytes.now }) c.args.self.now c.write_up.new.self c.fall.new.self c.in-Err.no (sym c.is_off.ensures ∙ c.if-is_off.true)
-    (c.in-Err.ensures.wrote beside n stands can has) (c.fall.ensures.falls beside (half_begun n (record { volume = c.args.volume; start = c.args.start; bytes = c.args.bytes.now }))) c.fall.ensures.later.told
+    (c.in-Err.ensures.wrote beside n stands can has) (c.fall.ensures.falls beside (half_begun n (record { volume = c.args.volume; start = c.args.start; bytes = c.args.bytes.now }))) c.fall.ensures.seen
 
 pub returns-else-is_off-clause-wrote : goal.returns-else-is_off-clause-wrote
 returns-else-is_off-clause-wrote g c = λ beside n stands can has.
