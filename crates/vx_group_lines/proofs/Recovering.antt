@@ -26,7 +26,7 @@ use Rattle.vx_diskset.specs.Asked.{SameFailing}
 use Rattle.vx_diskset.specs.DiskSets.{Later}
 use Rattle.vx_diskset.specs.GroupCalls.{AtSite}
 use Rattle.vx_diskset.specs.Recovers.{LooksAt, RaisesGroup}
-use Rattle.vx_diskset.specs.Stands.{IsToldAt, faults_at}
+use Rattle.vx_diskset.specs.Stands.{IsRackTold, faults_at}
 use Rattle.vx_diskset.specs.declared.disk_set.DiskSet.{DiskSet}
 use Rattle.vx_diskset.specs.declared.disk_set.DiskSet.TheVariants.{OfGroup}
 use Rattle.vx_diskset.specs.declared.group_set.CutWrite.{CutWrite}
@@ -194,7 +194,7 @@ module _ {R : Type 0} {g : Ghosts R} where
           let later : Later before st.before = subst (λ (x : DiskSet R g). Later before x) same first.later in
           looked e s old new before st.after begin call rm.set.site rm.holds.0 rm.holds.1 rm.holds.3 (lit_up (returned_with rm.holds.0 n) rm.holds.0 rm.set.site rm.holds.2)
           (λ set is. record {
-            tells = λ yes_. subst (λ (x : DiskSet R g). IsToldAt x) rm.is (st.later.told (subst (λ (x : DiskSet R g). IsToldAt x) (sym is) yes_));
+            tells = λ yes_. subst (λ (x : DiskSet R g). IsRackTold x) rm.is (st.later.told (subst (λ (x : DiskSet R g). IsRackTold x) (sym is) yes_));
             from = λ k. omega (arith, later.counts k, ap (λ (x : DiskSet R g). faults_at x k) at.is_set, ap (λ (x : DiskSet R g). faults_at x k) rm.is);
             counts = λ k. omega (arith, st.later.counts k, ap (λ (x : DiskSet R g). faults_at x k) rm.is, ap (λ (x : DiskSet R g). faults_at x k) is);
           })

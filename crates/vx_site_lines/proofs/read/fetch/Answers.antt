@@ -12,7 +12,7 @@ use Rattle.vx_diskset.specs.Asked.{LeavesAlone}
 use Rattle.vx_diskset.specs.Holds.{beside_of}
 use Rattle.vx_site_lines.proofs.FetchLine.{fetch_stops, fetching}
 use Rattle.vx_yard.proofs.NamedSite.{asks_at, place_at}
-use Rattle.vx_yard.proofs.RawSites.{raw_named, ungrouped_over}
+use Rattle.vx_yard.proofs.RawSites.{raw_named}
 use Rattle.vx_site_lines.proofs.read.fetch.Goals as goal
 
 pub site_of-site-requires-clause-named : goal.site_of-site-requires-clause-named
@@ -44,7 +44,7 @@ returns-in-Ok-clause-leads g c = λ d line stands apart is free origin.
     let seat : seat_of y.facts.items c.args.name.now ≡ Some c.site_of-site.result = c.site_of-site.ensures.seat in
     let disk_set = get_at y.disk_sets.items c.site_of-site.result c.index_mut.result.now c.site_of-site.ensures.disk_set c.index_mut.ensures.value in
     let may = may_read y c.args.name.now c.args.volume.now c.args.start c.args.count c.requires.free in
-    let read = fetching d y c.args.name.now c.args.volume.now c.args.start c.args.count c.site_of-site.result c.volume_of-place.result c.index_mut.result.now stands (ungrouped_over d.world c.args.name.now apart) may seat disk_set c.volume_of-place.ensures.place in
+    let read = fetching d y c.args.name.now c.args.volume.now c.args.start c.args.count c.site_of-site.result c.volume_of-place.result c.index_mut.result.now stands apart may seat disk_set c.volume_of-place.ensures.place in
     let there = stands.disk_sets.sites c.site_of-site.result c.index_mut.result.now read.seat.below disk_set in
     fetched_leads d y _ c.args.name.now c.args.volume.now c.args.start c.args.count c.site_of-site.result c.volume_of-place.result c.index_mut.result.now c.blocks_of.new.disk_set stands read
     (record { there = disk_set; later = c.in-Ok.ensures.later; disk_sets = refl; racks = refl }) (c.in-Ok.ensures.still (raw_named d c.args.name.now c.site_of-site.result c.index_mut.result.now read.seat.number apart there))
@@ -58,7 +58,7 @@ returns-in-Err-clause-leads g c = λ d line stands apart is free origin.
     let seat : seat_of y.facts.items c.args.name.now ≡ Some c.site_of-site.result = c.site_of-site.ensures.seat in
     let disk_set = get_at y.disk_sets.items c.site_of-site.result c.index_mut.result.now c.site_of-site.ensures.disk_set c.index_mut.ensures.value in
     let may = may_read y c.args.name.now c.args.volume.now c.args.start c.args.count c.requires.free in
-    let read = fetching d y c.args.name.now c.args.volume.now c.args.start c.args.count c.site_of-site.result c.volume_of-place.result c.index_mut.result.now stands (ungrouped_over d.world c.args.name.now apart) may seat disk_set c.volume_of-place.ensures.place in
+    let read = fetching d y c.args.name.now c.args.volume.now c.args.start c.args.count c.site_of-site.result c.volume_of-place.result c.index_mut.result.now stands apart may seat disk_set c.volume_of-place.ensures.place in
     let there = stands.disk_sets.sites c.site_of-site.result c.index_mut.result.now read.seat.below disk_set in
     fetch_stops d line y _ c.args.name.now c.args.volume.now c.args.start c.args.count c.site_of-site.result c.volume_of-place.result c.in-Err.no c.index_mut.result.now c.blocks_of.new.disk_set is stands read
     (record { there = disk_set; later = c.in-Err.ensures.later; disk_sets = refl; racks = refl }) (c.in-Err.ensures.still (raw_named d c.args.name.now c.site_of-site.result c.index_mut.result.now read.seat.number apart there))

@@ -9,7 +9,7 @@ use Rattle.vx_yard.proofs.ChangeSite.{told_before}
 use Rattle.vx_site_lines.proofs.FetchLine.{fetching}
 use Rattle.vx_yard.proofs.Lists.{get_at}
 use Rattle.vx_yard.proofs.NamedSite.{asks_at, place_at}
-use Rattle.vx_yard.proofs.RawSites.{raw_named, ungrouped_over}
+use Rattle.vx_yard.proofs.RawSites.{raw_named}
 use Rattle.vx_site_lines.proofs.ReadLine.{may_read}
 use Rattle.vx_yard.proofs.Seats.{named_some, volume_there}
 use Rattle.vx_site_lines.proofs.ShownLine.{not_primary, shown_leads, shown_stops}
@@ -43,7 +43,7 @@ returns-in-Ok-clause-leads g c = λ d s stands apart seat receives.
     let after = c.shown_of.new.disk_set in
     let disk_set = get_at y.disk_sets.items t before c.site_of-site.ensures.disk_set c.index_mut.ensures.value in
     let may = may_read y c.args.name.now c.args.volume.now c.args.start c.args.count (inr c.requires.free) in
-    let read = fetching d y c.args.name.now c.args.volume.now c.args.start c.args.count t c.volume_of-place.result before stands (ungrouped_over d.world c.args.name.now apart) may c.site_of-site.ensures.seat disk_set c.volume_of-place.ensures.place in
+    let read = fetching d y c.args.name.now c.args.volume.now c.args.start c.args.count t c.volume_of-place.result before stands apart may c.site_of-site.ensures.seat disk_set c.volume_of-place.ensures.place in
     let there = stands.disk_sets.sites t before read.seat.below disk_set in
     let other = subst (λ i. is_origin (d.world.nodes i).role ≡ false) (some_same (sym seat ∙ c.site_of-site.ensures.seat)) receives in
     shown_leads d y _ c.args.name.now c.args.volume.now c.args.start c.args.count t c.volume_of-place.result before after stands read (record { there = disk_set; later = c.in-Ok.ensures.later; disk_sets = refl; racks = refl }) (c.in-Ok.ensures.still (raw_named d c.args.name.now t before read.seat.number apart there)) c.in-Ok.ensures.role refl
@@ -61,7 +61,7 @@ returns-in-Err-clause-leads g c = λ d s stands apart seat receives.
     let after = c.shown_of.new.disk_set in
     let disk_set = get_at y.disk_sets.items t before c.site_of-site.ensures.disk_set c.index_mut.ensures.value in
     let may = may_read y c.args.name.now c.args.volume.now c.args.start c.args.count (inr c.requires.free) in
-    let read = fetching d y c.args.name.now c.args.volume.now c.args.start c.args.count t c.volume_of-place.result before stands (ungrouped_over d.world c.args.name.now apart) may c.site_of-site.ensures.seat disk_set c.volume_of-place.ensures.place in
+    let read = fetching d y c.args.name.now c.args.volume.now c.args.start c.args.count t c.volume_of-place.result before stands apart may c.site_of-site.ensures.seat disk_set c.volume_of-place.ensures.place in
     let there = stands.disk_sets.sites t before read.seat.below disk_set in
     shown_stops d y _ c.args.name.now c.args.volume.now c.args.start c.args.count t c.volume_of-place.result before after stands read (record { there = disk_set; later = c.in-Err.ensures.later; disk_sets = refl; racks = refl }) (c.in-Err.ensures.still (raw_named d c.args.name.now t before read.seat.number apart there)) c.in-Err.ensures.role refl
     (record { flight = refl; assemblies = refl; feeders = refl }) c.in-Err.no (c.in-Err.ensures.shows (beside_of d t) (d.world.nodes t) there read.can)

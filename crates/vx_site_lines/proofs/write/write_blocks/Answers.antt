@@ -10,7 +10,7 @@ use Rattle.vx_linked.specs.Holds.{awaits_one}
 use Rattle.vx_yard.proofs.ChangeSite.{told_before}
 use Rattle.vx_yard.proofs.Lists.{get_at}
 use Rattle.vx_yard.proofs.NamedSite.{asks_at, place_at}
-use Rattle.vx_yard.proofs.RawSites.{raw_named, ungrouped_over}
+use Rattle.vx_yard.proofs.RawSites.{raw_named}
 use Rattle.vx_yard.proofs.Seats.{named_some, volume_there}
 use Rattle.vx_site_lines.proofs.WriteLinks.{answers_under, next_after, room_as, write_leads, write_stops}
 use Rattle.vx_site_lines.proofs.WriteTests.{may_write, writing}
@@ -34,7 +34,7 @@ returns-in-Ok-clause-leads g c = λ d line stands apart is free.
     let at = get_at y.disk_sets.items s c.index_mut.result.now c.site_of-site.ensures.disk_set c.index_mut.ensures.value in
     let f = get_at y.facts.items s c.index-2.result.now c.site_of-site.ensures.fact c.index-2.ensures in
     let now = get_at y.facts.items s c.index_mut-in-Ok.result.now c.site_of-site.ensures.fact c.index_mut-in-Ok.ensures.value in
-    let to = writing d y line c.args.name.now c.args.volume.now c.args.start c.args.bytes.now s c.volume_of-place.result c.index_mut.result.now stands (ungrouped_over d.world c.args.name.now apart) is free seat at c.volume_of-place.ensures.place in
+    let to = writing d y line c.args.name.now c.args.volume.now c.args.start c.args.bytes.now s c.volume_of-place.result c.index_mut.result.now stands apart is free seat at c.volume_of-place.ensures.place in
     let there = stands.disk_sets.sites s c.index_mut.result.now to.seat.below at in
     let racks = (g.met.R.Rack g.world.𝓛 g.world.𝓜 g.world.𝓡 ((λ s x. x), (λ x. x), (λ x. x), λ x. x)).rack in
     write_leads racks d y _ line c.args.name.now c.args.volume.now c.args.start c.args.bytes.now s c.volume_of-place.result c.index_mut.result.now c.write_keeping.new.self stands is to (record { there = at; later = c.in-Ok.ensures.later; disk_sets = refl; racks = refl }) c.in-Ok.ensures.role
@@ -52,7 +52,7 @@ returns-in-Err-clause-leads g c = λ d line stands apart is free.
     let first = get_at y.disk_sets.items s c.index.result.now c.site_of-site.ensures.disk_set c.index.ensures in
     let f = get_at y.facts.items s c.index-2.result.now c.site_of-site.ensures.fact c.index-2.ensures in
     let now = get_at y.facts.items s c.index_mut-in-Err.result.now c.site_of-site.ensures.fact c.index_mut-in-Err.ensures.value in
-    let to = writing d y line c.args.name.now c.args.volume.now c.args.start c.args.bytes.now s c.volume_of-place.result c.index_mut.result.now stands (ungrouped_over d.world c.args.name.now apart) is free seat at c.volume_of-place.ensures.place in
+    let to = writing d y line c.args.name.now c.args.volume.now c.args.start c.args.bytes.now s c.volume_of-place.result c.index_mut.result.now stands apart is free seat at c.volume_of-place.ensures.place in
     let there = stands.disk_sets.sites s c.index_mut.result.now to.seat.below at in
     let racks = (g.met.R.Rack g.world.𝓛 g.world.𝓜 g.world.𝓡 ((λ s x. x), (λ x. x), (λ x. x), λ x. x)).rack in
     write_stops racks d y _ line c.args.name.now c.args.volume.now c.args.start c.args.bytes.now s c.volume_of-place.result c.index_mut.result.now c.write_keeping.new.self stands is to (record { there = at; later = c.in-Err.ensures.later; disk_sets = refl; racks = refl }) c.in-Err.ensures.role
