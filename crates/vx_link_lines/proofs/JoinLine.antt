@@ -50,7 +50,6 @@ use Rattle.vx_link_lines.proofs.HeaderCalls.{Answered, IsHeader}
 use Rattle.vx_link_lines.proofs.LinkChain.{fresh, second_links}
 use Rattle.vx_link_lines.proofs.NotedYard.{sure_open}
 use Rattle.vx_yard.proofs.OneSite.{Changed, told_by}
-use Rattle.vx_yard.proofs.OverGroup.{none_over}
 use Rattle.vx_link_lines.proofs.PartLine.{header_done, header_refused}
 
 origin_of : (role : Role) → is_primary role ≡ true → is_origin role ≡ true
@@ -133,7 +132,7 @@ module _ {R : Type 0} {g : Ghosts R} (note : (ℕ → Node) → ℕ → Node) (d
     fits = fit_happened d e false fit;
     fits_before = fit;
     opens = (two.up_too, two.running_too);
-    alone = none_over n alone;
+    none = alone;
     writes = refl;
   }
 

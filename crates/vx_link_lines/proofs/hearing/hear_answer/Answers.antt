@@ -23,6 +23,7 @@ use Rattle.vx_linked.specs.Hearings.{Hears}
 use Rattle.vx_world.proofs.Doubting.{world_good}
 use Rattle.vx_yard.specs.Loads.{LetGoBy}
 use Rattle.vx_yard.proofs.ApplySite.{calls_keep}
+use Rattle.vx_yard.proofs.OverGroup.{none_noted}
 use Rattle.vx_link_lines.proofs.Behind.{behind_short}
 use Rattle.vx_yard.proofs.ChangeSite.{told_before}
 use Rattle.vx_link_lines.proofs.HeardLine.{deaf_to, heard_by, refused_by, stays_same, stop_is, stop_none, unheard_stays}
@@ -177,7 +178,7 @@ returns-in-Some-refusal-clause-leads g c = λ d p stands off carries good at to 
       changed = record { there = there; later = c.hear-said.ensures.later; disk_sets = refl; racks = refl };
       keeps = c.hear-said.ensures.role;
       opens = (listens.up, listens.running);
-      alone = listens.apart;
+      none = none_noted (d.world.nodes t) listens.apart off;
       rises = c.in-Err.ensures.rises d p t no at to answers carries.flight listens link here state as_stop;
       stops = subst (λ (x : Stop). PartHeardAt d t q c.args.number before after c.hear-said.new.link old.flight (Err x)) stop (c.in-Err.ensures.part d p t at to answers carries.flight listens link here state);
       calls = subst (λ (x : Stop). LeavesFuse NoMore (reply_by (let r : Result EventSaid Stop = Err x in r)) before after) stop (c.in-Err.ensures.called (beside_of d t) (d.world.nodes t) here raw);
@@ -223,7 +224,7 @@ returns-in-Ok-clause-leads g c = λ d p stands off carries good at to from below
       changed = record { there = there; later = c.hear-said.ensures.later; disk_sets = refl; racks = refl };
       keeps = c.hear-said.ensures.role;
       opens = (listens.up, listens.running);
-      alone = listens.apart;
+      none = none_noted (d.world.nodes t) listens.apart off;
       says = part.0.says;
       calls = c.in-Ok.ensures.called (beside_of d t) n here raw;
       facts = with_items_is old.facts c.keep_heard.new.sites (c.keep_heard.auto.sites ∙ c.deref_mut.ensures.len)

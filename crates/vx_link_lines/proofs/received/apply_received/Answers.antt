@@ -20,7 +20,7 @@ use Rattle.vx_yard.proofs.ChangeSite.{told_before}
 use Rattle.vx_diskset.proofs.KeepsFailing.{failing_same}
 use Rattle.vx_yard.proofs.NamedSite.{asks_at, unbegun_site}
 use Rattle.vx_yard.proofs.Lists.{get-set_same, get_at, length-set}
-use Rattle.vx_link_lines.proofs.RawParts.{raw_seat}
+use Rattle.vx_link_lines.proofs.RawParts.{named_off, raw_seat}
 use Rattle.vx_link_lines.proofs.ReceiverLine.{can_receive, received_done, received_refused}
 use Rattle.vx_yard.proofs.Seats.{named_some}
 use Rattle.vx_link_lines.proofs.received.apply_received.Goals as goal
@@ -50,7 +50,7 @@ returns-in-Ok-clause-leads g c = λ d s stands off carries seat receives.
     let line = c.in-Some.ensures.is (beside_of d t) n (subst (λ e. SiteStands (beside_of d t) n e) (sym same_before) stood) here.can.up here.seat.apart in
     let same_after = some_same (sym (get-set_same es t after c.site_of-site.ensures.disk_set)
     ∙ get_at (slice_set es t after) t c.index-in-Ok.result.now (omega (arith, c.site_of-site.ensures.disk_set, length-set es t after)) c.index-in-Ok.ensures) in
-    received_done d old _ c.args.name.now c.args.count t before after stands here (record { there = there; later = c.apply_waiting.ensures.later; disk_sets = refl; racks = refl }) c.apply_waiting.ensures.role other c.in-Ok.reached c.last-number.result
+    received_done d old _ c.args.name.now c.args.count t before after stands here (record { there = there; later = c.apply_waiting.ensures.later; disk_sets = refl; racks = refl }) c.apply_waiting.ensures.role other (named_off d old c.args.name.now t stands c.site_of-site.ensures.seat off) c.in-Ok.reached c.last-number.result
     (c.in-Ok.ensures.applied (beside_of d t) n stood can) (c.in-Ok.ensures.called (beside_of d t) n stood raw)
     (record {
       sends = λ acks ps flight.
@@ -82,7 +82,7 @@ returns-in-Err-clause-leads g c = λ d s stands off carries seat receives.
     let raw = raw_seat d old c.args.name.now t before stands c.site_of-site.ensures.seat there off in
     let can = can_receive d t stands.links other here.can.up here.can.running in
     let seen = c.index_mut-in-Err.result.now in
-    received_refused d old _ c.args.name.now c.args.count t before after stands here (record { there = there; later = c.apply_waiting.ensures.later; disk_sets = refl; racks = refl }) c.apply_waiting.ensures.role other c.in-Err.no c.refused.result seen c.refused.new.facts c.refused.ensures.said
+    received_refused d old _ c.args.name.now c.args.count t before after stands here (record { there = there; later = c.apply_waiting.ensures.later; disk_sets = refl; racks = refl }) c.apply_waiting.ensures.role other (named_off d old c.args.name.now t stands c.site_of-site.ensures.seat off) c.in-Err.no c.refused.result seen c.refused.new.facts c.refused.ensures.said
     (c.in-Err.ensures.blames (beside_of d t) (d.world.nodes t) stood) (c.in-Err.ensures.applied (beside_of d t) (d.world.nodes t) stood can) (c.in-Err.ensures.called (beside_of d t) (d.world.nodes t) stood raw)
     (get_at old.facts.items t seen c.site_of-site.ensures.fact c.index_mut-in-Err.ensures.value) c.refused.ensures.noted refl (record { flight = refl; assemblies = c.let_go_if_down.ensures; feeders = refl })
 
