@@ -9,6 +9,7 @@ pub mod FoundedWork
 pub mod OverNotes
 pub mod OverCalling
 pub mod OverCalls
+pub mod OverClean
 pub mod OverCame
 pub mod OverUp
 pub mod OverReturns
@@ -17,6 +18,7 @@ pub mod OverDowns
 pub mod OverDisks
 pub mod OverFalls
 pub mod OverFrames
+pub mod OverKept
 pub mod OverPlain
 pub mod OverReads
 pub mod OverReceivers
@@ -51,6 +53,7 @@ pub mod OverSets
 pub mod PumpGroup
 pub mod RawSets
 pub mod Reaching
+pub mod OverReaching
 pub mod ReadGroup
 pub mod Receiving
 pub mod Showing

@@ -1,5 +1,5 @@
 -- What the volumes of a group have of a replicated volume group behind an import of disks that crashed, or were deported.
-use Rattle.std.proofs.Common.{◌≡◌, ◌∙◌, inl, inr, ⊎_elim, ℕ, zero, suc, ◌+◌, ◌<◌, ◌≤◌, Bool, true, false, List, [], ◌∷◌, length, IsTrue, ap, arith, refl, subst, sym}
+use Rattle.std.proofs.Common.{◌≡◌, ◌∙◌, inl, inr, ⊎_elim, ℕ, zero, suc, ◌+◌, ◌<◌, ◌≤◌, Bool, true, false, List, [], ◌∷◌, length, IsTrue, ap, arith, refl, subst, sym, ◌⊎◌}
 use Rattle.std.specs.Prelude.{◌||◌, ◌==◌, None, Some, get_or}
 use Rattle.std.specs.List.{list_any}
 use Rattle.std.proofs.lemmas.Bool.{cases_lt, eq-eqb}
@@ -36,6 +36,11 @@ use Rattle.vx_diskset.specs.Layouts.{IsLaid, IsLaidBy, units_of}
 use Rattle.vx_diskset.specs.Stands.{AwayOver, FellOver, RestsOver}
 use Rattle.vx_diskset.proofs.CrashGroup.{keeps_option}
 use Rattle.vx_diskset.proofs.Laying.{sizes_of}
+use Rattle.vx_volume.specs.Plexes.{Inside}
+use Rattle.vx_logimport.specs.Rests.{LivesAgree}
+use Rattle.vx_kept.proofs.Narrower.{wanted_sound}
+use Rattle.vx_group.proofs.FoundLemmas.{found_wanted}
+use Rattle.vx_diskset.proofs.OverClean.{clean_value}
 use Rattle.vx_diskset.proofs.OverCrash.{shown, shows}
 use Rattle.vx_diskset.proofs.OverDisks.{seen_less}
 use Rattle.vx_diskset.proofs.StartGroup.{left_still_with}
@@ -150,9 +155,9 @@ module _ (r first : Meaning) (core : GroupCore) (m : Meaning) (alike : Alike r f
 
 -- ---- of disks that crashed
 
--- each configuration that is found has an ACTIVE plex of each volume of the replicated volume group
-pub record ImagesActive (units : Units) (m : Meaning) : Type 0 where
-  pub each : (i : Image) (x : Config) (v : ℕ) → Each m.leaves i → finds m i ≡ Found x → inside_of units v ≡ true → stopped x v ≡ true
+-- each configuration that is found has an ACTIVE plex of each volume of the replicated volume group, which stopped uncleanly, or its plexes that take part are alike
+pub record RvgSettles (units : Units) (m : Meaning) : Type 0 where
+  pub each : (i : Image) (x : Config) (v : ℕ) → Each m.leaves i → finds m i ≡ Found x → inside_of units v ≡ true → (stopped x v ≡ true) ⊎ LivesAgree x v m
 
 -- a rack that is down has one value of each block
 pub rack_rests : (m : Meaning) → IsRack m → IsTrue m.down → IsTrue m.tells → AtRest m
@@ -164,7 +169,7 @@ rack_rests m rack down tells = record { one = λ u b x y left right. latest u b 
 pub alike_rests : (m new : Meaning) → Alike m new → AtRest m → AtRest new
 alike_rests m new alike rest = record { one = λ u b x y left right. rest.one u b x y (alike.contents.leaves u b x left) (alike.contents.leaves u b y right) }
 
-module _ {beside : KeptBeside} (n : Node) (r first : Meaning) (core : GroupCore) (m : Meaning) (alike : Alike r first) (brings : BringsVolumes first core m) (one : AtRest first) (rests : RestsOver (λ c. FellOver c beside n r) beside n r) (active : ImagesActive (units_of n) r)
+module _ {beside : KeptBeside} (n : Node) (r first : Meaning) (core : GroupCore) (m : Meaning) (alike : Alike r first) (brings : BringsVolumes first core m) (one : AtRest first) (rests : RestsOver (λ c. FellOver c beside n r) beside n r) (settles : RvgSettles (units_of n) r)
     (told : IsTrue m.tells) where
   abbrev mine : TookVolumes first core m
   mine = took r first core m alike brings told
@@ -186,10 +191,16 @@ module _ {beside : KeptBeside} (n : Node) (r first : Meaning) (core : GroupCore)
 
   -- a block of one of its volumes has what the image shows
   keeps_block : (v b : ℕ) → inside_of (units_of n) v ≡ true → b < blocks_of rests.config.volumes v → Keeps (inner_meaning (wide core) m) v b (shown rests.config mine.config mine.image v b)
-  keeps_block v b inside low = record {
-    only = λ value is. brings.unclean (told_first r first core m alike brings told) rests.config mine.config mine.image (shown rests.config mine.config mine.image) v b value one mine.each mine.is seen_extends
-        (shows rests.config mine.config mine.image) (active.each mine.image mine.config v seen_each seen_config inside) (record { volume = rests.there v inside; within = low }) is;
-  }
+  keeps_block v b inside low = record { only = λ value is. by value is (settles.each mine.image mine.config v seen_each seen_config inside) }
+    where
+      here : Inside rests.config v b
+      here = record { volume = rests.there v inside; within = low }
+
+      by : (value : List ℕ) → (inner_meaning (wide core) m).leaves v b value → (stopped mine.config v ≡ true) ⊎ LivesAgree mine.config v r → value ≡ shown rests.config mine.config mine.image v b
+      by value is (inl stop) =
+          brings.unclean (told_first r first core m alike brings told) rests.config mine.config mine.image (shown rests.config mine.config mine.image) v b value one mine.each mine.is seen_extends (shows rests.config mine.config mine.image) stop here is
+      by value is (inr agree) =
+          clean_value r first core m alike mine rests.config seen_extends (wanted_sound r.units r.size mine.config (found_wanted r (λ u. true) mine.image mine.config seen_config)) v b value agree here is
 
   log_low : (b : ℕ) → b < n.ring + 2 → b < blocks_of rests.config.volumes (units_of n).srl
   log_low b low = let least = rests.lies.large in let ring = rests.lies.ring_is in omega (arith, low, least, ring)

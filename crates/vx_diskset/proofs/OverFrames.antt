@@ -24,7 +24,7 @@ use Rattle.vx_diskset.specs.declared.over_set.OverSite.TheVariants.{Origin as Or
 use Rattle.vx_diskset.proofs.BesideLemmas.{never_besides}
 use Rattle.vx_diskset.proofs.Laying.{laid_in, over_there}
 use Rattle.vx_events.specs.RvgNotes.{inside_of}
-use Rattle.vx_diskset.proofs.Receiving.{as_receiver, durable_of, receiver_up}
+use Rattle.vx_diskset.proofs.Receiving.{as_held, as_receiver, durable_of, receiver_up}
 use Rattle.vx_diskset.proofs.StaysUp.{kept_whole, told_now, writes_found}
 use Rattle.vx_model.specs.declared.call.Update.{Update}
 use Rattle.vx_history.specs.Steps.{burned}
@@ -37,6 +37,7 @@ use Rattle.vx_rvg.specs.Contents.{writes_of}
 use Rattle.vx_rvg.specs.Holdings.{Holding}
 use Rattle.vx_rvg.specs.Stands.{Stands}
 use Rattle.vx_rvg.specs.Views.{Core, IsSound, applied_count, unit_of, volume_size}
+use Rattle.vx_rvg.proofs.ContentFacts.{left_found}
 use Rattle.vx_rvg.proofs.WriteSound.{within_same}
 use Rattle.vx_srl.specs.Rings.{RingOn}
 use Rattle.vx_secondary.specs.Receivers.{Wait, can_log}
@@ -44,7 +45,7 @@ use Rattle.vx_grouped.specs.Volumes.{SiteGoes, VolumesGo, laid_seen}
 use Rattle.vx_diskset.specs.Fuses.{FuseOn}
 use Rattle.vx_diskset.specs.Holds.{HasWrites, KeptBeside}
 use Rattle.vx_diskset.specs.Lasts.{StandsHolding}
-use Rattle.vx_diskset.specs.Stands.{AboveStands, IsReceiverAt, IsUpAt, OverStands}
+use Rattle.vx_diskset.specs.Stands.{AboveStands, IsHeldAt, IsReceiverAt, IsUpAt, OverStands}
 use Rattle.vx_diskset.proofs.LastWrites.{stands_with, still_with}
 
 was_running : (before after : Bool) → (IsTrue before → IsTrue after) → IsFalse after → IsFalse before
@@ -179,8 +180,7 @@ lies_over : (o : Option GroupNode) (n : Node) (sizes : ℕ → ℕ) (m : Meaning
 lies_over None n sizes m over laid there = absurd (over refl)
 lies_over (Some note) n sizes m over laid there = record { laid = laid; there = there }
 
-module _ {beside : KeptBeside} (n : Node) (c : Core) (m m' : Meaning) (mine : Blocks) (goes : VolumesGo mine m m') (sound : IsSound c m) (over : n.group ≡ None → ⊥) (running : n.halted ≡ None) (after : Lawful m') (still : IsFalse m'.down) (fuse : FuseOn (burned n.fuse) m')
-    (log_aside : (b : ℕ) → mine c.units.srl b → ⊥) (maps_aside : (b : ℕ) → mine c.units.maps b → ⊥) (vols_aside : (v b : ℕ) → v < length c.units.vols → mine (unit_of c.units.vols v) b → ⊥) where
+module _ (n : Node) (c : Core) (m m' : Meaning) (mine : Blocks) (goes : VolumesGo mine m m') (sound : IsSound c m) (over : n.group ≡ None → ⊥) where
   laid_kept : IsLaidBy c.units n.ring n.volumes n.base.size m.size → IsLaidBy c.units n.ring n.volumes n.base.size m'.size
   laid_kept laid = record {
     large = (let least = laid.large in omega (arith, least, goes.size c.units.srl sound.placed.log_exists));
@@ -198,12 +198,48 @@ module _ {beside : KeptBeside} (n : Node) (c : Core) (m m' : Meaning) (mine : Bl
       lies_over n.group n n.base.size m' over
       (subst (λ (u : Units). IsLaidBy u n.ring n.volumes n.base.size m'.size) units (laid_kept (subst (λ (u : Units). IsLaidBy u n.ring n.volumes n.base.size m.size) (sym units) (laid_in n m lies)))) (λ k is. (let low = over_there n m over lies k is in let more = goes.units in omega (arith, low, more)))
 
+module _ {beside : KeptBeside} (n : Node) (c : Core) (m m' : Meaning) (mine : Blocks) (goes : VolumesGo mine m m') (sound : IsSound c m) (over : n.group ≡ None → ⊥) (running : n.halted ≡ None) (after : Lawful m') (log_aside : (b : ℕ) → mine c.units.srl b → ⊥)
+    (maps_aside : (b : ℕ) → mine c.units.maps b → ⊥) (vols_aside : (v b : ℕ) → v < length c.units.vols → mine (unit_of c.units.vols v) b → ⊥) where
+  -- what a crash leaves then, where the reads of before are given
+  abbrev rested : Meaning
+  rested = record m' { down = false; reads = m.reads }
+
+  rested_goes : IsFalse m.down → VolumesGo mine m rested
+  rested_goes up = record {
+    units = goes.units;
+    size = goes.size;
+    tells = goes.tells;
+    reads = λ u b v low read. inl read;
+    leaves = goes.leaves;
+    falls = λ down. absurd (let e : true ≡ false = sym down ∙ up in cc);
+    unarmed = goes.unarmed;
+  }
+
+  -- whether its shelf is down or not, a crash leaves the site's writes
+  pub frame_held : IsUpAt beside n c m → IsHeldAt beside n m'
+  frame_held up = record {
+    lies = lies_kept n c m m' mine goes sound over up.units up.lies;
+    low = up.low;
+    logged = up.logged;
+    begun = λ told. up.begun (sym goes.tells ∙ told);
+    left = λ i now.
+        let told : IsTrue m.tells = sym goes.tells ∙ told_now m' i after now in
+        let stood : StandsHolding c n.log n.base rested = still_with c n.log n.base m rested (frame_stands c m rested mine (rested_goes up.up) sound refl log_aside maps_aside vols_aside) (up.content running told) in
+        let has : HasWrites beside n i =
+        writes_found n c i up.units up.ring (kept_whole n c m up told) up.session (let t = up.stamp told running in omega (arith, t)) (omega (arith, up.logged, up.durable running))
+        (record { held = stood.held; has = stood.has; needs = stood.needs; found = left_found c stood.held rested i sound.log_unit stood.stands (after.within i now) }) in
+        inl (record { count = has.count; least = has.least; most = has.most; found = has.found });
+    may = λ k is. never_besides beside.doubt m' (up.sure running) k is;
+  }
+
+module _ {beside : KeptBeside} (n : Node) (c : Core) (m m' : Meaning) (mine : Blocks) (goes : VolumesGo mine m m') (sound : IsSound c m) (over : n.group ≡ None → ⊥) (running : n.halted ≡ None) (after : Lawful m') (still : IsFalse m'.down) (fuse : FuseOn (burned n.fuse) m')
+    (log_aside : (b : ℕ) → mine c.units.srl b → ⊥) (maps_aside : (b : ℕ) → mine c.units.maps b → ⊥) (vols_aside : (v b : ℕ) → v < length c.units.vols → mine (unit_of c.units.vols v) b → ⊥) where
   pub frame_up : IsUpAt beside n c m → IsUpAt beside (worked n) c m'
   frame_up up = record {
     state = up.state;
     up = still;
     fuse = fuse;
-    lies = lies_kept up.units up.lies;
+    lies = lies_kept n c m m' mine goes sound over up.units up.lies;
     low = up.low;
     units = up.units;
     ring = up.ring;
@@ -235,6 +271,11 @@ module _ {beside : KeptBeside} (n : Node) (c : Core) (m m' : Meaning) (mine : Bl
       holds told = still_with c n.log n.base m m' (frame_stands c m m' mine goes sound still log_aside maps_aside vols_aside) (up.content running (sym goes.tells ∙ told))
 
 -- a receiver is one with its durable writes
+pub receiver_behind : {beside : KeptBeside} (n : Node) (c : Core) (us : List Update) (m m' : Meaning) (mine : Blocks) → VolumesGo mine m m' → IsSound c m → (n.group ≡ None → ⊥) → n.halted ≡ None → Lawful m → Lawful m' → ((b : ℕ) → mine c.units.srl b → ⊥)
+    → ((b : ℕ) → mine c.units.maps b → ⊥) → ((v b : ℕ) → v < length c.units.vols → mine (unit_of c.units.vols v) b → ⊥) → IsReceiverAt beside n c us m → IsHeldAt beside n m'
+receiver_behind {beside} n c us m m' mine goes sound over running lawful after log_aside maps_aside vols_aside r =
+    as_held n m' (r.sure running) (omega (arith, r.least, r.most)) (frame_held (durable_of n) c m m' mine goes sound over running after log_aside maps_aside vols_aside (receiver_up n c us m r running lawful sound.log_unit))
+
 pub frame_receiver : {beside : KeptBeside} (n : Node) (c : Core) (us : List Update) (m m' : Meaning) (mine : Blocks) → VolumesGo mine m m' → IsSound c m → (n.group ≡ None → ⊥) → n.halted ≡ None → Lawful m → Lawful m' → IsFalse m'.down → FuseOn (burned n.fuse) m'
     → ((b : ℕ) → mine c.units.srl b → ⊥) → ((b : ℕ) → mine c.units.maps b → ⊥) → ((v b : ℕ) → v < length c.units.vols → mine (unit_of c.units.vols v) b → ⊥) → IsReceiverAt beside n c us m → IsReceiverAt beside (worked n) c us m'
 frame_receiver {beside} n c us m m' mine goes sound over running lawful after still fuse log_aside maps_aside vols_aside r =
@@ -283,12 +324,3 @@ module _ {R : Type 0} {g : Ghosts R} where
   site_stays mine a (Down idle) new goes it = subst (λ (x : GroupSite R g). AboveStays a x) (sym goes) tt
   site_stays mine a (Marked rack) new goes it = subst (λ (x : GroupSite R g). AboveStays a x) (sym goes) tt
   site_stays mine a Gone new goes it = subst (λ (x : GroupSite R g). AboveStays a x) (sym goes) tt
-
-  -- and it stands
-  pub over_goes : (beside : KeptBeside) (n : Node) (a : Above) (old new : Laid R g) → VolumesGo Nowhere (laid_seen old) (laid_seen new) → AboveStays a (Up old) → (n.group ≡ None → ⊥) → n.halted ≡ None
-      → Lawful (laid_volumes old) → Lawful (laid_volumes new) → IsFalse (laid_volumes new).down → OverUp beside n a (Up old) → OverUp beside (worked n) a (Up new)
-  over_goes beside n Nothing old new goes sound over running lawful after still it = absurd it
-  over_goes beside n (Origin core) old new goes sound over running lawful after still it =
-      frame_up n core (laid_volumes old) (laid_volumes new) Nowhere goes sound over running after still (fuse_gone n.fuse old new goes.unarmed it.fuse) (λ b none. none) (λ b none. none) (λ v b low none. none) it
-  over_goes beside n (Receiver core waiting) old new goes sound over running lawful after still it =
-      frame_receiver n core waiting (laid_volumes old) (laid_volumes new) Nowhere goes sound.0 over running lawful after still (fuse_gone n.fuse old new goes.unarmed it.fuse) (λ b none. none) (λ b none. none) (λ v b low none. none) it

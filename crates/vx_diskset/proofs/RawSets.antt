@@ -1,5 +1,6 @@
 -- The disks of a site that is on no group, or on one.
-use Rattle.std.proofs.Common.{◌≡◌, ◌∙◌, ◌+◌, ap, refl, sym, subst, ℕ}
+use Rattle.std.proofs.Common.{◌≡◌, ◌∙◌, ◌+◌, ap, refl, sym, subst, ℕ, arith}
+use Rattle.vx_history.specs.Groups.{GroupNode}
 use Rattle.std.specs.Prelude.{None, Some}
 use Rattle.vx_disk.specs.Shelf.{Meaning}
 use Rattle.vx_disk.specs.declared.shelf.Shelf.{Ghosts}
@@ -10,7 +11,7 @@ use Rattle.vx_secondary.specs.declared.secondary.Secondary.{Secondary}
 use Rattle.vx_diskset.specs.Holds.{KeptBeside, KeptSite, sure_of}
 use Rattle.vx_diskset.specs.DiskSets.{halted_at}
 use Rattle.vx_diskset.specs.Keeps.{doubting, restated}
-use Rattle.vx_diskset.specs.Layouts.{units_of}
+use Rattle.vx_diskset.specs.Layouts.{units_of, units_by}
 use Rattle.vx_model.specs.declared.state.State.{State}
 use Rattle.vx_diskset.specs.Stands.{CutAt, IsHeldAt, IsOverSite, IsUngrouped, IsReceiverAt, IsUpAt, SiteStands}
 use Rattle.vx_diskset.specs.declared.disk_set.DiskSet.{DiskSet}
@@ -37,6 +38,21 @@ pub raw_doubting : (beside : KeptBeside) (n : Node) (s : State) (disk : ℕ) →
 raw_doubting beside n s disk none = (none, raw_doubted (record { node = halted_at (restated n s) disk; links = s.links; headers = beside.headers + 1 }) n none refl)
 
 -- ---- the same of one that is on a group
+
+-- what else a node has does not count
+pub over_on : (beside : KeptBeside) (n k : Node) → k.group ≡ n.group → k.disks ≡ n.disks → k.blocks ≡ n.blocks → IsOverSite beside n → IsOverSite beside k
+over_on beside n k group disks blocks over = (
+  (λ none. over.0 (sym group ∙ none)),
+  (λ x is.
+      let same = over.1 x is in
+      record {
+        units = same.units ∙ sym (ap (λ (d : ℕ). units_by k.group d) disks ∙ ap (λ (o : Option GroupNode). units_by o n.disks) group);
+        disks = same.disks ∙ sym disks;
+        blocks = same.blocks ∙ sym blocks;
+      }),
+  (let few = over.2 in omega (arith, few, disks)),
+  (let some = over.3 in omega (arith, some, blocks)),
+)
 
 pub over_sure : (k : KeptSite) (beside : KeptBeside) (n : Node) → IsOverSite beside n → IsOverSite (sure_of k) n
 over_sure k beside n over = (over.0, (λ x is. absurd (never is)), over.2, over.3)

@@ -289,6 +289,20 @@ as_receiver {beside} n us halted fuse c m sure role most waits up =
 pub as_held : {beside : KeptBeside} (n : Node) (m : Meaning) → beside.doubt ≡ None → n.safe ≤ length n.log → IsHeldAt beside (durable_of n) m → IsHeldAt beside n m
 as_held {beside} n m sure most held = held_receiver beside.doubt (durable_of n) n.log m refl most (λ i has. has) (never_may beside m sure) held
 
+-- ---- a header that a receiver may have written, or not
+
+module _ (beside : KeptBeside) (n : Node) (k : State) (long : n.safe ≤ length n.log) where
+  abbrev pub doubted : ℕ → KeptSite
+  doubted disk = record { node = halted_at (restated n k) disk; links = k.links; headers = beside.headers + 1 }
+
+  pub has_doubted : (disk : ℕ) (i : Image) → HasDoubted (doubting beside (durable_of n) k disk).doubt i → HasDoubted (Some (doubted disk)) i
+  has_doubted disk i has = more_writes (halted_at (restated (durable_of n) k) disk) n.log i refl long has
+
+  pub may_doubted : (disk : ℕ) (m : Meaning) → ((x : KeptSite) → (doubting beside (durable_of n) k disk).doubt ≡ Some x → MayBe x m) → (x : KeptSite) → Some (doubted disk) ≡ Some x → MayBe x m
+  may_doubted disk m may x is =
+      let own = may (record { node = halted_at (restated (durable_of n) k) disk; links = k.links; headers = beside.headers + 1 }) refl in
+      subst (λ (y : KeptSite). MayBe y m) (some_same is) (record { state = own.state; lies = own.lies; low = own.low; logged = long; begun = own.begun })
+
 -- ---- the same of disk sets
 
 pub never_some : {A : Type 0} {x : A} → Some x ≡ None → ⊥
@@ -350,17 +364,6 @@ module _ {R : Type 0} {g : Ghosts R} where
 
     -- a state that is kept
     module _ (k : State) (same_role : is_origin k.role ≡ is_origin n.role) where
-      abbrev doubted : ℕ → KeptSite
-      doubted disk = record { node = halted_at (restated n k) disk; links = k.links; headers = beside.headers + 1 }
-
-      has_doubted : (disk : ℕ) (i : Image) → HasDoubted (doubting beside (durable_of n) k disk).doubt i → HasDoubted (Some (doubted disk)) i
-      has_doubted disk i has = more_writes (halted_at (restated (durable_of n) k) disk) n.log i refl long has
-
-      may_doubted : (disk : ℕ) (m : Meaning) → ((x : KeptSite) → (doubting beside (durable_of n) k disk).doubt ≡ Some x → MayBe x m) → (x : KeptSite) → Some (doubted disk) ≡ Some x → MayBe x m
-      may_doubted disk m may x is =
-          let own = may (record { node = halted_at (restated (durable_of n) k) disk; links = k.links; headers = beside.headers + 1 }) refl in
-          subst (λ (y : KeptSite). MayBe y m) (some_same is) (record { state = own.state; lies = own.lies; low = own.low; logged = long; begun = own.begun })
-
       by_keep : (result : Result (Unit {0}) No) → KeptUp beside (durable_of n) k (Up s.rvg) (Up new.rvg) result → KeptUp beside n k (Receives s) (Receives new) result
       by_keep (Ok done) h = (
         raw_sure (kept_anew beside n k) (worked (restated n k)) raw.0,
@@ -369,14 +372,14 @@ module _ {R : Type 0} {g : Ghosts R} where
       by_keep (Err (Device disk)) h = (
         (
           raw_doubting beside n k disk raw.0,
-          up_receiver (Some (doubted disk)) (halted_at (durable_of n) disk) n.log new.rvg.core new.waiting (g.meaning new.rvg.shelf) here.role refl long waits_new (has_doubted disk) (may_doubted disk (g.meaning new.rvg.shelf) h.0.1.may)
+          up_receiver (Some (doubted beside n k long disk)) (halted_at (durable_of n) disk) n.log new.rvg.core new.waiting (g.meaning new.rvg.shelf) here.role refl long waits_new (has_doubted beside n k long disk) (may_doubted beside n k long disk (g.meaning new.rvg.shelf) h.0.1.may)
               (λ none. absurd (never_some none)) h.0.1,
         ),
         h.1,
         h.2,
       )
       by_keep (Err (Limit what most)) h = (h.0, h.1, (raw, receives n.halted n.fuse h.2.1))
-      by_keep (Err IsOff) h = (h.0, (raw_doubting beside n k 0 raw.0, held_receiver (Some (doubted 0)) (halted_at (durable_of n) 0) n.log (g.meaning new.rvg.shelf) refl long (has_doubted 0) (may_doubted 0 (g.meaning new.rvg.shelf) h.1.1.may) h.1.1))
+      by_keep (Err IsOff) h = (h.0, (raw_doubting beside n k 0 raw.0, held_receiver (Some (doubted beside n k long 0)) (halted_at (durable_of n) 0) n.log (g.meaning new.rvg.shelf) refl long (has_doubted beside n k long 0) (may_doubted beside n k long 0 (g.meaning new.rvg.shelf) h.1.1.may) h.1.1))
       by_keep (Err other) h = h
 
       pub kept_received : (result : Result (Unit {0}) No) → KeptUp beside (durable_of n) k (Up s.rvg) (Up new.rvg) result → KeptUp beside n k old (Receives new) result

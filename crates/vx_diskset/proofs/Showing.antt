@@ -1,5 +1,5 @@
 -- What is shown of a receiver.
-use Rattle.std.proofs.Common.{◌≡◌, ◌∙◌, ℕ, List, length, take, drop, ap, sym, subst, arith, ◌/◌}
+use Rattle.std.proofs.Common.{◌≡◌, ◌∙◌, ◌≤◌, ℕ, List, length, take, drop, ap, sym, subst, arith, ◌/◌}
 use Rattle.std.specs.Prelude.{None, Result, Ok, Err, OnOk, IsTrue}
 use Rattle.std.proofs.lemmas.List.{drop_all}
 use Rattle.vx_model.specs.Content.{Write, fold_writes, Content, blocks_in}
@@ -32,6 +32,7 @@ use Rattle.vx_disk.specs.declared.shelf.Shelf.{Ghosts}
 use Rattle.vx_secondary.specs.declared.secondary.Secondary.{Secondary}
 use Rattle.vx_diskset.proofs.RawSets.{receiver_there, up_there}
 use Rattle.vx_diskset.specs.Works.{DoesShow, ShownAs}
+use Rattle.vx_diskset.proofs.OverReads.{room_front}
 use Rattle.vx_diskset.proofs.RvgMoves.{read_moves}
 use Rattle.vx_diskset.proofs.Receiving.{as_receiver, durable_of, receiver_up}
 
@@ -114,7 +115,7 @@ module _ {R : Type 0} {g : Ghosts R} where
 module _ (c c' : Core) (us us' : List Update) (volume start count : ℕ) (bytes room : List ℕ) (given : ℕ) (long : given ≡ length bytes) (m new : Meaning) (result : Result (Unit {0}) No) (lawful : Lawful m) (after : Lawful new) (sound : IsSound c m) (same : c' ≡ c) (sound' : IsSound c' new)
     (waiting : us' ≡ us) (answers : ReadIs (read_refusal c (m.size (unit_of c.units.vols volume)) start (given / 512)) m new result)
     (gives : OnOk result ((h : Holding) → Stands c h m → IsTrue m.tells → ShowsContent (fold_writes h.content (writes_of_updates us)) volume start (given / 512) bytes)) (goes : Goes Nothing m new) (down : new.down ≡ m.down)
-    (disks : OnDisks m.disks new.disks Untouched) (front : take count room ≡ bytes) where
+    (disks : OnDisks m.disks new.disks Untouched) (size : length room ≡ 8192) (front : take count room ≡ bytes) where
   answers_front : ReadIs (read_refusal c (m.size (unit_of c.units.vols volume)) start (blocks_in bytes)) m new result
   answers_front = subst (λ (k : ℕ). ReadIs (read_refusal c (m.size (unit_of c.units.vols volume)) start (k / 512)) m new result) long answers
 
@@ -129,6 +130,15 @@ module _ (c c' : Core) (us us' : List Update) (volume start count : ℕ) (bytes 
     keeps = record { sound = sound'; units = ap (λ (k : Core). k.units) same; moves = read_moves c m new goes };
     same = same;
     waiting = waiting;
+    room = size;
     shown = λ beside n r. subst (λ (b : List ℕ). CanRead n volume start (blocks_in b) → ShownAs beside n volume start (blocks_in b) b c' us' m new result) (sym front) (shown_of beside n r);
     down = down;
   }
+
+-- and it is by the bytes that were asked for
+pub show_front : {beside : KeptBeside} (n : Node) (c' : Core) (us' : List Update) (volume start count : ℕ) (room into : List ℕ) (m new : Meaning) (result : Result (Unit {0}) No) → length room ≡ 8192 → count ≤ 8192 → into ≡ take count room
+    → (CanRead n volume start (blocks_in (take count room)) → ShownAs beside n volume start (blocks_in (take count room)) (take count room) c' us' m new result) → CanRead n volume start (count / 512)
+    → ShownAs beside n volume start (count / 512) into c' us' m new result
+show_front {beside} n c' us' volume start count room into m new result long few is shows =
+    subst (λ (xs : List ℕ). CanRead n volume start (count / 512) → ShownAs beside n volume start (count / 512) xs c' us' m new result) (sym is)
+    (subst (λ (k : ℕ). CanRead n volume start (k / 512) → ShownAs beside n volume start (k / 512) (take count room) c' us' m new result) (room_front count room long few) shows)

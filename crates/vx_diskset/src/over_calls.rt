@@ -9,8 +9,9 @@ ghost use Rattle.vx_diskset.specs.Holds.{KeptBeside};
 ghost use Rattle.vx_diskset.specs.Keeps.{CanKeep, KeptUp};
 ghost use Rattle.vx_diskset.specs.Needs.{HasRoom};
 ghost use Rattle.vx_diskset.specs.Noted.{OverCalled};
-ghost use Rattle.vx_diskset.specs.Received.{CanReceive, ReachedUp, ShowedAt};
-ghost use Rattle.vx_diskset.specs.Stands.{InVolumes, SiteStands};
+ghost use Rattle.vx_diskset.specs.Received.{CanReceive, ReachedOn, ReachedUp, ShowedAt};
+ghost use Rattle.vx_diskset.specs.Stands.{InVolumes, IsReceiverAt, SiteStands};
+ghost use Rattle.vx_ground.specs.Lifted.{laid_volumes};
 ghost use Rattle.vx_diskset.specs.declared.disk_set.DiskSet.TheVariants.{Over as OverSites};
 ghost use Rattle.vx_srlfmt.specs.Headers.{CanSpellState};
 
@@ -27,6 +28,7 @@ fn reach<R: Rack>(
     founded: FoundedReceiver<R>,
     count: u64,
 ) -> (FoundedReceiver<R>, Result<Reached, No>)
+    ensures reaches { (beside : KeptBeside) (n : Node) → IsReceiverAt beside n founded.core founded.waiting (laid_volumes founded.laid) → CanReceive beside n → ReachedOn beside n count result.0.waiting result.0.core (laid_volumes founded.laid) (laid_volumes result.0.laid) result.1 }
     ensures works { FoundedWorks founded.core founded.laid result.0.core result.0.laid }
 {
     let few = count.min(u64::from(founded.waiting.len())) as u32;
@@ -40,7 +42,8 @@ fn reach<R: Rack>(
             }),
         );
     }
-    if !founded.core.has_numbers(u64::from(few)) {
+    let many = u64::from(few);
+    if !founded.core.has_numbers(many) {
         return (
             founded,
             Err(No::Limit {

@@ -8,7 +8,7 @@ ghost use Rattle.vx_diskset.specs.Aboves.{above_in, site_in};
 ghost use Rattle.vx_diskset.specs.Asked.{FuseGoesOn, SameFailing};
 ghost use Rattle.vx_diskset.specs.DiskSets.{CrashedAt, Later};
 ghost use Rattle.vx_diskset.specs.Holds.{KeptBeside};
-ghost use Rattle.vx_diskset.specs.OverKeeps.{KeepsOver};
+ghost use Rattle.vx_diskset.specs.OverKeeps.{DeportsOver, KeepsOver};
 ghost use Rattle.vx_diskset.specs.Stands.{CutAt, RoleBy, SiteStands};
 ghost use Rattle.vx_diskset.specs.declared.disk_set.DiskSet.TheVariants.{Over as OverSites};
 ghost use Rattle.vx_grouped.specs.GroupSites.{CutNoted, DownNoted, UpNoted, site_below, site_disks};
@@ -149,6 +149,7 @@ impl<R: Rack> OverSet<R> {
         ensures deported { (n : Node) (note : GroupNode) → UpNoted n note (site_in self.old) → SiteDeported n note (site_in self.old) (site_in self.new) result }
         ensures cut { self.new.cut ≡ self.old.cut }
         ensures kept { KeepsOver self.old self.new }
+        ensures away { DeportsOver self.old self.new }
         ensures since { CalledSince (site_disks (site_in self.old)) (site_disks (site_in self.new)) }
         ensures told { TellsLess (site_below (site_in self.old)) (site_below (site_in self.new)) }
     {

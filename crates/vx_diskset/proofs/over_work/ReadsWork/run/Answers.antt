@@ -1,7 +1,7 @@
 -- A read by parts.
 use Rattle.std.proofs.Common.{◌≡◌, ◌≤◌, ◌∙◌, ◌++◌, ℕ, List, length, take, drop, replicate, length-take-le, arith, refl, sym}
 use Rattle.std.proofs.lemmas.List.{take_at}
-use Rattle.vx_diskset.proofs.OverReads.{front_blocks, reads_room}
+use Rattle.vx_diskset.proofs.OverReads.{front_blocks, front_room, reads_room}
 use Rattle.vx_diskset.proofs.OverWorks.{asked_core, carried_core}
 use Rattle.vx_diskset.specs.Works.{AsksRead, DoesRead}
 use Rattle.vx_diskset.proofs.over_work.ReadsWork.run.Goals as goal
@@ -30,4 +30,4 @@ returns g c =
     (reads_room c.together-rvg.result.core c.read-answer.new.self.core c.args.self.volume c.args.self.start c.args.self.count c.read-answer.new.into room (length (take c.args.self.count none)) (sym auto) (g.S.Shelf.meaning c.together-rvg.result.shelf)
     (g.S.Shelf.meaning c.read-answer.new.self.shelf) c.read-answer.result (g.met.S.Shelf.lawful c.together-rvg.result.shelf) (g.met.S.Shelf.lawful c.read-answer.new.self.shelf) c.together-rvg.result.sound c.read-answer.ensures.core
     c.read-answer.new.self.sound c.read-answer.ensures.answers c.read-answer.ensures.gives c.read-answer.ensures.goes c.read-answer.ensures.down c.read-answer.ensures.disks
-    (take_at c.read-answer.new.into (drop c.args.self.count none) c.args.self.count long))
+    (front_room c.args.self.count c.read-answer.new.into none zeros few long) (take_at c.read-answer.new.into (drop c.args.self.count none) c.args.self.count long))

@@ -3,7 +3,7 @@ use Rattle.std.proofs.Common.{◌≡◌, ◌≤◌, ◌<◌, ◌∙◌, ◌++◌
 use Rattle.std.proofs.lemmas.List.{take_at}
 use Rattle.vx_model.specs.declared.call.Update.{Update}
 use Rattle.vx_secondary.specs.Receivers.{Wait}
-use Rattle.vx_diskset.proofs.OverReads.{front_blocks}
+use Rattle.vx_diskset.proofs.OverReads.{front_blocks, front_room}
 use Rattle.vx_diskset.proofs.OverWorks.{asked_core, carried_core}
 use Rattle.vx_diskset.proofs.Showing.{shows_room}
 use Rattle.vx_diskset.specs.Works.{AsksShow, DoesShow}
@@ -41,4 +41,4 @@ returns g c =
     (shows_room c.together-site.result.rvg.core c.show-answer.new.self.rvg.core c.together-site.result.waiting c.apart-rvg.result.1 c.args.self.volume c.args.self.start c.args.self.count c.show-answer.new.into room (length (take c.args.self.count none)) (sym auto)
     (g.S.Shelf.meaning c.together-site.result.rvg.shelf) (g.S.Shelf.meaning c.show-answer.new.self.rvg.shelf) c.show-answer.result (g.met.S.Shelf.lawful c.together-site.result.rvg.shelf) (g.met.S.Shelf.lawful c.show-answer.new.self.rvg.shelf)
     c.together-site.result.rvg.sound c.show-answer.ensures.core c.show-answer.new.self.rvg.sound (c.apart-rvg.ensures.waiting ∙ c.show-answer.ensures.waiting) c.show-answer.ensures.answers c.show-answer.ensures.gives c.show-answer.ensures.goes
-    c.show-answer.ensures.down c.show-answer.ensures.disks (take_at c.show-answer.new.into (drop c.args.self.count none) c.args.self.count long)))
+    c.show-answer.ensures.down c.show-answer.ensures.disks (front_room c.args.self.count c.show-answer.new.into none zeros few long) (take_at c.show-answer.new.into (drop c.args.self.count none) c.args.self.count long)))
