@@ -23,6 +23,7 @@ use Rattle.vx_group.specs.declared.inner.Inner.{Inner}
 use Rattle.vx_watched.specs.Since.{CalledSince}
 use Rattle.vx_watched.specs.Traces.{TellsLess}
 use Rattle.vx_ground.specs.Accounts.{GroundSince, ground_state}
+use Rattle.vx_grouplogs.specs.Loading.{SomeRose}
 use Rattle.vx_ground.specs.Lifted.{laid_volumes}
 use Rattle.vx_ground.proofs.AccountLemmas.{account_loses}
 use Rattle.vx_grouped.specs.ConfigMoves.{LosesSome}
@@ -33,12 +34,12 @@ use Rattle.vx_grouped.specs.declared.group_site.GroupSite.{GroupSite}
 use Rattle.vx_grouped.specs.declared.group_site.GroupSite.TheVariants.{Up}
 use Rattle.vx_grouped.specs.declared.laid.Laid.{Laid}
 use Rattle.vx_grouped.proofs.BothLemmas.{both_on}
-use Rattle.vx_grouped.proofs.ImageLemmas.{sure_free, sure_kept}
+use Rattle.vx_grouped.proofs.ImageLemmas.{sure_by, sure_free, sure_kept}
 use Rattle.vx_grouped.proofs.SettleLemmas.{fell_fused, fuse_burned}
 use Rattle.vx_grouped.proofs.SpellLemmas.{spells_like}
 use Rattle.vx_grouped.proofs.TraceLemmas.{lit_since}
 use Rattle.vx_diskset.specs.Aboves.{InsideOf}
-use Rattle.vx_diskset.specs.Noted.{NotesWorked, below_rvg}
+use Rattle.vx_diskset.specs.Noted.{AgreesStill, NotesWorked, below_rvg}
 use Rattle.vx_diskset.specs.Shelves.{OfRvg}
 
 -- ---- a note under which commits may have been begun: imports may disagree then
@@ -129,18 +130,32 @@ module _ {R : Type 0} {g : Ghosts R} (n : Node) (note : GroupNode) (units : Unit
         (both_on old.core new.core (laid_disks old) (laid_disks new) old.stands.group new.stands.group);
   }
 
+  -- where imports agreed they do, but where a call failed
+  agrees : (laid_disks new).down ≡ false → AgreesStill note next (laid_disks old) (laid_disks new)
+  agrees is tight none =
+      by (ground.sure (sure_by old.core.inner.committed old.core.held (up.at.lies.committed tight none) (up.at.lies.images.free tight none)))
+    where
+      by : (is_sure new.core ≡ true) ⊎ (SomeRose (laid_disks old) (laid_disks new) ⊎ IsTrue (laid_disks new).down)
+          → ((next.loose ≡ false) × (next.begun ≡ [])) ⊎ SomeRose (laid_disks old) (laid_disks new)
+      by (inl sure) = inl (ap not sure, ap (λ (b : Bool). if b then [] else noted_config new.core.inner.config ∷ note.begun) sure)
+      by (inr (inl some)) = inr some
+      by (inr (inr down)) = absurd (let wrong : false ≡ true = sym is ∙ down in cc)
+
   by_down : (t : Bool) → (laid_disks new).down ≡ t → NotesWorked n note (Up old) (Up new)
   by_down false is = (
     next,
     note_works new.core note (noted_config new.core.inner.config),
     goes,
-    inl (record {
-      noted = record { is = refl; none = record { role = refl; volumes = refl; log = refl; safe = refl; running = refl } };
-      lit = lit;
-      fuse = fuse_burned n.fuse (laid_disks old) (laid_disks new) since.unarmed up.fuse;
-      spells = spells;
-      at = record { state = up.at.state; up = λ down. let wrong : false ≡ true = sym is ∙ down in absurd (cc); lies = lies };
-    }),
+    inl (
+      record {
+        noted = record { is = refl; none = record { role = refl; volumes = refl; log = refl; safe = refl; running = refl } };
+        lit = lit;
+        fuse = fuse_burned n.fuse (laid_disks old) (laid_disks new) since.unarmed up.fuse;
+        spells = spells;
+        at = record { state = up.at.state; up = λ down. let wrong : false ≡ true = sym is ∙ down in absurd (cc); lies = lies };
+      },
+      agrees is,
+    ),
   )
   by_down true is = (
     next,

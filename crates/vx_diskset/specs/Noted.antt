@@ -1,5 +1,6 @@
 -- What a site notes of its group of disks, below a replicated volume group or not.
-use Rattle.std.specs.Prelude.{◌≡◌, ◌⊎◌, ℕ, [], None, Option, Some}
+use Rattle.std.specs.Prelude.{◌≡◌, ◌⊎◌, ℕ, [], false, None, Option, Some}
+use Rattle.vx_disk.specs.Shelf.{Meaning}
 use Rattle.vx_disk.specs.declared.shelf.Shelf.{Ghosts}
 use Rattle.vx_model.specs.declared.site.Role.TheVariants.{Primary}
 use Rattle.vx_history.specs.Groups.{GroupNode, NoteWorks}
@@ -7,6 +8,7 @@ use Rattle.vx_history.specs.Steps.{crashed}
 use Rattle.vx_history.specs.Stops.{IsFused}
 use Rattle.vx_history.specs.World.{FuseSet, Node}
 use Rattle.vx_model.specs.Content.{Write}
+use Rattle.vx_grouplogs.specs.Loading.{SomeRose}
 use Rattle.vx_grouped.specs.ConfigMoves.{LosesSome}
 use Rattle.vx_grouped.specs.GroupSites.{AwayNoted, CutNoted, DownNoted, UpNoted, site_below, site_disks, with_note}
 use Rattle.vx_grouped.specs.SiteEnds.{ConfigGoes}
@@ -27,6 +29,10 @@ use Rattle.vx_diskset.specs.declared.disk_set.DiskSet.TheVariants.{OfGroup, Over
 abbrev pub below_rvg : Node → Node
 below_rvg n = record n { role = Primary; volumes = []; log = []; safe = 0; halted = None }
 
+-- Where imports agreed, and nothing was begun, it is so behind calls in which none failed.
+abbrev pub AgreesStill : GroupNode → GroupNode → Meaning → Meaning → Type 0
+AgreesStill note next old new = note.loose ≡ false → note.begun ≡ [] → ((next.loose ≡ false) × (next.begun ≡ [])) ⊎ SomeRose old new
+
 module _ {R : Type 0} {g : Ghosts R} where
   -- the group, up or not, is as it is noted
   abbrev pub NotedOn : Node → GroupNode → GroupSite R g → Type 0
@@ -45,7 +51,7 @@ module _ {R : Type 0} {g : Ghosts R} where
   abbrev pub NotesMoved : Node → GroupNode → GroupSite R g → DiskSet R g → GroupSite R g → DiskSet R g → Type 0
   NotesMoved n note below old below' new =
       (next : GroupNode) × NoteWorks note next × ConfigGoes (LosesSome (site_disks below) (site_disks below')) note next below below'
-      × (SiteNoted (with_note next n) next new ⊎ (SiteNoted (crashed (with_note next n) 0) next new × IsFused n.fuse))
+      × ((SiteNoted (with_note next n) next new × AgreesStill note next (site_disks below) (site_disks below')) ⊎ (SiteNoted (crashed (with_note next n) 0) next new × IsFused n.fuse))
 
   abbrev pub NotesOver : Node → GroupNode → DiskSet R g → DiskSet R g → Type 0
   NotesOver n note (Over old) (Over new) = NotesMoved n note (site_in old) (Over old) (site_in new) (Over new)
@@ -59,7 +65,7 @@ module _ {R : Type 0} {g : Ghosts R} where
   abbrev pub NotesWorked : Node → GroupNode → GroupSite R g → GroupSite R g → Type 0
   NotesWorked n note below below' =
       (next : GroupNode) × NoteWorks note next × ConfigGoes (LosesSome (site_disks below) (site_disks below')) note next below below'
-      × (UpNoted (below_rvg (with_note next n)) next below' ⊎ (CutNoted (below_rvg (with_note next n)) next below' × IsFused n.fuse))
+      × ((UpNoted (below_rvg (with_note next n)) next below' × AgreesStill note next (site_disks below) (site_disks below')) ⊎ (CutNoted (below_rvg (with_note next n)) next below' × IsFused n.fuse))
 
   -- What each call on the replicated volume group of a site over a group makes of the group: the disks that are made to fail are the same, a fuse has no more calls
   -- left, no count falls; and so the note moves.

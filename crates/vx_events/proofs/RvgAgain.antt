@@ -1,7 +1,7 @@
 -- A site that keeps its log and its data volumes, and notes the replicated volume group that it noted, has that one.
 use Rattle.std.proofs.Common.{◌≡◌, ◌∙◌, ℕ, List, [], ◌∷◌, Option, Some, ap, map, refl, subst, sym}
 use Rattle.std.specs.List.{AllByRecursion}
-use Rattle.std.specs.Prelude.{slice_get}
+use Rattle.std.specs.Prelude.{slice_get, unwrap_or}
 use Rattle.vx_model.specs.Sizes.{ring_of}
 use Rattle.vx_model.specs.declared.units.Units.{Units}
 use Rattle.vx_history.specs.Groups.{GroupNode}
@@ -12,9 +12,9 @@ use Rattle.vx_config.specs.Checks.{blocks_of, blocks_or_none}
 use Rattle.vx_config.specs.declared.config.Config.{Config}
 use Rattle.vx_config.specs.declared.entry.VolumeEntry.{VolumeEntry}
 use Rattle.vx_events.specs.Fails.{Fails}
-use Rattle.vx_events.specs.GroupNotes.{NotesBack, note_at}
+use Rattle.vx_events.specs.GroupNotes.{NotesBack, no_note, note_at}
 use Rattle.vx_events.specs.GroupViews.{config_of, volumes_of}
-use Rattle.vx_events.specs.RvgFits.{FitsNoted, HasUnits, HasVolume, KeepsRvg, KeptConfig, KeptVolume, NoteKeepsRvg, config_rvg, data_at, data_of, entries_noted, entry_name, rvg_noted}
+use Rattle.vx_events.specs.RvgFits.{FitsNoted, FitsRvg, HasUnits, HasVolume, KeepsRvg, KeptConfig, KeptVolume, NoteKeepsRvg, config_rvg, data_at, data_of, entries_noted, entry_name, rvg_noted}
 use Rattle.vx_events.specs.RvgNotes.{note_gained}
 
 module _ (c d : Config) (keeps : KeepsRvg c d) where
@@ -81,3 +81,14 @@ fits_gained told s n fails note middle next units m back named has is noted ring
       };
       has = subst (λ (vs : List VolumeEntry). HasUnits vs units) entries has;
     }
+
+-- what came up with the replicated volume group of the configuration that is noted
+pub fits_found : (k m : Node) (c : Config) (units : Units) (next : GroupNode) → m.group ≡ Some next → m.ring ≡ k.ring → m.volumes ≡ k.volumes
+    → config_of next.config ≡ Some c → FitsRvg k c units → HasUnits c.volumes units → FitsNoted m
+fits_found k m c units next noted ring volumes config fits has = record {
+  config = c;
+  is = ap (λ (o : Option GroupNode). config_of (unwrap_or o no_note).config) noted ∙ config;
+  units = units;
+  fits = record { rvg = fits.rvg; volumes = volumes ∙ fits.volumes; ring = ring ∙ fits.ring };
+  has = has;
+}

@@ -17,6 +17,7 @@ use Rattle.vx_script.specs.declared.line.ScriptLine.TheVariants.{Site, Raw, Disk
 use Rattle.vx_events.proofs.GroupStopping.{events_tell, group_stops, noted_like}
 use Rattle.vx_events.proofs.LinkStopping.{link_stops}
 use Rattle.vx_events.proofs.Noting.{as_like, disks_like, like_disks, like_noted, like_self, like_then, same_like}
+use Rattle.vx_events.proofs.RvgFull.{brings_found}
 use Rattle.vx_events.proofs.RvgKnown.{back_dark}
 use Rattle.vx_events.proofs.RvgStopping.{ended as ended_rvg, noted_doubted, same_doubted}
 use Rattle.vx_events.proofs.Stopping.{BeginsWrite, ended, runs_as}
@@ -125,6 +126,12 @@ done_by d from like s line taken next events ending new tells left = but_by fals
 
 -- ---- recoveries and imports
 
+-- nothing came up, and a site that was up crashed
+pub fall_stops : (d : Doubted) (s : ℕ) (line : ScriptLine) (kept : ℕ) (taken lost : Bool) (next : GroupNode) (new : Doubted)
+    → IsLeftBut lost s line taken next d (run_as taken d (fall_first (d.world.nodes s).state s kept)) new → RvgStops d new
+fall_stops d s line kept taken lost next new left =
+    but_by lost d d (same_doubted d) s line taken next (fall_first (d.world.nodes s).state s kept) [] new (falls_tell (d.world.nodes s).state s kept) left
+
 module _ (told : Type 0) (d : Doubted) (line : ScriptLine) (s : ℕ) (fails : Fails) (said : Said) (new : Doubted) where
   pub back_stops : RvgBack told d line s fails said new → RvgStops d new
   back_stops (RvgUp kept taken middle found next from rest are brings back rests works says left) =
@@ -150,10 +157,8 @@ module _ (told : Type 0) (d : Doubted) (line : ScriptLine) (s : ℕ) (fails : Fa
       ∙ ap (λ (es : List Event). all_fails es ++ all_fails (FallAt s ∷ [])) begun) leads
   back_stops (GroupCutOff next site is has are fused notes says left) =
       done_by d d (same_doubted d) s line false next (FallAt s ∷ []) [] new refl left
-  back_stops (GroupUnfound kept taken lost why next has are brings not leaves says left) =
-      but_by lost d d (same_doubted d) s line taken next (fall_first (d.world.nodes s).state s kept) [] new (falls_tell (d.world.nodes s).state s kept) left
-  back_stops (GroupHeld kept taken lost disk next has are failed brings notes says left) =
-      but_by lost d d (same_doubted d) s line taken next (fall_first (d.world.nodes s).state s kept) [] new (falls_tell (d.world.nodes s).state s kept) left
+  back_stops (GroupUnfound kept taken lost why next has are brings not leaves says left) = fall_stops d s line kept taken lost next new left
+  back_stops (GroupHeld kept taken lost disk next has are failed brings notes says left) = fall_stops d s line kept taken lost next new left
 
   -- ---- other lines
 
@@ -184,8 +189,7 @@ module _ (told : Type 0) (d : Doubted) (line : ScriptLine) (s : ℕ) (fails : Fa
 
 -- what want of memory leaves of a recovery or an import
 pub short_stops : (told : Type 0) (d : Doubted) (line : ScriptLine) (s : ℕ) (new : Doubted) → RvgShort told d line s new → RvgStops d new
-short_stops told d line s new (ShortGroup kept taken lost next over brings notes left) =
-    but_by lost d d (same_doubted d) s line taken next (fall_first (d.world.nodes s).state s kept) [] new (falls_tell (d.world.nodes s).state s kept) left
+short_stops told d line s new (ShortGroup kept taken lost next over brings notes left) = fall_stops d s line kept taken lost next new left
 short_stops told d line s new (ShortLog kept taken fails middle found next from rest are brings back rests is left) =
     but_by true d from (rests_like d line s kept middle found from rest rests) s line taken next rest [] new (rests_tell d line s kept middle found from rest rests) left
 short_stops told d line s new (ShortMade site srl maps volumes fails next is are notes left) = ended_rvg d d new (same_doubted d) s next [] refl left
@@ -219,25 +223,24 @@ opens_at w other opens c h = absurd h
 module _ (told : Type 0) (is_told : told) (d : Doubted) (s : ℕ) (bright : (note_at (d.world.nodes s)).dark ≡ false) (fails : Fails) (said : Said) (new : Doubted) where
   -- what the disks hold is known, and imports agree, so nothing else is found on them
   pub never_found : (line : ScriptLine) → (note_at (d.world.nodes s)).loose ≡ false → RvgFinds told d line s fails said new → ⊥
-  never_found line agree (FindsRvg kept taken next mid n k row c units are brings (inl untold) dark is same comes config fits says left) = untold is_told
-  never_found line agree (FindsRvg kept taken next mid n k row c units are brings (inr (inl loose)) dark is same comes config fits says left) = absurd (let e : true ≡ false = sym loose ∙ agree in cc)
-  never_found line agree (FindsRvg kept taken next mid n k row c units are brings (inr (inr unknown)) dark is same comes config fits says left) = absurd (let e : true ≡ false = sym unknown ∙ bright in cc)
+  never_found line agree (FindsRvg kept taken next mid n k row c units are brings (inl untold) dark is same comes config fits lies says left) = untold is_told
+  never_found line agree (FindsRvg kept taken next mid n k row c units are brings (inr (inl loose)) dark is same comes config fits lies says left) = absurd (let e : true ≡ false = sym loose ∙ agree in cc)
+  never_found line agree (FindsRvg kept taken next mid n k row c units are brings (inr (inr unknown)) dark is same comes config fits lies says left) = absurd (let e : true ≡ false = sym unknown ∙ bright in cc)
   never_found line agree (FindsPlain kept taken next mid has are brings (inl untold) dark is none says left) = untold is_told
   never_found line agree (FindsPlain kept taken next mid has are brings (inr (inl loose)) dark is none says left) = absurd (let e : true ≡ false = sym loose ∙ agree in cc)
   never_found line agree (FindsPlain kept taken next mid has are brings (inr (inr unknown)) dark is none says left) = absurd (let e : true ≡ false = sym unknown ∙ bright in cc)
-  never_found line agree (FindsNoRvg kept taken lost next why are brings (inl untold) free notes says left) = untold is_told
-  never_found line agree (FindsNoRvg kept taken lost next why are brings (inr (inl loose)) free notes says left) = absurd (let e : true ≡ false = sym loose ∙ agree in cc)
-  never_found line agree (FindsNoRvg kept taken lost next why are brings (inr (inr unknown)) free notes says left) = absurd (let e : true ≡ false = sym unknown ∙ bright in cc)
+  never_found line agree (FindsNoRvg kept taken lost next why has are brings (inl untold) free notes says left) = untold is_told
+  never_found line agree (FindsNoRvg kept taken lost next why has are brings (inr (inl loose)) free notes says left) = absurd (let e : true ≡ false = sym loose ∙ agree in cc)
+  never_found line agree (FindsNoRvg kept taken lost next why has are brings (inr (inr unknown)) free notes says left) = absurd (let e : true ≡ false = sym unknown ∙ bright in cc)
 
   -- Where it is known behind the line what they hold, nothing else was found either: at most none was found, and a site that is up crashed.
   pub finds_stops : (line : ScriptLine) → AgreesOr (note_at (d.world.nodes s)) (note_at (new.world.nodes s)) → RvgFinds told d line s fails said new → RvgStops d new
   finds_stops line (inl agree) finds = absurd (never_found line agree finds)
-  finds_stops line (inr known) (FindsRvg kept taken next mid n k row c units are brings unknown dark is same comes config fits says left) =
+  finds_stops line (inr known) (FindsRvg kept taken next mid n k row c units are brings unknown dark is same comes config fits lies says left) =
       absurd (let e : true ≡ false = sym (dark is_told) ∙ sym (back_dark s line taken next d _ new left) ∙ known in cc)
   finds_stops line (inr known) (FindsPlain kept taken next mid has are brings unknown dark is none says left) =
       absurd (let e : true ≡ false = sym (dark is_told) ∙ sym (back_dark s line taken next d _ new left) ∙ known in cc)
-  finds_stops line (inr known) (FindsNoRvg kept taken lost next why are brings unknown free notes says left) =
-      but_by lost d d (same_doubted d) s line taken next (fall_first (d.world.nodes s).state s kept) [] new (falls_tell (d.world.nodes s).state s kept) left
+  finds_stops line (inr known) (FindsNoRvg kept taken lost next why has are brings unknown free notes says left) = fall_stops d s line kept taken lost next new left
 
   unchanged : IsAs d d.world new → RvgStops d new
   unchanged left = record {
@@ -253,27 +256,34 @@ module _ (told : Type 0) (is_told : told) (d : Doubted) (s : ℕ) (bright : (not
   shows_or true line opens (ShowFails disk are has says left) = unchanged left
   shows_or false line opens ends = over_stops told d line s fails said new (is_told, bright) (opens_at d.world line opens) ends
 
-  back_or : (line : ScriptLine) → AgreesOr (note_at (d.world.nodes s)) (note_at (new.world.nodes s)) → RvgBack told d line s fails said new ⊎ RvgFinds told d line s fails said new → RvgStops d new
-  back_or line agree (inl back) = back_stops told d line s fails said new back
-  back_or line agree (inr finds) = finds_stops line agree finds
+  back_or : (line : ScriptLine) → RvgBack told d line s fails said new ⊎ RvgFinds told d line s fails said new → RvgStops d new ⊎ RvgFinds told d line s fails said new
+  back_or line (inl back) = inl (back_stops told d line s fails said new back)
+  back_or line (inr finds) = inr finds
 
-  takes_or : (line : ScriptLine) → (BringsUp line → AgreesOr (note_at (d.world.nodes s)) (note_at (new.world.nodes s))) → OpensFor d.world line
-      → TakesOr told d line s fails said new → RvgStops d new
-  takes_or (GroupImport site) agree opens ends = back_or (GroupImport site) (agree tt) ends
-  takes_or (Recover site) agree opens ends = back_or (Recover site) (agree tt) ends
-  takes_or other agree opens ends = shows_or (is_inside (note_at (d.world.nodes s)) other) other opens ends
+  takes_or : (line : ScriptLine) → OpensFor d.world line → TakesOr told d line s fails said new → RvgStops d new ⊎ RvgFinds told d line s fails said new
+  takes_or (GroupImport site) opens ends = back_or (GroupImport site) ends
+  takes_or (Recover site) opens ends = back_or (Recover site) ends
+  takes_or other opens ends = inl (shows_or (is_inside (note_at (d.world.nodes s)) other) other opens ends)
 
-  by_place : (below : Bool) (line : ScriptLine) → (BringsUp line → AgreesOr (note_at (d.world.nodes s)) (note_at (new.world.nodes s))) → OpensFor d.world line
-      → OverRvgBy below told d line s fails said new → RvgStops d new
-  by_place true line agree opens (inl ends) =
+  by_place : (below : Bool) (line : ScriptLine) → OpensFor d.world line → OverRvgBy below told d line s fails said new
+      → RvgStops d new ⊎ RvgFinds told d line s fails said new
+  by_place true line opens (inl ends) =
       let stops = group_stops told d line s fails said new ends in
-      record { before = d; like = same_doubted d; events = stops.events; ending = []; stops = stops.stops }
-  by_place true line agree opens (inr cut) = below_stops told d line s fails said new cut
-  by_place false line agree opens ends = takes_or line agree opens ends
+      inl (record { before = d; like = same_doubted d; events = stops.events; ending = []; stops = stops.stops })
+  by_place true line opens (inr cut) = inl (below_stops told d line s fails said new cut)
+  by_place false line opens ends = takes_or line opens ends
+
+  -- the line ended as events do, or found something on disks of which nothing is known
+  pub stops_or_finds : (line : ScriptLine) → OpensFor d.world line → OverRvg told d line s fails said new → RvgStops d new ⊎ RvgFinds told d line s fails said new
+  stops_or_finds line opens ends = by_place (is_below (note_at (d.world.nodes s)) line) line opens ends
 
   pub over_rvg_stops : (line : ScriptLine) → (BringsUp line → AgreesOr (note_at (d.world.nodes s)) (note_at (new.world.nodes s))) → OpensFor d.world line
       → OverRvg told d line s fails said new → RvgStops d new
-  over_rvg_stops line agree opens ends = by_place (is_below (note_at (d.world.nodes s)) line) line agree opens ends
+  over_rvg_stops line agree opens ends = by (stops_or_finds line opens ends)
+    where
+      by : RvgStops d new ⊎ RvgFinds told d line s fails said new → RvgStops d new
+      by (inl stops) = stops
+      by (inr finds) = finds_stops line (agree (brings_found told d line s fails said new finds)) finds
 
 -- ---- lines of links
 

@@ -68,7 +68,7 @@ module _ (w : World) (none : HasNoRvgs w) where
   for_none other = refl
 
 -- what finds a replicated volume group brings a group up
-brings_back : (told : Type 0) (d : Doubted) (line : ScriptLine) (s : ℕ) (fails : Fails) (said : Said) (new : Doubted) → RvgBack told d line s fails said new → BringsUp line
+pub brings_back : (told : Type 0) (d : Doubted) (line : ScriptLine) (s : ℕ) (fails : Fails) (said : Said) (new : Doubted) → RvgBack told d line s fails said new → BringsUp line
 brings_back told d line s fails said new (RvgUp kept taken middle found next from rest are brings back rests works says left) = brings
 brings_back told d line s fails said new (LogFails kept taken disk middle found next from rest left are has brings back rests is begun says leads) = brings
 brings_back told d line s fails said new (LogLacks kept taken middle found next from rest are brings back rests is lacks says left) = brings
@@ -81,9 +81,9 @@ brings_back told d line s fails said new (GroupUnfound kept taken lost why next 
 brings_back told d line s fails said new (GroupHeld kept taken lost disk next has are failed brings notes says left) = brings
 
 pub brings_found : (told : Type 0) (d : Doubted) (line : ScriptLine) (s : ℕ) (fails : Fails) (said : Said) (new : Doubted) → RvgFinds told d line s fails said new → BringsUp line
-brings_found told d line s fails said new (FindsRvg kept taken next mid n k row c units are brings unknown dark is same comes config fits says left) = brings
+brings_found told d line s fails said new (FindsRvg kept taken next mid n k row c units are brings unknown dark is same comes config fits lies says left) = brings
 brings_found told d line s fails said new (FindsPlain kept taken next mid has are brings unknown dark is none says left) = brings
-brings_found told d line s fails said new (FindsNoRvg kept taken lost next why are brings unknown free notes says left) = brings
+brings_found told d line s fails said new (FindsNoRvg kept taken lost next why has are brings unknown free notes says left) = brings
 
 module _ (told : Type 0) (files : Bool) (d : Doubted) (none : HasNoRvgs d.world) (fails : Fails) (said : Said) (new : Doubted) where
   abbrev Full : ScriptLine → Type 0

@@ -111,11 +111,11 @@ module _ (told : Type 0) (tells : told) (d : Doubted) (s : ℕ) (known : (note_a
   back_known_too line free (GroupHeld kept taken lost disk next has are failed brings notes says left) = absurd (no_rise here line said _ says free brings)
 
   finds_known : (line : ScriptLine) → (MayDarken here line said → ⊥) → RvgFinds told d line s fails said new → ⊥
-  finds_known line free (FindsRvg kept taken next mid n k row c units are brings unknown dark is same comes config fits says left) =
+  finds_known line free (FindsRvg kept taken next mid n k row c units are brings unknown dark is same comes config fits lies says left) =
       finds_none told tells here known (λ loose. free (brings, inl loose)) unknown
   finds_known line free (FindsPlain kept taken next mid has are brings unknown dark is none says left) =
       finds_none told tells here known (λ loose. free (brings, inl loose)) unknown
-  finds_known line free (FindsNoRvg kept taken lost next why are brings unknown device notes says left) =
+  finds_known line free (FindsNoRvg kept taken lost next why has are brings unknown device notes says left) =
       finds_none told tells here known (λ loose. free (brings, inl loose)) unknown
 
   -- ---- other lines

@@ -33,20 +33,17 @@ unmade_keeps : (told : Type 0) (s : ℕ) (fails : Fails) (units : Units) (note n
 unmade_keeps told s fails units note next x c at =
     loses s fails x.middle next x.moves c (ap (λ (bytes : List ℕ). config_of bytes) (ap (λ (g : GroupNode). g.config) x.narrowed.same) ∙ at)
 
-module _ (told : Type 0) (tells : told) (d : Doubted) (line : ScriptLine) (s : ℕ) (new : Doubted) where
+module _ (told : Type 0) (d : Doubted) (line : ScriptLine) (s : ℕ) (new : Doubted) where
   abbrev here : GroupNode
   here = note_at (d.world.nodes s)
 
-  pub short_stays : is_over_rvg (d.world.nodes s) ≡ true → RvgShort told d line s new → (note_at (new.world.nodes s)).dark ≡ false
-      → NoteKeepsRvg here (note_at (new.world.nodes s))
-  short_stays over (ShortGroup kept taken lost next has brings notes left) known =
-      but_keeps told tells d line s [] Done new over lost taken next d _ left (λ _. same_config here next (short_config here next notes)) known
-  short_stays over (ShortLog kept taken fails middle found next from rest are brings back rests is left) known =
-      but_keeps told tells d line s fails Done new over true taken next from _ left
-      (λ bright. then_same here found next
-      (came_keeps told tells d line s fails Done new over kept middle found from rest back rests (sym (ap (λ (g : GroupNode). g.dark) is) ∙ bright))
-      (ap (λ (g : GroupNode). g.config) is)) known
-  short_stays over (ShortMade site srl maps volumes fails next is are notes left) known =
+  pub short_stays : is_over_rvg (d.world.nodes s) ≡ true → RvgShort told d line s new → NoteKeepsRvg here (note_at (new.world.nodes s))
+  short_stays over (ShortGroup kept taken lost next has brings notes left) =
+      but_keeps told d line s [] Done new over lost taken next d _ left (same_config here next (short_config here next notes))
+  short_stays over (ShortLog kept taken fails middle found next from rest are brings back rests is left) =
+      but_keeps told d line s fails Done new over true taken next from _ left
+      (then_same here found next (came_keeps told d line s fails Done new over kept middle found from rest rests) (ap (λ (g : GroupNode). g.config) is))
+  short_stays over (ShortMade site srl maps volumes fails next is are notes left) =
       subst (λ (g : GroupNode). NoteKeepsRvg here g) (sym (gained_note s next d new left)) (unmade_keeps told s fails (units_at d s srl maps volumes) here next notes)
 
   pub short_known : here.dark ≡ false → (BringsUp line → here.loose ≡ false) → RvgShort told d line s new → (note_at (new.world.nodes s)).dark ≡ false

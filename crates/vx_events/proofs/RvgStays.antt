@@ -19,7 +19,7 @@ use Rattle.vx_events.proofs.KnownLaws.{group_stays, left_note, never}
 use Rattle.vx_events.proofs.Places.{some_same}
 use Rattle.vx_events.proofs.RvgConfigs.{adds_keeps, again_keeps, closed_keeps, keeps_self, keeps_then, loses_keeps, puts_or, stayed}
 use Rattle.vx_events.proofs.RvgEvents.{rvg_apart}
-use Rattle.vx_events.proofs.RvgKnown.{lost_group, noted_here, works_dark}
+use Rattle.vx_events.proofs.RvgKnown.{back_dark, lost_group, noted_here}
 use Rattle.vx_events.specs.Doubts.{IsAs, with_disks}
 use Rattle.vx_events.specs.Fails.{Fails}
 use Rattle.vx_events.specs.GroupConfigs.{ConfigLoses, lies_on_disk, opened_again}
@@ -81,7 +81,7 @@ doubtful s fails w note next x = then_same note x.middle next (loses s fails not
 cut_off : (s : ℕ) (fails : Fails) (w : WriteBlocks) (note next : GroupNode) → NotesCut s fails w note next → NoteKeepsRvg note next
 cut_off s fails w note next x = then_same note x.middle next (loses s fails note x.middle x.moves) (ap (λ (g : GroupNode). g.config) x.is)
 
-refused_config : (note next : GroupNode) → NotesRefused note next → next.config ≡ note.config
+pub refused_config : (note next : GroupNode) → NotesRefused note next → next.config ≡ note.config
 refused_config note next (inl same) = ap (λ (g : GroupNode). g.config) same
 refused_config note next (inr dark) = ap (λ (g : GroupNode). g.config) dark
 
@@ -92,12 +92,6 @@ unfound_config other note next leaves = ap (λ (g : GroupNode). g.config) leaves
 -- what a site notes of its group
 pub by_note : (m : Node) (note next : GroupNode) → m.group ≡ Some next → NoteKeepsRvg note next → NoteKeepsRvg note (note_at m)
 by_note m note next is keeps = subst (λ (g : GroupNode). NoteKeepsRvg note g) (sym (ap (λ (o : Option GroupNode). unwrap_or o no_note) is)) keeps
-
--- where it is known what the disks hold
-by_known : (m : Node) (note next : GroupNode) → m.group ≡ Some next → (next.dark ≡ false → NoteKeepsRvg note next) → (note_at m).dark ≡ false
-    → NoteKeepsRvg note (note_at m)
-by_known m note next is keeps =
-    subst (λ (g : GroupNode). g.dark ≡ false → NoteKeepsRvg note g) (sym (ap (λ (o : Option GroupNode). unwrap_or o no_note) is)) keeps
 
 -- ---- lines on the group alone
 
@@ -200,12 +194,12 @@ but_group lost s line taken next before last new left =
     ap (λ (w : World). (w.nodes s).group) left.world ∙ lost_group lost (group_noted s line v) s ∙ group_stays s line v ∙ noted_here u s next
 
 rests_noted : (d : Doubted) (line : ScriptLine) (s kept : ℕ) (middle next : GroupNode) (from : Doubted) (events : List Event) → is_over_rvg (d.world.nodes s) ≡ true
-    → RestsWithRvg d line s kept middle next from events → (rvg_noted middle ≡ rvg_noted (note_at (d.world.nodes s))) × (next ≡ middle)
-rests_noted d line s kept middle next from events over (HadRvg has same noted is fall) = (same, noted)
+    → RestsWithRvg d line s kept middle next from events → NoteKeepsRvg (note_at (d.world.nodes s)) middle × (next ≡ middle)
+rests_noted d line s kept middle next from events over (HadRvg has keeps noted is fall) = (keeps, noted)
 rests_noted d line s kept middle next from events over (GetsRvg units group has there one noted is all) = absurd (never (sym (rvg_apart (d.world.nodes s) over) ∙ group))
 
--- a group that came up with the replicated volume group that it had
-back_keeps : (told : Type 0) (s : ℕ) (n : Node) (fails : Fails) (note middle : GroupNode) → IsKnown told middle → rvg_noted middle ≡ rvg_noted note
+-- a group that came up with the replicated volume group that it had, where it is known what the disks hold
+pub back_keeps : (told : Type 0) (s : ℕ) (n : Node) (fails : Fails) (note middle : GroupNode) → IsKnown told middle → rvg_noted middle ≡ rvg_noted note
     → NotesBack told s n fails note middle → NoteKeepsRvg note middle
 back_keeps told s n fails note middle known same x c at =
     let old : x.old ≡ c = some_same (sym x.was ∙ at) in
@@ -219,67 +213,61 @@ back_keeps told s n fails note middle known same x c at =
       };
     }
 
-module _ (told : Type 0) (tells : told) (d : Doubted) (line : ScriptLine) (s : ℕ) (fails : Fails) (said : Said) (new : Doubted) (over : is_over_rvg (d.world.nodes s) ≡ true) where
+module _ (told : Type 0) (d : Doubted) (line : ScriptLine) (s : ℕ) (fails : Fails) (said : Said) (new : Doubted) (over : is_over_rvg (d.world.nodes s) ≡ true) where
   abbrev here : GroupNode
   here = note_at (d.world.nodes s)
 
   -- it came up
-  pub came_keeps : (kept : ℕ) (middle found : GroupNode) (from : Doubted) (rest : List Event) → NotesBack told s (d.world.nodes s) fails here middle
-      → RestsWithRvg d line s kept middle found from rest → found.dark ≡ false → NoteKeepsRvg here found
-  came_keeps kept middle found from rest back rests known =
+  pub came_keeps : (kept : ℕ) (middle found : GroupNode) (from : Doubted) (rest : List Event) → RestsWithRvg d line s kept middle found from rest → NoteKeepsRvg here found
+  came_keeps kept middle found from rest rests =
       let noted = rests_noted d line s kept middle found from rest over rests in
-      let bright : middle.dark ≡ false = sym (ap (λ (g : GroupNode). g.dark) noted.1) ∙ known in
-      then_same here middle found (back_keeps told s (d.world.nodes s) fails here middle (tells, bright) noted.0 back) (ap (λ (g : GroupNode). g.config) noted.1)
+      then_same here middle found noted.0 (ap (λ (g : GroupNode). g.config) noted.1)
 
   -- and the log was worked on
-  works_keeps : (Off : Type 0) (kept : ℕ) (middle found worked : GroupNode) (from : Doubted) (rest : List Event) → NotesBack told s (d.world.nodes s) fails here middle
-      → RestsWithRvg d line s kept middle found from rest → NotesWork Off s fails found worked → worked.dark ≡ false → NoteKeepsRvg here worked
-  works_keeps Off kept middle found worked from rest back rests works known =
-      then_keeps here found worked (came_keeps kept middle found from rest back rests (sym (works_dark Off s fails found worked works) ∙ known))
-      (loses s fails found worked works)
+  works_keeps : (Off : Type 0) (kept : ℕ) (middle found worked : GroupNode) (from : Doubted) (rest : List Event) → RestsWithRvg d line s kept middle found from rest
+      → NotesWork Off s fails found worked → NoteKeepsRvg here worked
+  works_keeps Off kept middle found worked from rest rests works =
+      then_keeps here found worked (came_keeps kept middle found from rest rests) (loses s fails found worked works)
 
   -- while what is kept of a write is still to be read
-  left_cut : (Off : Type 0) (kept : ℕ) (middle found next : GroupNode) (from : Doubted) (rest : List Event) → NotesBack told s (d.world.nodes s) fails here middle
-      → RestsWithRvg d line s kept middle found from rest → WorksCut Off s fails here.cut found next → next.dark ≡ false → NoteKeepsRvg here next
-  left_cut Off kept middle found next from rest back rests x known =
-      then_same here x.worked next
-      (works_keeps Off kept middle found x.worked from rest back rests x.works (sym (ap (λ (g : GroupNode). g.dark) x.is) ∙ known))
-      (ap (λ (g : GroupNode). g.config) x.is)
+  left_cut : (Off : Type 0) (kept : ℕ) (middle found next : GroupNode) (from : Doubted) (rest : List Event) → RestsWithRvg d line s kept middle found from rest
+      → WorksCut Off s fails here.cut found next → NoteKeepsRvg here next
+  left_cut Off kept middle found next from rest rests x =
+      then_same here x.worked next (works_keeps Off kept middle found x.worked from rest rests x.works) (ap (λ (g : GroupNode). g.config) x.is)
 
-  left_keeps : (taken : Bool) (next : GroupNode) (before last : Doubted) → IsLeftBack s line taken next before last new → (next.dark ≡ false → NoteKeepsRvg here next)
-      → (note_at (new.world.nodes s)).dark ≡ false → NoteKeepsRvg here (note_at (new.world.nodes s))
-  left_keeps taken next before last left keeps = by_known (new.world.nodes s) here next (back_group s line taken next before last new left) keeps
+  left_keeps : (taken : Bool) (next : GroupNode) (before last : Doubted) → IsLeftBack s line taken next before last new → NoteKeepsRvg here next
+      → NoteKeepsRvg here (note_at (new.world.nodes s))
+  left_keeps taken next before last left keeps = by_note (new.world.nodes s) here next (back_group s line taken next before last new left) keeps
 
-  pub but_keeps : (lost taken : Bool) (next : GroupNode) (before last : Doubted) → IsLeftBut lost s line taken next before last new → (next.dark ≡ false → NoteKeepsRvg here next)
-      → (note_at (new.world.nodes s)).dark ≡ false → NoteKeepsRvg here (note_at (new.world.nodes s))
-  but_keeps lost taken next before last left keeps = by_known (new.world.nodes s) here next (but_group lost s line taken next before last new left) keeps
+  pub but_keeps : (lost taken : Bool) (next : GroupNode) (before last : Doubted) → IsLeftBut lost s line taken next before last new → NoteKeepsRvg here next
+      → NoteKeepsRvg here (note_at (new.world.nodes s))
+  but_keeps lost taken next before last left keeps = by_note (new.world.nodes s) here next (but_group lost s line taken next before last new left) keeps
 
-  back_stays : RvgBack told d line s fails said new → (note_at (new.world.nodes s)).dark ≡ false → NoteKeepsRvg here (note_at (new.world.nodes s))
+  pub back_stays : RvgBack told d line s fails said new → NoteKeepsRvg here (note_at (new.world.nodes s))
   back_stays (RvgUp kept taken middle found next from rest are brings back rests works says left) =
-      left_keeps taken next from _ left (works_keeps ⊥ kept middle found next from rest back rests works)
+      left_keeps taken next from _ left (works_keeps ⊥ kept middle found next from rest rests works)
   back_stays (LogFails kept taken disk middle found next from rest events are has brings back rests is begun says left) =
-      but_keeps true taken next from _ left (left_cut ⊥ kept middle found next from rest back rests is)
+      but_keeps true taken next from _ left (left_cut ⊥ kept middle found next from rest rests is)
   back_stays (LogLacks kept taken middle found next from rest are brings back rests is lacks says left) =
-      but_keeps true taken next from _ left (left_cut ⊥ kept middle found next from rest back rests is)
+      but_keeps true taken next from _ left (left_cut ⊥ kept middle found next from rest rests is)
   back_stays (KeptLost kept taken disk middle found next from rest site is are has back rests noted says left) =
-      left_keeps taken next from _ left (left_cut ⊥ kept middle found next from rest back rests noted)
+      left_keeps taken next from _ left (left_cut ⊥ kept middle found next from rest rests noted)
   back_stays (LogCut middle found next from rest events site is are fused back rests noted begun says left) =
-      left_keeps false next from _ left (left_cut (IsFused (d.world.nodes s).fuse) 0 middle found next from rest back rests noted)
-  back_stays (GroupCutOff next site is has are fused notes says left) =
-      left_keeps false next d _ left (λ _. same_config here next (refused_config here next notes))
+      left_keeps false next from _ left (left_cut (IsFused (d.world.nodes s).fuse) 0 middle found next from rest rests noted)
+  back_stays (GroupCutOff next site is has are fused notes says left) = left_keeps false next d _ left (same_config here next (refused_config here next notes))
   back_stays (GroupUnfound kept taken lost why next has are brings not leaves says left) =
-      but_keeps lost taken next d _ left (λ _. same_config here next (unfound_config why here next leaves))
+      but_keeps lost taken next d _ left (same_config here next (unfound_config why here next leaves))
   back_stays (GroupHeld kept taken lost disk next has are failed brings notes says left) =
-      but_keeps lost taken next d _ left (λ _. same_config here next (refused_config here next notes))
+      but_keeps lost taken next d _ left (same_config here next (refused_config here next notes))
 
-  -- what is found on disks of which nothing is known stays unknown
-  finds_stays : RvgFinds told d line s fails said new → (note_at (new.world.nodes s)).dark ≡ false → NoteKeepsRvg here (note_at (new.world.nodes s))
-  finds_stays (FindsRvg kept taken next mid n k row c units are brings unknown dark is same comes config fits says left) =
-      left_keeps taken next d _ left (λ known. absurd (never (sym known ∙ dark tells)))
-  finds_stays (FindsPlain kept taken next mid has are brings unknown dark is none says left) =
-      left_keeps taken next d _ left (λ known. absurd (never (sym known ∙ dark tells)))
-  finds_stays (FindsNoRvg kept taken lost next why are brings unknown device notes says left) =
-      but_keeps lost taken next d _ left (λ _. same_config here next (refused_config here next notes))
+  -- what is found on disks of which nothing is known may be another one, and stays unknown
+  finds_stays : told → RvgFinds told d line s fails said new → (note_at (new.world.nodes s)).dark ≡ false → NoteKeepsRvg here (note_at (new.world.nodes s))
+  finds_stays tells (FindsRvg kept taken next mid n k row c units are brings unknown dark is same comes config fits lies says left) known =
+      absurd (never (sym known ∙ back_dark s line taken next d _ new left ∙ dark tells))
+  finds_stays tells (FindsPlain kept taken next mid has are brings unknown dark is none says left) known =
+      absurd (never (sym known ∙ back_dark s line taken next d _ new left ∙ dark tells))
+  finds_stays tells (FindsNoRvg kept taken lost next why has are brings unknown device notes says left) known =
+      but_keeps lost taken next d _ left (same_config here next (refused_config here next notes))
 
   -- ---- other lines
 
@@ -295,29 +283,38 @@ module _ (told : Type 0) (tells : told) (d : Doubted) (line : ScriptLine) (s : �
   shows_keeps false h =
       by_note (new.world.nodes s) here h.next (ap (λ (w : World). (w.nodes s).group) h.left.world ∙ noted_here h.middle.world s h.next) (line_keeps (FuseRanOut (d.world.nodes s) h.inner) line h.next h.notes)
 
-module _ (told : Type 0) (tells : told) (d : Doubted) (s : ℕ) (fails : Fails) (said : Said) (new : Doubted) (over : is_over_rvg (d.world.nodes s) ≡ true) where
-  back_or : (line : ScriptLine) → RvgBack told d line s fails said new ⊎ RvgFinds told d line s fails said new → (note_at (new.world.nodes s)).dark ≡ false
-      → NoteKeepsRvg (note_at (d.world.nodes s)) (note_at (new.world.nodes s))
-  back_or line (inl back) known = back_stays told tells d line s fails said new over back known
-  back_or line (inr finds) known = finds_stays told tells d line s fails said new over finds known
+module _ (told : Type 0) (d : Doubted) (s : ℕ) (fails : Fails) (said : Said) (new : Doubted) (over : is_over_rvg (d.world.nodes s) ≡ true) where
+  abbrev Stays : Type 0
+  Stays = NoteKeepsRvg (note_at (d.world.nodes s)) (note_at (new.world.nodes s))
 
-  takes_stays : (line : ScriptLine) → TakesOr told d line s fails said new → (note_at (new.world.nodes s)).dark ≡ false
-      → NoteKeepsRvg (note_at (d.world.nodes s)) (note_at (new.world.nodes s))
-  takes_stays (GroupImport site) ends known = back_or (GroupImport site) ends known
-  takes_stays (Recover site) ends known = back_or (Recover site) ends known
-  takes_stays other ends known = shows_keeps told tells d other s fails said new over (is_inside (note_at (d.world.nodes s)) other) ends
+  back_or : (line : ScriptLine) → RvgBack told d line s fails said new ⊎ RvgFinds told d line s fails said new → Stays ⊎ RvgFinds told d line s fails said new
+  back_or line (inl back) = inl (back_stays told d line s fails said new over back)
+  back_or line (inr finds) = inr finds
+
+  takes_stays : (line : ScriptLine) → TakesOr told d line s fails said new → Stays ⊎ RvgFinds told d line s fails said new
+  takes_stays (GroupImport site) ends = back_or (GroupImport site) ends
+  takes_stays (Recover site) ends = back_or (Recover site) ends
+  takes_stays other ends = inl (shows_keeps told d other s fails said new over (is_inside (note_at (d.world.nodes s)) other) ends)
 
   by_place : (below : Bool) (line : ScriptLine) → is_below (note_at (d.world.nodes s)) line ≡ below → OverRvgBy below told d line s fails said new
-      → (note_at (new.world.nodes s)).dark ≡ false → NoteKeepsRvg (note_at (d.world.nodes s)) (note_at (new.world.nodes s))
-  by_place true line is (inl ends) known = group_keeps told d line s fails said new is ends
-  by_place true line is (inr cut) known =
-      by_note (new.world.nodes s) (note_at (d.world.nodes s)) cut.next (back_group s line cut.taken cut.next d _ new cut.left)
-      (cuts_keeps s (note_at (d.world.nodes s)) line fails cut.next cut.cuts)
-  by_place false line is ends known = takes_stays line ends known
+      → Stays ⊎ RvgFinds told d line s fails said new
+  by_place true line is (inl ends) = inl (group_keeps told d line s fails said new is ends)
+  by_place true line is (inr cut) =
+      inl
+      (by_note (new.world.nodes s) (note_at (d.world.nodes s)) cut.next (back_group s line cut.taken cut.next d _ new cut.left)
+      (cuts_keeps s (note_at (d.world.nodes s)) line fails cut.next cut.cuts))
+  by_place false line is ends = takes_stays line ends
 
-  pub over_stays : (line : ScriptLine) → OverRvg told d line s fails said new → (note_at (new.world.nodes s)).dark ≡ false
-      → NoteKeepsRvg (note_at (d.world.nodes s)) (note_at (new.world.nodes s))
-  over_stays line ends known = by_place (is_below (note_at (d.world.nodes s)) line) line refl ends known
+  -- the line left it noted so, or found something on disks of which nothing is known
+  pub stays_or_finds : (line : ScriptLine) → OverRvg told d line s fails said new → Stays ⊎ RvgFinds told d line s fails said new
+  stays_or_finds line ends = by_place (is_below (note_at (d.world.nodes s)) line) line refl ends
+
+  pub over_stays : told → (line : ScriptLine) → OverRvg told d line s fails said new → (note_at (new.world.nodes s)).dark ≡ false → Stays
+  over_stays tells line ends known = by (stays_or_finds line ends)
+    where
+      by : Stays ⊎ RvgFinds told d line s fails said new → Stays
+      by (inl stays) = stays
+      by (inr finds) = finds_stays told d line s fails said new over tells finds known
 
 -- ---- lines of links
 

@@ -29,7 +29,7 @@ use Rattle.vx_events.specs.GroupNotes.{NotesBack, NotesRefused, note_at}
 use Rattle.vx_events.specs.GroupReplies.{ShowsKept}
 use Rattle.vx_events.specs.GroupViews.{config_of}
 use Rattle.vx_events.specs.LinkViews.{linked_view}
-use Rattle.vx_events.specs.RvgFits.{FitsRvg, HasUnits, entries_noted, rvg_noted}
+use Rattle.vx_events.specs.RvgFits.{FitsRvg, HasUnits, NoteKeepsRvg, entries_noted, rvg_noted}
 use Rattle.vx_events.specs.RvgMakes.{noting_in}
 use Rattle.vx_events.specs.RvgNotes.{HasOneValue, note_gained, volume_events}
 use Rattle.vx_events.specs.RvgViews.{is_over_rvg, over_disks}
@@ -52,10 +52,10 @@ abbrev pub rest_again : ScriptLine → (site : ℕ) → List Event
 rest_again (GroupImport site) s = DeportAt s ∷ []
 rest_again other s = CrashAt s 0 ∷ []
 
--- The site is at rest with its replicated volume group behind these events, from this world on, and has the note `next`. It had it; or its group, which came up with
--- the note `middle`, was found to have one that a line had begun to make. Then each block of a data volume has one value.
+-- The site is at rest with its replicated volume group behind these events, from this world on, and has the note `next`. It had it, and its group came up with the same
+-- volumes; or its group, which came up with the note `middle`, was found to have one that a line had begun to make. Then each block of a data volume has one value.
 pub data RestsWithRvg (d : Doubted) (line : ScriptLine) (s kept : ℕ) (middle next : GroupNode) (from : Doubted) (events : List Event) : Type 0 where
-  HadRvg : is_over_rvg (d.world.nodes s) ≡ true → rvg_noted middle ≡ rvg_noted (note_at (d.world.nodes s)) → next ≡ middle → from ≡ d
+  HadRvg : is_over_rvg (d.world.nodes s) ≡ true → NoteKeepsRvg (note_at (d.world.nodes s)) middle → next ≡ middle → from ≡ d
       → events ≡ fall_first (d.world.nodes s).state s kept → RestsWithRvg d line s kept middle next from events
   GetsRvg : (units : Units) → is_over_group (d.world.nodes s) ≡ true → rvg_noted middle ≡ Some units → HasUnits (entries_noted middle) units → HasOneValue units middle → next ≡ note_gained units middle
       → from ≡ noting_in d s middle → events ≡ group_events (d.world.nodes s) s line ++ (volume_events middle s units ++ rest_again line s)
@@ -149,7 +149,7 @@ SaysFoundUp other s next v said = ⊥
 pub data RvgFinds (told : Type 0) (d : Doubted) (line : ScriptLine) (s : ℕ) (fails : Fails) (said : Said) (new : Doubted) : Type 0 where
   FindsRvg : (kept : ℕ) (taken : Bool) (next : GroupNode) (mid : Doubted) (n k : Node) (row : ℕ → Link) (c : Config) (units : Units) → AreOf s fails → BringsUp line
       → KnowsNothing told (note_at (d.world.nodes s)) → (told → next.dark ≡ true) → mid ≡ run_as taken d (fall_first (d.world.nodes s).state s kept)
-      → n ≡ record (mid.world.nodes s) { volumes = k.volumes; group = k.group } → ComesUpAs s mid.world.sites n k row → config_of next.config ≡ Some c → FitsRvg k c units
+      → n ≡ record (mid.world.nodes s) { volumes = k.volumes; group = k.group } → ComesUpAs s mid.world.sites n k row → config_of next.config ≡ Some c → FitsRvg k c units → HasUnits c.volumes units
       → SaysFoundUp line s next (found_linked mid s k row).world said
       → IsLeftBack s line taken next d (found_linked mid s k row) new → RvgFinds told d line s fails said new
   -- a site that had one came up without
@@ -157,6 +157,7 @@ pub data RvgFinds (told : Type 0) (d : Doubted) (line : ScriptLine) (s : ℕ) (f
       → KnowsNothing told (note_at (d.world.nodes s)) → (told → next.dark ≡ true) → mid ≡ run_as taken d (fall_first (d.world.nodes s).state s kept)
       → rvg_noted next ≡ None → SaysFound (mid.world.nodes s) line next said
       → IsLeftBack s line taken next d (found_linked mid s (group_set s (mid.world.nodes s)) (λ k. no_link)) new → RvgFinds told d line s fails said new
-  FindsNoRvg : (kept : ℕ) (taken lost : Bool) (next : GroupNode) (why : No) → AreOf s fails → BringsUp line → KnowsNothing told (note_at (d.world.nodes s))
+  FindsNoRvg : (kept : ℕ) (taken lost : Bool) (next : GroupNode) (why : No) → is_over_rvg (d.world.nodes s) ≡ true → AreOf s fails → BringsUp line
+      → KnowsNothing told (note_at (d.world.nodes s))
       → IsNoDevice why → NotesRefused (note_at (d.world.nodes s)) next → said ≡ Refused why
       → IsLeftBut lost s line taken next d (run_as taken d (fall_first (d.world.nodes s).state s kept)) new → RvgFinds told d line s fails said new

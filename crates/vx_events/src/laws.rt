@@ -8,7 +8,8 @@ ghost use Rattle.vx_history.specs.Admission.{Goes};
 ghost use Rattle.vx_history.specs.Events.{admitted};
 ghost use Rattle.vx_history.specs.Doubts.{Doubted};
 ghost use Rattle.vx_history.specs.Step.{step, joined_blocks};
-ghost use Rattle.vx_history.specs.World.{World};
+ghost use Rattle.vx_history.specs.Groups.{GroupNode};
+ghost use Rattle.vx_history.specs.World.{Node, World};
 ghost use Rattle.vx_history.specs.declared.event.Event.TheVariants.{Site as MakeSite, Raw as MakeRaw, Write as WriteAt, Read as ReadAt, Apply as ApplyAt, Crash as CrashAt};
 ghost use Rattle.vx_history.specs.declared.event.Said.TheVariants.{Done, DoneAt, Got};
 ghost use Rattle.vx_order.specs.Order.{line_refusal};
@@ -16,11 +17,12 @@ ghost use Rattle.vx_script.specs.declared.line.ScriptLine.{ScriptLine};
 ghost use Rattle.vx_script.specs.declared.line.ScriptLine.TheVariants.{Site, Raw, Crash, Rvg, Write as WriteLine, Put, Read, Show, Apply};
 ghost use Rattle.vx_events.specs.Facts.{facts_of, site_number, volume_number};
 ghost use Rattle.vx_events.specs.GroupEnds.{BringsUp, GroupEnds, GroupStops};
-ghost use Rattle.vx_events.specs.GroupNotes.{note_at};
+ghost use Rattle.vx_events.specs.GroupNotes.{IsKnown, NotesBack, note_at};
 ghost use Rattle.vx_events.specs.Known.{MayDarken};
 ghost use Rattle.vx_config.specs.declared.config.Config.{Config};
 ghost use Rattle.vx_events.specs.GroupViews.{config_of};
-ghost use Rattle.vx_events.specs.RvgFits.{FitsNoted, FitsSome, MayGetRvg, NoteKeepsRvg};
+ghost use Rattle.vx_events.specs.RvgFits.{FitsNoted, FitsSome, MayGetRvg, NoteKeepsRvg, rvg_noted};
+ghost use Rattle.vx_events.specs.RvgBack.{RvgBack};
 ghost use Rattle.vx_events.specs.RvgWorks.{AgreesOr, FuseRanOut, NoneFailed, NoteAgrees};
 ghost use Rattle.vx_events.specs.declared.said.Said.TheVariants.{Done as SaysDone};
 ghost use Rattle.vx_events.specs.RvgLinks.{AllKnown, LinksOver};
@@ -146,10 +148,15 @@ pub fn quiet_rvgs_stay_agreed()
 {}
 
 /// However a line at such a site ends, the configuration that the site notes has the replicated volume group that it had, and the volumes that it had with their names
-/// and their blocks, as long as it is known what the disks hold. So has it behind a line of links.
+/// and their blocks, as long as it is known what the disks hold. So has it behind a line of links, and behind a recovery or an import that found what is noted. It did where it is
+/// known what the disks hold, and the group came up with the same replicated volume group.
 pub fn rvgs_stay_noted()
     ensures over { (d : Doubted) (line : ScriptLine) (s : ℕ) (fails : Fails) (said : Said) (new : Doubted) → is_over_rvg (d.world.nodes s) ≡ true
         → OverRvg (Unit {0}) d line s fails said new → (note_at (new.world.nodes s)).dark ≡ false → NoteKeepsRvg (note_at (d.world.nodes s)) (note_at (new.world.nodes s)) }
+    ensures back { (tells : Bool) (d : Doubted) (line : ScriptLine) (s : ℕ) (fails : Fails) (said : Said) (new : Doubted) → is_over_rvg (d.world.nodes s) ≡ true
+        → RvgBack (IsTrue tells) d line s fails said new → NoteKeepsRvg (note_at (d.world.nodes s)) (note_at (new.world.nodes s)) }
+    ensures found { (tells : Bool) (s : ℕ) (n : Node) (fails : Fails) (note middle : GroupNode) → IsKnown (IsTrue tells) middle → rvg_noted middle ≡ rvg_noted note
+        → NotesBack (IsTrue tells) s n fails note middle → NoteKeepsRvg note middle }
     ensures links { (tells : Bool) (d : Doubted) (line : ScriptLine) (fails : Fails) (said : Said) (new : Doubted) → LinksOver (IsTrue tells) d line fails said new
         → (i : ℕ) → is_over_rvg (d.world.nodes i) ≡ true → NoteKeepsRvg (note_at (d.world.nodes i)) (note_at (new.world.nodes i)) }
 {}

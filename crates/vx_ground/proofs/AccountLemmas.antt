@@ -1,6 +1,6 @@
 -- Accounts of a group that go on, call by call.
 use Rattle.std.proofs.Common.{◌≡◌, ◌∙◌, ◌⊎◌, inl, inr, zero, suc, ℕ, ◌-◌, ◌<◌, ◌≤◌, Bool, true, false, IsTrue, length, ap, sym, subst, refl, arith}
-use Rattle.std.specs.Prelude.{◌^◌, Option, Some}
+use Rattle.std.specs.Prelude.{◌^◌, Err, None, Ok, OnOk, Option, Result, Some}
 use Rattle.std.proofs.lemmas.Bool.{cases_lt}
 use Rattle.vx_model.specs.declared.site.PlexState.{PlexState}
 use Rattle.vx_model.specs.declared.site.PlexState.TheVariants.{Active, Clean, Stale}
@@ -8,14 +8,18 @@ use Rattle.vx_config.specs.Checks.{is_sound}
 use Rattle.vx_config.specs.declared.config.Config.{Config}
 use Rattle.vx_config.specs.declared.entry.PlexEntry.{PlexEntry}
 use Rattle.vx_copies.specs.Marks.{failed_at}
+use Rattle.vx_disk.specs.Causes.{Cause}
 use Rattle.vx_disk.specs.Counts.{Rose}
 use Rattle.vx_disk.specs.Shelf.{Meaning}
+use Rattle.vx_disk.specs.declared.shelf.ShelfError.{ShelfError}
+use Rattle.vx_disk.specs.declared.shelf.ShelfError.TheVariants.{Fault, Down}
 use Rattle.vx_layout.specs.Places.{plex_at}
 use Rattle.vx_volume.specs.Plexes.{active, uses}
 use Rattle.vx_kept.specs.Finds.{AllAtOnce, FindsFrom, NoConfiguration}
 use Rattle.vx_group.specs.Finds.{GroupFinds, MissesOpenly}
 use Rattle.vx_group.specs.Holding.{config_by, wide}
 use Rattle.vx_group.specs.Loses.{LosesPlexes}
+use Rattle.vx_group.specs.Stands.{inner_meaning}
 use Rattle.vx_group.specs.declared.group_core.Held.{Held}
 use Rattle.vx_group.specs.declared.group_core.GroupCore.{GroupCore}
 use Rattle.vx_group.proofs.FindingLemmas.{newest_goes}
@@ -25,7 +29,10 @@ use Rattle.vx_grouped.specs.ConfigMoves.{AnyRose, LosesSome, StateMoves, none_ag
 use Rattle.vx_grouped.specs.CoreMoves.{BothOn}
 use Rattle.vx_grouped.proofs.MovesLemmas.{config_moves, used_below}
 use Rattle.vx_grouped.proofs.StateChangeLemmas.{live_state, live_there, on_state, on_there}
+use Rattle.vx_grouped.specs.GroupNotes.{is_sure}
+use Rattle.vx_grouped.proofs.ImageLemmas.{sure_by, sure_free, sure_kept}
 use Rattle.vx_ground.specs.Accounts.{GroundSince, GroundState, NoneRose, StateOpen, ground_state}
+use Rattle.vx_grouplogs.specs.Loading.{SomeRose}
 
 rose_on : (a b c : ℕ) → b ≤ c → Rose a b → Rose a c
 rose_on a b c more rose = record {
@@ -63,11 +70,13 @@ ground_none a m = record {
   stays = λ u on. on;
   openly = λ clear. clear;
   newest = λ clear was is. was is;
+  falls = λ is. is;
+  sure = λ is. inl is;
 }
 
 -- and one call more
 module _ (a : GroundState) (c d : GroupCore) (m0 m m' : Meaning) (first : (u : ℕ) → m.disk_faults u ≡ m.faults u) (last : (u : ℕ) → m'.disk_faults u ≡ m'.faults u) (since : GroundSince a m0 (ground_state c) m) (sound : is_sound c.inner.config ≡ true)
-    (more : (u : ℕ) → m.disk_faults u ≤ m'.disk_faults u) where
+    (more : (u : ℕ) → m.disk_faults u ≤ m'.disk_faults u) (falls : IsTrue m.down → IsTrue m'.down) where
   none_before : NoneRose (length a.config.disks) m0 m' → NoneRose (length a.config.disks) m0 m
   none_before none u low rose = none u low (rose_on (m0.disk_faults u) (m.disk_faults u) (m'.disk_faults u) (more u) rose)
 
@@ -76,6 +85,32 @@ module _ (a : GroundState) (c d : GroupCore) (m0 m m' : Meaning) (first : (u : �
 
   counted : (u : ℕ) → Rose (m.faults u) (m'.faults u) → Rose (m.disk_faults u) (m'.disk_faults u)
   counted u rose = subst (λ (k : ℕ). Rose k (m'.disk_faults u)) (sym (first u)) (subst (λ (k : ℕ). Rose (m.faults u) k) (sym (last u)) rose)
+
+  -- a call failed, or the disks are down, in this call or before it
+  rose_now : SomeRose m m' ⊎ IsTrue m'.down → SomeRose m0 m' ⊎ IsTrue m'.down
+  rose_now (inl some) = inl (record { disk = some.disk; rose = rose_back (m0.disk_faults some.disk) (m.disk_faults some.disk) (m'.disk_faults some.disk) (since.counts some.disk) some.rose })
+  rose_now (inr down) = inr down
+
+  rose_before : SomeRose m0 m ⊎ IsTrue m.down → SomeRose m0 m' ⊎ IsTrue m'.down
+  rose_before (inl some) = inl (record { disk = some.disk; rose = rose_on (m0.disk_faults some.disk) (m.disk_faults some.disk) (m'.disk_faults some.disk) (more some.disk) some.rose })
+  rose_before (inr down) = inr (falls down)
+
+  sure_then : (is_sure c ≡ true → (is_sure d ≡ true) ⊎ (SomeRose m m' ⊎ IsTrue m'.down)) → (is_sure c ≡ true) ⊎ (SomeRose m0 m ⊎ IsTrue m.down)
+      → (is_sure d ≡ true) ⊎ (SomeRose m0 m' ⊎ IsTrue m'.down)
+  sure_then sure (inl was) = by (sure was)
+    where
+      by : (is_sure d ≡ true) ⊎ (SomeRose m m' ⊎ IsTrue m'.down) → (is_sure d ≡ true) ⊎ (SomeRose m0 m' ⊎ IsTrue m'.down)
+      by (inl is) = inl is
+      by (inr cut) = inr (rose_now cut)
+  sure_then sure (inr cut) = inr (rose_before cut)
+
+  -- a call that answers Ok leaves the newest configuration committed
+  sure_after : {T : Type 0} (unit : ℕ) (r : Result T ShelfError) → (c.held ≡ None → d.held ≡ None) → Cause (inner_meaning (wide c) m) (inner_meaning (wide d) m') unit r
+      → OnOk r (c.inner.committed ≡ true → d.inner.committed ≡ true) → is_sure c ≡ true → (is_sure d ≡ true) ⊎ (SomeRose m m' ⊎ IsTrue m'.down)
+  sure_after unit (Ok done) free cause trust is =
+      inl (sure_by d.inner.committed d.held (trust (sure_kept c.inner.committed c.held is)) (free (sure_free c.inner.committed c.held is)))
+  sure_after unit (Err (Fault disk)) free cause trust is = inr (inl (record { disk = disk; rose = cause.0.disk_count }))
+  sure_after unit (Err Down) free cause trust is = inr (inr cause)
 
   -- a plex lies on disks of the group
   there : (v p u : ℕ) → IsTrue (uses c.inner.config v p u) → u < length a.config.disks
@@ -98,7 +133,8 @@ module _ (a : GroundState) (c d : GroupCore) (m0 m m' : Meaning) (first : (u : �
     blamed_by u true is off on none = since.blamed u off is (λ rose. none (rose_on (m0.disk_faults u) (m.disk_faults u) (m'.disk_faults u) (more u) rose))
     blamed_by u false is off on none = none (rose_back (m0.disk_faults u) (m.disk_faults u) (m'.disk_faults u) (since.counts u) (counted u (loses.disks.blamed u is on)))
 
-    module _ (openly : MissesOpenly (wide c) → MissesOpenly (wide d)) (newest : MissesOpenly (wide c) → (c.inner.committed ≡ true → AllAtOnce (wide c).config m) → d.inner.committed ≡ true → AllAtOnce (wide d).config m') where
+    module _ (openly : MissesOpenly (wide c) → MissesOpenly (wide d)) (newest : MissesOpenly (wide c) → (c.inner.committed ≡ true → AllAtOnce (wide c).config m) → d.inner.committed ≡ true → AllAtOnce (wide d).config m')
+        (sure : is_sure c ≡ true → (is_sure d ≡ true) ⊎ (SomeRose m m' ⊎ IsTrue m'.down)) where
       pub since_goes : GroundSince a m0 (ground_state d) m'
       since_goes = record {
         parts = then_parts a.config c.inner.config d.inner.config since.parts loses.parts;
@@ -110,11 +146,15 @@ module _ (a : GroundState) (c d : GroupCore) (m0 m m' : Meaning) (first : (u : �
         stays = λ u on. loses.disks.stays u (since.stays u on);
         openly = λ clear. openly (since.openly clear);
         newest = λ clear was is. newest (since.openly clear) (since.newest clear was) is;
+        falls = λ is. falls (since.falls is);
+        sure = λ is. sure_then sure (since.sure is);
       }
 
     -- a write or a flush
-    pub since_loses : GroupFinds c d m m' → GroundSince a m0 (ground_state d) m'
-    since_loses finds = since_goes finds.core.openly (λ clear was is. newest_goes c d m m' clear was finds.core is)
+    pub since_loses : {T : Type 0} (unit : ℕ) (r : Result T ShelfError) → GroupFinds c d m m' → Cause (inner_meaning (wide c) m) (inner_meaning (wide d) m') unit r
+        → OnOk r (c.inner.committed ≡ true → d.inner.committed ≡ true) → GroundSince a m0 (ground_state d) m'
+    since_loses unit r finds cause trust =
+        since_goes finds.core.openly (λ clear was is. newest_goes c d m m' clear was finds.core is) (sure_after unit r finds.free cause trust)
 
   -- a read, which leaves the configuration, and no image that there was not
   pub since_same : d.inner.config ≡ c.inner.config → d.held ≡ c.held → d.inner.committed ≡ c.inner.committed → d.inner.unsettled ≡ c.inner.unsettled → FindsFrom NoConfiguration m m' → GroundSince a m0 (ground_state d) m'
@@ -123,6 +163,7 @@ module _ (a : GroundState) (c d : GroupCore) (m0 m m' : Meaning) (first : (u : �
       (λ clear was is.
       let seen : (wide d).config ≡ (wide c).config = ap (λ (x : Config). config_by d.held x) same ∙ ap (λ (o : Option Held). config_by o c.inner.config) held in
       subst (λ (y : Config). AllAtOnce y m') (sym seen) (less_newest (wide c).config m m' (was (sym committed ∙ is)) finds))
+      (λ is. inl (sure_by d.inner.committed d.held (committed ∙ sure_kept c.inner.committed c.held is) (held ∙ sure_free c.inner.committed c.held is)))
 
 -- ---- what the configuration has lost, of which it can be told whether a call failed
 

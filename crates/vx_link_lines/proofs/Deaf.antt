@@ -34,7 +34,7 @@ use Rattle.vx_packet.specs.Assemblies.{Assembled}
 use Rattle.vx_script.specs.declared.line.ScriptLine.TheVariants.{Deliver}
 use Rattle.vx_diskset.specs.Asked.{LeavesAlone}
 use Rattle.vx_diskset.specs.Holds.{KeptBeside, beside_of}
-use Rattle.vx_diskset.specs.Stands.{IsToldAt, RoleIs, SiteStands}
+use Rattle.vx_diskset.specs.Stands.{IsRackTold, RoleIs, SiteStands}
 use Rattle.vx_diskset.specs.Aboves.{IsDeaf, above_in}
 use Rattle.vx_diskset.specs.declared.above.Above.{Above}
 use Rattle.vx_diskset.specs.declared.above.Above.TheVariants.{Nothing, Origin, Receiver}
@@ -52,7 +52,7 @@ use Rattle.vx_yard.specs.declared.yard.Yard.{Yard}
 use Rattle.vx_yard.proofs.ApplySite.{worked_effect, worked_for}
 use Rattle.vx_yard.proofs.Carrying.{SameLoad, carries_node}
 use Rattle.vx_yard.proofs.OneSite.{Changed}
-use Rattle.vx_yard.proofs.RecoverLine.{told_or}
+use Rattle.vx_yard.proofs.RecoverLine.{rack_told_or}
 use Rattle.vx_link_lines.proofs.UpdateLine.{done_as, leads_same}
 
 pub last_received : (number : ℕ) (f : SiteFacts) → last_facts number f ≡ received_fact number f
@@ -98,10 +98,10 @@ module _ {R : Type 0} {g : Ghosts R} where
       (λ none. inr (λ all. none (record { each = λ s x is. all.each (suc s) x is })))
       rest)
       (λ none. inr (λ all. none (all.each zero e refl)))
-      (told_or e)
+      (rack_told_or e)
     where
-      at : (s : ℕ) (x : DiskSet R g) → slice_get (e ∷ es) s ≡ Some x → IsToldAt e → AreTold es → IsToldAt x
-      at zero x is told all = subst (λ (y : DiskSet R g). IsToldAt y) (some_same is) told
+      at : (s : ℕ) (x : DiskSet R g) → slice_get (e ∷ es) s ≡ Some x → IsRackTold e → AreTold es → IsRackTold x
+      at zero x is told all = subst (λ (y : DiskSet R g). IsRackTold y) (some_same is) told
       at (suc s) x is told all = all.each s x is
 
   pub all_told : (es : List (DiskSet R g)) → AreTold es ⊎ (AreTold es → ⊥)

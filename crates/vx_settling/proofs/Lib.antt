@@ -19,3 +19,5 @@ pub mod RvgGained
 pub mod Brights
 pub mod BrightLines
 pub mod Shorts
+pub mod OtherNotes
+pub mod OtherLines

@@ -41,7 +41,7 @@ but_bright lost s line taken next d last new left here before b =
 
 module _ (told : Type 0) (tells : told) (d : Doubted) (line : ScriptLine) (s : ℕ) (new : Doubted) where
   pub short_bright : AllBright d → (BringsUp line → (note_at (d.world.nodes s)).loose ≡ false) → RvgShort told d line s new → AllBright new
-  short_bright b agree short = by short (short_known told tells d line s new (b.sites s) agree short)
+  short_bright b agree short = by short (short_known told d line s new (b.sites s) agree short)
     where
       by : RvgShort told d line s new → IsBright (new.world.nodes s) → AllBright new
       by (ShortGroup kept taken lost next has brings notes left) here =
@@ -59,10 +59,9 @@ short_good told d line s new good short =
     let x : RvgStops d new = short_stops told d line s new short in
     line_good x.before new x.events x.ending (like_good d x.before good x.like) x.stops
 
-pub short_fits : (told : Type 0) → told → (d : Doubted) (line : ScriptLine) (s : ℕ) (new : Doubted) → GoodDoubted d → DoubtsAlike d → IsMade (d.world.nodes s)
-    → is_over_rvg (d.world.nodes s) ≡ true → RvgShort told d line s new → FitsNoted (d.world.nodes s) → (note_at (new.world.nodes s)).dark ≡ false
-    → FitsNoted (new.world.nodes s)
-short_fits told tells d line s new good alike made over short fits known =
+pub short_fits : (told : Type 0) (d : Doubted) (line : ScriptLine) (s : ℕ) (new : Doubted) → GoodDoubted d → DoubtsAlike d → IsMade (d.world.nodes s)
+    → is_over_rvg (d.world.nodes s) ≡ true → RvgShort told d line s new → FitsNoted (d.world.nodes s) → FitsNoted (new.world.nodes s)
+short_fits told d line s new good alike made over short fits =
     let stays : RoomStays d new = stops_room d new good alike (short_stops told d line s new short) in
     let same : SameRoom (d.world.nodes s) (new.world.nodes s) = stays.sites s (has_data (d.world.nodes s) made over) in
-    fits_again (d.world.nodes s) (new.world.nodes s) same.ring same.volumes (short_stays told tells d line s new over short known) fits
+    fits_again (d.world.nodes s) (new.world.nodes s) same.ring same.volumes (short_stays told d line s new over short) fits

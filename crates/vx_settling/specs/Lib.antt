@@ -6,3 +6,4 @@ pub mod Works
 pub mod Burnt
 pub mod Gains
 pub mod Brights
+pub mod OtherNotes

@@ -6,5 +6,6 @@ pub mod between_laws;
 pub mod ends_laws;
 pub mod good_laws;
 pub mod left_laws;
+pub mod note_laws;
 pub mod short_laws;
 pub mod works_laws;

@@ -72,6 +72,7 @@ use Rattle.vx_yard.proofs.NoteSite.{comes_same, one_left}
 use Rattle.vx_yard.proofs.OneSite.{Changed, Comes, beside_same, role_off, rose_at, stands_still, told_by}
 use Rattle.vx_site_lines.proofs.RawSite.{bare_at, bare_sure}
 use Rattle.vx_site_lines.proofs.RiseLeads.{Replaced, never_told}
+use Rattle.vx_yard.proofs.RawSites.{bare_set, raw_site}
 use Rattle.vx_yard.proofs.RecoverLine.{bare_events, recover_done}
 use Rattle.vx_site_lines.proofs.RiseLine.{effect_as, plain_of, quiet_is, row_starts, shape_at}
 use Rattle.vx_site_lines.proofs.RiseSite.{ComesUp, IsWhole, SeesDisks, up_carries, up_stands}
@@ -158,7 +159,7 @@ module _ {R : Type 0} {g : Ghosts R} where
       pub untold_none : (why : No) → IsNoDevice why → (IsToldAt after → ⊥) → Leads d (Recover name) (Refused why) old new
       untold_none why other untold =
           bare_leads [] (Refused why)
-          (FindsNone (never_told old.disk_sets.items new.disk_sets.items s before after there replaced.disk_sets untold) first_choice false name d (raw_set s n) why refl (FromBare bare refl refl) other refl refl
+          (FindsNone (never_told old.disk_sets.items new.disk_sets.items s before after there replaced.disk_sets (bare_set (beside_of d s) n after at bare) untold) first_choice false name d (raw_set s n) why refl (FromBare bare refl refl) other refl refl
           (record { world = refl; after = λ i. refl })) rose_here
 
     pub stays_bare : (new : Yard R g) → Replaced old new s after → (why : No) → BareUpIs n before after (Err why) → Leads d (Recover name) (Refused why) old new
@@ -310,7 +311,7 @@ module _ {R : Type 0} {g : Ghosts R} where
         next = next;
         fails = [];
         done = recover_done (IsTold new) d next s name [] said number
-            (FindsLinks (never_told old.disk_sets.items new.disk_sets.items s before after there changed_up.disk_sets found.untold) first_choice false name d (raw_set s n) k row refl (FromBare bare refl refl) comes_as tt
+            (FindsLinks (never_told old.disk_sets.items new.disk_sets.items s before after there changed_up.disk_sets (raw_site beside_now k after none stands_now) found.untold) first_choice false name d (raw_set s n) k row refl (FromBare bare refl refl) comes_as tt
             (rises.says ∙ ap (λ (v : SiteView). Recovered rises.last v) (rises.shows next stands_next below (over_is k (next.world.nodes s) effect_now.is.node apart)) ∙ ap (λ (x : ℕ). Recovered x (linked_view next.world s)) last_is)
             (record { world = refl; after = λ i. refl }));
         stands = stands_next;

@@ -12,7 +12,7 @@ use Rattle.vx_model.specs.declared.state.State.{State}
 use Rattle.vx_disk.specs.Shelf.{Lawful}
 use Rattle.vx_disk.specs.declared.shelf.Shelf.{Ghosts}
 use Rattle.vx_courier.specs.UnderWay.{FlightStands}
-use Rattle.vx_diskset.specs.Asked.{FailsAs, FusedAs, SameFailing}
+use Rattle.vx_diskset.specs.Asked.{IsRawSet, FailsAs, FusedAs, SameFailing}
 use Rattle.vx_diskset.specs.DiskSets.{CameUp, CameUpIs, CrashedAt, Later, RoseAt, StillDown, no_number, fell_to}
 use Rattle.vx_diskset.specs.Holds.{KeptBeside, KeptSite, beside_of, doubt_of, itself, header_links, row_links, state_with, sure_of}
 use Rattle.vx_diskset.specs.Stands.{IsToldAt, RoleIs, SiteStands}
@@ -60,6 +60,7 @@ use Rattle.vx_yard.proofs.Lists.{get-set_same}
 use Rattle.vx_yard.proofs.NamedSite.{fact_of}
 use Rattle.vx_yard.proofs.NoteSite.{comes_same}
 use Rattle.vx_yard.proofs.OneSite.{Changed, Comes, beside_same, role_off, rose_at, stands_still, told_by}
+use Rattle.vx_yard.proofs.RawSites.{raw_site, raw_told}
 use Rattle.vx_yard.proofs.RecoverLine.{recover_done, session_fact, told_or}
 use Rattle.vx_site_lines.proofs.Apart.{fact_stays, over_is}
 use Rattle.vx_site_lines.proofs.RiseEnds.{begun_ends, found_ends, none_ends, refused_ends, rose_ends, unread_ends}
@@ -80,9 +81,9 @@ module _ {R : Type 0} {g : Ghosts R} where
     pub feeders : y.feeders ≡ old.feeders
 
   -- where not all of this disk set is told, not all are
-  pub never_told : (es fs : List (DiskSet R g)) (s : ℕ) (before after : DiskSet R g) → slice_get es s ≡ Some before → fs ≡ slice_set es s after → (IsToldAt after → ⊥) → AreTold fs → ⊥
-  never_told es fs s before after there is untold told =
-      untold (told.each s after (ap (λ xs. slice_get xs s) is ∙ get-set_same es s after (slice_get_within es s before there)))
+  pub never_told : (es fs : List (DiskSet R g)) (s : ℕ) (before after : DiskSet R g) → slice_get es s ≡ Some before → fs ≡ slice_set es s after → IsRawSet after → (IsToldAt after → ⊥) → AreTold fs → ⊥
+  never_told es fs s before after there is raw untold told =
+      untold (raw_told after raw (told.each s after (ap (λ xs. slice_get xs s) is ∙ get-set_same es s after (slice_get_within es s before there))))
 
   module _ (lawful : (r : R) → Lawful (g.meaning r)) (d h : Doubted) (old : Yard R g) (s ring : ℕ) (c : Choice) (taken : Bool) (name : List ℕ) (number : site_number d.world name ≡ s)
       (from : RisesFrom d s c taken h) (fit_d : LinksFit d)
@@ -234,7 +235,7 @@ module _ {R : Type 0} {g : Ghosts R} where
           next = found_next;
           fails = [];
           done = recover_done (IsTold new) d found_next s name [] said number
-              (found_ends (IsTold new) d h s c taken name number from (never_told old.disk_sets.items new.disk_sets.items s before after there changed.disk_sets untold) noted_node found_row said
+              (found_ends (IsTold new) d h s c taken name number from (never_told old.disk_sets.items new.disk_sets.items s before after there changed.disk_sets (raw_site (beside_of mid s) came.node after (came.same.group ∙ apart) came.stands) untold) noted_node found_row said
               (found_as lawful d h old s ring c taken from fit_d stands below down apart ring_is before after there same came untold state may risen.kept)
               (rises.says ∙ ap (λ (v : SiteView). Recovered rises.last v) found_view ∙ ap (λ (k : ℕ). Recovered k (linked_view found_last.world s)) last_is));
           stands = found_stands;
@@ -368,7 +369,8 @@ module _ {R : Type 0} {g : Ghosts R} where
           subst (λ (why : No). LeadsFrom mid d (Recover name) (Refused why) old new) (sym x.0)
           (down_leads [] (Refused no_number)
           (none_ends (IsTold new) d h s c taken name number from
-          (λ told. let far = x.1 (told.each s after (ap (λ es. slice_get es s) replaced.disk_sets ∙ get-set_same old.disk_sets.items s after (slice_get_within old.disk_sets.items s before there))) in
+          (λ told. let far = x.1 (raw_told after (raw_site (beside_of mid s) m after apart x.2)
+          (told.each s after (ap (λ es. slice_get es s) replaced.disk_sets ∙ get-set_same old.disk_sets.items s after (slice_get_within old.disk_sets.items s before there)))) in
           stamp_h far)) x.2 rose_none_here)
         where
           stamp_h : MOST_NUMBER ≤ most_stamp_at mid.world s + 2 → MOST_NUMBER ≤ most_stamp_at h.world s + 2
@@ -378,13 +380,13 @@ module _ {R : Type 0} {g : Ghosts R} where
               let headers = own_headers s d.world h taken in
               omega (arith, far, session, safe, headers)
       stays_down other x =
-          down_leads [] (Refused other) (refused_ends (IsTold new) d h s c taken name number from (never_told old.disk_sets.items new.disk_sets.items s before after there replaced.disk_sets x.0) other tt) x.1
+          down_leads [] (Refused other) (refused_ends (IsTold new) d h s c taken name number from (never_told old.disk_sets.items new.disk_sets.items s before after there replaced.disk_sets (raw_site (beside_of mid s) m after apart x.1) x.0) other tt) x.1
           rose_none_here
 
       -- what came up went down again, as no site of these can have what its log keeps
       pub withdrawn : (up : DiskSet R g) (b : KeptBeside) (k : Node) → (IsToldAt after → ⊥) → SameDisks m k → b.doubt ≡ None → CrashedAt b k after → LeadsFrom mid d (Recover name) (Refused NoConfig) old new
       withdrawn up b k untold disks sure fell =
-          down_leads [] (Refused NoConfig) (refused_ends (IsTold new) d h s c taken name number from (never_told old.disk_sets.items new.disk_sets.items s before after there replaced.disk_sets untold) NoConfig tt)
+          down_leads [] (Refused NoConfig) (refused_ends (IsTold new) d h s c taken name number from (never_told old.disk_sets.items new.disk_sets.items s before after there replaced.disk_sets (raw_site (sure_of fell.kept) (fell_to k fell.kept.node fell.count) after (disks.group ∙ apart) fell.stands) untold) NoConfig tt)
           (⊎_elim
           (λ (own : fell.kept ≡ itself b k).
           any_down (sure_of fell.kept) (beside_of mid s) m (fell_to k fell.kept.node fell.count) before after untold down refl

@@ -27,14 +27,14 @@ use Rattle.vx_untold.specs.declared.shade.Shade.TheVariants.{Bright, Dark}
 use Rattle.vx_yard.proofs.HoldsGroups.{set_holds}
 use Rattle.vx_yard.proofs.OverGroup.{apart_bare, bare_apart, both_ways, over_is}
 use Rattle.vx_diskset.specs.Layouts.{units_of}
-use Rattle.vx_yard.specs.Racks.{AreLit, IsLitAt, rack_in, racks_in, site_rack}
+use Rattle.vx_yard.specs.Racks.{rack_in, racks_in, site_rack}
 use Rattle.vx_yard.specs.Stands.{AreTold, fault_count, site_faults}
 use Rattle.vx_grouped.specs.GroupSites.{GroupSiteStands, site_below, site_disks}
 use Rattle.vx_grouped.specs.declared.group_site.GroupSite.{GroupSite}
 use Rattle.vx_grouped.specs.declared.group_site.GroupSite.TheVariants.{Up as GroupUp, Deported as GroupAway, Down as GroupDown, Marked, Gone as GroupGone}
 use Rattle.vx_history.specs.Groups.{GroupNode}
 use Rattle.vx_events.specs.GroupLines.{is_over_group}
-use Rattle.vx_diskset.specs.Stands.{IsGroupSet, IsUnused, IsBareAt, IsUpAt, IsReceiverAt, IsDownAt, IsToldAt, OverStands, SiteStands}
+use Rattle.vx_diskset.specs.Stands.{IsGroupSet, IsUnused, IsBareAt, IsUpAt, IsReceiverAt, IsDownAt, IsRackTold, OverStands, SiteStands}
 use Rattle.vx_yard.specs.Standing.{SitesAgree}
 use Rattle.vx_diskset.proofs.CrashGroup.{left_with}
 use Rattle.vx_diskset.proofs.StaysUp.{all_taken, durable_content, told_now}
@@ -270,7 +270,7 @@ module _ {R : Type 0} {g : Ghosts R} where
   counts_as (Some (Over s)) d = count_at (site_in s) d
   counts_as (Some Gone) d = refl
 
-  unused_tells : (e : DiskSet R g) → IsUnused e → ((r : R) → rack_of e ≡ Some r → IsTrue (g.meaning r).tells) → IsToldAt e
+  unused_tells : (e : DiskSet R g) → IsUnused e → ((r : R) → rack_of e ≡ Some r → IsTrue (g.meaning r).tells) → IsRackTold e
   unused_tells (Bare rack) there f = f rack refl
   unused_tells (Spoiled rack) there f = absurd there
   unused_tells (Up rvg) there f = absurd there
@@ -295,15 +295,15 @@ module _ {R : Type 0} {g : Ghosts R} where
   below_at (Marked rack) it f = f rack refl
   below_at GroupGone it f = absurd it
 
-  tells_at : (beside : KeptBeside) (n : Node) (e : DiskSet R g) → SiteStands beside n e → IsLitAt e → ((r : R) → rack_of e ≡ Some r → IsTrue (g.meaning r).tells) → IsToldAt e
-  tells_at beside n (Bare rack) there lit f = f rack refl
-  tells_at beside n (Spoiled rack) there lit f = f rack refl
-  tells_at beside n (Up rvg) there lit f = f rvg.shelf refl
-  tells_at beside n (Receives s) there lit f = f s.rvg.shelf refl
-  tells_at beside n (Down rack) there lit f = f rack refl
-  tells_at beside n (OfGroup s) there lit f = told_at n s.site there.stands f
-  tells_at beside n (Over s) there lit f = lit (below_at (site_in s) (over_there beside n s.site there.1) f)
-  tells_at beside n Gone there lit f = absurd there
+  tells_at : (beside : KeptBeside) (n : Node) (e : DiskSet R g) → SiteStands beside n e → ((r : R) → rack_of e ≡ Some r → IsTrue (g.meaning r).tells) → IsRackTold e
+  tells_at beside n (Bare rack) there f = f rack refl
+  tells_at beside n (Spoiled rack) there f = f rack refl
+  tells_at beside n (Up rvg) there f = f rvg.shelf refl
+  tells_at beside n (Receives s) there f = f s.rvg.shelf refl
+  tells_at beside n (Down rack) there f = f rack refl
+  tells_at beside n (OfGroup s) there f = told_at n s.site there.stands f
+  tells_at beside n (Over s) there f = below_at (site_in s) (over_there beside n s.site there.1) f
+  tells_at beside n Gone there f = absurd there
 
   -- ---- sites that may keep links and be in doubt
 
@@ -338,13 +338,13 @@ module _ {R : Type 0} {g : Ghosts R} where
   beside_holds lawful beside n (Some (Over s)) r none stands is = absurd ((stands (Over s) refl).0.0 none)
   beside_holds lawful beside n (Some Gone) r none stands is = absurd (cc)
 
-  beside_group : (lawful : (r : R) → Lawful (g.meaning r)) (beside : KeptBeside) (n : Node) (x : Option (DiskSet R g)) (r : R) (note : GroupNode) → is_over_group n ≡ true → n.group ≡ Some note → note.dark ≡ false → ((e : DiskSet R g) → x ≡ Some e → IsToldAt e)
+  beside_group : (lawful : (r : R) → Lawful (g.meaning r)) (beside : KeptBeside) (n : Node) (x : Option (DiskSet R g)) (r : R) (note : GroupNode) → is_over_group n ≡ true → n.group ≡ Some note → note.dark ≡ false → ((e : DiskSet R g) → x ≡ Some e → IsRackTold e)
       → ((e : DiskSet R g) → x ≡ Some e → SiteStands beside n e) → option_and_then rack_of x ≡ Some r → HoldsGroup note (g.meaning r)
   beside_group lawful beside n None r note over noted bright told stands is = absurd (cc)
   beside_group lawful beside n (Some e) r note over noted bright told stands is =
       let of = over_is beside n e (stands e refl) over in
       let it : IsGroupSet beside n of.0 = subst (λ (k : DiskSet R g). SiteStands beside n k) of.1 (stands e refl) in
-      subst (λ (m : Meaning). HoldsGroup note m) (disks_at of.0.site r (lit_at n of.0.site note it.stands (λ bare. both_ways over (bare_apart n (it.bare bare))) noted bright (subst (λ (k : DiskSet R g). IsToldAt k) of.1 (told e refl))) (ap (λ (k : DiskSet R g). rack_of k) (sym of.1) ∙ is)) (set_holds lawful beside n of.0 note it over noted bright)
+      subst (λ (m : Meaning). HoldsGroup note m) (disks_at of.0.site r (lit_at n of.0.site note it.stands (λ bare. both_ways over (bare_apart n (it.bare bare))) noted bright (subst (λ (k : DiskSet R g). IsRackTold k) of.1 (told e refl))) (ap (λ (k : DiskSet R g). rack_of k) (sym of.1) ∙ is)) (set_holds lawful beside n of.0 note it over noted bright)
 
   pub racks_keep : (lawful : (r : R) → Lawful (g.meaning r)) (d : Doubted) (es : List (DiskSet R g)) → SitesAgree d es → RacksHold g.meaning d (racks_in es)
   racks_keep lawful d es agree =
@@ -365,15 +365,15 @@ module _ {R : Type 0} {g : Ghosts R} where
   pub racks_counted : (d : Doubted) (es : List (DiskSet R g)) → SitesAgree d es → (s u : ℕ) → rack_faults g.meaning (racks_in es) s u ≡ site_faults es s u
   racks_counted d es agree s u = ap (λ (r : Option R). rack_count g.meaning r u) (slice_get-racks_in es (all_there es (agree_there d es agree)) s) ∙ counts_as (slice_get es s) u
 
-  pub racks_told : (d : Doubted) (es : List (DiskSet R g)) → SitesAgree d es → AreLit es → RacksTell g.meaning (racks_in es) → AreTold es
-  racks_told d es agree lit tell = record { each = each }
+  pub racks_told : (d : Doubted) (es : List (DiskSet R g)) → SitesAgree d es → RacksTell g.meaning (racks_in es) → AreTold es
+  racks_told d es agree tell = record { each = each }
     where
       found : (s : ℕ) (e : DiskSet R g) → slice_get es s ≡ Some e → (r : R) → rack_of e ≡ Some r → IsTrue (g.meaning r).tells
       found s e at r is = tell.each s r (slice_get-racks_in es (all_there es (agree_there d es agree)) s ∙ ap (λ (x : Option (DiskSet R g)). option_and_then rack_of x) at ∙ is)
 
-      each : (s : ℕ) (e : DiskSet R g) → slice_get es s ≡ Some e → IsToldAt e
+      each : (s : ℕ) (e : DiskSet R g) → slice_get es s ≡ Some e → IsRackTold e
       each s e at = ⊎_elim
-          (λ below. tells_at (beside_of d s) (d.world.nodes s) e (agree.sites s e below at) (lit.each s e at) (found s e at))
+          (λ below. tells_at (beside_of d s) (d.world.nodes s) e (agree.sites s e below at) (found s e at))
           (λ past. unused_tells e (agree.others s e past at) (found s e at))
           (cases_lt s d.world.sites)
 

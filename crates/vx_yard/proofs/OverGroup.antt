@@ -1,6 +1,6 @@
 -- Which sites are over a group, as their disks stand.
 use Rattle.std.proofs.Common.{◌≡◌, ◌∙◌, ◌≤◌, ◌⊎◌, inl, inr, ⊎_elim, ℕ, ◌-◌, Bool, true, false, List, [], length, ap, subst, sym, refl, arith}
-use Rattle.std.specs.Prelude.{◌&&◌, eqb, Option, Some, is_some}
+use Rattle.std.specs.Prelude.{◌&&◌, eqb, not, Option, Some, None, is_some}
 use Rattle.std.proofs.lemmas.Bool.Decides.{nat_tests}
 use Rattle.vx_history.specs.Groups.{GroupNode}
 use Rattle.vx_history.specs.World.{Node, Volume}
@@ -13,6 +13,7 @@ use Rattle.vx_disk.specs.declared.shelf.Shelf.{Ghosts}
 use Rattle.vx_grouped.specs.GroupSites.{GroupSiteStands, HasNoRvg, NotesGroup}
 use Rattle.vx_grouped.specs.declared.group_site.GroupSite.{GroupSite}
 use Rattle.vx_grouped.specs.declared.group_site.GroupSite.TheVariants.{Up as GroupUp, Deported as GroupAway, Down as GroupDown, Marked, Gone as GroupGone}
+use Rattle.vx_diskset.specs.Asked.{IsRawSet}
 use Rattle.vx_diskset.specs.Holds.{KeptBeside, KeptSite}
 use Rattle.vx_diskset.specs.Layouts.{LiesOn}
 use Rattle.vx_diskset.specs.Stands.{IsGroupSet, OverStands, SiteStands, bare_with}
@@ -20,11 +21,13 @@ use Rattle.vx_diskset.proofs.Laying.{laid_in}
 use Rattle.vx_ground.specs.Lifted.{laid_volumes}
 use Rattle.vx_diskset.specs.declared.disk_set.DiskSet.{DiskSet}
 use Rattle.vx_diskset.specs.declared.disk_set.DiskSet.TheVariants.{Bare, Spoiled, Up, Receives, Down, OfGroup, Over, Gone}
+use Rattle.vx_diskset.specs.declared.over_set.OverSet.{OverSet}
 use Rattle.vx_diskset.specs.declared.over_set.OverSite.{OverSite}
 use Rattle.vx_diskset.specs.declared.over_set.OverSite.TheVariants.{Origin as OriginSite, Receiver as ReceiverSite, Deported as OverAway, Down as OverFell, Gone as NoOver}
 use Rattle.vx_diskset.specs.declared.group_set.GroupSet.{GroupSet}
 use Rattle.vx_events.proofs.Places.{never_some}
 use Rattle.vx_events.specs.GroupLines.{is_over_group}
+use Rattle.vx_events.specs.RvgViews.{is_over_rvg}
 
 -- a site that notes a group is over it
 pub noted_over : (n : Node) (note : GroupNode) → NotesGroup n note → is_over_group n ≡ true
@@ -57,6 +60,28 @@ laid_apart n m lies = many_apart n (laid_many n m lies)
 
 laid_some : (n : Node) (m : Meaning) → LiesOn n m → n.volumes ≡ [] → ⊥
 laid_some n m lies none = many_some n (laid_many n m lies) none
+
+-- a site over a group with a replicated volume group, and one that notes no group
+some_group : (o : Option GroupNode) → (o ≡ None → ⊥) → is_some o ≡ true
+some_group None some = absurd (some refl)
+some_group (Some note) some = refl
+
+with_data : (o : Option GroupNode) (k : ℕ) → is_some o ≡ true → 1 ≤ k → (is_some o && not (eqb k 0)) ≡ true
+with_data o k grouped some = ap (λ (b : Bool). b && not (eqb k 0)) grouped ∙ ap not (not_zero k some)
+
+no_group : (o : Option GroupNode) (b : Bool) → (is_some o && b) ≡ false → (is_some o && not b) ≡ false → o ≡ None
+no_group None b plain rvg = refl
+no_group (Some note) true plain rvg = absurd (let e : true ≡ false = plain in cc)
+no_group (Some note) false plain rvg = absurd (let e : true ≡ false = rvg in cc)
+
+pub none_noted : (n : Node) → is_over_group n ≡ false → is_over_rvg n ≡ false → n.group ≡ None
+none_noted n plain rvg = no_group n.group (eqb (length n.volumes) 0) plain rvg
+
+pub none_over : (n : Node) → n.group ≡ None → is_over_group n ≡ false
+none_over n none = ap (λ (o : Option GroupNode). is_some o && eqb (length n.volumes) 0) none
+
+pub none_rvg : (n : Node) → n.group ≡ None → is_over_rvg n ≡ false
+none_rvg n none = ap (λ (o : Option GroupNode). is_some o && not (eqb (length n.volumes) 0)) none
 
 pub both_ways : {b : Bool} → b ≡ true → b ≡ false → ⊥
 both_ways over apart = let e : true ≡ false = sym over ∙ apart in cc
@@ -102,6 +127,10 @@ module _ {R : Type 0} {g : Ghosts R} where
   over_many beside n (OverFell idle) it = it.2.lies.some
   over_many beside n NoOver it = absurd it
 
+  -- and notes the group
+  pub over_rvg : (beside : KeptBeside) (n : Node) (s : OverSet R g) → SiteStands beside n (Over s) → is_over_rvg n ≡ true
+  over_rvg beside n s it = with_data n.group (length n.volumes) (some_group n.group it.0.0) (over_many beside n s.site it.1)
+
   -- other disks are those of a site over no group
   pub raw_apart : (beside : KeptBeside) (n : Node) (e : DiskSet R g) → SiteStands beside n e → ((s : GroupSet R g) → e ≡ OfGroup s → ⊥) → is_over_group n ≡ false
   raw_apart beside n (Bare rack) it other = bare_apart n it.bare.is
@@ -123,6 +152,17 @@ module _ {R : Type 0} {g : Ghosts R} where
   over_is beside n (Over s) it over = absurd (both_ways over (many_apart n (over_many beside n s.site it.1)))
   over_is beside n (OfGroup s) it over = (s, refl)
   over_is beside n Gone it over = absurd it
+
+  -- the disks of a site that notes no group, or at least is over none with a replicated volume group
+  pub raw_set : (beside : KeptBeside) (n : Node) (e : DiskSet R g) → SiteStands beside n e → is_over_rvg n ≡ false → IsRawSet e
+  raw_set beside n (Bare rack) it off = tt
+  raw_set beside n (Spoiled rack) it off = tt
+  raw_set beside n (Up rvg) it off = tt
+  raw_set beside n (Receives s) it off = tt
+  raw_set beside n (Down rack) it off = tt
+  raw_set beside n (OfGroup s) it off = tt
+  raw_set beside n (Over s) it off = absurd (both_ways (over_rvg beside n s it) off)
+  raw_set beside n Gone it off = tt
 
   -- and such a site has no replicated volume group
   pub over_none : (beside : KeptBeside) (n : Node) (e : DiskSet R g) → SiteStands beside n e → is_over_group n ≡ true → HasNoRvg n

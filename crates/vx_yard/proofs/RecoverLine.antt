@@ -20,7 +20,7 @@ use Rattle.vx_yard.proofs.SiteEvents.{first_choice}
 use Rattle.vx_grouped.specs.GroupSites.{site_below, site_disks}
 use Rattle.vx_events.specs.Fails.{Fails}
 use Rattle.vx_yard.specs.Stands.{RoseAll, RoseBy, times}
-use Rattle.vx_diskset.specs.Stands.{IsToldAt}
+use Rattle.vx_diskset.specs.Stands.{IsRackTold, IsToldAt}
 use Rattle.vx_diskset.specs.Aboves.{site_in}
 
 -- a session more is not seen
@@ -68,3 +68,13 @@ module _ {R : Type 0} {g : Ghosts R} where
   told_or (OfGroup s) = true_or (site_below s.site).tells
   told_or (Over s) = true_or (site_disks (site_in s)).tells
   told_or Gone = inr (λ none. none)
+
+  pub rack_told_or : (e : DiskSet R g) → IsRackTold e ⊎ (IsRackTold e → ⊥)
+  rack_told_or (Bare rack) = true_or (g.meaning rack).tells
+  rack_told_or (Spoiled rack) = true_or (g.meaning rack).tells
+  rack_told_or (Up rvg) = true_or (g.meaning rvg.shelf).tells
+  rack_told_or (Receives s) = true_or (g.meaning s.rvg.shelf).tells
+  rack_told_or (Down rack) = true_or (g.meaning rack).tells
+  rack_told_or (OfGroup s) = true_or (site_below s.site).tells
+  rack_told_or (Over s) = true_or (site_below (site_in s)).tells
+  rack_told_or Gone = inr (λ none. none)

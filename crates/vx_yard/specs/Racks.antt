@@ -1,11 +1,10 @@
 -- The racks of the disk sets.
-use Rattle.std.specs.Prelude.{◌≡◌, ℕ, List, [], ◌∷◌, ◌++◌, IsTrue, Some, slice_get}
+use Rattle.std.specs.Prelude.{List, [], ◌∷◌, ◌++◌}
 use Rattle.vx_disk.specs.declared.shelf.Shelf.{Ghosts}
 use Rattle.vx_diskset.specs.declared.disk_set.DiskSet.{DiskSet}
 use Rattle.vx_diskset.specs.declared.disk_set.DiskSet.TheVariants.{Bare, Spoiled, Up, Receives, Down, OfGroup, Over, Gone}
 use Rattle.vx_untold.specs.Shades.{rack_of}
 use Rattle.vx_diskset.specs.Aboves.{site_in}
-use Rattle.vx_grouped.specs.GroupSites.{site_below, site_disks}
 use Rattle.vx_grouped.specs.declared.group_site.GroupSite.{GroupSite}
 use Rattle.vx_grouped.specs.declared.group_site.GroupSite.TheVariants.{Up as GroupUp, Deported, Down as GroupDown, Marked, Gone as GroupGone}
 
@@ -28,14 +27,6 @@ module _ {R : Type 0} {g : Ghosts R} where
   rack_in (OfGroup s) = site_rack s.site
   rack_in (Over s) = site_rack (site_in s)
   rack_in Gone = []
-
-  -- the disks below a replicated volume group are seen as their rack tells them
-  abbrev pub IsLitAt : DiskSet R g → Type 0
-  IsLitAt (Over s) = IsTrue (site_below (site_in s)).tells → IsTrue (site_disks (site_in s)).tells
-  IsLitAt other = Unit {0}
-
-  pub record AreLit (es : List (DiskSet R g)) : Type 0 where
-    pub each : (s : ℕ) (e : DiskSet R g) → slice_get es s ≡ Some e → IsLitAt e
 
   abbrev pub racks_in : List (DiskSet R g) → List R
   racks_in [] = []

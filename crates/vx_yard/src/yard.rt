@@ -4,7 +4,6 @@ ghost use Rattle.vx_history.specs.Doubts.{Doubted};
 ghost use Rattle.vx_history.specs.World.{empty_world};
 ghost use Rattle.vx_events.specs.Doubts.{sure};
 ghost use Rattle.vx_yard.specs.Carries.{Carries};
-ghost use Rattle.vx_yard.specs.Racks.{AreLit};
 ghost use Rattle.vx_yard.specs.Holds.{AreFresh, GroupsHold, RacksHold, RacksTell, rack_faults};
 ghost use Rattle.vx_yard.specs.Standing.{StandsFor};
 ghost use Rattle.vx_yard.specs.Yards.{IsTold, count_of, in_files};
@@ -82,7 +81,7 @@ impl<R: Rack> Yard<R> {
         ensures holds { (d : Doubted) → StandsFor d self → RacksHold R.meaning d result.items }
         ensures counts { (d : Doubted) → StandsFor d self → (s d : ℕ) → rack_faults R.meaning result.items s d ≡ count_of self s d }
         ensures groups { (d : Doubted) → StandsFor d self → IsTold self → GroupsHold R.meaning d result.items }
-        ensures told { (d : Doubted) → StandsFor d self → AreLit self.disk_sets.items → RacksTell R.meaning result.items → IsTold self }
+        ensures told { (d : Doubted) → StandsFor d self → RacksTell R.meaning result.items → IsTold self }
     {
         take_racks(self.racks, self.disk_sets)
     }

@@ -11,5 +11,5 @@ returns c = record {
   rooms = λ d line s new good alike short. stops_room d new good alike (short_stops (Unit {0}) d line s new short);
   known = λ d line s new b agree short. short_bright (Unit {0}) tt d line s new b agree short;
   gained = λ d line s new may free up short. short_gains (Unit {0}) d line s new may free up short;
-  fits = λ d line s new good alike made over short fits known. short_fits (Unit {0}) tt d line s new good alike made over short fits known;
+  fits = λ d line s new good alike made over short fits. short_fits (Unit {0}) d line s new good alike made over short fits;
 }

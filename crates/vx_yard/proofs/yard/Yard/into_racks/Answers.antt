@@ -19,5 +19,5 @@ returns-clause-counts g c = λ e stands s u.
     ap (λ rs. rack_faults g.R.Shelf.meaning rs s u) (c.take_racks.ensures stands.none (omega (arith, stands.room, stands.disk_sets.eight))) ∙ racks_counted e c.args.self.disk_sets.items stands.disk_sets s u
 
 pub returns-clause-told : goal.returns-clause-told
-returns-clause-told g c = λ d stands lit tell.
-    racks_told d c.args.self.disk_sets.items stands.disk_sets lit (subst (λ rs. RacksTell g.R.Shelf.meaning rs) (c.take_racks.ensures stands.none (omega (arith, stands.room, stands.disk_sets.eight))) tell)
+returns-clause-told g c = λ d stands tell.
+    racks_told d c.args.self.disk_sets.items stands.disk_sets (subst (λ rs. RacksTell g.R.Shelf.meaning rs) (c.take_racks.ensures stands.none (omega (arith, stands.room, stands.disk_sets.eight))) tell)
