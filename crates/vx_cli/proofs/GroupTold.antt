@@ -41,12 +41,11 @@ module _ {T U : Type 0} (f : U → T) where
     block = x.block;
     may = λ u. x.may (known_told new u);
     cut = x.cut;
-    missed = x.missed;
-    perhaps = x.perhaps;
+    inside = x.inside;
   }
 
   unread_told : (s : ℕ) (n : Node) (fails : Fails) (note new : GroupNode) → NotesUnread T s n fails note new → NotesUnread U s n fails note new
-  unread_told s n fails note new x = record { middle = x.middle; back = back_told s n fails note x.middle x.back; is = x.is }
+  unread_told s n fails note new x = record { middle = x.middle; back = back_told s n fails note x.middle x.back; maps = λ u. x.maps (known_told x.middle u); is = x.is }
 
   kept_told : (x : Write) (next : GroupNode) (kept : Kept) → IsKeptOf T x next kept → IsKeptOf U x next kept
   kept_told x next kept k = record { volume = k.volume; is_volume = k.is_volume; name = k.name; block = k.block; many = k.many; each = λ u. k.each (known_told next u) }
@@ -61,8 +60,8 @@ module _ {T U : Type 0} (f : U → T) where
   does_told : (s : ℕ) (n : Node) (note : GroupNode) (line : ScriptLine) (fails : Fails) (said : Said) (next : GroupNode) → GroupDoes T s n note line fails said next → GroupDoes U s n note line fails said next
   does_told s n note (Read site volume start count) fails said next x = (x.0, gives_told note _ start count said x.1)
   does_told s n note (Show site volume start count) fails said next x = (x.0, gives_told note _ start count said x.1)
-  does_told s n note (Recover site) fails said next x = (back_told s n fails note next x.0, says_told _ note next said x.1)
-  does_told s n note (GroupImport site) fails said next x = (back_told s n fails note next x.0, x.1)
+  does_told s n note (Recover site) fails said next x = (back_told s n fails note next x.0, λ u. x.1 (known_told next u), says_told _ note next said x.2)
+  does_told s n note (GroupImport site) fails said next x = (back_told s n fails note next x.0, λ u. x.1 (known_told next u), x.2)
   does_told s n note other fails said next x = x
 
   nothing_told : (note : GroupNode) → KnowsNothing T note → KnowsNothing U note
@@ -88,4 +87,4 @@ module _ {T U : Type 0} (f : U → T) where
   group_told d line s fails said new (FindsNoGroup next why of brings knows other refused says left) = FindsNoGroup next why of brings (nothing_told (note_at (d.world.nodes s)) knows) other refused says left
 
   pub finds_told : (d : Doubted) (line : ScriptLine) (s : ℕ) (fails : Fails) (said : Said) (new : Doubted) → FindsKept T d line s fails said new → FindsKept U d line s fails said new
-  finds_told d line s fails said new x = record { untold = λ u. x.untold (f u); site = x.site; recovers = x.recovers; bare = x.bare; shows = x.shows; ends = group_told d line s fails said new x.ends }
+  finds_told d line s fails said new x = record { untold = λ u. x.untold (f u); site = x.site; recovers = x.recovers; bare = x.bare; shows = x.shows; up = x.up; ends = group_told d line s fails said new x.ends }

@@ -106,6 +106,7 @@ module _ (n k : Node) (like : IsLikeGroup n k) where
       state = sym like.state ∙ it.away.state;
       config = it.away.config;
       found = it.away.found;
+      runs = it.away.runs;
       lies = lies_like n k note it.last m like.disks like.blocks it.away.lies;
     };
   }
@@ -133,6 +134,7 @@ module _ (n k : Node) (like : IsLikeGroup n k) where
       bare = bare;
       few = subst (λ (x : ℕ). x ≤ MOST_DISKS) like.disks it.few;
       some = subst (λ (x : ℕ). LEAST_BLOCKS ≤ x) like.blocks it.some;
+      maps = λ some note is. it.maps (λ state. some (sym like.state ∙ state)) note (like.group ∙ is);
     }
 
 -- what a line that works on a site notes of its fuse
@@ -163,6 +165,10 @@ noted_over : (n : Node) (note : GroupNode) → NotesGroup n note → is_over_gro
 noted_over n note it =
     ap (λ (o : Option GroupNode). is_some o && eqb (length n.volumes) 0) it.is
     ∙ ap (λ (vs : List Volume). eqb (length vs) 0) it.none.volumes
+
+-- one without a group is not
+pub none_apart : (n : Node) → n.group ≡ None → is_over_group n ≡ false
+none_apart n none = ap (λ (o : Option GroupNode). is_some o && eqb (length n.volumes) 0) none
 
 module _ {R : Type 0} {g : Ghosts R} where
   pub set_burned : (beside : KeptBeside) (n : Node) (s : GroupSet R g) → IsGroupSet beside n s → IsGroupSet beside (record n { fuse = burned n.fuse }) s

@@ -20,14 +20,25 @@ use Rattle.vx_diskset.specs.declared.disk_set.DiskSet.{DiskSet}
 use Rattle.vx_diskset.specs.declared.disk_set.DiskSet.TheVariants.{OfGroup}
 use Rattle.vx_diskset.specs.declared.group_set.GroupSet.{GroupSet}
 use Rattle.vx_diskset.proofs.KeepsFailing.{may_crash, stopped_none}
+use Rattle.vx_grouped.specs.SiteMaps.{StaysMapped}
 use Rattle.vx_watched.specs.Traces.{TellsLess}
 
 module _ {R : Type 0} {g : Ghosts R} where
   -- disks of which some are made to fail, or no longer
-  pub set_alike : (beside : KeptBeside) (n : Node) (e : DiskSet R g) (s : GroupSet R g) (site : GroupSite R g) → e ≡ OfGroup s → StaysAlike s.site site → SiteStands beside n e → SiteStands beside n (OfGroup (record s { site = site }))
-  set_alike beside n e s site is alike stands =
+  pub set_alike : (beside : KeptBeside) (n : Node) (e : DiskSet R g) (s : GroupSet R g) (site : GroupSite R g) → e ≡ OfGroup s → StaysAlike s.site site → StaysMapped s.site site → SiteStands beside n e → SiteStands beside n (OfGroup (record s { site = site }))
+  set_alike beside n e s site is alike stays stands =
       let it : IsGroupSet beside n s = subst (λ (x : DiskSet R g). SiteStands beside n x) is stands in
-      record { sure = it.sure; unlinked = it.unlinked; stands = alike.stands n it.stands; cut = it.cut; lies = it.lies; bare = it.bare; few = it.few; some = it.some }
+      record {
+        sure = it.sure;
+        unlinked = it.unlinked;
+        stands = alike.stands n it.stands;
+        cut = it.cut;
+        lies = it.lies;
+        bare = it.bare;
+        few = it.few;
+        some = it.some;
+        maps = λ some note there. stays note (it.maps some note there);
+      }
 
   pub set_later : (e : DiskSet R g) (s : GroupSet R g) (site : GroupSite R g) → e ≡ OfGroup s → CountsAlike s.site site → Later e (OfGroup (record s { site = site }))
   set_later e s site is same =
@@ -63,9 +74,9 @@ module _ {R : Type 0} {g : Ghosts R} where
 
   -- with its fuse set
   pub set_fused : (beside : KeptBeside) (n : Node) (calls : ℕ) (e : DiskSet R g) (s : GroupSet R g) (site : GroupSite R g) → e ≡ OfGroup s
-      → ((note : GroupNode) → UpNoted n note s.site → UpNoted (record n { fuse = FuseSet calls }) note site) → SiteStands beside n e → n.state ≡ IsUp
+      → ((note : GroupNode) → UpNoted n note s.site → UpNoted (record n { fuse = FuseSet calls }) note site) → StaysMapped s.site site → SiteStands beside n e → n.state ≡ IsUp
       → SiteStands beside (record n { fuse = FuseSet calls }) (OfGroup (record s { site = site }))
-  set_fused beside n calls e s site is fused stands up =
+  set_fused beside n calls e s site is fused stays stands up =
       let it : IsGroupSet beside n s = subst (λ (x : DiskSet R g). SiteStands beside n x) is stands in
       let noted = up_by n s.site it.stands up in
       record {
@@ -77,6 +88,7 @@ module _ {R : Type 0} {g : Ghosts R} where
         bare = λ bare. absurd (let e : IsUp ≡ IsBare = sym up ∙ bare in cc);
         few = it.few;
         some = it.some;
+        maps = λ some note there. stays note (it.maps some note there);
       }
 
   pub set_asked : (beside : KeptBeside) (n : Node) (calls pick : ℕ) (e : DiskSet R g) (s : GroupSet R g) (site : GroupSite R g) → e ≡ OfGroup s
@@ -94,9 +106,9 @@ module _ {R : Type 0} {g : Ghosts R} where
       subst (λ (x : DiskSet R g). CrashesBy pick x (OfGroup (record s { site = site }))) (sym is) (asked noted.0 noted.1)
 
   -- behind a crash
-  crashed_set : (beside : KeptBeside) (n : Node) (s : GroupSet R g) (site : GroupSite R g) → ((note : GroupNode) → UpNoted n note s.site → DownNoted (crashed n 0) note site) → IsGroupSet beside n s → n.state ≡ IsUp
+  crashed_set : (beside : KeptBeside) (n : Node) (s : GroupSet R g) (site : GroupSite R g) → ((note : GroupNode) → UpNoted n note s.site → DownNoted (crashed n 0) note site) → StaysMapped s.site site → IsGroupSet beside n s → n.state ≡ IsUp
       → CrashedAt beside n (OfGroup (record s { site = site }))
-  crashed_set beside n s site down it up =
+  crashed_set beside n s site down stays it up =
       let noted = up_by n s.site it.stands up in
       let some : n.state ≡ IsBare → ⊥ = λ bare. let e : IsUp ≡ IsBare = sym up ∙ bare in absurd (cc) in
       record {
@@ -114,6 +126,7 @@ module _ {R : Type 0} {g : Ghosts R} where
           bare = λ bare. absurd (let e : IsDown ≡ IsBare = bare in cc);
           few = it.few;
           some = it.some;
+          maps = λ other note there. stays note (it.maps some note there);
         };
       }
     where
@@ -124,9 +137,9 @@ module _ {R : Type 0} {g : Ghosts R} where
       none_safe n (Marked rack) it up = absurd (let e : IsBare ≡ IsUp = sym it.state ∙ up in cc)
       none_safe n Gone it up = absurd it
 
-  pub set_crashed : (beside : KeptBeside) (n : Node) (e : DiskSet R g) (s : GroupSet R g) (site : GroupSite R g) → e ≡ OfGroup s → ((note : GroupNode) → UpNoted n note s.site → DownNoted (crashed n 0) note site) → SiteStands beside n e → n.state ≡ IsUp
+  pub set_crashed : (beside : KeptBeside) (n : Node) (e : DiskSet R g) (s : GroupSet R g) (site : GroupSite R g) → e ≡ OfGroup s → ((note : GroupNode) → UpNoted n note s.site → DownNoted (crashed n 0) note site) → StaysMapped s.site site → SiteStands beside n e → n.state ≡ IsUp
       → CrashedAt beside n (OfGroup (record s { site = site }))
-  set_crashed beside n e s site is down stands up = crashed_set beside n s site down (subst (λ (x : DiskSet R g). SiteStands beside n x) is stands) up
+  set_crashed beside n e s site is down stays stands up = crashed_set beside n s site down stays (subst (λ (x : DiskSet R g). SiteStands beside n x) is stands) up
 
   -- what a crash made of any such disks
   same_site : (pick : ℕ) (s site : GroupSite R g) → site ≡ s
@@ -136,7 +149,7 @@ module _ {R : Type 0} {g : Ghosts R} where
       subst (λ (x : GroupSite R g). OnDisks (site_disks s).disks (site_disks x).disks (λ o n. Crashed (site_disks s).size pick o n ⊎ Untouched o n) × ((u : ℕ) → (site_disks x).size u ≡ (site_disks s).size u)) (sym is)
       (none.told, none.sizes)
 
-  may_by : (pick : ℕ) (s site : GroupSite R g) → MayCrashSite pick s site
+  pub may_by : (pick : ℕ) (s site : GroupSite R g) → MayCrashSite pick s site
       → OnDisks (site_disks s).disks (site_disks site).disks (λ o n. Crashed (site_disks s).size pick o n ⊎ Untouched o n) × ((u : ℕ) → (site_disks site).size u ≡ (site_disks s).size u)
   may_by pick (Up group) site it = (may_crash (laid_disks group).size pick (laid_disks group).disks (site_disks site).disks it.1, it.0.size)
   may_by pick other site it = same_site pick other site it

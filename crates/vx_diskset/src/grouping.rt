@@ -4,11 +4,14 @@ ghost use Rattle.vx_grouped.specs.Ends.{plain_write};
 ghost use Rattle.vx_grouped.specs.GroupSites.{FitsPlain, UpNoted, site_below, site_disks};
 ghost use Rattle.vx_grouped.specs.SiteAdds.{SiteAdded, VolumeIn, refuses_volume};
 ghost use Rattle.vx_grouped.specs.SiteEnds.{AttCalled, DetCalled, PlainRead, PlainWrote, RegionsOf, SiteDeported, is_plex_on, refuses_att, refuses_det};
+ghost use Rattle.vx_grouped.specs.SiteMaps.{AddedMapped, AttMapped, DeportMapped, DetMapped, StaysMapped, WroteMapped};
 ghost use Rattle.vx_history.specs.Groups.{GroupNode};
 ghost use Rattle.vx_history.specs.World.{Node};
 ghost use Rattle.vx_model.specs.declared.errors.Stop.TheVariants.{No as Refused};
 ghost use Rattle.vx_model.specs.declared.limits.TheConstants.{MOST_CALL_BYTES};
 ghost use Rattle.vx_model.specs.declared.no.No.{No as NoValue};
+ghost use Rattle.vx_disk.specs.Shelf.{Covers};
+ghost use Rattle.vx_grouped.specs.Volumes.{SiteGoes};
 ghost use Rattle.vx_watched.specs.Since.{CalledSince};
 ghost use Rattle.vx_diskset.specs.Asked.{FuseGoesOn, SameFailing};
 ghost use Rattle.vx_diskset.specs.DiskSets.{Later};
@@ -28,7 +31,7 @@ use vx_model::limits::BLOCK;
 use vx_model::{Blocks, Name, No, Stop};
 
 // Writes to a volume of a group. The write in which the fuse runs out is cut.
-fn write_set<R: Rack>(
+pub(crate) fn write_set<R: Rack>(
     group: &mut GroupSet<R>,
     volume: u32,
     block: u64,
@@ -38,7 +41,9 @@ fn write_set<R: Rack>(
     requires few { length bytes.now ≤ MOST_CALL_BYTES }
     requires whole { length bytes.now % BLOCK ≡ 0 }
     ensures wrote { (n : Node) (note : GroupNode) → UpNoted n note group.old.site → FitsPlain note volume block (length bytes.now) → PlainWrote n note (plain_write volume block bytes.now) group.old.site group.new.site result }
+    ensures maps { (n : Node) (note : GroupNode) → UpNoted n note group.old.site → FitsPlain note volume block (length bytes.now) → WroteMapped (plain_write volume block bytes.now) group.old.site group.new.site result }
     ensures cut { cut_value group.new.cut ≡ cut_behind result (plain_write volume block bytes.now) (cut_value group.old.cut) }
+    ensures volumes { SiteGoes (Covers volume block bytes.now) group.old.site group.new.site }
     ensures since { CalledSince (site_disks group.old.site) (site_disks group.new.site) }
     ensures told { TellsLess (site_below group.old.site) (site_below group.new.site) }
 {
@@ -65,6 +70,7 @@ impl<R: Rack> DiskSet<R> {
     {
         match self {
             DiskSet::OfGroup(group) => group.site.config(),
+            DiskSet::Over(over) => over.config(),
             _ => None,
         }
     }
@@ -72,6 +78,7 @@ impl<R: Rack> DiskSet<R> {
     /// Deports the group of a site that is up. A site whose fuse runs out crashes.
     pub fn deport_group(&mut self) -> Result<(), Stop>
         ensures deported { (n : Node) (note : GroupNode) → AtSite (UpNoted n note) self.old → OnSites (λ o e. SiteDeported n note o e result) self.old self.new }
+        ensures maps { (n : Node) (note : GroupNode) → AtSite (UpNoted n note) self.old → OnSites (λ o e. DeportMapped o e result) self.old self.new }
         ensures cut { cut_in self.new ≡ cut_in self.old }
         ensures fuse { (n : Node) (note : GroupNode) → AtSite (UpNoted n note) self.old → FuseGoesOn self.old self.new }
         ensures failing { SameFailing self.old self.new }
@@ -87,6 +94,12 @@ impl<R: Rack> DiskSet<R> {
                 });
                 answer
             }
+            DiskSet::Over(over) => {
+                let mut over = over;
+                let answer = over.deport();
+                *self = DiskSet::Over(over);
+                answer
+            }
             other => {
                 *self = other;
                 Err(Stop::No(No::Role))
@@ -98,6 +111,7 @@ impl<R: Rack> DiskSet<R> {
     pub fn make_volume(&mut self, alloc: Global, name: &Name, want: &Shape) -> Result<u32, Stop>
         requires prefer { IfSome want.now.prefer (λ p. p < want.now.mirrors) }
         ensures made { (n : Node) (note : GroupNode) → AtSite (UpNoted n note) self.old → OnSites (λ o e. SiteAdded n note name.now want.now o e result) self.old self.new }
+        ensures maps { (n : Node) (note : GroupNode) → AtSite (UpNoted n note) self.old → OnSites (λ o e. AddedMapped o e result) self.old self.new }
         ensures refused { (n : Node) (note : GroupNode) (no : NoValue) → AtSite (UpNoted n note) self.old → AtSite (λ o. refuses_volume o name.now want.now ≡ Some no) self.old → result ≡ Err (Refused no) }
         ensures volume { (n : Node) (note : GroupNode) → AtSite (UpNoted n note) self.old → IfOk result (λ vol. OnSites (VolumeIn name.now want.now vol) self.old self.new) }
         ensures cut { cut_in self.new ≡ cut_in self.old }
@@ -108,6 +122,7 @@ impl<R: Rack> DiskSet<R> {
     {
         match self {
             DiskSet::OfGroup(group) => group.site.make_volume(alloc, name, want),
+            DiskSet::Over(over) => over.make_volume(alloc, name, want),
             _ => Err(Stop::No(No::Role)),
         }
     }
@@ -115,6 +130,7 @@ impl<R: Rack> DiskSet<R> {
     /// Detaches a plex. A site whose fuse runs out crashes.
     pub fn detach_plex(&mut self, volume: u32, plex: u32) -> Result<(), Stop>
         ensures called { (n : Node) (note : GroupNode) → AtSite (UpNoted n note) self.old → OnSites (λ o e. DetCalled n note volume plex o e result) self.old self.new }
+        ensures maps { (n : Node) (note : GroupNode) → AtSite (UpNoted n note) self.old → OnSites (λ o e. DetMapped volume plex o e result) self.old self.new }
         ensures refused { (n : Node) (note : GroupNode) (no : NoValue) → AtSite (UpNoted n note) self.old → AtSite (λ o. refuses_det o volume plex ≡ Some no) self.old → result ≡ Err (Refused no) }
         ensures off { OnOk result (AtSite (λ e. is_plex_on e volume plex ≡ false) self.new) }
         ensures others { OnOk result ((w p : ℕ) → (w ≡ volume → p ≡ plex → ⊥) → OnSites (λ o e. is_plex_on e w p ≡ is_plex_on o w p) self.old self.new) }
@@ -126,6 +142,7 @@ impl<R: Rack> DiskSet<R> {
     {
         match self {
             DiskSet::OfGroup(group) => group.site.det(volume, plex),
+            DiskSet::Over(over) => over.det(volume, plex),
             _ => Err(Stop::No(No::Role)),
         }
     }
@@ -133,6 +150,7 @@ impl<R: Rack> DiskSet<R> {
     /// Attaches a plex, and answers how many regions were copied. A site whose fuse runs out crashes.
     pub fn attach_plex(&mut self, volume: u32, plex: u32) -> Result<u64, Stop>
         ensures called { (n : Node) (note : GroupNode) → AtSite (UpNoted n note) self.old → OnSites (λ o e. AttCalled n note volume plex o e result) self.old self.new }
+        ensures maps { (n : Node) (note : GroupNode) → AtSite (UpNoted n note) self.old → OnSites (λ o e. AttMapped volume plex o e result) self.old self.new }
         ensures refused { (n : Node) (note : GroupNode) (no : NoValue) → AtSite (UpNoted n note) self.old → AtSite (λ o. refuses_att o volume plex ≡ Some no) self.old → result ≡ Err (Refused no) }
         ensures already { (n : Node) (note : GroupNode) → AtSite (UpNoted n note) self.old → AtSite (λ o. refuses_att o volume plex ≡ None) self.old → AtSite (λ o. IsTrue (is_plex_on o volume plex)) self.old → result ≡ Ok 0 }
         ensures count { AtSite (λ o. is_plex_on o volume plex ≡ false) self.old → IfOk result (λ k. AtSite (λ o. RegionsOf o volume k) self.old) }
@@ -146,6 +164,7 @@ impl<R: Rack> DiskSet<R> {
     {
         match self {
             DiskSet::OfGroup(group) => group.site.att(volume, plex),
+            DiskSet::Over(over) => over.att(volume, plex),
             _ => Err(Stop::No(No::Role)),
         }
     }
@@ -156,6 +175,7 @@ impl<R: Rack> DiskSet<R> {
         requires few { length bytes.now ≤ MOST_CALL_BYTES }
         requires whole { length bytes.now % BLOCK ≡ 0 }
         ensures wrote { (n : Node) (note : GroupNode) → AtSite (UpNoted n note) self.old → FitsPlain note volume start (length bytes.now) → OnSites (λ o e. PlainWrote n note (plain_write volume start bytes.now) o e result) self.old self.new }
+        ensures maps { (n : Node) (note : GroupNode) → AtSite (UpNoted n note) self.old → FitsPlain note volume start (length bytes.now) → OnSites (λ o e. WroteMapped (plain_write volume start bytes.now) o e result) self.old self.new }
         ensures cut { (n : Node) (note : GroupNode) → AtSite (UpNoted n note) self.old → cut_in self.new ≡ cut_behind result (plain_write volume start bytes.now) (cut_in self.old) }
         ensures fuse { (n : Node) (note : GroupNode) → AtSite (UpNoted n note) self.old → FitsPlain note volume start (length bytes.now) → FuseGoesOn self.old self.new }
         ensures failing { SameFailing self.old self.new }
@@ -164,6 +184,7 @@ impl<R: Rack> DiskSet<R> {
     {
         match self {
             DiskSet::OfGroup(group) => write_set(group, volume, start, bytes),
+            DiskSet::Over(over) => over.write_plain(volume, start, bytes),
             _ => Err(No::Role),
         }
     }
@@ -171,6 +192,7 @@ impl<R: Rack> DiskSet<R> {
     /// Reads whole blocks of a volume of a group, by its number.
     pub fn read_plain(&mut self, volume: u32, start: u64, into: &mut [u8]) -> Result<(), No>
         ensures read { (n : Node) (note : GroupNode) → AtSite (UpNoted n note) self.old → FitsPlain note volume start (length into.old) → OnSites (λ o e. PlainRead n note volume start into.new o e result) self.old self.new }
+        ensures maps { (n : Node) (note : GroupNode) → AtSite (UpNoted n note) self.old → FitsPlain note volume start (length into.old) → OnSites StaysMapped self.old self.new }
         ensures cut { cut_in self.new ≡ cut_in self.old }
         ensures fuse { (n : Node) (note : GroupNode) → AtSite (UpNoted n note) self.old → FitsPlain note volume start (length into.old) → FuseGoesOn self.old self.new }
         ensures failing { SameFailing self.old self.new }
@@ -179,6 +201,7 @@ impl<R: Rack> DiskSet<R> {
     {
         match self {
             DiskSet::OfGroup(group) => group.site.read(volume, start, into),
+            DiskSet::Over(over) => over.read_plain(volume, start, into),
             _ => Err(No::Role),
         }
     }

@@ -1,6 +1,6 @@
 -- In a world without groups of disks a line does what it does there; and a line that works on a group ends as events do.
 use Rattle.std.proofs.Common.{◌≡◌, ◌∙◌, ℕ, zero, suc, ◌+◌, Bool, true, false, List, [], ◌∷◌, length, refl, ap, sym, subst, inl, inr}
-use Rattle.std.specs.Prelude.{◌&&◌, eqb, is_some, Option, Some, None, if◌then◌else◌}
+use Rattle.std.specs.Prelude.{◌&&◌, eqb, is_some, Option, Some, None}
 use Rattle.vx_model.specs.declared.no.No.{No}
 use Rattle.vx_history.specs.Doubts.{Doubted}
 use Rattle.vx_history.specs.Groups.{GroupNode}
@@ -17,15 +17,14 @@ use Rattle.vx_events.specs.Facts.{site_number, values_from}
 use Rattle.vx_events.specs.Fails.{Fails}
 use Rattle.vx_events.specs.GroupEnds.{GroupStops}
 use Rattle.vx_events.specs.GroupLines.{is_over_group}
-use Rattle.vx_events.specs.GroupNotes.{note_at}
 use Rattle.vx_events.specs.LinkedFacts.{linked_fact, linked_facts, refused_by}
 use Rattle.vx_events.specs.Lines.{LineStep, StepBy}
 use Rattle.vx_events.specs.Plain.{HasNoGroups}
-use Rattle.vx_events.specs.StepsOver.{MakesNoGroup, OverBy, StepOver, fact_of_group, fact_over, facts_over, is_for_group, refused_over}
+use Rattle.vx_events.specs.StepsOver.{MakesNoGroup, OverBy, StepOver, fact_over, facts_over, is_for_group, refused_over}
 use Rattle.vx_events.specs.declared.said.Said.{Said}
 
 -- functions with the same values
-values_same : {A : Type 0} (f g : ℕ → A) → ((i : ℕ) → f i ≡ g i) → (k n : ℕ) → values_from f k n ≡ values_from g k n
+pub values_same : {A : Type 0} (f g : ℕ → A) → ((i : ℕ) → f i ≡ g i) → (k n : ℕ) → values_from f k n ≡ values_from g k n
 values_same f g same k zero = refl
 values_same {A} f g same k (suc n) =
     ap (λ (x : A). x ∷ values_from f (k + 1) n) (same k) ∙ ap (λ (xs : List A). g k ∷ xs) (values_same f g same (k + 1) n)

@@ -25,7 +25,8 @@ use Rattle.vx_events.specs.Ends.{IsNoDevice}
 use Rattle.vx_events.specs.Fails.{Fails}
 use Rattle.vx_events.specs.GroupConfigs.{ConfigLoses, ConfigLosesBut, PutsPlex, lies_on_disk, opened_again}
 use Rattle.vx_events.specs.GroupLines.{cut_events, fuse_lost, group_events, group_noted, noting, plain_number, refused_events, shape_of, unread_events}
-use Rattle.vx_events.specs.GroupNotes.{FirstNote, NotesBack, NotesCut, NotesDoubt, NotesRefused, NotesUnread, NotesVolume, NotesWrite, Reconfigures, note_at}
+use Rattle.vx_events.specs.GroupMaps.{MapsAttached, MapsCalled, MapsDetached, MapsImported, MapsLost, MapsRecovered, MapsUndetached, WithMaps}
+use Rattle.vx_events.specs.GroupNotes.{FirstNote, IsKnown, NotesBack, NotesCut, NotesDoubt, NotesRefused, NotesUnread, NotesVolume, NotesWrite, Reconfigures, note_at}
 use Rattle.vx_events.specs.GroupReplies.{AttachCopies, GivesPlain, IsLastPlex, SaysBack}
 use Rattle.vx_events.specs.GroupViews.{config_of, grouped_view}
 use Rattle.vx_events.specs.declared.said.Said.{Said}
@@ -43,22 +44,23 @@ write_to note volume start bytes = record { volume = plain_number note volume; s
 abbrev pub GroupDoes : (told : Type 0) (s : ℕ) → Node → GroupNode → ScriptLine → Fails → Said → GroupNode → Type 0
 GroupDoes told s n note (GroupInit site) fails said next = FirstNote s n.disks n.blocks next × (said ≡ Done)
 GroupDoes told s n note (GroupDeport site) fails said next =
-    Reconfigures (λ c d. ConfigLoses s fails (opened_again c) (opened_again d)) NoteSettles note next × (said ≡ Done)
-GroupDoes told s n note (GroupImport site) fails said next = NotesBack told s n fails note next × (said ≡ Done)
+    WithMaps (Reconfigures (λ c d. ConfigLoses s fails (opened_again c) (opened_again d)) NoteSettles) (MapsCalled s fails) note next × (said ≡ Done)
+GroupDoes told s n note (GroupImport site) fails said next = NotesBack told s n fails note next × (IsKnown told next → MapsImported s fails note next) × (said ≡ Done)
 GroupDoes told s n note (Volume site volume blocks mirrors layout log map policy) fails said next =
     NotesVolume s fails volume (shape_of blocks mirrors layout log map policy) note next × (said ≡ Done)
 GroupDoes told s n note (PlexDetach site volume plex) fails said next =
-    Reconfigures (λ c d. (x : Config) × PutsPlex (plain_number note volume) plex Stale c x × ConfigLoses s fails x d) NoteSettles note next × (said ≡ Done)
+    WithMaps (Reconfigures (λ c d. (x : Config) × PutsPlex (plain_number note volume) plex Stale c x × ConfigLoses s fails x d) NoteSettles) (MapsDetached s fails (plain_number note volume) plex) note next
+    × (said ≡ Done)
 GroupDoes told s n note (PlexAttach site volume plex) fails said next =
-    Reconfigures (λ c d. (x : Config) × PutsPlex (plain_number note volume) plex Active c x × ConfigLosesBut (lies_on_disk c (plain_number note volume) plex) s fails x d)
-    NoteSettles note next
+    WithMaps (Reconfigures (λ c d. (x : Config) × PutsPlex (plain_number note volume) plex Active c x × ConfigLosesBut (lies_on_disk c (plain_number note volume) plex) s fails x d) NoteSettles)
+    (MapsAttached s fails (plain_number note volume) plex) note next
     × AttachCopies note (plain_number note volume) plex said
 GroupDoes told s n note (WriteLine site volume start count fill) fails said next =
     NotesWrite s fails (write_to note volume start (replicate (BLOCK * count) fill)) note next × (said ≡ Done)
 GroupDoes told s n note (Put site volume start bytes) fails said next = NotesWrite s fails (write_to note volume start bytes) note next × (said ≡ Done)
 GroupDoes told s n note (Read site volume start count) fails said next = (next ≡ note) × GivesPlain told note (plain_number note volume) start count said
 GroupDoes told s n note (Show site volume start count) fails said next = (next ≡ note) × GivesPlain told note (plain_number note volume) start count said
-GroupDoes told s n note (Recover site) fails said next = NotesBack told s n fails note next × SaysBack told (record n { state = Up }) note next said
+GroupDoes told s n note (Recover site) fails said next = NotesBack told s n fails note next × (IsKnown told next → MapsRecovered note next) × SaysBack told (record n { state = Up }) note next said
 GroupDoes told s n note (Disk site disk state) fails said next = (next ≡ note) × (fails ≡ []) × (said ≡ Done)
 GroupDoes told s n note (Crash site pick) fails said next = (next ≡ note) × (fails ≡ []) × (said ≡ Done)
 GroupDoes told s n note (Fuse site calls pick) fails said next = (next ≡ note) × (fails ≡ []) × (said ≡ Done)
@@ -91,16 +93,19 @@ GroupWants note line why = ⊥
 
 -- what a failed call of a line that ends it leaves of the note
 abbrev pub GroupSpoils : (s : ℕ) → GroupNode → ScriptLine → Fails → GroupNode → Type 0
-GroupSpoils s note (GroupDeport site) fails next = Reconfigures (ConfigLoses s fails) NoteUnsettles note next
+GroupSpoils s note (GroupDeport site) fails next = WithMaps (Reconfigures (ConfigLoses s fails) NoteUnsettles) (MapsCalled s fails) note next
 GroupSpoils s note (GroupImport site) fails next = NotesRefused note next
-GroupSpoils s note (Volume site volume blocks mirrors layout log map policy) fails next = Reconfigures (ConfigLoses s fails) NoteUnsettles note next
+GroupSpoils s note (Volume site volume blocks mirrors layout log map policy) fails next = WithMaps (Reconfigures (ConfigLoses s fails) NoteUnsettles) (MapsCalled s fails) note next
 GroupSpoils s note (PlexDetach site volume plex) fails next =
-    Reconfigures (λ c d. ConfigLoses s fails c d ⊎ ((x : Config) × PutsPlex (plain_number note volume) plex Stale c x × ConfigLoses s fails x d)) NoteUnsettles note next
+    WithMaps (Reconfigures (λ c d. ConfigLoses s fails c d ⊎ ((x : Config) × PutsPlex (plain_number note volume) plex Stale c x × ConfigLoses s fails x d)) NoteUnsettles)
+    (MapsUndetached s fails (plain_number note volume)) note next
 GroupSpoils s note (PlexAttach site volume plex) fails next =
-    Reconfigures
+    WithMaps
+    (Reconfigures
     (λ c d. ConfigLosesBut (lies_on_disk c (plain_number note volume) plex) s fails c d
     ⊎ ((x : Config) × PutsPlex (plain_number note volume) plex Active c x × ConfigLosesBut (lies_on_disk c (plain_number note volume) plex) s fails x d))
-    NoteUnsettles note next
+    NoteUnsettles)
+    (MapsCalled s fails) note next
 GroupSpoils s note (WriteLine site volume start count fill) fails next = NotesDoubt s fails (write_to note volume start (replicate (BLOCK * count) fill)) note next
 GroupSpoils s note (Put site volume start bytes) fails next = NotesDoubt s fails (write_to note volume start bytes) note next
 GroupSpoils s note (Read site volume start count) fails next = next ≡ note
@@ -110,16 +115,19 @@ GroupSpoils s note other fails next = ⊥
 
 -- and a fuse that ran out in it
 abbrev pub GroupCuts : (s : ℕ) → GroupNode → ScriptLine → Fails → GroupNode → Type 0
-GroupCuts s note (GroupDeport site) fails next = Reconfigures (ConfigLoses s fails) NoteUnsettles note next
+GroupCuts s note (GroupDeport site) fails next = WithMaps (Reconfigures (ConfigLoses s fails) NoteUnsettles) MapsLost note next
 GroupCuts s note (GroupImport site) fails next = NotesRefused note next
-GroupCuts s note (Volume site volume blocks mirrors layout log map policy) fails next = Reconfigures (ConfigLoses s fails) NoteUnsettles note next
+GroupCuts s note (Volume site volume blocks mirrors layout log map policy) fails next = WithMaps (Reconfigures (ConfigLoses s fails) NoteUnsettles) MapsLost note next
 GroupCuts s note (PlexDetach site volume plex) fails next =
-    Reconfigures (λ c d. ConfigLoses s fails c d ⊎ ((x : Config) × PutsPlex (plain_number note volume) plex Stale c x × ConfigLoses s fails x d)) NoteUnsettles note next
+    WithMaps (Reconfigures (λ c d. ConfigLoses s fails c d ⊎ ((x : Config) × PutsPlex (plain_number note volume) plex Stale c x × ConfigLoses s fails x d)) NoteUnsettles)
+    MapsLost note next
 GroupCuts s note (PlexAttach site volume plex) fails next =
-    Reconfigures
+    WithMaps
+    (Reconfigures
     (λ c d. ConfigLosesBut (lies_on_disk c (plain_number note volume) plex) s fails c d
     ⊎ ((x : Config) × PutsPlex (plain_number note volume) plex Active c x × ConfigLosesBut (lies_on_disk c (plain_number note volume) plex) s fails x d))
-    NoteUnsettles note next
+    NoteUnsettles)
+    MapsLost note next
 GroupCuts s note (WriteLine site volume start count fill) fails next = NotesCut s fails (write_to note volume start (replicate (BLOCK * count) fill)) note next
 GroupCuts s note (Put site volume start bytes) fails next = NotesCut s fails (write_to note volume start bytes) note next
 GroupCuts s note other fails next = ⊥

@@ -1,7 +1,8 @@
 -- How a line changes what a site notes of its group of disks.
 use Rattle.std.specs.Prelude.{◌≡◌, ◌⊎◌, ◌==◌, ◌<◌, ℕ, true, false, List, [], length, Some, None, slice_get, unwrap_or, Contains, if◌then◌else◌}
 use Rattle.vx_model.specs.Content.{Write, zero_block}
-use Rattle.vx_history.specs.Groups.{BlockMay, GroupNode, NoteSettles, NoteUnsettles, note_cut, note_doubt, note_write}
+use Rattle.vx_history.specs.Groups.{BlockMay, GroupNode, MissedNote, NoteSettles, NoteUnsettles, note_cut, note_doubt, note_write}
+use Rattle.vx_history.specs.Missing.{no_maps, with_maps}
 use Rattle.vx_history.specs.World.{Node, no_volumes}
 use Rattle.vx_config.specs.Checks.{blocks_of}
 use Rattle.vx_config.specs.declared.config.Config.{Config}
@@ -10,6 +11,7 @@ use Rattle.vx_config.specs.declared.entry.VolumeEntry.{VolumeEntry}
 use Rattle.vx_layout.specs.declared.shape.Shape.{Shape}
 use Rattle.vx_events.specs.Fails.{Fails}
 use Rattle.vx_events.specs.GroupConfigs.{AddsVolume, ConfigLoses, Matched, VolumeStays}
+use Rattle.vx_events.specs.GroupMaps.{MapsAdded, MapsFirst, MapsLost, MapsOfDoubt, MapsOfWrite, MapsRecovered, WithMaps}
 use Rattle.vx_events.specs.GroupViews.{config_of}
 
 -- nothing is noted of a group yet
@@ -22,8 +24,8 @@ no_note = record {
   bytes = no_volumes;
   others = λ v b. [];
   cut = None;
-  missed = λ v p. None;
-  perhaps = λ v p r. false;
+  maps = no_maps;
+  inside = λ v. false;
 }
 
 abbrev pub note_at : Node → GroupNode
@@ -65,7 +67,8 @@ pub record FirstNote (s disks blocks : ℕ) (new : GroupNode) : Type 0 where
   pub size : (v : ℕ) → new.bytes.size v ≡ 0
   pub others : (v b : ℕ) → new.others v b ≡ []
   pub cut : new.cut ≡ None
-  pub perhaps : (v p r : ℕ) → new.perhaps v p r ≡ false
+  pub maps : MapsFirst new
+  pub inside : (v : ℕ) → new.inside v ≡ false
 
 -- ---- volumes
 
@@ -87,24 +90,26 @@ pub record NotesVolume (s : ℕ) (fails : Fails) (name : List ℕ) (want : Shape
   pub is : config_of new.config ≡ Some now
   pub middle : GroupNode
   pub settles : NoteSettles note middle
-  pub zeros : AddsZeros (length old.volumes) want.blocks middle new
+  pub maps : MissedNote
+  pub missed : MapsAdded s fails old now note.maps maps
+  pub zeros : AddsZeros (length old.volumes) want.blocks (with_maps maps middle) new
 
 -- a write was done
 pub record NotesWrite (s : ℕ) (fails : Fails) (x : Write) (note new : GroupNode) : Type 0 where
   pub middle : GroupNode
-  pub moves : Reconfigures (ConfigLoses s fails) NoteSettles note middle
+  pub moves : WithMaps (Reconfigures (ConfigLoses s fails) NoteSettles) (MapsOfWrite s fails x) note middle
   pub is : new ≡ note_write x middle
 
 -- a write failed: each of its blocks has what it had, or what was to be written
 pub record NotesDoubt (s : ℕ) (fails : Fails) (x : Write) (note new : GroupNode) : Type 0 where
   pub middle : GroupNode
-  pub moves : Reconfigures (ConfigLoses s fails) NoteUnsettles note middle
+  pub moves : WithMaps (Reconfigures (ConfigLoses s fails) NoteUnsettles) (MapsOfDoubt s fails x) note middle
   pub is : new ≡ note_doubt x middle
 
 -- the fuse ran out in a write
 pub record NotesCut (s : ℕ) (fails : Fails) (x : Write) (note new : GroupNode) : Type 0 where
   pub middle : GroupNode
-  pub moves : Reconfigures (ConfigLoses s fails) NoteUnsettles note middle
+  pub moves : WithMaps (Reconfigures (ConfigLoses s fails) NoteUnsettles) MapsLost note middle
   pub is : new ≡ note_cut x middle
 
 -- ---- recoveries
@@ -128,13 +133,13 @@ pub record NotesBack (told : Type 0) (s : ℕ) (n : Node) (fails : Fails) (note 
   pub block : (v b : ℕ) → ((new.bytes.block v b ≡ note.bytes.block v b) × (new.others v b ≡ note.others v b)) ⊎ (new.others v b ≡ [])
   pub may : IsKnown told new → (v b : ℕ) → b < note.bytes.size v → BlockMay note v b (new.bytes.block v b)
   pub cut : new.cut ≡ None
-  pub missed : new.missed ≡ note.missed
-  pub perhaps : new.perhaps ≡ note.perhaps
+  pub inside : new.inside ≡ note.inside
 
 -- the same where what is kept of a write that was cut is still to be read
 pub record NotesUnread (told : Type 0) (s : ℕ) (n : Node) (fails : Fails) (note new : GroupNode) : Type 0 where
   pub middle : GroupNode
   pub back : NotesBack told s n fails note middle
+  pub maps : IsKnown told middle → MapsRecovered note middle
   pub is : new ≡ record middle { cut = note.cut }
 
 -- a recovery or an import was refused: nothing changes, or it is not known any more what the disks hold

@@ -1,5 +1,5 @@
 -- What lines at a site over a group of disks are answered.
-use Rattle.std.specs.Prelude.{◌≡◌, ℕ, ◌+◌, ◌*◌, ◌<◌, ◌≤◌, Bool, false, List, length, Option, Some, None, is_some, slice_get}
+use Rattle.std.specs.Prelude.{◌≡◌, ℕ, ◌+◌, ◌*◌, ◌<◌, ◌≤◌, Bool, false, true, List, length, Option, Some, None, is_some, slice_get}
 use Rattle.std.specs.Int.{div_ceil}
 use Rattle.std.specs.Str.{bytes_eq}
 use Rattle.vx_model.specs.Content.{Write, block_of, blocks_in}
@@ -7,6 +7,7 @@ use Rattle.vx_model.specs.declared.limits.TheConstants.{BLOCK, REGION}
 use Rattle.vx_model.specs.declared.site.PlexState.{PlexState}
 use Rattle.vx_model.specs.declared.site.PlexState.TheVariants.{Active}
 use Rattle.vx_history.specs.Groups.{BlockMay, GroupNode}
+use Rattle.vx_history.specs.Missing.{CopiesMissed}
 use Rattle.vx_history.specs.World.{Node}
 use Rattle.vx_config.specs.Checks.{blocks_of}
 use Rattle.vx_config.specs.declared.entry.PlexEntry.{PlexEntry}
@@ -52,13 +53,16 @@ entry_maps (Some volume) = is_some volume.fmr
 abbrev pub volume_maps : GroupNode → (volume : ℕ) → Bool
 volume_maps note v = entry_maps (slice_get (volumes_of (config_of note.config)) v)
 
--- How many regions an attach copies: none where the plex takes part, all where the volume keeps no map of those that it has missed, and never more.
+-- How many regions an attach copies: none where the plex takes part, all where the volume keeps no map of those that it has missed or these are not known, and never
+-- more. Where they are known it is those, and of the others only some that it may have missed.
 pub record AttachCopies (note : GroupNode) (volume plex : ℕ) (said : Said) : Type 0 where
   pub count : ℕ
   pub says : said ≡ DoneAt count
   pub few : count ≤ volume_regions note volume
   pub none : plex_state note volume plex ≡ Some Active → count ≡ 0
   pub all : (plex_state note volume plex ≡ Some Active → ⊥) → volume_maps note volume ≡ false → count ≡ volume_regions note volume
+  pub unknown : (plex_state note volume plex ≡ Some Active → ⊥) → note.maps.mapped volume ≡ false → count ≡ volume_regions note volume
+  pub missed : (plex_state note volume plex ≡ Some Active → ⊥) → note.maps.mapped volume ≡ true → CopiesMissed note.maps volume plex (volume_regions note volume) count
 
 -- no other plex of the volume takes part
 pub record IsLastPlex (note : GroupNode) (volume plex : ℕ) : Type 0 where

@@ -10,6 +10,7 @@ pub mod Fuses
 pub mod GroupConfigs
 pub mod GroupEnds
 pub mod GroupLines
+pub mod GroupMaps
 pub mod GroupNotes
 pub mod GroupReplies
 pub mod GroupViews
@@ -24,6 +25,16 @@ pub mod LinksFit
 pub mod Lists
 pub mod Parts
 pub mod Plain
+pub mod RvgBack
+pub mod RvgFits
+pub mod RvgLinks
+pub mod RvgMakes
+pub mod RvgNotes
+pub mod RvgOver
+pub mod RvgParts
+pub mod RvgSteps
+pub mod RvgViews
+pub mod RvgWorks
 pub mod Sayings
 pub mod Sent
 pub mod Settles

@@ -35,7 +35,7 @@ use Rattle.vx_group.proofs.DetLemmas.{bit_other, no_flags}
 use Rattle.vx_group.proofs.DetachLemmas.{zero_bit}
 use Rattle.vx_group.proofs.OpeningLemmas.{Present, closed, open_Stands, open_on, open_others, open_shape, open_sound, open_wider, opened, present}
 use Rattle.vx_group.proofs.Standing.{apart_of_core, kept_of, low_Stands, low_finds, sound_of}
-use Rattle.vx_group.proofs.LoseLemmas.{none_parts, then_parts}
+use Rattle.vx_group.proofs.LoseLemmas.{le_same, none_parts, then_parts}
 use Rattle.vx_group.specs.Loses.{SameParts}
 
 -- ---- two in a row
@@ -195,7 +195,7 @@ module _ (core : Inner) (v p : ℕ) (f : Option Missed) (there : Present core.co
     }
 
     pub copied_attaches : Attaches v p f core (opened v p core) m m'
-    copied_attaches = record { goes = wide_goes; acts = plex_acts; shape = shape; others = λ w q apart. open_others c v p there w q apart; parts = record { site = refl; rvg = refl; count = refl }; faults = refl; unsure = refl }
+    copied_attaches = record { goes = wide_goes; acts = plex_acts; shape = shape; others = λ w q apart. open_others c v p there w q apart; parts = record { site = refl; rvg = refl; count = refl; later = le_same core.config.serial }; faults = refl; unsure = refl }
 
 -- ---- why
 

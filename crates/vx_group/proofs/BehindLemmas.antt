@@ -194,7 +194,7 @@ module _ (c0 mid : GroupCore) (m m1 : Meaning) (stands : GroupStands c0 m) (narr
       config = it.config;
       finds = it.finds;
       reads = it.reads;
-      parts = record { site = it.parts.site ∙ parts.site; rvg = it.parts.rvg ∙ parts.rvg; count = it.parts.count ∙ parts.count };
+      parts = record { site = it.parts.site ∙ parts.site; rvg = it.parts.rvg ∙ parts.rvg; count = it.parts.count ∙ parts.count; later = (let one = parts.later in let two = it.parts.later in omega (arith, one, two)) };
       volumes = it.volumes ∙ ap (λ (n : ℕ). (cleaned (it.behind).unsure (it.behind).config n).volumes) (ap length volumes);
       off = it.off;
       failing = then_failing m m1 m2 narrows.acts.faults it.quiesces.acts.faults c0.inner.config.disks mid.inner.config.disks it.config.disks failing it.failing;

@@ -77,6 +77,7 @@ module _ (core : Inner) (d : Config) (m m' : Meaning) (stands : InnerStands core
     site = shown.grown.site ∙ all.alike.site;
     rvg = shown.grown.rvg ∙ all.alike.rvg;
     count = shown.grown.disks.count ∙ ap length all.alike.disks;
+    later = shown.later;
     volumes = shown.grown.volumes;
     off = off_in;
     failing = failing_from m m' (cleaned core.unsure core.config (length core.config.volumes)).disks core.config.disks d.disks all.alike.disks shown.grown.disks;
@@ -95,7 +96,7 @@ module _ (core e : Inner) (m m' : Meaning) (stands : InnerStands core m) (acts :
       let on = take_on core.config e.config left.volumes stands.on in
       record {
         stands = left_Stands core e 0 0 m m' stands acts wanted can on faults unsure a why left good un trusts;
-        parts = record { site = left.site; rvg = left.rvg; count = ap length left.disks };
+        parts = record { site = left.site; rvg = left.rvg; count = ap length left.disks; later = left.later };
         narrows = left_Narrows core e 0 0 m m' stands acts wanted can on faults unsure a why left good un;
         volumes = left.volumes;
         disks = left.disks;
@@ -144,7 +145,7 @@ module _ (core mid fl d : Inner) (m m1 m2 last : Meaning) (begun : InnerStands c
       config = it.config;
       finds = it.finds;
       reads = it.reads;
-      parts = record { site = it.site ∙ flushed.parts.site ∙ same.site; rvg = it.rvg ∙ flushed.parts.rvg ∙ same.rvg; count = it.count ∙ flushed.parts.count ∙ same.count };
+      parts = record { site = it.site ∙ flushed.parts.site ∙ same.site; rvg = it.rvg ∙ flushed.parts.rvg ∙ same.rvg; count = it.count ∙ flushed.parts.count ∙ same.count; later = (let one = same.serial in let two = flushed.parts.later in let three = it.later in omega (arith, one, two, three)) };
       volumes = it.volumes ∙ ap (λ (n : ℕ). (cleaned fl.unsure fl.config n).volumes) drained.shape.volumes;
       off = it.off;
       failing = then_failing m m2 last drained.acts.faults it.acts.faults core.config.disks fl.config.disks it.config.disks drained.loses.disks it.failing;

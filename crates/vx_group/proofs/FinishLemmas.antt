@@ -143,7 +143,7 @@ module _ (core e : Inner) (m m' : Meaning) (after : Lawful m') (stands : InnerSt
       settled = settled;
       up = up;
       same = subst (λ (c : Config). SameOr c e.config m m') (none_staled 0 core.config 8) (grown_same (staled 0 0 core.config 8) e.config m m' taken.later taken.grown);
-      loses = subst (λ (c : Config). LosesPlexes c e.config m m') (none_staled 0 core.config 8) (loses_none (staled 0 0 core.config 8) e.config m m' taken.grown.volumes taken.grown.disks (grown_parts m m' (staled 0 0 core.config 8) e.config taken.grown));
+      loses = subst (λ (c : Config). LosesPlexes c e.config m m') (none_staled 0 core.config 8) (loses_none (staled 0 0 core.config 8) e.config m m' taken.grown.volumes taken.grown.disks (grown_parts m m' (staled 0 0 core.config 8) e.config taken.grown taken.later));
       finds = taken.finds;
       trust = trust;
     }

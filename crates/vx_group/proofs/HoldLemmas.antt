@@ -234,6 +234,7 @@ back_parts v p before c d none back parts = let rest = back_rest v p c d none ba
   site = ap (λ (x : Config). x.site) rest ∙ parts.site;
   rvg = ap (λ (x : Config). x.rvg) rest ∙ parts.rvg;
   count = ap (λ (x : Config). length x.disks) rest ∙ parts.count;
+  later = (let same : d.inner.config.serial ≡ c.inner.config.serial = ap (λ (x : Config). x.serial) rest in let more = parts.later in omega (arith, same, more));
 }
 
 -- ---- the plex that is gone

@@ -1,5 +1,5 @@
 -- Plexes that calls take out of use, in one call and in two in a row.
-use Rattle.std.proofs.Common.{◌≡◌, ◌⊎◌, inl, inr, ℕ, ◌≤◌, Bool, true, false, IsTrue, refl, ap, sym, ◌∙◌, subst, arith}
+use Rattle.std.proofs.Common.{◌≡◌, ◌⊎◌, inl, inr, ℕ, ◌<◌, ◌≤◌, Bool, true, false, IsTrue, refl, ap, sym, ◌∙◌, subst, arith}
 use Rattle.std.proofs.lemmas.Bool.{cases_eq}
 use Rattle.vx_disk.specs.Blocks.{bit_at}
 use Rattle.vx_disk.specs.Shelf.{Meaning}
@@ -16,17 +16,28 @@ use Rattle.vx_group.specs.Settled.{SameBut}
 use Rattle.vx_group.proofs.FailingLemmas.{no_failing, then_failing}
 use Rattle.vx_group.proofs.UsesLemmas.{blamed_before, blamed_by, blamed_later, uses_staled, uses_volumes}
 
+pub le_same : (n : ℕ) → n ≤ n
+le_same n = omega arith
+
+pub le_less : (a b : ℕ) → a < b → a ≤ b
+le_less a b lt = omega (arith, lt)
+
 pub then_parts : (c d e : Config) → SameParts c d → SameParts d e → SameParts c e
-then_parts c d e one two = record { site = two.site ∙ one.site; rvg = two.rvg ∙ one.rvg; count = two.count ∙ one.count }
+then_parts c d e one two = record {
+  site = two.site ∙ one.site;
+  rvg = two.rvg ∙ one.rvg;
+  count = two.count ∙ one.count;
+  later = (let first = one.later in let second = two.later in omega (arith, first, second));
+}
 
 pub none_parts : (c : Config) → SameParts c c
-none_parts c = record { site = refl; rvg = refl; count = refl }
+none_parts c = record { site = refl; rvg = refl; count = refl; later = le_same c.serial }
 
 pub but_parts : (c d : Config) → SameBut c d → SameParts c d
-but_parts c d same = record { site = same.site; rvg = same.rvg; count = same.count }
+but_parts c d same = record { site = same.site; rvg = same.rvg; count = same.count; later = (let is = same.serial in omega (arith, is)) }
 
-pub grown_parts : (old new : Meaning) (c d : Config) → Grown old new c d → SameParts c d
-grown_parts old new c d grown = record { site = grown.site; rvg = grown.rvg; count = grown.disks.count }
+pub grown_parts : (old new : Meaning) (c d : Config) → Grown old new c d → c.serial < d.serial → SameParts c d
+grown_parts old new c d grown later = record { site = grown.site; rvg = grown.rvg; count = grown.disks.count; later = le_less c.serial d.serial later }
 
 pub loses_none : (c d : Config) (m m' : Meaning) → d.volumes ≡ c.volumes → MoreFailed m m' c.disks d.disks → SameParts c d → LosesPlexes c d m m'
 loses_none c d m m' volumes more parts = record { parts = parts; frames = frames_volumes d c volumes; lies = uses_volumes c d volumes; on = λ v p is. inl (sym (active_volumes d c volumes v p) ∙ is); plexes = λ v p is. inl (active_volumes d c volumes v p ∙ is); disks = more }

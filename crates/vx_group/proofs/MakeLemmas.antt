@@ -90,7 +90,7 @@ plan_next c name want next may is = record {
 }
 
 pub next_parts : (c next : Config) → IsNextConfig c next → SameParts c next
-next_parts c next is_next = record { site = ap (λ (x : Config). x.site) is_next.is; rvg = ap (λ (x : Config). x.rvg) is_next.is; count = ap (λ (x : Config). length x.disks) is_next.is }
+next_parts c next is_next = record { site = ap (λ (x : Config). x.site) is_next.is; rvg = ap (λ (x : Config). x.rvg) is_next.is; count = ap (λ (x : Config). length x.disks) is_next.is; later = (let same : next.serial ≡ c.serial = ap (λ (x : Config). x.serial) is_next.is in omega (arith, same)) }
 
 -- no count of a fault falls
 pub beside_counts : (c : Config) (m m' : Meaning) → MakesBeside c m m' → (u : ℕ) → m.faults u ≤ m'.faults u

@@ -286,6 +286,12 @@ module _ (c0 mid c2 new : GroupCore) (x : Inner) (m m1 m2 : Meaning) (stands : G
       site = ap (λ (i : Inner). i.config.site) new_wide ∙ loses.parts.site ∙ ap (λ (i : Inner). i.config.site) x_is ∙ parts.site;
       rvg = ap (λ (i : Inner). i.config.rvg) new_wide ∙ loses.parts.rvg ∙ ap (λ (i : Inner). i.config.rvg) x_is ∙ parts.rvg;
       count = ap (λ (i : Inner). length i.config.disks) new_wide ∙ loses.parts.count ∙ ap (λ (i : Inner). length i.config.disks) x_is ∙ parts.count;
+      later =
+          let one : c0.inner.config.serial ≤ mid.inner.config.serial = parts.later in
+          let two : x.config.serial ≡ mid.inner.config.serial = ap (λ (i : Inner). i.config.serial) x_is in
+          let three : x.config.serial ≤ c2.inner.config.serial = loses.parts.later in
+          let four : new.inner.config.serial ≡ c2.inner.config.serial = ap (λ (i : Inner). i.config.serial) new_wide in
+          omega (arith, one, two, three, four);
     };
     frames = λ w. again_frames o c2 new again w ∙ loses.frames w ∙ ap (λ (i : Inner). frame_at i.config w) x_is ∙ by_frames mid.held mid.inner.config w ∙ frames_volumes mid.inner.config c0.inner.config volumes w;
     lies = λ w q u. again_uses o c2 new again w q u ∙ loses.lies w q u ∙ x_uses w q u;

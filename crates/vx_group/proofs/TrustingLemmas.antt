@@ -282,4 +282,4 @@ pub trusted_loses : (v : ℕ) (log : VolumeLog) (c b lost_by d : Config) (m m1 m
 trusted_loses v log c b told d m m1 m2 one two first failing parts is last failed same =
     then_loses m m1 m2 one two c b d (loses_none c b m m1 first failing parts)
     (loses_plexes b d m1 m2 (λ w. frames_volumes d told last w ∙ ap (λ (x : Config). frame_at x w) is ∙ sym ((trusting_shape v log b).frames w)) (λ w p. left_plexes told d last w p ∙ ap (λ (x : Config). plex_at x w p) is ∙ trusting_plexes v log b w p)
-    (subst (λ (x : Config). MoreFailed m1 m2 x.disks d.disks) is failed) (record { site = same.site ∙ ap (λ (x : Config). x.site) is; rvg = same.rvg ∙ ap (λ (x : Config). x.rvg) is; count = same.count ∙ ap (λ (x : Config). length x.disks) is }))
+    (subst (λ (x : Config). MoreFailed m1 m2 x.disks d.disks) is failed) (record { site = same.site ∙ ap (λ (x : Config). x.site) is; rvg = same.rvg ∙ ap (λ (x : Config). x.rvg) is; count = same.count ∙ ap (λ (x : Config). length x.disks) is; later = (let one' : told.serial ≡ b.serial = ap (λ (x : Config). x.serial) is in let two' = same.later in omega (arith, one', two')) }))

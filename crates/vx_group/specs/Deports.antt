@@ -1,5 +1,5 @@
 -- How a deport ends.
-use Rattle.std.specs.Prelude.{◌≡◌, ◌⊎◌, ℕ, ◌<◌, Bool, true, false, length, Result, Ok, Err}
+use Rattle.std.specs.Prelude.{◌≡◌, ◌⊎◌, ℕ, ◌<◌, Bool, true, false, length, Result, Ok, Err, ◌≤◌}
 use Rattle.vx_disk.specs.Causes.{DeviceCause}
 use Rattle.vx_disk.specs.Shelf.{Each, Image, Meaning, Nothing}
 use Rattle.vx_model.specs.declared.errors.Stop.{Stop}
@@ -33,6 +33,7 @@ pub record CleanCommitted (c : Inner) (old new : Meaning) : Type 0 where
   pub site : config.site ≡ c.config.site
   pub rvg : config.rvg ≡ c.config.rvg
   pub count : length config.disks ≡ length c.config.disks
+  pub later : c.config.serial ≤ config.serial
   pub volumes : config.volumes ≡ (cleaned c.unsure c.config (length c.config.volumes)).volumes
   pub off : (v p : ℕ) → is_unsure c.unsure v ≡ false → active config v p ≡ false
   pub failing : MoreFailed old new c.config.disks config.disks

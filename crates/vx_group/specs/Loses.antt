@@ -9,11 +9,12 @@ use Rattle.vx_volume.specs.Volumes.{PlexBlamed}
 use Rattle.vx_kept.specs.Keeping.{frame_at}
 use Rattle.vx_kept.specs.LogRuns.{log_trusted}
 
--- the same but for the serial, the volumes, and disks that are held as failed
+-- the same but for the serial, which does not fall, the volumes, and disks that are held as failed
 pub record SameParts (c d : Config) : Type 0 where
   pub site : d.site ≡ c.site
   pub rvg : d.rvg ≡ c.rvg
   pub count : length d.disks ≡ length c.disks
+  pub later : c.serial ≤ d.serial
 
 -- a call on a disk of some plex of the volume failed
 abbrev pub AnyBlamed : Config → ℕ → Meaning → Meaning → Type 0

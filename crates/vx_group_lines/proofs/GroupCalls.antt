@@ -21,12 +21,12 @@ use Rattle.vx_grouped.specs.declared.group_site.GroupSite.{GroupSite}
 use Rattle.vx_grouped.specs.declared.group_site.GroupSite.TheVariants.{Up as SiteUp, Deported as SiteAway, Down as SiteDown, Marked, Gone as SiteGone}
 use Rattle.vx_diskset.specs.Asked.{FailsAs, FusedAs, SameFailing, disks_told}
 use Rattle.vx_diskset.specs.Fuses.{HasLeft, LeftAs}
-use Rattle.vx_diskset.specs.GroupCalls.{AtSite, OnSites, cut_in}
+use Rattle.vx_diskset.specs.GroupCalls.{AtPlain, AtSite, OnSites, cut_in}
 use Rattle.vx_diskset.specs.GroupSets.{cut_value}
 use Rattle.vx_diskset.specs.Holds.{beside_of}
 use Rattle.vx_diskset.specs.Stands.{faults_at}
 use Rattle.vx_diskset.specs.declared.disk_set.DiskSet.{DiskSet}
-use Rattle.vx_diskset.specs.declared.disk_set.DiskSet.TheVariants.{Bare, Spoiled, Up as RaisedSet, Receives, Down as DownSet, OfGroup, Gone as GoneSet}
+use Rattle.vx_diskset.specs.declared.disk_set.DiskSet.TheVariants.{Bare, Spoiled, Up as RaisedSet, Receives, Down as DownSet, OfGroup, Over, Gone as GoneSet}
 use Rattle.vx_diskset.specs.declared.group_set.CutWrite.{CutWrite}
 use Rattle.vx_diskset.specs.declared.group_set.GroupSet.{GroupSet}
 use Rattle.vx_events.specs.Fails.{Fails}
@@ -53,6 +53,7 @@ use Rattle.vx_group_lines.proofs.Fails.{all_rose, calls_name, calls_of, failed_c
 use Rattle.vx_group_lines.proofs.GroupAt.{GroupAt, down_notes, uncut, up_noted, up_notes}
 use Rattle.vx_group_lines.proofs.GroupLeads.{Follows, Sized, down_set, follows_off, follows_on, sized_of, up_set}
 use Rattle.vx_group_lines.proofs.GroupMarks.{begins_at, group_noted_at}
+use Rattle.vx_grouped.specs.SiteMaps.{StandMaps}
 use Rattle.vx_group_lines.proofs.Losing.{Names}
 
 -- ---- fuses
@@ -96,13 +97,14 @@ module _ {R : Type 0} {g : Ghosts R} where
     pub is : e ≡ OfGroup set
     pub holds : P set.site
 
-  pub set_then : (P : GroupSite R g → Type 0) (e : DiskSet R g) → AtSite P e → SetThen P e
+  pub set_then : (P : GroupSite R g → Type 0) (e : DiskSet R g) → AtPlain P e → SetThen P e
   set_then P (Bare rack) it = absurd it
   set_then P (Spoiled rack) it = absurd it
   set_then P (RaisedSet rvg) it = absurd it
   set_then P (Receives s) it = absurd it
   set_then P (DownSet rack) it = absurd it
   set_then P (OfGroup set) it = record { set = set; is = refl; holds = it }
+  set_then P (Over set) it = absurd it
   set_then P GoneSet it = absurd it
 
   pub sets_then : (P : GroupSite R g → GroupSite R g → Type 0) (before after : DiskSet R g) (set : GroupSet R g) → before ≡ OfGroup set → OnSites P before after → SetThen (P set.site) after
@@ -186,6 +188,10 @@ module _ {R : Type 0} {g : Ghosts R} where
     pub sized : Sized n
     sized = sized_of (beside_of d s) n call.at.set call.at.stands
 
+    -- what is noted of its maps
+    pub maps_were : StandMaps note call.at.set.site
+    maps_were = call.at.stands.maps call.at.made note (group_noted_at d old name s before call.at)
+
     -- nothing is cut, and so it is noted
     pub note_uncut : n.state ≡ IsUp → note.cut ≡ None
     note_uncut up =
@@ -213,22 +219,22 @@ module _ {R : Type 0} {g : Ghosts R} where
         subst (λ (x : DiskSet R g). FailsAs m x) is (fails_then n m before after same call.failing (stands.failing s before call.at.below call.changed.there))
 
     -- it is up still
-    pub up_follows : (k : GroupNode) (next : GroupSet R g) → n.state ≡ IsUp → after ≡ OfGroup next → UpNoted (with_note k n) k next.site → k.cut ≡ note.cut → cut_in after ≡ cut_in before
+    pub up_follows : (k : GroupNode) (next : GroupSet R g) → n.state ≡ IsUp → after ≡ OfGroup next → UpNoted (with_note k n) k next.site → StandMaps k next.site → k.cut ≡ note.cut → cut_in after ≡ cut_in before
         → FusedAs (with_note k n) (OfGroup next) → (f : SiteFacts) → f ≡ fact_of_group (with_note k n) k → new.facts.items ≡ slice_set old.facts.items s f → SameLoad old new
         → Follows d (record d { world = worked_on (noting d.world s k) s }) old new
-    up_follows k next up is noted cut_noted cut fuse f fact facts load =
+    up_follows k next up is noted maps cut_noted cut fuse f fact facts load =
         follows_on d (record d { world = worked_on (noting d.world s k) s }) s (with_note k n) k f old new before next stands call.at.below (called_to next is)
         (arrives_worked d d s n k (d.world.gathering s) (begins_at d old name s before stands call.at))
         (up_notes (with_note k n) k next.site noted).0
-        (up_set (with_note k n) k next (record { few = sized.few; some = sized.some }) noted (cut_of next is None (cut ∙ before_cut ∙ set_uncut up)) (cut_noted ∙ note_uncut up))
+        (up_set (with_note k n) k next (record { few = sized.few; some = sized.some }) noted maps (cut_of next is None (cut ∙ before_cut ∙ set_uncut up)) (cut_noted ∙ note_uncut up))
         (failing_to (with_note k n) next is refl) fuse fact facts load
 
     -- its fuse ran out
-    pub off_follows : (k : GroupNode) (next : GroupSet R g) → n.state ≡ IsUp → after ≡ OfGroup next → DownNoted (crashed (with_note k n) 0) k next.site
+    pub off_follows : (k : GroupNode) (next : GroupSet R g) → n.state ≡ IsUp → after ≡ OfGroup next → DownNoted (crashed (with_note k n) 0) k next.site → StandMaps k next.site
         → cut_in after ≡ k.cut → ((x : CutWrite) → next.cut ≡ Some x → FitsPlain k x.volume x.block (length x.bytes))
         → (f : SiteFacts) → f ≡ fact_of_group (crashed (with_note k n) 0) k → new.facts.items ≡ slice_set old.facts.items s f → LetsGo old new s
         → Follows d (record (happened d (CrashAt s 0) false) { world = worked_on (noting (happened d (CrashAt s 0) false).world s k) s }) old new
-    off_follows k next up is noted cut fits f fact facts lets =
+    off_follows k next up is noted maps cut fits f fact facts lets =
         let e : Doubted = happened d (CrashAt s 0) false in
         let none : HasNoRvg n = (set_notes (beside_of d s) n call.at.set call.at.stands call.at.made).1.none in
         let m : Node = crashed (with_note k n) 0 in
@@ -237,5 +243,5 @@ module _ {R : Type 0} {g : Ghosts R} where
         (arrives_crash d d s n (d.world.gathering s) (begins_at d old name s before stands call.at) call.at.below up none.log none.safe))
         (λ back. let w : IsDown ≡ IsUp = back in absurd (cc))
         (down_notes m k next.site noted).0
-        (down_set m k next (record { few = sized.few; some = sized.some }) noted (cut_of next is k.cut cut) fits)
+        (down_set m k next (record { few = sized.few; some = sized.some }) noted maps (cut_of next is k.cut cut) fits)
         (failing_to m next is refl) (fused_none m (OfGroup next) refl) fact facts lets

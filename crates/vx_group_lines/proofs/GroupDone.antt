@@ -10,7 +10,7 @@ use Rattle.vx_disk.specs.declared.shelf.Shelf.{Ghosts}
 use Rattle.vx_config.specs.declared.config.Config.{Config}
 use Rattle.vx_history.specs.Doubts.{Doubted}
 use Rattle.vx_history.specs.Groups.{GroupNode, NoteSettles, NoteUnsettles}
-use Rattle.vx_history.specs.Steps.{burned}
+use Rattle.vx_history.specs.Steps.{burned, crashed}
 use Rattle.vx_history.specs.World.{Node}
 use Rattle.vx_order.specs.declared.facts.SiteFacts.{SiteFacts}
 use Rattle.vx_script.specs.declared.line.ScriptLine.{ScriptLine}
@@ -32,10 +32,16 @@ use Rattle.vx_yard.specs.Standing.{LeadsOver, LeadsOverIs, StandsFor}
 use Rattle.vx_yard.specs.Writes.{noted_facts}
 use Rattle.vx_yard.specs.Yards.{IsTold}
 use Rattle.vx_yard.specs.declared.yard.Yard.{Yard}
-use Rattle.vx_group_lines.proofs.GroupCalls.{SetThen, calls, calls_all, calls_are, calls_named, calls_names, calls_none, note_uncut, sets_then}
+use Rattle.vx_group_lines.proofs.GroupCalls.{SetThen, calls, calls_all, calls_are, calls_named, calls_names, calls_none, note_uncut, sets_then, maps_were}
 use Rattle.vx_group_lines.proofs.GroupEnding.{Broke, Calling, FellOff, LeftDone, Means, Midway, SameTable, Wanted, called_why, lets_on, load_on, off_leads, up_leads, world_up}
 use Rattle.vx_group_lines.proofs.GroupMarks.{group_noted_at}
 use Rattle.vx_group_lines.proofs.Losing.{Names}
+use Rattle.vx_grouped.specs.SiteMaps.{MapsQuiet, StandMaps, StaysMapped, UpMaps}
+use Rattle.vx_grouped.proofs.MapNoteLemmas.{down_with_maps, up_with_maps}
+use Rattle.vx_history.specs.Missing.{no_maps, with_maps}
+use Rattle.vx_events.specs.GroupMaps.{MapsLost}
+use Rattle.vx_group_lines.proofs.MapGoing.{Goes, MapsOn, goes_up, off_stands, on_both}
+use Rattle.vx_group_lines.proofs.MapLines.{logs_bound}
 use Rattle.vx_group_lines.specs.Noting.{IsNotedRefusal}
 
 -- a change of a configuration, with the disks before and behind it
@@ -58,14 +64,17 @@ module _ {R : Type 0} {g : Ghosts R} where
 
     -- the calls of a disk set that comes of this one
     abbrev many_of : Config → ℕ → ℕ
-    many_of was disk = (site_disks it.call.at.set.site).units + length was.disks + disk + 1
+    many_of was disk = (site_disks it.call.at.set.site).units + length was.disks + logs_bound was.volumes + disk + 1
+
+    had : StandMaps note was_site
+    had = maps_were d old new name s before after stands it.call
 
     -- ---- done
 
-    pub done_leads : {T : Type 0} (Done Lost : Turns) (Lacks : GroupSite R g → No → Type 0) (said : Said) (value : T) → ((k : GroupNode) → LeftDone d s line k → IsLeftOver s line k (run_as false d (group_events (d.world.nodes s) s line)) (world_up d s k)) → Means s note NoteSettles Done (λ fails next. GroupDoes (IsTold new) s n note line fails said next) → SameTable note Done
+    pub done_leads : {T : Type 0} (Done Lost : Turns) (By : Goes) (Lacks : GroupSite R g → No → Type 0) (said : Said) (value : T) → ((k : GroupNode) → LeftDone d s line k → IsLeftOver s line k (run_as false d (group_events (d.world.nodes s) s line)) (world_up d s k)) → Means s note NoteSettles Done By (λ fails next. GroupDoes (IsTold new) s n note line fails said next) → SameTable note Done
         → OnSites (λ o e. SiteCalled {T = T} (Done (site_disks o) (site_disks e)) (Lost (site_disks o) (site_disks e)) (Lacks o) n note o e (Ok value)) before after
-        → new.facts.items ≡ old.facts.items → SameLoad old new → LeadsOver d line said old new
-    done_leads {T} Done Lost Lacks said value leaves means table on facts load =
+        → OnSites (λ o e. UpMaps By o e) before after → new.facts.items ≡ old.facts.items → SameLoad old new → LeadsOver d line said old new
+    done_leads {T} Done Lost By Lacks said value leaves means table on maps facts load =
         let P : GroupSite R g → GroupSite R g → Type 0 = λ o e. SiteCalled {T = T} (Done (site_disks o) (site_disks e)) (Lost (site_disks o) (site_disks e)) (Lacks o) n note o e (Ok value) in
         let then : SetThen (P was_site) after = sets_then P before after it.call.at.set it.call.at.is_set on in
         let next : GroupNode = then.holds.0 in
@@ -73,10 +82,14 @@ module _ {R : Type 0} {g : Ghosts R} where
         let many : ℕ = many_of goes.was 0 in
         let names : Names s many (calls s old new many) (site_disks was_site) (site_disks then.set.site)
         = calls_names d old new name s before after stands it.call it.call.at.set then.set it.call.at.is_set then.is many (omega arith) in
-        up_leads d line old new name s before after stands it said (calls s old new many) next then.set then.is then.holds.2 then.holds.1.same.cut
+        let moved : UpMaps By was_site then.set.site = on_both (λ o e. UpMaps By o e) before after it.call.at.set then.set it.call.at.is_set then.is maps in
+        let go : MapsOn (By (site_disks was_site) (site_disks then.set.site) goes.was goes.now) note next then.set.site
+        = goes_up By (with_note next n) note next next was_site then.set.site (Done (site_disks was_site) (site_disks then.set.site)) had goes then.holds.2 moved in
+        let k : GroupNode = with_maps go.maps next in
+        up_leads d line old new name s before after stands it said (calls s old new many) k then.set then.is (up_with_maps go.maps (with_note next n) next then.set.site then.holds.2) go.stands then.holds.1.same.cut
         (table.same many (site_disks was_site) (site_disks then.set.site) s (calls s old new many) next goes.was goes.now names goes.noted goes.noted_now goes.change) facts load
-        (GroupDone next (calls_are d old new name s before after stands it.call many)
-        (means.ends many (calls s old new many) (site_disks was_site) (site_disks then.set.site) next goes.was goes.now names goes.noted goes.noted_now (omega arith) goes.change then.holds.1) (leaves next (it.is_line.done next)))
+        (GroupDone k (calls_are d old new name s before after stands it.call many)
+        (means.ends many (calls s old new many) (site_disks was_site) (site_disks then.set.site) next goes.was goes.now names goes.noted goes.noted_now (omega arith) (omega arith) goes.change then.holds.1 go.maps go.by) (leaves k (it.is_line.done k)))
         (calls_all d old new name s before after stands it.call many)
 
     -- ---- refused
@@ -89,62 +102,69 @@ module _ {R : Type 0} {g : Ghosts R} where
       facts_same x is facts =
           facts ∙ ap (λ (fs : List SiteFacts). slice_set fs s x) half.facts ∙ ap (λ (y : SiteFacts). slice_set old.facts.items s y) is ∙ set_same old.facts.items s f it.call.at.fact
 
-      broke_leads : (Lost : Turns) (why : No) (disk : ℕ) (next : SetThen (λ e. Broke (Lost (site_disks was_site) (site_disks e)) n note was_site e disk) after) → Means s note NoteUnsettles Lost (λ fails k. GroupSpoils s note line fails k)
+      broke_leads : (Lost : Turns) (By : Goes) (why : No) (disk : ℕ) (next : SetThen (λ e. Broke (Lost (site_disks was_site) (site_disks e)) n note was_site e disk × UpMaps By was_site e) after) → Means s note NoteUnsettles Lost By (λ fails k. GroupSpoils s note line fails k)
           → SameTable note Lost → why ≡ Device disk → IsNotedRefusal s f why mid new result → LeadsOverIs d line old new result
-      broke_leads Lost why disk then spoils table is refusal =
+      broke_leads Lost By why disk then spoils table is refusal =
           let r : IsNotedRefusal s f (Device disk) mid new result = subst (λ (w : No). IsNotedRefusal s f w mid new result) is refusal in
-          let b = then.holds in
+          let b = then.holds.0 in
           let many : ℕ = many_of b.goes.was disk in
           let names : Names s many (calls s old new many) (site_disks was_site) (site_disks then.set.site)
           = calls_names d old new name s before after stands it.call it.call.at.set then.set it.call.at.is_set then.is many (omega arith) in
           subst (λ (x : Result Said OutOfMemory). LeadsOverIs d line old new x) (sym r.said)
-          (up_leads d line old new name s before after stands it (Refused (Device disk)) (calls s old new many) b.next then.set then.is b.noted b.keeps.same.cut
+          (let go : MapsOn (By (site_disks was_site) (site_disks then.set.site) b.goes.was b.goes.now) note b.next then.set.site
+          = goes_up By (with_note b.next n) note b.next b.next was_site then.set.site (Lost (site_disks was_site) (site_disks then.set.site)) had b.goes b.noted then.holds.1 in
+          let k : GroupNode = with_maps go.maps b.next in
+          up_leads d line old new name s before after stands it (Refused (Device disk)) (calls s old new many) k then.set then.is (up_with_maps go.maps (with_note b.next n) b.next then.set.site b.noted) go.stands b.keeps.same.cut
           (table.same many (site_disks was_site) (site_disks then.set.site) s (calls s old new many) b.next b.goes.was b.goes.now names b.goes.noted b.goes.noted_now b.goes.change)
           (facts_same (noted_facts (Device disk) f) refl r.facts) (load_on old mid new half r.same r.assemblies)
-          (GroupFails disk b.next (calls_are d old new name s before after stands it.call many)
+          (GroupFails disk k (calls_are d old new name s before after stands it.call many)
           (calls_named d old new name s before after stands it.call it.call.at.set then.set it.call.at.is_set then.is many disk (omega arith) b.rose)
-          (spoils.ends many (calls s old new many) (site_disks was_site) (site_disks then.set.site) b.next b.goes.was b.goes.now names b.goes.noted b.goes.noted_now (omega arith) b.goes.change b.keeps) refl (it.is_line.broke b.next))
+          (spoils.ends many (calls s old new many) (site_disks was_site) (site_disks then.set.site) b.next b.goes.was b.goes.now names b.goes.noted b.goes.noted_now (omega arith) (omega arith) b.goes.change b.keeps go.maps go.by) refl (it.is_line.broke k))
           (calls_all d old new name s before after stands it.call many))
 
-      off_ends : (Lost : Turns) (why : No) (next : SetThen (λ e. FellOff (Lost (site_disks was_site) (site_disks e)) n note was_site e) after) → Means s note NoteUnsettles Lost (λ fails k. GroupCuts s note line fails k)
+      off_ends : (Lost : Turns) (By : Goes) (why : No) (next : SetThen (λ e. FellOff (Lost (site_disks was_site) (site_disks e)) n note was_site e × UpMaps By was_site e) after) → Means s note NoteUnsettles Lost (λ o e. MapsLost) (λ fails k. GroupCuts s note line fails k)
           → SameTable note Lost → why ≡ IsOff → IsNotedRefusal s f why mid new result → LeadsOverIs d line old new result
-      off_ends Lost why then cuts table is refusal =
+      off_ends Lost By why then cuts table is refusal =
           let r : IsNotedRefusal s f IsOff mid new result = subst (λ (w : No). IsNotedRefusal s f w mid new result) is refusal in
-          let b = then.holds in
+          let b = then.holds.0 in
           let many : ℕ = many_of b.goes.was 0 in
+          let k : GroupNode = with_maps no_maps b.next in
           let names : Names s many (calls s old new many) (site_disks was_site) (site_disks then.set.site)
           = calls_names d old new name s before after stands it.call it.call.at.set then.set it.call.at.is_set then.is many (omega arith) in
           subst (λ (x : Result Said OutOfMemory). LeadsOverIs d line old new x) (sym r.said)
-          (off_leads d line old new name s before after stands it (Refused IsOff) (calls s old new many) b.next then.set then.is b.noted b.keeps.same.cut
+          (off_leads d line old new name s before after stands it (Refused IsOff) (calls s old new many) k then.set then.is (down_with_maps no_maps (crashed (with_note b.next n) 0) b.next then.set.site b.noted)
+          (off_stands (crashed (with_note b.next n) 0) b.next b.next b.goes.now then.set.site b.goes.noted_now b.noted then.holds.1.1) b.keeps.same.cut
           (note_uncut d old new name s before after stands it.call it.up)
           (table.same many (site_disks was_site) (site_disks then.set.site) s (calls s old new many) b.next b.goes.was b.goes.now names b.goes.noted b.goes.noted_now b.goes.change)
           (noted_facts IsOff f) refl (r.facts ∙ ap (λ (fs : List SiteFacts). slice_set fs s (noted_facts IsOff f)) half.facts) (lets_on old mid new s half r.same r.assemblies)
-          (GroupCut b.next (calls_are d old new name s before after stands it.call many) b.fused
-          (cuts.ends many (calls s old new many) (site_disks was_site) (site_disks then.set.site) b.next b.goes.was b.goes.now names b.goes.noted b.goes.noted_now (omega arith) b.goes.change b.keeps) refl (it.is_line.off b.next))
+          (GroupCut k (calls_are d old new name s before after stands it.call many) b.fused
+          (cuts.ends many (calls s old new many) (site_disks was_site) (site_disks then.set.site) b.next b.goes.was b.goes.now names b.goes.noted b.goes.noted_now (omega arith) (omega arith) b.goes.change b.keeps no_maps (record { none = λ v. refl })) refl (it.is_line.off k))
           (calls_all d old new name s before after stands it.call many))
 
-      lacks_leads : (Lacks : No → Type 0) (why : No) (next : SetThen (λ e. Wanted Lacks n note e why) after) → (Lacks why → GroupWants note line why) → IsNotedRefusal s f why mid new result → LeadsOverIs d line old new result
+      lacks_leads : (Lacks : No → Type 0) (why : No) (next : SetThen (λ e. Wanted Lacks n note was_site e why) after) → (Lacks why → GroupWants note line why) → IsNotedRefusal s f why mid new result → LeadsOverIs d line old new result
       lacks_leads Lacks why then wants refusal =
           let w = then.holds in
           subst (λ (x : Result Said OutOfMemory). LeadsOverIs d line old new x) (sym refusal.said)
           (up_leads d line old new name s before after stands it (Refused why) [] note then.set then.is
-          (burned_noted n note then.set.site (group_noted_at d old name s before it.call.at) w.noted) refl refl
+          (burned_noted n note then.set.site (group_noted_at d old name s before it.call.at) w.noted) (w.maps note had) refl refl
           (facts_same (noted_facts why f) (w.quiet.facts f) refusal.facts) (load_on old mid new half refusal.same (w.quiet.loads s mid.assemblies.items new.assemblies.items refusal.assemblies))
           (GroupLacks why (wants w.lacks) refl refl (it.is_line.lacks note)) (calls_none d old new name s before after stands it.call))
 
-      pub refused_leads : (T : Type 0) (Done Lost : Turns) (Lacks : GroupSite R g → No → Type 0) → Means s note NoteUnsettles Lost (λ fails k. GroupSpoils s note line fails k) → Means s note NoteUnsettles Lost (λ fails k. GroupCuts s note line fails k)
+      pub refused_leads : (T : Type 0) (Done Lost : Turns) (By : Goes) (Lacks : GroupSite R g → No → Type 0) → Means s note NoteUnsettles Lost By (λ fails k. GroupSpoils s note line fails k) → Means s note NoteUnsettles Lost (λ o e. MapsLost) (λ fails k. GroupCuts s note line fails k)
           → SameTable note Lost → ((why : No) → Lacks it.call.at.set.site why → GroupWants note line why) → (why : No)
           → OnSites (λ o e. SiteCalled {T = T} (Done (site_disks o) (site_disks e)) (Lost (site_disks o) (site_disks e)) (Lacks o) n note o e (Err (StopsBy why))) before after
-          → IsNotedRefusal s (fact_of_group (d.world.nodes s) (note_at (d.world.nodes s))) why mid new result → LeadsOverIs d line old new result
-      refused_leads T Done Lost Lacks spoils cuts table wants why on refusal =
+          → OnSites (λ o e. UpMaps By o e × MapsQuiet (StopsBy why) (StaysMapped o e)) before after → IsNotedRefusal s (fact_of_group (d.world.nodes s) (note_at (d.world.nodes s))) why mid new result → LeadsOverIs d line old new result
+      refused_leads T Done Lost By Lacks spoils cuts table wants why on maps refusal =
           let P : GroupSite R g → GroupSite R g → Type 0
           = λ o e. SiteCalled {T = T} (Done (site_disks o) (site_disks e)) (Lost (site_disks o) (site_disks e)) (Lacks o) n note o e (Err (StopsBy why)) in
           let then : SetThen (P was_site) after = sets_then P before after it.call.at.set it.call.at.is_set on in
-          by_why then (called_why T (Done (site_disks was_site) (site_disks then.set.site)) (Lost (site_disks was_site) (site_disks then.set.site)) (Lacks was_site) n note was_site then.set.site why then.holds)
+          let moved : UpMaps By was_site then.set.site × MapsQuiet (StopsBy why) (StaysMapped was_site then.set.site)
+          = on_both (λ o e. UpMaps By o e × MapsQuiet (StopsBy why) (StaysMapped o e)) before after it.call.at.set then.set it.call.at.is_set then.is maps in
+          by_why then (called_why T (Done (site_disks was_site) (site_disks then.set.site)) (Lost (site_disks was_site) (site_disks then.set.site)) (Lacks was_site) n note was_site then.set.site why then.holds moved.1) moved.0
         where
           by_why : (then : SetThen (λ e. SiteCalled {T = T} (Done (site_disks was_site) (site_disks e)) (Lost (site_disks was_site) (site_disks e)) (Lacks was_site) n note was_site e (Err (StopsBy why))) after)
               → ((disk : ℕ) × (why ≡ Device disk) × Broke (Lost (site_disks was_site) (site_disks then.set.site)) n note was_site then.set.site disk)
-              ⊎ ((why ≡ IsOff) × FellOff (Lost (site_disks was_site) (site_disks then.set.site)) n note was_site then.set.site) ⊎ Wanted (Lacks was_site) n note then.set.site why → LeadsOverIs d line old new result
-          by_why then (inl (disk, is, b)) = broke_leads Lost why disk (record { set = then.set; is = then.is; holds = b }) spoils table is refusal
-          by_why then (inr (inl (is, b))) = off_ends Lost why (record { set = then.set; is = then.is; holds = b }) cuts table is refusal
-          by_why then (inr (inr w)) = lacks_leads (Lacks was_site) why (record { set = then.set; is = then.is; holds = w }) (wants why) refusal
+              ⊎ ((why ≡ IsOff) × FellOff (Lost (site_disks was_site) (site_disks then.set.site)) n note was_site then.set.site) ⊎ Wanted (Lacks was_site) n note was_site then.set.site why → UpMaps By was_site then.set.site → LeadsOverIs d line old new result
+          by_why then (inl (disk, is, b)) moved = broke_leads Lost By why disk (record { set = then.set; is = then.is; holds = (b, moved) }) spoils table is refusal
+          by_why then (inr (inl (is, b))) moved = off_ends Lost By why (record { set = then.set; is = then.is; holds = (b, moved) }) cuts table is refusal
+          by_why then (inr (inr w)) moved = lacks_leads (Lacks was_site) why (record { set = then.set; is = then.is; holds = w }) (wants why) refusal

@@ -10,7 +10,7 @@ use Rattle.vx_disk.specs.Shelf.{Meaning}
 use Rattle.vx_disk.specs.declared.shelf.Shelf.{Ghosts}
 use Rattle.vx_config.specs.declared.config.Config.{Config}
 use Rattle.vx_history.specs.Doubts.{Doubted, happened}
-use Rattle.vx_history.specs.Groups.{GroupNode, NoteUnsettles}
+use Rattle.vx_history.specs.Groups.{GroupNode, NoteUnsettles, MissedNote}
 use Rattle.vx_history.specs.Steps.{crashed, worked_on}
 use Rattle.vx_history.specs.Stops.{IsFused}
 use Rattle.vx_history.specs.World.{Node}
@@ -51,6 +51,10 @@ use Rattle.vx_group_lines.proofs.GroupCalls.{Called, down_seen, fused_since, off
 use Rattle.vx_group_lines.proofs.GroupLeads.{leads_by}
 use Rattle.vx_group_lines.proofs.GroupMarks.{none_at}
 use Rattle.vx_group_lines.proofs.Losing.{Names}
+use Rattle.vx_grouped.specs.SiteMaps.{MapsQuiet, StandMaps, StaysMapped}
+use Rattle.vx_history.specs.Missing.{with_maps}
+use Rattle.vx_group_lines.proofs.MapGoing.{Goes}
+use Rattle.vx_group_lines.proofs.MapLines.{logs_bound}
 use Rattle.vx_group_lines.specs.Noting.{KeepsRest}
 
 -- a refusal of which the tests see nothing, and at which no site lets anything go
@@ -79,8 +83,9 @@ pub record IsCalling (d : Doubted) (s : ℕ) (line : ScriptLine) : Type 0 where
   pub off : (k : GroupNode) → IsLeftOver s line k (run_as false d (cut_events s line)) (world_off d s k)
 
 -- what a change of a configuration means for a line
-pub record Means (s : ℕ) (note : GroupNode) (Keeps : GroupNode → GroupNode → Type 0) (Change : Meaning → Meaning → Config → Config → Type 0) (Ends : Fails → GroupNode → Type 0) : Type 1 where
-  pub ends : (many : ℕ) (fails : Fails) (o e : Meaning) (next : GroupNode) (was now : Config) → Names s many fails o e → NotesConfig note was → NotesConfig next now → length was.disks ≤ many → Change o e was now → Keeps note next → Ends fails next
+pub record Means (s : ℕ) (note : GroupNode) (Keeps : GroupNode → GroupNode → Type 0) (Change : Meaning → Meaning → Config → Config → Type 0) (By : Goes) (Ends : Fails → GroupNode → Type 0) : Type 1 where
+  pub ends : (many : ℕ) (fails : Fails) (o e : Meaning) (next : GroupNode) (was now : Config) → Names s many fails o e → NotesConfig note was → NotesConfig next now → length was.disks ≤ many → logs_bound was.volumes ≤ many → Change o e was now → Keeps note next
+      → (w : MissedNote) → By o e was now note.maps w → Ends fails (with_maps w next)
 
 -- and that the tests see the same volumes behind it
 pub record SameTable (note : GroupNode) (Change : Meaning → Meaning → Config → Config → Type 0) : Type 1 where
@@ -101,45 +106,46 @@ module _ {R : Type 0} {g : Ghosts R} where
     pub fused : IsFused n.fuse
     pub goes : ConfigGoes Fails note next old new
 
-  pub record Wanted (Lacks : No → Type 0) (n : Node) (note : GroupNode) (new : GroupSite R g) (why : No) : Type 0 where
+  pub record Wanted (Lacks : No → Type 0) (n : Node) (note : GroupNode) (old new : GroupSite R g) (why : No) : Type 0 where
     pub quiet : IsQuiet why
     pub noted : UpNoted (burned_site n) note new
+    pub maps : StaysMapped old new
     pub lacks : Lacks why
 
   abbrev pub Whys : (Fails : Config → Config → Type 0) → (No → Type 0) → Node → GroupNode → GroupSite R g → GroupSite R g → No → Type 0
   Whys Fails Lacks n note old new why =
-      ((disk : ℕ) × (why ≡ Device disk) × Broke Fails n note old new disk) ⊎ ((why ≡ IsOff) × FellOff Fails n note old new) ⊎ Wanted Lacks n note new why
+      ((disk : ℕ) × (why ≡ Device disk) × Broke Fails n note old new disk) ⊎ ((why ≡ IsOff) × FellOff Fails n note old new) ⊎ Wanted Lacks n note old new why
 
   module _ (T : Type 0) (Done Fails : Config → Config → Type 0) (Lacks : No → Type 0) (n : Node) (note : GroupNode) (old new : GroupSite R g) where
-    wanted : (why : No) → IsQuiet why → UpNoted (burned_site n) note new × Lacks why → Whys Fails Lacks n note old new why
-    wanted why quiet it = inr (inr (record { quiet = quiet; noted = it.0; lacks = it.1 }))
+    wanted : (why : No) → IsQuiet why → UpNoted (burned_site n) note new × Lacks why → StaysMapped old new → Whys Fails Lacks n note old new why
+    wanted why quiet it maps = inr (inr (record { quiet = quiet; noted = it.0; maps = maps; lacks = it.1 }))
 
-    pub called_why : (why : No) → SiteCalled {T = T} Done Fails Lacks n note old new (Err (StopsBy why)) → Whys Fails Lacks n note old new why
-    called_why (Device disk) it = inl (disk, refl, record { next = it.0; keeps = it.1; noted = it.2; rose = it.3; goes = it.4 })
-    called_why IsOff it = inr (inl (refl, record { next = it.0; keeps = it.1; noted = it.2; fused = it.3; goes = it.4 }))
-    called_why (Unknown what) it = wanted (Unknown what) (record { facts = λ f. refl; loads = λ s a b h. h }) it
-    called_why (Exists name) it = wanted (Exists name) (record { facts = λ f. refl; loads = λ s a b h. h }) it
-    called_why Range it = wanted Range (record { facts = λ f. refl; loads = λ s a b h. h }) it
-    called_why Size it = wanted Size (record { facts = λ f. refl; loads = λ s a b h. h }) it
-    called_why Role it = wanted Role (record { facts = λ f. refl; loads = λ s a b h. h }) it
-    called_why (Missing disk) it = wanted (Missing disk) (record { facts = λ f. refl; loads = λ s a b h. h }) it
-    called_why NoConfig it = wanted NoConfig (record { facts = λ f. refl; loads = λ s a b h. h }) it
-    called_why LastPlex it = wanted LastPlex (record { facts = λ f. refl; loads = λ s a b h. h }) it
-    called_why (Space need have) it = wanted (Space need have) (record { facts = λ f. refl; loads = λ s a b h. h }) it
-    called_why (LogFull link) it = wanted (LogFull link) (record { facts = λ f. refl; loads = λ s a b h. h }) it
-    called_why (Stalled link) it = wanted (Stalled link) (record { facts = λ f. refl; loads = λ s a b h. h }) it
-    called_why (LinkDown link) it = wanted (LinkDown link) (record { facts = λ f. refl; loads = λ s a b h. h }) it
-    called_why (Unconfirmed number) it = wanted (Unconfirmed number) (record { facts = λ f. refl; loads = λ s a b h. h }) it
-    called_why Inconsistent it = wanted Inconsistent (record { facts = λ f. refl; loads = λ s a b h. h }) it
-    called_why (Behind stored head) it = wanted (Behind stored head) (record { facts = λ f. refl; loads = λ s a b h. h }) it
-    called_why (Replaying link) it = wanted (Replaying link) (record { facts = λ f. refl; loads = λ s a b h. h }) it
-    called_why (Limit what most) it = wanted (Limit what most) (record { facts = λ f. refl; loads = λ s a b h. h }) it
-    called_why (Halted disk) it = wanted (Halted disk) (record { facts = λ f. refl; loads = λ s a b h. h }) it
-    called_why (Gap low need) it = wanted (Gap low need) (record { facts = λ f. refl; loads = λ s a b h. h }) it
-    called_why (Damaged unit block stored computed) it = wanted (Damaged unit block stored computed) (record { facts = λ f. refl; loads = λ s a b h. h }) it
-    called_why Paused it = wanted Paused (record { facts = λ f. refl; loads = λ s a b h. h }) it
-    called_why (Unsettled stored head) it = wanted (Unsettled stored head) (record { facts = λ f. refl; loads = λ s a b h. h }) it
-    called_why (Format version) it = wanted (Format version) (record { facts = λ f. refl; loads = λ s a b h. h }) it
+    pub called_why : (why : No) → SiteCalled {T = T} Done Fails Lacks n note old new (Err (StopsBy why)) → MapsQuiet (StopsBy why) (StaysMapped old new) → Whys Fails Lacks n note old new why
+    called_why (Device disk) it maps = inl (disk, refl, record { next = it.0; keeps = it.1; noted = it.2; rose = it.3; goes = it.4 })
+    called_why IsOff it maps = inr (inl (refl, record { next = it.0; keeps = it.1; noted = it.2; fused = it.3; goes = it.4 }))
+    called_why (Unknown what) it maps = wanted (Unknown what) (record { facts = λ f. refl; loads = λ s a b h. h }) it maps
+    called_why (Exists name) it maps = wanted (Exists name) (record { facts = λ f. refl; loads = λ s a b h. h }) it maps
+    called_why Range it maps = wanted Range (record { facts = λ f. refl; loads = λ s a b h. h }) it maps
+    called_why Size it maps = wanted Size (record { facts = λ f. refl; loads = λ s a b h. h }) it maps
+    called_why Role it maps = wanted Role (record { facts = λ f. refl; loads = λ s a b h. h }) it maps
+    called_why (Missing disk) it maps = wanted (Missing disk) (record { facts = λ f. refl; loads = λ s a b h. h }) it maps
+    called_why NoConfig it maps = wanted NoConfig (record { facts = λ f. refl; loads = λ s a b h. h }) it maps
+    called_why LastPlex it maps = wanted LastPlex (record { facts = λ f. refl; loads = λ s a b h. h }) it maps
+    called_why (Space need have) it maps = wanted (Space need have) (record { facts = λ f. refl; loads = λ s a b h. h }) it maps
+    called_why (LogFull link) it maps = wanted (LogFull link) (record { facts = λ f. refl; loads = λ s a b h. h }) it maps
+    called_why (Stalled link) it maps = wanted (Stalled link) (record { facts = λ f. refl; loads = λ s a b h. h }) it maps
+    called_why (LinkDown link) it maps = wanted (LinkDown link) (record { facts = λ f. refl; loads = λ s a b h. h }) it maps
+    called_why (Unconfirmed number) it maps = wanted (Unconfirmed number) (record { facts = λ f. refl; loads = λ s a b h. h }) it maps
+    called_why Inconsistent it maps = wanted Inconsistent (record { facts = λ f. refl; loads = λ s a b h. h }) it maps
+    called_why (Behind stored head) it maps = wanted (Behind stored head) (record { facts = λ f. refl; loads = λ s a b h. h }) it maps
+    called_why (Replaying link) it maps = wanted (Replaying link) (record { facts = λ f. refl; loads = λ s a b h. h }) it maps
+    called_why (Limit what most) it maps = wanted (Limit what most) (record { facts = λ f. refl; loads = λ s a b h. h }) it maps
+    called_why (Halted disk) it maps = wanted (Halted disk) (record { facts = λ f. refl; loads = λ s a b h. h }) it maps
+    called_why (Gap low need) it maps = wanted (Gap low need) (record { facts = λ f. refl; loads = λ s a b h. h }) it maps
+    called_why (Damaged unit block stored computed) it maps = wanted (Damaged unit block stored computed) (record { facts = λ f. refl; loads = λ s a b h. h }) it maps
+    called_why Paused it maps = wanted Paused (record { facts = λ f. refl; loads = λ s a b h. h }) it maps
+    called_why (Unsettled stored head) it maps = wanted (Unsettled stored head) (record { facts = λ f. refl; loads = λ s a b h. h }) it maps
+    called_why (Format version) it maps = wanted (Format version) (record { facts = λ f. refl; loads = λ s a b h. h }) it maps
 
   -- ---- the yard between the call and the reply
 
@@ -184,30 +190,30 @@ module _ {R : Type 0} {g : Ghosts R} where
         (subst (λ (x : DiskSet R g). FusedAs n x) it.call.at.is_set (stands.fuses s before it.call.at.below it.call.changed.there))
 
     -- it is up still, with the same volumes
-    pub up_leads : (said : Said) (fails : Fails) (k : GroupNode) (next : GroupSet R g) → after ≡ OfGroup next → UpNoted (with_note k n) k next.site → k.cut ≡ note.cut → noted_table k ≡ noted_table note
+    pub up_leads : (said : Said) (fails : Fails) (k : GroupNode) (next : GroupSet R g) → after ≡ OfGroup next → UpNoted (with_note k n) k next.site → StandMaps k next.site → k.cut ≡ note.cut → noted_table k ≡ noted_table note
         → new.facts.items ≡ old.facts.items → SameLoad old new → GroupEnds (IsTold new) d line s fails said (world_up d s k) → RoseAll fails (count_of old) (count_of new) → LeadsOver d line said old new
-    up_leads said fails k next is noted cut table facts load ends rose =
+    up_leads said fails k next is noted maps cut table facts load ends rose =
         leads_by d (world_up d s k) line s fails said old new it.is_line.place ends
-        (up_follows d old new name s before after stands it.call k next it.up is noted cut it.cut (fused_to k next is noted) (fact_of_group n note)
+        (up_follows d old new name s before after stands it.call k next it.up is noted maps cut it.cut (fused_to k next is noted) (fact_of_group n note)
         (seen_as n (with_note k n) note k refl refl refl refl table) (facts ∙ sym (set_same old.facts.items s (fact_of_group n note) it.call.at.fact)) load) rose
 
     -- it is up still, and the tests see other volumes
-    pub turned_leads : (said : Said) (fails : Fails) (k : GroupNode) (next : GroupSet R g) → after ≡ OfGroup next → UpNoted (with_note k n) k next.site → k.cut ≡ note.cut
+    pub turned_leads : (said : Said) (fails : Fails) (k : GroupNode) (next : GroupSet R g) → after ≡ OfGroup next → UpNoted (with_note k n) k next.site → StandMaps k next.site → k.cut ≡ note.cut
         → (f : SiteFacts) → f ≡ fact_of_group (with_note k n) k → new.facts.items ≡ slice_set old.facts.items s f → SameLoad old new → GroupEnds (IsTold new) d line s fails said (world_up d s k)
         → RoseAll fails (count_of old) (count_of new) → LeadsOver d line said old new
-    turned_leads said fails k next is noted cut f fact facts load ends rose =
+    turned_leads said fails k next is noted maps cut f fact facts load ends rose =
         leads_by d (world_up d s k) line s fails said old new it.is_line.place ends
-        (up_follows d old new name s before after stands it.call k next it.up is noted cut it.cut (fused_to k next is noted) f fact facts load) rose
+        (up_follows d old new name s before after stands it.call k next it.up is noted maps cut it.cut (fused_to k next is noted) f fact facts load) rose
 
     -- its fuse ran out in no write
-    pub off_leads : (said : Said) (fails : Fails) (k : GroupNode) (next : GroupSet R g) → after ≡ OfGroup next → DownNoted (crashed (with_note k n) 0) k next.site → k.cut ≡ note.cut → note.cut ≡ None → noted_table k ≡ noted_table note
+    pub off_leads : (said : Said) (fails : Fails) (k : GroupNode) (next : GroupSet R g) → after ≡ OfGroup next → DownNoted (crashed (with_note k n) 0) k next.site → StandMaps k next.site → k.cut ≡ note.cut → note.cut ≡ None → noted_table k ≡ noted_table note
         → (f : SiteFacts) → f ≡ noted_facts IsOff (fact_of_group n note) → new.facts.items ≡ slice_set old.facts.items s f → LetsGo old new s → GroupEnds (IsTold new) d line s fails said (world_off d s k)
         → RoseAll fails (count_of old) (count_of new) → LeadsOver d line said old new
-    off_leads said fails k next is noted cut uncut table f fact facts lets ends rose =
+    off_leads said fails k next is noted maps cut uncut table f fact facts lets ends rose =
         let none : cut_in after ≡ None = it.cut ∙ ap (λ (x : DiskSet R g). cut_in x) it.call.at.is_set ∙ set_uncut d old new name s before after stands it.call it.up in
         let clear : cut_value next.cut ≡ None = ap (λ (x : DiskSet R g). cut_in x) (sym is) ∙ none in
         leads_by d (world_off d s k) line s fails said old new it.is_line.place ends
-        (off_follows d old new name s before after stands it.call k next it.up is noted (none ∙ sym (cut ∙ uncut))
+        (off_follows d old new name s before after stands it.call k next it.up is noted maps (none ∙ sym (cut ∙ uncut))
         (λ x at. let no : Some x ≡ None = sym at ∙ no_value next.cut clear in absurd (cc))
         f (fact ∙ down_seen n note k (none_at d old name s before it.call.at).volumes table) facts lets) rose
 

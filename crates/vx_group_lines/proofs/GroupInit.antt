@@ -15,7 +15,7 @@ use Rattle.vx_copies.specs.Marks.{failed_at}
 use Rattle.vx_disk.specs.Counts.{Rose}
 use Rattle.vx_disk.specs.declared.shelf.Shelf.{Ghosts}
 use Rattle.vx_history.specs.Doubts.{Doubted, happened}
-use Rattle.vx_history.specs.Groups.{GroupNode}
+use Rattle.vx_history.specs.Groups.{GroupNode, MissedNote}
 use Rattle.vx_history.specs.Steps.{group_set}
 use Rattle.vx_history.specs.World.{Node, NoFuse, World}
 use Rattle.vx_history.specs.declared.event.Event.TheVariants.{Group as MakeGroup}
@@ -114,7 +114,8 @@ module _ {R : Type 0} {g : Ghosts R} where
           others = first.others;
           cut = first.cut;
           dark = first.dark;
-          perhaps = first.perhaps;
+          maps = record { none = λ v. ap (λ (w : MissedNote). w.mapped v) first.maps; doubt = λ v. ap (λ (w : MissedNote). w.doubt v) first.maps };
+          inside = first.inside;
         },
         table_is note c is ∙ ap (λ (vs : List VolumeEntry). map plain_fact vs) empty.volumes,
       )
@@ -158,7 +159,7 @@ module _ {R : Type 0} {g : Ghosts R} where
         (arrives_made d d s n (d.world.gathering s)
         (arrives_none d s stands.links (bare_sure d s site.at.bare stands.links) (blank_links d s (stands.links.bare s site.at.bare))) site.at.below site.at.bare))
         (up_notes m note to.set.site to.holds.2).0
-        (up_set m note to.set (record { few = site.at.few; some = site.at.some }) to.holds.2 cut to.holds.1.cut) fails (fused_none m (OfGroup to.set) unfused)
+        (up_set m note to.set (record { few = site.at.few; some = site.at.some }) to.holds.2 to.holds.5 cut to.holds.1.cut) fails (fused_none m (OfGroup to.set) unfused)
         (made_fact d.world s note site.at.bare first.1) facts load)
         (rose_still old new s before after changed.there changed.later changed.disk_sets)
 

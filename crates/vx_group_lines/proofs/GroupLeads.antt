@@ -39,6 +39,8 @@ use Rattle.vx_yard.specs.Stands.{RoseAll}
 use Rattle.vx_yard.specs.Yards.{IsTold, count_of}
 use Rattle.vx_yard.specs.declared.yard.Yard.{Yard}
 use Rattle.vx_group_lines.proofs.Arriving.{Arrives}
+use Rattle.vx_grouped.specs.SiteMaps.{StandMaps}
+use Rattle.vx_grouped.specs.declared.group_site.GroupSite.{GroupSite}
 use Rattle.vx_group_lines.proofs.GroupAt.{away_notes, away_stands, down_notes, down_stands, note_is, up_notes, up_stands}
 
 -- ---- the node of a site over a group
@@ -94,9 +96,13 @@ module _ {R : Type 0} {g : Ghosts R} where
   pub sized_of : (beside : KeptBeside) (n : Node) (set : GroupSet R g) → IsGroupSet beside n set → Sized n
   sized_of beside n set it = record { few = it.few; some = it.some }
 
+  -- the note of the site is this one
+  maps_as : (m : Node) (next : GroupNode) (e : GroupSite R g) → NotesGroup m next → StandMaps next e → (note : GroupNode) → m.group ≡ Some note → StandMaps note e
+  maps_as m next e noted maps note is = subst (λ (k : GroupNode). StandMaps k e) (let same : Some next ≡ Some note = sym noted.is ∙ is in cc) maps
+
   -- a group that is up
-  pub up_set : (m : Node) (next : GroupNode) (set : GroupSet R g) → Sized m → UpNoted m next set.site → cut_value set.cut ≡ None → next.cut ≡ None → Sets m set
-  up_set m next set sized up none cut beside sure unlinked =
+  pub up_set : (m : Node) (next : GroupNode) (set : GroupSet R g) → Sized m → UpNoted m next set.site → StandMaps next set.site → cut_value set.cut ≡ None → next.cut ≡ None → Sets m set
+  up_set m next set sized up maps none cut beside sure unlinked =
       let says = up_notes m next set.site up in
       record {
         sure = λ _. sure;
@@ -107,11 +113,12 @@ module _ {R : Type 0} {g : Ghosts R} where
         bare = up_bare m says.1;
         few = sized.few;
         some = sized.some;
+        maps = λ made. maps_as m next set.site says.0 maps;
       }
 
   -- one that is deported
-  pub away_set : (m : Node) (next : GroupNode) (set : GroupSet R g) → Sized m → AwayNoted m next set.site → cut_value set.cut ≡ None → next.cut ≡ None → Sets m set
-  away_set m next set sized away none cut beside sure unlinked =
+  pub away_set : (m : Node) (next : GroupNode) (set : GroupSet R g) → Sized m → AwayNoted m next set.site → StandMaps next set.site → cut_value set.cut ≡ None → next.cut ≡ None → Sets m set
+  away_set m next set sized away maps none cut beside sure unlinked =
       let says = away_notes m next set.site away in
       record {
         sure = λ _. sure;
@@ -122,12 +129,13 @@ module _ {R : Type 0} {g : Ghosts R} where
         bare = away_bare m says.1;
         few = sized.few;
         some = sized.some;
+        maps = λ made. maps_as m next set.site says.0 maps;
       }
 
   -- and one that is down, where the write that is cut lies in its volume
-  pub down_set : (m : Node) (next : GroupNode) (set : GroupSet R g) → Sized m → DownNoted m next set.site → cut_value set.cut ≡ next.cut
+  pub down_set : (m : Node) (next : GroupNode) (set : GroupSet R g) → Sized m → DownNoted m next set.site → StandMaps next set.site → cut_value set.cut ≡ next.cut
       → ((x : CutWrite) → set.cut ≡ Some x → FitsPlain next x.volume x.block (length x.bytes)) → Sets m set
-  down_set m next set sized down cut fits beside sure unlinked =
+  down_set m next set sized down maps cut fits beside sure unlinked =
       let says = down_notes m next set.site down in
       record {
         sure = λ _. sure;
@@ -143,6 +151,7 @@ module _ {R : Type 0} {g : Ghosts R} where
         bare = down_bare m says.1;
         few = sized.few;
         some = sized.some;
+        maps = λ made. maps_as m next set.site says.0 maps;
       }
 
   -- ---- the world

@@ -41,7 +41,7 @@ use Rattle.vx_events.proofs.Places.{some_same}
 use Rattle.vx_events.specs.GroupConfigs.{ConfigLoses}
 use Rattle.vx_events.specs.GroupEnds.{GroupWants}
 use Rattle.vx_events.specs.GroupLines.{plain_number}
-use Rattle.vx_events.specs.GroupNotes.{note_at}
+use Rattle.vx_events.specs.GroupNotes.{note_at, Reconfigures}
 use Rattle.vx_events.specs.GroupReplies.{IsLastPlex, entry_state, plex_entry_state, plex_state}
 use Rattle.vx_events.specs.GroupViews.{noted_table, plain_fact, volumes_of}
 use Rattle.vx_events.specs.StepsOver.{fact_of_group}
@@ -54,6 +54,10 @@ use Rattle.vx_group_lines.proofs.Changing.{PutsOr, det_table, det_to, notes_conf
 use Rattle.vx_group_lines.proofs.GroupCalls.{sets_then}
 use Rattle.vx_group_lines.proofs.GroupDone.{done_leads, refused_leads}
 use Rattle.vx_group_lines.proofs.GroupEnding.{Calling, Midway, SameTable}
+use Rattle.vx_grouped.specs.SiteMaps.{DetMapped, DetMapsDone, DetMapsFailed, UpMaps}
+use Rattle.vx_events.specs.GroupMaps.{MapsDetached, MapsLost, MapsUndetached}
+use Rattle.vx_group_lines.proofs.MapGoing.{with_goes}
+use Rattle.vx_group_lines.proofs.MapLines.{det_named, logs_low, undet_named}
 use Rattle.vx_group_lines.specs.Noting.{IsNotedRefusal, reply_noted}
 
 -- ---- tests in order
@@ -226,6 +230,10 @@ module _ {R : Type 0} {g : Ghosts R} where
       subst (λ (k : ℕ). OnSites (λ (o e : GroupSite R g). DetCalled n note k q o e r) before after) number
       (subst (λ (k : ℕ). OnSites (λ (o e : GroupSite R g). DetCalled n note v k o e r) before after) plex it)
 
+  pub det_maps_at : {v w p q : ℕ} → v ≡ w → p ≡ q → (r : Result (Unit {0}) Stop) (before after : DiskSet R g) → OnSites (λ o e. DetMapped v p o e r) before after → OnSites (λ o e. DetMapped w q o e r) before after
+  det_maps_at {v} {w} {p} {q} number plex r before after it =
+      subst (λ (k : ℕ). OnSites (λ (o e : GroupSite R g). DetMapped k q o e r) before after) number (subst (λ (k : ℕ). OnSites (λ (o e : GroupSite R g). DetMapped v k o e r) before after) plex it)
+
   -- ---- the line that detaches a plex
 
   module _ (d : Doubted) (old new : Yard R g) (name volume : List ℕ) (plex s : ℕ) (before after : DiskSet R g) (found : VolumeFacts) (stands : StandsFor d old)
@@ -244,40 +252,46 @@ module _ {R : Type 0} {g : Ghosts R} where
     det_table_is : SameTable note (λ o e. DetFails v plex o e)
     det_table_is = record { same = λ many o e t fails next was now names noted noted_now change. det_table t many fails o e note next names v plex was now noted noted_now change }
 
-    pub det_done : OnSites (λ o e. DetCalled n note v plex o e (Ok (tt {0}))) before after → new.facts.items ≡ old.facts.items → SameLoad old new → LeadsOver d (PlexDetach name volume plex) Done old new
-    det_done on facts load =
-        done_leads d (PlexDetach name volume plex) old new name s before after stands it (λ o e. DetDone v plex o e) (λ o e. DetFails v plex o e) (λ o which. refuses_det o v plex ≡ Some which) Done (tt {0}) (λ k h. h)
+    pub det_done : OnSites (λ o e. DetCalled n note v plex o e (Ok (tt {0}))) before after → OnSites (λ o e. UpMaps (DetMapsDone v plex) o e) before after → new.facts.items ≡ old.facts.items → SameLoad old new → LeadsOver d (PlexDetach name volume plex) Done old new
+    det_done on maps facts load =
+        done_leads d (PlexDetach name volume plex) old new name s before after stands it (λ o e. DetDone v plex o e) (λ o e. DetFails v plex o e) (DetMapsDone v plex) (λ o which. refuses_det o v plex ≡ Some which) Done (tt {0}) (λ k h. h)
         (record {
-          ends = λ many fails o e next was now names noted noted_now enough change keeps. (
-            reconfigures s many fails o e note next names (λ c x. PutsOr s fails none_again v plex Stale c x) (λ a b. NoteSettles a b) was now noted noted_now
-                (stated_to s many fails o e note next names none_again v plex Stale was now enough change) keeps,
+          ends = λ many fails o e next was now names noted noted_now enough logs change keeps w by. (
+            with_goes (Reconfigures (λ c x. PutsOr s fails none_again v plex Stale c x) NoteSettles) (MapsDetached s fails v plex) note next was now w noted noted_now
+                (reconfigures s many fails o e note next names (λ c x. PutsOr s fails none_again v plex Stale c x) (λ a b. NoteSettles a b) was now noted noted_now
+                (stated_to s many fails o e note next names none_again v plex Stale was now enough change) keeps)
+                (det_named s many fails o e names was now (λ u k. logs_low was many u k logs) note.maps w v plex by),
             refl,
           );
         })
         (record { same = λ many o e t fails next was now names noted noted_now change. stated_table t many fails o e note next names none_again v plex Stale was now noted noted_now change })
-        on facts load
+        on maps facts load
 
     pub det_refused : (mid : Yard R g) (result : Result Said OutOfMemory) → Midway old mid → (why : No) → OnSites (λ o e. DetCalled n note v plex o e (Err (StopsBy why))) before after
-        → IsNotedRefusal s (fact_of_group (d.world.nodes s) (note_at (d.world.nodes s))) why mid new result → LeadsOverIs d (PlexDetach name volume plex) old new result
-    det_refused mid result half why on refusal =
-        refused_leads d (PlexDetach name volume plex) old new name s before after stands it mid half result (Unit {0}) (λ o e. DetDone v plex o e) (λ o e. DetFails v plex o e) (λ o which. refuses_det o v plex ≡ Some which)
+        → OnSites (λ o e. DetMapped v plex o e (Err (StopsBy why))) before after → IsNotedRefusal s (fact_of_group (d.world.nodes s) (note_at (d.world.nodes s))) why mid new result → LeadsOverIs d (PlexDetach name volume plex) old new result
+    det_refused mid result half why on maps refusal =
+        refused_leads d (PlexDetach name volume plex) old new name s before after stands it mid half result (Unit {0}) (λ o e. DetDone v plex o e) (λ o e. DetFails v plex o e) (DetMapsFailed v) (λ o which. refuses_det o v plex ≡ Some which)
         (record {
-          ends = λ many fails o e next was now names noted noted_now enough change keeps.
-              reconfigures s many fails o e note next names (λ c x. ConfigLoses s fails c x ⊎ PutsOr s fails none_again v plex Stale c x) (λ a b. NoteUnsettles a b) was now noted noted_now
-              (det_to s many fails o e note next names v plex was now enough change) keeps;
+          ends = λ many fails o e next was now names noted noted_now enough logs change keeps w by.
+              with_goes (Reconfigures (λ c x. ConfigLoses s fails c x ⊎ PutsOr s fails none_again v plex Stale c x) NoteUnsettles) (MapsUndetached s fails v) note next was now w noted noted_now
+              (reconfigures s many fails o e note next names (λ c x. ConfigLoses s fails c x ⊎ PutsOr s fails none_again v plex Stale c x) (λ a b. NoteUnsettles a b) was now noted noted_now
+              (det_to s many fails o e note next names v plex was now enough change) keeps)
+              (undet_named s many fails o e names was now (λ u k. logs_low was many u k logs) note.maps w v by);
         })
         (record {
-          ends = λ many fails o e next was now names noted noted_now enough change keeps.
-              reconfigures s many fails o e note next names (λ c x. ConfigLoses s fails c x ⊎ PutsOr s fails none_again v plex Stale c x) (λ a b. NoteUnsettles a b) was now noted noted_now
-              (det_to s many fails o e note next names v plex was now enough change) keeps;
+          ends = λ many fails o e next was now names noted noted_now enough logs change keeps w by.
+              with_goes (Reconfigures (λ c x. ConfigLoses s fails c x ⊎ PutsOr s fails none_again v plex Stale c x) NoteUnsettles) MapsLost note next was now w noted noted_now
+              (reconfigures s many fails o e note next names (λ c x. ConfigLoses s fails c x ⊎ PutsOr s fails none_again v plex Stale c x) (λ a b. NoteUnsettles a b) was now noted noted_now
+              (det_to s many fails o e note next names v plex was now enough change) keeps)
+              (record { none = by.none });
         })
-        det_table_is (λ which is. det_wants n note it.call.at.set.site name volume plex found which is_up at below is) why on refusal
+        det_table_is (λ which is. det_wants n note it.call.at.set.site name volume plex found which is_up at below is) why on maps refusal
 
     -- memory suffices
     det_memory : OnSites (λ o e. DetCalled n note v plex o e (Err MemoryStop)) before after → ⊥
     det_memory on = (sets_then (λ o e. DetCalled n note v plex o e (Err MemoryStop)) before after it.call.at.set it.call.at.is_set on).holds
 
     pub det_stopped : (mid : Yard R g) (result : Result Said OutOfMemory) → Midway old mid → (stop : Stop) → OnSites (λ o e. DetCalled n note v plex o e (Err stop)) before after
-        → reply_noted s (fact_of_group (d.world.nodes s) (note_at (d.world.nodes s))) stop mid new result → LeadsOverIs d (PlexDetach name volume plex) old new result
-    det_stopped mid result half (StopsBy why) on refusal = det_refused mid result half why on refusal
-    det_stopped mid result half MemoryStop on refusal = absurd (det_memory on)
+        → OnSites (λ o e. DetMapped v plex o e (Err stop)) before after → reply_noted s (fact_of_group (d.world.nodes s) (note_at (d.world.nodes s))) stop mid new result → LeadsOverIs d (PlexDetach name volume plex) old new result
+    det_stopped mid result half (StopsBy why) on maps refusal = det_refused mid result half why on maps refusal
+    det_stopped mid result half MemoryStop on maps refusal = absurd (det_memory on)

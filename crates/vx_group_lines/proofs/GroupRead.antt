@@ -17,7 +17,7 @@ use Rattle.vx_grouped.specs.Plain.{ReadsPlain}
 use Rattle.vx_grouped.specs.SiteEnds.{PlainRead, burned_site}
 use Rattle.vx_diskset.specs.Asked.{FusedAs, SameFailing}
 use Rattle.vx_diskset.specs.GroupCalls.{CalledOn, OnSites, cut_in}
-use Rattle.vx_diskset.specs.Stands.{IsToldAt}
+use Rattle.vx_diskset.specs.Stands.{IsRackTold}
 use Rattle.vx_diskset.specs.declared.disk_set.DiskSet.{DiskSet}
 use Rattle.vx_diskset.specs.declared.disk_set.DiskSet.TheVariants.{OfGroup}
 use Rattle.vx_diskset.specs.declared.group_set.GroupSet.{GroupSet}
@@ -41,11 +41,13 @@ use Rattle.vx_yard.specs.Working.{IsFree}
 use Rattle.vx_yard.specs.Yards.{IsTold, in_files}
 use Rattle.vx_yard.specs.declared.yard.Yard.{Yard}
 use Rattle.vx_group_lines.proofs.GroupAt.{lit_up, up_noted}
-use Rattle.vx_group_lines.proofs.GroupCalls.{Called, SetThen, calls, calls_all, calls_are, calls_named, fused_since, seen_as, sets_then, site_up, up_follows}
+use Rattle.vx_group_lines.proofs.GroupCalls.{Called, SetThen, calls, calls_all, calls_are, calls_named, fused_since, seen_as, sets_then, site_up, up_follows, maps_were}
 use Rattle.vx_group_lines.proofs.GroupLeads.{Follows, leads_by}
 use Rattle.vx_group_lines.proofs.GroupMarks.{group_noted_at}
 use Rattle.vx_group_lines.proofs.GroupPlain.{PlainCall}
 use Rattle.vx_group_lines.specs.Plain.{GavePlain, IsReadOf}
+use Rattle.vx_grouped.specs.SiteMaps.{StaysMapped}
+use Rattle.vx_group_lines.proofs.MapGoing.{on_both}
 use Rattle.vx_group_lines.specs.Plain.IsReadOf.{ByRead, ByShow}
 
 -- ---- the two lines
@@ -115,10 +117,10 @@ module _ {R : Type 0} {g : Ghosts R} where
     place_is = read_place d.world line name volume start count is ∙ plain.number
 
     -- it is up as it was
-    follows : (next : GroupSet R g) → after ≡ OfGroup next → UpNoted (burned_site n) note next.site → cut_in after ≡ cut_in before → Follows d behind old new
-    follows next to up cut =
+    follows : (next : GroupSet R g) → after ≡ OfGroup next → UpNoted (burned_site n) note next.site → StaysMapped called.at.set.site next.site → cut_in after ≡ cut_in before → Follows d behind old new
+    follows next to up stays cut =
         let noted : UpNoted (with_note note n) note next.site = subst (λ (k : Node). UpNoted k note next.site) (noted_burned n note (group_noted_at d old name s before called.at)) up in
-        up_follows d old new name s before after stands called note next plain.up to noted refl cut
+        up_follows d old new name s before after stands called note next plain.up to noted (stays note (maps_were d old new name s before after stands called)) refl cut
         (fused_since n (with_note note n) called.at.set next refl
         (subst (λ (e : DiskSet R g). CalledOn (OfGroup called.at.set) e) to (subst (λ (e : DiskSet R g). CalledOn e after) called.at.is_set since)) (site_up (with_note note n) note next.site noted)
         (subst (λ (e : DiskSet R g). FusedAs n e) called.at.is_set (stands.fuses s before called.at.below called.changed.there)))
@@ -131,10 +133,10 @@ module _ {R : Type 0} {g : Ghosts R} where
         let now : slice_get new.disk_sets.items s ≡ Some after =
         ap (λ (es : List (DiskSet R g)). slice_get es s) called.changed.disk_sets ∙ get-set_same old.disk_sets.items s after (slice_get_within old.disk_sets.items s before called.changed.there) in
         lit_up n note called.at.set.site (up_noted n called.at.set.site called.at.stands.stands plain.up) known.1
-        (subst (λ (e : DiskSet R g). IsToldAt e) called.at.is_set (called.changed.later.told (known.0.each s after now)))
+        (subst (λ (e : DiskSet R g). IsRackTold e) called.at.is_set (called.changed.later.told (known.0.each s after now)))
 
-    pub read_done : (bytes : List ℕ) → length bytes ≡ 512 * count → OnSites (λ o e. GavePlain n note place start o e (Ok bytes)) before after → cut_in after ≡ cut_in before → LeadsOver d line (Got bytes) old new
-    read_done bytes size gave cut =
+    pub read_done : (bytes : List ℕ) → length bytes ≡ 512 * count → OnSites (λ o e. GavePlain n note place start o e (Ok bytes)) before after → OnSites (λ o e. StaysMapped o e) before after → cut_in after ≡ cut_in before → LeadsOver d line (Got bytes) old new
+    read_done bytes size gave maps cut =
         let to : SetThen (λ e. GavePlain n note place start called.at.set.site e (Ok bytes)) after = sets_then (λ o e. GavePlain n note place start o e (Ok bytes)) before after called.at.set called.at.is_set gave in
         let many : ℕ = (site_disks called.at.set.site).units in
         let gives : GivesPlain (IsTold new) note place start count (Got bytes) = record {
@@ -146,17 +148,17 @@ module _ {R : Type 0} {g : Ghosts R} where
         leads_by d behind line s (calls s old new many) (Got bytes) old new place_is
         (got_ends (IsTold new) d behind line name volume start count s (calls s old new many) (Got bytes) is (calls_are d old new name s before after stands called many)
         (subst (λ (v : ℕ). GivesPlain (IsTold new) note v start count (Got bytes)) (sym plain.volume_is) gives) (record { world = refl; after = λ i. refl }))
-        (follows to.set to.is to.holds.1 cut) (calls_all d old new name s before after stands called many)
+        (follows to.set to.is to.holds.1 (on_both (λ o e. StaysMapped o e) before after called.at.set to.set called.at.is_set to.is maps) cut) (calls_all d old new name s before after stands called many)
 
-    pub read_stops : (no : No) → OnSites (λ o e. GavePlain n note place start o e (Err no)) before after → cut_in after ≡ cut_in before → LeadsOver d line (Refused no) old new
-    read_stops (Device disk) gave cut =
+    pub read_stops : (no : No) → OnSites (λ o e. GavePlain n note place start o e (Err no)) before after → OnSites (λ o e. StaysMapped o e) before after → cut_in after ≡ cut_in before → LeadsOver d line (Refused no) old new
+    read_stops (Device disk) gave maps cut =
         let to : SetThen (λ e. GavePlain n note place start called.at.set.site e (Err (Device disk))) after = sets_then (λ o e. GavePlain n note place start o e (Err (Device disk))) before after called.at.set called.at.is_set gave in
         let many : ℕ = disk + 1 in
         leads_by d behind line s (calls s old new many) (Refused (Device disk)) old new place_is
         (unread_ends (IsTold new) d behind line name volume start count s disk (calls s old new many) is (calls_are d old new name s before after stands called many)
         (calls_named d old new name s before after stands called called.at.set to.set called.at.is_set to.is many disk (omega arith) to.holds.1) (record { world = refl; after = λ i. refl }))
-        (follows to.set to.is to.holds.0 cut) (calls_all d old new name s before after stands called many)
-    read_stops other gave cut = absurd (sets_then (λ o e. GavePlain n note place start o e (Err other)) before after called.at.set called.at.is_set gave).holds
+        (follows to.set to.is to.holds.0 (on_both (λ o e. StaysMapped o e) before after called.at.set to.set called.at.is_set to.is maps) cut) (calls_all d old new name s before after stands called many)
+    read_stops other gave maps cut = absurd (sets_then (λ o e. GavePlain n note place start o e (Err other)) before after called.at.set called.at.is_set gave).holds
 
   -- ---- the call
 

@@ -18,7 +18,7 @@ use Rattle.vx_config.specs.Table.{greatest}
 use Rattle.vx_config.specs.declared.config.Config.{Config}
 use Rattle.vx_config.specs.declared.entry.VolumeEntry.{VolumeEntry}
 use Rattle.vx_history.specs.Doubts.{Doubted}
-use Rattle.vx_history.specs.Groups.{GroupNode, NoteSettles, NoteUnsettles}
+use Rattle.vx_history.specs.Groups.{GroupNode, NoteSettles, NoteUnsettles, MissedNote}
 use Rattle.vx_history.specs.Steps.{burned}
 use Rattle.vx_history.specs.World.{Fuse as FuseOf, FuseLit, FuseSet, Node, NoFuse}
 use Rattle.vx_kept.specs.Cleans.{at_serial}
@@ -56,7 +56,7 @@ use Rattle.vx_events.specs.Fails.{Fails}
 use Rattle.vx_events.specs.GroupConfigs.{ConfigLoses}
 use Rattle.vx_events.specs.GroupEnds.{GroupCuts, GroupDone, GroupSpoils, GroupWants}
 use Rattle.vx_events.specs.GroupLines.{shape_of}
-use Rattle.vx_events.specs.GroupNotes.{AddsZeros, NotesVolume, note_at}
+use Rattle.vx_events.specs.GroupNotes.{AddsZeros, NotesVolume, note_at, Reconfigures}
 use Rattle.vx_events.specs.GroupViews.{config_of, noted_table, plain_fact}
 use Rattle.vx_events.specs.StepsOver.{fact_of_group}
 use Rattle.vx_events.specs.declared.said.Said.{Said}
@@ -70,12 +70,18 @@ use Rattle.vx_yard.specs.Standing.{LeadsOver, LeadsOverIs, StandsFor, StaysFor}
 use Rattle.vx_yard.specs.declared.yard.Yard.{Yard}
 use Rattle.vx_group_lines.proofs.Changing.{moves_table, moves_to, notes_config, notes_table, reconfigures}
 use Rattle.vx_group_lines.proofs.GroupAt.{up_notes}
-use Rattle.vx_group_lines.proofs.GroupCalls.{Called, SetThen, calls, calls_all, calls_are, calls_names, calls_none, fused_since, note_uncut, set_uncut, sets_then, site_up}
+use Rattle.vx_group_lines.proofs.GroupCalls.{Called, SetThen, calls, calls_all, calls_are, calls_names, calls_none, fused_since, note_uncut, set_uncut, sets_then, site_up, maps_were}
 use Rattle.vx_group_lines.proofs.GroupDone.{refused_leads}
 use Rattle.vx_group_lines.proofs.GroupEnding.{Calling, IsCalling, Midway, since_at, turned_leads}
 use Rattle.vx_group_lines.proofs.GroupLeads.{follows_on, sized_of, up_set}
 use Rattle.vx_group_lines.proofs.GroupMarks.{begins_at}
 use Rattle.vx_group_lines.proofs.Losing.{Names, found_zero, short_zero}
+use Rattle.vx_grouped.specs.SiteMaps.{AddMaps, AddedMapped, MapsLike, StaysMapped, UpMaps}
+use Rattle.vx_grouped.proofs.MapNoteLemmas.{up_with_maps}
+use Rattle.vx_history.specs.Missing.{with_maps}
+use Rattle.vx_events.specs.GroupMaps.{MapsCalled, MapsLost}
+use Rattle.vx_group_lines.proofs.MapGoing.{MapsOn, goes_up, on_both, stand_as, with_goes}
+use Rattle.vx_group_lines.proofs.MapLines.{added_named, like_named, logs_bound, logs_low}
 use Rattle.vx_group_lines.specs.Noting.{reply_noted}
 
 -- ---- tests in order
@@ -210,11 +216,11 @@ module _ {R : Type 0} {g : Ghosts R} where
     was_site = it.call.at.set.site
 
     -- it is made
-    does : (many : ℕ) (fails : Fails) (next : GroupNode) (e : GroupSite R g) (vol : ℕ) (was now : Config) → Names s many fails (site_disks was_site) (site_disks e) → NotesConfig note was → NotesConfig next now → length was.disks ≤ many
-        → VolumeAdded volume want vol (site_disks was_site) (site_disks e) was now → NoteSettles note next
-        → NotesVolume s fails volume (shape_of blocks mirrors layout log map_of policy) note (note_added vol want.blocks next)
-    does many fails next e vol was now names noted noted_now enough added keeps =
-        subst (λ (w : Shape). NotesVolume s fails volume w note (note_added vol want.blocks next)) is_want (record {
+    does : (many : ℕ) (fails : Fails) (next : GroupNode) (e : GroupSite R g) (vol : ℕ) (was now : Config) → Names s many fails (site_disks was_site) (site_disks e) → NotesConfig note was → NotesConfig next now → length was.disks ≤ many → logs_bound was.volumes ≤ many
+        → VolumeAdded volume want vol (site_disks was_site) (site_disks e) was now → NoteSettles note next → (w : MissedNote) → AddMaps (site_disks was_site) (site_disks e) was now note.maps w
+        → NotesVolume s fails volume (shape_of blocks mirrors layout log map_of policy) note (note_added vol want.blocks (with_maps w next))
+    does many fails next e vol was now names noted noted_now enough logs added keeps w by =
+        subst (λ (x : Shape). NotesVolume s fails volume x note (note_added vol want.blocks (with_maps w next))) is_want (record {
           old = at_serial 0 was;
           made = with_volume (at_serial 0 was) added.volume;
           now = at_serial 0 now;
@@ -224,30 +230,37 @@ module _ {R : Type 0} {g : Ghosts R} where
           is = notes_config next now noted_now;
           middle = next;
           settles = keeps;
-          zeros = adds_zeros vol (length was.volumes) want.blocks next added.number;
+          maps = w;
+          missed = added_named s many fails (site_disks was_site) (site_disks e) names was now (λ u k. logs_low was many u k logs) note.maps w by;
+          zeros = adds_zeros vol (length was.volumes) want.blocks (with_maps w next) added.number;
         })
 
     abbrev many_of : Config → ℕ
-    many_of was = (site_disks it.call.at.set.site).units + length was.disks
+    many_of was = (site_disks it.call.at.set.site).units + length was.disks + logs_bound was.volumes
 
-    pub volume_done : (vol : ℕ) → OnSites (λ o e. SiteAdded n note volume want o e (Ok vol)) before after
+    pub volume_done : (vol : ℕ) → OnSites (λ o e. SiteAdded n note volume want o e (Ok vol)) before after → OnSites (λ o e. AddedMapped o e (Ok vol)) before after
         → ((c : Config) → AtSite (λ e. site_config e ≡ Some c) after → new.facts.items ≡ slice_set old.facts.items s (group_up_facts (map plain_fact c.volumes) (fact_of_group (d.world.nodes s) (note_at (d.world.nodes s)))))
         → SameLoad old new → LeadsOver d (Volume name volume blocks mirrors layout log map_of policy) Done old new
-    volume_done vol on facts load =
+    volume_done vol on maps facts load =
         let it_is : SetThen (λ e. SiteAdded n note volume want was_site e (Ok vol)) after = sets_then (λ o e. SiteAdded n note volume want o e (Ok vol)) before after it.call.at.set it.call.at.is_set on in
         let next : GroupNode = it_is.holds.0 in
-        let k : GroupNode = note_added vol want.blocks next in
         let goes : ConfigGoes (VolumeAdded volume want vol (site_disks was_site) (site_disks it_is.set.site)) note next was_site it_is.set.site = it_is.holds.3 in
+        let first : GroupNode = note_added vol want.blocks next in
+        let go : MapsOn (AddMaps (site_disks was_site) (site_disks it_is.set.site) goes.was goes.now) note next it_is.set.site
+        = goes_up AddMaps (with_note first n) note next first was_site it_is.set.site (VolumeAdded volume want vol (site_disks was_site) (site_disks it_is.set.site)) (maps_were d old new name s before after stands it.call) goes it_is.holds.2
+        (on_both (λ o e. UpMaps AddMaps o e) before after it.call.at.set it_is.set it.call.at.is_set it_is.is maps) in
+        let k : GroupNode = note_added vol want.blocks (with_maps go.maps next) in
+        let up : UpNoted (with_note k n) k it_is.set.site = up_with_maps go.maps (with_note first n) first it_is.set.site it_is.holds.2 in
         let many : ℕ = many_of goes.was in
         let names : Names s many (calls s old new many) (site_disks was_site) (site_disks it_is.set.site)
         = calls_names d old new name s before after stands it.call it.call.at.set it_is.set it.call.at.is_set it_is.is many (omega arith) in
         let noted_k : NotesConfig k goes.now = record { is = goes.noted_now.is; spells = goes.noted_now.spells } in
         let f : SiteFacts = group_up_facts (map plain_fact goes.now.volumes) (fact_of_group (d.world.nodes s) (note_at (d.world.nodes s))) in
-        turned_leads d (Volume name volume blocks mirrors layout log map_of policy) old new name s before after stands it Done (calls s old new many) k it_is.set it_is.is it_is.holds.2 it_is.holds.1.same.cut f
+        turned_leads d (Volume name volume blocks mirrors layout log map_of policy) old new name s before after stands it Done (calls s old new many) k it_is.set it_is.is up (stand_as (with_maps go.maps next) k it_is.set.site refl refl refl go.stands) it_is.holds.1.same.cut f
         (seen_up k goes.now noted_k)
-        (facts goes.now (subst (λ (x : DiskSet R g). AtSite (λ e. site_config e ≡ Some goes.now) x) (sym it_is.is) (config_now goes.now (with_note k n) k it_is.set.site it_is.holds.2 goes.has))) load
+        (facts goes.now (subst (λ (x : DiskSet R g). AtSite (λ e. site_config e ≡ Some goes.now) x) (sym it_is.is) (config_now goes.now (with_note k n) k it_is.set.site up goes.has))) load
         (GroupDone k (calls_are d old new name s before after stands it.call many)
-        (does many (calls s old new many) next it_is.set.site vol goes.was goes.now names goes.noted goes.noted_now (omega arith) goes.change it_is.holds.1, refl) (it.is_line.done k))
+        (does many (calls s old new many) next it_is.set.site vol goes.was goes.now names goes.noted goes.noted_now (omega arith) (omega arith) goes.change it_is.holds.1 go.maps go.by, refl) (it.is_line.done k))
         (calls_all d old new name s before after stands it.call many)
       where
         seen_up : (k : GroupNode) (c : Config) → NotesConfig k c → group_up_facts (map plain_fact c.volumes) (fact_of_group (d.world.nodes s) (note_at (d.world.nodes s))) ≡ fact_of_group (with_note k (d.world.nodes s)) k
@@ -256,10 +269,12 @@ module _ {R : Type 0} {g : Ghosts R} where
             ∙ ap (λ t. let f : SiteFacts = record (fact_of_group (d.world.nodes s) k) { state = t } in f) (sym it.up)
 
     -- memory ran out, and nothing was
-    pub volume_stays : OnSites (λ o e. SiteAdded n note volume want o e (Err MemoryStop)) before after → new.facts.items ≡ old.facts.items → SameLoad old new → StaysFor d old new
-    volume_stays on facts load =
+    pub volume_stays : OnSites (λ o e. SiteAdded n note volume want o e (Err MemoryStop)) before after → OnSites (λ o e. AddedMapped o e (Err MemoryStop)) before after → new.facts.items ≡ old.facts.items → SameLoad old new → StaysFor d old new
+    volume_stays on maps facts load =
         let it_is : SetThen (λ e. UpNoted n note e) after = sets_then (λ o e. SiteAdded n note volume want o e (Err MemoryStop)) before after it.call.at.set it.call.at.is_set on in
         let up : UpNoted n note it_is.set.site = it_is.holds in
+        let stays : UpMaps MapsLike was_site it_is.set.site × StaysMapped was_site it_is.set.site
+        = on_both (λ o e. AddedMapped o e (Err MemoryStop)) before after it.call.at.set it_is.set it.call.at.is_set it_is.is maps in
         let uncut : cut_value it_is.set.cut ≡ None
         = ap (λ (x : DiskSet R g). cut_in x) (sym it_is.is) ∙ it.cut ∙ ap (λ (x : DiskSet R g). cut_in x) it.call.at.is_set ∙ set_uncut d old new name s before after stands it.call it.up in
         let failing : FailsAs n (OfGroup it_is.set)
@@ -269,7 +284,7 @@ module _ {R : Type 0} {g : Ghosts R} where
         (subst (λ (x : DiskSet R g). FusedAs n x) it.call.at.is_set (stands.fuses s before it.call.at.below it.call.changed.there)) in
         let follows = follows_on d d s n note (fact_of_group n note) old new before it_is.set stands it.call.at.below (subst (λ (x : DiskSet R g). Changed old new s before x) it_is.is it.call.changed)
         (begins_at d old name s before stands it.call.at) (up_notes n note it_is.set.site up).0
-        (up_set n note it_is.set (sized_of (beside_of d s) n it.call.at.set it.call.at.stands) up uncut (note_uncut d old new name s before after stands it.call it.up)) failing
+        (up_set n note it_is.set (sized_of (beside_of d s) n it.call.at.set it.call.at.stands) up (stays.1 note (maps_were d old new name s before after stands it.call)) uncut (note_uncut d old new name s before after stands it.call it.up)) failing
         (record { told = λ x at. unburned n.fuse x.fuse (left.told x at) }) refl (facts ∙ sym (set_same old.facts.items s (fact_of_group n note) it.call.at.fact)) load in
         record { stands = follows.stands; carries = follows.carries; rose = calls_none d old new name s before after stands it.call }
 
@@ -295,20 +310,24 @@ module _ {R : Type 0} {g : Ghosts R} where
       volume_wants (Marked rack) up why lacks = absurd up
       volume_wants SiteGone up why lacks = absurd up
 
-      pub volume_stopped : (stop : Stop) → OnSites (λ o e. SiteAdded n note volume want o e (Err stop)) before after
+      pub volume_stopped : (stop : Stop) → OnSites (λ o e. SiteAdded n note volume want o e (Err stop)) before after → OnSites (λ o e. AddedMapped o e (Err stop)) before after
           → reply_noted s (fact_of_group (d.world.nodes s) (note_at (d.world.nodes s))) stop mid new result → LeadsOverIs d (Volume name volume blocks mirrors layout log map_of policy) old new result
-      volume_stopped (StopsBy why) on refusal =
-          refused_leads d (Volume name volume blocks mirrors layout log map_of policy) old new name s before after stands it mid half result ℕ (λ o e c x. ⊥) (λ o e. LosesSome o e) (λ o which. LacksVolume o volume want which)
+      volume_stopped (StopsBy why) on maps refusal =
+          refused_leads d (Volume name volume blocks mirrors layout log map_of policy) old new name s before after stands it mid half result ℕ (λ o e c x. ⊥) (λ o e. LosesSome o e) MapsLike (λ o which. LacksVolume o volume want which)
           (record {
-            ends = λ many fails o e next was now names noted noted_now enough change keeps.
-                reconfigures s many fails o e note next names (λ c x. ConfigLoses s fails c x) (λ a b. NoteUnsettles a b) was now noted noted_now (moves_to s many fails o e note next names none_again was now enough change) keeps;
+            ends = λ many fails o e next was now names noted noted_now enough logs change keeps w by.
+                with_goes (Reconfigures (λ c x. ConfigLoses s fails c x) NoteUnsettles) (MapsCalled s fails) note next was now w noted noted_now
+                (reconfigures s many fails o e note next names (λ c x. ConfigLoses s fails c x) (λ a b. NoteUnsettles a b) was now noted noted_now (moves_to s many fails o e note next names none_again was now enough change) keeps)
+                (like_named s many fails o e names was now (λ u k. logs_low was many u k logs) note.maps w by);
           })
           (record {
-            ends = λ many fails o e next was now names noted noted_now enough change keeps.
-                reconfigures s many fails o e note next names (λ c x. ConfigLoses s fails c x) (λ a b. NoteUnsettles a b) was now noted noted_now (moves_to s many fails o e note next names none_again was now enough change) keeps;
+            ends = λ many fails o e next was now names noted noted_now enough logs change keeps w by.
+                with_goes (Reconfigures (λ c x. ConfigLoses s fails c x) NoteUnsettles) MapsLost note next was now w noted noted_now
+                (reconfigures s many fails o e note next names (λ c x. ConfigLoses s fails c x) (λ a b. NoteUnsettles a b) was now noted noted_now (moves_to s many fails o e note next names none_again was now enough change) keeps)
+                (record { none = by.none });
           })
           (record { same = λ many o e t fails next was now names noted noted_now change. moves_table t many fails o e note next names none_again was now noted noted_now change })
-          (λ which lacks. volume_wants it.call.at.set.site is_up which lacks) why on refusal
-      volume_stopped MemoryStop on refusal =
+          (λ which lacks. volume_wants it.call.at.set.site is_up which lacks) why on maps refusal
+      volume_stopped MemoryStop on maps refusal =
           subst (λ (x : Result Said OutOfMemory). LeadsOverIs d (Volume name volume blocks mirrors layout log map_of policy) old new x) (sym refusal.1)
-          (volume_stays on (ap (λ (y : Yard R g). y.facts.items) refusal.0 ∙ half.facts) (subst (λ (y : Yard R g). SameLoad old y) (sym refusal.0) half.load))
+          (volume_stays on maps (ap (λ (y : Yard R g). y.facts.items) refusal.0 ∙ half.facts) (subst (λ (y : Yard R g). SameLoad old y) (sym refusal.0) half.load))

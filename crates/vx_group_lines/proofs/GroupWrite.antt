@@ -9,14 +9,14 @@ use Rattle.vx_disk.specs.Shelf.{Meaning}
 use Rattle.vx_disk.specs.declared.shelf.Shelf.{Ghosts}
 use Rattle.vx_history.specs.Doubts.{Doubted, happened}
 use Rattle.vx_history.specs.Groups.{GroupNode, NoteSettles, NoteUnsettles, note_cut, note_doubt, note_write}
-use Rattle.vx_history.specs.Steps.{worked_on}
+use Rattle.vx_history.specs.Steps.{worked_on, crashed}
 use Rattle.vx_history.specs.Stops.{IsFused}
 use Rattle.vx_history.specs.World.{Node, World}
 use Rattle.vx_history.specs.declared.event.Event.TheVariants.{Crash as CrashAt}
 use Rattle.vx_script.specs.declared.line.ScriptLine.{ScriptLine}
 use Rattle.vx_grouped.specs.ConfigMoves.{LosesSome, none_again}
 use Rattle.vx_grouped.specs.Ends.{plain_write}
-use Rattle.vx_grouped.specs.GroupSites.{FitsPlain, UpNoted, site_disks, with_note}
+use Rattle.vx_grouped.specs.GroupSites.{FitsPlain, UpNoted, site_disks, with_note, DownNoted}
 use Rattle.vx_grouped.specs.SiteEnds.{ConfigGoes, PlainWrote}
 use Rattle.vx_diskset.specs.Asked.{FuseGoesOn, FusedAs, SameFailing}
 use Rattle.vx_diskset.specs.GroupCalls.{CalledOn, OnSites, cut_in}
@@ -51,9 +51,15 @@ use Rattle.vx_yard.specs.Writes.IsWriteLine.{OfPut, OfWrite}
 use Rattle.vx_yard.specs.Yards.{IsTold, in_files}
 use Rattle.vx_yard.specs.declared.yard.Yard.{Yard}
 use Rattle.vx_group_lines.proofs.Changing.{moves_table, moves_to, reconfigures}
-use Rattle.vx_group_lines.proofs.GroupCalls.{Called, SetThen, calls, calls_all, calls_are, calls_named, calls_names, down_seen, fused_since, off_follows, seen_as, sets_then, site_up, up_follows}
+use Rattle.vx_group_lines.proofs.GroupCalls.{Called, SetThen, calls, calls_all, calls_are, calls_named, calls_names, down_seen, fused_since, off_follows, seen_as, sets_then, site_up, up_follows, maps_were}
 use Rattle.vx_group_lines.proofs.GroupLeads.{leads_by}
 use Rattle.vx_group_lines.proofs.GroupPlain.{PlainCall, plain_fits}
+use Rattle.vx_grouped.specs.SiteMaps.{DoubtMaps, StandMaps, UpMaps, WriteMaps, WroteMapped}
+use Rattle.vx_grouped.proofs.MapNoteLemmas.{down_with_maps, up_with_maps}
+use Rattle.vx_history.specs.Missing.{no_maps, with_maps}
+use Rattle.vx_events.specs.GroupMaps.{MapsLost, MapsOfDoubt, MapsOfWrite}
+use Rattle.vx_group_lines.proofs.MapGoing.{Goes, MapsOn, goes_up, off_stands, on_both, stand_as, with_goes}
+use Rattle.vx_group_lines.proofs.MapLines.{doubt_named, logs_bound, logs_low, write_named}
 use Rattle.vx_group_lines.proofs.Losing.{Names}
 
 -- ---- the two lines
@@ -186,37 +192,69 @@ module _ {R : Type 0} {g : Ghosts R} where
         (subst (λ (e : DiskSet R g). CalledOn (OfGroup called.at.set) e) to (subst (λ (e : DiskSet R g). CalledOn e after) called.at.is_set since)) (site_up (with_note k n) k next.site noted)
         (subst (λ (e : DiskSet R g). FusedAs n e) called.at.is_set (stands.fuses s before called.at.below called.changed.there))
 
+    -- what is noted of maps behind it
+    named : (next : GroupSet R g) → after ≡ OfGroup next → (many : ℕ) → disks.units ≤ many → Names s many (fails many) (site_disks called.at.set.site) (site_disks next.site)
+    named next to many units = calls_names d old new name s before after stands called called.at.set next called.at.is_set to many units
+
+    had : StandMaps note called.at.set.site
+    had = maps_were d old new name s before after stands called
+
+    went : (By : Goes) (next : GroupSet R g) → after ≡ OfGroup next → OnSites (λ o e. UpMaps By o e) before after → UpMaps By called.at.set.site next.site
+    went By next to maps = on_both (λ o e. UpMaps By o e) before after called.at.set next called.at.is_set to maps
+
     facts_still : new.facts ≡ old.facts → new.facts.items ≡ slice_set old.facts.items s (fact_of_group n note)
     facts_still facts = ap (λ fs. fs.items) facts ∙ sym (set_same old.facts.items s (fact_of_group n note) called.at.fact)
 
-    pub write_done : (done : Unit {0}) → OnSites (λ o e. PlainWrote n note (plain_write place start bytes) o e (Ok done)) before after → cut_in after ≡ cut_behind (Ok done) (plain_write place start bytes) (cut_in before) → new.facts ≡ old.facts → SameLoad old new
+    pub write_done : (done : Unit {0}) → OnSites (λ o e. PlainWrote n note (plain_write place start bytes) o e (Ok done)) before after → OnSites (λ o e. WroteMapped (plain_write place start bytes) o e (Ok done)) before after → cut_in after ≡ cut_behind (Ok done) (plain_write place start bytes) (cut_in before) → new.facts ≡ old.facts → SameLoad old new
         → LeadsOver d line Done old new
-    write_done done wrote cut facts load =
+    write_done done wrote maps cut facts load =
         let to : SetThen (λ e. PlainWrote n note x called.at.set.site e (Ok done)) after = sets_then (λ o e. PlainWrote n note x o e (Ok done)) before after called.at.set called.at.is_set wrote in
         let middle : GroupNode = to.holds.0 in
         let settles : NoteSettles note middle = to.holds.1 in
-        let k : GroupNode = note_write x middle in
-        let many : ℕ = disks.units + length to.holds.3.was.disks in
+        let goes : ConfigGoes (LosesSome (site_disks called.at.set.site) (site_disks to.set.site)) note middle called.at.set.site to.set.site = to.holds.3 in
+        let first : GroupNode = note_write x middle in
+        let go : MapsOn (WriteMaps x (site_disks called.at.set.site) (site_disks to.set.site) goes.was goes.now) note middle to.set.site
+        = goes_up (WriteMaps x) (with_note first n) note middle first called.at.set.site to.set.site (LosesSome (site_disks called.at.set.site) (site_disks to.set.site)) had goes to.holds.2 (went (WriteMaps x) to.set to.is maps) in
+        let k : GroupNode = note_write x (with_maps go.maps middle) in
+        let up : UpNoted (with_note k n) k to.set.site = up_with_maps go.maps (with_note first n) first to.set.site to.holds.2 in
+        let many : ℕ = disks.units + length goes.was.disks + logs_bound goes.was.volumes in
         leads_by d (record d { world = worked_on (noting d.world s k) s }) line s (fails many) Done old new place_is
         (done_ends (IsTold new) d (record d { world = worked_on (noting d.world s k) s }) line name volume start bytes s place (fails many) k is plain.volume_is (calls_are d old new name s before after stands called many)
-        (record { middle = middle; moves = moves to.set to.is middle NoteSettles to.holds.3 settles many (omega arith) (omega arith); is = refl }) (record { world = refl; after = λ i. refl }))
-        (up_follows d old new name s before after stands called k to.set plain.up to.is to.holds.2 settles.same.cut cut (fuse_on k to.set to.is to.holds.2) (fact_of_group n note)
+        (record {
+          middle = with_maps go.maps middle;
+          moves = with_goes (Reconfigures (ConfigLoses s (fails many)) NoteSettles) (MapsOfWrite s (fails many) x) note middle goes.was goes.now go.maps goes.noted goes.noted_now (moves to.set to.is middle NoteSettles goes settles many (omega arith) (omega arith))
+              (write_named s many (fails many) (site_disks called.at.set.site) (site_disks to.set.site) (named to.set to.is many (omega arith)) goes.was goes.now (λ u j. logs_low goes.was many u j (omega arith)) note.maps go.maps x go.by);
+          is = refl;
+        })
+        (record { world = refl; after = λ i. refl }))
+        (up_follows d old new name s before after stands called k to.set plain.up to.is up (stand_as (with_maps go.maps middle) k to.set.site refl refl refl go.stands) settles.same.cut cut (fuse_on k to.set to.is up) (fact_of_group n note)
         (seen_as n (with_note k n) note k refl refl refl refl (table to.set to.is middle to.holds.3)) (facts_still facts) load)
         (calls_all d old new name s before after stands called many)
 
-    write_fails : (disk : ℕ) → OnSites (λ o e. PlainWrote n note (plain_write place start bytes) o e (Err (Device disk))) before after → cut_in after ≡ cut_in before
+    write_fails : (disk : ℕ) → OnSites (λ o e. PlainWrote n note (plain_write place start bytes) o e (Err (Device disk))) before after → OnSites (λ o e. WroteMapped (plain_write place start bytes) o e (Err (Device disk))) before after → cut_in after ≡ cut_in before
         → new.facts.items ≡ slice_set old.facts.items s (fact_of_group n note) → SameLoad old new → LeadsOver d line (Refused (Device disk)) old new
-    write_fails disk wrote cut facts load =
+    write_fails disk wrote maps cut facts load =
         let to : SetThen (λ e. PlainWrote n note x called.at.set.site e (Err (Device disk))) after = sets_then (λ o e. PlainWrote n note x o e (Err (Device disk))) before after called.at.set called.at.is_set wrote in
         let middle : GroupNode = to.holds.0 in
         let unsettles : NoteUnsettles note middle = to.holds.1 in
-        let k : GroupNode = note_doubt x middle in
-        let many : ℕ = disks.units + length to.holds.4.was.disks + disk + 1 in
+        let goes : ConfigGoes (LosesSome (site_disks called.at.set.site) (site_disks to.set.site)) note middle called.at.set.site to.set.site = to.holds.4 in
+        let first : GroupNode = note_doubt x middle in
+        let go : MapsOn (DoubtMaps x (site_disks called.at.set.site) (site_disks to.set.site) goes.was goes.now) note middle to.set.site
+        = goes_up (DoubtMaps x) (with_note first n) note middle first called.at.set.site to.set.site (LosesSome (site_disks called.at.set.site) (site_disks to.set.site)) had goes to.holds.2 (went (DoubtMaps x) to.set to.is maps) in
+        let k : GroupNode = note_doubt x (with_maps go.maps middle) in
+        let up : UpNoted (with_note k n) k to.set.site = up_with_maps go.maps (with_note first n) first to.set.site to.holds.2 in
+        let many : ℕ = disks.units + length goes.was.disks + logs_bound goes.was.volumes + disk + 1 in
         leads_by d (record d { world = worked_on (noting d.world s k) s }) line s (fails many) (Refused (Device disk)) old new place_is
         (fails_ends (IsTold new) d (record d { world = worked_on (noting d.world s k) s }) line name volume start bytes s place (fails many) k is plain.volume_is (calls_are d old new name s before after stands called many)
         disk (calls_named d old new name s before after stands called called.at.set to.set called.at.is_set to.is many disk (omega arith) to.holds.3)
-        (record { middle = middle; moves = moves to.set to.is middle NoteUnsettles to.holds.4 unsettles many (omega arith) (omega arith); is = refl }) (record { world = refl; after = λ i. refl }))
-        (up_follows d old new name s before after stands called k to.set plain.up to.is to.holds.2 unsettles.same.cut cut (fuse_on k to.set to.is to.holds.2) (fact_of_group n note)
+        (record {
+          middle = with_maps go.maps middle;
+          moves = with_goes (Reconfigures (ConfigLoses s (fails many)) NoteUnsettles) (MapsOfDoubt s (fails many) x) note middle goes.was goes.now go.maps goes.noted goes.noted_now (moves to.set to.is middle NoteUnsettles goes unsettles many (omega arith) (omega arith))
+              (doubt_named s many (fails many) (site_disks called.at.set.site) (site_disks to.set.site) (named to.set to.is many (omega arith)) goes.was goes.now (λ u j. logs_low goes.was many u j (omega arith)) note.maps go.maps x go.by);
+          is = refl;
+        })
+        (record { world = refl; after = λ i. refl }))
+        (up_follows d old new name s before after stands called k to.set plain.up to.is up (stand_as (with_maps go.maps middle) k to.set.site refl refl refl go.stands) unsettles.same.cut cut (fuse_on k to.set to.is up) (fact_of_group n note)
         (seen_as n (with_note k n) note k refl refl refl refl (table to.set to.is middle to.holds.4)) facts load)
         (calls_all d old new name s before after stands called many)
 
@@ -226,21 +264,31 @@ module _ {R : Type 0} {g : Ghosts R} where
         let same : plain_write w.volume w.block w.bytes ≡ plain_write place start bytes = let e : Some (plain_write w.volume w.block w.bytes) ≡ Some (plain_write place start bytes) = sym (ap (λ (p : Option CutWrite). cut_value p) there) ∙ is in cc in
         subst (λ (z : Write). FitsPlain k z.volume z.start (length z.bytes)) (sym same) fits
 
-    write_cut : OnSites (λ o e. PlainWrote n note (plain_write place start bytes) o e (Err IsOff)) before after → cut_in after ≡ Some (plain_write place start bytes)
+    write_cut : OnSites (λ o e. PlainWrote n note (plain_write place start bytes) o e (Err IsOff)) before after → OnSites (λ o e. WroteMapped (plain_write place start bytes) o e (Err IsOff)) before after → cut_in after ≡ Some (plain_write place start bytes)
         → new.facts.items ≡ slice_set old.facts.items s (down_fact (fact_of_group n note)) → LetsGo old new s → LeadsOver d line (Refused IsOff) old new
-    write_cut wrote cut facts lets =
+    write_cut wrote maps cut facts lets =
         let to : SetThen (λ e. PlainWrote n note x called.at.set.site e (Err IsOff)) after = sets_then (λ o e. PlainWrote n note x o e (Err IsOff)) before after called.at.set called.at.is_set wrote in
         let middle : GroupNode = to.holds.0 in
         let unsettles : NoteUnsettles note middle = to.holds.1 in
-        let k : GroupNode = note_cut x middle in
-        let many : ℕ = disks.units + length to.holds.4.was.disks in
+        let goes : ConfigGoes (LosesSome (site_disks called.at.set.site) (site_disks to.set.site)) note middle called.at.set.site to.set.site = to.holds.4 in
+        let first : GroupNode = note_cut x middle in
+        let k : GroupNode = note_cut x (with_maps no_maps middle) in
+        let down : DownNoted (crashed (with_note k n) 0) k to.set.site = down_with_maps no_maps (crashed (with_note first n) 0) first to.set.site to.holds.2 in
+        let lost : StandMaps (with_maps no_maps middle) to.set.site
+        = off_stands (crashed (with_note first n) 0) first middle goes.now to.set.site goes.noted_now to.holds.2 (went (DoubtMaps x) to.set to.is maps).1 in
+        let many : ℕ = disks.units + length goes.was.disks in
         let h : Doubted = happened d (CrashAt s 0) false in
         let e : Doubted = record h { world = worked_on (noting h.world s k) s } in
         let fits : FitsPlain note place start (length bytes) = plain_fits d old name volume start (blocks_in bytes) s place before (length bytes) plain (block_count line name volume start bytes is) in
         leads_by d e line s (fails many) (Refused IsOff) old new place_is
         (cut_ends (IsTold new) d e line name volume start bytes s place (fails many) k is plain.volume_is (calls_are d old new name s before after stands called many) to.holds.3
-        (record { middle = middle; moves = moves to.set to.is middle NoteUnsettles to.holds.4 unsettles many (omega arith) (omega arith); is = refl }) (record { world = refl; after = λ i. refl }))
-        (off_follows d old new name s before after stands called k to.set plain.up to.is to.holds.2 cut
+        (record {
+          middle = with_maps no_maps middle;
+          moves = with_goes (Reconfigures (ConfigLoses s (fails many)) NoteUnsettles) MapsLost note middle goes.was goes.now no_maps goes.noted goes.noted_now (moves to.set to.is middle NoteUnsettles goes unsettles many (omega arith) (omega arith)) (record { none = λ v. refl });
+          is = refl;
+        })
+        (record { world = refl; after = λ i. refl }))
+        (off_follows d old new name s before after stands called k to.set plain.up to.is down (stand_as (with_maps no_maps middle) k to.set.site refl refl refl lost) cut
         (cut_fits k to.set.cut (record { some = fits.some; whole = fits.whole; within = omega (arith, fits.within, ap (λ c. c.size place) unsettles.same.bytes) })
         (ap (λ (z : DiskSet R g). cut_in z) (sym to.is) ∙ cut))
         (down_fact (fact_of_group n note))
@@ -248,8 +296,8 @@ module _ {R : Type 0} {g : Ghosts R} where
         (calls_all d old new name s before after stands called many)
 
     -- it is refused
-    pub write_stops : (no : No) → OnSites (λ o e. PlainWrote n note (plain_write place start bytes) o e (Err no)) before after → cut_in after ≡ cut_behind {T = Unit {0}} (Err no) (plain_write place start bytes) (cut_in before)
+    pub write_stops : (no : No) → OnSites (λ o e. PlainWrote n note (plain_write place start bytes) o e (Err no)) before after → OnSites (λ o e. WroteMapped (plain_write place start bytes) o e (Err no)) before after → cut_in after ≡ cut_behind {T = Unit {0}} (Err no) (plain_write place start bytes) (cut_in before)
         → new.facts.items ≡ slice_set old.facts.items s (noted_facts no (fact_of_group n note)) → LetsGoBy no old new s → LeadsOver d line (Refused no) old new
-    write_stops (Device disk) wrote cut facts lets = write_fails disk wrote cut facts (record { flight = lets.flight; assemblies = lets.assemblies; feeders = lets.feeders })
-    write_stops IsOff wrote cut facts lets = write_cut wrote cut facts (record { flight = lets.flight; assemblies = lets.assemblies; feeders = lets.feeders })
-    write_stops other wrote cut facts lets = absurd (sets_then (λ o e. PlainWrote n note x o e (Err other)) before after called.at.set called.at.is_set wrote).holds
+    write_stops (Device disk) wrote maps cut facts lets = write_fails disk wrote maps cut facts (record { flight = lets.flight; assemblies = lets.assemblies; feeders = lets.feeders })
+    write_stops IsOff wrote maps cut facts lets = write_cut wrote maps cut facts (record { flight = lets.flight; assemblies = lets.assemblies; feeders = lets.feeders })
+    write_stops other wrote maps cut facts lets = absurd (sets_then (λ o e. PlainWrote n note x o e (Err other)) before after called.at.set called.at.is_set wrote).holds

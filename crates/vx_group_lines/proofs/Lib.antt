@@ -32,3 +32,7 @@ pub mod Recovering
 pub mod Founding
 pub mod GroupPlex
 pub mod GroupAttach
+pub mod MapLines
+pub mod MapReturns
+pub mod MapGoing
+pub mod MapComing

@@ -20,14 +20,15 @@ use Rattle.vx_order.specs.declared.facts.SiteFacts.{SiteFacts}
 use Rattle.vx_script.specs.declared.line.ScriptLine.TheVariants.{Recover}
 use Rattle.vx_grouped.proofs.ReadyLemmas.{imported_same}
 use Rattle.vx_grouped.specs.GroupSites.{DownNoted, FitsPlain, site_disks}
+use Rattle.vx_grouped.specs.SiteMaps.{CameMapped, StandMaps}
 use Rattle.vx_grouped.specs.SiteReturns.{ImportWhy, SiteRecovers, as_imported, is_dimmed, stops_early}
 use Rattle.vx_grouped.specs.declared.group_site.GroupSite.{GroupSite}
 use Rattle.vx_diskset.specs.Asked.{FailsAs, SameFailing}
 use Rattle.vx_diskset.specs.DiskSets.{Later}
-use Rattle.vx_diskset.specs.GroupCalls.{cut_in}
+use Rattle.vx_diskset.specs.GroupCalls.{AtSite, cut_in}
 use Rattle.vx_diskset.specs.GroupSets.{cut_value, noted_cut}
 use Rattle.vx_diskset.specs.Holds.{beside_of}
-use Rattle.vx_diskset.specs.Recovers.{RaisesGroup, StaysBack}
+use Rattle.vx_diskset.specs.Recovers.{RaisesGroup, RaisesMaps, StaysBack}
 use Rattle.vx_diskset.specs.declared.disk_set.DiskSet.{DiskSet}
 use Rattle.vx_diskset.specs.declared.disk_set.DiskSet.TheVariants.{OfGroup}
 use Rattle.vx_diskset.specs.declared.group_set.CutWrite.{CutWrite}
@@ -51,9 +52,10 @@ use Rattle.vx_group_lines.specs.Noting.{IsNotedRefusal, KeepsRest, reply_noted}
 use Rattle.vx_group_lines.specs.Rises.{ComesDown, RisesFor, RisesIs}
 use Rattle.vx_group_lines.proofs.Arriving.{Arrives, arrives_noted, noted_at}
 use Rattle.vx_group_lines.proofs.GroupAt.{down_noted, down_notes, lit_down, loose_down}
-use Rattle.vx_group_lines.proofs.GroupCalls.{Called, calls, calls_all, calls_are, calls_named, calls_none, set_then}
+use Rattle.vx_group_lines.proofs.GroupCalls.{Called, calls, calls_all, calls_are, calls_named, calls_none, maps_were, set_then}
 use Rattle.vx_group_lines.proofs.GroupLeads.{Follows, Sized, down_set, follows_on, sized_of}
 use Rattle.vx_group_lines.proofs.GroupMarks.{begins_at, group_noted_at}
+use Rattle.vx_group_lines.proofs.MapComing.{stays_down}
 use Rattle.vx_group_lines.proofs.Rising.{fits_as, refused_as, told_of, unfused_down}
 use Rattle.vx_events.specs.Ends.{IsNoDevice}
 use Rattle.vx_group_lines.proofs.Dimming.{dimmed_by, knows_none, notes_refused, early_known, notes_short}
@@ -147,14 +149,14 @@ module _ {R : Type 0} {g : Ghosts R} where
     abbrev left_node : Bool → Node
     left_node late = record (e.world.nodes s) { group = Some (left_note late) }
 
-    stays : (late : Bool) (set : GroupSet R g) → after ≡ OfGroup set → DownNoted (left_node late) (left_note late) set.site → cut_in after ≡ cut_value call.at.set.cut → new.facts.items ≡ old.facts.items → SameLoad old new
+    stays : (late : Bool) (set : GroupSet R g) → after ≡ OfGroup set → DownNoted (left_node late) (left_note late) set.site → StandMaps (left_note late) set.site → cut_in after ≡ cut_value call.at.set.cut → new.facts.items ≡ old.facts.items → SameLoad old new
         → Follows e (noted_at e s (left_note late)) old new
-    stays late set is holds cut facts load =
+    stays late set is holds maps cut facts load =
         let k : GroupNode = left_note late in
         let m : Node = left_node late in
         let same : cut_value set.cut ≡ cut_value call.at.set.cut = ap (λ (x : DiskSet R g). cut_in x) (sym is) ∙ cut in
         follows_on e (noted_at e s k) s m k (fact_of_group n note) old new before set begin.stands begin.below (turned set is) (arrives_noted e e s n k (e.world.gathering s) starts) (down_notes m k set.site holds).0
-        (down_set m k set (record { few = sized.few; some = sized.some }) holds (same ∙ was_cut) (fits_as k call.at.set.cut set.cut same (λ x at. fits_note k note refl x (was_fits x at)))) (still_fails m set is refl)
+        (down_set m k set (record { few = sized.few; some = sized.some }) holds maps (same ∙ was_cut) (fits_as k call.at.set.cut set.cut same (λ x at. fits_note k note refl x (was_fits x at)))) (still_fails m set is refl)
         (fused_none m (OfGroup set) (unfused_down n note site is_down)) refl (facts ∙ sym (set_same old.facts.items s (fact_of_group n note) call.at.fact)) load
 
     -- what a recovery notes that is refused
@@ -180,10 +182,10 @@ module _ {R : Type 0} {g : Ghosts R} where
     -- ---- it is refused
 
     -- an answer that the tests see nothing of
-    answered : (late : Bool) (many : ℕ) (why : No) (set : GroupSet R g) → after ≡ OfGroup set → DownNoted (left_node late) (left_note late) set.site → cut_in after ≡ cut_value call.at.set.cut → new.facts.items ≡ old.facts.items → SameLoad old new
+    answered : (late : Bool) (many : ℕ) (why : No) (set : GroupSet R g) → after ≡ OfGroup set → DownNoted (left_node late) (left_note late) set.site → StandMaps (left_note late) set.site → cut_in after ≡ cut_value call.at.set.cut → new.facts.items ≡ old.facts.items → SameLoad old new
         → ((d : Doubted) (name : List ℕ) → ComesDown d e s → GroupEnds (IsTold new) d (Recover name) s (calls s old new many) (Refused why) (noted_at e s (left_note late))) → RisesFor e s (Refused why) old new
-    answered late many why set is holds cut facts load ends =
-        let follows = stays late set is holds cut facts load in
+    answered late many why set is holds maps cut facts load ends =
+        let follows = stays late set is holds maps cut facts load in
         record {
           next = noted_at e s (left_note late);
           fails = calls s old new many;
@@ -224,48 +226,56 @@ module _ {R : Type 0} {g : Ghosts R} where
     abbrev Left : Stop → GroupSite R g → Type 0
     Left stop x = DownNoted (left_node (not (stops_early stop))) (left_note (not (stops_early stop))) x
 
+    abbrev LeftMaps : Stop → GroupSite R g → Type 0
+    LeftMaps stop x = StandMaps (left_note (not (stops_early stop))) x
+
     -- why
-    by_why : (why : No) (set : GroupSet R g) → after ≡ OfGroup set → Left (StopsBy why) set.site → cut_in after ≡ cut_value call.at.set.cut → ImportWhy (IsTrue (site_disks set.site).tells) (as_imported call.at.set.site) (site_disks set.site) (StopsBy why)
+    by_why : (why : No) (set : GroupSet R g) → after ≡ OfGroup set → Left (StopsBy why) set.site → LeftMaps (StopsBy why) set.site → cut_in after ≡ cut_value call.at.set.cut → ImportWhy (IsTrue (site_disks set.site).tells) (as_imported call.at.set.site) (site_disks set.site) (StopsBy why)
         → (mid : Yard R g) → mid.facts.items ≡ old.facts.items → SameLoad old mid → (result : Result Said OutOfMemory) → IsNotedRefusal s (fact_of_group n note) why mid new result → RisesIs e s old new result
-    by_why (Device disk) set is holds cut rose mid facts load result it =
+    by_why (Device disk) set is holds maps cut rose mid facts load result it =
         subst (λ (r : Result Said OutOfMemory). RisesIs e s old new r) (sym it.said)
-        (answered true (suc disk) (Device disk) set is holds cut (quiet mid facts it.facts) (loaded mid load it.same it.assemblies)
+        (answered true (suc disk) (Device disk) set is holds maps cut (quiet mid facts it.facts) (loaded mid load it.same it.assemblies)
         (λ d name comes. GroupFails disk (left_note true) (calls_are e old new [] s before after begin.stands call (suc disk)) (named_by set is disk rose) (left_notes true d comes) refl (left_last true d comes)))
-    by_why (Lacks disk) set is holds cut rose mid facts load result it =
+    by_why (Lacks disk) set is holds maps cut rose mid facts load result it =
         subst (λ (r : Result Said OutOfMemory). RisesIs e s old new r) (sym it.said)
-        (answered false (suc disk) (Lacks disk) set is holds cut (quiet mid facts it.facts) (loaded mid load it.same it.assemblies)
+        (answered false (suc disk) (Lacks disk) set is holds maps cut (quiet mid facts it.facts) (loaded mid load it.same it.assemblies)
         (λ d name comes. not_found (suc disk) (Lacks disk) d name comes tt (named_by set is disk rose) (λ k. refl)))
-    by_why NoConfig set is holds cut rose mid facts load result it =
+    by_why NoConfig set is holds maps cut rose mid facts load result it =
         subst (λ (r : Result Said OutOfMemory). RisesIs e s old new r) (sym it.said)
-        (answered false 0 NoConfig set is holds cut (quiet mid facts it.facts) (loaded mid load it.same it.assemblies) (λ d name comes. not_found 0 NoConfig d name comes tt tt (λ k. refl)))
-    by_why (Limit what most) set is holds cut rose mid facts load result it =
+        (answered false 0 NoConfig set is holds maps cut (quiet mid facts it.facts) (loaded mid load it.same it.assemblies) (λ d name comes. not_found 0 NoConfig d name comes tt tt (λ k. refl)))
+    by_why (Limit what most) set is holds maps cut rose mid facts load result it =
         subst (λ (r : Result Said OutOfMemory). RisesIs e s old new r) (sym it.said)
         (subst (λ (w : Counted). RisesFor e s (Refused (Limit w most)) old new) (sym rose.0)
-        (answered true 0 (Limit Numbers most) set is holds cut (quiet mid facts it.facts) (loaded mid load it.same it.assemblies)
+        (answered true 0 (Limit Numbers most) set is holds maps cut (quiet mid facts it.facts) (loaded mid load it.same it.assemblies)
         (λ d name comes. GroupNotFound (Limit Numbers most) (left_note true) (calls_are e old new [] s before after begin.stands call 0) tt rose.1 (left_notes true d comes) refl (left_last true d comes))))
-    by_why (Damaged unit block stored computed) set is holds cut never mid facts load result it =
+    by_why (Damaged unit block stored computed) set is holds maps cut never mid facts load result it =
         subst (λ (r : Result Said OutOfMemory). RisesIs e s old new r) (sym it.said)
-        (answered false 0 (Damaged unit block stored computed) set is holds cut (quiet mid facts it.facts) (loaded mid load it.same it.assemblies)
+        (answered false 0 (Damaged unit block stored computed) set is holds maps cut (quiet mid facts it.facts) (loaded mid load it.same it.assemblies)
         (strange 0 (Damaged unit block stored computed) set is holds never tt))
-    by_why (Format version) set is holds cut never mid facts load result it =
+    by_why (Format version) set is holds maps cut never mid facts load result it =
         subst (λ (r : Result Said OutOfMemory). RisesIs e s old new r) (sym it.said)
-        (answered false 0 (Format version) set is holds cut (quiet mid facts it.facts) (loaded mid load it.same it.assemblies) (strange 0 (Format version) set is holds never tt))
-    by_why other set is holds cut rose mid facts load result it = absurd rose
+        (answered false 0 (Format version) set is holds maps cut (quiet mid facts it.facts) (loaded mid load it.same it.assemblies) (strange 0 (Format version) set is holds never tt))
+    by_why other set is holds maps cut rose mid facts load result it = absurd rose
 
-    by_stop : (stop : Stop) (set : GroupSet R g) → after ≡ OfGroup set → Left stop set.site → cut_in after ≡ cut_value call.at.set.cut → ImportWhy (IsTrue (site_disks set.site).tells) (as_imported call.at.set.site) (site_disks set.site) stop
+    by_stop : (stop : Stop) (set : GroupSet R g) → after ≡ OfGroup set → Left stop set.site → LeftMaps stop set.site → cut_in after ≡ cut_value call.at.set.cut → ImportWhy (IsTrue (site_disks set.site).tells) (as_imported call.at.set.site) (site_disks set.site) stop
         → (mid : Yard R g) → mid.facts.items ≡ old.facts.items → SameLoad old mid → (result : Result Said OutOfMemory) → reply_noted s (fact_of_group n note) stop mid new result → RisesIs e s old new result
-    by_stop (StopsBy why) set is holds cut because mid facts load result it = by_why why set is holds cut because mid facts load result it
-    by_stop MemoryStop set is holds cut because mid facts load result it =
+    by_stop (StopsBy why) set is holds maps cut because mid facts load result it = by_why why set is holds maps cut because mid facts load result it
+    by_stop MemoryStop set is holds maps cut because mid facts load result it =
         let same : SameLoad old new = subst (λ (y : Yard R g). SameLoad old y) (sym it.0) load in
-        let follows = stays false set is holds cut (ap (λ (y : Yard R g). y.facts.items) it.0 ∙ facts) same in
+        let follows = stays false set is holds maps cut (ap (λ (y : Yard R g). y.facts.items) it.0 ∙ facts) same in
         subst (λ (r : Result Said OutOfMemory). RisesIs e s old new r) (sym it.1)
         (record { note = left_note false; notes = notes_short dims note loose; stands = follows.stands; carries = follows.carries; rose = calls_none e old new [] s before after begin.stands call })
 
     -- a recovery that was refused in its import
-    pub stays_back : (stop : Stop) → RaisesGroup n note before after (Err stop) → (mid : Yard R g) → mid.facts.items ≡ old.facts.items → SameLoad old mid → (result : Result Said OutOfMemory)
+    pub stays_back : (stop : Stop) → RaisesGroup n note before after (Err stop) → RaisesMaps before after (Err stop) → (mid : Yard R g) → mid.facts.items ≡ old.facts.items → SameLoad old mid → (result : Result Said OutOfMemory)
         → ((f : SiteFacts) → slice_get mid.facts.items s ≡ Some f → reply_noted s f stop mid new result) → RisesIs e s old new result
-    stays_back stop raised mid facts load result replied =
+    stays_back stop raised moved mid facts load result replied =
         let it : StaysBack n note call.at.set.site call.at.set.cut after stop = subst (λ (x : DiskSet R g). RaisesGroup n note x after (Err stop)) call.at.is_set raised in
         let t = set_then (λ (x : GroupSite R g). SiteRecovers n note call.at.set.site x (Err stop)) after it.refused in
-        by_stop stop t.set t.is t.holds.0 it.cut_stays t.holds.1 mid facts load result
+        let late : Bool = not (stops_early stop) in
+        let came : AtSite (λ x. CameMapped call.at.set.site x (Err stop)) after = subst (λ (x : DiskSet R g). RaisesMaps x after (Err stop)) call.at.is_set moved in
+        let maps : LeftMaps stop t.set.site
+        = stays_down n (left_node late) note late dims call.at.set.site t.set.site stop (maps_were e old new [] s before after begin.stands call) is_down t.holds.0 refl
+        (subst (λ (x : DiskSet R g). AtSite (λ y. CameMapped call.at.set.site y (Err stop)) x) t.is came) in
+        by_stop stop t.set t.is t.holds.0 maps it.cut_stays t.holds.1 mid facts load result
         (replied (fact_of_group n note) (ap (λ (fs : List SiteFacts). slice_get fs s) facts ∙ call.at.fact))

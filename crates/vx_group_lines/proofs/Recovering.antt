@@ -1,5 +1,5 @@
 -- What a line that recovers a site over a group leads a yard to.
-use Rattle.std.proofs.Common.{◌≡◌, ◌∙◌, inl, inr, ◌<◌, ℕ, Bool, true, false, List, [], map, ap, sym, subst, refl, arith, ⊎_elim, length}
+use Rattle.std.proofs.Common.{◌≡◌, ◌∙◌, inl, inr, ◌<◌, ℕ, Bool, true, false, List, [], map, ap, sym, subst, refl, arith, ⊎_elim, length, IsTrue}
 use Rattle.std.specs.Prelude.{is_some, Option, Some, None, slice_get, slice_set, Result, Ok, Err, ◌&&◌, ◌||◌, eqb, unwrap_or}
 use Rattle.std.proofs.lemmas.Option.{slice_get_within}
 use Rattle.vx_model.specs.declared.errors.OutOfMemory.{OutOfMemory}
@@ -10,7 +10,8 @@ use Rattle.vx_model.specs.declared.site.SiteState.TheVariants.{Bare as IsBare, U
 use Rattle.vx_disk.specs.declared.shelf.Shelf.{Ghosts}
 use Rattle.vx_config.specs.declared.config.Config.{Config}
 use Rattle.vx_history.specs.Doubts.{Doubted, happened}
-use Rattle.vx_history.specs.Groups.{GroupNode}
+use Rattle.vx_history.specs.Groups.{GroupNode, MissedNote}
+use Rattle.vx_history.specs.Missing.{with_maps}
 use Rattle.vx_history.specs.Steps.{crashed}
 use Rattle.vx_history.specs.World.{Node, World}
 use Rattle.vx_history.specs.declared.event.Event.TheVariants.{Crash as CrashAt}
@@ -18,15 +19,18 @@ use Rattle.vx_order.specs.declared.facts.SiteFacts.{SiteFacts}
 use Rattle.vx_report.specs.declared.view.Kept.{Kept}
 use Rattle.vx_report.specs.declared.view.SiteView.{SiteView}
 use Rattle.vx_script.specs.declared.line.ScriptLine.TheVariants.{Recover}
-use Rattle.vx_grouped.specs.GroupSites.{DownNoted, UpNoted, site_config}
-use Rattle.vx_grouped.specs.SiteReturns.{SiteRecovers, returned_with}
+use Rattle.vx_grouped.proofs.MapNoteLemmas.{up_with_maps}
+use Rattle.vx_grouped.specs.GroupNotes.{note_dimmed}
+use Rattle.vx_grouped.specs.GroupSites.{DownNoted, UpNoted, site_config, site_disks}
+use Rattle.vx_grouped.specs.SiteMaps.{CameMapped, RisenMaps, StandMaps, StaysMapped}
+use Rattle.vx_grouped.specs.SiteReturns.{SiteRecovers, as_imported, is_dimmed, returned_with}
 use Rattle.vx_grouped.specs.declared.group_site.GroupSite.{GroupSite}
 use Rattle.vx_diskset.proofs.KeepsFailing.{failing_then}
 use Rattle.vx_diskset.specs.Asked.{SameFailing}
 use Rattle.vx_diskset.specs.DiskSets.{Later}
-use Rattle.vx_diskset.specs.GroupCalls.{AtSite}
-use Rattle.vx_diskset.specs.Recovers.{LooksAt, RaisesGroup}
-use Rattle.vx_diskset.specs.Stands.{IsToldAt, faults_at}
+use Rattle.vx_diskset.specs.GroupCalls.{AtSite, OnSites}
+use Rattle.vx_diskset.specs.Recovers.{LooksAt, RaisesGroup, RaisesMaps}
+use Rattle.vx_diskset.specs.Stands.{IsRackTold, faults_at}
 use Rattle.vx_diskset.specs.declared.disk_set.DiskSet.{DiskSet}
 use Rattle.vx_diskset.specs.declared.disk_set.DiskSet.TheVariants.{OfGroup}
 use Rattle.vx_diskset.specs.declared.group_set.CutWrite.{CutWrite}
@@ -62,8 +66,10 @@ use Rattle.vx_group_lines.specs.Rises.{ComesDown, RisesIs, StandsSo, StoodUp, ke
 use Rattle.vx_group_lines.specs.Views.{view_with}
 use Rattle.vx_group_lines.proofs.Arriving.{Arrives, arrives_crash, noted_at}
 use Rattle.vx_group_lines.proofs.GroupAt.{GroupAt, down_noted, group_by, up_noted, up_notes, lit_up}
-use Rattle.vx_group_lines.proofs.GroupCalls.{Called, calls, set_then}
+use Rattle.vx_group_lines.proofs.GroupCalls.{Called, maps_were, set_then}
 use Rattle.vx_group_lines.proofs.GroupMarks.{begins_at, noting_same}
+use Rattle.vx_group_lines.proofs.MapComing.{MapsCame, bright_before, comes_up, config_with, recovered_so, returns_with}
+use Rattle.vx_group_lines.proofs.MapGoing.{on_both, up_config}
 use Rattle.vx_group_lines.proofs.Rising.{has_up, refused_as}
 use Rattle.vx_group_lines.proofs.Raising.{Begins, RaisedTo, later_then, stays_back}
 use Rattle.vx_group_lines.proofs.Resuming.{looked}
@@ -179,8 +185,9 @@ module _ {R : Type 0} {g : Ghosts R} where
 
     module _ (e : Doubted) (begin : Begins e s old) where
       pub came_up : (cut : Option CutWrite) (result : Result Said OutOfMemory) → ((n : Node) (note : GroupNode) → AtSite (DownNoted n note) before → RaisesGroup n note before between (Ok cut))
+          → ((n : Node) (note : GroupNode) → AtSite (DownNoted n note) before → RaisesMaps before between (Ok cut))
           → StoodUp s cut mid new result → RisesIs e s old new result
-      came_up cut result raises st =
+      came_up cut result raises moved st =
           let n : Node = e.world.nodes s in
           let note : GroupNode = note_at (e.world.nodes s) in
           let same : between ≡ st.before = same_between cut result st in
@@ -190,30 +197,44 @@ module _ {R : Type 0} {g : Ghosts R} where
           let was : RaisesGroup n note (OfGroup at.set) st.before (Ok cut) =
           subst (λ (x : DiskSet R g). RaisesGroup n note x st.before (Ok cut)) at.is_set (subst (λ (x : DiskSet R g). RaisesGroup n note before x (Ok cut)) same (raises n note down)) in
           let rm = set_then (λ (x : GroupSite R g). SiteRecovers n note at.set.site x (Ok tt)) st.before was.0 in
-          let up = has_up (returned_with rm.holds.0 n) rm.holds.0 rm.set.site rm.holds.2 in
+          let seen : GroupNode = rm.holds.0 in
+          let is_down : DownNoted n note at.set.site = down_noted n at.set.site at.stands.stands begin.down in
+          let had : StandMaps note at.set.site = maps_were e old new [] s before st.after begin.stands call in
+          let raised : AtSite (λ x. CameMapped at.set.site x (Ok tt)) st.before
+          = subst (λ (x : DiskSet R g). RaisesMaps x st.before (Ok cut)) at.is_set (subst (λ (x : DiskSet R g). RaisesMaps before x (Ok cut)) same (moved n note down)) in
+          let came : MapsCame (λ (w : MissedNote). RisenMaps (site_disks at.set.site) (site_disks rm.set.site) w) seen rm.set.site
+          = comes_up n note seen (is_dimmed at.set.site) at.set.site rm.set.site rm.holds.3.now had is_down rm.holds.1.dark (up_config (returned_with seen n) seen rm.holds.3.now rm.set.site rm.holds.2 rm.holds.3.has) rm.holds.3.noted_now
+          (subst (λ (x : DiskSet R g). AtSite (λ y. CameMapped at.set.site y (Ok tt)) x) rm.is raised) in
+          let next : GroupNode = with_maps came.maps seen in
+          let rm_up : UpNoted (returned_with next n) next rm.set.site = up_with_maps came.maps (returned_with seen n) seen rm.set.site rm.holds.2 in
+          let st_up : AtSite (UpNoted (returned_with next n) next) st.before = subst (λ (x : DiskSet R g). AtSite (UpNoted (returned_with next n) next) x) (sym rm.is) rm_up in
+          let up = has_up (returned_with next n) next rm.set.site rm_up in
           let later : Later before st.before = subst (λ (x : DiskSet R g). Later before x) same first.later in
-          looked e s old new before st.after begin call rm.set.site rm.holds.0 rm.holds.1 rm.holds.3 (lit_up (returned_with rm.holds.0 n) rm.holds.0 rm.set.site rm.holds.2)
+          looked e s old new before st.after begin call rm.set.site next (returns_with came.maps (IsTrue (site_disks rm.set.site).tells) (note_dimmed (is_dimmed at.set.site) note) seen rm.holds.1)
+          (config_with came.maps (note_dimmed (is_dimmed at.set.site) note) seen (as_imported at.set.site) rm.set.site rm.holds.3) (lit_up (returned_with next n) next rm.set.site rm_up)
           (λ set is. record {
-            tells = λ yes_. subst (λ (x : DiskSet R g). IsToldAt x) rm.is (st.later.told (subst (λ (x : DiskSet R g). IsToldAt x) (sym is) yes_));
+            tells = λ yes_. subst (λ (x : DiskSet R g). IsRackTold x) rm.is (st.later.told (subst (λ (x : DiskSet R g). IsRackTold x) (sym is) yes_));
             from = λ k. omega (arith, later.counts k, ap (λ (x : DiskSet R g). faults_at x k) at.is_set, ap (λ (x : DiskSet R g). faults_at x k) rm.is);
             counts = λ k. omega (arith, st.later.counts k, ap (λ (x : DiskSet R g). faults_at x k) rm.is, ap (λ (x : DiskSet R g). faults_at x k) is);
           })
-          cut was.2 up.config up.reads mid (record { facts = first.facts; load = first.load; flight = st.flight; feeders = st.feeders }) result st.answer
-          (subst (λ (x : DiskSet R g). LooksAt (returned_with rm.holds.0 n) rm.holds.0 cut x st.after st.answer) rm.is
-          (st.looks (returned_with rm.holds.0 n) rm.holds.0 (subst (λ (x : DiskSet R g). AtSite (UpNoted (returned_with rm.holds.0 n) rm.holds.0) x) (sym rm.is) rm.holds.2)))
+          cut was.2 up.config up.reads mid (record { facts = first.facts; load = first.load; flight = st.flight; feeders = st.feeders }) result
+          (λ set is. on_both StaysMapped st.before st.after rm.set set rm.is is (st.maps (returned_with next n) next st_up) next came.stands)
+          (λ bright tells. recovered_so n note next at.set.site (site_disks rm.set.site) is_down (bright_before (is_dimmed at.set.site) note next rm.holds.1.dark bright) tells (came.by bright tells)) st.answer
+          (subst (λ (x : DiskSet R g). LooksAt (returned_with next n) next cut x st.after st.answer) rm.is (st.looks (returned_with next n) next st_up))
           (st.so (fact_of_group n note) up.config (ap (λ (fs : List SiteFacts). slice_get fs s) first.facts ∙ at.fact)
           (subst (λ (x : DiskSet R g). AtSite (λ y. site_config y ≡ Some up.config) x) (sym rm.is) up.has))
 
       pub came_down : (stop : Stop) (result : Result Said OutOfMemory) → ((n : Node) (note : GroupNode) → AtSite (DownNoted n note) before → RaisesGroup n note before between (Err stop))
+          → ((n : Node) (note : GroupNode) → AtSite (DownNoted n note) before → RaisesMaps before between (Err stop))
           → ((f : SiteFacts) → slice_get mid.facts.items s ≡ Some f → reply_noted s f stop mid new result) → RisesIs e s old new result
-      came_down stop result raises replied =
+      came_down stop result raises moved replied =
           let n : Node = e.world.nodes s in
           let note : GroupNode = note_at (e.world.nodes s) in
           let at : GroupAt e old [] s before = group_by e old [] s before begin.stands begin.below begin.over first.there in
           let down : AtSite (DownNoted n note) before = subst (λ (x : DiskSet R g). AtSite (DownNoted n note) x) (sym at.is_set) (down_noted n at.set.site at.stands.stands begin.down) in
           let it = replied (fact_of_group n note) (ap (λ (fs : List SiteFacts). slice_get fs s) first.facts ∙ at.fact) in
           let call : Called e old new [] s before between = record { at = at; changed = changed_down stop (fact_of_group n note) result it; failing = first.failing } in
-          stays_back e s old new before between begin call stop (raises n note down) mid first.facts first.load result replied
+          stays_back e s old new before between begin call stop (raises n note down) (moved n note down) mid first.facts first.load result replied
 
   -- ---- a site that was up
 
@@ -288,15 +309,16 @@ module _ {R : Type 0} {g : Ghosts R} where
 
   pub stood_by : (s : ℕ) (cut : Option CutWrite) (old mid new : Yard R g) (before after : DiskSet R g) (answer : Result (Option KeptWrite) Stop) (result : Result Said OutOfMemory) → KeepsRest old mid
       → slice_get mid.disk_sets.items s ≡ Some before → new.disk_sets.items ≡ slice_set mid.disk_sets.items s after → ((n : Node) (note : GroupNode) → AtSite (UpNoted n note) before → LooksAt n note cut before after answer)
-      → SameFailing before after → Later before after → new.racks ≡ mid.racks → new.flight ≡ mid.flight → new.feeders ≡ mid.feeders → new.dir ≡ mid.dir
+      → ((n : Node) (note : GroupNode) → AtSite (UpNoted n note) before → OnSites StaysMapped before after) → SameFailing before after → Later before after → new.racks ≡ mid.racks → new.flight ≡ mid.flight → new.feeders ≡ mid.feeders → new.dir ≡ mid.dir
       → ((f : SiteFacts) (c : Config) → slice_get old.facts.items s ≡ Some f → AtSite (λ x. site_config x ≡ Some c) before → StandsSo s f c after answer old new result) → StoodUp s cut old new result
-  stood_by s cut old mid new before after answer result rest there disk_sets looks failing later racks flight feeders dir so = record {
+  stood_by s cut old mid new before after answer result rest there disk_sets looks maps failing later racks flight feeders dir so = record {
     before = before;
     after = after;
     answer = answer;
     there = ap (λ es. slice_get es.items s) (sym rest.disk_sets) ∙ there;
     disk_sets = disk_sets ∙ ap (λ es. slice_set es.items s after) rest.disk_sets;
     looks = looks;
+    maps = maps;
     failing = failing;
     later = later;
     racks = racks ∙ rest.racks;

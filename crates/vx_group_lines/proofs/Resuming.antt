@@ -29,10 +29,11 @@ use Rattle.vx_script.specs.declared.line.ScriptLine.TheVariants.{Recover}
 use Rattle.vx_grouped.proofs.ReadyLemmas.{imported_same}
 use Rattle.vx_grouped.specs.GroupSites.{DownNoted, FitsPlain, UpNoted, site_config, site_disks, with_note, site_below}
 use Rattle.vx_grouped.specs.SiteEnds.{burned_site}
+use Rattle.vx_grouped.specs.SiteMaps.{StandMaps}
 use Rattle.vx_grouped.specs.SiteReturns.{ConfigReturns, NoteReturns, as_imported, returned_with, is_dimmed}
 use Rattle.vx_grouped.specs.declared.group_site.GroupSite.{GroupSite}
 use Rattle.vx_diskset.specs.Asked.{FailsAs}
-use Rattle.vx_diskset.specs.GroupCalls.{AtSite, cut_in}
+use Rattle.vx_diskset.specs.GroupCalls.{AtPlain, AtSite, cut_in}
 use Rattle.vx_diskset.specs.GroupSets.{cut_value}
 use Rattle.vx_diskset.specs.Recovers.{KeptIs, RisesWith, still_cut}
 use Rattle.vx_diskset.specs.declared.disk_set.DiskSet.{DiskSet}
@@ -41,6 +42,7 @@ use Rattle.vx_diskset.specs.declared.group_set.CutWrite.{CutWrite}
 use Rattle.vx_diskset.specs.declared.group_set.GroupSet.{GroupSet}
 use Rattle.vx_diskset.specs.declared.group_set.KeptWrite.{KeptWrite}
 use Rattle.vx_events.specs.GroupEnds.{FindsGroup, GroupDone, GroupEnds, KeptUnread, KnowsNothing}
+use Rattle.vx_events.specs.GroupMaps.{MapsRecovered}
 use Rattle.vx_events.specs.GroupNotes.{NotesBack, note_at, IsKnown}
 use Rattle.vx_events.specs.GroupReplies.{ShowsKept}
 use Rattle.vx_events.specs.GroupViews.{config_of, grouped_view, noted_table, plain_fact}
@@ -68,6 +70,7 @@ use Rattle.vx_group_lines.proofs.Returning.{SitsOn, back_of, NoneKnown, none_kno
 use Rattle.vx_group_lines.proofs.Rising.{HasUp, bool_by, fits_by, has_up, risen_is, risen_node, shows_cut, sits_down, some_config, told_of, unfused_down, unread_as, up_as}
 use Rattle.vx_grouped.specs.GroupNotes.{note_dimmed}
 use Rattle.vx_group_lines.proofs.Dimming.{dark_moves}
+use Rattle.vx_group_lines.proofs.MapGoing.{stand_as}
 use Rattle.vx_group_lines.proofs.Raising.{Begins, fits_note, rose_up, is_down as is_down_here, sized as sized_here, was_cut as was_cut_here, was_fits as was_fits_here, turned as turned_here, still_fails as still_fails_here, there_now as there_now_here, starts as starts_here, loose as loose_here}
 
 rose_down : (a b c : ℕ) → a ≤ b → Rose b c → Rose a c
@@ -148,6 +151,7 @@ module _ {R : Type 0} {g : Ghosts R} where
         (config : ConfigReturns (note_dimmed (is_dimmed call.at.set.site) (note_at (e.world.nodes s))) next (as_imported call.at.set.site) m) (lit : next.dark ≡ false → IsTrue (site_below m).tells → IsTrue (site_disks m).tells)
         (since : (set : GroupSet R g) → after ≡ OfGroup set → SinceThen m set.site) (cut : Option CutWrite) (cut_is : cut ≡ call.at.set.cut) (c : Config) (reads : config_of next.config ≡ Some (at_serial 0 c))
         (mid : Yard R g) (half : HalfWay mid) (result : Result Said OutOfMemory)
+        (mapped : (set : GroupSet R g) → after ≡ OfGroup set → StandMaps next set.site) (renewed : next.dark ≡ false → IsTrue (site_disks m).tells → MapsRecovered (note_at (e.world.nodes s)) next)
       where
         sizes : (v : ℕ) → next.bytes.size v ≡ blocks_of c.volumes v
         sizes v =
@@ -169,6 +173,10 @@ module _ {R : Type 0} {g : Ghosts R} where
             (rose_up ((site_disks call.at.set.site).disk_faults k) ((as_imported call.at.set.site).disk_faults k) ((site_disks m).disk_faults k) ((site_disks set.site).disk_faults k)
             ((imported_same {R = R} {g = g} call.at.set.site).counts k) rose ((since set is).counts k))))
 
+        -- and so are the maps
+        maps_for : (set : GroupSet R g) → after ≡ OfGroup set → (d : Doubted) → ComesDown d e s → IsKnown (IsTold new) next → MapsRecovered (note_at (d.world.nodes s)) next
+        maps_for set is d comes it = subst (λ (k : GroupNode). MapsRecovered k next) comes.note (renewed it.1 (known set is it))
+
         cut_for : (d : Doubted) → ComesDown d e s → cut_value cut ≡ (note_at (d.world.nodes s)).cut
         cut_for d comes = ap (λ (o : Option CutWrite). cut_value o) cut_is ∙ was_cut ∙ ap (λ (k : GroupNode). k.cut) comes.note
 
@@ -186,7 +194,7 @@ module _ {R : Type 0} {g : Ghosts R} where
             arrives_up e e s n (e.world.gathering s) starts begin.below (ap (λ (t : SiteState). is_at_rest t) begin.down) none.role none.volumes none.log
 
         -- it stays up, with what is kept
-        kept_up : (kept : Option KeptWrite) → AtSite (UpNoted (burned_site (returned_with next (e.world.nodes s))) next) after → cut_in after ≡ None → KeptIs next (site_disks m) cut kept
+        kept_up : (kept : Option KeptWrite) → AtPlain (UpNoted (burned_site (returned_with next (e.world.nodes s))) next) after → cut_in after ≡ None → KeptIs next (site_disks m) cut kept
             → StandsSo s (fact_of_group (e.world.nodes s) (note_at (e.world.nodes s))) c after (Ok kept) mid new result → RisesIs e s old new result
         kept_up kept at clear is_kept so = subst (λ (r : Result Said OutOfMemory). RisesIs e s old new r) (sym replied) (record {
           next = noted_at (happened e (Regroup s) false) s next;
@@ -226,7 +234,7 @@ module _ {R : Type 0} {g : Ghosts R} where
             follows =
                 follows_on e (noted_at (happened e (Regroup s) false) s next) s (risen_node next n) next (group_up_facts (map plain_fact c.volumes) (fact_of_group n note)) old new before t.set begin.stands begin.below (turned t.set t.is)
                 (arrives_noted e (happened e (Regroup s) false) s (group_up n) next (e.world.gathering s) risen) (up_notes (risen_node next n) next t.set.site holds).0
-                (up_set (risen_node next n) next t.set (record { few = sized.few; some = sized.some }) holds (ap (λ (x : DiskSet R g). cut_in x) (sym t.is) ∙ clear) back.cut)
+                (up_set (risen_node next n) next t.set (record { few = sized.few; some = sized.some }) holds (mapped t.set t.is) (ap (λ (x : DiskSet R g). cut_in x) (sym t.is) ∙ clear) back.cut)
                 (still_fails (risen_node next n) t.set t.is refl) (fused_none (risen_node next n) (OfGroup t.set) (unfused_down n note call.at.set.site is_down)) (up_seen n note next c reads)
                 (so.0 ∙ ap (λ (fs : List SiteFacts). slice_set fs s (group_up_facts (map plain_fact c.volumes) (fact_of_group n note))) half.facts) load
 
@@ -247,6 +255,7 @@ module _ {R : Type 0} {g : Ghosts R} where
                 (λ yes_.
                 GroupDone next (calls_are e old new [] s before after begin.stands call MOST_DISKS) (
                   back_for t.set t.is MOST_DISKS (omega arith) d comes,
+                  maps_for t.set t.is d comes,
                   record { kept = shown; says = ap (λ (v : SiteView). Resumed v shown) (seen d comes); shows = shows yes_ d comes },
                 ) (record { world = refl; after = λ i. refl }))
                 (λ no_.
@@ -257,9 +266,9 @@ module _ {R : Type 0} {g : Ghosts R} where
                 (shown, ap (λ (v : SiteView). Resumed v shown) (seen d comes)) (record { world = refl; after = λ i. refl })))
 
         -- it went down again
-        unread : (disk : ℕ) → AtSite (DownNoted (crashed (with_note (still_cut cut next) (returned_with next (e.world.nodes s))) 0) (still_cut cut next)) after → cut_in after ≡ cut_value cut
+        unread : (disk : ℕ) → AtPlain (DownNoted (crashed (with_note (still_cut cut next) (returned_with next (e.world.nodes s))) 0) (still_cut cut next)) after → cut_in after ≡ cut_value cut
             → ((x : CutWrite) → (k : Option CutWrite) → cut_value k ≡ cut_value cut → k ≡ Some x → FitsPlain next x.volume x.block (length x.bytes))
-            → AtSite (λ x. Rose ((site_disks m).disk_faults disk) ((site_disks x).disk_faults disk)) after
+            → AtPlain (λ x. Rose ((site_disks m).disk_faults disk) ((site_disks x).disk_faults disk)) after
             → StandsSo s (fact_of_group (e.world.nodes s) (note_at (e.world.nodes s))) c after (Err (StopsBy (Device disk))) mid new result → RisesIs e s old new result
         unread disk at stays_cut fits rose so = subst (λ (r : Result Said OutOfMemory). RisesIs e s old new r) (sym so.2) (record {
           next = noted_at (happened (happened e (Regroup s) false) (CrashAt s 0) false) s (still_cut cut next);
@@ -297,7 +306,7 @@ module _ {R : Type 0} {g : Ghosts R} where
                 (down_fact (group_up_facts (map plain_fact c.volumes) (fact_of_group n note))) old new before t.set begin.stands begin.below (turned t.set t.is)
                 (arrives_noted e (happened (happened e (Regroup s) false) (CrashAt s 0) false) s (crashed (group_up n) 0) (still_cut cut next) None fell)
                 (λ back_up. let w : IsDown ≡ IsUp = back_up in absurd (cc)) (down_notes k (still_cut cut next) t.set.site t.holds).0
-                (down_set k (still_cut cut next) t.set (record { few = sized.few; some = sized.some }) t.holds same (λ x is. fits_note (still_cut cut next) next refl x (fits x t.set.cut same is)))
+                (down_set k (still_cut cut next) t.set (record { few = sized.few; some = sized.some }) t.holds (stand_as next (still_cut cut next) t.set.site refl refl refl (mapped t.set t.is)) same (λ x is. fits_note (still_cut cut next) next refl x (fits x t.set.cut same is)))
                 (still_fails k t.set t.is refl) (fused_none k (OfGroup t.set) refl) (fell_seen n note next (still_cut cut next) c reads refl)
                 (so.0 ∙ ap (λ (fs : List SiteFacts). slice_set fs s (down_fact (group_up_facts (map plain_fact c.volumes) (fact_of_group n note)))) half.facts) lets
 
@@ -305,7 +314,7 @@ module _ {R : Type 0} {g : Ghosts R} where
             named =
                 calls_named e old new [] s before after begin.stands call call.at.set t.set call.at.is_set t.is (MOST_DISKS + suc disk) disk (omega arith)
                 (rose_down ((site_disks call.at.set.site).disk_faults disk) ((site_disks m).disk_faults disk) ((site_disks t.set.site).disk_faults disk) ((since t.set t.is).from disk)
-                (subst (λ (x : DiskSet R g). AtSite (λ y. Rose ((site_disks m).disk_faults disk) ((site_disks y).disk_faults disk)) x) t.is rose))
+                (subst (λ (x : DiskSet R g). AtPlain (λ y. Rose ((site_disks m).disk_faults disk) ((site_disks y).disk_faults disk)) x) t.is rose))
 
             ends : (d : Doubted) (name : List ℕ) → ComesDown d e s
                 → GroupEnds (IsTold new) d (Recover name) s (calls s old new (MOST_DISKS + suc disk)) (Refused (Device disk)) (noted_at (happened (happened e (Regroup s) false) (CrashAt s 0) false) s (still_cut cut next))
@@ -317,6 +326,7 @@ module _ {R : Type 0} {g : Ghosts R} where
                 (record {
                   middle = next;
                   back = back_for t.set t.is (MOST_DISKS + suc disk) (omega arith) d comes;
+                  maps = maps_for t.set t.is d comes;
                   is = ap (λ (w : Option Write). let q : GroupNode = record next { cut = w } in q) (cut_for d comes);
                 })
                 refl (record { world = refl; after = λ i. refl }))

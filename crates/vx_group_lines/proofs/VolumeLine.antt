@@ -48,6 +48,7 @@ use Rattle.vx_group_lines.proofs.GroupCalls.{at_up}
 use Rattle.vx_group_lines.proofs.GroupEnding.{Calling, Midway, behind, load_on}
 use Rattle.vx_group_lines.proofs.GroupVolume.{volume_done, volume_stopped}
 use Rattle.vx_group_lines.proofs.Tests.{VolumeMay, volume_may}
+use Rattle.vx_grouped.specs.SiteMaps.{AddedMapped}
 use Rattle.vx_group_lines.specs.Noting.{HasConfig, KeepsRest, reply_noted}
 
 some_at : {A : Type 0} (xs : List A) (i : ℕ) → i < length xs → (x : A) × (slice_get xs i ≡ Some x)
@@ -105,20 +106,20 @@ module _ {R : Type 0} {g : Ghosts R} where
     is_up : AtSite (UpNoted (d.world.nodes s) (note_at (d.world.nodes s))) before
     is_up = at_up d old name s before at up
 
-    line_done : (new : Yard R g) (vol : ℕ) → ((k : Node) (next : GroupNode) → AtSite (UpNoted k next) before → OnSites (λ o e. SiteAdded k next volume want o e (Ok vol)) before after)
+    line_done : (new : Yard R g) (vol : ℕ) → ((k : Node) (next : GroupNode) → AtSite (UpNoted k next) before → OnSites (λ o e. SiteAdded k next volume want o e (Ok vol)) before after) → ((k : Node) (next : GroupNode) → AtSite (UpNoted k next) before → OnSites (λ o e. AddedMapped o e (Ok vol)) before after)
         → ((f : SiteFacts) (c : Config) → slice_get mid.facts.items s ≡ Some f → HasConfig s c mid → new.facts.items ≡ slice_set mid.facts.items s (group_up_facts (map plain_fact c.volumes) f))
         → new.assemblies ≡ mid.assemblies → KeepsRest mid new → LeadsOver d (Volume name volume blocks mirrors layout log map_of policy) Done old new
-    line_done new vol made facts assemblies rest =
-        volume_done d old new name volume blocks mirrors layout log map_of policy want is_want s before after stands (calling new rest) vol (made n note is_up)
+    line_done new vol made maps facts assemblies rest =
+        volume_done d old new name volume blocks mirrors layout log map_of policy want is_want s before after stands (calling new rest) vol (made n note is_up) (maps n note is_up)
         (λ c has.
         facts (fact_of_group (d.world.nodes s) (note_at (d.world.nodes s))) c (ap (λ (fs : List SiteFacts). slice_get fs s) half.facts ∙ at.fact)
         (record { disk_set = after; there = ap (λ (es : List (DiskSet R g)). slice_get es s) changed.disk_sets ∙ get-set_same old.disk_sets.items s after (slice_get_within old.disk_sets.items s before changed.there); is = has })
         ∙ ap (λ (fs : List SiteFacts). slice_set fs s (group_up_facts (map plain_fact c.volumes) (fact_of_group (d.world.nodes s) (note_at (d.world.nodes s))))) half.facts)
         (load_on old mid new half rest (ap (λ xs. xs.items) assemblies))
 
-    line_stopped : (new : Yard R g) (stop : Stop) (result : Result Said OutOfMemory) → ((k : Node) (next : GroupNode) → AtSite (UpNoted k next) before → OnSites (λ o e. SiteAdded k next volume want o e (Err stop)) before after)
+    line_stopped : (new : Yard R g) (stop : Stop) (result : Result Said OutOfMemory) → ((k : Node) (next : GroupNode) → AtSite (UpNoted k next) before → OnSites (λ o e. SiteAdded k next volume want o e (Err stop)) before after) → ((k : Node) (next : GroupNode) → AtSite (UpNoted k next) before → OnSites (λ o e. AddedMapped o e (Err stop)) before after)
         → ((f : SiteFacts) → slice_get mid.facts.items s ≡ Some f → reply_noted s f stop mid new result) → LeadsOverIs d (Volume name volume blocks mirrors layout log map_of policy) old new result
-    line_stopped new stop result made reply =
+    line_stopped new stop result made maps reply =
         let said : reply_noted s (fact_of_group (d.world.nodes s) (note_at (d.world.nodes s))) stop mid new result
         = reply (fact_of_group (d.world.nodes s) (note_at (d.world.nodes s))) (ap (λ (fs : List SiteFacts). slice_get fs s) half.facts ∙ at.fact) in
         by_calling (calling new (rest_by s (fact_of_group (d.world.nodes s) (note_at (d.world.nodes s))) stop mid new result said)) said
@@ -128,7 +129,7 @@ module _ {R : Type 0} {g : Ghosts R} where
         by_calling it said =
             volume_stopped d old new name volume blocks mirrors layout log map_of policy want is_want s before after stands it mid half result (up_noted (d.world.nodes s) it.call.at.set.site it.call.at.stands.stands up)
             (subst (λ (f : SiteFacts). find (λ (v : VolumeFacts). bytes_eq v.name volume) f.volumes ≡ None) fact may.free) (subst (λ (f : SiteFacts). length f.volumes < MOST_VOLUMES) fact may.few) may.plexes may.shape
-            stop (made (d.world.nodes s) (note_at (d.world.nodes s)) is_up) said
+            stop (made (d.world.nodes s) (note_at (d.world.nodes s)) is_up) (maps (d.world.nodes s) (note_at (d.world.nodes s)) is_up) said
 
   -- ---- by what is known of the yard between the call and the reply
 
@@ -143,20 +144,20 @@ module _ {R : Type 0} {g : Ghosts R} where
   pub done_by : (mid new : Yard R g) → KeepsRest mid new → (d : Doubted) (old : Yard R g) (name volume : List ℕ) (blocks mirrors : ℕ) (layout : Layout) (log : VolumeLog) (map_of : VolumeMap) (policy : ReadPolicy) (want : Shape)
       → want ≡ shape_of blocks mirrors layout log map_of policy → (s : ℕ) (before after : DiskSet R g) → StandsFor d old → seat_of old.facts.items name ≡ Some s → over_group_at d.world name ≡ true
       → IsFree old (Volume name volume blocks mirrors layout log map_of policy) → Changed old mid s before after → SameFailing before after → cut_in after ≡ cut_in before → CalledOn before after → Midway old mid
-      → (vol : ℕ) → ((k : Node) (next : GroupNode) → AtSite (UpNoted k next) before → OnSites (λ o e. SiteAdded k next volume want o e (Ok vol)) before after)
+      → (vol : ℕ) → ((k : Node) (next : GroupNode) → AtSite (UpNoted k next) before → OnSites (λ o e. SiteAdded k next volume want o e (Ok vol)) before after) → ((k : Node) (next : GroupNode) → AtSite (UpNoted k next) before → OnSites (λ o e. AddedMapped o e (Ok vol)) before after)
       → ((f : SiteFacts) (c : Config) → slice_get mid.facts.items s ≡ Some f → HasConfig s c mid → new.facts.items ≡ slice_set mid.facts.items s (group_up_facts (map plain_fact c.volumes) f))
       → new.assemblies ≡ mid.assemblies → LeadsOver d (Volume name volume blocks mirrors layout log map_of policy) Done old new
-  done_by mid new rest d old name volume blocks mirrors layout log map_of policy want is_want s before after stands seat over free changed failing cut since half vol made facts assemblies =
-      line_done d old mid name volume blocks mirrors layout log map_of policy want is_want s before after stands seat over free changed failing cut since half new vol made facts assemblies rest
+  done_by mid new rest d old name volume blocks mirrors layout log map_of policy want is_want s before after stands seat over free changed failing cut since half vol made maps facts assemblies =
+      line_done d old mid name volume blocks mirrors layout log map_of policy want is_want s before after stands seat over free changed failing cut since half new vol made maps facts assemblies rest
 
   pub stopped_by : (s : ℕ) (stop : Stop) (result : Result Said OutOfMemory) (mid new : Yard R g) → ((f : SiteFacts) → slice_get mid.facts.items s ≡ Some f → reply_noted s f stop mid new result)
       → (d : Doubted) (old : Yard R g) (name volume : List ℕ) (blocks mirrors : ℕ) (layout : Layout) (log : VolumeLog) (map_of : VolumeMap) (policy : ReadPolicy) (want : Shape)
       → want ≡ shape_of blocks mirrors layout log map_of policy → (before after : DiskSet R g) → StandsFor d old → seat_of old.facts.items name ≡ Some s → over_group_at d.world name ≡ true
       → IsFree old (Volume name volume blocks mirrors layout log map_of policy) → Changed old mid s before after → SameFailing before after → cut_in after ≡ cut_in before → CalledOn before after → Midway old mid
-      → ((k : Node) (next : GroupNode) → AtSite (UpNoted k next) before → OnSites (λ o e. SiteAdded k next volume want o e (Err stop)) before after)
+      → ((k : Node) (next : GroupNode) → AtSite (UpNoted k next) before → OnSites (λ o e. SiteAdded k next volume want o e (Err stop)) before after) → ((k : Node) (next : GroupNode) → AtSite (UpNoted k next) before → OnSites (λ o e. AddedMapped o e (Err stop)) before after)
       → LeadsOverIs d (Volume name volume blocks mirrors layout log map_of policy) old new result
-  stopped_by s stop result mid new reply d old name volume blocks mirrors layout log map_of policy want is_want before after stands seat over free changed failing cut since half made =
-      line_stopped d old mid name volume blocks mirrors layout log map_of policy want is_want s before after stands seat over free changed failing cut since half new stop result made reply
+  stopped_by s stop result mid new reply d old name volume blocks mirrors layout log map_of policy want is_want before after stands seat over free changed failing cut since half made maps =
+      line_stopped d old mid name volume blocks mirrors layout log map_of policy want is_want s before after stands seat over free changed failing cut since half new stop result made maps reply
 
   pub asked_by : (mid new : Yard R g) → KeepsRest mid new → (d : Doubted) (old : Yard R g) (name : List ℕ) (s : ℕ) (before after : DiskSet R g) → StandsFor d old → seat_of old.facts.items name ≡ Some s
       → Changed old mid s before after → SameFailing before after → OfSite SameFailing (site_number d.world name) old new

@@ -11,9 +11,10 @@ use Rattle.vx_history.specs.declared.event.Event.TheVariants.{Crash as CrashAt}
 use Rattle.vx_disk.specs.declared.shelf.Shelf.{Ghosts}
 use Rattle.vx_config.specs.declared.config.Config.{Config}
 use Rattle.vx_grouped.specs.GroupSites.{UpNoted, site_config}
+use Rattle.vx_grouped.specs.SiteMaps.{StaysMapped}
 use Rattle.vx_diskset.specs.Asked.{SameFailing}
 use Rattle.vx_diskset.specs.DiskSets.{Later}
-use Rattle.vx_diskset.specs.GroupCalls.{AtSite}
+use Rattle.vx_diskset.specs.GroupCalls.{AtSite, OnSites}
 use Rattle.vx_diskset.specs.Recovers.{LooksAt}
 use Rattle.vx_diskset.specs.declared.disk_set.DiskSet.{DiskSet}
 use Rattle.vx_diskset.specs.declared.group_set.CutWrite.{CutWrite}
@@ -82,6 +83,7 @@ module _ {R : Type 0} {g : Ghosts R} where
     pub there : slice_get old.disk_sets.items s ≡ Some before
     pub disk_sets : new.disk_sets.items ≡ slice_set old.disk_sets.items s after
     pub looks : (n : Node) (note : GroupNode) → AtSite (UpNoted n note) before → LooksAt n note cut before after answer
+    pub maps : (n : Node) (note : GroupNode) → AtSite (UpNoted n note) before → OnSites StaysMapped before after
     pub failing : SameFailing before after
     pub later : Later before after
     pub racks : new.racks ≡ old.racks

@@ -5,6 +5,7 @@ ghost use Rattle.vx_script.specs.declared.line.ScriptLine.{ScriptLine};
 ghost use Rattle.vx_history.specs.Groups.{GroupNode};
 ghost use Rattle.vx_history.specs.World.{Node};
 ghost use Rattle.vx_grouped.specs.GroupSites.{FitsPlain, UpNoted};
+ghost use Rattle.vx_grouped.specs.SiteMaps.{StaysMapped};
 ghost use Rattle.vx_diskset.specs.Asked.{SameFailing};
 ghost use Rattle.vx_diskset.specs.DiskSets.{Later};
 ghost use Rattle.vx_diskset.specs.GroupCalls.{AtSite, CalledOn, OnSites, cut_in};
@@ -29,6 +30,7 @@ fn blocks_of<R: Rack>(
     mut room: Vec<u8>,
 ) -> Result<Bytes, No>
     ensures read { (n : Node) (note : GroupNode) → AtSite (UpNoted n note) disk_set.old → FitsPlain note volume start (length room.items) → OnSites (λ o e. GavePlain n note volume start o e result) disk_set.old disk_set.new }
+    ensures maps { (n : Node) (note : GroupNode) → AtSite (UpNoted n note) disk_set.old → FitsPlain note volume start (length room.items) → OnSites StaysMapped disk_set.old disk_set.new }
     ensures size { IfOk result (λ bytes. length bytes ≡ length room.items) }
     ensures cut { cut_in disk_set.new ≡ cut_in disk_set.old }
     ensures failing { SameFailing disk_set.old disk_set.new }

@@ -104,7 +104,7 @@ module _ (n : Node) (note : GroupNode) (m m' : Meaning) (units : m'.units ≡ m.
   }
 
   pub less_down : (last : Config) → IsAwayAt n note last m → IsAwayAt n note last m'
-  less_down last it = record { state = it.state; config = it.config; found = less_noted note last m m' (less_from m m' units size leaves) it.found; lies = less_away last it.lies }
+  less_down last it = record { state = it.state; config = it.config; found = less_noted note last m m' (less_from m m' units size leaves) it.found; runs = it.runs; lies = less_away last it.lies }
 
   pub less_deported : (last newest : Config) → IsDeportedAt n note last newest m → IsDeportedAt n note last newest m'
   less_deported last newest it = record { state = it.state; config = it.config; frames = it.frames; found = less_noted note newest m m' (less_from m m' units size leaves) it.found; lies = less_away last it.lies }

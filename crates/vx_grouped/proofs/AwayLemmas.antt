@@ -1,5 +1,5 @@
 -- A group that crashed, as its site notes it.
-use Rattle.std.proofs.Common.{◌≡◌, inl, ℕ, true, refl, sym, ◌∙◌, subst, IsTrue}
+use Rattle.std.proofs.Common.{◌≡◌, ◌<◌, inl, ℕ, true, length, refl, sym, ◌∙◌, subst, IsTrue}
 use Rattle.vx_model.specs.declared.site.SiteState.TheVariants.{Down as IsDown}
 use Rattle.vx_disk.specs.Racks.{Stopped}
 use Rattle.vx_disk.specs.Shelf.{Each, Image, Meaning}
@@ -12,7 +12,7 @@ use Rattle.vx_kept.specs.Groups.{found}
 use Rattle.vx_kept.specs.Keeping.{Kin}
 use Rattle.vx_kept.proofs.Steps.{inside_back}
 use Rattle.vx_layout.specs.Places.{place}
-use Rattle.vx_volume.specs.Plexes.{Inside}
+use Rattle.vx_volume.specs.Plexes.{Inside, SomeActive}
 use Rattle.vx_group.specs.Holding.{wide}
 use Rattle.vx_group.specs.Resumes.{CanImport}
 use Rattle.vx_group.specs.Stands.{InnerStands}
@@ -47,8 +47,8 @@ module _ (n : Node) (note : GroupNode) (c : GroupCore) (m m' : Meaning) (lies : 
     has = has;
   }
 
-  pub crash_away : (c.inner.agreed ≡ true → CanImport m') → IsAwayAt (record n { state = IsDown }) note c.inner.config m'
-  crash_away can = record { state = refl; config = lies.config; found = less_noted note c.inner.config m m' (less_from m m' stopped.units stopped.size stopped.leaves) lies.images.noted; lies = crash_lies can }
+  pub crash_away : ((v : ℕ) → v < length c.inner.config.volumes → SomeActive c.inner.config v) → (c.inner.agreed ≡ true → CanImport m') → IsAwayAt (record n { state = IsDown }) note c.inner.config m'
+  crash_away runs can = record { state = refl; config = lies.config; found = less_noted note c.inner.config m m' (less_from m m' stopped.units stopped.size stopped.leaves) lies.images.noted; runs = λ bright. runs; lies = crash_lies can }
 
 -- the same of equal parts
 pub lies_at : {S : Type 0} (meaning : S → Meaning) (n : Node) (note : GroupNode) (c d : GroupCore) (s t : S) → d ≡ c → t ≡ s → GroupLies n note c (meaning s) → GroupLies n note d (meaning t)

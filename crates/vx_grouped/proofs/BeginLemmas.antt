@@ -1,6 +1,6 @@
 -- A group that is begun on the disks of a bare site, by its note.
 use Rattle.std.proofs.Common.{◌≡◌, ◌⊎◌, inl, inr, ℕ, ◌<◌, Bool, true, false, List, [], length, IsTrue, IsFalse, refl, sym, ◌∙◌, ap, subst, arith}
-use Rattle.std.specs.Prelude.{Option, None, Result, Ok, Err, IfErr, not, slice_get}
+use Rattle.std.specs.Prelude.{Option, None, Some, Result, Ok, Err, IfErr, not, slice_get}
 use Rattle.std.proofs.lemmas.Option.{slice_get_within}
 use Rattle.vx_model.specs.declared.errors.Stop.{Stop}
 use Rattle.vx_model.specs.declared.errors.Stop.TheVariants.{No as Refused, OutOfMemory}
@@ -10,9 +10,11 @@ use Rattle.vx_disk.specs.Causes.{DeviceCause}
 use Rattle.vx_disk.specs.Shelf.{Meaning}
 use Rattle.vx_disk.specs.declared.shelf.Shelf.{Ghosts}
 use Rattle.vx_history.specs.Groups.{GroupNode}
+use Rattle.vx_history.specs.Missing.{maps_none}
 use Rattle.vx_history.specs.World.{Fuse, Node, NoFuse, no_volumes}
 use Rattle.vx_config.specs.Checks.{blocks_of}
 use Rattle.vx_config.specs.Configs.{HasSpelling}
+use Rattle.vx_config.specs.declared.config.Config.{Config}
 use Rattle.vx_config.specs.declared.entry.DiskEntry.{DiskEntry}
 use Rattle.vx_config.specs.declared.entry.VolumeEntry.{VolumeEntry}
 use Rattle.vx_copies.proofs.OneTry.{wanted_count}
@@ -26,6 +28,7 @@ use Rattle.vx_group.specs.declared.group_core.GroupCore.{GroupCore}
 use Rattle.vx_group.specs.declared.group_core.Held.{Held}
 use Rattle.vx_group.specs.declared.inner.Inner.{Inner}
 use Rattle.vx_group.proofs.Standing.{disks_fit}
+use Rattle.vx_loggroup.specs.Facts.{LoggedFact}
 use Rattle.vx_untold.specs.Shades.{shade_meaning, rack_of}
 use Rattle.vx_untold.specs.declared.shade.Shade.{Shade}
 use Rattle.vx_untold.specs.declared.shade.Shade.TheVariants.{Bright}
@@ -35,12 +38,14 @@ use Rattle.vx_grouped.specs.GroupNotes.{noted_config}
 use Rattle.vx_grouped.specs.GroupSites.{GroupUp, IsMarkedSite, idle_disks, laid_disks, laid_below}
 use Rattle.vx_grouped.specs.Plain.{HoldsPlain}
 use Rattle.vx_grouped.specs.SetFuses.{HasFuse}
+use Rattle.vx_grouped.specs.SiteMaps.{StandMaps}
 use Rattle.vx_grouped.specs.declared.idle.Idle.{Idle}
 use Rattle.vx_grouped.specs.declared.laid.Laid.{Laid}
 use Rattle.vx_grouped.specs.declared.group_site.GroupSite.TheVariants.{Up, Marked}
 use Rattle.vx_kept.specs.Finds.{AllAtOnce}
 use Rattle.vx_kept.proofs.Findings.{newest_at}
 use Rattle.vx_group.proofs.HoldLemmas.{wide_none}
+use Rattle.vx_grouped.proofs.MapStandLemmas.{empty_noted}
 use Rattle.vx_grouped.proofs.MovesLemmas.{disk_blocks_at}
 use Rattle.vx_grouped.proofs.NoteLemmas.{blocks_same}
 use Rattle.vx_grouped.proofs.NotedLemmas.{spells_zero}
@@ -55,8 +60,8 @@ first_note core = record {
   bytes = no_volumes;
   others = λ v b. [];
   cut = None;
-  missed = λ v p. None;
-  perhaps = λ v p r. false;
+  maps = maps_none core.config.serial;
+  inside = λ v. false;
 }
 
 was_kept : (kept : Bool) → not kept ≡ false → kept ≡ true
@@ -155,7 +160,7 @@ module _ (m m' : Meaning) (n : Node) (can : CanBegin n m) (since : CalledSince m
     }
 
     first : IsFirstNote (first_note core.inner)
-    first = record { begun = refl; size = λ v. refl; others = λ v b. refl; cut = refl; dark = refl; perhaps = λ v p r. refl }
+    first = record { begun = refl; size = λ v. refl; others = λ v b. refl; cut = refl; dark = refl; serial = core.inner.config.serial; maps = refl; inside = λ v. refl }
 
     trusted : (P : Type 0) → (HasFailed core.inner.config.disks → P) → ((first_note core.inner).loose ≡ false) ⊎ P
     trusted P failed = elim new.trust [
@@ -164,20 +169,33 @@ module _ (m m' : Meaning) (n : Node) (can : CanBegin n m) (since : CalledSince m
     ]
 
 module _ {R : Type 0} (g : Ghosts R) (rack : R) (n : Node) (site : ℕ) (can : CanBegin n (g.meaning rack)) where
-  begun_of : (group : Laid R g) → (IsTrue (laid_below group).tells → IsTrue (laid_disks group).tells) → HasSpelling group.core.inner.config → IsNewGroup site group.core.inner (laid_disks group) × (group.core.held ≡ None) → CalledSince (g.meaning rack) (laid_disks group) → BeginsGroup site n (g.meaning rack) (Up group) (Ok tt)
-  begun_of group bright has it since = (
+  one_config : (a b : Config) → Some a ≡ Some b → a ≡ b
+  one_config a b is = cc is
+
+  begun_maps : (group : Laid R g) → LoggedFact group.core group.logs.items group.alike group.stopped (laid_disks group) → HasSpelling group.core.inner.config → group.core.inner.config.volumes ≡ [] → StandMaps (first_note group.core.inner) (Up group)
+  begun_maps group stands has none = record {
+    config = group.core.inner.config;
+    is = refl;
+    spells = spells_zero group.core.inner.config has;
+    up = λ c is. sym (one_config group.core.inner.config c is);
+    maps = empty_noted group.core.inner.config group.logs.items group.alike group.stopped none stands.many;
+  }
+
+  begun_of : (group : Laid R g) → LoggedFact group.core group.logs.items group.alike group.stopped (laid_disks group) → (IsTrue (laid_below group).tells → IsTrue (laid_disks group).tells) → HasSpelling group.core.inner.config → IsNewGroup site group.core.inner (laid_disks group) × (group.core.held ≡ None) → CalledSince (g.meaning rack) (laid_disks group) → BeginsGroup site n (g.meaning rack) (Up group) (Ok tt)
+  begun_of group stands bright has it since = (
     first_note group.core.inner,
     first (g.meaning rack) (laid_disks group) n can since site group.core it.0 it.1,
     begun_up (g.meaning rack) (laid_disks group) n can since site group.core it.0 it.1 (laid_below group).tells bright has,
     empty (g.meaning rack) (laid_disks group) n can since site group.core it.0 it.1,
     trusted (g.meaning rack) (laid_disks group) n can since site group.core it.0 it.1 (HasFailed group.core.inner.config.disks) (λ some. some),
+    begun_maps group stands has it.0.volumes,
   )
 
   -- the group over the disks that it was made of
-  pub begun_done : (group : Laid R g) (core : GroupCore) (made : R) → group.core ≡ core → group.shelf ≡ Bright made → HasSpelling group.core.inner.config → IsNewGroup site core.inner (g.meaning made) × (core.held ≡ None) → CalledSince (g.meaning rack) (g.meaning made)
+  pub begun_done : (group : Laid R g) (core : GroupCore) (made : R) → LoggedFact group.core group.logs.items group.alike group.stopped (laid_disks group) → group.core ≡ core → group.shelf ≡ Bright made → HasSpelling group.core.inner.config → IsNewGroup site core.inner (g.meaning made) × (core.held ≡ None) → CalledSince (g.meaning rack) (g.meaning made)
       → BeginsGroup site n (g.meaning rack) (Up group) (Ok tt)
-  begun_done group core made same bright has it since =
-      begun_of group (subst (λ (s : Shade R). IsTrue (g.meaning (rack_of s)).tells → IsTrue (shade_meaning g.meaning s).tells) (sym bright) (λ is. is)) has
+  begun_done group core made stands same bright has it since =
+      begun_of group stands (subst (λ (s : Shade R). IsTrue (g.meaning (rack_of s)).tells → IsTrue (shade_meaning g.meaning s).tells) (sym bright) (λ is. is)) has
       (subst (λ (s : Shade R). IsNewGroup site group.core.inner (shade_meaning g.meaning s) × (group.core.held ≡ None)) (sym bright) (subst (λ (x : GroupCore). IsNewGroup site x.inner (g.meaning made) × (x.held ≡ None)) (sym same) it))
       (subst (λ (s : Shade R). CalledSince (g.meaning rack) (shade_meaning g.meaning s)) (sym bright) since)
 

@@ -1,6 +1,6 @@
 -- A group that is found on disks of which it is not known what they hold, by its note.
 use Rattle.std.proofs.Common.{◌≡◌, ℕ, ◌<◌, Bool, true, false, List, [], IsTrue, IsFalse, refl, sym, ◌∙◌, ap, subst}
-use Rattle.std.specs.Prelude.{None, Ok, Err}
+use Rattle.std.specs.Prelude.{None, Some, Ok, Err}
 use Rattle.vx_model.specs.declared.errors.Stop.{Stop}
 use Rattle.vx_model.specs.declared.errors.Stop.TheVariants.{No as Refused}
 use Rattle.vx_model.specs.declared.no.No.TheVariants.{Down as IsOff}
@@ -8,7 +8,7 @@ use Rattle.vx_model.specs.declared.site.SiteState.TheVariants.{Up as IsUp}
 use Rattle.vx_disk.specs.Racks.{IsRack}
 use Rattle.vx_disk.specs.Shelf.{Meaning}
 use Rattle.vx_disk.specs.declared.shelf.Shelf.{Ghosts}
-use Rattle.vx_history.specs.Groups.{GroupNode}
+use Rattle.vx_history.specs.Groups.{GroupNode, MissedNote}
 use Rattle.vx_history.specs.World.{Fuse, Node, NoFuse, no_volumes}
 use Rattle.vx_config.specs.Checks.{blocks_of}
 use Rattle.vx_config.specs.Configs.{HasSpelling}
@@ -23,9 +23,11 @@ use Rattle.vx_grouped.specs.Begins.{group_begun}
 use Rattle.vx_grouped.specs.Finds.{CanFind, FindStops, FindsUp, IsFoundNote}
 use Rattle.vx_grouped.specs.GroupNotes.{noted_config}
 use Rattle.vx_grouped.specs.GroupSites.{GroupUp, laid_disks, laid_below}
+use Rattle.vx_grouped.specs.PlainMaps.{PartsNoted, laid_parts}
 use Rattle.vx_grouped.specs.Returns.{GroupReturns, note_imported}
 use Rattle.vx_grouped.specs.SetFuses.{HasFuse}
 use Rattle.vx_grouped.specs.SiteEnds.{stops_down}
+use Rattle.vx_grouped.specs.SiteMaps.{StandMaps}
 use Rattle.vx_grouped.specs.SiteReturns.{ReturnSince}
 use Rattle.vx_grouped.specs.declared.laid.Laid.{Laid}
 use Rattle.vx_grouped.specs.declared.group_site.GroupSite.{GroupSite}
@@ -46,8 +48,8 @@ untold_can m = record {
 }
 
 -- a note for disks of which nothing is known
-abbrev seen_note : Config → GroupNode
-seen_note last = record {
+abbrev seen_note : Config → MissedNote → GroupNode
+seen_note last w = record {
   config = noted_config last;
   begun = [];
   loose = false;
@@ -55,12 +57,12 @@ seen_note last = record {
   bytes = record no_volumes { size = λ v. blocks_of last.volumes v };
   others = λ v b. [];
   cut = None;
-  missed = λ v p. None;
-  perhaps = λ v p r. false;
+  maps = w;
+  inside = λ v. false;
 }
 
-seen_lies : (n : Node) (m : Meaning) (can : CanFind n m) (last : Config) → AwayLies n (seen_note last) last (untold m)
-seen_lies n m can last = record {
+seen_lies : (n : Node) (m : Meaning) (can : CanFind n m) (last : Config) (w : MissedNote) → AwayLies n (seen_note last w) last (untold m)
+seen_lies n m can last w = record {
   units = can.units;
   size = can.size;
   can = λ tight. untold_can m;
@@ -74,12 +76,12 @@ no_fuse : (f : Fuse) (m : Meaning) → f ≡ NoFuse → IsFalse m.armed → HasF
 no_fuse f m is none = subst (λ (x : Fuse). HasFuse x m) (sym is) none
 
 module _ {R : Type 0} {g : Ghosts R} (site : ℕ) (n : Node) (m : Meaning) (can : CanFind n m) (group : Laid R g) (was : IsRack m) (now : IsRack (laid_disks group)) (has : HasSpelling group.core.inner.config) (since : ReturnSince m (laid_disks group))
-    (leaves : (k : Node) (note : GroupNode) (last : Config) → AwayLies k note last (untold m) → GroupReturns k note last (untold m) group.core (laid_disks group)) where
-  back : GroupReturns n (seen_note group.core.inner.config) group.core.inner.config (untold m) group.core (laid_disks group)
-  back = leaves n (seen_note group.core.inner.config) group.core.inner.config (seen_lies n m can group.core.inner.config)
+    (leaves : (k : Node) (note : GroupNode) (last : Config) → AwayLies k note last (untold m) → GroupReturns k note last (untold m) group.core (laid_disks group)) (w : MissedNote) (maps : PartsNoted w (laid_parts group)) where
+  back : GroupReturns n (seen_note group.core.inner.config w) group.core.inner.config (untold m) group.core (laid_disks group)
+  back = leaves n (seen_note group.core.inner.config w) group.core.inner.config (seen_lies n m can group.core.inner.config w)
 
   abbrev note : GroupNode
-  note = note_imported group.core.inner back.renewed back.value (seen_note group.core.inner.config)
+  note = note_imported group.core.inner back.renewed back.value (seen_note group.core.inner.config w)
 
   up : GroupUp (group_begun note site n) note (laid_below group).tells group.core (laid_disks group)
   up = record {
@@ -98,11 +100,24 @@ module _ {R : Type 0} {g : Ghosts R} (site : ℕ) (n : Node) (m : Meaning) (can 
     dark = refl;
     size = λ v. refl;
     cut = refl;
-    perhaps = λ v p r. refl;
+    inside = λ v. refl;
+  }
+
+  one_config : (a b : Config) → Some a ≡ Some b → a ≡ b
+  one_config a b is = cc is
+
+  -- what memory has of maps is noted
+  found_maps : StandMaps note (Up group)
+  found_maps = record {
+    config = group.core.inner.config;
+    is = refl;
+    spells = spells_zero group.core.inner.config has;
+    up = λ c is. sym (one_config group.core.inner.config c is);
+    maps = maps;
   }
 
   pub found_up : (S : Type 0) → FindsUp {S = S} site n (Ok (Up group))
-  found_up S = (note, group.core.inner.config, found, refl, up)
+  found_up S = (note, group.core.inner.config, found, refl, up, found_maps)
 
 -- ---- none is found
 

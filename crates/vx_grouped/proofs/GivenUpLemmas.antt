@@ -63,6 +63,7 @@ module _ {R : Type 0} (meaning : R → Meaning) where
         state = it.away.state;
         config = it.away.config;
         found = noted_as note (note_dimmed true note) it.last (shade_meaning meaning (Dark (rack_of s))) refl refl (noted_ready meaning false s note it.last it.away.found);
+        runs = λ bright. absurd (let clash : true ≡ false = bright in cc);
         lies = away_dimmed true n (dimmed_site true note n) note it.last (shade_meaning meaning (Dark (rack_of s))) refl refl (lies_ready meaning false s n note it.last it.away.lies);
       };
     }

@@ -81,7 +81,7 @@ module _ (c d : Config) (v p : ℕ) (m m' : Meaning) (one : (u : ℕ) → m.disk
 
     restated_moves : ConfigMoves again (StateMoves m m') m m' (stated v p s w c) d
     restated_moves = record {
-      parts = record { site = it.parts.site; rvg = it.parts.rvg; count = it.parts.count };
+      parts = record { site = it.parts.site; rvg = it.parts.rvg; count = it.parts.count; later = it.parts.later };
       disks = disk_at c d m m' one two again it;
       volumes = λ x. volume_moves (StateMoves m m') (stated v p s w c) d x (it.frames x ∙ sym ((stated_shape v p s w c).frames x)) (restated_state x);
     }

@@ -152,7 +152,7 @@ module _ {R : Type 0} {g : Ghosts R} (n : Node) (note : GroupNode) (name : List 
     volume = made.volume;
     is_volume = made.is_volume;
     moves = fails_alone group.core.inner.config (with_volume group.core.inner.config made.volume) new.core.inner.config (laid_disks group) (laid_disks new) (racks group.shelf).counts (racks new.shelf).counts refl
-        (record { site = works.parts.site; rvg = works.parts.rvg; count = works.parts.count }) works.disks made.volumes;
+        (record { site = works.parts.site; rvg = works.parts.rvg; count = works.parts.count; later = works.parts.later }) works.disks made.volumes;
   }
 
   made_by : (vol : ℕ) → MakesVolume name want group.core (laid_disks group) new.core (laid_disks new) (Ok vol) → VolumeLeaves n note want new.core (laid_disks new) (Ok vol) → SiteAdded n note name want (Up group) (Up new) (Ok vol)

@@ -9,7 +9,7 @@ use Rattle.vx_config.specs.Configs.{HasSpelling}
 use Rattle.vx_config.specs.declared.config.Config.{Config}
 use Rattle.vx_kept.specs.Cleans.{at_serial}
 use Rattle.vx_group.specs.declared.group_core.GroupCore.{GroupCore}
-use Rattle.vx_grouped.specs.Away.{AwayLies, IsAwayAt, IsDeportedAt}
+use Rattle.vx_grouped.specs.Away.{AllRun, AwayLies, IsAwayAt, IsDeportedAt}
 use Rattle.vx_grouped.specs.GroupNotes.{GroupLies, IsGroupAt, note_dimmed}
 use Rattle.vx_grouped.specs.GroupSites.{AreStopped, GroupAway, GroupDown, GroupUp, NotesGroup, deported_with, with_note, IsLit, dimmed_site}
 use Rattle.vx_grouped.specs.SetFuses.{HasFuse}
@@ -78,14 +78,14 @@ down_noted n note agreed told last m noted lit agrees stopped spells away = reco
   stopped = stopped;
   last = last;
   spells = spells;
-  away = record { state = refl; config = away.config; found = away.found; lies = away_as (record n { state = IsDown }) (crashed n 0) note last m refl refl away.lies };
+  away = record { state = refl; config = away.config; found = away.found; runs = away.runs; lies = away_as (record n { state = IsDown }) (crashed n 0) note last m refl refl away.lies };
 }
 
 -- behind a call that changed the note
 pub down_with : (n : Node) (note next : GroupNode) (agreed told : Bool) (last : Config) (m : Meaning) → NotesGroup n note → IsLit next told m → (next.loose ≡ false → agreed ≡ true) → AreStopped m → HasSpelling (at_serial 0 last) → IsAwayAt (record n { state = IsDown }) next last m → GroupDown (crashed (with_note next n) 0) next agreed told m
 down_with n note next agreed told last m noted lit agrees stopped spells away =
     down_noted (with_note next n) next agreed told last m (noted_with n note next noted) lit agrees stopped spells
-    (record { state = refl; config = away.config; found = away.found; lies = away_as (record n { state = IsDown }) (record (with_note next n) { state = IsDown }) next last m refl refl away.lies })
+    (record { state = refl; config = away.config; found = away.found; runs = away.runs; lies = away_as (record n { state = IsDown }) (record (with_note next n) { state = IsDown }) next last m refl refl away.lies })
 
 -- ---- one that was deported
 
@@ -117,6 +117,10 @@ away_dimmed dims n k note last m disks blocks it = record {
   volumes = it.volumes;
   has = it.has;
 }
+
+pub runs_dimmed : (dims : Bool) (note : GroupNode) (last : Config) → AllRun note last → AllRun (note_dimmed dims note) last
+runs_dimmed true note last it = λ bright. absurd (let clash : true ≡ false = bright in cc)
+runs_dimmed false note last it = it
 
 -- nothing is told of them
 pub lit_dimmed : (note : GroupNode) (told : Bool) (m : Meaning) → IsLit (note_dimmed true note) told m

@@ -37,7 +37,7 @@ use Rattle.vx_grouped.specs.declared.group_site.GroupSite.TheVariants.{Up, Depor
 use Rattle.vx_grouped.proofs.AlikeLemmas.{less_away}
 use Rattle.vx_grouped.proofs.SettleLemmas.{fell_fused, fuse_burned}
 use Rattle.vx_grouped.proofs.ImageLemmas.{less_from, less_noted, none_noted, noted_as}
-use Rattle.vx_grouped.proofs.SiteLemmas.{lies_as, noted_dimmed, away_dimmed, lit_dimmed}
+use Rattle.vx_grouped.proofs.SiteLemmas.{lies_as, noted_dimmed, away_dimmed, lit_dimmed, runs_dimmed}
 use Rattle.vx_grouped.specs.ConfigMoves.{AnyState, ConfigBack}
 use Rattle.vx_config.specs.Configs.{HasSpelling}
 use Rattle.vx_grouped.specs.GroupNotes.{NotesConfig, NotesFound, note_dimmed}
@@ -68,7 +68,7 @@ some_volume (x ∷ xs) (suc v) b low = let rest = some_volume xs v b low in omeg
 
 may_by : (note : GroupNode) (v b : ℕ) (t : Bool) (value : List ℕ) → (t ≡ true → BlockMay note v b value) → BlockMay note v b (if t then value else note.bytes.block v b)
 may_by note v b true value may = may refl
-may_by note v b false value may = inl refl
+may_by note v b false value may = inr (inl refl)
 
 module _ (n : Node) (note : GroupNode) (last : Config) (m0 m : Meaning) (told : m.tells ≡ m0.tells) (lies : AwayLies n note last m) (core : GroupCore) (m' : Meaning) (back : GroupReturns n note last m core m') where
   abbrev pub next : GroupNode
@@ -85,8 +85,7 @@ module _ (n : Node) (note : GroupNode) (last : Config) (m0 m : Meaning) (told : 
     loose = refl;
     cut = refl;
     dark = refl;
-    missed = refl;
-    perhaps = refl;
+    inside = refl;
     block = λ v b. either_block (back.renewed v) (back.value v b) (note.bytes.block v b) (note.others v b);
     may = λ tells v b low. may_by note v b (back.renewed v) (back.value v b) (λ on. back.may (subst IsTrue (sym told) tells) v b (inside v b low) on);
     size = λ tells v low. back.sizes (subst IsTrue (sym told) tells) v (inside v 0 low).volume ∙ sym (lies.sizes v);
@@ -287,6 +286,7 @@ module _ {R : Type 0} {g : Ghosts R} (n : Node) (note : GroupNode) (racks : (s :
           state = down.away.state;
           config = down.away.config;
           found = noted_as note (note_dimmed (not t) note) down.last (shade_meaning g.meaning fallen) refl refl (fallen_found t it);
+          runs = runs_dimmed (not t) note down.last down.away.runs;
           lies = away_dimmed (not t) n (dimmed_site (not t) note n) note down.last (shade_meaning g.meaning fallen) refl refl (lies_by t it);
         };
       }
@@ -443,6 +443,7 @@ module _ {R : Type 0} {g : Ghosts R} (n : Node) (note : GroupNode) (racks : (s :
                   state = refl;
                   config = away.away.config;
                   found = none_noted (note_dimmed true note) away.newest (shade_meaning g.meaning fallen) none.leaves;
+                  runs = λ bright. absurd (let clash : true ≡ false = bright in cc);
                   lies = record {
                     units = kept.units ∙ since.units ∙ away.away.lies.units;
                     size = λ u low. kept.size u ∙ since.size u ∙ away.away.lies.size u low;

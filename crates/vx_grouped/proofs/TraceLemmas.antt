@@ -26,6 +26,9 @@ module _ {R B : Type 0} {g : Ghosts R} {b : Begins B} where
   off_same (Bright t) = refl
   off_same (Dark t) = refl
 
+  pub off_means : (s : Shade R) (s0 : Shade (Traced R B g b)) → s ≡ off s0 → shade_meaning (λ t. g.meaning (inside t)) s0 ≡ shade_meaning g.meaning s
+  off_means s s0 same = off_same s0 ∙ ap (λ (x : Shade R). shade_meaning g.meaning x) (sym same)
+
   -- of one shelf
   pub carried_off : (P : Meaning → Type 0) (s : Shade R) (s0 : Shade (Traced R B g b)) → s ≡ off s0 → P (shade_meaning (λ t. g.meaning (inside t)) s0) → P (shade_meaning g.meaning s)
   carried_off P s s0 same it = subst (λ (x : Shade R). P (shade_meaning g.meaning x)) (sym same) (subst P (off_same s0) it)

@@ -68,7 +68,7 @@ module _ (n : Node) (note : GroupNode) (v block : ℕ) (bytes : List ℕ) (c d :
   )
 
 -- two calls over a rack, whose units are its disks
-rack_rises : (m m' : Meaning) → IsRack m → IsRack m' → ((disk : ℕ) → m.disk_faults disk ≤ m'.disk_faults disk) → (u : ℕ) → m.faults u ≤ m'.faults u
+pub rack_rises : (m m' : Meaning) → IsRack m → IsRack m' → ((disk : ℕ) → m.disk_faults disk ≤ m'.disk_faults disk) → (u : ℕ) → m.faults u ≤ m'.faults u
 rack_rises m m' old new rise u = let more = rise u in let one = old.counts u in let two = new.counts u in omega (arith, more, one, two)
 
 pub both_lose : (m0 m1 m2 : Meaning) → IsRack m0 → IsRack m1 → IsRack m2 → ((disk : ℕ) → m0.disk_faults disk ≤ m1.disk_faults disk) → ((disk : ℕ) → m1.disk_faults disk ≤ m2.disk_faults disk)

@@ -1,5 +1,5 @@
 -- A group whose disks are by themselves, as its site notes it: it crashed, or was deported.
-use Rattle.std.specs.Prelude.{◌≡◌, ℕ, ◌<◌, true, false, if◌then◌else◌, IsTrue, []}
+use Rattle.std.specs.Prelude.{◌≡◌, ℕ, ◌<◌, true, false, if◌then◌else◌, IsTrue, [], length}
 use Rattle.vx_model.specs.declared.site.SiteState.TheVariants.{Deported, Down as IsDown}
 use Rattle.vx_disk.specs.Shelf.{Each, Image, Meaning}
 use Rattle.vx_history.specs.Groups.{GroupNode, BlockMay}
@@ -12,7 +12,7 @@ use Rattle.vx_kept.specs.Facts.{is_found}
 use Rattle.vx_kept.specs.Groups.{found}
 use Rattle.vx_kept.specs.Keeping.{Extends, frame_at}
 use Rattle.vx_layout.specs.Places.{place}
-use Rattle.vx_volume.specs.Plexes.{Inside}
+use Rattle.vx_volume.specs.Plexes.{Inside, SomeActive}
 use Rattle.vx_group.specs.Resumes.{CanImport}
 use Rattle.vx_group.specs.declared.inner.Inner.{Inner}
 use Rattle.vx_grouped.specs.GroupNotes.{NotesFound, noted_config}
@@ -30,11 +30,16 @@ pub record AwayLies (n : Node) (note : GroupNode) (last : Config) (m : Meaning) 
   pub has : (i : Image) (x : Config) → Each m.leaves i → found m i ≡ Found x → (v p b : ℕ) → Inside last v b → IsTrue (live x v p)
       → BlockMay note v b (i (place x v p b).0 (place x v p b).1)
 
+-- where it is known what the disks hold, each volume has a plex that is ACTIVE
+abbrev pub AllRun : GroupNode → Config → Type 0
+AllRun note last = note.dark ≡ false → (v : ℕ) → v < length last.volumes → SomeActive last v
+
 -- the disks of a site that crashed: it is noted with the configuration that memory had
 pub record IsAwayAt (n : Node) (note : GroupNode) (last : Config) (m : Meaning) : Type 0 where
   pub state : n.state ≡ IsDown
   pub config : note.config ≡ noted_config last
   pub found : NotesFound note last m
+  pub runs : AllRun note last
   pub lies : AwayLies n note last m
 
 -- the note with the configuration that a deport committed; imports may disagree where the one of before was not committed

@@ -10,6 +10,7 @@ use Rattle.vx_disk.specs.Counts.{Rose}
 use Rattle.vx_disk.specs.Shelf.{Meaning}
 use Rattle.vx_disk.specs.declared.shelf.Shelf.{Ghosts}
 use Rattle.vx_history.specs.Groups.{GroupNode}
+use Rattle.vx_history.specs.Missing.{maps_none}
 use Rattle.vx_history.specs.Steps.{group_set}
 use Rattle.vx_history.specs.World.{Node, NoFuse}
 use Rattle.vx_config.specs.declared.config.Config.{Config}
@@ -18,6 +19,7 @@ use Rattle.vx_copyio.specs.Labelling.{HasSmall}
 use Rattle.vx_kept.specs.Trusts.{HasFailed}
 use Rattle.vx_watched.specs.Since.{CalledSince}
 use Rattle.vx_grouped.specs.GroupSites.{GroupSiteStands, UpNoted, site_disks}
+use Rattle.vx_grouped.specs.SiteMaps.{StandMaps}
 use Rattle.vx_grouped.specs.declared.group_site.GroupSite.{GroupSite}
 use Rattle.vx_grouped.specs.declared.group_site.GroupSite.TheVariants.{Up}
 
@@ -40,7 +42,9 @@ pub record IsFirstNote (note : GroupNode) : Type 0 where
   pub others : (v b : ℕ) → note.others v b ≡ []
   pub cut : note.cut ≡ None
   pub dark : note.dark ≡ false
-  pub perhaps : (v p r : ℕ) → note.perhaps v p r ≡ false
+  pub serial : ℕ
+  pub maps : note.maps ≡ maps_none serial
+  pub inside : (v : ℕ) → note.inside v ≡ false
 
 -- a bare site as a group with this note
 abbrev pub group_begun : GroupNode → ℕ → Node → Node
@@ -77,7 +81,7 @@ module _ {R : Type 0} {g : Ghosts R} where
 
   -- the site with a group whose imports agree unless a disk is held as failed; or bare, where a disk failed, or memory was wanted
   abbrev pub BeginsGroup : ℕ → Node → Meaning → GroupSite R g → Result (Unit {0}) Stop → Type 0
-  BeginsGroup site n old new (Ok done) = (note : GroupNode) × IsFirstNote note × UpNoted (group_begun note site n) note new × IsEmptyGroup site n new × ((note.loose ≡ false) ⊎ HoldsFailed new)
+  BeginsGroup site n old new (Ok done) = (note : GroupNode) × IsFirstNote note × UpNoted (group_begun note site n) note new × IsEmptyGroup site n new × ((note.loose ≡ false) ⊎ HoldsFailed new) × StandMaps note new
   BeginsGroup site n old new (Err (Refused (Device disk))) = GroupSiteStands n new × Rose (old.disk_faults disk) ((site_disks new).disk_faults disk)
   BeginsGroup site n old new (Err OutOfMemory) = GroupSiteStands n new
   BeginsGroup site n old new (Err (Refused other)) = ⊥

@@ -16,6 +16,7 @@ use Rattle.vx_grouped.specs.GroupNotes.{NotesConfig}
 use Rattle.vx_grouped.specs.GroupSites.{UpNoted}
 use Rattle.vx_grouped.specs.Returns.{GroupReturns}
 use Rattle.vx_grouped.specs.SiteEnds.{HasNow}
+use Rattle.vx_grouped.specs.SiteMaps.{StandMaps}
 use Rattle.vx_grouped.specs.SiteReturns.{ImportWhy, ReturnSince}
 use Rattle.vx_grouped.specs.declared.group_site.GroupSite.{GroupSite}
 
@@ -36,7 +37,7 @@ pub record IsFoundNote (note : GroupNode) (c : Config) : Type 0 where
   pub dark : note.dark ≡ true
   pub size : (v : ℕ) → note.bytes.size v ≡ blocks_of c.volumes v
   pub cut : note.cut ≡ None
-  pub perhaps : (v p r : ℕ) → note.perhaps v p r ≡ false
+  pub inside : (v : ℕ) → note.inside v ≡ false
 
 -- the disks behind it: those of the group, or those that are handed back
 abbrev pub FoundSince : {S G : Type 0} → Meaning → (S → Meaning) → (G → Meaning) → Result G (S × Stop) → Type 0
@@ -64,5 +65,5 @@ pub record FindStops (n : Node) (old new : Meaning) (stop : Stop) : Type 0 where
 module _ {R : Type 0} {g : Ghosts R} where
   -- the site with the group that was found, if one was
   abbrev pub FindsUp : {S : Type 0} → ℕ → Node → Result (GroupSite R g) (S × Stop) → Type 0
-  FindsUp site n (Ok e) = (note : GroupNode) × (c : Config) × IsFoundNote note c × HasNow c e × UpNoted (group_begun note site n) note e
+  FindsUp site n (Ok e) = (note : GroupNode) × (c : Config) × IsFoundNote note c × HasNow c e × UpNoted (group_begun note site n) note e × StandMaps note e
   FindsUp site n (Err e) = Unit {0}

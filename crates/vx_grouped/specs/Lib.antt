@@ -1,6 +1,7 @@
 pub mod Added
 pub mod Away
 pub mod Begins
+pub mod Brings
 pub mod ConfigMoves
 pub mod Copied
 pub mod CoreMoves
@@ -10,14 +11,18 @@ pub mod GroupNotes
 pub mod GroupSites
 pub mod ImportFacts
 pub mod Keepings
+pub mod MapsNoted
 pub mod Plain
+pub mod PlainMaps
 pub mod Readies
 pub mod Returns
 pub mod SetFuses
 pub mod SiteAdds
 pub mod SiteEnds
 pub mod SiteKeeps
+pub mod SiteMaps
 pub mod SiteReturns
 pub mod StateChanges
 pub mod Tracings
+pub mod Volumes
 pub mod Watches

@@ -1,12 +1,13 @@
 // A group that is found on disks of which it is not known what they hold.
-ghost use Rattle.std.specs.Prelude.{◌≡◌, IfErr};
+ghost use Rattle.std.specs.Prelude.{◌≡◌, IfErr, IfOk};
 ghost use Rattle.vx_config.specs.declared.config.Config.{Config as ConfigValue};
 ghost use Rattle.vx_group.specs.Imports.{ImportStops};
-ghost use Rattle.vx_history.specs.Groups.{GroupNode};
+ghost use Rattle.vx_history.specs.Groups.{GroupNode, MissedNote};
 ghost use Rattle.vx_history.specs.World.{Node};
 ghost use Rattle.vx_grouped.specs.Away.{AwayLies};
 ghost use Rattle.vx_grouped.specs.Finds.{CanFind, FindStops, FindsParts, FindsUp, FoundSince, FoundTells};
 ghost use Rattle.vx_grouped.specs.GroupSites.{site_below, site_disks};
+ghost use Rattle.vx_grouped.specs.PlainMaps.{PartsNoted, map_parts};
 ghost use Rattle.vx_untold.specs.Shades.{rack_of, shade_meaning};
 ghost use Rattle.vx_untold.specs.Untold.{untold};
 ghost use Rattle.vx_watched.specs.Since.{CalledSince};
@@ -25,6 +26,9 @@ use vx_watched::{Begun, Watched};
 // A group on disks of which nothing is told.
 fn dimmed<R: Rack>(group: LoggedGroup<Untold<R>>) -> Laid<R>
     ensures core { result.core ≡ group.core }
+    ensures logs { result.logs ≡ group.logs }
+    ensures alike { result.alike ≡ group.alike }
+    ensures stopped { result.stopped ≡ group.stopped }
     ensures shelf { result.shelf ≡ Shade.Dark group.shelf.shelf }
 {
     let (untold, rest) = group.apart();
@@ -48,6 +52,7 @@ fn dimmed<R: Rack>(group: LoggedGroup<Untold<R>>) -> Laid<R>
 fn find_from<B: Begun, R: Rack>(alloc: Global, rack: R) -> Result<Laid<R>, (R, Stop)>
     requires since { CalledSince B.first (R.meaning rack) }
     ensures leaves { (n : Node) (note : GroupNode) (last : ConfigValue) → AwayLies n note last (untold (R.meaning rack)) → FindsParts n note last (untold (R.meaning rack)) (λ g. g.core) (λ g. shade_meaning (λ s. R.meaning s) g.shelf) result }
+    ensures maps { IfOk result (λ g. (w : MissedNote) × PartsNoted w (map_parts g.core.inner.config g.logs.items g.alike g.stopped)) }
     ensures stops { IfErr result (λ e. ImportStops (untold (R.meaning rack)) (untold (R.meaning e.0)) e.1) }
     ensures since { FoundSince B.first (λ s. R.meaning s) (λ g. shade_meaning (λ s. R.meaning s) g.shelf) result }
     ensures told { FoundTells B.first (λ s. R.meaning s) (λ g. R.meaning (rack_of g.shelf)) result }
@@ -68,6 +73,7 @@ fn find_from<B: Begun, R: Rack>(alloc: Global, rack: R) -> Result<Laid<R>, (R, S
 // Imports a group of disks as of ones that tell nothing, whose calls it accounts for.
 fn find_watched<R: Rack>(alloc: Global, rack: R) -> Result<Laid<R>, (R, Stop)>
     ensures leaves { (n : Node) (note : GroupNode) (last : ConfigValue) → AwayLies n note last (untold (R.meaning rack)) → FindsParts n note last (untold (R.meaning rack)) (λ g. g.core) (λ g. shade_meaning (λ s. R.meaning s) g.shelf) result }
+    ensures maps { IfOk result (λ g. (w : MissedNote) × PartsNoted w (map_parts g.core.inner.config g.logs.items g.alike g.stopped)) }
     ensures stops { IfErr result (λ e. ImportStops (untold (R.meaning rack)) (untold (R.meaning e.0)) e.1) }
     ensures since { FoundSince (R.meaning rack) (λ s. R.meaning s) (λ g. shade_meaning (λ s. R.meaning s) g.shelf) result }
     ensures told { FoundTells (R.meaning rack) (λ s. R.meaning s) (λ g. R.meaning (rack_of g.shelf)) result }

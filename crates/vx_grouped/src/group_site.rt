@@ -27,8 +27,10 @@ pub enum GroupSite<R: Rack> {
 
 impl<R: Rack> GroupSite<R> {
     ghost use Rattle.vx_grouped.specs.GroupSites.{CutNoted, DownNoted, GroupSiteStands, UpNoted, site_agrees, site_below, site_config, site_disks};
+    ghost use Rattle.vx_grouped.specs.SiteMaps.{StaysMapped};
     ghost use Rattle.vx_watched.specs.Traces.{TellsLess};
     ghost use Rattle.vx_grouped.specs.SiteEnds.{CountsAlike, MayCrashSite, StaysAlike};
+    ghost use Rattle.vx_grouped.specs.Volumes.{IsNotUp};
 
     /// How many disks it has.
     pub fn disks(&self) -> u32
@@ -68,6 +70,7 @@ impl<R: Rack> GroupSite<R> {
     pub fn fail(&mut self, disk: u64, on: bool)
         ensures stands { StaysAlike self.old self.new }
         ensures asked { disk < (site_disks self.old).units → WithDisks (site_disks self.old).disks (site_disks self.new).disks (λ o n. Untouched o n × (n.failing disk ≡ on) × ((u : ℕ) → u ≢ disk → n.failing u ≡ o.failing u)) }
+        ensures maps { StaysMapped self.old self.new }
         ensures later { CountsAlike self.old self.new }
     {
         if disk >= self.disks() as u64 {
@@ -82,6 +85,7 @@ impl<R: Rack> GroupSite<R> {
         requires { disk < (site_disks self).units }
         ensures stands { StaysAlike self result }
         ensures asked { WithDisks (site_disks self).disks (site_disks result).disks (λ o n. Untouched o n × (n.failing disk ≡ on) × ((u : ℕ) → u ≢ disk → n.failing u ≡ o.failing u)) }
+        ensures maps { StaysMapped self result }
         ensures later { CountsAlike self result }
     {
         match self {
@@ -101,6 +105,7 @@ impl<R: Rack> GroupSite<R> {
     pub fn fuse(&mut self, calls: u64, pick: u64)
         ensures fused { (n : Node) (note : GroupNode) → UpNoted n note self.old → UpNoted (record n { fuse = FuseSet calls }) note self.new }
         ensures asked { (n : Node) (note : GroupNode) → UpNoted n note self.old → OnDisks (site_disks self.old).disks (site_disks self.new).disks (λ o n. SameBlocks o n × (n.fuse ≡ Some (calls, pick))) }
+        ensures maps { StaysMapped self.old self.new }
         ensures later { CountsAlike self.old self.new }
     {
         match mem::replace(self, GroupSite::Gone) {
@@ -118,7 +123,9 @@ impl<R: Rack> GroupSite<R> {
         ensures crashed { (n : Node) (note : GroupNode) → UpNoted n note self → DownNoted (crashed n 0) note result }
         ensures cut { (n : Node) (note : GroupNode) → CutNoted n note self → DownNoted (crashed n 0) note result }
         ensures asked { (n : Node) (note : GroupNode) → UpNoted n note self → OnDisks (site_disks self).disks (site_disks result).disks (Crashed (site_disks self).size pick) }
+        ensures maps { StaysMapped self result }
         ensures stopped { MayCrashSite pick self result }
+        ensures off { IsNotUp result }
         ensures told { TellsLess (site_below self) (site_below result) }
     {
         match self {

@@ -7,6 +7,7 @@ ghost use Rattle.vx_group.specs.Stands.{inner_meaning};
 ghost use Rattle.vx_grouped.specs.GroupNotes.{IsGroupAt};
 ghost use Rattle.vx_grouped.specs.Keepings.{BytesKept, KeepsPlain};
 ghost use Rattle.vx_grouped.specs.Plain.{HoldsPlain};
+ghost use Rattle.vx_grouped.specs.PlainMaps.{map_parts};
 ghost use Rattle.vx_history.specs.Groups.{GroupNode};
 ghost use Rattle.vx_history.specs.World.{Node};
 ghost use Rattle.vx_model.specs.Content.{block_of};
@@ -55,9 +56,11 @@ pub fn kept_plain<S: Shelf>(
     requires few { length bytes.now ≤ MOST_CALL_BYTES }
     ensures kept { (note : GroupNode) → HoldsPlain note (inner_meaning (wide group.old.core) (S.meaning group.old.shelf)) → IfOk result (KeepsPlain note (S.meaning group.old.shelf) vol block bytes.now) }
     ensures stays { (n : Node) (note : GroupNode) → IsGroupAt n note group.old.core (S.meaning group.old.shelf) → IsGroupAt n note group.new.core (S.meaning group.new.shelf) }
+    ensures goes { Goes Nothing (inner_meaning (wide group.old.core) (S.meaning group.old.shelf)) (inner_meaning (wide group.new.core) (S.meaning group.new.shelf)) }
     ensures same { group.new.core.inner.config ≡ group.old.core.inner.config }
     ensures below { Goes Nothing (S.meaning group.old.shelf) (S.meaning group.new.shelf) }
     ensures cause { IfErr result (DeviceCause (S.meaning group.old.shelf) (S.meaning group.new.shelf)) }
+    ensures maps { map_parts group.new.core.inner.config group.new.logs.items group.new.alike group.new.stopped ≡ map_parts group.old.core.inner.config group.old.logs.items group.old.alike group.old.stopped }
 {
     let mut found = [0; MOST_CALL_BYTES];
     match group.read(vol, block, &mut found[..bytes.len()]) {

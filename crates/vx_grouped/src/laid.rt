@@ -44,7 +44,9 @@ impl<R: Rack> Laid<R> {
     ghost use Rattle.vx_grouped.specs.Away.{IsAwayAt};
     ghost use Rattle.vx_grouped.specs.GroupSites.{FitsPlain};
     ghost use Rattle.vx_grouped.specs.Plain.{HoldsPlain};
-    ghost use Rattle.vx_history.specs.Groups.{GroupNode};
+    ghost use Rattle.vx_grouped.specs.PlainMaps.{PartsNoted, map_parts};
+    ghost use Rattle.vx_grouped.specs.SiteMaps.{DiskMaps, RestsNot};
+    ghost use Rattle.vx_history.specs.Groups.{GroupNode, MissedNote};
     ghost use Rattle.vx_history.specs.World.{Node};
     ghost use Rattle.vx_model.specs.declared.site.SiteState.TheVariants.{Down as DownState};
     ghost use Rattle.vx_untold.specs.Shades.{rack_of};
@@ -54,6 +56,9 @@ impl<R: Rack> Laid<R> {
     pub fn of(group: LoggedGroup<Shade<R>>) -> Laid<R>
         ensures shelf { result.shelf ≡ group.shelf }
         ensures core { result.core ≡ group.core }
+        ensures logs { result.logs ≡ group.logs }
+        ensures alike { result.alike ≡ group.alike }
+        ensures stopped { result.stopped ≡ group.stopped }
     {
         let (shelf, rest) = group.apart();
         let Opened {
@@ -77,6 +82,9 @@ impl<R: Rack> Laid<R> {
     pub fn together(self) -> LoggedGroup<Shade<R>>
         ensures shelf { result.shelf ≡ self.shelf }
         ensures core { result.core ≡ self.core }
+        ensures logs { result.logs ≡ self.logs }
+        ensures alike { result.alike ≡ self.alike }
+        ensures stopped { result.stopped ≡ self.stopped }
     {
         LoggedGroup::together(
             self.shelf,
@@ -146,6 +154,9 @@ impl<R: Rack> Laid<R> {
     pub fn fail(self, disk: u32, on: bool) -> Laid<R>
         requires { disk < (shade_meaning (λ s. R.meaning s) self.shelf).units }
         ensures core { result.core ≡ self.core }
+        ensures logs { result.logs ≡ self.logs }
+        ensures flags { result.alike ≡ self.alike }
+        ensures ended { result.stopped ≡ self.stopped }
         ensures alike { Alike (shade_meaning (λ s. R.meaning s) self.shelf) (shade_meaning (λ s. R.meaning s) result.shelf) }
         ensures down { (shade_meaning (λ s. R.meaning s) result.shelf).down ≡ (shade_meaning (λ s. R.meaning s) self.shelf).down }
         ensures armed { (shade_meaning (λ s. R.meaning s) result.shelf).armed ≡ (shade_meaning (λ s. R.meaning s) self.shelf).armed }
@@ -159,6 +170,9 @@ impl<R: Rack> Laid<R> {
     /// Lets that many writes and flushes of the disks pass; the next is a crash.
     pub fn fuse(self, calls: u64, pick: u64) -> Laid<R>
         ensures core { result.core ≡ self.core }
+        ensures logs { result.logs ≡ self.logs }
+        ensures flags { result.alike ≡ self.alike }
+        ensures ended { result.stopped ≡ self.stopped }
         ensures alike { Alike (shade_meaning (λ s. R.meaning s) self.shelf) (shade_meaning (λ s. R.meaning s) result.shelf) }
         ensures down { (shade_meaning (λ s. R.meaning s) result.shelf).down ≡ (shade_meaning (λ s. R.meaning s) self.shelf).down }
         ensures disks { OnDisks (shade_meaning (λ s. R.meaning s) self.shelf).disks (shade_meaning (λ s. R.meaning s) result.shelf).disks (λ o n. SameBlocks o n × (n.fuse ≡ Some (calls, pick))) }
@@ -174,6 +188,8 @@ impl<R: Rack> Laid<R> {
         ensures stopped { Stopped (shade_meaning (λ s. R.meaning s) self.shelf) (shade_meaning (λ s. R.meaning s) result.rack) }
         ensures agreed { result.agreed ≡ self.core.inner.agreed }
         ensures disks { OnDisks (shade_meaning (λ s. R.meaning s) self.shelf).disks (shade_meaning (λ s. R.meaning s) result.rack).disks (Crashed (shade_meaning (λ s. R.meaning s) self.shelf).size pick) }
+        ensures maps { (w : MissedNote) → PartsNoted w (map_parts self.core.inner.config self.logs.items self.alike self.stopped) → DiskMaps w self.core.inner.config (shade_meaning (λ s. R.meaning s) result.rack) }
+        ensures rests { RestsNot result.rested }
         ensures told { TellsLess (R.meaning (rack_of self.shelf)) (R.meaning (rack_of result.rack)) }
     {
         crash_laid::<Brand, R>(self, pick)

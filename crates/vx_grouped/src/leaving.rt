@@ -7,6 +7,7 @@ ghost use Rattle.vx_group.specs.Dets.{margin};
 ghost use Rattle.vx_grouped.specs.CoreMoves.{DeportCan, DeportMoves};
 ghost use Rattle.vx_grouped.specs.Ends.{DeportLeaves};
 ghost use Rattle.vx_grouped.specs.GroupNotes.{IsGroupAt};
+ghost use Rattle.vx_grouped.specs.PlainMaps.{LeavesMaps, map_parts};
 ghost use Rattle.vx_history.specs.Groups.{GroupNode};
 ghost use Rattle.vx_history.specs.World.{Node};
 ghost use Rattle.vx_loggroup.specs.Opens.{DeportTells};
@@ -31,6 +32,7 @@ pub fn deport_group<S: Shelf>(
     ensures leaves { (n : Node) (note : GroupNode) → IsGroupAt n note group.core (S.meaning group.shelf) → DeportLeaves n note group.core (λ s. S.meaning s.0) (λ g. g.core) (λ g. S.meaning g.shelf) result }
     ensures can { DeportCan group.core (λ s. S.meaning s.0) result }
     ensures tells { DeportTells (λ s. S.meaning s) result }
+    ensures maps { LeavesMaps (map_parts group.core.inner.config group.logs.items group.alike group.stopped) (S.meaning group.shelf) (λ s. S.meaning s) (λ g. map_parts g.core.inner.config g.logs.items g.alike g.stopped) (λ g. S.meaning g.shelf) result }
     ensures moves { DeportMoves group.core (S.meaning group.shelf) (λ s. S.meaning s.0) (λ g. g.core) (λ g. S.meaning g.shelf) result }
     ensures cause { group.core.inner.config.serial ≤ greatest - margin → DeportStops (S.meaning group.shelf) (λ s. S.meaning s.0) (λ g. (g.shelf, None)) result }
 {

@@ -1,5 +1,6 @@
 // Plexes of a group that are detached and attached.
 ghost use Rattle.std.specs.Prelude.{◌≡◌, Err, IfErr, IfOk, IsTrue, Ok, OnOk, Some, None, false, true, ℕ};
+ghost use Rattle.vx_disk.specs.Racks.{IsRack};
 ghost use Rattle.vx_disk.specs.Shelf.{Goes, Nothing};
 ghost use Rattle.vx_group.specs.Attaches.{IsAttached, att_refusal, missed_regions};
 ghost use Rattle.vx_group.specs.Dets.{DetStops, det_refusal};
@@ -11,6 +12,7 @@ ghost use Rattle.vx_grouped.specs.Copied.{CopiesRegions};
 ghost use Rattle.vx_grouped.specs.CoreMoves.{CoreMoves};
 ghost use Rattle.vx_grouped.specs.Ends.{CallLeaves};
 ghost use Rattle.vx_grouped.specs.GroupNotes.{IsGroupAt};
+ghost use Rattle.vx_grouped.specs.PlainMaps.{AttsMaps, DetsMaps, map_parts};
 ghost use Rattle.vx_history.specs.Groups.{GroupNode};
 ghost use Rattle.vx_history.specs.World.{Node};
 ghost use Rattle.vx_loggroup.specs.Attaching.{map_by};
@@ -39,6 +41,7 @@ pub fn det_plex<S: Shelf>(group: &mut LoggedGroup<S>, vol: u32, plex: u32) -> Re
     ensures cause { det_refusal group.old.core.inner.config vol plex ≡ None → DetStops (S.meaning group.old.shelf) (S.meaning group.new.shelf) result }
     ensures narrows { (w p : ℕ) → IsTrue (active group.new.core.inner.config w p) → IsTrue (active group.old.core.inner.config w p) }
     ensures moves { CoreMoves none_again group.old.core.inner.config group.new.core.inner.config (S.meaning group.old.shelf) (S.meaning group.new.shelf) }
+    ensures maps { IsRack (S.meaning group.old.shelf) → IsRack (S.meaning group.new.shelf) → DetsMaps vol plex (map_parts group.old.core.inner.config group.old.logs.items group.old.alike group.old.stopped) (S.meaning group.old.shelf) (map_parts group.new.core.inner.config group.new.logs.items group.new.alike group.new.stopped) (S.meaning group.new.shelf) result }
 {
     let answer = group.det(vol, plex);
     if group.is_down() {
@@ -67,6 +70,7 @@ pub fn att_plex<S: Shelf>(group: &mut LoggedGroup<S>, vol: u32, plex: u32) -> Re
     ensures cause { att_refusal group.old.core.inner.config vol plex ≡ None → DetStops (S.meaning group.old.shelf) (S.meaning group.new.shelf) result }
     ensures stays { IsTrue (active group.old.core.inner.config vol plex) → OnOk result (IsTrue (active group.new.core.inner.config vol plex)) }
     ensures moves { CoreMoves (uses group.old.core.inner.config vol plex) group.old.core.inner.config group.new.core.inner.config (S.meaning group.old.shelf) (S.meaning group.new.shelf) }
+    ensures maps { IsRack (S.meaning group.old.shelf) → IsRack (S.meaning group.new.shelf) → AttsMaps vol plex (map_parts group.old.core.inner.config group.old.logs.items group.old.alike group.old.stopped) (S.meaning group.old.shelf) (map_parts group.new.core.inner.config group.new.logs.items group.new.alike group.new.stopped) (S.meaning group.new.shelf) result }
 {
     let answer = group.att(vol, plex);
     if group.is_down() {

@@ -7,11 +7,13 @@ ghost use Rattle.vx_group.specs.Holding.{wide};
 ghost use Rattle.vx_group.specs.Stands.{inner_meaning};
 ghost use Rattle.vx_grouped.specs.Away.{IsAwayAt};
 ghost use Rattle.vx_grouped.specs.GroupNotes.{GroupLies};
-ghost use Rattle.vx_history.specs.Groups.{GroupNode};
+ghost use Rattle.vx_history.specs.Groups.{GroupNode, MissedNote};
 ghost use Rattle.vx_history.specs.World.{Node};
 ghost use Rattle.vx_logimport.specs.declared.rested.Rested.{Rested as RestedValue};
 ghost use Rattle.vx_logimport.specs.Rests.{RestsNone};
 ghost use Rattle.vx_model.specs.declared.site.SiteState.TheVariants.{Down as DownState};
+ghost use Rattle.vx_grouped.specs.PlainMaps.{PartsNoted, map_parts};
+ghost use Rattle.vx_grouped.specs.SiteMaps.{DiskMaps, RestsNot};
 ghost use Rattle.vx_untold.specs.Shades.{rack_of, shade_meaning};
 ghost use Rattle.vx_watched.specs.Traces.{TellsLess};
 
@@ -37,6 +39,9 @@ pub(crate) fn fail_laid<C: Begun, R: Rack>(laid: Laid<R>, disk: u32, on: bool) -
     requires disk { disk < (shade_meaning (λ s. R.meaning s) laid.shelf).units }
     requires told { TellsLess C.first (R.meaning (rack_of laid.shelf)) }
     ensures core { result.core ≡ laid.core }
+    ensures logs { result.logs ≡ laid.logs }
+    ensures flags { result.alike ≡ laid.alike }
+    ensures ended { result.stopped ≡ laid.stopped }
     ensures alike { Alike (shade_meaning (λ s. R.meaning s) laid.shelf) (shade_meaning (λ s. R.meaning s) result.shelf) }
     ensures down { (shade_meaning (λ s. R.meaning s) result.shelf).down ≡ (shade_meaning (λ s. R.meaning s) laid.shelf).down }
     ensures armed { (shade_meaning (λ s. R.meaning s) result.shelf).armed ≡ (shade_meaning (λ s. R.meaning s) laid.shelf).armed }
@@ -62,6 +67,9 @@ pub(crate) fn fail_laid<C: Begun, R: Rack>(laid: Laid<R>, disk: u32, on: bool) -
 pub(crate) fn fuse_laid<C: Begun, R: Rack>(laid: Laid<R>, calls: u64, pick: u64) -> Laid<R>
     requires { TellsLess C.first (R.meaning (rack_of laid.shelf)) }
     ensures core { result.core ≡ laid.core }
+    ensures logs { result.logs ≡ laid.logs }
+    ensures flags { result.alike ≡ laid.alike }
+    ensures ended { result.stopped ≡ laid.stopped }
     ensures alike { Alike (shade_meaning (λ s. R.meaning s) laid.shelf) (shade_meaning (λ s. R.meaning s) result.shelf) }
     ensures down { (shade_meaning (λ s. R.meaning s) result.shelf).down ≡ (shade_meaning (λ s. R.meaning s) laid.shelf).down }
     ensures disks { OnDisks (shade_meaning (λ s. R.meaning s) laid.shelf).disks (shade_meaning (λ s. R.meaning s) result.shelf).disks (λ o n. SameBlocks o n × (n.fuse ≡ Some (calls, pick))) }
@@ -89,6 +97,8 @@ pub(crate) fn crash_laid<C: Begun, R: Rack>(laid: Laid<R>, pick: u64) -> Idle<R>
     ensures stopped { Stopped (shade_meaning (λ s. R.meaning s) laid.shelf) (shade_meaning (λ s. R.meaning s) result.rack) }
     ensures agreed { result.agreed ≡ laid.core.inner.agreed }
     ensures disks { OnDisks (shade_meaning (λ s. R.meaning s) laid.shelf).disks (shade_meaning (λ s. R.meaning s) result.rack).disks (Crashed (shade_meaning (λ s. R.meaning s) laid.shelf).size pick) }
+    ensures maps { (w : MissedNote) → PartsNoted w (map_parts laid.core.inner.config laid.logs.items laid.alike laid.stopped) → DiskMaps w laid.core.inner.config (shade_meaning (λ s. R.meaning s) result.rack) }
+    ensures rests { RestsNot result.rested }
     ensures told { TellsLess C.first (R.meaning (rack_of result.rack)) }
 {
     let (mut shelf, rest) = trace::<C, R>(laid).apart();

@@ -1,12 +1,16 @@
 // Which blocks of a write the volumes of a site's group have.
-ghost use Rattle.std.specs.Prelude.{◌≤◌, length};
+ghost use Rattle.std.specs.Prelude.{◌≤◌, length, ◌≡◌};
+ghost use Rattle.vx_disk.specs.Moves.{Nowhere};
 ghost use Rattle.vx_disk.specs.Shelf.{Fits};
 ghost use Rattle.vx_history.specs.Groups.{GroupNode};
 ghost use Rattle.vx_history.specs.World.{Node};
 ghost use Rattle.vx_group.specs.Holding.{wide};
 ghost use Rattle.vx_group.specs.Stands.{inner_meaning};
 ghost use Rattle.vx_grouped.specs.GroupSites.{FitsPlain, GroupUp, UpNoted, site_below, site_disks};
+ghost use Rattle.vx_grouped.specs.PlainMaps.{map_parts};
 ghost use Rattle.vx_grouped.specs.SiteKeeps.{PlainKeeps, PlainKept};
+ghost use Rattle.vx_grouped.specs.Volumes.{SiteGoes};
+ghost use Rattle.vx_grouped.specs.SiteMaps.{StaysMapped};
 ghost use Rattle.vx_untold.specs.Shades.{rack_of, shade_meaning};
 ghost use Rattle.vx_watched.specs.Since.{CalledSince};
 ghost use Rattle.vx_watched.specs.Traces.{TellsLess};
@@ -36,6 +40,7 @@ fn kept_from<B: Begun, R: Rack>(
     requires few { length bytes.now ≤ MOST_CALL_BYTES }
     requires since { CalledSince B.first (R.meaning group.shelf) }
     ensures works { PlainKeeps vol block bytes.now group.core (R.meaning group.shelf) result.0.core (R.meaning result.0.shelf) result.1 }
+    ensures maps { map_parts result.0.core.inner.config result.0.logs.items result.0.alike result.0.stopped ≡ map_parts group.core.inner.config group.logs.items group.alike group.stopped }
     ensures since { CalledSince B.first (R.meaning result.0.shelf) }
 {
     let (rack, rest) = group.apart();
@@ -58,6 +63,7 @@ fn kept_traced<C: Begun, R: Rack>(
     requires few { length bytes.now ≤ MOST_CALL_BYTES }
     requires told { TellsLess C.first (R.meaning (rack_of laid.shelf)) }
     ensures works { PlainKeeps vol block bytes.now laid.core (shade_meaning (λ s. R.meaning s) laid.shelf) result.0.core (shade_meaning (λ s. R.meaning s) result.0.shelf) result.1 }
+    ensures maps { map_parts result.0.core.inner.config result.0.logs.items result.0.alike result.0.stopped ≡ map_parts laid.core.inner.config laid.logs.items laid.alike laid.stopped }
     ensures since { CalledSince (shade_meaning (λ s. R.meaning s) laid.shelf) (shade_meaning (λ s. R.meaning s) result.0.shelf) }
     ensures told { TellsLess C.first (R.meaning (rack_of result.0.shelf)) }
 {
@@ -80,6 +86,7 @@ fn kept_watched<R: Rack>(
     requires fits { Fits (inner_meaning (wide laid.core) (shade_meaning (λ s. R.meaning s) laid.shelf)) vol block (length bytes.now) }
     requires few { length bytes.now ≤ MOST_CALL_BYTES }
     ensures works { PlainKeeps vol block bytes.now laid.core (shade_meaning (λ s. R.meaning s) laid.shelf) result.0.core (shade_meaning (λ s. R.meaning s) result.0.shelf) result.1 }
+    ensures maps { map_parts result.0.core.inner.config result.0.logs.items result.0.alike result.0.stopped ≡ map_parts laid.core.inner.config laid.logs.items laid.alike laid.stopped }
     ensures since { CalledSince (shade_meaning (λ s. R.meaning s) laid.shelf) (shade_meaning (λ s. R.meaning s) result.0.shelf) }
     ensures told { TellsLess (R.meaning (rack_of laid.shelf)) (R.meaning (rack_of result.0.shelf)) }
 {
@@ -95,6 +102,8 @@ fn kept_site<R: Rack>(
 ) -> (GroupSite<R>, Result<[bool; MOST_CALL_BLOCKS as usize], No>)
     requires few { length bytes.now ≤ MOST_CALL_BYTES }
     ensures kept { (n : Node) (note : GroupNode) → GroupUp n note (R.meaning (rack_of laid.shelf)).tells laid.core (shade_meaning (λ s. R.meaning s) laid.shelf) → FitsPlain note vol block (length bytes.now) → PlainKept n note vol block bytes.now (GroupSite.Up laid) result.0 result.1 }
+    ensures maps { (n : Node) (note : GroupNode) → GroupUp n note (R.meaning (rack_of laid.shelf)).tells laid.core (shade_meaning (λ s. R.meaning s) laid.shelf) → FitsPlain note vol block (length bytes.now) → StaysMapped (GroupSite.Up laid) result.0 }
+    ensures volumes { SiteGoes Nowhere (GroupSite.Up laid) result.0 }
     ensures since { CalledSince (shade_meaning (λ s. R.meaning s) laid.shelf) (site_disks result.0) }
     ensures told { TellsLess (R.meaning (rack_of laid.shelf)) (site_below result.0) }
 {
@@ -120,6 +129,8 @@ impl<R: Rack> GroupSite<R> {
     ) -> Result<[bool; MOST_CALL_BLOCKS as usize], No>
         requires few { length bytes.now ≤ MOST_CALL_BYTES }
         ensures kept { (n : Node) (note : GroupNode) → UpNoted n note self.old → FitsPlain note vol block (length bytes.now) → PlainKept n note vol block bytes.now self.old self.new result }
+        ensures maps { (n : Node) (note : GroupNode) → UpNoted n note self.old → FitsPlain note vol block (length bytes.now) → StaysMapped self.old self.new }
+        ensures volumes { SiteGoes Nowhere self.old self.new }
         ensures since { CalledSince (site_disks self.old) (site_disks self.new) }
         ensures told { TellsLess (site_below self.old) (site_below self.new) }
     {

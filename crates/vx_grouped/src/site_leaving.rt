@@ -6,7 +6,11 @@ ghost use Rattle.vx_grouped.specs.CoreMoves.{DeportCan, DeportMoves};
 ghost use Rattle.vx_grouped.specs.Ends.{DeportLeaves};
 ghost use Rattle.vx_grouped.specs.GroupNotes.{IsGroupAt};
 ghost use Rattle.vx_grouped.specs.GroupSites.{GroupUp, UpNoted, site_below, site_disks};
+ghost use Rattle.vx_disk.specs.Moves.{Nowhere};
+ghost use Rattle.vx_grouped.specs.Volumes.{SiteCloses, SiteGoes};
+ghost use Rattle.vx_grouped.specs.PlainMaps.{LeavesMaps, map_parts};
 ghost use Rattle.vx_grouped.specs.SiteEnds.{SiteDeported};
+ghost use Rattle.vx_grouped.specs.SiteMaps.{DeportMapped};
 ghost use Rattle.vx_grouped.specs.Watches.{DeportRefuses, DeportShows, DeportSince};
 ghost use Rattle.vx_loggroup.specs.Opens.{DeportTells};
 ghost use Rattle.vx_untold.specs.Shades.{rack_of, shade_meaning};
@@ -34,6 +38,7 @@ fn deport_from<B: Begun, R: Rack>(
     ensures up { IfOk result (λ s. IsTrue (R.meaning s.0).down → ⊥) }
     ensures can { DeportCan group.core (λ s. R.meaning s.0) result }
     ensures tells { DeportTells (λ s. R.meaning s) result }
+    ensures maps { LeavesMaps (map_parts group.core.inner.config group.logs.items group.alike group.stopped) (R.meaning group.shelf) (λ s. R.meaning s) (λ g. map_parts g.core.inner.config g.logs.items g.alike g.stopped) (λ g. R.meaning g.shelf) result }
     ensures moves { DeportMoves group.core (R.meaning group.shelf) (λ s. R.meaning s.0) (λ g. g.core) (λ g. R.meaning g.shelf) result }
     ensures refusals { DeportRefuses (R.meaning group.shelf) (λ g. R.meaning g.shelf) result }
     ensures since { DeportSince B.first (λ s. R.meaning s.0) (λ g. R.meaning g.shelf) result }
@@ -61,6 +66,7 @@ fn deport_traced<C: Begun, R: Rack>(
     ensures up { IfOk result (λ s. IsTrue (shade_meaning (λ s. R.meaning s) s.0).down → ⊥) }
     ensures can { DeportCan laid.core (λ s. shade_meaning (λ s. R.meaning s) s.0) result }
     ensures tells { DeportTells (λ s. shade_meaning (λ s. R.meaning s) s) result }
+    ensures maps { LeavesMaps (map_parts laid.core.inner.config laid.logs.items laid.alike laid.stopped) (shade_meaning (λ s. R.meaning s) laid.shelf) (λ s. shade_meaning (λ s. R.meaning s) s) (λ g. map_parts g.core.inner.config g.logs.items g.alike g.stopped) (λ g. shade_meaning (λ s. R.meaning s) g.shelf) result }
     ensures moves { DeportMoves laid.core (shade_meaning (λ s. R.meaning s) laid.shelf) (λ s. shade_meaning (λ s. R.meaning s) s.0) (λ g. g.core) (λ g. shade_meaning (λ s. R.meaning s) g.shelf) result }
     ensures refusals { DeportRefuses (shade_meaning (λ s. R.meaning s) laid.shelf) (λ g. shade_meaning (λ s. R.meaning s) g.shelf) result }
     ensures since { DeportSince (shade_meaning (λ s. R.meaning s) laid.shelf) (λ s. shade_meaning (λ s. R.meaning s) s.0) (λ g. shade_meaning (λ s. R.meaning s) g.shelf) result }
@@ -79,6 +85,7 @@ fn deport_watched<R: Rack>(laid: Laid<R>) -> Result<(Shade<R>, Option<Rested>), 
     ensures up { IfOk result (λ s. IsTrue (shade_meaning (λ s. R.meaning s) s.0).down → ⊥) }
     ensures can { DeportCan laid.core (λ s. shade_meaning (λ s. R.meaning s) s.0) result }
     ensures tells { DeportTells (λ s. shade_meaning (λ s. R.meaning s) s) result }
+    ensures maps { LeavesMaps (map_parts laid.core.inner.config laid.logs.items laid.alike laid.stopped) (shade_meaning (λ s. R.meaning s) laid.shelf) (λ s. shade_meaning (λ s. R.meaning s) s) (λ g. map_parts g.core.inner.config g.logs.items g.alike g.stopped) (λ g. shade_meaning (λ s. R.meaning s) g.shelf) result }
     ensures moves { DeportMoves laid.core (shade_meaning (λ s. R.meaning s) laid.shelf) (λ s. shade_meaning (λ s. R.meaning s) s.0) (λ g. g.core) (λ g. shade_meaning (λ s. R.meaning s) g.shelf) result }
     ensures refusals { DeportRefuses (shade_meaning (λ s. R.meaning s) laid.shelf) (λ g. shade_meaning (λ s. R.meaning s) g.shelf) result }
     ensures since { DeportSince (shade_meaning (λ s. R.meaning s) laid.shelf) (λ s. shade_meaning (λ s. R.meaning s) s.0) (λ g. shade_meaning (λ s. R.meaning s) g.shelf) result }
@@ -90,6 +97,9 @@ fn deport_watched<R: Rack>(laid: Laid<R>) -> Result<(Shade<R>, Option<Rested>), 
 // Deports a site's group. A site whose fuse runs out crashes.
 fn deport_site<R: Rack>(laid: Laid<R>) -> (GroupSite<R>, Result<(), Stop>)
     ensures deported { (n : Node) (note : GroupNode) → GroupUp n note (R.meaning (rack_of laid.shelf)).tells laid.core (shade_meaning (λ s. R.meaning s) laid.shelf) → SiteDeported n note (GroupSite.Up laid) result.0 result.1 }
+    ensures maps { (n : Node) (note : GroupNode) → GroupUp n note (R.meaning (rack_of laid.shelf)).tells laid.core (shade_meaning (λ s. R.meaning s) laid.shelf) → DeportMapped (GroupSite.Up laid) result.0 result.1 }
+    ensures closes { SiteCloses (GroupSite.Up laid) result.0 }
+    ensures volumes { SiteGoes Nowhere (GroupSite.Up laid) result.0 }
     ensures since { CalledSince (shade_meaning (λ s. R.meaning s) laid.shelf) (site_disks result.0) }
     ensures told { TellsLess (R.meaning (rack_of laid.shelf)) (site_below result.0) }
 {
@@ -116,6 +126,9 @@ impl<R: Rack> GroupSite<R> {
     /// and 6 only where the fuse ran out.
     pub fn deport(self) -> (GroupSite<R>, Result<(), Stop>)
         ensures deported { (n : Node) (note : GroupNode) → UpNoted n note self → SiteDeported n note self result.0 result.1 }
+        ensures maps { (n : Node) (note : GroupNode) → UpNoted n note self → DeportMapped self result.0 result.1 }
+        ensures closes { SiteCloses self result.0 }
+        ensures volumes { SiteGoes Nowhere self result.0 }
         ensures since { CalledSince (site_disks self) (site_disks result.0) }
         ensures told { TellsLess (site_below self) (site_below result.0) }
     {

@@ -6,6 +6,11 @@ ghost use Rattle.vx_model.specs.declared.errors.Stop.TheVariants.{No as Refused}
 ghost use Rattle.vx_model.specs.declared.no.No.{No as NoValue};
 ghost use Rattle.vx_grouped.specs.Added.{IsUnmoved};
 ghost use Rattle.vx_grouped.specs.GroupSites.{GroupUp, UpNoted, site_below, site_disks};
+ghost use Rattle.vx_disk.specs.Moves.{Nowhere};
+ghost use Rattle.vx_grouped.specs.Volumes.{SiteGoes};
+ghost use Rattle.vx_disk.specs.Racks.{IsRack};
+ghost use Rattle.vx_grouped.specs.PlainMaps.{AddsMaps, map_parts};
+ghost use Rattle.vx_grouped.specs.SiteMaps.{AddedMapped};
 ghost use Rattle.vx_grouped.specs.SiteAdds.{MakesVolume, SiteAdded, VolumeIn, refuses_volume};
 ghost use Rattle.vx_untold.specs.Shades.{rack_of, shade_meaning};
 ghost use Rattle.vx_watched.specs.Since.{CalledSince};
@@ -35,6 +40,7 @@ fn make_from<B: Begun, R: Rack>(
     requires prefer { IfSome want.now.prefer (λ p. p < want.now.mirrors) }
     requires since { CalledSince B.first (R.meaning group.shelf) }
     ensures works { MakesVolume name.now want.now group.core (R.meaning group.shelf) result.0.core (R.meaning result.0.shelf) result.1 }
+    ensures maps { IsRack (R.meaning group.shelf) → IsRack (R.meaning result.0.shelf) → AddsMaps (map_parts group.core.inner.config group.logs.items group.alike group.stopped) (R.meaning group.shelf) (map_parts result.0.core.inner.config result.0.logs.items result.0.alike result.0.stopped) (R.meaning result.0.shelf) result.1 }
     ensures still { IsUnmoved result.1 ((result.0.core ≡ group.core) × (result.0.shelf ≡ group.shelf)) }
     ensures since { CalledSince B.first (R.meaning result.0.shelf) }
 {
@@ -58,6 +64,7 @@ fn make_traced<C: Begun, R: Rack>(
     requires prefer { IfSome want.now.prefer (λ p. p < want.now.mirrors) }
     requires told { TellsLess C.first (R.meaning (rack_of laid.shelf)) }
     ensures works { MakesVolume name.now want.now laid.core (shade_meaning (λ s. R.meaning s) laid.shelf) result.0.core (shade_meaning (λ s. R.meaning s) result.0.shelf) result.1 }
+    ensures maps { IsRack (shade_meaning (λ s. R.meaning s) laid.shelf) → IsRack (shade_meaning (λ s. R.meaning s) result.0.shelf) → AddsMaps (map_parts laid.core.inner.config laid.logs.items laid.alike laid.stopped) (shade_meaning (λ s. R.meaning s) laid.shelf) (map_parts result.0.core.inner.config result.0.logs.items result.0.alike result.0.stopped) (shade_meaning (λ s. R.meaning s) result.0.shelf) result.1 }
     ensures still { IsUnmoved result.1 ((result.0.core ≡ laid.core) × (result.0.shelf ≡ laid.shelf)) }
     ensures since { CalledSince (shade_meaning (λ s. R.meaning s) laid.shelf) (shade_meaning (λ s. R.meaning s) result.0.shelf) }
     ensures told { TellsLess C.first (R.meaning (rack_of result.0.shelf)) }
@@ -81,6 +88,7 @@ fn make_watched<R: Rack>(
     requires up { IsTrue (shade_meaning (λ s. R.meaning s) laid.shelf).down → ⊥ }
     requires prefer { IfSome want.now.prefer (λ p. p < want.now.mirrors) }
     ensures works { MakesVolume name.now want.now laid.core (shade_meaning (λ s. R.meaning s) laid.shelf) result.0.core (shade_meaning (λ s. R.meaning s) result.0.shelf) result.1 }
+    ensures maps { IsRack (shade_meaning (λ s. R.meaning s) laid.shelf) → IsRack (shade_meaning (λ s. R.meaning s) result.0.shelf) → AddsMaps (map_parts laid.core.inner.config laid.logs.items laid.alike laid.stopped) (shade_meaning (λ s. R.meaning s) laid.shelf) (map_parts result.0.core.inner.config result.0.logs.items result.0.alike result.0.stopped) (shade_meaning (λ s. R.meaning s) result.0.shelf) result.1 }
     ensures still { IsUnmoved result.1 ((result.0.core ≡ laid.core) × (result.0.shelf ≡ laid.shelf)) }
     ensures since { CalledSince (shade_meaning (λ s. R.meaning s) laid.shelf) (shade_meaning (λ s. R.meaning s) result.0.shelf) }
     ensures told { TellsLess (R.meaning (rack_of laid.shelf)) (R.meaning (rack_of result.0.shelf)) }
@@ -97,8 +105,10 @@ fn make_site<R: Rack>(
 ) -> (GroupSite<R>, Result<u32, Stop>)
     requires prefer { IfSome want.now.prefer (λ p. p < want.now.mirrors) }
     ensures made { (n : Node) (note : GroupNode) → GroupUp n note (R.meaning (rack_of laid.shelf)).tells laid.core (shade_meaning (λ s. R.meaning s) laid.shelf) → SiteAdded n note name.now want.now (GroupSite.Up laid) result.0 result.1 }
+    ensures maps { (n : Node) (note : GroupNode) → GroupUp n note (R.meaning (rack_of laid.shelf)).tells laid.core (shade_meaning (λ s. R.meaning s) laid.shelf) → AddedMapped (GroupSite.Up laid) result.0 result.1 }
     ensures refused { (n : Node) (note : GroupNode) (no : NoValue) → GroupUp n note (R.meaning (rack_of laid.shelf)).tells laid.core (shade_meaning (λ s. R.meaning s) laid.shelf) → refuses_volume (GroupSite.Up laid) name.now want.now ≡ Some no → result.1 ≡ Err (Refused no) }
     ensures volume { (n : Node) (note : GroupNode) → GroupUp n note (R.meaning (rack_of laid.shelf)).tells laid.core (shade_meaning (λ s. R.meaning s) laid.shelf) → IfOk result.1 (λ vol. VolumeIn name.now want.now vol (GroupSite.Up laid) result.0) }
+    ensures volumes { SiteGoes Nowhere (GroupSite.Up laid) result.0 }
     ensures since { CalledSince (shade_meaning (λ s. R.meaning s) laid.shelf) (site_disks result.0) }
     ensures told { TellsLess (R.meaning (rack_of laid.shelf)) (site_below result.0) }
 {
@@ -127,8 +137,10 @@ impl<R: Rack> GroupSite<R> {
     pub fn make_volume(&mut self, alloc: Global, name: &Name, want: &Shape) -> Result<u32, Stop>
         requires prefer { IfSome want.now.prefer (λ p. p < want.now.mirrors) }
         ensures made { (n : Node) (note : GroupNode) → UpNoted n note self.old → SiteAdded n note name.now want.now self.old self.new result }
+        ensures maps { (n : Node) (note : GroupNode) → UpNoted n note self.old → AddedMapped self.old self.new result }
         ensures refused { (n : Node) (note : GroupNode) (no : NoValue) → UpNoted n note self.old → refuses_volume self.old name.now want.now ≡ Some no → result ≡ Err (Refused no) }
         ensures volume { (n : Node) (note : GroupNode) → UpNoted n note self.old → IfOk result (λ vol. VolumeIn name.now want.now vol self.old self.new) }
+        ensures volumes { SiteGoes Nowhere self.old self.new }
         ensures since { CalledSince (site_disks self.old) (site_disks self.new) }
         ensures told { TellsLess (site_below self.old) (site_below self.new) }
     {

@@ -1,8 +1,11 @@
 // Calls of a group over a rack that keeps an account of what is done to its disks.
-ghost use Rattle.std.specs.Prelude.{IsTrue, length};
+ghost use Rattle.std.specs.Prelude.{◌≡◌, IsTrue, length};
+ghost use Rattle.vx_disk.specs.Racks.{IsRack};
 ghost use Rattle.vx_disk.specs.Shelf.{Fits};
 ghost use Rattle.vx_group.specs.Holding.{wide};
 ghost use Rattle.vx_group.specs.Stands.{inner_meaning};
+ghost use Rattle.vx_grouped.specs.Ends.{plain_write};
+ghost use Rattle.vx_grouped.specs.PlainMaps.{AttsMaps, DetsMaps, WritesMaps, map_parts};
 ghost use Rattle.vx_grouped.specs.Watches.{PlainReads, PlainWrites, PlexAtts, PlexDets};
 ghost use Rattle.vx_untold.specs.Shades.{rack_of, shade_meaning};
 ghost use Rattle.vx_watched.specs.Since.{CalledSince};
@@ -28,6 +31,7 @@ fn write_from<B: Begun, R: Rack>(
     requires fits { Fits (inner_meaning (wide group.core) (R.meaning group.shelf)) vol block (length bytes.now) }
     requires since { CalledSince B.first (R.meaning group.shelf) }
     ensures works { PlainWrites vol block bytes.now group.core (R.meaning group.shelf) result.0.core (R.meaning result.0.shelf) result.1 }
+    ensures maps { WritesMaps (plain_write vol block bytes.now) (map_parts group.core.inner.config group.logs.items group.alike group.stopped) (R.meaning group.shelf) (map_parts result.0.core.inner.config result.0.logs.items result.0.alike result.0.stopped) (R.meaning result.0.shelf) result.1 }
     ensures since { CalledSince B.first (R.meaning result.0.shelf) }
 {
     let (rack, rest) = group.apart();
@@ -49,6 +53,7 @@ fn write_traced<C: Begun, R: Rack>(
     requires fits { Fits (inner_meaning (wide laid.core) (shade_meaning (λ s. R.meaning s) laid.shelf)) vol block (length bytes.now) }
     requires told { TellsLess C.first (R.meaning (rack_of laid.shelf)) }
     ensures works { PlainWrites vol block bytes.now laid.core (shade_meaning (λ s. R.meaning s) laid.shelf) result.0.core (shade_meaning (λ s. R.meaning s) result.0.shelf) result.1 }
+    ensures maps { WritesMaps (plain_write vol block bytes.now) (map_parts laid.core.inner.config laid.logs.items laid.alike laid.stopped) (shade_meaning (λ s. R.meaning s) laid.shelf) (map_parts result.0.core.inner.config result.0.logs.items result.0.alike result.0.stopped) (shade_meaning (λ s. R.meaning s) result.0.shelf) result.1 }
     ensures since { CalledSince (shade_meaning (λ s. R.meaning s) laid.shelf) (shade_meaning (λ s. R.meaning s) result.0.shelf) }
     ensures told { TellsLess C.first (R.meaning (rack_of result.0.shelf)) }
 {
@@ -70,6 +75,7 @@ pub fn write_watched<R: Rack>(
 ) -> (Laid<R>, Result<(), No>)
     requires { Fits (inner_meaning (wide laid.core) (shade_meaning (λ s. R.meaning s) laid.shelf)) vol block (length bytes.now) }
     ensures works { PlainWrites vol block bytes.now laid.core (shade_meaning (λ s. R.meaning s) laid.shelf) result.0.core (shade_meaning (λ s. R.meaning s) result.0.shelf) result.1 }
+    ensures maps { WritesMaps (plain_write vol block bytes.now) (map_parts laid.core.inner.config laid.logs.items laid.alike laid.stopped) (shade_meaning (λ s. R.meaning s) laid.shelf) (map_parts result.0.core.inner.config result.0.logs.items result.0.alike result.0.stopped) (shade_meaning (λ s. R.meaning s) result.0.shelf) result.1 }
     ensures since { CalledSince (shade_meaning (λ s. R.meaning s) laid.shelf) (shade_meaning (λ s. R.meaning s) result.0.shelf) }
     ensures told { TellsLess (R.meaning (rack_of laid.shelf)) (R.meaning (rack_of result.0.shelf)) }
 {
@@ -85,6 +91,7 @@ fn read_from<B: Begun, R: Rack>(
     requires fits { Fits (inner_meaning (wide group.core) (R.meaning group.shelf)) vol block (length into.old) }
     requires since { CalledSince B.first (R.meaning group.shelf) }
     ensures works { PlainReads vol block into.new group.core (R.meaning group.shelf) result.0.core (R.meaning result.0.shelf) result.1 }
+    ensures maps { map_parts result.0.core.inner.config result.0.logs.items result.0.alike result.0.stopped ≡ map_parts group.core.inner.config group.logs.items group.alike group.stopped }
     ensures since { CalledSince B.first (R.meaning result.0.shelf) }
 {
     let (rack, rest) = group.apart();
@@ -106,6 +113,7 @@ fn read_traced<C: Begun, R: Rack>(
     requires fits { Fits (inner_meaning (wide laid.core) (shade_meaning (λ s. R.meaning s) laid.shelf)) vol block (length into.old) }
     requires told { TellsLess C.first (R.meaning (rack_of laid.shelf)) }
     ensures works { PlainReads vol block into.new laid.core (shade_meaning (λ s. R.meaning s) laid.shelf) result.0.core (shade_meaning (λ s. R.meaning s) result.0.shelf) result.1 }
+    ensures maps { map_parts result.0.core.inner.config result.0.logs.items result.0.alike result.0.stopped ≡ map_parts laid.core.inner.config laid.logs.items laid.alike laid.stopped }
     ensures since { CalledSince (shade_meaning (λ s. R.meaning s) laid.shelf) (shade_meaning (λ s. R.meaning s) result.0.shelf) }
     ensures told { TellsLess C.first (R.meaning (rack_of result.0.shelf)) }
 {
@@ -127,6 +135,7 @@ pub fn read_watched<R: Rack>(
 ) -> (Laid<R>, Result<(), No>)
     requires { Fits (inner_meaning (wide laid.core) (shade_meaning (λ s. R.meaning s) laid.shelf)) vol block (length into.old) }
     ensures works { PlainReads vol block into.new laid.core (shade_meaning (λ s. R.meaning s) laid.shelf) result.0.core (shade_meaning (λ s. R.meaning s) result.0.shelf) result.1 }
+    ensures maps { map_parts result.0.core.inner.config result.0.logs.items result.0.alike result.0.stopped ≡ map_parts laid.core.inner.config laid.logs.items laid.alike laid.stopped }
     ensures since { CalledSince (shade_meaning (λ s. R.meaning s) laid.shelf) (shade_meaning (λ s. R.meaning s) result.0.shelf) }
     ensures told { TellsLess (R.meaning (rack_of laid.shelf)) (R.meaning (rack_of result.0.shelf)) }
 {
@@ -141,6 +150,7 @@ fn det_from<B: Begun, R: Rack>(
     requires up { IsTrue (R.meaning group.shelf).down → ⊥ }
     requires since { CalledSince B.first (R.meaning group.shelf) }
     ensures works { PlexDets vol plex group.core (R.meaning group.shelf) result.0.core (R.meaning result.0.shelf) result.1 }
+    ensures maps { IsRack (R.meaning group.shelf) → IsRack (R.meaning result.0.shelf) → DetsMaps vol plex (map_parts group.core.inner.config group.logs.items group.alike group.stopped) (R.meaning group.shelf) (map_parts result.0.core.inner.config result.0.logs.items result.0.alike result.0.stopped) (R.meaning result.0.shelf) result.1 }
     ensures since { CalledSince B.first (R.meaning result.0.shelf) }
 {
     let (rack, rest) = group.apart();
@@ -157,6 +167,7 @@ fn det_traced<C: Begun, R: Rack>(laid: Laid<R>, vol: u32, plex: u32) -> (Laid<R>
     requires up { IsTrue (shade_meaning (λ s. R.meaning s) laid.shelf).down → ⊥ }
     requires told { TellsLess C.first (R.meaning (rack_of laid.shelf)) }
     ensures works { PlexDets vol plex laid.core (shade_meaning (λ s. R.meaning s) laid.shelf) result.0.core (shade_meaning (λ s. R.meaning s) result.0.shelf) result.1 }
+    ensures maps { IsRack (shade_meaning (λ s. R.meaning s) laid.shelf) → IsRack (shade_meaning (λ s. R.meaning s) result.0.shelf) → DetsMaps vol plex (map_parts laid.core.inner.config laid.logs.items laid.alike laid.stopped) (shade_meaning (λ s. R.meaning s) laid.shelf) (map_parts result.0.core.inner.config result.0.logs.items result.0.alike result.0.stopped) (shade_meaning (λ s. R.meaning s) result.0.shelf) result.1 }
     ensures since { CalledSince (shade_meaning (λ s. R.meaning s) laid.shelf) (shade_meaning (λ s. R.meaning s) result.0.shelf) }
     ensures told { TellsLess C.first (R.meaning (rack_of result.0.shelf)) }
 {
@@ -168,6 +179,7 @@ fn det_traced<C: Begun, R: Rack>(laid: Laid<R>, vol: u32, plex: u32) -> (Laid<R>
 pub fn det_watched<R: Rack>(laid: Laid<R>, vol: u32, plex: u32) -> (Laid<R>, Result<(), Stop>)
     requires { IsTrue (shade_meaning (λ s. R.meaning s) laid.shelf).down → ⊥ }
     ensures works { PlexDets vol plex laid.core (shade_meaning (λ s. R.meaning s) laid.shelf) result.0.core (shade_meaning (λ s. R.meaning s) result.0.shelf) result.1 }
+    ensures maps { IsRack (shade_meaning (λ s. R.meaning s) laid.shelf) → IsRack (shade_meaning (λ s. R.meaning s) result.0.shelf) → DetsMaps vol plex (map_parts laid.core.inner.config laid.logs.items laid.alike laid.stopped) (shade_meaning (λ s. R.meaning s) laid.shelf) (map_parts result.0.core.inner.config result.0.logs.items result.0.alike result.0.stopped) (shade_meaning (λ s. R.meaning s) result.0.shelf) result.1 }
     ensures since { CalledSince (shade_meaning (λ s. R.meaning s) laid.shelf) (shade_meaning (λ s. R.meaning s) result.0.shelf) }
     ensures told { TellsLess (R.meaning (rack_of laid.shelf)) (R.meaning (rack_of result.0.shelf)) }
 {
@@ -182,6 +194,7 @@ fn att_from<B: Begun, R: Rack>(
     requires up { IsTrue (R.meaning group.shelf).down → ⊥ }
     requires since { CalledSince B.first (R.meaning group.shelf) }
     ensures works { PlexAtts vol plex group.core (R.meaning group.shelf) result.0.core (R.meaning result.0.shelf) result.1 }
+    ensures maps { IsRack (R.meaning group.shelf) → IsRack (R.meaning result.0.shelf) → AttsMaps vol plex (map_parts group.core.inner.config group.logs.items group.alike group.stopped) (R.meaning group.shelf) (map_parts result.0.core.inner.config result.0.logs.items result.0.alike result.0.stopped) (R.meaning result.0.shelf) result.1 }
     ensures since { CalledSince B.first (R.meaning result.0.shelf) }
 {
     let (rack, rest) = group.apart();
@@ -198,6 +211,7 @@ fn att_traced<C: Begun, R: Rack>(laid: Laid<R>, vol: u32, plex: u32) -> (Laid<R>
     requires up { IsTrue (shade_meaning (λ s. R.meaning s) laid.shelf).down → ⊥ }
     requires told { TellsLess C.first (R.meaning (rack_of laid.shelf)) }
     ensures works { PlexAtts vol plex laid.core (shade_meaning (λ s. R.meaning s) laid.shelf) result.0.core (shade_meaning (λ s. R.meaning s) result.0.shelf) result.1 }
+    ensures maps { IsRack (shade_meaning (λ s. R.meaning s) laid.shelf) → IsRack (shade_meaning (λ s. R.meaning s) result.0.shelf) → AttsMaps vol plex (map_parts laid.core.inner.config laid.logs.items laid.alike laid.stopped) (shade_meaning (λ s. R.meaning s) laid.shelf) (map_parts result.0.core.inner.config result.0.logs.items result.0.alike result.0.stopped) (shade_meaning (λ s. R.meaning s) result.0.shelf) result.1 }
     ensures since { CalledSince (shade_meaning (λ s. R.meaning s) laid.shelf) (shade_meaning (λ s. R.meaning s) result.0.shelf) }
     ensures told { TellsLess C.first (R.meaning (rack_of result.0.shelf)) }
 {
@@ -209,6 +223,7 @@ fn att_traced<C: Begun, R: Rack>(laid: Laid<R>, vol: u32, plex: u32) -> (Laid<R>
 pub fn att_watched<R: Rack>(laid: Laid<R>, vol: u32, plex: u32) -> (Laid<R>, Result<u64, Stop>)
     requires { IsTrue (shade_meaning (λ s. R.meaning s) laid.shelf).down → ⊥ }
     ensures works { PlexAtts vol plex laid.core (shade_meaning (λ s. R.meaning s) laid.shelf) result.0.core (shade_meaning (λ s. R.meaning s) result.0.shelf) result.1 }
+    ensures maps { IsRack (shade_meaning (λ s. R.meaning s) laid.shelf) → IsRack (shade_meaning (λ s. R.meaning s) result.0.shelf) → AttsMaps vol plex (map_parts laid.core.inner.config laid.logs.items laid.alike laid.stopped) (shade_meaning (λ s. R.meaning s) laid.shelf) (map_parts result.0.core.inner.config result.0.logs.items result.0.alike result.0.stopped) (shade_meaning (λ s. R.meaning s) result.0.shelf) result.1 }
     ensures since { CalledSince (shade_meaning (λ s. R.meaning s) laid.shelf) (shade_meaning (λ s. R.meaning s) result.0.shelf) }
     ensures told { TellsLess (R.meaning (rack_of laid.shelf)) (R.meaning (rack_of result.0.shelf)) }
 {

@@ -2,6 +2,19 @@
 use Rattle.std.specs.Prelude.{◌≡◌, ◌⊎◌, ℕ, ◌-◌, if◌then◌else◌, Bool, true, false, List, [], ◌∷◌, ◌++◌, Option, Some, Contains}
 use Rattle.vx_model.specs.Content.{Write, Content, block_of, put, touches}
 
+-- what is noted of the regions that the plexes of a group missed
+pub record MissedNote : Type 0 where
+  -- of a volume whether the regions that its plexes missed are known; where they are not, each plex that takes no part counts as one that missed all
+  pub mapped : ℕ → Bool
+  -- of a volume and one of its plexes the regions that it missed
+  pub missed : ℕ → ℕ → ℕ → Bool
+  -- those that it may have missed beside these
+  pub perhaps : ℕ → ℕ → ℕ → Bool
+  -- of a volume whether a write of it failed since it was made or came up
+  pub doubt : ℕ → Bool
+  -- the serial of the configuration
+  pub serial : ℕ
+
 -- a site whose disks are a group
 pub record GroupNode : Type 0 where
   -- the configuration as it is spelled in bytes; its serial does not count
@@ -18,14 +31,14 @@ pub record GroupNode : Type 0 where
   pub others : ℕ → ℕ → List (List ℕ)
   -- the write to such a volume in which the fuse ran out, until the next recovery
   pub cut : Option Write
-  -- of a volume and one of its plexes the regions that it has missed, or None where all count as missed
-  pub missed : ℕ → ℕ → Option (ℕ → Bool)
-  -- the regions that it may have missed beside these
-  pub perhaps : ℕ → ℕ → ℕ → Bool
+  -- the regions that plexes missed
+  pub maps : MissedNote
+  -- the volumes of the replicated volume group, of whose blocks nothing is noted here
+  pub inside : ℕ → Bool
 
--- a value that a block of a volume may have: the one that is noted, or one of the further ones
+-- a value that a block of a volume may have: any where nothing is noted of it, and else the one that is noted, or one of the further ones
 abbrev pub BlockMay : GroupNode → ℕ → ℕ → List ℕ → Type 0
-BlockMay note v b x = (x ≡ note.bytes.block v b) ⊎ Contains (note.others v b) x
+BlockMay note v b x = (note.inside v ≡ true) ⊎ (x ≡ note.bytes.block v b) ⊎ Contains (note.others v b) x
 
 -- the note behind a write that was done: each of its blocks has one value
 abbrev pub note_write : Write → GroupNode → GroupNode
@@ -45,8 +58,8 @@ pub record NoteSame (old new : GroupNode) : Type 0 where
   pub bytes : new.bytes ≡ old.bytes
   pub others : new.others ≡ old.others
   pub cut : new.cut ≡ old.cut
-  pub missed : new.missed ≡ old.missed
-  pub perhaps : new.perhaps ≡ old.perhaps
+  pub maps : new.maps ≡ old.maps
+  pub inside : new.inside ≡ old.inside
 
 -- Behind a call in which no commit was refused: nothing is begun, or what was, and perhaps configurations of the call. Where imports agreed and nothing was
 -- begun so it is still.
@@ -59,3 +72,10 @@ pub record NoteSettles (old new : GroupNode) : Type 0 where
 pub record NoteUnsettles (old new : GroupNode) : Type 0 where
   pub same : NoteSame old new
   pub begun : ((new.begun ≡ []) × (new.loose ≡ false)) ⊎ ((nexts : List (List ℕ)) × (new.begun ≡ nexts ++ old.begun) × (old.loose ≡ true → new.loose ≡ true))
+
+-- Behind any calls, one after another: these configurations are begun, the last first; and what was begun before them too, unless a commit was done since.
+pub record NoteWorks (old new : GroupNode) : Type 0 where
+  pub same : NoteSame old new
+  pub firsts : List (List ℕ)
+  pub begun : (new.begun ≡ firsts) ⊎ ((new.begun ≡ firsts ++ old.begun) × (old.loose ≡ true → new.loose ≡ true))
+  pub tight : old.loose ≡ false → old.begun ≡ [] → firsts ≡ [] → new.loose ≡ false

@@ -87,6 +87,7 @@ module _ (good : ℕ) (c a d : Config) (G : ℕ → Type 0) (old new : Meaning) 
     finds = found_all;
     reads = λ i R g each held in_it. found_d i each R g held in_it;
     grown = done.grown;
+    later = (let more = done.later in let same = follows.serial in omega (arith, more, same));
     kept = record {
       below = record { each = λ u lt. (done.below (below_a c a d old new lawful lawful' (base_of c G old kept) tidy follows begins fit)).each u lt };
       counts = counts_new c a d old new lawful lawful' (base_of c G old kept) tidy follows begins fit;

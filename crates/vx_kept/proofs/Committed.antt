@@ -296,6 +296,7 @@ module _ (good : ℕ) (c a d : Config) (old new : Meaning) (lawful : Lawful old)
     rvg = refl;
     volumes = refl;
     disks = refl;
+    later = (let more = refused.later in let same = follows.serial in omega (arith, more, same));
     cause = refused.cause;
   })
 

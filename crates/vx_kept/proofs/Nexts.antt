@@ -18,6 +18,7 @@ module _ (good : ℕ) (c a d : Config) (old new : Meaning) (before : Lawful old)
         kept = left.kept;
         volumes = ap (λ (x : Config). x.volumes) refused.kept;
         disks = ap (λ (x : Config). x.disks) refused.kept;
+        later = left.later;
         cause = refused.cause;
       }
 

@@ -1,5 +1,5 @@
 -- Plexes that a deport puts from ACTIVE into CLEAN, in a configuration in memory, and what the commit of it leaves.
-use Rattle.std.specs.Prelude.{◌≡◌, ℕ, zero, suc, Bool, true, false, if◌then◌else◌, Option, Some, None, Result, Ok, Err, List, slice_index_or}
+use Rattle.std.specs.Prelude.{◌≡◌, ℕ, zero, suc, Bool, true, false, if◌then◌else◌, Option, Some, None, Result, Ok, Err, List, slice_index_or, ◌≤◌}
 use Rattle.vx_disk.specs.Shelf.{Each, Image, Meaning}
 use Rattle.vx_model.specs.declared.limits.TheConstants.{MOST_PLEXES}
 use Rattle.vx_model.specs.declared.no.No.{No}
@@ -63,6 +63,7 @@ pub record Shown (c a d : Config) (old new : Meaning) : Type 0 where
   pub finds : (i : Image) → Each new.leaves i → found new i ≡ Found d
   pub reads : (i : Image) (readable : ℕ → Bool) (g : ℕ) → Each new.leaves i → HeldGood d new g → readable g ≡ true → found_by new readable i ≡ settle failed_in new.units readable d
   pub grown : Grown old new a d
+  pub later : c.serial ≤ d.serial
   pub kept : Kept (at_serial d.serial c) (HeldGood d new) new
 
 -- how such a commit ends

@@ -1,5 +1,5 @@
 -- What a group's commit leaves.
-use Rattle.std.specs.Prelude.{◌≡◌, ℕ, ◌<◌, true, Result, Ok, Err}
+use Rattle.std.specs.Prelude.{◌≡◌, ℕ, ◌<◌, ◌≤◌, true, Result, Ok, Err}
 use Rattle.vx_disk.specs.Blocks.{bit_at}
 use Rattle.vx_disk.specs.Shelf.{Each, Image, Meaning}
 use Rattle.vx_model.specs.declared.no.No.{No}
@@ -32,13 +32,14 @@ pub record Taken (c a d : Config) (old new : Meaning) : Type 0 where
   pub grown : Grown old new a d
   pub some : HasGood d.disks (good_set d.disks)
 
--- memory has what it had, but for the serial, and the disks keep that
+-- memory has what it had, but for the serial, which does not fall, and the disks keep that
 pub record Left (good : ℕ) (c a d : Config) (old new : Meaning) (why : No) : Type 0 where
   pub kept : Kept d (Member good new) new
   pub site : d.site ≡ c.site
   pub rvg : d.rvg ≡ c.rvg
   pub volumes : d.volumes ≡ c.volumes
   pub disks : d.disks ≡ c.disks
+  pub later : c.serial ≤ d.serial
   pub cause : CommitStops good a d.serial old new why
 
 -- how a commit ends
@@ -56,6 +57,7 @@ pub record MissedCommit (good : ℕ) (c a d : Config) (old new : Meaning) (why :
   pub kept : Kept (record { serial = d.serial; site = c.site; disks = c.disks; volumes = c.volumes; rvg = c.rvg }) (Member good new) new
   pub volumes : d.volumes ≡ a.volumes
   pub disks : d.disks ≡ a.disks
+  pub later : c.serial ≤ d.serial
   pub cause : CommitStops good a d.serial old new why
 
 -- how the commit of another configuration ends

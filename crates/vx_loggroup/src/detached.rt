@@ -60,7 +60,7 @@ fn begin_before<S: Shelf>(
     ensures news { ListMaps core.old.inner.config vol logs.old.items logs.new.items }
     ensures since { TrustsNew vol (logs_at logs.new.items vol) core.old core.new }
     ensures trusts { TrustsStill core.old.inner.config core.new.inner.config }
-    ensures refused { (no : NoValue) → det_refusal core.old.inner.config vol plex ≡ Some no → IsOk result × (core.new ≡ core.old) × (shelf.new ≡ shelf.old) }
+    ensures refused { (no : NoValue) → det_refusal core.old.inner.config vol plex ≡ Some no → IsOk result × (core.new ≡ core.old) × (shelf.new ≡ shelf.old) × (logs.new.items ≡ logs.old.items) }
     ensures may { det_refusal core.old.inner.config vol plex ≡ None → OnOk result (det_refusal core.new.inner.config vol plex ≡ None) }
     ensures stays { LogsStay core.old.inner.config core.new.inner.config logs.old.items logs.new.items (S.meaning shelf.old) (S.meaning shelf.new) }
     ensures trust { OnOk result (core.old.inner.committed ≡ true → core.new.inner.committed ≡ true) }
@@ -103,7 +103,7 @@ pub fn det_fresh<S: Shelf>(
     requires fresh { FreshStands core.old fresh.old (S.meaning shelf.old) }
     ensures stands { LoggedStands core.new logs.new.items alike.now stopped (S.meaning shelf.new) }
     ensures fresh { FreshStands core.new fresh.new (S.meaning shelf.new) }
-    ensures refused { (no : NoValue) → det_refusal core.old.inner.config vol plex ≡ Some no → (result ≡ Err (Refused no)) × (core.new ≡ core.old) × (shelf.new ≡ shelf.old) }
+    ensures refused { (no : NoValue) → det_refusal core.old.inner.config vol plex ≡ Some no → (result ≡ Err (Refused no)) × (core.new ≡ core.old) × (shelf.new ≡ shelf.old) × (logs.new.items ≡ logs.old.items) }
     ensures goes { Goes Nothing (inner_meaning (wide core.old) (S.meaning shelf.old)) (inner_meaning (wide core.new) (S.meaning shelf.new)) }
     ensures parts { SameParts core.old.inner.config core.new.inner.config }
     ensures disks { MoreFailed (S.meaning shelf.old) (S.meaning shelf.new) core.old.inner.config.disks core.new.inner.config.disks }

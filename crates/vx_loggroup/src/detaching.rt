@@ -226,7 +226,7 @@ pub fn det_whole<S: Shelf>(
 ) -> Result<(), Stop>
     requires stands { LoggedStands core.old logs.old.items alike.now stopped (S.meaning shelf.old) }
     ensures stands { LoggedStands core.new logs.new.items alike.now stopped (S.meaning shelf.new) }
-    ensures refused { (no : NoValue) → det_refusal core.old.inner.config vol plex ≡ Some no → (result ≡ Err (Refused no)) × (core.new ≡ core.old) × (shelf.new ≡ shelf.old) }
+    ensures refused { (no : NoValue) → det_refusal core.old.inner.config vol plex ≡ Some no → (result ≡ Err (Refused no)) × (core.new ≡ core.old) × (shelf.new ≡ shelf.old) × (logs.new.items ≡ logs.old.items) }
     ensures goes { Goes Nothing (inner_meaning (wide core.old) (S.meaning shelf.old)) (inner_meaning (wide core.new) (S.meaning shelf.new)) }
     ensures parts { SameParts core.old.inner.config core.new.inner.config }
     ensures disks { MoreFailed (S.meaning shelf.old) (S.meaning shelf.new) core.old.inner.config.disks core.new.inner.config.disks }

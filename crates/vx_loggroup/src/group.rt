@@ -192,7 +192,7 @@ impl<S: Shelf> LoggedGroup<S> {
     /// A log that is in memory no more behind one that is done is held as lost, of each volume of which it was so before; and of this one its log of
     /// missed regions, where the plex was ACTIVE, the plexes of the volume are alike and logs go on; unless no serial is left to say so.
     pub fn det(&mut self, vol: u32, plex: u32) -> Result<(), Stop>
-        ensures refused { (no : NoValue) → det_refusal self.old.core.inner.config vol plex ≡ Some no → (result ≡ Err (Refused no)) × (self.new.core ≡ self.old.core) × (self.new.shelf ≡ self.old.shelf) }
+        ensures refused { (no : NoValue) → det_refusal self.old.core.inner.config vol plex ≡ Some no → (result ≡ Err (Refused no)) × (self.new.core ≡ self.old.core) × (self.new.shelf ≡ self.old.shelf) × (self.new.logs.items ≡ self.old.logs.items) }
         ensures goes { Goes Nothing (inner_meaning (wide self.old.core) (S.meaning self.old.shelf)) (inner_meaning (wide self.new.core) (S.meaning self.new.shelf)) }
         ensures parts { SameParts self.old.core.inner.config self.new.core.inner.config }
         ensures disks { MoreFailed (S.meaning self.old.shelf) (S.meaning self.new.shelf) self.old.core.inner.config.disks self.new.core.inner.config.disks }

@@ -7,6 +7,7 @@
 #![tactic(auto)]
 
 mod apply;
+mod asked;
 mod change;
 mod create;
 mod group;

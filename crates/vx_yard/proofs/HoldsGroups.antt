@@ -4,7 +4,7 @@ use Rattle.std.specs.Prelude.{Contains, Some, None, get_or, true, false}
 use Rattle.std.specs.List.{slice_get}
 use Rattle.std.proofs.lemmas.Option.{slice_get_cases}
 use Rattle.vx_model.specs.declared.site.SiteState.TheVariants.{Bare as IsBare}
-use Rattle.vx_history.specs.Groups.{BlockMay, GroupNode}
+use Rattle.vx_history.specs.Groups.{BlockMay, GroupNode, MissedNote}
 use Rattle.vx_history.specs.World.{Node}
 use Rattle.vx_disk.specs.Shelf.{Each, Image, Lawful, Meaning}
 use Rattle.vx_disk.specs.declared.shelf.Shelf.{Ghosts}
@@ -29,6 +29,9 @@ use Rattle.vx_grouped.specs.GroupNotes.{GroupLies, NotesFound, noted_config, not
 use Rattle.vx_grouped.specs.GroupSites.{GroupSiteStands, site_disks}
 use Rattle.vx_grouped.specs.declared.group_site.GroupSite.{GroupSite}
 use Rattle.vx_grouped.specs.declared.group_site.GroupSite.TheVariants.{Up as GroupUp, Deported as GroupAway, Down as GroupDown, Marked, Gone as GroupGone}
+use Rattle.vx_grouped.specs.MapsNoted.{MapsNoted, MapsOnDisk}
+use Rattle.vx_grouped.specs.SiteMaps.{StandMaps}
+use Rattle.vx_loggroup.proofs.FactLemmas.{from_logged}
 use Rattle.vx_untold.specs.Shades.{shade_lawful, shade_meaning}
 use Rattle.vx_diskset.specs.Holds.{KeptBeside}
 use Rattle.vx_diskset.specs.Stands.{IsGroupSet}
@@ -37,6 +40,7 @@ use Rattle.vx_events.proofs.Places.{never_some, some_same}
 use Rattle.vx_events.specs.GroupLines.{is_over_group}
 use Rattle.vx_events.specs.GroupViews.{config_of, read_front}
 use Rattle.vx_yard.specs.Holds.{HoldsGroup}
+use Rattle.vx_yard.proofs.MapsHold.{away_maps_hold, up_maps_hold}
 use Rattle.vx_yard.proofs.OverGroup.{bare_apart, both_ways}
 
 some_volume : (vs : List VolumeEntry) (v b : ℕ) → b < blocks_of vs v → v < length vs
@@ -80,13 +84,18 @@ one_noted note k c x m i spells is noted it tight each at = elim (it.each tight 
 
 -- ---- the sites
 
+-- what is noted of the maps is so of each image that the disks have now
+abbrev MapsNow : GroupNode → Meaning → Type 0
+MapsNow note m = (i : Image) (c x : Config) → config_of note.config ≡ Some c → m.now i → found m i ≡ Found x → MapsOnDisk note.maps c x i
+
 -- a group that is up
-up_holds : (n : Node) (note : GroupNode) (c : GroupCore) (m : Meaning) → HasSpelling (at_serial 0 c.inner.config) → GroupLies n note c m → GroupStands c m → Lawful m → HoldsGroup note m
-up_holds n note c m spells lies stands lawful = record {
+up_holds : (n : Node) (note : GroupNode) (c : GroupCore) (m : Meaning) → HasSpelling (at_serial 0 c.inner.config) → GroupLies n note c m → GroupStands c m → Lawful m → MapsNow note m → HoldsGroup note m
+up_holds n note c m spells lies stands lawful maps = record {
   finds = λ i now. stands.stands.kept.finds i (lawful.within i now);
   one = λ i k x tight noted now is. one_noted note c.inner.config k x m i spells lies.config noted lies.images.noted tight (lawful.within i now) is;
   volumes = λ i k x noted now is. framed note c.inner.config k x spells lies.config noted (stood i x now is);
   has = has;
+  maps = maps;
 }
   where
     stood : (i : Image) (x : Config) → m.now i → found m i ≡ Found x → (v : ℕ) → v < length c.inner.config.volumes → frame_at x v ≡ frame_at c.inner.config v
@@ -108,27 +117,58 @@ up_holds n note c m spells lies stands lawful = record {
 
 -- one whose disks are by themselves: it is noted with a configuration whose volumes stand as in the last one
 away_holds : (n : Node) (note : GroupNode) (k last : Config) (m : Meaning) → HasSpelling (at_serial 0 k) → note.config ≡ noted_config k → ((v : ℕ) → frame_at k v ≡ frame_at last v) → NotesFound note k m → AwayLies n note last m
-    → Lawful m → HoldsGroup note m
-away_holds n note k last m spells config frames found lies lawful = record {
+    → Lawful m → MapsNow note m → HoldsGroup note m
+away_holds n note k last m spells config frames found lies lawful maps = record {
   finds = λ i now. lies.finds i (lawful.within i now);
   one = λ i c x tight noted now is. one_noted note k c x m i spells config noted found tight (lawful.within i now) is;
   volumes = λ i c x noted now is. framed note k c x spells config noted (λ v low. (lies.volumes i x (lawful.within i now) is).frames v (frame_within last k v (frames v) low) ∙ sym (frames v));
   has = λ i x now is v p b low on. lies.has i x (lawful.within i now) is v p b (inside_of last v b (subst (λ (j : ℕ). b < j) (lies.sizes v) low)) on;
+  maps = maps;
 }
 
 module _ {R : Type 0} {g : Ghosts R} (lawful : (r : R) → Lawful (g.meaning r)) where
-  site_holds : (n : Node) (s : GroupSite R g) (note : GroupNode) → GroupSiteStands n s → (n.state ≡ IsBare → ⊥) → n.group ≡ Some note → HoldsGroup note (site_disks s)
-  site_holds n (GroupUp laid) note (k, it) made noted =
-      let m : Meaning = shade_meaning g.meaning laid.shelf in
-      subst (λ (x : GroupNode). HoldsGroup x m) (some_same (sym it.noted.is ∙ noted)) (up_holds n k laid.core m it.spells it.at.lies laid.stands.group (shade_lawful g.meaning lawful laid.shelf))
-  site_holds n (GroupAway idle) note (k, it) made noted =
-      let m : Meaning = shade_meaning g.meaning idle.rack in
-      subst (λ (x : GroupNode). HoldsGroup x m) (some_same (sym it.noted.is ∙ noted)) (away_holds n k it.newest it.last m it.spells it.away.config it.away.frames it.away.found it.away.lies (shade_lawful g.meaning lawful idle.rack))
-  site_holds n (GroupDown idle) note (k, it) made noted =
-      let m : Meaning = shade_meaning g.meaning idle.rack in
-      subst (λ (x : GroupNode). HoldsGroup x m) (some_same (sym it.noted.is ∙ noted)) (away_holds n k it.last it.last m it.spells it.away.config (λ v. refl) it.away.found it.away.lies (shade_lawful g.meaning lawful idle.rack))
-  site_holds n (Marked rack) note it made noted = absurd (made it.state)
-  site_holds n GroupGone note it made noted = absurd it
+  -- a site that has a group
+  abbrev IsMade : GroupSite R g → Type 0
+  IsMade (Marked rack) = ⊥
+  IsMade GroupGone = ⊥
+  IsMade other = Unit {0}
 
-  pub set_holds : (beside : KeptBeside) (n : Node) (s : GroupSet R g) (note : GroupNode) → IsGroupSet beside n s → is_over_group n ≡ true → n.group ≡ Some note → HoldsGroup note (site_disks s.site)
-  set_holds beside n s note it over noted = site_holds n s.site note it.stands (λ bare. both_ways over (bare_apart n (it.bare bare))) noted
+  site_maps : (note : GroupNode) (s : GroupSite R g) → IsMade s → StandMaps note s → note.dark ≡ false → MapsNow note (site_disks s)
+  site_maps note (GroupUp laid) made had bright = λ i c x reads now is.
+      let k : Config = laid.core.inner.config in
+      let same : k ≡ had.config = had.up k refl in
+      let w : MissedNote = note.maps in
+      up_maps_hold w laid.core laid.logs.items laid.alike laid.stopped (shade_meaning g.meaning laid.shelf)
+      (from_logged laid.core laid.logs.items laid.alike laid.stopped (shade_meaning g.meaning laid.shelf) laid.stands) (shade_lawful g.meaning lawful laid.shelf)
+      (subst (λ (e : Config). MapsNoted w e laid.logs.items laid.alike laid.stopped) (sym same) had.maps) c x i
+      (ap (λ (e : Config). at_serial 0 e) same ∙ read_back note had.config c had.spells had.is reads) now is
+  site_maps note (GroupAway idle) made had bright = λ i c x reads now is.
+      away_maps_hold note.maps had.config (shade_meaning g.meaning idle.rack) (shade_lawful g.meaning lawful idle.rack) (had.maps bright).disks c x i (read_back note had.config c had.spells had.is reads) now is
+  site_maps note (GroupDown idle) made had bright = λ i c x reads now is.
+      away_maps_hold note.maps had.config (shade_meaning g.meaning idle.rack) (shade_lawful g.meaning lawful idle.rack) (had.maps bright).disks c x i (read_back note had.config c had.spells had.is reads) now is
+  site_maps note (Marked rack) made had bright = absurd made
+  site_maps note GroupGone made had bright = absurd made
+
+  site_holds : (n : Node) (s : GroupSite R g) (note : GroupNode) → GroupSiteStands n s → (n.state ≡ IsBare → ⊥) → n.group ≡ Some note → StandMaps note s → note.dark ≡ false → HoldsGroup note (site_disks s)
+  site_holds n (GroupUp laid) note (k, it) made noted had bright =
+      let m : Meaning = shade_meaning g.meaning laid.shelf in
+      let same : k ≡ note = some_same (sym it.noted.is ∙ noted) in
+      subst (λ (x : GroupNode). HoldsGroup x m) same
+      (up_holds n k laid.core m it.spells it.at.lies laid.stands.group (shade_lawful g.meaning lawful laid.shelf) (subst (λ (x : GroupNode). MapsNow x m) (sym same) (site_maps note (GroupUp laid) tt had bright)))
+  site_holds n (GroupAway idle) note (k, it) made noted had bright =
+      let m : Meaning = shade_meaning g.meaning idle.rack in
+      let same : k ≡ note = some_same (sym it.noted.is ∙ noted) in
+      subst (λ (x : GroupNode). HoldsGroup x m) same
+      (away_holds n k it.newest it.last m it.spells it.away.config it.away.frames it.away.found it.away.lies (shade_lawful g.meaning lawful idle.rack) (subst (λ (x : GroupNode). MapsNow x m) (sym same) (site_maps note (GroupAway idle) tt had bright)))
+  site_holds n (GroupDown idle) note (k, it) made noted had bright =
+      let m : Meaning = shade_meaning g.meaning idle.rack in
+      let same : k ≡ note = some_same (sym it.noted.is ∙ noted) in
+      subst (λ (x : GroupNode). HoldsGroup x m) same
+      (away_holds n k it.last it.last m it.spells it.away.config (λ v. refl) it.away.found it.away.lies (shade_lawful g.meaning lawful idle.rack) (subst (λ (x : GroupNode). MapsNow x m) (sym same) (site_maps note (GroupDown idle) tt had bright)))
+  site_holds n (Marked rack) note it made noted had bright = absurd (made it.state)
+  site_holds n GroupGone note it made noted had bright = absurd it
+
+  pub set_holds : (beside : KeptBeside) (n : Node) (s : GroupSet R g) (note : GroupNode) → IsGroupSet beside n s → is_over_group n ≡ true → n.group ≡ Some note → note.dark ≡ false → HoldsGroup note (site_disks s.site)
+  set_holds beside n s note it over noted bright =
+      let made : n.state ≡ IsBare → ⊥ = λ bare. both_ways over (bare_apart n (it.bare bare)) in
+      site_holds n s.site note it.stands made noted (it.maps made note noted) bright

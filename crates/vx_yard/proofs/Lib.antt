@@ -8,6 +8,7 @@ pub mod CrashSite
 pub mod FailsStay
 pub mod FuseStays
 pub mod HeadNeeds
+pub mod MapsHold
 pub mod HoldsGroups
 pub mod HoldsRoom
 pub mod IntoRacks
@@ -23,6 +24,7 @@ pub mod NotedFew
 pub mod OfSites
 pub mod OneSite
 pub mod OverGroup
+pub mod RawSites
 pub mod RawTable
 pub mod RecoverLine
 pub mod Rows

@@ -15,23 +15,25 @@ use Rattle.vx_layout.specs.Places.{place}
 use Rattle.vx_events.specs.GroupLines.{is_over_group}
 use Rattle.vx_events.specs.GroupViews.{config_of}
 use Rattle.vx_grouped.specs.GroupNotes.{noted_try}
+use Rattle.vx_grouped.specs.MapsNoted.{MapsOnDisk}
 use Rattle.vx_diskset.specs.Holds.{HoldsSite, beside_of}
 
 -- The disks hold the volumes of a group as its site notes them: whatever a crash leaves on them now, an import that can read all of them finds a
 -- configuration, in which each volume that is noted stands as it did, but for the states of its plexes and lost logs, and each plex that takes part has of
 -- each block a value that the block may have. Unless it may disagree with others, that configuration is the one that is noted, but for its serial, or one that
--- is noted as begun, with no disk held as failed.
+-- is noted as begun, with no disk held as failed. Logs of missed regions that it does not hold as lost have what is noted of the plexes of their volumes.
 pub record HoldsGroup (note : GroupNode) (m : Meaning) : Type 0 where
   pub finds : (i : Image) → m.now i → is_found (found m i) ≡ true
   pub volumes : (i : Image) (c x : Config) → config_of note.config ≡ Some c → m.now i → found m i ≡ Found x → (v : ℕ) → v < length c.volumes → frame_at x v ≡ frame_at c v
   pub one : (i : Image) (c x : Config) → note.loose ≡ false → config_of note.config ≡ Some c → m.now i → found m i ≡ Found x → (at_serial 0 x ≡ c) ⊎ Contains note.begun (noted_try x)
   pub has : (i : Image) (x : Config) → m.now i → found m i ≡ Found x → (v p b : ℕ) → b < note.bytes.size v → IsTrue (live x v p) → BlockMay note v b (i (place x v p b).0 (place x v p b).1)
+  pub maps : (i : Image) (c x : Config) → config_of note.config ≡ Some c → m.now i → found m i ≡ Found x → MapsOnDisk note.maps c x i
 
 module _ {R : Type 0} (meaning : R → Meaning) where
   -- the rack of each site over no group holds it, with what the world has of it beside its node
   pub record RacksHold (d : Doubted) (racks : List R) : Type 0 where
     pub eight : length racks ≡ MOST_SITES
-    pub each : (s : ℕ) (r : R) → s < d.world.sites → is_over_group (d.world.nodes s) ≡ false → slice_get racks s ≡ Some r → HoldsSite (beside_of d s) (d.world.nodes s) (meaning r)
+    pub each : (s : ℕ) (r : R) → s < d.world.sites → (d.world.nodes s).group ≡ None → slice_get racks s ≡ Some r → HoldsSite (beside_of d s) (d.world.nodes s) (meaning r)
 
   -- and that of each site over a group holds the group, where it is known what its disks hold
   pub record GroupsHold (d : Doubted) (racks : List R) : Type 0 where

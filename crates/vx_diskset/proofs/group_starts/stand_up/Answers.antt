@@ -30,3 +30,9 @@ returns-in-Ok-clause-told g c = c.look_kept.ensures.told
 
 pub returns-in-Err-clause-told : goal.returns-in-Err-clause-told
 returns-in-Err-clause-told g c = λ told. c.look_kept.ensures.told (c.crash.ensures.told told)
+
+pub returns-in-Ok-clause-maps : goal.returns-in-Ok-clause-maps
+returns-in-Ok-clause-maps g c = c.look_kept.ensures.maps
+
+pub returns-in-Err-clause-maps : goal.returns-in-Err-clause-maps
+returns-in-Err-clause-maps g c = λ n note up own it. c.crash.ensures.maps own (c.look_kept.ensures.maps n note up own it)

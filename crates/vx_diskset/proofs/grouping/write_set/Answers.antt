@@ -3,6 +3,7 @@ use Rattle.std.proofs.Common.{◌≡◌, ◌∙◌, ap, subst, sym}
 use Rattle.vx_grouped.specs.Ends.{plain_write}
 use Rattle.vx_grouped.specs.SiteEnds.{PlainWrote}
 use Rattle.vx_diskset.proofs.GroupCut.{cut_none, cut_some}
+use Rattle.vx_grouped.specs.SiteMaps.{WroteMapped}
 use Rattle.vx_diskset.proofs.grouping.write_set.Goals as goal
 
 pub returns-in-Ok-clause-wrote : goal.returns-in-Ok-clause-wrote
@@ -33,3 +34,24 @@ returns-then-is_off-clause-told g c = c.write.ensures.told
 
 pub returns-else-is_off-clause-told : goal.returns-else-is_off-clause-told
 returns-else-is_off-clause-told g c = c.write.ensures.told
+
+pub returns-in-Ok-clause-maps : goal.returns-in-Ok-clause-maps
+returns-in-Ok-clause-maps g c = λ n note up fits.
+    subst (λ r. WroteMapped (plain_write c.args.volume c.args.block c.args.bytes.now) c.args.group.now.site c.write.new.self r) c.in-Ok.is (c.write.ensures.maps n note up fits)
+
+pub returns-then-is_off-clause-maps : goal.returns-then-is_off-clause-maps
+returns-then-is_off-clause-maps g c = λ n note up fits.
+    subst (λ r. WroteMapped (plain_write c.args.volume c.args.block c.args.bytes.now) c.args.group.now.site c.write.new.self r) c.in-Err.is (c.write.ensures.maps n note up fits)
+
+pub returns-else-is_off-clause-maps : goal.returns-else-is_off-clause-maps
+returns-else-is_off-clause-maps g c = λ n note up fits.
+    subst (λ r. WroteMapped (plain_write c.args.volume c.args.block c.args.bytes.now) c.args.group.now.site c.write.new.self r) c.in-Err.is (c.write.ensures.maps n note up fits)
+
+pub returns-in-Ok-clause-volumes : goal.returns-in-Ok-clause-volumes
+returns-in-Ok-clause-volumes g c = c.write.ensures.volumes
+
+pub returns-then-is_off-clause-volumes : goal.returns-then-is_off-clause-volumes
+returns-then-is_off-clause-volumes g c = c.write.ensures.volumes
+
+pub returns-else-is_off-clause-volumes : goal.returns-else-is_off-clause-volumes
+returns-else-is_off-clause-volumes g c = c.write.ensures.volumes

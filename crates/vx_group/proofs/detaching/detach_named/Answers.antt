@@ -71,19 +71,19 @@ pub returns-else-is_down-clause-parts : goal.returns-else-is_down-clause-parts
 returns-else-is_down-clause-parts g c =
     let was = is_staled c.args.vol c.args.failed.set 8 c.args.core.now.config in
     let grown = c.in-Ok.ensures.ends.grown in
-    record { site = grown.site ∙ was.site; rvg = grown.rvg ∙ was.rvg; count = grown.disks.count ∙ ap length was.disks }
+    record { site = grown.site ∙ was.site; rvg = grown.rvg ∙ was.rvg; count = grown.disks.count ∙ ap length was.disks; later = (let more = c.in-Ok.ensures.ends.later in let same = was.serial in omega (arith, more, same)) }
 
 pub returns-then-is_down-clause-parts : goal.returns-then-is_down-clause-parts
 returns-then-is_down-clause-parts g c =
     let was = is_staled c.args.vol c.args.failed.set 8 c.args.core.now.config in
     let grown = c.in-Ok.ensures.ends.grown in
-    record { site = grown.site ∙ was.site; rvg = grown.rvg ∙ was.rvg; count = grown.disks.count ∙ ap length was.disks }
+    record { site = grown.site ∙ was.site; rvg = grown.rvg ∙ was.rvg; count = grown.disks.count ∙ ap length was.disks; later = (let more = c.in-Ok.ensures.ends.later in let same = was.serial in omega (arith, more, same)) }
 
 pub returns-then-is_down-2-clause-parts : goal.returns-then-is_down-2-clause-parts
-returns-then-is_down-2-clause-parts g c = let left = c.in-Err.ensures.ends in record { site = left.site; rvg = left.rvg; count = ap length left.disks }
+returns-then-is_down-2-clause-parts g c = let left = c.in-Err.ensures.ends in record { site = left.site; rvg = left.rvg; count = ap length left.disks; later = left.later }
 
 pub returns-else-is_down-2-clause-parts : goal.returns-else-is_down-2-clause-parts
-returns-else-is_down-2-clause-parts g c = let left = c.in-Err.ensures.ends in record { site = left.site; rvg = left.rvg; count = ap length left.disks }
+returns-else-is_down-2-clause-parts g c = let left = c.in-Err.ensures.ends in record { site = left.site; rvg = left.rvg; count = ap length left.disks; later = left.later }
 
 pub returns-then-is_down-clause-none : goal.returns-then-is_down-clause-none
 returns-then-is_down-clause-none g c = none_changed c.args.vol c.args.failed.set c.args.core.now.config c.commit_stale.new.config c.in-Ok.ensures.ends.grown.volumes

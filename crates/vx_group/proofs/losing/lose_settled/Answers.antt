@@ -13,6 +13,7 @@ use Rattle.vx_group.proofs.Standing.{kept_of, tidy_of}
 use Rattle.vx_group.proofs.TrustLemmas.{stays_committed}
 use Rattle.vx_group.proofs.FindingLemmas.{done_ends, left_ends}
 use Rattle.vx_group.proofs.TrustStillLemmas.{but_logs, still_but, volumes_logs}
+use Rattle.vx_group.proofs.LoseLemmas.{le_less}
 use Rattle.vx_group.proofs.losing.lose_settled.Goals as goal
 
 pub commit_lost-requires-clause-kept : goal.commit_lost-requires-clause-kept
@@ -134,16 +135,16 @@ returns-else-is_down-2-clause-cause g c =
     (not_down c.is_down-in-Err.result (g.S.Shelf.meaning c.commit_lost.new.shelf).down c.is_down-in-Err.ensures c.if-is_down-2.false) c.in-Err.no 0 c.requires.more c.in-Err.ensures.ends.cause)
 
 pub returns-then-is_down-clause-parts : goal.returns-then-is_down-clause-parts
-returns-then-is_down-clause-parts g c = record { site = c.in-Ok.ensures.ends.grown.site; rvg = c.in-Ok.ensures.ends.grown.rvg; count = c.in-Ok.ensures.ends.grown.disks.count }
+returns-then-is_down-clause-parts g c = record { site = c.in-Ok.ensures.ends.grown.site; rvg = c.in-Ok.ensures.ends.grown.rvg; count = c.in-Ok.ensures.ends.grown.disks.count; later = le_less c.args.core.now.config.serial c.commit_lost.new.config.serial c.in-Ok.ensures.ends.later }
 
 pub returns-then-is_down-2-clause-parts : goal.returns-then-is_down-2-clause-parts
-returns-then-is_down-2-clause-parts g c = record { site = c.in-Err.ensures.ends.site; rvg = c.in-Err.ensures.ends.rvg; count = ap length c.in-Err.ensures.ends.disks }
+returns-then-is_down-2-clause-parts g c = record { site = c.in-Err.ensures.ends.site; rvg = c.in-Err.ensures.ends.rvg; count = ap length c.in-Err.ensures.ends.disks; later = c.in-Err.ensures.ends.later }
 
 pub returns-else-is_down-clause-parts : goal.returns-else-is_down-clause-parts
-returns-else-is_down-clause-parts g c = record { site = c.in-Ok.ensures.ends.grown.site; rvg = c.in-Ok.ensures.ends.grown.rvg; count = c.in-Ok.ensures.ends.grown.disks.count }
+returns-else-is_down-clause-parts g c = record { site = c.in-Ok.ensures.ends.grown.site; rvg = c.in-Ok.ensures.ends.grown.rvg; count = c.in-Ok.ensures.ends.grown.disks.count; later = le_less c.args.core.now.config.serial c.commit_lost.new.config.serial c.in-Ok.ensures.ends.later }
 
 pub returns-else-is_down-2-clause-parts : goal.returns-else-is_down-2-clause-parts
-returns-else-is_down-2-clause-parts g c = record { site = c.in-Err.ensures.ends.site; rvg = c.in-Err.ensures.ends.rvg; count = ap length c.in-Err.ensures.ends.disks }
+returns-else-is_down-2-clause-parts g c = record { site = c.in-Err.ensures.ends.site; rvg = c.in-Err.ensures.ends.rvg; count = ap length c.in-Err.ensures.ends.disks; later = c.in-Err.ensures.ends.later }
 
 pub returns-then-is_down-clause-finds : goal.returns-then-is_down-clause-finds
 returns-then-is_down-clause-finds g c =

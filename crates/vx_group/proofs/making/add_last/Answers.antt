@@ -120,13 +120,13 @@ returns-in-Err-clause-parts g c = none_parts c.args.core.now.config
 
 pub returns-in-Ok-commit_next-clause-parts : goal.returns-in-Ok-commit_next-clause-parts
 returns-in-Ok-commit_next-clause-parts g c =
-    then_parts c.args.core.now.config c.args.next c.commit_next.new.next (next_parts c.args.core.now.config c.args.next c.requires.is_next) (grown_parts (g.S.Shelf.meaning c.zero_volume.new.shelf) (g.S.Shelf.meaning c.commit_next.new.shelf) c.args.next c.commit_next.new.next c.in-Ok-commit_next.ensures.ends.grown)
+    then_parts c.args.core.now.config c.args.next c.commit_next.new.next (next_parts c.args.core.now.config c.args.next c.requires.is_next) (grown_parts (g.S.Shelf.meaning c.zero_volume.new.shelf) (g.S.Shelf.meaning c.commit_next.new.shelf) c.args.next c.commit_next.new.next c.in-Ok-commit_next.ensures.ends.grown c.in-Ok-commit_next.ensures.ends.later)
 
 pub returns-then-is_down-clause-parts : goal.returns-then-is_down-clause-parts
-returns-then-is_down-clause-parts g c = record { site = refl; rvg = refl; count = refl }
+returns-then-is_down-clause-parts g c = record { site = refl; rvg = refl; count = refl; later = c.in-Err-commit_next.ensures.ends.later }
 
 pub returns-else-is_down-clause-parts : goal.returns-else-is_down-clause-parts
-returns-else-is_down-clause-parts g c = record { site = refl; rvg = refl; count = refl }
+returns-else-is_down-clause-parts g c = record { site = refl; rvg = refl; count = refl; later = c.in-Err-commit_next.ensures.ends.later }
 
 pub returns-in-Ok-commit_next-clause-newest : goal.returns-in-Ok-commit_next-clause-newest
 returns-in-Ok-commit_next-clause-newest g c = record { finds = c.in-Ok-commit_next.ensures.ends.finds }

@@ -105,7 +105,7 @@ returns-then-not-core-clause-parts g c = then_parts c.args.core.now.config c.hol
 pub returns-else-not-core-clause-parts : goal.returns-else-not-core-clause-parts
 returns-else-not-core-clause-parts g c =
     let parts = then_parts c.args.core.now.config c.hold_plex.new.config c.recommit.new.core.config (but_parts c.args.core.now.config c.hold_plex.new.config c.hold_plex.ensures.regained.same) c.recommit.ensures.parts in
-    record { site = parts.site; rvg = parts.rvg; count = ap length c.copy-kept.ensures }
+    record { site = parts.site; rvg = parts.rvg; count = ap length c.copy-kept.ensures; later = parts.later }
 
 pub returns-then-not-hold_plex-clause-finds : goal.returns-then-not-hold_plex-clause-finds
 returns-then-not-hold_plex-clause-finds g c =

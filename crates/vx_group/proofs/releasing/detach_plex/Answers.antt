@@ -78,10 +78,10 @@ pub returns-clause-parts : goal.returns-clause-parts
 returns-clause-parts g c =
     let same = c.settle_headers.ensures.same in
     let parts = c.detach.ensures.parts in
-    record { site = parts.site ∙ same.site; rvg = parts.rvg ∙ same.rvg; count = parts.count ∙ same.count }
+    record { site = parts.site ∙ same.site; rvg = parts.rvg ∙ same.rvg; count = parts.count ∙ same.count; later = (let one = same.serial in let two = parts.later in omega (arith, one, two)) }
 
 pub returns-in-Err-clause-parts : goal.returns-in-Err-clause-parts
-returns-in-Err-clause-parts g c = let same = c.settle_headers.ensures.same in record { site = same.site; rvg = same.rvg; count = same.count }
+returns-in-Err-clause-parts g c = let same = c.settle_headers.ensures.same in record { site = same.site; rvg = same.rvg; count = same.count; later = (let is = same.serial in omega (arith, is)) }
 
 pub returns-clause-failing : goal.returns-clause-failing
 returns-clause-failing g c =

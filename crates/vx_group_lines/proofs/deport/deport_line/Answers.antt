@@ -49,7 +49,7 @@ returns-in-Ok-clause-leads g c = λ d stands over.
       cut = c.in-Ok.ensures.cut;
       since = c.in-Ok.ensures.since;
     })
-    (c.in-Ok.ensures.deported n note up.noted)
+    (c.in-Ok.ensures.deported n note up.noted) (c.in-Ok.ensures.maps n note up.noted)
     (ap (λ f. slice_set y.facts.items s f) (c.deport.ensures ∙ ap (λ f. deported_facts f) (some_same (sym (get_at y.facts.items s c.index_mut-in-Ok.result.now c.site_of-site.ensures.fact c.index_mut-in-Ok.ensures.value) ∙ up.at.fact))))
     (record { flight = refl; assemblies = c.let_go.ensures; feeders = refl })
 
@@ -84,7 +84,7 @@ returns-in-Err-clause-leads g c = λ d stands over.
       since = c.in-Err.ensures.since;
     })
     _ c.group_stopped.result (record { facts = refl; load = record { flight = refl; assemblies = refl; feeders = refl } }) c.in-Err.stop
-    (c.in-Err.ensures.deported n note up.noted)
+    (c.in-Err.ensures.deported n note up.noted) (c.in-Err.ensures.maps n note up.noted)
     reply
 
 pub returns-in-Ok-clause-asked : goal.returns-in-Ok-clause-asked

@@ -3,6 +3,7 @@ use Rattle.std.proofs.Common.{◌∙◌, ap, sym, subst, refl}
 use Rattle.std.specs.Prelude.{Some, is_some, slice_get, slice_set}
 use Rattle.std.proofs.lemmas.Result.{err_from_is_err_and}
 use Rattle.vx_script.specs.declared.line.ScriptLine.TheVariants.{GroupImport}
+use Rattle.vx_grouped.specs.SiteMaps.{CameMapped}
 use Rattle.vx_grouped.specs.SiteReturns.{SiteImports}
 use Rattle.vx_diskset.proofs.KeepsFailing.{failing_same}
 use Rattle.vx_diskset.specs.Asked.{FuseGoesOn, SameFailing}
@@ -62,6 +63,7 @@ returns-in-Ok-clause-leads g c = λ d stands over.
     })
     (place_at d y c.args.name.now s stands c.site_of-site.ensures.seat).number up.away up.is_away
     (subst (λ r. OnSites (λ o e. SiteImports n note o e r) before after) c.in-Ok.is (c.import_group-disk_set.ensures.imported n note up.noted))
+    (subst (λ r. OnSites (λ o e. CameMapped o e r) before after) c.in-Ok.is (c.import_group-disk_set.ensures.maps n note up.noted))
     (c.import_group-disk_set.ensures.cut ∙ ap (λ r. cut_past r before) c.in-Ok.is)
     (record { flight = same.flight; assemblies = ap (λ xs. xs.items) c.note_up.ensures.assemblies; feeders = ap (λ xs. xs.items) same.feeders })
     (λ x has. c.note_up.ensures.facts f x up.at.fact (record {
@@ -94,7 +96,8 @@ returns-in-Err-clause-leads g c = λ d stands over.
     (place_at d y c.args.name.now s stands c.site_of-site.ensures.seat).number up.away up.is_away
     _ (record { facts = refl; load = record { flight = refl; assemblies = refl; feeders = refl } }) c.group_stopped.result
     (c.import_group-disk_set.ensures.cut ∙ ap (λ r. cut_past r before) c.in-Err.is) c.in-Err.stop
-    (subst (λ r. OnSites (λ o e. SiteImports n note o e r) before after) c.in-Err.is (c.import_group-disk_set.ensures.imported n note up.noted)) over reply
+    (subst (λ r. OnSites (λ o e. SiteImports n note o e r) before after) c.in-Err.is (c.import_group-disk_set.ensures.imported n note up.noted))
+    (subst (λ r. OnSites (λ o e. CameMapped o e r) before after) c.in-Err.is (c.import_group-disk_set.ensures.maps n note up.noted)) over reply
 
 pub returns-in-Ok-clause-asked : goal.returns-in-Ok-clause-asked
 returns-in-Ok-clause-asked g c = λ d stands over.

@@ -14,7 +14,7 @@ use Rattle.vx_yard.specs.OfSites.{HasCalled}
 use Rattle.vx_yard.specs.Yards.{in_files}
 use Rattle.vx_yard.specs.Stands.{AreTold}
 use Rattle.vx_group_lines.proofs.GroupNamed.{if_ok, plain_is, plain_there, plex_fits, plex_named, reply_same, up_named}
-use Rattle.vx_group_lines.proofs.GroupAttach.{att_all, att_at, att_ends, att_stopped, att_zero}
+use Rattle.vx_group_lines.proofs.GroupAttach.{att_all, att_at, att_ends, att_stopped, att_zero, att_maps_at}
 use Rattle.vx_group_lines.proofs.Tests.{attach_may}
 use Rattle.vx_group_lines.proofs.plex.attach_line.Goals as goal
 
@@ -58,6 +58,7 @@ returns-in-Ok-clause-leads g c = λ d stands over.
     plex.there plex.below up.is_up c.in-Ok.copied
     (att_at n note number fits (Ok c.in-Ok.copied) c.index_mut.result.now c.attach_plex.new.self
     (c.in-Ok.ensures.called n note up.noted))
+    (att_maps_at number fits (Ok c.in-Ok.copied) c.index_mut.result.now c.attach_plex.new.self (c.in-Ok.ensures.maps n note up.noted))
     (att_zero c.index_mut.result.now up.at.set c.in-Ok.copied up.at.is_set number fits (λ no at. c.in-Ok.ensures.refused n note no up.noted at) (λ at on. c.in-Ok.ensures.already n note up.noted at on))
     (att_all c.index_mut.result.now up.at.set c.in-Ok.copied up.at.is_set number fits (λ off. c.in-Ok.ensures.count off))
     refl (record { flight = refl; assemblies = refl; feeders = refl })
@@ -97,6 +98,9 @@ returns-in-Err-clause-leads g c = λ d stands over.
     (att_at n note (plain_is d y c.args.name.now c.args.volume.now s c.volume_of-place.result c.index_mut.result.now up.at c.volume_of-place.ensures.place)
     (c.min.ensures ∙ plex_fits n note up.at.set.site c.args.volume.now c.args.plex up.is_up plex) (Err c.in-Err.stop) c.index_mut.result.now c.attach_plex.new.self
     (c.in-Err.ensures.called n note up.noted))
+    (att_maps_at (plain_is d y c.args.name.now c.args.volume.now s c.volume_of-place.result c.index_mut.result.now up.at c.volume_of-place.ensures.place)
+    (c.min.ensures ∙ plex_fits n note up.at.set.site c.args.volume.now c.args.plex up.is_up plex) (Err c.in-Err.stop) c.index_mut.result.now c.attach_plex.new.self
+    (c.in-Err.ensures.maps n note up.noted))
     reply
 
 pub returns-in-Ok-clause-asked : goal.returns-in-Ok-clause-asked

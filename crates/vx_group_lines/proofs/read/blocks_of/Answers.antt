@@ -26,3 +26,13 @@ returns-clause-size g c =
     ap (λ (xs : List ℕ). length xs)
     (c.new.ensures ∙ written_over c.args.room.len c.read_plain.new.into _ (omega (arith, c.read_plain.auto.into, ap (λ (xs : List ℕ). length xs) c.deref_mut.ensures.value, c.args.room.ok)))
     ∙ omega (arith, c.read_plain.auto.into, ap (λ (xs : List ℕ). length xs) c.deref_mut.ensures.value)
+
+pub returns-in_err-read_plain-clause-maps : goal.returns-in_err-read_plain-clause-maps
+returns-in_err-read_plain-clause-maps g c = λ n note up fits.
+    let room : length c.deref_mut.result.now ≡ length c.args.room.items = ap (λ (xs : List ℕ). length xs) c.deref_mut.ensures.value in
+    c.in_err-read_plain.ensures.maps n note up (subst (λ (k : ℕ). FitsPlain note c.args.volume c.args.start k) (sym room) fits)
+
+pub returns-clause-maps : goal.returns-clause-maps
+returns-clause-maps g c = λ n note up fits.
+    let room : length c.deref_mut.result.now ≡ length c.args.room.items = ap (λ (xs : List ℕ). length xs) c.deref_mut.ensures.value in
+    c.in_ok-read_plain.ensures.maps n note up (subst (λ (k : ℕ). FitsPlain note c.args.volume c.args.start k) (sym room) fits)

@@ -34,7 +34,7 @@ returns-in-Ok-clause-leads g c = λ d line count stands is room free over.
     let fits = plain_fits d y c.args.name.now c.args.volume.now c.args.start count s c.volume_of-place.result e _ plain room.size in
     read_done d y _ line c.args.name.now c.args.volume.now c.args.start count s c.volume_of-place.result e c.blocks_of.new.disk_set stands is plain (record { at = plain.at; changed = record { there = at; later = c.in-Ok.ensures.later; disk_sets = refl; racks = refl }; failing = c.in-Ok.ensures.failing }) c.in-Ok.ensures.since refl (record { flight = refl; assemblies = refl; feeders = refl })
     c.in-Ok.blocks (c.in-Ok.ensures.size ∙ room.size)
-    (c.in-Ok.ensures.read (d.world.nodes s) (note_at (d.world.nodes s)) up fits) c.in-Ok.ensures.cut
+    (c.in-Ok.ensures.read (d.world.nodes s) (note_at (d.world.nodes s)) up fits) (c.in-Ok.ensures.maps (d.world.nodes s) (note_at (d.world.nodes s)) up fits) c.in-Ok.ensures.cut
 
 pub returns-in-Err-clause-leads : goal.returns-in-Err-clause-leads
 returns-in-Err-clause-leads g c = λ d line count stands is room free over.
@@ -49,7 +49,7 @@ returns-in-Err-clause-leads g c = λ d line count stands is room free over.
     let fits = plain_fits d y c.args.name.now c.args.volume.now c.args.start count s c.volume_of-place.result e _ plain room.size in
     read_stops d y _ line c.args.name.now c.args.volume.now c.args.start count s c.volume_of-place.result e c.blocks_of.new.disk_set stands is plain (record { at = plain.at; changed = record { there = at; later = c.in-Err.ensures.later; disk_sets = refl; racks = refl }; failing = c.in-Err.ensures.failing }) c.in-Err.ensures.since refl (record { flight = refl; assemblies = refl; feeders = refl })
     c.in-Err.no
-    (c.in-Err.ensures.read (d.world.nodes s) (note_at (d.world.nodes s)) up fits) c.in-Err.ensures.cut
+    (c.in-Err.ensures.read (d.world.nodes s) (note_at (d.world.nodes s)) up fits) (c.in-Err.ensures.maps (d.world.nodes s) (note_at (d.world.nodes s)) up fits) c.in-Err.ensures.cut
 
 pub returns-in-Ok-clause-asked : goal.returns-in-Ok-clause-asked
 returns-in-Ok-clause-asked g c = λ d line count stands is room free over.

@@ -1,7 +1,7 @@
 -- `rise`: what the import of a group leads a yard to.
-use Rattle.std.proofs.Common.{◌≡◌, ◌∙◌, ap, sym, subst, refl}
+use Rattle.std.proofs.Common.{◌∙◌, ap, sym, subst, refl}
 use Rattle.std.specs.Prelude.{Some, slice_set}
-use Rattle.vx_diskset.specs.Recovers.{RaisesGroup}
+use Rattle.vx_diskset.specs.Recovers.{RaisesGroup, RaisesMaps}
 use Rattle.vx_diskset.specs.declared.disk_set.DiskSet.TheVariants.{Gone}
 use Rattle.vx_yard.proofs.Lists.{get_at, set_twice}
 use Rattle.vx_yard.proofs.WriteLine.{get_there}
@@ -26,6 +26,7 @@ returns-in-Ok-clause-rises g c = λ e stands below over down.
     })
     e (record { stands = stands; below = below; over = over; down = down }) c.in-Ok.cut c.stand_up.result
     (λ n note was. subst (λ r. RaisesGroup n note c.replace-disk_set.result c.raise_group-disk_set.result.0 r) c.in-Ok.is (c.raise_group-disk_set.ensures.raised n note was))
+    (λ n note was. subst (λ r. RaisesMaps c.replace-disk_set.result c.raise_group-disk_set.result.0 r) c.in-Ok.is (c.raise_group-disk_set.ensures.maps n note was))
     c.stand_up.ensures.stood
 
 pub returns-in-Ok-clause-failing : goal.returns-in-Ok-clause-failing
@@ -82,6 +83,7 @@ returns-in-Err-clause-rises g c = λ e stands below over down.
     })
     e (record { stands = stands; below = below; over = over; down = down }) c.in-Err.stop c.group_stopped.result
     (λ n note was. subst (λ r. RaisesGroup n note c.replace-disk_set.result c.raise_group-disk_set.result.0 r) c.in-Err.is (c.raise_group-disk_set.ensures.raised n note was))
+    (λ n note was. subst (λ r. RaisesMaps c.replace-disk_set.result c.raise_group-disk_set.result.0 r) c.in-Err.is (c.raise_group-disk_set.ensures.maps n note was))
     c.group_stopped.ensures
 
 pub returns-in-Err-clause-failing : goal.returns-in-Err-clause-failing

@@ -32,7 +32,7 @@ returns-in-Ok g c =
     record {
       stood =
           stood_by s c.args.cut y mid _ before after (Ok c.in-Ok.kept) _ c.note_up.ensures.same there put
-          (λ n note up. subst (λ r. LooksAt n note c.args.cut before after r) c.in-Ok.is (c.look_at_cut-disk_set.ensures.looks n note up)) c.look_at_cut-disk_set.ensures.failing c.look_at_cut-disk_set.ensures.later refl refl refl refl
+          (λ n note up. subst (λ r. LooksAt n note c.args.cut before after r) c.in-Ok.is (c.look_at_cut-disk_set.ensures.looks n note up)) (λ n note up. c.look_at_cut-disk_set.ensures.maps n note up) c.look_at_cut-disk_set.ensures.failing c.look_at_cut-disk_set.ensures.later refl refl refl refl
           (so_up s y mid _ before after c.in-Ok.kept c.shown_if-kept.result c.view_at.result c.index.result.now c.note_up.ensures.same there refl refl c.note_up.ensures.assemblies
           (ap (λ es. slice_get es s) put ∙ get-set_same ds s after low) (get_at mid.facts.items s c.index.result.now (subst (λ k. s < k) (sym c.note_up.ensures.many) c.requires.facts) c.index.ensures) c.shown_if-kept.ensures c.note_up.ensures.facts c.view_at.ensures.up);
     }
@@ -53,6 +53,6 @@ returns-in-Err g c =
     record {
       stood =
           stood_by s c.args.cut y mid c.fall_again.new.yard before after (Err c.in-Err.stop) c.fall_again.result c.note_up.ensures.same there (ap (λ es. es.items) same.disk_sets ∙ put)
-          (λ n note up. subst (λ r. LooksAt n note c.args.cut before after r) c.in-Err.is (c.look_at_cut-disk_set.ensures.looks n note up)) c.look_at_cut-disk_set.ensures.failing c.look_at_cut-disk_set.ensures.later same.racks same.flight same.feeders same.dir
+          (λ n note up. subst (λ r. LooksAt n note c.args.cut before after r) c.in-Err.is (c.look_at_cut-disk_set.ensures.looks n note up)) (λ n note up. c.look_at_cut-disk_set.ensures.maps n note up) c.look_at_cut-disk_set.ensures.failing c.look_at_cut-disk_set.ensures.later same.racks same.flight same.feeders same.dir
           (so_down s y mid mid c.fall_again.new.yard before after c.in-Err.stop c.fall_again.result c.note_up.ensures.same there refl refl c.note_up.ensures.assemblies c.note_up.ensures.facts c.fall_again.ensures.facts c.fall_again.ensures.assemblies c.fall_again.ensures.said);
     }

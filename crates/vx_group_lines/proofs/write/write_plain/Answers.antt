@@ -39,7 +39,7 @@ returns-in-Ok-clause-leads g c = λ d line stands is free over.
     let up = at_up d y c.args.name.now s e plain.at plain.up in
     let fits = plain_fits d y c.args.name.now c.args.volume.now c.args.start (blocks_in c.args.bytes.now) s c.volume_of-place.result e _ plain (block_count line c.args.name.now c.args.volume.now c.args.start c.args.bytes.now is) in
     write_done d y _ line c.args.name.now c.args.volume.now c.args.start c.args.bytes.now s c.volume_of-place.result e c.write_plain.new.self stands is plain (record { at = plain.at; changed = record { there = at; later = c.in-Ok.ensures.later; disk_sets = refl; racks = refl }; failing = c.in-Ok.ensures.failing }) c.in-Ok.ensures.since _
-    (c.in-Ok.ensures.wrote (d.world.nodes s) (note_at (d.world.nodes s)) up fits) (c.in-Ok.ensures.cut (d.world.nodes s) (note_at (d.world.nodes s)) up) refl (record { flight = refl; assemblies = refl; feeders = refl })
+    (c.in-Ok.ensures.wrote (d.world.nodes s) (note_at (d.world.nodes s)) up fits) (c.in-Ok.ensures.maps (d.world.nodes s) (note_at (d.world.nodes s)) up fits) (c.in-Ok.ensures.cut (d.world.nodes s) (note_at (d.world.nodes s)) up) refl (record { flight = refl; assemblies = refl; feeders = refl })
 
 pub returns-in-Err-clause-leads : goal.returns-in-Err-clause-leads
 returns-in-Err-clause-leads g c = λ d line stands is free over.
@@ -56,7 +56,7 @@ returns-in-Err-clause-leads g c = λ d line stands is free over.
     let same = c.group_refused.ensures.same in
     subst (λ (r : Said). LeadsOver d line r y c.group_refused.new.yard) (sym c.group_refused.ensures.said)
     (write_stops d y c.group_refused.new.yard line c.args.name.now c.args.volume.now c.args.start c.args.bytes.now s c.volume_of-place.result e c.write_plain.new.self stands is plain (record { at = plain.at; changed = record { there = at; later = c.in-Err.ensures.later; disk_sets = ap (λ es. es.items) same.disk_sets; racks = same.racks }; failing = c.in-Err.ensures.failing }) c.in-Err.ensures.since c.in-Err.no
-    (c.in-Err.ensures.wrote (d.world.nodes s) (note_at (d.world.nodes s)) up fits) (c.in-Err.ensures.cut (d.world.nodes s) (note_at (d.world.nodes s)) up)
+    (c.in-Err.ensures.wrote (d.world.nodes s) (note_at (d.world.nodes s)) up fits) (c.in-Err.ensures.maps (d.world.nodes s) (note_at (d.world.nodes s)) up fits) (c.in-Err.ensures.cut (d.world.nodes s) (note_at (d.world.nodes s)) up)
     (c.group_refused.ensures.facts (fact_of_group (d.world.nodes s) (note_at (d.world.nodes s))) plain.at.fact)
     (record { flight = same.flight; assemblies = c.group_refused.ensures.assemblies; feeders = ap (λ fs. fs.items) same.feeders }))
 

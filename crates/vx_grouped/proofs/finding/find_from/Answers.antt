@@ -8,9 +8,11 @@ use Rattle.vx_untold.specs.Shades.{rack_of, shade_meaning}
 use Rattle.vx_untold.specs.Untold.{untold}
 use Rattle.vx_untold.specs.declared.shade.Shade.TheVariants.{Bright, Dark}
 use Rattle.vx_grouped.specs.Away.{AwayLies}
+use Rattle.vx_grouped.specs.PlainMaps.{PartsNoted}
 use Rattle.vx_grouped.specs.Returns.{GroupReturns}
 use Rattle.vx_grouped.proofs.CarryLemmas.{carried, carried_two}
 use Rattle.vx_grouped.proofs.FindLemmas.{untold_can}
+use Rattle.vx_grouped.proofs.PlainMapLemmas.{parts_same}
 use Rattle.vx_grouped.proofs.SinceReturns.{return_at, return_calls, return_dark, return_then}
 use Rattle.vx_grouped.proofs.SiteReturnLemmas.{is_up}
 use Rattle.vx_grouped.proofs.finding.find_from.Goals as goal
@@ -52,3 +54,14 @@ together-requires-clause-stands g c =
 
 pub together-requires-clause-begins : goal.together-requires-clause-begins
 together-requires-clause-begins g c = subst (λ s. FreshStands c.apart-watched.result.1.core c.apart-watched.result.1.fresh (untold (g.R.Shelf.meaning s))) (sym c.into_shelf-rack.ensures.shelf) c.apart-watched.ensures.begins
+
+pub returns-in-Ok-clause-maps : goal.returns-in-Ok-clause-maps
+returns-in-Ok-clause-maps g c =
+    let some = c.in-Ok.ensures.maps.some in (
+      some.0,
+      subst (λ x. PartsNoted some.0 x)
+          (sym (parts_same c.in-Ok.group.core.inner.config c.dimmed.result.core.inner.config c.in-Ok.group.logs.items c.dimmed.result.logs.items c.in-Ok.group.alike c.dimmed.result.alike c.in-Ok.group.stopped c.dimmed.result.stopped
+          (ap (λ x. x.inner.config) (c.dimmed.ensures.core ∙ c.together.ensures.core ∙ c.apart-watched.ensures.core)) (ap (λ x. x.items) (c.dimmed.ensures.logs ∙ c.together.ensures.logs ∙ c.apart-watched.ensures.logs))
+          (c.dimmed.ensures.alike ∙ c.together.ensures.alike ∙ c.apart-watched.ensures.alike) (c.dimmed.ensures.stopped ∙ c.together.ensures.stopped ∙ c.apart-watched.ensures.stopped)))
+          some.1,
+    )

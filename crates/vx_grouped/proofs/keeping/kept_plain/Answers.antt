@@ -4,6 +4,7 @@ use Rattle.vx_group.specs.Holding.{wide}
 use Rattle.vx_group.specs.Laws.{group_lawful}
 use Rattle.vx_group.specs.Stands.{inner_meaning}
 use Rattle.vx_grouped.proofs.KeepingLemmas.{keeps_front}
+use Rattle.vx_grouped.proofs.PlainMapLemmas.{parts_same}
 use Rattle.vx_grouped.proofs.ReadLemmas.{read_stays, reads_plain}
 use Rattle.vx_grouped.proofs.keeping.kept_plain.Goals as goal
 
@@ -29,3 +30,13 @@ pub returns-in-Err-clause-stays : goal.returns-in-Err-clause-stays
 returns-in-Err-clause-stays g c = λ n note at.
     read_stays n note c.args.group.now.core c.read.new.self.core (g.S.Shelf.meaning c.args.group.now.shelf) (g.S.Shelf.meaning c.read.new.self.shelf) (g.met.S.Shelf.lawful c.args.group.now.shelf) (g.met.S.Shelf.lawful c.read.new.self.shelf)
     c.read.ensures.below c.read.ensures.down c.read.ensures.goes c.read.ensures.same c.read.ensures.held c.read.ensures.settled c.read.ensures.trusted at
+
+pub returns-in-Ok-clause-maps : goal.returns-in-Ok-clause-maps
+returns-in-Ok-clause-maps g c =
+    parts_same c.args.group.now.core.inner.config c.read.new.self.core.inner.config c.args.group.now.logs.items c.read.new.self.logs.items c.args.group.now.alike c.read.new.self.alike c.args.group.now.stopped c.read.new.self.stopped
+    c.read.ensures.same c.read.ensures.logs c.read.ensures.alike c.read.ensures.stopped
+
+pub returns-in-Err-clause-maps : goal.returns-in-Err-clause-maps
+returns-in-Err-clause-maps g c =
+    parts_same c.args.group.now.core.inner.config c.read.new.self.core.inner.config c.args.group.now.logs.items c.read.new.self.logs.items c.args.group.now.alike c.read.new.self.alike c.args.group.now.stopped c.read.new.self.stopped
+    c.read.ensures.same c.read.ensures.logs c.read.ensures.alike c.read.ensures.stopped

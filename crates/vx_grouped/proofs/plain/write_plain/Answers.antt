@@ -1,5 +1,5 @@
 -- A write that is made durable: what it leaves, and which plexes it takes out of use.
-use Rattle.std.proofs.Common.{arith}
+use Rattle.std.proofs.Common.{arith, ◌∙◌}
 use Rattle.vx_disk.specs.Shelf.{Written}
 use Rattle.vx_disk.proofs.Runs.{then_nothing}
 use Rattle.vx_group.proofs.FindingLemmas.{then_group}
@@ -8,6 +8,8 @@ use Rattle.vx_group.specs.Laws.{group_lawful}
 use Rattle.vx_group.specs.Stands.{inner_meaning}
 use Rattle.vx_grouped.proofs.WriteLemmas.{both_lose, write_done, write_failed}
 use Rattle.vx_grouped.proofs.BothLemmas.{both_on}
+use Rattle.vx_grouped.specs.Ends.{plain_write}
+use Rattle.vx_grouped.proofs.PlainMapLemmas.{both_doubted, both_wrote, doubted_parts}
 use Rattle.vx_grouped.proofs.plain.write_plain.Goals as goal
 
 pub flush_run-requires-clause-there : goal.flush_run-requires-clause-there
@@ -64,3 +66,38 @@ returns-in-Err-flush_run-clause-on g c = both_on c.args.group.now.core c.flush_r
 
 pub returns-in-Err-clause-on : goal.returns-in-Err-clause-on
 returns-in-Err-clause-on g c = both_on c.args.group.now.core c.write.new.self.core (g.S.Shelf.meaning c.args.group.now.shelf) (g.S.Shelf.meaning c.write.new.self.shelf) c.args.group.now.stands.group c.write.new.self.stands.group
+
+pub returns-in-Err-clause-maps : goal.returns-in-Err-clause-maps
+returns-in-Err-clause-maps g c =
+    doubted_parts (plain_write c.args.vol c.args.block c.args.bytes.now) c.args.group.now.core c.write.new.self.core c.args.group.now.logs.items c.write.new.self.logs.items c.args.group.now.stopped c.write.new.self.stopped c.args.group.now.alike c.write.new.self.alike
+    (g.S.Shelf.meaning c.args.group.now.shelf) (g.S.Shelf.meaning c.write.new.self.shelf) (c.requires.rack c.args.group.now.shelf) (c.requires.rack c.write.new.self.shelf) c.args.group.now.stands.group c.write.new.self.stands.group
+    c.write.ensures.loses.frames c.write.ensures.goes.units c.write.ensures.goes.size c.requires.fits.exists c.write.ensures.ends_maps c.write.ensures.comes c.in-Err.ensures.moves (λ v apart is. c.write.ensures.flags v apart ∙ is)
+
+pub returns-in-Ok-flush_run-clause-maps : goal.returns-in-Ok-flush_run-clause-maps
+returns-in-Ok-flush_run-clause-maps g c =
+    both_wrote (plain_write c.args.vol c.args.block c.args.bytes.now) c.args.group.now.core c.write.new.self.core c.flush_run.new.self.core c.args.group.now.logs.items c.write.new.self.logs.items c.flush_run.new.self.logs.items
+    c.args.group.now.stopped c.write.new.self.stopped c.flush_run.new.self.stopped c.args.group.now.alike c.write.new.self.alike c.flush_run.new.self.alike (g.S.Shelf.meaning c.args.group.now.shelf) (g.S.Shelf.meaning c.write.new.self.shelf) (g.S.Shelf.meaning c.flush_run.new.self.shelf)
+    (c.requires.rack c.args.group.now.shelf) (c.requires.rack c.write.new.self.shelf) (c.requires.rack c.flush_run.new.self.shelf) c.args.group.now.stands.group c.flush_run.new.self.stands.group
+    c.write.ensures.loses c.flush_run.ensures.loses c.write.ensures.goes.disk_faults c.flush_run.ensures.goes.disk_faults c.write.ensures.goes.units c.flush_run.ensures.goes.units c.write.ensures.goes.size c.flush_run.ensures.goes.size c.requires.fits.exists
+    c.flush_run.ensures.goes.falls c.flush_run.ensures.loses.parts.later c.write.ensures.full c.write.ensures.keeps c.flush_run.ensures.keeps c.write.ensures.comes c.flush_run.ensures.comes
+    c.flush_run.ensures.gone c.write.ensures.rests c.in-Ok.ensures.free c.flush_run.ensures.rests c.flush_run.ensures.flags c.in-Ok.ensures.alike
+    c.in-Ok.ensures.moves (λ going. c.in-Ok-flush_run.ensures.moves going (let some = c.requires.fits.some in let whole = c.requires.fits.whole in omega (arith, some, whole)))
+
+pub returns-in-Err-flush_run-clause-maps : goal.returns-in-Err-flush_run-clause-maps
+returns-in-Err-flush_run-clause-maps g c =
+    both_doubted (plain_write c.args.vol c.args.block c.args.bytes.now) c.args.group.now.core c.write.new.self.core c.flush_run.new.self.core c.args.group.now.logs.items c.write.new.self.logs.items c.flush_run.new.self.logs.items
+    c.args.group.now.stopped c.write.new.self.stopped c.flush_run.new.self.stopped c.args.group.now.alike c.write.new.self.alike c.flush_run.new.self.alike (g.S.Shelf.meaning c.args.group.now.shelf) (g.S.Shelf.meaning c.write.new.self.shelf) (g.S.Shelf.meaning c.flush_run.new.self.shelf)
+    (c.requires.rack c.args.group.now.shelf) (c.requires.rack c.write.new.self.shelf) (c.requires.rack c.flush_run.new.self.shelf) c.args.group.now.stands.group c.flush_run.new.self.stands.group
+    c.write.ensures.loses c.flush_run.ensures.loses c.write.ensures.goes.disk_faults c.flush_run.ensures.goes.disk_faults c.write.ensures.goes.units c.flush_run.ensures.goes.units c.write.ensures.goes.size c.flush_run.ensures.goes.size c.requires.fits.exists
+    c.flush_run.ensures.goes.falls c.flush_run.ensures.loses.parts.later c.write.ensures.full c.write.ensures.keeps c.flush_run.ensures.keeps c.write.ensures.comes c.flush_run.ensures.comes
+    c.flush_run.ensures.gone c.write.ensures.rests c.in-Ok.ensures.free c.flush_run.ensures.rests c.flush_run.ensures.flags c.in-Ok.ensures.alike
+    c.in-Ok.ensures.moves (λ going. c.in-Err-flush_run.ensures.moves going (let some = c.requires.fits.some in let whole = c.requires.fits.whole in omega (arith, some, whole)))
+
+pub returns-in-Err-clause-goes : goal.returns-in-Err-clause-goes
+returns-in-Err-clause-goes g c = c.write.ensures.goes
+
+pub returns-in-Ok-flush_run-clause-goes : goal.returns-in-Ok-flush_run-clause-goes
+returns-in-Ok-flush_run-clause-goes g c = then_nothing (Written c.args.vol c.args.block c.args.bytes.now) (inner_meaning (wide c.args.group.now.core) (g.S.Shelf.meaning c.args.group.now.shelf)) (inner_meaning (wide c.write.new.self.core) (g.S.Shelf.meaning c.write.new.self.shelf)) (inner_meaning (wide c.flush_run.new.self.core) (g.S.Shelf.meaning c.flush_run.new.self.shelf)) c.write.ensures.goes c.flush_run.ensures.goes
+
+pub returns-in-Err-flush_run-clause-goes : goal.returns-in-Err-flush_run-clause-goes
+returns-in-Err-flush_run-clause-goes g c = then_nothing (Written c.args.vol c.args.block c.args.bytes.now) (inner_meaning (wide c.args.group.now.core) (g.S.Shelf.meaning c.args.group.now.shelf)) (inner_meaning (wide c.write.new.self.core) (g.S.Shelf.meaning c.write.new.self.shelf)) (inner_meaning (wide c.flush_run.new.self.core) (g.S.Shelf.meaning c.flush_run.new.self.shelf)) c.write.ensures.goes c.flush_run.ensures.goes

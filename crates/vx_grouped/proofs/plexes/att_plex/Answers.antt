@@ -1,14 +1,20 @@
 -- A plex that is attached: what it leaves, and refusals of disks that are down behind it.
-use Rattle.std.proofs.Common.{◌∙◌, ◌-◌, length, sym}
+use Rattle.std.proofs.Common.{◌∙◌, ◌-◌, Bool, ap, length, sym}
 use Rattle.std.specs.Prelude.{nat_le, nat_lt}
 use Rattle.vx_config.specs.Checks.{plexes_of}
 use Rattle.vx_config.specs.Table.{greatest}
-use Rattle.vx_group.specs.Attaches.{att_refusal}
+use Rattle.vx_group.specs.Attaches.{att_refusal, missed_regions}
 use Rattle.vx_group.specs.Dets.{margin}
 use Rattle.vx_group.proofs.CallLemmas.{not_down}
 use Rattle.vx_grouped.proofs.CopiedLemmas.{copies_by}
 use Rattle.vx_grouped.proofs.KeepLemmas.{att_not_down, attached_by, call_cut, call_leaves, never_fell, same_at}
 use Rattle.vx_grouped.proofs.BothLemmas.{regains_by, stays_by}
+use Rattle.vx_loggroup.specs.Attaching.{map_by, leaves_maps}
+use Rattle.vx_loggroup.proofs.AlikeLemmas.{up_false}
+use Rattle.vx_grouped.proofs.PlexMapLemmas.{att_parts, ok_each}
+use Rattle.vx_group.specs.declared.group_core.GroupCore.{GroupCore}
+use Rattle.vx_loggroup.specs.LoggedVolumes.{is_alike}
+use Rattle.vx_grouped.proofs.StayPartLemmas.{stay_held}
 use Rattle.vx_grouped.proofs.plexes.att_plex.Goals as goal
 
 pub returns-then-is_down-clause-refused : goal.returns-then-is_down-clause-refused
@@ -57,3 +63,17 @@ returns-clause-stays g c = λ on. stays_by c.att-answer.result (att_refusal c.ar
 pub returns-clause-copies : goal.returns-clause-copies
 returns-clause-copies g c = λ off.
     copies_by c.att-answer.result c.args.group.now.core c.args.group.now.logs.items c.args.group.now.alike c.args.group.now.stopped (g.S.Shelf.meaning c.args.group.now.shelf) c.args.group.now.stands c.args.vol c.args.plex (c.att-answer.ensures.count off)
+
+pub returns-then-is_down-clause-maps : goal.returns-then-is_down-clause-maps
+returns-then-is_down-clause-maps g c = λ was now. (record { so = λ w up noted. absurd (up (sym c.is_down.ensures ∙ c.if-is_down.true)) }, tt)
+
+pub returns-clause-maps : goal.returns-clause-maps
+returns-clause-maps g c = λ was now.
+    att_parts c.args.group.now.core c.att-answer.new.self.core c.args.group.now.logs.items c.att-answer.new.self.logs.items c.args.group.now.stopped c.att-answer.new.self.stopped c.args.group.now.alike c.att-answer.new.self.alike (g.S.Shelf.meaning c.args.group.now.shelf) (g.S.Shelf.meaning c.att-answer.new.self.shelf) was now c.args.group.now.stands.group c.att-answer.new.self.stands.group
+    c.att-answer.ensures.attaches.shape.frames c.att-answer.ensures.attaches.shape.volumes c.att-answer.ensures.attaches.shape.blocks c.att-answer.ensures.ends_maps c.att-answer.ensures.flags
+    c.args.vol c.args.plex c.att-answer.result c.att-answer.ensures.comes c.att-answer.ensures.moves (λ why is. (c.att-answer.ensures.refused why is).0) (λ off. ok_each c.att-answer.result (λ n same. same ∙ ap (λ (x : Bool). missed_regions c.args.group.now.core.inner.config c.args.vol c.args.plex (map_by c.args.group.now.logs.items c.args.group.now.core.inner.config c.args.group.now.stopped x c.args.vol c.args.plex)) (up_false (g.S.Shelf.meaning c.args.group.now.shelf).down c.requires.up)) (c.att-answer.ensures.count off))
+    (λ why is.
+    let same = c.att-answer.ensures.refused why is in
+    stay_held c.args.group.now.core.inner.config c.att-answer.new.self.core.inner.config c.args.group.now.logs.items c.att-answer.new.self.logs.items c.args.group.now.alike c.att-answer.new.self.alike c.args.group.now.stopped c.att-answer.new.self.stopped
+    (c.att-answer.ensures.logs (ap (λ r. leaves_maps (is_alike c.args.group.now.alike c.args.vol) c.args.group.now.stopped r) same.0)) c.att-answer.ensures.flags.0 c.att-answer.ensures.flags.1 (ap (λ (x : GroupCore). x.inner.config) same.1))
+    c.att-answer.ensures.cause

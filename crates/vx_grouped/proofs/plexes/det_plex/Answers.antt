@@ -1,5 +1,5 @@
 -- A plex that is detached: what it leaves, and refusals of disks that are down behind it.
-use Rattle.std.proofs.Common.{◌∙◌, ◌≡◌, ◌-◌, ◌&&◌, None, length, sym}
+use Rattle.std.proofs.Common.{◌∙◌, ◌≡◌, ◌-◌, ◌&&◌, None, ap, length, sym}
 use Rattle.std.specs.Prelude.{nat_le, nat_lt, not}
 use Rattle.vx_config.specs.Checks.{plexes_of}
 use Rattle.vx_config.specs.Table.{greatest}
@@ -8,6 +8,11 @@ use Rattle.vx_group.proofs.CallLemmas.{not_down}
 use Rattle.vx_grouped.proofs.BothLemmas.{moves_by}
 use Rattle.vx_grouped.proofs.KeepLemmas.{agreed_either, call_cut, call_leaves, det_not_down, free_either, never_fell, same_at}
 use Rattle.vx_volume.specs.Plexes.{active}
+use Rattle.vx_group.proofs.HoldLemmas.{wide_shape}
+use Rattle.vx_logged.proofs.HoldsLemmas.{inner_blocks}
+use Rattle.vx_grouped.proofs.PlexMapLemmas.{det_parts}
+use Rattle.vx_group.specs.declared.group_core.GroupCore.{GroupCore}
+use Rattle.vx_grouped.proofs.StayPartLemmas.{stay_same}
 use Rattle.vx_grouped.proofs.plexes.det_plex.Goals as goal
 
 pub returns-then-is_down-clause-refused : goal.returns-then-is_down-clause-refused
@@ -44,3 +49,16 @@ returns-then-is_down-clause-moves g c =
 pub returns-clause-moves : goal.returns-clause-moves
 returns-clause-moves g c =
     moves_by c.args.group.now.core c.det-answer.new.self.core (g.S.Shelf.meaning c.args.group.now.shelf) (g.S.Shelf.meaning c.det-answer.new.self.shelf) c.args.group.now.stands.group c.det-answer.new.self.stands.group c.det-answer.ensures.parts c.det-answer.ensures.frames c.det-answer.ensures.disks
+
+pub returns-then-is_down-clause-maps : goal.returns-then-is_down-clause-maps
+returns-then-is_down-clause-maps g c = λ was now. (record { so = λ w up noted. absurd (up (sym c.is_down.ensures ∙ c.if-is_down.true)) }, tt)
+
+pub returns-clause-maps : goal.returns-clause-maps
+returns-clause-maps g c = λ was now.
+    det_parts c.args.group.now.core c.det-answer.new.self.core c.args.group.now.logs.items c.det-answer.new.self.logs.items c.args.group.now.stopped c.det-answer.new.self.stopped c.args.group.now.alike c.det-answer.new.self.alike (g.S.Shelf.meaning c.args.group.now.shelf) (g.S.Shelf.meaning c.det-answer.new.self.shelf) was now c.args.group.now.stands.group c.det-answer.new.self.stands.group
+    c.det-answer.ensures.frames (sym (wide_shape c.det-answer.new.self.core).volumes ∙ c.det-answer.ensures.goes.units ∙ (wide_shape c.args.group.now.core).volumes) (λ v. inner_blocks c.args.group.now.core c.det-answer.new.self.core v (c.det-answer.ensures.goes.size v)) c.det-answer.ensures.ends_maps c.det-answer.ensures.flags
+    c.args.vol c.args.plex c.det-answer.result c.det-answer.ensures.comes c.det-answer.ensures.moves (λ why is. (c.det-answer.ensures.refused why is).0)
+    (λ why is.
+    let same = c.det-answer.ensures.refused why is in
+    stay_same c.args.group.now.core.inner.config c.det-answer.new.self.core.inner.config c.args.group.now.logs.items c.det-answer.new.self.logs.items c.args.group.now.alike c.det-answer.new.self.alike c.args.group.now.stopped c.det-answer.new.self.stopped same.3
+    c.det-answer.ensures.flags.0 c.det-answer.ensures.flags.1 (ap (λ (x : GroupCore). x.inner.config) same.1)) c.det-answer.ensures.cause

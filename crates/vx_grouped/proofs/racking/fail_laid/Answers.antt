@@ -31,3 +31,12 @@ returns-clause-volumes g c =
 
 pub fail_whole-requires-clause-inside : goal.fail_whole-requires-clause-inside
 fail_whole-requires-clause-inside g c = λ κs within. carried_on (λ m. c.args.disk < m.units) c.args.laid.shelf c.apart-shelf.result.0 (c.trace.ensures.shelf ∙ ap (λ s. off s) (sym c.apart-shelf.ensures.shelf)) c.requires.disk
+
+pub returns-clause-logs : goal.returns-clause-logs
+returns-clause-logs g c = c.untrace.ensures.logs ∙ c.together.ensures.logs ∙ c.apart-shelf.ensures.logs ∙ c.trace.ensures.logs
+
+pub returns-clause-flags : goal.returns-clause-flags
+returns-clause-flags g c = c.untrace.ensures.alike ∙ c.together.ensures.alike ∙ c.apart-shelf.ensures.alike ∙ c.trace.ensures.alike
+
+pub returns-clause-ended : goal.returns-clause-ended
+returns-clause-ended g c = c.untrace.ensures.stopped ∙ c.together.ensures.stopped ∙ c.apart-shelf.ensures.stopped ∙ c.trace.ensures.stopped

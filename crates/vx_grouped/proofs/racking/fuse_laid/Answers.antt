@@ -1,5 +1,5 @@
 -- A fuse that is set on the disks of a group.
-use Rattle.std.proofs.Common.{◌≡◌, ◌≢◌, ◌∙◌, ℕ, ap, sym}
+use Rattle.std.proofs.Common.{◌≡◌, ◌∙◌, ap, sym}
 use Rattle.std.specs.Prelude.{Some}
 use Rattle.vx_disk.specs.Causes.{OnDisks}
 use Rattle.vx_disk.specs.Disks.{SameBlocks}
@@ -25,3 +25,12 @@ pub returns-clause-volumes : goal.returns-clause-volumes
 returns-clause-volumes g c =
     carried_in (λ x m y m'. Alike (inner_meaning (wide x) m) (inner_meaning (wide y) m')) c.args.laid.core c.apart-shelf.result.1.core c.untrace.result.core c.apart-shelf.result.1.core c.args.laid.shelf c.apart-shelf.result.0 c.untrace.result.shelf c.fuse_whole.new.rack
     (c.apart-shelf.ensures.core ∙ c.trace.ensures.core) (c.trace.ensures.shelf ∙ ap (λ s. off s) (sym c.apart-shelf.ensures.shelf)) (c.untrace.ensures.core ∙ c.together.ensures.core) (c.untrace.ensures.shelf ∙ ap (λ s. off s) c.together.ensures.shelf) c.fuse_whole.ensures.volumes
+
+pub returns-clause-logs : goal.returns-clause-logs
+returns-clause-logs g c = c.untrace.ensures.logs ∙ c.together.ensures.logs ∙ c.apart-shelf.ensures.logs ∙ c.trace.ensures.logs
+
+pub returns-clause-flags : goal.returns-clause-flags
+returns-clause-flags g c = c.untrace.ensures.alike ∙ c.together.ensures.alike ∙ c.apart-shelf.ensures.alike ∙ c.trace.ensures.alike
+
+pub returns-clause-ended : goal.returns-clause-ended
+returns-clause-ended g c = c.untrace.ensures.stopped ∙ c.together.ensures.stopped ∙ c.apart-shelf.ensures.stopped ∙ c.trace.ensures.stopped

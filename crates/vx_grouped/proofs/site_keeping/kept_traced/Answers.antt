@@ -1,10 +1,12 @@
 -- The same over the disks of a site, of which contents are told or not.
+use Rattle.std.proofs.Common.{◌∙◌, ap}
 use Rattle.std.specs.Prelude.{length}
 use Rattle.vx_disk.specs.Shelf.{Fits}
 use Rattle.vx_group.specs.Holding.{wide}
 use Rattle.vx_group.specs.Stands.{inner_meaning}
 use Rattle.vx_watched.specs.Since.{CalledSince}
 use Rattle.vx_grouped.specs.SiteKeeps.{PlainKeeps}
+use Rattle.vx_grouped.proofs.PlainMapLemmas.{parts_same}
 use Rattle.vx_grouped.proofs.TraceLemmas.{carried_both, carried_in, carried_one}
 use Rattle.vx_grouped.proofs.site_keeping.kept_traced.Goals as goal
 
@@ -21,3 +23,11 @@ returns-clause-since g c =
 pub kept_from-group-requires-clause-fits : goal.kept_from-group-requires-clause-fits
 kept_from-group-requires-clause-fits g c = λ κs within.
     carried_one (λ x m. Fits (inner_meaning (wide x) m) c.args.vol c.args.block (length c.args.bytes.now)) c.args.laid.core c.trace.result.core c.args.laid.shelf c.trace.result.shelf c.trace.ensures.core c.trace.ensures.shelf c.requires.fits
+
+pub returns-clause-maps : goal.returns-clause-maps
+returns-clause-maps g c =
+    (parts_same c.kept_from-group.result.0.core.inner.config c.untrace.result.core.inner.config c.kept_from-group.result.0.logs.items c.untrace.result.logs.items c.kept_from-group.result.0.alike c.untrace.result.alike c.kept_from-group.result.0.stopped c.untrace.result.stopped
+    (ap (λ x. x.inner.config) (c.untrace.ensures.core)) (ap (λ x. x.items) (c.untrace.ensures.logs)) (c.untrace.ensures.alike) (c.untrace.ensures.stopped))
+    ∙ c.kept_from-group.ensures.maps
+    ∙ (parts_same c.args.laid.core.inner.config c.trace.result.core.inner.config c.args.laid.logs.items c.trace.result.logs.items c.args.laid.alike c.trace.result.alike c.args.laid.stopped c.trace.result.stopped
+    (ap (λ x. x.inner.config) (c.trace.ensures.core)) (ap (λ x. x.items) (c.trace.ensures.logs)) (c.trace.ensures.alike) (c.trace.ensures.stopped))

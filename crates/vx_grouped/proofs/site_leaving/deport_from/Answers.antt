@@ -1,5 +1,5 @@
 -- A deport over disks with an account.
-use Rattle.std.proofs.Common.{◌≡◌, ◌∙◌, ◌-◌, None, Option, true, inl, inr, refl, subst, sym}
+use Rattle.std.proofs.Common.{◌≡◌, ◌∙◌, ◌-◌, None, Option, true, inl, inr, refl, subst, sym, ap}
 use Rattle.std.proofs.lemmas.Bool.{cases_lt}
 use Rattle.std.specs.Prelude.{Err}
 use Rattle.vx_model.specs.declared.site.SiteState.TheVariants.{Deported as IsDeported}
@@ -18,6 +18,10 @@ use Rattle.vx_grouped.specs.Ends.{CallLeaves}
 use Rattle.vx_grouped.specs.GroupNotes.{IsGroupAt}
 use Rattle.vx_grouped.proofs.CarryLemmas.{carried, shelf_of}
 use Rattle.vx_grouped.proofs.DeportedLemmas.{device_stops}
+use Rattle.vx_disk.specs.Racks.{IsRack}
+use Rattle.vx_grouped.specs.PlainMaps.{PartsLeft, RefusedMaps, map_parts}
+use Rattle.vx_grouped.specs.SiteMaps.{MapsLike}
+use Rattle.vx_grouped.proofs.PlainMapLemmas.{parts_carried, parts_same}
 use Rattle.vx_grouped.proofs.site_leaving.deport_from.Goals as goal
 
 pub returns-in-Ok-clause-leaves : goal.returns-in-Ok-clause-leaves
@@ -65,3 +69,25 @@ returns-in-Err-clause-moves g c =
 
 pub returns-in-Ok-clause-tells : goal.returns-in-Ok-clause-tells
 returns-in-Ok-clause-tells g c = subst (λ t. RestTells c.in-Ok.rested (g.R.Shelf.meaning t)) (sym c.into_shelf.ensures.shelf) c.in-Ok.ensures.tells
+
+pub returns-in-Ok-clause-maps : goal.returns-in-Ok-clause-maps
+returns-in-Ok-clause-maps g c =
+    parts_carried (λ x m y n. PartsLeft x c.in-Ok.rested m n)
+    (map_parts c.args.group.core.inner.config c.args.group.logs.items c.args.group.alike c.args.group.stopped) (map_parts c.together-group.result.core.inner.config c.together-group.result.logs.items c.together-group.result.alike c.together-group.result.stopped) (map_parts c.args.group.core.inner.config c.args.group.logs.items c.args.group.alike c.args.group.stopped) (map_parts c.args.group.core.inner.config c.args.group.logs.items c.args.group.alike c.args.group.stopped) (g.R.Shelf.meaning c.args.group.shelf) (g.R.Shelf.meaning c.together-group.result.shelf.shelf) (g.R.Shelf.meaning c.into_shelf.result) (g.R.Shelf.meaning c.in-Ok.watched.shelf)
+    (parts_same c.args.group.core.inner.config c.together-group.result.core.inner.config c.args.group.logs.items c.together-group.result.logs.items c.args.group.alike c.together-group.result.alike c.args.group.stopped c.together-group.result.stopped
+    (ap (λ x. x.inner.config) (c.together-group.ensures.core ∙ c.apart-rack.ensures.core)) (ap (λ x. x.items) (c.together-group.ensures.logs ∙ c.apart-rack.ensures.logs)) (c.together-group.ensures.alike ∙ c.apart-rack.ensures.alike) (c.together-group.ensures.stopped ∙ c.apart-rack.ensures.stopped))
+    (ap (λ s. g.R.Shelf.meaning s) (shelf_of _ _ c.together-group.ensures.shelf ∙ c.over-watched.ensures ∙ c.apart-rack.ensures.shelf)) refl
+    (ap (λ s. g.R.Shelf.meaning s) c.into_shelf.ensures.shelf)
+    c.in-Ok.ensures.maps
+
+pub returns-in-Err-clause-maps : goal.returns-in-Err-clause-maps
+returns-in-Err-clause-maps g c =
+    parts_carried (λ x m y n. IsRack m → IsRack n → RefusedMaps (MapsLike m n) c.in-Err.stop x y n)
+    (map_parts c.args.group.core.inner.config c.args.group.logs.items c.args.group.alike c.args.group.stopped) (map_parts c.together-group.result.core.inner.config c.together-group.result.logs.items c.together-group.result.alike c.together-group.result.stopped) (map_parts c.together.result.core.inner.config c.together.result.logs.items c.together.result.alike c.together.result.stopped) (map_parts c.in-Err.group.core.inner.config c.in-Err.group.logs.items c.in-Err.group.alike c.in-Err.group.stopped) (g.R.Shelf.meaning c.args.group.shelf) (g.R.Shelf.meaning c.together-group.result.shelf.shelf) (g.R.Shelf.meaning c.together.result.shelf) (g.R.Shelf.meaning c.in-Err.group.shelf.shelf)
+    (parts_same c.args.group.core.inner.config c.together-group.result.core.inner.config c.args.group.logs.items c.together-group.result.logs.items c.args.group.alike c.together-group.result.alike c.args.group.stopped c.together-group.result.stopped
+    (ap (λ x. x.inner.config) (c.together-group.ensures.core ∙ c.apart-rack.ensures.core)) (ap (λ x. x.items) (c.together-group.ensures.logs ∙ c.apart-rack.ensures.logs)) (c.together-group.ensures.alike ∙ c.apart-rack.ensures.alike) (c.together-group.ensures.stopped ∙ c.apart-rack.ensures.stopped))
+    (ap (λ s. g.R.Shelf.meaning s) (shelf_of _ _ c.together-group.ensures.shelf ∙ c.over-watched.ensures ∙ c.apart-rack.ensures.shelf))
+    (parts_same c.in-Err.group.core.inner.config c.together.result.core.inner.config c.in-Err.group.logs.items c.together.result.logs.items c.in-Err.group.alike c.together.result.alike c.in-Err.group.stopped c.together.result.stopped
+    (ap (λ x. x.inner.config) (c.together.ensures.core ∙ c.apart-watched.ensures.core)) (ap (λ x. x.items) (c.together.ensures.logs ∙ c.apart-watched.ensures.logs)) (c.together.ensures.alike ∙ c.apart-watched.ensures.alike) (c.together.ensures.stopped ∙ c.apart-watched.ensures.stopped))
+    (ap (λ s. g.R.Shelf.meaning s) (c.together.ensures.shelf ∙ c.into_shelf-rack.ensures.shelf ∙ shelf_of _ _ c.apart-watched.ensures.shelf))
+    c.in-Err.ensures.maps

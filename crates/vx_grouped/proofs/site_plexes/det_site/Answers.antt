@@ -1,5 +1,5 @@
 -- A plex of a site's group that is detached.
-use Rattle.std.proofs.Common.{◌∙◌, ℕ, subst, sym}
+use Rattle.std.proofs.Common.{◌∙◌, subst, sym}
 use Rattle.vx_disk.specs.Disks.{Crashed}
 use Rattle.vx_group.specs.Dets.{det_refusal}
 use Rattle.vx_untold.specs.Shades.{shade_meaning, shade_rack}
@@ -7,6 +7,15 @@ use Rattle.vx_watched.proofs.SinceLemmas.{since_stop}
 use Rattle.vx_grouped.specs.Watches.{PlexDets}
 use Rattle.vx_grouped.proofs.CalledLemmas.{down_by_stop}
 use Rattle.vx_grouped.proofs.SitePlexLemmas.{det_never_off, det_site_cut, det_site_done, det_site_up}
+use Rattle.vx_grouped.proofs.VolumeLemmas.{fell_behind, none_go, same_go}
+use Rattle.vx_grouped.specs.Volumes.{laid_seen}
+use Rattle.vx_disk.specs.Moves.{Nowhere}
+use Rattle.vx_grouped.specs.PlainMaps.{DetsMaps, laid_parts, PartsStay}
+use Rattle.vx_grouped.specs.SiteMaps.{DetMapsDone, DetMapsFailed, StaysMapped}
+use Rattle.vx_grouped.proofs.PlexMapLemmas.{call_still}
+use Rattle.vx_grouped.proofs.UpMapLemmas.{down_maps, up_maps}
+use Rattle.vx_grouped.proofs.StayPartLemmas.{quiet_down, quiet_map, stays_up}
+use Rattle.vx_grouped.specs.declared.group_site.GroupSite.TheVariants.{Up, Down}
 use Rattle.vx_grouped.proofs.site_plexes.det_site.Goals as goal
 
 pub returns-then-is_down_stop-clause-called : goal.returns-then-is_down_stop-clause-called
@@ -38,3 +47,33 @@ returns-else-is_down_stop-clause-called g c = λ n note up.
 
 pub returns-then-is_down_stop-clause-told : goal.returns-then-is_down_stop-clause-told
 returns-then-is_down_stop-clause-told g c = λ told. c.det_watched-laid.ensures.told (c.crash.ensures.told told)
+
+pub returns-in-Ok-clause-maps : goal.returns-in-Ok-clause-maps
+returns-in-Ok-clause-maps g c = λ n note up.
+    let is_rack = (g.met.R.Rack g.world.𝓛 g.world.𝓜 g.world.𝓡 ((λ s x. x), (λ x. x), (λ x. x), λ x. x)).rack in
+    let racks = shade_rack g.R.Shelf.meaning is_rack in
+    let works = (subst (λ r. PlexDets c.args.vol c.args.plex c.args.laid.core (shade_meaning g.R.Shelf.meaning c.args.laid.shelf) c.det_watched-laid.result.0.core (shade_meaning g.R.Shelf.meaning c.det_watched-laid.result.0.shelf) r) c.in-Ok.is c.det_watched-laid.ensures.works) in
+    up_maps (DetMapsDone c.args.vol c.args.plex) c.args.laid c.det_watched-laid.result.0 (works.leaves n note up.at).1.up (subst (λ r. DetsMaps c.args.vol c.args.plex (laid_parts c.args.laid) (shade_meaning g.R.Shelf.meaning c.args.laid.shelf) (laid_parts c.det_watched-laid.result.0) (shade_meaning g.R.Shelf.meaning c.det_watched-laid.result.0.shelf) r) c.in-Ok.is (c.det_watched-laid.ensures.maps (racks c.args.laid.shelf) (racks c.det_watched-laid.result.0.shelf)))
+
+pub returns-then-is_down_stop-clause-maps : goal.returns-then-is_down_stop-clause-maps
+returns-then-is_down_stop-clause-maps g c = λ n note up. (down_maps (DetMapsFailed c.args.vol) c.args.laid c.crash.result c.crash.ensures.rests, quiet_down (StaysMapped (Up c.args.laid) (Down c.crash.result)) c.in-Err.stop (sym c.is_down_stop.ensures ∙ c.if-is_down_stop.true))
+
+pub returns-else-is_down_stop-clause-maps : goal.returns-else-is_down_stop-clause-maps
+returns-else-is_down_stop-clause-maps g c = λ n note up.
+    let is_rack = (g.met.R.Rack g.world.𝓛 g.world.𝓜 g.world.𝓡 ((λ s x. x), (λ x. x), (λ x. x), λ x. x)).rack in
+    let racks = shade_rack g.R.Shelf.meaning is_rack in
+    let works = (subst (λ r. PlexDets c.args.vol c.args.plex c.args.laid.core (shade_meaning g.R.Shelf.meaning c.args.laid.shelf) c.det_watched-laid.result.0.core (shade_meaning g.R.Shelf.meaning c.det_watched-laid.result.0.shelf) r) c.in-Err.is c.det_watched-laid.ensures.works) in
+    let maps = (subst (λ r. DetsMaps c.args.vol c.args.plex (laid_parts c.args.laid) (shade_meaning g.R.Shelf.meaning c.args.laid.shelf) (laid_parts c.det_watched-laid.result.0) (shade_meaning g.R.Shelf.meaning c.det_watched-laid.result.0.shelf) r) c.in-Err.is (c.det_watched-laid.ensures.maps (racks c.args.laid.shelf) (racks c.det_watched-laid.result.0.shelf))) in
+    (up_maps (DetMapsFailed c.args.vol) c.args.laid c.det_watched-laid.result.0 (call_still {T = Unit {0}} n note c.det_watched-laid.result.0.core (shade_meaning g.R.Shelf.meaning c.det_watched-laid.result.0.shelf) c.in-Err.stop (sym c.is_down_stop.ensures ∙ c.if-is_down_stop.false) (works.leaves n note up.at)) maps.0, quiet_map (PartsStay (laid_parts c.args.laid) (laid_parts c.det_watched-laid.result.0)) (StaysMapped (Up c.args.laid) (Up c.det_watched-laid.result.0)) c.in-Err.stop (stays_up c.args.laid c.det_watched-laid.result.0) maps.1)
+
+pub returns-then-is_down-clause-volumes : goal.returns-then-is_down-clause-volumes
+returns-then-is_down-clause-volumes g c = same_go (laid_seen c.args.laid)
+
+pub returns-in-Ok-clause-volumes : goal.returns-in-Ok-clause-volumes
+returns-in-Ok-clause-volumes g c = none_go (laid_seen c.args.laid) (laid_seen c.det_watched-laid.result.0) c.det_watched-laid.ensures.works.goes
+
+pub returns-else-is_down_stop-clause-volumes : goal.returns-else-is_down_stop-clause-volumes
+returns-else-is_down_stop-clause-volumes g c = none_go (laid_seen c.args.laid) (laid_seen c.det_watched-laid.result.0) c.det_watched-laid.ensures.works.goes
+
+pub returns-then-is_down_stop-clause-volumes : goal.returns-then-is_down_stop-clause-volumes
+returns-then-is_down_stop-clause-volumes g c = fell_behind Nowhere c.args.laid c.det_watched-laid.result.0 c.crash.result (none_go (laid_seen c.args.laid) (laid_seen c.det_watched-laid.result.0) c.det_watched-laid.ensures.works.goes) c.crash.ensures.stopped c.crash.ensures.agreed

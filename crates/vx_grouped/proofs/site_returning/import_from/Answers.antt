@@ -1,11 +1,14 @@
 -- An import over disks with an account.
-use Rattle.std.proofs.Common.{◌∙◌, IsTrue, refl, sym, subst}
+use Rattle.std.proofs.Common.{◌∙◌, IsTrue, refl, sym, subst, ap}
 use Rattle.vx_group.specs.Imports.{ImportStops}
 use Rattle.vx_group.specs.Resumes.{CanImport, CanImportBehind}
 use Rattle.vx_logimport.specs.Rests.{LogsTell}
 use Rattle.vx_grouped.specs.Away.{AwayLies}
 use Rattle.vx_grouped.specs.Returns.{GroupReturns, ImportLeft}
 use Rattle.vx_grouped.proofs.CarryLemmas.{carried, carried_two, shelf_of}
+use Rattle.vx_grouped.specs.Brings.{BringsVolumes}
+use Rattle.vx_grouped.specs.PlainMaps.{PartsBack, map_parts}
+use Rattle.vx_grouped.proofs.PlainMapLemmas.{parts_carried, parts_same}
 use Rattle.vx_grouped.proofs.site_returning.import_from.Goals as goal
 
 pub returns-in-Ok-clause-leaves : goal.returns-in-Ok-clause-leaves
@@ -35,3 +38,22 @@ import_group-came-requires g c = record {
 pub returns-in-Ok-clause-up : goal.returns-in-Ok-clause-up
 returns-in-Ok-clause-up g c =
     carried_two (λ s t. IsTrue (g.R.Shelf.meaning t).down → ⊥) c.args.rack c.args.rack c.together.result.shelf c.in-Ok.group.shelf.shelf refl (c.together.ensures.shelf ∙ c.into_shelf-rack.ensures.shelf ∙ shelf_of _ _ c.apart-watched.ensures.shelf) c.in-Ok.ensures.up
+
+pub returns-in-Ok-clause-maps : goal.returns-in-Ok-clause-maps
+returns-in-Ok-clause-maps g c =
+    parts_carried (λ x m y n. PartsBack c.args.rested.now m y n)
+    (map_parts c.in-Ok.group.core.inner.config c.in-Ok.group.logs.items c.in-Ok.group.alike c.in-Ok.group.stopped) (map_parts c.in-Ok.group.core.inner.config c.in-Ok.group.logs.items c.in-Ok.group.alike c.in-Ok.group.stopped) (map_parts c.together.result.core.inner.config c.together.result.logs.items c.together.result.alike c.together.result.stopped) (map_parts c.in-Ok.group.core.inner.config c.in-Ok.group.logs.items c.in-Ok.group.alike c.in-Ok.group.stopped) (g.R.Shelf.meaning c.args.rack) (g.R.Shelf.meaning c.over-watched.result.shelf) (g.R.Shelf.meaning c.together.result.shelf) (g.R.Shelf.meaning c.in-Ok.group.shelf.shelf) refl
+    (ap (λ s. g.R.Shelf.meaning s) c.over-watched.ensures)
+    (parts_same c.in-Ok.group.core.inner.config c.together.result.core.inner.config c.in-Ok.group.logs.items c.together.result.logs.items c.in-Ok.group.alike c.together.result.alike c.in-Ok.group.stopped c.together.result.stopped
+    (ap (λ x. x.inner.config) (c.together.ensures.core ∙ c.apart-watched.ensures.core)) (ap (λ x. x.items) (c.together.ensures.logs ∙ c.apart-watched.ensures.logs)) (c.together.ensures.alike ∙ c.apart-watched.ensures.alike) (c.together.ensures.stopped ∙ c.apart-watched.ensures.stopped))
+    (ap (λ s. g.R.Shelf.meaning s) (c.together.ensures.shelf ∙ c.into_shelf-rack.ensures.shelf ∙ shelf_of _ _ c.apart-watched.ensures.shelf))
+    c.in-Ok.ensures.maps
+
+pub returns-in-Err-clause-maps : goal.returns-in-Err-clause-maps
+returns-in-Err-clause-maps g c = tt
+
+pub returns-in-Ok-clause-brings : goal.returns-in-Ok-clause-brings
+returns-in-Ok-clause-brings g c =
+    carried (λ x s y t. BringsVolumes (g.R.Shelf.meaning s) y (g.R.Shelf.meaning t))
+    c.in-Ok.group.core c.in-Ok.group.core c.together.result.core c.in-Ok.group.core c.args.rack c.over-watched.result.shelf c.together.result.shelf c.in-Ok.group.shelf.shelf refl c.over-watched.ensures
+    (c.together.ensures.core ∙ c.apart-watched.ensures.core) (c.together.ensures.shelf ∙ c.into_shelf-rack.ensures.shelf ∙ shelf_of _ _ c.apart-watched.ensures.shelf) c.in-Ok.ensures.brings

@@ -1,12 +1,15 @@
 -- An import of a site's group that was deported.
-use Rattle.std.proofs.Common.{◌∙◌, IsTrue, subst, sym}
+use Rattle.std.proofs.Common.{◌∙◌, IsTrue, subst, sym, ⊎_elim, refl}
 use Rattle.vx_group.proofs.CallLemmas.{not_down}
 use Rattle.vx_untold.specs.Shades.{rack_of, shade_lawful, shade_meaning, shade_rack}
 use Rattle.vx_grouped.proofs.SinceReturns.{return_all, return_at, return_calls, return_none, return_then}
 use Rattle.vx_grouped.proofs.SiteReturnLemmas.{imported_down, imported_early, imported_late, imported_up, is_up}
-use Rattle.vx_grouped.proofs.StopLemmas.{still_can}
+use Rattle.vx_grouped.proofs.StopLemmas.{still_can, early_goes}
 use Rattle.vx_grouped.proofs.GivenUpLemmas.{rested_tells}
 use Rattle.vx_grouped.proofs.TellLemmas.{alike_tells, early_tells, fallen_tells}
+use Rattle.vx_grouped.proofs.BringLemmas.{alike_self}
+use Rattle.std.specs.Prelude.{Some}
+use Rattle.vx_grouped.proofs.ReturnMapLemmas.{came_up, down_late, idle_of, less_idle}
 use Rattle.vx_grouped.proofs.site_returning.import_site.Goals as goal
 
 pub returns-then-is_down-clause-since : goal.returns-then-is_down-clause-since
@@ -98,3 +101,31 @@ of-requires-in-Err-clause-tells g c = λ κs lives r agreed is.
     rested_tells r c.args.rested (shade_meaning g.R.Shelf.meaning c.risen.result) is
     (alike_tells c.args.rested (shade_meaning g.R.Shelf.meaning c.fallen-rack.result) (shade_meaning g.R.Shelf.meaning c.risen.result) c.risen.ensures.alike
     (fallen_tells c.args.rested (shade_meaning g.R.Shelf.meaning c.args.rack) (shade_meaning g.R.Shelf.meaning c.in-Err.rack) (shade_meaning g.R.Shelf.meaning c.fallen-rack.result) c.in-Err.stop c.is_early-early.result c.is_early-early.ensures c.requires.tells c.in-Err.ensures.stops c.fallen-rack.ensures.stopped c.fallen-rack.ensures.dark))
+
+pub returns-then-is_down-clause-maps : goal.returns-then-is_down-clause-maps
+returns-then-is_down-clause-maps g c = λ early w x it. idle_of c.of.result c.args.rack (Some c.args.rested) c.of.ensures.rack c.of.ensures.rested w x it
+
+pub returns-in-Ok-clause-maps : goal.returns-in-Ok-clause-maps
+returns-in-Ok-clause-maps g c = came_up (shade_meaning g.R.Shelf.meaning c.args.rack) (shade_meaning g.R.Shelf.meaning c.args.rack) refl (λ u. refl) (λ u b v left. left) (λ k. refl) c.in-Ok.laid c.args.rested c.in-Ok.ensures.maps
+
+pub returns-then-not-is_down-clause-maps : goal.returns-then-not-is_down-clause-maps
+returns-then-not-is_down-clause-maps g c = λ early w x it.
+    let goes = early_goes (shade_meaning g.R.Shelf.meaning c.args.rack) (shade_meaning g.R.Shelf.meaning c.in-Err.rack) c.in-Err.stop early c.in-Err.ensures.stops in
+    idle_of c.of-then-not-is_down.result c.in-Err.rack (Some c.args.rested) c.of-then-not-is_down.ensures.rack c.of-then-not-is_down.ensures.rested w x
+    (less_idle (shade_meaning g.R.Shelf.meaning c.args.rack) (shade_meaning g.R.Shelf.meaning c.in-Err.rack) goes.units goes.size (λ u b v left. ⊎_elim (λ was. was) (λ none. absurd none) (goes.leaves u b v left)) w x (Some c.args.rested) it)
+
+pub returns-then-is_down_stop-clause-maps : goal.returns-then-is_down_stop-clause-maps
+returns-then-is_down_stop-clause-maps g c = λ early w x it. absurd (down_late c.in-Err.stop (sym c.is_down_stop.ensures ∙ c.if-is_down_stop.true) early)
+
+pub returns-else-is_down_stop-clause-maps : goal.returns-else-is_down_stop-clause-maps
+returns-else-is_down_stop-clause-maps g c = λ early w x it.
+    let alike = c.risen.ensures.alike.contents in
+    let goes = early_goes (shade_meaning g.R.Shelf.meaning c.args.rack) (shade_meaning g.R.Shelf.meaning c.in-Err.rack) c.in-Err.stop early c.in-Err.ensures.stops in
+    let fell = c.fallen-rack.ensures.stopped (c.is_early-early.ensures ∙ early) in
+    idle_of c.of-in-Err.result c.risen.result (Some c.args.rested) c.of-in-Err.ensures.rack c.of-in-Err.ensures.rested w x
+    (less_idle (shade_meaning g.R.Shelf.meaning c.fallen-rack.result) (shade_meaning g.R.Shelf.meaning c.risen.result) alike.units alike.size alike.leaves w x (Some c.args.rested)
+    (less_idle (shade_meaning g.R.Shelf.meaning c.in-Err.rack) (shade_meaning g.R.Shelf.meaning c.fallen-rack.result) fell.units fell.size fell.leaves w x (Some c.args.rested)
+    (less_idle (shade_meaning g.R.Shelf.meaning c.args.rack) (shade_meaning g.R.Shelf.meaning c.in-Err.rack) goes.units goes.size (λ u b v left. ⊎_elim (λ was. was) (λ none. absurd none) (goes.leaves u b v left)) w x (Some c.args.rested) it)))
+
+pub returns-in-Ok-clause-brings : goal.returns-in-Ok-clause-brings
+returns-in-Ok-clause-brings g c = record { first = c.args.rack; revived = alike_self (shade_meaning g.R.Shelf.meaning c.args.rack); brings = c.in-Ok.ensures.brings }

@@ -1,12 +1,16 @@
 -- An import over the disks of a site.
-use Rattle.std.proofs.Common.{IsTrue, refl}
+use Rattle.std.proofs.Common.{IsTrue, refl, ap, sym}
 use Rattle.vx_group.specs.Imports.{ImportStops}
 use Rattle.vx_group.specs.Resumes.{CanImport, CanImportBehind}
 use Rattle.vx_logimport.specs.Rests.{LogsTell}
 use Rattle.vx_watched.specs.Since.{CalledSince}
 use Rattle.vx_grouped.specs.Away.{AwayLies}
 use Rattle.vx_grouped.specs.Returns.{GroupReturns, ImportLeft}
-use Rattle.vx_grouped.proofs.TraceLemmas.{carried_both, carried_in, carried_off, carried_on}
+use Rattle.vx_grouped.proofs.TraceLemmas.{carried_both, carried_in, carried_off, carried_on, off_means}
+use Rattle.vx_grouped.specs.Brings.{BringsVolumes}
+use Rattle.vx_untold.specs.Shades.{shade_meaning}
+use Rattle.vx_grouped.specs.PlainMaps.{PartsBack, map_parts}
+use Rattle.vx_grouped.proofs.PlainMapLemmas.{parts_carried, parts_same}
 use Rattle.vx_grouped.proofs.site_returning.import_traced.Goals as goal
 
 pub import_from-came-requires-clause-can : goal.import_from-came-requires-clause-can
@@ -45,3 +49,22 @@ returns-in-Err-clause-since g c = carried_both (λ s t. CalledSince s t) c.args.
 
 pub returns-in-Err-clause-told : goal.returns-in-Err-clause-told
 returns-in-Err-clause-told g c = c.untraced.ensures.told
+
+pub returns-in-Ok-clause-maps : goal.returns-in-Ok-clause-maps
+returns-in-Ok-clause-maps g c =
+    parts_carried (λ x m y n. PartsBack c.args.rested.now m y n)
+    (map_parts c.in-Ok.group.core.inner.config c.in-Ok.group.logs.items c.in-Ok.group.alike c.in-Ok.group.stopped) (map_parts c.in-Ok.group.core.inner.config c.in-Ok.group.logs.items c.in-Ok.group.alike c.in-Ok.group.stopped) (map_parts c.untrace.result.core.inner.config c.untrace.result.logs.items c.untrace.result.alike c.untrace.result.stopped) (map_parts c.in-Ok.group.core.inner.config c.in-Ok.group.logs.items c.in-Ok.group.alike c.in-Ok.group.stopped) (shade_meaning g.R.Shelf.meaning c.args.rack) (shade_meaning (λ t. g.R.Shelf.meaning t.rack) c.traced.result) (shade_meaning g.R.Shelf.meaning c.untrace.result.shelf) (shade_meaning (λ t. g.R.Shelf.meaning t.rack) c.in-Ok.group.shelf) refl
+    (off_means c.args.rack c.traced.result c.traced.ensures)
+    (parts_same c.in-Ok.group.core.inner.config c.untrace.result.core.inner.config c.in-Ok.group.logs.items c.untrace.result.logs.items c.in-Ok.group.alike c.untrace.result.alike c.in-Ok.group.stopped c.untrace.result.stopped
+    (ap (λ x. x.inner.config) (c.untrace.ensures.core)) (ap (λ x. x.items) (c.untrace.ensures.logs)) (c.untrace.ensures.alike) (c.untrace.ensures.stopped))
+    (sym (off_means c.untrace.result.shelf c.in-Ok.group.shelf c.untrace.ensures.shelf))
+    c.in-Ok.ensures.maps
+
+pub returns-in-Err-clause-maps : goal.returns-in-Err-clause-maps
+returns-in-Err-clause-maps g c = tt
+
+pub returns-in-Ok-clause-brings : goal.returns-in-Ok-clause-brings
+returns-in-Ok-clause-brings g c =
+    carried_in (λ x s y t. BringsVolumes s y t)
+    c.in-Ok.group.core c.in-Ok.group.core c.untrace.result.core c.in-Ok.group.core c.args.rack c.traced.result c.untrace.result.shelf c.in-Ok.group.shelf refl c.traced.ensures c.untrace.ensures.core c.untrace.ensures.shelf
+    c.in-Ok.ensures.brings

@@ -1,10 +1,13 @@
 -- A recovery of a site's group.
-use Rattle.std.proofs.Common.{IsTrue, subst, sym, ◌∙◌}
+use Rattle.std.proofs.Common.{IsTrue, subst, ◌∙◌, ⊎_elim}
 use Rattle.vx_untold.specs.Shades.{rack_of, shade_lawful, shade_meaning, shade_rack}
 use Rattle.vx_grouped.proofs.SinceReturns.{return_all, return_at, return_calls, return_none, return_then}
 use Rattle.vx_grouped.proofs.SiteReturnLemmas.{is_up, recovered_not, recovered_up}
 use Rattle.vx_grouped.proofs.GivenUpLemmas.{rested_tells}
 use Rattle.vx_grouped.proofs.TellLemmas.{alike_tells, fallen_tells}
+use Rattle.std.specs.Prelude.{Some}
+use Rattle.vx_grouped.proofs.ReturnMapLemmas.{came_up, down_of, less_down}
+use Rattle.vx_grouped.proofs.StopLemmas.{early_goes}
 use Rattle.vx_grouped.proofs.site_returning.recover_site.Goals as goal
 
 pub returns-in-Ok-clause-recovered : goal.returns-in-Ok-clause-recovered
@@ -61,3 +64,23 @@ of-requires-in-Err-clause-tells g c = λ κs lives r agreed is.
     rested_tells r c.args.rested (shade_meaning g.R.Shelf.meaning c.fallen.result) is
     (fallen_tells c.args.rested (shade_meaning g.R.Shelf.meaning c.risen.result) (shade_meaning g.R.Shelf.meaning c.in-Err.rack) (shade_meaning g.R.Shelf.meaning c.fallen.result) c.in-Err.stop c.is_early-early.result c.is_early-early.ensures
     (alike_tells c.args.rested (shade_meaning g.R.Shelf.meaning c.args.rack) (shade_meaning g.R.Shelf.meaning c.risen.result) c.risen.ensures.alike c.requires.tells) c.in-Err.ensures.stops c.fallen.ensures.stopped c.fallen.ensures.dark)
+
+pub returns-then-not-is_down-clause-maps : goal.returns-then-not-is_down-clause-maps
+returns-then-not-is_down-clause-maps g c = λ early w x it. down_of c.of.result c.args.rack (Some c.args.rested) c.of.ensures.rack c.of.ensures.rested w x it
+
+pub returns-in-Ok-clause-maps : goal.returns-in-Ok-clause-maps
+returns-in-Ok-clause-maps g c =
+    came_up (shade_meaning g.R.Shelf.meaning c.args.rack) (shade_meaning g.R.Shelf.meaning c.risen.result) c.risen.ensures.alike.contents.units c.risen.ensures.alike.contents.size c.risen.ensures.alike.contents.leaves c.risen.ensures.alike.counts.disk_faults c.in-Ok.laid c.args.rested c.in-Ok.ensures.maps
+
+pub returns-in-Err-clause-maps : goal.returns-in-Err-clause-maps
+returns-in-Err-clause-maps g c = λ early w x it.
+    let alike = c.risen.ensures.alike.contents in
+    let goes = early_goes (shade_meaning g.R.Shelf.meaning c.risen.result) (shade_meaning g.R.Shelf.meaning c.in-Err.rack) c.in-Err.stop early c.in-Err.ensures.stops in
+    let fell = c.fallen.ensures.stopped (c.is_early-early.ensures ∙ early) in
+    down_of c.of-in-Err.result c.fallen.result (Some c.args.rested) c.of-in-Err.ensures.rack c.of-in-Err.ensures.rested w x
+    (less_down (shade_meaning g.R.Shelf.meaning c.in-Err.rack) (shade_meaning g.R.Shelf.meaning c.fallen.result) fell.units fell.size fell.leaves w x (Some c.args.rested)
+    (less_down (shade_meaning g.R.Shelf.meaning c.risen.result) (shade_meaning g.R.Shelf.meaning c.in-Err.rack) goes.units goes.size (λ u b v left. ⊎_elim (λ was. was) (λ none. absurd none) (goes.leaves u b v left)) w x (Some c.args.rested)
+    (less_down (shade_meaning g.R.Shelf.meaning c.args.rack) (shade_meaning g.R.Shelf.meaning c.risen.result) alike.units alike.size alike.leaves w x (Some c.args.rested) it)))
+
+pub returns-in-Ok-clause-brings : goal.returns-in-Ok-clause-brings
+returns-in-Ok-clause-brings g c = record { first = c.risen.result; revived = c.risen.ensures.alike; brings = c.in-Ok.ensures.brings }

@@ -1,7 +1,10 @@
 -- A detach over disks with an account.
-use Rattle.std.proofs.Common.{◌∙◌}
+use Rattle.std.proofs.Common.{◌∙◌, ap}
+use Rattle.vx_disk.specs.Racks.{IsRack}
 use Rattle.vx_grouped.specs.Watches.{PlexDets}
 use Rattle.vx_grouped.proofs.CarryLemmas.{carried, shelf_of}
+use Rattle.vx_grouped.specs.PlainMaps.{DetsMaps, map_parts}
+use Rattle.vx_grouped.proofs.PlainMapLemmas.{parts_carried, parts_same}
 use Rattle.vx_grouped.proofs.watching.det_from.Goals as goal
 
 pub returns-clause-works : goal.returns-clause-works
@@ -10,4 +13,16 @@ returns-clause-works g c =
     c.args.group.core c.together-group.result.core c.together.result.core c.det_plex-answer.new.group.core c.args.group.shelf c.together-group.result.shelf.shelf c.together.result.shelf c.det_plex-answer.new.group.shelf.shelf
     (c.together-group.ensures.core ∙ c.apart-rack.ensures.core) (shelf_of _ _ c.together-group.ensures.shelf ∙ c.over-watched.ensures ∙ c.apart-rack.ensures.shelf)
     (c.together.ensures.core ∙ c.apart-watched.ensures.core) (c.together.ensures.shelf ∙ c.into_shelf-rack.ensures.shelf ∙ shelf_of _ _ c.apart-watched.ensures.shelf)
-    (record { refused = λ why is. (c.det_plex-answer.ensures.refused why is).0; leaves = c.det_plex-answer.ensures.leaves; off = c.det_plex-answer.ensures.off; others = c.det_plex-answer.ensures.others; trust = c.det_plex-answer.ensures.trust; cause = c.det_plex-answer.ensures.cause; narrows = c.det_plex-answer.ensures.narrows; moves = c.det_plex-answer.ensures.moves })
+    (record { refused = λ why is. (c.det_plex-answer.ensures.refused why is).0; leaves = c.det_plex-answer.ensures.leaves; off = c.det_plex-answer.ensures.off; others = c.det_plex-answer.ensures.others; trust = c.det_plex-answer.ensures.trust; cause = c.det_plex-answer.ensures.cause; narrows = c.det_plex-answer.ensures.narrows; goes = c.det_plex-answer.ensures.goes; moves = c.det_plex-answer.ensures.moves })
+
+pub returns-clause-maps : goal.returns-clause-maps
+returns-clause-maps g c =
+    parts_carried (λ x m y n. IsRack m → IsRack n → DetsMaps c.args.vol c.args.plex x m y n c.det_plex-answer.result)
+    (map_parts c.args.group.core.inner.config c.args.group.logs.items c.args.group.alike c.args.group.stopped) (map_parts c.together-group.result.core.inner.config c.together-group.result.logs.items c.together-group.result.alike c.together-group.result.stopped) (map_parts c.together.result.core.inner.config c.together.result.logs.items c.together.result.alike c.together.result.stopped) (map_parts c.det_plex-answer.new.group.core.inner.config c.det_plex-answer.new.group.logs.items c.det_plex-answer.new.group.alike c.det_plex-answer.new.group.stopped) (g.R.Shelf.meaning c.args.group.shelf) (g.R.Shelf.meaning c.together-group.result.shelf.shelf) (g.R.Shelf.meaning c.together.result.shelf) (g.R.Shelf.meaning c.det_plex-answer.new.group.shelf.shelf)
+    (parts_same c.args.group.core.inner.config c.together-group.result.core.inner.config c.args.group.logs.items c.together-group.result.logs.items c.args.group.alike c.together-group.result.alike c.args.group.stopped c.together-group.result.stopped
+    (ap (λ x. x.inner.config) (c.together-group.ensures.core ∙ c.apart-rack.ensures.core)) (ap (λ x. x.items) (c.together-group.ensures.logs ∙ c.apart-rack.ensures.logs)) (c.together-group.ensures.alike ∙ c.apart-rack.ensures.alike) (c.together-group.ensures.stopped ∙ c.apart-rack.ensures.stopped))
+    (ap (λ s. g.R.Shelf.meaning s) (shelf_of _ _ c.together-group.ensures.shelf ∙ c.over-watched.ensures ∙ c.apart-rack.ensures.shelf))
+    (parts_same c.det_plex-answer.new.group.core.inner.config c.together.result.core.inner.config c.det_plex-answer.new.group.logs.items c.together.result.logs.items c.det_plex-answer.new.group.alike c.together.result.alike c.det_plex-answer.new.group.stopped c.together.result.stopped
+    (ap (λ x. x.inner.config) (c.together.ensures.core ∙ c.apart-watched.ensures.core)) (ap (λ x. x.items) (c.together.ensures.logs ∙ c.apart-watched.ensures.logs)) (c.together.ensures.alike ∙ c.apart-watched.ensures.alike) (c.together.ensures.stopped ∙ c.apart-watched.ensures.stopped))
+    (ap (λ s. g.R.Shelf.meaning s) (c.together.ensures.shelf ∙ c.into_shelf-rack.ensures.shelf ∙ shelf_of _ _ c.apart-watched.ensures.shelf))
+    c.det_plex-answer.ensures.maps

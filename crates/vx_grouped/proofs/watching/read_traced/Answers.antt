@@ -1,4 +1,5 @@
 -- The same over the disks of a site, of which contents are told or not.
+use Rattle.std.proofs.Common.{◌∙◌, ap}
 use Rattle.std.specs.Prelude.{length}
 use Rattle.vx_disk.specs.Shelf.{Fits}
 use Rattle.vx_group.specs.Holding.{wide}
@@ -6,6 +7,7 @@ use Rattle.vx_group.specs.Stands.{inner_meaning}
 use Rattle.vx_watched.specs.Since.{CalledSince}
 use Rattle.vx_grouped.specs.Watches.{PlainReads}
 use Rattle.vx_grouped.proofs.TraceLemmas.{carried_both, carried_in, carried_one}
+use Rattle.vx_grouped.proofs.PlainMapLemmas.{parts_same}
 use Rattle.vx_grouped.proofs.watching.read_traced.Goals as goal
 
 pub returns-clause-works : goal.returns-clause-works
@@ -21,3 +23,11 @@ returns-clause-since g c =
 pub read_from-group-requires-clause-fits : goal.read_from-group-requires-clause-fits
 read_from-group-requires-clause-fits g c = λ κs within.
     carried_one (λ x m. Fits (inner_meaning (wide x) m) c.args.vol c.args.block (length c.args.into.now)) c.args.laid.core c.trace.result.core c.args.laid.shelf c.trace.result.shelf c.trace.ensures.core c.trace.ensures.shelf c.requires.fits
+
+pub returns-clause-maps : goal.returns-clause-maps
+returns-clause-maps g c =
+    (parts_same c.read_from-group.result.0.core.inner.config c.untrace.result.core.inner.config c.read_from-group.result.0.logs.items c.untrace.result.logs.items c.read_from-group.result.0.alike c.untrace.result.alike c.read_from-group.result.0.stopped c.untrace.result.stopped
+    (ap (λ x. x.inner.config) (c.untrace.ensures.core)) (ap (λ x. x.items) (c.untrace.ensures.logs)) (c.untrace.ensures.alike) (c.untrace.ensures.stopped))
+    ∙ c.read_from-group.ensures.maps
+    ∙ (parts_same c.args.laid.core.inner.config c.trace.result.core.inner.config c.args.laid.logs.items c.trace.result.logs.items c.args.laid.alike c.trace.result.alike c.args.laid.stopped c.trace.result.stopped
+    (ap (λ x. x.inner.config) (c.trace.ensures.core)) (ap (λ x. x.items) (c.trace.ensures.logs)) (c.trace.ensures.alike) (c.trace.ensures.stopped))

@@ -53,7 +53,7 @@ pub returns-clause-fresh : goal.returns-clause-fresh
 returns-clause-fresh g c = fresh_still c.begin_before.new.core c.det_whole.new.core c.begin_before.new.fresh (g.S.Shelf.meaning c.begin_before.new.shelf) (g.S.Shelf.meaning c.det_whole.new.shelf) c.det_whole.ensures.goes c.begin_before.ensures.fresh
 
 pub returns-clause-refused : goal.returns-clause-refused
-returns-clause-refused g c = λ why is. let was = c.begin_before.ensures.refused why is in let it = c.det_whole.ensures.refused why (ap (λ (x : GroupCore). det_refusal x.inner.config c.args.vol c.args.plex) was.1 ∙ is) in (it.0, it.1 ∙ was.1, it.2 ∙ was.2)
+returns-clause-refused g c = λ why is. let was = c.begin_before.ensures.refused why is in let it = c.det_whole.ensures.refused why (ap (λ (x : GroupCore). det_refusal x.inner.config c.args.vol c.args.plex) was.1 ∙ is) in (it.0, it.1 ∙ was.1, it.2 ∙ was.2, it.3 ∙ was.3)
 
 pub returns-clause-goes : goal.returns-clause-goes
 returns-clause-goes g c = then_nothing Nothing (inner_meaning (wide c.args.core.now) (g.S.Shelf.meaning c.args.shelf.now)) (inner_meaning (wide c.begin_before.new.core) (g.S.Shelf.meaning c.begin_before.new.shelf)) (inner_meaning (wide c.det_whole.new.core) (g.S.Shelf.meaning c.det_whole.new.shelf)) c.begin_before.ensures.goes c.det_whole.ensures.goes

@@ -1,11 +1,12 @@
 -- An apply of what waits, before the crash.
-use Rattle.std.proofs.Common.{◌∙◌, ℕ, ap, sym, arith}
+use Rattle.std.proofs.Common.{◌∙◌, ℕ, ap, sym, arith, subst}
 use Rattle.std.specs.Prelude.{min}
 use Rattle.vx_diskset.proofs.Blamed.{blamed_receiver}
 use Rattle.vx_diskset.proofs.Reaching.{reached_full, reached_idle, reached_none_up, reached_up}
 use Rattle.vx_rvg.specs.Groups.{has_numbers}
 use Rattle.vx_diskset.specs.Received.{reached_by}
 use Rattle.vx_diskset.proofs.HeadCalls.{called_received, reached_called}
+use Rattle.vx_diskset.specs.Asked.{IsRawSet}
 use Rattle.vx_diskset.proofs.LeavesNumbers.{has_them}
 use Rattle.vx_diskset.proofs.disk_set.DiskSet.apply_received.Goals as goal
 
@@ -38,9 +39,14 @@ apply_oldest-requires-clause-numbers g c κs within =
     has_them c.in-Receives.site.rvg.core c.min-few.result (ap (λ (k : ℕ). has_numbers c.in-Receives.site.rvg.core k) (sym c.from-in-Receives.ensures) ∙ sym c.has_numbers.ensures ∙ c.if-not-has_numbers.false)
 
 pub returns-else-not-has_numbers-clause-called : goal.returns-else-not-has_numbers-clause-called
-returns-else-not-has_numbers-clause-called g c = λ beside n stands.
+returns-else-not-has_numbers-clause-called g c = λ beside n stands raw.
     called_received (reached_by c.apply_oldest.result) beside n c.args.self.now c.in-Receives.site _ c.in-Receives.is stands
     (λ up. reached_called c.apply_oldest.result c.in-Receives.site.rvg c.apply_oldest.new.rvg up (c.apply_oldest.ensures.off up) c.apply_oldest.ensures.spends)
 
 pub returns-else-not-has_numbers-clause-blames : goal.returns-else-not-has_numbers-clause-blames
-returns-else-not-has_numbers-clause-blames g c = λ beside n stands. blamed_receiver c.apply_oldest.result beside n c.args.self.now c.in-Receives.site c.in-Receives.is stands c.apply_oldest.ensures.blames
+returns-else-not-has_numbers-clause-blames g c = λ beside n stands.
+    let is_rack = (g.met.R.Rack g.world.𝓛 g.world.𝓜 g.world.𝓡 ((λ s x. x), (λ x. x), (λ x. x), λ x. x)).rack in
+    blamed_receiver c.apply_oldest.result beside n c.args.self.now c.in-Receives.site c.in-Receives.is stands (is_rack c.in-Receives.site.rvg.shelf) c.apply_oldest.ensures.blames
+
+pub returns-in-Over-clause-called : goal.returns-in-Over-clause-called
+returns-in-Over-clause-called g c = λ beside n stands raw. absurd (subst (λ e. IsRawSet e) c.in-Over.is raw)

@@ -15,11 +15,11 @@ returns-else-is_off-clause-applied g c = λ beside n stands can.
     reached_on beside n c.args.count c.args.self.now c.apply_received.new.self c.in-Err.no (sym c.is_off.ensures ∙ c.if-is_off.false) (c.in-Err.ensures.applied beside n stands can)
 
 pub returns-then-is_off-clause-called : goal.returns-then-is_off-clause-called
-returns-then-is_off-clause-called g c = λ beside n stands.
-    called_cut NoMore c.in-Err.no 0xffff_ffff_ffff_ffff c.args.self.now c.apply_received.new.self c.fall.new.self (sym c.is_off.ensures ∙ c.if-is_off.true) (c.in-Err.ensures.called beside n stands) c.fall.ensures.stopped
+returns-then-is_off-clause-called g c = λ beside n stands raw.
+    called_cut NoMore c.in-Err.no 0xffff_ffff_ffff_ffff c.args.self.now c.apply_received.new.self c.fall.new.self (sym c.is_off.ensures ∙ c.if-is_off.true) (c.in-Err.ensures.called beside n stands raw) c.fall.ensures.stopped
 
 pub returns-else-is_off-clause-called : goal.returns-else-is_off-clause-called
-returns-else-is_off-clause-called g c = λ beside n stands. c.in-Err.ensures.called beside n stands
+returns-else-is_off-clause-called g c = λ beside n stands raw. c.in-Err.ensures.called beside n stands raw
 
 pub returns-then-is_off-clause-role : goal.returns-then-is_off-clause-role
 returns-then-is_off-clause-role g c = role_then c.args.self.now c.apply_received.new.self c.fall.new.self c.apply_received.ensures.role c.fall.ensures.role

@@ -19,18 +19,18 @@ returns-else-is_off-clause-kept g c = λ beside n stands can.
     kept_on beside n c.args.state.now c.args.self.now c.keep_up.new.self c.in-Err.no (sym c.is_off.ensures ∙ c.if-is_off.false) (c.in-Err.ensures.kept beside n stands can)
 
 pub returns-then-is_off-clause-called : goal.returns-then-is_off-clause-called
-returns-then-is_off-clause-called g c = λ beside n stands.
-    called_cut NoMore c.in-Err.no 0xffff_ffff_ffff_ffff c.args.self.now c.keep_up.new.self c.fall.new.self (sym c.is_off.ensures ∙ c.if-is_off.true) (c.in-Err.ensures.called beside n stands) c.fall.ensures.stopped
+returns-then-is_off-clause-called g c = λ beside n stands raw.
+    called_cut NoMore c.in-Err.no 0xffff_ffff_ffff_ffff c.args.self.now c.keep_up.new.self c.fall.new.self (sym c.is_off.ensures ∙ c.if-is_off.true) (c.in-Err.ensures.called beside n stands raw) c.fall.ensures.stopped
 
 pub returns-else-is_off-clause-called : goal.returns-else-is_off-clause-called
-returns-else-is_off-clause-called g c = λ beside n stands. c.in-Err.ensures.called beside n stands
+returns-else-is_off-clause-called g c = λ beside n stands raw. c.in-Err.ensures.called beside n stands raw
 
 pub returns-then-is_off-clause-headed : goal.returns-then-is_off-clause-headed
-returns-then-is_off-clause-headed g c = λ beside n stands.
-    head_cut 2 c.in-Err.no 0xffff_ffff_ffff_ffff c.args.self.now c.keep_up.new.self c.fall.new.self (sym c.is_off.ensures ∙ c.if-is_off.true) (c.in-Err.ensures.headed beside n stands) c.fall.ensures.stopped
+returns-then-is_off-clause-headed g c = λ beside n stands raw.
+    head_cut 2 c.in-Err.no 0xffff_ffff_ffff_ffff c.args.self.now c.keep_up.new.self c.fall.new.self (sym c.is_off.ensures ∙ c.if-is_off.true) (c.in-Err.ensures.headed beside n stands raw) c.fall.ensures.stopped
 
 pub returns-else-is_off-clause-headed : goal.returns-else-is_off-clause-headed
-returns-else-is_off-clause-headed g c = λ beside n stands. c.in-Err.ensures.headed beside n stands
+returns-else-is_off-clause-headed g c = λ beside n stands raw. c.in-Err.ensures.headed beside n stands raw
 
 pub returns-then-is_off-clause-role : goal.returns-then-is_off-clause-role
 returns-then-is_off-clause-role g c = role_then c.args.self.now c.keep_up.new.self c.fall.new.self c.keep_up.ensures.role c.fall.ensures.role

@@ -10,22 +10,22 @@ use Rattle.vx_diskset.proofs.disk_set.DiskSet.write_keeping.Goals as goal
 pub returns-then-is_off-clause-wrote : goal.returns-then-is_off-clause-wrote
 returns-then-is_off-clause-wrote g c = λ beside n stands can has.
     wrote_off n (record { volume = c.args.volume; start = c.args.start; bytes = c.args.bytes.now }) c.args.self.now c.write_up.new.self c.fall.new.self c.in-Err.no (sym c.is_off.ensures ∙ c.if-is_off.true)
-    (c.in-Err.ensures.wrote beside n stands can has) (c.fall.ensures.falls beside (half_begun n (record { volume = c.args.volume; start = c.args.start; bytes = c.args.bytes.now }))) c.fall.ensures.later.told
+    (c.in-Err.ensures.wrote beside n stands can has) (c.fall.ensures.falls beside (half_begun n (record { volume = c.args.volume; start = c.args.start; bytes = c.args.bytes.now }))) c.fall.ensures.seen
 
 pub returns-else-is_off-clause-wrote : goal.returns-else-is_off-clause-wrote
 returns-else-is_off-clause-wrote g c = λ beside n stands can has.
     wrote_on beside n (record { volume = c.args.volume; start = c.args.start; bytes = c.args.bytes.now }) c.args.self.now c.write_up.new.self c.in-Err.no (sym c.is_off.ensures ∙ c.if-is_off.false) (c.in-Err.ensures.wrote beside n stands can has)
 
 pub returns-then-is_off-clause-called : goal.returns-then-is_off-clause-called
-returns-then-is_off-clause-called g c = λ beside n stands.
-    let called = c.in-Err.ensures.called beside n stands in
+returns-then-is_off-clause-called g c = λ beside n stands raw.
+    let called = c.in-Err.ensures.called beside n stands raw in
     record {
       burns = called_cut IsLogged c.in-Err.no 0xffff_ffff_ffff_ffff c.args.self.now c.write_up.new.self c.fall.new.self (sym c.is_off.ensures ∙ c.if-is_off.true) called.burns c.fall.ensures.stopped;
       cuts = called.cuts;
     }
 
 pub returns-else-is_off-clause-called : goal.returns-else-is_off-clause-called
-returns-else-is_off-clause-called g c = λ beside n stands. c.in-Err.ensures.called beside n stands
+returns-else-is_off-clause-called g c = λ beside n stands raw. c.in-Err.ensures.called beside n stands raw
 
 pub returns-then-is_off-clause-role : goal.returns-then-is_off-clause-role
 returns-then-is_off-clause-role g c = role_then c.args.self.now c.write_up.new.self c.fall.new.self c.write_up.ensures.role c.fall.ensures.role

@@ -1,0 +1,26 @@
+-- What waits, brought into the volumes, by what the site is.
+use Rattle.vx_diskset.proofs.FoundedWork.{founded_none}
+use Rattle.vx_diskset.proofs.OverCalled.{origin_called, receiver_called}
+use Rattle.vx_diskset.proofs.OverCalls.{over_idle, over_up}
+use Rattle.vx_diskset.proofs.OverReceivers as receivers
+use Rattle.vx_untold.specs.Shades.{shade_rack}
+use Rattle.vx_diskset.proofs.over_calls.OverSet.reached.Goals as goal
+
+pub returns-in-Receiver-clause-applied : goal.returns-in-Receiver-clause-applied
+returns-in-Receiver-clause-applied g c = λ beside n stands can.
+    receivers.over_reached beside n c.args.self c.in-Receiver.founded c.reach-founded.result.0 c.args.self.cut c.in-Receiver.is stands c.args.count c.reach-founded.result.1
+    (c.reach-founded.ensures.reaches beside n (receivers.receiver_in beside n c.args.self c.in-Receiver.founded c.reach-founded.result.0 c.args.self.cut c.in-Receiver.is stands) can)
+
+pub returns-in-Receiver-clause-called : goal.returns-in-Receiver-clause-called
+returns-in-Receiver-clause-called g c =
+    let is_rack = (g.met.R.Rack g.world.𝓛 g.world.𝓜 g.world.𝓡 ((λ s x. x), (λ x. x), (λ x. x), λ x. x)).rack in
+    receiver_called c.args.self c.in-Receiver.founded c.reach-founded.result.0 c.in-Receiver.is (shade_rack g.R.Shelf.meaning is_rack) c.reach-founded.ensures.works
+
+pub returns-in-Origin-clause-applied : goal.returns-in-Origin-clause-applied
+returns-in-Origin-clause-applied g c = λ beside n stands can.
+    over_idle beside n c.args.self c.in-Origin.founded c.in-Origin.founded c.args.self.cut c.in-Origin.is stands.0 c.args.count c.head-number.result (over_up beside n c.args.self c.in-Origin.founded c.in-Origin.founded c.args.self.cut c.in-Origin.is stands) can.running c.head-number.ensures
+
+pub returns-in-Origin-clause-called : goal.returns-in-Origin-clause-called
+returns-in-Origin-clause-called g c =
+    let is_rack = (g.met.R.Rack g.world.𝓛 g.world.𝓜 g.world.𝓡 ((λ s x. x), (λ x. x), (λ x. x), λ x. x)).rack in
+    origin_called c.args.self c.in-Origin.founded c.in-Origin.founded c.in-Origin.is (shade_rack g.R.Shelf.meaning is_rack) (founded_none c.in-Origin.founded.core c.in-Origin.founded.laid)

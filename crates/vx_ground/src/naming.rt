@@ -1,0 +1,53 @@
+// The volumes of a group with logs that are its replicated volume group.
+ghost use Rattle.std.specs.Prelude.{◌≡◌, ℕ, Err, IfErr, None, OnOk, Some, true};
+ghost use Rattle.vx_copies.specs.Commits.{MoreFailed};
+ghost use Rattle.vx_disk.specs.Shelf.{Goes, Nothing};
+ghost use Rattle.vx_group.specs.Dets.{DetStops};
+ghost use Rattle.vx_group.specs.Holding.{wide};
+ghost use Rattle.vx_group.specs.Rvgs.{RvgEnds, set_rvg_refusal};
+ghost use Rattle.vx_group.specs.Stands.{inner_meaning};
+ghost use Rattle.vx_ground.specs.Named.{SameVolumes};
+ghost use Rattle.vx_model.specs.declared.errors.Stop.TheVariants.{No as Refused};
+ghost use Rattle.vx_model.specs.declared.no.No.{No as NoValue};
+
+use vx_disk::Shelf;
+use vx_group::set_rvg_in;
+use vx_loggroup::{LoggedGroup, Opened};
+use vx_model::{Stop, Units};
+
+/// Names the volumes that are the replicated volume group, by a commit. Every volume is left as it was, and so are its logs.
+///
+/// Answers 19 exactly where too few serials are left, else 4 exactly where these may not be such a group, and then nothing has changed; else
+/// 7 only where the count of the disk that it names rose, and 6 only where the shelf is then down. Then memory has the group of before, or
+/// none.
+pub fn name_rvg<S: Shelf>(
+    group: LoggedGroup<S>,
+    units: &Units,
+) -> (LoggedGroup<S>, Result<(), Stop>)
+    ensures refused { (no : NoValue) → set_rvg_refusal group.core.inner.config units.now ≡ Some no → (result.1 ≡ Err (Refused no)) × (result.0.core ≡ group.core) × (result.0.shelf ≡ group.shelf) }
+    ensures goes { Goes Nothing (inner_meaning (wide group.core) (S.meaning group.shelf)) (inner_meaning (wide result.0.core) (S.meaning result.0.shelf)) }
+    ensures same { SameVolumes group.core.inner.config result.0.core.inner.config }
+    ensures disks { MoreFailed (S.meaning group.shelf) (S.meaning result.0.shelf) group.core.inner.config.disks result.0.core.inner.config.disks }
+    ensures ends { RvgEnds units.now group.core.inner.config result.0.core.inner.config (S.meaning result.0.shelf) result.1 }
+    ensures trust { OnOk result.1 (group.core.inner.committed ≡ true → result.0.core.inner.committed ≡ true) }
+    ensures agreed { IfErr result.1 (λ e. group.core.inner.committed ≡ true → result.0.core.inner.agreed ≡ true) }
+    ensures cause { set_rvg_refusal group.core.inner.config units.now ≡ None → DetStops (S.meaning group.shelf) (S.meaning result.0.shelf) result.1 }
+{
+    let (mut shelf, rest) = group.apart();
+    let Opened {
+        mut core,
+        logs,
+        alike,
+        fresh,
+        stopped,
+    } = rest;
+    let answer = set_rvg_in(&mut shelf, &mut core, units);
+    let rest = Opened {
+        core,
+        logs,
+        alike,
+        fresh,
+        stopped,
+    };
+    (LoggedGroup::together(shelf, rest), answer)
+}
