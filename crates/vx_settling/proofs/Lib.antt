@@ -21,3 +21,4 @@ pub mod BrightLines
 pub mod Shorts
 pub mod OtherNotes
 pub mod OtherLines
+pub mod OtherShorts

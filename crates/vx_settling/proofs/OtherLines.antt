@@ -97,7 +97,7 @@ recover_apart : (w : World) (line : ScriptLine) (i : ℕ) → may_note w line i 
 recover_apart w line i off site is =
     subst (λ (l : ScriptLine). eqb i (place_of w l) ≡ false) (sym is) (subst (λ (l : ScriptLine). may_note w l i ≡ false) is off)
 
-neither : (a b : Bool) → (a || b) ≡ false → (a ≡ false) × (b ≡ false)
+pub neither : (a b : Bool) → (a || b) ≡ false → (a ≡ false) × (b ≡ false)
 neither true b off = absurd (let f : true ≡ false = off in cc)
 neither false b off = (refl, off)
 
@@ -135,13 +135,13 @@ module _ (i : ℕ) (o : Option GroupNode) where
       OtherNotes.as_notes i o last (group_noted s line (noting (with_disks taken s d.world last.world) s next)) new left
       (risen s line taken next d last apart before h) h
 
-  but_notes : (lost : Bool) (s : ℕ) (line : ScriptLine) (taken : Bool) (next : GroupNode) (d last new : Doubted) → eqb i s ≡ false
+  pub but_notes : (lost : Bool) (s : ℕ) (line : ScriptLine) (taken : Bool) (next : GroupNode) (d last new : Doubted) → eqb i s ≡ false
       → IsLeftBut lost s line taken next d last new → HasNote i o d → HasNote i o last → HasNote i o new
   but_notes lost s line taken next d last new apart left before h =
       let v : World = group_noted s line (noting (with_disks taken s d.world last.world) s next) in
       OtherNotes.as_notes i o last (fuse_left lost v s) new left (OtherNotes.lost_notes i o lost v s (risen s line taken next d last apart before h)) h
 
-  made_notes : (s : ℕ) (next : GroupNode) (last new : Doubted) → eqb i s ≡ false → IsLeftRvg s next last new → HasNote i o last → HasNote i o new
+  pub made_notes : (s : ℕ) (next : GroupNode) (last new : Doubted) → eqb i s ≡ false → IsLeftRvg s next last new → HasNote i o last → HasNote i o new
   made_notes s next last new apart left h =
       let v : World = noting last.world s next in
       OtherNotes.as_notes i o last _ new left (OtherNotes.worked_notes i o v s (OtherNotes.noting_notes i o last.world s next apart h.note)) h
@@ -158,13 +158,13 @@ module _ (i : ℕ) (o : Option GroupNode) where
     has = record { note = OtherNotes.noting_notes i o d.world s note apart x.has.note; doubt = x.has.doubt };
   }
 
-  are_notes : (line : ScriptLine) (d last new : Doubted) → AreLeft line d last new → HasNote i o last → HasNote i o new
+  pub are_notes : (line : ScriptLine) (d last new : Doubted) → AreLeft line d last new → HasNote i o last → HasNote i o new
   are_notes line d last new left h =
       OtherNotes.as_notes i o last (link_noted d.world line last.world) new left (OtherNotes.link_noted_notes i o d.world line last.world h.note) h
 
   module _ (d : Doubted) (x : OtherNotes.Standing i o d) where
     -- what events lead to
-    ran : (taken : Bool) (es : List Event) → HasNote i o (run_as taken d es)
+    pub ran : (taken : Bool) (es : List Event) → HasNote i o (run_as taken d es)
     ran taken es = (OtherNotes.run_stands i o taken d es x).has
 
     -- ---- lines on no group
@@ -215,7 +215,7 @@ module _ (i : ℕ) (o : Option GroupNode) where
         let cut : Doubted = halved middle (Fault s 0) s 0 in
         subst (λ (e : Doubted). HasNote i o e) (sym is) (OtherNotes.crashed_notes i o cut s kept taken (OtherNotes.halved_apart i o middle (Fault s 0) s 0 beside h))
 
-    moved_notes : (p s : ℕ) (middle : Doubted) → eqb i s ≡ false → MovesBetween p s d middle → HasNote i o middle
+    pub moved_notes : (p s : ℕ) (middle : Doubted) → eqb i s ≡ false → MovesBetween p s d middle → HasNote i o middle
     moved_notes p s middle beside m = record {
       note = ap (λ (n : Node). n.group) (m.nodes i (eqb_apart i s beside)) ∙ x.has.note;
       doubt = λ a is. x.has.doubt a (sym (m.after i) ∙ is);
@@ -311,7 +311,7 @@ module _ (i : ℕ) (o : Option GroupNode) where
           let y : OtherNotes.Standing i o from = from_stands line s kept middle found from rest apart rests in
           back_notes s line taken next from (run_as taken from es) new apart left y.has (OtherNotes.run_stands i o taken from es y).has
 
-      fell : (line : ScriptLine) (s kept : ℕ) (middle found : GroupNode) (from : Doubted) (rest : List Event) → eqb i s ≡ false
+      pub fell : (line : ScriptLine) (s kept : ℕ) (middle found : GroupNode) (from : Doubted) (rest : List Event) → eqb i s ≡ false
           → RestsWithRvg d line s kept middle found from rest → (taken : Bool) (next : GroupNode) (es : List Event)
           → IsLeftBut true s line taken next from (run_as taken from es) new → HasNote i o new
       fell line s kept middle found from rest apart rests taken next es left =
