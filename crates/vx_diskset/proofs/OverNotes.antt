@@ -23,7 +23,7 @@ use Rattle.vx_group.specs.declared.inner.Inner.{Inner}
 use Rattle.vx_watched.specs.Since.{CalledSince}
 use Rattle.vx_watched.specs.Traces.{TellsLess}
 use Rattle.vx_ground.specs.Accounts.{GroundSince, ground_state}
-use Rattle.vx_grouplogs.specs.Loading.{SomeRose}
+use Rattle.vx_groupmaps.specs.Loading.{DeviceRose}
 use Rattle.vx_ground.specs.Lifted.{laid_volumes}
 use Rattle.vx_ground.proofs.AccountLemmas.{account_loses}
 use Rattle.vx_grouped.specs.ConfigMoves.{LosesSome}
@@ -135,8 +135,8 @@ module _ {R : Type 0} {g : Ghosts R} (n : Node) (note : GroupNode) (units : Unit
   agrees is tight none =
       by (ground.sure (sure_by old.core.inner.committed old.core.held (up.at.lies.committed tight none) (up.at.lies.images.free tight none)))
     where
-      by : (is_sure new.core ≡ true) ⊎ (SomeRose (laid_disks old) (laid_disks new) ⊎ IsTrue (laid_disks new).down)
-          → ((next.loose ≡ false) × (next.begun ≡ [])) ⊎ SomeRose (laid_disks old) (laid_disks new)
+      by : (is_sure new.core ≡ true) ⊎ (DeviceRose (laid_disks old) (laid_disks new) ⊎ IsTrue (laid_disks new).down)
+          → ((next.loose ≡ false) × (next.begun ≡ [])) ⊎ DeviceRose (laid_disks old) (laid_disks new)
       by (inl sure) = inl (ap not sure, ap (λ (b : Bool). if b then [] else noted_config new.core.inner.config ∷ note.begun) sure)
       by (inr (inl some)) = inr some
       by (inr (inr down)) = absurd (let wrong : false ≡ true = sym is ∙ down in cc)

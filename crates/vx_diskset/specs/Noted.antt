@@ -8,7 +8,7 @@ use Rattle.vx_history.specs.Steps.{crashed}
 use Rattle.vx_history.specs.Stops.{IsFused}
 use Rattle.vx_history.specs.World.{FuseSet, Node}
 use Rattle.vx_model.specs.Content.{Write}
-use Rattle.vx_grouplogs.specs.Loading.{SomeRose}
+use Rattle.vx_groupmaps.specs.Loading.{DeviceRose}
 use Rattle.vx_grouped.specs.ConfigMoves.{LosesSome}
 use Rattle.vx_grouped.specs.GroupSites.{AwayNoted, CutNoted, DownNoted, UpNoted, site_below, site_disks, with_note}
 use Rattle.vx_grouped.specs.SiteEnds.{ConfigGoes}
@@ -31,7 +31,7 @@ below_rvg n = record n { role = Primary; volumes = []; log = []; safe = 0; halte
 
 -- Where imports agreed, and nothing was begun, it is so behind calls in which none failed.
 abbrev pub AgreesStill : GroupNode → GroupNode → Meaning → Meaning → Type 0
-AgreesStill note next old new = note.loose ≡ false → note.begun ≡ [] → ((next.loose ≡ false) × (next.begun ≡ [])) ⊎ SomeRose old new
+AgreesStill note next old new = note.loose ≡ false → note.begun ≡ [] → ((next.loose ≡ false) × (next.begun ≡ [])) ⊎ DeviceRose old new
 
 module _ {R : Type 0} {g : Ghosts R} where
   -- the group, up or not, is as it is noted

@@ -32,7 +32,7 @@ use Rattle.vx_grouped.proofs.StateChangeLemmas.{live_state, live_there, on_state
 use Rattle.vx_grouped.specs.GroupNotes.{is_sure}
 use Rattle.vx_grouped.proofs.ImageLemmas.{sure_by, sure_free, sure_kept}
 use Rattle.vx_ground.specs.Accounts.{GroundSince, GroundState, NoneRose, StateOpen, ground_state}
-use Rattle.vx_grouplogs.specs.Loading.{SomeRose}
+use Rattle.vx_groupmaps.specs.Loading.{DeviceRose}
 
 rose_on : (a b c : ℕ) → b ≤ c → Rose a b → Rose a c
 rose_on a b c more rose = record {
@@ -87,26 +87,26 @@ module _ (a : GroundState) (c d : GroupCore) (m0 m m' : Meaning) (first : (u : �
   counted u rose = subst (λ (k : ℕ). Rose k (m'.disk_faults u)) (sym (first u)) (subst (λ (k : ℕ). Rose (m.faults u) k) (sym (last u)) rose)
 
   -- a call failed, or the disks are down, in this call or before it
-  rose_now : SomeRose m m' ⊎ IsTrue m'.down → SomeRose m0 m' ⊎ IsTrue m'.down
+  rose_now : DeviceRose m m' ⊎ IsTrue m'.down → DeviceRose m0 m' ⊎ IsTrue m'.down
   rose_now (inl some) = inl (record { disk = some.disk; rose = rose_back (m0.disk_faults some.disk) (m.disk_faults some.disk) (m'.disk_faults some.disk) (since.counts some.disk) some.rose })
   rose_now (inr down) = inr down
 
-  rose_before : SomeRose m0 m ⊎ IsTrue m.down → SomeRose m0 m' ⊎ IsTrue m'.down
+  rose_before : DeviceRose m0 m ⊎ IsTrue m.down → DeviceRose m0 m' ⊎ IsTrue m'.down
   rose_before (inl some) = inl (record { disk = some.disk; rose = rose_on (m0.disk_faults some.disk) (m.disk_faults some.disk) (m'.disk_faults some.disk) (more some.disk) some.rose })
   rose_before (inr down) = inr (falls down)
 
-  sure_then : (is_sure c ≡ true → (is_sure d ≡ true) ⊎ (SomeRose m m' ⊎ IsTrue m'.down)) → (is_sure c ≡ true) ⊎ (SomeRose m0 m ⊎ IsTrue m.down)
-      → (is_sure d ≡ true) ⊎ (SomeRose m0 m' ⊎ IsTrue m'.down)
+  sure_then : (is_sure c ≡ true → (is_sure d ≡ true) ⊎ (DeviceRose m m' ⊎ IsTrue m'.down)) → (is_sure c ≡ true) ⊎ (DeviceRose m0 m ⊎ IsTrue m.down)
+      → (is_sure d ≡ true) ⊎ (DeviceRose m0 m' ⊎ IsTrue m'.down)
   sure_then sure (inl was) = by (sure was)
     where
-      by : (is_sure d ≡ true) ⊎ (SomeRose m m' ⊎ IsTrue m'.down) → (is_sure d ≡ true) ⊎ (SomeRose m0 m' ⊎ IsTrue m'.down)
+      by : (is_sure d ≡ true) ⊎ (DeviceRose m m' ⊎ IsTrue m'.down) → (is_sure d ≡ true) ⊎ (DeviceRose m0 m' ⊎ IsTrue m'.down)
       by (inl is) = inl is
       by (inr cut) = inr (rose_now cut)
   sure_then sure (inr cut) = inr (rose_before cut)
 
   -- a call that answers Ok leaves the newest configuration committed
   sure_after : {T : Type 0} (unit : ℕ) (r : Result T ShelfError) → (c.held ≡ None → d.held ≡ None) → Cause (inner_meaning (wide c) m) (inner_meaning (wide d) m') unit r
-      → OnOk r (c.inner.committed ≡ true → d.inner.committed ≡ true) → is_sure c ≡ true → (is_sure d ≡ true) ⊎ (SomeRose m m' ⊎ IsTrue m'.down)
+      → OnOk r (c.inner.committed ≡ true → d.inner.committed ≡ true) → is_sure c ≡ true → (is_sure d ≡ true) ⊎ (DeviceRose m m' ⊎ IsTrue m'.down)
   sure_after unit (Ok done) free cause trust is =
       inl (sure_by d.inner.committed d.held (trust (sure_kept c.inner.committed c.held is)) (free (sure_free c.inner.committed c.held is)))
   sure_after unit (Err (Fault disk)) free cause trust is = inr (inl (record { disk = disk; rose = cause.0.disk_count }))
@@ -134,7 +134,7 @@ module _ (a : GroundState) (c d : GroupCore) (m0 m m' : Meaning) (first : (u : �
     blamed_by u false is off on none = none (rose_back (m0.disk_faults u) (m.disk_faults u) (m'.disk_faults u) (since.counts u) (counted u (loses.disks.blamed u is on)))
 
     module _ (openly : MissesOpenly (wide c) → MissesOpenly (wide d)) (newest : MissesOpenly (wide c) → (c.inner.committed ≡ true → AllAtOnce (wide c).config m) → d.inner.committed ≡ true → AllAtOnce (wide d).config m')
-        (sure : is_sure c ≡ true → (is_sure d ≡ true) ⊎ (SomeRose m m' ⊎ IsTrue m'.down)) where
+        (sure : is_sure c ≡ true → (is_sure d ≡ true) ⊎ (DeviceRose m m' ⊎ IsTrue m'.down)) where
       pub since_goes : GroundSince a m0 (ground_state d) m'
       since_goes = record {
         parts = then_parts a.config c.inner.config d.inner.config since.parts loses.parts;

@@ -8,7 +8,7 @@ use Rattle.vx_group.specs.Loses.{SameParts}
 use Rattle.vx_group.specs.Holding.{wide}
 use Rattle.vx_group.specs.declared.group_core.GroupCore.{GroupCore}
 use Rattle.vx_grouped.specs.GroupNotes.{is_sure}
-use Rattle.vx_grouplogs.specs.Loading.{SomeRose}
+use Rattle.vx_groupmaps.specs.Loading.{DeviceRose}
 use Rattle.vx_kept.specs.Finds.{AllAtOnce}
 use Rattle.vx_kept.specs.Keeping.{frame_at}
 use Rattle.vx_volume.specs.Plexes.{active}
@@ -53,4 +53,4 @@ pub record GroundSince (a : GroundState) (m : Meaning) (b : GroundState) (m' : M
   pub openly : StateOpen a → StateOpen b
   pub newest : StateOpen a → (a.committed ≡ true → AllAtOnce a.seen m) → b.committed ≡ true → AllAtOnce b.seen m'
   pub falls : IsTrue m.down → IsTrue m'.down
-  pub sure : a.sure ≡ true → (b.sure ≡ true) ⊎ (SomeRose m m' ⊎ IsTrue m'.down)
+  pub sure : a.sure ≡ true → (b.sure ≡ true) ⊎ (DeviceRose m m' ⊎ IsTrue m'.down)
