@@ -7,7 +7,6 @@ ghost use Rattle.vx_rvg.specs.Views.{UnitsPlaced};
 
 use crate::group_set::CutWrite;
 use crate::over_work::Starts;
-use crate::starting::is_origin;
 use crate::writing::is_off;
 use crate::{Above, DiskSet, GroupSet, OverSet};
 use std::alloc::Global;
@@ -16,7 +15,7 @@ use vx_disk::Rack;
 use vx_ground::work_over;
 use vx_grouped::{GroupSite, Laid};
 use vx_model::limits::LEAST_BLOCKS;
-use vx_model::{No, OutOfMemory, Stop, Units};
+use vx_model::{No, OutOfMemory, Stop, Units, is_origin};
 use vx_rvg::{RvgCore, StartRoom};
 use vx_secondary::Waiting;
 
