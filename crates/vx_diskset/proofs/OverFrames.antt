@@ -318,9 +318,9 @@ module _ {R : Type 0} {g : Ghosts R} where
   site_stays mine a (Up old) (Up new) goes it = above_goes mine a old new goes it
   site_stays mine a (Up old) (Deported idle) goes it = tt
   site_stays mine a (Up old) (Down idle) goes it = tt
-  site_stays mine a (Up old) (Marked rack) goes it = tt
-  site_stays mine a (Up old) Gone goes it = tt
+  site_stays mine a (Up old) (Marked rack) goes it = absurd goes
+  site_stays mine a (Up old) Gone goes it = absurd goes
   site_stays mine a (Deported idle) new goes it = subst (λ (x : GroupSite R g). AboveStays a x) (sym goes) tt
   site_stays mine a (Down idle) new goes it = subst (λ (x : GroupSite R g). AboveStays a x) (sym goes) tt
-  site_stays mine a (Marked rack) new goes it = subst (λ (x : GroupSite R g). AboveStays a x) (sym goes) tt
+  site_stays mine a (Marked rack) new goes it = absurd it
   site_stays mine a Gone new goes it = subst (λ (x : GroupSite R g). AboveStays a x) (sym goes) tt

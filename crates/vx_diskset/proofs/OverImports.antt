@@ -399,7 +399,7 @@ module _ {R : Type 0} {g : Ghosts R} where
   above_off above (Up laid) stop it = absurd it
   above_off above (Deported idle) stop it = tt
   above_off above (Down idle) stop it = tt
-  above_off above (Marked rack) stop it = tt
+  above_off above (Marked rack) stop it = absurd it
   above_off above Gone stop it = tt
 
   -- stands where a refused import leaves the group up
@@ -407,5 +407,5 @@ module _ {R : Type 0} {g : Ghosts R} where
   above_refused above (Up laid) new stop it stays = subst (λ (e : GroupSite R g). AboveStays above e) (sym it) stays
   above_refused above (Deported idle) new stop it stays = above_off above new stop it
   above_refused above (Down idle) new stop it stays = above_off above new stop it
-  above_refused above (Marked rack) new stop it stays = above_off above new stop it
+  above_refused above (Marked rack) new stop it stays = absurd stays
   above_refused above Gone new stop it stays = above_off above new stop it

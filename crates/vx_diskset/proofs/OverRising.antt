@@ -5,7 +5,7 @@ use Rattle.vx_disk.specs.Counts.{Rose}
 use Rattle.vx_disk.specs.declared.shelf.Shelf.{Ghosts}
 use Rattle.vx_grouped.specs.GroupSites.{DownNoted, UpNoted, site_disks, with_note}
 use Rattle.vx_grouped.specs.SiteEnds.{MayCrashSite, burned_site}
-use Rattle.vx_grouped.specs.Volumes.{IsNotUp}
+use Rattle.vx_grouped.specs.Volumes.{GoesOff}
 use Rattle.vx_grouped.specs.declared.group_site.GroupSite.{GroupSite}
 use Rattle.vx_grouped.specs.declared.group_site.GroupSite.TheVariants.{Deported, Down, Gone, Marked, Up}
 use Rattle.vx_history.specs.Groups.{GroupNode}
@@ -25,13 +25,17 @@ use Rattle.vx_diskset.specs.declared.over_set.OverSet.{OverSet}
 use Rattle.vx_diskset.proofs.GroupRising.{rises_unread}
 
 module _ {R : Type 0} {g : Ghosts R} where
-  -- nothing stands over a site that is not up
-  pub off_stays : (above : Above) (e : GroupSite R g) → IsNotUp e → AboveStays above e
-  off_stays above (Up laid) off = absurd off
-  off_stays above (Deported idle) off = tt
-  off_stays above (Down idle) off = tt
-  off_stays above (Marked rack) off = tt
-  off_stays above Gone off = tt
+  -- nothing stands over a site that went off
+  pub off_stays : (a above : Above) (old new : GroupSite R g) → GoesOff old new → AboveStays a old → AboveStays above new
+  off_stays a above (Up laid) (Up other) off it = absurd off
+  off_stays a above (Up laid) (Deported idle) off it = absurd off
+  off_stays a above (Up laid) (Down idle) off it = tt
+  off_stays a above (Up laid) (Marked rack) off it = absurd off
+  off_stays a above (Up laid) Gone off it = absurd off
+  off_stays a above (Deported idle) new off it = subst (λ (e : GroupSite R g). AboveStays above e) (sym off) tt
+  off_stays a above (Down idle) new off it = subst (λ (e : GroupSite R g). AboveStays above e) (sym off) tt
+  off_stays a above (Marked rack) new off it = absurd it
+  off_stays a above Gone new off it = subst (λ (e : GroupSite R g). AboveStays above e) (sym off) tt
 
   module _ (n : Node) (note : GroupNode) (cut : Option CutWrite) (old mid : GroupSite R g) (s : OverSet R g) where
     pub over_kept : (kept : Option KeptWrite) → LooksKept n note cut old mid (Ok kept) → site_in s ≡ mid → s.cut ≡ None → RisesOver n note cut old (Over s) (Ok kept)

@@ -51,9 +51,10 @@ IsInside note (Origin core) = InsideOf core.units note
 IsInside note (Receiver core waiting) = InsideOf core.units note
 
 module _ {R : Type 0} {g : Ghosts R} where
-  -- so it is over a group that is up
+  -- so it is over a group that is up; on disks on which a group was begun nothing ever stood
   abbrev pub AboveStays : Above → GroupSite R g → Type 0
   AboveStays above (Up laid) = IsAboveOn above (laid_volumes laid)
+  AboveStays above (Marked rack) = ⊥
   AboveStays above other = Unit {0}
 
   -- the group below

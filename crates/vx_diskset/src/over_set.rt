@@ -1,13 +1,15 @@
 // The disks of a site whose group has a replicated volume group.
 ghost use Rattle.std.specs.Prelude.{◌≡◌};
-ghost use Rattle.vx_diskset.specs.Aboves.{AboveStays, above_in, site_in};
+ghost use Rattle.vx_diskset.specs.Aboves.{AboveStays, IsAboveOn, above_in, above_site, below_site, site_in};
 ghost use Rattle.vx_diskset.specs.OverKeeps.{StaysAbove};
+ghost use Rattle.vx_ground.specs.Lifted.{laid_volumes};
+ghost use Rattle.vx_grouped.specs.declared.group_site.GroupSite.TheVariants.{Up as UpSite};
 
 use crate::above::Above;
 use crate::founded::{Founded, FoundedReceiver};
 use crate::group_set::CutWrite;
 use vx_disk::Rack;
-use vx_grouped::{GroupSite, Idle};
+use vx_grouped::{GroupSite, Idle, Laid};
 
 /// A replicated volume group over a group of disks, up or not.
 #[derive(Drop)]
@@ -28,6 +30,25 @@ pub enum OverSite<R: Rack> {
 pub struct OverSet<R: Rack> {
     pub site: OverSite<R>,
     pub cut: Option<CutWrite>,
+}
+
+// What stands over a group that is up, with it.
+fn with_above<R: Rack>(laid: Laid<R>, above: Above) -> OverSite<R>
+    requires { IsAboveOn above (laid_volumes laid) }
+    ensures site { below_site result ≡ UpSite laid }
+    ensures above { above_site result ≡ above }
+{
+    match above {
+        Above::Origin(core) => {
+            let founded = Founded::together(laid, core);
+            OverSite::Origin(founded)
+        }
+        Above::Receiver { core, waiting } => {
+            let founded = FoundedReceiver::together(laid, core, waiting);
+            OverSite::Receiver(founded)
+        }
+        Above::Nothing => OverSite::Gone,
+    }
 }
 
 impl<R: Rack> OverSet<R> {
@@ -69,18 +90,27 @@ impl<R: Rack> OverSet<R> {
         ensures site { site_in result ≡ site }
         ensures above { StaysAbove above site (above_in result) }
     {
-        let site = match site {
-            GroupSite::Up(laid) => match above {
-                Above::Origin(core) => OverSite::Origin(Founded::together(laid, core)),
-                Above::Receiver { core, waiting } => {
-                    OverSite::Receiver(FoundedReceiver::together(laid, core, waiting))
-                }
-                Above::Nothing => OverSite::Gone,
-            },
-            GroupSite::Deported(idle) => OverSite::Deported(idle),
-            GroupSite::Down(idle) => OverSite::Down(idle),
-            GroupSite::Marked(_) | GroupSite::Gone => OverSite::Gone,
-        };
-        OverSet { site, cut }
+        match site {
+            GroupSite::Up(laid) => {
+                let site = with_above(laid, above);
+                OverSet { site, cut }
+            }
+            GroupSite::Deported(idle) => {
+                let site = OverSite::Deported(idle);
+                OverSet { site, cut }
+            }
+            GroupSite::Down(idle) => {
+                let site = OverSite::Down(idle);
+                OverSet { site, cut }
+            }
+            GroupSite::Marked(_) => {
+                let site = OverSite::Gone;
+                OverSet { site, cut }
+            }
+            GroupSite::Gone => {
+                let site = OverSite::Gone;
+                OverSet { site, cut }
+            }
+        }
     }
 }

@@ -23,7 +23,7 @@ module _ {R : Type 0} {g : Ghosts R} where
   comes_refused (Up laid) stop = refl
   comes_refused (Deported idle) stop = tt
   comes_refused (Down idle) stop = tt
-  comes_refused (Marked rack) stop = tt
+  comes_refused (Marked rack) stop = refl
   comes_refused Gone stop = tt
 
   module _ (s new : GroupSite R g) (idle : Idle R g) (r : Result (Unit {0}) Stop) (answers : AnswersUp new r) where

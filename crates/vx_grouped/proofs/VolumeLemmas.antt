@@ -5,7 +5,7 @@ use Rattle.vx_disk.specs.Racks.{Stopped}
 use Rattle.vx_disk.specs.Shelf.{Covers, Goes, Meaning, Nothing, Values, Written}
 use Rattle.vx_disk.specs.declared.shelf.Shelf.{Ghosts}
 use Rattle.vx_grouped.specs.GroupSites.{idle_disks, laid_disks}
-use Rattle.vx_grouped.specs.Volumes.{FellBehind, IsNotUp, SiteCloses, SiteGoes, VolumesGo, laid_seen}
+use Rattle.vx_grouped.specs.Volumes.{FellBehind, GoesOff, SiteCloses, SiteGoes, VolumesGo, laid_seen}
 use Rattle.vx_grouped.specs.declared.group_site.GroupSite.{GroupSite}
 use Rattle.vx_grouped.specs.declared.group_site.GroupSite.TheVariants.{Deported, Down, Gone, Marked, Up}
 use Rattle.vx_grouped.specs.declared.idle.Idle.{Idle}
@@ -72,12 +72,12 @@ module _ {R : Type 0} {g : Ghosts R} where
   rest_closes (Marked rack) never = tt
   rest_closes Gone never = tt
 
-  pub rest_off : (e : GroupSite R g) → ((laid : Laid R g) → e ≡ Up laid → ⊥) → IsNotUp e
+  pub rest_off : (e : GroupSite R g) → ((laid : Laid R g) → e ≡ Up laid → ⊥) → GoesOff e e
   rest_off (Up laid) never = absurd (never laid refl)
-  rest_off (Deported idle) never = tt
-  rest_off (Down idle) never = tt
-  rest_off (Marked rack) never = tt
-  rest_off Gone never = tt
+  rest_off (Deported idle) never = refl
+  rest_off (Down idle) never = refl
+  rest_off (Marked rack) never = refl
+  rest_off Gone never = refl
 
   -- no call was made
   pub site_same : (e : GroupSite R g) → SiteGoes Nowhere e e

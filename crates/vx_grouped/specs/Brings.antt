@@ -7,7 +7,7 @@ use Rattle.vx_model.specs.declared.errors.Stop.{Stop}
 use Rattle.vx_untold.specs.Shades.{shade_meaning}
 use Rattle.vx_untold.specs.declared.shade.Shade.{Shade}
 use Rattle.vx_grouped.specs.declared.group_site.GroupSite.{GroupSite}
-use Rattle.vx_grouped.specs.declared.group_site.GroupSite.TheVariants.{Up}
+use Rattle.vx_grouped.specs.declared.group_site.GroupSite.TheVariants.{Marked, Up}
 use Rattle.vx_grouped.specs.declared.laid.Laid.{Laid}
 use Rattle.vx_config.specs.declared.config.Config.{Config}
 use Rattle.vx_copies.specs.Answers.{returned}
@@ -59,15 +59,18 @@ module _ {R : Type 0} {g : Ghosts R} where
   BringsAtSite old (Up laid) (Ok done) = BringsSite old laid
   BringsAtSite old other r = Unit {0}
 
-  -- It came up where the answer says so, and is not up where it was refused.
+  -- It came up where the answer says so, and is not up where it was refused; its disks are those of a group.
   abbrev pub AnswersUp : GroupSite R g → Result (Unit {0}) Stop → Type 0
   AnswersUp (Up laid) (Ok done) = Unit {0}
   AnswersUp (Up laid) (Err stop) = ⊥
+  AnswersUp (Marked rack) r = ⊥
   AnswersUp other (Ok done) = ⊥
   AnswersUp other (Err stop) = Unit {0}
 
-  -- so it is of one that was not up; one that was is as it was, and is refused
+  -- So it is of one that was not up; one that was, and disks on which a group was begun, are as they were, and refused.
   abbrev pub ComesUp : GroupSite R g → GroupSite R g → Result (Unit {0}) Stop → Type 0
   ComesUp (Up laid) new (Ok done) = ⊥
   ComesUp (Up laid) new (Err stop) = new ≡ Up laid
+  ComesUp (Marked rack) new (Ok done) = ⊥
+  ComesUp (Marked rack) new (Err stop) = new ≡ Marked rack
   ComesUp other new r = AnswersUp new r

@@ -48,7 +48,8 @@ module _ {R : Type 0} {g : Ghosts R} where
   SiteGoes mine (Up old) other = ⊥
   SiteGoes mine old new = new ≡ old
 
-  -- the site is not up
-  abbrev pub IsNotUp : GroupSite R g → Type 0
-  IsNotUp (Up laid) = ⊥
-  IsNotUp other = Unit {0}
+  -- one that was up is down, and another is as it was
+  abbrev pub GoesOff : GroupSite R g → GroupSite R g → Type 0
+  GoesOff (Up old) (Down idle) = Unit {0}
+  GoesOff (Up old) other = ⊥
+  GoesOff old new = new ≡ old

@@ -21,7 +21,7 @@ pub of-requires : goal.of-requires
 of-requires g c = site_stays Nowhere c.parts-site.result.1 c.parts-site.result.0 c.look_kept.new.site c.look_kept.ensures.volumes c.parts-site.ensures.stays
 
 pub of-requires-in-Err : goal.of-requires-in-Err
-of-requires-in-Err g c = off_stays Nothing c.crash.result c.crash.ensures.off
+of-requires-in-Err g c = off_stays c.parts-site.result.1 Nothing c.look_kept.new.site c.crash.result c.crash.ensures.off (of-requires g c)
 
 pub returns-in-Ok-clause-rises : goal.returns-in-Ok-clause-rises
 returns-in-Ok-clause-rises g c = λ n note up.
