@@ -98,7 +98,7 @@ GroupSpoils s note (GroupImport site) fails next = NotesRefused note next
 GroupSpoils s note (Volume site volume blocks mirrors layout log map policy) fails next = WithMaps (Reconfigures (ConfigLoses s fails) NoteUnsettles) (MapsCalled s fails) note next
 GroupSpoils s note (PlexDetach site volume plex) fails next =
     WithMaps (Reconfigures (λ c d. ConfigLoses s fails c d ⊎ ((x : Config) × PutsPlex (plain_number note volume) plex Stale c x × ConfigLoses s fails x d)) NoteUnsettles)
-    (MapsUndetached s fails (plain_number note volume)) note next
+    (MapsUndetached s fails (plain_number note volume) plex) note next
 GroupSpoils s note (PlexAttach site volume plex) fails next =
     WithMaps
     (Reconfigures

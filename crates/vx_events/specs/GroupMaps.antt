@@ -65,9 +65,10 @@ pub record MapsAttached (s : ℕ) (fails : Fails) (vol plex : ℕ) (c d : Config
   pub known : StayKnown (FailedIn s fails) InNoVolume InNoVolume (map_disk c) w new
   pub joined : MapsJoined (length c.volumes) vol plex (takes_part c) (takes_part d) w new
 
--- or a plex was not detached, as a disk failed
-pub record MapsUndetached (s : ℕ) (fails : Fails) (vol : ℕ) (c d : Config) (w new : MissedNote) : Type 0 where
+-- or its detach was refused, as a disk failed: it takes part as it did
+pub record MapsUndetached (s : ℕ) (fails : Fails) (vol plex : ℕ) (c d : Config) (w new : MissedNote) : Type 0 where
   pub known : StayKnown (FailedIn s fails) InNoVolume (InVolume vol) (map_disk c) w new
+  pub same : takes_part d vol plex ≡ takes_part c vol plex
   pub written : MapsWritten (length c.volumes) (takes_part c) (takes_part d) no_plex none_missed w new
 
 -- a write was done

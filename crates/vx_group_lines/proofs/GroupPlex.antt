@@ -270,13 +270,13 @@ module _ {R : Type 0} {g : Ghosts R} where
     pub det_refused : (mid : Yard R g) (result : Result Said OutOfMemory) → Midway old mid → (why : No) → OnSites (λ o e. DetCalled n note v plex o e (Err (StopsBy why))) before after
         → OnSites (λ o e. DetMapped v plex o e (Err (StopsBy why))) before after → IsNotedRefusal s (fact_of_group (d.world.nodes s) (note_at (d.world.nodes s))) why mid new result → LeadsOverIs d (PlexDetach name volume plex) old new result
     det_refused mid result half why on maps refusal =
-        refused_leads d (PlexDetach name volume plex) old new name s before after stands it mid half result (Unit {0}) (λ o e. DetDone v plex o e) (λ o e. DetFails v plex o e) (DetMapsFailed v) (λ o which. refuses_det o v plex ≡ Some which)
+        refused_leads d (PlexDetach name volume plex) old new name s before after stands it mid half result (Unit {0}) (λ o e. DetDone v plex o e) (λ o e. DetFails v plex o e) (DetMapsFailed v plex) (λ o which. refuses_det o v plex ≡ Some which)
         (record {
           ends = λ many fails o e next was now names noted noted_now enough logs change keeps w by.
-              with_goes (Reconfigures (λ c x. ConfigLoses s fails c x ⊎ PutsOr s fails none_again v plex Stale c x) NoteUnsettles) (MapsUndetached s fails v) note next was now w noted noted_now
+              with_goes (Reconfigures (λ c x. ConfigLoses s fails c x ⊎ PutsOr s fails none_again v plex Stale c x) NoteUnsettles) (MapsUndetached s fails v plex) note next was now w noted noted_now
               (reconfigures s many fails o e note next names (λ c x. ConfigLoses s fails c x ⊎ PutsOr s fails none_again v plex Stale c x) (λ a b. NoteUnsettles a b) was now noted noted_now
               (det_to s many fails o e note next names v plex was now enough change) keeps)
-              (undet_named s many fails o e names was now (λ u k. logs_low was many u k logs) note.maps w v by);
+              (undet_named s many fails o e names was now (λ u k. logs_low was many u k logs) note.maps w v plex by);
         })
         (record {
           ends = λ many fails o e next was now names noted noted_now enough logs change keeps w by.

@@ -23,6 +23,7 @@ pub mod Returning
 pub mod Rising
 pub mod GroupNamed
 pub mod GroupDeports
+pub mod ImportWhys
 pub mod GroupImports
 pub mod GroupVolume
 pub mod VolumeLine

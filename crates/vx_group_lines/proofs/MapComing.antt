@@ -1,5 +1,5 @@
 -- How what is noted of the maps of a site's group goes on as the group comes up from its disks, or is refused.
-use Rattle.std.proofs.Common.{◌≡◌, ◌∙◌, Bool, true, false, refl, subst, sym, IsTrue}
+use Rattle.std.proofs.Common.{◌≡◌, ◌∙◌, Bool, true, false, refl, sym, IsTrue}
 use Rattle.std.specs.Prelude.{◌||◌, not, None, Some, Ok, Err}
 use Rattle.vx_model.specs.declared.errors.Stop.{Stop}
 use Rattle.vx_config.specs.Configs.{HasSpelling}
@@ -33,6 +33,10 @@ early_by false is = absurd (let clash : true ≡ false = is in cc)
 
 pub returns_with : (w : MissedNote) (told : Type 0) (note next : GroupNode) → NoteReturns told note next → NoteReturns told note (with_maps w next)
 returns_with w told note next it = record { begun = it.begun; loose = it.loose; cut = it.cut; dark = it.dark; inside = it.inside; block = it.block; may = it.may; size = it.size }
+
+-- what is known behind it was known before
+pub bright_before : (dims : Bool) (note next : GroupNode) → next.dark ≡ (note_dimmed dims note).dark → next.dark ≡ false → note.dark ≡ false
+bright_before dims note next dark bright = (or_off dims note.dark (sym dark ∙ bright)).1
 
 module _ {R : Type 0} {g : Ghosts R} where
   pub config_with : (w : MissedNote) (note next : GroupNode) (old : Meaning) (new : GroupSite R g) → ConfigReturns note next old new → ConfigReturns note (with_maps w next) old new
@@ -104,10 +108,6 @@ module _ {R : Type 0} {g : Ghosts R} where
   }
   recovered_so n note next (Marked rack) new down bright tells it = absurd down
   recovered_so n note next Gone new down bright tells it = absurd down
-
-  -- what is known behind it was known before
-  pub bright_before : (dims : Bool) (note next : GroupNode) → next.dark ≡ (note_dimmed dims note).dark → next.dark ≡ false → note.dark ≡ false
-  bright_before dims note next dark bright = (or_off dims note.dark (sym dark ∙ bright)).1
 
   -- ---- one that is refused
 

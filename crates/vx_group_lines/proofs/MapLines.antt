@@ -18,7 +18,7 @@ use Rattle.vx_model.specs.Content.{Write}
 use Rattle.vx_maplog.specs.Logs.{log_or}
 use Rattle.vx_grouped.specs.MapsNoted.{CopiesNoted}
 use Rattle.vx_grouped.specs.SiteMaps.{AddMaps, AttMaps, DetMapsDone, DetMapsFailed, DoubtMaps, FailedAt, MapsLike, WriteMaps, map_disk_of, map_disk_or}
-use Rattle.vx_grouped.proofs.WrittenMapLemmas.{missed_as, perhaps_as, written_as}
+use Rattle.vx_grouped.proofs.WrittenMapLemmas.{doubted_as, missed_as, perhaps_as, written_as}
 use Rattle.vx_events.specs.Fails.{Fails}
 use Rattle.vx_events.specs.GroupMaps.{FailedIn, MapsAdded, MapsAttached, MapsCalled, MapsDetached, MapsOfDoubt, MapsOfWrite, MapsUndetached, entry_takes, kept_disk, map_disk, maps_disk, takes_part}
 use Rattle.vx_group_lines.proofs.Losing.{Names}
@@ -113,8 +113,12 @@ module _ (s many : ℕ) (fails : Fails) (o e : Meaning) (names : Names s many fa
   pub det_named : (vol plex : ℕ) → DetMapsDone vol plex o e c d w next → MapsDetached s fails vol plex (at_serial 0 c) (at_serial 0 d) w next
   det_named vol plex it = record { known = known_named s many fails o e names c low w next InNoVolume (InVolume vol) it.known; written = written_to (one_anew w vol plex) none_missed it.written }
 
-  pub undet_named : (vol : ℕ) → DetMapsFailed vol o e c d w next → MapsUndetached s fails vol (at_serial 0 c) (at_serial 0 d) w next
-  undet_named vol it = record { known = known_named s many fails o e names c low w next InNoVolume (InVolume vol) it.known; written = written_to no_plex none_missed it.written }
+  pub undet_named : (vol plex : ℕ) → DetMapsFailed vol plex o e c d w next → MapsUndetached s fails vol plex (at_serial 0 c) (at_serial 0 d) w next
+  undet_named vol plex it = record {
+    known = known_named s many fails o e names c low w next InNoVolume (InVolume vol) it.known;
+    same = sym (takes_is d vol plex) ∙ it.same ∙ takes_is c vol plex;
+    written = written_to no_plex none_missed it.written;
+  }
 
   pub att_named : (vol plex : ℕ) → AttMaps vol plex o e c d w next → MapsAttached s fails vol plex (at_serial 0 c) (at_serial 0 d) w next
   att_named vol plex it = record {
@@ -135,14 +139,7 @@ module _ (s many : ℕ) (fails : Fails) (o e : Meaning) (names : Names s many fa
   pub doubt_named : (x : Write) → DoubtMaps x o e c d w next → MapsOfDoubt s fails x (at_serial 0 c) (at_serial 0 d) w next
   doubt_named x it = record {
     known = known_named s many fails o e names c low w next InNoVolume (InVolume x.volume) it.known;
-    failed = record {
-      missed = λ v p r on. it.failed.missed v p r on ∙ missed_to v p r;
-      perhaps = λ v p r on has. elim (it.failed.perhaps v p r on has) [
-        | inl these ↦ inl these
-        | inr is ↦ inr (sym (perhaps_to v p r) ∙ is)
-      ];
-      doubt = it.failed.doubt;
-    };
+    failed = doubted_as w next (live c) (live d) (takes_part (at_serial 0 c)) (takes_part (at_serial 0 d)) x.volume (in_write x) (takes_is c) (takes_is d) it.failed;
   }
 
   pub added_named : AddMaps o e c d w next → MapsAdded s fails (at_serial 0 c) (at_serial 0 d) w next

@@ -1,5 +1,5 @@
 -- What is known of the regions that plexes missed, as a group that was deported comes up again.
-use Rattle.std.proofs.Common.{◌≡◌, ◌<◌, ◌&&◌, ℕ, Bool, true, false, List, length, refl, ap, inr}
+use Rattle.std.proofs.Common.{◌≡◌, ◌<◌, ◌&&◌, ℕ, Bool, true, false, List, length, refl, inr}
 use Rattle.std.proofs.lemmas.Bool.{lt-ltb, ltb-true}
 use Rattle.std.specs.Prelude.{Some, ltb, not}
 use Rattle.vx_config.specs.declared.config.Config.{Config}

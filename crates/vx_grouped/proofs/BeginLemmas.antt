@@ -168,10 +168,10 @@ module _ (m m' : Meaning) (n : Node) (can : CanBegin n m) (since : CalledSince m
       | inr some ↦ inr (failed some)
     ]
 
-module _ {R : Type 0} (g : Ghosts R) (rack : R) (n : Node) (site : ℕ) (can : CanBegin n (g.meaning rack)) where
-  one_config : (a b : Config) → Some a ≡ Some b → a ≡ b
-  one_config a b is = cc is
+one_config : (a b : Config) → Some a ≡ Some b → a ≡ b
+one_config a b is = cc is
 
+module _ {R : Type 0} (g : Ghosts R) (rack : R) (n : Node) (site : ℕ) (can : CanBegin n (g.meaning rack)) where
   begun_maps : (group : Laid R g) → LoggedFact group.core group.logs.items group.alike group.stopped (laid_disks group) → HasSpelling group.core.inner.config → group.core.inner.config.volumes ≡ [] → StandMaps (first_note group.core.inner) (Up group)
   begun_maps group stands has none = record {
     config = group.core.inner.config;

@@ -19,7 +19,6 @@ use Rattle.vx_logs.specs.Marks.{stride_of}
 use Rattle.vx_logs.specs.declared.logs.Logs.{Logs}
 use Rattle.vx_kept.specs.LogRuns.{log_place, run_or}
 use Rattle.vx_maplog.specs.Logs.{log_of}
-use Rattle.vx_volume.specs.Plexes.{active}
 use Rattle.vx_loggroup.specs.Attaching.{fmr_at}
 use Rattle.vx_loggroup.specs.LoggedVolumes.{is_alike}
 use Rattle.vx_loggroup.specs.Moving.{IsThere, MapTaken, goes_by}

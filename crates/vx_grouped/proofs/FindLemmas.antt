@@ -75,6 +75,9 @@ seen_lies n m can last w = record {
 no_fuse : (f : Fuse) (m : Meaning) → f ≡ NoFuse → IsFalse m.armed → HasFuse f m
 no_fuse f m is none = subst (λ (x : Fuse). HasFuse x m) (sym is) none
 
+one_config : (a b : Config) → Some a ≡ Some b → a ≡ b
+one_config a b is = cc is
+
 module _ {R : Type 0} {g : Ghosts R} (site : ℕ) (n : Node) (m : Meaning) (can : CanFind n m) (group : Laid R g) (was : IsRack m) (now : IsRack (laid_disks group)) (has : HasSpelling group.core.inner.config) (since : ReturnSince m (laid_disks group))
     (leaves : (k : Node) (note : GroupNode) (last : Config) → AwayLies k note last (untold m) → GroupReturns k note last (untold m) group.core (laid_disks group)) (w : MissedNote) (maps : PartsNoted w (laid_parts group)) where
   back : GroupReturns n (seen_note group.core.inner.config w) group.core.inner.config (untold m) group.core (laid_disks group)
@@ -102,9 +105,6 @@ module _ {R : Type 0} {g : Ghosts R} (site : ℕ) (n : Node) (m : Meaning) (can 
     cut = refl;
     inside = λ v. refl;
   }
-
-  one_config : (a b : Config) → Some a ≡ Some b → a ≡ b
-  one_config a b is = cc is
 
   -- what memory has of maps is noted
   found_maps : StandMaps note (Up group)

@@ -12,13 +12,13 @@ use Rattle.vx_copies.specs.Answers.{returned}
 use Rattle.vx_copyfmt.specs.Imports.{Found}
 use Rattle.vx_disk.specs.Shelf.{Each, Lawful, Meaning}
 use Rattle.vx_fmr.specs.Missed.{Missed}
-use Rattle.vx_group.specs.Holding.{wide}
 use Rattle.vx_group.specs.Resumes.{CanImport, stopped}
 use Rattle.vx_group.specs.declared.group_core.GroupCore.{GroupCore}
 use Rattle.vx_group.proofs.HoldLemmas.{narrow_on, wide_shape}
 use Rattle.vx_grouplogs.proofs.LogShape.{same_count}
 use Rattle.vx_history.specs.Groups.{MissedNote}
 use Rattle.vx_history.specs.Missing.{maps_none}
+use Rattle.vx_kept.specs.Commits.{IsCommitted}
 use Rattle.vx_kept.specs.Groups.{found}
 use Rattle.vx_kept.specs.Keeping.{frame_at}
 use Rattle.vx_kept.proofs.Chosen.{frames_volumes}
@@ -36,7 +36,6 @@ use Rattle.vx_maplog.specs.Logs.{log_of, log_or}
 use Rattle.vx_model.specs.Sizes.{map_blocks, regions_of}
 use Rattle.vx_model.specs.declared.limits.TheConstants.{MAP_REGIONS}
 use Rattle.vx_volume.specs.Plexes.{active}
-use Rattle.vx_grouped.specs.Away.{AllHave}
 use Rattle.vx_grouped.specs.MapsNoted.{MapsNoted}
 use Rattle.vx_grouped.specs.PlainMaps.{PartsBack, map_parts}
 use Rattle.vx_grouped.specs.SiteMaps.{BackMaps, IdleMaps, RisenMaps, StopsClean}
@@ -159,7 +158,7 @@ module _ {S : Type 0} (meaning : S → Meaning) (rested : Rested) (old : Meaning
   low_x : (v : ℕ) → v < length core.inner.config.volumes → v < length x.volumes
   low_x v low = subst (λ (n : ℕ). v < n) many_x low
 
-  module _ (c : Config) (tells : IsTrue new.tells) (all : AllHave c old) where
+  module _ (c : Config) (tells : IsTrue new.tells) (all : IsCommitted c old) where
     each : Each old.leaves it.resumed.taken.image
     each = each_told tells
 

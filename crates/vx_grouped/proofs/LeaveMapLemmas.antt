@@ -22,9 +22,9 @@ use Rattle.vx_history.specs.Groups.{MissedNote}
 use Rattle.vx_history.specs.Missing.{missed_then, no_plex, none_missed, perhaps_then}
 use Rattle.vx_kept.specs.Choice.{live, live_or}
 use Rattle.vx_kept.specs.Cleans.{cleaned}
-use Rattle.vx_kept.specs.Groups.{found}
+use Rattle.vx_kept.specs.Commits.{IsCommitted}
 use Rattle.vx_kept.specs.Keeping.{frame_at}
-use Rattle.vx_kept.specs.LogRuns.{log_place, log_trusted, trusted_or}
+use Rattle.vx_kept.specs.LogRuns.{log_place, log_trusted}
 use Rattle.vx_kept.proofs.Chosen.{frames_volumes}
 use Rattle.vx_kept.proofs.CleanLemmas.{all_clean}
 use Rattle.vx_kept.proofs.Narrower.{on_live}
@@ -42,7 +42,6 @@ use Rattle.vx_logs.specs.declared.logs.Logs.{Logs}
 use Rattle.vx_model.specs.Sizes.{map_blocks, regions_of}
 use Rattle.vx_model.specs.declared.limits.TheConstants.{MAP_REGIONS}
 use Rattle.vx_volume.specs.Plexes.{active}
-use Rattle.vx_grouped.specs.Away.{AllHave}
 use Rattle.vx_grouped.specs.MapsNoted.{MapsNoted, MapsOnDisk}
 use Rattle.vx_grouped.specs.PlainMaps.{PartsLeft, PartsMoved, map_parts, PartsStay}
 use Rattle.vx_grouped.specs.SiteMaps.{DiskMaps, MapsLike, MapsQuiet}
@@ -61,7 +60,7 @@ use Rattle.vx_group.specs.Dets.{DetStops, margin}
 use Rattle.vx_config.specs.Table.{greatest}
 use Rattle.vx_model.specs.declared.errors.Stop.{Stop}
 use Rattle.vx_model.specs.declared.errors.Stop.TheVariants.{No as Refused, OutOfMemory}
-use Rattle.vx_maplog.specs.Logs.{log_or}
+use Rattle.vx_maplog.specs.Logs.{log_or, used_or}
 
 -- ---- states of plexes
 
@@ -88,7 +87,7 @@ same_run (Some r) q there back = there r refl
 -- logs are trusted by volumes alone
 trusted_same : (x y : Config) → x.volumes ≡ y.volumes → (v : ℕ) → log_trusted x v Fmr ≡ true → log_trusted y v Fmr ≡ true
 unfolding log_trusted
-trusted_same x y same v is = ap (λ (vs : List VolumeEntry). trusted_or (log_or Fmr (slice_get vs v))) (sym same) ∙ is
+trusted_same x y same v is = ap (λ (vs : List VolumeEntry). used_or (log_or Fmr (slice_get vs v))) (sym same) ∙ is
 
 some_of : (o : Option Missed) → (o ≡ None → ⊥) → is_some o ≡ true
 some_of None none = absurd (none refl)
@@ -259,14 +258,14 @@ module _ (core : GroupCore) (logs : List Logs) (flags : List Bool) (s : Bool) (m
         let f = map_in logs core.inner.config s v (sym (noted.mapped v) ∙ on) in
         (rests_of core.inner.config s logs flags rested r rest is).maps v f.0 f.1
 
-    left_disks : AllHave d m' → DiskMaps left_note d m'
+    left_disks : IsCommitted d m' → DiskMaps left_note d m'
     left_disks all = record {
       each = λ i x each at.
           let one : x ≡ d = found_same d x (sym (all.finds i each) ∙ at) in
           subst (λ (y : Config). MapsOnDisk left_note d y i) (sym one) (on_disk (found_same left.config d (sym (left.finds i each) ∙ all.finds i each)) i each);
     }
 
-    left_known : AllHave d m' → (i : Image) → Each m'.leaves i → (r : Rested) (v : ℕ) (e : LogEntry) → rested ≡ Some r → rests r.maps v ≡ true → v < length d.volumes → InUse d v Fmr e → failed_at d.disks e.disk ≡ false → w.mapped v ≡ true
+    left_known : IsCommitted d m' → (i : Image) → Each m'.leaves i → (r : Rested) (v : ℕ) (e : LogEntry) → rested ≡ Some r → rests r.maps v ≡ true → v < length d.volumes → InUse d v Fmr e → failed_at d.disks e.disk ≡ false → w.mapped v ≡ true
     left_known all i each = was_known (found_same left.config d (sym (left.finds i each) ∙ all.finds i each))
 
   pub parts_left : PartsLeft (map_parts core.inner.config logs flags s) rested m m'

@@ -52,6 +52,7 @@ pub mod DiskMapLemmas
 pub mod WrittenMapLemmas
 pub mod SiteMapLemmas
 pub mod MoreMapLemmas
+pub mod DoubtedMapLemmas
 pub mod BackMapLemmas
 pub mod PlainMapLemmas
 pub mod UpMapLemmas

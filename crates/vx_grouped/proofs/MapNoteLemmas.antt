@@ -1,5 +1,5 @@
 -- What is noted of the regions that plexes missed leaves what else the disks of a site stand for as it is.
-use Rattle.std.proofs.Common.{◌≡◌, Bool, refl}
+use Rattle.std.proofs.Common.{Bool, refl}
 use Rattle.std.specs.Prelude.{Some}
 use Rattle.vx_config.specs.declared.config.Config.{Config}
 use Rattle.vx_disk.specs.Shelf.{Meaning}
@@ -9,7 +9,7 @@ use Rattle.vx_history.specs.Groups.{GroupNode, MissedNote}
 use Rattle.vx_history.specs.Missing.{with_maps}
 use Rattle.vx_history.specs.World.{Node}
 use Rattle.vx_grouped.specs.Away.{AwayLies}
-use Rattle.vx_grouped.specs.GroupNotes.{GroupLies, ImagesAre, IsGroupAt, IsGroupCut, NotesFound}
+use Rattle.vx_grouped.specs.GroupNotes.{GroupLies, ImagesAre, IsGroupAt, NotesFound}
 use Rattle.vx_grouped.specs.GroupSites.{AwayNoted, CutNoted, DownNoted, GroupAway, GroupDown, GroupFallen, GroupUp, NotesGroup, UpNoted}
 use Rattle.vx_grouped.specs.Plain.{HoldsPlain}
 use Rattle.vx_grouped.specs.declared.group_site.GroupSite.{GroupSite}

@@ -25,24 +25,25 @@ module _ (w : MissedNote) (c d : Config) (l k : List Logs) (s t : Bool) (a b : L
     (same : (v : ℕ) → goes_by k d t v ≡ true → (plexes_of d v ≡ plexes_of c v) × (copied_regions d v ≡ copied_regions c v)) (up : IsTrue m'.down → ⊥)
     (rack : (u : ℕ) → Rose (m.faults u) (m'.faults u) → Rose (m.disk_faults u) (m'.disk_faults u)) (ends : MapsEnd c d s t l k m m') (moves : t ≡ false → MapsMove c d none_missed no_plex l k) where
   -- by plexes that are ACTIVE or CLEAN
-  none_written : (next : MissedNote) → MapsWritten (length c.volumes) (active c) (active d) no_plex none_missed w next → MapsWritten (length c.volumes) (live c) (live d) no_plex none_missed w next
-  none_written next it = written_as w next (active c) (active d) (live c) (live d) no_plex none_missed (live_active c all_c) (live_active d all_d) (length c.volumes) it
+  none_written : (anew : ℕ → ℕ → Bool) (next : MissedNote) → MapsWritten (length c.volumes) (active c) (active d) anew none_missed w next → MapsWritten (length c.volumes) (live c) (live d) anew none_missed w next
+  none_written anew next it = written_as w next (active c) (active d) (live c) (live d) anew none_missed (live_active c all_c) (live_active d all_d) (length c.volumes) it
 
   -- a plex that was not detached: the logs of its volume may have begun
-  module _ (vol : ℕ) (begins : MapsBeginIn (this_volume vol) c d s t l k) (many : length d.volumes ≡ length c.volumes) (alike : (v : ℕ) → is_alike a v ≡ true → is_alike b v ≡ true) where
+  module _ (vol plex : ℕ) (still : active d vol plex ≡ active c vol plex) (begins : MapsBeginIn (this_volume vol) c d s t l k) (many : length d.volumes ≡ length c.volumes) (alike : (v : ℕ) → is_alike a v ≡ true → is_alike b v ≡ true) where
     abbrev undetached : MissedNote
     undetached = record (maps_written (goes_by k d t) d.serial (active c) (active d) no_plex none_missed w) { doubt = w.doubt }
 
     pub undet_noted : MapsNoted undetached d k b t
     undet_noted = noted_moved w c d l k s t a b (this_volume vol) noted same begins none_missed no_plex w.doubt moves (λ v lt sure. alike v (noted.alike v (subst (λ (n : ℕ). v < n) many lt) sure))
 
-    pub undet_maps : DetMapsFailed vol m m' c d w undetached
+    pub undet_maps : DetMapsFailed vol plex m m' c d w undetached
     undet_maps = record {
       known = stay_known w undetached c d l k s t a m m' noted (λ v. refl) refl up rack ends InNoVolume (InVolume vol) (λ v off on. eqb-true v vol (begins.so v off on).0);
-      written = none_written undetached (record { missed = λ v p r on. refl; perhaps = λ v p r on. refl; doubt = λ v lt. refl });
+      same = sym (live_active d all_d vol plex) ∙ still ∙ live_active c all_c vol plex;
+      written = none_written no_plex undetached (record { missed = λ v p r on. refl; perhaps = λ v p r on. refl; doubt = λ v lt. refl });
     }
 
-    pub undet_goes : (after : MissedNote) × DetMapsFailed vol m m' c d w after × MapsNoted after d k b t
+    pub undet_goes : (after : MissedNote) × DetMapsFailed vol plex m m' c d w after × MapsNoted after d k b t
     undet_goes = (undetached, undet_maps, undet_noted)
 
   -- a volume that was made: its plexes are alike, and its logs have not begun
@@ -79,7 +80,7 @@ module _ (w : MissedNote) (c d : Config) (l k : List Logs) (s t : Bool) (a b : L
     added_maps = record {
       called = record {
         known = stay_known w added c d l k s t a m m' noted (λ v. refl) refl up rack ends InNoVolume InNoVolume (λ v off on. let clash : false ≡ true = (begins.so v off on).0 in cc);
-        written = none_written added (record { missed = λ v p r on. refl; perhaps = λ v p r on. refl; doubt = λ v lt. ap (λ (q : Bool). not q && w.doubt v) (low_apart v (length c.volumes) lt) });
+        written = none_written no_plex added (record { missed = λ v p r on. refl; perhaps = λ v p r on. refl; doubt = λ v lt. ap (λ (q : Bool). not q && w.doubt v) (low_apart v (length c.volumes) lt) });
       };
       doubt = ap (λ (q : Bool). not q && w.doubt (length c.volumes)) (eq-eqb (length c.volumes) (length c.volumes) refl);
     }

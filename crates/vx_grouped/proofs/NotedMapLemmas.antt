@@ -7,7 +7,7 @@ use Rattle.vx_fmr.specs.Missed.{Missed, has_missed}
 use Rattle.vx_group.specs.Attaches.{copied_regions}
 use Rattle.vx_groupmaps.specs.Loading.{on_failed_disk}
 use Rattle.vx_history.specs.Groups.{MissedNote}
-use Rattle.vx_history.specs.Missing.{maps_doubted, maps_written, this_volume, missed_then, no_plex, none_missed, perhaps_then}
+use Rattle.vx_history.specs.Missing.{first_failed, maps_doubted, maps_written, this_volume, missed_then, no_plex, none_missed, perhaps_then}
 use Rattle.vx_logs.specs.declared.logs.Logs.{Logs}
 use Rattle.vx_volume.specs.Plexes.{active}
 use Rattle.vx_loggroup.specs.Attaching.{fmr_at}
@@ -80,6 +80,10 @@ or_right false y is = is
 or_left : (x y : Bool) → x ≡ true → (x || y) ≡ true
 or_left true y is = refl
 or_left false y is = let clash : false ≡ true = is in cc
+
+and_then : (x y : Bool) → (x && y) ≡ true → y ≡ true
+and_then true y is = is
+and_then false y is = let clash : false ≡ true = is in cc
 
 or_none : (x y : Bool) → (x || y) ≡ false → (x ≡ false) × (y ≡ false)
 or_none true y is = let clash : true ≡ false = is in cc
@@ -206,28 +210,37 @@ module _ (w : MissedNote) (c d : Config) (l k : List Logs) (s t : Bool) (a b : L
         by_least v p r g on at it off (inl here) = let clash : false ≡ true = here in cc
         by_least v p r g on at it off (inr had) = moves.stay v p r g at it had.off off (first_least v p r on it had)
 
-  -- a write that was refused
-  module _ (vol : ℕ) (these : ℕ → ℕ → Bool) (moves : t ≡ false → MapsDoubt c d these l k) (alike : (v : ℕ) → v < length d.volumes → this_volume vol v ≡ false → w.doubt v ≡ false → is_alike b v ≡ true) where
-    pub noted_doubted : MapsNoted (maps_doubted (goes_by k d t) d.serial (active c) (active d) vol these w) d k b t
+  -- a write that was refused, and whether copies may differ behind it
+  module _ (vol : ℕ) (these : ℕ → ℕ → Bool) (fell : Bool) (moves : t ≡ false → MapsDoubt c d these l k)
+      (alone : (v p r : ℕ) (g : Missed) → goes_by k d t v ≡ true → fmr_at k v ≡ Some g → IsThere c v p r → first_failed w vol fell (active c) v p ≡ true → has_missed g p r ≡ true → these v r ≡ true)
+      (alike : (v : ℕ) → v < length d.volumes → (this_volume vol v && fell) ≡ false → w.doubt v ≡ false → is_alike b v ≡ true) where
+    pub noted_doubted : MapsNoted (maps_doubted (goes_by k d t) d.serial (active c) (active d) vol fell these w) d k b t
     noted_doubted = record {
       mapped = λ v. refl;
-      most = λ v p r g on at it has. by_most v p r on (there v p r on it) ((moves (going k d t v on)).most v p r g at (there v p r on it) has);
+      most = λ v p r g on at it has. by_first v p r g on at (there v p r on it) has (first_failed w vol fell (active c) v p) refl;
       least = λ v p r g on at it off has. by_least v p r g on at (there v p r on it) off
           (had_b (active c v p) (w.mapped v) (w.missed v p r) false
-          (subst (λ (x : Bool). missed_b (active c v p) x (w.mapped v) (w.missed v p r) false ≡ true) off has));
-      alike = λ v low sure. alike v low (or_none (this_volume vol v) (w.doubt v) sure).0 (or_none (this_volume vol v) (w.doubt v) sure).1;
+          (subst (λ (x : Bool). missed_b (active c v p) x (w.mapped v) (w.missed v p r) false ≡ true) off
+          (and_then (not (first_failed w vol fell (active c) v p)) (missed_then w (active c) (active d) none_missed v p r) has)));
+      alike = λ v low sure. alike v low (or_none (w.doubt v) (this_volume vol v && fell) sure).1 (or_none (w.doubt v) (this_volume vol v && fell) sure).0;
       serial = refl;
     }
       where
-        either_way : (v p r : ℕ) → (missed_b (active c v p) (active d v p) (w.mapped v) (w.missed v p r) false ≡ true) ⊎ (perhaps_b (active c v p) (active d v p) false (w.mapped v) (w.missed v p r) (w.perhaps v p r) ≡ true)
-            → (missed_b (active c v p) (active d v p) (w.mapped v) (w.missed v p r) false ≡ true) ⊎ ((these v r || perhaps_b (active c v p) (active d v p) false (w.mapped v) (w.missed v p r) (w.perhaps v p r)) ≡ true)
+        either_way : (v p r : ℕ) → (missed_b (active c v p) (active d v p) (w.mapped v) (w.missed v p r) false ≡ true) ⊎ (perhaps_b (active c v p) (active d v p) false (w.mapped v) (w.missed v p r) (w.perhaps v p r) ≡ true) → (missed_b (active c v p) (active d v p) (w.mapped v) (w.missed v p r) false ≡ true) ⊎ ((these v r || perhaps_b (active c v p) (active d v p) false (w.mapped v) (w.missed v p r) (w.perhaps v p r)) ≡ true)
         either_way v p r (inl is) = inl is
         either_way v p r (inr is) = inr (or_right (these v r) _ is)
 
-        by_most : (v p r : ℕ) → goes_by k d t v ≡ true → IsThere c v p r → (these v r ≡ true) ⊎ (missed_in l c v p r ≡ true)
-            → (missed_b (active c v p) (active d v p) (w.mapped v) (w.missed v p r) false ≡ true) ⊎ ((these v r || perhaps_b (active c v p) (active d v p) false (w.mapped v) (w.missed v p r) (w.perhaps v p r)) ≡ true)
+        by_most : (v p r : ℕ) → goes_by k d t v ≡ true → IsThere c v p r → (these v r ≡ true) ⊎ (missed_in l c v p r ≡ true) → (missed_b (active c v p) (active d v p) (w.mapped v) (w.missed v p r) false ≡ true) ⊎ ((these v r || perhaps_b (active c v p) (active d v p) false (w.mapped v) (w.missed v p r) (w.perhaps v p r)) ≡ true)
         by_most v p r on it (inl here) = inr (or_left (these v r) _ here)
         by_most v p r on it (inr has) = either_way v p r (first_most v p r false (active d v p) false on it (λ _ _. refl) has)
+
+        -- by whether the plex took part, and no write failed before
+        by_first : (v p r : ℕ) (g : Missed) → goes_by k d t v ≡ true → fmr_at k v ≡ Some g → IsThere c v p r → has_missed g p r ≡ true → (x : Bool) → first_failed w vol fell (active c) v p ≡ x
+            → ((not (first_failed w vol fell (active c) v p) && missed_b (active c v p) (active d v p) (w.mapped v) (w.missed v p r) false) ≡ true) ⊎ ((these v r || (not (first_failed w vol fell (active c) v p) && perhaps_b (active c v p) (active d v p) false (w.mapped v) (w.missed v p r) (w.perhaps v p r))) ≡ true)
+        by_first v p r g on at it has true first = inr (or_left (these v r) _ (alone v p r g on at it first has))
+        by_first v p r g on at it has false first =
+            subst (λ (x : Bool). ((not x && missed_b (active c v p) (active d v p) (w.mapped v) (w.missed v p r) false) ≡ true) ⊎ ((these v r || (not x && perhaps_b (active c v p) (active d v p) false (w.mapped v) (w.missed v p r) (w.perhaps v p r))) ≡ true)) (sym first)
+            (by_most v p r on it ((moves (going k d t v on)).most v p r g at it has))
 
         by_least : (v p r : ℕ) (g : Missed) → goes_by k d t v ≡ true → fmr_at k v ≡ Some g → IsThere c v p r → active d v p ≡ false → (false ≡ true) ⊎ HadMissed (active c v p) (w.mapped v) (w.missed v p r) → has_missed g p r ≡ true
         by_least v p r g on at it off (inl here) = let clash : false ≡ true = here in cc

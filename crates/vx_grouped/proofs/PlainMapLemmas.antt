@@ -33,6 +33,7 @@ use Rattle.vx_model.specs.Sizes.{regions_of}
 use Rattle.vx_volume.specs.Plexes.{active}
 use Rattle.vx_grouped.specs.PlainMaps.{MapParts, PartsMoved, map_parts}
 use Rattle.vx_grouped.specs.SiteMaps.{DoubtMaps, WriteMaps}
+use Rattle.vx_grouped.proofs.DoubtedMapLemmas.{RunAlone}
 use Rattle.vx_grouped.proofs.SiteMapLemmas.{doubt_goes, write_goes}
 use Rattle.vx_grouped.proofs.WriteLemmas.{both_lose, rack_rises}
 
@@ -134,11 +135,12 @@ module _ (own : Write) (c d : GroupCore) (l k : List Logs) (s t : Bool) (a b : L
   apart_by v off is = let clash : false ≡ true = sym off ∙ eq-eqb v own.volume is in cc
 
   -- it was refused
-  pub doubted_parts : (t ≡ false → MapsDoubt c.inner.config d.inner.config (in_write own) l k) → ((v : ℕ) → (v ≡ own.volume → ⊥) → is_alike a v ≡ true → is_alike b v ≡ true)
-      → PartsMoved (DoubtMaps own m m') (map_parts c.inner.config l a s) (map_parts d.inner.config k b t) m'
-  doubted_parts moves alike = record {
+  pub doubted_parts : (t ≡ false → MapsDoubt c.inner.config d.inner.config (in_write own) l k) → (is_alike a own.volume ≡ true → t ≡ false → (IsTrue m'.down → ⊥) → is_alike b own.volume ≡ false → RunAlone c.inner.config k own.volume (in_write own))
+      → ((v : ℕ) → (v ≡ own.volume → ⊥) → is_alike a v ≡ true → is_alike b v ≡ true) → PartsMoved (DoubtMaps own m m') (map_parts c.inner.config l a s) (map_parts d.inner.config k b t) m'
+  doubted_parts moves alone alike = record {
     so = λ w up noted.
-        doubt_goes w c.inner.config d.inner.config l k s t a b m m' noted (narrow_on c m one) (narrow_on d m' two) same many up (rack_rose m m' was now) ends own begins moves (λ v off. alike v (apart_by v off));
+        doubt_goes w c.inner.config d.inner.config l k s t a b m m' noted (narrow_on c m one) (narrow_on d m' two) same many up (rack_rose m m' was now) ends own begins moves there
+        (λ sure going off. alone sure going up off) (λ v off. alike v (apart_by v off));
   }
 
 -- ---- a write, and the flush behind it
@@ -202,4 +204,4 @@ module _ (own : Write) (c e d : GroupCore) (l j k : List Logs) (s u t : Bool) (a
       (λ off.
       let on = going_on off in
       both_doubt c e d own.volume from_region to_region l j k counts_first blocks_first gone (rests on) (free on) behind (is_alike a own.volume) (moves on) (doubts on))
-      (λ v apart. flags_both v)
+      (λ sure going up off. absurd (let clash : true ≡ false = sym (flags_both own.volume sure) ∙ off in cc)) (λ v apart. flags_both v)

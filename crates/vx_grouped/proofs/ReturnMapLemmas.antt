@@ -7,6 +7,7 @@ use Rattle.vx_disk.specs.Shelf.{Each, Image, Meaning}
 use Rattle.vx_disk.specs.declared.shelf.Shelf.{Ghosts}
 use Rattle.vx_history.specs.Groups.{MissedNote}
 use Rattle.vx_history.specs.MapChanges.{MapsGone}
+use Rattle.vx_kept.specs.Commits.{IsCommitted}
 use Rattle.vx_kept.specs.Groups.{found}
 use Rattle.vx_kept.proofs.Low.{found_same}
 use Rattle.vx_logimport.specs.declared.rested.Rested.{Rested}
@@ -16,7 +17,6 @@ use Rattle.vx_model.specs.declared.no.No.TheVariants.{Down as IsOff}
 use Rattle.vx_untold.specs.Shades.{shade_meaning}
 use Rattle.vx_untold.specs.declared.shade.Shade.{Shade}
 use Rattle.vx_untold.specs.declared.shade.Shade.TheVariants.{Bright, Dark}
-use Rattle.vx_grouped.specs.Away.{AllHave}
 use Rattle.vx_grouped.specs.GroupSites.{idle_disks, laid_disks, site_disks}
 use Rattle.vx_grouped.specs.MapsNoted.{MapsNoted}
 use Rattle.vx_grouped.specs.PlainMaps.{PartsBack, laid_parts}
@@ -39,7 +39,7 @@ module _ (m m' : Meaning) (units : m'.units ≡ m.units) (size : (u : ℕ) → m
   less_found : (i : Image) → found m' i ≡ found m i
   less_found i = found_same m m' units size (λ u. true) i
 
-  pub less_all : (c : Config) → AllHave c m → AllHave c m'
+  pub less_all : (c : Config) → IsCommitted c m → IsCommitted c m'
   less_all c all = record { finds = λ i each. less_found i ∙ all.finds i (less_each i each) }
 
   less_disks : (w : MissedNote) (c : Config) → DiskMaps w c m → DiskMaps w c m'
@@ -56,6 +56,21 @@ module _ (m m' : Meaning) (units : m'.units ≡ m.units) (size : (u : ℕ) → m
 
   pub less_down : (w : MissedNote) (c : Config) (o : Option Rested) → DownMaps w c o m → DownMaps w c o m'
   less_down w c o it = record { disks = less_disks w c it.disks; rests = it.rests }
+
+  less_risen : (new : Meaning) (next : MissedNote) → RisenMaps m' new next → RisenMaps m new next
+  less_risen new next it = record {
+    mapped = it.mapped;
+    doubt = λ v is tells.
+        let some = it.doubt v is tells in
+        record {
+          image = some.image;
+          config = some.config;
+          each = less_each some.image some.each;
+          finds = sym (less_found some.image) ∙ some.finds;
+          clean = some.clean;
+          low = some.low;
+        };
+  }
 
 -- ---- counts that are the same
 
@@ -86,6 +101,13 @@ down_late OutOfMemory down early = let clash : false ≡ true = down in cc
 one_config : (a b : Config) → Some a ≡ Some b → a ≡ b
 one_config a b is = cc is
 
+-- disks as an import takes them: they keep no more
+pub record ReadyLess (old new : Meaning) : Type 0 where
+  pub units : new.units ≡ old.units
+  pub size : (u : ℕ) → new.size u ≡ old.size u
+  pub leaves : (u b : ℕ) (v : List ℕ) → new.leaves u b v → old.leaves u b v
+  pub counts : (k : ℕ) → new.disk_faults k ≡ old.disk_faults k
+
 module _ {R : Type 0} {g : Ghosts R} where
   -- ---- disks by themselves, under a site
 
@@ -98,21 +120,6 @@ module _ {R : Type 0} {g : Ghosts R} where
   -- ---- a group that came up
 
   module _ (old m1 : Meaning) (units : m1.units ≡ old.units) (size : (u : ℕ) → m1.size u ≡ old.size u) (leaves : (u b : ℕ) (v : List ℕ) → m1.leaves u b v → old.leaves u b v) (counts : (k : ℕ) → m1.disk_faults k ≡ old.disk_faults k) where
-    came_risen : (new : Meaning) (next : MissedNote) → RisenMaps m1 new next → RisenMaps old new next
-    came_risen new next it = record {
-      mapped = it.mapped;
-      doubt = λ v is tells.
-          let some = it.doubt v is tells in
-          record {
-            image = some.image;
-            config = some.config;
-            each = less_each old m1 units size leaves some.image some.each;
-            finds = sym (less_found old m1 units size leaves some.image) ∙ some.finds;
-            clean = some.clean;
-            low = some.low;
-          };
-    }
-
     -- by disks that keep no more
     pub came_from : (o : Option Rested) (new : GroupSite R g) → CameBack o m1 new → CameBack o old new
     came_from o new it = record {
@@ -120,7 +127,7 @@ module _ {R : Type 0} {g : Ghosts R} where
           let b = it.so w c d tells now (less_idle old m1 units size leaves w c o idle) in
           (b.0, from_back old m1 (site_disks new) counts c d w b.0 b.1, b.2);
       some = it.some;
-      none = λ d now not. let b = it.none d now not in (b.0, came_risen (site_disks new) b.0 b.1, b.2);
+      none = λ d now not. let b = it.none d now not in (b.0, less_risen old m1 units size leaves (site_disks new) b.0 b.1, b.2);
     }
 
     pub came_up : (laid : Laid R g) (rested : Rested) → PartsBack rested m1 (laid_parts laid) (laid_disks laid) → CameBack (Some rested) old (Up laid)
@@ -132,16 +139,10 @@ module _ {R : Type 0} {g : Ghosts R} where
       some = λ d now. subst (λ (y : Config). (w : MissedNote) × MapsNoted w y laid.logs.items laid.alike laid.stopped) (one_config laid.core.inner.config d now) it.some;
       none = λ d now not.
           let b = it.none (not.none rested refl) in
-          subst (λ (y : Config). (next : MissedNote) × RisenMaps old (laid_disks laid) next × MapsNoted next y laid.logs.items laid.alike laid.stopped) (one_config laid.core.inner.config d now) (b.0, came_risen (laid_disks laid) b.0 b.1, b.2);
+          subst (λ (y : Config). (next : MissedNote) × RisenMaps old (laid_disks laid) next × MapsNoted next y laid.logs.items laid.alike laid.stopped) (one_config laid.core.inner.config d now) (b.0, less_risen old m1 units size leaves (laid_disks laid) b.0 b.1, b.2);
     }
 
   -- ---- disks as an import takes them
-
-  pub record ReadyLess (old new : Meaning) : Type 0 where
-    pub units : new.units ≡ old.units
-    pub size : (u : ℕ) → new.size u ≡ old.size u
-    pub leaves : (u b : ℕ) (v : List ℕ) → new.leaves u b v → old.leaves u b v
-    pub counts : (k : ℕ) → new.disk_faults k ≡ old.disk_faults k
 
   ready_less : (agreed : Bool) (s : Shade R) → ReadyLess (shade_meaning g.meaning s) (shade_meaning g.meaning (ready_of agreed s))
   ready_less true s = record { units = refl; size = λ u. refl; leaves = λ u b v left. left; counts = λ k. refl }

@@ -7,7 +7,6 @@ use Rattle.vx_disk.specs.Shelf.{Meaning}
 use Rattle.vx_history.specs.Groups.{GroupNode}
 use Rattle.vx_kept.specs.Cleans.{at_serial}
 use Rattle.vx_kept.proofs.Chosen.{active_volumes}
-use Rattle.vx_volume.specs.Plexes.{active}
 use Rattle.vx_grouped.specs.Away.{AllRun}
 use Rattle.vx_grouped.specs.GroupNotes.{NotesFound, noted_try}
 use Rattle.vx_grouped.specs.SiteMaps.{StoppedSome}

@@ -1,6 +1,6 @@
 -- What calls of a group make of the regions that plexes missed, as its site notes them, by what they make of the maps in memory.
 use Rattle.std.proofs.Common.{◌≡◌, ◌⊎◌, ◌<◌, ◌&&◌, ◌||◌, ℕ, Bool, true, false, List, length, refl, sym, ◌∙◌, ap, subst, IsTrue, inl, inr}
-use Rattle.std.specs.Prelude.{not, ◌==◌, Option}
+use Rattle.std.specs.Prelude.{not, ◌==◌, Option, Some}
 use Rattle.std.proofs.lemmas.Bool.{eqb-true}
 use Rattle.vx_model.specs.Content.{Write}
 use Rattle.vx_config.specs.Checks.{plexes_of}
@@ -10,18 +10,20 @@ use Rattle.vx_disk.specs.Shelf.{Meaning}
 use Rattle.vx_group.specs.Attaches.{copied_regions}
 use Rattle.vx_history.specs.Groups.{MissedNote}
 use Rattle.vx_history.specs.MapChanges.{InNoVolume, InVolume, MapsWritten, TookRow}
-use Rattle.vx_history.specs.Missing.{each_anew, in_write, maps_doubted, maps_written, no_plex, none_missed, one_anew, this_volume, perhaps_then}
+use Rattle.vx_history.specs.Missing.{each_anew, first_failed, in_write, maps_doubted, maps_written, no_plex, none_missed, one_anew, this_volume, perhaps_then}
 use Rattle.vx_kept.specs.Choice.{live}
 use Rattle.vx_kept.specs.Keeping.{AllOn}
 use Rattle.vx_logs.specs.declared.logs.Logs.{Logs}
 use Rattle.vx_volume.specs.Plexes.{active}
 use Rattle.vx_loggroup.specs.LoggedVolumes.{is_alike}
-use Rattle.vx_loggroup.specs.Moving.{MapsBeginIn, MapsDoubt, MapsEnd, MapsMove, goes_by, missed_in, MapsAttach, MovesAtt, missed_by}
+use Rattle.vx_loggroup.specs.Attaching.{fmr_at}
+use Rattle.vx_loggroup.specs.Moving.{IsThere, MapsBeginIn, MapsDoubt, MapsEnd, MapsMove, goes_by, missed_in, MapsAttach, MovesBy, missed_by}
 use Rattle.vx_grouped.specs.MapsNoted.{MapsNoted}
 use Rattle.vx_grouped.specs.SiteMaps.{DetMapsDone, DoubtMaps, MapsLike, WriteMaps, AttMaps}
-use Rattle.vx_grouped.proofs.NotedMapLemmas.{noted_doubted, noted_moved, joined_note, map_in, noted_joined}
-use Rattle.vx_grouped.proofs.WrittenMapLemmas.{live_active, perhaps_as, missed_as, stay_known, written_as, on_count}
-use Rattle.vx_fmr.specs.Missed.{Missed}
+use Rattle.vx_grouped.proofs.DoubtedMapLemmas.{RunAlone}
+use Rattle.vx_grouped.proofs.NotedMapLemmas.{going, noted_doubted, noted_moved, joined_note, map_in, noted_joined}
+use Rattle.vx_grouped.proofs.WrittenMapLemmas.{doubted_as, live_active, perhaps_as, missed_as, stay_known, written_as, on_count}
+use Rattle.vx_fmr.specs.Missed.{Missed, has_missed}
 
 -- fewer maps that are said to begin anew
 pub move_weaker : (c d : Config) (these anew less : ℕ → ℕ → Bool) (l k : List Logs) → ((v p : ℕ) → less v p ≡ true → anew v p ≡ true) → MapsMove c d these anew l k → MapsMove c d these less l k
@@ -170,7 +172,7 @@ module _ (w : MissedNote) (c d : Config) (l k : List Logs) (s t : Bool) (a b : L
       joined_goes : (after : MissedNote) × AttMaps vol plex m m' c d w after × MapsNoted after d k b t
       joined_goes = (joined, joined_maps, noted_joined w c d l k s t a b (λ v. false) noted same begins vol plex row moves noted_row (λ v lt sure. alike v (noted.alike v (was_low v lt) sure)))
 
-    pub att_goes : (x : Bool) → MovesAtt x c d vol plex l k → (x ≡ false → (vol < length c.volumes) × (is_alike a vol ≡ false)) → (after : MissedNote) × AttMaps vol plex m m' c d w after × MapsNoted after d k b t
+    pub att_goes : (x : Bool) → MovesBy x c d vol plex l k → (x ≡ false → (vol < length c.volumes) × (is_alike a vol ≡ false)) → (after : MissedNote) × AttMaps vol plex m m' c d w after × MapsNoted after d k b t
     att_goes true moves sure = (held, like_att (like_maps begins (λ off. moves) alike), like_noted begins (λ off. moves) alike)
     att_goes false moves sure = joined_goes moves (sure refl).0 (sure refl).1
 
@@ -206,32 +208,54 @@ module _ (w : MissedNote) (c d : Config) (l k : List Logs) (s t : Bool) (a b : L
     det_goes = (without, det_maps, det_noted)
 
   -- a write that was refused
-  module _ (x : Write) (begins : MapsBeginIn (this_volume x.volume) c d s t l k) (moves : t ≡ false → MapsDoubt c d (in_write x) l k) (alike : (v : ℕ) → this_volume x.volume v ≡ false → is_alike a v ≡ true → is_alike b v ≡ true) where
+  module _ (x : Write) (begins : MapsBeginIn (this_volume x.volume) c d s t l k) (moves : t ≡ false → MapsDoubt c d (in_write x) l k) (low : x.volume < length c.volumes)
+      (alone : is_alike a x.volume ≡ true → t ≡ false → is_alike b x.volume ≡ false → RunAlone c k x.volume (in_write x)) (alike : (v : ℕ) → this_volume x.volume v ≡ false → is_alike a v ≡ true → is_alike b v ≡ true) where
+    abbrev fell : Bool
+    fell = not (is_alike b x.volume)
+
     abbrev doubted : MissedNote
-    doubted = maps_doubted (goes_by k d t) d.serial (active c) (active d) x.volume (in_write x) w
+    doubted = maps_doubted (goes_by k d t) d.serial (active c) (active d) x.volume fell (in_write x) w
+
+    -- where its plexes were alike before, and are not, the maps have the regions of the write alone
+    first_alone : (v p r : ℕ) (g : Missed) → goes_by k d t v ≡ true → fmr_at k v ≡ Some g → IsThere c v p r → first_failed w x.volume fell (active c) v p ≡ true → has_missed g p r ≡ true → in_write x v r ≡ true
+    first_alone v p r g on at it first has = by (this_volume x.volume v) refl (active c v p) refl (w.doubt v) refl (is_alike b x.volume) refl first
+      where
+        by : (y : Bool) → this_volume x.volume v ≡ y → (u : Bool) → active c v p ≡ u → (z : Bool) → w.doubt v ≡ z → (q : Bool) → is_alike b x.volume ≡ q → (y && (u && (not z && not q))) ≡ true → in_write x v r ≡ true
+        by true here true part false none false off is =
+            let volume : v ≡ x.volume = eqb-true v x.volume here in
+            let was : is_alike a x.volume ≡ true = noted.alike x.volume low (subst (λ (n : ℕ). w.doubt n ≡ false) volume none) in
+            subst (λ (n : ℕ). in_write x n r ≡ true) (sym volume)
+            ((alone was (going k d t v on) off).so p r g (subst (λ (n : ℕ). fmr_at k n ≡ Some g) volume at) (subst (λ (n : ℕ). IsThere c n p r) volume it) (subst (λ (n : ℕ). active c n p ≡ true) volume part) has)
+        by true here true part false none true off is = let clash : false ≡ true = is in cc
+        by true here true part true none q off is = let clash : false ≡ true = is in cc
+        by true here false part z none q off is = let clash : false ≡ true = is in cc
+        by false here u part z none q off is = let clash : false ≡ true = is in cc
+
+    still_alike : (v : ℕ) → v < length d.volumes → (this_volume x.volume v && fell) ≡ false → w.doubt v ≡ false → is_alike b v ≡ true
+    still_alike v lt none sure = by (this_volume x.volume v) refl (is_alike b x.volume) refl none
+      where
+        by : (y : Bool) → this_volume x.volume v ≡ y → (q : Bool) → is_alike b x.volume ≡ q → (y && not q) ≡ false → is_alike b v ≡ true
+        by false here q is out = alike v here (noted.alike v (was_low v lt) sure)
+        by true here true is out = subst (λ (n : ℕ). is_alike b n ≡ true) (sym (eqb-true v x.volume here)) is
+        by true here false is out = let clash : true ≡ false = out in cc
 
     pub doubt_noted : MapsNoted doubted d k b t
-    doubt_noted = noted_doubted w c d l k s t a b (this_volume x.volume) noted same begins x.volume (in_write x) moves (λ v lt apart sure. alike v apart (noted.alike v (was_low v lt) sure))
+    doubt_noted = noted_doubted w c d l k s t a b (this_volume x.volume) noted same begins x.volume (in_write x) fell moves first_alone still_alike
 
-    either : (y z u : Bool) → z ≡ u → (y || z) ≡ true → (y ≡ true) ⊎ (u ≡ true)
-    either true z u same is = inl refl
-    either false z u same is = inr (sym same ∙ is)
-
-    none_of : (v : ℕ) → (v ≡ x.volume → ⊥) → (this_volume x.volume v || w.doubt v) ≡ w.doubt v
-    none_of v apart = by (this_volume x.volume v) refl
-      where
-        by : (y : Bool) → this_volume x.volume v ≡ y → (this_volume x.volume v || w.doubt v) ≡ w.doubt v
-        by true here = absurd (apart (eqb-true v x.volume here))
-        by false here = ap (λ (q : Bool). q || w.doubt v) here
+    or_first : (y z q : Bool) → (y || (not z && q)) ≡ true → (y ≡ true) ⊎ ((z ≡ false) × (q ≡ true))
+    or_first true z q is = inl refl
+    or_first false false q is = inr (refl, is)
+    or_first false true q is = absurd (let clash : false ≡ true = is in cc)
 
     pub doubt_maps : DoubtMaps x m m' c d w doubted
     doubt_maps = record {
       known = stay_known w doubted c d l k s t a m m' noted (λ v. refl) refl up rack ends InNoVolume (InVolume x.volume) (λ v off on. eqb-true v x.volume (begins.so v off on).0);
-      failed = record {
-        missed = λ v p r on. missed_as w doubted (active c) (active d) (live c) (live d) no_plex none_missed (live_active c all_c) (live_active d all_d) v p r;
-        perhaps = λ v p r on is. either (in_write x v r) _ _ (perhaps_as w doubted (active c) (active d) (live c) (live d) no_plex none_missed (live_active c all_c) (live_active d all_d) v p r) is;
-        doubt = λ v apart. none_of v apart;
-      };
+      failed = doubted_as w doubted (active c) (active d) (live c) (live d) x.volume (in_write x) (live_active c all_c) (live_active d all_d) (record {
+        fell = fell;
+        missed = λ v p r on. refl;
+        perhaps = λ v p r on is. or_first (in_write x v r) (first_failed w x.volume fell (active c) v p) (perhaps_then w (active c) (active d) no_plex v p r) is;
+        doubt = λ v. refl;
+      });
     }
 
     pub doubt_goes : (after : MissedNote) × DoubtMaps x m m' c d w after × MapsNoted after d k b t

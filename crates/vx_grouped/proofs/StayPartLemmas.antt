@@ -21,7 +21,7 @@ use Rattle.vx_model.specs.declared.errors.Stop.TheVariants.{No as Refused, OutOf
 use Rattle.vx_model.specs.declared.no.No.{No}
 use Rattle.vx_model.specs.declared.no.No.TheVariants.{Device, Down as IsOff}
 use Rattle.vx_grouped.specs.MapsNoted.{MapsNoted}
-use Rattle.vx_grouped.specs.PlainMaps.{MapParts, PartsStay, laid_parts, map_parts}
+use Rattle.vx_grouped.specs.PlainMaps.{PartsStay, laid_parts, map_parts}
 use Rattle.vx_grouped.specs.SiteEnds.{stops_down}
 use Rattle.vx_grouped.specs.SiteMaps.{MapsQuiet, StaysMapped}
 use Rattle.vx_grouped.specs.declared.group_site.GroupSite.TheVariants.{Up}
@@ -97,7 +97,7 @@ quiet_cause P m m' other cause = absurd cause
 -- by a test that refuses
 pub quiet_test : (P : Type 0) (m m' : Meaning) (o : Option No) (why : No) → ((no : No) → o ≡ Some no → P) → (o ≡ None → DeviceCause m m' why) → MapsQuiet (Refused why) P
 quiet_test P m m' None why stays cause = quiet_cause P m m' why (cause refl)
-quiet_test P m m' (Some no) why stays cause = quiet_any P (Refused why) (stays no refl)
+quiet_test P m m' (Some which) why stays cause = quiet_any P (Refused why) (stays which refl)
 
 pub quiet_unmoved : (A P : Type 0) (stop : Stop) → (A → P) → Unmoved {T = ℕ} (Err stop) A → MapsQuiet stop P
 quiet_unmoved A P (Refused (Device disk)) f it = tt

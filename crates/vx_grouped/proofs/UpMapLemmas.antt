@@ -1,5 +1,5 @@
 -- What calls of a group that is up make of what its site notes of its maps.
-use Rattle.std.proofs.Common.{◌≡◌, ◌∙◌, ℕ, ap, refl, sym, subst, false, IsTrue}
+use Rattle.std.proofs.Common.{◌≡◌, ◌∙◌, ℕ, ap, refl, sym, subst, false, true, IsTrue}
 use Rattle.std.specs.Prelude.{None, Some, Err, Ok}
 use Rattle.vx_config.specs.declared.config.Config.{Config}
 use Rattle.vx_disk.specs.Shelf.{Meaning}
@@ -27,7 +27,7 @@ one_config a b is = cc is
 -- behind a write that answers no 6 the disks are up
 pub up_still : (n : Node) (note : GroupNode) (own : Write) (core : GroupCore) (m : Meaning) (no : No) → answers_down no ≡ false → WriteLeaves {T = Unit {0}} n note own core m (Err no) → IsTrue m.down → ⊥
 up_still n note own core m (Device disk) off leaves = leaves.1.up
-up_still n note own core m IsOff off leaves = cc
+up_still n note own core m IsOff off leaves = absurd (let clash : true ≡ false = off in cc)
 up_still n note own core m other off leaves = absurd leaves
 
 module _ {R : Type 0} {g : Ghosts R} where

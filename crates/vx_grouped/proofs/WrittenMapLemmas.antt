@@ -8,11 +8,11 @@ use Rattle.vx_config.specs.declared.entry.LogEntry.{LogEntry}
 use Rattle.vx_config.specs.declared.entry.VolumeLog.TheVariants.{Fmr}
 use Rattle.vx_disk.specs.Counts.{Rose}
 use Rattle.vx_disk.specs.Shelf.{Meaning}
-use Rattle.vx_history.specs.MapChanges.{MapsGone, MapsWritten, StayKnown}
-use Rattle.vx_history.specs.Missing.{missed_then, perhaps_then}
-use Rattle.vx_kept.specs.LogRuns.{log_trusted, trusted_or}
+use Rattle.vx_history.specs.MapChanges.{MapsFailed, MapsGone, MapsWritten, StayKnown}
+use Rattle.vx_history.specs.Missing.{first_failed, missed_then, no_plex, none_missed, perhaps_then, this_volume}
+use Rattle.vx_kept.specs.LogRuns.{log_trusted}
 use Rattle.vx_logs.specs.declared.logs.Logs.{Logs}
-use Rattle.vx_maplog.specs.Logs.{log_of}
+use Rattle.vx_maplog.specs.Logs.{log_of, used_or}
 use Rattle.vx_loggroup.specs.Moving.{MapsEnd, goes_by}
 use Rattle.vx_grouped.specs.MapsNoted.{MapsNoted}
 use Rattle.vx_grouped.specs.SiteMaps.{FailedAt, map_disk_of, map_disk_or}
@@ -45,6 +45,25 @@ module _ (w next : MissedNote) (was now was' now' anew these : ℕ → ℕ → B
     doubt = it.doubt;
   }
 
+-- the same of a write that failed
+module _ (w next : MissedNote) (was now was' now' : ℕ → ℕ → Bool) (vol : ℕ) (these : ℕ → ℕ → Bool) (before : (v p : ℕ) → was v p ≡ was' v p) (behind : (v p : ℕ) → now v p ≡ now' v p) where
+  first_failed_as : (fell : Bool) (v p : ℕ) → first_failed w vol fell was v p ≡ first_failed w vol fell was' v p
+  first_failed_as fell v p = ap (λ (x : Bool). this_volume vol v && (x && (not (w.doubt v) && fell))) (before v p)
+
+  pub doubted_as : MapsFailed vol was now these w next → MapsFailed vol was' now' these w next
+  doubted_as it = record {
+    fell = it.fell;
+    missed = λ v p r on.
+        it.missed v p r on ∙ ap (λ (x : Bool). not x && missed_then w was now none_missed v p r) (first_failed_as it.fell v p)
+        ∙ ap (λ (y : Bool). not (first_failed w vol it.fell was' v p) && y) (missed_as w next was now was' now' no_plex none_missed before behind v p r);
+    perhaps = λ v p r on has. by v p r (it.perhaps v p r on has);
+    doubt = it.doubt;
+  }
+    where
+      by : (v p r : ℕ) → (these v r ≡ true) ⊎ ((first_failed w vol it.fell was v p ≡ false) × (perhaps_then w was now no_plex v p r ≡ true)) → (these v r ≡ true) ⊎ ((first_failed w vol it.fell was' v p ≡ false) × (perhaps_then w was' now' no_plex v p r ≡ true))
+      by v p r (inl here) = inl here
+      by v p r (inr (first, is)) = inr (sym (first_failed_as it.fell v p) ∙ first, sym (perhaps_as w next was now was' now' no_plex none_missed before behind v p r) ∙ is)
+
 -- each plex that takes part is ACTIVE
 pub live_active : (c : Config) → AllOn c → (v p : ℕ) → active c v p ≡ live c v p
 live_active c all v p = by (active c v p) (live c v p) (λ on. on_live c v p on) (λ on. all.each v p on)
@@ -69,7 +88,7 @@ on_count c v p on = by (slice_get c.volumes v) on
 
 -- ---- which maps are known
 
-disk_of : (o : Option LogEntry) → trusted_or o ≡ false → map_disk_or o ≡ None
+disk_of : (o : Option LogEntry) → used_or o ≡ false → map_disk_or o ≡ None
 disk_of None is = refl
 disk_of (Some e) is = by e.lost refl is
   where

@@ -12,7 +12,7 @@ use Rattle.vx_model.specs.Content.{Write}
 use Rattle.vx_model.specs.declared.errors.Stop.{Stop}
 use Rattle.vx_model.specs.declared.no.No.{No}
 use Rattle.vx_volume.specs.Plexes.{active}
-use Rattle.vx_grouped.specs.Away.{AllHave}
+use Rattle.vx_kept.specs.Commits.{IsCommitted}
 use Rattle.vx_grouped.specs.MapsNoted.{CopiesNoted, MapsNoted}
 use Rattle.vx_grouped.specs.declared.laid.Laid.{Laid}
 use Rattle.vx_grouped.specs.SiteMaps.{AddMaps, AttMaps, BackMaps, DetMapsDone, DetMapsFailed, DoubtMaps, IdleMaps, MapsLike, RisenMaps, WriteMaps, MapsQuiet}
@@ -54,7 +54,7 @@ WritesMaps own x m y m' (Err why) = PartsMoved (DoubtMaps own m m') x y m'
 
 abbrev pub DetsMaps : (vol plex : ℕ) → MapParts → Meaning → MapParts → Meaning → Result (Unit {0}) Stop → Type 0
 DetsMaps vol plex x m y m' (Ok done) = PartsMoved (DetMapsDone vol plex m m') x y m'
-DetsMaps vol plex x m y m' (Err stop) = RefusedMaps (DetMapsFailed vol m m') stop x y m'
+DetsMaps vol plex x m y m' (Err stop) = RefusedMaps (DetMapsFailed vol plex m m') stop x y m'
 
 -- an attach: so many regions are copied
 abbrev pub AttsMaps : (vol plex : ℕ) → MapParts → Meaning → MapParts → Meaning → Result ℕ Stop → Type 0
@@ -67,7 +67,7 @@ AddsMaps x m y m' (Err stop) = RefusedMaps (MapsLike m m') stop x y m'
 
 -- A deport: whatever was noted of the maps, the disks have it, by the configuration that each image has.
 pub record PartsLeft (x : MapParts) (rested : Option Rested) (old new : Meaning) : Type 0 where
-  pub so : (w : MissedNote) (d : Config) → PartsNoted w x → AllHave d new → (next : MissedNote) × MapsLike old new x.config d w next × IdleMaps next d rested new
+  pub so : (w : MissedNote) (d : Config) → PartsNoted w x → IsCommitted d new → (next : MissedNote) × MapsLike old new x.config d w next × IdleMaps next d rested new
 
 -- or it is refused, and the group is given back
 abbrev pub LeavesMaps : {S G : Type 0} → MapParts → Meaning → (S → Meaning) → (G → MapParts) → (G → Meaning) → Result (S × Option Rested) (G × Stop) → Type 0

@@ -1,5 +1,5 @@
 -- What calls on a site's group make of the regions that plexes missed, as the site notes them.
-use Rattle.std.specs.Prelude.{◌≡◌, ◌<◌, ℕ, true, Bool, false, if◌then◌else◌, IsTrue, length, Option, Some, None, Result, Ok, Err}
+use Rattle.std.specs.Prelude.{◌≡◌, ◌<◌, ℕ, true, false, if◌then◌else◌, IsTrue, length, Option, Some, None, Result, Ok, Err}
 use Rattle.vx_model.specs.Content.{Write}
 use Rattle.vx_config.specs.Configs.{HasSpelling}
 use Rattle.vx_config.specs.declared.config.Config.{Config}
@@ -15,6 +15,7 @@ use Rattle.vx_history.specs.MapChanges.{InNoVolume, InVolume, MapsBack, MapsFail
 use Rattle.vx_history.specs.Missing.{each_anew, in_write, no_plex, none_missed, one_anew}
 use Rattle.vx_kept.specs.Choice.{live}
 use Rattle.vx_kept.specs.Cleans.{at_serial}
+use Rattle.vx_kept.specs.Commits.{IsCommitted}
 use Rattle.vx_kept.specs.Groups.{found}
 use Rattle.vx_logimport.specs.Rests.{RestsNone, rests}
 use Rattle.vx_logimport.specs.declared.rested.Rested.{Rested}
@@ -25,7 +26,6 @@ use Rattle.vx_model.specs.declared.errors.Stop.TheVariants.{No as Refused, OutOf
 use Rattle.vx_model.specs.declared.no.No.{No}
 use Rattle.vx_model.specs.declared.no.No.TheVariants.{Device, Down as IsOff}
 use Rattle.vx_volume.specs.Plexes.{active}
-use Rattle.vx_grouped.specs.Away.{AllHave}
 use Rattle.vx_grouped.specs.GroupNotes.{noted_config}
 use Rattle.vx_grouped.specs.GroupSites.{idle_disks, site_config, site_disks}
 use Rattle.vx_grouped.specs.SiteReturns.{stops_early}
@@ -40,7 +40,7 @@ pub record DiskMaps (w : MissedNote) (c : Config) (m : Meaning) : Type 0 where
 -- The disks of a group that was deported have what is noted, by the configuration that each image has; and a value says which volumes rest: of those the maps are
 -- known, where the log is in use and its disk held as good.
 pub record IdleMaps (w : MissedNote) (c : Config) (rested : Option Rested) (m : Meaning) : Type 0 where
-  pub all : AllHave c m
+  pub all : IsCommitted c m
   pub disks : DiskMaps w c m
   pub alike : (r : Rested) → rested ≡ Some r → (v : ℕ) → v < length c.volumes → w.doubt v ≡ false → rests r.alike v ≡ true
   pub maps : (r : Rested) → rested ≡ Some r → (v : ℕ) → w.mapped v ≡ true → rests r.maps v ≡ true
@@ -93,16 +93,16 @@ pub record MapsLike (old new : Meaning) (c d : Config) (w next : MissedNote) : T
   pub known : StayKnown (FailedAt old new) InNoVolume InNoVolume (map_disk_of c) w next
   pub written : MapsWritten (length c.volumes) (live c) (live d) no_plex none_missed w next
 
--- a plex was detached, or it was not
-pub record DetMaps (anew : MissedNote → ℕ → ℕ → Bool) (vol : ℕ) (old new : Meaning) (c d : Config) (w next : MissedNote) : Type 0 where
+-- a plex was detached
+pub record DetMapsDone (vol plex : ℕ) (old new : Meaning) (c d : Config) (w next : MissedNote) : Type 0 where
   pub known : StayKnown (FailedAt old new) InNoVolume (InVolume vol) (map_disk_of c) w next
-  pub written : MapsWritten (length c.volumes) (live c) (live d) (anew w) none_missed w next
+  pub written : MapsWritten (length c.volumes) (live c) (live d) (one_anew w vol plex) none_missed w next
 
-abbrev pub DetMapsDone : (vol plex : ℕ) → Meaning → Meaning → Config → Config → MissedNote → MissedNote → Type 0
-DetMapsDone vol plex old new c d = DetMaps (λ w. one_anew w vol plex) vol old new c d
-
-abbrev pub DetMapsFailed : (vol : ℕ) → Meaning → Meaning → Config → Config → MissedNote → MissedNote → Type 0
-DetMapsFailed vol old new c d = DetMaps (λ w. no_plex) vol old new c d
+-- or it was not, as a disk failed: it takes part as it did
+pub record DetMapsFailed (vol plex : ℕ) (old new : Meaning) (c d : Config) (w next : MissedNote) : Type 0 where
+  pub known : StayKnown (FailedAt old new) InNoVolume (InVolume vol) (map_disk_of c) w next
+  pub same : live d vol plex ≡ live c vol plex
+  pub written : MapsWritten (length c.volumes) (live c) (live d) no_plex none_missed w next
 
 -- a plex was attached
 pub record AttMaps (vol plex : ℕ) (old new : Meaning) (c d : Config) (w next : MissedNote) : Type 0 where
@@ -188,7 +188,7 @@ module _ {R : Type 0} {g : Ghosts R} where
 
   abbrev pub DetMapped : (vol plex : ℕ) → GroupSite R g → GroupSite R g → Result (Unit {0}) Stop → Type 0
   DetMapped vol plex old new (Ok done) = UpMaps (DetMapsDone vol plex) old new
-  DetMapped vol plex old new (Err stop) = UpMaps (DetMapsFailed vol) old new × MapsQuiet stop (StaysMapped old new)
+  DetMapped vol plex old new (Err stop) = UpMaps (DetMapsFailed vol plex) old new × MapsQuiet stop (StaysMapped old new)
 
   -- and so many regions are copied
   abbrev pub AttMapped : (vol plex : ℕ) → GroupSite R g → GroupSite R g → Result ℕ Stop → Type 0
@@ -198,7 +198,7 @@ module _ {R : Type 0} {g : Ghosts R} where
 
   -- a deport: the disks have what was in memory; or it was refused
   abbrev pub DeportMapped : GroupSite R g → GroupSite R g → Result (Unit {0}) Stop → Type 0
-  DeportMapped old new (Ok done) = (c d : Config) → site_config old ≡ Some c → AllHave d (site_disks new) → MapsMoved (MapsLike (site_disks old) (site_disks new) c d) c d old new
+  DeportMapped old new (Ok done) = (c d : Config) → site_config old ≡ Some c → IsCommitted d (site_disks new) → MapsMoved (MapsLike (site_disks old) (site_disks new) c d) c d old new
   DeportMapped old new (Err stop) = UpMaps MapsLike old new × MapsQuiet stop (StaysMapped old new)
 
   -- an import of disks, with a value that says which volumes rest: what is noted goes on; and something may be noted, whatever the disks were

@@ -6,30 +6,30 @@ use Rattle.vx_history.specs.Groups.{MissedNote}
 use Rattle.vx_history.specs.Missing.{CopiesMissed, count_regions, each_anew, in_write, maps_doubted, maps_none, maps_written, no_plex, none_missed, one_anew, this_volume}
 
 -- both plexes take part, and the first alone
-both : ℕ → ℕ → Bool
+abbrev both : ℕ → ℕ → Bool
 both v p = v == 0 && ltb p 2
 
-first : ℕ → ℕ → Bool
+abbrev first : ℕ → ℕ → Bool
 first v p = v == 0 && p == 0
 
 -- one block at this place
-block_at : ℕ → Write
+abbrev block_at : ℕ → Write
 block_at start = record { volume = 0; start = start; bytes = replicate 512 187 }
 
 -- a write that is done, of a volume whose maps are known behind it
-wrote : (was now : ℕ → ℕ → Bool) → ℕ → MissedNote → MissedNote
+abbrev wrote : (was now : ℕ → ℕ → Bool) → ℕ → MissedNote → MissedNote
 wrote was now start w = maps_written (this_volume 0) 7 was now (each_anew w 0) (in_write (block_at start)) w
 
 -- a call that writes nothing
-called : (was now : ℕ → ℕ → Bool) → MissedNote → MissedNote
+abbrev called : (was now : ℕ → ℕ → Bool) → MissedNote → MissedNote
 called was now w = maps_written (this_volume 0) 8 was now no_plex none_missed w
 
 -- ---- a plex fails in the second write; it is deported and imported, and the plex is attached
 
-one_write : MissedNote
+abbrev one_write : MissedNote
 one_write = wrote both both 10 (maps_none 5)
 
-two_writes : MissedNote
+abbrev two_writes : MissedNote
 two_writes = wrote both first 70 one_write
 
 missed_0 : two_writes.missed 0 1 0 ≡ false
@@ -68,10 +68,10 @@ one_is_copied n it =
 
 -- ---- it is attached, and fails in a further write: it has missed that one alone
 
-attached : MissedNote
+abbrev attached : MissedNote
 attached = called first both two_writes
 
-failed_again : MissedNote
+abbrev failed_again : MissedNote
 failed_again = wrote both first 10 attached
 
 again_0 : failed_again.missed 0 1 0 ≡ true
@@ -83,15 +83,19 @@ again_1 = refl
 again_none : failed_again.perhaps 0 1 1 ≡ false
 again_none = refl
 
--- ---- behind a write that failed any plex may have missed its regions, and what was left in the map of one that is detached stays
+-- ---- behind a write that failed any plex may have missed its regions, and the map of one that is detached does not begin anew; but what was left in it before the
+-- first such write is gone
 
-refused : MissedNote
-refused = maps_doubted (this_volume 0) 9 both both 0 (in_write (block_at 200)) attached
+abbrev refused : MissedNote
+refused = maps_doubted (this_volume 0) 9 both both 0 true (in_write (block_at 200)) attached
+
+refused_1 : refused.missed 0 1 1 ≡ false
+refused_1 = refl
 
 perhaps_3 : refused.perhaps 0 1 3 ≡ true
 perhaps_3 = refl
 
-off : MissedNote
+abbrev off : MissedNote
 off = maps_written (this_volume 0) 9 both first (one_anew refused 0 1) none_missed refused
 
 off_none : off.missed 0 1 3 ≡ false
@@ -100,12 +104,34 @@ off_none = refl
 off_perhaps : off.perhaps 0 1 3 ≡ true
 off_perhaps = refl
 
-off_left : off.perhaps 0 1 1 ≡ true
+off_left : off.perhaps 0 1 1 ≡ false
 off_left = refl
+
+-- one that fails behind it leaves what the maps have
+
+abbrev refused_again : MissedNote
+refused_again = maps_doubted (this_volume 0) 9 both both 0 true (in_write (block_at 10)) refused
+
+again_0_perhaps : refused_again.perhaps 0 1 0 ≡ true
+again_0_perhaps = refl
+
+again_3_perhaps : refused_again.perhaps 0 1 3 ≡ true
+again_3_perhaps = refl
+
+-- and so does one behind which no copies may differ
+
+abbrev unflushed : MissedNote
+unflushed = maps_doubted (this_volume 0) 9 both both 0 false (in_write (block_at 200)) attached
+
+unflushed_1 : unflushed.missed 0 1 1 ≡ true
+unflushed_1 = refl
+
+unflushed_doubt : unflushed.doubt 0 ≡ false
+unflushed_doubt = refl
 
 -- ---- a detach of a volume of which no write failed begins the map anew
 
-detached : MissedNote
+abbrev detached : MissedNote
 detached = maps_written (this_volume 0) 9 both first (one_anew attached 0 1) none_missed attached
 
 detached_1 : detached.missed 0 1 1 ≡ false

@@ -10,7 +10,7 @@ pub record MissedNote : Type 0 where
   pub missed : ℕ → ℕ → ℕ → Bool
   -- those that it may have missed beside these
   pub perhaps : ℕ → ℕ → ℕ → Bool
-  -- of a volume whether a write of it failed since it was made or came up
+  -- of a volume whether its copies may differ, as a write of it failed since it was made or came up
   pub doubt : ℕ → Bool
   -- the serial of the configuration
   pub serial : ℕ

@@ -1,8 +1,8 @@
 -- What a line makes of what a site notes of the regions that plexes missed, by what configurations say before and behind it.
-use Rattle.std.specs.Prelude.{◌≡◌, ◌≢◌, ◌⊎◌, ◌+◌, ◌<◌, ◌≤◌, ℕ, Bool, true, Option, Some, None}
+use Rattle.std.specs.Prelude.{◌≡◌, ◌⊎◌, ◌+◌, ◌<◌, ◌≤◌, ◌&&◌, ◌||◌, ℕ, Bool, true, false, not, Option, Some, None}
 use Rattle.vx_model.specs.declared.limits.TheConstants.{MOST_NUMBER}
 use Rattle.vx_history.specs.Groups.{MissedNote}
-use Rattle.vx_history.specs.Missing.{missed_then, no_plex, none_missed, perhaps_then}
+use Rattle.vx_history.specs.Missing.{first_failed, missed_then, no_plex, none_missed, perhaps_then, this_volume}
 
 -- no volume, and this one alone
 abbrev pub InNoVolume : ℕ → Type 0
@@ -27,11 +27,13 @@ pub record MapsWritten (count : ℕ) (was now anew these : ℕ → ℕ → Bool)
   pub perhaps : (v p r : ℕ) → new.mapped v ≡ true → new.perhaps v p r ≡ perhaps_then w was now anew v p r
   pub doubt : (v : ℕ) → v < count → new.doubt v ≡ w.doubt v
 
--- A write of those regions of a volume that failed: any plex of it may have missed them.
+-- A write of those regions of a volume that failed: any plex of it may have missed them. Where its copies may differ then (`fell`), as they might not before, the
+-- plexes that took part may have missed no others.
 pub record MapsFailed (vol : ℕ) (was now these : ℕ → ℕ → Bool) (w new : MissedNote) : Type 0 where
-  pub missed : (v p r : ℕ) → new.mapped v ≡ true → new.missed v p r ≡ missed_then w was now none_missed v p r
-  pub perhaps : (v p r : ℕ) → new.mapped v ≡ true → new.perhaps v p r ≡ true → (these v r ≡ true) ⊎ (perhaps_then w was now no_plex v p r ≡ true)
-  pub doubt : (v : ℕ) → v ≢ vol → new.doubt v ≡ w.doubt v
+  pub fell : Bool
+  pub missed : (v p r : ℕ) → new.mapped v ≡ true → new.missed v p r ≡ (not (first_failed w vol fell was v p) && missed_then w was now none_missed v p r)
+  pub perhaps : (v p r : ℕ) → new.mapped v ≡ true → new.perhaps v p r ≡ true → (these v r ≡ true) ⊎ ((first_failed w vol fell was v p ≡ false) × (perhaps_then w was now no_plex v p r ≡ true))
+  pub doubt : (v : ℕ) → new.doubt v ≡ (w.doubt v || (this_volume vol v && fell))
 
 -- a region that a plex of volume v may have missed, as its map becomes that of another one: only in a volume of which a write failed
 pub record TookRow (w : MissedNote) (vol plex v p r : ℕ) : Type 0 where

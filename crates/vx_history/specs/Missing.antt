@@ -29,6 +29,11 @@ each_anew w vol v p = this_volume vol v && not (w.doubt v)
 abbrev pub one_anew : MissedNote → (vol plex : ℕ) → ℕ → ℕ → Bool
 one_anew w vol plex v p = this_volume vol v && (p == plex && not (w.doubt v))
 
+-- Of a volume the plexes that took part, as a write of it fails, behind which its copies may differ (`fell`) as they might not before: the regions of that write
+-- alone are in their maps then.
+abbrev pub first_failed : MissedNote → (vol : ℕ) → (fell : Bool) → (was : ℕ → ℕ → Bool) → ℕ → ℕ → Bool
+first_failed w vol fell was v p = this_volume vol v && (was v p && (not (w.doubt v) && fell))
+
 -- ---- one call: `was` says which plexes took part before it, `now` which do behind it
 
 -- a plex took part, and does no more
@@ -67,13 +72,14 @@ maps_written mapped serial was now anew these w = record {
 abbrev pub maps_added : (mapped : ℕ → Bool) (serial : ℕ) (was now : ℕ → ℕ → Bool) (vol : ℕ) → MissedNote → MissedNote
 maps_added mapped serial was now vol w = record (maps_written mapped serial was now no_plex none_missed w) { doubt = λ v. not (this_volume vol v) && w.doubt v }
 
--- Behind a write of those regions of a volume that failed: any plex of it may have missed them, and from then on no map of it begins anew.
-abbrev pub maps_doubted : (mapped : ℕ → Bool) (serial : ℕ) (was now : ℕ → ℕ → Bool) (vol : ℕ) (these : ℕ → ℕ → Bool) → MissedNote → MissedNote
-maps_doubted mapped serial was now vol these w = record {
+-- Behind a write of those regions of a volume that failed: any plex of it may have missed them; and where its copies may differ then, no map of it begins anew
+-- from then on.
+abbrev pub maps_doubted : (mapped : ℕ → Bool) (serial : ℕ) (was now : ℕ → ℕ → Bool) (vol : ℕ) (fell : Bool) (these : ℕ → ℕ → Bool) → MissedNote → MissedNote
+maps_doubted mapped serial was now vol fell these w = record {
   mapped = mapped;
-  missed = missed_then w was now none_missed;
-  perhaps = λ v p r. these v r || perhaps_then w was now no_plex v p r;
-  doubt = λ v. this_volume vol v || w.doubt v;
+  missed = λ v p r. not (first_failed w vol fell was v p) && missed_then w was now none_missed v p r;
+  perhaps = λ v p r. these v r || (not (first_failed w vol fell was v p) && perhaps_then w was now no_plex v p r);
+  doubt = λ v. w.doubt v || (this_volume vol v && fell);
   serial = serial;
 }
 

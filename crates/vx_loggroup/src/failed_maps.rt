@@ -84,6 +84,7 @@ pub fn att_held<S: Shelf>(
     requires stands { LoggedStands core.old logs.old.items alike.now stopped (S.meaning shelf.old) }
     ensures stands { LoggedStands core.new logs.new.items alike.now stopped (S.meaning shelf.new) }
     ensures refused { (no : NoValue) → att_refusal core.old.inner.config vol plex ≡ Some no → (result ≡ Err (Refused no)) × (core.new ≡ core.old) × (shelf.new ≡ shelf.old) }
+    ensures tests { (no : NoValue) → att_refusal core.old.inner.config vol plex ≡ Some no → MapsHeld core.old.inner.config logs.old.items logs.new.items }
     ensures already { att_refusal core.old.inner.config vol plex ≡ None → IsTrue (active core.old.inner.config vol plex) → (result ≡ Ok 0) × (core.new ≡ core.old) × (shelf.new ≡ shelf.old) }
     ensures count { active core.old.inner.config vol plex ≡ false → IfOk result (λ n. n ≡ missed_regions core.old.inner.config vol plex (map_by logs.old.items core.old.inner.config stopped (S.meaning shelf.old).down vol plex)) }
     ensures attaches { LoggedAttaches (leaves_maps (is_alike alike.now vol) stopped (maps_gone core.old.inner.config logs.old.items logs.new.items vol) result) vol plex (map_by logs.old.items core.old.inner.config stopped (S.meaning shelf.old).down vol plex) core.old core.new (S.meaning shelf.old) (S.meaning shelf.new) }

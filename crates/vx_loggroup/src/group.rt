@@ -236,6 +236,7 @@ impl<S: Shelf> LoggedGroup<S> {
     /// in that, their log is committed as lost before the answer, while serials are left; where this is refused so is the attach.
     pub fn att(&mut self, vol: u32, plex: u32) -> Result<u64, Stop>
         ensures refused { (no : NoValue) → att_refusal self.old.core.inner.config vol plex ≡ Some no → (result ≡ Err (Refused no)) × (self.new.core ≡ self.old.core) × (self.new.shelf ≡ self.old.shelf) }
+        ensures tests { (no : NoValue) → att_refusal self.old.core.inner.config vol plex ≡ Some no → MapsHeld self.old.core.inner.config self.old.logs.items self.new.logs.items }
         ensures already { att_refusal self.old.core.inner.config vol plex ≡ None → IsTrue (active self.old.core.inner.config vol plex) → (result ≡ Ok 0) × (self.new.core ≡ self.old.core) × (self.new.shelf ≡ self.old.shelf) }
         ensures count { active self.old.core.inner.config vol plex ≡ false → IfOk result (λ n. n ≡ missed_regions self.old.core.inner.config vol plex (map_by self.old.logs.items self.old.core.inner.config self.old.stopped (S.meaning self.old.shelf).down vol plex)) }
         ensures attaches { LoggedAttaches (leaves_maps (is_alike self.old.alike vol) self.old.stopped (maps_gone self.old.core.inner.config self.old.logs.items self.new.logs.items vol) result) vol plex (map_by self.old.logs.items self.old.core.inner.config self.old.stopped (S.meaning self.old.shelf).down vol plex) self.old.core self.new.core (S.meaning self.old.shelf) (S.meaning self.new.shelf) }

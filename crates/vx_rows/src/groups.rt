@@ -26,6 +26,18 @@ fn a_plex_that_missed_a_write_is_attached_again(rt: HostRuntime) -> Result<(), F
     Ok(())
 }
 
+// With a map an attach copies the regions that its plex missed, and no others: behind a deport and an import too, and again of the other plex. Behind a
+// crash the map counts for nothing.
+#[test]
+fn an_attach_copies_the_regions_that_were_missed(rt: HostRuntime) -> Result<(), Fail> {
+    let script =
+        b"site a 3 1024\ndg a init\nvol a v 256 mirrors=2 layout=concat log=none fmr=on rdpol=round\nwrite a v 10 1 aa\nplex a v 1 det\nwrite a v 70 1 bb\ndg a deport\ndg a import\nwrite a v 200 1 cc\nplex a v 1 att\nplex a v 0 det\nwrite a v 130 1 dd\nplex a v 0 att\nplex a v 0 att\nplex a v 1 det\ncrash a 0\nrecover a\nplex a v 1 att\n";
+    let wanted =
+        "done\ndone\ndone\ndone\ndone\ndone\ndone\ndone\ndone\ndone 2\ndone\ndone\ndone 1\ndone 0\ndone\ndone\nrecovered\nsite a up\ndisk 0 ok\ndisk 1 ok\ndisk 2 ok\nvol v 256 none on\nplex 0 ACTIVE\nplex 1 STALE\ndone 4\n";
+    assert!(rt; is_done(&rt, rt.alloc(), script, wanted)?);
+    Ok(())
+}
+
 // A fuse that lets no call of a write pass: nothing of it is kept.
 #[test]
 fn nothing_is_kept_of_a_write_that_was_not_begun(rt: HostRuntime) -> Result<(), Fail> {

@@ -1,5 +1,6 @@
 -- A write that is made durable: what it leaves, and which plexes it takes out of use.
-use Rattle.std.proofs.Common.{arith, ◌∙◌}
+use Rattle.std.proofs.Common.{arith, length, ◌∙◌}
+use Rattle.std.specs.Prelude.{◌/◌}
 use Rattle.vx_disk.specs.Shelf.{Written}
 use Rattle.vx_disk.proofs.Runs.{then_nothing}
 use Rattle.vx_group.proofs.FindingLemmas.{then_group}
@@ -9,7 +10,9 @@ use Rattle.vx_group.specs.Stands.{inner_meaning}
 use Rattle.vx_grouped.proofs.WriteLemmas.{both_lose, write_done, write_failed}
 use Rattle.vx_grouped.proofs.BothLemmas.{both_on}
 use Rattle.vx_grouped.specs.Ends.{plain_write}
+use Rattle.vx_grouped.proofs.DoubtedMapLemmas.{runs_alone}
 use Rattle.vx_grouped.proofs.PlainMapLemmas.{both_doubted, both_wrote, doubted_parts}
+use Rattle.vx_logs.specs.Writes.{first_region, last_region}
 use Rattle.vx_grouped.proofs.plain.write_plain.Goals as goal
 
 pub flush_run-requires-clause-there : goal.flush_run-requires-clause-there
@@ -71,7 +74,12 @@ pub returns-in-Err-clause-maps : goal.returns-in-Err-clause-maps
 returns-in-Err-clause-maps g c =
     doubted_parts (plain_write c.args.vol c.args.block c.args.bytes.now) c.args.group.now.core c.write.new.self.core c.args.group.now.logs.items c.write.new.self.logs.items c.args.group.now.stopped c.write.new.self.stopped c.args.group.now.alike c.write.new.self.alike
     (g.S.Shelf.meaning c.args.group.now.shelf) (g.S.Shelf.meaning c.write.new.self.shelf) (c.requires.rack c.args.group.now.shelf) (c.requires.rack c.write.new.self.shelf) c.args.group.now.stands.group c.write.new.self.stands.group
-    c.write.ensures.loses.frames c.write.ensures.goes.units c.write.ensures.goes.size c.requires.fits.exists c.write.ensures.ends_maps c.write.ensures.comes c.in-Err.ensures.moves (λ v apart is. c.write.ensures.flags v apart ∙ is)
+    c.write.ensures.loses.frames c.write.ensures.goes.units c.write.ensures.goes.size c.requires.fits.exists c.write.ensures.ends_maps c.write.ensures.comes c.in-Err.ensures.moves
+    (λ sure going up off.
+    runs_alone c.args.group.now.core c.write.new.self.core c.write.new.self.logs.items c.write.new.self.alike c.write.new.self.stopped (g.S.Shelf.meaning c.write.new.self.shelf) c.write.new.self.stands
+    c.args.vol (first_region c.args.block) (last_region c.args.block (length c.args.bytes.now / 512)) (c.write.ensures.loses.frames c.args.vol) (c.write.ensures.goes.size c.args.vol) going
+    (c.in-Err.ensures.refused sure going (λ down. up (c.write.ensures.goes.falls down)) off))
+    (λ v apart is. c.write.ensures.flags v apart ∙ is)
 
 pub returns-in-Ok-flush_run-clause-maps : goal.returns-in-Ok-flush_run-clause-maps
 returns-in-Ok-flush_run-clause-maps g c =

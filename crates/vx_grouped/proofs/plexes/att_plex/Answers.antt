@@ -9,11 +9,10 @@ use Rattle.vx_group.proofs.CallLemmas.{not_down}
 use Rattle.vx_grouped.proofs.CopiedLemmas.{copies_by}
 use Rattle.vx_grouped.proofs.KeepLemmas.{att_not_down, attached_by, call_cut, call_leaves, never_fell, same_at}
 use Rattle.vx_grouped.proofs.BothLemmas.{regains_by, stays_by}
-use Rattle.vx_loggroup.specs.Attaching.{map_by, leaves_maps}
+use Rattle.vx_loggroup.specs.Attaching.{map_by}
 use Rattle.vx_loggroup.proofs.AlikeLemmas.{up_false}
 use Rattle.vx_grouped.proofs.PlexMapLemmas.{att_parts, ok_each}
 use Rattle.vx_group.specs.declared.group_core.GroupCore.{GroupCore}
-use Rattle.vx_loggroup.specs.LoggedVolumes.{is_alike}
 use Rattle.vx_grouped.proofs.StayPartLemmas.{stay_held}
 use Rattle.vx_grouped.proofs.plexes.att_plex.Goals as goal
 
@@ -75,5 +74,5 @@ returns-clause-maps g c = λ was now.
     (λ why is.
     let same = c.att-answer.ensures.refused why is in
     stay_held c.args.group.now.core.inner.config c.att-answer.new.self.core.inner.config c.args.group.now.logs.items c.att-answer.new.self.logs.items c.args.group.now.alike c.att-answer.new.self.alike c.args.group.now.stopped c.att-answer.new.self.stopped
-    (c.att-answer.ensures.logs (ap (λ r. leaves_maps (is_alike c.args.group.now.alike c.args.vol) c.args.group.now.stopped r) same.0)) c.att-answer.ensures.flags.0 c.att-answer.ensures.flags.1 (ap (λ (x : GroupCore). x.inner.config) same.1))
+    (c.att-answer.ensures.tests why is) c.att-answer.ensures.flags.0 c.att-answer.ensures.flags.1 (ap (λ (x : GroupCore). x.inner.config) same.1))
     c.att-answer.ensures.cause

@@ -61,4 +61,4 @@ returns-clause-maps g c = λ was now.
     (λ why is.
     let same = c.det-answer.ensures.refused why is in
     stay_same c.args.group.now.core.inner.config c.det-answer.new.self.core.inner.config c.args.group.now.logs.items c.det-answer.new.self.logs.items c.args.group.now.alike c.det-answer.new.self.alike c.args.group.now.stopped c.det-answer.new.self.stopped same.3
-    c.det-answer.ensures.flags.0 c.det-answer.ensures.flags.1 (ap (λ (x : GroupCore). x.inner.config) same.1)) c.det-answer.ensures.cause
+    c.det-answer.ensures.flags.0 c.det-answer.ensures.flags.1 (ap (λ (x : GroupCore). x.inner.config) same.1)) c.det-answer.ensures.cause c.det-answer.ensures.stays

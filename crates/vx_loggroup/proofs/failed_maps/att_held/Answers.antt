@@ -1,4 +1,4 @@
--- `att_held`: clauses count, attaches, maps, follows, kept and keeps; what `att_following` asks.
+-- `att_held`: clauses count, attaches, maps, follows, kept, keeps and tests; what `att_following` asks.
 use Rattle.std.proofs.Common.{◌∙◌, Bool, List, Option, ap, subst, sym, arith}
 use Rattle.vx_fmr.specs.Missed.{Missed}
 use Rattle.vx_group.specs.Attaches.{missed_regions}
@@ -43,3 +43,6 @@ pub returns-clause-keeps : goal.returns-clause-keeps
 returns-clause-keeps g c =
     then_keeps c.args.core.now c.args.core.now c.att_following.new.core c.args.logs.now.items c.give_up_all.new.logs.items c.att_following.new.logs.items (g.S.Shelf.meaning c.args.shelf.now) (g.S.Shelf.meaning c.args.shelf.now) (g.S.Shelf.meaning c.att_following.new.shelf) (λ v log s at. at) (λ u. omega arith) c.att_following.ensures.attaches.acts.faults c.att_following.ensures.attaches.acts.falls
     (held_stays c.args.core.now.inner.config c.args.logs.now.items c.give_up_all.new.logs.items (g.S.Shelf.meaning c.args.shelf.now) c.give_up_all.ensures.held) c.att_following.ensures.keeps
+
+pub returns-clause-tests : goal.returns-clause-tests
+returns-clause-tests g c = λ why is. subst (λ (ls : List Logs). MapsHeld c.args.core.now.inner.config c.args.logs.now.items ls) (sym (c.att_following.ensures.tests why is)) c.give_up_all.ensures.held

@@ -55,6 +55,10 @@ pub returns-in-Err-clause-refused : goal.returns-in-Err-clause-refused
 returns-in-Err-clause-refused g c =
     c.in-Err.ensures.refused
 
+pub returns-in-Err-clause-tests : goal.returns-in-Err-clause-tests
+returns-in-Err-clause-tests g c =
+    λ why is. refl
+
 pub returns-in-Err-clause-already : goal.returns-in-Err-clause-already
 returns-in-Err-clause-already g c =
     c.in-Err.ensures.already
@@ -102,6 +106,10 @@ returns-in-None-clause-stands g c =
 pub returns-in-None-clause-refused : goal.returns-in-None-clause-refused
 returns-in-None-clause-refused g c =
     c.in-Ok.ensures.refused
+
+pub returns-in-None-clause-tests : goal.returns-in-None-clause-tests
+returns-in-None-clause-tests g c =
+    λ why is. refl
 
 pub returns-in-None-clause-already : goal.returns-in-None-clause-already
 returns-in-None-clause-already g c =
@@ -179,6 +187,10 @@ pub returns-in-Ok-lose_gone-clause-refused : goal.returns-in-Ok-lose_gone-clause
 returns-in-Ok-lose_gone-clause-refused g c =
     λ why is. absurd (ok_clash _ (Refused why) ((c.in-Ok.ensures.refused why is).0))
 
+pub returns-in-Ok-lose_gone-clause-tests : goal.returns-in-Ok-lose_gone-clause-tests
+returns-in-Ok-lose_gone-clause-tests g c =
+    λ why is. absurd (ok_clash _ (Refused why) ((c.in-Ok.ensures.refused why is).0))
+
 pub returns-in-Ok-lose_gone-clause-already : goal.returns-in-Ok-lose_gone-clause-already
 returns-in-Ok-lose_gone-clause-already g c =
     λ may on. absurd (let clash : false ≡ true = sym (subst (λ (o : Option ℕ). IfSome o (MapSource c.args.core.now.inner.config c.args.alike.now c.args.stopped c.args.vol c.args.plex)) c.in-Some.is c.source_of-source.ensures.is).off ∙ on in cc)
@@ -246,6 +258,10 @@ returns-in-Err-lose_gone-clause-stands g c =
 
 pub returns-in-Err-lose_gone-clause-refused : goal.returns-in-Err-lose_gone-clause-refused
 returns-in-Err-lose_gone-clause-refused g c =
+    λ why is. absurd (ok_clash _ (Refused why) ((c.in-Ok.ensures.refused why is).0))
+
+pub returns-in-Err-lose_gone-clause-tests : goal.returns-in-Err-lose_gone-clause-tests
+returns-in-Err-lose_gone-clause-tests g c =
     λ why is. absurd (ok_clash _ (Refused why) ((c.in-Ok.ensures.refused why is).0))
 
 pub returns-in-Err-lose_gone-clause-already : goal.returns-in-Err-lose_gone-clause-already

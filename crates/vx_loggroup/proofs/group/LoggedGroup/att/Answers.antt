@@ -41,3 +41,6 @@ returns-clause-flags g c = (refl, refl)
 
 pub returns-clause-kept : goal.returns-clause-kept
 returns-clause-kept g c = c.att_held.ensures.kept
+
+pub returns-clause-tests : goal.returns-clause-tests
+returns-clause-tests g c = c.att_held.ensures.tests
