@@ -74,7 +74,7 @@ pub returns-in-OfGroup-clause-maps : goal.returns-in-OfGroup-clause-maps
 returns-in-OfGroup-clause-maps g c = λ n note. on_sites (UpNoted n note) (λ o e. AttMapped c.args.volume c.args.plex o e c.att.result) c.args.self.now c.in-OfGroup.group (record c.in-OfGroup.group { site = c.att.new.self }) c.in-OfGroup.is (c.att.ensures.maps n note)
 
 pub returns-in_default-clause-maps : goal.returns-in_default-clause-maps
-returns-in_default-clause-maps g c = λ n note. at_none (UpNoted n note) _ c.args.self.now c.in_default.not-OfGroup
+returns-in_default-clause-maps g c = λ n note. at_none (UpNoted n note) _ c.args.self.now c.in_default.not-OfGroup c.in_default.not-Over
 
 pub returns-in-Over-clause-called : goal.returns-in-Over-clause-called
 returns-in-Over-clause-called g c = λ n note. on_overs (UpNoted n note) (λ o e. AttCalled n note c.args.volume c.args.plex o e c.att-in-Over.result) c.args.self.now c.in-Over.over c.att-in-Over.new.self c.in-Over.is (c.att-in-Over.ensures.called n note)

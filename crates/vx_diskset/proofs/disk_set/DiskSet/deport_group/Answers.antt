@@ -53,7 +53,7 @@ pub returns-in-OfGroup-clause-maps : goal.returns-in-OfGroup-clause-maps
 returns-in-OfGroup-clause-maps g c = λ n note. on_sites (UpNoted n note) (λ o e. DeportMapped o e c.deport-site.result.1) c.args.self.now c.in-OfGroup.group (record c.in-OfGroup.group { site = c.deport-site.result.0 }) (sym c.replace.ensures.value ∙ c.in-OfGroup.is) (c.deport-site.ensures.maps n note)
 
 pub returns-in_default-clause-maps : goal.returns-in_default-clause-maps
-returns-in_default-clause-maps g c = λ n note. at_none (UpNoted n note) _ c.args.self.now (λ o is. c.in_default.not-OfGroup o (c.replace.ensures.value ∙ is))
+returns-in_default-clause-maps g c = λ n note. at_none (UpNoted n note) _ c.args.self.now (λ o is. c.in_default.not-OfGroup o (c.replace.ensures.value ∙ is)) (λ o is. c.in_default.not-Over o (c.replace.ensures.value ∙ is))
 
 pub returns-in-Over-clause-deported : goal.returns-in-Over-clause-deported
 returns-in-Over-clause-deported g c = λ n note. on_overs (UpNoted n note) (λ o e. SiteDeported n note o e c.deport-answer.result) c.args.self.now c.in-Over.over c.deport-answer.new.self (sym c.replace.ensures.value ∙ c.in-Over.is) (c.deport-answer.ensures.deported n note)

@@ -58,7 +58,7 @@ pub returns-in-OfGroup-clause-maps : goal.returns-in-OfGroup-clause-maps
 returns-in-OfGroup-clause-maps g c = λ n note. on_sites (UpNoted n note) (λ o e. DetMapped c.args.volume c.args.plex o e c.det.result) c.args.self.now c.in-OfGroup.group (record c.in-OfGroup.group { site = c.det.new.self }) c.in-OfGroup.is (c.det.ensures.maps n note)
 
 pub returns-in_default-clause-maps : goal.returns-in_default-clause-maps
-returns-in_default-clause-maps g c = λ n note. at_none (UpNoted n note) _ c.args.self.now c.in_default.not-OfGroup
+returns-in_default-clause-maps g c = λ n note. at_none (UpNoted n note) _ c.args.self.now c.in_default.not-OfGroup c.in_default.not-Over
 
 pub returns-in-Over-clause-called : goal.returns-in-Over-clause-called
 returns-in-Over-clause-called g c = λ n note. on_overs (UpNoted n note) (λ o e. DetCalled n note c.args.volume c.args.plex o e c.det-in-Over.result) c.args.self.now c.in-Over.over c.det-in-Over.new.self c.in-Over.is (c.det-in-Over.ensures.called n note)

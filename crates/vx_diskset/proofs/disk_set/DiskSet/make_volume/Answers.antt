@@ -60,7 +60,7 @@ pub returns-in-OfGroup-clause-maps : goal.returns-in-OfGroup-clause-maps
 returns-in-OfGroup-clause-maps g c = λ n note. on_sites (UpNoted n note) (λ o e. AddedMapped o e c.make_volume.result) c.args.self.now c.in-OfGroup.group (record c.in-OfGroup.group { site = c.make_volume.new.self }) c.in-OfGroup.is (c.make_volume.ensures.maps n note)
 
 pub returns-in_default-clause-maps : goal.returns-in_default-clause-maps
-returns-in_default-clause-maps g c = λ n note. at_none (UpNoted n note) _ c.args.self.now c.in_default.not-OfGroup
+returns-in_default-clause-maps g c = λ n note. at_none (UpNoted n note) _ c.args.self.now c.in_default.not-OfGroup c.in_default.not-Over
 
 pub returns-in-Over-clause-made : goal.returns-in-Over-clause-made
 returns-in-Over-clause-made g c = λ n note. on_overs (UpNoted n note) (λ o e. SiteAdded n note c.args.name.now c.args.want.now o e c.make_volume-in-Over.result) c.args.self.now c.in-Over.over c.make_volume-in-Over.new.self c.in-Over.is (c.make_volume-in-Over.ensures.made n note)

@@ -47,7 +47,7 @@ returns-in-OfGroup-clause-maps g c = λ n note up fits.
     on_sites (UpNoted n note) (λ o e. StaysMapped o e) c.args.self.now c.in-OfGroup.group (record c.in-OfGroup.group { site = c.read.new.self }) c.in-OfGroup.is (λ it. c.read.ensures.maps n note it fits) up
 
 pub returns-in_default-clause-maps : goal.returns-in_default-clause-maps
-returns-in_default-clause-maps g c = λ n note up fits. at_none (UpNoted n note) _ c.args.self.now c.in_default.not-OfGroup up
+returns-in_default-clause-maps g c = λ n note up fits. at_none (UpNoted n note) _ c.args.self.now c.in_default.not-OfGroup c.in_default.not-Over up
 
 pub returns-in-Over-clause-read : goal.returns-in-Over-clause-read
 returns-in-Over-clause-read g c = λ n note up fits.

@@ -49,7 +49,7 @@ returns-in-OfGroup-clause-maps g c = λ n note up fits.
     on_sites (UpNoted n note) (λ o e. WroteMapped (plain_write c.args.volume c.args.start c.args.bytes.now) o e c.write_set.result) c.args.self.now c.in-OfGroup.group c.write_set.new.group c.in-OfGroup.is (λ it. c.write_set.ensures.maps n note it fits) up
 
 pub returns-in_default-clause-maps : goal.returns-in_default-clause-maps
-returns-in_default-clause-maps g c = λ n note up fits. at_none (UpNoted n note) _ c.args.self.now c.in_default.not-OfGroup up
+returns-in_default-clause-maps g c = λ n note up fits. at_none (UpNoted n note) _ c.args.self.now c.in_default.not-OfGroup c.in_default.not-Over up
 
 pub returns-in-Over-clause-wrote : goal.returns-in-Over-clause-wrote
 returns-in-Over-clause-wrote g c = λ n note up fits.
