@@ -49,5 +49,6 @@ pub mod GiveLemmas
 pub mod ActsLemmas
 pub mod LostLemmas
 pub mod UnitLemmas
+pub mod MissingLemmas
 pub mod TrustingLemmas
 pub mod TrustStillLemmas

@@ -4,6 +4,7 @@ use Rattle.vx_disk.specs.Shelf.{Meaning}
 use Rattle.vx_disk.specs.declared.shelf.ShelfError.{ShelfError}
 use Rattle.vx_disk.specs.declared.shelf.ShelfError.TheVariants.{Fault, Down}
 use Rattle.vx_config.specs.declared.config.Config.{Config}
+use Rattle.vx_kept.specs.Commits.{IsCommitted}
 use Rattle.vx_volume.specs.Plexes.{active}
 use Rattle.vx_volume.specs.Volumes.{PlexBlamed}
 use Rattle.vx_group.specs.declared.inner.Inner.{Inner}
@@ -11,6 +12,10 @@ use Rattle.vx_group.specs.declared.inner.Inner.{Inner}
 -- a commit was refused, and none was made since; or the shelf is down
 abbrev pub NoCommit : Inner → Meaning → Type 0
 NoCommit d m = (d.unsettled ≡ true) ⊎ IsTrue m.down
+
+-- so it is, or the configuration in memory was committed
+abbrev pub MissesOrHas : Inner → Meaning → Type 0
+MissesOrHas d m = NoCommit d m ⊎ IsCommitted d.config m
 
 -- each plex of the volume that was ACTIVE had a failed call on one of its disks
 pub record EachBlamed (c : Config) (v : ℕ) (old new : Meaning) : Type 0 where

@@ -9,7 +9,7 @@ ghost use Rattle.vx_copies.specs.Commits.{MoreFailed};
 ghost use Rattle.vx_fmr.specs.Missed.{Missed};
 ghost use Rattle.vx_group.specs.Attaches.{AttachEnds, Attaches, CopyTried, HasOther, KnowsMissed, MayAttach, NoSource, Opens, missed_regions};
 ghost use Rattle.vx_group.specs.Blames.{Blames};
-ghost use Rattle.vx_group.specs.GivesUp.{NoCommit};
+ghost use Rattle.vx_group.specs.GivesUp.{MissesOrHas, NoCommit};
 ghost use Rattle.vx_group.specs.Stands.{InnerStands};
 ghost use Rattle.vx_volume.specs.Copies.{CopyCause};
 ghost use Rattle.vx_volume.specs.Plexes.{active};
@@ -150,6 +150,7 @@ fn take_back<S: Shelf>(shelf: &mut S, core: &mut Inner, vol: u32, plex: u32)
     ensures stands { InnerStands core.new (S.meaning shelf.new) }
     ensures attaches { (map : Option Missed) → Attaches vol plex map core.old core.new (S.meaning shelf.old) (S.meaning shelf.new) }
     ensures off { (active core.new.config vol plex ≡ false) ⊎ NoCommit core.new (S.meaning shelf.new) }
+    ensures missed { NoCommit core.old (S.meaning shelf.old) → MissesOrHas core.new (S.meaning shelf.new) }
     ensures failing { MoreFailed (S.meaning shelf.old) (S.meaning shelf.new) core.old.config.disks core.new.config.disks }
     ensures finds { CoreFinds core.old core.new (S.meaning shelf.old) (S.meaning shelf.new) }
     ensures logs { TrustsStill core.old.config core.new.config }
@@ -190,6 +191,7 @@ fn commit_open<S: Shelf>(
     ensures count { IfOk result (λ n. n ≡ copied) }
     ensures failing { MoreFailed (S.meaning shelf.old) (S.meaning shelf.new) core.old.config.disks core.new.config.disks }
     ensures trust { OnOk result (core.old.committed ≡ true → core.new.committed ≡ true) }
+    ensures missed { IfErr result (λ e. MissesOrHas core.new (S.meaning shelf.new)) }
     ensures finds { CoreEnds core.new (S.meaning shelf.old) (S.meaning shelf.new) }
     ensures logs { TrustsStill core.old.config core.new.config }
     ensures cause { Blames (S.meaning shelf.old) (S.meaning shelf.new) result }
@@ -208,6 +210,8 @@ fn commit_open<S: Shelf>(
 
 /// Attaches a plex that is not ACTIVE: the regions that it has missed, or all where there is no map, are copied to it, and a commit makes it
 /// ACTIVE. Where that is refused, a further commit takes it back. Answers how many regions were copied.
+///
+/// A commit that is missed stays so where none is done in this call.
 pub fn attach<S: Shelf>(
     shelf: &mut S,
     core: &mut Inner,
@@ -225,18 +229,23 @@ pub fn attach<S: Shelf>(
     ensures ends { AttachEnds vol plex core.new (S.meaning shelf.new) result }
     ensures failing { MoreFailed (S.meaning shelf.old) (S.meaning shelf.new) core.old.config.disks core.new.config.disks }
     ensures trust { OnOk result (core.old.committed ≡ true → core.new.committed ≡ true) }
+    ensures missed { core.old.unsettled ≡ true → IfErr result (λ e. MissesOrHas core.new (S.meaning shelf.new)) }
     ensures finds { CoreFinds core.old core.new (S.meaning shelf.old) (S.meaning shelf.new) }
     ensures logs { TrustsStill core.old.config core.new.config }
     ensures cause { Blames (S.meaning shelf.old) (S.meaning shelf.new) result }
     ensures count { IfOk result (λ n. n ≡ missed_regions core.old.config vol plex (option_copied fmr.entry)) }
 {
+    let unsettled = core.unsettled;
     match settle_headers(shelf, core) {
         Ok(()) => {}
         Err(error) => return Err(error),
     }
     let copied = match copy_to(shelf, core, vol, plex, fmr) {
         Ok(copied) => copied,
-        Err(error) => return Err(error),
+        Err(error) => {
+            core.unsettled = unsettled;
+            return Err(error);
+        }
     };
     commit_open(shelf, core, vol, plex, copied)
 }

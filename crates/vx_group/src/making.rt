@@ -88,6 +88,7 @@ fn add_last<S: Shelf>(shelf: &mut S, core: &mut Inner, next: Config) -> Result<(
     ensures trust { OnOk result (core.old.committed ≡ true → core.new.committed ≡ true) }
     ensures whole { OnOk result ((core.new.committed ≡ true) ⊎ HasFailed core.new.config.disks) }
     ensures agreed { IfErr result (λ e. core.old.committed ≡ true → core.new.agreed ≡ true) }
+    ensures off { IfErr result (λ e. core.old.committed ≡ false → core.new.committed ≡ false) }
     ensures finds { CoreFinds core.old core.new (S.meaning shelf.old) (S.meaning shelf.new) }
     ensures logs { TrustsStill core.old.config core.new.config }
     ensures cause { StopsByDevice (S.meaning shelf.old) (S.meaning shelf.new) result }
@@ -119,7 +120,7 @@ fn add_last<S: Shelf>(shelf: &mut S, core: &mut Inner, next: Config) -> Result<(
     }
 }
 
-// The same, behind the headers that a refused commit asks for.
+// The same, behind the headers that a refused commit asks for. A commit that is missed stays so where none is done here.
 fn add<S: Shelf>(shelf: &mut S, core: &mut Inner, next: Config) -> Result<(), ShelfError>
     requires stands { InnerStands core.old (S.meaning shelf.old) }
     requires more { core.old.config.serial < greatest }
@@ -136,17 +137,28 @@ fn add<S: Shelf>(shelf: &mut S, core: &mut Inner, next: Config) -> Result<(), Sh
     ensures trust { OnOk result (core.old.committed ≡ true → core.new.committed ≡ true) }
     ensures whole { OnOk result ((core.new.committed ≡ true) ⊎ HasFailed core.new.config.disks) }
     ensures agreed { IfErr result (λ e. core.old.committed ≡ true → core.new.agreed ≡ true) }
+    ensures missed { core.old.unsettled ≡ true → IfErr result (λ e. core.new.unsettled ≡ true) }
     ensures finds { CoreFinds core.old core.new (S.meaning shelf.old) (S.meaning shelf.new) }
     ensures logs { TrustsStill core.old.config core.new.config }
     ensures cause { StopsByDevice (S.meaning shelf.old) (S.meaning shelf.new) result }
 {
+    let unsettled = core.unsettled;
     match settle_headers(shelf, core) {
         Ok(()) => {}
         Err(error) => return Err(error),
     }
     let mut next = next;
     next.disks = core.config.disks.copy();
-    add_last(shelf, core, next)
+    match add_last(shelf, core, next) {
+        Ok(()) => Ok(()),
+        Err(error) => {
+            if unsettled {
+                core.unsettled = true;
+                return Err(error);
+            }
+            Err(error)
+        }
+    }
 }
 
 /// Makes a volume, which begins as zeros, and answers its number. Beside the configuration areas it writes zeros on the plexes of the volume

@@ -313,3 +313,39 @@ fn a_deport_flushes_before_it_commits(rt: HostRuntime) -> Result<(), Fail> {
     }
     Ok(())
 }
+
+// The group, where its deport is refused.
+fn kept(group: Group<MemShelf>) -> Option<Group<MemShelf>> {
+    match group.deport() {
+        Ok(_) => None,
+        Err((group, _)) => Some(group),
+    }
+}
+
+#[test]
+fn a_write_makes_up_for_a_missed_commit(rt: HostRuntime) -> Result<(), Fail> {
+    let alloc = rt.alloc();
+    // The commit of a deport begins with call 43, and is refused. A new volume is refused in its zeros, behind ten calls that write headers
+    // back. The write begins with such calls again, and with a commit, which is call 67; the next one does too.
+    let mut group = group_of(alloc, &[43, 44, 55, 67, 68], 2)?;
+    assert!(rt; make(alloc, &mut group, b"v", &plain(16, 2)) == Told::Volume(0));
+    assert!(rt; put(&mut group, 0, 3, 0x11) == Told::Done);
+    let mut group = match kept(group) {
+        Some(group) => group,
+        None => {
+            assert!(rt; false);
+            return Ok(());
+        }
+    };
+    let rows = [
+        (Call::Make(b"w", 16, 2), Told::Device(0)),
+        (Call::Put(0, 3, 0x22), Told::Device(1)),
+        (Call::Get(0, 3), Told::Block(0x11)),
+        (Call::Get(0, 3), Told::Block(0x11)),
+        (Call::Put(0, 3, 0x22), Told::Done),
+        (Call::Get(0, 3), Told::Block(0x22)),
+        (Call::Get(0, 3), Told::Block(0x22)),
+    ];
+    assert!(rt; first_wrong(alloc, &mut group, &rows) == None);
+    Ok(())
+}

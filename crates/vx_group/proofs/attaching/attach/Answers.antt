@@ -7,6 +7,7 @@ use Rattle.vx_kept.proofs.Chosen.{active_volumes}
 use Rattle.vx_group.proofs.AttachLemmas.{has_other, narrows_attaches, then_attaches}
 use Rattle.vx_group.proofs.CallLemmas.{blames_later}
 use Rattle.vx_group.proofs.FailingLemmas.{no_failing, then_failing}
+use Rattle.vx_group.proofs.MissingLemmas.{mark_Stands, mark_attaches, mark_finds}
 use Rattle.vx_group.proofs.MissLemmas.{count_volumes, knows_later, narrows_reads, same_count}
 use Rattle.vx_group.proofs.OpeningLemmas.{present, same_may}
 use Rattle.vx_group.proofs.Standing.{some_active, sound_of}
@@ -33,10 +34,11 @@ copy_to-requires-clause-off g c = active_volumes c.settle_headers.new.core.confi
 
 pub returns-in-Err-copy_to-clause-attaches : goal.returns-in-Err-copy_to-clause-attaches
 returns-in-Err-copy_to-clause-attaches g c =
-    then_attaches c.args.vol c.args.plex (option_copied c.args.fmr) c.args.core.now c.settle_headers.new.core c.copy_to.new.core (g.S.Shelf.meaning c.args.shelf.now) (g.S.Shelf.meaning c.settle_headers.new.shelf) (g.S.Shelf.meaning c.copy_to.new.shelf)
+    mark_attaches c.args.vol c.args.plex (option_copied c.args.fmr) c.args.core.now c.copy_to.new.core c.args.core.now.unsettled (g.S.Shelf.meaning c.args.shelf.now) (g.S.Shelf.meaning c.copy_to.new.shelf)
+    (then_attaches c.args.vol c.args.plex (option_copied c.args.fmr) c.args.core.now c.settle_headers.new.core c.copy_to.new.core (g.S.Shelf.meaning c.args.shelf.now) (g.S.Shelf.meaning c.settle_headers.new.shelf) (g.S.Shelf.meaning c.copy_to.new.shelf)
     (narrows_attaches c.args.vol c.args.plex (option_copied c.args.fmr) c.args.core.now c.settle_headers.new.core (g.S.Shelf.meaning c.args.shelf.now) (g.S.Shelf.meaning c.settle_headers.new.shelf) (g.met.S.Shelf.lawful c.settle_headers.new.shelf) c.requires.stands c.settle_headers.ensures.narrows (but_parts c.args.core.now.config c.settle_headers.new.core.config c.settle_headers.ensures.same)
     (λ w q apart. active_volumes c.settle_headers.new.core.config c.args.core.now.config c.settle_headers.ensures.volumes w q))
-    c.copy_to.ensures.attaches
+    c.copy_to.ensures.attaches)
 
 pub returns-in-Err-copy_to-clause-ends : goal.returns-in-Err-copy_to-clause-ends
 returns-in-Err-copy_to-clause-ends g c = inl c.in-Err-copy_to.ensures.opens
@@ -109,8 +111,10 @@ returns-in-Err-clause-finds g c =
 
 pub returns-in-Err-copy_to-clause-finds : goal.returns-in-Err-copy_to-clause-finds
 returns-in-Err-copy_to-clause-finds g c =
-    then_finds c.args.core.now c.settle_headers.new.core c.copy_to.new.core (g.S.Shelf.meaning c.args.shelf.now) (g.S.Shelf.meaning c.settle_headers.new.shelf) (g.S.Shelf.meaning c.copy_to.new.shelf) c.settle_headers.ensures.finds
-    (stays_finds c.settle_headers.new.core c.copy_to.new.core (g.S.Shelf.meaning c.settle_headers.new.shelf) (g.S.Shelf.meaning c.copy_to.new.shelf) (ap (λ (x : Inner). at_serial 0 x.config) c.in-Err-copy_to.ensures.same) c.copy_to.ensures.trust c.copy_to.ensures.settled c.copy_to.ensures.less)
+    mark_finds c.args.core.now c.copy_to.new.core c.args.core.now.unsettled (g.S.Shelf.meaning c.args.shelf.now) (g.S.Shelf.meaning c.copy_to.new.shelf)
+    (then_finds c.args.core.now c.settle_headers.new.core c.copy_to.new.core (g.S.Shelf.meaning c.args.shelf.now) (g.S.Shelf.meaning c.settle_headers.new.shelf) (g.S.Shelf.meaning c.copy_to.new.shelf) c.settle_headers.ensures.finds
+    (stays_finds c.settle_headers.new.core c.copy_to.new.core (g.S.Shelf.meaning c.settle_headers.new.shelf) (g.S.Shelf.meaning c.copy_to.new.shelf) (ap (λ (x : Inner). at_serial 0 x.config) c.in-Err-copy_to.ensures.same) c.copy_to.ensures.trust c.copy_to.ensures.settled c.copy_to.ensures.less))
+    (λ openly is. c.copy_to.ensures.trust ∙ c.settle_headers.ensures.trust ∙ openly is)
 
 pub returns-clause-finds : goal.returns-clause-finds
 returns-clause-finds g c =
@@ -127,3 +131,16 @@ returns-in-Err-copy_to-clause-logs g c =
 pub returns-clause-logs : goal.returns-clause-logs
 returns-clause-logs g c =
     then_logs c.args.core.now.config c.settle_headers.new.core.config c.commit_open.new.core.config (volumes_logs c.args.core.now.config c.settle_headers.new.core.config c.settle_headers.ensures.volumes) (then_logs c.settle_headers.new.core.config c.copy_to.new.core.config c.commit_open.new.core.config c.copy_to.ensures.logs c.commit_open.ensures.logs)
+
+pub returns-in-Err-copy_to-clause-stands : goal.returns-in-Err-copy_to-clause-stands
+returns-in-Err-copy_to-clause-stands g c =
+    mark_Stands c.copy_to.new.core c.args.core.now.unsettled (g.S.Shelf.meaning c.copy_to.new.shelf) (λ off. c.copy_to.ensures.settled ∙ c.in-Ok.ensures.settled) c.copy_to.ensures.stands
+
+pub returns-in-Err-clause-missed : goal.returns-in-Err-clause-missed
+returns-in-Err-clause-missed g c = λ was. inl (inl c.in-Err.ensures.missed)
+
+pub returns-in-Err-copy_to-clause-missed : goal.returns-in-Err-copy_to-clause-missed
+returns-in-Err-copy_to-clause-missed g c = λ was. inl (inl was)
+
+pub returns-clause-missed : goal.returns-clause-missed
+returns-clause-missed g c = λ was. c.commit_open.ensures.missed

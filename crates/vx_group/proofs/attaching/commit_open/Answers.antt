@@ -69,3 +69,12 @@ returns-then-is_down-clause-logs g c = then_logs c.args.core.now.config c.detach
 
 pub returns-else-is_down-clause-logs : goal.returns-else-is_down-clause-logs
 returns-else-is_down-clause-logs g c = then_logs c.args.core.now.config c.detach.new.core.config c.take_back.new.core.config c.detach.ensures.logs c.take_back.ensures.logs
+
+pub returns-in-Ok-clause-missed : goal.returns-in-Ok-clause-missed
+returns-in-Ok-clause-missed g c = tt
+
+pub returns-then-is_down-clause-missed : goal.returns-then-is_down-clause-missed
+returns-then-is_down-clause-missed g c = c.take_back.ensures.missed c.in-Err.ensures.missed
+
+pub returns-else-is_down-clause-missed : goal.returns-else-is_down-clause-missed
+returns-else-is_down-clause-missed g c = c.take_back.ensures.missed c.in-Err.ensures.missed

@@ -1,5 +1,5 @@
 -- `take_back`: clauses attaches, off and failing; what `detach` asks; that each place lies within.
-use Rattle.std.proofs.Common.{inl, refl}
+use Rattle.std.proofs.Common.{◌∙◌, inl, inr, refl, sym}
 use Rattle.vx_volume.proofs.PlaceLemmas.{active_few}
 use Rattle.vx_kept.proofs.Chosen.{active_volumes}
 use Rattle.vx_group.proofs.AttachLemmas.{narrows_attaches, other_left, then_attaches}
@@ -94,3 +94,15 @@ returns-in-Ok-detach-clause-logs g c =
 pub returns-in-Err-detach-clause-logs : goal.returns-in-Err-detach-clause-logs
 returns-in-Err-detach-clause-logs g c =
     then_logs c.args.core.now.config c.settle_headers.new.core.config c.detach.new.core.config (volumes_logs c.args.core.now.config c.settle_headers.new.core.config c.settle_headers.ensures.volumes) c.detach.ensures.logs
+
+pub returns-then-is_down-clause-missed : goal.returns-then-is_down-clause-missed
+returns-then-is_down-clause-missed g c = λ was. inl (inr (sym c.is_down.ensures ∙ c.if-is_down.true))
+
+pub returns-in-Err-clause-missed : goal.returns-in-Err-clause-missed
+returns-in-Err-clause-missed g c = λ was. inl (inl c.in-Err.ensures.missed)
+
+pub returns-in-Ok-detach-clause-missed : goal.returns-in-Ok-detach-clause-missed
+returns-in-Ok-detach-clause-missed g c = λ was. inr c.in-Ok-detach.ensures.committed
+
+pub returns-in-Err-detach-clause-missed : goal.returns-in-Err-detach-clause-missed
+returns-in-Err-detach-clause-missed g c = λ was. inl c.in-Err-detach.ensures.missed

@@ -187,3 +187,15 @@ returns-then-is_down-clause-logs g c =
 pub returns-else-is_down-clause-logs : goal.returns-else-is_down-clause-logs
 returns-else-is_down-clause-logs g c =
     volumes_logs c.args.core.now.config (record { serial = c.commit_next.new.next.serial; site = c.args.core.now.config.site; disks = c.args.core.now.config.disks; volumes = c.args.core.now.config.volumes; rvg = c.args.core.now.config.rvg }) refl
+
+pub returns-in-Err-clause-off : goal.returns-in-Err-clause-off
+returns-in-Err-clause-off g c = λ off. off
+
+pub returns-in-Ok-commit_next-clause-off : goal.returns-in-Ok-commit_next-clause-off
+returns-in-Ok-commit_next-clause-off g c = tt
+
+pub returns-then-is_down-clause-off : goal.returns-then-is_down-clause-off
+returns-then-is_down-clause-off g c = λ off. refl
+
+pub returns-else-is_down-clause-off : goal.returns-else-is_down-clause-off
+returns-else-is_down-clause-off g c = λ off. refl
