@@ -36,7 +36,7 @@ module _ (c c' : Core) (volume start count : ℕ) (bytes : List ℕ) (m new : Me
   does_read room size front = record {
     keeps = record { sound = sound'; units = ap (λ (k : Core). k.units) same; moves = read_moves c m new goes };
     same = same;
-    room = size;
+    long = size;
     read = λ beside n up.
         subst (λ (b : List ℕ). CanRead n volume start (blocks_in b) → ReadAs beside n volume start (blocks_in b) b c' m new result) (sym front) (read_of beside n up);
     down = down;

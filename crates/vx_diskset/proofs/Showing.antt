@@ -130,7 +130,7 @@ module _ (c c' : Core) (us us' : List Update) (volume start count : ℕ) (bytes 
     keeps = record { sound = sound'; units = ap (λ (k : Core). k.units) same; moves = read_moves c m new goes };
     same = same;
     waiting = waiting;
-    room = size;
+    long = size;
     shown = λ beside n r. subst (λ (b : List ℕ). CanRead n volume start (blocks_in b) → ShownAs beside n volume start (blocks_in b) b c' us' m new result) (sym front) (shown_of beside n r);
     down = down;
   }

@@ -70,7 +70,7 @@ pub record AsksRead (c : Core) (volume count : ℕ) (m : Meaning) : Type 0 where
 pub record DoesRead (c : Core) (volume start : ℕ) (count : ℕ) (m : Meaning) (c' : Core) (room : List ℕ) (m' : Meaning) (r : Result (Unit {0}) No) : Type 0 where
   pub keeps : KeepsSound c c' m m'
   pub same : c' ≡ c
-  pub room : length room ≡ MOST_CALL_BYTES
+  pub long : length room ≡ MOST_CALL_BYTES
   pub read : (beside : KeptBeside) (n : Node) → IsUpAt beside n c m → CanRead n volume start (blocks_in (take count room)) → ReadAs beside n volume start (blocks_in (take count room)) (take count room) c' m m' r
   pub down : m'.down ≡ m.down
 
@@ -88,7 +88,7 @@ pub record DoesShow (c : Core) (us : List Update) (volume start count : ℕ) (m 
   pub keeps : KeepsSound c c' m m'
   pub same : c' ≡ c
   pub waiting : us' ≡ us
-  pub room : length room ≡ MOST_CALL_BYTES
+  pub long : length room ≡ MOST_CALL_BYTES
   pub shown : (beside : KeptBeside) (n : Node) → IsReceiverAt beside n c us m → CanRead n volume start (blocks_in (take count room)) → ShownAs beside n volume start (blocks_in (take count room)) (take count room) c' us' m m' r
   pub down : m'.down ≡ m.down
 
