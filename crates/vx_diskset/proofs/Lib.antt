@@ -7,6 +7,9 @@ pub mod RvgMoves
 pub mod OverWorks
 pub mod FoundedWork
 pub mod OverNotes
+pub mod OverIdle
+pub mod CountMoves
+pub mod OverNoted
 pub mod OverCalling
 pub mod OverCalls
 pub mod OverClean

@@ -19,6 +19,7 @@ use Rattle.vx_diskset.specs.Aboves.{above_in, site_in}
 use Rattle.vx_diskset.specs.Asked.{CrashesBy, MayCrash}
 use Rattle.vx_diskset.specs.DiskSets.{Later}
 use Rattle.vx_diskset.specs.Founded.{LaidFell}
+use Rattle.vx_diskset.specs.Noted.{OversFall}
 use Rattle.vx_diskset.specs.Stands.{IsToldAt, KeepsRole, RoleBy}
 use Rattle.vx_diskset.specs.declared.disk_set.DiskSet.{DiskSet}
 use Rattle.vx_diskset.specs.declared.disk_set.DiskSet.TheVariants.{Over}
@@ -102,6 +103,10 @@ module _ {R : Type 0} {g : Ghosts R} where
     -- as much is told of the disks
     pub fell_seen : IsToldAt (Over s) → IsToldAt e
     fell_seen told = subst (λ (x : DiskSet R g). IsToldAt x) (sym is) (sym (told_by pick (site_in o) (site_in s) it) ∙ told)
+
+    -- what its site notes of the group falls with it
+    pub fell_notes : ((n : Node) (note : GroupNode) → CutNoted n note (site_in o) → DownNoted (crashed n 0) note (site_in s)) → s.cut ≡ o.cut → OversFall e (Over s)
+    fell_notes fallen cut = subst (λ (x : DiskSet R g). OversFall x (Over s)) (sym is) (record { fallen = fallen; counts = counts_by pick (site_in o) (site_in s) it; cut = cut })
 
     pub fell_role : ((n : Node) → RoleBy n (above_in s)) → KeepsRole e (Over s)
     fell_role role = record { kept = λ n was. role n }

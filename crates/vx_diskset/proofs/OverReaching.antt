@@ -1,6 +1,6 @@
 -- What waits at a site that receives, brought into the volumes, by parts.
 use Rattle.std.proofs.Common.{◌≡◌, ◌∙◌, ⊎_elim, ℕ, ◌-◌, ◌<◌, false, List, length, ap, sym, subst, refl, arith}
-use Rattle.std.specs.Prelude.{None, Result, Ok, Err, min}
+use Rattle.std.specs.Prelude.{IfOk, None, Result, Ok, Err, min, true}
 use Rattle.std.proofs.lemmas.List.{length-drop, length-map}
 use Rattle.vx_model.specs.Content.{Write}
 use Rattle.vx_model.specs.declared.call.Update.{Update}
@@ -20,6 +20,11 @@ use Rattle.vx_srl.specs.Views.{most_number}
 use Rattle.vx_diskset.proofs.LeavesNumbers.{lacks_them}
 use Rattle.vx_diskset.specs.Stands.{IsReceiverAt}
 use Rattle.vx_diskset.proofs.Reaching.{receiver_burned, rule_none, rule_some}
+
+-- what is brought into the volumes, if it is to be acknowledged
+pub acked : (applied : ℕ) (r : Result Reached No) → IfOk r (λ x. applied ≡ x.number) → IfOk r (λ x. x.acks ≡ true → applied ≡ x.number)
+acked applied (Ok x) is = λ acks. is
+acked applied (Err why) is = tt
 
 module _ {beside : KeptBeside} (n : Node) (count few : ℕ) (c : Core) (us : List Update) (m : Meaning) (here : IsReceiverAt beside n c us m) (running : n.halted ≡ None) (few_is : few ≡ min count (length us)) where
   waits_count : length us ≡ length n.log - n.safe

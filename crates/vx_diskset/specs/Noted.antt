@@ -1,8 +1,10 @@
 -- What a site notes of its group of disks, below a replicated volume group or not.
-use Rattle.std.specs.Prelude.{◌≡◌, ◌⊎◌, ℕ, [], false, None, Option, Some}
+use Rattle.std.specs.Prelude.{◌≡◌, ◌⊎◌, ℕ, [], false, IsFalse, None, Option, Result, Some}
 use Rattle.vx_disk.specs.Shelf.{Meaning}
 use Rattle.vx_disk.specs.declared.shelf.Shelf.{Ghosts}
+use Rattle.vx_model.specs.declared.no.No.{No}
 use Rattle.vx_model.specs.declared.site.Role.TheVariants.{Primary}
+use Rattle.vx_model.specs.declared.site.SiteState.TheVariants.{Up as IsUp}
 use Rattle.vx_history.specs.Groups.{GroupNode, NoteWorks}
 use Rattle.vx_history.specs.Steps.{crashed}
 use Rattle.vx_history.specs.Stops.{IsFused}
@@ -17,6 +19,7 @@ use Rattle.vx_grouped.specs.declared.group_site.GroupSite.TheVariants.{Up, Depor
 use Rattle.vx_diskset.specs.Aboves.{InsideOf, IsInside, above_in, site_in}
 use Rattle.vx_watched.specs.Since.{CalledSince}
 use Rattle.vx_watched.specs.Traces.{TellsLess}
+use Rattle.vx_diskset.specs.Burning.{OffIf}
 use Rattle.vx_diskset.specs.Holds.{KeptBeside}
 use Rattle.vx_diskset.specs.Layouts.{units_of}
 use Rattle.vx_diskset.specs.Stands.{RoleBy, SiteStands}
@@ -57,9 +60,9 @@ module _ {R : Type 0} {g : Ghosts R} where
   NotesOver n note (Over old) (Over new) = NotesMoved n note (site_in old) (Over old) (site_in new) (Over new)
   NotesOver n note old new = Unit {0}
 
-  -- a call on the replicated volume group of a site: of a site without a group it says nothing
+  -- a call on the replicated volume group of a site that is up: of a site without a group it says nothing
   pub record NotesOn (old new : DiskSet R g) : Type 0 where
-    pub each : (beside : KeptBeside) (n : Node) (note : GroupNode) → SiteStands beside n old → SiteNoted n note old → NotesOver n note old new
+    pub each : (beside : KeptBeside) (n : Node) (note : GroupNode) → SiteStands beside n old → n.state ≡ IsUp → SiteNoted n note old → NotesOver n note old new
 
   -- The same before the crash: the group is up still, or its disks are down.
   abbrev pub NotesWorked : Node → GroupNode → GroupSite R g → GroupSite R g → Type 0
@@ -85,3 +88,20 @@ module _ {R : Type 0} {g : Ghosts R} where
   pub record FusesNoted (calls : ℕ) (old new : OverSet R g) : Type 0 where
     pub cut : cut_value new.cut ≡ cut_value old.cut
     pub each : (n : Node) (note : GroupNode) → UpNoted n note (site_in old) → UpNoted (record n { fuse = FuseSet calls }) note (site_in new)
+
+  -- So it is of disks that are below a replicated volume group, which are down behind the call exactly where it was answered 6; of others it says nothing.
+  abbrev pub OversCalled : {T : Type 0} → DiskSet R g → DiskSet R g → Result T No → Type 0
+  OversCalled (Over old) (Over new) r = OverCalled old new × (IsFalse (site_disks (site_in old)).down → OffIf r (site_disks (site_in new)).down)
+  OversCalled (Over old) other r = ⊥
+  OversCalled old new r = Unit {0}
+
+  -- the crash behind it
+  pub record OverFalls (old new : OverSet R g) : Type 0 where
+    pub fallen : (n : Node) (note : GroupNode) → CutNoted n note (site_in old) → DownNoted (crashed n 0) note (site_in new)
+    pub counts : (d : ℕ) → (site_disks (site_in new)).disk_faults d ≡ (site_disks (site_in old)).disk_faults d
+    pub cut : new.cut ≡ old.cut
+
+  abbrev pub OversFall : DiskSet R g → DiskSet R g → Type 0
+  OversFall (Over old) (Over new) = OverFalls old new
+  OversFall (Over old) other = ⊥
+  OversFall old new = Unit {0}

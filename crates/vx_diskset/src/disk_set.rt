@@ -4,6 +4,7 @@ ghost use Rattle.vx_events.specs.GroupLines.{is_over_group};
 ghost use Rattle.vx_diskset.specs.Holds.{KeptBeside};
 ghost use Rattle.vx_history.specs.World.{Node};
 ghost use Rattle.vx_diskset.specs.DiskSets.{Later};
+ghost use Rattle.vx_diskset.specs.Noted.{OversFall};
 ghost use Rattle.vx_diskset.specs.Stands.{KeepsRole, SiteStands};
 ghost use Rattle.vx_rvg.specs.Views.{last_of};
 ghost use Rattle.vx_model.specs.declared.limits.TheConstants.{MOST_NUMBER};
@@ -124,6 +125,7 @@ impl<R: Rack> DiskSet<R> {
         ensures stopped { MayCrash pick self result }
         ensures seen { IsToldAt result → IsToldAt self }
         ensures role { KeepsRole self result }
+        ensures fallen { OversFall self result }
         ensures later { Later self result }
     {
         match self {

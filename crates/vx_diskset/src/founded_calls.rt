@@ -2,7 +2,7 @@
 ghost use Rattle.std.specs.Prelude.{◌<◌, ◌≤◌, ◌%◌, ◌≡◌, ℕ, IfOk, IsFalse, List, None, length};
 ghost use Rattle.vx_history.specs.World.{Node};
 ghost use Rattle.vx_model.specs.Content.{blocks_in};
-ghost use Rattle.vx_model.specs.declared.limits.TheConstants.{MOST_CALL_BYTES};
+ghost use Rattle.vx_model.specs.declared.limits.TheConstants.{BLOCK, MOST_CALL_BYTES};
 ghost use Rattle.vx_ground.specs.Lifted.{laid_volumes};
 ghost use Rattle.vx_srlfmt.specs.Headers.{CanSpellState};
 ghost use Rattle.vx_diskset.specs.Burning.{OffIf};
@@ -35,7 +35,7 @@ impl<R: Rack> Founded<R> {
     ) -> (Founded<R>, Result<u64, No>)
         requires some { 0 < length bytes.now }
         requires few { length bytes.now ≤ MOST_CALL_BYTES }
-        requires whole { length bytes.now % 512 ≡ 0 }
+        requires whole { length bytes.now % BLOCK ≡ 0 }
         requires volume { volume < length self.core.units.vols }
         ensures wrote { (beside : KeptBeside) (n : Node) → IsUpAt beside n self.core (laid_volumes self.laid) → CanLog n volume start (blocks_in bytes.now) → HasRoom beside.links n hold (blocks_in bytes.now) → LoggedAs beside n (record { volume = volume; start = start; bytes = bytes.now }) (laid_volumes self.laid) result.0.core (laid_volumes result.0.laid) result.1 }
         ensures off { IsFalse (laid_volumes self.laid).down → OffIf result.1 (laid_volumes result.0.laid).down }
@@ -89,9 +89,10 @@ impl<R: Rack> Founded<R> {
     ) -> (Founded<R>, Result<(), No>)
         requires some { 0 < length into.old }
         requires few { length into.old ≤ MOST_CALL_BYTES }
-        requires whole { length into.old % 512 ≡ 0 }
+        requires whole { length into.old % BLOCK ≡ 0 }
         requires volume { volume < length self.core.units.vols }
         ensures read { (beside : KeptBeside) (n : Node) → IsUpAt beside n self.core (laid_volumes self.laid) → CanRead n volume start (blocks_in into.old) → ReadAs beside n volume start (blocks_in into.old) into.new result.0.core (laid_volumes self.laid) (laid_volumes result.0.laid) result.1 }
+        ensures down { (laid_volumes result.0.laid).down ≡ (laid_volumes self.laid).down }
         ensures works { FoundedWorks self.core self.laid result.0.core result.0.laid }
     {
         let (laid, core) = self.apart();
@@ -147,10 +148,11 @@ impl<R: Rack> FoundedReceiver<R> {
     ) -> (FoundedReceiver<R>, Result<(), No>)
         requires some { 0 < length into.old }
         requires few { length into.old ≤ MOST_CALL_BYTES }
-        requires whole { length into.old % 512 ≡ 0 }
+        requires whole { length into.old % BLOCK ≡ 0 }
         requires volume { volume < length self.core.units.vols }
         ensures read { (beside : KeptBeside) (n : Node) → IsUpAt beside n self.core (laid_volumes self.laid) → CanRead n volume start (blocks_in into.old) → ReadAs beside n volume start (blocks_in into.old) into.new result.0.core (laid_volumes self.laid) (laid_volumes result.0.laid) result.1 }
         ensures waiting { result.0.waiting ≡ self.waiting }
+        ensures down { (laid_volumes result.0.laid).down ≡ (laid_volumes self.laid).down }
         ensures works { FoundedWorks self.core self.laid result.0.core result.0.laid }
     {
         let (laid, core, waiting) = self.apart();
@@ -176,9 +178,10 @@ impl<R: Rack> FoundedReceiver<R> {
     ) -> (FoundedReceiver<R>, Result<(), No>)
         requires some { 0 < length into.old }
         requires few { length into.old ≤ MOST_CALL_BYTES }
-        requires whole { length into.old % 512 ≡ 0 }
+        requires whole { length into.old % BLOCK ≡ 0 }
         requires volume { volume < length self.core.units.vols }
         ensures shows { (beside : KeptBeside) (n : Node) → IsReceiverAt beside n self.core self.waiting (laid_volumes self.laid) → CanRead n volume start (blocks_in into.old) → ShownAs beside n volume start (blocks_in into.old) into.new result.0.core result.0.waiting (laid_volumes self.laid) (laid_volumes result.0.laid) result.1 }
+        ensures down { (laid_volumes result.0.laid).down ≡ (laid_volumes self.laid).down }
         ensures works { FoundedWorks self.core self.laid result.0.core result.0.laid }
     {
         let (laid, core, waiting) = self.apart();
@@ -201,6 +204,7 @@ impl<R: Rack> FoundedReceiver<R> {
         requires some { count ≤ length self.waiting }
         requires numbers { HasNumbers self.core count }
         ensures reaches { (beside : KeptBeside) (n : Node) → IsReceiverAt beside n self.core self.waiting (laid_volumes self.laid) → CanReceive beside n → ReachedTo beside n count result.0.waiting result.0.core (laid_volumes self.laid) (laid_volumes result.0.laid) result.1 }
+        ensures brought { (beside : KeptBeside) (n : Node) → IsReceiverAt beside n self.core self.waiting (laid_volumes self.laid) → CanReceive beside n → IfOk result.1 (λ x. result.0.core.applied ≡ x.number) }
         ensures off { IsFalse (laid_volumes self.laid).down → OffIf result.1 (laid_volumes result.0.laid).down }
         ensures works { FoundedWorks self.core self.laid result.0.core result.0.laid }
     {

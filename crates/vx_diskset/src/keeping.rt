@@ -13,7 +13,7 @@ ghost use Rattle.vx_diskset.specs.Burning.{NoMore, OffIf};
 ghost use Rattle.vx_diskset.specs.DiskSets.{Later};
 ghost use Rattle.vx_diskset.specs.Holds.{KeptBeside};
 ghost use Rattle.vx_diskset.specs.Keeps.{CanKeep, KeptAt, KeptUp, done_by};
-ghost use Rattle.vx_diskset.specs.Noted.{NotesOn};
+ghost use Rattle.vx_diskset.specs.Noted.{NotesOn, OversCalled};
 ghost use Rattle.vx_diskset.specs.Shelves.{KeptAs, LaterOn, MovesOn};
 ghost use Rattle.vx_diskset.specs.Stands.{IsUpAt, KeepsRole, SiteStands};
 
@@ -80,6 +80,7 @@ impl<R: Rack> DiskSet<R> {
         ensures called { (beside : KeptBeside) (n : Node) → SiteStands beside n self.old → IsRawSet self.old → LeavesFuse NoMore (done_by result) self.old self.new }
         ensures headed { (beside : KeptBeside) (n : Node) → SiteStands beside n self.old → IsRawSet self.old → HeadUnder 2 (done_by result) self.old self.new }
         ensures role { KeepsRole self.old self.new }
+        ensures overs { OversCalled self.old self.new result }
         ensures later { Later self.old self.new }
     {
         match self {

@@ -1,8 +1,12 @@
 // Calls on the replicated volume group of a site over a disk group.
-ghost use Rattle.std.specs.Prelude.{◌<◌, ◌≤◌, ◌%◌, ◌≡◌, IfOk, length};
+ghost use Rattle.std.specs.Prelude.{◌<◌, ◌≤◌, ◌%◌, ◌≡◌, IfOk, IsFalse, length, true};
 ghost use Rattle.vx_history.specs.World.{Node};
 ghost use Rattle.vx_model.specs.Content.{blocks_in};
-ghost use Rattle.vx_model.specs.declared.limits.TheConstants.{MOST_CALL_BYTES};
+ghost use Rattle.vx_model.specs.Sites.{is_origin};
+ghost use Rattle.vx_model.specs.declared.limits.TheConstants.{BLOCK, MOST_CALL_BYTES};
+ghost use Rattle.vx_grouped.specs.GroupSites.{site_disks};
+ghost use Rattle.vx_diskset.specs.Aboves.{site_in};
+ghost use Rattle.vx_diskset.specs.Burning.{OffIf};
 ghost use Rattle.vx_diskset.specs.DiskSets.{AppliedUp, CanApply, CanLog, CanRead, LoggedUp, ReadAt};
 ghost use Rattle.vx_diskset.specs.Founded.{FoundedWorks};
 ghost use Rattle.vx_diskset.specs.Holds.{KeptBeside};
@@ -29,6 +33,8 @@ fn reach<R: Rack>(
     count: u64,
 ) -> (FoundedReceiver<R>, Result<Reached, No>)
     ensures reaches { (beside : KeptBeside) (n : Node) → IsReceiverAt beside n founded.core founded.waiting (laid_volumes founded.laid) → CanReceive beside n → ReachedOn beside n count result.0.waiting result.0.core (laid_volumes founded.laid) (laid_volumes result.0.laid) result.1 }
+    ensures brought { (beside : KeptBeside) (n : Node) → IsReceiverAt beside n founded.core founded.waiting (laid_volumes founded.laid) → CanReceive beside n → IfOk result.1 (λ x. x.acks ≡ true → result.0.core.applied ≡ x.number) }
+    ensures off { IsFalse (laid_volumes founded.laid).down → OffIf result.1 (laid_volumes result.0.laid).down }
     ensures works { FoundedWorks founded.core founded.laid result.0.core result.0.laid }
 {
     let few = count.min(u64::from(founded.waiting.len())) as u32;
@@ -66,9 +72,10 @@ impl<R: Rack> OverSet<R> {
     ) -> (OverSet<R>, Result<u64, No>)
         requires some { 0 < length bytes.now }
         requires few { length bytes.now ≤ MOST_CALL_BYTES }
-        requires whole { length bytes.now % 512 ≡ 0 }
-        ensures wrote { (beside : KeptBeside) (n : Node) → SiteStands beside n (OverSites self) → CanLog n volume start (blocks_in bytes.now) → HasRoom beside.links n hold (blocks_in bytes.now) → LoggedUp beside n (record { volume = volume; start = start; bytes = bytes.now }) (OverSites self) (OverSites result.0) result.1 }
+        requires whole { length bytes.now % BLOCK ≡ 0 }
+        ensures wrote { (beside : KeptBeside) (n : Node) → SiteStands beside n (OverSites self) → is_origin n.role ≡ true → CanLog n volume start (blocks_in bytes.now) → HasRoom beside.links n hold (blocks_in bytes.now) → LoggedUp beside n (record { volume = volume; start = start; bytes = bytes.now }) (OverSites self) (OverSites result.0) result.1 }
         ensures called { OverCalled self result.0 }
+        ensures off { IsFalse (site_disks (site_in self)).down → OffIf result.1 (site_disks (site_in result.0)).down }
     {
         let OverSet { site, cut } = self;
         match site {
@@ -95,9 +102,10 @@ impl<R: Rack> OverSet<R> {
     ) -> Result<u64, No>
         requires some { 0 < length bytes.now }
         requires few { length bytes.now ≤ MOST_CALL_BYTES }
-        requires whole { length bytes.now % 512 ≡ 0 }
-        ensures wrote { (beside : KeptBeside) (n : Node) → SiteStands beside n (OverSites self.old) → CanLog n volume start (blocks_in bytes.now) → HasRoom beside.links n hold (blocks_in bytes.now) → LoggedUp beside n (record { volume = volume; start = start; bytes = bytes.now }) (OverSites self.old) (OverSites self.new) result }
+        requires whole { length bytes.now % BLOCK ≡ 0 }
+        ensures wrote { (beside : KeptBeside) (n : Node) → SiteStands beside n (OverSites self.old) → is_origin n.role ≡ true → CanLog n volume start (blocks_in bytes.now) → HasRoom beside.links n hold (blocks_in bytes.now) → LoggedUp beside n (record { volume = volume; start = start; bytes = bytes.now }) (OverSites self.old) (OverSites self.new) result }
         ensures called { OverCalled self.old self.new }
+        ensures off { IsFalse (site_disks (site_in self.old)).down → OffIf result (site_disks (site_in self.new)).down }
     {
         let (over, answer) = mem::replace(self, OverSet::gone()).written(
             volume, start, bytes, hold,
@@ -111,6 +119,7 @@ impl<R: Rack> OverSet<R> {
         ensures applied { (beside : KeptBeside) (n : Node) → SiteStands beside n (OverSites self) → CanApply n → AppliedUp beside n to (OverSites self) (OverSites result.0) result.1 }
         ensures brought { IfOk result.1 (λ number. InVolumes number (OverSites result.0)) }
         ensures called { OverCalled self result.0 }
+        ensures off { IsFalse (site_disks (site_in self)).down → OffIf result.1 (site_disks (site_in result.0)).down }
     {
         let OverSet { site, cut } = self;
         match site {
@@ -132,6 +141,7 @@ impl<R: Rack> OverSet<R> {
         ensures applied { (beside : KeptBeside) (n : Node) → SiteStands beside n (OverSites self.old) → CanApply n → AppliedUp beside n to (OverSites self.old) (OverSites self.new) result }
         ensures brought { IfOk result (λ number. InVolumes number (OverSites self.new)) }
         ensures called { OverCalled self.old self.new }
+        ensures off { IsFalse (site_disks (site_in self.old)).down → OffIf result (site_disks (site_in self.new)).down }
     {
         let (over, answer) = mem::replace(self, OverSet::gone()).applied(to);
         *self = over;
@@ -143,6 +153,7 @@ impl<R: Rack> OverSet<R> {
         requires state { CanSpellState state.now }
         ensures kept { (beside : KeptBeside) (n : Node) → SiteStands beside n (OverSites self) → CanKeep beside n state.now → KeptUp beside n state.now (OverSites self) (OverSites result.0) result.1 }
         ensures called { OverCalled self result.0 }
+        ensures off { IsFalse (site_disks (site_in self)).down → OffIf result.1 (site_disks (site_in result.0)).down }
     {
         let OverSet { site, cut } = self;
         match site {
@@ -164,6 +175,7 @@ impl<R: Rack> OverSet<R> {
         requires state { CanSpellState state.now }
         ensures kept { (beside : KeptBeside) (n : Node) → SiteStands beside n (OverSites self.old) → CanKeep beside n state.now → KeptUp beside n state.now (OverSites self.old) (OverSites self.new) result }
         ensures called { OverCalled self.old self.new }
+        ensures off { IsFalse (site_disks (site_in self.old)).down → OffIf result (site_disks (site_in self.new)).down }
     {
         let (over, answer) = mem::replace(self, OverSet::gone()).kept(state);
         *self = over;
@@ -174,9 +186,10 @@ impl<R: Rack> OverSet<R> {
     fn was_read(self, volume: u32, start: u64, into: &mut [u8]) -> (OverSet<R>, Result<(), No>)
         requires some { 0 < length into.old }
         requires few { length into.old ≤ MOST_CALL_BYTES }
-        requires whole { length into.old % 512 ≡ 0 }
+        requires whole { length into.old % BLOCK ≡ 0 }
         ensures read { (beside : KeptBeside) (n : Node) → SiteStands beside n (OverSites self) → CanRead n volume start (blocks_in into.old) → ReadAt beside n volume start (blocks_in into.old) into.new (OverSites self) (OverSites result.0) result.1 }
         ensures called { OverCalled self result.0 }
+        ensures down { (site_disks (site_in result.0)).down ≡ (site_disks (site_in self)).down }
     {
         let OverSet { site, cut } = self;
         match site {
@@ -207,9 +220,10 @@ impl<R: Rack> OverSet<R> {
     pub(crate) fn read(&mut self, volume: u32, start: u64, into: &mut [u8]) -> Result<(), No>
         requires some { 0 < length into.old }
         requires few { length into.old ≤ MOST_CALL_BYTES }
-        requires whole { length into.old % 512 ≡ 0 }
+        requires whole { length into.old % BLOCK ≡ 0 }
         ensures read { (beside : KeptBeside) (n : Node) → SiteStands beside n (OverSites self.old) → CanRead n volume start (blocks_in into.old) → ReadAt beside n volume start (blocks_in into.old) into.new (OverSites self.old) (OverSites self.new) result }
         ensures called { OverCalled self.old self.new }
+        ensures down { (site_disks (site_in self.new)).down ≡ (site_disks (site_in self.old)).down }
     {
         let (over, answer) = mem::replace(self, OverSet::gone()).was_read(volume, start, into);
         *self = over;
@@ -220,9 +234,10 @@ impl<R: Rack> OverSet<R> {
     fn shown(self, volume: u32, start: u64, into: &mut [u8]) -> (OverSet<R>, Result<(), No>)
         requires some { 0 < length into.old }
         requires few { length into.old ≤ MOST_CALL_BYTES }
-        requires whole { length into.old % 512 ≡ 0 }
+        requires whole { length into.old % BLOCK ≡ 0 }
         ensures shows { (beside : KeptBeside) (n : Node) → SiteStands beside n (OverSites self) → CanRead n volume start (blocks_in into.old) → ShowedAt beside n volume start (blocks_in into.old) into.new (OverSites self) (OverSites result.0) result.1 }
         ensures called { OverCalled self result.0 }
+        ensures down { (site_disks (site_in result.0)).down ≡ (site_disks (site_in self)).down }
     {
         let OverSet { site, cut } = self;
         match site {
@@ -253,9 +268,10 @@ impl<R: Rack> OverSet<R> {
     pub(crate) fn show(&mut self, volume: u32, start: u64, into: &mut [u8]) -> Result<(), No>
         requires some { 0 < length into.old }
         requires few { length into.old ≤ MOST_CALL_BYTES }
-        requires whole { length into.old % 512 ≡ 0 }
+        requires whole { length into.old % BLOCK ≡ 0 }
         ensures shows { (beside : KeptBeside) (n : Node) → SiteStands beside n (OverSites self.old) → CanRead n volume start (blocks_in into.old) → ShowedAt beside n volume start (blocks_in into.old) into.new (OverSites self.old) (OverSites self.new) result }
         ensures called { OverCalled self.old self.new }
+        ensures down { (site_disks (site_in self.new)).down ≡ (site_disks (site_in self.old)).down }
     {
         let (over, answer) = mem::replace(self, OverSet::gone()).shown(volume, start, into);
         *self = over;
@@ -265,7 +281,9 @@ impl<R: Rack> OverSet<R> {
     // Logs the oldest of what waits, so many of them or all, and brings all that is logged into the volumes.
     fn reached(self, count: u64) -> (OverSet<R>, Result<Reached, No>)
         ensures applied { (beside : KeptBeside) (n : Node) → SiteStands beside n (OverSites self) → CanReceive beside n → ReachedUp beside n count (OverSites self) (OverSites result.0) result.1 }
+        ensures brought { (beside : KeptBeside) (n : Node) → SiteStands beside n (OverSites self) → CanReceive beside n → IfOk result.1 (λ x. x.acks ≡ true → InVolumes x.number (OverSites result.0)) }
         ensures called { OverCalled self result.0 }
+        ensures off { IsFalse (site_disks (site_in self)).down → OffIf result.1 (site_disks (site_in result.0)).down }
     {
         let OverSet { site, cut } = self;
         match site {
@@ -291,7 +309,9 @@ impl<R: Rack> OverSet<R> {
 
     pub(crate) fn apply_waiting(&mut self, count: u64) -> Result<Reached, No>
         ensures applied { (beside : KeptBeside) (n : Node) → SiteStands beside n (OverSites self.old) → CanReceive beside n → ReachedUp beside n count (OverSites self.old) (OverSites self.new) result }
+        ensures brought { (beside : KeptBeside) (n : Node) → SiteStands beside n (OverSites self.old) → CanReceive beside n → IfOk result (λ x. x.acks ≡ true → InVolumes x.number (OverSites self.new)) }
         ensures called { OverCalled self.old self.new }
+        ensures off { IsFalse (site_disks (site_in self.old)).down → OffIf result (site_disks (site_in self.new)).down }
     {
         let (over, answer) = mem::replace(self, OverSet::gone()).reached(count);
         *self = over;

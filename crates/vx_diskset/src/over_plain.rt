@@ -12,7 +12,7 @@ ghost use Rattle.vx_grouped.specs.SiteMaps.{AddedMapped, AttMapped, DetMapped, S
 ghost use Rattle.vx_history.specs.Groups.{GroupNode};
 ghost use Rattle.vx_history.specs.World.{Node};
 ghost use Rattle.vx_model.specs.declared.errors.Stop.TheVariants.{No as Refused};
-ghost use Rattle.vx_model.specs.declared.limits.TheConstants.{MOST_CALL_BYTES};
+ghost use Rattle.vx_model.specs.declared.limits.TheConstants.{BLOCK, MOST_CALL_BYTES};
 ghost use Rattle.vx_model.specs.declared.no.No.{No as NoValue};
 ghost use Rattle.vx_watched.specs.Since.{CalledSince};
 ghost use Rattle.vx_watched.specs.Traces.{TellsLess};
@@ -95,7 +95,7 @@ impl<R: Rack> OverSet<R> {
     pub(crate) fn write_plain(&mut self, volume: u32, block: u64, bytes: &[u8]) -> Result<(), No>
         requires some { 0 < length bytes.now }
         requires few { length bytes.now ≤ MOST_CALL_BYTES }
-        requires whole { length bytes.now % 512 ≡ 0 }
+        requires whole { length bytes.now % BLOCK ≡ 0 }
         ensures wrote { (n : Node) (note : GroupNode) → UpNoted n note (site_in self.old) → FitsPlain note volume block (length bytes.now) → PlainWrote n note (plain_write volume block bytes.now) (site_in self.old) (site_in self.new) result }
         ensures maps { (n : Node) (note : GroupNode) → UpNoted n note (site_in self.old) → FitsPlain note volume block (length bytes.now) → WroteMapped (plain_write volume block bytes.now) (site_in self.old) (site_in self.new) result }
         ensures cut { cut_value self.new.cut ≡ cut_behind result (plain_write volume block bytes.now) (cut_value self.old.cut) }

@@ -13,7 +13,7 @@ ghost use Rattle.vx_diskset.specs.DiskSets.{CanRead, Later};
 ghost use Rattle.vx_diskset.specs.Holds.{KeptBeside};
 ghost use Rattle.vx_diskset.specs.Received.{CanReceive, LoggedTo, ReachedAt, ReachedTo, ReachedUp, ShowedAt, reached_by};
 ghost use Rattle.vx_diskset.specs.Rooms.{HasNumbers, IsMore, logged_count};
-ghost use Rattle.vx_diskset.specs.Noted.{NotesOn};
+ghost use Rattle.vx_diskset.specs.Noted.{NotesOn, OversCalled};
 ghost use Rattle.vx_diskset.specs.Shelves.{BlamesRack, LaterOn, MovesOn};
 ghost use Rattle.vx_diskset.specs.Stands.{InVolumes, IsReceiverAt, KeepsRole, SiteStands};
 
@@ -198,6 +198,7 @@ impl<R: Rack> DiskSet<R> {
         ensures called { (beside : KeptBeside) (n : Node) → SiteStands beside n self.old → IsRawSet self.old → LeavesFuse NoMore (reached_by result) self.old self.new }
         ensures role { KeepsRole self.old self.new }
         ensures blames { (beside : KeptBeside) (n : Node) → SiteStands beside n self.old → IfErr result (BlamesSite n) }
+        ensures overs { OversCalled self.old self.new result }
         ensures later { Later self.old self.new }
     {
         match self {

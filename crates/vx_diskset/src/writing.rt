@@ -19,7 +19,7 @@ ghost use Rattle.vx_diskset.specs.DiskSets.{Later, CanLog, CanWrite, LoggedUp, W
 ghost use Rattle.vx_diskset.specs.Needs.{HasRoom, NoneNeeds};
 ghost use Rattle.vx_diskset.specs.Rooms.{AppliedAs, IsMore, NeverLimit, RoomIs, TakesOne, logged_count};
 ghost use Rattle.vx_diskset.specs.Shelves.{BlamesRack, BurnsOn, LaterOn, LoggedAs, MovesOn};
-ghost use Rattle.vx_diskset.specs.Noted.{NotesOn};
+ghost use Rattle.vx_diskset.specs.Noted.{NotesOn, OversCalled, OversFall};
 ghost use Rattle.vx_diskset.specs.Stands.{IsUpAt, KeepsRole, StandsAlone, SiteStands};
 
 use crate::DiskSet;
@@ -163,6 +163,7 @@ impl<R: Rack> DiskSet<R> {
         ensures stopped { MayCrash 0xffff_ffff_ffff_ffff self.old self.new }
         ensures seen { IsToldAt self.new → IsToldAt self.old }
         ensures role { KeepsRole self.old self.new }
+        ensures fallen { OversFall self.old self.new }
         ensures later { Later self.old self.new }
     {
         let disk_set = mem::replace(self, DiskSet::Gone);
@@ -229,6 +230,7 @@ impl<R: Rack> DiskSet<R> {
         ensures called { (beside : KeptBeside) (n : Node) → SiteStands beside n self.old → IsRawSet self.old → WritesUnder bytes.now (said_by result) self.old self.new }
         ensures role { KeepsRole self.old self.new }
         ensures blames { (beside : KeptBeside) (n : Node) → SiteStands beside n self.old → IfErr result (BlamesSite n) }
+        ensures overs { OversCalled self.old self.new result }
         ensures later { Later self.old self.new }
     {
         match self {
@@ -316,6 +318,7 @@ impl<R: Rack> DiskSet<R> {
         ensures called { (beside : KeptBeside) (n : Node) → SiteStands beside n self.old → IsRawSet self.old → LeavesFuse NoMore (said_by result) self.old self.new }
         ensures role { KeepsRole self.old self.new }
         ensures blames { (beside : KeptBeside) (n : Node) → SiteStands beside n self.old → IfErr result (BlamesSite n) }
+        ensures overs { OversCalled self.old self.new result }
         ensures later { Later self.old self.new }
     {
         match self {

@@ -5,7 +5,7 @@ use Rattle.vx_ground.specs.Lifted.{laid_volumes}
 use Rattle.vx_rvg.specs.Groups.{has_numbers}
 use Rattle.vx_diskset.proofs.FoundedWork.{founded_none}
 use Rattle.vx_diskset.proofs.LeavesNumbers.{has_them}
-use Rattle.vx_diskset.proofs.OverReaching.{reach_full, reach_idle, reach_some}
+use Rattle.vx_diskset.proofs.OverReaching.{acked, reach_full, reach_idle, reach_some}
 use Rattle.vx_diskset.proofs.over_calls.reach.Goals as goal
 
 pub returns-then-few-eq0-clause-works : goal.returns-then-few-eq0-clause-works
@@ -34,3 +34,21 @@ returns-else-not-has_numbers-clause-reaches g c = λ beside n here can.
 pub reach-requires-clause-numbers : goal.reach-requires-clause-numbers
 reach-requires-clause-numbers g c =
     has_them c.args.founded.core c.min-few.result (ap (λ (k : ℕ). has_numbers c.args.founded.core k) (sym c.from-many.ensures) ∙ sym c.has_numbers.ensures ∙ c.if-not-has_numbers.false)
+
+pub returns-then-few-eq0-clause-brought : goal.returns-then-few-eq0-clause-brought
+returns-then-few-eq0-clause-brought g c = λ beside n here can is. absurd (cc)
+
+pub returns-then-not-has_numbers-clause-brought : goal.returns-then-not-has_numbers-clause-brought
+returns-then-not-has_numbers-clause-brought g c = λ beside n here can. tt
+
+pub returns-else-not-has_numbers-clause-brought : goal.returns-else-not-has_numbers-clause-brought
+returns-else-not-has_numbers-clause-brought g c = λ beside n here can. acked c.reach.result.0.core.applied c.reach.result.1 (c.reach.ensures.brought beside n here can)
+
+pub returns-then-few-eq0-clause-off : goal.returns-then-few-eq0-clause-off
+returns-then-few-eq0-clause-off g c = λ up. up
+
+pub returns-then-not-has_numbers-clause-off : goal.returns-then-not-has_numbers-clause-off
+returns-then-not-has_numbers-clause-off g c = λ up. up
+
+pub returns-else-not-has_numbers-clause-off : goal.returns-else-not-has_numbers-clause-off
+returns-else-not-has_numbers-clause-off g c = c.reach.ensures.off

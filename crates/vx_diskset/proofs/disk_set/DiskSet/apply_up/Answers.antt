@@ -12,6 +12,8 @@ use Rattle.vx_diskset.specs.DiskSets.{AppliedUp}
 use Rattle.vx_diskset.specs.Stands.{SiteStands}
 use Rattle.vx_diskset.specs.Asked.{IsRawSet}
 use Rattle.vx_diskset.proofs.OverCalled.{blamed_over, over_later, over_role}
+use Rattle.vx_diskset.specs.Noted.{OversCalled}
+use Rattle.vx_diskset.proofs.OverNoted.{overs_raw}
 use Rattle.vx_diskset.proofs.disk_set.DiskSet.apply_up.Goals as goal
 
 pub returns-in-Up-clause-called : goal.returns-in-Up-clause-called
@@ -57,3 +59,15 @@ returns-in-Over-clause-blames g c = λ beside n stands. blamed_over c.apply.resu
 
 pub returns-in-Over-clause-called : goal.returns-in-Over-clause-called
 returns-in-Over-clause-called g c = λ beside n stands raw. absurd (subst (λ e. IsRawSet e) c.in-Over.is raw)
+
+pub returns-in-Up-clause-overs : goal.returns-in-Up-clause-overs
+returns-in-Up-clause-overs g c = overs_raw c.args.self.now _ _ (subst (λ e. IsRawSet e) (sym c.in-Up.is) tt)
+
+pub returns-in-Receives-clause-overs : goal.returns-in-Receives-clause-overs
+returns-in-Receives-clause-overs g c = overs_raw c.args.self.now _ _ (subst (λ e. IsRawSet e) (sym c.in-Receives.is) tt)
+
+pub returns-in-Over-clause-overs : goal.returns-in-Over-clause-overs
+returns-in-Over-clause-overs g c = subst (λ e. OversCalled e (Over c.apply.new.self) c.apply.result) (sym c.in-Over.is) (c.apply.ensures.called, c.apply.ensures.off)
+
+pub returns-in-Over-clause-brought : goal.returns-in-Over-clause-brought
+returns-in-Over-clause-brought g c = c.apply.ensures.brought

@@ -1,13 +1,15 @@
 -- `crash`: clauses crashed, cut, asked and stopped.
 use Rattle.std.proofs.Common.{◌≡◌, ◌∙◌, IsTrue, ap, subst, sym}
 use Rattle.vx_diskset.specs.Stands.{CutAt, IsToldAt, SiteStands}
-use Rattle.vx_diskset.proofs.OverFalls.{fell_asked, fell_later, fell_role, fell_seen, fell_stopped}
+use Rattle.vx_diskset.proofs.OverFalls.{fell_asked, fell_later, fell_role, fell_seen, fell_stopped, fell_notes}
 use Rattle.vx_diskset.proofs.RawSets.{cut_received, receiver_there, up_there}
 use Rattle.vx_diskset.proofs.CrashGroup.{crashed_at, cut_crashed, held_crashed}
 use Rattle.vx_diskset.proofs.Asking.{crash_did}
 use Rattle.vx_diskset.proofs.KeepsFailing.{stopped_up}
 use Rattle.vx_diskset.proofs.Receiving.{receiver_held}
 use Rattle.vx_diskset.proofs.OverGroups.{set_crashed, set_fell, set_stopped, set_told}
+use Rattle.vx_diskset.specs.Asked.{IsRawSet}
+use Rattle.vx_diskset.proofs.OverNoted.{falls_as, falls_rest}
 use Rattle.vx_diskset.proofs.disk_set.DiskSet.crash.Goals as goal
 
 pub returns-in-Up-clause-crashed : goal.returns-in-Up-clause-crashed
@@ -93,3 +95,18 @@ returns-in-Up-clause-seen g c = λ told.
 pub returns-in-Receives-clause-seen : goal.returns-in-Receives-clause-seen
 returns-in-Receives-clause-seen g c = λ told.
     subst (λ e. IsToldAt e) (sym c.in-Receives.is) (subst (λ r. IsTrue (g.R.Shelf.meaning r).tells) (c.into_shelf-rack-in-Receives.ensures ∙ ap (λ r. r.shelf) c.into_rvg.ensures) (sym c.crash-in-Receives.ensures.stopped.tells ∙ told))
+
+pub returns-in-Up-clause-fallen : goal.returns-in-Up-clause-fallen
+returns-in-Up-clause-fallen g c = falls_as c.args.self _ (subst (λ e. IsRawSet e) (sym c.in-Up.is) tt)
+
+pub returns-in-Receives-clause-fallen : goal.returns-in-Receives-clause-fallen
+returns-in-Receives-clause-fallen g c = falls_as c.args.self _ (subst (λ e. IsRawSet e) (sym c.in-Receives.is) tt)
+
+pub returns-in-OfGroup-clause-fallen : goal.returns-in-OfGroup-clause-fallen
+returns-in-OfGroup-clause-fallen g c = falls_as c.args.self _ (subst (λ e. IsRawSet e) (sym c.in-OfGroup.is) tt)
+
+pub returns-in-Over-clause-fallen : goal.returns-in-Over-clause-fallen
+returns-in-Over-clause-fallen g c = fell_notes c.args.pick c.args.self c.in-Over.over c.crash-in-Over.result c.in-Over.is c.crash-in-Over.ensures.stopped c.crash-in-Over.ensures.fallen c.crash-in-Over.ensures.cut
+
+pub returns-in_default-clause-fallen : goal.returns-in_default-clause-fallen
+returns-in_default-clause-fallen g c = falls_rest c.args.self c.args.self c.in_default.not-Over

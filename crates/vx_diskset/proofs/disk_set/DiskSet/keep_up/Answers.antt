@@ -11,6 +11,8 @@ use Rattle.vx_diskset.proofs.RawSets.{receiver_there, up_there}
 use Rattle.vx_diskset.proofs.Receiving.{durable_of, kept_received, receiver_as}
 use Rattle.vx_diskset.specs.Asked.{IsRawSet}
 use Rattle.vx_diskset.proofs.OverCalled.{over_later, over_role}
+use Rattle.vx_diskset.specs.Noted.{OversCalled}
+use Rattle.vx_diskset.proofs.OverNoted.{overs_raw}
 use Rattle.vx_diskset.proofs.disk_set.DiskSet.keep_up.Goals as goal
 
 pub returns-in-Up-clause-called : goal.returns-in-Up-clause-called
@@ -63,3 +65,12 @@ returns-in-Over-clause-called g c = λ beside n stands raw. absurd (subst (λ e.
 
 pub returns-in-Over-clause-headed : goal.returns-in-Over-clause-headed
 returns-in-Over-clause-headed g c = λ beside n stands raw. absurd (subst (λ e. IsRawSet e) c.in-Over.is raw)
+
+pub returns-in-Up-clause-overs : goal.returns-in-Up-clause-overs
+returns-in-Up-clause-overs g c = overs_raw c.args.self.now _ _ (subst (λ e. IsRawSet e) (sym c.in-Up.is) tt)
+
+pub returns-in-Receives-clause-overs : goal.returns-in-Receives-clause-overs
+returns-in-Receives-clause-overs g c = overs_raw c.args.self.now _ _ (subst (λ e. IsRawSet e) (sym c.in-Receives.is) tt)
+
+pub returns-in-Over-clause-overs : goal.returns-in-Over-clause-overs
+returns-in-Over-clause-overs g c = subst (λ e. OversCalled e (Over c.keep.new.self) c.keep.result) (sym c.in-Over.is) (c.keep.ensures.called, c.keep.ensures.off)

@@ -2,10 +2,14 @@
 use Rattle.std.proofs.Common.{refl, subst, sym}
 use Rattle.vx_model.specs.Content.{blocks_in}
 use Rattle.vx_diskset.specs.Asked.{IsRawSet, LeavesAlone}
-use Rattle.vx_diskset.specs.declared.disk_set.DiskSet.TheVariants.{Up}
+use Rattle.vx_diskset.specs.declared.disk_set.DiskSet.TheVariants.{Up, Over}
 use Rattle.vx_diskset.proofs.KeepsFailing.{alone_same}
 use Rattle.vx_diskset.proofs.ReadGroup.{read_at}
 use Rattle.vx_diskset.proofs.Receiving.{durable_of, read_received, receiver_as, wait_core}
+use Rattle.vx_diskset.specs.DiskSets.{ReadAt}
+use Rattle.vx_diskset.specs.Stands.{SiteStands}
+use Rattle.vx_diskset.proofs.OverCalled.{over_later, over_role}
+use Rattle.vx_diskset.proofs.OverNoted.{notes_raw, notes_read}
 use Rattle.vx_diskset.proofs.disk_set.DiskSet.read.Goals as goal
 use Rattle.vx_diskset.proofs.RawSets.{receiver_there}
 
@@ -39,3 +43,28 @@ returns-then-volume-volumes-2-clause-read g c = λ beside n stands can.
 
 pub returns-in-Over-clause-still : goal.returns-in-Over-clause-still
 returns-in-Over-clause-still g c = λ raw. absurd (subst (λ e. IsRawSet e) c.in-Over.is raw)
+
+pub returns-then-volume-volumes-clause-notes : goal.returns-then-volume-volumes-clause-notes
+returns-then-volume-volumes-clause-notes g c = notes_raw c.args.self.now _ (subst (λ e. IsRawSet e) (sym c.in-Up.is) tt)
+
+pub returns-else-volume-volumes-clause-notes : goal.returns-else-volume-volumes-clause-notes
+returns-else-volume-volumes-clause-notes g c = notes_raw c.args.self.now _ (subst (λ e. IsRawSet e) (sym c.in-Up.is) tt)
+
+pub returns-then-volume-volumes-2-clause-notes : goal.returns-then-volume-volumes-2-clause-notes
+returns-then-volume-volumes-2-clause-notes g c = notes_raw c.args.self.now _ (subst (λ e. IsRawSet e) (sym c.in-Receives.is) tt)
+
+pub returns-else-volume-volumes-2-clause-notes : goal.returns-else-volume-volumes-2-clause-notes
+returns-else-volume-volumes-2-clause-notes g c = notes_raw c.args.self.now _ (subst (λ e. IsRawSet e) (sym c.in-Receives.is) tt)
+
+pub returns-in-Over-clause-read : goal.returns-in-Over-clause-read
+returns-in-Over-clause-read g c = λ beside n stands can.
+    subst (λ e. ReadAt beside n c.args.volume c.args.start (blocks_in c.args.into.now) c.read-in-Over.new.into e (Over c.read-in-Over.new.self) c.read-in-Over.result) (sym c.in-Over.is) (c.read-in-Over.ensures.read beside n (subst (λ e. SiteStands beside n e) c.in-Over.is stands) can)
+
+pub returns-in-Over-clause-role : goal.returns-in-Over-clause-role
+returns-in-Over-clause-role g c = over_role c.args.self.now c.in-Over.over c.read-in-Over.new.self c.in-Over.is c.read-in-Over.ensures.called
+
+pub returns-in-Over-clause-later : goal.returns-in-Over-clause-later
+returns-in-Over-clause-later g c = over_later c.args.self.now c.in-Over.over c.read-in-Over.new.self c.in-Over.is c.read-in-Over.ensures.called
+
+pub returns-in-Over-clause-notes : goal.returns-in-Over-clause-notes
+returns-in-Over-clause-notes g c = notes_read c.args.self.now c.in-Over.over c.read-in-Over.new.self c.in-Over.is c.read-in-Over.ensures.called c.read-in-Over.ensures.down

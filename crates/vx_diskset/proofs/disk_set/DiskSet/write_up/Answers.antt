@@ -11,6 +11,8 @@ use Rattle.vx_diskset.proofs.Blamed.{blamed_up}
 use Rattle.vx_diskset.proofs.WriteGroup.{logged_at, logged_wrote}
 use Rattle.vx_diskset.proofs.CallsBurn.{burns_up, called_still, called_up, cuts_none, cuts_up}
 use Rattle.vx_diskset.proofs.OverCalled.{blamed_over, over_later, over_role}
+use Rattle.vx_diskset.specs.Noted.{OversCalled}
+use Rattle.vx_diskset.proofs.OverNoted.{overs_raw}
 use Rattle.vx_diskset.proofs.disk_set.DiskSet.write_up.Goals as goal
 use Rattle.vx_diskset.specs.Asked.{IsRawSet}
 use Rattle.vx_diskset.proofs.RawSets.{up_there}
@@ -48,7 +50,7 @@ returns-in-Over-clause-wrote g c = λ beside n stands can has.
     let x = (let w : Write = record { volume = c.args.volume; start = c.args.start; bytes = c.args.bytes.now } in w) in
     logged_wrote beside n x c.args.self.now (Over c.write.new.self) c.write.result can.origin
     (subst (λ e. LoggedUp beside n x e (Over c.write.new.self) c.write.result) (sym c.in-Over.is)
-    (c.write.ensures.wrote beside n (subst (λ e. SiteStands beside n e) c.in-Over.is stands)
+    (c.write.ensures.wrote beside n (subst (λ e. SiteStands beside n e) c.in-Over.is stands) can.origin
     (record { up = can.up; running = can.running; volume_exists = can.volume_exists; fits = can.fits; within = can.within }) has))
 
 pub returns-in-Over-clause-role : goal.returns-in-Over-clause-role
@@ -62,3 +64,12 @@ returns-in-Over-clause-blames g c = λ beside n stands. blamed_over c.write.resu
 
 pub returns-in-Over-clause-called : goal.returns-in-Over-clause-called
 returns-in-Over-clause-called g c = λ beside n stands raw. absurd (subst (λ e. IsRawSet e) c.in-Over.is raw)
+
+pub returns-then-volume-volumes-clause-overs : goal.returns-then-volume-volumes-clause-overs
+returns-then-volume-volumes-clause-overs g c = overs_raw c.args.self.now _ _ (subst (λ e. IsRawSet e) (sym c.in-Up.is) tt)
+
+pub returns-else-volume-volumes-clause-overs : goal.returns-else-volume-volumes-clause-overs
+returns-else-volume-volumes-clause-overs g c = overs_raw c.args.self.now _ _ (subst (λ e. IsRawSet e) (sym c.in-Up.is) tt)
+
+pub returns-in-Over-clause-overs : goal.returns-in-Over-clause-overs
+returns-in-Over-clause-overs g c = subst (λ e. OversCalled e (Over c.write.new.self) c.write.result) (sym c.in-Over.is) (c.write.ensures.called, c.write.ensures.off)

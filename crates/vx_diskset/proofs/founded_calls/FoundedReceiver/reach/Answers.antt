@@ -28,6 +28,14 @@ returns-clause-reaches g c =
     c.args.self.core c.apart-laid.result.1 c.together.result.core c.work_over-laid.result.1.0 c.args.self.laid c.apart-laid.result.0 c.together.result.laid c.work_over-laid.result.0
     c.apart-laid.ensures.core c.apart-laid.ensures.laid c.together.ensures.core c.together.ensures.laid c.work_over-laid.ensures.does))).reaches
 
+pub returns-clause-brought : goal.returns-clause-brought
+returns-clause-brought g c =
+    (subst (λ (us : List Update). DoesReach c.args.self.core us c.args.count (laid_volumes c.args.self.laid) c.together.result.core c.together.result.waiting (laid_volumes c.together.result.laid) c.work_over-laid.result.1.2) c.apart-laid.ensures.waiting
+    (subst (λ (us : List Update). DoesReach c.args.self.core c.apart-laid.result.2 c.args.count (laid_volumes c.args.self.laid) c.together.result.core us (laid_volumes c.together.result.laid) c.work_over-laid.result.1.2) (sym c.together.ensures.waiting)
+    (carried_core (λ x l y k. DoesReach x c.apart-laid.result.2 c.args.count (laid_volumes l) y c.work_over-laid.result.1.1 (laid_volumes k) c.work_over-laid.result.1.2)
+    c.args.self.core c.apart-laid.result.1 c.together.result.core c.work_over-laid.result.1.0 c.args.self.laid c.apart-laid.result.0 c.together.result.laid c.work_over-laid.result.0
+    c.apart-laid.ensures.core c.apart-laid.ensures.laid c.together.ensures.core c.together.ensures.laid c.work_over-laid.ensures.does))).brought
+
 pub returns-clause-off : goal.returns-clause-off
 returns-clause-off g c =
     (carried_core (λ x l y k. DoesReach x c.apart-laid.result.2 c.args.count (laid_volumes l) y c.work_over-laid.result.1.1 (laid_volumes k) c.work_over-laid.result.1.2)

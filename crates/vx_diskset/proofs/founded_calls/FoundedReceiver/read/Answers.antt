@@ -41,3 +41,9 @@ returns-clause-works g c =
 
 pub returns-clause-waiting : goal.returns-clause-waiting
 returns-clause-waiting g c = c.together.ensures.waiting ∙ c.apart-laid.ensures.waiting
+
+pub returns-clause-down : goal.returns-clause-down
+returns-clause-down g c =
+    (carried_core (λ x l y k. DoesRead x c.args.volume c.args.start (length c.args.into.now) (laid_volumes l) y c.work_over-laid.result.1.1 (laid_volumes k) c.work_over-laid.result.1.2)
+    c.args.self.core c.apart-laid.result.1 c.together.result.core c.work_over-laid.result.1.0 c.args.self.laid c.apart-laid.result.0 c.together.result.laid c.work_over-laid.result.0
+    c.apart-laid.ensures.core c.apart-laid.ensures.laid c.together.ensures.core c.together.ensures.laid c.work_over-laid.ensures.does).down

@@ -6,6 +6,11 @@ use Rattle.vx_group.specs.Laws.{group_lawful}
 use Rattle.vx_diskset.proofs.Receiving.{durable_of}
 use Rattle.vx_diskset.proofs.OverReceivers as receivers
 use Rattle.vx_diskset.proofs.OverCalled.{origin_called, receiver_called}
+use Rattle.std.proofs.Common.{subst}
+use Rattle.std.specs.Prelude.{IsFalse}
+use Rattle.vx_grouped.specs.GroupSites.{site_disks}
+use Rattle.vx_diskset.specs.Aboves.{below_site}
+use Rattle.vx_diskset.proofs.OverIdle.{rest_called, off_never}
 use Rattle.vx_diskset.proofs.over_calls.OverSet.kept.Goals as goal
 
 pub returns-in-Origin-clause-kept : goal.returns-in-Origin-clause-kept
@@ -31,3 +36,20 @@ returns-in-Receiver-clause-kept g c = λ beside n stands can.
     receivers.over_kept beside n c.args.self c.in-Receiver.founded c.keep-founded-in-Receiver.result.0 c.args.self.cut c.in-Receiver.is c.keep-founded-in-Receiver.ensures.waiting stands can.running c.args.state.now can.role c.keep-founded-in-Receiver.result.1
     (c.keep-founded-in-Receiver.ensures.kept beside (durable_of n) (receivers.over_durable beside n c.args.self c.in-Receiver.founded c.keep-founded-in-Receiver.result.0 c.args.self.cut c.in-Receiver.is c.keep-founded-in-Receiver.ensures.waiting stands can.running lawful)
     (record { up = can.up; running = can.running; apart = can.apart; line = can.line; role = can.role; needs = can.needs }))
+
+pub returns-in-Origin-clause-off : goal.returns-in-Origin-clause-off
+returns-in-Origin-clause-off g c = λ up. c.keep-founded.ensures.off (subst (λ s. IsFalse (site_disks (below_site s)).down) c.in-Origin.is up)
+
+pub returns-in-Receiver-clause-off : goal.returns-in-Receiver-clause-off
+returns-in-Receiver-clause-off g c = λ up. c.keep-founded-in-Receiver.ensures.off (subst (λ s. IsFalse (site_disks (below_site s)).down) c.in-Receiver.is up)
+
+pub returns-in_default-clause-kept : goal.returns-in_default-clause-kept
+returns-in_default-clause-kept g c = λ beside n stands can. absurd (off_never beside n c.args.self.site c.in_default.not-Origin c.in_default.not-Receiver stands.1 can.up)
+
+pub returns-in_default-clause-called : goal.returns-in_default-clause-called
+returns-in_default-clause-called g c =
+    let is_rack = (g.met.R.Rack g.world.𝓛 g.world.𝓜 g.world.𝓡 ((λ s x. x), (λ x. x), (λ x. x), λ x. x)).rack in
+    rest_called (shade_rack g.R.Shelf.meaning is_rack) c.args.self
+
+pub returns-in_default-clause-off : goal.returns-in_default-clause-off
+returns-in_default-clause-off g c = λ up. up
