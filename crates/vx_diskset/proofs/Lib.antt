@@ -25,6 +25,7 @@ pub mod OverKept
 pub mod OverPlain
 pub mod OverReads
 pub mod OverReceivers
+pub mod OverAway
 pub mod OverCalled
 pub mod CallsBurn
 pub mod CrashGroup

@@ -18,11 +18,11 @@ use Rattle.vx_volume.specs.Plexes.{Inside}
 use Rattle.vx_grouped.specs.Brings.{TookVolumes}
 use Rattle.vx_diskset.proofs.OverCrash.{shown, shows}
 
-returned_place : (readable : ℕ → Bool) (x : Config) (v p b : ℕ) → place (returned readable x) v p b ≡ place x v p b
+pub returned_place : (readable : ℕ → Bool) (x : Config) (v p b : ℕ) → place (returned readable x) v p b ≡ place x v p b
 unfolding place
 returned_place readable x v p b = refl
 
-returned_live : (readable : ℕ → Bool) (x : Config) (v p : ℕ) → live (returned readable x) v p ≡ live x v p
+pub returned_live : (readable : ℕ → Bool) (x : Config) (v p : ℕ) → live (returned readable x) v p ≡ live x v p
 unfolding live
 returned_live readable x v p = refl
 

@@ -83,14 +83,14 @@ image_one m i j lawful rack down tells now each = λ t. λ u. λ b. same u b t
 -- ---- disks as an import sees them
 
 -- no more is left of them
-record IsUnder (r m : Meaning) : Type 0 where
-  units : r.units ≡ m.units
-  size : (u : ℕ) → r.size u ≡ m.size u
-  tells : IsTrue r.tells → IsTrue m.tells
-  leaves : (u b : ℕ) (v : List ℕ) → r.leaves u b v → m.leaves u b v
+pub record IsUnder (r m : Meaning) : Type 0 where
+  pub units : r.units ≡ m.units
+  pub size : (u : ℕ) → r.size u ≡ m.size u
+  pub tells : IsTrue r.tells → IsTrue m.tells
+  pub leaves : (u b : ℕ) (v : List ℕ) → r.leaves u b v → m.leaves u b v
 
 module _ {R : Type 0} {g : Ghosts R} where
-  ready_under : (agreed : Bool) (s : Shade R) → IsUnder (shade_meaning g.meaning (ready_of agreed s)) (shade_meaning g.meaning s)
+  pub ready_under : (agreed : Bool) (s : Shade R) → IsUnder (shade_meaning g.meaning (ready_of agreed s)) (shade_meaning g.meaning s)
   ready_under true s = record { units = refl; size = λ u. refl; tells = λ is. is; leaves = λ u b v left. left }
   ready_under false (Bright r) = record { units = refl; size = λ u. refl; tells = λ is. absurd (let e : false ≡ true = is in cc); leaves = λ u b v left. absurd left }
   ready_under false (Dark r) = record { units = refl; size = λ u. refl; tells = λ is. absurd (let e : false ≡ true = is in cc); leaves = λ u b v left. absurd left }

@@ -5,7 +5,7 @@ use Rattle.vx_grouped.specs.declared.group_site.GroupSite.{GroupSite}
 use Rattle.vx_grouped.specs.GroupSites.{laid_disks}
 use Rattle.vx_grouped.specs.declared.group_site.GroupSite.TheVariants.{Up, Deported, Down}
 use Rattle.vx_grouped.specs.declared.idle.Idle.{Idle}
-use Rattle.vx_history.specs.Steps.{burned, deported_site}
+use Rattle.vx_history.specs.Steps.{burned, crashed, deported_site}
 use Rattle.vx_history.specs.World.{Node}
 use Rattle.vx_model.specs.declared.site.SiteState.TheVariants.{Up as IsUp}
 use Rattle.vx_diskset.specs.Aboves.{above_in, site_in}
@@ -39,6 +39,6 @@ module _ {R : Type 0} {g : Ghosts R} where
     pub each : (beside : KeptBeside) (n : Node) → SiteStands beside n (Over old) → n.state ≡ IsUp → n.halted ≡ None → StaysHere (site_in new) → KeptBy beside n new (site_in new)
     pub above : (n : Node) → RoleBy n (above_in old) → RoleBy n (above_in new)
 
-  -- so a deport leaves it, where it gave the disks up
+  -- So a deport leaves it, where it gave the disks up: the site has the writes that are durable.
   pub record DeportsOver (old new : OverSet R g) : Type 0 where
-    pub each : (beside : KeptBeside) (n : Node) (idle : Idle R g) → SiteStands beside n (Over old) → n.state ≡ IsUp → n.halted ≡ None → site_in new ≡ Deported idle → SiteStands beside (deported_site (burned n.fuse) n) (Over new)
+    pub each : (beside : KeptBeside) (n : Node) (idle : Idle R g) → SiteStands beside n (Over old) → n.state ≡ IsUp → n.halted ≡ None → site_in new ≡ Deported idle → SiteStands beside (deported_site (burned n.fuse) (crashed n n.safe)) (Over new)

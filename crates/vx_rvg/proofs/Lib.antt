@@ -9,6 +9,7 @@ pub mod CommitCalls
 pub mod ContentFacts
 pub mod EmptyStands
 pub mod FetchGives
+pub mod LeftRest
 pub mod MakeStands
 pub mod PatchFacts
 pub mod ReadAnswers

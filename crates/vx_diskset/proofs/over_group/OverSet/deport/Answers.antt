@@ -8,6 +8,7 @@ use Rattle.vx_grouped.specs.SiteEnds.{SiteDeported}
 use Rattle.vx_grouped.specs.SiteMaps.{DeportMapped}
 use Rattle.vx_diskset.specs.Aboves.{above_in, site_in}
 use Rattle.vx_diskset.proofs.OverFrames.{site_stays}
+use Rattle.vx_diskset.proofs.OverAway.{deports_over}
 use Rattle.vx_diskset.proofs.OverKept.{keeps_over, nowhere_aside}
 use Rattle.vx_untold.specs.Shades.{shade_lawful, shade_rack}
 use Rattle.vx_diskset.proofs.OverPlain.{carried_site}
@@ -38,3 +39,9 @@ returns-clause-kept g c =
     keeps_over (shade_lawful g.R.Shelf.meaning lawful) (shade_rack g.R.Shelf.meaning is_rack) Nowhere c.args.self.now c.of.result c.parts-site.result.1 c.parts-site.result.0 c.deport-site.result.0
     (c.parts-site.ensures.above ∙ ap (λ s. above_in s) c.replace.ensures.value) (c.parts-site.ensures.site ∙ ap (λ s. site_in s) c.replace.ensures.value) c.of.ensures.site c.of.ensures.above c.deport-site.ensures.volumes c.parts-site.ensures.stays
     (nowhere_aside c.parts-site.result.1)
+
+pub returns-clause-away : goal.returns-clause-away
+returns-clause-away g c =
+    let lawful = (g.met.R.Shelf g.world.𝓛 g.world.𝓜 g.world.𝓡 ((λ s x. x), (λ x. x), (λ x. x), λ x. x)).lawful in
+    deports_over (shade_lawful g.R.Shelf.meaning lawful) c.args.self.now c.of.result c.parts-site.result.1 c.parts-site.result.0 c.deport-site.result.0
+    (c.parts-site.ensures.above ∙ ap (λ s. above_in s) c.replace.ensures.value) (c.parts-site.ensures.site ∙ ap (λ s. site_in s) c.replace.ensures.value) c.of.ensures.site c.deport-site.ensures.closes c.parts-site.ensures.stays
