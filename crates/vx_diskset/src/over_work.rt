@@ -217,6 +217,20 @@ impl<'a> Work for Starts<'a> {
     }
 }
 
+// Writes each block of these volumes as it reads, one volume after another.
+fn rewrite_each<S: Shelf>(shelf: &mut S, volumes: &[u32]) -> Result<(), ShelfError>
+    requires { (u : ℕ) → Contains volumes.now u → u < (S.meaning shelf.old).units }
+    ensures { DoesRewrite volumes.now (S.meaning shelf.old) (S.meaning shelf.new) result }
+{
+    for k in 0..volumes.len() {
+        match write_over(shelf, volumes[k]) {
+            Ok(()) => {}
+            Err(error) => return Err(error),
+        }
+    }
+    Ok(())
+}
+
 /// Data volumes of which each block is written as it reads.
 #[derive(Drop)]
 pub(crate) struct Rewrites<'a> {
@@ -232,12 +246,7 @@ impl<'a> Work for Rewrites<'a> {
 
     fn run<S: Shelf>(self, shelf: S) -> (S, Result<(), ShelfError>) {
         let mut shelf = shelf;
-        for volume in self.volumes {
-            match write_over(&mut shelf, *volume) {
-                Ok(()) => {}
-                Err(error) => return (shelf, Err(error)),
-            }
-        }
-        (shelf, Ok(()))
+        let answer = rewrite_each(&mut shelf, self.volumes);
+        (shelf, answer)
     }
 }
