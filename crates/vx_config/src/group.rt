@@ -69,7 +69,8 @@ fn map_sum(volumes: &[VolumeEntry], numbers: &[u32]) -> u64
     sum
 }
 
-fn is_group(volumes: &[VolumeEntry], units: &Units) -> bool
+/// Whether these volumes may be a replicated volume group.
+pub fn is_group(volumes: &[VolumeEntry], units: &Units) -> bool
     ensures { result ≡ is_group_is volumes.now units.now }
 {
     let vols = units.vols.as_slice();

@@ -1,5 +1,5 @@
 -- How a replicated volume group is made of volumes of the group of a site.
-use Rattle.std.specs.Prelude.{◌≡◌, ◌⊎◌, ℕ, ◌<◌, ◌==◌, ◌||◌, true, false, List, [], ◌∷◌, Contains, None, Some, slice_get, Result, Ok, Err}
+use Rattle.std.specs.Prelude.{◌≡◌, ◌⊎◌, ℕ, ◌<◌, ◌==◌, ◌||◌, true, false, IsFalse, List, [], ◌∷◌, Contains, None, Some, slice_get, Result, Ok, Err}
 use Rattle.std.specs.List.{list_any}
 use Rattle.vx_disk.specs.Counts.{Rose}
 use Rattle.vx_disk.specs.declared.shelf.Shelf.{Ghosts}
@@ -19,9 +19,10 @@ use Rattle.vx_model.specs.declared.no.Counted.TheVariants.{Number as Numbers}
 use Rattle.vx_model.specs.declared.no.No.TheVariants.{Device, Down as IsOff, Limit}
 use Rattle.vx_model.specs.declared.units.Units.{Units}
 use Rattle.vx_grouped.specs.ConfigMoves.{LosesSome}
-use Rattle.vx_grouped.specs.GroupSites.{DownNoted, UpNoted, site_disks, with_note}
+use Rattle.vx_grouped.specs.GroupSites.{DownNoted, UpNoted, idle_disks, laid_disks, site_disks, with_note}
 use Rattle.vx_grouped.specs.SiteEnds.{ConfigGoes}
 use Rattle.vx_grouped.specs.declared.group_site.GroupSite.{GroupSite}
+use Rattle.vx_grouped.specs.declared.group_site.GroupSite.TheVariants.{Up, Down}
 use Rattle.vx_diskset.specs.Aboves.{site_in}
 use Rattle.vx_diskset.specs.GroupCalls.{AtSite, config_in}
 use Rattle.vx_diskset.specs.Noted.{SiteNoted}
@@ -51,6 +52,12 @@ module _ {R : Type 0} {g : Ghosts R} where
     pub is : config_in e ≡ Some config
     pub none : config.rvg ≡ None
     pub may : is_group config.volumes units ≡ true
+
+  -- the group is up with its disks, or it crashed
+  abbrev pub UpOrFell : GroupSite R g → Type 0
+  UpOrFell (Up laid) = IsFalse (laid_disks laid).down
+  UpOrFell (Down idle) = IsFalse (idle_disks idle).armed
+  UpOrFell other = ⊥
 
   -- The site has it, and its data volumes hold what is noted of them, each block one value that it might have. Or a device failed, no serial was left or memory was
   -- wanted: then it has none, and a header may stand on the volume of the log; or its fuse ran out.

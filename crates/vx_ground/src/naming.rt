@@ -1,19 +1,26 @@
 // The volumes of a group with logs that are its replicated volume group.
-ghost use Rattle.std.specs.Prelude.{◌≡◌, ℕ, Err, IfErr, None, OnOk, Some, true};
+ghost use Rattle.std.specs.Prelude.{◌≡◌, ℕ, Err, IfErr, IsTrue, None, OnOk, Some, true};
 ghost use Rattle.vx_copies.specs.Commits.{MoreFailed};
 ghost use Rattle.vx_disk.specs.Shelf.{Goes, Nothing};
 ghost use Rattle.vx_group.specs.Dets.{DetStops};
 ghost use Rattle.vx_group.specs.Holding.{wide};
 ghost use Rattle.vx_group.specs.Rvgs.{RvgEnds, set_rvg_refusal};
 ghost use Rattle.vx_group.specs.Stands.{inner_meaning};
-ghost use Rattle.vx_ground.specs.Named.{SameVolumes};
+ghost use Rattle.vx_ground.specs.Named.{NamesGroup, SameVolumes};
 ghost use Rattle.vx_model.specs.declared.errors.Stop.TheVariants.{No as Refused};
 ghost use Rattle.vx_model.specs.declared.no.No.{No as NoValue};
+ghost use Rattle.vx_untold.specs.Shades.{rack_of, shade_meaning};
+ghost use Rattle.vx_watched.specs.Since.{CalledSince};
+ghost use Rattle.vx_watched.specs.Traces.{TellsLess};
 
-use vx_disk::Shelf;
+use std::marker::Brand;
+use vx_disk::{Rack, Shelf};
 use vx_group::set_rvg_in;
+use vx_grouped::{Laid, trace, untrace};
 use vx_loggroup::{LoggedGroup, Opened};
 use vx_model::{Stop, Units};
+use vx_untold::Shade;
+use vx_watched::{Begun, Traced, Watched};
 
 /// Names the volumes that are the replicated volume group, by a commit. Every volume is left as it was, and so are its logs.
 ///
@@ -31,6 +38,7 @@ pub fn name_rvg<S: Shelf>(
     ensures ends { RvgEnds units.now group.core.inner.config result.0.core.inner.config (S.meaning result.0.shelf) result.1 }
     ensures trust { OnOk result.1 (group.core.inner.committed ≡ true → result.0.core.inner.committed ≡ true) }
     ensures agreed { IfErr result.1 (λ e. group.core.inner.committed ≡ true → result.0.core.inner.agreed ≡ true) }
+    ensures up { OnOk result.1 (IsTrue (S.meaning result.0.shelf).down → ⊥) }
     ensures cause { set_rvg_refusal group.core.inner.config units.now ≡ None → DetStops (S.meaning group.shelf) (S.meaning result.0.shelf) result.1 }
 {
     let (mut shelf, rest) = group.apart();
@@ -50,4 +58,42 @@ pub fn name_rvg<S: Shelf>(
         stopped,
     };
     (LoggedGroup::together(shelf, rest), answer)
+}
+
+// The same over disks whose calls are accounted for.
+fn name_watched<B: Begun, R: Rack>(
+    group: LoggedGroup<R>,
+    units: &Units,
+) -> (LoggedGroup<R>, Result<(), Stop>)
+    requires since { CalledSince B.first (R.meaning group.shelf) }
+    ensures names { NamesGroup units.now group.core (R.meaning group.shelf) result.0.core (R.meaning result.0.shelf) result.1 }
+    ensures since { CalledSince B.first (R.meaning result.0.shelf) }
+{
+    let (rack, rest) = group.apart();
+    let watched = Watched::<R, B>::over(rack);
+    let group = LoggedGroup::together(watched, rest);
+    let (group, answer) = name_rvg(group, units);
+    let (watched, rest) = group.apart();
+    let rack = watched.into_shelf();
+    (LoggedGroup::together(rack, rest), answer)
+}
+
+// The same over the disks of a site, of which contents are told or not.
+fn name_traced<C: Begun, R: Rack>(laid: Laid<R>, units: &Units) -> (Laid<R>, Result<(), Stop>)
+    requires told { TellsLess C.first (R.meaning (rack_of laid.shelf)) }
+    ensures names { NamesGroup units.now laid.core (shade_meaning (λ s. R.meaning s) laid.shelf) result.0.core (shade_meaning (λ s. R.meaning s) result.0.shelf) result.1 }
+    ensures since { CalledSince (shade_meaning (λ s. R.meaning s) laid.shelf) (shade_meaning (λ s. R.meaning s) result.0.shelf) }
+    ensures told { TellsLess C.first (R.meaning (rack_of result.0.shelf)) }
+{
+    let (group, answer) = name_watched::<Brand, Shade<Traced<R, C>>>(trace::<C, R>(laid), units);
+    (untrace(group), answer)
+}
+
+/// Names the volumes that are the replicated volume group of a group that is up on the disks of a site, by a commit.
+pub fn name_over<R: Rack>(laid: Laid<R>, units: &Units) -> (Laid<R>, Result<(), Stop>)
+    ensures names { NamesGroup units.now laid.core (shade_meaning (λ s. R.meaning s) laid.shelf) result.0.core (shade_meaning (λ s. R.meaning s) result.0.shelf) result.1 }
+    ensures since { CalledSince (shade_meaning (λ s. R.meaning s) laid.shelf) (shade_meaning (λ s. R.meaning s) result.0.shelf) }
+    ensures told { TellsLess (R.meaning (rack_of laid.shelf)) (R.meaning (rack_of result.0.shelf)) }
+{
+    name_traced::<Brand, R>(laid, units)
 }

@@ -25,8 +25,8 @@ returns-then-not-has_numbers-clause-reaches g c = λ beside n here can.
     (c.min-few.ensures ∙ ap (λ (k : ℕ). min c.args.count k) (c.from.ensures ∙ c.len.ensures.is))
     (ap (λ (k : ℕ). has_numbers c.args.founded.core k) (sym c.from-many.ensures) ∙ sym c.has_numbers.ensures ∙ c.if-not-has_numbers.true)
 
-pub returns-else-not-has_numbers-clause-reaches : goal.returns-else-not-has_numbers-clause-reaches
-returns-else-not-has_numbers-clause-reaches g c = λ beside n here can.
+pub returns-clause-reaches : goal.returns-clause-reaches
+returns-clause-reaches g c = λ beside n here can.
     reach_some n c.args.count c.min-few.result c.args.founded.core c.args.founded.waiting (laid_volumes c.args.founded.laid) here can.running
     (c.min-few.ensures ∙ ap (λ (k : ℕ). min c.args.count k) (c.from.ensures ∙ c.len.ensures.is))
     c.reach.result.0.waiting c.reach.result.0.core (laid_volumes c.reach.result.0.laid) c.reach.result.1 (omega (arith, c.if-few-eq0.false)) (c.reach.ensures.reaches beside n here can)
@@ -41,8 +41,8 @@ returns-then-few-eq0-clause-brought g c = λ beside n here can is. absurd (cc)
 pub returns-then-not-has_numbers-clause-brought : goal.returns-then-not-has_numbers-clause-brought
 returns-then-not-has_numbers-clause-brought g c = λ beside n here can. tt
 
-pub returns-else-not-has_numbers-clause-brought : goal.returns-else-not-has_numbers-clause-brought
-returns-else-not-has_numbers-clause-brought g c = λ beside n here can. acked c.reach.result.0.core.applied c.reach.result.1 (c.reach.ensures.brought beside n here can)
+pub returns-clause-brought : goal.returns-clause-brought
+returns-clause-brought g c = λ beside n here can. acked c.reach.result.0.core.applied c.reach.result.1 (c.reach.ensures.brought beside n here can)
 
 pub returns-then-few-eq0-clause-off : goal.returns-then-few-eq0-clause-off
 returns-then-few-eq0-clause-off g c = λ up. up
@@ -50,5 +50,5 @@ returns-then-few-eq0-clause-off g c = λ up. up
 pub returns-then-not-has_numbers-clause-off : goal.returns-then-not-has_numbers-clause-off
 returns-then-not-has_numbers-clause-off g c = λ up. up
 
-pub returns-else-not-has_numbers-clause-off : goal.returns-else-not-has_numbers-clause-off
-returns-else-not-has_numbers-clause-off g c = c.reach.ensures.off
+pub returns-clause-off : goal.returns-clause-off
+returns-clause-off g c = c.reach.ensures.off

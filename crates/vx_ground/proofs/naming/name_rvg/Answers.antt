@@ -1,6 +1,6 @@
 -- Naming the volumes of a replicated volume group: logs stand on, as only configurations were written.
 use Rattle.std.proofs.Common.{◌≡◌, subst, sym}
-use Rattle.std.specs.Prelude.{◌⊎◌, Err, IfErr, None, OnOk, Some, true}
+use Rattle.std.specs.Prelude.{◌⊎◌, Err, IfErr, IsTrue, None, OnOk, Some, true}
 use Rattle.vx_copies.specs.Commits.{MoreFailed}
 use Rattle.vx_disk.specs.Shelf.{Goes, Nothing}
 use Rattle.vx_group.specs.Dets.{DetStops}
@@ -75,3 +75,9 @@ returns-clause-cause g c =
     carried (λ x s y t. set_rvg_refusal x.inner.config c.args.units.now ≡ None → DetStops (g.S.Shelf.meaning s) (g.S.Shelf.meaning t) c.set_rvg_in-answer.result)
     c.args.group.core c.apart-shelf.result.1.core c.together.result.core c.set_rvg_in-answer.new.core c.args.group.shelf c.apart-shelf.result.0 c.together.result.shelf c.set_rvg_in-answer.new.shelf
     c.apart-shelf.ensures.core c.apart-shelf.ensures.shelf c.together.ensures.core c.together.ensures.shelf c.set_rvg_in-answer.ensures.cause
+
+pub returns-clause-up : goal.returns-clause-up
+returns-clause-up g c =
+    carried (λ x s y t. OnOk c.set_rvg_in-answer.result (IsTrue (g.S.Shelf.meaning t).down → ⊥))
+    c.args.group.core c.apart-shelf.result.1.core c.together.result.core c.set_rvg_in-answer.new.core c.args.group.shelf c.apart-shelf.result.0 c.together.result.shelf c.set_rvg_in-answer.new.shelf
+    c.apart-shelf.ensures.core c.apart-shelf.ensures.shelf c.together.ensures.core c.together.ensures.shelf c.set_rvg_in-answer.ensures.up
