@@ -1,6 +1,6 @@
 -- How many calls a write is in a log that began empty and did not go round.
 use Rattle.std.proofs.Common.{◌≡◌, ◌∙◌, ◌+◌, ◌<◌, ◌≤◌, ◌-◌, ⊎_elim, ℕ, List, [], ◌∷◌, ◌++◌, length, drop, ap, sym, subst, refl, arith, IsTrue, true}
-use Rattle.std.specs.Prelude.{◌%◌, Option, Some, None, Result, Ok, Err, OnOk}
+use Rattle.std.specs.Prelude.{◌%◌, false, IsSome, Option, Some, None, Result, Ok, Err, OnOk}
 use Rattle.std.proofs.lemmas.List.{append-nil}
 use Rattle.std.proofs.Math.Nat.{mod-eq_of_lt}
 use Rattle.vx_model.specs.Content.{Content, Write, blocks_in}

@@ -1,5 +1,5 @@
 -- The disks of a site whose group, with a replicated volume group over it, was deported: by each configuration that an import finds they keep its log and its content.
-use Rattle.std.proofs.Common.{◌≡◌, ◌∙◌, ◌⊎◌, inl, inr, ⊎_elim, ℕ, ◌-◌, ◌<◌, ◌≤◌, Bool, List, length, take, drop, IsTrue, ap, arith, refl, subst, sym}
+use Rattle.std.proofs.Common.{◌≡◌, ◌∙◌, ◌⊎◌, inl, inr, ⊎_elim, ℕ, ◌-◌, ◌<◌, ◌≤◌, Bool, true, List, length, take, drop, IsTrue, ap, arith, refl, subst, sym}
 use Rattle.std.specs.Prelude.{None}
 use Rattle.std.proofs.lemmas.List.{drop_all, length-take, take_all}
 use Rattle.vx_config.specs.Checks.{blocks_of, is_sound}
