@@ -69,8 +69,7 @@ fn map_sum(volumes: &[VolumeEntry], numbers: &[u32]) -> u64
     sum
 }
 
-/// Whether these volumes may be a replicated volume group.
-pub fn is_group(volumes: &[VolumeEntry], units: &Units) -> bool
+fn is_group(volumes: &[VolumeEntry], units: &Units) -> bool
     ensures { result ≡ is_group_is volumes.now units.now }
 {
     let vols = units.vols.as_slice();

@@ -33,7 +33,6 @@ pub use decoding::decode;
 pub use disks::Disks;
 pub use encoding::{encode, encode_into, is_short};
 pub use entry::{DiskEntry, LogEntry, PlexEntry, Subdisk, VolumeEntry, VolumeLog};
-pub use group::is_group;
 pub use plexes::Plexes;
 pub use runs::log_run;
 pub use sizes::blocks_of;

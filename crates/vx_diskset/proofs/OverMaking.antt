@@ -1,16 +1,16 @@
 -- The disks of a site on which a replicated volume group is made, whatever is answered.
-use Rattle.std.proofs.Common.{◌≡◌, ◌∙◌, ◌⊎◌, inl, inr, ℕ, ◌≤◌, true, ap, arith, refl, subst, sym}
-use Rattle.std.specs.Prelude.{Some}
+use Rattle.std.proofs.Common.{◌≡◌, ◌∙◌, ◌⊎◌, inl, inr, ℕ, ◌≤◌, Bool, true, false, IsFalse, IsTrue, ap, arith, refl, subst, sym}
+use Rattle.std.specs.Prelude.{None, Option, Some}
 use Rattle.vx_config.specs.Checks.{blocks_of, is_group}
 use Rattle.vx_disk.specs.Disks.{Disks, is_set}
 use Rattle.vx_disk.specs.Moves.{Nowhere}
 use Rattle.vx_disk.specs.Racks.{IsRack}
 use Rattle.vx_disk.specs.Shelf.{Goes, Meaning, Nothing as NoValue}
 use Rattle.vx_disk.specs.declared.shelf.Shelf.{Ghosts}
-use Rattle.vx_watched.specs.Since.{CalledSince, fuse_calls}
+use Rattle.vx_watched.specs.Since.{CalledSince, DisksGo, FuseGoes, fuse_calls, is_rack}
 use Rattle.vx_group.proofs.HoldLemmas.{wide_shape}
 use Rattle.vx_ground.specs.Lifted.{laid_volumes}
-use Rattle.vx_grouped.specs.GroupSites.{site_below, site_disks}
+use Rattle.vx_grouped.specs.GroupSites.{laid_below, laid_disks, site_below, site_disks}
 use Rattle.vx_grouped.specs.Volumes.{laid_seen}
 use Rattle.vx_grouped.specs.declared.group_site.GroupSite.{GroupSite}
 use Rattle.vx_grouped.specs.declared.group_site.GroupSite.TheVariants.{Up as UpSite, Deported, Down as FellSite, Marked, Gone}
@@ -19,7 +19,8 @@ use Rattle.vx_grouped.proofs.VolumeLemmas.{none_go}
 use Rattle.vx_model.specs.declared.limits.TheConstants.{LEAST_BLOCKS}
 use Rattle.vx_model.specs.declared.units.Units.{Units}
 use Rattle.vx_rvg.specs.Views.{Core, IsSound, UnitsPlaced}
-use Rattle.vx_untold.specs.Shades.{shade_rack}
+use Rattle.vx_untold.specs.Shades.{rack_of, shade_meaning, shade_rack}
+use Rattle.vx_untold.specs.declared.shade.Shade.{Shade}
 use Rattle.vx_watched.specs.Traces.{TellsLess}
 use Rattle.vx_diskset.specs.Aboves.{site_in}
 use Rattle.vx_diskset.specs.Asked.{FuseGoesOn, SameFailing, disks_told}
@@ -34,6 +35,40 @@ use Rattle.vx_diskset.proofs.GroupCalling.{IsSettled, OnGroup, failing_risen, fu
 use Rattle.vx_diskset.proofs.OverCalling.{has_over}
 use Rattle.vx_diskset.proofs.OverFrames.{frame_sound}
 use Rattle.vx_diskset.proofs.UnitsLie.{units_large, units_placed}
+
+-- ---- calls behind others
+
+not_both : (b : Bool) → IsTrue b → IsFalse b → ⊥
+not_both true is off = let clash : true ≡ false = off in cc
+not_both false is off = let clash : false ≡ true = is in cc
+
+stayed_up : (b c : Bool) → (IsTrue b → IsTrue c) → IsFalse c → IsFalse b
+stayed_up true c falls up = absurd (not_both c (falls refl) up)
+stayed_up false c falls up = refl
+
+fuse_both : (f g h : Option (ℕ × ℕ)) → FuseGoes f g → FuseGoes g h → FuseGoes f h
+fuse_both f g h one two = record { set = two.set ∙ one.set; left = (let a = one.left in let b = two.left in omega (arith, a, b)); pick = two.pick ∙ one.pick }
+
+both_go : (b c : Bool) (x y z : Disks) → (IsTrue b → IsTrue c) → DisksGo b x y → DisksGo c y z → DisksGo c x z
+both_go b c x y z falls one two = record { failing = λ u. two.failing u ∙ one.failing u; fuse = λ up. fuse_both x.fuse y.fuse z.fuse (one.fuse (stayed_up b c falls up)) (two.fuse up) }
+
+told_both : (first mid new : Option Disks) (b c : Bool) → (IsTrue b → IsTrue c) → is_rack new ≡ is_rack mid → ((o n : Disks) → first ≡ Some o → mid ≡ Some n → DisksGo b o n) → ((o n : Disks) → mid ≡ Some o → new ≡ Some n → DisksGo c o n)
+    → (o n : Disks) → first ≡ Some o → new ≡ Some n → DisksGo c o n
+told_both first None new b c falls rack one two o n is now = absurd (let clash : true ≡ false = sym (ap (λ (d : Option Disks). is_rack d) now) ∙ rack in cc)
+told_both first (Some y) new b c falls rack one two o n is now = both_go b c o y n falls (one o y is refl) (two y n refl now)
+
+pub since_both : (first mid last : Meaning) → CalledSince first mid → CalledSince mid last → CalledSince first last
+since_both first mid last one two = record {
+  units = two.units ∙ one.units;
+  size = λ u. two.size u ∙ one.size u;
+  tells = two.tells ∙ one.tells;
+  counts = λ d. let a = one.counts d in let b = two.counts d in omega (arith, a, b);
+  falls = λ down. two.falls (one.falls down);
+  unarmed = λ none. two.unarmed (one.unarmed none);
+  safe = λ none down. one.safe none (two.safe (one.unarmed none) down);
+  rack = two.rack ∙ one.rack;
+  told = told_both first.disks mid.disks last.disks mid.down last.down two.falls two.rack one.told two.told;
+}
 
 -- ---- the volumes
 
@@ -66,8 +101,14 @@ module _ {R : Type 0} {g : Ghosts R} where
       same : (o n : Disks) → disks_told e ≡ Some o → disks_told e ≡ Some n → o ≡ n
       same o n one two = let both : Some o ≡ Some n = sym one ∙ two in cc
 
-  pub group_again : (o : GroupSet R g) (e : GroupSite R g) → o.site ≡ e → ◌≡◌ {A = DiskSet R g} (OfGroup (record { site = e; cut = o.cut })) (OfGroup o)
-  group_again o e is = ap (λ (x : GroupSite R g). OfGroup (record { site = x; cut = o.cut })) (sym is)
+  -- a group that was taken out and is the same
+  pub since_in : (o : GroupSite R g) (l k : Laid R g) (e : GroupSite R g) → o ≡ UpSite l → k.shelf ≡ l.shelf → CalledSince (laid_disks k) (site_disks e) → CalledSince (site_disks o) (site_disks e)
+  since_in o l k e is shelf it =
+      subst (λ (x : GroupSite R g). CalledSince (site_disks x) (site_disks e)) (sym is) (subst (λ (x : Shade R). CalledSince (shade_meaning g.meaning x) (site_disks e)) shelf it)
+
+  pub told_in : (o : GroupSite R g) (l k : Laid R g) (e : GroupSite R g) → o ≡ UpSite l → k.shelf ≡ l.shelf → TellsLess (laid_below k) (site_below e) → TellsLess (site_below o) (site_below e)
+  told_in o l k e is shelf it =
+      subst (λ (x : GroupSite R g). TellsLess (site_below x) (site_below e)) (sym is) (subst (λ (x : Shade R). TellsLess (g.meaning (rack_of x)) (site_below e)) shelf it)
 
   calm_settled : ((r : R) → IsRack (g.meaning r)) → (e : GroupSite R g) → UpOrFell e → IsSettled e
   calm_settled rackful (UpSite laid) it = record { rack = shade_rack g.meaning rackful laid.shelf; at = inl it }

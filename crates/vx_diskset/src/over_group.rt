@@ -37,19 +37,11 @@ use crate::over_work::{Makes, Rewrites};
 use crate::{Above, DiskSet, GroupSet, OverSet, OverSite};
 use std::alloc::Global;
 use std::mem;
-use vx_config::is_group;
 use vx_disk::{Rack, ShelfError, refusal};
-use vx_ground::{name_over, work_over};
+use vx_ground::{can_name, name_over, work_over};
 use vx_grouped::{GroupSite, Laid};
 use vx_model::{No, State, Stop, Units};
 use vx_rvg::RvgCore;
-
-// Whether these volumes of a group that is up may be its replicated volume group.
-fn can_name<R: Rack>(laid: &Laid<R>, units: &Units) -> bool
-    ensures { result ≡ is_group_of laid.now.core.inner.config.volumes units.now }
-{
-    is_group(laid.config().volumes.as_slice(), units)
-}
 
 // A group that stays up where its disks are, and crashes where its fuse ran out.
 fn stays<R: Rack>(laid: Laid<R>) -> GroupSite<R>
@@ -173,8 +165,9 @@ fn make_in<R: Rack>(
     let GroupSet { site: below, cut } = group;
     match below {
         GroupSite::Up(laid) => {
-            if !can_name(&laid, units) {
-                let below = GroupSite::Up(laid);
+            let (laid, may) = can_name(laid, units);
+            if !may {
+                let below = stays(laid);
                 return (
                     DiskSet::OfGroup(GroupSet { site: below, cut }),
                     Err(Stop::No(No::Size)),

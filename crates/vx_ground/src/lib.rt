@@ -14,6 +14,6 @@ mod writing_over;
 pub use founding::Founding;
 pub use ground::Ground;
 pub use lifting::work_over;
-pub use naming::{name_over, name_rvg};
+pub use naming::{can_name, name_over, name_rvg};
 pub use work::Work;
 pub use writing_over::write_over;

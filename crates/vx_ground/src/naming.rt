@@ -1,5 +1,6 @@
 // The volumes of a group with logs that are its replicated volume group.
 ghost use Rattle.std.specs.Prelude.{◌≡◌, ℕ, Err, IfErr, IsTrue, None, OnOk, Some, true};
+ghost use Rattle.vx_config.specs.Checks.{is_group};
 ghost use Rattle.vx_copies.specs.Commits.{MoreFailed};
 ghost use Rattle.vx_disk.specs.Shelf.{Goes, Nothing};
 ghost use Rattle.vx_group.specs.Dets.{DetStops};
@@ -15,7 +16,7 @@ ghost use Rattle.vx_watched.specs.Traces.{TellsLess};
 
 use std::marker::Brand;
 use vx_disk::{Rack, Shelf};
-use vx_group::set_rvg_in;
+use vx_group::{may_name, set_rvg_in};
 use vx_grouped::{Laid, trace, untrace};
 use vx_loggroup::{LoggedGroup, Opened};
 use vx_model::{Stop, Units};
@@ -96,4 +97,39 @@ pub fn name_over<R: Rack>(laid: Laid<R>, units: &Units) -> (Laid<R>, Result<(), 
     ensures told { TellsLess (R.meaning (rack_of laid.shelf)) (R.meaning (rack_of result.0.shelf)) }
 {
     name_traced::<Brand, R>(laid, units)
+}
+
+// Whether these volumes may be the replicated volume group. The group is given back as it was.
+fn can_name_in<S: Shelf>(group: LoggedGroup<S>, units: &Units) -> (LoggedGroup<S>, bool)
+    ensures core { result.0.core ≡ group.core }
+    ensures shelf { result.0.shelf ≡ group.shelf }
+    ensures is { result.1 ≡ is_group group.core.inner.config.volumes units.now }
+{
+    let (shelf, rest) = group.apart();
+    let Opened {
+        mut core,
+        logs,
+        alike,
+        fresh,
+        stopped,
+    } = rest;
+    let may = may_name(&mut core.inner.config, units);
+    let rest = Opened {
+        core,
+        logs,
+        alike,
+        fresh,
+        stopped,
+    };
+    (LoggedGroup::together(shelf, rest), may)
+}
+
+/// Whether these volumes may be the replicated volume group of a group that is up on the disks of a site. It is given back as it was.
+pub fn can_name<R: Rack>(laid: Laid<R>, units: &Units) -> (Laid<R>, bool)
+    ensures core { result.0.core ≡ laid.core }
+    ensures shelf { result.0.shelf ≡ laid.shelf }
+    ensures is { result.1 ≡ is_group laid.core.inner.config.volumes units.now }
+{
+    let (group, may) = can_name_in(laid.together(), units);
+    (Laid::of(group), may)
 }

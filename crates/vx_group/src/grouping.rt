@@ -36,8 +36,8 @@ fn named_by(config: &Config) -> Option<Units>
     }
 }
 
-// Whether the configuration would be sound with these volumes as the replicated volume group. It is left as it was.
-fn may_name(config: &mut Config, units: &Units) -> bool
+/// Whether the configuration would be sound with these volumes as the replicated volume group. It is left as it was.
+pub fn may_name(config: &mut Config, units: &Units) -> bool
     requires sound { is_sound config.old ≡ true }
     ensures same { config.new ≡ config.old }
     ensures is { result ≡ is_group config.old.volumes units.now }

@@ -50,7 +50,7 @@ pub use finishing::renew;
 pub use flushing::flush_group;
 pub use group::Group;
 pub use group_core::GroupCore;
-pub use grouping::set_rvg_in;
+pub use grouping::{may_name, set_rvg_in};
 pub use importing::import_in;
 pub use inner::Inner;
 pub use losing_attached::lose_attached;

@@ -92,25 +92,6 @@ since_none m = record {
   told = told_none m.disks m.down;
 }
 
-told_both : (first mid new : Option Disks) (b c : Bool) → (IsTrue b → IsTrue c) → is_rack new ≡ is_rack mid → ((o n : Disks) → first ≡ Some o → mid ≡ Some n → DisksGo b o n) → ((o n : Disks) → mid ≡ Some o → new ≡ Some n → DisksGo c o n)
-    → (o n : Disks) → first ≡ Some o → new ≡ Some n → DisksGo c o n
-told_both first None new b c falls rack one two o n is now = absurd (let clash : true ≡ false = sym (ap (λ (d : Option Disks). is_rack d) now) ∙ rack in cc)
-told_both first (Some y) new b c falls rack one two o n is now = both_go b c o y n falls (one o y is refl) (two y n refl now)
-
--- calls behind others
-pub since_both : (first mid last : Meaning) → CalledSince first mid → CalledSince mid last → CalledSince first last
-since_both first mid last one two = record {
-  units = two.units ∙ one.units;
-  size = λ u. two.size u ∙ one.size u;
-  tells = two.tells ∙ one.tells;
-  counts = λ d. let a = one.counts d in let b = two.counts d in omega (arith, a, b);
-  falls = λ down. two.falls (one.falls down);
-  unarmed = λ none. two.unarmed (one.unarmed none);
-  safe = λ none down. one.safe none (two.safe (one.unarmed none) down);
-  rack = two.rack ∙ one.rack;
-  told = told_both first.disks mid.disks last.disks mid.down last.down two.falls two.rack one.told two.told;
-}
-
 module _ (first m m' : Meaning) (written : Values) (since : CalledSince first m) (goes : Goes written m m') where
   since_step : WithDisks m.disks m'.disks (DisksGo m'.down) → CalledSince first m'
   since_step step = record {

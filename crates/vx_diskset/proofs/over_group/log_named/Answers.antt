@@ -3,8 +3,8 @@ use Rattle.std.proofs.Common.{subst}
 use Rattle.vx_model.specs.States.{first_state}
 use Rattle.vx_ground.specs.Lifted.{laid_volumes}
 use Rattle.vx_grouped.specs.GroupSites.{laid_disks, site_disks}
-use Rattle.vx_watched.proofs.SinceLemmas.{since_both}
 use Rattle.vx_diskset.specs.Works.{DoesMake}
+use Rattle.vx_diskset.proofs.OverMaking.{since_both}
 use Rattle.vx_diskset.proofs.over_group.log_named.Goals as goal
 
 pub log_over-laid-requires : goal.log_over-laid-requires

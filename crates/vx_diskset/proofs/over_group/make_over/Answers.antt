@@ -1,8 +1,7 @@
 -- A replicated volume group that is made over a group that is up, whatever is answered.
 use Rattle.vx_ground.specs.Lifted.{laid_volumes}
 use Rattle.vx_grouped.specs.GroupSites.{laid_disks, site_disks}
-use Rattle.vx_watched.proofs.SinceLemmas.{since_both}
-use Rattle.vx_diskset.proofs.OverMaking.{large_then, placed_then}
+use Rattle.vx_diskset.proofs.OverMaking.{large_then, placed_then, since_both}
 use Rattle.vx_diskset.proofs.over_group.make_over.Goals as goal
 
 pub rewrite_over-laid-requires : goal.rewrite_over-laid-requires
