@@ -26,6 +26,7 @@ pub mod OverPlain
 pub mod OverReads
 pub mod OverReceivers
 pub mod OverAway
+pub mod OverSettles
 pub mod OverMaking
 pub mod Rewriting
 pub mod OverCalled

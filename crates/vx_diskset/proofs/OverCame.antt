@@ -37,7 +37,7 @@ use Rattle.vx_diskset.specs.Stands.{AwayOver, FellOver, RestsOver}
 use Rattle.vx_diskset.proofs.CrashGroup.{keeps_option}
 use Rattle.vx_diskset.proofs.Laying.{sizes_of}
 use Rattle.vx_volume.specs.Plexes.{Inside}
-use Rattle.vx_logimport.specs.Rests.{LivesAgree}
+use Rattle.vx_group.specs.Settles.{LivesAgree}
 use Rattle.vx_kept.proofs.Narrower.{wanted_sound}
 use Rattle.vx_group.proofs.FoundLemmas.{found_wanted}
 use Rattle.vx_diskset.proofs.OverClean.{clean_value}

@@ -13,7 +13,7 @@ use Rattle.vx_kept.specs.Groups.{OnSome}
 use Rattle.vx_kept.specs.Keeping.{Extends}
 use Rattle.vx_kept.proofs.Narrower.{on_live, sound_chosen}
 use Rattle.vx_layout.specs.Places.{place}
-use Rattle.vx_logimport.specs.Rests.{LivesAgree}
+use Rattle.vx_group.specs.Settles.{LivesAgree}
 use Rattle.vx_volume.specs.Plexes.{Inside}
 use Rattle.vx_grouped.specs.Brings.{TookVolumes}
 use Rattle.vx_diskset.proofs.OverCrash.{shown, shows}
