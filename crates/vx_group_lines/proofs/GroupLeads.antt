@@ -98,7 +98,9 @@ module _ {R : Type 0} {g : Ghosts R} where
 
   -- the note of the site is this one
   maps_as : (m : Node) (next : GroupNode) (e : GroupSite R g) → NotesGroup m next → StandMaps next e → (note : GroupNode) → m.group ≡ Some note → StandMaps note e
-  maps_as m next e noted maps note is = subst (λ (k : GroupNode). StandMaps k e) (let same : Some next ≡ Some note = sym noted.is ∙ is in cc) maps
+  maps_as m next e noted maps note is =
+      let same : next ≡ note = (let some : Some next ≡ Some note = sym noted.is ∙ is in cc) in
+      subst (λ (k : GroupNode). StandMaps k e) same maps
 
   -- a group that is up
   pub up_set : (m : Node) (next : GroupNode) (set : GroupSet R g) → Sized m → UpNoted m next set.site → StandMaps next set.site → cut_value set.cut ≡ None → next.cut ≡ None → Sets m set
