@@ -1,5 +1,5 @@
 -- Regions of a map by its blocks, and a block that changes.
-use Rattle.std.proofs.Common.{◌≡◌, ◌≢◌, ◌∙◌, ◌⊎◌, inl, inr, ⊎_elim, ℕ, ◌+◌, ◌-◌, ◌*◌, ◌/◌, ◌%◌, ◌<◌, ◌≤◌, Bool, true, false, List, ◌++◌, length, take, drop, get_or, refl, sym, ap, subst, arith, length-append, length-take, length-drop}
+use Rattle.std.proofs.Common.{◌≡◌, ◌∙◌, ◌⊎◌, inl, inr, ⊎_elim, ℕ, ◌+◌, ◌-◌, ◌*◌, ◌/◌, ◌%◌, ◌<◌, ◌≤◌, Bool, true, false, List, ◌++◌, length, take, drop, get_or, refl, sym, ap, subst, arith, length-append, length-take, length-drop}
 use Rattle.std.specs.Prelude.{◌&&◌, ◌==◌, leb, if◌then◌else◌, nat_eq}
 use Rattle.std.specs.Cmp.Lexicographic.{same_text}
 use Rattle.std.proofs.lemmas.Cmp.{nat_list_eq_equiv}
@@ -174,10 +174,6 @@ module _ (map : Map) (block start end : ℕ) (value : Bool) (fresh : List ℕ) (
         }))
         (cases_eq k block);
   }
-
--- the bytes between two places, one block apart
-pub cut : (n : ℕ) (bytes part : List ℕ) → part ≡ take (512 * n + 512 - 512 * n) (drop (512 * n) bytes) → part ≡ block_of bytes n
-cut n bytes part is = let wide : 512 * n + 512 - 512 * n ≡ 512 = omega arith in is ∙ ap (λ (m : ℕ). take m (drop (512 * n) bytes)) wide
 
 -- a run of the map that has the value already has it in the block
 pub all_in_block : (bytes block_bytes : List ℕ) (block start end : ℕ) (value : Bool) → 4096 * block ≤ start → start ≤ end → end < 4096 * block + 4096 → block_bytes ≡ block_of bytes block

@@ -17,7 +17,7 @@ use Rattle.vx_bitmap.proofs.Marks.{below_end, below_start}
 
 -- ---- tests of the run and of its part in a block
 
-among_is : (start end r : ℕ) → start ≤ r → r ≤ end → is_among start end r ≡ true
+pub among_is : (start end r : ℕ) → start ≤ r → r ≤ end → is_among start end r ≡ true
 among_is start end r a b = rw (le-leb start r a, le-leb r end b) refl
 
 among_before : (start end r : ℕ) → r < start → is_among start end r ≡ false

@@ -4,6 +4,7 @@ use Rattle.std.proofs.lemmas.Option.{slice_get-get_or, get_or_from_slice_get, sl
 use Rattle.atomic_table.specs.Seated.{TableId}
 use Rattle.vx_model.specs.declared.call.Call.{Call}
 use Rattle.vx_model.specs.declared.call.Reply.{Reply}
+use Rattle.vx_model.proofs.Lists.{get_there}
 use Rattle.vx_turn.specs.declared.ask.Ask.{Ask}
 use Rattle.vx_turn.specs.declared.ask.Ask.TheVariants.{Ordered, Charged}
 use Rattle.vx_turn.specs.declared.ask.Said.{Said}
@@ -37,7 +38,6 @@ use Rattle.vx_burst_threads.proofs.Making.{stands-more}
 use Rattle.vx_burst.specs.Setting.{IsSetUp, AreSetUp}
 use Rattle.vx_burst.specs.Finishing.{Went, AckWithin, BurstUnderway, IsLeftOut, IsOfPlan}
 use Rattle.vx_burst.specs.Ending.{HasJoined}
-use Rattle.vx_burst.proofs.Underways.{get-some}
 
 -- an entry that stands at a place is found there
 pub stands-get : (log : List Entry) (place by : ℕ) (ask : Ask) (said : Said) → StandsInLog log place by ask said → (n : ℕ) → suc n ≡ place → (e : Entry) → slice_get log n ≡ Some e → (e.caller ≡ by) × (e.ask ≡ ask) × (e.said ≡ said)
@@ -150,7 +150,7 @@ module _ {P : Type 0} (stand : P → Stand) (root : P → P) where
   module _ (z : TableId) (start : State) (callers : ℕ) (plan : List Planned) (firsts : List P) (p q : Pass) (out : List P) (log : List Entry) (j : Joined z start callers plan firsts p q out log) where
     -- the worker with a number
     pub worker-at : (i : ℕ) → i < length j.ws → (w : Worker P) × (x : Worker P) × (slice_get j.ws i ≡ Some w) × (slice_get j.xs i ≡ Some x) × HasWorked stand root plan w x × ((pass_of x).number ≡ i) × (start_of (pass_of x) ≡ start)
-    worker-at i lt = let a = get-some j.ws i lt in let n = j.pairs.0 in let b = get-some j.xs i (omega (arith, n, lt)) in let h = j.pairs.1 i a.0 b.0 a.1 b.1 in let s = worked-pass z start callers plan i a.0 b.0 (j.set i a.0 a.1) h in
+    worker-at i lt = let a = get_there j.ws i lt in let n = j.pairs.0 in let b = get_there j.xs i (omega (arith, n, lt)) in let h = j.pairs.1 i a.0 b.0 a.1 b.1 in let s = worked-pass z start callers plan i a.0 b.0 (j.set i a.0 a.1) h in
         (a.0, b.0, a.1, b.1, h, s.0, s.1)
 
     -- its entries in the whole history are those that it has seen
@@ -186,7 +186,7 @@ module _ {P : Type 0} (stand : P → Stand) (root : P → P) where
     left-open : (i k : ℕ) (x : Writer) (pl : Planned) → slice_get j.xs i ≡ Some (Writes x) → slice_get plan k ≡ Some pl → pl.thread ≡ i + 1 → ((m : Made) → LiesAmong m x.made.items → m.at < k)
         → (m : Made) → IsMadeBy j.xs m → m.at ≡ k → ⊥
     left-open i k x pl new is own below m (y, (u, here), got) at =
-        let inside = get-inside j.xs u (Writes y) here in let n = j.pairs.0 in let w = get-some j.ws u (omega (arith, n, inside)) in by-writer w.0 w.1 (j.pairs.1 u w.0 (Writes y) w.1 here)
+        let inside = get-inside j.xs u (Writes y) here in let n = j.pairs.0 in let w = get_there j.ws u (omega (arith, n, inside)) in by-writer w.0 w.1 (j.pairs.1 u w.0 (Writes y) w.1 here)
       where
         as-worker : Writer → Worker P
         as-worker v = Writes v
@@ -335,7 +335,7 @@ module _ {P : Type 0} (stand : P → Stand) (root : P → P) where
       split (suc i) (suc k) lt = ⊎_elim (λ (x : i < k). inl (omega (arith, x))) (λ (x : i ≡ k). inr (ap suc x)) (split i k (omega (arith, lt)))
 
       worker : (by : ℕ) → by < length h.ws → (ps : List ℕ) × Has (pass_view h.last) by ps
-      worker by lt = let pairs = paired plan h.ws h.worked.xs h.worked.worked in let a = get-some h.ws by lt in let n = pairs.0 in let b = get-some h.worked.xs by (omega (arith, n, lt)) in
+      worker by lt = let pairs = paired plan h.ws h.worked.xs h.worked.worked in let a = get_there h.ws by lt in let n = pairs.0 in let b = get_there h.worked.xs by (omega (arith, n, lt)) in
           let s = worked-pass z (state first) callers plan by a.0 b.0 (h.set by a.0 a.1) (pairs.1 by a.0 b.0 a.1 b.1) in
           (mine_of (pass_of b.0), inr (subst (λ k. LiesAmong (k, mine_of (pass_of b.0)) (met_of h.last)) s.0 (h.worked.met.each b.0 (by, b.1)).1))
 

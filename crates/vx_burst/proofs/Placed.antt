@@ -1,8 +1,11 @@
 -- The calls that were made, by their places.
 use Rattle.std.proofs.Common.{◌≡◌, ◌⊎◌, ℕ, zero, suc, ◌+◌, ◌-◌, ◌<◌, ◌≤◌, ◌==◌, List, [], ◌∷◌, ◌++◌, length, map, take, refl, ap, sym, ◌∙◌, subst, ⊎_elim, inl, inr, arith, ne_eqb, Some, slice_get, slice_index_or}
+use Rattle.std.proofs.lemmas.List.{length-map}
 use Rattle.std.proofs.lemmas.Option.{get_or_from_slice_get}
 use Rattle.atomic_table.specs.Seated.{TableId}
 use Rattle.vx_model.specs.declared.call.Call.{Call}
+use Rattle.vx_model.specs.Numbers.{one_if}
+use Rattle.vx_model.proofs.Lists.{get_there}
 use Rattle.vx_turn.specs.declared.ask.Ask.{Ask}
 use Rattle.vx_turn.specs.declared.ask.Ask.TheVariants.{Ordered, Charged}
 use Rattle.vx_turn.specs.declared.ask.Said.{Said}
@@ -34,10 +37,9 @@ use Rattle.vx_burst_threads.specs.Laying.{LaidWith, answered_as}
 use Rattle.vx_burst.specs.declared.placing.Spot.{Spot}
 use Rattle.vx_burst.specs.Placing.{SpotsNoted, SpotsNumbered}
 use Rattle.vx_burst.proofs.Placings.{once-same}
-use Rattle.vx_burst.proofs.Underways.{get-some, job_entry}
+use Rattle.vx_burst.proofs.Underways.{job_entry}
 use Rattle.vx_burst.proofs.Ends.{classify, of-plan, IsMadeAt, IsOpen, IsIdle}
 use Rattle.vx_burst.specs.Setting.{AreBlank}
-use Rattle.vx_burst.specs.Setting.{one_if}
 use Rattle.vx_burst.specs.Finishing.{IsLeftOut, IsCallAsk, Stay, IsAskedAgain, unplaced, BurstUnderway, IsPlaced, BurstStage}
 use Rattle.vx_burst.proofs.Ends.{Joined, begins-of}
 
@@ -126,10 +128,6 @@ map-get : {A B : Type 0} (f : A → B) (xs : List A) (i : ℕ) (b : B) → slice
 map-get f [] i b at = absurd (cc at)
 map-get f (y ∷ ys) zero b at = (y, refl, some-one at)
 map-get f (y ∷ ys) (suc i) b at = map-get f ys i b at
-
-map-long : {A B : Type 0} (f : A → B) (xs : List A) → length (map f xs) ≡ length xs
-map-long f [] = refl
-map-long f (x ∷ xs) = ap suc (map-long f xs)
 
 rising-of : (n : ℕ) (xs : List Spot) → ((i : ℕ) (s : Spot) → slice_get xs i ≡ Some s → n < s.place) → ((i k : ℕ) (s t : Spot) → i < k → slice_get xs i ≡ Some s → slice_get xs k ≡ Some t → s.place < t.place) → Rising n (map (λ (s : Spot). s.place) xs)
 rising-of n [] low up = tt
@@ -266,7 +264,7 @@ module _ {P : Type 0} (stand : P → Stand) (root : P → P) (z : TableId) (star
     -- each call that was made has its spot
     pub made-spot : (m : Made) → IsMadeBy j.xs m → (s : Spot) × LiesAmong s spots × (s.at ≡ m.at) × (s.place ≡ m.place)
     made-spot m by = let info = made-info m by in let inside = get-inside plan m.at info.is.planned info.is.is in let l = laid.long in
-        let a = get-some olds m.at (omega (arith, inside, l, long)) in ⊎_elim
+        let a = get_there olds m.at (omega (arith, inside, l, long)) in ⊎_elim
         (λ (o : (slice_get blanks m.at ≡ Some a.0) × ((d : Made) → IsMadeBy j.xs d → d.at ≡ m.at → ⊥)). absurd (o.1 m by refl))
         (λ (o : (d : Made) × IsMadeBy j.xs d × (d.at ≡ m.at) × (a.0 ≡ answered_as d)).
         let same = made-at o.0 m (made-info o.0 o.1) info o.2 in let pl : a.0.place ≡ o.0.place = ap (λ (y : Answered). y.place) o.3 in let up = info.place in
@@ -292,7 +290,7 @@ module _ {P : Type 0} (stand : P → Stand) (root : P → P) (z : TableId) (star
           underway = under;
           left = stay-picked (IsAskedAgain plan news) 0 ev 0 log ps (rising-of 0 spots (λ i t at. (let n = noted.each i t at in let a = n.1.2 in let b = n.1.3 in omega (arith, a, b))) spots-rise) top ordered is class;
           calls = λ e m. of-plan stand root z start callers plan firsts p q out log j e m.0 (classify stand root z start callers plan firsts p q out log j m.0 e m.1);
-          count = map-long ev ps ∙ map-long (λ (t : Spot). t.place) spots;
+          count = length-map ps ev ∙ length-map spots (λ (t : Spot). t.place);
           rest = let c = noted.count in let u = unplaced-ext olds news numbered.long kept in let w = ap unplaced (take-whole olds) in let l = laid.long in omega (arith, c, u, w, l, long);
           long = numbered.long ∙ (laid.long ∙ long);
           each = λ k pl b get at some. let o = news-spot k b at some in let f = spot-info o.0 o.1 o.2 in let m = made-info f.made f.by in
@@ -345,7 +343,7 @@ module _ {P : Type 0} (stand : P → Stand) (root : P → P) (z : TableId) (star
           ordered n m = let t = map-get (λ (t : Spot). t.place) spots m.0 n m.1 in subst (λ (y : Ask × Said). IsCallAsk y.0) (sym (event m.0 t.0 t.1) ∙ ap ev t.2) tt
 
           open-again : (m : ℕ) (call : Call) → IsOpen stand root z start callers plan firsts p q out log j 0 call → IsAskedAgain plan news m call
-          open-again m call (k, pl, is, same, none) = let inside = get-inside plan k pl is in let l = numbered.long ∙ (laid.long ∙ long) in let b = get-some news k (omega (arith, inside, l)) in (
+          open-again m call (k, pl, is, same, none) = let inside = get-inside plan k pl is in let l = numbered.long ∙ (laid.long ∙ long) in let b = get_there news k (omega (arith, inside, l)) in (
             k,
             pl,
             b.0,

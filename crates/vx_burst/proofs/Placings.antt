@@ -5,13 +5,13 @@ use Rattle.std.proofs.lemmas.Option.{slice_get-get_or, get_or_from_slice_get, sl
 use Rattle.std.specs.List.{fold, Contains}
 use Rattle.std.specs.List.Sorted.{IsPermutation}
 use Rattle.std.proofs.lemmas.List.Sorted.{Contains-permutation, sum_by-IsPermutation, length_permutation, IsPermutation-sym}
+use Rattle.vx_model.specs.Numbers.{one_if}
 use Rattle.vx_turn.specs.Acting.{LiesAmong}
 use Rattle.vx_turn.proofs.Dealing.{get-snoc}
 use Rattle.vx_settle.proofs.Bringings.{among-left, among-right}
 use Rattle.vx_settle.proofs.ManyPeers.{some-one, get-set, set-long, set-here, set-else, get-inside}
 use Rattle.vx_burst_threads.specs.declared.plan.Answered.{Answered}
 use Rattle.vx_burst.specs.declared.placing.Spot.{Spot}
-use Rattle.vx_burst.specs.Setting.{one_if}
 use Rattle.vx_burst.specs.Finishing.{unplaced}
 use Rattle.vx_burst.specs.Placing.{spot_of, times_noted, NotedOnce, SpotsNoted, SpotsNumbered}
 

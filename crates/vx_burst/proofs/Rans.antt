@@ -1,6 +1,8 @@
 -- The whole of a burst, from its parts.
 use Rattle.std.proofs.Common.{◌≡◌, ℕ, zero, suc, ◌<◌, ◌==◌, List, [], ◌∷◌, ◌++◌, length, take, drop, refl, ap, sym, subst, arith, ne_eqb}
 use Rattle.atomic_table.specs.Seated.{TableId}
+use Rattle.vx_model.specs.Numbers.{one_if}
+use Rattle.vx_model.proofs.Lists.{get_there}
 use Rattle.vx_turn.specs.declared.meaning.Entry.{Entry}
 use Rattle.vx_turn.specs.declared.meaning.State.{State}
 use Rattle.vx_settle.specs.declared.peer.Stand.{Stand}
@@ -8,11 +10,10 @@ use Rattle.vx_settle.specs.Bringing.{Events, HaveLinks}
 use Rattle.vx_settle.proofs.ManyPeers.{some-one, get-inside}
 use Rattle.vx_burst_threads.specs.declared.plan.Planned.{Planned}
 use Rattle.vx_burst_threads.specs.declared.plan.Answered.{Answered}
-use Rattle.vx_burst.specs.Setting.{AreBlank, one_if}
+use Rattle.vx_burst.specs.Setting.{AreBlank}
 use Rattle.vx_burst.specs.Placing.{Renumbered}
 use Rattle.vx_burst.specs.Finishing.{BurstStage, StagesOn, ArePlaced, IsAskedAgain, unplaced, WaitsOn}
 use Rattle.vx_burst.specs.Ending.{HasJoined, Ran}
-use Rattle.vx_burst.proofs.Underways.{get-some}
 use Rattle.vx_burst.proofs.Ends.{joined-of, joined-underway}
 use Rattle.vx_burst.proofs.Placed.{joined-stage}
 use Rattle.vx_burst.proofs.Legals.{stay-leads}
@@ -55,7 +56,7 @@ module _ {P : Type 0} (stand : P → Stand) (root : P → P) where
   -- the links of the peers are the engine's still
   pub stage-links : (start : State) (firsts : List P) (plan : List Planned) (log : List Entry) (s : State) (ps : List P) (answers : List Answered) (n : ℕ) (stays : Events) → BurstStage stand root start firsts plan log s ps answers n stays
       → HaveLinks stand start firsts → HaveLinks stand s ps
-  stage-links start firsts plan log s ps answers n stays g links i q now = let u = g.underway in let inside = get-inside ps i q now in let k = u.long in let p = get-some firsts i (omega (arith, k, inside)) in
+  stage-links start firsts plan log s ps answers n stays g links i q now = let u = g.underway in let inside = get-inside ps i q now in let k = u.long in let p = get_there firsts i (omega (arith, k, inside)) in
       let w = (u.each i p.0 q p.1 now).goes.link in let l = links i p.0 p.1 in let e = u.fits.0.links in omega (arith, w, l, e)
 
   -- the calls that were left open were asked, and the logged ones were waited for

@@ -1,12 +1,13 @@
 -- The memory of a burst.
 use Rattle.std.proofs.Common.{◌≡◌, ℕ, zero, suc, ◌+◌, ◌-◌, ◌≤◌, ◌==◌, Bool, true, false, List, [], ◌∷◌, ◌++◌, length, take, cond, refl, ap, sym, ◌∙◌, subst, ⊎_elim, arith, slice_get, Some, vec_capacity}
+use Rattle.vx_model.specs.Numbers.{one_if}
 use Rattle.vx_turn.proofs.Dealing.{get-snoc}
 use Rattle.vx_settle.proofs.ManyPeers.{some-one}
 use Rattle.vx_burst_threads.specs.declared.plan.Planned.{Planned}
 use Rattle.vx_burst_threads.specs.declared.plan.Answered.{Answered}
 use Rattle.vx_burst_threads.specs.Planning.{own_count}
 use Rattle.vx_burst.specs.declared.rooms.Space.{Space}
-use Rattle.vx_burst.specs.Setting.{AreBlank, AreThreadRooms, one_if}
+use Rattle.vx_burst.specs.Setting.{AreBlank, AreThreadRooms}
 
 pub blank-none : (xs : List Answered) → xs ≡ [] → AreBlank xs
 blank-none xs is k a at = absurd (cc (subst (λ l. slice_get l k ≡ Some a) is at))

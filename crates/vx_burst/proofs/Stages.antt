@@ -3,6 +3,8 @@ use Rattle.std.proofs.Common.{◌≡◌, ◌≢◌, ◌⊎◌, ℕ, zero, suc, �
 use Rattle.std.proofs.lemmas.List.{append-nil}
 use mathlib.Core.List.{map-append}
 use Rattle.vx_model.specs.declared.call.Call.{Call}
+use Rattle.vx_model.specs.Numbers.{one_if}
+use Rattle.vx_model.proofs.Lists.{get_there}
 use Rattle.vx_turn.specs.declared.ask.Ask.{Ask}
 use Rattle.vx_turn.specs.declared.ask.Ask.TheVariants.{Ordered, Charged}
 use Rattle.vx_turn.specs.declared.ask.Said.{Said}
@@ -24,9 +26,8 @@ use Rattle.vx_settle.proofs.ManyPeers.{some-one, get-set, set-long, get-inside}
 use Rattle.vx_burst_threads.specs.declared.plan.Planned.{Planned}
 use Rattle.vx_burst_threads.specs.declared.plan.Answered.{Answered}
 use Rattle.vx_burst_threads.specs.Planning.{call_for}
-use Rattle.vx_burst.specs.Setting.{one_if}
 use Rattle.vx_burst.specs.Finishing.{AckWithin, Went, BurstUnderway, IsSoundRun, PeersApart, Excused, IsCalm, Splits, head_behind, IsLeftOut, IsCallAsk, IsOfPlan, Stay, IsAskedAgain, AreBefore, unplaced, ArePlaced, HasExcuse, IsPlaced, BurstStage, StagesOn, AskedOne}
-use Rattle.vx_burst.proofs.Underways.{job_entry, jobs-among, asked-jobs, get-some, underway-brings, underway-acts}
+use Rattle.vx_burst.proofs.Underways.{job_entry, jobs-among, asked-jobs, underway-brings, underway-acts}
 
 -- jobs at the end change nothing of what stays
 pub stay-jobs : (IsLeft : ℕ → Call → Type 0) (n : ℕ) (xs more ys : Events) → ((ask : Ask) (said : Said) → LiesAmong (ask, said) more → IsJob ask said) → Stay IsLeft n xs ys → Stay IsLeft n (xs ++ more) ys
@@ -67,7 +68,7 @@ take-front (suc n) (x ∷ xs) ys is = ap (λ l. x ∷ l) (take-front n xs ys (om
 -- where one more member has its place, which is behind n others, each call that was left out is still asked again
 pub again-set : (plan : List Planned) (answers : List Answered) (k : ℕ) (old a : Answered) (n m : ℕ) (call : Call) → slice_get answers k ≡ Some old → old.place ≡ 0 → a.place ≡ n + 1 → m ≤ n → IsAskedAgain plan answers m call → IsAskedAgain plan (slice_set answers k a) m call
 again-set plan answers k old a n m call was none place le (j, pl, b, is, at, same, how) =
-    let inside = get-inside answers j b at in let long = set-long answers k a in let y = get-some (slice_set answers k a) j (omega (arith, inside, long)) in (
+    let inside = get-inside answers j b at in let long = set-long answers k a in let y = get_there (slice_set answers k a) j (omega (arith, inside, long)) in (
       j,
       pl,
       y.0,
@@ -81,7 +82,7 @@ again-set plan answers k old a n m call was none place le (j, pl, b, is, at, sam
 -- the same of an answer that keeps its place
 pub again-same : (plan : List Planned) (answers : List Answered) (k : ℕ) (old a : Answered) (m : ℕ) (call : Call) → slice_get answers k ≡ Some old → old.place ≡ a.place → IsAskedAgain plan answers m call → IsAskedAgain plan (slice_set answers k a) m call
 again-same plan answers k old a m call was place (j, pl, b, is, at, same, how) =
-    let inside = get-inside answers j b at in let long = set-long answers k a in let y = get-some (slice_set answers k a) j (omega (arith, inside, long)) in (
+    let inside = get-inside answers j b at in let long = set-long answers k a in let y = get_there (slice_set answers k a) j (omega (arith, inside, long)) in (
       j,
       pl,
       y.0,
@@ -129,7 +130,7 @@ module _ {P : Type 0} (stand : P → Stand) (root : P → P) where
           f.0,
           record { entry = f.1.entry; rest = f.1.rest ++ more; is = ap (λ l. l ++ more) f.1.is ∙ append_assoc (f.0 ++ f.1.entry ∷ []) f.1.rest more; asks = f.1.asks; says = f.1.says },
           f.2,
-          λ i p q first now. let inside = get-inside qs i q now in let g = get-some ps i (omega (arith, long, inside)) in let go = goes i g.0 q g.1 now in let e = f.3 i p g.0 first g.1 in
+          λ i p q first now. let inside = get-inside qs i q now in let g = get_there ps i (omega (arith, long, inside)) in let go = goes i g.0 q g.1 now in let e = f.3 i p g.0 first g.1 in
               (e.0, e.1, (let a = e.2 in let b = go.net in omega (arith, a, b)), e.3, λ sound. e.4 (record { line = sound.line; calm = calm-first (stand p).faults (stand g.0).faults (stand q).faults go.faults sound.calm; kept = sound.kept; logged = sound.logged; there = sound.there })),
         ),
       )
@@ -147,7 +148,7 @@ module _ {P : Type 0} (stand : P → Stand) (root : P → P) where
   below-peer start firsts log s ps u i p q n stored said apart first now m =
       let e = asked-entry log m.0 (Charged (Acked (stand p).link n stored), said) m.1 in
       let w : AckWithin stand root ps (Charged (Acked (stand p).link n stored)) = subst (λ (x : Ask × Said). AckWithin stand root ps x.0) e.2 (u.acks e.0 e.1) in
-      let inside = get-inside ps w.0 w.1 w.2 in let long = u.long in let f = get-some firsts w.0 (omega (arith, inside, long)) in
+      let inside = get-inside ps w.0 w.1 w.2 in let long = u.long in let f = get_there firsts w.0 (omega (arith, inside, long)) in
       let links : (stand f.0).link ≡ (stand p).link = sym (u.each w.0 f.0 w.1 f.1 w.2).goes.link ∙ sym w.3 in
       let same : w.0 ≡ i = apart w.0 i f.0 p f.1 first links in
       let is : w.1 ≡ q = some-one (sym w.2 ∙ (ap (slice_get ps) same ∙ now)) in
@@ -157,7 +158,7 @@ module _ {P : Type 0} (stand : P → Stand) (root : P → P) where
   pub brought-excuse : (start : State) (firsts : List P) (log : List Entry) (s mid t : State) (ps qs : List P) → BurstUnderway stand root start firsts log s ps → (b : BringsAll stand root s ps mid qs) → mid.counts.faults ≤ t.counts.faults
       → (CountRose start.counts.faults t.counts.faults → ⊥) → NoLimit b.moves.more → (number : ℕ) → number ≤ s.head → Excused stand root start firsts qs (log ++ map (job_entry s.counts) b.moves.more) number
   brought-excuse start firsts log s mid t ps qs a b on calm limit number below i p q first now =
-      let inside = get-inside qs i q now in let n = b.long in let g = get-some ps i (omega (arith, n, inside)) in
+      let inside = get-inside qs i q now in let n = b.long in let g = get_there ps i (omega (arith, n, inside)) in
       let w = a.each i p g.0 first g.1 in let r = b.each i g.0 q g.1 now in let go = r.walks.goes in (
         (stand q).net,
         (let x = w.goes.net in let y = go.net in omega (arith, x, y)),
@@ -194,7 +195,7 @@ module _ {P : Type 0} (stand : P → Stand) (root : P → P) where
   -- a placed answer has a place that is taken
   placed-below : (start : State) (firsts : List P) (plan : List Planned) (log : List Entry) (s : State) (ps : List P) (answers : List Answered) (n : ℕ) (stays : Events) → BurstStage stand root start firsts plan log s ps answers n stays
       → (k : ℕ) (a : Answered) → slice_get answers k ≡ Some a → 0 < a.place → a.place ≤ n
-  placed-below start firsts plan log s ps answers n stays g k a at some = let inside = get-inside answers k a at in let l = g.long in let pl = get-some plan k (omega (arith, l, inside)) in
+  placed-below start firsts plan log s ps answers n stays g k a at some = let inside = get-inside answers k a at in let l = g.long in let pl = get_there plan k (omega (arith, l, inside)) in
       let x = get-inside stays (a.place - 1) (Ordered (call_for pl.0), Replied (g.each k pl.0 a pl.1 at some).reply) (g.each k pl.0 a pl.1 at some).at in let c = g.count in omega (arith, x, c, some)
 
   pub stage-asked : (start : State) (firsts : List P) (plan : List Planned) (log : List Entry) (s t : State) (ps qs : List P) (answers : List Answered) (n : ℕ) (stays : Events) (k : ℕ) (pl : Planned) (old a : Answered)
@@ -301,7 +302,7 @@ module _ {P : Type 0} (stand : P → Stand) (root : P → P) where
 
   -- the links of the peers are the engine's still
   pub asked-links : (s t : State) (ps qs : List P) (pl : Planned) (place : ℕ) (a : Answered) → AskedOne stand root s ps pl place a t qs → HaveLinks stand s ps → HaveLinks stand t qs
-  asked-links s t ps qs pl place a (reply, again, told, is) links i q now = let inside = get-inside qs i q now in let n = again.brings.long in let g = get-some ps i (omega (arith, n, inside)) in
+  asked-links s t ps qs pl place a (reply, again, told, is) links i q now = let inside = get-inside qs i q now in let n = again.brings.long in let g = get_there ps i (omega (arith, n, inside)) in
       let l = links i g.0 g.1 in let go = (again.brings.each i g.0 q g.1 now).walks.goes.link in let m = again.brings.moves.links in
       let k : length t.nets ≡ length again.mid.nets = Rattle.vx_turn.proofs.Histories.nets-long (Ordered (call_for pl)) again.mid.nets t.nets again.acts.nets in omega (arith, l, go, m, k)
 

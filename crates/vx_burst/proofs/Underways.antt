@@ -1,5 +1,6 @@
 -- A burst goes on by jobs, and by calls.
-use Rattle.std.proofs.Common.{◌≡◌, ℕ, zero, suc, ◌<◌, List, [], ◌∷◌, ◌++◌, length, map, refl, ap, sym, ◌∙◌, subst, ⊎_elim, inl, inr, arith, append_assoc, Some, slice_get}
+use Rattle.std.proofs.Common.{◌≡◌, ℕ, zero, suc, List, [], ◌∷◌, ◌++◌, length, map, refl, ap, sym, ◌∙◌, subst, ⊎_elim, inl, inr, arith, append_assoc, Some, slice_get}
+use Rattle.vx_model.proofs.Lists.{get_there}
 use mathlib.Core.List.{map-append}
 use Rattle.vx_turn.specs.declared.ask.Ask.{Ask}
 use Rattle.vx_turn.specs.declared.ask.Ask.TheVariants.{Ordered, Charged}
@@ -56,11 +57,6 @@ jobs-among c [] e m = absurd (cc m.1)
 jobs-among c (x ∷ xs) e (zero, at) = (0, let s : job_entry c x ≡ e = cc at in ap (λ (z : Entry). Some (z.ask, z.said)) s)
 jobs-among c (x ∷ xs) e (suc i, at) = let r = jobs-among c xs e (i, at) in (suc r.0, r.1)
 
-pub get-some : {A : Type 0} (xs : List A) (i : ℕ) → i < length xs → (x : A) × (slice_get xs i ≡ Some x)
-get-some [] i lt = absurd (omega (arith, lt))
-get-some (x ∷ xs) zero lt = (x, refl)
-get-some (x ∷ xs) (suc i) lt = get-some xs i (omega (arith, lt))
-
 -- the engine goes on by jobs
 pub jobs-fit : (start : State) (log : List Entry) (s t : State) (m : EngineMoves s t) → Legal start log → FitsHistory start log s → Legal start (log ++ map (job_entry s.counts) m.more) × FitsHistory start (log ++ map (job_entry s.counts) m.more) t
 jobs-fit start log s t m legal fits = let r = fits.0 in let p : Point = point_after (point_of start) log in let es : List Entry = map (job_entry s.counts) m.more in
@@ -107,7 +103,7 @@ module _ {P : Type 0} (stand : P → Stand) (root : P → P) where
 
   -- an acknowledgement stays within peers that went on
   acks-later : (ps qs : List P) → length qs ≡ length ps → ((i : ℕ) (p q : P) → slice_get ps i ≡ Some p → slice_get qs i ≡ Some q → PeerGoes (stand p) (stand q)) → (ask : Ask) → AckWithin stand root ps ask → AckWithin stand root qs ask
-  acks-later ps qs long goes (Charged (Acked link net stored)) a = let inside = get-inside ps a.0 a.1 a.2 in let g = get-some qs a.0 (omega (arith, long, inside)) in let go = goes a.0 a.1 g.0 a.2 g.1 in
+  acks-later ps qs long goes (Charged (Acked link net stored)) a = let inside = get-inside ps a.0 a.1 a.2 in let g = get_there qs a.0 (omega (arith, long, inside)) in let go = goes a.0 a.1 g.0 a.2 g.1 in
       (a.0, g.0, g.1, a.3 ∙ sym go.link, (let x = a.4 in let y = go.net in omega (arith, x, y)), (let x = a.5 in let y = go.stored in omega (arith, x, y)))
   acks-later ps qs long goes (Charged (Apply n)) a = tt
   acks-later ps qs long goes (Charged (Fetch n)) a = tt
@@ -121,7 +117,7 @@ module _ {P : Type 0} (stand : P → Stand) (root : P → P) where
     legal = j.0;
     fits = j.1;
     long = b.long ∙ a.long;
-    each = λ i p r x z. let inside = get-inside qs i r z in let n = b.long in let g = get-some ps i (omega (arith, n, inside)) in
+    each = λ i p r x z. let inside = get-inside qs i r z in let n = b.long in let g = get_there ps i (omega (arith, n, inside)) in
         went-brought start log es s t p g.0 r b.moves.more a.fits.0 (a.each i p g.0 x g.1) (b.each i g.0 r g.1 z);
     acks = λ e m. ⊎_elim (λ (x : LiesAmong e log). acks-later ps qs b.long (λ i p q y z. (b.each i p q y z).walks.goes) e.ask (a.acks e x))
         (λ (x : LiesAmong e es). new e.ask e.said (jobs-among s.counts b.moves.more e x)) (among-split e log es m);

@@ -7,6 +7,8 @@ use Rattle.vx_model.specs.declared.call.Call.{Call}
 use Rattle.vx_model.specs.declared.call.Reply.{Reply}
 use Rattle.vx_model.specs.declared.call.Reply.TheVariants as reply
 use Rattle.vx_model.specs.declared.no.No.TheVariants as no
+use Rattle.vx_model.specs.Numbers.{one_if}
+use Rattle.vx_model.proofs.Lists.{get_there}
 use Rattle.vx_turn.specs.declared.ask.Ask.{Ask}
 use Rattle.vx_turn.specs.declared.ask.Ask.TheVariants.{Ordered, Charged}
 use Rattle.vx_turn.specs.declared.ask.Said.{Said}
@@ -34,9 +36,8 @@ use Rattle.vx_burst_threads.specs.declared.plan.Told.TheVariants as told
 use Rattle.vx_burst_threads.specs.declared.plan.Waited.{Waited}
 use Rattle.vx_burst_threads.specs.declared.plan.Waited.TheVariants as waited
 use Rattle.vx_burst_threads.specs.Planning.{call_for, IsToldAs, IsStalled}
-use Rattle.vx_burst.specs.Setting.{one_if}
 use Rattle.vx_burst.specs.Finishing.{head_behind, IsNothing, AckWithin, BurstUnderway, IsLeftOut, IsCallAsk, Stay, IsAskedAgain, AreBefore, unplaced, HasExcuse, BurstStage, IsWaited, waiting_end, WaitedOne, WaitedOn}
-use Rattle.vx_burst.proofs.Underways.{job_entry, asked-jobs, get-some, underway-brings, underway-moves}
+use Rattle.vx_burst.proofs.Underways.{job_entry, asked-jobs, underway-brings, underway-moves}
 use Rattle.vx_burst.proofs.Stages.{job-of-plan, stay-jobs, stay-as, again-same, excuse-later, halted-not, brought-excuse}
 
 -- what stays is among the events
@@ -249,7 +250,7 @@ module _ {P : Type 0} (stand : P → Stand) (root : P → P) where
           (subst (LiesAmong (Charged (Wait m), s)) (sym w.once.one) (0, ap (λ (z : Said). Some (Charged (Wait m), z)) same))))
 
       top : m ≤ t.head
-      top = let l = g.long in let inside = get-inside answers k a at in let pl = get-some plan k (omega (arith, l, inside)) in let i = g.each k pl.0 a pl.1 at some in
+      top = let l = g.long in let inside = get-inside answers k a at in let pl = get_there plan k (omega (arith, l, inside)) in let i = g.each k pl.0 a pl.1 at some in
           let r : i.reply ≡ reply.Logged m = told-logged i.reply a.reply m i.told is in
           let h = logged-below start.counts.faults start.ring (point_of start) log (call_for pl.0) m g.underway.legal
           (subst (λ z. LiesAmong (Ordered (call_for pl.0), Replied z) (map asked log)) r (stay-among (IsAskedAgain plan answers) 0 (map asked log) stays (a.place - 1) (Ordered (call_for pl.0), Replied i.reply) g.left i.at)) in
@@ -310,7 +311,7 @@ module _ {P : Type 0} (stand : P → Stand) (root : P → P) where
       (λ (o : ((m : ℕ) → reply ≡ told.Logged m → ⊥) × (r ≡ waited.No) × (t ≡ s) × (qs ≡ ps)). subst (λ (z : State × List P). HaveLinks stand z.0 z.1) (λ i. (sym o.2 i, sym o.3 i)) links) one
     where
       wait : (m : ℕ) (e : Ended) → WaitsFor stand root s ps m e t qs → HaveLinks stand t qs
-      wait m e w i q now = let inside = get-inside qs i q now in let n = w.brings.long in let g = get-some ps i (omega (arith, n, inside)) in
+      wait m e w i q now = let inside = get-inside qs i q now in let n = w.brings.long in let g = get_there ps i (omega (arith, n, inside)) in
           let l = links i g.0 g.1 in let go = (w.brings.each i g.0 q g.1 now).walks.goes.link in let a = w.brings.moves.links in let b = w.once.moves.links in omega (arith, l, go, a, b)
 
 -- each answer has the place that it had

@@ -9,6 +9,7 @@ use Rattle.vx_turn.specs.declared.ask.Said.{Said}
 use Rattle.vx_turn.specs.declared.ask.Said.TheVariants.{Replied, Worked}
 use Rattle.vx_turn.specs.declared.ask.Job.TheVariants.{Acked, Wait}
 use Rattle.vx_model.specs.declared.no.No.TheVariants as no
+use Rattle.vx_model.specs.Numbers.{one_if}
 use Rattle.vx_turn.specs.declared.ask.JobReply.TheVariants as job
 use Rattle.vx_turn.specs.declared.meaning.Entry.{Entry}
 use Rattle.vx_turn.specs.declared.meaning.State.{State}
@@ -26,7 +27,6 @@ use Rattle.vx_burst_threads.specs.declared.plan.Answered.{Answered}
 use Rattle.vx_burst_threads.specs.declared.plan.Told.TheVariants as told
 use Rattle.vx_burst_threads.specs.declared.plan.Waited.TheVariants as waited
 use Rattle.vx_burst_threads.specs.Planning.{call_for, IsToldAs, IsStalled}
-use Rattle.vx_burst.specs.Setting.{one_if}
 
 -- no acknowledgement of this link has a number above this one
 abbrev pub NoneAbove : ℕ → ℕ → Events → Type 0

@@ -1,10 +1,10 @@
 -- The places of calls among those that stay.
 use Rattle.std.specs.Prelude.{◌≡◌, ℕ, suc, zero, ◌+◌, ◌<◌, ◌≤◌, ◌==◌, List, [], ◌∷◌, length, take, slice_get, Some}
 use Rattle.std.specs.List.Sorted.{IsPermutation, IsNonDecreasingBy}
+use Rattle.vx_model.specs.Numbers.{one_if}
 use Rattle.vx_turn.specs.Acting.{LiesAmong}
 use Rattle.vx_burst_threads.specs.declared.plan.Answered.{Answered}
 use Rattle.vx_burst.specs.declared.placing.Spot.{Spot}
-use Rattle.vx_burst.specs.Setting.{one_if}
 use Rattle.vx_burst.specs.Finishing.{unplaced}
 
 -- what is noted of an answer with this place

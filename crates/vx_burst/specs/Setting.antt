@@ -1,5 +1,5 @@
 -- The workers of a burst before they work, and the memory that they take.
-use Rattle.std.specs.Prelude.{◌≡◌, ℕ, ◌+◌, ◌-◌, ◌≤◌, Bool, true, false, List, [], length, vec_capacity, slice_get, Some}
+use Rattle.std.specs.Prelude.{◌≡◌, ℕ, ◌+◌, ◌-◌, ◌≤◌, List, [], length, vec_capacity, slice_get, Some}
 use Rattle.atomic_table.specs.Seated.{TableId}
 use Rattle.vx_turn.specs.declared.meaning.State.{State}
 use Rattle.vx_turn.specs.declared.passes.Passes.{Passes}
@@ -14,10 +14,6 @@ use Rattle.vx_burst_threads.specs.Writing.{IsWriterReady}
 use Rattle.vx_burst_threads.specs.Draining.{IsLinked}
 use Rattle.vx_burst.specs.declared.rooms.Space.{Space}
 use Rattle.vx_burst.specs.declared.rooms.Room.{Room}
-
-abbrev pub one_if : Bool → ℕ
-one_if true = 1
-one_if false = 0
 
 -- no answer has a place
 abbrev pub AreBlank : List Answered → Type 0

@@ -1,7 +1,8 @@
 // The memory of a burst, all of which is taken before its first call.
 ghost use Rattle.std.specs.Prelude.{◌≡◌, ◌≤◌, ◌==◌, length, IfSome};
+ghost use Rattle.vx_model.specs.Numbers.{one_if};
 ghost use Rattle.vx_burst_threads.specs.Planning.{own_count};
-ghost use Rattle.vx_burst.specs.Setting.{AreBlank, AreThreadRooms, HasBurstRoom, one_if};
+ghost use Rattle.vx_burst.specs.Setting.{AreBlank, AreThreadRooms, HasBurstRoom};
 
 use crate::limits::{MOST_PEERS, MOST_THREADS};
 use crate::placing::Spot;

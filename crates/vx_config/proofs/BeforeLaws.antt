@@ -2,17 +2,15 @@
 use Rattle.std.proofs.Common.{◌≡◌, ℕ, zero, suc, ◌+◌, ◌-◌, ◌^◌, ◌<◌, ◌≤◌, Bool, true, false, ◌&&◌, ◌||◌, List, [], ◌∷◌, ◌++◌, length, take, drop, Option, Some, None, Ok, Err, refl, sym, ap, subst, ◌∙◌, arith}
 use Rattle.std.specs.Prelude.{flat_map, is_some, nat_lt, nat_le, ◌==◌, if◌then◌else◌}
 use Rattle.std.specs.List.{AllByRecursion}
-use Rattle.std.proofs.lemmas.List.{take_at, drop_at, take-append-drop, take-append-le, take-take, drop-take, length-append, length-take}
+use Rattle.std.proofs.lemmas.List.{take_at, drop_at, take-append-le, length-append, length-take}
 use Rattle.std.proofs.lemmas.List.Concat.{flat_map-cons}
 use Rattle.vx_wire.specs.Numbers.{be_bytes, AreBytes, number_at}
+use Rattle.vx_wire.proofs.PlaceLemmas.{take_sum}
 use Rattle.vx_config.specs.Forms.{Reading, ◌>>=◌, Form, number, within, coded_or, coded, flag, flag_code, flag_of, read_name, name, pair, made_of, keyed, read_many, counted, spell_if, read_if, FitsIf, optional, same_flag, where_flag}
 use Rattle.vx_config.proofs.FormLaws.{bind_err, err_is, test_err, IsForm, within-IsForm, coded_err, guard_err, flag-IsForm, flag_fits}
 use Rattle.vx_config.proofs.PartLaws.{many-stops, if-stops}
 
 -- ---- fronts
-
-take_sum : (m n : ℕ) (xs : List ℕ) → take (m + n) xs ≡ take m xs ++ take n (drop m xs)
-take_sum m n xs = sym (take-append-drop m (take (m + n) xs)) ∙ rw (take-take m (m + n) xs (omega arith), drop-take m n xs) refl
 
 take-behind : (x y : List ℕ) (m : ℕ) → take (length x + m) (x ++ y) ≡ x ++ take m y
 take-behind x y m = take_sum (length x) m (x ++ y) ∙ rw (take_at x y (length x) refl, drop_at x y (length x) refl) refl

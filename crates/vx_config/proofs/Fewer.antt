@@ -10,6 +10,7 @@ use Rattle.std.proofs.lemmas.List.Sums.{sum_by-append, sum_by-cons}
 use Rattle.vx_model.specs.Sizes.{map_blocks}
 use Rattle.vx_model.specs.declared.site.PlexState.{PlexState}
 use Rattle.vx_model.specs.declared.units.Units.{Units}
+use Rattle.vx_model.proofs.Lists.{get_front}
 use Rattle.vx_config.specs.Changes.{changed_at, names_below, stated, with_plex, with_state, with_volumes}
 use Rattle.vx_config.specs.Checks.{are_apart, are_placed, blocks_of, differ, group_or_none, in_region, is_sound, is_volume, map_blocks_of, other_than, pairwise, runs, volume_runs}
 use Rattle.vx_config.specs.Configs.{subdisk_count, volume_subdisks}
@@ -28,11 +29,6 @@ front_pairs r [] ys all = refl
 front_pairs r (x ∷ xs) ys all =
     let parts = and_parts (list_all (r x) (xs ++ ys)) (pairwise r (xs ++ ys)) all in
     and_from (list_all (r x) xs) (pairwise r xs) (front_all (r x) xs ys parts.0) (front_pairs r xs ys parts.1)
-
-get_front : {A : Type 0} (xs ys : List A) (n : ℕ) → n < length xs → slice_get (xs ++ ys) n ≡ slice_get xs n
-get_front [] ys n lt = absurd (omega (arith, lt))
-get_front (x ∷ xs) ys zero lt = refl
-get_front (x ∷ xs) ys (suc n) lt = get_front xs ys n (omega (arith, lt))
 
 -- ---- one volume less
 

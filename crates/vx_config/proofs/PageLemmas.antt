@@ -1,12 +1,13 @@
 -- Bytes put behind others, as far as there is room.
-use Rattle.std.proofs.Common.{◌≡◌, ◌≤◌, ℕ, ◌+◌, ◌-◌, List, [], ◌∷◌, ◌++◌, ◌<◌, length, take, drop, get_or, refl, sym, ap, ◌∙◌, arith, append_assoc, ◌⊎◌, inl, inr}
+use Rattle.std.proofs.Common.{◌≡◌, ◌≤◌, ℕ, ◌+◌, ◌-◌, List, [], ◌++◌, ◌<◌, length, take, drop, get_or, refl, sym, ap, ◌∙◌, arith, append_assoc, ◌⊎◌, inl, inr}
 use Rattle.std.specs.Prelude.{flat_map}
 use Rattle.std.proofs.lemmas.Bool.{cases_lt}
-use Rattle.std.proofs.lemmas.List.{length-append, length-take, length-drop, take_all, take_at, drop_at, take-take, drop-take, take-append-le, take-append-drop, append-nil, drop_all, take_more}
+use Rattle.std.proofs.lemmas.List.{length-append, length-take, length-drop, take_all, take_at, drop_at, take-take, take-append-le, append-nil, drop_all, take_more}
 use Rattle.std.proofs.lemmas.List.Concat.{flat_map-append}
 use Rattle.vx_wire.specs.Numbers.{be_bytes}
 use Rattle.vx_wire.specs.Places.{put_at}
 use Rattle.vx_wire.proofs.NumberLemmas.{length-be_bytes}
+use Rattle.vx_wire.proofs.PlaceLemmas.{take_sum}
 use Rattle.vx_config.specs.Forms.{Form}
 use Rattle.vx_config.specs.Pages.{room, onto}
 
@@ -31,10 +32,6 @@ unfolding onto
 onto-nothing text short = take_all room text short
 
 pub ruleset joined = (onto-onto, append_assoc)
-
--- the first m and then the next n
-take_sum : (m n : ℕ) (xs : List ℕ) → take (m + n) xs ≡ take m xs ++ take n (drop m xs)
-take_sum m n xs = sym (take-append-drop m (take (m + n) xs)) ∙ rw (take-take m (m + n) xs (omega arith), drop-take m n xs) refl
 
 -- bytes that are put as far as there is room
 pub onto-cut : (len count : ℕ) (bytes text : List ℕ) → len ≤ room → length bytes ≡ room → ((count ≡ length text) × (length text ≤ room - len)) ⊎ (count ≡ room - len)

@@ -1,7 +1,8 @@
 -- Changes of a configuration in place: the state of a plex, the loss of a log, and one volume less.
-use Rattle.std.specs.Prelude.{ℕ, zero, suc, Bool, true, false, nat_lt, List, [], ◌∷◌, Option, Some, None, slice_get}
+use Rattle.std.specs.Prelude.{ℕ, zero, suc, Bool, true, nat_lt, List, [], ◌∷◌, Option, Some, None}
 use Rattle.std.specs.List.{list_all, list_any}
 use Rattle.vx_model.specs.declared.site.PlexState.{PlexState}
+use Rattle.vx_model.specs.declared.site.PlexState.TheVariants.{Active, Clean, Stale}
 use Rattle.vx_model.specs.declared.units.Units.{Units}
 use Rattle.vx_config.specs.Checks.{is_live}
 use Rattle.vx_config.specs.declared.config.Config.{Config}
@@ -17,6 +18,13 @@ changed_at f k [] = []
 changed_at f zero (x ∷ xs) = f x ∷ xs
 changed_at f (suc k) (x ∷ xs) = x ∷ changed_at f k xs
 
+-- what stands at the same place of two lists, if anything does, is in this relation
+abbrev pub Matched : {A : Type 0} → (A → A → Type 0) → Option A → Option A → Type 0
+Matched R None None = Unit {0}
+Matched R None (Some y) = ⊥
+Matched R (Some x) None = ⊥
+Matched R (Some x) (Some y) = R x y
+
 -- a plex in this state, of which the next attach has to copy all regions or not
 abbrev pub with_state : PlexState → Bool → PlexEntry → PlexEntry
 with_state state whole p = record { state = state; whole = whole; subdisks = p.subdisks }
@@ -25,6 +33,12 @@ with_state state whole p = record { state = state; whole = whole; subdisks = p.s
 abbrev pub with_plex : ℕ → PlexState → Bool → VolumeEntry → VolumeEntry
 with_plex plex state whole v =
     record { name = v.name; blocks = v.blocks; ncol = v.ncol; width = v.width; prefer = v.prefer; drl = v.drl; fmr = v.fmr; plexes = changed_at (with_state state whole) plex v.plexes }
+
+-- the state of a plex that takes part again where it stopped cleanly
+abbrev pub live_again : PlexState → PlexState
+live_again Active = Active
+live_again Clean = Active
+live_again Stale = Stale
 
 -- a log that is lost or not, where there is one
 abbrev pub lost_as : Bool → Option LogEntry → Option LogEntry

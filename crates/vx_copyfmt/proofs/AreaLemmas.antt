@@ -7,10 +7,11 @@ use Rattle.vx_wire.specs.Fields.{spelled, zero_bytes}
 use Rattle.vx_wire.specs.Numbers.{be_bytes, number_at}
 use Rattle.vx_wire.specs.Places.{cut}
 use Rattle.vx_wire.specs.Seals.{sealed, filled, digest_of, IsSealed}
+use Rattle.vx_wire.proofs.NumberLemmas.{reads_back}
 use Rattle.vx_wire.proofs.SealLemmas.{take-sealed, IsSealed-sealed, length-sealed}
 use Rattle.vx_copyfmt.specs.Areas.{area_table, area_fields, area_block, CanSpellArea, IsTypedArea, IsArea, area_in, is_area, header_of}
 use Rattle.vx_copyfmt.specs.declared.area.AreaHeader.{AreaHeader}
-use Rattle.vx_copyfmt.proofs.Told.{false_from, same_bytes, alike, read}
+use Rattle.vx_copyfmt.proofs.Told.{false_from, same_bytes, alike}
 
 pub length-area_table : (h : AreaHeader) → length (spelled (area_table h)) ≡ 20
 unfolding spelled be_bytes area_table
@@ -28,8 +29,8 @@ record HasNumbers (block : List ℕ) (h : AreaHeader) : Type 0 where
 HasNumbers-table : (h : AreaHeader) (rest : List ℕ) → CanSpellArea h → HasNumbers (spelled (area_table h) ++ rest) h
 unfolding number_at be_bytes spelled area_table
 HasNumbers-table h rest can = record {
-  serial = read 8 h.serial (omega (arith, can.serial));
-  len = read 4 h.length (omega (arith, can.few));
+  serial = reads_back 8 h.serial (omega (arith, can.serial));
+  len = reads_back 4 h.length (omega (arith, can.few));
 }
 
 area_in-has : (block : List ℕ) (h : AreaHeader) → HasNumbers block h → cut 20 32 block ≡ h.digest → area_in block ≡ h

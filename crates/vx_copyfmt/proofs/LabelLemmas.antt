@@ -5,11 +5,12 @@ use Rattle.std.proofs.lemmas.Bool.{and_parts, and_from, eqb-true, eq-eqb}
 use Rattle.vx_wire.specs.Fields.{spelled, zero_bytes}
 use Rattle.vx_wire.specs.Numbers.{be_bytes, number_at}
 use Rattle.vx_wire.specs.Seals.{sealed, filled, digest_of, IsSealed}
+use Rattle.vx_wire.proofs.NumberLemmas.{reads_back}
 use Rattle.vx_wire.proofs.SealLemmas.{take-sealed, IsSealed-sealed, length-sealed}
 use Rattle.vx_copyfmt.specs.Labels.{label_magic, label_version, label_table, label_fields, label_block, IsTypedLabel, IsLabel, label_in, begins_label, is_spelled, seen_in}
 use Rattle.vx_copyfmt.specs.declared.label.Label.{Label}
 use Rattle.vx_copyfmt.specs.declared.label.LabelSeen.TheVariants as seen
-use Rattle.vx_copyfmt.proofs.Told.{not_both, false_from, same_bytes, alike, read}
+use Rattle.vx_copyfmt.proofs.Told.{not_both, false_from, same_bytes, alike}
 
 pub length-label_table : (l : Label) → length (label_fields l) ≡ 28
 unfolding spelled be_bytes label_table
@@ -25,10 +26,10 @@ record HasNumbers (block : List ℕ) (l : Label) : Type 0 where
 HasNumbers-table : (l : Label) (rest : List ℕ) → IsTypedLabel l → HasNumbers (label_fields l ++ rest) l
 unfolding number_at be_bytes spelled label_table
 HasNumbers-table l rest typed = record {
-  version = read 4 label_version (omega arith);
-  site = read 4 l.site (omega (arith, typed.site));
-  disk = read 4 l.disk (omega (arith, typed.disk));
-  blocks = read 8 l.blocks (omega (arith, typed.blocks));
+  version = reads_back 4 label_version (omega arith);
+  site = reads_back 4 l.site (omega (arith, typed.site));
+  disk = reads_back 4 l.disk (omega (arith, typed.disk));
+  blocks = reads_back 8 l.blocks (omega (arith, typed.blocks));
 }
 
 label_in-has : (block : List ℕ) (l : Label) → HasNumbers block l → label_in block ≡ l

@@ -5,7 +5,7 @@ use Rattle.vx_wire.proofs.SealLemmas.{length-digest_of}
 use Rattle.vx_disk.specs.Shelf.{Meaning, Lawful, Covers, Written, Nothing, Goes, KeepsAll, Read, piece}
 use Rattle.vx_disk.specs.Moves.{Moves, Run}
 use Rattle.vx_disk.proofs.Moving.{of_goes, then_goes}
-use Rattle.vx_disk.proofs.Runs.{at_rest, covers_one, piece_one, KeepsAll_one}
+use Rattle.vx_disk.proofs.Runs.{at_rest, covers_one, piece_one, KeepsAll_one, still_left}
 use Rattle.vx_copyfmt.specs.Areas.{CanSpellArea, area_block, header_of}
 use Rattle.vx_copyfmt.specs.Copies.{Disk, area_a, area_b}
 use Rattle.vx_copyfmt.specs.Commits.{Among, IsHeaderBlock, Mixed, exactly, target_of}
@@ -25,9 +25,6 @@ block_covered disk a bytes len = covers_one disk a bytes len
 read_left : (m : Meaning) (disk a : ℕ) (bytes : List ℕ) → Lawful m → length bytes ≡ 512 → Read m disk a bytes → IsTrue m.tells → m.leaves disk a bytes
 read_left m disk a bytes lawful len read tells =
     subst (m.leaves disk a) (piece_one a bytes len) (lawful.shown disk a (piece a bytes a) (read.each tells a (block_covered disk a bytes len)))
-
-still_left : (old new : Meaning) → Goes Nothing old new → (u b : ℕ) (v : List ℕ) → new.leaves u b v → old.leaves u b v
-still_left old new goes u b v left = at_rest old u b v (goes.leaves u b v left)
 
 pub target_is : (disk : ℕ) (first second : List ℕ) (old mid : Meaning) → Lawful old → Lawful mid → length first ≡ 512 → length second ≡ 512 → Goes Nothing old mid
     → Read old disk area_a first → Read mid disk area_b second → IsTarget disk (target_of (header_of first) (header_of second)) old

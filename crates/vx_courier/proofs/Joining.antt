@@ -1,16 +1,17 @@
 -- A packet that is put to what is in assembly at its target.
 use Rattle.std.proofs.Common.{◌≡◌, ◌∙◌, ◌⊎◌, inl, inr, ◌<◌, ℕ, zero, suc, List, [], ◌∷◌, ◌++◌, length, map, ap, sym, subst, refl, arith, Bool, true, false}
-use Rattle.std.specs.Prelude.{Option, Some, None, slice_get, slice_index_or, if◌then◌else◌}
+use Rattle.std.specs.Prelude.{Option, Some, None, slice_get, slice_index_or}
 use Rattle.std.specs.Option.{is_some}
 use Rattle.vx_model.specs.Content.{Write}
 use Rattle.vx_model.specs.declared.history.Line.{Line}
+use Rattle.vx_model.proofs.Lists.{found_more}
 use Rattle.vx_history.specs.Gatherings.{came_after, completes, key_of as world_key, left_by}
 use Rattle.vx_history.specs.Sends.{parts_of as parts_in}
 use Rattle.vx_history.specs.World.{DataAck, Gathering, Hello, Key as WorldKey, Message, NetAck, Packet, Update}
 use Rattle.vx_packet.specs.Assemblies.{Assembled, HeldParts, TakesPart, key_in_part, parts_after, parts_before, same_part_key}
 use Rattle.vx_packet.specs.Gathering.{Parts, all_parts_came}
 use Rattle.vx_packet.specs.Messages.{chunk, count_of_parts, payload_of, row}
-use Rattle.vx_packet.specs.Packets.{part_numbered, payload_in}
+use Rattle.vx_packet.specs.Packets.{payload_in}
 use Rattle.vx_packet.specs.Takings.{HoldsSome, IsChunk, key_of_message}
 use Rattle.vx_packet.specs.declared.assembly.Taken.{Taken}
 use Rattle.vx_packet.specs.declared.assembly.Taken.TheVariants as taken
@@ -20,7 +21,7 @@ use Rattle.vx_packet.specs.declared.message.Message.{Message as Spelled}
 use Rattle.vx_packet.specs.declared.part.Part.{Part}
 use Rattle.vx_packet.proofs.KeyLemmas.{same_key-is}
 use Rattle.vx_packet.proofs.PacketLemmas.{payload_in-packet_of}
-use Rattle.vx_packet.proofs.TakingLemmas.{fresh, none-bad, same_key-refl, step-kept, step-whole}
+use Rattle.vx_packet.proofs.TakingLemmas.{fresh, key-part, none-bad, parts-key, same_key-refl, step-kept, step-whole}
 use Rattle.vx_parts.specs.Spelling.{IsTied, plain, spelled_message}
 use Rattle.vx_parts.proofs.Counting.{key_is, parts_are}
 use Rattle.vx_parts.proofs.Wholes.{after_same, whole_same}
@@ -52,16 +53,8 @@ key_source : (e : Envelope) (m : Spelled) → (key_of_message e m).source ≡ e.
 unfolding key_of_message
 key_source e m = refl
 
-key_parts : (e : Envelope) (m : Spelled) → (key_of_message e m).parts ≡ count_of_parts m
-unfolding key_of_message
-key_parts e m = refl
-
-part_key : (e : Envelope) (m : Spelled) (k : ℕ) → key_in_part (part_numbered e m k) ≡ key_of_message e m
-unfolding part_numbered key_of_message
-part_key e m k = refl
-
 plain_key : (p : Packet) → plain (key_in_part (part_carried p)) ≡ world_key p
-plain_key p = ap plain (part_key (way_of p) (spelled_message p.message) p.part) ∙ key_is p.source p.target p.line p.message
+plain_key p = ap plain (key-part (way_of p) (spelled_message p.message) p.part) ∙ key_is p.source p.target p.line p.message
 
 -- ---- a message of one part
 
@@ -77,7 +70,7 @@ one_missing (x ∷ xs) payload (suc k) long missing low = absurd (omega (arith, 
 alone : (e f : Envelope) (m n : Spelled) (a : Assembled) → key_of_message f n ≡ key_of_message e m → count_of_parts m ≡ 1 → HoldsSome f n a → HoldsSome e m a
 alone e f m n a keys one some =
     let same : parts_before a.held (key_of_message f n) ≡ parts_before a.held (key_of_message e m) = ap (parts_before a.held) keys in
-    let count : count_of_parts n ≡ count_of_parts m = sym (key_parts f n) ∙ ap (λ (k : Key). k.parts) keys ∙ key_parts e m in
+    let count : count_of_parts n ≡ count_of_parts m = sym (parts-key f n) ∙ ap (λ (k : Key). k.parts) keys ∙ parts-key e m in
     let long : length (parts_before a.held (key_of_message e m)) ≡ count_of_parts m = sym (ap length same) ∙ some.count ∙ count in
     let missing : all_parts_came (parts_before a.held (key_of_message e m)) ≡ false = sym (ap all_parts_came same) ∙ some.missing in
     record {
@@ -178,7 +171,7 @@ module _ (ps : List Packet) (site place : ℕ) (p : Packet) (one : AreOne ps) (t
             packet = p;
             there = there;
             target = target;
-            key = ap (λ (i : HeldParts). i.key) (some_same h _ (sym some ∙ is.held)) ∙ part_key e m p.part;
+            key = ap (λ (i : HeldParts). i.key) (some_same h _ (sym some ∙ is.held)) ∙ key-part e m p.part;
             some = step-kept e m a new p.part fly.can within holds is;
           };
         },
@@ -198,11 +191,6 @@ module _ (ps : List Packet) (site place : ℕ) (p : Packet) (one : AreOne ps) (t
   pub put_together : (t : Taken) (new : Assembled) → TakesPart a (part_carried p) (payload_in (part_carried p) (carrier p)) t new → IsPutTo ps site g p t new
   put_together t new takes = by_taken t new (subst (λ (bs : List ℕ). TakesPart a (part_carried p) bs t new) (payload_in-packet_of e m p.part) takes)
 
-stays : (qs rs : List Packet) (i : ℕ) (q : Packet) → slice_get qs i ≡ Some q → slice_get (qs ++ rs) i ≡ Some q
-stays [] rs i q is = absurd (cc)
-stays (r ∷ qs) rs zero q is = is
-stays (r ∷ qs) rs (suc i) q is = stays qs rs i q is
-
 -- what stands in assembly stands there whatever is sent
 pub stands_later : (ps more : List Packet) (site : ℕ) (g : Option Gathering) (a : Assembled) → AssemblyStands ps site g a → AssemblyStands (ps ++ more) site g a
 stands_later ps more site g a was = record {
@@ -210,7 +198,7 @@ stands_later ps more site g a was = record {
   each = λ h some. let from = was.each h some in record {
     place = from.place;
     packet = from.packet;
-    there = stays ps more from.place from.packet from.there;
+    there = found_more ps more from.place from.packet from.there;
     target = from.target;
     key = from.key;
     some = from.some;

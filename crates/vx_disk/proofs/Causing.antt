@@ -1,8 +1,10 @@
 -- What a caller knows of an answer.
 use Rattle.std.proofs.Common.{◌≡◌, refl, ℕ, ◌≤◌, Result, Ok, Err, OnOk, inl, inr, ⊎_elim, arith}
+use Rattle.vx_model.specs.declared.no.No.{No}
+use Rattle.vx_model.specs.declared.no.No.TheVariants as refusal
 use Rattle.vx_disk.specs.declared.shelf.ShelfError.{ShelfError}
 use Rattle.vx_disk.specs.declared.shelf.ShelfError.TheVariants.{Fault, Down}
-use Rattle.vx_disk.specs.Causes.{Cause, StaysUp}
+use Rattle.vx_disk.specs.Causes.{Cause, DeviceCause, StaysUp}
 use Rattle.vx_disk.specs.Counts.{Rose}
 use Rattle.vx_disk.specs.Shelf.{Meaning}
 
@@ -31,3 +33,9 @@ pub Cause_both : {T : Type 0} (first mid last : Meaning) (unit : ℕ) (r : Resul
 Cause_both first mid last unit (Ok x) up faults disk_faults cause = record { before = up.before; after = cause.after }
 Cause_both first mid last unit (Err (Fault disk)) up faults disk_faults cause = (record { count = Rose_before _ _ _ (faults unit) cause.0.count; disk_count = Rose_before _ _ _ (disk_faults disk) cause.0.disk_count }, record { before = up.before; after = cause.1.after })
 Cause_both first mid last unit (Err Down) up faults disk_faults cause = cause
+
+-- the cause of the second of two calls is the cause of both
+pub cause_before : (old mid new : Meaning) → ((d : ℕ) → old.disk_faults d ≤ mid.disk_faults d) → (why : No) → DeviceCause mid new why → DeviceCause old new why
+cause_before old mid new less (refusal.Device disk) rose = Rose_before (old.disk_faults disk) (mid.disk_faults disk) (new.disk_faults disk) (less disk) rose
+cause_before old mid new less refusal.Down down = down
+cause_before old mid new less other none = absurd none

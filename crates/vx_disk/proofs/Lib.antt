@@ -13,3 +13,4 @@ pub mod Pasts
 pub mod Runs
 pub mod Same
 pub mod Stops
+pub mod Untouching

@@ -161,3 +161,6 @@ then_nothing p first mid last one two = weaker (Or p Nothing) p first last (both
 -- and before one
 pub nothing_then : (p : Values) (first mid last : Meaning) → Goes Nothing first mid → Goes p mid last → Goes p first last
 nothing_then p first mid last one two = weaker (Or Nothing p) p first last (both_Goes Nothing p first mid last one two) (λ u b v. ⊎_elim (λ none. absurd none) (λ put. put))
+
+pub still_left : (old new : Meaning) → Goes Nothing old new → (u b : ℕ) (v : List ℕ) → new.leaves u b v → old.leaves u b v
+still_left old new goes u b v left = at_rest old u b v (goes.leaves u b v left)

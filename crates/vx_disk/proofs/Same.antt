@@ -1,6 +1,7 @@
 -- Bytes with the same blocks.
 use Rattle.std.proofs.Common.{◌≡◌, ◌∙◌, ◌+◌, ◌*◌, ◌++◌, ◌∷◌, ℕ, zero, suc, Bool, true, false, cond, List, [], length, take, drop, ap, sym, refl, arith}
 use Rattle.std.proofs.lemmas.List.{take-append-drop, drop-drop, length-drop}
+use Rattle.std.proofs.Math.Seq.{take-append_seam}
 use Rattle.vx_disk.specs.Blocks.{block_at}
 
 empty : (xs : List ℕ) → length xs ≡ 0 → xs ≡ []
@@ -26,10 +27,6 @@ pub kept_all : (loose : Bool) (latest stable new : List ℕ) → (loose ≡ fals
 kept_all true latest stable new clean is = is
 kept_all false latest stable new clean is = is ∙ clean refl
 
-take_whole : (xs rest : List ℕ) → take (length xs) (xs ++ rest) ≡ xs
-take_whole [] rest = refl
-take_whole (x ∷ xs) rest = ap (λ (ys : List ℕ). x ∷ ys) (take_whole xs rest)
-
 -- a whole list that was written over another
 pub seam : (n : ℕ) (xs rest : List ℕ) → length xs ≡ n → take n (xs ++ rest) ≡ xs
-seam n xs rest many = ap (λ (k : ℕ). take k (xs ++ rest)) (sym many) ∙ take_whole xs rest
+seam n xs rest many = ap (λ (k : ℕ). take k (xs ++ rest)) (sym many) ∙ take-append_seam xs rest

@@ -6,13 +6,13 @@ use Rattle.vx_model.specs.declared.no.No.TheVariants.{Down as IsDown}
 use Rattle.vx_disk.specs.Causes.{OnDisks}
 use Rattle.vx_disk.specs.Disks.{Disks, Untouched}
 use Rattle.vx_disk.specs.declared.shelf.Shelf.{Ghosts}
+use Rattle.vx_grouped.specs.SiteEnds.{is_off}
 use Rattle.vx_ringio.proofs.Spending.{loses_none}
 use Rattle.vx_ringio.specs.Spends.{Loses, Passed}
 use Rattle.vx_events.specs.declared.said.Said.{Said}
 use Rattle.vx_events.specs.declared.said.Said.TheVariants.{DoneAt, Logged, Refused}
 use Rattle.vx_diskset.specs.Asked.{LeavesAlone, LeavesFuse, disks_told, size_in}
 use Rattle.vx_diskset.specs.Burning.{Burnt, NoMore}
-use Rattle.vx_diskset.specs.DiskSets.{is_off}
 use Rattle.vx_diskset.specs.declared.disk_set.DiskSet.{DiskSet}
 
 passed_alone : (x y : Disks) → Untouched x y → Passed x y

@@ -1,7 +1,7 @@
 -- What an apply leaves of a site that is up.
 use Rattle.std.proofs.Common.{◌≡◌, inl, ⊎_elim, ℕ, ◌≤◌, Option, Some, None, IsTrue, sym, ◌∙◌, ap, subst, arith}
 use Rattle.std.specs.Prelude.{min, max, Result, Ok, Err, OnOk, IsFalse}
-use Rattle.vx_history.specs.Steps.{burned}
+use Rattle.vx_history.specs.Steps.{burned, worked}
 use Rattle.vx_history.specs.World.{Node}
 use Rattle.vx_model.specs.declared.no.No.{No}
 use Rattle.vx_model.specs.declared.no.No.TheVariants.{Device, Down}
@@ -11,7 +11,7 @@ use Rattle.vx_disk.specs.Moves.{Moves}
 use Rattle.vx_rvg.specs.Groups.{ApplyIs, Applies, Ended, halted_or, core_applied}
 use Rattle.vx_rvg.specs.Stands.{Resting, Rests}
 use Rattle.vx_rvg.specs.Views.{Core, IsSound, Waits, last_of}
-use Rattle.vx_diskset.specs.DiskSets.{CanApply, halted_at, worked, AppliedUp}
+use Rattle.vx_diskset.specs.DiskSets.{CanApply, halted_at, AppliedUp}
 use Rattle.vx_diskset.specs.Holds.{HasSite}
 use Rattle.vx_diskset.specs.Rooms.{AppliedAs}
 use Rattle.vx_diskset.specs.Fuses.{FuseOn}

@@ -24,9 +24,9 @@ use Rattle.vx_srl.specs.Views.{BodyFits, free_of, most_number}
 use Rattle.vx_events.specs.declared.said.Said.{Said}
 use Rattle.vx_events.specs.declared.said.Said.TheVariants.{Refused}
 use Rattle.vx_history.specs.World.{Node}
+use Rattle.vx_grouped.specs.SiteEnds.{is_off}
 use Rattle.vx_diskset.specs.Asked.{CutsShort, LeavesFuse, MayCrash, disks_told, size_in}
 use Rattle.vx_diskset.specs.Burning.{Burnt, NoMore, IsLogged, OffIf, said_by}
-use Rattle.vx_diskset.specs.DiskSets.{is_off}
 use Rattle.vx_diskset.specs.Keeps.{done_by}
 use Rattle.vx_diskset.specs.Stands.{IsUpAt, SiteStands}
 use Rattle.vx_diskset.specs.declared.disk_set.DiskSet.{DiskSet}

@@ -1,8 +1,8 @@
 -- What a crash leaves of a site that was up.
-use Rattle.std.proofs.Common.{◌≡◌, ◌⊎◌, inl, inr, ⊎_elim, ℕ, zero, suc, ◌+◌, ◌-◌, ◌<◌, ◌≤◌, Bool, true, false, List, [], ◌∷◌, length, take, drop, Option, Some, None, IsTrue, MatchOption, refl, sym, ◌∙◌, ap, subst, arith}
+use Rattle.std.proofs.Common.{◌≡◌, ◌⊎◌, inl, inr, ⊎_elim, ℕ, zero, suc, ◌+◌, ◌-◌, ◌<◌, ◌≤◌, Bool, true, false, List, [], length, take, drop, Option, Some, None, IsTrue, MatchOption, refl, sym, ◌∙◌, ap, subst, arith}
 use Rattle.std.proofs.lemmas.List.{length-take}
 use Rattle.std.specs.Prelude.{slice_get, Err}
-use Rattle.vx_model.specs.Content.{Content, Write, put, fold_writes}
+use Rattle.vx_model.specs.Content.{Content, Write, fold_writes}
 use Rattle.vx_history.specs.World.{Node}
 use Rattle.vx_history.specs.Steps.{crashed, half_begun}
 use Rattle.vx_model.specs.declared.state.State.{State}
@@ -24,9 +24,11 @@ use Rattle.vx_disk.specs.declared.shelf.Shelf.{Ghosts}
 use Rattle.vx_diskset.specs.declared.disk_set.DiskSet.{DiskSet}
 use Rattle.vx_diskset.specs.declared.disk_set.DiskSet.TheVariants.{Up, Down}
 use Rattle.vx_rvg.specs.declared.group.Rvg.{Rvg}
-use Rattle.vx_diskset.specs.DiskSets.{CrashedAt, WroteUp, WroteAt, AppliedUp, AppliedAt, is_off, fell_to}
+use Rattle.vx_diskset.specs.DiskSets.{CrashedAt, WroteUp, WroteAt, AppliedUp, AppliedAt, fell_to}
 use Rattle.vx_model.specs.declared.no.No.{No}
 use Rattle.vx_model.specs.declared.no.No.TheVariants.{Device, Limit, Down as Off}
+use Rattle.vx_model.proofs.Contents.{folded_size}
+use Rattle.vx_grouped.specs.SiteEnds.{is_off}
 use Rattle.vx_events.specs.Facts.{values_from}
 use Rattle.vx_diskset.specs.Lasts.{FoundWith, LeftWith}
 use Rattle.vx_diskset.specs.Holds.{HasDoubted, HasWrites, KeptSite, itself, state_with, sure_of}
@@ -140,10 +142,6 @@ pub left_with : (units : Units) (ring : ℕ) (state : State) (session stamp : �
 left_with units ring state session stamp xs c m i lawful now with = record { held = with.held; has = with.has; needs = with.needs; found = left_found units ring state session stamp with.held m i lawful now with.left }
 
 -- ---- the sizes of a site's volumes
-
-pub folded_size : (c : Content) (xs : List Write) (v : ℕ) → (fold_writes c xs).size v ≡ c.size v
-folded_size c [] v = refl
-folded_size c (x ∷ xs) v = folded_size (put c x) xs v
 
 -- the volumes lie on the disks between the first and the last
 pub site_sizes : (disks blocks : ℕ) (c : Content) (m : Meaning) → 3 ≤ disks → ((u : ℕ) → u < disks → m.size u ≡ blocks)

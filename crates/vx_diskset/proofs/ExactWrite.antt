@@ -6,6 +6,7 @@ use Rattle.std.proofs.Math.Nat.{mod-eq_of_lt}
 use Rattle.vx_model.specs.Content.{Content, Write, blocks_in}
 use Rattle.vx_model.specs.Sites.{is_origin}
 use Rattle.vx_model.specs.declared.limits.TheConstants.{MOST_CALL_BLOCKS}
+use Rattle.vx_history.specs.Events.{logged_blocks}
 use Rattle.vx_history.specs.World.{Node, Fuse, FuseSet}
 use Rattle.vx_model.specs.declared.no.No.{No}
 use Rattle.vx_diskset.specs.Holds.{KeptBeside}
@@ -26,33 +27,33 @@ use Rattle.vx_diskset.specs.Lasts.{StandsHolding}
 use Rattle.vx_rvg.specs.Groups.{core_with_write}
 use Rattle.vx_diskset.specs.Fuses.{IsFirstLog}
 use Rattle.vx_diskset.specs.Fuses.{FuseOn, LetsOn}
-use Rattle.vx_events.specs.Fuses.{IsExact, KeepsAllWrites, ring_taken}
+use Rattle.vx_events.specs.Fuses.{IsExact, KeepsAllWrites}
 use Rattle.vx_diskset.specs.Stands.{IsUpAt}
 
-pub taken_push : (xs : List Write) (x : Write) → ring_taken (xs ++ x ∷ []) ≡ ring_taken xs + (blocks_in x.bytes + 1)
+pub taken_push : (xs : List Write) (x : Write) → logged_blocks (xs ++ x ∷ []) ≡ logged_blocks xs + (blocks_in x.bytes + 1)
 taken_push [] x = omega arith
 taken_push (y ∷ xs) x = let rest = taken_push xs x in omega (arith, rest)
 
-pub taken_many : (xs : List Write) → length xs ≤ ring_taken xs
+pub taken_many : (xs : List Write) → length xs ≤ logged_blocks xs
 taken_many [] = omega arith
 taken_many (x ∷ xs) = let rest = taken_many xs in omega (arith, rest)
 
 -- a log with room for one write more
-module _ (l : Log) (xs : List Write) (bytes : List ℕ) (first : IsFirstLog l xs) (idle : l.staged ≡ []) (some : 0 < blocks_in bytes) (room : ring_taken xs + (blocks_in bytes + 1) ≤ l.ring) where
+module _ (l : Log) (xs : List Write) (bytes : List ℕ) (first : IsFirstLog l xs) (idle : l.staged ≡ []) (some : 0 < blocks_in bytes) (room : logged_blocks xs + (blocks_in bytes + 1) ≤ l.ring) where
   all_is : all_of l ≡ l.held
   all_is = ap (λ (ks : List Kept). l.held ++ ks) idle ∙ append-nil l.held
 
-  used : widths (all_of l) ≡ ring_taken xs
+  used : widths (all_of l) ≡ logged_blocks xs
   used = ap widths all_is ∙ first.widths_are
 
   pub at_hand : blocks_in bytes < free_of l
   at_hand = omega (arith, used, room)
 
-  end_is : end_of l ≡ ring_taken xs
+  end_is : end_of l ≡ logged_blocks xs
   end_is =
       place_sum l.ring l.header.place (all_of l) (omega (arith, first.place, room))
       ∙ mod-eq_of_lt (omega (arith, first.place, used, room))
-      ∙ (let sum : l.header.place + widths (all_of l) ≡ ring_taken xs = omega (arith, first.place, used) in sum)
+      ∙ (let sum : l.header.place + widths (all_of l) ≡ logged_blocks xs = omega (arith, first.place, used) in sum)
 
   pub fits : BodyFits l bytes
   fits =
@@ -73,11 +74,11 @@ first_pushed c c' xs volume start bytes is idle first = record {
 }
 
 -- a log that holds all of its writes
-pub taken_same : (xs : List Write) → blocks_taken xs ≡ ring_taken xs
+pub taken_same : (xs : List Write) → blocks_taken xs ≡ logged_blocks xs
 taken_same [] = refl
 taken_same (x ∷ xs) = let rest = taken_same xs in omega (arith, rest)
 
-first_whole : (c : Core) (xs : List Write) (base : Content) (m : Meaning) → StandsHolding c xs base m → ring_taken xs + (MOST_CALL_BLOCKS + 1) ≤ c.log.ring → IsFirstLog c.log xs
+first_whole : (c : Core) (xs : List Write) (base : Content) (m : Meaning) → StandsHolding c xs base m → logged_blocks xs + (MOST_CALL_BLOCKS + 1) ≤ c.log.ring → IsFirstLog c.log xs
 first_whole c xs base m stood room =
     let whole = stood.has.whole room in
     let none : stood.held.low - 1 ≡ 0 = omega (arith, whole.0) in
@@ -120,13 +121,13 @@ lets_pass n m calls set has = subst (λ (f : Fuse). FuseOn f m) set has
 
 -- a site that is up, and a write that is exactly four calls
 module _ {beside : KeptBeside} (n : Node) (c : Core) (m : Meaning) (volume start : ℕ) (bytes : List ℕ) (up : IsUpAt beside n c m) (none : n.halted ≡ None) (origin : is_origin n.role ≡ true) (sound : IsSound c m) (told : IsTrue m.tells) (some : 0 < blocks_in bytes)
-    (keeps : KeepsAllWrites n) (room : ring_taken n.log + (blocks_in bytes + 1) ≤ n.ring) where
+    (keeps : KeepsAllWrites n) (room : logged_blocks n.log + (blocks_in bytes + 1) ≤ n.ring) where
   idle : c.log.staged ≡ []
   idle = sound.idle (up.halted ∙ none) up.up
 
   pub first_here : IsFirstLog c.log n.log
   first_here =
-      ⊎_elim (λ one. up.fresh origin told none one (omega (arith, room))) (λ (most : ring_taken n.log + (MOST_CALL_BLOCKS + 1) ≤ n.ring). first_whole c n.log n.base m (up.content none told) (omega (arith, most, up.ring))) keeps
+      ⊎_elim (λ one. up.fresh origin told none one (omega (arith, room))) (λ (most : logged_blocks n.log + (MOST_CALL_BLOCKS + 1) ≤ n.ring). first_whole c n.log n.base m (up.content none told) (omega (arith, most, up.ring))) keeps
 
   pub hand_here : blocks_in bytes < free_of c.log
   hand_here = at_hand c.log n.log bytes first_here idle some (omega (arith, room, up.ring))
@@ -147,10 +148,10 @@ module _ {beside : KeptBeside} (n : Node) (c : Core) (m : Meaning) (volume start
 
 module _ {beside : KeptBeside} {R : Type 0} {g : Ghosts R} (n : Node) (old mid : Rvg R g) (volume start : ℕ) (bytes : List ℕ) (up : IsUpAt beside n old.core (g.meaning old.shelf)) (none : n.halted ≡ None) (origin : is_origin n.role ≡ true) (told : IsTrue (g.meaning old.shelf).tells)
     (some : 0 < blocks_in bytes) where
-  at_once : KeepsAllWrites n → ring_taken n.log + (blocks_in bytes + 1) ≤ n.ring → (blocks_in bytes < free_of old.core.log → mid ≡ old) → mid ≡ old
+  at_once : KeepsAllWrites n → logged_blocks n.log + (blocks_in bytes + 1) ≤ n.ring → (blocks_in bytes < free_of old.core.log → mid ≡ old) → mid ≡ old
   at_once keeps room idle = idle (hand_here n old.core (g.meaning old.shelf) volume start bytes up none origin old.sound told some keeps room)
 
-  pub first_after : KeepsAllWrites n → ring_taken n.log + (blocks_in bytes + 1) ≤ n.ring → (blocks_in bytes < free_of old.core.log → mid ≡ old) → IsFirstLog mid.core.log n.log
+  pub first_after : KeepsAllWrites n → logged_blocks n.log + (blocks_in bytes + 1) ≤ n.ring → (blocks_in bytes < free_of old.core.log → mid ≡ old) → IsFirstLog mid.core.log n.log
   first_after keeps room idle =
       subst (λ (r : Rvg R g). IsFirstLog r.core.log n.log) (sym (at_once keeps room idle)) (first_here n old.core (g.meaning old.shelf) volume start bytes up none origin old.sound told some keeps room)
 

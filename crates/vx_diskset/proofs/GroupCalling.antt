@@ -13,14 +13,14 @@ use Rattle.vx_disk.specs.Racks.{IsRack, Stopped}
 use Rattle.vx_disk.specs.Shelf.{Meaning}
 use Rattle.vx_disk.specs.declared.shelf.Shelf.{Ghosts}
 use Rattle.vx_history.specs.Groups.{GroupNode, note_cut, note_doubt, note_write}
-use Rattle.vx_history.specs.Steps.{crashed}
+use Rattle.vx_history.specs.Steps.{crashed, worked}
 use Rattle.vx_history.specs.World.{Node}
 use Rattle.vx_watched.proofs.SinceLemmas.{since_none}
 use Rattle.vx_watched.specs.Since.{CalledSince, fuse_calls, is_rack}
 use Rattle.vx_grouped.specs.Added.{note_added}
 use Rattle.vx_grouped.specs.GroupSites.{AwayNoted, DownNoted, GroupSiteStands, UpNoted, deported_with, site_disks, with_note, site_below}
 use Rattle.vx_grouped.specs.SiteAdds.{LacksVolume, SiteAdded}
-use Rattle.vx_grouped.specs.SiteEnds.{AttCalled, DetCalled, PlainRead, PlainWrote, SiteCalled, SiteDeported, burned_site, is_plex_on, refuses_att, refuses_det}
+use Rattle.vx_grouped.specs.SiteEnds.{AttCalled, DetCalled, PlainRead, PlainWrote, SiteCalled, SiteDeported, is_plex_on, refuses_att, refuses_det}
 use Rattle.vx_grouped.specs.ConfigMoves.{AttDone, AttFails, DetDone, DetFails, LosesSome}
 use Rattle.vx_config.specs.Table.{greatest}
 use Rattle.vx_config.specs.declared.config.Config.{Config}
@@ -320,7 +320,7 @@ module _ {R : Type 0} {g : Ghosts R} where
     called_settled T Done Fails Lacks n note old new (Ok done) it = up_settled (with_note it.0 n) it.0 new it.2
     called_settled T Done Fails Lacks n note old new (Err (Refused (Device disk))) it = up_settled (with_note it.0 n) it.0 new it.2
     called_settled T Done Fails Lacks n note old new (Err (Refused IsOff)) it = down_settled (crashed (with_note it.0 n) 0) it.0 new it.2
-    called_settled T Done Fails Lacks n note old new (Err (Refused other)) it = up_settled (burned_site n) note new it.0
+    called_settled T Done Fails Lacks n note old new (Err (Refused other)) it = up_settled (worked n) note new it.0
     called_settled T Done Fails Lacks n note old new (Err OutOfMemory) it = absurd it
 
     pub det_settled : (n : Node) (note : GroupNode) (vol plex : ℕ) (old new : GroupSite R g) (r : Result (Unit {0}) Stop) → DetCalled n note vol plex old new r → IsSettled new
@@ -338,8 +338,8 @@ module _ {R : Type 0} {g : Ghosts R} where
     wrote_settled n note x old new (Err other) it = absurd it
 
     pub read_settled : (n : Node) (note : GroupNode) (v b : ℕ) (bytes : List ℕ) (old new : GroupSite R g) (r : Result (Unit {0}) No) → PlainRead n note v b bytes old new r → IsSettled new
-    read_settled n note v b bytes old new (Ok done) it = up_settled (burned_site n) note new it.1
-    read_settled n note v b bytes old new (Err (Device disk)) it = up_settled (burned_site n) note new it.0
+    read_settled n note v b bytes old new (Ok done) it = up_settled (worked n) note new it.1
+    read_settled n note v b bytes old new (Err (Device disk)) it = up_settled (worked n) note new it.0
     read_settled n note v b bytes old new (Err other) it = absurd it
 
     pub deported_settled : (n : Node) (note : GroupNode) (old new : GroupSite R g) (r : Result (Unit {0}) Stop) → SiteDeported n note old new r → IsSettled new

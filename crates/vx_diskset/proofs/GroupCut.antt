@@ -5,7 +5,7 @@ use Rattle.vx_model.specs.Content.{Write}
 use Rattle.vx_model.specs.declared.no.No.{No}
 use Rattle.vx_model.specs.declared.no.No.TheVariants.{Down as IsOff}
 use Rattle.vx_grouped.specs.Ends.{plain_write}
-use Rattle.vx_diskset.specs.DiskSets.{is_off}
+use Rattle.vx_grouped.specs.SiteEnds.{is_off}
 use Rattle.vx_diskset.specs.GroupSets.{cut_behind, cut_value}
 use Rattle.vx_diskset.specs.declared.group_set.CutWrite.{CutWrite}
 

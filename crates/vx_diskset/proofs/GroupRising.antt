@@ -10,10 +10,10 @@ use Rattle.vx_disk.specs.Racks.{IsRack}
 use Rattle.vx_disk.specs.Shelf.{Meaning}
 use Rattle.vx_disk.specs.declared.shelf.Shelf.{Ghosts}
 use Rattle.vx_history.specs.Groups.{GroupNode}
-use Rattle.vx_history.specs.Steps.{crashed}
+use Rattle.vx_history.specs.Steps.{crashed, worked}
 use Rattle.vx_history.specs.World.{Node}
 use Rattle.vx_grouped.specs.GroupSites.{DownNoted, FitsPlain, UpNoted, site_disks, with_note, dimmed_site, site_below}
-use Rattle.vx_grouped.specs.SiteEnds.{MayCrashSite, burned_site, stops_down}
+use Rattle.vx_grouped.specs.SiteEnds.{MayCrashSite, stops_down}
 use Rattle.vx_grouped.specs.SiteKeeps.{PlainKept}
 use Rattle.vx_grouped.specs.SiteReturns.{ImportRefused, SiteImports, as_imported, returned_with, is_dimmed, stops_early}
 use Rattle.vx_untold.specs.Shades.{rack_of, shade_meaning}
@@ -37,7 +37,7 @@ use Rattle.vx_watched.specs.Traces.{TellsLess}
 module _ {R : Type 0} {g : Ghosts R} where
   -- ---- what is read at a group that is up
 
-  pub up_again : (n : Node) (note : GroupNode) (s : GroupSite R g) → UpNoted n note s → UpNoted (burned_site n) note s
+  pub up_again : (n : Node) (note : GroupNode) (s : GroupSite R g) → UpNoted n note s → UpNoted (worked n) note s
   up_again n note (Up group) it =
       let m = shade_meaning g.meaning group.shelf in
       up_burned n note (g.meaning (rack_of group.shelf)).tells group.core m it.noted it.lit it.spells (fuse_burned n.fuse m m (λ none. none) it.fuse) it.at
@@ -64,7 +64,7 @@ module _ {R : Type 0} {g : Ghosts R} where
   -- ---- the site behind it
 
   -- a group on which a write is cut again
-  pub down_cut : (n : Node) (note : GroupNode) (cut : Option CutWrite) (s : GroupSite R g) → DownNoted (crashed (burned_site n) 0) note s → DownNoted (crashed (with_note (still_cut cut note) n) 0) (still_cut cut note) s
+  pub down_cut : (n : Node) (note : GroupNode) (cut : Option CutWrite) (s : GroupSite R g) → DownNoted (crashed (worked n) 0) note s → DownNoted (crashed (with_note (still_cut cut note) n) 0) (still_cut cut note) s
   down_cut n note cut (Up group) it = absurd it
   down_cut n note cut (Deported idle) it = absurd it
   down_cut n note cut (Down idle) it = record {
@@ -109,7 +109,7 @@ module _ {R : Type 0} {g : Ghosts R} where
       → ((k : Node) (next : GroupNode) → UpNoted k next mid → DownNoted (crashed k 0) next new) → MayCrashSite pick mid new
       → RisesWith n note cut old (let s : GroupSet R g = record { site = new; cut = cut } in OfGroup s) (Err (Refused no))
   rises_unread n note cut old mid new pick (Device disk) it crash fell = (
-    down_cut n note cut new (crash (burned_site n) note it.0),
+    down_cut n note cut new (crash (worked n) note it.0),
     refl,
     it.1,
     subst (λ (k : ℕ). Rose ((site_disks old).disk_faults disk) k) (sym (crash_counts pick mid new fell disk)) it.2,
@@ -140,7 +140,7 @@ module _ {R : Type 0} {g : Ghosts R} where
 
     refused_settled : (off : Bool) (n : Node) (note : GroupNode) (m : Meaning) (stop : Stop) (s : GroupSite R g) → ImportRefused off n note m s stop → IsSettled s
     refused_settled true n note m stop s it = down_settled rackful (crashed (returned_with (note_dimmed true note) n) 0) (note_dimmed true note) s it.0
-    refused_settled false n note m stop s it = away_settled rackful (burned_site (dimmed_site (not (stops_early stop)) note n)) (note_dimmed (not (stops_early stop)) note) s it.0
+    refused_settled false n note m stop s it = away_settled rackful (worked (dimmed_site (not (stops_early stop)) note n)) (note_dimmed (not (stops_early stop)) note) s it.0
 
     pub imported_settled : (n : Node) (note : GroupNode) (o s : GroupSite R g) (r : Result (Unit {0}) Stop) → SiteImports n note o s r → IsSettled s
     imported_settled n note o s (Ok done) it = up_settled rackful (returned_with it.0.0 n) it.0.0 s it.0.2

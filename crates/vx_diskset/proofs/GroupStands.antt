@@ -6,20 +6,18 @@ use Rattle.vx_model.specs.Sites.{is_origin, is_up}
 use Rattle.vx_model.specs.declared.site.Role.{Role}
 use Rattle.vx_model.specs.declared.site.SiteState.{SiteState}
 use Rattle.vx_model.specs.declared.site.SiteState.TheVariants.{Bare as IsBare, Up as IsUp, Down as IsDown, Deported as IsDeported}
-use Rattle.vx_config.specs.declared.config.Config.{Config}
 use Rattle.vx_disk.specs.Shelf.{Meaning}
 use Rattle.vx_disk.specs.declared.shelf.Shelf.{Ghosts}
 use Rattle.vx_history.specs.Groups.{GroupNode}
 use Rattle.vx_history.specs.Steps.{burned}
 use Rattle.vx_history.specs.World.{Fuse as FuseOf, Node, NoFuse, Volume}
-use Rattle.vx_grouped.specs.Away.{AwayLies}
 use Rattle.vx_grouped.specs.GroupSites.{GroupAway, GroupDown, GroupSiteStands, GroupUp, HasNoRvg, IsMarkedSite, NotesGroup, idle_disks, laid_disks, laid_below, idle_below}
 use Rattle.vx_group.specs.declared.group_core.GroupCore.{GroupCore}
 use Rattle.vx_grouped.specs.SetFuses.{HasFuse}
 use Rattle.vx_grouped.specs.declared.group_site.GroupSite.{GroupSite}
 use Rattle.vx_grouped.specs.declared.group_site.GroupSite.TheVariants.{Up, Deported, Down, Marked, Gone}
 use Rattle.vx_grouped.proofs.SettleLemmas.{fuse_burned}
-use Rattle.vx_grouped.proofs.SiteLemmas.{lies_as}
+use Rattle.vx_grouped.proofs.SiteLemmas.{away_as, lies_as}
 use Rattle.vx_diskset.specs.GroupSets.{noted_cut}
 use Rattle.vx_diskset.specs.Holds.{KeptBeside}
 use Rattle.vx_events.specs.GroupLines.{is_over_group}
@@ -39,17 +37,6 @@ pub record IsLikeGroup (n k : Node) : Type 1 where
   pub none : HasNoRvg n → HasNoRvg k
   pub fuse : (m : Meaning) → HasFuse n.fuse m → HasFuse k.fuse m
   pub unfused : n.fuse ≡ NoFuse → k.fuse ≡ NoFuse
-
-lies_like : (n k : Node) (note : GroupNode) (last : Config) (m : Meaning) → n.disks ≡ k.disks → n.blocks ≡ k.blocks → AwayLies n note last m → AwayLies k note last m
-lies_like n k note last m disks blocks it = record {
-  units = it.units ∙ disks;
-  size = λ u low. it.size u (subst (λ (x : ℕ). u < x) (sym disks) low) ∙ blocks;
-  can = it.can;
-  sizes = it.sizes;
-  finds = it.finds;
-  volumes = it.volumes;
-  has = it.has;
-}
 
 module _ (n k : Node) (like : IsLikeGroup n k) where
   noted_like : (note : GroupNode) → NotesGroup n note → NotesGroup k note
@@ -89,7 +76,7 @@ module _ (n k : Node) (like : IsLikeGroup n k) where
       config = it.away.config;
       frames = it.away.frames;
       found = it.away.found;
-      lies = lies_like n k note it.last m like.disks like.blocks it.away.lies;
+      lies = away_as n k note it.last m like.disks like.blocks it.away.lies;
     };
   }
 
@@ -107,7 +94,7 @@ module _ (n k : Node) (like : IsLikeGroup n k) where
       config = it.away.config;
       found = it.away.found;
       runs = it.away.runs;
-      lies = lies_like n k note it.last m like.disks like.blocks it.away.lies;
+      lies = away_as n k note it.last m like.disks like.blocks it.away.lies;
     };
   }
 

@@ -13,6 +13,7 @@ use Rattle.vx_disk.proofs.Burning.{no_calls}
 use Rattle.vx_ringio.specs.Spends.{Passed, Spends}
 use Rattle.vx_rvg.specs.declared.group.Rvg.{Rvg}
 use Rattle.vx_grouped.specs.GroupSites.{site_disks}
+use Rattle.vx_grouped.specs.SiteEnds.{is_off}
 use Rattle.vx_secondary.specs.declared.secondary.Secondary.{Secondary}
 use Rattle.vx_events.specs.declared.said.Said.{Said}
 use Rattle.vx_events.specs.declared.said.Said.TheVariants.{Done, Refused}
@@ -20,7 +21,6 @@ use Rattle.vx_history.specs.World.{Node}
 use Rattle.vx_diskset.specs.Aboves.{site_in}
 use Rattle.vx_diskset.specs.Asked.{HeadUnder, LeavesFuse, MayCrash, ShortBy, TakesBy, WorksBy, disks_told, size_in}
 use Rattle.vx_diskset.specs.Burning.{NoMore, OffIf}
-use Rattle.vx_diskset.specs.DiskSets.{is_off}
 use Rattle.vx_diskset.specs.Holds.{KeptBeside}
 use Rattle.vx_diskset.specs.Keeps.{done_by}
 use Rattle.vx_diskset.specs.Layouts.{units_of}

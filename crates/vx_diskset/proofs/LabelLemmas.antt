@@ -6,12 +6,11 @@ use Rattle.std.specs.Prelude.{IfErr}
 use Rattle.vx_wire.specs.Numbers.{be_bytes}
 use Rattle.vx_model.specs.Content.{zero_block}
 use Rattle.vx_model.specs.declared.no.No.{No}
-use Rattle.vx_model.specs.declared.no.No.TheVariants.{Device, Down as IsOff}
 use Rattle.vx_copyfmt.specs.Labels.{begins_label, seen_in}
 use Rattle.vx_copyfmt.specs.declared.label.LabelSeen.TheVariants as seen
 use Rattle.vx_disk.specs.Causes.{DeviceCause}
 use Rattle.vx_disk.specs.Shelf.{Covers, Goes, Keeps, Lawful, Meaning, Nothing, Or, Read, Written, piece}
-use Rattle.vx_disk.proofs.Causing.{Rose_before}
+use Rattle.vx_disk.proofs.Causing.{cause_before}
 use Rattle.vx_disk.proofs.Runs.{both_Goes, same_Goes, then_nothing, weaker}
 use Rattle.vx_ringio.proofs.Spending.{spends_none, then_spends}
 use Rattle.vx_ringio.specs.Spends.{Spends}
@@ -39,14 +38,9 @@ unlabels_then old mid new one two = record {
   spends = then_spends old mid new one.spends two.spends;
 }
 
-pub cause_since : (old mid new : Meaning) → ((d : ℕ) → old.disk_faults d ≤ mid.disk_faults d) → (why : No) → DeviceCause mid new why → DeviceCause old new why
-cause_since old mid new less (Device disk) rose = Rose_before (old.disk_faults disk) (mid.disk_faults disk) (new.disk_faults disk) (less disk) rose
-cause_since old mid new less IsOff down = down
-cause_since old mid new less other none = absurd none
-
 pub causes_since : (old mid new : Meaning) → ((d : ℕ) → old.disk_faults d ≤ mid.disk_faults d) → (r : Result (Unit {0}) No) → IfErr r (DeviceCause mid new) → IfErr r (DeviceCause old new)
 causes_since old mid new less (Ok done) it = tt
-causes_since old mid new less (Err why) it = cause_since old mid new less why it
+causes_since old mid new less (Err why) it = cause_before old mid new less why it
 
 -- ---- clean disks
 

@@ -8,7 +8,7 @@ use Rattle.vx_rvg.specs.Stands.{FoundAs, Resting, Rests, Retains, Saving, Stands
 use Rattle.vx_rvg.specs.Views.{Core}
 use Rattle.vx_rvg.proofs.ContentFacts.{stands_count, stands_found}
 use Rattle.vx_model.specs.declared.limits.TheConstants.{MOST_CALL_BLOCKS}
-use Rattle.vx_events.specs.Fuses.{ring_taken}
+use Rattle.vx_history.specs.Events.{logged_blocks}
 use Rattle.vx_srlfmt.specs.declared.header.Header.{Header}
 use Rattle.vx_diskset.specs.Lasts.{FoundWith, HasLast, StandsHolding}
 use Rattle.vx_diskset.specs.Needs.{NoneNeeds}
@@ -38,7 +38,7 @@ last_same ring xs c h has = record {
 }
 
 kept_by : (ring : ℕ) (xs : List Write) (c : Content) (h : Holding) (low place count k : ℕ) → k ≡ length h.writes - count → HasLast ring xs c h → 0 < low → low + count ≡ length xs + 1 → count ≤ length h.writes
-    → (ring_taken xs + (MOST_CALL_BLOCKS + 1) ≤ ring → ⊥) → HasLast ring xs c (record { low = low; writes = drop k h.writes; place = place; content = h.content; maps = h.maps })
+    → (logged_blocks xs + (MOST_CALL_BLOCKS + 1) ≤ ring → ⊥) → HasLast ring xs c (record { low = low; writes = drop k h.writes; place = place; content = h.content; maps = h.maps })
 kept_by ring xs c h low place count k is has some last few full =
     let at : h.low - 1 + k ≡ low - 1 = omega (arith, is, has.some, has.last, some, last, few) in
     record {
@@ -50,7 +50,7 @@ kept_by ring xs c h low place count k is has some last few full =
     }
 
 -- a log that gave writes up had no room for the largest one
-pub last_kept : (ring : ℕ) (xs : List Write) (c : Content) (h : Holding) (low place count : ℕ) → HasLast ring xs c h → 0 < low → low + count ≡ length xs + 1 → count ≤ length h.writes → (ring_taken xs + (MOST_CALL_BLOCKS + 1) ≤ ring → ⊥)
+pub last_kept : (ring : ℕ) (xs : List Write) (c : Content) (h : Holding) (low place count : ℕ) → HasLast ring xs c h → 0 < low → low + count ≡ length xs + 1 → count ≤ length h.writes → (logged_blocks xs + (MOST_CALL_BLOCKS + 1) ≤ ring → ⊥)
     → HasLast ring xs c (with_last low place count h)
 last_kept ring xs c h low place count has some last few full = kept_by ring xs c h low place count (length h.writes - count) refl has some last few full
 
@@ -101,7 +101,7 @@ still_with core xs c m m' stands stood = record { held = stood.held; has = stood
 
 -- an image in a call that gives writes up, as there was no room for the largest one, and behind it
 module _ (core after : Core) (xs : List Write) (c : Content) (m : Meaning) (some : 0 < after.log.header.low) (last : after.log.header.low + length after.log.held ≡ length xs + 1)
-    (few : length after.log.held ≤ length core.log.held) (same : after.log.ring ≡ core.log.ring) (full : ring_taken xs + (MOST_CALL_BLOCKS + 1) ≤ core.log.ring → ⊥)
+    (few : length after.log.held ≤ length core.log.held) (same : after.log.ring ≡ core.log.ring) (full : logged_blocks xs + (MOST_CALL_BLOCKS + 1) ≤ core.log.ring → ⊥)
     (needs : NoneNeeds after.log.header.state.links (after.log.header.low - 1)) where
   kept_with : (h : Holding) → HasLast core.log.ring xs c h → Stands core h m → HasLast after.log.ring xs c (kept_in after h)
   kept_with h has stands =

@@ -3,8 +3,9 @@ use Rattle.std.proofs.Common.{◌≡◌, ◌∙◌, ◌⊎◌, inl, inr, ⊎_eli
 use Rattle.std.specs.Prelude.{IsFalse, Option, Some, None, Result, Ok, Err, OnOk, IsSome, leb, min, ◌&&◌, ◌||◌, if◌then◌else◌}
 use Rattle.std.proofs.lemmas.Bool.Decides.{nat_tests}
 use Rattle.std.proofs.lemmas.List.{length-drop}
+use Rattle.vx_history.specs.Events.{logged_blocks}
 use Rattle.vx_history.specs.World.{Node, Fuse}
-use Rattle.vx_history.specs.Steps.{burned}
+use Rattle.vx_history.specs.Steps.{burned, worked}
 use Rattle.vx_model.specs.declared.no.No.{No}
 use Rattle.vx_model.specs.declared.no.No.TheVariants.{Device, Limit, Down}
 use Rattle.vx_srl.specs.Calls.{saved}
@@ -19,7 +20,6 @@ use Rattle.vx_rvg.specs.Groups.{ApplyIs, GroupFails, Ended, halted_or}
 use Rattle.vx_rvg.specs.Saves.{SaveIs, reclaim_refusal, reclaimed, log_without}
 use Rattle.vx_model.specs.Content.{Write}
 use Rattle.vx_model.specs.declared.limits.TheConstants.{MOST_CALL_BLOCKS}
-use Rattle.vx_events.specs.Fuses.{ring_taken}
 use Rattle.vx_diskset.specs.Holds.{most_header}
 use Rattle.vx_model.specs.declared.state.State.{State}
 use Rattle.vx_diskset.specs.Needs.{HasRoom, NoneNeeds}
@@ -28,17 +28,18 @@ use Rattle.vx_rvg.specs.Holdings.{blocks_taken}
 use Rattle.vx_rvg.specs.Stands.{Retains, Saving}
 use Rattle.vx_rvg.proofs.FetchGives.{free_beside}
 use Rattle.vx_rvg.specs.Views.{Core, IsSound}
-use Rattle.vx_diskset.specs.DiskSets.{no_number, halted_at, worked}
+use Rattle.vx_diskset.specs.DiskSets.{no_number, halted_at}
 use Rattle.vx_diskset.specs.Holds.{HasSite, HasWrites}
 use Rattle.vx_diskset.specs.Rooms.{AppliedAs, IsRoomy, RoomIs}
 use Rattle.vx_diskset.specs.Fuses.{FuseOn}
 use Rattle.vx_history.specs.Stops.{IsFused}
+use Rattle.vx_history.proofs.Fuses.{burned_twice, fused_before}
 use Rattle.vx_diskset.specs.Stands.{IsUpAt, IsHeldAt}
 use Rattle.vx_diskset.proofs.ApplyGroup.{ended_log}
 use Rattle.vx_diskset.proofs.BesideLemmas.{site_map}
 use Rattle.vx_diskset.proofs.Laying.{lies_moved}
 use Rattle.vx_diskset.proofs.LastWrites.{retains_with, saving_with}
-use Rattle.vx_diskset.proofs.StaysUp.{told_now, never_both, left_moved, kept_whole, up_found, writes_found, up_with, up_worked, held_moved, fused_by, fuse_moved, fuse_burned, burned_twice, fused_before}
+use Rattle.vx_diskset.proofs.StaysUp.{told_now, never_both, left_moved, kept_whole, up_found, writes_found, up_with, up_worked, held_moved, fused_by, fuse_moved, fuse_burned}
 
 -- a log that uses no stamp
 pub roomy_now : {beside : KeptBeside} (n : Node) (c : Core) (m : Meaning) → IsUpAt beside n c m → n.halted ≡ None → IsRoomy beside n c m
@@ -130,14 +131,14 @@ limits low stamp to = limit_by (leb low to) (leb most_number stamp) (leb most_nu
 
 -- ---- a log without room for the largest write
 
-taken_drop : (k : ℕ) (xs : List Write) → blocks_taken (drop k xs) ≤ ring_taken xs
+taken_drop : (k : ℕ) (xs : List Write) → blocks_taken (drop k xs) ≤ logged_blocks xs
 taken_drop zero [] = omega arith
 taken_drop zero (x ∷ xs) = let rest = taken_drop zero xs in omega (arith, rest)
 taken_drop (suc k) [] = omega arith
 taken_drop (suc k) (x ∷ xs) = let rest = taken_drop k xs in omega (arith, rest)
 
 -- gave writes up that the site has
-pub full_here : {beside : KeptBeside} (n : Node) (c : Core) (m : Meaning) → IsUpAt beside n c m → n.halted ≡ None → free_of c.log ≤ MOST_CALL_BLOCKS → IsTrue m.tells → ring_taken n.log + (MOST_CALL_BLOCKS + 1) ≤ n.ring → ⊥
+pub full_here : {beside : KeptBeside} (n : Node) (c : Core) (m : Meaning) → IsUpAt beside n c m → n.halted ≡ None → free_of c.log ≤ MOST_CALL_BLOCKS → IsTrue m.tells → logged_blocks n.log + (MOST_CALL_BLOCKS + 1) ≤ n.ring → ⊥
 full_here n c m up none less told room =
     let stood = up.content none told in
     let free = free_beside c stood.held m stood.stands in
@@ -212,15 +213,15 @@ module _ {beside : KeptBeside} (n : Node) (c c' : Core) (m new : Meaning) (to : 
   })
 
   -- and the blocks of the numbers above it alone are taken
-  pub free_reclaimed : (count : ℕ) → c' ≡ reclaimed c to → IsSound c' new → count + 1 + ring_taken (drop to n.log) ≤ n.ring → count < free_of c'.log
+  pub free_reclaimed : (count : ℕ) → c' ≡ reclaimed c to → IsSound c' new → count + 1 + logged_blocks (drop to n.log) ≤ n.ring → count < free_of c'.log
   free_reclaimed count is sound room =
       let running : c'.halted ≡ None = ap (λ (k : Core). k.halted) is ∙ up.halted ∙ none in
       let ring : c'.log.ring ≡ n.ring = ap (λ (k : Core). k.log.ring) is ∙ given.ring ∙ up.ring in
       let takes = takes_last c.log (log_without c.log to) n.log given.least given.held (up.takes none) in
-      let whole : widths (drop ((log_without c.log to).header.low - 1 + 1 - (log_without c.log to).header.low) (log_without c.log to).held) ≡ ring_taken (drop ((log_without c.log to).header.low - 1) n.log)
+      let whole : widths (drop ((log_without c.log to).header.low - 1 + 1 - (log_without c.log to).header.low) (log_without c.log to).held) ≡ logged_blocks (drop ((log_without c.log to).header.low - 1) n.log)
       = takes.each ((log_without c.log to).header.low - 1) (omega arith) in
       let none_gone : (log_without c.log to).header.low - 1 + 1 - (log_without c.log to).header.low ≡ 0 = omega (arith, given.first) in
-      let all : widths (log_without c.log to).held ≡ ring_taken (drop ((log_without c.log to).header.low - 1) n.log) = sym (ap (λ (k : ℕ). widths (drop k (log_without c.log to).held)) none_gone) ∙ whole in
+      let all : widths (log_without c.log to).held ≡ logged_blocks (drop ((log_without c.log to).header.low - 1) n.log) = sym (ap (λ (k : ℕ). widths (drop k (log_without c.log to).held)) none_gone) ∙ whole in
       let less = taken_less to ((log_without c.log to).header.low - 1) n.log (omega (arith, given.past)) in
       let held : widths (all_of c'.log) ≡ widths (log_without c.log to).held = ap (λ (ks : List Kept). widths (c'.log.held ++ ks)) (sound.idle running still) ∙ ap (λ (ks : List Kept). widths ks) (append-nil c'.log.held) ∙ ap (λ (k : Core). widths k.log.held) is in
       omega (arith, held, all, less, room, ring)
@@ -292,7 +293,7 @@ room_unapplied beside n to c' m new other is = is
 
 -- a site without room at hand has room beside the numbers above the one that an apply of it came to
 pub room_after : (beside : KeptBeside) (n : Node) (hold count number applied to : ℕ) (c' : Core) (m new : Meaning) → length n.log ≡ n.safe → applied ≡ number → to ≡ min hold applied → AppliedAs beside n hold c' m new (Ok number) → HasRoom beside.links n hold count
-    → NoneNeeds beside.links to × (count + 1 + ring_taken (drop to n.log) ≤ n.ring)
+    → NoneNeeds beside.links to × (count + 1 + logged_blocks (drop to n.log) ≤ n.ring)
 room_after beside n hold count number applied to c' m new many came is done has =
     let less = taken_to hold to n.log (omega (arith, many, came, is, done.0)) in (
       needs_less beside.links hold to (omega (arith, is)) has.unneeded,
@@ -314,7 +315,7 @@ saved_by (Some why) c after m new c' done is = absurd (let e : Ok done ≡ Err w
 -- and leaves room
 pub roomed_at : {beside : KeptBeside} (n : Node) (c c' : Core) (m new : Meaning) (to count : ℕ) → IsUpAt beside n c m → to ≤ n.safe → NoneNeeds beside.links to → n.halted ≡ None → free_of c.log ≤ MOST_CALL_BLOCKS → Lawful m → Lawful new
     → Moves (Run c.units.srl 0 (c.log.ring + 2)) (Saving c (reclaimed c to) m) m new → IsFalse new.down → (result : Result (Unit {0}) No) → SaveIs (reclaim_refusal c to) c (reclaimed c to) m new c' result
-    → IsSound c' new → count + 1 + ring_taken (drop to n.log) ≤ n.ring → OnOk result (count < free_of c'.log)
+    → IsSound c' new → count + 1 + logged_blocks (drop to n.log) ≤ n.ring → OnOk result (count < free_of c'.log)
 roomed_at n c c' m new to count up below unneeded none less lawful after moves still (Ok done) saves sound room =
     free_reclaimed n c c' m new to up below unneeded none less lawful after moves still count (saved_by (reclaim_refusal c to) c (reclaimed c to) m new c' done saves) sound room
 roomed_at n c c' m new to count up below unneeded none less lawful after moves still (Err why) saves sound room = tt

@@ -16,7 +16,7 @@ use Rattle.vx_rvg.specs.Views.{Core, IsSound, last_of}
 use Rattle.vx_srl.proofs.Shared_S1.{widths_append}
 use Rattle.vx_srl.specs.Views.{Log, count_to, blocks_above, widths, width_of}
 use Rattle.vx_srl.specs.declared.kept.Kept.{Kept}
-use Rattle.vx_events.specs.Fuses.{ring_taken}
+use Rattle.vx_history.specs.Events.{logged_blocks}
 use Rattle.vx_history.specs.World.{Node}
 use Rattle.vx_model.specs.declared.site.SiteState.TheVariants.{Bare as IsBare, Up as IsUp, Down as IsDown}
 use Rattle.vx_disk.specs.declared.shelf.Shelf.{Ghosts}
@@ -45,42 +45,42 @@ needs_less links a b le none = record { each = λ k l there needs. let far = non
 
 -- ---- what writes take
 
-taken_tail : (k : ℕ) (xs : List Write) → ring_taken (drop k xs) ≤ ring_taken xs
+taken_tail : (k : ℕ) (xs : List Write) → logged_blocks (drop k xs) ≤ logged_blocks xs
 taken_tail zero [] = omega arith
 taken_tail zero (x ∷ xs) = omega arith
 taken_tail (suc k) [] = omega arith
 taken_tail (suc k) (x ∷ xs) = let rest = taken_tail k xs in omega (arith, rest)
 
 -- those behind a later number take no more
-pub taken_less : (a b : ℕ) (xs : List Write) → a ≤ b → ring_taken (drop b xs) ≤ ring_taken (drop a xs)
+pub taken_less : (a b : ℕ) (xs : List Write) → a ≤ b → logged_blocks (drop b xs) ≤ logged_blocks (drop a xs)
 taken_less a b xs le =
     let at : a + (b - a) ≡ b = omega (arith, le) in
     let rest = taken_tail (b - a) (drop a xs) in
-    let same : ring_taken (drop (b - a) (drop a xs)) ≡ ring_taken (drop b xs) = ap (λ (ws : List Write). ring_taken ws) (drop-drop (b - a) a xs) ∙ ap (λ (k : ℕ). ring_taken (drop k xs)) at in
+    let same : logged_blocks (drop (b - a) (drop a xs)) ≡ logged_blocks (drop b xs) = ap (λ (ws : List Write). logged_blocks ws) (drop-drop (b - a) a xs) ∙ ap (λ (k : ℕ). logged_blocks (drop k xs)) at in
     omega (arith, rest, same)
 
 -- those behind a number that is as far as this one, or behind all
-pub taken_to : (hold to : ℕ) (xs : List Write) → min hold (length xs) ≤ to → ring_taken (drop to xs) ≤ ring_taken (drop hold xs)
+pub taken_to : (hold to : ℕ) (xs : List Write) → min hold (length xs) ≤ to → logged_blocks (drop to xs) ≤ logged_blocks (drop hold xs)
 taken_to hold to xs far = ⊎_elim
     (λ (few : hold < length xs + 1). taken_less hold to xs (omega (arith, far, few)))
-    (λ (past : length xs + 1 ≤ hold). let none = ap (λ (ws : List Write). ring_taken ws) (drop_all to xs (omega (arith, far, past))) in omega (arith, none))
+    (λ (past : length xs + 1 ≤ hold). let none = ap (λ (ws : List Write). logged_blocks ws) (drop_all to xs (omega (arith, far, past))) in omega (arith, none))
     (cases_lt hold (length xs + 1))
 
 -- ---- what the records of a log take
 
 -- with one more write
 push_at : (held : List Kept) (k : Kept) (xs : List Write) (x : Write) (low above : ℕ) → 0 < low → low + length held ≡ length xs + 1 → low ≤ above + 1 → width_of k ≡ blocks_in x.bytes + 1
-    → widths (drop (above + 1 - low) held) ≡ ring_taken (drop above xs) → widths (drop (above + 1 - low) (held ++ k ∷ [])) ≡ ring_taken (drop above (xs ++ x ∷ []))
+    → widths (drop (above + 1 - low) held) ≡ logged_blocks (drop above xs) → widths (drop (above + 1 - low) (held ++ k ∷ [])) ≡ logged_blocks (drop above (xs ++ x ∷ []))
 push_at held k xs x low above some last in_log width was = ⊎_elim
     (λ (few : above < length xs + 1).
     let one = ap (λ (ks : List Kept). widths ks) (drop-append-le (above + 1 - low) held (k ∷ []) (omega (arith, few, last, in_log))) in
     let two = widths_append (drop (above + 1 - low) held) (k ∷ []) in
-    let three = ap (λ (ws : List Write). ring_taken ws) (drop-append-le above xs (x ∷ []) (omega (arith, few))) in
+    let three = ap (λ (ws : List Write). logged_blocks ws) (drop-append-le above xs (x ∷ []) (omega (arith, few))) in
     let four = taken_push (drop above xs) x in
     omega (arith, one, two, three, four, was, width))
     (λ (past : length xs + 1 ≤ above).
     let one = ap (λ (ks : List Kept). widths ks) (drop_all (above + 1 - low) (held ++ k ∷ []) (omega (arith, past, last, in_log, length-append held (k ∷ [])))) in
-    let two = ap (λ (ws : List Write). ring_taken ws) (drop_all above (xs ++ x ∷ []) (omega (arith, past, length-append xs (x ∷ [])))) in
+    let two = ap (λ (ws : List Write). logged_blocks ws) (drop_all above (xs ++ x ∷ []) (omega (arith, past, length-append xs (x ∷ [])))) in
     omega (arith, one, two))
     (cases_lt above (length xs + 1))
 
@@ -122,9 +122,9 @@ takes_told core h m xs idle stands some writes = record {
       sym (ap (λ (ks : List Kept). widths (drop (count_to core.log above) ks)) (ap (λ (ks : List Kept). core.log.held ++ ks) idle ∙ append-nil core.log.held))
       ∙ taken_above core h m stands above
       ∙ taken_same (drop (above + 1 - h.low) h.writes)
-      ∙ ap (λ (ws : List Write). ring_taken (drop (above + 1 - h.low) ws)) writes
-      ∙ ap (λ (ws : List Write). ring_taken ws) (drop-drop (above + 1 - h.low) (h.low - 1) xs)
-      ∙ ap (λ (k : ℕ). ring_taken (drop k xs)) at;
+      ∙ ap (λ (ws : List Write). logged_blocks (drop (above + 1 - h.low) ws)) writes
+      ∙ ap (λ (ws : List Write). logged_blocks ws) (drop-drop (above + 1 - h.low) (h.low - 1) xs)
+      ∙ ap (λ (k : ℕ). logged_blocks (drop k xs)) at;
 }
 
 -- of an empty log
@@ -133,7 +133,7 @@ takes_none l none = record {
   each = λ above in_log.
       ap (λ (ks : List Kept). widths (drop (above + 1 - l.header.low) ks)) none
       ∙ ap (λ (ks : List Kept). widths ks) (drop_all {X = Kept} (above + 1 - l.header.low) [] (omega arith))
-      ∙ sym (ap (λ (ws : List Write). ring_taken ws) (drop_all {X = Write} above [] (omega arith)));
+      ∙ sym (ap (λ (ws : List Write). logged_blocks ws) (drop_all {X = Write} above [] (omega arith)));
 }
 
 -- ---- writes that stand in for those of a log whose contents are not told
@@ -151,7 +151,7 @@ stand_ins l = replicate (l.header.low - 1) nothing ++ map stand_in l.held
 pub ins_length : (l : Log) → length (stand_ins l) ≡ l.header.low - 1 + length l.held
 ins_length l = omega (arith, length-append (replicate (l.header.low - 1) nothing) (map stand_in l.held), length-replicate {A = Write} (l.header.low - 1) nothing, length-map l.held stand_in)
 
-ins_take : (ks : List Kept) → ring_taken (map stand_in ks) ≡ widths ks
+ins_take : (ks : List Kept) → logged_blocks (map stand_in ks) ≡ widths ks
 ins_take [] = refl
 ins_take (k ∷ ks) = omega (arith, length-replicate {A = ℕ} (512 * k.head.count) 0, ins_take ks)
 
@@ -161,8 +161,8 @@ takes_ins l some = record {
       let i : ℕ = above + 1 - l.header.low in
       let front : List Write = replicate (l.header.low - 1) nothing in
       let at : length front + i ≡ above = omega (arith, length-replicate {A = Write} (l.header.low - 1) nothing, some, in_log) in
-      sym (ap (λ (k : ℕ). ring_taken (drop k (stand_ins l))) (sym at)
-      ∙ ap (λ (ws : List Write). ring_taken ws) (drop-append-add front (map stand_in l.held) i ∙ drop-map stand_in i l.held)
+      sym (ap (λ (k : ℕ). logged_blocks (drop k (stand_ins l))) (sym at)
+      ∙ ap (λ (ws : List Write). logged_blocks ws) (drop-append-add front (map stand_in l.held) i ∙ drop-map stand_in i l.held)
       ∙ ins_take (drop i l.held));
 }
 
@@ -193,20 +193,20 @@ module _ {R : Type 0} {g : Ghosts R} where
     unneeded = none_of [] hold refl;
     room =
         let many = all_durable n e h can.origin can.up can.running in
-        let none = ap (λ (ws : List Write). ring_taken ws) (drop_all hold n.log (omega (arith, many, is))) in
+        let none = ap (λ (ws : List Write). logged_blocks ws) (drop_all hold n.log (omega (arith, many, is))) in
         omega (arith, none, can.fits);
   }
 
 -- ---- the room that a group answers
 
-pub used_is : {beside : KeptBeside} (n : Node) (c : Core) (m : Meaning) (above : ℕ) → IsUpAt beside n c m → n.halted ≡ None → IsSound c m → c.log.header.low ≤ above + 1 → blocks_above c.log above ≡ ring_taken (drop above n.log)
+pub used_is : {beside : KeptBeside} (n : Node) (c : Core) (m : Meaning) (above : ℕ) → IsUpAt beside n c m → n.halted ≡ None → IsSound c m → c.log.header.low ≤ above + 1 → blocks_above c.log above ≡ logged_blocks (drop above n.log)
 used_is n c m above up none sound low =
     ap (λ (ks : List Kept). widths (drop (count_to c.log above) ks)) (ap (λ (ks : List Kept). c.log.held ++ ks) (sound.idle (up.halted ∙ none) up.up) ∙ append-nil c.log.held)
     ∙ (up.takes none).each above low
 
 -- no write has a greater number
-pub used_none : {beside : KeptBeside} (n : Node) (c : Core) (m : Meaning) (above : ℕ) → IsUpAt beside n c m → n.halted ≡ None → last_of c ≤ above → 0 ≡ ring_taken (drop above n.log)
-used_none n c m above up none past = sym (ap (λ (ws : List Write). ring_taken ws) (drop_all above n.log (omega (arith, past, up.head, up.durable none))))
+pub used_none : {beside : KeptBeside} (n : Node) (c : Core) (m : Meaning) (above : ℕ) → IsUpAt beside n c m → n.halted ≡ None → last_of c ≤ above → 0 ≡ logged_blocks (drop above n.log)
+used_none n c m above up none past = sym (ap (λ (ws : List Write). logged_blocks ws) (drop_all above n.log (omega (arith, past, up.head, up.durable none))))
 
 module _ {R : Type 0} {g : Ghosts R} where
   -- what a link needs of a log is there

@@ -12,45 +12,48 @@ use Rattle.vx_secondary.specs.declared.secondary.Secondary.{Secondary}
 use Rattle.vx_history.specs.declared.receiver.REvent.TheVariants.{Applied}
 use Rattle.vx_history.specs.declared.receiver.RAction.TheVariants.{Nothing as DoesNothing, DataAck}
 use Rattle.vx_history.specs.declared.receiver.RAction.{RAction}
+use Rattle.vx_history.specs.Events.{logged_blocks}
 use Rattle.vx_history.specs.Receiving.{Received, received_step, with_applied}
 use Rattle.vx_history.specs.LinkForms.{plain_receiver}
-use Rattle.vx_history.specs.Steps.{burned, half_begun, logged, spent, write_calls}
+use Rattle.vx_history.specs.Steps.{burned, half_begun, logged, spent, worked, write_calls}
 use Rattle.vx_history.specs.World.{Node, Fuse, NoFuse, FuseSet, FuseLit}
+use Rattle.vx_history.proofs.Fuses.{burned_twice, fused_before}
 use Rattle.vx_disk.specs.Shelf.{Image, Meaning}
 use Rattle.vx_disk.specs.declared.shelf.Shelf.{Ghosts}
+use Rattle.vx_rvg.specs.Contents.{write_of_update}
 use Rattle.vx_rvg.specs.Views.{Core, last_of, unit_of}
 use Rattle.vx_rvg.specs.declared.group.Rvg.{Rvg}
-use Rattle.vx_secondary.specs.Receivers.{Wait, write_of_update, writes_of_updates}
+use Rattle.vx_secondary.specs.Receivers.{Wait, writes_of_updates}
 use Rattle.vx_secondary.proofs.Writings.{can_parts}
 use Rattle.vx_diskset.specs.declared.receivers.Reached.{Reached}
 use Rattle.vx_diskset.specs.declared.disk_set.DiskSet.{DiskSet}
 use Rattle.vx_diskset.specs.declared.disk_set.DiskSet.TheVariants.{Up, Receives}
 use Rattle.vx_diskset.specs.Shelves.{LoggedAs, MovesOn}
 use Rattle.vx_diskset.proofs.RvgMoves.{no_moves, then_moves}
-use Rattle.vx_diskset.specs.DiskSets.{CanLog, halted_at, halted_with, worked, CrashedAt, is_off}
+use Rattle.vx_diskset.specs.DiskSets.{CanLog, halted_at, halted_with, CrashedAt}
 use Rattle.vx_diskset.specs.Fuses.{FuseOn}
+use Rattle.vx_grouped.specs.SiteEnds.{is_off}
 use Rattle.vx_diskset.specs.Holds.{KeptBeside, HasWrites, most_with, state_with}
 use Rattle.vx_diskset.specs.Lasts.{FoundWith}
 use Rattle.vx_diskset.specs.Layouts.{units_of}
 use Rattle.vx_diskset.specs.Needs.{HasRoom}
 use Rattle.vx_diskset.specs.Received.{CanReceive, LoggedTo, reached, ReachedAt, ReachedBy, ReachedTo, ReachedUp}
 use Rattle.vx_model.specs.declared.no.Counted.TheVariants.{Number}
+use Rattle.vx_model.proofs.Contents.{folded_size}
 use Rattle.vx_rvg.specs.Groups.{has_numbers}
 use Rattle.vx_srl.specs.Views.{most_number}
 use Rattle.vx_diskset.specs.Rooms.{AppliedAs, HasNumbers, IsMore, NeverLimit}
 use Rattle.vx_diskset.proofs.LeavesNumbers.{lacks_them}
 use Rattle.vx_diskset.specs.Stands.{IsHeldAt, IsReceiverAt, IsUpAt, CutAt, SiteStands, IsUngrouped}
-use Rattle.vx_events.specs.Fuses.{ring_taken}
 use Rattle.vx_diskset.proofs.BesideLemmas.{never_besides, site_map}
 use Rattle.vx_ringio.specs.Spends.{Spends}
 use Rattle.vx_ringio.proofs.Spending.{spends_none, then_spends}
 use Rattle.vx_diskset.proofs.MakeRoom.{rose_later}
 use Rattle.vx_diskset.proofs.Mores.{more_none, more_then, wait_more}
 use Rattle.vx_diskset.proofs.Laying.{laid_in, lies_sized}
-use Rattle.vx_diskset.proofs.CrashGroup.{folded_size}
 use Rattle.vx_diskset.proofs.NeedLemmas.{needs_less}
 use Rattle.vx_diskset.proofs.Receiving.{as_held, as_receiver, durable_of, never_some, receiver_volumes, up_receiver}
-use Rattle.vx_diskset.proofs.StaysUp.{burned_twice, durable_content, drop-take_none, fuse_burned, fused_before, up_worked}
+use Rattle.vx_diskset.proofs.StaysUp.{durable_content, drop-take_none, fuse_burned, up_worked}
 use Rattle.vx_diskset.proofs.RawSets.{receiver_there, up_there}
 
 -- ---- lists
@@ -271,7 +274,7 @@ module _ {beside : KeptBeside} (n : Node) (c : Core) (us rest : List Update) (u 
   room_next able hold is = record {
     unneeded = needs_less beside.links (length n.log) hold (omega (arith, is, r.most)) can.unneeded;
     room =
-        let none = ap (λ (k : ℕ). ring_taken (drop k (take n.safe n.log))) (is ∙ r.head can.running) ∙ ap (λ (ws : List Write). ring_taken ws) (drop-take_none n.safe n.log) in
+        let none = ap (λ (k : ℕ). logged_blocks (drop k (take n.safe n.log))) (is ∙ r.head can.running) ∙ ap (λ (ws : List Write). logged_blocks ws) (drop-take_none n.safe n.log) in
         omega (arith, none, able.fits);
   }
 

@@ -1,6 +1,7 @@
 -- A receiver that runs, seen as a site whose writes end with those that are durable; and what waits behind its group, past calls.
-use Rattle.std.proofs.Common.{◌≡◌, ◌∙◌, inl, inr, ⊎_elim, ℕ, ◌+◌, ◌≤◌, Bool, true, false, List, [], length, take, drop, ap, sym, subst, refl, arith}
+use Rattle.std.proofs.Common.{◌≡◌, ◌∙◌, inl, inr, ⊎_elim, ℕ, ◌+◌, ◌≤◌, true, false, List, [], length, take, drop, ap, sym, subst, refl, arith}
 use Rattle.std.specs.Prelude.{IsFalse, Option, Some, None, Result, Ok, Err}
+use Rattle.std.proofs.lemmas.Bool.{both_ways}
 use Rattle.std.proofs.lemmas.List.{drop_all, length-take, take_all}
 use Rattle.vx_model.specs.Content.{Write, fold_writes}
 use Rattle.vx_model.specs.Sites.{is_origin}
@@ -31,14 +32,14 @@ use Rattle.vx_diskset.specs.Layouts.{units_of}
 use Rattle.vx_diskset.specs.Needs.{TakesAs}
 use Rattle.vx_diskset.specs.Stands.{IsHeldAt, IsReceiverAt, IsUpAt, RoleIs, SiteStands, IsToldAt, IsUngrouped}
 use Rattle.vx_diskset.specs.Rooms.{AppliedAs}
-use Rattle.vx_diskset.specs.DiskSets.{AppliedUp, ReadAt, halted_at, worked, BareUp, BareUpBy, CameUp, CameUpBy}
+use Rattle.vx_diskset.specs.DiskSets.{AppliedUp, ReadAt, halted_at, BareUp, BareUpBy, CameUp, CameUpBy}
 use Rattle.vx_diskset.specs.Keeps.{KeptUp, doubting, restated, kept_anew}
 use Rattle.vx_diskset.specs.declared.disk_set.DiskSet.{DiskSet}
 use Rattle.vx_diskset.specs.declared.disk_set.DiskSet.TheVariants.{Up, Receives}
 use Rattle.vx_disk.specs.declared.shelf.Shelf.{Ghosts}
 use Rattle.vx_secondary.specs.declared.secondary.Secondary.{Secondary}
 use Rattle.vx_events.proofs.Places.{some_same}
-use Rattle.vx_history.specs.Steps.{burned}
+use Rattle.vx_history.specs.Steps.{burned, worked}
 use Rattle.vx_diskset.proofs.ApplyGroup.{applied_log, ended_log}
 use Rattle.vx_diskset.proofs.BesideLemmas.{may_same, never_besides, site_map}
 use Rattle.vx_diskset.proofs.FuseGroup.{alike_stands, lets_by}
@@ -91,9 +92,6 @@ wait_kept None c d s m new (Err why) us line is sizes wait = wait_log c d m.size
 
 -- ---- a receiver that runs, as a site with its durable writes
 
-pub never_both_roles : (b : Bool) → b ≡ true → b ≡ false → ⊥
-never_both_roles b origin none = let e : true ≡ false = sym origin ∙ none in cc
-
 -- a site with its durable writes alone
 abbrev pub durable_of : Node → Node
 durable_of n = record n { log = take n.safe n.log }
@@ -113,7 +111,7 @@ receiver_up {beside} n c us m r running lawful unit_is = record {
   session = r.session;
   begun = r.begun;
   stamp = r.stamp;
-  fresh = λ origin. absurd (never_both_roles (is_origin n.role) origin r.role);
+  fresh = λ origin. absurd (both_ways (is_origin n.role) r.role origin);
   first = r.first;
   head = r.head running;
   halted = r.halted;

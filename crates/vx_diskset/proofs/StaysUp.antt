@@ -4,7 +4,7 @@ use Rattle.std.specs.Prelude.{IsFalse}
 use Rattle.std.proofs.lemmas.List.{take_all}
 use Rattle.vx_model.specs.Content.{Content, Write, fold_writes}
 use Rattle.vx_history.specs.World.{Node, Fuse, NoFuse, FuseSet, FuseLit}
-use Rattle.vx_history.specs.Steps.{burned, spent}
+use Rattle.vx_history.specs.Steps.{burned, spent, worked}
 use Rattle.vx_model.specs.declared.state.State.{State}
 use Rattle.vx_model.specs.declared.units.Units.{Units}
 use Rattle.vx_srlfmt.specs.declared.header.Header.{Header}
@@ -20,7 +20,6 @@ use Rattle.vx_diskset.specs.Holds.{HasSite, HasWrites, state_with}
 use Rattle.vx_diskset.specs.Layouts.{units_of}
 use Rattle.vx_diskset.proofs.Laying.{lies_moved}
 use Rattle.vx_diskset.specs.Holds.{most_header}
-use Rattle.vx_diskset.specs.DiskSets.{worked}
 use Rattle.vx_diskset.specs.Fuses.{FuseOn}
 use Rattle.vx_history.specs.Stops.{IsFused}
 use Rattle.vx_diskset.specs.Lasts.{FoundWith, StandsHolding}
@@ -84,16 +83,6 @@ pub fuse_spent : (n : ℕ) (f : Fuse) (m : Meaning) → FuseOn (burned f) m → 
 fuse_spent n NoFuse m has = has
 fuse_spent n (FuseSet calls) m has = tt
 fuse_spent n (FuseLit most) m has = tt
-
-pub burned_twice : (f : Fuse) → burned (burned f) ≡ burned f
-burned_twice NoFuse = refl
-burned_twice (FuseSet calls) = refl
-burned_twice (FuseLit most) = refl
-
-pub fused_before : (f : Fuse) → IsFused (burned f) → IsFused f
-fused_before NoFuse is = is
-fused_before (FuseSet calls) is = tt
-fused_before (FuseLit most) is = tt
 
 -- ---- an image with the group's content has the site's
 

@@ -1,10 +1,9 @@
 -- Disks on which some writes and flushes may have been made stand for their site, of whose fuse less is known.
 use Rattle.std.proofs.Common.{◌≡◌, ◌∙◌, ap, sym, subst}
-use Rattle.vx_history.specs.Steps.{burned}
+use Rattle.vx_history.specs.Steps.{burned, worked}
 use Rattle.vx_history.specs.World.{Fuse, NoFuse, Node}
 use Rattle.vx_disk.specs.Shelf.{Meaning}
 use Rattle.vx_disk.specs.declared.shelf.Shelf.{Ghosts}
-use Rattle.vx_diskset.specs.DiskSets.{worked}
 use Rattle.vx_diskset.specs.Holds.{KeptBeside}
 use Rattle.vx_diskset.specs.Stands.{IsBareAt, IsCleanAt, IsDownAt, SiteStands}
 use Rattle.vx_diskset.specs.declared.disk_set.DiskSet.{DiskSet}

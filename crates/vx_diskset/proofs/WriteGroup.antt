@@ -5,7 +5,8 @@ use Rattle.std.proofs.lemmas.Bool.Decides.{nat_tests}
 use Rattle.vx_model.specs.Answer.{is_too_large}
 use Rattle.vx_model.specs.Sites.{is_origin}
 use Rattle.vx_model.specs.Content.{Write, blocks_in}
-use Rattle.vx_history.specs.Steps.{logged, half_begun, burned}
+use Rattle.vx_history.specs.Events.{logged_blocks}
+use Rattle.vx_history.specs.Steps.{logged, half_begun, burned, worked}
 use Rattle.vx_history.specs.World.{Node, Fuse}
 use Rattle.vx_model.specs.declared.no.No.{No}
 use Rattle.vx_model.specs.declared.no.No.TheVariants.{Device, Limit, Down, Size, Range}
@@ -25,7 +26,7 @@ use Rattle.vx_rvg.specs.Groups.{halted_or, write_refusal, WriteIs, Writes, core_
 use Rattle.vx_rvg.specs.Holdings.{Holding, with_writes}
 use Rattle.vx_rvg.specs.Stands.{Writing, Stands}
 use Rattle.vx_rvg.specs.Views.{Core, IsSound, last_of, unit_of}
-use Rattle.vx_diskset.specs.DiskSets.{CanLog, halted_with, LoggedUp, no_number, worked, WroteUp}
+use Rattle.vx_diskset.specs.DiskSets.{CanLog, halted_with, LoggedUp, no_number, WroteUp}
 use Rattle.vx_diskset.specs.Holds.{HasWrites}
 use Rattle.vx_diskset.specs.Layouts.{LiesOn}
 use Rattle.vx_diskset.specs.Holds.{most_header}
@@ -34,10 +35,11 @@ use Rattle.vx_diskset.specs.Rooms.{IsRoomy, RoomIs}
 use Rattle.vx_diskset.specs.Fuses.{IsFirstLog}
 use Rattle.vx_diskset.specs.Fuses.{FuseOn}
 use Rattle.vx_history.specs.Stops.{IsFused}
-use Rattle.vx_events.specs.Fuses.{IsExact, ring_taken}
+use Rattle.vx_events.specs.Fuses.{IsExact}
 use Rattle.vx_diskset.specs.Stands.{IsUpAt, IsHeldAt, IsUngrouped}
 use Rattle.vx_diskset.specs.Shelves.{IsRackOf, LoggedAs}
 use Rattle.vx_diskset.proofs.Blamed.{disks_are}
+use Rattle.vx_history.proofs.Fuses.{burned_twice, fused_before}
 use Rattle.vx_diskset.proofs.ApplyGroup.{ended_log}
 use Rattle.vx_diskset.proofs.BesideLemmas.{never_besides, site_map}
 use Rattle.vx_diskset.proofs.ExactWrite.{first_pushed, taken_push}
@@ -46,7 +48,7 @@ use Rattle.vx_diskset.proofs.Laying.{laid_in, lies_moved}
 use Rattle.vx_diskset.proofs.LastWrites.{stands_with, write_with, writing_found}
 use Rattle.vx_diskset.proofs.MakeRoom.{rose_later}
 use Rattle.vx_diskset.proofs.NeedLemmas.{takes_push}
-use Rattle.vx_diskset.proofs.StaysUp.{told_now, up_worked, never_both, left_moved, fused_by, fuse_moved, burned_twice, fused_before}
+use Rattle.vx_diskset.proofs.StaysUp.{told_now, up_worked, never_both, left_moved, fused_by, fuse_moved}
 
 -- what a write answers of a site
 abbrev pub WroteAs : KeptBeside → Node → Write → Meaning → Core → Meaning → Result ℕ No → Type 0
@@ -140,7 +142,7 @@ module _ {beside : KeptBeside} (n : Node) (volume start : ℕ) (bytes : List ℕ
       (ap (λ (k : Core). k.log.held) is ∙ ap (λ (ks : List Kept). c.log.held ++ (ks ++ kept_record c.log volume start bytes ∷ [])) (sound.idle roomy.running roomy.up)) refl roomy.takes
 
   -- the shelf is up behind it
-  module _ (below_most : n.safe < most_number) (still : IsFalse new.down) (first : is_origin n.role ≡ true → IsTrue m.tells → n.session ≡ 1 → ring_taken n.log + (blocks_in bytes + 1) ≤ n.ring → IsFirstLog c.log n.log) where
+  module _ (below_most : n.safe < most_number) (still : IsFalse new.down) (first : is_origin n.role ≡ true → IsTrue m.tells → n.session ≡ 1 → logged_blocks n.log + (blocks_in bytes + 1) ≤ n.ring → IsFirstLog c.log n.log) where
     lies_new : LiesOn n new
     lies_new = lies_moved n (Run c.units.srl 0 (c.log.ring + 2)) (Writing c (x ∷ []) m) m new moves roomy.lies
 

@@ -4,6 +4,7 @@ use Rattle.std.specs.Prelude.{IsFalse, Some, None}
 use Rattle.std.proofs.lemmas.List.{take-append-le, take_all}
 use Rattle.vx_model.specs.Content.{Write, put, fold_writes}
 use Rattle.vx_model.specs.Sites.{is_origin}
+use Rattle.vx_history.specs.Events.{logged_blocks}
 use Rattle.vx_history.specs.World.{Node}
 use Rattle.vx_history.specs.Steps.{logged, half_begun, burned, write_calls}
 use Rattle.vx_model.specs.declared.state.KeptLink.{KeptLink}
@@ -20,7 +21,6 @@ use Rattle.vx_diskset.specs.Needs.{TakesAs}
 use Rattle.vx_diskset.specs.Rooms.{IsRoomy}
 use Rattle.vx_diskset.specs.Fuses.{IsFirstLog}
 use Rattle.vx_diskset.specs.Fuses.{FuseOn}
-use Rattle.vx_events.specs.Fuses.{ring_taken}
 use Rattle.vx_diskset.specs.Stands.{IsUpAt}
 use Rattle.vx_diskset.proofs.BesideLemmas.{never_besides, site_map}
 use Rattle.vx_diskset.proofs.LastWrites.{FoundOf, stands_with}
@@ -147,7 +147,7 @@ module _ (n : Node) (x : Write) (disk : ℕ) where
 
 -- a site with one more write
 pub up_logged : {beside : KeptBeside} (n : Node) (x : Write) (c0 c c' : Core) (m0 m new : Meaning) → IsUpAt beside n c0 m0 → n.halted ≡ None → IsRoomy beside n c m → Lawful new → c'.log.unit ≡ c'.units.srl → new.tells ≡ m.tells
-    → IsFalse new.down → LiesOn n new → FuseOn (burned n.fuse) new → (IsTrue new.tells → 0 < n.session) → (is_origin n.role ≡ true → IsTrue new.tells → n.session ≡ 1 → ring_taken (n.log ++ x ∷ []) ≤ n.ring → IsFirstLog c'.log (n.log ++ x ∷ [])) → TakesAs c'.log (n.log ++ x ∷ []) → c'.units ≡ c.units → c'.log.ring ≡ c.log.ring → c'.log.header ≡ c.log.header → c'.halted ≡ c.halted → last_of c' ≡ last_of c + 1
+    → IsFalse new.down → LiesOn n new → FuseOn (burned n.fuse) new → (IsTrue new.tells → 0 < n.session) → (is_origin n.role ≡ true → IsTrue new.tells → n.session ≡ 1 → logged_blocks (n.log ++ x ∷ []) ≤ n.ring → IsFirstLog c'.log (n.log ++ x ∷ [])) → TakesAs c'.log (n.log ++ x ∷ []) → c'.units ≡ c.units → c'.log.ring ≡ c.log.ring → c'.log.header ≡ c.log.header → c'.halted ≡ c.halted → last_of c' ≡ last_of c + 1
     → (IsTrue new.tells → StandsHolding c' (n.log ++ x ∷ []) (put n.base x) new) → IsUpAt beside (logged n x) c' new
 up_logged {beside} n x c0 c c' m0 m new up none roomy lawful unit_is tells still lies fuse begun fresh takes units ring header halted head content = record {
   state = up.state;

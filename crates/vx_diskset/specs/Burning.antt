@@ -3,10 +3,10 @@ use Rattle.std.specs.Prelude.{◌≡◌, ℕ, Bool, false, IsFalse, Result, Ok, 
 use Rattle.vx_model.specs.declared.no.No.{No}
 use Rattle.vx_model.specs.declared.no.No.TheVariants.{Down as IsDown}
 use Rattle.vx_disk.specs.Disks.{Disks}
+use Rattle.vx_grouped.specs.SiteEnds.{is_off}
 use Rattle.vx_ringio.specs.Spends.{BurntOut, Loses, Passed}
 use Rattle.vx_events.specs.declared.said.Said.{Said}
 use Rattle.vx_events.specs.declared.said.Said.TheVariants.{DoneAt, Logged, Refused}
-use Rattle.vx_diskset.specs.DiskSets.{is_off}
 
 -- a shelf is down behind a call that was answered so exactly where the answer is 6
 abbrev pub OffIf : {T : Type 0} → Result T No → Bool → Type 0

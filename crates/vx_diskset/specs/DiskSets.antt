@@ -1,10 +1,10 @@
 -- What the calls on the disks of a site promise.
-use Rattle.std.specs.Prelude.{◌≡◌, ℕ, ◌+◌, ◌*◌, ◌<◌, ◌≤◌, ◌++◌, ◌∷◌, [], ◌⊎◌, min, length, Option, Some, None, Result, Ok, Err, List, IsTrue, Bool, true, false}
+use Rattle.std.specs.Prelude.{◌≡◌, ℕ, ◌+◌, ◌*◌, ◌<◌, ◌≤◌, ◌++◌, ◌∷◌, [], ◌⊎◌, min, length, Option, Some, None, Result, Ok, Err, List, IsTrue, true}
 use Rattle.vx_disk.specs.Maps.{maps_of}
 use Rattle.vx_model.specs.declared.limits.TheConstants.{LEAST_BLOCKS, LINK_PLACES, MOST_DISKS}
 use Rattle.vx_model.specs.Content.{Write}
 use Rattle.vx_history.specs.World.{Node, bare_site}
-use Rattle.vx_history.specs.Steps.{logged, raw_set, half_begun, crashed, recovered, burned}
+use Rattle.vx_history.specs.Steps.{logged, raw_set, half_begun, crashed, recovered, burned, worked}
 use Rattle.vx_model.specs.Sites.{is_origin}
 use Rattle.vx_model.specs.Sizes.{ring_of}
 use Rattle.vx_model.specs.declared.site.SiteState.TheVariants.{Up as IsUp}
@@ -60,21 +60,12 @@ halted_with n x disk = record n { log = n.log ++ x ∷ []; halted = Some disk; f
 abbrev pub halted_at : Node → ℕ → Node
 halted_at n disk = record n { halted = Some disk; fuse = burned n.fuse }
 
--- a site whose disks may have been written and flushed
-abbrev pub worked : Node → Node
-worked n = record n { fuse = burned n.fuse }
-
 -- a site that crashed as another one, with so many writes; what it notes of its group stays
 abbrev pub fell_to : (n k : Node) → (count : ℕ) → Node
 fell_to n k count = record (crashed k count) { group = n.group }
 
 abbrev pub no_number : No
 no_number = Limit Number most_number
-
--- whether a shelf that is down refused so
-abbrev pub is_off : No → Bool
-is_off IsDown = true
-is_off other = false
 
 -- an apply that nothing but a failing disk can refuse
 pub record CanApply (n : Node) : Type 0 where

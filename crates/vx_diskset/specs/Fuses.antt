@@ -3,9 +3,9 @@ use Rattle.std.specs.Prelude.{◌≡◌, ◌≤◌, ℕ, Option, Some, None, Lis
 use Rattle.vx_disk.specs.Disks.{Disks}
 use Rattle.vx_disk.specs.Shelf.{Meaning}
 use Rattle.vx_model.specs.Content.{Write}
+use Rattle.vx_history.specs.Events.{logged_blocks}
 use Rattle.vx_history.specs.World.{Fuse, NoFuse, FuseSet, FuseLit}
 use Rattle.vx_srl.specs.Views.{Log, widths}
-use Rattle.vx_events.specs.Fuses.{ring_taken}
 
 -- The disks of a rack have a fuse that lets so many writes and flushes pass; of another shelf nothing is said.
 abbrev pub LetsOn : ℕ → Option Disks → Type 0
@@ -33,4 +33,4 @@ LeftAs (FuseLit most) f = HasLeft most f
 -- a log that holds these writes, from the beginning of its ring on
 pub record IsFirstLog (l : Log) (xs : List Write) : Type 0 where
   pub place : l.header.place ≡ 0
-  pub widths_are : widths l.held ≡ ring_taken xs
+  pub widths_are : widths l.held ≡ logged_blocks xs

@@ -6,6 +6,7 @@ use Rattle.vx_model.specs.declared.site.SiteState.TheVariants.{Up as IsUp}
 use Rattle.vx_model.specs.declared.state.KeptLink.{KeptLink}
 use Rattle.vx_model.specs.declared.state.State.{State}
 use Rattle.vx_model.specs.Sites.{is_origin}
+use Rattle.vx_history.specs.Steps.{worked}
 use Rattle.vx_history.specs.Stops.{IsFused}
 use Rattle.vx_history.specs.World.{Node}
 use Rattle.vx_disk.specs.declared.shelf.Shelf.{Ghosts}
@@ -15,7 +16,7 @@ use Rattle.vx_events.specs.GroupLines.{is_over_group}
 use Rattle.vx_events.specs.declared.said.Said.{Said}
 use Rattle.vx_events.specs.declared.said.Said.TheVariants.{Done, Refused}
 use Rattle.vx_diskset.specs.declared.disk_set.DiskSet.{DiskSet}
-use Rattle.vx_diskset.specs.DiskSets.{CrashedAt, RoseAt, halted_at, no_number, worked}
+use Rattle.vx_diskset.specs.DiskSets.{CrashedAt, RoseAt, halted_at, no_number}
 use Rattle.vx_diskset.specs.Holds.{KeptBeside, KeptSite, most_header, sure_of}
 use Rattle.vx_diskset.specs.Needs.{hold_of, is_needing}
 use Rattle.vx_diskset.specs.Stands.{CutAt, IsToldAt, SiteStands}

@@ -4,11 +4,11 @@ use Rattle.vx_model.specs.declared.limits.TheConstants.{MOST_CALL_BLOCKS}
 use Rattle.vx_model.specs.Content.{Content, Write}
 use Rattle.vx_model.specs.declared.state.State.{State}
 use Rattle.vx_model.specs.declared.units.Units.{Units}
+use Rattle.vx_history.specs.Events.{logged_blocks}
 use Rattle.vx_disk.specs.Shelf.{Meaning, Image}
 use Rattle.vx_rvg.specs.Holdings.{Holding}
 use Rattle.vx_rvg.specs.Stands.{FoundGroup, LeftGroup, Stands}
 use Rattle.vx_rvg.specs.Views.{Core}
-use Rattle.vx_events.specs.Fuses.{ring_taken}
 use Rattle.vx_diskset.specs.Needs.{NoneNeeds}
 
 -- a group with so many ring blocks holds this content, and of these writes, of which the first has number 1, the last ones
@@ -18,7 +18,7 @@ pub record HasLast (ring : ℕ) (xs : List Write) (c : Content) (h : Holding) : 
   pub writes : h.writes ≡ drop (h.low - 1) xs
   pub content : h.content ≡ c
   -- while there is room for the largest write beside all of them, it holds all, from the beginning of the ring on
-  pub whole : ring_taken xs + (MOST_CALL_BLOCKS + 1) ≤ ring → (h.low ≡ 1) × (h.place ≡ 0)
+  pub whole : logged_blocks xs + (MOST_CALL_BLOCKS + 1) ≤ ring → (h.low ≡ 1) × (h.place ≡ 0)
 
 -- a group that stands with them, and with all that its links need
 pub record StandsHolding (core : Core) (xs : List Write) (c : Content) (m : Meaning) : Type 0 where

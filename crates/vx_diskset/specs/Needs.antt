@@ -4,9 +4,9 @@ use Rattle.vx_model.specs.Content.{Write}
 use Rattle.vx_model.specs.declared.state.KeptLink.{KeptLink}
 use Rattle.vx_model.specs.declared.state.KeptMode.{KeptMode}
 use Rattle.vx_model.specs.declared.state.KeptMode.TheVariants.{Log as ByLog, Dcm, Replay, Fork, Stale}
+use Rattle.vx_history.specs.Events.{logged_blocks}
 use Rattle.vx_history.specs.World.{Node}
 use Rattle.vx_srl.specs.Views.{Log, widths}
-use Rattle.vx_events.specs.Fuses.{ring_taken}
 
 -- in these modes an attached link needs the numbers above its hold from the log
 abbrev pub mode_needs : KeptMode → Bool
@@ -37,9 +37,9 @@ pub record NoneNeeds (links : List KeptLink) (number : ℕ) : Type 0 where
 
 -- from each number on that a log holds its records take as many blocks as these writes, of which the first has number 1
 pub record TakesAs (l : Log) (xs : List Write) : Type 0 where
-  pub each : (above : ℕ) → l.header.low ≤ above + 1 → widths (drop (above + 1 - l.header.low) l.held) ≡ ring_taken (drop above xs)
+  pub each : (above : ℕ) → l.header.low ≤ above + 1 → widths (drop (above + 1 - l.header.low) l.held) ≡ logged_blocks (drop above xs)
 
 -- the log of a site has room for a write of so many blocks beside all numbers above this one, and no link needs one up to it
 pub record HasRoom (links : List KeptLink) (n : Node) (hold count : ℕ) : Type 0 where
   pub unneeded : NoneNeeds links hold
-  pub room : count + 1 + ring_taken (drop hold n.log) ≤ n.ring
+  pub room : count + 1 + logged_blocks (drop hold n.log) ≤ n.ring

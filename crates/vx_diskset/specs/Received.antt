@@ -13,6 +13,7 @@ use Rattle.vx_history.specs.World.{Node}
 use Rattle.vx_history.specs.declared.receiver.RAction.{RAction}
 use Rattle.vx_history.specs.declared.receiver.RAction.TheVariants.{DataAck}
 use Rattle.vx_history.specs.declared.receiver.REvent.TheVariants.{Applied}
+use Rattle.vx_history.specs.Steps.{worked}
 use Rattle.vx_disk.specs.Counts.{Rose}
 use Rattle.vx_disk.specs.Shelf.{Meaning}
 use Rattle.vx_disk.specs.declared.shelf.Shelf.{Ghosts}
@@ -24,7 +25,7 @@ use Rattle.vx_events.specs.declared.said.Said.{Said}
 use Rattle.vx_events.specs.declared.said.Said.TheVariants.{DoneAt, Refused}
 use Rattle.vx_diskset.specs.declared.disk_set.DiskSet.{DiskSet}
 use Rattle.vx_diskset.specs.declared.receivers.Reached.{Reached}
-use Rattle.vx_diskset.specs.DiskSets.{CrashedAt, RoseAt, halted_at, no_number, worked}
+use Rattle.vx_diskset.specs.DiskSets.{CrashedAt, RoseAt, halted_at, no_number}
 use Rattle.vx_diskset.specs.Holds.{KeptBeside, most_with}
 use Rattle.vx_diskset.specs.Needs.{NoneNeeds}
 use Rattle.vx_diskset.specs.Stands.{CutAt, IsHeldAt, IsReceiverAt, IsToldAt, SiteStands}

@@ -10,13 +10,12 @@ use Rattle.vx_disk.specs.Disks.{Disks}
 use Rattle.vx_disk.specs.Shelf.{Meaning}
 use Rattle.vx_disk.specs.declared.shelf.Shelf.{Ghosts}
 use Rattle.vx_history.specs.Groups.{GroupNode}
-use Rattle.vx_history.specs.Steps.{crashed}
+use Rattle.vx_history.specs.Steps.{crashed, worked}
 use Rattle.vx_history.specs.World.{Node}
 use Rattle.vx_grouped.specs.GroupSites.{DownNoted, FitsPlain, UpNoted, site_disks, with_note}
 use Rattle.vx_grouped.specs.Keepings.{KeepsPlain}
 use Rattle.vx_grouped.specs.SiteReturns.{FailsFused}
 use Rattle.vx_watched.specs.Since.{is_rack}
-use Rattle.vx_grouped.specs.SiteEnds.{burned_site}
 use Rattle.vx_grouped.specs.SiteReturns.{SiteRecovers}
 use Rattle.vx_grouped.specs.declared.group_site.GroupSite.{GroupSite}
 use Rattle.vx_diskset.specs.Aboves.{site_in}
@@ -54,14 +53,14 @@ pub record RisesSince (old new : Meaning) : Type 0 where
 module _ {R : Type 0} {g : Ghosts R} where
   -- what was read of the write that was cut, at a group that is up
   abbrev pub LooksKept : Node → GroupNode → Option CutWrite → GroupSite R g → GroupSite R g → Result (Option KeptWrite) No → Type 0
-  LooksKept n note cut old new (Ok kept) = UpNoted (burned_site n) note new × KeptIs note (site_disks old) cut kept
-  LooksKept n note cut old new (Err (Device disk)) = UpNoted (burned_site n) note new × CutFits note cut × Rose ((site_disks old).disk_faults disk) ((site_disks new).disk_faults disk)
+  LooksKept n note cut old new (Ok kept) = UpNoted (worked n) note new × KeptIs note (site_disks old) cut kept
+  LooksKept n note cut old new (Err (Device disk)) = UpNoted (worked n) note new × CutFits note cut × Rose ((site_disks old).disk_faults disk) ((site_disks new).disk_faults disk)
   LooksKept n note cut old new (Err other) = ⊥
 
   -- A group that came up says what is kept of the write that was cut, which is cut no longer. Where a disk failed in that, it is down again, and the write
   -- is cut still.
   abbrev pub RisesWith : Node → GroupNode → Option CutWrite → GroupSite R g → DiskSet R g → Result (Option KeptWrite) Stop → Type 0
-  RisesWith n note cut old new (Ok kept) = AtPlain (UpNoted (burned_site n) note) new × (cut_in new ≡ None) × KeptIs note (site_disks old) cut kept
+  RisesWith n note cut old new (Ok kept) = AtPlain (UpNoted (worked n) note) new × (cut_in new ≡ None) × KeptIs note (site_disks old) cut kept
   RisesWith n note cut old new (Err (Refused (Device disk))) =
       AtPlain (DownNoted (crashed (with_note (still_cut cut note) n) 0) (still_cut cut note)) new × (cut_in new ≡ cut_value cut) × CutFits note cut
       × AtPlain (λ e. Rose ((site_disks old).disk_faults disk) ((site_disks e).disk_faults disk)) new

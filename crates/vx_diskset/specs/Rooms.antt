@@ -2,7 +2,7 @@
 use Rattle.std.specs.Prelude.{◌≡◌, ℕ, ◌<◌, ◌≤◌, min, List, None, Result, Ok, Err, OnOk, IsTrue, IsFalse, ◌+◌}
 use Rattle.vx_history.specs.World.{Node}
 use Rattle.vx_model.specs.declared.no.No.{No}
-use Rattle.vx_history.specs.Steps.{burned}
+use Rattle.vx_history.specs.Steps.{burned, worked}
 use Rattle.vx_model.specs.declared.no.No.TheVariants.{Device, Limit, Down}
 use Rattle.vx_model.specs.declared.state.KeptLink.{KeptLink}
 use Rattle.vx_diskset.specs.Holds.{KeptBeside}
@@ -10,7 +10,7 @@ use Rattle.vx_disk.specs.Counts.{Rose}
 use Rattle.vx_disk.specs.Shelf.{Meaning}
 use Rattle.vx_rvg.specs.Views.{Core, last_of}
 use Rattle.vx_srl.specs.Views.{most_number}
-use Rattle.vx_diskset.specs.DiskSets.{no_number, halted_at, worked}
+use Rattle.vx_diskset.specs.DiskSets.{no_number, halted_at}
 use Rattle.vx_diskset.specs.Lasts.{StandsHolding}
 use Rattle.vx_diskset.specs.Holds.{state_with}
 use Rattle.vx_diskset.specs.Layouts.{LiesOn, units_of}

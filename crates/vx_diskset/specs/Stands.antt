@@ -4,6 +4,7 @@ use Rattle.vx_model.specs.declared.limits.TheConstants.{LEAST_BLOCKS, MOST_DISKS
 use Rattle.vx_model.specs.Content.{zero_block}
 use Rattle.vx_model.specs.Sites.{is_origin}
 use Rattle.vx_model.specs.declared.call.Update.{Update}
+use Rattle.vx_history.specs.Events.{logged_blocks}
 use Rattle.vx_history.specs.World.{Node, NoFuse, bare_site}
 use Rattle.vx_model.specs.declared.state.KeptLink.{KeptLink}
 use Rattle.vx_diskset.specs.Holds.{KeptBeside}
@@ -20,7 +21,6 @@ use Rattle.vx_diskset.specs.GroupSets.{cut_value, noted_cut}
 use Rattle.vx_diskset.specs.declared.group_set.CutWrite.{CutWrite}
 use Rattle.vx_diskset.specs.declared.group_set.GroupSet.{GroupSet}
 use Rattle.vx_diskset.specs.Fuses.{FuseOn, IsFirstLog}
-use Rattle.vx_events.specs.Fuses.{ring_taken}
 use Rattle.vx_diskset.specs.Holds.{HasSite, KeptSite, MayBe, site_alone, state_with}
 use Rattle.vx_diskset.specs.Holds.{most_header}
 use Rattle.vx_diskset.specs.Lasts.{FoundWith, LeftWith, StandsHolding}
@@ -101,7 +101,7 @@ pub record IsUpAt (beside : KeptBeside) (n : Node) (c : Core) (m : Meaning) : Ty
   pub begun : IsTrue m.tells → 0 < n.session
   pub stamp : IsTrue m.tells → n.halted ≡ None → c.log.header.stamp + 1 ≤ most_header beside n
   -- in its first session the log of an origin begins with the site's first write, as long as it did not go round
-  pub fresh : is_origin n.role ≡ true → IsTrue m.tells → n.halted ≡ None → n.session ≡ 1 → ring_taken n.log ≤ n.ring → IsFirstLog c.log n.log
+  pub fresh : is_origin n.role ≡ true → IsTrue m.tells → n.halted ≡ None → n.session ≡ 1 → logged_blocks n.log ≤ n.ring → IsFirstLog c.log n.log
   pub first : 0 < c.log.header.low
   pub head : last_of c ≡ n.safe
   pub halted : c.halted ≡ n.halted

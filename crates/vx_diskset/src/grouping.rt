@@ -21,11 +21,11 @@ ghost use Rattle.vx_watched.specs.Traces.{TellsLess};
 
 use crate::DiskSet;
 use crate::group_set::{CutWrite, GroupSet};
-use crate::writing::is_off;
 use std::alloc::Global;
 use std::mem;
 use vx_config::Config;
 use vx_disk::Rack;
+use vx_grouped::is_off;
 use vx_layout::Shape;
 use vx_model::limits::BLOCK;
 use vx_model::{Blocks, Name, No, Stop};

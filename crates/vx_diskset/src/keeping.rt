@@ -18,8 +18,8 @@ ghost use Rattle.vx_diskset.specs.Shelves.{KeptAs, LaterOn, MovesOn};
 ghost use Rattle.vx_diskset.specs.Stands.{IsUpAt, KeepsRole, SiteStands};
 
 use crate::DiskSet;
-use crate::writing::is_off;
 use vx_disk::{Rack, Shelf};
+use vx_grouped::is_off;
 use vx_model::{No, State};
 use vx_rvg::Rvg;
 

@@ -37,4 +37,3 @@ pub use over_set::{OverSet, OverSite};
 pub use reading::blocks_of;
 pub use receivers::Reached;
 pub use units::can_be_raw;
-pub use writing::is_off;

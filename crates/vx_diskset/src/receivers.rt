@@ -18,8 +18,9 @@ ghost use Rattle.vx_diskset.specs.Shelves.{BlamesRack, LaterOn, MovesOn};
 ghost use Rattle.vx_diskset.specs.Stands.{InVolumes, IsReceiverAt, KeepsRole, SiteStands};
 
 use crate::DiskSet;
-use crate::writing::{apply_group, is_off, write_group};
+use crate::writing::{apply_group, write_group};
 use vx_disk::{Rack, Shelf};
+use vx_grouped::is_off;
 use vx_model::limits::{BLOCK, MOST_NUMBER};
 use vx_model::{Counted, No};
 use vx_rvg::Rvg;

@@ -5,8 +5,8 @@ ghost use Rattle.vx_model.specs.Sites.{is_origin};
 ghost use Rattle.vx_model.specs.declared.state.KeptLink.{KeptLink};
 ghost use Rattle.vx_diskset.specs.Holds.{KeptBeside};
 ghost use Rattle.vx_model.specs.declared.site.SiteState.TheVariants.{Up as UpState};
+ghost use Rattle.vx_history.specs.Events.{logged_blocks};
 ghost use Rattle.vx_history.specs.World.{Node};
-ghost use Rattle.vx_events.specs.Fuses.{ring_taken};
 ghost use Rattle.vx_diskset.specs.Needs.{hold_of, is_needing};
 ghost use Rattle.vx_diskset.specs.Stands.{IsToldAt, IsUpAt, SiteStands};
 
@@ -16,7 +16,7 @@ use vx_rvg::RvgCore;
 
 // The blocks that the numbers above one take in the log of a group, if it holds all of them.
 pub(crate) fn used_in(core: &RvgCore, above: u64) -> Option<u64>
-    ensures is { (beside : KeptBeside) (n : Node) (m : Meaning) → IsUpAt beside n core.now m → n.halted ≡ None → IfSome result (λ blocks. blocks ≡ ring_taken (drop above n.log)) }
+    ensures is { (beside : KeptBeside) (n : Node) (m : Meaning) → IsUpAt beside n core.now m → n.halted ≡ None → IfSome result (λ blocks. blocks ≡ logged_blocks (drop above n.log)) }
     ensures some { core.now.log.header.low ≤ above + 1 → IsSome result }
 {
     // Numbers are above 0.
@@ -34,7 +34,7 @@ impl<R: Rack> DiskSet<R> {
     /// The blocks of the log that the writes above a number take, at an origin that is up and runs. None for any other site, and where the log
     /// does not hold all of them any more; where contents are told it does from the hold of each link on that needs it.
     pub fn used(&self, above: u64) -> Option<u64>
-        ensures is { (beside : KeptBeside) (n : Node) → SiteStands beside n self.now → n.state ≡ UpState → n.halted ≡ None → IfSome result (λ blocks. blocks ≡ ring_taken (drop above n.log)) }
+        ensures is { (beside : KeptBeside) (n : Node) → SiteStands beside n self.now → n.state ≡ UpState → n.halted ≡ None → IfSome result (λ blocks. blocks ≡ logged_blocks (drop above n.log)) }
         ensures some { (beside : KeptBeside) (n : Node) (k : ℕ) (l : KeptLink) → SiteStands beside n self.now → is_origin n.role ≡ true → n.state ≡ UpState → is_over_group n ≡ false → n.halted ≡ None → IsToldAt self.now
             → slice_get beside.links k ≡ Some l → is_needing l ≡ true → hold_of l ≤ above → IsSome result }
     {

@@ -4,18 +4,18 @@ ghost use Rattle.vx_events.specs.GroupLines.{is_over_group};
 ghost use Rattle.vx_model.specs.Content.{blocks_in};
 ghost use Rattle.vx_model.specs.declared.limits.TheConstants.{MOST_CALL_BLOCKS, MOST_CALL_BYTES};
 ghost use Rattle.vx_diskset.specs.Holds.{KeptBeside, site_alone};
+ghost use Rattle.vx_history.specs.Events.{logged_blocks};
 ghost use Rattle.vx_history.specs.World.{Node};
 ghost use Rattle.vx_model.specs.declared.call.Update.{Update};
 ghost use Rattle.vx_secondary.specs.Receivers.{Wait};
 ghost use Rattle.vx_ringio.specs.Spends.{Spends};
 ghost use Rattle.vx_disk.specs.Burns.{RackIsShort};
 ghost use Rattle.vx_model.specs.declared.no.No.TheVariants.{Down as IsOff};
-ghost use Rattle.vx_events.specs.Fuses.{ring_taken};
 ghost use Rattle.vx_srl.specs.Views.{BodyFits, free_of};
 ghost use Rattle.vx_diskset.specs.Asked.{IsRawSet, LeavesFuse, WritesUnder};
 ghost use Rattle.vx_diskset.specs.Blames.{BlamesSite};
 ghost use Rattle.vx_diskset.specs.Burning.{NoMore, IsLogged, OffIf, said_by};
-ghost use Rattle.vx_diskset.specs.DiskSets.{Later, CanLog, CanWrite, LoggedUp, WroteUp, is_off};
+ghost use Rattle.vx_diskset.specs.DiskSets.{Later, CanLog, CanWrite, LoggedUp, WroteUp};
 ghost use Rattle.vx_diskset.specs.Needs.{HasRoom, NoneNeeds};
 ghost use Rattle.vx_diskset.specs.Rooms.{AppliedAs, IsMore, NeverLimit, RoomIs, TakesOne, logged_count};
 ghost use Rattle.vx_diskset.specs.Shelves.{BlamesRack, BurnsOn, LaterOn, LoggedAs, MovesOn};
@@ -25,16 +25,10 @@ ghost use Rattle.vx_diskset.specs.Stands.{IsUpAt, KeepsRole, StandsAlone, SiteSt
 use crate::DiskSet;
 use std::mem;
 use vx_disk::{Rack, Shelf};
+use vx_grouped::is_off;
 use vx_model::limits::{BLOCK, MOST_NUMBER};
 use vx_model::{Counted, No};
 use vx_rvg::Rvg;
-
-/// Whether the shelf was found down.
-pub fn is_off(no: &No) -> bool
-    ensures { result ≡ is_off no.now }
-{
-    matches!(no, No::Down)
-}
 
 // Brings logged writes into their volumes. A shelf that is down behind it answers so.
 pub(crate) fn apply_group<S: Shelf>(rvg: &mut Rvg<S>, to: u64) -> Result<u64, No>
@@ -65,7 +59,7 @@ fn reclaim_group<S: Shelf>(rvg: &mut Rvg<S>, to: u64) -> Result<(), No>
     ensures made { (beside : KeptBeside) (n : Node) → IsUpAt beside n rvg.old.core (S.meaning rvg.old.shelf) → n.halted ≡ None → NoneNeeds beside.links to
         → free_of rvg.old.core.log ≤ MOST_CALL_BLOCKS → RoomIs beside n (S.meaning rvg.old.shelf) rvg.new.core (S.meaning rvg.new.shelf) result }
     ensures room { (beside : KeptBeside) (n : Node) (count : ℕ) → IsUpAt beside n rvg.old.core (S.meaning rvg.old.shelf) → n.halted ≡ None → NoneNeeds beside.links to
-        → free_of rvg.old.core.log ≤ MOST_CALL_BLOCKS → count + 1 + ring_taken (drop to n.log) ≤ n.ring → OnOk result (count < free_of rvg.new.core.log) }
+        → free_of rvg.old.core.log ≤ MOST_CALL_BLOCKS → count + 1 + logged_blocks (drop to n.log) ≤ n.ring → OnOk result (count < free_of rvg.new.core.log) }
     ensures takes { TakesOne rvg.old.core rvg.new.core result }
     ensures units { rvg.new.core.units ≡ rvg.old.core.units }
     ensures group { IsMore 0 rvg.old.core rvg.new.core }

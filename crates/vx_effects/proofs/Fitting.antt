@@ -1,7 +1,9 @@
 -- Whatever happens, the links of every world fit.
 use Rattle.std.proofs.Common.{◌≡◌, ◌∙◌, ℕ, ◌+◌, ◌≤◌, ◌<◌, List, [], ◌∷◌, Bool, true, false, refl, ap, sym, subst, arith}
+use Rattle.std.proofs.lemmas.Bool.{not-false}
 use Rattle.std.proofs.lemmas.Bool.Decides.{nat_tests}
 use Rattle.std.specs.Prelude.{not, ◌&&◌, ◌||◌, eqb, leb, ltb, Option, Some, None, bytes_eq}
+pub use Rattle.vx_history.proofs.Updates.{updated_other}
 use Rattle.vx_model.specs.Sites.{is_origin, is_up}
 use Rattle.vx_model.specs.declared.limits.TheConstants.{LEAST_BLOCKS, MOST_DISKS, MOST_SITES}
 use Rattle.vx_model.specs.declared.link.SyncMode.{SyncMode}
@@ -14,6 +16,7 @@ use Rattle.vx_model.specs.declared.site.SPhase.TheVariants.{Quiet}
 use Rattle.vx_model.specs.declared.site.SiteState.TheVariants.{Bare, Down, Up}
 use Rattle.vx_history.proofs.CrashLemmas.{crash_state}
 use Rattle.vx_history.proofs.Places.{places_further, places_made}
+use Rattle.vx_history.proofs.States.{primary_leads, up_is}
 use Rattle.vx_history.proofs.Updates.{all_updated, and_left, at_place, by_test, eqb_equal}
 use Rattle.vx_history.specs.Doubts.{After, Doubted, Runs, happened, resolved, resolved_at, taken_up}
 use Rattle.vx_history.specs.Events.{crash_at, deport_at, kept_of, new_link}
@@ -34,9 +37,6 @@ use Rattle.vx_effects.proofs.Outcomes.{IsSettled, crash_moves, deported_moves, o
 use Rattle.vx_effects.proofs.Tests
 
 -- ---- sites in doubt
-
-pub updated_other : {A : Type 0} (f : ℕ → A) (i j : ℕ) (x : A) → (j ≡ i → ⊥) → updated f i x j ≡ f j
-updated_other f i j x apart = by_test (λ y. y ≡ f j) (eqb j i) x (f j) (λ e. absurd (apart (eqb_equal j i e))) (λ _. refl)
 
 pub apart_by : (p s : ℕ) → eqb p s ≡ false → p ≡ s → ⊥
 apart_by p s e same = grind (arith, nat_tests)
@@ -225,12 +225,6 @@ fit_link_made d p s sync below other up keeps free fit = record {
     l : LinkOf
     l = new_link (count_links_of d.world p) sync (d.world.nodes s)
 
-primary_leads : (r : Role) → is_primary r ≡ true → is_origin r ≡ true
-primary_leads Primary e = refl
-primary_leads Secondary e = absurd (cc)
-primary_leads (Handing to) e = absurd (cc)
-primary_leads Bunker e = absurd (cc)
-
 -- writes arise at a primary, which does not follow itself
 follows_keeps : (w : World) (p s : ℕ) → (is_primary (w.nodes p).role && follows w p s) ≡ true → is_origin (w.nodes p).role ≡ true
 follows_keeps w p s e = primary_leads (w.nodes p).role (and_left (is_primary (w.nodes p).role) (follows w p s) e)
@@ -272,7 +266,7 @@ fit_made d p s sync fit =
     (λ up _ _ _. Tests.unless_ends Q w refusals (not (is_primary (w.nodes p).role && follows w p s)) WrongRole free
     (λ led. Tests.unless_ends Q w refusals (is_linked (w.links p s)) (Exists (w.nodes s).name) o
     (λ none.
-    let leads : (is_primary (w.nodes p).role && follows w p s) ≡ true = Tests.not_false (is_primary (w.nodes p).role && follows w p s) led in
+    let leads : (is_primary (w.nodes p).role && follows w p s) ≡ true = not-false (is_primary (w.nodes p).role && follows w p s) led in
     (fit_link_made d p s sync below (follows_other w p s leads) up (follows_keeps w p s leads) none fit, λ i. refl, λ i. refl)))))) in
     fit_counted (record d { world = (outcome_of w e).world }) (λ i. w.headers i + headers_by e w (outcome_of w e) i)
     (λ i bare. none_more (w.headers i) (headers_by e w (outcome_of w e) i) (bare_none w i (subst (λ (n : Node). n.state ≡ Bare) (all.2 i) bare) e) ∙ sym (all.1 i)) all.0
@@ -296,7 +290,7 @@ fit_crash r s kept sure fit =
     Tests.site_ends Q w refusals s (unless (not (is_up (w.nodes s).state)) NotUp w o)
     (λ _. Tests.unless_ends Q w refusals (not (is_up (w.nodes s).state)) NotUp o
     (λ u. (
-      fit_crashed r s (kept_of (w.nodes s) kept) sure (Tests.up_is (w.nodes s).state (Tests.not_false (is_up (w.nodes s).state) u)) fit,
+      fit_crashed r s (kept_of (w.nodes s) kept) sure (up_is (w.nodes s).state (not-false (is_up (w.nodes s).state) u)) fit,
       λ p. crash_headers w s (kept_of (w.nodes s) kept) p,
     ))) in
     fit_counted (record r { world = (outcome_of w (Crash s kept)).world }) (λ i. w.headers i + 0) (λ p _. none_more (w.headers p) 0 refl ∙ sym (all.1 p)) all.0

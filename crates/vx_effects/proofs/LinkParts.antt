@@ -1,5 +1,6 @@
 -- What the parts of a line that makes a link change, and that each of them follows the one before it.
 use Rattle.std.proofs.Common.{◌≡◌, ◌∙◌, ℕ, ◌+◌, ◌<◌, [], ◌∷◌, Bool, true, false, refl, ap, sym, subst, arith}
+use Rattle.std.proofs.lemmas.Bool.{not-false}
 use Rattle.std.specs.Prelude.{not, ◌&&◌, eqb, leb, Option, None, if◌then◌else◌}
 use Rattle.vx_model.specs.Sites.{first_line, is_origin, is_up, same_line}
 use Rattle.vx_model.specs.declared.limits.TheConstants.{MOST_LINKS}
@@ -98,7 +99,7 @@ module _ (w : World) (p s : ℕ) (sync : SyncMode) where
       (λ may. Tests.unless_ends Q w none (is_linked (w.links p s)) (Exists (w.nodes s).name) few
       (λ unlinked. Tests.unless_ends Q w none (leb MOST_LINKS (count_links_of w p)) (Limit Links MOST_LINKS) sized
       (λ _. Tests.unless_ends Q w none (not (sizes_meet (w.nodes p).volumes (w.nodes s).volumes && rings_fit (w.nodes p) (w.nodes s))) Size o
-      (λ _ e. (Tests.not_false (may_link w p s) may, unlinked, refl))))) (part_done Joins said)
+      (λ _ e. (not-false (may_link w p s) may, unlinked, refl))))) (part_done Joins said)
 
   pub made_done : (step w (Link p s sync Made)).said ≡ Done
       → (is_linked (w.links p s) ≡ false) × (link_part Made w p s sync ≡ done behind_made)
@@ -127,7 +128,7 @@ module _ (w : World) (p s : ℕ) (sync : SyncMode) where
   opened_done said =
       let Q : Outcome → Type 0 = λ (r : Outcome). r.said ≡ Done → (may_open ≡ true) × (r ≡ done behind_opened) in
       let none : (why : No) → Q (refused w why) = λ why e. absurd (never why e) in
-      Tests.unless_ends Q w none (not may_open) WrongRole (done behind_opened) (λ may e. (Tests.not_false may_open may, refl)) (part_done Opened said)
+      Tests.unless_ends Q w none (not may_open) WrongRole (done behind_opened) (λ may e. (not-false may_open may, refl)) (part_done Opened said)
 
 -- ---- one site alone
 

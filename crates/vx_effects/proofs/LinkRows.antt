@@ -1,12 +1,11 @@
 -- What the tests of a line see, and the header of a log keeps, of a row in which a link changed or was made, and of a site that joined a line.
 use Rattle.std.proofs.Common.{◌≡◌, ◌∙◌, inl, inr, ◌⊎◌, ⊎_elim, ◌+◌, ◌<◌, ◌≤◌, ℕ, zero, suc, List, [], ◌∷◌, ◌++◌, Bool, true, false, ap, sym, refl, arith}
-use Rattle.std.proofs.lemmas.Bool.Decides.{nat_tests}
-use Rattle.std.specs.Prelude.{Option, Some, None, eqb, nat_lt, if◌then◌else◌}
+use Rattle.std.specs.Prelude.{Option, Some, None, eqb, if◌then◌else◌}
 use Rattle.vx_model.specs.declared.site.Mark.{Mark}
 use Rattle.vx_model.specs.declared.site.SiteState.{SiteState}
 use Rattle.vx_model.specs.declared.site.SiteState.TheVariants.{Bare, Up, Deported, Down}
 use Rattle.vx_model.specs.declared.state.KeptLink.{KeptLink}
-use Rattle.vx_history.proofs.Places.{count_most, places_made}
+use Rattle.vx_history.proofs.Places.{before_more, count_most, places_made, split_at}
 use Rattle.vx_history.proofs.Updates.{all_updated, at_place, by_test, eqb_equal, eqb_self}
 use Rattle.vx_history.specs.Events.{is_in_place, joined, link_in_place, linked_sites, put_before}
 use Rattle.vx_history.specs.KeptLinks.{kept_link, kept_links}
@@ -18,6 +17,7 @@ use Rattle.vx_order.specs.declared.facts.RvgFacts.{RvgFacts}
 use Rattle.vx_order.specs.declared.facts.SiteFacts.{SiteFacts}
 use Rattle.vx_events.specs.Facts.{group_by, site_fact}
 use Rattle.vx_events.specs.LinkedFacts.{link_fact, link_facts, links_by}
+use Rattle.vx_events.proofs.Steps.{not_made}
 use Rattle.vx_effects.specs.Facts.{fact_of, marked_fact, marked_group}
 use Rattle.vx_effects.specs.LinkParts.{further_fact, joined_fact, joined_group, kept_over}
 use Rattle.vx_effects.proofs.Fitting.{updated_other}
@@ -45,10 +45,6 @@ changed_kept row sites s l same =
 
 -- ---- a link that was made
 
-none_in : (made : Option ℕ) (place : ℕ) → is_made made ≡ false → is_in_place made place ≡ false
-none_in None place e = refl
-none_in (Some k) place e = absurd (cc)
-
 in_own : (made : Option ℕ) (place : ℕ) → is_in_place made place ≡ true → made ≡ Some place
 in_own None place e = absurd (cc)
 in_own (Some k) place e = ap (λ (i : ℕ). let o : Option ℕ = Some i in o) (eqb_equal k place e)
@@ -60,18 +56,11 @@ place_apart a b apart = by (eqb a b) (λ e. sym (eqb_equal a b e))
     by true same = absurd (apart (same refl))
     by false same = refl
 
-split_at : (a b : ℕ) → (a < b) ⊎ (b ≤ a)
-split_at a b = by_test (λ (m : ℕ). (a < b) ⊎ (b ≤ a)) (nat_lt a b) 0 0 (λ e. inl (grind (arith, nat_tests))) (λ e. inr (grind (arith, nat_tests)))
-
 -- where no place from here on has a link
 none_listed : (row : ℕ → Link) (sites place k : ℕ) → ((j : ℕ) → place ≤ j → link_in_place row j sites ≡ None) → linked_sites row sites place k ≡ []
 none_listed row sites place zero none = refl
 none_listed row sites place (suc k) none =
     ap (λ (o : Option ℕ). put_before o (linked_sites row sites (place + 1) k)) (none place (omega arith)) ∙ none_listed row sites (place + 1) k (λ j least. none j (omega (arith, least)))
-
-before_more : (o : Option ℕ) (xs ys : List ℕ) → put_before o (xs ++ ys) ≡ put_before o xs ++ ys
-before_more None xs ys = refl
-before_more (Some s) xs ys = refl
 
 module _ (sites : ℕ) (row : ℕ → Link) (s : ℕ) (l : Link) (has : HasPlaces sites row) (below : s < sites) (free : is_linked (row s) ≡ false) (made : l.made ≡ Some (links_in sites row)) where
   abbrev new : ℕ → Link
@@ -99,7 +88,7 @@ module _ (sites : ℕ) (row : ℕ → Link) (s : ℕ) (l : Link) (has : HasPlace
       ap (λ (b : Bool). if b then Some k else link_in_place new place k) (same k) ∙ ap (λ (o : Option ℕ). if is_in_place (row k).made place then Some k else o) (place_other k place apart)
     where
       here : is_in_place l.made place ≡ is_in_place (row s).made place
-      here = ap (λ (m : Option ℕ). is_in_place m place) made ∙ place_apart count place apart ∙ sym (none_in (row s).made place free)
+      here = ap (λ (m : Option ℕ). is_in_place m place) made ∙ place_apart count place apart ∙ sym (not_made (row s).made place free)
 
       same : (j : ℕ) → is_in_place (new j).made place ≡ is_in_place (row j).made place
       same = all_updated (λ (j : ℕ) (x : Link). is_in_place x.made place ≡ is_in_place (row j).made place) row s l here (λ j _. refl)
@@ -195,7 +184,7 @@ further_is n row sites s l up has below free made = further_fact_here sites row 
 no_place : (row : ℕ → Link) (place n : ℕ) → ((k : ℕ) → k < n → is_linked (row k) ≡ false) → link_in_place row place n ≡ None
 no_place row place zero free = refl
 no_place row place (suc k) free =
-    ap (λ (b : Bool). if b then Some k else link_in_place row place k) (none_in (row k).made place (free k (omega arith))) ∙ no_place row place k (λ j less. free j (omega (arith, less)))
+    ap (λ (b : Bool). if b then Some k else link_in_place row place k) (not_made (row k).made place (free k (omega arith))) ∙ no_place row place k (λ j less. free j (omega (arith, less)))
 
 joins_group : (a n : Node) (p : ℕ) (t : SiteState) → group_by t (joined a p n) ≡ joined_group a.line a.parent (group_by t n)
 joins_group a n p Bare = refl

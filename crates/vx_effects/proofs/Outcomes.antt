@@ -1,5 +1,6 @@
 -- What each event keeps of links, of the states of sites and of sites in doubt, but for those that make a site or a link, or crash a site.
 use Rattle.std.proofs.Common.{◌≡◌, ◌∙◌, ℕ, zero, suc, ◌+◌, ◌<◌, [], ◌∷◌, ◌++◌, length, Bool, true, false, refl, ap, sym, subst, arith, List}
+use Rattle.std.proofs.lemmas.Bool.{not-false, not-true, or_parts}
 use Rattle.std.proofs.lemmas.Bool.Decides.{nat_tests}
 use Rattle.std.specs.Prelude.{not, ◌&&◌, ◌||◌, eqb, leb, ltb, Option, Some, None, if◌then◌else◌}
 use Rattle.vx_model.specs.Answer.{is_too_large}
@@ -17,6 +18,7 @@ use Rattle.vx_model.specs.declared.site.Mark.TheVariants.{Consistent}
 use Rattle.vx_model.specs.declared.site.SPhase.TheVariants.{Quiet}
 use Rattle.vx_model.specs.declared.site.SiteState.{SiteState}
 use Rattle.vx_model.specs.declared.site.SiteState.TheVariants.{Bare, Up, Deported, Down}
+use Rattle.vx_history.proofs.States.{bare_is, up_is}
 use Rattle.vx_history.proofs.Updates.{and_left, and_right, by_test, eqb_equal}
 use Rattle.vx_history.specs.Admission.{Admitted, Goes, Held_by}
 use Rattle.vx_history.specs.Events.{fall_from, acknowledged, admitted, applied, applied_by, apply_at, come_back, crash_at, delivered, receiver_facts, from_memory, gathered_if, greeting_back, group_again, group_from, handed, heard, is_plain_group, is_taken, joined, link_after, link_event, link_heard, link_step, links_changed, lost_touch, opened, packet_at, promises_of, put_in, reached_at, recover_from, recovered_at, recovery, restarted_link, taken_if, ticked_at, ticked_link, update_taken, waited, with_write, written_if}
@@ -115,14 +117,10 @@ awake n m up quiet = record { quiet = quiet; rests = λ _ down. let f : Up ≡ D
 less_than : (k n : ℕ) → k < suc n → eqb k n ≡ false → k < n
 less_than k n less e = grind (arith, nat_tests)
 
-neither : (a b : Bool) → (a || b) ≡ false → (a ≡ false) × (b ≡ false)
-neither true b e = absurd (cc)
-neither false b e = (refl, e)
-
 none_in : (n : ℕ) (test : ℕ → Bool) → some_below n test ≡ false → (k : ℕ) → k < n → test k ≡ false
 none_in zero test none k less = absurd (omega (arith, less))
 none_in (suc n) test none k less =
-    let split = neither (test n) (some_below n test) none in by_place split.0 (none_in n test split.1 k) (eqb k n) refl
+    let split = or_parts (test n) (some_below n test) none in by_place split.0 (none_in n test split.1 k) (eqb k n) refl
   where
     by_place : test n ≡ false → (k < n → test k ≡ false) → (b : Bool) → eqb k n ≡ b → test k ≡ false
     by_place last rest true e = subst (λ (i : ℕ). test i ≡ false) (sym (eqb_equal k n e)) last
@@ -132,7 +130,7 @@ module _ (w : World) (p s : ℕ) where
   no_links : is_fresh w s ≡ true → (k : ℕ) → k < w.sites → is_linked (w.links s k) ≡ false
   no_links fresh =
       none_in w.sites (λ k. is_linked (w.links s k))
-      (Tests.not_true (some_below w.sites (λ k. is_linked (w.links s k)))
+      (not-true (some_below w.sites (λ k. is_linked (w.links s k)))
       (and_right (is_empty (w.nodes s).log) (not (some_below w.sites (λ k. is_linked (w.links s k))))
       (and_right (is_primary (w.nodes s).role) (is_empty (w.nodes s).log && not (some_below w.sites (λ k. is_linked (w.links s k)))) fresh)))
 
@@ -358,7 +356,7 @@ module _ (w : World) where
   handed_moves : (p : Packet) → Leaves (handed w p)
   handed_moves p =
       by_test Leaves (is_up (w.nodes p.target).state && is_running (w.nodes p.target).halted) (heard w p p.message) (says w IsIgnored)
-      (λ both. heard_moves p p.message (Tests.up_is (w.nodes p.target).state (and_left (is_up (w.nodes p.target).state) (is_running (w.nodes p.target).halted) both)))
+      (λ both. heard_moves p p.message (up_is (w.nodes p.target).state (and_left (is_up (w.nodes p.target).state) (is_running (w.nodes p.target).halted) both)))
       (λ _. moves_same All w)
 
   gathered_moves : (b : Bool) (v : World) (p : Packet) → Moves All w v → Moves All w (gathered_if b v p)
@@ -382,7 +380,7 @@ module _ (w : World) where
       (λ _. Tests.unless_ends Leaves w refusals (leb MOST_LINKS (count_links_of w p)) (Limit Links MOST_LINKS) sized
       (λ _. Tests.unless_ends Leaves w refusals (not (sizes_meet (w.nodes p).volumes (w.nodes s).volumes && rings_fit (w.nodes p) (w.nodes s))) Size o
       (λ _. moves_like All w (with_node w s n) (emptied (with_node w s n) s) refl (λ i. refl) (λ i k. refl)
-      (moves_kept All w s n refl refl (joins_without w p s (Tests.not_false (may_link w p s) may)) (calm (λ _. refl) (λ _ _. refl)))))))
+      (moves_kept All w s n refl refl (joins_without w p s (not-false (may_link w p s) may)) (calm (λ _. refl) (λ _ _. refl)))))))
   part_moves Made p s sync one = absurd one
   part_moves Marked p s sync one =
       Tests.unless_ends Leaves w refusals _ WrongRole _ (λ _. moves_alike All w s (record (w.nodes s) { mark = Consistent }) refl refl refl (calm (λ e. e) (λ e. e)))
@@ -417,7 +415,7 @@ module _ (w : World) where
       Tests.site_ends Leaves w refusals s (unless (not (is_bare (w.nodes s).state)) WrongRole w sized)
       (λ below. Tests.unless_ends Leaves w refusals (not (is_bare (w.nodes s).state)) WrongRole sized
       (λ bare. Tests.unless_ends Leaves w refusals (not (is_raw_shape (w.nodes s).disks (w.nodes s).blocks)) Size o
-      (λ _. raw_moves All w s below (Tests.bare_is (w.nodes s).state (Tests.not_false (is_bare (w.nodes s).state) bare)))))
+      (λ _. raw_moves All w s below (bare_is (w.nodes s).state (not-false (is_bare (w.nodes s).state) bare)))))
   outcome_moves (Group s) one =
       Tests.site_ends Leaves w refusals s (group_from (w.nodes s).state w s) (λ below. group_from_moves (w.nodes s).state s below refl)
   outcome_moves (Volumes s log xs) one =

@@ -1,5 +1,6 @@
 -- The links of a header that fit are those of a row that fits, and the other way round.
 use Rattle.std.proofs.Common.{◌≡◌, ◌∙◌, inl, inr, ◌⊎◌, ◌+◌, ◌<◌, ◌≤◌, ℕ, zero, suc, List, [], ◌∷◌, ◌++◌, Bool, true, false, ap, sym, subst, refl, arith, append_assoc}
+use Rattle.std.proofs.lemmas.Bool.{or_parts}
 use Rattle.std.specs.Prelude.{Option, Some, None, not, ◌&&◌, ◌||◌, eqb, ltb, if◌then◌else◌}
 use Rattle.std.specs.List.{list_any}
 use Rattle.std.proofs.lemmas.Bool.Decides.{nat_tests}
@@ -38,10 +39,6 @@ use Rattle.vx_effects.proofs.Rows.{AreApart, apart}
 both : (a b : Bool) → a ≡ true → b ≡ true → (a && b) ≡ true
 both true b e f = f
 both false b e f = absurd (cc)
-
-neither : (a b : Bool) → (a || b) ≡ false → (a ≡ false) × (b ≡ false)
-neither true b e = absurd (cc)
-neither false b e = (refl, e)
 
 never : {A : Type 0} → true ≡ false → A
 never e = absurd (cc)
@@ -298,7 +295,7 @@ none_there false b e = refl
 leave_more : (row : ℕ → Link) (s : ℕ) (m : Link) (ls : List KeptLink) → list_any (leads_there s) ls ≡ false → Leave row ls → Leave (updated row s m) ls
 leave_more row s m [] none leave = tt
 leave_more row s m (l ∷ ls) none leave =
-    let parts = neither (eqb l.site s) (list_any (leads_there s) ls) none in
+    let parts = or_parts (eqb l.site s) (list_any (leads_there s) ls) none in
     (ap is_linked (updated_other row s l.site m (eqb_apart l.site s parts.0)) ∙ leave.0, leave_more row s m ls parts.1 leave.1)
 
 module _ (p sites : ℕ) where

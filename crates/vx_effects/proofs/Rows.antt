@@ -1,7 +1,7 @@
 -- The links of a row in the order of their making, of rows that are alike.
 use Rattle.std.proofs.Common.{◌≡◌, ◌∙◌, inl, inr, ◌+◌, ◌≤◌, ℕ, zero, suc, List, [], ◌∷◌, Bool, true, false, ap, sym, subst, refl, arith}
 use Rattle.std.specs.Prelude.{Option, Some, None, if◌then◌else◌}
-use Rattle.vx_history.proofs.Places.{count_most}
+use Rattle.vx_history.proofs.Places.{count_most, in_place_same}
 use Rattle.vx_history.proofs.Updates.{all_updated, eqb_equal}
 use Rattle.vx_history.specs.Events.{is_in_place, link_in_place, linked_sites, lost_touch, put_before, restarted_link}
 use Rattle.vx_history.specs.KeptLinks.{kept_link, kept_links, kept_mode, kept_start}
@@ -17,12 +17,6 @@ use Rattle.vx_events.specs.LinksFit.{RowFits}
 use Rattle.vx_effects.proofs.Links.{by_bool, mode_same}
 
 -- ---- which links there are goes by their places alone
-
-in_place_same : (row new : ℕ → Link) → ((k : ℕ) → (new k).made ≡ (row k).made) → (place sites : ℕ) → link_in_place new place sites ≡ link_in_place row place sites
-in_place_same row new same place zero = refl
-in_place_same row new same place (suc k) =
-    ap (λ (m : Option ℕ). if is_in_place m place then Some k else link_in_place new place k) (same k)
-    ∙ ap (λ (o : Option ℕ). if is_in_place (row k).made place then Some k else o) (in_place_same row new same place k)
 
 pub sites_same : (row new : ℕ → Link) → ((k : ℕ) → (new k).made ≡ (row k).made) → (sites place k : ℕ) → linked_sites new sites place k ≡ linked_sites row sites place k
 sites_same row new same sites place zero = refl

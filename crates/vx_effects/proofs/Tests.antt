@@ -1,7 +1,9 @@
 -- What is said of an event behind its tests, whatever they say.
 use Rattle.std.proofs.Common.{◌≡◌, ℕ, ◌<◌, Bool, true, false, refl, arith, length}
+use Rattle.std.proofs.lemmas.Bool.{not-false}
 use Rattle.std.specs.Prelude.{not, ◌&&◌, ◌||◌, leb, Option, Some, None}
 use Rattle.std.proofs.lemmas.Bool.Decides.{nat_tests}
+use Rattle.vx_history.proofs.States.{up_is}
 use Rattle.vx_history.proofs.Updates.{by_test, and_left, and_right}
 use Rattle.vx_history.specs.Refusals.{Outcome, refused, unless, unless_halted, is_primary, at_site, at_work, both_at_work, on_link_if, when_live, on_volume}
 use Rattle.vx_history.specs.Sends.{is_linked}
@@ -13,28 +15,7 @@ use Rattle.vx_model.specs.declared.no.No.{No}
 use Rattle.vx_model.specs.declared.no.No.TheVariants.{Unknown, Role as WrongRole, Down as NotUp, LinkDown, Paused, Size, Range}
 use Rattle.vx_model.specs.declared.no.SiteName.TheVariants.{Number as SiteNumber}
 use Rattle.vx_model.specs.declared.site.Role.{Role}
-use Rattle.vx_model.specs.declared.site.SiteState.{SiteState}
-use Rattle.vx_model.specs.declared.site.SiteState.TheVariants.{Bare, Up, Deported, Down}
-
-pub up_is : (s : SiteState) → is_up s ≡ true → s ≡ Up
-up_is Bare e = absurd (cc)
-up_is Up e = refl
-up_is Deported e = absurd (cc)
-up_is Down e = absurd (cc)
-
-pub bare_is : (s : SiteState) → is_bare s ≡ true → s ≡ Bare
-bare_is Bare e = refl
-bare_is Up e = absurd (cc)
-bare_is Deported e = absurd (cc)
-bare_is Down e = absurd (cc)
-
-pub not_true : (b : Bool) → not b ≡ true → b ≡ false
-not_true true e = absurd (cc)
-not_true false e = refl
-
-pub not_false : (b : Bool) → not b ≡ false → b ≡ true
-not_false true e = refl
-not_false false e = absurd (cc)
+use Rattle.vx_model.specs.declared.site.SiteState.TheVariants.{Up}
 
 pub below_is : (a b : ℕ) → leb a b ≡ false → b < a
 below_is a b e = grind (arith, nat_tests)
@@ -54,7 +35,7 @@ module _ (Q : Outcome → Type 0) (w : World) (none : (why : No) → Q (refused 
   pub work_ends : (p : ℕ) (o : Outcome) → ((w.nodes p).state ≡ Up → (w.nodes p).halted ≡ None → Q o) → Q (at_work w p o)
   work_ends p o k =
       unless_ends (not (is_up (w.nodes p).state)) NotUp (unless_halted (w.nodes p).halted w o)
-      (λ u. halted_ends (w.nodes p).halted o (k (up_is (w.nodes p).state (not_false (is_up (w.nodes p).state) u))))
+      (λ u. halted_ends (w.nodes p).halted o (k (up_is (w.nodes p).state (not-false (is_up (w.nodes p).state) u))))
 
   pub both_ends : (p q : ℕ) (o : Outcome) → ((w.nodes p).state ≡ Up → (w.nodes q).state ≡ Up → (w.nodes p).halted ≡ None → (w.nodes q).halted ≡ None → Q o)
       → Q (both_at_work w p q o)
@@ -62,7 +43,7 @@ module _ (Q : Outcome → Type 0) (w : World) (none : (why : No) → Q (refused 
       unless_ends (not (is_up (w.nodes p).state && is_up (w.nodes q).state)) NotUp
       (unless_halted (w.nodes p).halted w (unless_halted (w.nodes q).halted w o))
       (λ u.
-      let both : (is_up (w.nodes p).state && is_up (w.nodes q).state) ≡ true = not_false (is_up (w.nodes p).state && is_up (w.nodes q).state) u in
+      let both : (is_up (w.nodes p).state && is_up (w.nodes q).state) ≡ true = not-false (is_up (w.nodes p).state && is_up (w.nodes q).state) u in
       halted_ends (w.nodes p).halted (unless_halted (w.nodes q).halted w o)
       (λ runs. halted_ends (w.nodes q).halted o
       (λ runs_too. k (up_is (w.nodes p).state (and_left (is_up (w.nodes p).state) (is_up (w.nodes q).state) both))
@@ -76,7 +57,7 @@ module _ (Q : Outcome → Type 0) (w : World) (none : (why : No) → Q (refused 
       (λ _. site_ends q (at_work w p led)
       (λ _. work_ends p led
       (λ up _. unless_ends (not (test (w.nodes p).role)) WrongRole linked
-      (λ _. unless_ends (not (is_linked (w.links p q))) (Unknown (ByNumber q)) o (λ m. k up (not_false (is_linked (w.links p q)) m))))))
+      (λ _. unless_ends (not (is_linked (w.links p q))) (Unknown (ByNumber q)) o (λ m. k up (not-false (is_linked (w.links p q)) m))))))
 
   pub live_ends : (q : ℕ) (l : Link) (o : Outcome) → Q o → Q (when_live w q l o)
   live_ends q l o k =

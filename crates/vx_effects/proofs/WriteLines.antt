@@ -8,6 +8,7 @@ use Rattle.vx_history.specs.Events.{kept_of, lost_touch}
 use Rattle.vx_history.specs.Steps.{burned, crashed, half_begun, logged, spent, worked_on, write_calls}
 use Rattle.vx_history.specs.World.{Fuse, FuseLit, FuseSet, Gathering, Link, NoFuse, Node, Packet}
 use Rattle.vx_history.specs.declared.event.Event.TheVariants.{Crash, Write}
+use Rattle.vx_history.proofs.Fuses.{burned_twice}
 use Rattle.vx_events.specs.Doubts.{run_as}
 use Rattle.vx_events.specs.Effects.{EffectAt}
 use Rattle.vx_events.specs.LinksFit.{RowFits}
@@ -20,11 +21,6 @@ burned_spent : (k : ℕ) (f : Fuse) → burned (spent k f) ≡ spent k f
 burned_spent k NoFuse = refl
 burned_spent k (FuseSet calls) = refl
 burned_spent k (FuseLit most) = refl
-
-burned_twice : (f : Fuse) → burned (burned f) ≡ burned f
-burned_twice NoFuse = refl
-burned_twice (FuseSet calls) = refl
-burned_twice (FuseLit most) = refl
 
 -- the fuse of a site may have let calls pass
 pub worked_effect : (s : ℕ) (d e : Doubted) (n : Node) {row : ℕ → Link} {many : ℕ} {doubt : Option After} {packets : List Packet} {gathered : Option Gathering}

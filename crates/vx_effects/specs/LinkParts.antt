@@ -1,8 +1,7 @@
 -- What the tests of a line see of the sites of a link that is made, and what the header of a log keeps of it.
 use Rattle.std.specs.Prelude.{ℕ, ◌++◌, ◌∷◌, List, [], map, eqb, Option, Some, None, if◌then◌else◌}
 use Rattle.vx_history.specs.Doubts.{Doubted}
-use Rattle.vx_history.specs.Steps.{burned, worked_on}
-use Rattle.vx_history.specs.World.{Node}
+use Rattle.vx_history.specs.Steps.{worked_on}
 use Rattle.vx_model.specs.declared.history.Line.{Line}
 use Rattle.vx_model.specs.declared.site.Mark.TheVariants.{Inconsistent}
 use Rattle.vx_model.specs.declared.site.Role.TheVariants.{Secondary}
@@ -27,10 +26,6 @@ further_fact l f = record f { links = f.links ++ l ∷ [] }
 -- the links that a header keeps, with this one in place of the one to its site
 abbrev pub kept_over : KeptLink → List KeptLink → List KeptLink
 kept_over x links = map (λ l. if eqb l.site x.site then x else l) links
-
--- a site whose disks may have been written
-abbrev pub burnt : Node → Node
-burnt n = record n { fuse = burned n.fuse }
 
 -- the world with what a line notes of two sites whose disks it may have written
 abbrev pub noted_both : Doubted → (a b : ℕ) → Doubted

@@ -11,7 +11,7 @@ ghost use Rattle.vx_history.specs.Listed.{HasPlaces, links_in};
 ghost use Rattle.vx_history.specs.Refusals.{count_links_of};
 ghost use Rattle.vx_history.specs.Sends.{is_linked};
 ghost use Rattle.vx_history.specs.Step.{run, step};
-ghost use Rattle.vx_history.specs.Steps.{worked_on};
+ghost use Rattle.vx_history.specs.Steps.{worked, worked_on};
 ghost use Rattle.vx_history.specs.World.{Gathering, Link, Node, Packet, World, updated};
 ghost use Rattle.vx_history.specs.declared.event.Event.TheVariants.{Link as LinkAt};
 ghost use Rattle.vx_history.specs.declared.event.LinkPart.TheVariants.{Joins, Made, Marked, Opened};
@@ -21,7 +21,7 @@ ghost use Rattle.vx_events.specs.LinkedFacts.{link_fact};
 ghost use Rattle.vx_events.specs.StepsOver.{facts_over};
 ghost use Rattle.vx_events.specs.LinksFit.{LinksFit};
 ghost use Rattle.vx_effects.specs.Facts.{fact_of, marked_fact};
-ghost use Rattle.vx_effects.specs.LinkParts.{burnt, further_fact, joined_fact, kept_over, noted_both};
+ghost use Rattle.vx_effects.specs.LinkParts.{further_fact, joined_fact, kept_over, noted_both};
 
 /// Each part of a line that links s to p, if it is done, leaves all sites but one as they are. That one has one header more: s as it comes to
 /// the line of p, where nothing is in assembly any more, and as it is marked; p as it has the link, and as that goes by the log.
@@ -71,8 +71,8 @@ pub fn headers_keep_a_link()
 pub fn notes_burn_fuses()
     ensures shows { (w : World) (s : ℕ) → facts_over (worked_on w s) ≡ facts_over w }
     ensures fits { (d : Doubted) (a b : ℕ) → LinksFit d → LinksFit (noted_both d a b) }
-    ensures here { (d : Doubted) (a b s : ℕ) → (s ≡ a) ⊎ (s ≡ b) → (noted_both d a b).world.nodes s ≡ burnt (d.world.nodes s) }
+    ensures here { (d : Doubted) (a b s : ℕ) → (s ≡ a) ⊎ (s ≡ b) → (noted_both d a b).world.nodes s ≡ worked (d.world.nodes s) }
     ensures there { (d : Doubted) (a b s : ℕ) → (s ≡ a → ⊥) → (s ≡ b → ⊥) → (noted_both d a b).world.nodes s ≡ d.world.nodes s }
     ensures effect { (d e : Doubted) (a b s : ℕ) (n : Node) (row : ℕ → Link) (many : ℕ) (doubt : Option After) (packets : List Packet) (gathered : Option Gathering) → (s ≡ a) ⊎ (s ≡ b)
-        → EffectAt s d e n row many doubt packets gathered → EffectAt s (noted_both d a b) (noted_both e a b) (burnt n) row many doubt packets gathered }
+        → EffectAt s d e n row many doubt packets gathered → EffectAt s (noted_both d a b) (noted_both e a b) (worked n) row many doubt packets gathered }
 {}

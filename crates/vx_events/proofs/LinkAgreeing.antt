@@ -1,5 +1,6 @@
 -- Where no test of a line on a link refuses, its event does not either.
-use Rattle.std.proofs.Common.{◌≡◌, ◌∙◌, ◌+◌, ◌<◌, ℕ, zero, suc, List, [], ◌∷◌, length, Bool, true, false, ap, subst, refl, arith}
+use Rattle.std.proofs.Common.{◌≡◌, ◌∙◌, ◌+◌, ◌<◌, ℕ, zero, suc, List, [], length, Bool, true, false, ap, subst, refl, arith}
+use Rattle.std.proofs.lemmas.Bool.{or_parts}
 use Rattle.std.specs.Prelude.{Option, Some, None, slice_get, not, ◌&&◌, ◌||◌, ◌==◌, nat_lt, nat_le, if◌then◌else◌}
 use Rattle.std.proofs.lemmas.Bool.Decides.{nat_tests}
 use Rattle.vx_model.specs.Sites.{is_origin}
@@ -10,6 +11,7 @@ use Rattle.vx_model.specs.declared.no.Named.TheVariants.{Number as ByNumber}
 use Rattle.vx_model.specs.declared.no.No.TheVariants.{Unknown, Role as WrongRole, LinkDown, Paused}
 use Rattle.vx_model.specs.declared.no.SiteName.TheVariants.{Number as SiteNumber}
 use Rattle.vx_model.specs.declared.site.Role.{Role}
+use Rattle.vx_model.proofs.Lists.{get_there}
 use Rattle.vx_history.specs.Events.{packet_at}
 use Rattle.vx_history.specs.Refusals.{Outcome, unless, at_site, at_work, on_link_if, keeps_links, when_live}
 use Rattle.vx_history.specs.Sends.{is_linked}
@@ -30,7 +32,7 @@ use Rattle.vx_events.specs.LinkedFacts.{link_fact}
 use Rattle.vx_events.specs.StepsOver.{fact_over, facts_over, refused_over}
 use Rattle.vx_events.proofs.LinkTesting.{OnLink, on_link_by}
 use Rattle.vx_events.proofs.Passing.{off, is_site, is_at_work, above}
-use Rattle.vx_events.proofs.Refused.{passes, when_none, neither, lt_false}
+use Rattle.vx_events.proofs.Refused.{passes, when_none, lt_false}
 
 -- the tests of an event on such a link do not hold
 pub passes_link : (w : World) (p s : List ℕ) (test : Role → Bool) (o : Outcome) → OnLink w p s test → on_link_if test w (site_number w p) (site_number w s) o ≡ o
@@ -118,18 +120,13 @@ module _ (w : World) (files : Bool) (p s : List ℕ) where
 
 -- ---- packets
 
-get_below : {A : Type 0} (xs : List A) (k : ℕ) → k < length xs → (x : A) × (slice_get xs k ≡ Some x)
-get_below [] k h = absurd (omega (arith, h))
-get_below (x ∷ xs) zero h = (x, refl)
-get_below (x ∷ xs) (suc k) h = get_below xs k (omega (arith, h))
-
 le_fails : (m n : ℕ) → nat_le m n ≡ false → n < m
 le_fails m n e = grind (arith, nat_tests)
 
 pub packet_agrees : (w : World) (files : Bool) (number : ℕ) → refused_over w files (Deliver number) ≡ None → (q : Packet) × (packet_at w.packets number ≡ Some q)
 packet_agrees w files zero free = absurd (cc)
 packet_agrees w files (suc k) free =
-    let tests = neither (suc k == 0) (nat_lt (length w.packets) (suc k) || nat_le (suc k + MOST_PACKETS) (length w.packets)) (when_none (suc k == 0 || (nat_lt (length w.packets) (suc k) || nat_le (suc k + MOST_PACKETS) (length w.packets))) _ free) in
-    let bounds = neither (nat_lt (length w.packets) (suc k)) (nat_le (suc k + MOST_PACKETS) (length w.packets)) tests.1 in
-    let there = get_below w.packets k (omega (arith, lt_false (length w.packets) (suc k) bounds.0)) in
+    let tests = or_parts (suc k == 0) (nat_lt (length w.packets) (suc k) || nat_le (suc k + MOST_PACKETS) (length w.packets)) (when_none (suc k == 0 || (nat_lt (length w.packets) (suc k) || nat_le (suc k + MOST_PACKETS) (length w.packets))) _ free) in
+    let bounds = or_parts (nat_lt (length w.packets) (suc k)) (nat_le (suc k + MOST_PACKETS) (length w.packets)) tests.1 in
+    let there = get_there w.packets k (omega (arith, lt_false (length w.packets) (suc k) bounds.0)) in
     (there.0, ap (λ (c : Bool). if c then None else slice_get w.packets k) (above (suc k + MOST_PACKETS) (length w.packets) (le_fails (suc k + MOST_PACKETS) (length w.packets) bounds.1)) ∙ there.1)

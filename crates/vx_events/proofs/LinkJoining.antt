@@ -2,6 +2,7 @@
 -- confirmed or pending.
 use Rattle.std.proofs.Common.{◌≡◌, ◌∙◌, inl, inr, ◌<◌, ◌≤◌, ℕ, suc, List, [], ◌∷◌, length, Bool, true, false, ap, sym, subst, refl, arith}
 use Rattle.std.specs.Prelude.{Option, Some, None, not, ◌&&◌, ◌||◌, ◌==◌, cond, eqb, leb, nat_le, is_some, slice_get, map, if◌then◌else◌}
+use Rattle.std.proofs.lemmas.Bool.{or_parts}
 use Rattle.std.specs.List.{find}
 use Rattle.std.proofs.lemmas.Bool.Decides.{nat_tests}
 use Rattle.vx_model.specs.Sites.{is_up, is_origin, same_line, first_line}
@@ -11,8 +12,7 @@ use Rattle.vx_model.specs.declared.link.Prot.{Prot}
 use Rattle.vx_model.specs.declared.no.Counted.TheVariants.{Links}
 use Rattle.vx_model.specs.declared.no.No.{No}
 use Rattle.vx_model.specs.declared.no.No.TheVariants.{Exists, Size, Role as WrongRole, Down as NotUp, Limit}
-use Rattle.vx_model.specs.declared.site.Role.{Role}
-use Rattle.vx_model.specs.declared.site.Role.TheVariants.{Primary, Secondary, Handing, Bunker}
+use Rattle.vx_model.specs.declared.site.Role.TheVariants.{Primary}
 use Rattle.vx_model.specs.declared.site.SiteState.{SiteState}
 use Rattle.vx_model.specs.declared.site.SiteState.TheVariants.{Up}
 use Rattle.vx_history.specs.Events.{linked_sites, joined}
@@ -41,21 +41,17 @@ use Rattle.vx_events.specs.GroupLines.{is_over_group}
 use Rattle.vx_events.specs.LinkedFacts.{link_fact, link_facts, links_by, links_of_site, linked_fact}
 use Rattle.vx_events.specs.StepsOver.{fact_over, facts_over, refused_over}
 use Rattle.vx_history.specs.Listed.{IsAmong, AreListed}
-use Rattle.vx_events.proofs.LinkTesting.{Seat, seat_at, shown, up_state}
+use Rattle.vx_history.proofs.GroupLemmas.{primary_is}
+use Rattle.vx_history.proofs.States.{up_is}
+use Rattle.vx_events.proofs.LinkTesting.{Seat, seat_at, shown}
 use Rattle.vx_events.proofs.OverSeats.{apart_shown, fact_apart}
 use Rattle.vx_events.proofs.Passing.{off, is_site, above}
-use Rattle.vx_events.proofs.Refused.{passes, when_none, neither, not_false, running_by}
+use Rattle.vx_events.proofs.Refused.{passes, when_none, not_false, running_by}
 use Rattle.vx_events.proofs.Testing.{none_under}
 
 pub all_of : (a b : Bool) → (a && b) ≡ true → (a ≡ true) × (b ≡ true)
 all_of true b e = (refl, e)
 all_of false b e = absurd (cc)
-
-primary_of : (role : Role) → is_primary role ≡ true → role ≡ Primary
-primary_of Primary e = refl
-primary_of Secondary e = absurd (cc)
-primary_of (Handing to) e = absurd (cc)
-primary_of Bunker e = absurd (cc)
 
 none_of : (k : ℕ) → (k == 0) ≡ true → k ≡ 0
 none_of k e = grind (arith, nat_tests)
@@ -75,7 +71,7 @@ unused_of : (w : World) → AreDurable w → (i : ℕ) → i < w.sites → IsHer
 unused_of w whole i below here e =
     let n : Node = w.nodes i in
     let parts = all_of (is_primary n.role) (head_of n == 0) e in
-    let role : n.role ≡ Primary = primary_of n.role parts.0 in
+    let role : n.role ≡ Primary = primary_is n.role parts.0 in
     let origin : is_origin n.role ≡ true = ap is_origin role in
     let head : head_of n ≡ n.safe = ap (λ (b : Bool). if b then n.safe else length n.log) origin in
     let safe : n.safe ≡ 0 = sym head ∙ none_of (head_of n) parts.1 in
@@ -148,7 +144,7 @@ below_limit k e = grind (arith, nat_tests)
 
 pub here_by : (w : World) (i : ℕ) → not (is_up (w.nodes i).state) ≡ false → halted_one (Some (linked_fact w i)) ≡ None → IsHere w i
 here_by w i up running =
-    let here : (w.nodes i).state ≡ Up = up_state (w.nodes i).state (not_false (is_up (w.nodes i).state) up) in
+    let here : (w.nodes i).state ≡ Up = up_is (w.nodes i).state (not_false (is_up (w.nodes i).state) up) in
     record {
       up = here;
       running = running_by (linked_fact w i) (group_fact (w.nodes i)) running (ap (λ (t : SiteState). if is_up t then group_by (w.nodes i).state (w.nodes i) else None) here) (ap (λ (t : SiteState). group_by t (w.nodes i)) here);
@@ -281,7 +277,7 @@ join_agrees w files p s sync prot whole listed free =
     let apart = join_apart w files p s sync prot free in
     let first : site_named (facts_over w) p ≡ Some (linked_fact w a) = one.found ∙ ap (λ (f : SiteFacts). Some f) (fact_apart w a apart.0) in
     let second : site_named (facts_over w) s ≡ Some (linked_fact w b) = two.found ∙ ap (λ (f : SiteFacts). Some f) (fact_apart w b apart.1) in
-    let ups = neither (not (is_up (w.nodes a).state)) (not (is_up (w.nodes b).state))
+    let ups = or_parts (not (is_up (w.nodes a).state)) (not (is_up (w.nodes b).state))
     (when_none (not (is_up (w.nodes a).state) || not (is_up (w.nodes b).state)) _
     (subst (λ (o : Option SiteFacts). when (not (is_up (w.nodes a).state) || site_off o) NotUp ≡ None) second (subst (λ (o : Option SiteFacts). when (site_off o || site_off (site_named (facts_over w) s)) NotUp ≡ None) first t.up))) in
     let halts = first_halt (halted_one (Some (linked_fact w a))) (halted_one (Some (linked_fact w b)))

@@ -1,5 +1,6 @@
 -- Where no test of a line that settles a link refuses, the link may be settled.
 use Rattle.std.proofs.Common.{◌≡◌, ◌∙◌, ℕ, List, Bool, true, false, ap, subst, refl}
+use Rattle.std.proofs.lemmas.Bool.{or_parts}
 use Rattle.std.specs.Prelude.{Option, Some, None, not, ◌&&◌, ◌||◌}
 use Rattle.vx_model.specs.declared.link.Mode.{Mode}
 use Rattle.vx_model.specs.declared.link.Mode.TheVariants.{Log, Dcm, Replay, Fork, Stale}
@@ -30,7 +31,7 @@ use Rattle.vx_events.specs.Settles.{CanSettle}
 use Rattle.vx_events.proofs.LinkJoining.{all_of, first_halt, here_by}
 use Rattle.vx_events.proofs.LinkTesting.{on_link_by, seat_at, shown}
 use Rattle.vx_events.proofs.OverSeats.{apart_shown, fact_apart}
-use Rattle.vx_events.proofs.Refused.{neither, not_false, passes, when_none}
+use Rattle.vx_events.proofs.Refused.{not_false, passes, when_none}
 
 -- a plain link that goes by something goes by the log
 by_log : (m : Mode) → is_plain_mode m ≡ true → is_stale_mode m ≡ false → m ≡ Log
@@ -74,11 +75,11 @@ settle_agrees d files p s fits free =
     let to : Option LinkFacts = link_towards here (place_named (facts_over w) (Some s)) in
     let first = seat_at w p t.known in
     let two = seat_at w s t.other_known in
-    let ups = neither (site_off here) (site_off there) (when_none (site_off here || site_off there) NotUp t.up) in
+    let ups = or_parts (site_off here) (site_off there) (when_none (site_off here || site_off there) NotUp t.up) in
     let halts = first_halt (halted_one here) (halted_one there) t.running in
     let astray : Bool = leads_astray to (rvg_of here) (rvg_of there) in
-    let ends = neither (not (sends (rvg_of here)) || goes_by_nothing to) astray (when_none ((not (sends (rvg_of here)) || goes_by_nothing to) || astray) WrongRole t.link_role) in
-    let roles = neither (not (sends (rvg_of here))) (goes_by_nothing to) ends.0 in
+    let ends = or_parts (not (sends (rvg_of here)) || goes_by_nothing to) astray (when_none ((not (sends (rvg_of here)) || goes_by_nothing to) || astray) WrongRole t.link_role) in
+    let roles = or_parts (not (sends (rvg_of here))) (goes_by_nothing to) ends.0 in
     let m = on_link_by w p s sends keeps_links (λ n. refl) refl t.known t.other_known (ap (λ (c : Bool). when c NotUp) ups.0) halts.0 (ap (λ (c : Bool). when c WrongRole) roles.0) t.link in
     let l : LinkOf = w.links a b in
     let live = subst (λ (o : Option SiteFacts). cut_off to o ≡ None) m.second t.link_up in

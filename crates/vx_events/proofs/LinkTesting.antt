@@ -12,6 +12,7 @@ use Rattle.vx_model.specs.declared.site.SiteState.TheVariants.{Bare, Up, Deporte
 use Rattle.vx_history.specs.Events.{is_in_place, link_in_place, put_before, linked_sites}
 use Rattle.vx_history.specs.Sends.{is_made, is_linked}
 use Rattle.vx_history.specs.World.{Node, Link, World}
+use Rattle.vx_history.proofs.States.{up_is}
 use Rattle.vx_order.specs.declared.facts.SiteFacts.{SiteFacts}
 use Rattle.vx_order.specs.declared.facts.LinkFacts.{LinkFacts}
 use Rattle.vx_order.specs.declared.facts.RvgFacts.{RvgFacts}
@@ -99,15 +100,9 @@ found_link n row (s ∷ ss) t l all e = by (s == t) (same_number s t) (λ is. fo
 
 -- ---- a line on a link
 
-linked_none : (o : Option LinkFacts) (site : SiteFacts) → not_linked o (Some site) ≡ None → (l : LinkFacts) × (o ≡ Some l)
+pub linked_none : (o : Option LinkFacts) (site : SiteFacts) → not_linked o (Some site) ≡ None → (l : LinkFacts) × (o ≡ Some l)
 linked_none None site e = absurd (cc)
 linked_none (Some l) site e = (l, refl)
-
-pub up_state : (state : SiteState) → is_up state ≡ true → state ≡ Up
-up_state Up e = refl
-up_state Bare e = absurd (cc)
-up_state Deported e = absurd (cc)
-up_state Down e = absurd (cc)
 
 -- two sites, of which the first is over no group, is up, is not halted, and keeps a link to the second
 pub record OnLink (w : World) (p s : List ℕ) (test : Role → Bool) : Type 0 where
@@ -143,7 +138,7 @@ on_link_by w p s tests test same none known other up running role link =
     let apart : is_over_group n ≡ false = apart_shown w a tests none shows in
     let here : site_named (facts_over w) p ≡ Some (linked_fact w a) = first.found ∙ ap (λ (f : SiteFacts). Some f) (fact_apart w a apart) in
     let up_here : n.state ≡ Up =
-    up_state n.state (not_false (is_up n.state) (when_none (not (is_up n.state)) NotUp (subst (λ (o : Option SiteFacts). when (site_off o) NotUp ≡ None) here up))) in
+    up_is n.state (not_false (is_up n.state) (when_none (not (is_up n.state)) NotUp (subst (λ (o : Option SiteFacts). when (site_off o) NotUp ≡ None) here up))) in
     let group : rvg_of (Some (linked_fact w a)) ≡ Some (group_fact n) = shown w a up_here in
     let role_here : when (not (tests (Some (group_fact n)))) WrongRole ≡ None =
     subst (λ (o : Option RvgFacts). when (not (tests o)) WrongRole ≡ None) group (subst (λ (o : Option SiteFacts). when (not (tests (rvg_of o))) WrongRole ≡ None) here role) in
@@ -168,7 +163,7 @@ on_link_by w p s tests test same none known other up running role link =
 
 -- ---- worlds without links
 
-nothing_shown : (state : SiteState) → links_by state [] ≡ []
+pub nothing_shown : (state : SiteState) → links_by state [] ≡ []
 nothing_shown Bare = refl
 nothing_shown Up = refl
 nothing_shown Deported = refl

@@ -1,5 +1,6 @@
 -- A line that is done in part.
 use Rattle.std.proofs.Common.{◌≡◌, ◌∙◌, ◌⊎◌, inl, inr, ℕ, zero, suc, Bool, true, false, List, [], ◌∷◌, ◌++◌, ap, refl, sym, subst}
+use Rattle.std.proofs.lemmas.Bool.{or_parts}
 use Rattle.std.specs.Prelude.{◌||◌, take, drop}
 use Rattle.vx_history.specs.Doubts.{Doubted}
 use Rattle.vx_history.specs.declared.event.Event.{Event}
@@ -44,19 +45,14 @@ part_stops d line c k parts =
       leads = is_left line d (take k es);
     }
 
--- neither of two tests holds
-neither : (a b : Bool) → (a || b) ≡ false → (a ≡ false) × (b ≡ false)
-neither true b e = absurd (cc)
-neither false b e = (refl, e)
-
 never_both : true ≡ false → ⊥
 never_both e = absurd (cc)
 
 -- so it is over disks that tell no contents
 pub whole_short : (told : Type 0) (d : Doubted) (line : ScriptLine) (new : Doubted) → may_stop d.world line ≡ false → StopsShort told d line new → new ≡ d
 whole_short told d line new whole short =
-    let first = neither (goes_in_parts line) (raises_first d.world line || reads_first d.world line) whole in
-    let later = neither (raises_first d.world line) (reads_first d.world line) first.1 in
+    let first = or_parts (goes_in_parts line) (raises_first d.world line || reads_first d.world line) whole in
+    let later = or_parts (raises_first d.world line) (reads_first d.world line) first.1 in
     by first.0 later.0 later.1 short
   where
     by : goes_in_parts line ≡ false → raises_first d.world line ≡ false → reads_first d.world line ≡ false → StopsShort told d line new → new ≡ d

@@ -1,5 +1,6 @@
 -- What is known of a line that is not refused before it works.
 use Rattle.std.proofs.Common.{◌≡◌, ◌∙◌, ◌+◌, ◌<◌, ◌≤◌, ℕ, suc, List, [], ◌∷◌, length, ap, subst, refl, arith, Bool, true, false}
+use Rattle.std.proofs.lemmas.Bool.{or_parts}
 use Rattle.std.specs.Prelude.{◌-◌, ◌*◌, Option, Some, None, slice_get, cond, not, ◌&&◌, ◌||◌, ◌==◌, nat_lt, nat_le, if◌then◌else◌}
 use Rattle.std.specs.List.{find, position, position_from}
 use Rattle.std.specs.Str.{bytes_eq}
@@ -8,7 +9,7 @@ use Rattle.std.proofs.lemmas.Iterator.Adapters.{position_from-zero}
 use Rattle.vx_model.specs.declared.no.No.{No}
 use Rattle.vx_model.specs.declared.no.No.TheVariants.{Down as NotUp}
 use Rattle.vx_model.specs.declared.site.SiteState.{SiteState}
-use Rattle.vx_model.specs.declared.site.SiteState.TheVariants.{Bare, Up, Deported, Down}
+use Rattle.vx_model.specs.declared.site.SiteState.TheVariants.{Bare, Up}
 use Rattle.vx_script.specs.declared.line.ScriptLine.{ScriptLine}
 use Rattle.vx_script.specs.declared.line.ScriptLine.TheVariants.{Site, Raw, Disk, Crash, Fuse, Recover, Apply, Status}
 use Rattle.vx_order.specs.declared.facts.SiteFacts.{SiteFacts}
@@ -22,6 +23,7 @@ use Rattle.vx_model.specs.Sites.{is_up, is_bare}
 use Rattle.vx_order.specs.Shapes.{line_role, line_unknown, taken, over_limit, wrong_size, site_limit, most_disk_blocks, raw_role, raw_size, disk_unknown}
 use Rattle.vx_model.specs.Sizes.{is_raw_shape, map_blocks}
 use Rattle.vx_model.specs.declared.limits.TheConstants.{LINK_PLACES}
+use Rattle.vx_history.proofs.States.{bare_is, up_is}
 use Rattle.vx_order.specs.Calls.{span_role, span_unknown, span_size, span_range}
 use Rattle.vx_order.specs.Asks.{ask_of}
 use Rattle.vx_order.specs.Links.{place_named}
@@ -141,10 +143,6 @@ pub not_false : (b : Bool) → not b ≡ false → b ≡ true
 not_false true e = refl
 not_false false e = absurd (cc)
 
-pub neither : (a b : Bool) → (a || b) ≡ false → (a ≡ false) × (b ≡ false)
-neither true b e = absurd (cc)
-neither false b e = (refl, e)
-
 both : (a b : Bool) → (a && b) ≡ true → (a ≡ true) × (b ≡ true)
 both true b e = (refl, e)
 both false b e = absurd (cc)
@@ -217,17 +215,11 @@ site_may sites files name disks blocks e =
     let p = passes sites files (Site name disks blocks) e in
     let limits = limit_none (length sites) files disks blocks p.limit in
     let sizes : (disks == 0 || nat_lt blocks 8) ≡ false = when_none (disks == 0 || nat_lt blocks 8) _ p.size in
-    let parts = neither (disks == 0) (nat_lt blocks 8) sizes in
+    let parts = or_parts (disks == 0) (nat_lt blocks 8) sizes in
     record { few_sites = limits.0; few_disks = limits.1; few_blocks = limits.2; some_disks = some_of disks parts.0; some_blocks = lt_false blocks 8 parts.1 }
 
-bare_by : (state : SiteState) → is_bare state ≡ true → state ≡ Bare
-bare_by Bare e = refl
-bare_by Up e = absurd (cc)
-bare_by Deported e = absurd (cc)
-bare_by Down e = absurd (cc)
-
 raw_role_none : (site : SiteFacts) → raw_role (Some site) ≡ None → site.state ≡ Bare
-raw_role_none site e = bare_by site.state (not_false (is_bare site.state) (when_none (not (is_bare site.state)) _ e))
+raw_role_none site e = bare_is site.state (not_false (is_bare site.state) (when_none (not (is_bare site.state)) _ e))
 
 -- what the shape of a raw set asks
 pub raw_set : (disks blocks : ℕ) → is_raw_shape disks blocks ≡ true → (3 ≤ disks) × (8 ≤ blocks) × (LINK_PLACES * (disks - 2) * map_blocks blocks ≤ blocks)
@@ -274,15 +266,8 @@ pub status_may : (sites : List SiteFacts) (files : Bool) (name : List ℕ) → l
 unfolding first_name
 status_may sites files name e = named sites name (passes sites files (Status name) e).known
 
--- a site that has to be up is
-up_by : (state : SiteState) → is_up state ≡ true → state ≡ Up
-up_by Up e = refl
-up_by Bare e = absurd (cc)
-up_by Deported e = absurd (cc)
-up_by Down e = absurd (cc)
-
 not_off : (site : SiteFacts) → when (site_off (Some site)) NotUp ≡ None → site.state ≡ Up
-not_off site e = up_by site.state (not_false (is_up site.state) (when_none (not (is_up site.state)) _ e))
+not_off site e = up_is site.state (not_false (is_up site.state) (when_none (not (is_up site.state)) _ e))
 
 pub crash_may : (sites : List SiteFacts) (files : Bool) (name : List ℕ) (pick : ℕ) → line_refusal sites files (Crash name pick) ≡ None → (site : Named sites name) × (site.facts.state ≡ Up)
 unfolding first_name need_of

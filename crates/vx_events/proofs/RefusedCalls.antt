@@ -1,5 +1,6 @@
 -- What is known of a line that reads or writes blocks, and that is not refused before it works.
 use Rattle.std.proofs.Common.{◌≡◌, ◌∙◌, ◌+◌, ◌≤◌, ℕ, List, ap, subst, refl, Bool, false}
+use Rattle.std.proofs.lemmas.Bool.{or_parts}
 use Rattle.std.specs.Prelude.{Option, Some, None, ◌&&◌, ◌||◌, ◌==◌, nat_lt, if◌then◌else◌}
 use Rattle.std.specs.List.{find}
 use Rattle.std.specs.Str.{bytes_eq}
@@ -20,7 +21,7 @@ use Rattle.vx_order.specs.Spans.{span_of}
 use Rattle.vx_order.specs.Sites.{site_named, volume_of, rvg_of, halted_one}
 use Rattle.vx_model.specs.Sites.{is_up}
 use Rattle.vx_order.specs.Calls.{span_unknown, span_size, span_range, call_unknown, call_size, call_range, outgrows, is_data, is_write}
-use Rattle.vx_events.proofs.Refused.{running_by, passes, when_none, lt_false, some_of, neither, FoundAt, found_at, Named, named}
+use Rattle.vx_events.proofs.Refused.{running_by, passes, when_none, lt_false, some_of, FoundAt, found_at, Named, named}
 
 -- what is known of a read or write of blocks
 pub record CallMay (sites : List SiteFacts) (name volume : List ℕ) (start count : ℕ) : Type 0 where
@@ -76,8 +77,8 @@ pub record Sized (rvg : Option RvgFacts) (volume : Option VolumeFacts) (span : S
 pub sized : (rvg : Option RvgFacts) (volume : Option VolumeFacts) (span : Span) → call_size rvg volume span ≡ None → Sized rvg volume span
 sized rvg volume span e =
     let all = when_none (span.count == 0 || nat_lt 16 span.count || (is_write span.way && outgrows rvg volume span.count)) _ e in
-    let parts = neither (span.count == 0 || nat_lt 16 span.count) (is_write span.way && outgrows rvg volume span.count) all in
-    let counts = neither (span.count == 0) (nat_lt 16 span.count) parts.0 in
+    let parts = or_parts (span.count == 0 || nat_lt 16 span.count) (is_write span.way && outgrows rvg volume span.count) all in
+    let counts = or_parts (span.count == 0) (nat_lt 16 span.count) parts.0 in
     record { some = some_of span.count counts.0; few = lt_false 16 span.count counts.1; fits = parts.1 }
 
 fits_by : (rvg : RvgFacts) (volume : VolumeFacts) (count : ℕ) → outgrows (Some rvg) (Some volume) count ≡ false → volume.kind ≡ Data → count + 1 ≤ rvg.ring

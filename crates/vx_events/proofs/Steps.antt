@@ -115,7 +115,7 @@ pub read_step : (w : World) (s volume start count : ℕ) → IsCall w s volume s
 read_step w s volume start count call = is_call w s volume start count false (says w (Got (joined_blocks (blocks_from (w.nodes s).base volume start count)))) call refl
 
 -- a site without links lets every write in
-not_made : (made : Option ℕ) (place : ℕ) → is_made made ≡ false → is_in_place made place ≡ false
+pub not_made : (made : Option ℕ) (place : ℕ) → is_made made ≡ false → is_in_place made place ≡ false
 not_made None place e = refl
 not_made (Some k) place e = absurd (cc)
 

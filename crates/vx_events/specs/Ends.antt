@@ -7,6 +7,7 @@ use Rattle.vx_model.specs.declared.no.Counted.TheVariants.{Number}
 use Rattle.vx_model.specs.declared.no.No.{No}
 use Rattle.vx_model.specs.declared.no.No.TheVariants.{Device, Limit, Down as IsOff}
 use Rattle.vx_model.specs.declared.site.SiteState.TheVariants.{Bare, Up, Down}
+use Rattle.vx_model.specs.Refusals.{IsNoDevice}
 use Rattle.vx_model.specs.Sites.{is_origin}
 use Rattle.vx_history.specs.Doubts.{Doubted, halved}
 use Rattle.vx_history.specs.Events.{recovery_greeting}
@@ -110,11 +111,6 @@ MayLack (WriteAt s volume start bytes fails) = Unit {0}
 MayLack (RecoverAt s fails) = Unit {0}
 MayLack (ApplyAt s count reached) = Unit {0}
 MayLack other = ⊥
-
--- a refusal that no failing disk gives
-abbrev pub IsNoDevice : No → Type 0
-IsNoDevice (Device disk) = ⊥
-IsNoDevice other = Unit {0}
 
 -- the world in which a site is recovered, and its node there: of a bare one a raw set
 pub data Recovering (d : Doubted) (s : ℕ) (c : Choice) (taken : Bool) (mid : Doubted) (n : Node) : Type 0 where

@@ -1,7 +1,8 @@
 -- The fuse of the disks of a site, as the lines of a script tell of it.
-use Rattle.std.specs.Prelude.{◌≡◌, ◌⊎◌, ℕ, ◌+◌, ◌*◌, ◌≤◌, true, List, [], ◌∷◌, None}
+use Rattle.std.specs.Prelude.{◌≡◌, ◌⊎◌, ℕ, ◌+◌, ◌*◌, ◌≤◌, true, None}
 use Rattle.vx_model.specs.declared.limits.TheConstants.{MOST_CALL_BLOCKS}
 use Rattle.vx_model.specs.Content.{Write, blocks_in}
+use Rattle.vx_history.specs.Events.{logged_blocks}
 use Rattle.vx_history.specs.Steps.{write_calls}
 use Rattle.vx_history.specs.World.{Fuse, Node, World, NoFuse, FuseSet, FuseLit}
 use Rattle.vx_script.specs.declared.line.ScriptLine.{ScriptLine}
@@ -11,15 +12,10 @@ use Rattle.vx_events.specs.Sayings.{is_written}
 use Rattle.vx_events.specs.declared.said.Said.{Said}
 use Rattle.vx_events.specs.declared.said.Said.TheVariants.{Done}
 
--- so many blocks of a log's ring are taken by these writes
-abbrev pub ring_taken : List Write → ℕ
-ring_taken [] = 0
-ring_taken (x ∷ xs) = (blocks_in x.bytes + 1) + ring_taken xs
-
 -- No write of the site can have made its log give up others, where all that it has fits: in the first session each of them stands in the
 -- log; and where there is still room for the largest write, there was before each write that was begun, whatever came of it.
 abbrev pub KeepsAllWrites : Node → Type 0
-KeepsAllWrites n = (n.session ≡ 1) ⊎ (ring_taken n.log + (MOST_CALL_BLOCKS + 1) ≤ n.ring)
+KeepsAllWrites n = (n.session ≡ 1) ⊎ (logged_blocks n.log + (MOST_CALL_BLOCKS + 1) ≤ n.ring)
 
 -- A write under a fuse that was just set, which is exactly four writes and flushes: the site's log holds all of its writes, and has room for
 -- this one too without going round.
@@ -27,7 +23,7 @@ pub record IsExact (n : Node) (x : Write) (calls : ℕ) : Type 0 where
   pub raw : n.group ≡ None
   pub set : n.fuse ≡ FuseSet calls
   pub keeps : KeepsAllWrites n
-  pub room : ring_taken n.log + (blocks_in x.bytes + 1) ≤ n.ring
+  pub room : logged_blocks n.log + (blocks_in x.bytes + 1) ≤ n.ring
 
 -- this fuse may let so many writes and flushes pass
 abbrev pub MayPass : ℕ → Fuse → Type 0

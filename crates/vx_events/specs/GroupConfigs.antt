@@ -2,8 +2,8 @@
 use Rattle.std.specs.Prelude.{◌≡◌, ◌≢◌, ◌⊎◌, ◌==◌, ℕ, Bool, true, false, List, [], map, Option, Some, None, is_some, slice_get, Contains}
 use Rattle.std.specs.List.{list_any}
 use Rattle.vx_model.specs.declared.site.PlexState.{PlexState}
-use Rattle.vx_model.specs.declared.site.PlexState.TheVariants.{Active, Clean, Stale}
-use Rattle.vx_config.specs.Changes.{stated, with_volumes}
+use Rattle.vx_model.specs.declared.site.PlexState.TheVariants.{Active, Stale}
+use Rattle.vx_config.specs.Changes.{Matched, live_again, stated, with_volumes}
 use Rattle.vx_config.specs.declared.config.Config.{Config}
 use Rattle.vx_config.specs.declared.entry.DiskEntry.{DiskEntry}
 use Rattle.vx_config.specs.declared.entry.PlexEntry.{PlexEntry}
@@ -14,13 +14,6 @@ use Rattle.vx_layout.specs.Space.{IsFound}
 use Rattle.vx_layout.specs.declared.shape.Found.{Found}
 use Rattle.vx_layout.specs.declared.shape.Shape.{Shape}
 use Rattle.vx_events.specs.Fails.{Fails}
-
--- what stands at the same place of two lists, if anything does, is in this relation
-abbrev pub Matched : {A : Type 0} → (A → A → Type 0) → Option A → Option A → Type 0
-Matched R None None = Unit {0}
-Matched R None (Some y) = ⊥
-Matched R (Some x) None = ⊥
-Matched R (Some x) (Some y) = R x y
 
 -- A plex is as it was. Where a call failed it may be STALE; and ACTIVE, where it was held back and is the last one of its volume that can be used.
 pub record PlexLoses (fails : Fails) (p q : PlexEntry) : Type 0 where
@@ -82,12 +75,6 @@ pub record VolumeStays (v u : VolumeEntry) : Type 0 where
   pub plexes : (k : ℕ) → Matched PlexStays (slice_get v.plexes k) (slice_get u.plexes k)
 
 -- ---- changes
-
--- the plexes that stopped cleanly take part again
-abbrev pub live_again : PlexState → PlexState
-live_again Active = Active
-live_again Clean = Active
-live_again Stale = Stale
 
 abbrev pub plex_again : PlexEntry → PlexEntry
 plex_again p = record p { state = live_again p.state }

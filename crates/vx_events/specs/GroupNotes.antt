@@ -4,13 +4,14 @@ use Rattle.vx_model.specs.Content.{Write, zero_block}
 use Rattle.vx_history.specs.Groups.{BlockMay, GroupNode, MissedNote, NoteSettles, NoteUnsettles, note_cut, note_doubt, note_write}
 use Rattle.vx_history.specs.Missing.{no_maps, with_maps}
 use Rattle.vx_history.specs.World.{Node, no_volumes}
+use Rattle.vx_config.specs.Changes.{Matched}
 use Rattle.vx_config.specs.Checks.{blocks_of}
 use Rattle.vx_config.specs.declared.config.Config.{Config}
 use Rattle.vx_config.specs.declared.entry.DiskEntry.{DiskEntry}
 use Rattle.vx_config.specs.declared.entry.VolumeEntry.{VolumeEntry}
 use Rattle.vx_layout.specs.declared.shape.Shape.{Shape}
 use Rattle.vx_events.specs.Fails.{Fails}
-use Rattle.vx_events.specs.GroupConfigs.{AddsVolume, ConfigLoses, Matched, VolumeStays}
+use Rattle.vx_events.specs.GroupConfigs.{AddsVolume, ConfigLoses, VolumeStays}
 use Rattle.vx_events.specs.GroupMaps.{MapsAdded, MapsFirst, MapsLost, MapsOfDoubt, MapsOfWrite, MapsRecovered, WithMaps}
 use Rattle.vx_events.specs.GroupViews.{config_of}
 

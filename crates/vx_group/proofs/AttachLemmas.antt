@@ -14,6 +14,7 @@ use Rattle.vx_layout.specs.Places.{place}
 use Rattle.vx_volume.specs.Copies.{CopyCause, IsCopied}
 use Rattle.vx_volume.specs.Plexes.{Inside, SomeActive, active}
 use Rattle.vx_volume.specs.Sets.{bits}
+use Rattle.vx_volume.proofs.UsesLemmas.{TherePlex}
 use Rattle.vx_fmr.specs.Missed.{Missed}
 use Rattle.vx_kept.specs.Commits.{Member}
 use Rattle.vx_kept.specs.Groups.{PlacesApart, OnSome, OutsideVolumes, Shows, seen}
@@ -33,7 +34,7 @@ use Rattle.vx_group.specs.declared.inner.Inner.{Inner}
 use Rattle.vx_group.proofs.CallLemmas.{narrows_Goes}
 use Rattle.vx_group.proofs.DetLemmas.{bit_other, no_flags}
 use Rattle.vx_group.proofs.DetachLemmas.{zero_bit}
-use Rattle.vx_group.proofs.OpeningLemmas.{Present, closed, open_Stands, open_on, open_others, open_shape, open_sound, open_wider, opened, present}
+use Rattle.vx_group.proofs.OpeningLemmas.{closed, open_Stands, open_on, open_others, open_shape, open_sound, open_wider, opened, present}
 use Rattle.vx_group.proofs.Standing.{apart_of_core, kept_of, low_Stands, low_finds, sound_of}
 use Rattle.vx_group.proofs.LoseLemmas.{le_same, none_parts, then_parts}
 use Rattle.vx_group.specs.Loses.{SameParts}
@@ -76,7 +77,7 @@ narrows_attaches v p f c d m m' after stands narrows parts others = record {
 
 -- ---- the copy
 
-module _ (core : Inner) (v p : ℕ) (f : Option Missed) (there : Present core.config v p) (off : active core.config v p ≡ false) (m m' : Meaning) (before : Lawful m) (after : Lawful m') (stands : InnerStands core m)
+module _ (core : Inner) (v p : ℕ) (f : Option Missed) (there : TherePlex core.config v p) (off : active core.config v p ≡ false) (m m' : Meaning) (before : Lawful m) (after : Lawful m') (stands : InnerStands core m)
     (goes : Goes (OnMissed (attached v p core.config) v p f) m m') where
   abbrev c : Config
   c = core.config

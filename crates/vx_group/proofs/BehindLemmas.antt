@@ -42,7 +42,7 @@ use Rattle.vx_group.specs.Loses.{SameParts}
 
 -- ---- a volume that is made
 
-by_same : (o : Option Held) (c d : Config) → d.volumes ≡ c.volumes → volumes_by o d ≡ volumes_by o c
+pub by_same : (o : Option Held) (c d : Config) → d.volumes ≡ c.volumes → volumes_by o d ≡ volumes_by o c
 by_same None c d same = same
 by_same (Some h) c d same = active_at_volumes h.vol h.plex c d same
 

@@ -32,6 +32,7 @@ use Rattle.vx_kept.proofs.Low.{found_same, import_low}
 use Rattle.vx_group.specs.Deports.{DeportedBy}
 use Rattle.vx_group.specs.Resumes.{AtRest, CanImport}
 use Rattle.vx_group.specs.Stands.{InnerStands}
+use Rattle.vx_group.proofs.FoundLemmas.{later_is}
 use Rattle.vx_group.proofs.Standing.{kept_of}
 use Rattle.vx_group.specs.declared.inner.Inner.{Inner}
 
@@ -82,15 +83,6 @@ later_most {C} (Some x) (Some q) y which = elim (cases_lt x.1.serial q.1.serial)
     most_x le (inl is) = let same : x ≡ y = cc in let s : x.1.serial ≡ y.1.serial = ap (λ (k : ℕ × Copy C). k.1.serial) same in omega (arith, s)
     most_x le (inr is) = let same : q ≡ y = cc in let s : q.1.serial ≡ y.1.serial = ap (λ (k : ℕ × Copy C). k.1.serial) same in omega (arith, le, s)
 
-later_one : {C : Type 0} (o p : Option (ℕ × Copy C)) (z : ℕ × Copy C) → later o p ≡ Some z → (o ≡ Some z) ⊎ (p ≡ Some z)
-later_one None p z is = inr is
-later_one (Some x) None z is = inl is
-later_one (Some x) (Some y) z is = by (nat_lt x.1.serial y.1.serial) is
-  where
-    by : (b : Bool) → (if b then Some y else Some x) ≡ Some z → (Some x ≡ Some z) ⊎ (Some y ≡ Some z)
-    by true e = inr e
-    by false e = inl e
-
 module _ {C : Type 0} (reads : ℕ → List ℕ → Option C) (j : Image) where
   abbrev Put : ℕ → Option (ℕ × Copy C)
   Put n = if true && is_label (seen_in (j n 0)) then on_disk n (copy_of reads (j n)) else None
@@ -118,7 +110,7 @@ module _ {C : Type 0} (reads : ℕ → List ℕ → Option C) (j : Image) where
   -- and it stands on its disk
   newest_on : (n : ℕ) (z : ℕ × Copy C) → newest_found reads (λ u. true) j n ≡ Some z → copy_of reads (j z.0) ≡ Some z.1
   newest_on zero z is = absurd cc
-  newest_on (suc n) z is = elim (later_one (newest_found reads (λ u. true) j n) (Put n) z is) [
+  newest_on (suc n) z is = elim (later_is (newest_found reads (λ u. true) j n) (Put n) z is) [
     | inl before ↦ newest_on n z before
     | inr here ↦ let it = put_is n (true && is_label (seen_in (j n 0))) (copy_of reads (j n)) z here in subst (λ (k : ℕ). copy_of reads (j k) ≡ Some z.1) (sym it.0) it.1
   ]

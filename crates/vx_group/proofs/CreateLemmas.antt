@@ -2,11 +2,11 @@
 use Rattle.std.proofs.Common.{◌⊎◌, ◌≡◌, inl, inr, ⊎_elim, ℕ, zero, suc, ◌+◌, ◌<◌, ◌≤◌, ◌^◌, true, false, None, List, [], ◌∷◌, ◌++◌, length, Result, Ok, Err, refl, ap, sym, ◌∙◌, subst, arith}
 use Rattle.std.specs.Prelude.{◌==◌, not}
 use Rattle.std.proofs.lemmas.Bool.{and_from, and_parts, eq-eqb}
+pub use Rattle.vx_disk.proofs.Causing.{cause_before}
 use Rattle.vx_disk.specs.Causes.{DeviceCause, refusal_of}
 use Rattle.vx_disk.specs.Shelf.{Goes, Lawful, Meaning}
 use Rattle.vx_disk.specs.declared.shelf.ShelfError.{ShelfError}
 use Rattle.vx_disk.specs.declared.shelf.ShelfError.TheVariants.{Fault, Down}
-use Rattle.vx_disk.proofs.Causing.{Rose_before}
 use Rattle.vx_model.specs.declared.errors.Stop.{Stop}
 use Rattle.vx_model.specs.declared.errors.Stop.TheVariants.{No as Refused, OutOfMemory}
 use Rattle.vx_model.specs.declared.no.Counted.TheVariants.{Number}
@@ -106,11 +106,6 @@ module _ (site : ℕ) (m0 m1 m2 : Meaning) (small : site < 2 ^ 32) (before : Law
   }
 
 -- ---- why none was made
-
-pub cause_before : (old mid new : Meaning) → ((d : ℕ) → old.disk_faults d ≤ mid.disk_faults d) → (why : No) → DeviceCause mid new why → DeviceCause old new why
-cause_before old mid new less (refusal.Device disk) rose = Rose_before (old.disk_faults disk) (mid.disk_faults disk) (new.disk_faults disk) (less disk) rose
-cause_before old mid new less refusal.Down down = down
-cause_before old mid new less other none = absurd none
 
 pub failed_cause : (T : Type 0) (old new : Meaning) (error : ShelfError) → Failed {T = T} old new (Err error) → DeviceCause old new (refusal_of error)
 failed_cause T old new (Fault disk) why = why

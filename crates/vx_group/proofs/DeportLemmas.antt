@@ -1,6 +1,6 @@
 -- A deport, over the core of a group.
 use Rattle.std.proofs.Common.{◌≡◌, inl, inr, ℕ, ◌<◌, ◌≤◌, Bool, true, false, IsTrue, length, Result, Ok, Err, refl, ap, sym, ◌∙◌, arith}
-use Rattle.std.proofs.lemmas.Bool.{cases_lt}
+use Rattle.std.proofs.lemmas.Bool.{both_ways, cases_lt}
 use Rattle.std.proofs.lemmas.Option.{slice_get_past}
 use Rattle.vx_disk.specs.Shelf.{Meaning, Nothing}
 use Rattle.vx_disk.specs.declared.shelf.ShelfError.{ShelfError}
@@ -40,9 +40,6 @@ use Rattle.vx_group.proofs.QuiesceLemmas.{both_parts, both_quiesce, quiet, same_
 use Rattle.vx_group.proofs.Standing.{apart_of_core, sound_of}
 use Rattle.vx_group.proofs.LoseLemmas.{but_parts}
 
-clash_of : (b : Bool) → b ≡ true → b ≡ false → ⊥
-clash_of b is off = let clash : true ≡ false = sym is ∙ off in cc
-
 from_no : (b : Bool) → (IsTrue b → ⊥) → b ≡ false
 from_no true none = absurd (none refl)
 from_no false none = refl
@@ -52,7 +49,7 @@ active_there : (c : Config) (v p : ℕ) → IsTrue (active c v p) → v < length
 unfolding active
 active_there c v p is = elim (cases_lt v (length c.volumes)) [
   | inl lt ↦ lt
-  | inr le ↦ absurd (clash_of (active c v p) is (ap (λ o. active_or (plex_in o p)) (slice_get_past c.volumes v le)))
+  | inr le ↦ absurd (both_ways (active c v p) (ap (λ o. active_or (plex_in o p)) (slice_get_past c.volumes v le)) is)
 ]
 
 -- ---- done
@@ -67,7 +64,7 @@ module _ (core : Inner) (d : Config) (m m' : Meaning) (stands : InnerStands core
       let a : Config = cleaned core.unsure core.config (length core.config.volumes) in
       let is : IsTrue (active a v p) = sym (active_volumes d a shown.grown.volumes v p) ∙ is_d in
       let is_c : IsTrue (active core.config v p) = stands.on.each v p (sym (all.alike.lives v p) ∙ on_live a v p is) in
-      clash_of (active a v p) is (all.off v p (active_there core.config v p is_c) sure (active_few core.config (sound_of core m stands) v p is_c)))
+      both_ways (active a v p) (all.off v p (active_there core.config v p is_c) sure (active_few core.config (sound_of core m stands) v p is_c)) is)
 
   pub closed : CleanCommitted core m m'
   closed = record {

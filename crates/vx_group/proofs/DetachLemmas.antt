@@ -1,7 +1,6 @@
 -- A commit that detaches plexes, over the core of a group.
-use Rattle.std.proofs.Common.{◌≡◌, inl, inr, ⊎_elim, ℕ, ◌<◌, ◌≤◌, ◌^◌, ◌%◌, Bool, true, false, IsTrue, List, length, Err, refl, ap, sym, ◌∙◌, subst, arith}
-use Rattle.std.specs.Prelude.{◌==◌}
-use Rattle.std.proofs.Math.Nat.{zero-div}
+use Rattle.std.proofs.Common.{◌≡◌, inl, inr, ⊎_elim, ℕ, ◌<◌, ◌≤◌, ◌^◌, Bool, true, false, IsTrue, List, length, Err, refl, ap, sym, ◌∙◌, subst, arith}
+pub use Rattle.vx_resync.proofs.CauseLemmas.{zero_bit}
 use Rattle.vx_disk.specs.Blocks.{bit_at}
 use Rattle.vx_disk.specs.Shelf.{Meaning, Nothing}
 use Rattle.vx_model.specs.declared.no.Counted.TheVariants.{Number}
@@ -125,6 +124,3 @@ staled_some c v set good some = subst (λ (ds : List DiskEntry). NoneGood ds (le
 
 pub staled_less : (c : Config) (v set : ℕ) → c.serial < greatest → (staled v set c 8).serial < greatest
 staled_less c v set less = let same = (is_staled v set 8 c).serial in omega (arith, same, less)
-
-pub zero_bit : (set p : ℕ) → set ≡ 0 → bit_at set p ≡ false
-zero_bit set p is = ap (λ (s : ℕ). bit_at s p) is ∙ ap (λ (n : ℕ). n % 2 == 1) (zero-div (2 ^ p))

@@ -1,5 +1,6 @@
 -- Which configurations images have behind calls in a row.
-use Rattle.std.proofs.Common.{◌≡◌, inl, inr, ⊎_elim, Bool, true, false, Option, None, List, [], ◌∷◌, ◌++◌, refl, ap, sym, ◌∙◌}
+use Rattle.std.proofs.Common.{◌≡◌, inl, inr, ⊎_elim, true, false, Option, None, List, [], ◌∷◌, ◌++◌, refl, ap, sym, ◌∙◌}
+use Rattle.std.proofs.lemmas.Bool.{both_ways}
 use Rattle.vx_disk.specs.Shelf.{Goes, Lawful, Meaning, Nothing}
 use Rattle.vx_config.specs.declared.config.Config.{Config}
 use Rattle.vx_kept.specs.Cleans.{at_serial}
@@ -12,10 +13,6 @@ use Rattle.vx_group.specs.Holding.{config_by, wide}
 use Rattle.vx_group.specs.declared.group_core.Held.{Held}
 use Rattle.vx_group.specs.declared.group_core.GroupCore.{GroupCore}
 use Rattle.vx_group.specs.declared.inner.Inner.{Inner}
-
-not_both : (b : Bool) → b ≡ false → b ≡ true → ⊥
-not_both true off is = let clash : true ≡ false = off in cc
-not_both false off is = let clash : false ≡ true = is in cc
 
 none_wide : (es : List Config) (m m' : Meaning) → FindsFrom NoConfiguration m m' → FindsFrom (IsTryAmong es) m m'
 none_wide es m m' finds = wider_from NoConfiguration (IsTryAmong es) m m' finds (λ x none. absurd none)
@@ -110,7 +107,7 @@ open_finds c d m m' off finds = record {
   begun = [];
   finds = none_wide [] m m' finds;
   openly = λ was is. off was;
-  sure = λ was is. absurd (not_both d.committed (off was) is);
+  sure = λ was is. absurd (both_ways d.committed (off was) is);
 }
 
 -- a commit that is done
@@ -118,7 +115,7 @@ pub done_ends : (a : Config) (d : Inner) (m m' : Meaning) → FindsFrom (IsTryOf
 done_ends a d m m' tried settled committed = record {
   begun = a ∷ [];
   finds = wider_from (IsTryOf a) (IsTryAmong (a ∷ [])) m m' tried (λ x is. inl is);
-  openly = λ is. absurd (not_both d.unsettled settled is);
+  openly = λ is. absurd (both_ways d.unsettled settled is);
   newest = λ is. newest_at d.config m' committed;
 }
 
@@ -128,7 +125,7 @@ left_ends a d m m' tried off = record {
   begun = a ∷ [];
   finds = wider_from (IsTryOf a) (IsTryAmong (a ∷ [])) m m' tried (λ x is. inl is);
   openly = λ is. off;
-  newest = λ is. absurd (not_both d.committed off is);
+  newest = λ is. absurd (both_ways d.committed off is);
 }
 
 -- calls that write nothing
@@ -156,7 +153,7 @@ marked_group c d m m' config held committed unsettled finds = record {
 
 -- behind calls on a group of which each image has the configuration in memory, each has it still where it is committed
 pub newest_group : (c d : GroupCore) (m m' : Meaning) → c.held ≡ None → c.inner.unsettled ≡ false → AllAtOnce (wide c).config m → GroupFinds c d m m' → d.inner.committed ≡ true → AllAtOnce (wide d).config m'
-newest_group c d m m' none settled newest finds is = elim (finds.core.sure (λ un. absurd (not_both c.inner.unsettled settled un)) is) [
+newest_group c d m m' none settled newest finds is = elim (finds.core.sure (λ un. absurd (both_ways c.inner.unsettled settled un)) is) [
   | inl now ↦ now
   | inr still ↦ still_newest (wide c) (wide d) m m' newest still
 ]

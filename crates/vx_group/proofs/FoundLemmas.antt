@@ -19,7 +19,7 @@ use Rattle.vx_copies.specs.Looking.{on_shelf}
 
 -- ---- what is found was read
 
-later_is : {C : Type 0} (o p : Option (ℕ × Copy C)) (z : ℕ × Copy C) → later o p ≡ Some z → (o ≡ Some z) ⊎ (p ≡ Some z)
+pub later_is : {C : Type 0} (o p : Option (ℕ × Copy C)) (z : ℕ × Copy C) → later o p ≡ Some z → (o ≡ Some z) ⊎ (p ≡ Some z)
 later_is None p z is = inr is
 later_is (Some x) None z is = inl is
 later_is (Some x) (Some y) z is = by (nat_lt x.1.serial y.1.serial) is

@@ -1,5 +1,6 @@
 -- Which configurations images have behind calls of a whole group.
-use Rattle.std.proofs.Common.{◌≡◌, ◌⊎◌, inl, inr, Bool, true, false, Option, Some, None, List, refl, ap, sym, ◌∙◌, subst}
+use Rattle.std.proofs.Common.{◌≡◌, ◌⊎◌, inl, inr, true, false, Option, Some, None, List, refl, ap, sym, ◌∙◌, subst}
+use Rattle.std.proofs.lemmas.Bool.{both_ways}
 use Rattle.vx_disk.specs.Shelf.{Meaning}
 use Rattle.vx_config.specs.declared.entry.DiskEntry.{DiskEntry}
 use Rattle.vx_group.specs.Finds.{CoreEnds, CoreFinds, GroupFinds, HeadersMissed}
@@ -42,12 +43,8 @@ alone_finds c d m m' none still goes = record {
 
 -- ---- disks that are held as good again
 
-unsettled_not : (b : Bool) → b ≡ false → b ≡ true → ⊥
-unsettled_not true off is = let clash : true ≡ false = off in cc
-unsettled_not false off is = let clash : false ≡ true = is in cc
-
 pub recommit_finds : (c held d : Inner) (m m' : Meaning) → d.unsettled ≡ false → HeadersMissed held d m m' ⊎ CoreEnds d m m' → CoreFinds c d m m'
-recommit_finds c held d m m' off (inl missed) = absurd (unsettled_not d.unsettled off missed.unsettled)
+recommit_finds c held d m m' off (inl missed) = absurd (both_ways d.unsettled off missed.unsettled)
 recommit_finds c held d m m' off (inr ends) = ends_finds c d m m' ends
 
 module _ (c held d : Inner) (ds : List DiskEntry) (m m' : Meaning) where

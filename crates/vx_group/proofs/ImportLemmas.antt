@@ -34,7 +34,7 @@ use Rattle.vx_group.proofs.PlanLemmas.{source_live}
 use Rattle.vx_group.proofs.ResumeLemmas.{taken_Goes}
 use Rattle.vx_group.proofs.SourceLemmas.{source_chosen}
 
-stopped_back : (R : ℕ → Bool) (x : Config) (v : ℕ) → stopped (returned R x) v ≡ stopped x v
+pub stopped_back : (R : ℕ → Bool) (x : Config) (v : ℕ) → stopped (returned R x) v ≡ stopped x v
 unfolding stopped active
 stopped_back R x v = refl
 

@@ -10,7 +10,7 @@ use Rattle.vx_copies.proofs.OneTry.{shelf_same, wanted_same}
 use Rattle.vx_kept.specs.Commits.{Member}
 use Rattle.vx_kept.specs.Groups.{ImportedImage, seen}
 use Rattle.vx_kept.specs.Keeping.{Kept}
-use Rattle.vx_kept.proofs.Committed.{fewer}
+use Rattle.vx_kept.proofs.Committed.{fewer, member_same}
 use Rattle.vx_kept.proofs.Facts.{to_fact}
 use Rattle.vx_kept.proofs.Lasting.{sees_same}
 use Rattle.vx_kept.proofs.Low.{found_same}
@@ -19,7 +19,7 @@ use Rattle.vx_group.specs.Holding.{GroupStands, wide}
 use Rattle.vx_group.specs.Stands.{InnerStands, inner_meaning}
 use Rattle.vx_group.specs.declared.group_core.GroupCore.{GroupCore}
 use Rattle.vx_group.specs.declared.inner.Inner.{Inner}
-use Rattle.vx_group.proofs.Standing.{kept_of, member_to, still_large}
+use Rattle.vx_group.proofs.Standing.{kept_of, still_large}
 
 module _ (core : Inner) (m m' : Meaning) (stands : InnerStands core m) (law : Lawful m) (law' : Lawful m') (units : m'.units ≡ m.units) (size : (u : ℕ) → m'.size u ≡ m.size u) (tells : m'.tells ≡ m.tells)
     (leaves : (u b : ℕ) (v : List ℕ) → m'.leaves u b v → m.leaves u b v) where
@@ -46,7 +46,7 @@ module _ (core : Inner) (m m' : Meaning) (stands : InnerStands core m) (law : La
     large = still_large m m' units size stands.large;
     on = stands.on;
     some = stands.some;
-    kept = to_fact core.config (Member core.good m') m' (fewer core.config (Member core.good m) (Member core.good m') m' (member_to core.good m m' units) less_Kept);
+    kept = to_fact core.config (Member core.good m') m' (fewer core.config (Member core.good m) (Member core.good m') m' (member_same core.good m m' units) less_Kept);
     tidy = λ is. record {
       goes = λ u v w x y held in_v in_w in_x in_y. (stands.tidy is).goes u v w x y (record { below = let lt : u < m'.units = held.below in omega (arith, units, lt); good = held.good })
           (leaves u _ v in_v) (leaves u _ w in_w) (leaves u _ x in_x) (leaves u _ y in_y);

@@ -1,11 +1,12 @@
 -- A configuration with a volume more.
-use Rattle.std.proofs.Common.{◌≡◌, inl, inr, ℕ, zero, suc, ◌+◌, ◌<◌, ◌≤◌, Bool, true, false, IsTrue, Option, Some, List, [], ◌∷◌, ◌++◌, length, refl, ap, sym, ◌∙◌, arith}
+use Rattle.std.proofs.Common.{◌≡◌, inl, inr, ℕ, zero, suc, ◌+◌, ◌<◌, ◌≤◌, Bool, true, false, IsTrue, Option, List, [], ◌∷◌, length, refl, ap, sym, ◌∙◌, arith}
 use Rattle.std.specs.Prelude.{◌&&◌, ◌==◌, map, nat_le, slice_get}
 use Rattle.std.specs.List.{list_all}
 use Rattle.std.proofs.lemmas.Bool.{and_parts, cases_eq, cases_lt, eqb-true}
 use Rattle.std.proofs.lemmas.List.{length-append}
 use Rattle.std.proofs.lemmas.Option.{slice_get_past}
 use Rattle.vx_model.specs.declared.limits.TheConstants.{MOST_SUBDISKS}
+use Rattle.vx_model.proofs.Lists.{get_end, get_front}
 use Rattle.vx_config.specs.Checks.{are_apart, blocks_of, blocks_or_none, differ, ends_within, group_or_none, in_region, is_sound, is_volume, pairwise, runs}
 use Rattle.vx_config.specs.Configs.{subdisk_count}
 use Rattle.vx_config.specs.declared.config.Config.{Config}
@@ -23,15 +24,6 @@ use Rattle.vx_kept.specs.LogRuns.{log_trusted}
 use Rattle.vx_kept.proofs.Narrower.{sound_chosen}
 use Rattle.vx_kept.proofs.RunLemmas.{run_same, trust_from}
 use Rattle.vx_maplog.specs.Logs.{log_in, log_of, log_or, used_or}
-
-pub get_front : {A : Type 0} (xs ys : List A) (n : ℕ) → n < length xs → slice_get (xs ++ ys) n ≡ slice_get xs n
-get_front [] ys n lt = absurd (omega (arith, lt))
-get_front (x ∷ xs) ys zero lt = refl
-get_front (x ∷ xs) ys (suc n) lt = get_front xs ys n (omega (arith, lt))
-
-pub get_end : {A : Type 0} (xs : List A) (y : A) → slice_get (xs ++ (y ∷ [])) (length xs) ≡ Some y
-get_end [] y = refl
-get_end (x ∷ xs) y = get_end xs y
 
 module _ (c : Config) (v : VolumeEntry) where
   abbrev more : Config

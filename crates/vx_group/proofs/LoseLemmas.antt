@@ -11,10 +11,11 @@ use Rattle.vx_volume.specs.Volumes.{PlexBlamed}
 use Rattle.vx_kept.specs.States.{staled}
 use Rattle.vx_kept.specs.Keeping.{SameShape, frame_at}
 use Rattle.vx_kept.proofs.Chosen.{active_volumes, frames_volumes}
+use Rattle.vx_resync.proofs.CauseLemmas.{blamed_since}
 use Rattle.vx_group.specs.Loses.{LosesAlong, LosesPlexes, SameParts}
 use Rattle.vx_group.specs.Settled.{SameBut}
 use Rattle.vx_group.proofs.FailingLemmas.{no_failing, then_failing}
-use Rattle.vx_group.proofs.UsesLemmas.{blamed_before, blamed_by, blamed_later, uses_staled, uses_volumes}
+use Rattle.vx_group.proofs.UsesLemmas.{blamed_before, blamed_by, uses_staled, uses_volumes}
 
 pub le_same : (n : ℕ) → n ≤ n
 le_same n = omega arith
@@ -71,12 +72,12 @@ module _ (m0 m1 m2 : Meaning) (one : (u : ℕ) → m0.faults u ≤ m1.faults u) 
         | inl still ↦ inl still
         | inr any ↦ inr (any.0, blamed_before c v any.0 m0 m1 m2 two any.1)
       ]
-      | inr any ↦ inr (any.0, blamed_later c v any.0 m0 m1 m2 one (blamed_by c d v any.0 m1 m2 (first.lies v any.0) any.1))
+      | inr any ↦ inr (any.0, blamed_since c v any.0 m0 m1 m2 one (blamed_by c d v any.0 m1 m2 (first.lies v any.0) any.1))
     ];
     plexes = λ v p is. elim (first.plexes v p is) [
       | inl on ↦ elim (second.plexes v p on) [
         | inl still ↦ inl still
-        | inr blamed ↦ inr (blamed_later c v p m0 m1 m2 one (blamed_by c d v p m1 m2 (first.lies v p) blamed))
+        | inr blamed ↦ inr (blamed_since c v p m0 m1 m2 one (blamed_by c d v p m1 m2 (first.lies v p) blamed))
       ]
       | inr blamed ↦ inr (blamed_before c v p m0 m1 m2 two blamed)
     ];

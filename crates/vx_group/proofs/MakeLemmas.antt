@@ -1,7 +1,7 @@
 -- A volume that is made: its plan, and what is added behind headers that were written back.
-use Rattle.std.proofs.Common.{◌≡◌, ◌≤◌, inl, inr, ⊎_elim, ℕ, ◌<◌, Bool, true, false, Option, None, List, [], ◌∷◌, ◌++◌, length, Result, Ok, Err, refl, ap, sym, ◌∙◌, subst, arith}
+use Rattle.std.proofs.Common.{◌≡◌, ◌≤◌, inl, inr, ⊎_elim, ℕ, ◌<◌, true, false, Option, None, List, [], ◌∷◌, ◌++◌, length, Result, Ok, Err, refl, ap, sym, ◌∙◌, subst, arith}
 use Rattle.std.specs.Prelude.{IfSome, map, slice_get}
-use Rattle.std.proofs.lemmas.Bool.{and_parts, cases_lt}
+use Rattle.std.proofs.lemmas.Bool.{and_parts, both_ways, cases_lt}
 use Rattle.vx_disk.specs.Causes.{refusal_of}
 use Rattle.vx_disk.specs.Moves.{Anything, Says}
 use Rattle.vx_disk.specs.Shelf.{Goes, Lawful, Meaning, Nothing, Or, Values}
@@ -52,15 +52,12 @@ use Rattle.vx_group.specs.Loses.{SameParts}
 
 -- ---- the plan
 
-clash_of : (b : Bool) → b ≡ true → b ≡ false → ⊥
-clash_of b is off = let clash : true ≡ false = sym is ∙ off in cc
-
 -- where the configuration with the volume is not sound its subdisks are too many
 too_many : (c : Config) (name : List ℕ) (want : Shape) (found : Found) (v : VolumeEntry) → is_sound c ≡ true → MayMake c name want → IsShape want → IfSome want.prefer (λ p. p < want.mirrors) → IsFound c want found → IsVolume name want found v
     → is_sound (with_volume c v) ≡ false → MOST_SUBDISKS < subdisk_count (with_volume c v)
 too_many c name want found v sound may shape prefer space volume off = elim (cases_lt MOST_SUBDISKS (subdisk_count (with_volume c v))) [
   | inl lt ↦ lt
-  | inr le ↦ absurd (clash_of (is_sound (with_volume c v)) (sound_stays c want found v sound shape prefer space volume.made (fresh_name name v volume.named c.volumes may.fresh) le) off)
+  | inr le ↦ absurd (both_ways (is_sound (with_volume c v)) off (sound_stays c want found v sound shape prefer space volume.made (fresh_name name v volume.named c.volumes may.fresh) le))
 ]
 
 pub planned : (c : Config) (name : List ℕ) (want : Shape) (found : Found) (v : VolumeEntry) → is_sound c ≡ true → make_refusal c name want ≡ None → IsShape want → IfSome want.prefer (λ p. p < want.mirrors) → IsFound c want found → IsVolume name want found v

@@ -21,16 +21,17 @@ use Rattle.vx_resync.proofs.GatherLemmas.{misses_later}
 use Rattle.vx_volume.specs.Copies.{CopyCause}
 use Rattle.vx_volume.specs.Plexes.{Inside, active}
 use Rattle.vx_volume.proofs.PlaceLemmas.{apart_of}
+use Rattle.vx_volume.proofs.UsesLemmas.{TherePlex}
 use Rattle.vx_kept.specs.Groups.{PlacesApart}
 use Rattle.vx_kept.specs.Keeping.{SameShape}
 use Rattle.vx_kept.proofs.Chosen.{active_volumes, place_volumes}
 use Rattle.vx_kept.proofs.Narrower.{stand_apart}
 use Rattle.vx_kept.proofs.Steps.{inside_back, inside_same}
-use Rattle.vx_group.specs.Attaches.{KnowsMissed, OnMissed, attached, copied_regions, missed_regions}
+use Rattle.vx_group.specs.Attaches.{KnowsMissed, OnMissed, attached, missed_regions, region_count}
 use Rattle.vx_group.specs.Blames.{Blames, fault_of}
 use Rattle.vx_group.specs.Moves.{Narrows}
 use Rattle.vx_group.specs.declared.inner.Inner.{Inner}
-use Rattle.vx_group.proofs.OpeningLemmas.{Present, open_on, open_shape, open_sound, open_wider}
+use Rattle.vx_group.proofs.OpeningLemmas.{open_on, open_shape, open_sound, open_wider}
 
 -- ---- without a map
 
@@ -41,7 +42,7 @@ all_regions : (p n : ℕ) → picked_below (missed_or p None) n ≡ n
 all_regions p zero = refl
 all_regions p (suc n) = let same = all_regions p n in omega (arith, same)
 
-pub count_all : (c : Config) (v p : ℕ) → missed_regions c v p None ≡ copied_regions c v
+pub count_all : (c : Config) (v p : ℕ) → missed_regions c v p None ≡ region_count c v
 count_all c v p = all_regions p (regions_of (blocks_of c.volumes v))
 
 -- ---- another configuration with the same places
@@ -68,7 +69,7 @@ narrows_reads c d m m' narrows up u b x high is = elim (narrows.acts.reads u b x
   | inr down ↦ absurd (up down)
 ]
 
-module _ (c d : Config) (v p : ℕ) (f : Option Missed) (m m' : Meaning) (there : Present d v p) (sound : is_sound d ≡ true) (volumes : d.volumes ≡ c.volumes) (less : (u b : ℕ) (x : List ℕ) → 512 ≤ b → m'.reads u b x → m.reads u b x) where
+module _ (c d : Config) (v p : ℕ) (f : Option Missed) (m m' : Meaning) (there : TherePlex d v p) (sound : is_sound d ≡ true) (volumes : d.volumes ≡ c.volumes) (less : (u b : ℕ) (x : List ℕ) → 512 ≤ b → m'.reads u b x → m.reads u b x) where
   wide : PlacesApart (attached v p d)
   wide = stand_apart (attached v p d) (open_sound d v p there sound)
 
@@ -116,7 +117,7 @@ pub picked_goes : (e : Config) (v source p : ℕ) (f : Option Missed) (m m' : Me
 picked_goes e v source p f m m' goes = weaker (FromPlex e v source (Some p) (InPicked (missed_or p f)) m) (OnMissed e v p f) m m' goes
     (λ u b x it. record { put = record { number = it.number; inside = it.inside; at = subst (λ (q : ℕ). place e v q it.number ≡ (u, b)) it.is_target it.at }; missed = it.is_one })
 
-module _ (c : Config) (v source p : ℕ) (f : Option Missed) (m : Meaning) (there : Present c v p) (knows : KnowsMissed c v p f m) (e : Config) (is : e ≡ attached v p c) where
+module _ (c : Config) (v source p : ℕ) (f : Option Missed) (m : Meaning) (there : TherePlex c v p) (knows : KnowsMissed c v p f m) (e : Config) (is : e ≡ attached v p c) where
   pub reach_by : FmrReaches (regions_of (blocks_of e.volumes v)) p f
   reach_by = subst (λ (x : Config). FmrReaches (regions_of (blocks_of x.volumes v)) p f) (sym is) (subst (λ (n : ℕ). FmrReaches (regions_of n) p f) (sym ((open_shape c v p there).blocks v)) knows.reach)
 
@@ -138,7 +139,7 @@ module _ (c : Config) (v source p : ℕ) (f : Option Missed) (m : Meaning) (ther
           (misses_later (attached v p c) v source p (apart_of (attached v p c) (open_sound c v p there sound)) (open_on c v p there) (missed_or p f) m m' by up q (open_wider c v p there v q is_on)
           (misses_wide c (attached v p c) (open_shape c v p there) v q p (missed_or p f) m (knows.each q is_on)))
 
-pub count_by : (c : Config) (v p n : ℕ) (f : Option Missed) → Present c v p → (e : Config) → e ≡ attached v p c → n ≡ picked_below (missed_or p f) (regions_of (blocks_of e.volumes v)) → n ≡ missed_regions c v p f
+pub count_by : (c : Config) (v p n : ℕ) (f : Option Missed) → TherePlex c v p → (e : Config) → e ≡ attached v p c → n ≡ picked_below (missed_or p f) (regions_of (blocks_of e.volumes v)) → n ≡ missed_regions c v p f
 count_by c v p n f there e is count =
     count ∙ ap (λ (x : Config). picked_below (missed_or p f) (regions_of (blocks_of x.volumes v))) is ∙ ap (λ (k : ℕ). picked_below (missed_or p f) (regions_of k)) ((open_shape c v p there).blocks v)
 

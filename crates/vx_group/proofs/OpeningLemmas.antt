@@ -1,11 +1,12 @@
 -- A configuration in which one plex more is ACTIVE, over the core of a group.
-use Rattle.std.proofs.Common.{◌≡◌, ◌⊎◌, inl, inr, ℕ, zero, suc, ◌+◌, ◌-◌, ◌<◌, ◌≤◌, Bool, true, false, IsTrue, Option, Some, None, List, [], ◌∷◌, length, refl, ap, sym, ◌∙◌, subst, arith}
+use Rattle.std.proofs.Common.{◌≡◌, ◌⊎◌, inl, inr, ℕ, ◌+◌, ◌-◌, ◌<◌, ◌≤◌, Bool, true, false, IsTrue, Option, Some, None, List, length, refl, ap, sym, ◌∙◌, subst, arith}
 use Rattle.std.specs.Prelude.{nat_le, nat_lt, if◌then◌else◌, slice_get}
 use Rattle.std.proofs.lemmas.Bool.{and_from, and_parts, cases_eq, cases_lt, le-leb, lt-ltb}
 use Rattle.vx_disk.specs.Shelf.{Meaning}
 use Rattle.vx_model.specs.declared.no.No.{No}
 use Rattle.vx_model.specs.declared.site.PlexState.{PlexState}
 use Rattle.vx_model.specs.declared.site.PlexState.TheVariants.{Active, Clean, Stale}
+use Rattle.vx_model.proofs.Lists.{get_there}
 use Rattle.vx_config.specs.Changes.{stated, with_state}
 use Rattle.vx_config.specs.Checks.{is_live, is_sound, plexes_of, plexes_or}
 use Rattle.vx_config.specs.Table.{greatest}
@@ -17,6 +18,7 @@ use Rattle.vx_config.proofs.Fewer.{stated_back}
 use Rattle.vx_copies.specs.Bodies.{fits_units, is_wanted}
 use Rattle.vx_layout.specs.Places.{plex_at, plex_in}
 use Rattle.vx_volume.specs.Plexes.{active, active_or}
+use Rattle.vx_volume.proofs.UsesLemmas.{TherePlex}
 use Rattle.vx_kept.specs.Choice.{live, live_or}
 use Rattle.vx_kept.specs.Commits.{Member}
 use Rattle.vx_kept.specs.Keeping.{AllOn, Kept, Kin, SameShape}
@@ -44,18 +46,6 @@ less_of n k is = elim (cases_lt k n) [
   | inl lt ↦ lt
   | inr le ↦ absurd (let clash : true ≡ false = sym (le-leb n k le) ∙ is in cc)
 ]
-
-some_at : {A : Type 0} (xs : List A) (k : ℕ) → k < length xs → (x : A) × (slice_get xs k ≡ Some x)
-some_at [] k lt = absurd (omega (arith, lt))
-some_at (x ∷ xs) zero lt = (x, refl)
-some_at (x ∷ xs) (suc k) lt = some_at xs k (omega (arith, lt))
-
--- there is such a plex
-pub record Present (c : Config) (v p : ℕ) : Type 0 where
-  pub volume : VolumeEntry
-  pub plex : PlexEntry
-  pub at_v : slice_get c.volumes v ≡ Some volume
-  pub at_p : slice_get volume.plexes p ≡ Some plex
 
 module _ (c : Config) (v p : ℕ) (may : att_refusal c v p ≡ None) where
   pub may_volume : v < length c.volumes
@@ -89,11 +79,11 @@ may_behind c d v p may room volumes few = record {
 pub later_may : (c d : Config) (v p : ℕ) → att_refusal c v p ≡ None → d.volumes ≡ c.volumes → d.serial ≤ c.serial + 9 → MayAttach d v p
 later_may c d v p may volumes few = may_behind c d v p (may_attach c v p may) (let room = may_room c v p may in omega (arith, room)) volumes few
 
-pub present : (c : Config) (v p : ℕ) → MayAttach c v p → Present c v p
+pub present : (c : Config) (v p : ℕ) → MayAttach c v p → TherePlex c v p
 present c v p may =
-    let one = some_at c.volumes v may.volume in
+    let one = get_there c.volumes v may.volume in
     let count : plexes_of c v ≡ length (one.0).plexes = ap plexes_or one.1 in
-    let two = some_at (one.0).plexes p (let less = may.plex in omega (arith, count, less)) in
+    let two = get_there (one.0).plexes p (let less = may.plex in omega (arith, count, less)) in
     record { volume = one.0; plex = two.0; at_v = one.1; at_p = two.1 }
 
 -- what may be attached hangs on volumes and serial
@@ -121,7 +111,7 @@ off_false : (b : Bool) → (b ≡ true → ⊥) → b ≡ false
 off_false true none = absurd (none refl)
 off_false false none = refl
 
-module _ (c : Config) (v p : ℕ) (there : Present c v p) where
+module _ (c : Config) (v p : ℕ) (there : TherePlex c v p) where
   abbrev d : Config
   d = attached v p c
 
@@ -200,7 +190,7 @@ module _ (c : Config) (v p : ℕ) (there : Present c v p) where
 abbrev pub opened : ℕ → ℕ → Inner → Inner
 opened v p core = with_config (attached v p core.config) core
 
-module _ (core : Inner) (v p : ℕ) (there : Present core.config v p) (m : Meaning) (stands : InnerStands core m) where
+module _ (core : Inner) (v p : ℕ) (there : TherePlex core.config v p) (m : Meaning) (stands : InnerStands core m) where
   sound_here : is_sound (attached v p core.config) ≡ true
   sound_here = open_sound core.config v p there (sound_of core m stands)
 

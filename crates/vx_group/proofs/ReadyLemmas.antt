@@ -26,7 +26,7 @@ use Rattle.vx_kept.specs.Commits.{Member}
 use Rattle.vx_kept.specs.Finds.{FindsFrom, NoConfiguration}
 use Rattle.vx_kept.specs.Keeping.{Acts, IsTidy, Kept, Kin, Sees}
 use Rattle.vx_kept.proofs.Chosen.{active_volumes, alike_shape, extends_volumes}
-use Rattle.vx_kept.proofs.Committed.{fewer, take_on}
+use Rattle.vx_kept.proofs.Committed.{fewer, member_same, take_on}
 use Rattle.vx_kept.proofs.Lasting.{cases_bool}
 use Rattle.vx_kept.proofs.Settles.{no_more, settled_Acts, settled_Kept, settled_tidy, still_tidy}
 use Rattle.vx_kept.proofs.StateLemmas.{same_shape}
@@ -40,7 +40,7 @@ use Rattle.vx_group.specs.Settled.{SameBut, SettledTo}
 use Rattle.vx_group.specs.Stands.{InnerStands}
 use Rattle.vx_group.specs.declared.inner.Inner.{Inner}
 use Rattle.vx_group.proofs.FailingLemmas.{no_failing, then_failing}
-use Rattle.vx_group.proofs.Standing.{can_of, made, member_to, still_large}
+use Rattle.vx_group.proofs.Standing.{can_of, made, still_large}
 
 pub same_but : (c : Config) → SameBut c c
 same_but c = record { serial = refl; site = refl; volumes = refl; rvg = refl; count = refl }
@@ -90,7 +90,7 @@ module _ (good : ℕ) (c d : Config) (n device : ℕ) (failed : Bool) (m m1 : Me
         (λ u b x. ⊎_elim (λ none. none) (λ none. none))
 
     pub settle_kept : Kept c (Member good m2) m2
-    settle_kept = fewer c (Member good m1) (Member good m2) m2 (member_to good m1 m2 goes.units) (settled_Kept c (Member good m1) n m1 m2 goes before after so_far.kept)
+    settle_kept = fewer c (Member good m1) (Member good m2) m2 (member_same good m1 m2 goes.units) (settled_Kept c (Member good m1) n m1 m2 goes before after so_far.kept)
 
     pub settle_less : (u b : ℕ) (v : List ℕ) → m2.leaves u b v → m.leaves u b v
     settle_less u b v left = so_far.less u b v (no_more c (Member good m1) n m1 m2 goes before after so_far.kept u b v left)

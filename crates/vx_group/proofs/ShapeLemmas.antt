@@ -1,9 +1,9 @@
 -- A volume that may be made.
-use Rattle.std.proofs.Common.{◌≡◌, inl, inr, ℕ, ◌+◌, ◌-◌, ◌<◌, ◌≤◌, ◌^◌, Bool, true, false, Option, Some, None, List, [], ◌∷◌, ◌++◌, length, refl, ap, sym, ◌∙◌, arith}
+use Rattle.std.proofs.Common.{◌≡◌, inl, inr, ℕ, ◌+◌, ◌-◌, ◌<◌, ◌≤◌, ◌^◌, Bool, true, false, Option, Some, None, List, [], ◌∷◌, ◌++◌, length, refl, ap, ◌∙◌, arith}
 use Rattle.std.specs.Prelude.{◌&&◌, ◌||◌, ◌==◌, not, nat_le, nat_lt, if◌then◌else◌, is_some, slice_get}
 use Rattle.std.specs.List.{list_all, list_any}
 use Rattle.std.specs.Str.{bytes_eq}
-use Rattle.std.proofs.lemmas.Bool.{and_parts, cases_lt, eq-eqb, eqb-true, le-leb, leb-true, lt-ltb, or_parts}
+use Rattle.std.proofs.lemmas.Bool.{and_parts, both_ways, cases_lt, eq-eqb, eqb-true, le-leb, leb-true, lt-ltb, not-false, or_parts}
 use Rattle.vx_model.specs.declared.limits.TheConstants.{MOST_COLUMNS, MOST_PLEXES, MOST_VOLUMES}
 use Rattle.vx_model.specs.declared.no.No.{No}
 use Rattle.vx_config.specs.Checks.{differ, log_runs}
@@ -29,13 +29,6 @@ none_of false false true e f n1 n2 n3 n4 n5 is = absurd (let clash : Some n3 ≡
 none_of false false false true f n1 n2 n3 n4 n5 is = absurd (let clash : Some n4 ≡ None = is in cc)
 none_of false false false false true n1 n2 n3 n4 n5 is = absurd (let clash : Some n5 ≡ None = is in cc)
 none_of false false false false false n1 n2 n3 n4 n5 is = (refl, refl, refl, refl, refl)
-
-clash_of : (b : Bool) → b ≡ true → b ≡ false → ⊥
-clash_of b is off = let clash : true ≡ false = sym is ∙ off in cc
-
-not_false : (b : Bool) → not b ≡ false → b ≡ true
-not_false true is = refl
-not_false false is = absurd (let clash : true ≡ false = is in cc)
 
 or_right : (a b : Bool) → not a || b ≡ true → a ≡ true → b ≡ true
 or_right true b is on = is
@@ -82,7 +75,7 @@ module _ (c : Config) (name : List ℕ) (want : Shape) (may : make_refusal c nam
 
   few_plexes : want.mirrors ≤ MOST_PLEXES
   few_plexes = elim (cases_lt MOST_PLEXES want.mirrors) [
-    | inl lt ↦ absurd (clash_of (nat_lt MOST_PLEXES want.mirrors) (lt-ltb MOST_PLEXES want.mirrors lt) parts.2)
+    | inl lt ↦ absurd (both_ways (nat_lt MOST_PLEXES want.mirrors) parts.2 (lt-ltb MOST_PLEXES want.mirrors lt))
     | inr le ↦ le
   ]
 
@@ -91,18 +84,18 @@ module _ (c : Config) (name : List ℕ) (want : Shape) (may : make_refusal c nam
     fresh = parts.0;
     room = elim (cases_lt (length c.volumes) MOST_VOLUMES) [
       | inl lt ↦ lt
-      | inr le ↦ absurd (clash_of (nat_le MOST_VOLUMES (length c.volumes)) (le-leb MOST_VOLUMES (length c.volumes) le) parts.1)
+      | inr le ↦ absurd (both_ways (nat_le MOST_VOLUMES (length c.volumes)) parts.1 (le-leb MOST_VOLUMES (length c.volumes) le))
     ];
     serial = elim (cases_lt (greatest - margin) c.serial) [
-      | inl lt ↦ absurd (clash_of (nat_lt (greatest - margin) c.serial) (lt-ltb (greatest - margin) c.serial lt) parts.3)
+      | inl lt ↦ absurd (both_ways (nat_lt (greatest - margin) c.serial) parts.3 (lt-ltb (greatest - margin) c.serial lt))
       | inr le ↦ omega (arith, le)
     ];
     left = elim (cases_lt (greatest - margin) c.serial) [
-      | inl lt ↦ absurd (clash_of (nat_lt (greatest - margin) c.serial) (lt-ltb (greatest - margin) c.serial lt) parts.3)
+      | inl lt ↦ absurd (both_ways (nat_lt (greatest - margin) c.serial) parts.3 (lt-ltb (greatest - margin) c.serial lt))
       | inr le ↦ omega (arith, le)
     ];
-    shape = λ width. shape_of want few_plexes width (not_false (is_shape want) parts.4);
-    blocks = few_blocks want (not_false (is_shape want) parts.4);
+    shape = λ width. shape_of want few_plexes width (not-false (is_shape want) parts.4);
+    blocks = few_blocks want (not-false (is_shape want) parts.4);
   }
 
 -- no volume has the name

@@ -14,6 +14,7 @@ use Rattle.vx_volume.specs.Volumes.{PlexBlamed}
 use Rattle.vx_volume.proofs.PlaceLemmas.{active_few}
 use Rattle.vx_kept.specs.Finds.{FindsFrom, NoConfiguration}
 use Rattle.vx_kept.proofs.Findings.{same_from, then_from}
+use Rattle.vx_resync.proofs.CauseLemmas.{blamed_since}
 use Rattle.vx_group.specs.Attaches.{Attaches, CopyTried, SourcesTried}
 use Rattle.vx_group.specs.Blames.{Blames}
 use Rattle.vx_group.specs.Stands.{InnerStands}
@@ -21,7 +22,7 @@ use Rattle.vx_group.specs.declared.inner.Inner.{Inner}
 use Rattle.vx_group.proofs.AttachLemmas.{narrows_attaches, then_attaches}
 use Rattle.vx_group.proofs.RegainLemmas.{same_narrows}
 use Rattle.vx_group.proofs.Standing.{some_active, sound_of}
-use Rattle.vx_group.proofs.UsesLemmas.{blamed_before, blamed_by, blamed_later}
+use Rattle.vx_group.proofs.UsesLemmas.{blamed_before, blamed_by}
 use Rattle.vx_group.proofs.LoseLemmas.{none_parts}
 
 -- a configuration in which plexes lie on the same disks
@@ -71,8 +72,8 @@ module _ (core : Inner) (v p : ℕ) (f : Option Missed) (n device : ℕ) (m0 m1 
     either q (inr to) = inr (blamed_before core.config v p m0 m1 m2 after to)
 
     newer : (q : ℕ) → PlexBlamed core.config v q m1 m2 ⊎ PlexBlamed core.config v p m1 m2 → PlexBlamed core.config v q m0 m2 ⊎ PlexBlamed core.config v p m0 m2
-    newer q (inl from) = inl (blamed_later core.config v q m0 m1 m2 before from)
-    newer q (inr to) = inr (blamed_later core.config v p m0 m1 m2 before to)
+    newer q (inl from) = inl (blamed_since core.config v q m0 m1 m2 before from)
+    newer q (inr to) = inr (blamed_since core.config v p m0 m1 m2 before to)
 
     pub all_attaches : Attaches v p f core core m0 m2
     all_attaches = then_attaches v p f core core core m0 m1 m2 so_far.attaches one_more

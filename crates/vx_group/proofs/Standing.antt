@@ -20,7 +20,7 @@ use Rattle.vx_kept.specs.Finds.{FindsFrom, NoConfiguration}
 use Rattle.vx_kept.specs.Groups.{PlacesApart, HasActive}
 use Rattle.vx_kept.specs.Keeping.{AllOn, IsTidy, Kept}
 use Rattle.vx_kept.proofs.Facts.{from_fact, from_tidy, to_fact, to_tidy}
-use Rattle.vx_kept.proofs.Committed.{fewer}
+use Rattle.vx_kept.proofs.Committed.{fewer, member_same}
 use Rattle.vx_kept.proofs.Lasting.{low_Kept}
 use Rattle.vx_kept.proofs.Narrower.{has_active, stand_apart, wanted_sound}
 use Rattle.vx_kept.specs.Trusts.{Trusts}
@@ -107,10 +107,6 @@ made core m wanted can few small large on some kept tidy trusts = record {
 pub still_large : (m m' : Meaning) → m'.units ≡ m.units → ((u : ℕ) → m'.size u ≡ m.size u) → AreLarge m → AreLarge m'
 still_large m m' units size large = record { each = λ u lt. let was = large.each u (omega (arith, units, lt)) in omega (arith, was, size u) }
 
--- a set of disks goes by how many units there are
-pub member_to : (good : ℕ) (m m' : Meaning) → m'.units ≡ m.units → (u : ℕ) → Member good m' u → Member good m u
-member_to good m m' units u it = record { below = omega (arith, units, it.below); is = it.is }
-
 -- calls that write behind the configuration areas alone
 module _ (core : Inner) (W : Values) (m m' : Meaning) (goes : Goes W m m') (above : (u b : ℕ) (x : List ℕ) → W u b x → 512 ≤ b) (lawful : Lawful m) (lawful' : Lawful m') (stands : InnerStands core m) where
   low_same : (u b : ℕ) (v : List ℕ) → b < 512 → m'.leaves u b v → m.leaves u b v
@@ -131,7 +127,7 @@ module _ (core : Inner) (W : Values) (m m' : Meaning) (goes : Goes W m m') (abov
     large = still_large m m' goes.units goes.size stands.large;
     on = stands.on;
     some = stands.some;
-    kept = to_fact core.config (Member core.good m') m' (fewer core.config (Member core.good m) (Member core.good m') m' (member_to core.good m m' goes.units)
+    kept = to_fact core.config (Member core.good m') m' (fewer core.config (Member core.good m) (Member core.good m') m' (member_same core.good m m' goes.units)
         (low_Kept core.config (Member core.good m) m m' W goes above lawful lawful' (kept_of core m stands)));
     tidy = λ is. record {
       goes = λ u v w x y held in_v in_w in_x in_y. (stands.tidy is).goes u v w x y (record { below = let lt : u < m'.units = held.below in omega (arith, goes.units, lt); good = held.good })

@@ -29,6 +29,7 @@ use Rattle.vx_group.specs.Copying.{NoMember}
 use Rattle.vx_group.specs.Dets.{any_below, is_other}
 use Rattle.vx_config.specs.Checks.{plexes_of}
 use Rattle.std.specs.Prelude.{slice_get}
+use Rattle.vx_resync.proofs.CauseLemmas.{blamed_since}
 use Rattle.vx_group.specs.GivesUp.{EachBlamed, GivesUp}
 use Rattle.vx_group.specs.Holding.{active_at, GroupStands, HeldAgain, HeldBack, config_by, wide}
 use Rattle.vx_group.specs.Loses.{AnyBlamed, LosesPlexes, SameParts}
@@ -44,7 +45,7 @@ use Rattle.vx_group.proofs.CopyLemmas.{loose_Acts, sees_none, sees_wider}
 use Rattle.vx_group.proofs.FailingLemmas.{then_failing}
 use Rattle.vx_group.proofs.HoldLemmas.{any_of, narrow_some, back_Stands, back_others, back_wide, e_volumes, narrow_wider, none_Stands, wide_none}
 use Rattle.vx_group.proofs.OpeningLemmas.{here_or_apart}
-use Rattle.vx_group.proofs.UsesLemmas.{blamed_by, blamed_later, uses_stated, uses_volumes}
+use Rattle.vx_group.proofs.UsesLemmas.{blamed_by, uses_stated, uses_volumes}
 use Rattle.vx_group.proofs.LoseLemmas.{then_parts}
 
 there_less : {A : Type 0} (xs : List A) (k : ℕ) (x : A) → slice_get xs k ≡ Some x → k < length xs
@@ -163,7 +164,7 @@ pub again_none : (o : Option Held) (c2 c3 : GroupCore) → o ≡ None → c2.hel
 again_none None c2 c3 is none same = ap (λ (k : GroupCore). k.held) same ∙ none
 again_none (Some h) c2 c3 is none back = absurd (let no_one : Some h ≡ None = is in cc)
 
-by_uses : (o : Option Held) (c : Config) (w q u : ℕ) → uses (config_by o c) w q u ≡ uses c w q u
+pub by_uses : (o : Option Held) (c : Config) (w q u : ℕ) → uses (config_by o c) w q u ≡ uses c w q u
 by_uses None c w q u = refl
 by_uses (Some h) c w q u = uses_stated h.vol h.plex Active (whole_of c h.vol h.plex) c w q u
 
@@ -223,7 +224,7 @@ module _ (c0 mid c2 new : GroupCore) (x : Inner) (m m1 m2 : Meaning) (stands : G
   x_uses w q u = ap (λ (i : Inner). uses i.config w q u) x_is ∙ by_uses mid.held mid.inner.config w q u ∙ uses_volumes c0.inner.config mid.inner.config volumes w q u
 
   blamed_first : (w q : ℕ) → PlexBlamed x.config w q m1 m2 → PlexBlamed c0.inner.config w q m m2
-  blamed_first w q blamed = blamed_later c0.inner.config w q m m1 m2 narrows.acts.faults (blamed_by c0.inner.config x.config w q m1 m2 (x_uses w q) blamed)
+  blamed_first w q blamed = blamed_since c0.inner.config w q m m1 m2 narrows.acts.faults (blamed_by c0.inner.config x.config w q m1 m2 (x_uses w q) blamed)
 
   -- a plex that is ACTIVE was so, or it is the one that was held back, and another one of its volume failed
   held_vol : (h : Held) → mid.held ≡ Some h → h.vol < length mid.inner.config.volumes

@@ -3,7 +3,7 @@ use Rattle.std.proofs.Common.{◌≡◌, inl, inr, ℕ, zero, suc, ◌≤◌, Bo
 use Rattle.std.specs.Prelude.{if◌then◌else◌, slice_get}
 use Rattle.vx_disk.specs.Blocks.{bit_at}
 use Rattle.vx_disk.specs.Shelf.{Meaning}
-use Rattle.vx_disk.proofs.Causing.{Rose_after, Rose_before}
+use Rattle.vx_disk.proofs.Causing.{Rose_after}
 use Rattle.vx_model.specs.declared.site.PlexState.{PlexState}
 use Rattle.vx_model.specs.declared.site.PlexState.TheVariants.{Stale}
 use Rattle.vx_config.specs.Changes.{stated, with_state}
@@ -45,9 +45,6 @@ uses_staled v set c (suc n) x q u = by (bit_at set n) (uses_staled v set c n x q
 
 pub blamed_by : (c d : Config) (v p : ℕ) (old new : Meaning) → ((u : ℕ) → uses d v p u ≡ uses c v p u) → PlexBlamed d v p old new → PlexBlamed c v p old new
 blamed_by c d v p old new same blamed = record { disk = blamed.disk; is_its = sym (same blamed.disk) ∙ blamed.is_its; rose = blamed.rose }
-
-pub blamed_later : (c : Config) (v p : ℕ) (old mid new : Meaning) → ((u : ℕ) → old.faults u ≤ mid.faults u) → PlexBlamed c v p mid new → PlexBlamed c v p old new
-blamed_later c v p old mid new le blamed = record { disk = blamed.disk; is_its = blamed.is_its; rose = Rose_before (old.faults blamed.disk) (mid.faults blamed.disk) (new.faults blamed.disk) (le blamed.disk) blamed.rose }
 
 pub blamed_before : (c : Config) (v p : ℕ) (old mid new : Meaning) → ((u : ℕ) → mid.faults u ≤ new.faults u) → PlexBlamed c v p old mid → PlexBlamed c v p old new
 blamed_before c v p old mid new le blamed = record { disk = blamed.disk; is_its = blamed.is_its; rose = Rose_after (old.faults blamed.disk) (mid.faults blamed.disk) (new.faults blamed.disk) blamed.rose (le blamed.disk) }

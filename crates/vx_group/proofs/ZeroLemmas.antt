@@ -10,11 +10,13 @@ use Rattle.vx_disk.proofs.Runs.{both_Goes, same_Goes, weaker}
 use Rattle.vx_wire.specs.Fields.{zero_bytes}
 use Rattle.vx_config.specs.Checks.{blocks_of}
 use Rattle.vx_config.specs.declared.config.Config.{Config}
-use Rattle.vx_volume.specs.Plexes.{InRun, Inside}
+use Rattle.vx_volume.specs.Plexes.{InRun}
 use Rattle.vx_volume.specs.Volumes.{AllBut, LastPlexFailed, OnPlexes, PlexFlushed, PlexWrote}
 use Rattle.vx_volume.specs.declared.sets.Failed.{Failed}
+use Rattle.vx_volume.proofs.CopyLemmas.{run_inside}
 use Rattle.vx_group.specs.Blames.{Blames}
-use Rattle.vx_group.specs.Makes.{AreZero, EachFlushed, ZeroBelow, ZeroLoop, ZeroRun, ZerosOn}
+use Rattle.vx_group.specs.Makes.{AreZero, ZeroBelow, ZeroLoop, ZeroRun, ZerosOn}
+use Rattle.vx_group.specs.Moves.{AllFlushed}
 use Rattle.vx_group.proofs.DetachLemmas.{zero_bit}
 
 -- ---- a run
@@ -22,9 +24,6 @@ use Rattle.vx_group.proofs.DetachLemmas.{zero_bit}
 piece_zero : (block count k : ℕ) → block ≤ k → k < block + count → piece block (zero_bytes (512 * count)) k ≡ zero_bytes 512
 piece_zero block count k first last =
     ap (take 512) (drop-replicate (512 * (k - block)) (512 * count) 0) ∙ take-replicate 512 (512 * count - 512 * (k - block)) 0 (omega (arith, first, last))
-
-pub inside_run : (c : Config) (v block count k : ℕ) → v < length c.volumes → block + count ≤ blocks_of c.volumes v → InRun block count k → Inside c v k
-inside_run c v block count k volume within run = record { volume = volume; within = let last : k < block + count = run.last in omega (arith, last, within) }
 
 pub run_is : (count : ℕ) → count ≤ 16 → take (512 * count) (replicate 8192 0) ≡ zero_bytes (512 * count)
 run_is count few = take-replicate (512 * count) 8192 0 (omega (arith, few))
@@ -43,7 +42,7 @@ module _ (c : Config) (v block count : ℕ) (bytes : List ℕ) (old new : Meanin
     plex = put.plex;
     number = put.put.number;
     is_on = put.is_on;
-    inside = inside_run c v block count put.put.number volume within (record { first = put.put.run.first; last = let last : put.put.number < block + length bytes / 512 = put.put.run.last in omega (arith, last, n) });
+    inside = run_inside c v block count put.put.number volume within (record { first = put.put.run.first; last = let last : put.put.number < block + length bytes / 512 = put.put.run.last in omega (arith, last, n) });
     at = put.put.at;
     value = value_of put.put.number x put.put.run put.put.value;
   })
@@ -60,7 +59,7 @@ module _ (c : Config) (v block count : ℕ) (bytes : List ℕ) (old new : Meanin
 pub some_failed : (failed : Failed) (old new : Meaning) → (failed.set ≡ 0 → ⊥) → LastPlexFailed failed old new → (IsTrue new.down → ⊥) → Blames {T = Unit {0}} old new (Err (Fault failed.disk))
 some_failed failed old new some last up = (last.rose (omega (arith, some)), up)
 
-pub each_flushed : (c : Config) (v : ℕ) (failed : Failed) (old new : Meaning) → failed.set ≡ 0 → AllBut c v (bit_at failed.set) (λ p. PlexFlushed c v p old new) old new → EachFlushed c v old new
+pub each_flushed : (c : Config) (v : ℕ) (failed : Failed) (old new : Meaning) → failed.set ≡ 0 → AllBut c v (bit_at failed.set) (λ p. PlexFlushed c v p old new) old new → AllFlushed c v old new
 each_flushed c v failed old new none all = record { each = λ p is_on. all.is_done p is_on (zero_bit failed.set p none) }
 
 -- ---- all runs
@@ -98,12 +97,12 @@ zero_end c v done blocks n old m loop is le = record { each = λ p k x is_on in_
 
 -- ---- zeros that a crash leaves
 
-pub all_zero : (c : Config) (v : ℕ) (m m' : Meaning) → ZeroBelow c v (blocks_of c.volumes v) m → EachFlushed c v m m' → AreZero c v m'
+pub all_zero : (c : Config) (v : ℕ) (m m' : Meaning) → ZeroBelow c v (blocks_of c.volumes v) m → AllFlushed c v m m' → AreZero c v m'
 all_zero c v m m' below flushed = record { each = λ p k x is_on in_it left. below.each p k x is_on in_it in_it.within ((flushed.each p is_on).each k x in_it left) }
 
 pub zero_flushed : (c : Config) (v : ℕ) (old m m' : Meaning) → Goes (ZerosOn c v) old m → Goes Nothing m m' → Goes (ZerosOn c v) old m'
 zero_flushed c v old m m' goes flush = weaker (Or (ZerosOn c v) Nothing) (ZerosOn c v) old m' (both_Goes (ZerosOn c v) Nothing old m m' goes flush) (λ u b x. ⊎_elim (λ put. put) (λ none. absurd none))
 
-pub zero_all : {T E : Type 0} (c : Config) (v : ℕ) (m m' : Meaning) → ZeroBelow c v (blocks_of c.volumes v) m → (r : Result T E) → OnOk r (EachFlushed c v m m') → OnOk r (AreZero c v m')
+pub zero_all : {T E : Type 0} (c : Config) (v : ℕ) (m m' : Meaning) → ZeroBelow c v (blocks_of c.volumes v) m → (r : Result T E) → OnOk r (AllFlushed c v m m') → OnOk r (AreZero c v m')
 zero_all c v m m' below (Ok x) flushed = all_zero c v m m' below flushed
 zero_all c v m m' below (Err e) flushed = tt

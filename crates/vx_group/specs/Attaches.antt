@@ -47,18 +47,18 @@ pub record MayAttach (c : Config) (v p : ℕ) : Type 0 where
 abbrev pub attached : ℕ → ℕ → Config → Config
 attached v p c = stated v p Active false c
 
--- the regions of a volume, which an attach copies where there is no map
-abbrev pub copied_regions : Config → ℕ → ℕ
-copied_regions c v = regions_of (blocks_of c.volumes v)
+-- the regions of a volume; an attach copies all of them where there is no map
+abbrev pub region_count : Config → ℕ → ℕ
+region_count c v = regions_of (blocks_of c.volumes v)
 
 -- how many regions an attach copies: those that the plex has missed by its map, or all where there is none
 abbrev pub missed_regions : Config → ℕ → ℕ → Option Missed → ℕ
-missed_regions c v p f = picked_below (missed_or p f) (copied_regions c v)
+missed_regions c v p f = picked_below (missed_or p f) (region_count c v)
 
 -- What a map knows of a plex: it has a bit for each region of the volume, and in each region that it has not the plex reads what each plex that is ACTIVE
 -- reads.
 pub record KnowsMissed (c : Config) (v p : ℕ) (f : Option Missed) (m : Meaning) : Type 0 where
-  pub reach : FmrReaches (copied_regions c v) p f
+  pub reach : FmrReaches (region_count c v) p f
   pub each : (q : ℕ) → IsTrue (active c v q) → MissesOnly c v q p (missed_or p f) m
 
 -- any value at a place of this plex in a region that it has missed

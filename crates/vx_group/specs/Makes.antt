@@ -26,7 +26,6 @@ use Rattle.vx_layout.specs.Space.{IsFound, IsSpaceShort}
 use Rattle.vx_layout.specs.declared.shape.Found.{Found}
 use Rattle.vx_layout.specs.declared.shape.Shape.{Shape}
 use Rattle.vx_volume.specs.Plexes.{Inside, active}
-use Rattle.vx_volume.specs.Volumes.{PlexFlushed}
 use Rattle.vx_kept.specs.Groups.{group_meaning}
 use Rattle.vx_kept.specs.Keeping.{Acts, Extends}
 use Rattle.vx_maplog.specs.Logs.{log_in, used_or}
@@ -109,10 +108,6 @@ pub record ZeroLoop (c : Config) (v count blocks : ℕ) (old m : Meaning) : Type
 -- a crash leaves zeros in each block of each plex
 pub record AreZero (c : Config) (v : ℕ) (m : Meaning) : Type 0 where
   pub each : (p k : ℕ) (x : List ℕ) → IsTrue (active c v p) → Inside c v k → m.leaves (place c v p k).0 (place c v p k).1 x → x ≡ zero_bytes BLOCK
-
--- each plex was flushed
-pub record EachFlushed (c : Config) (v : ℕ) (old new : Meaning) : Type 0 where
-  pub each : (p : ℕ) → IsTrue (active c v p) → PlexFlushed c v p old new
 
 -- ---- what is left alone
 

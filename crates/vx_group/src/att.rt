@@ -24,7 +24,7 @@ use crate::releasing::release;
 use vx_config::Config;
 use vx_disk::{Shelf, ShelfError, refusal};
 use vx_fmr::Fmr;
-use vx_model::limits::{COMMIT_MARGIN, MOST_NUMBER};
+use vx_model::limits::{COMMIT_MARGIN, COMMIT_SERIALS, MOST_NUMBER};
 use vx_model::{Counted, Named, No, Stop};
 use vx_volume::{is_active, plex_count};
 
@@ -61,7 +61,7 @@ fn attach_held<S: Shelf>(
 ) -> Result<u64, ShelfError>
     requires stands { InnerStands core.old (S.meaning shelf.old) }
     requires may { MayAttach core.old.config vol plex }
-    requires more { core.old.config.serial + 9 < greatest }
+    requires more { core.old.config.serial + COMMIT_SERIALS < greatest }
     requires off { active core.old.config vol plex ≡ false }
     requires knows { KnowsMissed core.old.config vol plex (option_copied fmr) (S.meaning shelf.old) }
     requires up { IsTrue (S.meaning shelf.old).down → ⊥ }

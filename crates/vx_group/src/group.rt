@@ -6,7 +6,7 @@ ghost use Rattle.vx_disk.specs.Racks.{Alike, Stopped};
 ghost use Rattle.vx_disk.specs.Shelf.{DisksFlushed, DisksWrote, Fits, Flushed, Goes, Nothing, Read, Written, Wrote};
 ghost use Rattle.vx_config.specs.Table.{greatest};
 ghost use Rattle.vx_copies.specs.Commits.{MoreFailed};
-ghost use Rattle.vx_group.specs.Attaches.{GroupAttachEnds, att_refusal, copied_regions};
+ghost use Rattle.vx_group.specs.Attaches.{GroupAttachEnds, att_refusal, region_count};
 ghost use Rattle.vx_group.specs.Deports.{DeportStops, GroupCanImport};
 ghost use Rattle.vx_group.specs.Dets.{DetStops, det_refusal, margin};
 ghost use Rattle.vx_group.specs.Loses.{LosesPlexes, SameParts, TrustsStill};
@@ -202,7 +202,7 @@ impl<S: Shelf> Group<S> {
     pub fn att(&mut self, vol: u32, plex: u32) -> Result<u64, Stop>
         ensures refused { (no : NoValue) → att_refusal self.old.core.inner.config vol plex ≡ Some no → (result ≡ Err (Refused no)) × (self.new.core ≡ self.old.core) × (self.new.shelf ≡ self.old.shelf) }
         ensures already { att_refusal self.old.core.inner.config vol plex ≡ None → IsTrue (active self.old.core.inner.config vol plex) → (result ≡ Ok 0) × (self.new.core ≡ self.old.core) × (self.new.shelf ≡ self.old.shelf) }
-        ensures count { active self.old.core.inner.config vol plex ≡ false → IfOk result (λ n. n ≡ copied_regions self.old.core.inner.config vol) }
+        ensures count { active self.old.core.inner.config vol plex ≡ false → IfOk result (λ n. n ≡ region_count self.old.core.inner.config vol) }
         ensures attaches { GroupAttaches vol plex None self.old.core self.new.core (S.meaning self.old.shelf) (S.meaning self.new.shelf) }
         ensures ends { active self.old.core.inner.config vol plex ≡ false → GroupAttachEnds vol plex self.new.core.inner.config (S.meaning self.new.shelf) result }
         ensures regains { Regains self.old.core.inner.config self.new.core.inner.config vol plex (S.meaning self.old.shelf) (S.meaning self.new.shelf) }

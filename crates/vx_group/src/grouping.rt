@@ -22,7 +22,7 @@ use crate::releasing::release;
 use crate::settling::settle_headers;
 use vx_config::{Config, check};
 use vx_disk::{Shelf, ShelfError, refusal};
-use vx_model::limits::{COMMIT_MARGIN, MOST_NUMBER};
+use vx_model::limits::{COMMIT_MARGIN, COMMIT_SERIALS, MOST_NUMBER};
 use vx_model::{Counted, No, Stop, Units};
 use vx_volume::Failed;
 
@@ -85,7 +85,7 @@ fn commit_rvg<S: Shelf>(shelf: &mut S, core: &mut Inner, units: &Units) -> Resul
 fn name_rvg<S: Shelf>(shelf: &mut S, core: &mut GroupCore, units: &Units) -> Result<(), Stop>
     requires stands { GroupStands core.old (S.meaning shelf.old) }
     requires may { is_group core.old.inner.config.volumes units.now ≡ true }
-    requires more { core.old.inner.config.serial + 9 < greatest }
+    requires more { core.old.inner.config.serial + COMMIT_SERIALS < greatest }
     ensures stands { GroupStands core.new (S.meaning shelf.new) }
     ensures goes { Goes Nothing (inner_meaning (wide core.old) (S.meaning shelf.old)) (inner_meaning (wide core.new) (S.meaning shelf.new)) }
     ensures narrows { GroupNarrows core.old core.new (S.meaning shelf.old) (S.meaning shelf.new) }

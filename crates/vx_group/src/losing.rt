@@ -22,6 +22,7 @@ use vx_config::VolumeLog;
 use vx_copies::good_of;
 use vx_disk::{Shelf, ShelfError};
 use vx_kept::commit_lost;
+use vx_model::limits::COMMIT_SERIALS;
 
 // The commit, of a group of which none was refused.
 fn lose_settled<S: Shelf>(
@@ -92,7 +93,7 @@ pub fn lose_log<S: Shelf>(
     ensures lost { OnOk result (log_trusted core.new.config vol log ≡ false) }
     ensures others { (w : ℕ) (k : VolumeLogValue) → (w ≡ vol → k ≡ log → ⊥) → log_of core.new.config w k ≡ log_of core.old.config w k }
     ensures settled { OnOk result (core.new.unsettled ≡ false) }
-    ensures few { OnOk result (core.new.config.serial ≤ core.old.config.serial + 9) }
+    ensures few { OnOk result (core.new.config.serial ≤ core.old.config.serial + COMMIT_SERIALS) }
     ensures failing { MoreFailed (S.meaning shelf.old) (S.meaning shelf.new) core.old.config.disks core.new.config.disks }
     ensures parts { SameParts core.old.config core.new.config }
     ensures keeps { KeepsVolumes core.old.config core.new.config result }

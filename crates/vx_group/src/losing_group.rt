@@ -20,7 +20,7 @@ use crate::losing::lose_log;
 use crate::releasing::release;
 use vx_config::VolumeLog;
 use vx_disk::{Shelf, ShelfError};
-use vx_model::limits::MOST_NUMBER;
+use vx_model::limits::{COMMIT_SERIALS, MOST_NUMBER};
 
 // Commits that a log of a volume is lost, while a serial is left, and answers whether one was.
 fn lose_in<S: Shelf>(
@@ -38,7 +38,7 @@ fn lose_in<S: Shelf>(
     ensures plexes { (w p : ℕ) → plex_at core.new.config w p ≡ plex_at core.old.config w p }
     ensures lost { IfOk result (λ done. done ≡ true → log_trusted core.new.config vol log ≡ false) }
     ensures full { IfOk result (λ done. done ≡ false → greatest ≤ core.old.config.serial) }
-    ensures few { OnOk result (core.new.config.serial ≤ core.old.config.serial + 9) }
+    ensures few { OnOk result (core.new.config.serial ≤ core.old.config.serial + COMMIT_SERIALS) }
     ensures trust { OnOk result (core.old.committed ≡ true → core.new.committed ≡ true) }
     ensures agreed { IfErr result (λ e. core.old.committed ≡ true → core.new.agreed ≡ true) }
     ensures finds { CoreFinds core.old core.new (S.meaning shelf.old) (S.meaning shelf.new) }
@@ -78,8 +78,8 @@ pub fn lose_group<S: Shelf>(
     ensures loses { LosesPlexes core.old.inner.config core.new.inner.config (S.meaning shelf.old) (S.meaning shelf.new) }
     ensures still { core.old.held ≡ None → (w p : ℕ) → active core.new.inner.config w p ≡ active core.old.inner.config w p }
     ensures lost { IfOk result (λ done. done ≡ true → log_trusted (wide core.new).config vol log ≡ false) }
-    ensures full { IfOk result (λ done. done ≡ false → greatest ≤ core.old.inner.config.serial + 9) }
-    ensures few { OnOk result (core.new.inner.config.serial ≤ core.old.inner.config.serial + 18) }
+    ensures full { IfOk result (λ done. done ≡ false → greatest ≤ core.old.inner.config.serial + COMMIT_SERIALS) }
+    ensures few { OnOk result (core.new.inner.config.serial ≤ core.old.inner.config.serial + 2 * COMMIT_SERIALS) }
     ensures trust { OnOk result (core.old.inner.committed ≡ true → core.new.inner.committed ≡ true) }
     ensures agreed { IfErr result (λ e. core.old.inner.committed ≡ true → core.new.inner.agreed ≡ true) }
     ensures finds { GroupFinds core.old core.new (S.meaning shelf.old) (S.meaning shelf.new) }

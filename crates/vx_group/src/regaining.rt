@@ -19,6 +19,7 @@ use crate::marking::hold_good;
 use crate::settling::settle_named;
 use vx_config::Config;
 use vx_disk::{Shelf, ShelfError};
+use vx_model::limits::COMMIT_SERIALS;
 use vx_volume::{Failed, uses};
 
 // Holds a disk as good where the plex lies on it, and tells whether it was held as failed, or another one before.
@@ -127,7 +128,7 @@ pub fn regain<S: Shelf>(
     ensures narrows { Narrows core.old core.new (S.meaning shelf.old) (S.meaning shelf.new) }
     ensures volumes { core.new.config.volumes ≡ core.old.config.volumes }
     ensures parts { SameParts core.old.config core.new.config }
-    ensures few { OnOk result (core.new.config.serial ≤ core.old.config.serial + 9) }
+    ensures few { OnOk result (core.new.config.serial ≤ core.old.config.serial + COMMIT_SERIALS) }
     ensures regains { Regains core.old.config core.new.config vol plex (S.meaning shelf.old) (S.meaning shelf.new) }
     ensures held { OnOk result (HoldsNow core.old.config core.new.config vol plex (S.meaning shelf.new)) }
     ensures trust { OnOk result (core.old.committed ≡ true → core.new.committed ≡ true) }

@@ -20,7 +20,7 @@ use crate::holding::{hold_back, open_held};
 use crate::inner::Inner;
 use crate::settling::settle_headers;
 use vx_disk::{Shelf, ShelfError};
-use vx_model::limits::{MOST_NUMBER, MOST_PLEXES};
+use vx_model::limits::{COMMIT_SERIALS, MOST_NUMBER, MOST_PLEXES};
 use vx_volume::{Failed, set_of};
 
 /// Detaches a plex that is ACTIVE beside another one, by one commit.
@@ -44,7 +44,7 @@ pub fn detach_plex<S: Shelf>(
     ensures keeps { KeepsVolumes core.old.config core.new.config result }
     ensures parts { SameParts core.old.config core.new.config }
     ensures failing { MoreFailed (S.meaning shelf.old) (S.meaning shelf.new) core.old.config.disks core.new.config.disks }
-    ensures few { OnOk result (core.new.config.serial ≤ core.old.config.serial + 9) }
+    ensures few { OnOk result (core.new.config.serial ≤ core.old.config.serial + COMMIT_SERIALS) }
     ensures missed { IfErr result (λ e. NoCommit core.new (S.meaning shelf.new)) }
     ensures trust { OnOk result (core.old.committed ≡ true → core.new.committed ≡ true) }
     ensures agreed { IfErr result (λ e. core.old.committed ≡ true → core.new.agreed ≡ true) }
@@ -73,7 +73,7 @@ pub fn release<S: Shelf>(shelf: &mut S, core: &mut GroupCore) -> Result<(), Shel
     ensures volumes { core.new.inner.config.volumes ≡ core.old.inner.config.volumes }
     ensures parts { SameParts core.old.inner.config core.new.inner.config }
     ensures failing { MoreFailed (S.meaning shelf.old) (S.meaning shelf.new) core.old.inner.config.disks core.new.inner.config.disks }
-    ensures few { OnOk result (core.new.inner.config.serial ≤ core.old.inner.config.serial + 9) }
+    ensures few { OnOk result (core.new.inner.config.serial ≤ core.old.inner.config.serial + COMMIT_SERIALS) }
     ensures done { core.old.inner.config.serial < greatest → OnOk result (core.new.held ≡ None) }
     ensures none { core.old.held ≡ None → (core.new ≡ core.old) × (shelf.new ≡ shelf.old) }
     ensures idle { core.old.held ≡ None → IsOk result }

@@ -21,7 +21,7 @@ use crate::inner::Inner;
 use crate::settling::settle_headers;
 use vx_config::{Config, VolumeLog};
 use vx_disk::{Shelf, ShelfError};
-use vx_model::limits::MOST_NUMBER;
+use vx_model::limits::{COMMIT_SERIALS, MOST_NUMBER};
 use vx_volume::Failed;
 
 // Says of a log of a volume that it is not lost. It takes no memory.
@@ -48,7 +48,7 @@ fn trust_log<S: Shelf>(
     ensures acts { PlexActs Nothing (lost_is vol log false core.old.config) core.new.config (S.meaning shelf.old) (S.meaning shelf.new) }
     ensures loses { LosesPlexes core.old.config core.new.config (S.meaning shelf.old) (S.meaning shelf.new) }
     ensures plexes { (w p : ℕ) → plex_at core.new.config w p ≡ plex_at core.old.config w p }
-    ensures few { OnOk result (core.new.config.serial ≤ core.old.config.serial + 9) }
+    ensures few { OnOk result (core.new.config.serial ≤ core.old.config.serial + COMMIT_SERIALS) }
     ensures faults { core.new.faults ≡ core.old.faults }
     ensures unsure { core.new.unsure ≡ core.old.unsure }
     ensures volumes { OnOk result (core.new.config.volumes ≡ (lost_is vol log false core.old.config).volumes) }
@@ -88,7 +88,7 @@ pub fn trust_group<S: Shelf>(
     ensures acts { PlexActs Nothing (lost_is vol log false (wide core.old).config) (wide core.new).config (S.meaning shelf.old) (S.meaning shelf.new) }
     ensures loses { LosesPlexes core.old.inner.config core.new.inner.config (S.meaning shelf.old) (S.meaning shelf.new) }
     ensures still { (w p : ℕ) → active core.new.inner.config w p ≡ active core.old.inner.config w p }
-    ensures few { OnOk result (core.new.inner.config.serial ≤ core.old.inner.config.serial + 9) }
+    ensures few { OnOk result (core.new.inner.config.serial ≤ core.old.inner.config.serial + COMMIT_SERIALS) }
     ensures faults { core.new.inner.faults ≡ core.old.inner.faults }
     ensures unsure { core.new.inner.unsure ≡ core.old.inner.unsure }
     ensures volumes { IfOk result (λ done. done ≡ true → core.new.inner.config.volumes ≡ (lost_is vol log false core.old.inner.config).volumes) }

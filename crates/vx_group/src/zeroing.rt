@@ -4,7 +4,8 @@ ghost use Rattle.vx_config.specs.Checks.{blocks_of as blocks_of_is, is_sound};
 ghost use Rattle.vx_disk.specs.Shelf.{Goes, Nothing};
 ghost use Rattle.vx_volume.specs.Plexes.{DisksFit, SomeActive};
 ghost use Rattle.vx_group.specs.Blames.{Blames};
-ghost use Rattle.vx_group.specs.Makes.{AreZero, EachFlushed, ZeroBelow, ZeroRun, ZerosOn};
+ghost use Rattle.vx_group.specs.Makes.{AreZero, ZeroBelow, ZeroRun, ZerosOn};
+ghost use Rattle.vx_group.specs.Moves.{AllFlushed};
 
 use crate::detaching::fault_of;
 use vx_config::{Config, blocks_of};
@@ -74,7 +75,7 @@ fn flush_each<S: Shelf>(shelf: &mut S, config: &Config, vol: u32) -> Result<(), 
     requires disks { DisksFit config.now.disks (S.meaning shelf.old) }
     requires up { IsTrue (S.meaning shelf.old).down → ⊥ }
     ensures goes { Goes Nothing (S.meaning shelf.old) (S.meaning shelf.new) }
-    ensures ok { OnOk result (EachFlushed config.now vol (S.meaning shelf.old) (S.meaning shelf.new)) }
+    ensures ok { OnOk result (AllFlushed config.now vol (S.meaning shelf.old) (S.meaning shelf.new)) }
     ensures cause { Blames (S.meaning shelf.old) (S.meaning shelf.new) result }
 {
     match flush_all(config, vol, shelf) {

@@ -1,9 +1,9 @@
 -- What an import that was refused leaves of the note of a site: nothing, or that it is not known any more what its disks hold.
 use Rattle.std.proofs.Common.{◌≡◌, ◌⊎◌, inl, inr, ℕ, Bool, true, false, refl}
 use Rattle.vx_model.specs.declared.no.No.{No}
+use Rattle.vx_model.specs.Refusals.{IsNoDevice}
 use Rattle.vx_history.specs.Groups.{GroupNode}
 use Rattle.vx_grouped.specs.GroupNotes.{note_dimmed}
-use Rattle.vx_events.specs.Ends.{IsNoDevice}
 use Rattle.vx_events.specs.Fails.{Fails}
 use Rattle.vx_events.specs.GroupEnds.{KnowsNothing, NotFound, NotFoundLeaves}
 use Rattle.vx_events.specs.GroupNotes.{NotesRefused, NotesShort}

@@ -5,6 +5,7 @@ use Rattle.std.proofs.lemmas.Bool.{cases_eq}
 use Rattle.std.proofs.lemmas.Bool.Decides.{nat_tests}
 use Rattle.std.proofs.lemmas.List.Sums.{sum_by-cons}
 use Rattle.vx_disk.specs.Counts.{Rose}
+use Rattle.vx_grouped.proofs.ImageLemmas.{contains_next}
 use Rattle.vx_events.specs.Fails.{Fails}
 use Rattle.vx_events.specs.GroupEnds.{AreOf}
 use Rattle.vx_yard.specs.Stands.{RoseAll, RoseBy, times}
@@ -20,10 +21,6 @@ failed_calls s old new (suc k) = if has_risen (old k) (new k) then (s, k) ∷ fa
 
 risen : (old new : ℕ) → Rose old new → has_risen old new ≡ true
 risen old new rose = ⊎_elim (λ (less : old < new). grind (arith, nat_tests)) (λ (most : 2 ^ 64 - 1 ≤ new). grind (arith, nat_tests)) rose.rose
-
--- the item at a later place of a longer list
-pub contains_later : {A : Type 0} (x y : A) (xs : List A) → Contains xs x → Contains (y ∷ xs) x
-contains_later x y xs has = (suc has.0, omega (arith, has.1), has.2)
 
 pub contains_some : {A : Type 0} (xs : List A) (x : A) → Contains xs x → xs ≢ []
 contains_some [] x has none = absurd (omega (arith, has.1))
@@ -56,7 +53,7 @@ module _ (s : ℕ) (old new : ℕ → ℕ) where
   has_here k false is = absurd (cc)
 
   has_later : (k d : ℕ) (b : Bool) → Contains (here k) (s, d) → Contains (if b then (s, k) ∷ here k else here k) (s, d)
-  has_later k d true has = contains_later (s, d) (s, k) (here k) has
+  has_later k d true has = contains_next (s, d) (s, k) (here k) has
   has_later k d false has = has
 
   -- a disk whose count rose is named

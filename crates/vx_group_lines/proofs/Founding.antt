@@ -8,6 +8,7 @@ use Rattle.vx_model.specs.declared.no.No.{No}
 use Rattle.vx_model.specs.declared.no.No.TheVariants.{Device, NoConfig, Missing as Lacks, Limit, Damaged, Format}
 use Rattle.vx_model.specs.declared.site.SiteState.{SiteState}
 use Rattle.vx_model.specs.declared.site.SiteState.TheVariants.{Bare as IsBare, Up as IsUp}
+use Rattle.vx_model.specs.Refusals.{IsNoDevice}
 use Rattle.vx_config.specs.declared.config.Config.{Config}
 use Rattle.vx_disk.specs.Counts.{Rose}
 use Rattle.vx_disk.specs.declared.shelf.Shelf.{Ghosts}
@@ -32,7 +33,7 @@ use Rattle.vx_diskset.specs.Stands.{IsToldAt, SiteStands, faults_at}
 use Rattle.vx_diskset.specs.declared.disk_set.DiskSet.{DiskSet}
 use Rattle.vx_diskset.specs.declared.disk_set.DiskSet.TheVariants.{OfGroup}
 use Rattle.vx_events.specs.Doubts.{run_as}
-use Rattle.vx_events.specs.Ends.{DiskFails, Ends, FindsNone, FromBare, IsNoDevice}
+use Rattle.vx_events.specs.Ends.{DiskFails, Ends, FindsNone, FromBare}
 use Rattle.vx_events.specs.Facts.{seat_of, site_number}
 use Rattle.vx_events.specs.Fails.{Fails}
 use Rattle.vx_events.specs.GroupEnds.{FindsGroup, GroupEnds}

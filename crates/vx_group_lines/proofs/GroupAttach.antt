@@ -17,7 +17,6 @@ use Rattle.vx_history.specs.Doubts.{Doubted}
 use Rattle.vx_history.specs.Groups.{GroupNode, NoteSettles, NoteUnsettles, MissedNote}
 use Rattle.vx_history.specs.World.{Node}
 use Rattle.vx_volume.specs.Plexes.{active}
-use Rattle.vx_group.specs.Attaches.{copied_regions}
 use Rattle.vx_order.specs.declared.facts.VolumeFacts.{VolumeFacts}
 use Rattle.vx_script.specs.declared.line.ScriptLine.TheVariants.{PlexAttach}
 use Rattle.vx_maplog.specs.Logs.{log_of, log_or}
@@ -33,6 +32,7 @@ use Rattle.vx_diskset.specs.declared.disk_set.DiskSet.{DiskSet}
 use Rattle.vx_diskset.specs.declared.disk_set.DiskSet.TheVariants.{OfGroup}
 use Rattle.vx_diskset.specs.declared.group_set.GroupSet.{GroupSet}
 use Rattle.vx_volume.specs.Plexes.{uses}
+use Rattle.vx_group.specs.Attaches.{region_count}
 use Rattle.vx_events.specs.GroupConfigs.{ConfigLosesBut, lies_on_disk}
 use Rattle.vx_events.specs.GroupLines.{plain_number}
 use Rattle.vx_events.specs.GroupNotes.{note_at, Reconfigures}
@@ -57,7 +57,7 @@ use Rattle.vx_group_lines.proofs.MapLines.{att_named, copies_known, copies_unkno
 use Rattle.vx_group_lines.specs.Noting.{IsNotedRefusal, reply_noted}
 
 -- the regions of a volume, by its note
-regions_by : (note : GroupNode) (c : Config) (v : ℕ) → NotesConfig note c → copied_regions c v ≡ volume_regions note v
+regions_by : (note : GroupNode) (c : Config) (v : ℕ) → NotesConfig note c → region_count c v ≡ volume_regions note v
 regions_by note c v noted = ap (λ (o : Option Config). div_ceil (blocks_of (volumes_of o) v) REGION) (sym (notes_config note c noted))
 
 -- and whether it keeps a map of missed regions
@@ -88,7 +88,7 @@ module _ {R : Type 0} {g : Ghosts R} where
       }
       by_on false on noted =
           let it : CopiesRegions group.core.inner.config v k = all on in
-          let same : copied_regions group.core.inner.config v ≡ volume_regions note v = regions_by note group.core.inner.config v noted in
+          let same : region_count group.core.inner.config v ≡ volume_regions note v = regions_by note group.core.inner.config v noted in
           let stood : MapsOf note.maps group.core.inner.config (SiteUp group) = subst (λ (c : Config). MapsOf note.maps c (SiteUp group)) (sym (had.up group.core.inner.config refl)) had.maps in
           let copied : CopiesNoted note.maps group.core.inner.config v plex k = copies group.core.inner.config note.maps refl stood on in
           record {

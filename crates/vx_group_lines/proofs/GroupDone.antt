@@ -10,12 +10,12 @@ use Rattle.vx_disk.specs.declared.shelf.Shelf.{Ghosts}
 use Rattle.vx_config.specs.declared.config.Config.{Config}
 use Rattle.vx_history.specs.Doubts.{Doubted}
 use Rattle.vx_history.specs.Groups.{GroupNode, NoteSettles, NoteUnsettles}
-use Rattle.vx_history.specs.Steps.{burned, crashed}
+use Rattle.vx_history.specs.Steps.{burned, crashed, worked}
 use Rattle.vx_history.specs.World.{Node}
 use Rattle.vx_order.specs.declared.facts.SiteFacts.{SiteFacts}
 use Rattle.vx_script.specs.declared.line.ScriptLine.{ScriptLine}
 use Rattle.vx_grouped.specs.GroupSites.{UpNoted, site_disks, with_note}
-use Rattle.vx_grouped.specs.SiteEnds.{ConfigGoes, SiteCalled, burned_site}
+use Rattle.vx_grouped.specs.SiteEnds.{ConfigGoes, SiteCalled}
 use Rattle.vx_grouped.specs.declared.group_site.GroupSite.{GroupSite}
 use Rattle.vx_diskset.specs.GroupCalls.{OnSites}
 use Rattle.vx_diskset.specs.declared.disk_set.DiskSet.{DiskSet}
@@ -49,7 +49,7 @@ abbrev pub Turns : Type 1
 Turns = Meaning → Meaning → Config → Config → Type 0
 
 module _ {R : Type 0} {g : Ghosts R} where
-  burned_noted : (n : Node) (note : GroupNode) (e : GroupSite R g) → n.group ≡ Some note → UpNoted (burned_site n) note e → UpNoted (with_note note n) note e
+  burned_noted : (n : Node) (note : GroupNode) (e : GroupSite R g) → n.group ≡ Some note → UpNoted (worked n) note e → UpNoted (with_note note n) note e
   burned_noted n note e is noted = subst (λ (o : Option GroupNode). let m : Node = record n { group = o; fuse = burned n.fuse } in UpNoted m note e) is noted
 
   module _ (d : Doubted) (line : ScriptLine) (old new : Yard R g) (name : List ℕ) (s : ℕ) (before after : DiskSet R g) (stands : StandsFor d old) (it : Calling d line old new name s before after) where

@@ -11,7 +11,7 @@ use Rattle.vx_disk.specs.declared.shelf.Shelf.{Ghosts}
 use Rattle.vx_config.specs.declared.config.Config.{Config}
 use Rattle.vx_history.specs.Doubts.{Doubted, happened}
 use Rattle.vx_history.specs.Groups.{GroupNode, NoteUnsettles, MissedNote}
-use Rattle.vx_history.specs.Steps.{crashed, worked_on}
+use Rattle.vx_history.specs.Steps.{crashed, worked, worked_on}
 use Rattle.vx_history.specs.Stops.{IsFused}
 use Rattle.vx_history.specs.World.{Node}
 use Rattle.vx_history.specs.declared.event.Event.TheVariants.{Crash as CrashAt}
@@ -22,7 +22,7 @@ use Rattle.vx_packet.specs.Assemblies.{Assembled}
 use Rattle.vx_watched.specs.Since.{CalledSince}
 use Rattle.vx_grouped.specs.GroupNotes.{NotesConfig}
 use Rattle.vx_grouped.specs.GroupSites.{DownNoted, UpNoted, site_disks, with_note}
-use Rattle.vx_grouped.specs.SiteEnds.{ConfigGoes, SiteCalled, burned_site}
+use Rattle.vx_grouped.specs.SiteEnds.{ConfigGoes, SiteCalled}
 use Rattle.vx_grouped.specs.declared.group_site.GroupSite.{GroupSite}
 use Rattle.vx_diskset.specs.Asked.{FusedAs}
 use Rattle.vx_diskset.specs.GroupCalls.{CalledOn, cut_in}
@@ -108,7 +108,7 @@ module _ {R : Type 0} {g : Ghosts R} where
 
   pub record Wanted (Lacks : No → Type 0) (n : Node) (note : GroupNode) (old new : GroupSite R g) (why : No) : Type 0 where
     pub quiet : IsQuiet why
-    pub noted : UpNoted (burned_site n) note new
+    pub noted : UpNoted (worked n) note new
     pub maps : StaysMapped old new
     pub lacks : Lacks why
 
@@ -117,7 +117,7 @@ module _ {R : Type 0} {g : Ghosts R} where
       ((disk : ℕ) × (why ≡ Device disk) × Broke Fails n note old new disk) ⊎ ((why ≡ IsOff) × FellOff Fails n note old new) ⊎ Wanted Lacks n note old new why
 
   module _ (T : Type 0) (Done Fails : Config → Config → Type 0) (Lacks : No → Type 0) (n : Node) (note : GroupNode) (old new : GroupSite R g) where
-    wanted : (why : No) → IsQuiet why → UpNoted (burned_site n) note new × Lacks why → StaysMapped old new → Whys Fails Lacks n note old new why
+    wanted : (why : No) → IsQuiet why → UpNoted (worked n) note new × Lacks why → StaysMapped old new → Whys Fails Lacks n note old new why
     wanted why quiet it maps = inr (inr (record { quiet = quiet; noted = it.0; maps = maps; lacks = it.1 }))
 
     pub called_why : (why : No) → SiteCalled {T = T} Done Fails Lacks n note old new (Err (StopsBy why)) → MapsQuiet (StopsBy why) (StaysMapped old new) → Whys Fails Lacks n note old new why

@@ -1,7 +1,7 @@
 -- The line that detaches a plex, and what refuses one that attaches it.
 use Rattle.std.proofs.Common.{◌≡◌, ◌∙◌, ◌⊎◌, ◌-◌, ◌<◌, ℕ, zero, suc, Bool, true, false, List, length, ap, sym, subst, refl, arith, inl, inr, ⊎_elim}
-use Rattle.std.specs.Prelude.{Option, Some, None, not, ◌&&◌, ◌||◌, ◌==◌, nat_le, nat_lt, if◌then◌else◌, slice_get, Result, Ok, Err, option_map}
-use Rattle.std.proofs.lemmas.Bool.{cases_eq}
+use Rattle.std.specs.Prelude.{Option, Some, None, not, ◌&&◌, ◌==◌, nat_le, nat_lt, if◌then◌else◌, slice_get, Result, Ok, Err, option_map}
+use Rattle.std.proofs.lemmas.Bool.{cases_eq, or_parts}
 use Rattle.std.proofs.lemmas.Bool.Decides.{nat_tests}
 use Rattle.std.proofs.lemmas.Option.{slice_get-map, slice_get_within}
 use Rattle.vx_model.specs.declared.errors.OutOfMemory.{OutOfMemory}
@@ -78,14 +78,10 @@ not_of : (b : Bool) → not b ≡ true → b ≡ false
 not_of true is = absurd (cc)
 not_of false is = refl
 
-neither : (a b : Bool) → (a || b) ≡ false → (a ≡ false) × (b ≡ false)
-neither true b is = absurd (cc)
-neither false b is = (refl, is)
-
 no_other : (test : ℕ → Bool) (n q : ℕ) → any_below test n ≡ false → q < n → test q ≡ false
 no_other test zero q none below = absurd (omega (arith, below))
 no_other test (suc n) q none below =
-    let parts = neither (any_below test n) (test n) none in
+    let parts = or_parts (any_below test n) (test n) none in
     ⊎_elim (λ (same : q ≡ n). ap (λ (k : ℕ). test k) same ∙ parts.1) (λ apart. no_other test n q parts.0 (omega (arith, below, apart))) (cases_eq q n)
 
 -- ---- the state of a plex

@@ -9,12 +9,12 @@ use Rattle.vx_disk.specs.Shelf.{Meaning}
 use Rattle.vx_disk.specs.declared.shelf.Shelf.{Ghosts}
 use Rattle.vx_history.specs.Doubts.{Doubted}
 use Rattle.vx_history.specs.Groups.{BlockMay, GroupNode}
-use Rattle.vx_history.specs.Steps.{burned, worked_on}
+use Rattle.vx_history.specs.Steps.{burned, worked, worked_on}
 use Rattle.vx_history.specs.World.{Node, World}
 use Rattle.vx_script.specs.declared.line.ScriptLine.{ScriptLine}
 use Rattle.vx_grouped.specs.GroupSites.{UpNoted, site_disks, with_note}
 use Rattle.vx_grouped.specs.Plain.{ReadsPlain}
-use Rattle.vx_grouped.specs.SiteEnds.{PlainRead, burned_site}
+use Rattle.vx_grouped.specs.SiteEnds.{PlainRead}
 use Rattle.vx_diskset.specs.Asked.{FusedAs, SameFailing}
 use Rattle.vx_diskset.specs.GroupCalls.{CalledOn, OnSites, cut_in}
 use Rattle.vx_diskset.specs.Stands.{IsRackTold}
@@ -83,7 +83,7 @@ reads_block note m v start count bytes reads size tells k below =
     (reads.each tells (start + k) (record { there = refl; first = omega arith; last = omega (arith, size, below) }))
 
 -- the note of a node, behind calls that changed nothing of it
-noted_burned : (n : Node) (note : GroupNode) → n.group ≡ Some note → burned_site n ≡ with_note note n
+noted_burned : (n : Node) (note : GroupNode) → n.group ≡ Some note → worked n ≡ with_note note n
 noted_burned n note is = ap (λ (o : Option GroupNode). let k : Node = record n { group = o; fuse = burned n.fuse } in k) is
 
 module _ {R : Type 0} {g : Ghosts R} where
@@ -117,7 +117,7 @@ module _ {R : Type 0} {g : Ghosts R} where
     place_is = read_place d.world line name volume start count is ∙ plain.number
 
     -- it is up as it was
-    follows : (next : GroupSet R g) → after ≡ OfGroup next → UpNoted (burned_site n) note next.site → StaysMapped called.at.set.site next.site → cut_in after ≡ cut_in before → Follows d behind old new
+    follows : (next : GroupSet R g) → after ≡ OfGroup next → UpNoted (worked n) note next.site → StaysMapped called.at.set.site next.site → cut_in after ≡ cut_in before → Follows d behind old new
     follows next to up stays cut =
         let noted : UpNoted (with_note note n) note next.site = subst (λ (k : Node). UpNoted k note next.site) (noted_burned n note (group_noted_at d old name s before called.at)) up in
         up_follows d old new name s before after stands called note next plain.up to noted (stays note (maps_were d old new name s before after stands called)) refl cut

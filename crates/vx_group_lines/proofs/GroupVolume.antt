@@ -2,7 +2,7 @@
 use Rattle.std.proofs.Common.{◌≡◌, ◌∙◌, ◌⊎◌, ◌+◌, ◌-◌, ◌^◌, ◌<◌, ◌≤◌, ℕ, Bool, true, false, List, [], ◌∷◌, map, length, ap, sym, subst, refl, arith, inl, inr, ⊎_elim}
 use Rattle.std.specs.Prelude.{Option, Some, None, find, not, ◌&&◌, ◌||◌, ◌==◌, nat_le, nat_lt, bytes_eq, if◌then◌else◌, slice_get, slice_set, Result, Ok, Err}
 use Rattle.std.specs.List.{list_any}
-use Rattle.std.proofs.lemmas.Bool.{eqb-true}
+use Rattle.std.proofs.lemmas.Bool.{and_parts, both_ways, eqb-true}
 use Rattle.std.proofs.lemmas.Bool.Decides.{nat_tests}
 use Rattle.std.proofs.lemmas.List.{length-map}
 use Rattle.vx_model.specs.declared.errors.OutOfMemory.{OutOfMemory}
@@ -97,13 +97,6 @@ both_true : (a b : Bool) → a ≡ true → b ≡ true → (a && b) ≡ true
 both_true true b one two = two
 both_true false b one two = absurd (let no_one : false ≡ true = one in cc)
 
-both_of : (a b : Bool) → (a && b) ≡ true → (a ≡ true) × (b ≡ true)
-both_of true b is = (refl, is)
-both_of false b is = absurd (let no_one : false ≡ true = is in cc)
-
-never_both : (b : Bool) → b ≡ true → b ≡ false → ⊥
-never_both b on off = let no_one : true ≡ false = sym on ∙ off in cc
-
 past_of : (n v : ℕ) → v < n → nat_le n v ≡ true → ⊥
 past_of n v below past = grind (arith, nat_tests)
 
@@ -129,13 +122,13 @@ or_first false b off = refl
 
 shape_fits : (blocks mirrors : ℕ) (layout : Layout) (log : VolumeLog) (map : VolumeMap) (policy : ReadPolicy) → is_volume_shape blocks mirrors layout ≡ true → is_shape (shape_of blocks mirrors layout log map policy) ≡ true
 shape_fits blocks mirrors Concat log map policy it =
-    let first = (both_of (nat_le 1 blocks && nat_le blocks (2 ^ 40) && nat_le 1 mirrors) true it).0 in
+    let first = (and_parts (nat_le 1 blocks && nat_le blocks (2 ^ 40) && nat_le 1 mirrors) true it).0 in
     ap (λ (b : Bool). b && true && true && true) first
 shape_fits blocks mirrors (Stripe columns width) log map policy it =
-    let parts = both_of (nat_le 1 blocks && nat_le blocks (2 ^ 40) && nat_le 1 mirrors) (is_layout (Stripe columns width)) it in
-    let three = both_of (nat_le 1 columns && nat_le columns MOST_COLUMNS && nat_le 1 width) (nat_lt width (2 ^ 32)) parts.1 in
-    let two = both_of (nat_le 1 columns && nat_le columns MOST_COLUMNS) (nat_le 1 width) three.0 in
-    let one = both_of (nat_le 1 columns) (nat_le columns MOST_COLUMNS) two.0 in
+    let parts = and_parts (nat_le 1 blocks && nat_le blocks (2 ^ 40) && nat_le 1 mirrors) (is_layout (Stripe columns width)) it in
+    let three = and_parts (nat_le 1 columns && nat_le columns MOST_COLUMNS && nat_le 1 width) (nat_lt width (2 ^ 32)) parts.1 in
+    let two = and_parts (nat_le 1 columns && nat_le columns MOST_COLUMNS) (nat_le 1 width) three.0 in
+    let one = and_parts (nat_le 1 columns) (nat_le columns MOST_COLUMNS) two.0 in
     both_true (nat_le 1 blocks && nat_le blocks (2 ^ 40) && nat_le 1 mirrors && nat_le 1 columns && nat_le columns MOST_COLUMNS) (not (width == 0) || columns == 1)
     (both_true (nat_le 1 blocks && nat_le blocks (2 ^ 40) && nat_le 1 mirrors && nat_le 1 columns) (nat_le columns MOST_COLUMNS)
     (both_true (nat_le 1 blocks && nat_le blocks (2 ^ 40) && nat_le 1 mirrors) (nat_le 1 columns) parts.0 one.0) one.1)
@@ -157,7 +150,7 @@ none_named name (v ∷ vs) none =
 volume_why : (c : Config) (name : List ℕ) (want : Shape) (why : No) → list_any (has_name name) c.volumes ≡ false → length c.volumes < MOST_VOLUMES → want.mirrors ≤ MOST_PLEXES → is_shape want ≡ true
     → make_refusal c name want ≡ Some why → why ≡ Limit Numbers MOST_NUMBER
 volume_why c name want why free few plexes shape is = ⊎_elim
-    (λ first. absurd (never_both (list_any (has_name name) c.volumes) first.0 free))
+    (λ first. absurd (both_ways (list_any (has_name name) c.volumes) free first.0))
     (λ one. ⊎_elim
     (λ full. absurd (past_of MOST_VOLUMES (length c.volumes) few full.0))
     (λ two. ⊎_elim

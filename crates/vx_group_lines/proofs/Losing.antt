@@ -6,7 +6,7 @@ use Rattle.vx_model.specs.declared.site.PlexState.{PlexState}
 use Rattle.vx_model.specs.declared.site.PlexState.TheVariants.{Active, Clean, Stale}
 use Rattle.vx_disk.specs.Counts.{Rose}
 use Rattle.vx_disk.specs.Shelf.{Meaning}
-use Rattle.vx_config.specs.Changes.{changed_at, stated, with_plex, with_state}
+use Rattle.vx_config.specs.Changes.{Matched, changed_at, live_again, stated, with_plex, with_state}
 use Rattle.vx_config.specs.Checks.{runs}
 use Rattle.vx_config.specs.declared.config.Config.{Config}
 use Rattle.vx_config.specs.declared.entry.DiskEntry.{DiskEntry}
@@ -18,40 +18,40 @@ use Rattle.vx_layout.specs.Space.{IsFound, IsSpaceShort}
 use Rattle.vx_layout.specs.declared.shape.Found.{Found}
 use Rattle.vx_layout.specs.declared.shape.Shape.{Shape}
 use Rattle.vx_volume.specs.Plexes.{uses, uses_or}
-use Rattle.vx_grouped.specs.ConfigMoves.{AnyRose, AnyState, ConfigMoves, DiskMoves, OpensSame, InBoth, PlexMoves, StateMoves, VolumeMoves, opened_state}
+use Rattle.vx_grouped.specs.ConfigMoves.{AnyRose, AnyState, ConfigMoves, DiskMoves, OpensSame, PlexMoves, StateMoves, VolumeMoves}
 use Rattle.vx_order.specs.declared.facts.VolumeFacts.{VolumeFacts}
 use Rattle.vx_events.specs.Fails.{Fails}
-use Rattle.vx_events.specs.GroupConfigs.{ConfigLosesBut, DiskLosesBut, Matched, PlexLoses, VolumeLoses, has_part, lies_on_disk, live_again, opened_again, plex_again, volume_again}
+use Rattle.vx_events.specs.GroupConfigs.{ConfigLosesBut, DiskLosesBut, PlexLoses, VolumeLoses, has_part, lies_on_disk, opened_again, plex_again, volume_again}
 use Rattle.vx_events.specs.GroupViews.{plain_fact}
 use Rattle.vx_group_lines.proofs.Fails.{contains_some}
 
 -- ---- lists, place by place
 
-pub placed_as : {A : Type 0} (P Q : A → A → Type 0) (o p : Option A) → ((x y : A) → o ≡ Some x → p ≡ Some y → P x y → Q x y) → InBoth P o p → Matched Q o p
+pub placed_as : {A : Type 0} (P Q : A → A → Type 0) (o p : Option A) → ((x y : A) → o ≡ Some x → p ≡ Some y → P x y → Q x y) → Matched P o p → Matched Q o p
 placed_as P Q None None step it = tt
 placed_as P Q None (Some y) step it = it
 placed_as P Q (Some x) None step it = it
 placed_as P Q (Some x) (Some y) step it = step x y refl refl it
 
-placed_map : {A : Type 0} (f : A → A) (P Q : A → A → Type 0) (o p : Option A) → ((x y : A) → P x y → Q (f x) (f y)) → InBoth P o p → Matched Q (option_map f o) (option_map f p)
+placed_map : {A : Type 0} (f : A → A) (P Q : A → A → Type 0) (o p : Option A) → ((x y : A) → P x y → Q (f x) (f y)) → Matched P o p → Matched Q (option_map f o) (option_map f p)
 placed_map f P Q None None step it = tt
 placed_map f P Q None (Some y) step it = it
 placed_map f P Q (Some x) None step it = it
 placed_map f P Q (Some x) (Some y) step it = step x y it
 
-at_map : {A : Type 0} (f : A → A) (P Q : A → A → Type 0) (xs ys : List A) (k : ℕ) → ((x y : A) → P x y → Q (f x) (f y)) → InBoth P (slice_get xs k) (slice_get ys k) → Matched Q (slice_get (map f xs) k) (slice_get (map f ys) k)
+at_map : {A : Type 0} (f : A → A) (P Q : A → A → Type 0) (xs ys : List A) (k : ℕ) → ((x y : A) → P x y → Q (f x) (f y)) → Matched P (slice_get xs k) (slice_get ys k) → Matched Q (slice_get (map f xs) k) (slice_get (map f ys) k)
 at_map {A} f P Q xs ys k step it =
     subst (λ (o : Option A). Matched Q o (slice_get (map f ys) k)) (sym (slice_get-map f xs k))
     (subst (λ (p : Option A). Matched Q (option_map f (slice_get xs k)) p) (sym (slice_get-map f ys k))
     (placed_map f P Q (slice_get xs k) (slice_get ys k) step it))
 
-pub same_length : {A : Type 0} (P : A → A → Type 0) (xs ys : List A) → ((k : ℕ) → InBoth P (slice_get xs k) (slice_get ys k)) → length ys ≡ length xs
+pub same_length : {A : Type 0} (P : A → A → Type 0) (xs ys : List A) → ((k : ℕ) → Matched P (slice_get xs k) (slice_get ys k)) → length ys ≡ length xs
 same_length P [] [] each = refl
 same_length P [] (y ∷ ys) each = absurd (each 0)
 same_length P (x ∷ xs) [] each = absurd (each 0)
 same_length P (x ∷ xs) (y ∷ ys) each = ap suc (same_length P xs ys (λ k. each (suc k)))
 
-pub same_map : {A B : Type 0} (f : A → B) (P : A → A → Type 0) → ((x y : A) → P x y → f y ≡ f x) → (xs ys : List A) → ((k : ℕ) → InBoth P (slice_get xs k) (slice_get ys k)) → map f ys ≡ map f xs
+pub same_map : {A B : Type 0} (f : A → B) (P : A → A → Type 0) → ((x y : A) → P x y → f y ≡ f x) → (xs ys : List A) → ((k : ℕ) → Matched P (slice_get xs k) (slice_get ys k)) → map f ys ≡ map f xs
 same_map f P step [] [] each = refl
 same_map f P step [] (y ∷ ys) each = absurd (each 0)
 same_map f P step (x ∷ xs) [] each = absurd (each 0)
@@ -77,13 +77,8 @@ state_loses s n fails old new names p q (inl same) = inl same
 state_loses s n fails old new names p q (inr (inl is, any)) = inr (inl (is, names_some s n fails old new names any))
 state_loses s n fails old new names p q (inr (inr is, any)) = inr (inr (is, names_some s n fails old new names any))
 
-opened_live : (p : PlexState) → live_again p ≡ opened_state p
-opened_live Active = refl
-opened_live Clean = refl
-opened_live Stale = refl
-
 pub opens_loses : (fails : Fails) (p q : PlexState) → OpensSame p q → StateLoses fails (live_again p) (live_again q)
-opens_loses fails p q same = inl (opened_live q ∙ same ∙ sym (opened_live p))
+opens_loses fails p q same = inl same
 
 any_live : (fails : Fails) (p q : PlexState) → fails ≢ [] → StateLoses fails p (live_again q)
 any_live fails p Active some = inr (inr (refl, some))

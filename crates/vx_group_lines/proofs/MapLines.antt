@@ -9,7 +9,7 @@ use Rattle.vx_config.specs.declared.entry.VolumeLog.TheVariants.{Fmr}
 use Rattle.vx_disk.specs.Shelf.{Meaning}
 use Rattle.vx_history.specs.Groups.{MissedNote}
 use Rattle.vx_history.specs.MapChanges.{InNoVolume, InVolume, MapsGone, MapsWritten, StayKnown}
-use Rattle.vx_group.specs.Attaches.{copied_regions}
+use Rattle.vx_group.specs.Attaches.{region_count}
 use Rattle.vx_history.specs.Missing.{CopiesMissed, each_anew, in_write, missed_then, no_plex, none_missed, one_anew, perhaps_then}
 use Rattle.vx_kept.specs.Choice.{live, live_or}
 use Rattle.vx_kept.specs.Cleans.{at_serial}
@@ -62,7 +62,7 @@ module _ (s many : ℕ) (fails : Fails) (o e : Meaning) (names : Names s many fa
 
 -- ---- how many regions an attach copies
 
-module _ (w : MissedNote) (c : Config) (v p n many : ℕ) (same : copied_regions c v ≡ many) (it : CopiesNoted w c v p n) where
+module _ (w : MissedNote) (c : Config) (v p n many : ℕ) (same : region_count c v ≡ many) (it : CopiesNoted w c v p n) where
   pub copies_unknown : w.mapped v ≡ false → n ≡ many
   copies_unknown off = it.unknown off ∙ same
 

@@ -11,6 +11,7 @@ use Rattle.vx_model.specs.declared.no.Counted.TheVariants.{Number as Numbers}
 use Rattle.vx_model.specs.declared.no.No.{No}
 use Rattle.vx_model.specs.declared.no.No.TheVariants.{Damaged, Device, Format, Limit, Missing as Lacks, NoConfig}
 use Rattle.vx_model.specs.declared.site.SiteState.TheVariants.{Down as IsDown}
+use Rattle.vx_model.specs.Refusals.{IsNoDevice}
 use Rattle.vx_disk.specs.Counts.{Rose}
 use Rattle.vx_disk.specs.declared.shelf.Shelf.{Ghosts}
 use Rattle.vx_history.specs.Doubts.{Doubted}
@@ -57,7 +58,6 @@ use Rattle.vx_group_lines.proofs.GroupLeads.{Follows, Sized, down_set, follows_o
 use Rattle.vx_group_lines.proofs.GroupMarks.{begins_at, group_noted_at}
 use Rattle.vx_group_lines.proofs.MapComing.{stays_down}
 use Rattle.vx_group_lines.proofs.Rising.{fits_as, refused_as, told_of, unfused_down}
-use Rattle.vx_events.specs.Ends.{IsNoDevice}
 use Rattle.vx_group_lines.proofs.Dimming.{dimmed_by, knows_none, notes_refused, early_known, notes_short}
 
 -- ---- counts

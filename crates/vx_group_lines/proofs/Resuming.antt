@@ -18,7 +18,7 @@ use Rattle.vx_kept.specs.Cleans.{at_serial}
 use Rattle.vx_history.specs.Doubts.{Doubted, happened}
 use Rattle.vx_history.specs.Groups.{GroupNode}
 use Rattle.vx_history.specs.Sound.{is_at_rest}
-use Rattle.vx_history.specs.Steps.{crashed, group_up}
+use Rattle.vx_history.specs.Steps.{crashed, group_up, worked}
 use Rattle.vx_history.specs.World.{Node}
 use Rattle.vx_history.specs.declared.event.Event.TheVariants.{Crash as CrashAt, Group as Regroup}
 use Rattle.vx_order.specs.declared.facts.SiteFacts.{SiteFacts}
@@ -28,7 +28,6 @@ use Rattle.vx_report.specs.declared.view.SiteView.{SiteView}
 use Rattle.vx_script.specs.declared.line.ScriptLine.TheVariants.{Recover}
 use Rattle.vx_grouped.proofs.ReadyLemmas.{imported_same}
 use Rattle.vx_grouped.specs.GroupSites.{DownNoted, FitsPlain, UpNoted, site_config, site_disks, with_note, site_below}
-use Rattle.vx_grouped.specs.SiteEnds.{burned_site}
 use Rattle.vx_grouped.specs.SiteMaps.{StandMaps}
 use Rattle.vx_grouped.specs.SiteReturns.{ConfigReturns, NoteReturns, as_imported, returned_with, is_dimmed}
 use Rattle.vx_grouped.specs.declared.group_site.GroupSite.{GroupSite}
@@ -194,7 +193,7 @@ module _ {R : Type 0} {g : Ghosts R} where
             arrives_up e e s n (e.world.gathering s) starts begin.below (ap (λ (t : SiteState). is_at_rest t) begin.down) none.role none.volumes none.log
 
         -- it stays up, with what is kept
-        kept_up : (kept : Option KeptWrite) → AtPlain (UpNoted (burned_site (returned_with next (e.world.nodes s))) next) after → cut_in after ≡ None → KeptIs next (site_disks m) cut kept
+        kept_up : (kept : Option KeptWrite) → AtPlain (UpNoted (worked (returned_with next (e.world.nodes s))) next) after → cut_in after ≡ None → KeptIs next (site_disks m) cut kept
             → StandsSo s (fact_of_group (e.world.nodes s) (note_at (e.world.nodes s))) c after (Ok kept) mid new result → RisesIs e s old new result
         kept_up kept at clear is_kept so = subst (λ (r : Result Said OutOfMemory). RisesIs e s old new r) (sym replied) (record {
           next = noted_at (happened e (Regroup s) false) s next;
@@ -205,8 +204,8 @@ module _ {R : Type 0} {g : Ghosts R} where
           rose = calls_all e old new [] s before after begin.stands call MOST_DISKS;
         })
           where
-            t : SetThen (UpNoted (burned_site (returned_with next (e.world.nodes s))) next) after
-            t = set_then (UpNoted (burned_site (returned_with next n)) next) after at
+            t : SetThen (UpNoted (worked (returned_with next (e.world.nodes s))) next) after
+            t = set_then (UpNoted (worked (returned_with next n)) next) after at
 
             holds : UpNoted (risen_node next (e.world.nodes s)) next t.set.site
             holds = subst (λ (k : Node). UpNoted k next t.set.site) (risen_is n next (unfused_down n note call.at.set.site is_down)) t.holds

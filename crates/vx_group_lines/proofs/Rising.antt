@@ -12,7 +12,7 @@ use Rattle.vx_config.specs.declared.entry.VolumeEntry.{VolumeEntry}
 use Rattle.vx_kept.specs.Cleans.{at_serial}
 use Rattle.vx_history.specs.Doubts.{Doubted, happened}
 use Rattle.vx_history.specs.Groups.{GroupNode}
-use Rattle.vx_history.specs.Steps.{burned, group_up}
+use Rattle.vx_history.specs.Steps.{burned, group_up, worked}
 use Rattle.vx_history.specs.World.{Fuse as FuseOf, Node, NoFuse}
 use Rattle.vx_history.specs.declared.event.Event.TheVariants.{Crash as CrashAt, Group as GroupAt}
 use Rattle.vx_order.specs.declared.facts.VolumeFacts.{VolumeFacts}
@@ -20,7 +20,6 @@ use Rattle.vx_report.specs.declared.view.Kept.{Kept}
 use Rattle.vx_grouped.proofs.ReadyLemmas.{imported_same}
 use Rattle.vx_grouped.specs.Ends.{plain_write}
 use Rattle.vx_grouped.specs.GroupSites.{DownNoted, FitsPlain, UpNoted, site_below, site_config}
-use Rattle.vx_grouped.specs.SiteEnds.{burned_site}
 use Rattle.vx_grouped.specs.SiteReturns.{as_imported, returned_with}
 use Rattle.vx_grouped.specs.declared.group_site.GroupSite.{GroupSite}
 use Rattle.vx_grouped.specs.declared.group_site.GroupSite.TheVariants.{Up as SiteUp, Deported as SiteAway, Down as SiteDown, Marked, Gone as SiteGone}
@@ -148,7 +147,7 @@ still_none f is = ap (λ (x : FuseOf). burned (burned x)) is ∙ sym is
 abbrev pub risen_node : GroupNode → Node → Node
 risen_node next n = record (group_up n) { group = Some next }
 
-pub risen_is : (n : Node) (next : GroupNode) → n.fuse ≡ NoFuse → burned_site (returned_with next n) ≡ risen_node next n
+pub risen_is : (n : Node) (next : GroupNode) → n.fuse ≡ NoFuse → worked (returned_with next n) ≡ risen_node next n
 risen_is n next none = ap (λ (x : FuseOf). let k : Node = record (risen_node next n) { fuse = x } in k) (still_none n.fuse none)
 
 pub some_config : (c d : Config) → Some (at_serial 0 c) ≡ Some (at_serial 0 d) → c.volumes ≡ d.volumes

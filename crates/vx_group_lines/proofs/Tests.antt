@@ -9,6 +9,7 @@ use Rattle.vx_model.specs.declared.no.No.{No}
 use Rattle.vx_model.specs.declared.site.SiteState.{SiteState}
 use Rattle.vx_model.specs.declared.site.SiteState.TheVariants.{Bare, Up, Deported, Down}
 use Rattle.vx_model.specs.Sites.{is_bare, is_up}
+use Rattle.vx_history.proofs.States.{bare_is, up_is}
 use Rattle.vx_script.specs.declared.line.Layout.{Layout}
 use Rattle.vx_script.specs.declared.line.ReadPolicy.{ReadPolicy}
 use Rattle.vx_script.specs.declared.line.ScriptLine.TheVariants.{GroupInit, GroupDeport, GroupImport, Volume, PlexDetach, PlexAttach, Recover}
@@ -23,18 +24,6 @@ use Rattle.vx_order.specs.Volumes.{is_volume_shape, plex_unknown, preferred_unkn
 use Rattle.vx_order.specs.declared.facts.SiteFacts.{SiteFacts}
 use Rattle.vx_order.specs.declared.facts.VolumeFacts.{VolumeFacts}
 use Rattle.vx_events.proofs.Refused.{FoundAt, Named, found_at, lt_false, named, not_false, passes, when_none}
-
-bare_by : (state : SiteState) → is_bare state ≡ true → state ≡ Bare
-bare_by Bare e = refl
-bare_by Up e = absurd (cc)
-bare_by Deported e = absurd (cc)
-bare_by Down e = absurd (cc)
-
-up_by : (state : SiteState) → is_up state ≡ true → state ≡ Up
-up_by Up e = refl
-up_by Bare e = absurd (cc)
-up_by Deported e = absurd (cc)
-up_by Down e = absurd (cc)
 
 away_by : (state : SiteState) → is_deported state ≡ true → state ≡ Deported
 away_by Deported e = refl
@@ -57,7 +46,7 @@ pub record InitMay (sites : List SiteFacts) (name : List ℕ) : Type 0 where
   pub large : LEAST_GROUP_BLOCKS ≤ site.facts.blocks
 
 bare_role : (f : SiteFacts) → raw_role (Some f) ≡ None → f.state ≡ Bare
-bare_role f e = bare_by f.state (not_false (is_bare f.state) (when_none (not (is_bare f.state)) _ e))
+bare_role f e = bare_is f.state (not_false (is_bare f.state) (when_none (not (is_bare f.state)) _ e))
 
 large_by : (f : SiteFacts) → group_size (Some f) ≡ None → LEAST_GROUP_BLOCKS ≤ f.blocks
 large_by f e = lt_false f.blocks LEAST_GROUP_BLOCKS (when_none (nat_lt f.blocks LEAST_GROUP_BLOCKS) _ e)
@@ -84,7 +73,7 @@ pub record UpMay (sites : List SiteFacts) (name : List ℕ) : Type 0 where
 up_role : (f : SiteFacts) → group_role (Some f) ≡ None → (f.state ≡ Up) × (f.grouped ≡ true)
 up_role f e =
     let parts = both (is_up f.state) f.grouped (not_false (is_up f.state && f.grouped) (when_none (not (is_up f.state && f.grouped)) _ e)) in
-    (up_by f.state parts.0, parts.1)
+    (up_is f.state parts.0, parts.1)
 
 up_may : (sites : List SiteFacts) (name : List ℕ) (site : Named sites name) → group_role (site_named sites name) ≡ None → UpMay sites name
 up_may sites name site e =

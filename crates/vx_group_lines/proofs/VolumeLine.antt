@@ -1,5 +1,5 @@
 -- The line that makes a volume, in the yard of its site.
-use Rattle.std.proofs.Common.{◌≡◌, ◌∙◌, ◌<◌, ◌≤◌, ℕ, zero, suc, List, [], ◌∷◌, map, length, ap, sym, subst, refl, true, false, arith}
+use Rattle.std.proofs.Common.{◌≡◌, ◌∙◌, ◌<◌, ℕ, List, [], map, length, ap, sym, subst, refl, true, false, arith}
 use Rattle.std.specs.Prelude.{Option, Some, None, find, bytes_eq, slice_get, slice_set, Result, Ok, Err, IfOk, IsSome}
 use Rattle.std.proofs.lemmas.Option.{slice_get_within}
 use Rattle.vx_model.specs.declared.errors.OutOfMemory.{OutOfMemory}
@@ -7,6 +7,7 @@ use Rattle.vx_model.specs.declared.errors.Stop.{Stop}
 use Rattle.vx_model.specs.declared.errors.Stop.TheVariants.{No as StopsBy, OutOfMemory as MemoryStop}
 use Rattle.vx_model.specs.declared.limits.TheConstants.{MOST_VOLUMES}
 use Rattle.vx_model.specs.declared.site.SiteState.TheVariants.{Up as IsUp}
+use Rattle.vx_model.proofs.Lists.{get_there}
 use Rattle.vx_disk.specs.declared.shelf.Shelf.{Ghosts}
 use Rattle.vx_config.specs.declared.config.Config.{Config}
 use Rattle.vx_history.specs.Doubts.{Doubted}
@@ -50,11 +51,6 @@ use Rattle.vx_group_lines.proofs.GroupVolume.{volume_done, volume_stopped}
 use Rattle.vx_group_lines.proofs.Tests.{VolumeMay, volume_may}
 use Rattle.vx_grouped.specs.SiteMaps.{AddedMapped}
 use Rattle.vx_group_lines.specs.Noting.{HasConfig, KeepsRest, reply_noted}
-
-some_at : {A : Type 0} (xs : List A) (i : ℕ) → i < length xs → (x : A) × (slice_get xs i ≡ Some x)
-some_at [] i low = absurd (omega (arith, low))
-some_at (x ∷ xs) zero low = (x, refl)
-some_at (x ∷ xs) (suc i) low = some_at xs i (omega (arith, low))
 
 pub if_ok : {A B : Type 0} (r : Result A B) (P : A → Type 0) → ((x : A) → P x) → IfOk r P
 if_ok (Ok x) P each = each x
@@ -136,7 +132,7 @@ module _ {R : Type 0} {g : Ghosts R} where
   pub rest_of : (s : ℕ) (stop : Stop) (result : Result Said OutOfMemory) (mid new : Yard R g) → ((f : SiteFacts) → slice_get mid.facts.items s ≡ Some f → reply_noted s f stop mid new result)
       → (facts : List SiteFacts) → mid.facts.items ≡ facts → s < length facts → KeepsRest mid new
   rest_of s stop result mid new reply facts same low =
-      let f = some_at facts s low in rest_by s f.0 stop mid new result (reply f.0 (ap (λ (fs : List SiteFacts). slice_get fs s) same ∙ f.1))
+      let f = get_there facts s low in rest_by s f.0 stop mid new result (reply f.0 (ap (λ (fs : List SiteFacts). slice_get fs s) same ∙ f.1))
 
   pub told_on : (mid new : Yard R g) → KeepsRest mid new → (old : Yard R g) (s : ℕ) (before after : DiskSet R g) → Changed old mid s before after → IsTold new → IsTold old
   told_on mid new rest old s before after changed told = told_by old mid s before after changed (subst (λ es. AreTold es) (ap (λ es. es.items) rest.disk_sets) told)
@@ -184,5 +180,5 @@ module _ {R : Type 0} {g : Ghosts R} where
       by (Some s) is some =
           let place = place_at d y name s stands is in
           let low : s < length y.disk_sets.items = (let below = place.below in let few = stands.disk_sets.few in let eight = stands.disk_sets.eight in omega (arith, below, few, eight)) in
-          let e = some_at y.disk_sets.items s low in
+          let e = get_there y.disk_sets.items s low in
           asks_at SameFailing d y y name s e.0 e.0 stands is e.1 (sym (set_same y.disk_sets.items s e.0 e.1)) (failing_same e.0)

@@ -4,10 +4,11 @@ use Rattle.vx_model.specs.declared.limits.TheConstants.{BLOCK, MOST_CALL_BLOCKS}
 use Rattle.vx_model.specs.declared.no.No.{No}
 use Rattle.vx_disk.specs.declared.shelf.Shelf.{Ghosts}
 use Rattle.vx_history.specs.Groups.{GroupNode}
+use Rattle.vx_history.specs.Steps.{worked}
 use Rattle.vx_history.specs.World.{Node}
 use Rattle.vx_grouped.specs.GroupSites.{UpNoted, site_disks}
 use Rattle.vx_grouped.specs.Plain.{ReadsPlain}
-use Rattle.vx_grouped.specs.SiteEnds.{PlainRead, burned_site}
+use Rattle.vx_grouped.specs.SiteEnds.{PlainRead}
 use Rattle.vx_grouped.specs.declared.group_site.GroupSite.{GroupSite}
 use Rattle.vx_script.specs.declared.line.ScriptLine.{ScriptLine}
 use Rattle.vx_script.specs.declared.line.ScriptLine.TheVariants.{GroupInit, GroupDeport, GroupImport, Volume, PlexDetach, PlexAttach, Disk, Crash, Fuse, Recover, Status, Write as WriteLine, Put as PutLine, Read as ReadLine, Show as ShowLine}
@@ -82,5 +83,5 @@ module _ {R : Type 0} {g : Ghosts R} where
 
   -- the blocks of a read of a volume, or the disk that failed
   abbrev pub GavePlain : Node → GroupNode → (volume start : ℕ) → GroupSite R g → GroupSite R g → Result (List ℕ) No → Type 0
-  GavePlain n note volume start old new (Ok bytes) = ReadsPlain note (site_disks old) volume start bytes × UpNoted (burned_site n) note new
+  GavePlain n note volume start old new (Ok bytes) = ReadsPlain note (site_disks old) volume start bytes × UpNoted (worked n) note new
   GavePlain n note volume start old new (Err why) = PlainRead n note volume start [] old new (Err why)

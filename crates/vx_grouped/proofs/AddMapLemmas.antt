@@ -11,7 +11,7 @@ use Rattle.vx_config.specs.declared.entry.VolumeLog.TheVariants.{Fmr}
 use Rattle.vx_disk.specs.Racks.{IsRack}
 use Rattle.vx_disk.specs.Shelf.{Meaning}
 use Rattle.vx_fmr.specs.Missed.{Missed}
-use Rattle.vx_group.specs.Attaches.{copied_regions}
+use Rattle.vx_group.specs.Attaches.{region_count}
 use Rattle.vx_group.specs.Holding.{GroupStands, wide}
 use Rattle.vx_group.specs.declared.group_core.GroupCore.{GroupCore}
 use Rattle.vx_group.proofs.HoldLemmas.{narrow_on, wide_shape}
@@ -79,13 +79,13 @@ module _ (c d : GroupCore) (l k : List Logs) (s t : Bool) (a b : List Bool) (m m
   there v on = by (fmr_at k v) refl
     where
       going : s ≡ false
-      going = sym stopped ∙ first_b t (on_failed_disk d.inner.config v) (is_some (fmr_at k v)) on
+      going = sym stopped ∙ first_b t (on_failed_disk d.inner.config v Fmr) (is_some (fmr_at k v)) on
 
       by : (o : Option Missed) → fmr_at k v ≡ o → v < length c.inner.config.volumes
-      by None none = absurd (let clash : false ≡ true = sym (ap (λ (x : Option Missed). is_some x) none) ∙ third_b t (on_failed_disk d.inner.config v) (is_some (fmr_at k v)) on in cc)
+      by None none = absurd (let clash : false ≡ true = sym (ap (λ (x : Option Missed). is_some x) none) ∙ third_b t (on_failed_disk d.inner.config v Fmr) (is_some (fmr_at k v)) on in cc)
       by (Some f) at = map_low v f going (sym (left v) ∙ at)
 
-  same : (v : ℕ) → goes_by k d.inner.config t v ≡ true → (plexes_of d.inner.config v ≡ plexes_of c.inner.config v) × (copied_regions d.inner.config v ≡ copied_regions c.inner.config v)
+  same : (v : ℕ) → goes_by k d.inner.config t v ≡ true → (plexes_of d.inner.config v ≡ plexes_of c.inner.config v) × (region_count d.inner.config v ≡ region_count c.inner.config v)
   same v on = let low = there v on in (same_count c.inner.config d.inner.config v (shape.frames v low) (shape.blocks v low), ap regions_of (shape.blocks v low))
 
   -- it was made

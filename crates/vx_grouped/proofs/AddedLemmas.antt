@@ -11,6 +11,7 @@ use Rattle.vx_model.specs.declared.no.No.{No}
 use Rattle.vx_model.specs.declared.no.No.TheVariants as refusal
 use Rattle.vx_disk.specs.Moves.{Nowhere}
 use Rattle.vx_disk.specs.Shelf.{Goes, Lawful, Meaning, Nothing, Values}
+use Rattle.vx_model.proofs.Lists.{get_end}
 use Rattle.vx_disk.proofs.Runs.{then_nothing}
 use Rattle.vx_history.specs.Groups.{BlockMay, GroupNode}
 use Rattle.vx_history.specs.World.{Node}
@@ -28,8 +29,8 @@ use Rattle.vx_group.specs.Stands.{inner_meaning, volume_faults}
 use Rattle.vx_group.specs.declared.group_core.GroupCore.{GroupCore}
 use Rattle.vx_group.specs.declared.group_core.Held.{Held}
 use Rattle.vx_group.specs.declared.inner.Inner.{Inner}
-use Rattle.vx_group.proofs.HoldLemmas.{active_at_volumes, wide_none, wide_shape}
-use Rattle.vx_group.proofs.LongerLemmas.{get_end}
+use Rattle.vx_group.proofs.BehindLemmas.{by_same}
+use Rattle.vx_group.proofs.HoldLemmas.{wide_none, wide_shape}
 use Rattle.vx_group.proofs.MakeLemmas.{volumes_Goes}
 use Rattle.vx_group.proofs.Standing.{apart_of_core}
 use Rattle.vx_grouped.specs.Added.{VolumeLeaves, note_added}
@@ -69,10 +70,6 @@ apart_volumes c d same it = record {
   where
     shape : SameShape d c
     shape = alike_shape d c c same (same_shape c)
-
-by_volumes : (o : Option Held) (c d : Config) → d.volumes ≡ c.volumes → volumes_by o d ≡ volumes_by o c
-by_volumes None c d same = same
-by_volumes (Some h) c d same = active_at_volumes h.vol h.plex c d same
 
 -- ---- volumes behind others leave those as they were
 
@@ -133,7 +130,7 @@ module _ (c d : GroupCore) (m m' : Meaning) (two : GroupStands d m') (lawful : L
     where
       back_goes : d.inner.config.volumes ≡ c.inner.config.volumes → Goes Nothing (group_meaning (config_by d.held c.inner.config) (volume_faults d.inner.faults) m') (inner_meaning (wide d) m')
       back_goes is =
-          let alike : volumes_by d.held d.inner.config ≡ volumes_by d.held c.inner.config = by_volumes d.held c.inner.config d.inner.config is in
+          let alike : volumes_by d.held d.inner.config ≡ volumes_by d.held c.inner.config = by_same d.held c.inner.config d.inner.config is in
           volumes_Goes (config_by d.held c.inner.config) (wide d).config (volume_faults d.inner.faults) m' lawful
           (apart_volumes (wide d).config (config_by d.held c.inner.config) (sym alike) (apart_of_core (wide d) m' two.stands)) alike
 

@@ -1,5 +1,6 @@
 -- A group that is begun on the disks of a bare site, by its note.
 use Rattle.std.proofs.Common.{◌≡◌, ◌⊎◌, inl, inr, ℕ, ◌<◌, Bool, true, false, List, [], length, IsTrue, IsFalse, refl, sym, ◌∙◌, ap, subst, arith}
+use Rattle.std.proofs.lemmas.Bool.{both_ways}
 use Rattle.std.specs.Prelude.{Option, None, Some, Result, Ok, Err, IfErr, not, slice_get}
 use Rattle.std.proofs.lemmas.Option.{slice_get_within}
 use Rattle.vx_model.specs.declared.errors.Stop.{Stop}
@@ -76,10 +77,6 @@ is_up : (down : Bool) → (IsTrue down → ⊥) → IsFalse down
 is_up true never = absurd (never refl)
 is_up false never = refl
 
-not_down : (down : Bool) → IsFalse down → IsTrue down → ⊥
-not_down true up is = let clash : true ≡ false = up in cc
-not_down false up is = let clash : false ≡ true = is in cc
-
 none_blocks : (v : ℕ) → blocks_of [] v ≡ 0
 none_blocks v = refl
 
@@ -88,7 +85,7 @@ unarmed_fuse f m is none = subst (λ (x : Fuse). HasFuse x m) (sym is) none
 
 module _ (m m' : Meaning) (n : Node) (can : CanBegin n m) (since : CalledSince m m') where
   stays_up : IsTrue m'.down → ⊥
-  stays_up down = not_down m.down can.up (since.safe can.unarmed down)
+  stays_up down = both_ways m.down can.up (since.safe can.unarmed down)
 
   marked : IsMarkedSite n m'
   marked = record {

@@ -7,7 +7,7 @@ use Rattle.vx_config.specs.declared.entry.LogEntry.{LogEntry}
 use Rattle.vx_config.specs.declared.entry.VolumeLog.TheVariants.{Fmr}
 use Rattle.vx_disk.specs.Shelf.{Meaning}
 use Rattle.vx_fmr.specs.Missed.{Missed}
-use Rattle.vx_group.specs.Attaches.{copied_regions, missed_regions}
+use Rattle.vx_group.specs.Attaches.{missed_regions, region_count}
 use Rattle.vx_group.specs.Holding.{wide}
 use Rattle.vx_group.specs.declared.group_core.GroupCore.{GroupCore}
 use Rattle.vx_group.proofs.HoldLemmas.{wide_shape}
@@ -18,11 +18,12 @@ use Rattle.vx_loggroup.specs.Attaching.{fmr_at, fmr_or, map_by}
 use Rattle.vx_loggroup.specs.Facts.{LoggedFact}
 use Rattle.vx_logs.specs.declared.logs.Logs.{Logs}
 use Rattle.vx_model.specs.declared.errors.Stop.{Stop}
+use Rattle.vx_model.specs.Numbers.{one_if}
 use Rattle.vx_maplog.specs.Logs.{log_of}
-use Rattle.vx_resync.specs.Picks.{as_one, missed_or, picked_below}
+use Rattle.vx_resync.specs.Picks.{missed_or, picked_below}
 use Rattle.vx_grouped.specs.Copied.{CopiesRegions}
 
-few_one : (t : Bool) → as_one t ≤ 1
+few_one : (t : Bool) → one_if t ≤ 1
 few_one true = omega arith
 few_one false = omega arith
 
@@ -56,13 +57,13 @@ module _ (core : GroupCore) (logs : List Logs) (alike : List Bool) (stopped : Bo
   gone_by false false false false is = no_map (slice_get logs v) refl is
 
   map_none : map_by logs core.inner.config stopped m.down v p ≡ None
-  map_none = gone_by stopped m.down (nat_le (plexes_of core.inner.config v) p) (on_failed_disk core.inner.config v) refl
+  map_none = gone_by stopped m.down (nat_le (plexes_of core.inner.config v) p) (on_failed_disk core.inner.config v Fmr) refl
 
 -- so many are copied as the plex has missed by the map in memory
 pub copies_missed : (core : GroupCore) (logs : List Logs) (alike : List Bool) (stopped : Bool) (m : Meaning) → LoggedFact core logs alike stopped m → (v p n : ℕ) → n ≡ missed_regions core.inner.config v p (map_by logs core.inner.config stopped m.down v p)
     → CopiesRegions core.inner.config v n
 copies_missed core logs alike stopped m fact v p n is = record {
-  few = let less = few_picked (missed_or p (map_by logs core.inner.config stopped m.down v p)) (copied_regions core.inner.config v) in omega (arith, is, less);
+  few = let less = few_picked (missed_or p (map_by logs core.inner.config stopped m.down v p)) (region_count core.inner.config v) in omega (arith, is, less);
   all = λ none. is ∙ ap (missed_regions core.inner.config v p) (map_none core logs alike stopped m fact v p none) ∙ count_all core.inner.config v p;
 }
 

@@ -1,5 +1,6 @@
 -- A group that is found on disks of which it is not known what they hold, by its note.
-use Rattle.std.proofs.Common.{◌≡◌, ℕ, ◌<◌, Bool, true, false, List, [], IsTrue, IsFalse, refl, sym, ◌∙◌, ap, subst}
+use Rattle.std.proofs.Common.{◌≡◌, ℕ, true, false, List, [], IsTrue, IsFalse, refl, sym, ◌∙◌, ap, subst}
+use Rattle.std.proofs.lemmas.Bool.{both_ways}
 use Rattle.std.specs.Prelude.{None, Some, Ok, Err}
 use Rattle.vx_model.specs.declared.errors.Stop.{Stop}
 use Rattle.vx_model.specs.declared.errors.Stop.TheVariants.{No as Refused}
@@ -121,10 +122,6 @@ module _ {R : Type 0} {g : Ghosts R} (site : ℕ) (n : Node) (m : Meaning) (can 
 
 -- ---- none is found
 
-up_not_down : (down : Bool) → IsFalse down → IsTrue down → ⊥
-up_not_down true up is = let clash : true ≡ false = up in cc
-up_not_down false up is = let clash : false ≡ true = is in cc
-
 pub find_stops : (n : Node) (m m' : Meaning) (stop : Stop) → IsRack m → IsRack m' → CanFind n m → CalledSince m m' → ImportStops (untold m) (untold m') stop → FindStops n m m' stop
 find_stops n m m' stop was now can since stops = record {
   units = since.units ∙ can.units;
@@ -136,4 +133,4 @@ find_stops n m m' stop was now can since stops = record {
 }
   where
     still : IsTrue m'.down → ⊥
-    still down = up_not_down m.down can.up (since.safe can.unarmed down)
+    still down = both_ways m.down can.up (since.safe can.unarmed down)

@@ -5,6 +5,7 @@ use Rattle.vx_config.specs.Table.{greatest}
 use Rattle.vx_disk.specs.Shelf.{Meaning}
 use Rattle.vx_disk.specs.declared.shelf.Shelf.{Ghosts}
 use Rattle.vx_history.specs.Groups.{GroupNode}
+use Rattle.vx_history.specs.Steps.{worked}
 use Rattle.vx_history.specs.World.{Node}
 use Rattle.vx_loggroup.specs.Opens.{RestTells}
 use Rattle.vx_logimport.specs.Rests.{LogsTell}
@@ -20,7 +21,6 @@ use Rattle.vx_watched.proofs.SinceLemmas.{since_none}
 use Rattle.vx_grouped.specs.GroupNotes.{note_dimmed}
 use Rattle.vx_grouped.specs.GroupSites.{AwayNoted, DownNoted, GroupAway, GroupDown, dimmed_site, idle_below, idle_disks}
 use Rattle.vx_grouped.specs.Readies.{ready_of}
-use Rattle.vx_grouped.specs.SiteEnds.{burned_site}
 use Rattle.vx_grouped.specs.SiteReturns.{KeepsFuse, SiteImports, SiteRecovers}
 use Rattle.vx_grouped.specs.declared.group_site.GroupSite.TheVariants.{Deported, Down}
 use Rattle.vx_grouped.specs.declared.idle.Idle.{Idle}
@@ -69,7 +69,7 @@ module _ {R : Type 0} (meaning : R → Meaning) where
     }
 
     -- and ones that were deported
-    dark_away_group : GroupAway n note true told (shade_meaning meaning s) → GroupAway (burned_site (dimmed_site true note n)) (note_dimmed true note) true told (shade_meaning meaning (Dark (rack_of s)))
+    dark_away_group : GroupAway n note true told (shade_meaning meaning s) → GroupAway (worked (dimmed_site true note n)) (note_dimmed true note) true told (shade_meaning meaning (Dark (rack_of s)))
     dark_away_group it = record {
       noted = record { is = refl; none = record { role = it.noted.none.role; volumes = it.noted.none.volumes; log = it.noted.none.log; safe = it.noted.none.safe; running = it.noted.none.running } };
       lit = lit_dimmed note told (shade_meaning meaning (Dark (rack_of s)));
@@ -84,7 +84,7 @@ module _ {R : Type 0} (meaning : R → Meaning) where
         config = it.away.config;
         frames = it.away.frames;
         found = noted_as note (note_dimmed true note) it.newest (shade_meaning meaning (Dark (rack_of s))) refl refl (noted_ready meaning false s note it.newest it.away.found);
-        lies = away_dimmed true n (burned_site (dimmed_site true note n)) note it.last (shade_meaning meaning (Dark (rack_of s))) refl refl (lies_ready meaning false s n note it.last it.away.lies);
+        lies = away_dimmed true n (worked (dimmed_site true note n)) note it.last (shade_meaning meaning (Dark (rack_of s))) refl refl (lies_ready meaning false s n note it.last it.away.lies);
       };
     }
 
@@ -112,10 +112,10 @@ module _ {R : Type 0} {g : Ghosts R} (n : Node) (note : GroupNode) (idle new : I
   given_away away =
       let ready = ready_away g.meaning n note (idle_below idle).tells idle.agreed idle.rack away in
       let dark = dark_away_group g.meaning first noted (idle_below idle).tells (ready_of idle.agreed idle.rack) ready in
-      let same = subst (λ (r : R). GroupAway (burned_site (dimmed_site true noted first)) (note_dimmed true noted) true (idle_below idle).tells (untold (g.meaning r))) (below_ready g.meaning idle.agreed idle.rack) dark in
+      let same = subst (λ (r : R). GroupAway (worked (dimmed_site true noted first)) (note_dimmed true noted) true (idle_below idle).tells (untold (g.meaning r))) (below_ready g.meaning idle.agreed idle.rack) dark in
       let keeps = subst (λ (r : R). KeepsFuse (shade_meaning g.meaning (ready_of idle.agreed idle.rack)) (untold (g.meaning r))) (below_ready g.meaning idle.agreed idle.rack) (dark_keeps g.meaning (ready_of idle.agreed idle.rack) ready.up) in (
-        subst (λ (b : Bool). GroupAway (burned_site (dimmed_site true noted first)) (note_dimmed true noted) b (idle_below new).tells (idle_disks new)) (sym agreed)
-            (subst (λ (s : Shade R). GroupAway (burned_site (dimmed_site true noted first)) (note_dimmed true noted) true (g.meaning (rack_of s)).tells (shade_meaning g.meaning s)) (sym is) same),
+        subst (λ (b : Bool). GroupAway (worked (dimmed_site true noted first)) (note_dimmed true noted) b (idle_below new).tells (idle_disks new)) (sym agreed)
+            (subst (λ (s : Shade R). GroupAway (worked (dimmed_site true noted first)) (note_dimmed true noted) true (g.meaning (rack_of s)).tells (shade_meaning g.meaning s)) (sym is) same),
         inr (subst (λ (s : Shade R). KeepsFuse (shade_meaning g.meaning (ready_of idle.agreed idle.rack)) (shade_meaning g.meaning s)) (sym is) keeps),
         (refl, refl),
       )

@@ -1,28 +1,12 @@
 -- Which blocks of a write a volume has: one block more, and what a read tells of them.
-use Rattle.std.proofs.Common.{◌≡◌, ◌⊎◌, ◌∙◌, ℕ, zero, suc, ◌+◌, ◌-◌, ◌*◌, ◌<◌, ◌≤◌, Bool, false, Some, List, [], ◌∷◌, ◌++◌, length, take, drop, slice_get, slice_set, bytes_eq, ap, sym, refl, subst, inl, inr, arith}
+use Rattle.std.proofs.Common.{◌≡◌, ◌⊎◌, ◌∙◌, ℕ, zero, suc, ◌+◌, ◌-◌, ◌*◌, ◌<◌, ◌≤◌, Bool, false, Some, List, [], ◌++◌, length, take, drop, slice_get, slice_set, bytes_eq, ap, sym, refl, subst, inl, inr, arith}
 use Rattle.std.proofs.lemmas.List.{take_at}
 use Rattle.vx_model.specs.Content.{block_of}
+use Rattle.vx_model.proofs.Lists.{get-set_other, get-set_same, length-set}
 use Rattle.vx_disk.specs.Shelf.{Meaning}
 use Rattle.vx_history.specs.Groups.{BlockMay, GroupNode}
 use Rattle.vx_grouped.specs.Keepings.{BytesKept, KeepsPlain}
 use Rattle.vx_grouped.specs.Plain.{ReadsPlain}
-
-pub set_here : {A : Type 0} (xs : List A) (i : ℕ) (x : A) → i < length xs → slice_get (slice_set xs i x) i ≡ Some x
-set_here [] i x h = absurd (omega arith)
-set_here (y ∷ xs) zero x h = refl
-set_here (y ∷ xs) (suc i) x h = set_here xs i x (omega arith)
-
-pub set_other : {A : Type 0} (xs : List A) (i j : ℕ) (x : A) → (j ≡ i → ⊥) → slice_get (slice_set xs i x) j ≡ slice_get xs j
-set_other [] i j x apart = refl
-set_other (y ∷ xs) zero zero x apart = absurd (apart refl)
-set_other (y ∷ xs) zero (suc j) x apart = refl
-set_other (y ∷ xs) (suc i) zero x apart = refl
-set_other (y ∷ xs) (suc i) (suc j) x apart = set_other xs i j x (λ e. apart (ap suc e))
-
-pub set_long : {A : Type 0} (xs : List A) (i : ℕ) (x : A) → length (slice_set xs i x) ≡ length xs
-set_long [] i x = refl
-set_long (y ∷ xs) zero x = refl
-set_long (y ∷ xs) (suc i) x = ap suc (set_long xs i x)
 
 below_or_here : (k n : ℕ) → k < n + 1 → (k < n) ⊎ (k ≡ n)
 below_or_here zero zero lt = inr refl
@@ -40,11 +24,11 @@ pub one_more : (seen bytes : List ℕ) (bits : List Bool) (n : ℕ) (bit : Bool)
     × ((k : ℕ) → n + 1 ≤ k → k < 16 → slice_get (slice_set bits n bit) k ≡ Some false) × (length (slice_set bits n bit) ≡ 16)
 one_more seen bytes bits n bit few is it = (
   λ k lt. elim (below_or_here k n lt) [
-    | inl less ↦ set_other bits n k bit (λ e. omega (arith, e, less)) ∙ it.0 k less
-    | inr same ↦ subst (λ j. slice_get (slice_set bits n bit) j ≡ Some (bytes_eq (block_of seen j) (block_of bytes j))) (sym same) (set_here bits n bit (let long = it.2 in omega (arith, few, long)) ∙ ap Some is)
+    | inl less ↦ get-set_other bits n k bit (λ e. omega (arith, e, less)) ∙ it.0 k less
+    | inr same ↦ subst (λ j. slice_get (slice_set bits n bit) j ≡ Some (bytes_eq (block_of seen j) (block_of bytes j))) (sym same) (get-set_same bits n bit (let long = it.2 in omega (arith, few, long)) ∙ ap Some is)
   ],
-  λ k ge lt. set_other bits n k bit (λ e. omega (arith, e, ge)) ∙ it.1 k (omega (arith, ge)) lt,
-  set_long bits n bit ∙ it.2,
+  λ k ge lt. get-set_other bits n k bit (λ e. omega (arith, e, ge)) ∙ it.1 k (omega (arith, ge)) lt,
+  length-set bits n bit ∙ it.2,
 )
 
 -- what a read tells of the blocks

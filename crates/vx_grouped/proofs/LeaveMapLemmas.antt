@@ -214,13 +214,13 @@ module _ (core : GroupCore) (logs : List Logs) (flags : List Bool) (s : Bool) (m
           off_has now is v p r has = subst (λ (x : Bool). missed_b (live core.inner.config v p) x (w.mapped v) (w.missed v p r) false ≡ true) is has
 
       -- a map that rests was known, where its log is in use on a good disk
-      good_disk : (v : ℕ) (e : LogEntry) → InUse d v Fmr e → failed_at d.disks e.disk ≡ false → on_failed_disk core.inner.config v ≡ false
-      good_disk v e used good = by (on_failed_disk core.inner.config v) refl
+      good_disk : (v : ℕ) (e : LogEntry) → InUse d v Fmr e → failed_at d.disks e.disk ≡ false → on_failed_disk core.inner.config v Fmr ≡ false
+      good_disk v e used good = by (on_failed_disk core.inner.config v Fmr) refl
         where
           at : LogThere core.inner.config v e
           at = log_there core.inner.config d v (ap (λ (x : Config). log_place x v Fmr) same ∙ closed_places v) e used.is
 
-          by : (x : Bool) → on_failed_disk core.inner.config v ≡ x → on_failed_disk core.inner.config v ≡ false
+          by : (x : Bool) → on_failed_disk core.inner.config v Fmr ≡ x → on_failed_disk core.inner.config v Fmr ≡ false
           by false is = is
           by true is = absurd (
               let was : failed_at core.inner.config.disks at.entry.disk ≡ true = failed_entry core.inner.config.disks at.entry.disk at.entry (sym (ap (failed_under core.inner.config.disks) at.is) ∙ is) in
@@ -235,7 +235,7 @@ module _ (core : GroupCore) (logs : List Logs) (flags : List Bool) (s : Bool) (m
           let trusted : log_trusted core.inner.config v Fmr ≡ true = closed_trusted v (ap (λ (x : Config). log_trusted x v Fmr) (sym same) ∙ in_use_trusts d v e used) in
           let one = item_at logs v (let many = stands.many in let wide = (wide_shape core).volumes in let count = closed_many in let here = ap (λ (x : Config). length x.volumes) same in omega (arith, low, many, wide, count, here)) in
           noted.mapped v
-          ∙ all_three s (on_failed_disk core.inner.config v) (is_some (fmr_at logs v)) told.going (good_disk v e used good)
+          ∙ all_three s (on_failed_disk core.inner.config v Fmr) (is_some (fmr_at logs v)) told.going (good_disk v e used good)
           (some_of (fmr_at logs v) (λ none. told.there v one.0 one.1 on trusted (sym (ap fmr_or one.1) ∙ none)))
 
     left_like : MapsLike m m' core.inner.config d w left_note

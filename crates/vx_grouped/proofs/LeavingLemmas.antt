@@ -12,6 +12,7 @@ use Rattle.vx_disk.specs.Shelf.{Meaning}
 use Rattle.vx_disk.specs.declared.shelf.Shelf.{Ghosts}
 use Rattle.vx_history.specs.Groups.{GroupNode}
 use Rattle.vx_history.specs.World.{Node}
+use Rattle.vx_config.specs.Changes.{Matched, live_again}
 use Rattle.vx_config.specs.Table.{greatest}
 use Rattle.vx_config.specs.declared.config.Config.{Config}
 use Rattle.vx_group.specs.Dets.{DetStops}
@@ -26,7 +27,7 @@ use Rattle.vx_grouped.specs.declared.group_site.GroupSite.TheVariants.{Up, Depor
 use Rattle.vx_grouped.proofs.SettleLemmas.{deport_settles, fuse_burned}
 use Rattle.vx_grouped.proofs.SiteLemmas.{away_with}
 use Rattle.vx_group.specs.Quiesces.{AnyFailed}
-use Rattle.vx_grouped.specs.ConfigMoves.{AnyState, CleansPlexes, DiskMoves, LosesSome, OpensSame, InBoth, none_again, opened_state}
+use Rattle.vx_grouped.specs.ConfigMoves.{AnyState, CleansPlexes, DiskMoves, LosesSome, OpensSame, none_again}
 use Rattle.vx_grouped.specs.CoreMoves.{BackMoves}
 use Rattle.vx_grouped.specs.Ends.{CallLeaves}
 use Rattle.vx_group.specs.Resumes.{CanImport}
@@ -76,7 +77,7 @@ deport_lacks m m' stop (inr it) which is other = absurd (none_else m m' which ot
 
 -- ---- the configuration of disks that were deported
 
-opened_by : (s t : PlexState) → live_state t ≡ live_state s → opened_state t ≡ opened_state s
+opened_by : (s t : PlexState) → live_state t ≡ live_state s → live_again t ≡ live_again s
 opened_by Active Active same = refl
 opened_by Active Clean same = refl
 opened_by Active Stale same = let clash : false ≡ true = same in cc
@@ -88,7 +89,7 @@ opened_by Stale Clean same = let clash : true ≡ false = same in cc
 opened_by Stale Stale same = refl
 
 module _ (n : Node) (note : GroupNode) (c : GroupCore) (m m' : Meaning) (lies : GroupLies n note c m) (stands : GroupStands c m) (one : (u : ℕ) → m.disk_faults u ≡ m.faults u) (two : (u : ℕ) → m'.disk_faults u ≡ m'.faults u) (it : DeportedBy (wide c).config c.inner m m') where
-  disks : (k : ℕ) → InBoth (DiskMoves none_again m m' k) (slice_get c.inner.config.disks k) (slice_get it.config.disks k)
+  disks : (k : ℕ) → Matched (DiskMoves none_again m m' k) (slice_get c.inner.config.disks k) (slice_get it.config.disks k)
   disks = disk_place c.inner.config it.config m m' one two none_again it.failing.count it.failing.blocks it.failing.blamed (λ u off. it.failing.stays u)
 
   cleans_by : (it.behind.config.volumes ≡ c.inner.config.volumes) ⊎ AnyFailed m m' → CleansPlexes m m' c.inner.config it.config

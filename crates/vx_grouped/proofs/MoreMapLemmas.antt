@@ -6,7 +6,7 @@ use Rattle.vx_config.specs.Checks.{plexes_of}
 use Rattle.vx_config.specs.declared.config.Config.{Config}
 use Rattle.vx_disk.specs.Counts.{Rose}
 use Rattle.vx_disk.specs.Shelf.{Meaning}
-use Rattle.vx_group.specs.Attaches.{copied_regions}
+use Rattle.vx_group.specs.Attaches.{region_count}
 use Rattle.vx_history.specs.Groups.{MissedNote}
 use Rattle.vx_history.specs.MapChanges.{InNoVolume, InVolume, MapsWritten}
 use Rattle.vx_history.specs.Missing.{maps_added, maps_written, no_plex, none_missed, this_volume}
@@ -22,7 +22,7 @@ use Rattle.vx_grouped.proofs.NotedMapLemmas.{noted_moved}
 use Rattle.vx_grouped.proofs.WrittenMapLemmas.{live_active, stay_known, written_as}
 
 module _ (w : MissedNote) (c d : Config) (l k : List Logs) (s t : Bool) (a b : List Bool) (m m' : Meaning) (noted : MapsNoted w c l a s) (all_c : AllOn c) (all_d : AllOn d)
-    (same : (v : ℕ) → goes_by k d t v ≡ true → (plexes_of d v ≡ plexes_of c v) × (copied_regions d v ≡ copied_regions c v)) (up : IsTrue m'.down → ⊥)
+    (same : (v : ℕ) → goes_by k d t v ≡ true → (plexes_of d v ≡ plexes_of c v) × (region_count d v ≡ region_count c v)) (up : IsTrue m'.down → ⊥)
     (rack : (u : ℕ) → Rose (m.faults u) (m'.faults u) → Rose (m.disk_faults u) (m'.disk_faults u)) (ends : MapsEnd c d s t l k m m') (moves : t ≡ false → MapsMove c d none_missed no_plex l k) where
   -- by plexes that are ACTIVE or CLEAN
   none_written : (anew : ℕ → ℕ → Bool) (next : MissedNote) → MapsWritten (length c.volumes) (active c) (active d) anew none_missed w next → MapsWritten (length c.volumes) (live c) (live d) anew none_missed w next

@@ -8,6 +8,7 @@ use Rattle.vx_model.specs.declared.site.PlexState.{PlexState}
 use Rattle.vx_model.specs.declared.site.PlexState.TheVariants.{Active, Clean, Stale}
 use Rattle.vx_disk.specs.Counts.{Rose}
 use Rattle.vx_disk.specs.Shelf.{Meaning}
+use Rattle.vx_config.specs.Changes.{Matched}
 use Rattle.vx_config.specs.Checks.{blocks_or, in_region, is_sound}
 use Rattle.vx_config.specs.declared.config.Config.{Config}
 use Rattle.vx_config.specs.declared.entry.DiskEntry.{DiskEntry}
@@ -16,15 +17,15 @@ use Rattle.vx_config.specs.declared.entry.Subdisk.{Subdisk}
 use Rattle.vx_config.specs.declared.entry.VolumeEntry.{VolumeEntry}
 use Rattle.vx_copies.specs.Commits.{MoreFailed}
 use Rattle.vx_copies.specs.Marks.{blocks_at, failed_at}
-use Rattle.vx_layout.specs.Places.{disk_blocks, plex_at, plex_in}
+use Rattle.vx_layout.specs.Places.{disk_blocks, lies_on, plex_at, plex_in}
 use Rattle.vx_layout.proofs.Placing.{region_of, subdisk_region}
-use Rattle.vx_volume.specs.Plexes.{lies_on, uses, uses_or}
+use Rattle.vx_volume.specs.Plexes.{uses, uses_or}
 use Rattle.vx_volume.specs.Volumes.{PlexBlamed}
 use Rattle.vx_kept.specs.Keeping.{frame_at}
 use Rattle.vx_kept.proofs.Chosen.{frames_volumes}
 use Rattle.vx_kept.proofs.Frames.{SameOne, SamePlex, SameVolume, same_of}
 use Rattle.vx_group.specs.Loses.{AnyBlamed, LosesPlexes, SameParts}
-use Rattle.vx_grouped.specs.ConfigMoves.{AnyRose, ConfigMoves, DiskMoves, LosesSome, InBoth, PlexMoves, StateMoves, VolumeMoves, none_again}
+use Rattle.vx_grouped.specs.ConfigMoves.{AnyRose, ConfigMoves, DiskMoves, LosesSome, PlexMoves, StateMoves, VolumeMoves, none_again}
 use Rattle.vx_grouped.specs.CoreMoves.{BothOn, CoreMoves}
 use Rattle.vx_grouped.specs.StateChanges.{StateStays}
 use Rattle.vx_grouped.proofs.StateChangeLemmas.{states_stay}
@@ -38,7 +39,7 @@ some_long (x ∷ xs) [] long k = absurd (omega (arith, long))
 some_long (x ∷ xs) (y ∷ ys) long zero = refl
 some_long (x ∷ xs) (y ∷ ys) long (suc k) = some_long xs ys (omega (arith, long)) k
 
-pub placed_by : {A : Type 0} (P : A → A → Type 0) (o p : Option A) → is_some p ≡ is_some o → ((x y : A) → o ≡ Some x → p ≡ Some y → P x y) → InBoth P o p
+pub placed_by : {A : Type 0} (P : A → A → Type 0) (o p : Option A) → is_some p ≡ is_some o → ((x y : A) → o ≡ Some x → p ≡ Some y → P x y) → Matched P o p
 placed_by P None None same each = tt
 placed_by P None (Some y) same each = absurd (let clash : true ≡ false = same in cc)
 placed_by P (Some x) None same each = absurd (let clash : false ≡ true = same in cc)
@@ -65,7 +66,7 @@ rose_as m m' u one two it = subst (λ (x : ℕ). Rose x (m'.disk_faults u)) (sym
 module _ (c d : Config) (m m' : Meaning) (one : (u : ℕ) → m.disk_faults u ≡ m.faults u) (two : (u : ℕ) → m'.disk_faults u ≡ m'.faults u) where
   pub disk_place : (again : ℕ → Bool) → length d.disks ≡ length c.disks → ((u : ℕ) → blocks_at d.disks u ≡ blocks_at c.disks u)
       → ((u : ℕ) → failed_at c.disks u ≡ false → failed_at d.disks u ≡ true → Rose (m.faults u) (m'.faults u)) → ((u : ℕ) → again u ≡ false → failed_at c.disks u ≡ true → failed_at d.disks u ≡ true)
-      → (k : ℕ) → InBoth (DiskMoves again m m' k) (slice_get c.disks k) (slice_get d.disks k)
+      → (k : ℕ) → Matched (DiskMoves again m m' k) (slice_get c.disks k) (slice_get d.disks k)
   disk_place again count blocks blamed stays k = placed_by (DiskMoves again m m' k) (slice_get c.disks k) (slice_get d.disks k) (some_long c.disks d.disks count k) each
     where
       each : (a b : DiskEntry) → slice_get c.disks k ≡ Some a → slice_get d.disks k ≡ Some b → DiskMoves again m m' k a b
@@ -79,13 +80,13 @@ module _ (c d : Config) (m m' : Meaning) (one : (u : ℕ) → m.disk_faults u �
           by true is failed = inl is
           by false is failed = inr (rose_as m m' k (one k) (two k) (blamed k (disk_failed_at c.disks k a at_a ∙ is) (disk_failed_at d.disks k b at_b ∙ failed)))
 
-  pub disk_at : (again : ℕ → Bool) → CoreMoves again c d m m' → (k : ℕ) → InBoth (DiskMoves again m m' k) (slice_get c.disks k) (slice_get d.disks k)
+  pub disk_at : (again : ℕ → Bool) → CoreMoves again c d m m' → (k : ℕ) → Matched (DiskMoves again m m' k) (slice_get c.disks k) (slice_get d.disks k)
   disk_at again it = disk_place again it.parts.count it.blocks it.blamed it.stays
 
 -- ---- volumes
 
 module _ (By : PlexState → PlexState → Type 0) where
-  plex_placed : (o p : Option PlexEntry) → SamePlex o p → ((x y : PlexEntry) → o ≡ Some x → p ≡ Some y → By x.state y.state) → InBoth (PlexMoves By) o p
+  plex_placed : (o p : Option PlexEntry) → SamePlex o p → ((x y : PlexEntry) → o ≡ Some x → p ≡ Some y → By x.state y.state) → Matched (PlexMoves By) o p
   plex_placed None None same each = tt
   plex_placed None (Some y) same each = absurd same
   plex_placed (Some x) None same each = absurd same
@@ -103,21 +104,21 @@ module _ (By : PlexState → PlexState → Type 0) where
     plexes = λ k. plex_placed (slice_get v.plexes k) (slice_get u.plexes k) (same.plexes k) (each k);
   }
 
-  volume_placed : (o p : Option VolumeEntry) → SameOne o p → ((k : ℕ) (x y : PlexEntry) → plex_in o k ≡ Some x → plex_in p k ≡ Some y → By x.state y.state) → InBoth (VolumeMoves By) o p
+  volume_placed : (o p : Option VolumeEntry) → SameOne o p → ((k : ℕ) (x y : PlexEntry) → plex_in o k ≡ Some x → plex_in p k ≡ Some y → By x.state y.state) → Matched (VolumeMoves By) o p
   volume_placed None None same each = tt
   volume_placed None (Some u) same each = absurd same
   volume_placed (Some v) None same each = absurd same
   volume_placed (Some v) (Some u) same each = volume_by v u same each
 
   -- at one place, where the frames are the same
-  pub volume_moves : (c d : Config) (v : ℕ) → frame_at d v ≡ frame_at c v → ((k : ℕ) (p q : PlexEntry) → plex_at c v k ≡ Some p → plex_at d v k ≡ Some q → By p.state q.state) → InBoth (VolumeMoves By) (slice_get c.volumes v) (slice_get d.volumes v)
+  pub volume_moves : (c d : Config) (v : ℕ) → frame_at d v ≡ frame_at c v → ((k : ℕ) (p q : PlexEntry) → plex_at c v k ≡ Some p → plex_at d v k ≡ Some q → By p.state q.state) → Matched (VolumeMoves By) (slice_get c.volumes v) (slice_get d.volumes v)
   volume_moves c d v frames each = volume_placed (slice_get c.volumes v) (slice_get d.volumes v) (same_of (slice_get c.volumes v) (slice_get d.volumes v) frames) each
 
 -- where the volumes are the same
 one_plex : (p q : PlexEntry) → Some p ≡ Some q → p ≡ q
 one_plex p q is = cc is
 
-pub volumes_same : (x d : Config) (m m' : Meaning) → d.volumes ≡ x.volumes → (v : ℕ) → InBoth (VolumeMoves (StateMoves m m')) (slice_get x.volumes v) (slice_get d.volumes v)
+pub volumes_same : (x d : Config) (m m' : Meaning) → d.volumes ≡ x.volumes → (v : ℕ) → Matched (VolumeMoves (StateMoves m m')) (slice_get x.volumes v) (slice_get d.volumes v)
 volumes_same x d m m' same v = volume_moves (StateMoves m m') x d v (frames_volumes d x same v) each
   where
     each : (k : ℕ) (p q : PlexEntry) → plex_at x v k ≡ Some p → plex_at d v k ≡ Some q → StateMoves m m' p.state q.state
@@ -128,7 +129,7 @@ pub fails_alone : (c x d : Config) (m m' : Meaning) → ((u : ℕ) → m.disk_fa
     → LosesSome m m' x d
 fails_alone c x d m m' one two same parts failing volumes = record {
   parts = parts;
-  disks = λ k. subst (λ (ds : List DiskEntry). InBoth (DiskMoves none_again m m' k) (slice_get ds k) (slice_get d.disks k)) (sym same) (disk_place c d m m' one two none_again failing.count failing.blocks failing.blamed (λ u off. failing.stays u) k);
+  disks = λ k. subst (λ (ds : List DiskEntry). Matched (DiskMoves none_again m m' k) (slice_get ds k) (slice_get d.disks k)) (sym same) (disk_place c d m m' one two none_again failing.count failing.blocks failing.blamed (λ u off. failing.stays u) k);
   volumes = volumes_same x d m m' volumes;
 }
 

@@ -3,8 +3,9 @@ use Rattle.std.proofs.Common.{◌≡◌, ◌⊎◌, ◌<◌, ◌&&◌, ◌||◌,
 use Rattle.std.specs.Prelude.{Option, Some, None, if◌then◌else◌, is_some, not, ◌==◌}
 use Rattle.vx_config.specs.Checks.{plexes_of}
 use Rattle.vx_config.specs.declared.config.Config.{Config}
+use Rattle.vx_config.specs.declared.entry.VolumeLog.TheVariants.{Fmr}
 use Rattle.vx_fmr.specs.Missed.{Missed, has_missed}
-use Rattle.vx_group.specs.Attaches.{copied_regions}
+use Rattle.vx_group.specs.Attaches.{region_count}
 use Rattle.vx_groupmaps.specs.Loading.{on_failed_disk}
 use Rattle.vx_history.specs.Groups.{MissedNote}
 use Rattle.vx_history.specs.Missing.{first_failed, maps_doubted, maps_written, this_volume, missed_then, no_plex, none_missed, perhaps_then}
@@ -102,7 +103,7 @@ has_some (Some f) is = (f, refl)
 
 -- they are in memory
 pub map_in : (logs : List Logs) (c : Config) (s : Bool) (v : ℕ) → goes_by logs c s v ≡ true → (f : Missed) × (fmr_at logs v ≡ Some f)
-map_in logs c s v on = has_some (fmr_at logs v) (by_three s (on_failed_disk c v) (is_some (fmr_at logs v)) on)
+map_in logs c s v on = has_some (fmr_at logs v) (by_three s (on_failed_disk c v Fmr) (is_some (fmr_at logs v)) on)
 
 -- and logs go on
 going_b : (s rest : Bool) → (not s && rest) ≡ true → s ≡ false
@@ -110,12 +111,12 @@ going_b true rest is = let clash : false ≡ true = is in cc
 going_b false rest is = refl
 
 pub going : (logs : List Logs) (c : Config) (s : Bool) (v : ℕ) → goes_by logs c s v ≡ true → s ≡ false
-going logs c s v on = going_b s (not (on_failed_disk c v) && is_some (fmr_at logs v)) on
+going logs c s v on = going_b s (not (on_failed_disk c v Fmr) && is_some (fmr_at logs v)) on
 
 -- ---- behind a call
 
 module _ (w : MissedNote) (c d : Config) (l k : List Logs) (s t : Bool) (a b : List Bool) (may : ℕ → Bool) (noted : MapsNoted w c l a s)
-    (same : (v : ℕ) → goes_by k d t v ≡ true → (plexes_of d v ≡ plexes_of c v) × (copied_regions d v ≡ copied_regions c v)) (begins : MapsBeginIn may c d s t l k) where
+    (same : (v : ℕ) → goes_by k d t v ≡ true → (plexes_of d v ≡ plexes_of c v) × (region_count d v ≡ region_count c v)) (begins : MapsBeginIn may c d s t l k) where
   there : (v p r : ℕ) → goes_by k d t v ≡ true → IsThere d v p r → IsThere c v p r
   there v p r on it = record { plex = subst (λ (n : ℕ). p < n) (same v on).0 it.plex; region = subst (λ (n : ℕ). r < n) (same v on).1 it.region }
 
@@ -169,7 +170,7 @@ module _ (w : MissedNote) (c d : Config) (l k : List Logs) (s t : Bool) (a b : L
         by_least v p r g on at it off (inr had) = (moves (going k d t v on)).stay v p r g at it had.off off (first_least v p r on it had)
 
   -- an attach by which the map of a plex becomes that of another one, of which these regions are noted
-  module _ (vol plex : ℕ) (row : ℕ → Bool) (moves : MapsAttach c d vol plex l k) (noted_row : goes_by k d t vol ≡ true → (r : ℕ) → r < copied_regions c vol → missed_in l c vol moves.from r ≡ true → row r ≡ true)
+  module _ (vol plex : ℕ) (row : ℕ → Bool) (moves : MapsAttach c d vol plex l k) (noted_row : goes_by k d t vol ≡ true → (r : ℕ) → r < region_count c vol → missed_in l c vol moves.from r ≡ true → row r ≡ true)
       (alike : (v : ℕ) → v < length d.volumes → w.doubt v ≡ false → is_alike b v ≡ true) where
     abbrev pub joined_note : MissedNote
     joined_note = record {
@@ -199,7 +200,7 @@ module _ (w : MissedNote) (c d : Config) (l k : List Logs) (s t : Bool) (a b : L
         row_here : (v p r : ℕ) → goes_by k d t v ≡ true → IsThere c v p r → v ≡ vol → p ≡ plex → missed_in l c vol moves.from r ≡ true → ((v == vol) && ((p == plex) && row r)) ≡ true
         row_here v p r on it here same has =
             ap (λ (x : Bool). x && ((p == plex) && row r)) (eq-eqb v vol here) ∙ ap (λ (x : Bool). x && row r) (eq-eqb p plex same)
-            ∙ noted_row (subst (λ (u : ℕ). goes_by k d t u ≡ true) here on) r (subst (λ (u : ℕ). r < copied_regions c u) here it.region) has
+            ∙ noted_row (subst (λ (u : ℕ). goes_by k d t u ≡ true) here on) r (subst (λ (u : ℕ). r < region_count c u) here it.region) has
 
         by_most : (v p r : ℕ) → goes_by k d t v ≡ true → IsThere c v p r → (missed_in l c v p r ≡ true) ⊎ ((v ≡ vol) × (p ≡ plex) × (missed_in l c vol moves.from r ≡ true))
             → (missed_b (active c v p) (active d v p) (w.mapped v) (w.missed v p r) false ≡ true) ⊎ ((perhaps_b (active c v p) (active d v p) false (w.mapped v) (w.missed v p r) (w.perhaps v p r) || ((v == vol) && ((p == plex) && row r))) ≡ true)

@@ -1,22 +1,16 @@
 -- The volumes of a group over writes and flushes, as its site notes them.
-use Rattle.std.proofs.Common.{◌≡◌, ◌⊎◌, inl, inr, ℕ, suc, ◌+◌, ◌-◌, ◌*◌, ◌<◌, ◌≤◌, ◌&&◌, Bool, true, false, List, [], ◌∷◌, length, eqb, leb, ltb, refl, sym, ◌∙◌, subst, arith}
+use Rattle.std.proofs.Common.{◌≡◌, ◌⊎◌, inl, inr, ℕ, suc, ◌+◌, ◌-◌, ◌*◌, ◌<◌, ◌≤◌, Bool, true, false, List, [], ◌∷◌, length, leb, refl, sym, ◌∙◌, subst, arith}
 use Rattle.std.specs.Prelude.{if◌then◌else◌, Contains}
 use Rattle.std.proofs.lemmas.Bool.Decides.{nat_tests}
 use Rattle.std.proofs.lemmas.Bool.{cases_eq}
 use Rattle.vx_model.specs.Content.{Write, put, block_of, blocks_in, touches}
+use Rattle.vx_model.proofs.Tests.{shows, tells}
 use Rattle.vx_disk.specs.Shelf.{Covers, Fits, Flushed, Goes, Lawful, Meaning, Nothing, Written, Wrote}
 use Rattle.vx_history.specs.Groups.{GroupNode, BlockMay, note_cut, note_doubt, note_write}
 use Rattle.vx_grouped.specs.Ends.{plain_write}
 use Rattle.vx_grouped.specs.Plain.{HoldsPlain}
 
 -- ---- which blocks a write has
-
--- the test that a block is one of the write
-tells : (w v b k p q : ℕ) → (eqb w v && (leb b k && ltb p q)) ≡ true → (w ≡ v) × (b ≤ k) × (p < q)
-tells w v b k p q h = (grind (arith, nat_tests), grind (arith, nat_tests), grind (arith, nat_tests))
-
-shows : (w v b k p q : ℕ) → w ≡ v → b ≤ k → p < q → (eqb w v && (leb b k && ltb p q)) ≡ true
-shows w v b k p q same low high = grind (arith, nat_tests)
 
 fits : (a b : ℕ) → a ≤ b → leb a b ≡ true
 fits a b le = grind (arith, nat_tests)

@@ -11,7 +11,7 @@ use Rattle.vx_disk.specs.Counts.{Rose}
 use Rattle.vx_disk.specs.Racks.{IsRack}
 use Rattle.vx_disk.specs.Shelf.{Meaning}
 use Rattle.vx_fmr.specs.Missed.{Missed}
-use Rattle.vx_group.specs.Attaches.{copied_regions}
+use Rattle.vx_group.specs.Attaches.{region_count}
 use Rattle.vx_group.specs.Holding.{GroupStands, wide}
 use Rattle.vx_group.specs.Loses.{LosesPlexes}
 use Rattle.vx_group.specs.declared.group_core.GroupCore.{GroupCore}
@@ -117,7 +117,7 @@ module _ (own : Write) (c d : GroupCore) (l k : List Logs) (s t : Bool) (a b : L
   many : length d.inner.config.volumes ≡ length c.inner.config.volumes
   many = sym (wide_shape d).volumes ∙ units ∙ (wide_shape c).volumes
 
-  same : (v : ℕ) → goes_by k d.inner.config t v ≡ true → (plexes_of d.inner.config v ≡ plexes_of c.inner.config v) × (copied_regions d.inner.config v ≡ copied_regions c.inner.config v)
+  same : (v : ℕ) → goes_by k d.inner.config t v ≡ true → (plexes_of d.inner.config v ≡ plexes_of c.inner.config v) × (region_count d.inner.config v ≡ region_count c.inner.config v)
   same v on = (inner_count c d v (frames v) (sizes v), ap regions_of (inner_blocks c d v (sizes v)))
 
   there : own.volume < length c.inner.config.volumes

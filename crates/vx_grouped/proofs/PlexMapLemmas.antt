@@ -6,7 +6,7 @@ use Rattle.vx_config.specs.Checks.{blocks_of, plexes_of}
 use Rattle.vx_config.specs.declared.config.Config.{Config}
 use Rattle.vx_disk.specs.Racks.{IsRack}
 use Rattle.vx_disk.specs.Shelf.{Meaning}
-use Rattle.vx_group.specs.Attaches.{att_refusal, copied_regions, missed_regions}
+use Rattle.vx_group.specs.Attaches.{att_refusal, missed_regions, region_count}
 use Rattle.vx_group.specs.Dets.{DetStops, det_refusal}
 use Rattle.vx_group.specs.Holding.{GroupStands}
 use Rattle.vx_group.specs.declared.group_core.GroupCore.{GroupCore}
@@ -82,7 +82,7 @@ call_still n note core m OutOfMemory off leaves = absurd leaves
 module _ (c d : GroupCore) (l k : List Logs) (s t : Bool) (a b : List Bool) (m m' : Meaning) (was : IsRack m) (now : IsRack m') (one : GroupStands c m) (two : GroupStands d m') (frames : (v : ℕ) → frame_at d.inner.config v ≡ frame_at c.inner.config v)
     (many : length d.inner.config.volumes ≡ length c.inner.config.volumes) (blocks : (v : ℕ) → blocks_of d.inner.config.volumes v ≡ blocks_of c.inner.config.volumes v) (ends : MapsEnd c.inner.config d.inner.config s t l k m m')
     (flags : (b ≡ a) × (t ≡ s)) where
-  same : (v : ℕ) → goes_by k d.inner.config t v ≡ true → (plexes_of d.inner.config v ≡ plexes_of c.inner.config v) × (copied_regions d.inner.config v ≡ copied_regions c.inner.config v)
+  same : (v : ℕ) → goes_by k d.inner.config t v ≡ true → (plexes_of d.inner.config v ≡ plexes_of c.inner.config v) × (region_count d.inner.config v ≡ region_count c.inner.config v)
   same v on = (same_count c.inner.config d.inner.config v (frames v) (blocks v), ap regions_of (blocks v))
 
   alike : (v : ℕ) → is_alike a v ≡ true → is_alike b v ≡ true

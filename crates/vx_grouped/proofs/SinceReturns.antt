@@ -11,6 +11,7 @@ use Rattle.vx_untold.specs.Untold.{untold}
 use Rattle.vx_untold.specs.declared.shade.Shade.{Shade}
 use Rattle.vx_untold.specs.declared.shade.Shade.TheVariants.{Bright, Dark}
 use Rattle.vx_watched.specs.Since.{CalledSince, fuse_calls, is_rack}
+use Rattle.vx_watched.proofs.SinceLemmas.{rack_same}
 use Rattle.vx_grouped.specs.Readies.{ready_of}
 use Rattle.vx_grouped.specs.SiteReturns.{FailsFused, ReturnSince, TellsNone}
 
@@ -124,19 +125,13 @@ with_at None new P it x y was is = let no_one : None ≡ Some x = was in cc
 with_at (Some o) None P it x y was is = absurd it
 with_at (Some o) (Some n) P it x y was is = subst (λ (a : Disks). P a y) (some_same o x was) (subst (λ (b : Disks). P o b) (some_same n y is) it)
 
-with_rack : (old new : Option Disks) (P : Disks → Disks → Type 0) → WithDisks old new P → is_rack new ≡ is_rack old
-with_rack None None P it = refl
-with_rack None (Some n) P it = absurd it
-with_rack (Some o) None P it = absurd it
-with_rack (Some o) (Some n) P it = refl
-
 pub return_fell : (a b : Meaning) (pick : ℕ) → IsRack b → Stopped a b → OnDisks a.disks b.disks (Crashed a.size pick) → ReturnSince a b
 return_fell a b pick rack stopped on = unset a b rack stopped.unarmed (record {
   units = stopped.units;
   size = stopped.size;
   tells = λ told. sym stopped.tells ∙ told;
   counts = λ d. let same = stopped.counts.disk_faults d in omega (arith, same);
-  rack = with_rack a.disks b.disks (λ o n. Crashed a.size pick o n × ((u : ℕ) → n.failing u ≡ o.failing u)) on;
+  rack = rack_same a.disks b.disks (λ o n. Crashed a.size pick o n × ((u : ℕ) → n.failing u ≡ o.failing u)) on;
   failing = λ x y was is. (with_at a.disks b.disks (λ o n. Crashed a.size pick o n × ((u : ℕ) → n.failing u ≡ o.failing u)) on x y was is).1;
 })
 
@@ -146,7 +141,7 @@ return_alike a b alike on = record {
   size = alike.contents.size;
   tells = λ told. sym alike.contents.tells ∙ told;
   counts = λ d. let same = alike.counts.disk_faults d in omega (arith, same);
-  rack = with_rack a.disks b.disks (λ o n. Untouched o n × ((u : ℕ) → n.failing u ≡ o.failing u)) on;
+  rack = rack_same a.disks b.disks (λ o n. Untouched o n × ((u : ℕ) → n.failing u ≡ o.failing u)) on;
   told = λ x y was is.
       let it = with_at a.disks b.disks (λ o n. Untouched o n × ((u : ℕ) → n.failing u ≡ o.failing u)) on x y was is in
       record { failing = it.1; set = λ set. ap is_set (sym it.0.fuse) ∙ set; left = λ set. let same = ap fuse_calls it.0.fuse in omega (arith, same) };

@@ -7,7 +7,7 @@ use Rattle.vx_config.specs.Checks.{plexes_of}
 use Rattle.vx_config.specs.declared.config.Config.{Config}
 use Rattle.vx_disk.specs.Counts.{Rose}
 use Rattle.vx_disk.specs.Shelf.{Meaning}
-use Rattle.vx_group.specs.Attaches.{copied_regions}
+use Rattle.vx_group.specs.Attaches.{region_count}
 use Rattle.vx_history.specs.Groups.{MissedNote}
 use Rattle.vx_history.specs.MapChanges.{InNoVolume, InVolume, MapsWritten, TookRow}
 use Rattle.vx_history.specs.Missing.{each_anew, first_failed, in_write, maps_doubted, maps_written, no_plex, none_missed, one_anew, this_volume, perhaps_then}
@@ -42,7 +42,7 @@ move_weaker c d these anew less l k fewer it = record {
     by v p r (inr (keeps, has)) = inr ((λ on away. off v p (keeps on away) (less v p) refl), has)
 
 module _ (w : MissedNote) (c d : Config) (l k : List Logs) (s t : Bool) (a b : List Bool) (m m' : Meaning) (noted : MapsNoted w c l a s) (all_c : AllOn c) (all_d : AllOn d)
-    (same : (v : ℕ) → goes_by k d t v ≡ true → (plexes_of d v ≡ plexes_of c v) × (copied_regions d v ≡ copied_regions c v)) (many : length d.volumes ≡ length c.volumes)
+    (same : (v : ℕ) → goes_by k d t v ≡ true → (plexes_of d v ≡ plexes_of c v) × (region_count d v ≡ region_count c v)) (many : length d.volumes ≡ length c.volumes)
     (up : IsTrue m'.down → ⊥) (rack : (u : ℕ) → Rose (m.faults u) (m'.faults u) → Rose (m.disk_faults u) (m'.disk_faults u)) (ends : MapsEnd c d s t l k m m') where
   was_low : (v : ℕ) → v < length d.volumes → v < length c.volumes
   was_low v low = subst (λ (n : ℕ). v < n) many low
@@ -127,7 +127,7 @@ module _ (w : MissedNote) (c d : Config) (l k : List Logs) (s t : Bool) (a b : L
       was_mapped on true is = is
       was_mapped on false is = absurd (let clash : false ≡ true = (begins.so vol is on).0 in cc)
 
-      noted_row : goes_by k d t vol ≡ true → (r : ℕ) → r < copied_regions c vol → missed_in l c vol moves.from r ≡ true → row r ≡ true
+      noted_row : goes_by k d t vol ≡ true → (r : ℕ) → r < region_count c vol → missed_in l c vol moves.from r ≡ true → row r ≡ true
       noted_row on r lt has =
           let goes = was_mapped on (goes_by l c s vol) refl in
           let f = map_in l c s vol goes in

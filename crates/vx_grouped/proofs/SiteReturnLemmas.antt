@@ -1,5 +1,6 @@
 -- A recovery of a site's group, by its note.
 use Rattle.std.proofs.Common.{⊎_elim, ◌≡◌, ◌⊎◌, inl, inr, ℕ, zero, suc, ◌<◌, Bool, true, false, List, [], ◌∷◌, length, IsTrue, IsFalse, refl, sym, ◌∙◌, ap, subst, arith, not}
+use Rattle.std.proofs.lemmas.Bool.{both_ways}
 use Rattle.std.specs.Prelude.{if◌then◌else◌, slice_get, Option, Some, None, Ok, Err}
 use Rattle.std.proofs.lemmas.Option.{slice_get_within}
 use Rattle.vx_model.specs.declared.errors.Stop.{Stop}
@@ -11,7 +12,7 @@ use Rattle.vx_disk.specs.Racks.{Alike, Stopped, IsRack}
 use Rattle.vx_disk.specs.Shelf.{Meaning, Each, Image, Lawful}
 use Rattle.vx_disk.specs.declared.shelf.Shelf.{Ghosts}
 use Rattle.vx_history.specs.Groups.{BlockMay, GroupNode}
-use Rattle.vx_history.specs.Steps.{burned, crashed}
+use Rattle.vx_history.specs.Steps.{burned, crashed, worked}
 use Rattle.vx_history.specs.World.{Fuse, Node, NoFuse, FuseSet, FuseLit}
 use Rattle.vx_config.specs.Checks.{blocks_of, blocks_or_none}
 use Rattle.vx_config.specs.declared.config.Config.{Config}
@@ -28,7 +29,7 @@ use Rattle.vx_grouped.specs.Away.{AwayLies}
 use Rattle.vx_grouped.specs.GroupSites.{GroupAway, GroupDown, GroupUp, NotesGroup, laid_disks, AreStopped, IsLit, dimmed_site, laid_below}
 use Rattle.vx_grouped.specs.Returns.{GroupReturns, note_imported}
 use Rattle.vx_grouped.specs.SetFuses.{HasFuse}
-use Rattle.vx_grouped.specs.SiteEnds.{stops_down, burned_site}
+use Rattle.vx_grouped.specs.SiteEnds.{stops_down}
 use Rattle.vx_grouped.specs.SiteReturns.{ImportRefused, NoteReturns, returned_with, stops_early, ImportWhy, ImportsFrom, KeepsFuse, RecoversFrom, ReturnSince, ReturnsUp, TellsNone}
 use Rattle.vx_grouped.specs.declared.idle.Idle.{Idle}
 use Rattle.vx_grouped.specs.declared.laid.Laid.{Laid}
@@ -133,10 +134,6 @@ frames_long [] (u ∷ us) same = absurd (let no_one : Some (frame u) ≡ None = 
 frames_long (v ∷ vs) [] same = absurd (let no_one : None ≡ Some (frame v) = same 0 in cc)
 frames_long (v ∷ vs) (u ∷ us) same = let rest = frames_long vs us (λ k. same (suc k)) in omega (arith, rest)
 
-up_not_down : (down : Bool) → IsFalse down → IsTrue down → ⊥
-up_not_down true up is = let clash : true ≡ false = up in cc
-up_not_down false up is = let clash : false ≡ true = is in cc
-
 unarmed_any : (f : Fuse) (m : Meaning) → IsFalse m.armed → HasFuse (burned f) m
 unarmed_any NoFuse m none = none
 unarmed_any (FuseSet calls) m none = tt
@@ -226,7 +223,7 @@ module _ (n : Node) (note : GroupNode) (last : Config) (m m' m3 : Meaning) (law 
 
 -- a site that crashed has no fuse that could run out
 never_off : (m m' : Meaning) (stop : Stop) → IsFalse m.down → IsFalse m.armed → CalledSince m m' → ImportStops m m' stop → stop ≡ Refused IsOff → ⊥
-never_off m m' stop up unarmed since stops is = up_not_down m.down up (since.safe unarmed (down_of m m' stop (ap stops_down is) stops))
+never_off m m' stop up unarmed since stops is = both_ways m.down up (since.safe unarmed (down_of m m' stop (ap stops_down is) stops))
 
 module _ {R : Type 0} {g : Ghosts R} (n : Node) (note : GroupNode) (racks : (s : Shade R) → IsRack (shade_meaning g.meaning s)) (laws : (s : Shade R) → Lawful (shade_meaning g.meaning s)) where
   -- ---- a site that crashed
@@ -337,7 +334,7 @@ module _ {R : Type 0} {g : Ghosts R} (n : Node) (note : GroupNode) (racks : (s :
 
     module _ (middle : Shade R) (stop : Stop) (since : CalledSince (shade_meaning g.meaning rack) (shade_meaning g.meaning middle)) (goes : TellsLess (g.meaning (rack_of rack)) (g.meaning (rack_of middle))) (stops : ImportStops (shade_meaning g.meaning rack) (shade_meaning g.meaning middle) stop) (can : CanImport (shade_meaning g.meaning rack)) where
       away_as_is : (dims agreed told : Bool) (m : Meaning) → AwayLies n note away.last m → NotesFound note away.newest m → (IsTrue m.down → ⊥) → HasFuse (burned n.fuse) m → IsLit (note_dimmed dims note) told m → agreed ≡ true
-          → GroupAway (burned_site (dimmed_site dims note n)) (note_dimmed dims note) agreed told m
+          → GroupAway (worked (dimmed_site dims note n)) (note_dimmed dims note) agreed told m
       away_as_is dims agreed told m lies found still fuse lit agrees = record {
         noted = record { is = refl; none = record { role = away.noted.none.role; volumes = away.noted.none.volumes; log = away.noted.none.log; safe = away.noted.none.safe; running = away.noted.none.running } };
         lit = lit;
@@ -347,7 +344,7 @@ module _ {R : Type 0} {g : Ghosts R} (n : Node) (note : GroupNode) (racks : (s :
         last = away.last;
         newest = away.newest;
         spells = away.spells;
-        away = record { state = away.away.state; config = away.away.config; frames = away.away.frames; found = noted_as note (note_dimmed dims note) away.newest m refl refl found; lies = away_dimmed dims n (burned_site (dimmed_site dims note n)) note away.last m refl refl lies };
+        away = record { state = away.away.state; config = away.away.config; frames = away.away.frames; found = noted_as note (note_dimmed dims note) away.newest m refl refl found; lies = away_dimmed dims n (worked (dimmed_site dims note n)) note away.last m refl refl lies };
       }
 
       lit_middle : IsLit (note_dimmed false note) (g.meaning (rack_of middle)).tells (shade_meaning g.meaning middle)
@@ -373,7 +370,7 @@ module _ {R : Type 0} {g : Ghosts R} (n : Node) (note : GroupNode) (racks : (s :
       -- it had written nothing, and the disks are as they were
       pub imported_early : (idle : Idle R g) → idle.rack ≡ middle → idle.agreed ≡ true → stops_early stop ≡ true → (IsTrue (shade_meaning g.meaning middle).down → ⊥) → ImportsFrom n note (shade_meaning g.meaning rack) (Deported idle) (Err stop)
       imported_early idle is agreed early still =
-          refused_as (Deported idle) (early_up stop early) (subst (λ (s : Shade R). GroupAway (burned_site (dimmed_site (not (stops_early stop)) note n)) (note_dimmed (not (stops_early stop)) note) idle.agreed (g.meaning (rack_of s)).tells (shade_meaning g.meaning s) × (IsFalse (shade_meaning g.meaning s).armed ⊎ KeepsFuse (shade_meaning g.meaning rack) (shade_meaning g.meaning s))
+          refused_as (Deported idle) (early_up stop early) (subst (λ (s : Shade R). GroupAway (worked (dimmed_site (not (stops_early stop)) note n)) (note_dimmed (not (stops_early stop)) note) idle.agreed (g.meaning (rack_of s)).tells (shade_meaning g.meaning s) × (IsFalse (shade_meaning g.meaning s).armed ⊎ KeepsFuse (shade_meaning g.meaning rack) (shade_meaning g.meaning s))
           × ImportWhy (IsTrue (shade_meaning g.meaning s).tells) (shade_meaning g.meaning rack) (shade_meaning g.meaning s) stop) (sym is) (
             away_as_is (not (stops_early stop)) idle.agreed (g.meaning (rack_of middle)).tells (shade_meaning g.meaning middle)
                 (early_lies n note away.last (shade_meaning g.meaning rack) (shade_meaning g.meaning middle) (shade_meaning g.meaning middle) (laws rack) away.away.lies can stop stops early refl (λ u. refl) (λ u b v left. left))
@@ -409,12 +406,12 @@ module _ {R : Type 0} {g : Ghosts R} (n : Node) (note : GroupNode) (racks : (s :
         pub imported_late : (idle : Idle R g) (new : Shade R) → idle.rack ≡ new → idle.agreed ≡ true → TellsLess (g.meaning (rack_of fallen)) (g.meaning (rack_of new)) → stops_down stop ≡ false → Alike (shade_meaning g.meaning fallen) (shade_meaning g.meaning new) → IsFalse (shade_meaning g.meaning new).down
             → (shade_meaning g.meaning new).armed ≡ (shade_meaning g.meaning fallen).armed → ImportsFrom n note (shade_meaning g.meaning rack) (Deported idle) (Err stop)
         imported_late idle new is agreed rises off alike up armed =
-            refused_as (Deported idle) off (subst (λ (s : Shade R). GroupAway (burned_site (dimmed_site (not (stops_early stop)) note n)) (note_dimmed (not (stops_early stop)) note) idle.agreed (g.meaning (rack_of s)).tells (shade_meaning g.meaning s) × (IsFalse (shade_meaning g.meaning s).armed ⊎ KeepsFuse (shade_meaning g.meaning rack) (shade_meaning g.meaning s))
+            refused_as (Deported idle) off (subst (λ (s : Shade R). GroupAway (worked (dimmed_site (not (stops_early stop)) note n)) (note_dimmed (not (stops_early stop)) note) idle.agreed (g.meaning (rack_of s)).tells (shade_meaning g.meaning s) × (IsFalse (shade_meaning g.meaning s).armed ⊎ KeepsFuse (shade_meaning g.meaning rack) (shade_meaning g.meaning s))
             × ImportWhy (IsTrue (shade_meaning g.meaning s).tells) (shade_meaning g.meaning rack) (shade_meaning g.meaning s) stop) (sym is) (
               away_as_is (not (stops_early stop)) idle.agreed (g.meaning (rack_of new)).tells (shade_meaning g.meaning new)
                   (less_away n note (shade_meaning g.meaning fallen) (shade_meaning g.meaning new) alike.contents.units alike.contents.size alike.contents.leaves away.last (lies_fell (stops_early stop) refl))
                   (less_noted note away.newest (shade_meaning g.meaning fallen) (shade_meaning g.meaning new) (less_from (shade_meaning g.meaning fallen) (shade_meaning g.meaning new) alike.contents.units alike.contents.size alike.contents.leaves) (found_fell (stops_early stop) refl))
-                  (up_not_down (shade_meaning g.meaning new).down up) (unarmed_any n.fuse (shade_meaning g.meaning new) (armed ∙ fell.unarmed))
+                  (both_ways (shade_meaning g.meaning new).down up) (unarmed_any n.fuse (shade_meaning g.meaning new) (armed ∙ fell.unarmed))
                   (λ bright told. alike.contents.tells ∙ lit_fell (stops_early stop) refl bright (rises told)) agreed,
               inl (armed ∙ fell.unarmed),
               why_away new (is_up (shade_meaning g.meaning rack).down away.up) (λ d. alike.counts.disk_faults d ∙ counts d) (λ tells. tells_rack (sym alike.contents.tells ∙ tells)) (never_stops off),

@@ -4,6 +4,7 @@ use Rattle.std.proofs.lemmas.Bool.{cases_lt}
 use Rattle.std.specs.Prelude.{Option, None, Some, Err, not, is_some}
 use Rattle.vx_config.specs.Table.{greatest}
 use Rattle.vx_config.specs.declared.config.Config.{Config}
+use Rattle.vx_config.specs.declared.entry.VolumeLog.TheVariants.{Fmr}
 use Rattle.vx_disk.specs.Causes.{DeviceCause}
 use Rattle.vx_disk.specs.Shelf.{Meaning}
 use Rattle.vx_disk.specs.declared.shelf.Shelf.{Ghosts}
@@ -44,7 +45,7 @@ module _ (c : Config) (l k : List Logs) (a b : List Bool) (s t : Bool) (goes : (
 
 -- by maps that are the same
 goes_same : (l k : List Logs) (c : Config) (s t : Bool) (v : ℕ) → fmr_at k v ≡ fmr_at l v → t ≡ s → goes_by k c t v ≡ goes_by l c s v
-goes_same l k c s t v map stopped = ap (λ (o : Option Missed). not t && (not (on_failed_disk c v) && is_some o)) map ∙ ap (λ (x : Bool). not x && (not (on_failed_disk c v) && is_some (fmr_at l v))) stopped
+goes_same l k c s t v map stopped = ap (λ (o : Option Missed). not t && (not (on_failed_disk c v Fmr) && is_some o)) map ∙ ap (λ (x : Bool). not x && (not (on_failed_disk c v Fmr) && is_some (fmr_at l v))) stopped
 
 pub stay_left : (c d : Config) (l k : List Logs) (a b : List Bool) (s t : Bool) → ((v : ℕ) → fmr_at k v ≡ fmr_at l v) → ((v : ℕ) → is_alike a v ≡ true → is_alike b v ≡ true) → t ≡ s → d ≡ c → PartsStay (map_parts c l a s) (map_parts d k b t)
 stay_left c d l k a b s t left flags stopped config = parts_stay c l k a b s t (λ v. goes_same l k c s t v (left v) stopped) (λ v on. left v) flags d config
@@ -59,14 +60,14 @@ off_by false true z is = refl
 off_by false false z is = absurd (let clash : false ≡ true = is in cc)
 
 pub stay_held : (c d : Config) (l k : List Logs) (a b : List Bool) (s t : Bool) → MapsHeld c l k → b ≡ a → t ≡ s → d ≡ c → PartsStay (map_parts c l a s) (map_parts d k b t)
-stay_held c d l k a b s t held flags stopped config = parts_stay c l k a b s t (λ v. goes v (on_failed_disk c v) refl) (λ v on. map v on (on_failed_disk c v) refl) (λ v is. ap (λ (z : List Bool). is_alike z v) flags ∙ is) d config
+stay_held c d l k a b s t held flags stopped config = parts_stay c l k a b s t (λ v. goes v (on_failed_disk c v Fmr) refl) (λ v on. map v on (on_failed_disk c v Fmr) refl) (λ v is. ap (λ (z : List Bool). is_alike z v) flags ∙ is) d config
   where
-    goes : (v : ℕ) (x : Bool) → on_failed_disk c v ≡ x → goes_by k c t v ≡ goes_by l c s v
-    goes v true is = off_by t (on_failed_disk c v) (is_some (fmr_at k v)) is ∙ sym (off_by s (on_failed_disk c v) (is_some (fmr_at l v)) is)
+    goes : (v : ℕ) (x : Bool) → on_failed_disk c v Fmr ≡ x → goes_by k c t v ≡ goes_by l c s v
+    goes v true is = off_by t (on_failed_disk c v Fmr) (is_some (fmr_at k v)) is ∙ sym (off_by s (on_failed_disk c v Fmr) (is_some (fmr_at l v)) is)
     goes v false is = goes_same l k c s t v (ap fmr_or (held.same v is)) stopped
 
-    map : (v : ℕ) → goes_by l c s v ≡ true → (x : Bool) → on_failed_disk c v ≡ x → fmr_at k v ≡ fmr_at l v
-    map v on true is = absurd (let clash : false ≡ true = sym (off_by s (on_failed_disk c v) (is_some (fmr_at l v)) is) ∙ on in cc)
+    map : (v : ℕ) → goes_by l c s v ≡ true → (x : Bool) → on_failed_disk c v Fmr ≡ x → fmr_at k v ≡ fmr_at l v
+    map v on true is = absurd (let clash : false ≡ true = sym (off_by s (on_failed_disk c v Fmr) (is_some (fmr_at l v)) is) ∙ on in cc)
     map v on false is = ap fmr_or (held.same v is)
 
 -- ---- refusals by which nothing changes

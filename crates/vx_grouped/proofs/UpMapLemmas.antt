@@ -15,7 +15,7 @@ use Rattle.vx_grouped.specs.Ends.{WriteLeaves}
 use Rattle.vx_grouped.specs.GroupSites.{idle_disks, laid_disks, site_config}
 use Rattle.vx_grouped.specs.MapsNoted.{CopiesNoted, MapsNoted}
 use Rattle.vx_grouped.specs.PlainMaps.{MapParts, PartsLeft, PartsMoved, PartsNoted, laid_parts}
-use Rattle.vx_grouped.specs.SiteEnds.{answers_down}
+use Rattle.vx_grouped.specs.SiteEnds.{is_off}
 use Rattle.vx_grouped.specs.SiteMaps.{DeportMapped, DiskMaps, MapsLike, MapsMoved, MapsOf, RestsNot, StaysMapped, UpMaps}
 use Rattle.vx_grouped.specs.declared.group_site.GroupSite.TheVariants.{Deported, Down, Up}
 use Rattle.vx_grouped.specs.declared.idle.Idle.{Idle}
@@ -25,7 +25,7 @@ one_config : (a b : Config) → Some a ≡ Some b → a ≡ b
 one_config a b is = cc is
 
 -- behind a write that answers no 6 the disks are up
-pub up_still : (n : Node) (note : GroupNode) (own : Write) (core : GroupCore) (m : Meaning) (no : No) → answers_down no ≡ false → WriteLeaves {T = Unit {0}} n note own core m (Err no) → IsTrue m.down → ⊥
+pub up_still : (n : Node) (note : GroupNode) (own : Write) (core : GroupCore) (m : Meaning) (no : No) → is_off no ≡ false → WriteLeaves {T = Unit {0}} n note own core m (Err no) → IsTrue m.down → ⊥
 up_still n note own core m (Device disk) off leaves = leaves.1.up
 up_still n note own core m IsOff off leaves = absurd (let clash : true ≡ false = off in cc)
 up_still n note own core m other off leaves = absurd leaves

@@ -21,7 +21,7 @@ use Rattle.vx_grouped.specs.Away.{IsAwayAt}
 use Rattle.vx_grouped.specs.Ends.{WriteLeaves, plain_write}
 use Rattle.vx_grouped.specs.GroupNotes.{GroupLies, IsGroupAt, note_called, noted_config}
 use Rattle.vx_grouped.specs.GroupSites.{GroupUp, idle_disks, laid_disks, site_disks, IsLit, laid_below, idle_below}
-use Rattle.vx_grouped.specs.SiteEnds.{ConfigGoes, PlainRead, PlainWrote, answers_down, HasNow}
+use Rattle.vx_grouped.specs.SiteEnds.{ConfigGoes, PlainRead, PlainWrote, HasNow, is_off}
 use Rattle.vx_grouped.specs.Watches.{PlainReads, PlainWrites}
 use Rattle.vx_grouped.specs.declared.idle.Idle.{Idle}
 use Rattle.vx_grouped.specs.declared.laid.Laid.{Laid}
@@ -41,7 +41,7 @@ use Rattle.vx_watched.specs.Traces.{TellsLess}
 use Rattle.vx_grouped.proofs.TraceLemmas.{lit_since}
 
 -- what the answer of a device says of the disks
-pub down_by : (m m' : Meaning) (no : No) → answers_down no ≡ true → DeviceCause m m' no → IsTrue m'.down
+pub down_by : (m m' : Meaning) (no : No) → is_off no ≡ true → DeviceCause m m' no → IsTrue m'.down
 down_by m m' (Device disk) off cause = cc
 down_by m m' IsOff off cause = cause
 down_by m m' other off cause = cc
@@ -87,7 +87,7 @@ module _ {R : Type 0} {g : Ghosts R} (n : Node) (note : GroupNode) (v b : ℕ) (
     pub wrote_done : PlainWrites v b bytes group.core (laid_disks group) new.core (laid_disks new) (Ok tt) → PlainWrote n note own (Up group) (Up new) (Ok tt)
     wrote_done it = done_by it (it.leaves n note up.at)
 
-    up_by : (no : No) → answers_down no ≡ false → WriteLeaves {T = Unit {0}} n note own new.core (laid_disks new) (Err no) → DeviceCause (laid_disks group) (laid_disks new) no
+    up_by : (no : No) → is_off no ≡ false → WriteLeaves {T = Unit {0}} n note own new.core (laid_disks new) (Err no) → DeviceCause (laid_disks group) (laid_disks new) no
         → LosesPlexes group.core.inner.config new.core.inner.config (laid_disks group) (laid_disks new) → BothOn group.core.inner.config new.core.inner.config (laid_disks group).units → PlainWrote n note own (Up group) (Up new) (Err no)
     up_by (Device disk) off leaves cause loses on = (
       note_called leaves.0 new.core note,
@@ -100,13 +100,13 @@ module _ {R : Type 0} {g : Ghosts R} (n : Node) (note : GroupNode) (v b : ℕ) (
     up_by other off leaves cause loses on = absurd leaves
 
     -- one that failed, over disks that are up
-    pub wrote_up : (no : No) → answers_down no ≡ false → PlainWrites v b bytes group.core (laid_disks group) new.core (laid_disks new) (Err no) → PlainWrote n note own (Up group) (Up new) (Err no)
+    pub wrote_up : (no : No) → is_off no ≡ false → PlainWrites v b bytes group.core (laid_disks group) new.core (laid_disks new) (Err no) → PlainWrote n note own (Up group) (Up new) (Err no)
     wrote_up why off it = up_by why off (it.leaves n note up.at) it.cause it.loses it.on
 
     module _ (idle : Idle R g) (stopped : Stopped (laid_disks new) (idle_disks idle))
         (away : (k : Node) (next : GroupNode) → GroupLies k next new.core (laid_disks new) → IsAwayAt (record k { state = IsDown }) next new.core.inner.config (idle_disks idle))
         (same : idle.agreed ≡ new.core.inner.agreed) (fell : TellsLess (laid_below new) (idle_below idle)) where
-      cut_by : (no : No) → answers_down no ≡ true → WriteLeaves {T = Unit {0}} n note own new.core (laid_disks new) (Err no) → HasSpelling (at_serial 0 new.core.inner.config)
+      cut_by : (no : No) → is_off no ≡ true → WriteLeaves {T = Unit {0}} n note own new.core (laid_disks new) (Err no) → HasSpelling (at_serial 0 new.core.inner.config)
           → LosesPlexes group.core.inner.config new.core.inner.config (laid_disks group) (idle_disks idle) → BothOn group.core.inner.config new.core.inner.config (laid_disks group).units → PlainWrote n note own (Up group) (Down idle) (Err no)
       cut_by (Device disk) off leaves spells loses on = cc
       cut_by IsOff off leaves spells loses on = (
@@ -121,7 +121,7 @@ module _ {R : Type 0} {g : Ghosts R} (n : Node) (note : GroupNode) (v b : ℕ) (
       cut_by other off leaves spells loses on = cc
 
       -- one in which the fuse ran out
-      pub wrote_cut : (no : No) → answers_down no ≡ true → PlainWrites v b bytes group.core (laid_disks group) new.core (laid_disks new) (Err no) → PlainWrote n note own (Up group) (Down idle) (Err no)
+      pub wrote_cut : (no : No) → is_off no ≡ true → PlainWrites v b bytes group.core (laid_disks group) new.core (laid_disks new) (Err no) → PlainWrote n note own (Up group) (Down idle) (Err no)
       wrote_cut why off it =
           cut_by why off (it.leaves n note up.at) (lasts it.loses)
           (both_lose (laid_disks group) (laid_disks new) (idle_disks idle) (racks group.shelf) (racks new.shelf) (racks idle.rack) since.counts (λ d. let same = stopped.counts.disk_faults d in omega (arith, same)) group.core.inner.config new.core.inner.config new.core.inner.config

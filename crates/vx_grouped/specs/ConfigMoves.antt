@@ -1,10 +1,10 @@
 -- What a call on a group makes of its configuration, place by place. Serials do not count.
-use Rattle.std.specs.Prelude.{◌≡◌, ◌⊎◌, ℕ, ◌<◌, ◌≤◌, Bool, true, false, Option, Some, None, length, is_some, slice_get, List}
+use Rattle.std.specs.Prelude.{◌≡◌, ◌⊎◌, ℕ, ◌<◌, Bool, true, false, Some, length, is_some, slice_get, List}
 use Rattle.vx_model.specs.declared.site.PlexState.{PlexState}
-use Rattle.vx_model.specs.declared.site.PlexState.TheVariants.{Active, Clean, Stale}
+use Rattle.vx_model.specs.declared.site.PlexState.TheVariants.{Active, Stale}
 use Rattle.vx_disk.specs.Counts.{Rose}
 use Rattle.vx_disk.specs.Shelf.{Meaning}
-use Rattle.vx_config.specs.Changes.{stated}
+use Rattle.vx_config.specs.Changes.{Matched, live_again, stated}
 use Rattle.vx_config.specs.declared.config.Config.{Config}
 use Rattle.vx_config.specs.declared.entry.DiskEntry.{DiskEntry}
 use Rattle.vx_config.specs.declared.entry.PlexEntry.{PlexEntry}
@@ -17,13 +17,6 @@ use Rattle.vx_volume.specs.Plexes.{uses}
 use Rattle.vx_group.specs.Loses.{SameParts}
 use Rattle.vx_group.specs.Makes.{IsVolume}
 use Rattle.vx_group.specs.Quiesces.{AnyFailed}
-
--- what stands at one place of two lists, if anything does, is in this relation
-abbrev pub InBoth : {A : Type 0} → (A → A → Type 0) → Option A → Option A → Type 0
-InBoth P None None = Unit {0}
-InBoth P None (Some y) = ⊥
-InBoth P (Some x) None = ⊥
-InBoth P (Some x) (Some y) = P x y
 
 -- a call on one of the disks failed
 pub record AnyRose (old new : Meaning) : Type 0 where
@@ -47,21 +40,15 @@ pub record VolumeMoves (By : PlexState → PlexState → Type 0) (v u : VolumeEn
   pub prefer : u.prefer ≡ v.prefer
   pub drl : is_some u.drl ≡ is_some v.drl
   pub fmr : is_some u.fmr ≡ is_some v.fmr
-  pub plexes : (k : ℕ) → InBoth (PlexMoves By) (slice_get v.plexes k) (slice_get u.plexes k)
+  pub plexes : (k : ℕ) → Matched (PlexMoves By) (slice_get v.plexes k) (slice_get u.plexes k)
 
 -- it is as it was; or STALE, or ACTIVE as one that was held back, and a call on a disk failed
 abbrev pub StateMoves : Meaning → Meaning → PlexState → PlexState → Type 0
 StateMoves old new s t = (t ≡ s) ⊎ (((t ≡ Stale) ⊎ (t ≡ Active)) × AnyRose old new)
 
--- the state of a plex that takes part again where it stopped cleanly
-abbrev pub opened_state : PlexState → PlexState
-opened_state Active = Active
-opened_state Clean = Active
-opened_state Stale = Stale
-
 -- it takes part as it did, where it stopped cleanly
 abbrev pub OpensSame : PlexState → PlexState → Type 0
-OpensSame s t = opened_state t ≡ opened_state s
+OpensSame s t = live_again t ≡ live_again s
 
 -- any state
 abbrev pub AnyState : PlexState → PlexState → Type 0
@@ -80,8 +67,8 @@ pub record DiskMoves (again : ℕ → Bool) (old new : Meaning) (k : ℕ) (a b :
 -- d is c, but for disks that are held as failed, or as good again, and the states of plexes
 pub record ConfigMoves (again : ℕ → Bool) (By : PlexState → PlexState → Type 0) (old new : Meaning) (c d : Config) : Type 0 where
   pub parts : SameParts c d
-  pub disks : (k : ℕ) → InBoth (DiskMoves again old new k) (slice_get c.disks k) (slice_get d.disks k)
-  pub volumes : (v : ℕ) → InBoth (VolumeMoves By) (slice_get c.volumes v) (slice_get d.volumes v)
+  pub disks : (k : ℕ) → Matched (DiskMoves again old new k) (slice_get c.disks k) (slice_get d.disks k)
+  pub volumes : (v : ℕ) → Matched (VolumeMoves By) (slice_get c.volumes v) (slice_get d.volumes v)
 
 -- no disk
 abbrev pub none_again : ℕ → Bool
@@ -128,7 +115,7 @@ CleansPlexes old new c d = ConfigMoves none_again OpensSame old new c d ⊎ (Any
 -- What an import took up: where contents are told, the first volumes are those of before but for the states of their plexes. Each disk is held as good,
 -- or a call on it failed.
 pub record ConfigBack (told : Type 0) (old new : Meaning) (c d : Config) : Type 0 where
-  pub volumes : told → (v : ℕ) → v < length c.volumes → InBoth (VolumeMoves AnyState) (slice_get c.volumes v) (slice_get d.volumes v)
+  pub volumes : told → (v : ℕ) → v < length c.volumes → Matched (VolumeMoves AnyState) (slice_get c.volumes v) (slice_get d.volumes v)
   pub count : length d.disks ≡ old.units
   pub blocks : (k : ℕ) (disk : DiskEntry) → slice_get d.disks k ≡ Some disk → disk.blocks ≡ old.size k
   pub failed : (k : ℕ) (disk : DiskEntry) → slice_get d.disks k ≡ Some disk → disk.failed ≡ true → Rose (old.disk_faults k) (new.disk_faults k)

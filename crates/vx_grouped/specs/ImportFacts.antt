@@ -1,5 +1,5 @@
 -- What an import asks of disks, as facts without a choice: a ghost field can hold them.
-use Rattle.std.specs.Prelude.{◌≡◌, ℕ, ◌<◌, Bool, true}
+use Rattle.std.specs.Prelude.{◌≡◌, ℕ, ◌<◌, Bool, true, is_some}
 use Rattle.vx_disk.specs.Shelf.{Each, Image, Meaning}
 use Rattle.vx_config.specs.declared.config.Config.{Config}
 use Rattle.vx_copyfmt.specs.Commits.{Among, IsHeaderBlock, IsTop}
@@ -8,7 +8,7 @@ use Rattle.vx_copyfmt.specs.Imports.{Found}
 use Rattle.vx_copyfmt.specs.declared.area.AreaHeader.{AreaHeader}
 use Rattle.vx_copies.specs.Commits.{Below, HaveLabels}
 use Rattle.vx_copies.specs.Looking.{on_shelf}
-use Rattle.vx_kept.specs.Facts.{has_one, is_found}
+use Rattle.vx_kept.specs.Facts.{is_found}
 use Rattle.vx_kept.specs.Groups.{found, found_by}
 use Rattle.vx_kept.specs.Trusts.{is_plain}
 
@@ -17,7 +17,7 @@ use Rattle.vx_kept.specs.Trusts.{is_plain}
 pub record ImportFact (m : Meaning) : Type 0 where
   pub below : (i : Image) (x : Config) → Each m.leaves i → found m i ≡ Found x → Below x m
   pub counts : (i : Image) (x : Config) (u : ℕ) (d : Disk) (a : ℕ) (h : AreaHeader) → Each m.leaves i → found m i ≡ Found x → u < m.units → IsHeaderBlock a → Among (m.leaves u) d → IsTop d a h
-      → has_one (copy_at (on_shelf m) d a) ≡ true
+      → is_some (copy_at (on_shelf m) d a) ≡ true
   pub labels : (i : Image) (x : Config) → Each m.leaves i → found m i ≡ Found x → HaveLabels m
   pub finds : (i j : Image) (readable : ℕ → Bool) (x : Config) → Each m.leaves i → Each m.leaves j → found_by m readable i ≡ Found x → is_found (found m j) ≡ true
   pub one : (i j : Image) (readable : ℕ → Bool) (x y : Config) → Each m.leaves i → Each m.leaves j → found_by m readable i ≡ Found x → found m j ≡ Found y → y ≡ x

@@ -5,7 +5,7 @@ use Rattle.vx_config.specs.declared.entry.LogEntry.{LogEntry}
 use Rattle.vx_config.specs.declared.entry.VolumeLog.TheVariants.{Fmr}
 use Rattle.vx_disk.specs.Shelf.{Image}
 use Rattle.vx_fmr.specs.Missed.{Missed, has_missed}
-use Rattle.vx_group.specs.Attaches.{copied_regions}
+use Rattle.vx_group.specs.Attaches.{region_count}
 use Rattle.vx_history.specs.Groups.{MissedNote}
 use Rattle.vx_history.specs.Missing.{CopiesMissed}
 use Rattle.vx_logs.specs.Held.{InUse, logged_in, stale}
@@ -33,5 +33,5 @@ pub record MapsOnDisk (w : MissedNote) (c x : Config) (i : Image) : Type 0 where
 
 -- So many regions are copied to a plex: all, where the maps of its volume are not known, and else those that it has missed, and perhaps more.
 pub record CopiesNoted (w : MissedNote) (c : Config) (v p n : ℕ) : Type 0 where
-  pub unknown : w.mapped v ≡ false → n ≡ copied_regions c v
-  pub missed : w.mapped v ≡ true → CopiesMissed w v p (copied_regions c v) n
+  pub unknown : w.mapped v ≡ false → n ≡ region_count c v
+  pub missed : w.mapped v ≡ true → CopiesMissed w v p (region_count c v) n

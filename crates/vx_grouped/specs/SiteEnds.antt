@@ -13,7 +13,7 @@ use Rattle.vx_disk.specs.Racks.{Stopped}
 use Rattle.vx_disk.specs.Shelf.{Meaning}
 use Rattle.vx_disk.specs.declared.shelf.Shelf.{Ghosts}
 use Rattle.vx_history.specs.Groups.{GroupNode, NoteSettles, NoteUnsettles, note_cut, note_doubt, note_write}
-use Rattle.vx_history.specs.Steps.{burned, crashed}
+use Rattle.vx_history.specs.Steps.{crashed, worked}
 use Rattle.vx_history.specs.Stops.{IsFused}
 use Rattle.vx_history.specs.World.{Node}
 use Rattle.vx_config.specs.Table.{greatest}
@@ -32,14 +32,10 @@ use Rattle.vx_grouped.specs.Plain.{ReadsPlain}
 use Rattle.vx_grouped.specs.declared.group_site.GroupSite.{GroupSite}
 use Rattle.vx_grouped.specs.declared.group_site.GroupSite.TheVariants.{Up, Deported}
 
--- a site whose disks may have been written and flushed
-abbrev pub burned_site : Node → Node
-burned_site n = record n { fuse = burned n.fuse }
-
 -- whether it says that the disks are down
-abbrev pub answers_down : No → Bool
-answers_down IsOff = true
-answers_down other = false
+abbrev pub is_off : No → Bool
+is_off IsOff = true
+is_off other = false
 
 abbrev pub stops_down : Stop → Bool
 stops_down (Refused IsOff) = true
@@ -97,8 +93,8 @@ module _ {R : Type 0} {g : Ghosts R} where
 
   -- a read of a volume: of each block a value that it may have, or a disk failed
   abbrev pub PlainRead : Node → GroupNode → ℕ → ℕ → List ℕ → GroupSite R g → GroupSite R g → Result (Unit {0}) No → Type 0
-  PlainRead n note vol block bytes old new (Ok done) = ReadsPlain note (site_disks old) vol block bytes × UpNoted (burned_site n) note new
-  PlainRead n note vol block bytes old new (Err (Device disk)) = UpNoted (burned_site n) note new × Rose ((site_disks old).disk_faults disk) ((site_disks new).disk_faults disk)
+  PlainRead n note vol block bytes old new (Ok done) = ReadsPlain note (site_disks old) vol block bytes × UpNoted (worked n) note new
+  PlainRead n note vol block bytes old new (Err (Device disk)) = UpNoted (worked n) note new × Rose ((site_disks old).disk_faults disk) ((site_disks new).disk_faults disk)
   PlainRead n note vol block bytes old new (Err other) = ⊥
 
   -- A call that writes to no volume: each has what it had. Done, or not, its configuration changes so. A refusal but 6 and 7 has this reason, and has
@@ -109,7 +105,7 @@ module _ {R : Type 0} {g : Ghosts R} where
       (next : GroupNode) × NoteUnsettles note next × UpNoted (with_note next n) next new × Rose ((site_disks old).disk_faults disk) ((site_disks new).disk_faults disk) × ConfigGoes Fails note next old new
   SiteCalled Done Fails Lacks n note old new (Err (Refused IsOff)) =
       (next : GroupNode) × NoteUnsettles note next × DownNoted (crashed (with_note next n) 0) next new × IsFused n.fuse × ConfigGoes Fails note next old new
-  SiteCalled Done Fails Lacks n note old new (Err (Refused other)) = UpNoted (burned_site n) note new × Lacks other
+  SiteCalled Done Fails Lacks n note old new (Err (Refused other)) = UpNoted (worked n) note new × Lacks other
   SiteCalled Done Fails Lacks n note old new (Err OutOfMemory) = ⊥
 
   -- the first test of a detach, and of an attach, that refuses it

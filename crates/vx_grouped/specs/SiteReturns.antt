@@ -10,7 +10,7 @@ use Rattle.vx_disk.specs.Racks.{Alike, Stopped}
 use Rattle.vx_disk.specs.Shelf.{Meaning}
 use Rattle.vx_disk.specs.declared.shelf.Shelf.{Ghosts}
 use Rattle.vx_history.specs.Groups.{BlockMay, GroupNode}
-use Rattle.vx_history.specs.Steps.{burned, crashed, group_up}
+use Rattle.vx_history.specs.Steps.{burned, crashed, group_up, worked}
 use Rattle.vx_history.specs.Stops.{IsFused}
 use Rattle.vx_history.specs.World.{Node}
 use Rattle.vx_config.specs.Checks.{blocks_of}
@@ -24,7 +24,7 @@ use Rattle.vx_grouped.specs.ConfigMoves.{ConfigBack}
 use Rattle.vx_grouped.specs.GroupNotes.{NotesConfig, note_dimmed}
 use Rattle.vx_grouped.specs.GroupSites.{AwayNoted, DownNoted, UpNoted, dimmed_site, site_disks, with_note}
 use Rattle.vx_grouped.specs.Readies.{ready_of}
-use Rattle.vx_grouped.specs.SiteEnds.{HasNow, burned_site, stops_down}
+use Rattle.vx_grouped.specs.SiteEnds.{HasNow, stops_down}
 use Rattle.vx_grouped.specs.declared.group_site.GroupSite.{GroupSite}
 use Rattle.vx_grouped.specs.declared.group_site.GroupSite.TheVariants.{Deported, Down}
 
@@ -132,7 +132,7 @@ module _ {R : Type 0} {g : Ghosts R} where
   abbrev pub ImportRefused : Bool → Node → GroupNode → Meaning → GroupSite R g → Stop → Type 0
   ImportRefused true n note old new stop = DownNoted (crashed (returned_with (note_dimmed true note) n) 0) (note_dimmed true note) new × IsFused n.fuse
   ImportRefused false n note old new stop =
-      AwayNoted (burned_site (dimmed_site (not (stops_early stop)) note n)) (note_dimmed (not (stops_early stop)) note) new × (IsFalse (site_disks new).armed ⊎ KeepsFuse old (site_disks new)) × ImportWhy (IsTrue (site_disks new).tells) old (site_disks new) stop
+      AwayNoted (worked (dimmed_site (not (stops_early stop)) note n)) (note_dimmed (not (stops_early stop)) note) new × (IsFalse (site_disks new).armed ⊎ KeepsFuse old (site_disks new)) × ImportWhy (IsTrue (site_disks new).tells) old (site_disks new) stop
 
   abbrev pub ImportsFrom : Node → GroupNode → Meaning → GroupSite R g → Result (Unit {0}) Stop → Type 0
   ImportsFrom n note old new (Ok done) = ReturnsUp n note old new × KeepsFuse old (site_disks new)

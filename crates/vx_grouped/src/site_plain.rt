@@ -7,7 +7,7 @@ ghost use Rattle.vx_grouped.specs.GroupSites.{FitsPlain, GroupUp, UpNoted, site_
 ghost use Rattle.vx_disk.specs.Moves.{Nowhere};
 ghost use Rattle.vx_disk.specs.Shelf.{Covers};
 ghost use Rattle.vx_grouped.specs.Volumes.{SiteGoes};
-ghost use Rattle.vx_grouped.specs.SiteEnds.{PlainRead, PlainWrote, answers_down};
+ghost use Rattle.vx_grouped.specs.SiteEnds.{PlainRead, PlainWrote, is_off};
 ghost use Rattle.vx_grouped.specs.SiteMaps.{StaysMapped, WroteMapped};
 ghost use Rattle.vx_untold.specs.Shades.{rack_of, shade_meaning};
 ghost use Rattle.vx_watched.specs.Since.{CalledSince};
@@ -19,9 +19,9 @@ use std::mem;
 use vx_disk::Rack;
 use vx_model::No;
 
-// Whether the disks were found down.
-fn is_down_no(no: &No) -> bool
-    ensures { result ≡ answers_down no.now }
+/// Whether the disks were found down.
+pub fn is_off(no: &No) -> bool
+    ensures { result ≡ is_off no.now }
 {
     matches!(no, No::Down)
 }
@@ -46,7 +46,7 @@ fn write_site<R: Rack>(
     match answer {
         Ok(()) => (GroupSite::Up(laid), Ok(())),
         Err(no) => {
-            if is_down_no(&no) {
+            if is_off(&no) {
                 return (GroupSite::Down(laid.crash(u64::MAX)), Err(no));
             }
             (GroupSite::Up(laid), Err(no))

@@ -1,5 +1,5 @@
 -- Logs that a call took out of memory: of calls in a row, behind marks, and behind marks that were taken off.
-use Rattle.std.proofs.Common.{◌≡◌, ◌∙◌, ◌⊎◌, inl, inr, ℕ, ◌≤◌, Bool, true, false, Option, Some, None, IsTrue, refl, sym, ap, subst}
+use Rattle.std.proofs.Common.{◌≡◌, ◌∙◌, ◌⊎◌, inl, inr, ℕ, ◌≤◌, Bool, true, false, Option, Some, None, IsTrue, refl, sym, ap, subst, is_some}
 use Rattle.std.specs.Prelude.{Result, Ok, Err}
 use Rattle.vx_config.specs.declared.config.Config.{Config}
 use Rattle.vx_config.specs.declared.entry.LogEntry.{LogEntry}
@@ -23,7 +23,7 @@ use Rattle.vx_maplog.specs.Logs.{LogLoaded, log_of}
 use Rattle.vx_model.specs.declared.no.No.{No}
 use Rattle.vx_model.specs.declared.no.No.TheVariants as refusal
 use Rattle.vx_grouplogs.specs.Clearing.{DrlEnding}
-use Rattle.vx_grouplogs.specs.Gone.{LogsDrop, has_log, is_there}
+use Rattle.vx_grouplogs.specs.Gone.{LogsDrop, has_log}
 
 -- ---- calls in a row
 
@@ -86,11 +86,11 @@ rose_at c v log map s m m' loaded at rose = subst (λ (u : ℕ). Rose (m.faults 
 
 -- each log that is gone: the count of its map's unit rose, or the shelf is down
 pub drops_of : (c : Config) (v : ℕ) (l k : Logs) (m m' : Meaning) → LogsFit c v l
-    → ((d : Dirty) → l.drl ≡ Some d → k.drl ≡ None → Rose (m.faults d.map.unit) (m'.faults d.map.unit) ⊎ IsTrue m'.down) → (is_there k.drl ≡ true → is_there l.drl ≡ true)
-    → ((f : Missed) → l.fmr ≡ Some f → k.fmr ≡ None → Rose (m.faults f.map.unit) (m'.faults f.map.unit) ⊎ IsTrue m'.down) → (is_there k.fmr ≡ true → is_there l.fmr ≡ true) → LogsDrop c v l k m m'
+    → ((d : Dirty) → l.drl ≡ Some d → k.drl ≡ None → Rose (m.faults d.map.unit) (m'.faults d.map.unit) ⊎ IsTrue m'.down) → (is_some k.drl ≡ true → is_some l.drl ≡ true)
+    → ((f : Missed) → l.fmr ≡ Some f → k.fmr ≡ None → Rose (m.faults f.map.unit) (m'.faults f.map.unit) ⊎ IsTrue m'.down) → (is_some k.fmr ≡ true → is_some l.fmr ≡ true) → LogsDrop c v l k m m'
 drops_of c v l k m m' fits drl drl_none fmr fmr_none = record { gone = gone; none = none }
   where
-    dirty : (s : Subdisk) → log_place c v Drl ≡ Some s → (o n : Option Dirty) → l.drl ≡ o → k.drl ≡ n → is_there o ≡ true → is_there n ≡ false → Rose (m.faults s.disk) (m'.faults s.disk) ⊎ IsTrue m'.down
+    dirty : (s : Subdisk) → log_place c v Drl ≡ Some s → (o n : Option Dirty) → l.drl ≡ o → k.drl ≡ n → is_some o ≡ true → is_some n ≡ false → Rose (m.faults s.disk) (m'.faults s.disk) ⊎ IsTrue m'.down
     dirty s at None n is now has no_more = absurd (let clash : false ≡ true = has in cc)
     dirty s at (Some d) (Some e) is now has no_more = absurd (let clash : true ≡ false = no_more in cc)
     dirty s at (Some d) None is now has no_more = elim (drl d is now) [
@@ -98,7 +98,7 @@ drops_of c v l k m m' fits drl drl_none fmr fmr_none = record { gone = gone; non
       | inr down ↦ inr down
     ]
 
-    missed : (s : Subdisk) → log_place c v Fmr ≡ Some s → (o n : Option Missed) → l.fmr ≡ o → k.fmr ≡ n → is_there o ≡ true → is_there n ≡ false → Rose (m.faults s.disk) (m'.faults s.disk) ⊎ IsTrue m'.down
+    missed : (s : Subdisk) → log_place c v Fmr ≡ Some s → (o n : Option Missed) → l.fmr ≡ o → k.fmr ≡ n → is_some o ≡ true → is_some n ≡ false → Rose (m.faults s.disk) (m'.faults s.disk) ⊎ IsTrue m'.down
     missed s at None n is now has no_more = absurd (let clash : false ≡ true = has in cc)
     missed s at (Some f) (Some g) is now has no_more = absurd (let clash : true ≡ false = no_more in cc)
     missed s at (Some f) None is now has no_more = elim (fmr f is now) [
@@ -127,8 +127,8 @@ pub drops_maps : (c : Config) (v : ℕ) (l k : Logs) (m m' : Meaning) → k.drl 
 drops_maps c v l k m m' same gone down = record { gone = λ log s is has none. inr down; none = none }
   where
     none : (log : VolumeLog) → has_log log k ≡ true → has_log log l ≡ true
-    none Drl has = sym (ap is_there same) ∙ has
-    none Fmr has = absurd (let clash : false ≡ true = sym (ap is_there gone) ∙ has in cc)
+    none Drl has = sym (ap is_some same) ∙ has
+    none Fmr has = absurd (let clash : false ≡ true = sym (ap is_some gone) ∙ has in cc)
 
 -- ---- marks
 
@@ -143,7 +143,7 @@ drl_gone first last lost None n m m' ends d is none = absurd (let clash : None �
 drl_gone first last lost (Some e) (Some n) m m' ends d is none = absurd (let clash : Some n ≡ None = none in cc)
 drl_gone first last lost (Some e) None m m' ends d is none = inl (subst (λ (x : Dirty). Rose (m.faults x.map.unit) (m'.faults x.map.unit)) (same_dirty e d is) ends.1)
 
-drl_none : (first last : ℕ) (lost : Bool) (o n : Option Dirty) (m m' : Meaning) → DrlEnds first last lost o n m m' → is_there n ≡ true → is_there o ≡ true
+drl_none : (first last : ℕ) (lost : Bool) (o n : Option Dirty) (m m' : Meaning) → DrlEnds first last lost o n m m' → is_some n ≡ true → is_some o ≡ true
 drl_none first last lost None None m m' ends has = has
 drl_none first last lost None (Some e) m m' ends has = absurd ends
 drl_none first last lost (Some d) n m m' ends has = refl
@@ -153,7 +153,7 @@ fmr_gone those anew first last lost None n m m' ends f is none = absurd (let cla
 fmr_gone those anew first last lost (Some g) (Some n) m m' ends f is none = absurd (let clash : Some n ≡ None = none in cc)
 fmr_gone those anew first last lost (Some g) None m m' ends f is none = inl (subst (λ (x : Missed). Rose (m.faults x.map.unit) (m'.faults x.map.unit)) (same_missed g f is) ends.1)
 
-fmr_none : (those : ℕ → Bool) (anew : Bool) (first last : ℕ) (lost : Bool) (o n : Option Missed) (m m' : Meaning) → FmrEnds those anew first last lost o n m m' → is_there n ≡ true → is_there o ≡ true
+fmr_none : (those : ℕ → Bool) (anew : Bool) (first last : ℕ) (lost : Bool) (o n : Option Missed) (m m' : Meaning) → FmrEnds those anew first last lost o n m m' → is_some n ≡ true → is_some o ≡ true
 fmr_none those anew first last lost None None m m' ends has = has
 fmr_none those anew first last lost None (Some g) m m' ends has = absurd ends
 fmr_none those anew first last lost (Some f) n m m' ends has = refl
@@ -166,7 +166,7 @@ drops_marked c v first last lost l l' m m' fits marked = drops_of c v l l' m m' 
 -- a note in the maps alone
 pub drops_noted : (c : Config) (v : ℕ) (those : ℕ → Bool) (anew : Bool) (first last : ℕ) (lost : Bool) (l l' : Logs) (m m' : Meaning) → LogsFit c v l → l'.drl ≡ l.drl → FmrEnds those anew first last lost l.fmr l'.fmr m m' → LogsDrop c v l l' m m'
 drops_noted c v those anew first last lost l l' m m' fits same ends = drops_of c v l l' m m' fits
-    (λ d is none. absurd (let clash : Some d ≡ None = sym is ∙ sym same ∙ none in cc)) (λ has. sym (ap is_there same) ∙ has)
+    (λ d is none. absurd (let clash : Some d ≡ None = sym is ∙ sym same ∙ none in cc)) (λ has. sym (ap is_some same) ∙ has)
     (fmr_gone those anew first last lost l.fmr l'.fmr m m' ends) (fmr_none those anew first last lost l.fmr l'.fmr m m' ends)
 
 pub noted_down : (those : ℕ → Bool) (anew : Bool) (first last : ℕ) (o n : Option Missed) (m m' : Meaning) (no : No) → FmrAnswers those anew first last o n m m' (Err no) → IsTrue m'.down
@@ -180,7 +180,7 @@ ending_gone gone None n m m' ends d is none = absurd (let clash : None ≡ Some 
 ending_gone gone (Some e) (Some n) m m' ends d is none = absurd (let clash : Some n ≡ None = none in cc)
 ending_gone gone (Some e) None m m' ends d is none = inl (subst (λ (x : Dirty). Rose (m.faults x.map.unit) (m'.faults x.map.unit)) (same_dirty e d is) ends.1)
 
-ending_none : (gone : Bool) (o n : Option Dirty) (m m' : Meaning) → DrlEnding gone o n m m' → is_there n ≡ true → is_there o ≡ true
+ending_none : (gone : Bool) (o n : Option Dirty) (m m' : Meaning) → DrlEnding gone o n m m' → is_some n ≡ true → is_some o ≡ true
 ending_none gone None None m m' ends has = has
 ending_none gone None (Some e) m m' ends has = absurd ends
 ending_none gone (Some d) n m m' ends has = refl
@@ -188,4 +188,4 @@ ending_none gone (Some d) n m m' ends has = refl
 pub drops_cleared : (c : Config) (v : ℕ) (gone : Bool) (l l' : Logs) (m m' : Meaning) → LogsFit c v l → DrlEnding gone l.drl l'.drl m m' → l'.fmr ≡ l.fmr → LogsDrop c v l l' m m'
 drops_cleared c v gone l l' m m' fits ends same = drops_of c v l l' m m' fits
     (ending_gone gone l.drl l'.drl m m' ends) (ending_none gone l.drl l'.drl m m' ends)
-    (λ f is none. absurd (let clash : Some f ≡ None = sym is ∙ sym same ∙ none in cc)) (λ has. sym (ap is_there same) ∙ has)
+    (λ f is none. absurd (let clash : Some f ≡ None = sym is ∙ sym same ∙ none in cc)) (λ has. sym (ap is_some same) ∙ has)

@@ -6,7 +6,6 @@ pub mod BegunMaps
 pub mod MapLemmas
 pub mod CoverLemmas
 pub mod GroupLemmas
-pub mod LoadedLemmas
 pub mod OnLemmas
 pub mod OnCalls
 pub mod DirtyLemmas

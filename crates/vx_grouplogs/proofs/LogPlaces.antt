@@ -1,12 +1,11 @@
 -- Where the logs of a volume lie beside the plexes and the configuration areas.
-use Rattle.std.proofs.Common.{◌≡◌, ◌∙◌, ℕ, ◌+◌, ◌<◌, ◌≤◌, ◌⊎◌, inl, inr, Bool, true, false, Option, Some, None, List, ◌++◌, IsTrue, refl, sym, ap, arith}
-use Rattle.std.specs.Prelude.{◌||◌, ◌==◌, not, nat_le, min, max, slice_get, flat_map}
-use Rattle.std.proofs.lemmas.Bool.{cases_lt, eq-eqb, leb-true}
+use Rattle.std.proofs.Common.{◌≡◌, ◌∙◌, ℕ, ◌+◌, ◌<◌, ◌≤◌, ◌⊎◌, inl, inr, true, Option, Some, None, List, ◌++◌, IsTrue, refl, sym, ap, arith}
+use Rattle.std.specs.Prelude.{slice_get, flat_map}
+use Rattle.std.proofs.lemmas.Bool.{cases_lt}
 use Rattle.vx_bitmap.specs.Maps.{Map, map_block_count}
 use Rattle.vx_config.specs.Checks.{are_apart, blocks_of as blocks_in, in_region, is_sound, log_run, log_runs, plex_runs, runs, volume_runs}
 use Rattle.vx_config.specs.declared.config.Config.{Config}
 use Rattle.vx_config.specs.declared.entry.LogEntry.{LogEntry}
-use Rattle.vx_config.specs.declared.entry.Subdisk.{Subdisk}
 use Rattle.vx_config.specs.declared.entry.VolumeEntry.{VolumeEntry}
 use Rattle.vx_config.specs.declared.entry.VolumeLog.{VolumeLog}
 use Rattle.vx_config.specs.declared.entry.VolumeLog.TheVariants.{Drl, Fmr}
@@ -19,7 +18,7 @@ use Rattle.vx_layout.proofs.Pairs.{all_at, flat_across, get_right, in_flat}
 use Rattle.vx_layout.proofs.Placing.{from_sound, region_of}
 use Rattle.vx_logs.specs.Held.{DrlRun, FmrRun, LogsFit}
 use Rattle.vx_logs.specs.declared.logs.Logs.{Logs}
-use Rattle.vx_logs.proofs.LogLemmas.{holds_of, log_off_plex, log_placed, logs_off}
+use Rattle.vx_logs.proofs.LogLemmas.{holds_of, log_off_plex, log_placed, logs_off, no_block}
 use Rattle.vx_maplog.proofs.Entries.{placed}
 use Rattle.vx_maplog.specs.Logs.{LogLoaded, log_in, log_of, log_or}
 use Rattle.vx_model.specs.Sizes.{map_blocks}
@@ -93,14 +92,6 @@ module _ (c : Config) (sound : is_sound c ≡ true) (v : ℕ) where
             (omega (arith, run.first, log.run.begins)) (omega (arith, run.last, log.run.begins, log.run.long, put.blocks))
 
 -- ---- logs of two volumes
-
-no_block : (s t : Subdisk) (b : ℕ) → are_apart s t ≡ true → s.disk ≡ t.disk → s.start ≤ b → b < s.start + s.blocks → t.start ≤ b → b < t.start + t.blocks → ⊥
-unfolding are_apart
-no_block s t b apart disk low_s high_s low_t high_t = by (s.disk == t.disk) (eq-eqb s.disk t.disk disk) apart
-  where
-    by : (x : Bool) → x ≡ true → not x || nat_le (min (s.start + s.blocks) (t.start + t.blocks)) (max s.start t.start) ≡ true → ⊥
-    by true is test = let le : min (s.start + s.blocks) (t.start + t.blocks) ≤ max s.start t.start = leb-true _ _ test in omega (arith, le, low_s, high_s, low_t, high_t)
-    by false is test = let clash : false ≡ true = is in absurd cc
 
 -- the run of a log among those of its volume
 record HasRun (c : Config) (v : ℕ) (l : LogEntry) : Type 0 where

@@ -1,5 +1,5 @@
 -- Logs of a volume that a call takes out of memory.
-use Rattle.std.specs.Prelude.{◌≡◌, ◌⊎◌, ℕ, Bool, true, false, IsTrue, Option, Some, None}
+use Rattle.std.specs.Prelude.{◌≡◌, ◌⊎◌, ℕ, Bool, true, false, IsTrue, Some, is_some}
 use Rattle.vx_config.specs.declared.config.Config.{Config}
 use Rattle.vx_config.specs.declared.entry.Subdisk.{Subdisk}
 use Rattle.vx_config.specs.declared.entry.VolumeLog.{VolumeLog}
@@ -9,14 +9,10 @@ use Rattle.vx_disk.specs.Shelf.{Meaning}
 use Rattle.vx_kept.specs.LogRuns.{log_place}
 use Rattle.vx_logs.specs.declared.logs.Logs.{Logs}
 
-abbrev pub is_there : {A : Type 0} → Option A → Bool
-is_there None = false
-is_there (Some x) = true
-
 -- whether a log of a volume is in memory
 abbrev pub has_log : VolumeLog → Logs → Bool
-has_log Drl l = is_there l.drl
-has_log Fmr l = is_there l.fmr
+has_log Drl l = is_some l.drl
+has_log Fmr l = is_some l.fmr
 
 -- A log that was in memory is so, or the count of the disk on which it lies rose, or the shelf is down; and none is in memory that was not.
 pub record LogsDrop (c : Config) (v : ℕ) (l k : Logs) (old new : Meaning) : Type 0 where

@@ -4,7 +4,7 @@ ghost use Rattle.vx_config.specs.Checks.{blocks_of as blocks_of_is, is_sound};
 ghost use Rattle.vx_disk.specs.Shelf.{Goes, Nothing};
 ghost use Rattle.vx_drl.specs.Dirty.{Dirty};
 ghost use Rattle.vx_drl.specs.declared.marks.TheConstants.{MOST_HELD};
-ghost use Rattle.vx_grouplogs.specs.Loading.{TakesUp, on_failed as on_failed_is};
+ghost use Rattle.vx_grouplogs.specs.Loading.{TakesUp};
 ghost use Rattle.vx_groupmaps.specs.Loading.{LoadIsRefused};
 ghost use Rattle.vx_logs.specs.Held.{DrlFits};
 ghost use Rattle.vx_volume.specs.Plexes.{DisksFit};
@@ -13,7 +13,8 @@ use std::alloc::Global;
 use vx_config::{Config, VolumeLog};
 use vx_disk::Shelf;
 use vx_drl::Drl;
-use vx_maplog::{is_used, log_of};
+use vx_groupmaps::on_failed_disk;
+use vx_maplog::is_used;
 use vx_model::{No, Stop};
 
 /// A dirty region log that was taken up.
@@ -23,19 +24,6 @@ pub struct Loaded {
     pub drl: Option<Drl>,
     /// It was in use, and is lost.
     pub gone: bool,
-}
-
-// Whether a volume has a dirty region log that is not lost, on a disk that is held as failed.
-fn on_failed(config: &Config, vol: u32) -> bool
-    ensures { result ≡ on_failed_is config.now vol }
-{
-    match log_of(config, vol, VolumeLog::Drl) {
-        Some(entry) => match config.disks.as_slice().get(entry.disk as usize) {
-            Some(disk) => !entry.lost && disk.failed,
-            None => false,
-        },
-        None => false,
-    }
 }
 
 /// Reads the dirty region log of a volume of a checked configuration. It is lost where its disk is held as failed, or where the device call
@@ -64,7 +52,7 @@ pub fn load_marks<S: Shelf>(
             gone: false,
         });
     }
-    if on_failed(config, vol) {
+    if on_failed_disk(config, vol, VolumeLog::Drl) {
         return Ok(Loaded {
             drl: None,
             gone: true,

@@ -35,7 +35,7 @@ apart_of true s w is = absurd (let clash : true ≡ false = is in cc)
 apart_of false s w is = (refl, is)
 
 -- a region that none of the run has holds no block of it
-out_of_run : (block n b : ℕ) → is_among (first_region block) (last_region block n) (b / 64) ≡ false → InRun block n b → ⊥
+pub out_of_run : (block n b : ℕ) → is_among (first_region block) (last_region block n) (b / 64) ≡ false → InRun block n b → ⊥
 out_of_run block n b out run =
     let low : block / 64 ≤ b / 64 = omega (arith, run.first) in
     let high : b / 64 ≤ (block + n - 1) / 64 = omega (arith, run.last) in

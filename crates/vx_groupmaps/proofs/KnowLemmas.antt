@@ -1,7 +1,7 @@
 -- What the maps know beside calls that write no block of a plex, and behind marks.
 use Rattle.std.proofs.Common.{◌≡◌, ◌∙◌, ◌⊎◌, inl, inr, ℕ, ◌/◌, ◌<◌, ◌≤◌, Bool, true, false, Option, Some, None, List, IsTrue, length, refl, sym, ap, subst, arith}
 use Rattle.std.specs.Prelude.{◌&&◌, ◌||◌, if◌then◌else◌, is_some, leb, slice_get}
-use Rattle.std.proofs.lemmas.Bool.{leb-true}
+use Rattle.std.proofs.lemmas.Bool.{and_parts, leb-true}
 use Rattle.std.proofs.lemmas.Option.{slice_get_within}
 use Rattle.vx_bitmap.specs.Bits.{is_among}
 use Rattle.vx_config.specs.Checks.{blocks_of as blocks_in, is_sound, plexes_of, plexes_or}
@@ -92,12 +92,8 @@ noted_still true true w h is on = is
 noted_still true false w h is on = is ∙ on
 noted_still false a w h is on = is ∙ on
 
-split_and : (a b : Bool) → (a && b) ≡ true → (a ≡ true) × (b ≡ true)
-split_and true b is = (refl, is)
-split_and false b is = absurd (let clash : false ≡ true = is in cc)
-
 is_among_of : (first last r : ℕ) → is_among first last r ≡ true → (first ≤ r) × (r ≤ last)
-is_among_of first last r is = let both = split_and (leb first r) (leb r last) is in (leb-true first r both.0, leb-true r last both.1)
+is_among_of first last r is = let both = and_parts (leb first r) (leb r last) is in (leb-true first r both.0, leb-true r last both.1)
 
 -- ---- marks
 

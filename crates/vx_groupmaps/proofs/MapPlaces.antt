@@ -1,6 +1,6 @@
 -- Where plexes that are STALE lie, and the log of missed regions; and which bit of it a block has.
 use Rattle.std.proofs.Common.{◌≡◌, ◌∙◌, ℕ, ◌/◌, ◌<◌, Bool, true, false, Option, Some, None, List, IsTrue, refl, sym, ap, arith}
-use Rattle.std.specs.Prelude.{◌&&◌, not, is_some}
+use Rattle.std.specs.Prelude.{not, is_some}
 use Rattle.vx_bitmap.specs.Maps.{map_block_count}
 use Rattle.vx_config.specs.Checks.{blocks_of as blocks_in, is_sound, is_stale}
 use Rattle.vx_config.specs.declared.config.Config.{Config}
@@ -17,14 +17,11 @@ use Rattle.vx_logs.proofs.LogLemmas.{log_off_plex, log_placed, stale_below, stal
 use Rattle.vx_model.specs.Sizes.{regions_of as regions_in}
 use Rattle.vx_model.specs.declared.site.PlexState.{PlexState}
 use Rattle.vx_model.specs.declared.site.PlexState.TheVariants.{Active, Clean, Stale}
+use Rattle.vx_model.proofs.Tests.{and_left}
 use Rattle.vx_volume.specs.Plexes.{DisksFit, Inside, active, active_or, is_active}
 use Rattle.vx_groupmaps.specs.Missing.{OnMaps, by_map, mapped_or}
 
 -- ---- states
-
-left_part : (x y : Bool) → (x && y) ≡ true → x ≡ true
-left_part true y is = refl
-left_part false y is = is
 
 pub mapped_stale : (c : Config) (v p : ℕ) → IsTrue (by_map c v p) → IsTrue (stale c v p)
 unfolding by_map stale
@@ -32,7 +29,7 @@ mapped_stale c v p is = by (plex_at c v p) is
   where
     by : (o : Option PlexEntry) → mapped_or o ≡ true → stale_or o ≡ true
     by None is = is
-    by (Some a) is = left_part (is_stale a.state) (not a.whole) is
+    by (Some a) is = and_left (is_stale a.state) (not a.whole) is
 
 pub stale_off : (c : Config) (v p : ℕ) → IsTrue (stale c v p) → active c v p ≡ false
 unfolding stale active

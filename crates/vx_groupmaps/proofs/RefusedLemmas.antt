@@ -10,7 +10,7 @@ use Rattle.vx_disk.specs.Shelf.{Goes, Meaning}
 use Rattle.vx_disk.proofs.Runs.{weaker}
 use Rattle.vx_fmr.specs.Missed.{Missed}
 use Rattle.vx_logs.specs.Held.{FmrRun, LogsFit}
-use Rattle.vx_logs.specs.Noting.{FmrAt, FmrNoted, IsMissedMap, SameFmr, below}
+use Rattle.vx_logs.specs.Noting.{FmrAt, FmrNoted, IsMissedMap, below}
 use Rattle.vx_logs.specs.declared.logs.Logs.{Logs}
 use Rattle.vx_logs.proofs.LogLemmas.{log_lies}
 use Rattle.vx_logs.proofs.NoteLemmas.{kept_later}
@@ -39,12 +39,6 @@ pub has_all : (k : ℕ) → k < 8 → bit_at all_plexes k ≡ true
 has_all k lt = bits_below 8 refl k lt
 
 -- ---- the loop
-
-pub same_then : (f g h : Missed) → SameFmr f g → SameFmr g h → SameFmr f h
-same_then f g h a b = record {
-  place = record { unit = b.place.unit ∙ a.place.unit; first = b.place.first ∙ a.place.first; long = b.place.long ∙ a.place.long };
-  shape = record { plexes = b.shape.plexes ∙ a.shape.plexes; stride = b.shape.stride ∙ a.shape.stride; regions = b.shape.regions ∙ a.shape.regions };
-}
 
 -- the next plex has its map
 pub map_later : (n first last : ℕ) (f g : Missed) (m m1 : Meaning) → IsMissedMap last f m → NotesTo n all_plexes false first last f g m m1 → IsMissedMap last g m1

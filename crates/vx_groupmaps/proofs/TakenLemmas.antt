@@ -8,6 +8,7 @@ use Rattle.vx_config.specs.Checks.{blocks_of as blocks_in, is_sound}
 use Rattle.vx_config.specs.declared.config.Config.{Config}
 use Rattle.vx_config.specs.declared.entry.DiskEntry.{DiskEntry}
 use Rattle.vx_config.specs.declared.entry.LogEntry.{LogEntry}
+use Rattle.vx_config.specs.declared.entry.VolumeLog.{VolumeLog}
 use Rattle.vx_config.specs.declared.entry.VolumeLog.TheVariants.{Fmr as FmrLog}
 use Rattle.vx_disk.specs.Shelf.{Goes, Lawful, Meaning, Nothing}
 use Rattle.vx_fmr.specs.Missed.{FmrLoaded, Missed, has_missed, missed_place}
@@ -24,8 +25,8 @@ use Rattle.vx_groupmaps.specs.Missing.{DiskAgrees, MapAgrees, bit_in_maps}
 use Rattle.vx_groupmaps.proofs.MapPlaces.{bit_low, mapped_stale, region_low, stale_there}
 
 -- a log that is not in use lies on no disk that counts
-pub unused_apart : (c : Config) (v : ℕ) → is_used c v FmrLog ≡ false → on_failed_disk c v ≡ false
-unused_apart c v off = by (log_of c v FmrLog) off
+pub unused_apart : (c : Config) (v : ℕ) (log : VolumeLog) → is_used c v log ≡ false → on_failed_disk c v log ≡ false
+unused_apart c v log off = by (log_of c v log) off
   where
     at_disk : (e : LogEntry) → not e.lost ≡ false → (o : Option DiskEntry) → held_failed e o ≡ false
     at_disk e lost None = refl

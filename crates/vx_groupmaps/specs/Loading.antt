@@ -3,6 +3,7 @@ use Rattle.std.specs.Prelude.{◌≡◌, ◌⊎◌, ℕ, Bool, true, false, not,
 use Rattle.vx_config.specs.declared.config.Config.{Config}
 use Rattle.vx_config.specs.declared.entry.DiskEntry.{DiskEntry}
 use Rattle.vx_config.specs.declared.entry.LogEntry.{LogEntry}
+use Rattle.vx_config.specs.declared.entry.VolumeLog.{VolumeLog}
 use Rattle.vx_config.specs.declared.entry.VolumeLog.TheVariants.{Fmr as FmrLog}
 use Rattle.vx_disk.specs.Counts.{Rose}
 use Rattle.vx_disk.specs.Shelf.{Meaning}
@@ -21,9 +22,9 @@ abbrev pub failed_under : List DiskEntry → Option LogEntry → Bool
 failed_under disks None = false
 failed_under disks (Some e) = held_failed e (slice_get disks e.disk)
 
--- whether a volume has a log of missed regions that is not lost, on a disk that is held as failed
-abbrev pub on_failed_disk : Config → ℕ → Bool
-on_failed_disk c v = failed_under c.disks (log_of c v FmrLog)
+-- whether a volume has such a log that is not lost, on a disk that is held as failed
+abbrev pub on_failed_disk : Config → ℕ → VolumeLog → Bool
+on_failed_disk c v log = failed_under c.disks (log_of c v log)
 
 -- a device call failed
 pub record DeviceRose (m m' : Meaning) : Type 0 where
@@ -32,8 +33,8 @@ pub record DeviceRose (m m' : Meaning) : Type 0 where
 
 -- The log that is in use is in memory, as it was read; or it is lost, since its disk is held as failed or a device call failed.
 abbrev pub TakesMaps : Config → ℕ → Option Missed → Bool → Meaning → Meaning → Type 0
-TakesMaps c v o true m m' = (o ≡ None) × (is_used c v FmrLog ≡ true) × ((on_failed_disk c v ≡ true) ⊎ DeviceRose m m')
-TakesMaps c v o false m m' = FmrFound c v o m m' × (on_failed_disk c v ≡ false)
+TakesMaps c v o true m m' = (o ≡ None) × (is_used c v FmrLog ≡ true) × ((on_failed_disk c v FmrLog ≡ true) ⊎ DeviceRose m m')
+TakesMaps c v o false m m' = FmrFound c v o m m' × (on_failed_disk c v FmrLog ≡ false)
 
 -- the refusals: the shelf is down, or memory ran out
 abbrev pub LoadIsRefused : Meaning → Stop → Type 0

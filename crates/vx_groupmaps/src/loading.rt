@@ -24,11 +24,11 @@ pub struct LoadedMaps {
     pub gone: bool,
 }
 
-/// Whether a volume has a log of missed regions that is not lost, on a disk that is held as failed.
-pub fn on_failed_disk(config: &Config, vol: u32) -> bool
-    ensures { result ≡ on_failed_is config.now vol }
+/// Whether a volume has such a log that is not lost, on a disk that is held as failed.
+pub fn on_failed_disk(config: &Config, vol: u32, log: VolumeLog) -> bool
+    ensures { result ≡ on_failed_is config.now vol log }
 {
-    match log_of(config, vol, VolumeLog::Fmr) {
+    match log_of(config, vol, log) {
         Some(entry) => match config.disks.as_slice().get(entry.disk as usize) {
             Some(disk) => !entry.lost && disk.failed,
             None => false,
@@ -64,7 +64,7 @@ pub fn load_maps<S: Shelf>(
             gone: false,
         });
     }
-    if on_failed_disk(config, vol) {
+    if on_failed_disk(config, vol, VolumeLog::Fmr) {
         return Ok(LoadedMaps {
             fmr: None,
             gone: true,

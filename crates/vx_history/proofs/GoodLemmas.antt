@@ -3,6 +3,7 @@ use Rattle.std.proofs.Common.{◌≡◌, ℕ, ◌+◌, ◌-◌, ◌≤◌, ◌<�
 use Rattle.std.specs.Prelude.{Some, eqb}
 use Rattle.std.proofs.lemmas.Bool.{cases_lt}
 use Rattle.std.proofs.lemmas.List.{take_all, take-append-le}
+pub use Rattle.vx_model.proofs.Contents.{fold_append}
 use Rattle.vx_model.specs.Content.{Write, Content, put, fold_writes, IsPrefixOf}
 use Rattle.vx_history.specs.World.{Node, History, Volume, World, no_volumes, updated, line_updated, with_node, with_history, empty_world, bare_site}
 use Rattle.vx_model.specs.Sites.{same_line}
@@ -136,10 +137,6 @@ good_raw w i = let n : Node = w.nodes i in good_begun w i (ring_of n.blocks) (ra
 
 pub good_group : (w : World) (i : ℕ) → Good w → i < w.sites → (w.nodes i).state ≡ Bare → Good (group_made w i)
 good_group w i = good_begun w i 0 [] no_volumes
-
-pub fold_append : (c : Content) (xs ys : List Write) → fold_writes c (xs ++ ys) ≡ fold_writes (fold_writes c xs) ys
-fold_append c [] ys = refl
-fold_append c (x ∷ xs) ys = fold_append (put c x) xs ys
 
 pub prefix_push : (xs ys zs : List Write) → IsPrefixOf xs ys → IsPrefixOf xs (ys ++ zs)
 unfolding IsPrefixOf

@@ -9,7 +9,7 @@ use Rattle.vx_history.specs.World.{Node}
 use Rattle.vx_model.specs.declared.site.Role.{Role}
 use Rattle.vx_model.specs.declared.site.Role.TheVariants.{Primary, Secondary, Handing, Bunker}
 
-primary_is : (r : Role) → is_primary r ≡ true → r ≡ Primary
+pub primary_is : (r : Role) → is_primary r ≡ true → r ≡ Primary
 primary_is Primary e = refl
 primary_is Secondary e = absurd (cc)
 primary_is (Handing to) e = absurd (cc)

@@ -1,5 +1,5 @@
 -- The places of links among those of their site.
-use Rattle.std.proofs.Common.{◌≡◌, ◌∙◌, inl, inr, ◌⊎◌, ⊎_elim, ◌+◌, ◌-◌, ◌<◌, ◌≤◌, ℕ, zero, suc, List, length, Bool, true, false, ap, sym, subst, refl, arith}
+use Rattle.std.proofs.Common.{◌≡◌, ◌∙◌, inl, inr, ◌⊎◌, ⊎_elim, ◌+◌, ◌-◌, ◌<◌, ◌≤◌, ℕ, zero, suc, List, length, Bool, true, false, ap, sym, subst, refl, arith, ◌++◌}
 use Rattle.std.specs.Prelude.{Option, Some, None, eqb, nat_lt, if◌then◌else◌}
 use Rattle.std.proofs.lemmas.Bool.Decides.{nat_tests}
 use Rattle.vx_history.proofs.Updates.{all_updated, at_place, by_test, eqb_equal, eqb_self}
@@ -55,7 +55,7 @@ count_more (suc k) s f g h old new same =
 
 -- ---- the list by places
 
-split_at : (a b : ℕ) → (a < b) ⊎ (b ≤ a)
+pub split_at : (a b : ℕ) → (a < b) ⊎ (b ≤ a)
 split_at a b = by_test (λ (m : ℕ). (a < b) ⊎ (b ≤ a)) (nat_lt a b) 0 0 (λ e. inl (grind (arith, nat_tests))) (λ e. inr (grind (arith, nat_tests)))
 
 at_own : (o : Option ℕ) (place : ℕ) → is_in_place o place ≡ true → o ≡ Some place
@@ -227,3 +227,13 @@ places_made sites row s l below free made has = record {
     meets a b place (inl one) (inr two) = absurd (let h : place < links_in sites row = has.below b place two in omega (arith, h, one.1))
     meets a b place (inr one) (inl two) = absurd (let h : place < links_in sites row = has.below a place one in omega (arith, h, two.1))
     meets a b place (inr one) (inr two) = has.apart a b place one two
+
+pub in_place_same : (row new : ℕ → Link) → ((k : ℕ) → (new k).made ≡ (row k).made) → (place sites : ℕ) → link_in_place new place sites ≡ link_in_place row place sites
+in_place_same row new same place zero = refl
+in_place_same row new same place (suc k) =
+    ap (λ (m : Option ℕ). if is_in_place m place then Some k else link_in_place new place k) (same k)
+    ∙ ap (λ (o : Option ℕ). if is_in_place (row k).made place then Some k else o) (in_place_same row new same place k)
+
+pub before_more : (o : Option ℕ) (xs ys : List ℕ) → put_before o (xs ++ ys) ≡ put_before o xs ++ ys
+before_more None xs ys = refl
+before_more (Some s) xs ys = refl

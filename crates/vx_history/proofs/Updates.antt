@@ -1,7 +1,8 @@
 -- Functions with another value at one place.
 use Rattle.std.proofs.Common.{◌≡◌, ℕ, Bool, true, false, refl, sym, ap, subst, ◌∙◌, arith}
-use Rattle.std.specs.Prelude.{eqb, ◌&&◌, if◌then◌else◌}
+use Rattle.std.specs.Prelude.{eqb, if◌then◌else◌}
 use Rattle.std.proofs.lemmas.Bool.Decides.{nat_tests}
+pub use Rattle.vx_model.proofs.Tests.{and_left, and_right}
 use Rattle.vx_model.specs.Sites.{same_line}
 use Rattle.vx_history.specs.World.{updated, line_updated}
 use Rattle.vx_model.specs.declared.history.Line.{Line}
@@ -24,14 +25,6 @@ eqb_self a = grind (arith, nat_tests)
 pub all_updated : {A : Type 0} (P : ℕ → A → Type 0) (f : ℕ → A) (i : ℕ) (x : A) → P i x → ((k : ℕ) → (k ≡ i → ⊥) → P k (f k)) → (k : ℕ) → P k (updated f i x k)
 all_updated P f i x here rest k =
     by_test (P k) (eqb k i) x (f k) (λ e. subst (λ j. P j x) (sym (eqb_equal k i e)) here) (λ e. rest k (eqb_apart k i e))
-
-pub and_left : (a b : Bool) → (a && b) ≡ true → a ≡ true
-and_left true b h = refl
-and_left false b h = h
-
-pub and_right : (a b : Bool) → (a && b) ≡ true → b ≡ true
-and_right true b h = h
-and_right false b h = absurd (cc)
 
 line_made : (g o h p : ℕ) → g ≡ h → o ≡ p → (let x : Line = record { generation = g; origin = o } in x) ≡ record { generation = h; origin = p }
 line_made g o h p e f =
@@ -59,3 +52,6 @@ at_line f l x = ap (λ b. if b then x else f l) (same_line_self l)
 
 pub at_place : {A : Type 0} (f : ℕ → A) (i : ℕ) (x : A) → updated f i x i ≡ x
 at_place f i x = ap (λ b. if b then x else f i) (eqb_self i)
+
+pub updated_other : {A : Type 0} (f : ℕ → A) (i j : ℕ) (x : A) → (j ≡ i → ⊥) → updated f i x j ≡ f j
+updated_other f i j x apart = by_test (λ y. y ≡ f j) (eqb j i) x (f j) (λ e. absurd (apart (eqb_equal j i e))) (λ _. refl)

@@ -1,6 +1,6 @@
 -- What a line makes of what a site notes of the regions that plexes missed, by what configurations say before and behind it.
-use Rattle.std.specs.Prelude.{◌≡◌, ◌⊎◌, ◌+◌, ◌<◌, ◌≤◌, ◌&&◌, ◌||◌, ℕ, Bool, true, false, not, Option, Some, None}
-use Rattle.vx_model.specs.declared.limits.TheConstants.{MOST_NUMBER}
+use Rattle.std.specs.Prelude.{◌≡◌, ◌⊎◌, ◌+◌, ◌*◌, ◌<◌, ◌≤◌, ◌&&◌, ◌||◌, ℕ, Bool, true, false, not, Option, Some, None}
+use Rattle.vx_model.specs.declared.limits.TheConstants.{COMMIT_SERIALS, MOST_NUMBER}
 use Rattle.vx_history.specs.Groups.{MissedNote}
 use Rattle.vx_history.specs.Missing.{first_failed, missed_then, no_plex, none_missed, perhaps_then, this_volume}
 
@@ -14,7 +14,7 @@ InVolume vol v = v ≡ vol
 -- Why the maps of a volume are known no more: a call on the disk of their log failed; or their log was held as lost; or no serial is left to commit that it is.
 -- `disk` has the disk of the log of each volume, where it has one that is not lost.
 abbrev pub MapsGone : (Failed : ℕ → Type 0) → (disk : ℕ → Option ℕ) → (w new : MissedNote) → ℕ → Type 0
-MapsGone Failed disk w new v = ((k : ℕ) × (disk v ≡ Some k) × Failed k) ⊎ (disk v ≡ None) ⊎ (MOST_NUMBER ≤ w.serial + 54) ⊎ (MOST_NUMBER ≤ new.serial + 9)
+MapsGone Failed disk w new v = ((k : ℕ) × (disk v ≡ Some k) × Failed k) ⊎ (disk v ≡ None) ⊎ (MOST_NUMBER ≤ w.serial + 6 * COMMIT_SERIALS) ⊎ (MOST_NUMBER ≤ new.serial + COMMIT_SERIALS)
 
 -- Of which volumes the maps are known: of those of which they were, but where they are gone, or lost; and of those where a log may begin.
 pub record StayKnown (Failed Lost Begins : ℕ → Type 0) (disk : ℕ → Option ℕ) (w new : MissedNote) : Type 0 where

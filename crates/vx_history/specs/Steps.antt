@@ -78,6 +78,10 @@ burned NoFuse = NoFuse
 burned (FuseSet calls) = FuseLit calls
 burned (FuseLit most) = FuseLit most
 
+-- a site whose disks may have been written and flushed
+abbrev pub worked : Node → Node
+worked n = record n { fuse = burned n.fuse }
+
 -- a fuse behind so many writes and flushes, or more
 abbrev pub spent : ℕ → Fuse → Fuse
 spent n NoFuse = NoFuse

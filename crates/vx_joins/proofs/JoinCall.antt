@@ -8,13 +8,14 @@ use Rattle.vx_model.specs.declared.site.SiteState.TheVariants.{Bare as IsBare, U
 use Rattle.vx_history.specs.World.{Node}
 use Rattle.vx_disk.specs.Causes.{OnDisks}
 use Rattle.vx_disk.specs.declared.shelf.Shelf.{Ghosts}
+use Rattle.vx_grouped.specs.SiteEnds.{is_off}
 use Rattle.vx_rvg.specs.declared.group.Rvg.{Rvg}
 use Rattle.vx_secondary.specs.declared.secondary.Secondary.{Secondary}
 use Rattle.vx_events.specs.declared.said.Said.{Said}
 use Rattle.vx_events.specs.declared.said.Said.TheVariants.{Done}
 use Rattle.vx_diskset.specs.Asked.{HeadUnder, LeavesFuse, disks_told, size_in}
 use Rattle.vx_diskset.specs.Burning.{Burnt, NoMore}
-use Rattle.vx_diskset.specs.DiskSets.{CrashedAt, Later, halted_at, is_off}
+use Rattle.vx_diskset.specs.DiskSets.{CrashedAt, Later, halted_at}
 use Rattle.vx_diskset.specs.Holds.{KeptBeside}
 use Rattle.vx_diskset.specs.Stands.{CutAt, IsReceiverAt, SiteStands, IsUngrouped}
 use Rattle.vx_diskset.specs.declared.disk_set.DiskSet.{DiskSet}

@@ -8,8 +8,8 @@ use Rattle.vx_model.specs.declared.call.Update.{Update}
 use Rattle.vx_model.specs.declared.no.No.{No}
 use Rattle.vx_model.specs.declared.no.No.TheVariants.{Device, Limit, Down as IsOff}
 use Rattle.vx_model.specs.declared.state.KeptLink.{KeptLink}
-use Rattle.vx_history.specs.Events.{joined}
-use Rattle.vx_history.specs.Steps.{burned}
+use Rattle.vx_history.specs.Events.{joined, logged_blocks}
+use Rattle.vx_history.specs.Steps.{burned, worked}
 use Rattle.vx_history.specs.Stops.{IsFused}
 use Rattle.vx_history.specs.World.{Node}
 use Rattle.vx_srlfmt.specs.declared.header.Header.{Header}
@@ -26,10 +26,9 @@ use Rattle.vx_rvg.specs.Holdings.{Holding, kept_in, with_last}
 use Rattle.vx_rvg.specs.Saves.{AppliesNone, RestartIs, change_blocks, restart_refusal, with_restart}
 use Rattle.vx_rvg.specs.Stands.{FoundAs, Retains, Saving}
 use Rattle.vx_rvg.specs.Views.{Core, last_of}
-use Rattle.vx_events.specs.Fuses.{ring_taken}
 use Rattle.vx_events.proofs.Places.{some_same}
 use Rattle.vx_secondary.specs.Receivers.{Wait}
-use Rattle.vx_diskset.specs.DiskSets.{halted_at, no_number, worked}
+use Rattle.vx_diskset.specs.DiskSets.{halted_at, no_number}
 use Rattle.vx_grouped.specs.SetFuses.{HasFuse}
 use Rattle.vx_diskset.specs.Holds.{KeptBeside, HasSite, HasWrites, KeptSite, MayBe, most_with, state_with, sure_of}
 use Rattle.vx_diskset.specs.Lasts.{HasLast, StandsHolding}
@@ -76,7 +75,7 @@ none_left : (k : ℕ) → widths (drop k []) ≡ 0
 none_left zero = refl
 none_left (suc k) = refl
 
-none_gone : (k : ℕ) → ring_taken (drop k []) ≡ 0
+none_gone : (k : ℕ) → logged_blocks (drop k []) ≡ 0
 none_gone zero = refl
 none_gone (suc k) = refl
 

@@ -16,7 +16,7 @@ use Rattle.vx_model.specs.declared.state.KeptLink.{KeptLink}
 use Rattle.vx_model.specs.declared.state.KeptMode.{KeptMode}
 use Rattle.vx_model.specs.declared.state.KeptMode.TheVariants as kept
 use Rattle.vx_model.specs.declared.state.State.{State}
-use Rattle.vx_history.specs.Events.{receiver_facts, gathered_if, is_taken, link_in_place, linked_sites, packet_at, put_before, said_of_link, is_in_place}
+use Rattle.vx_history.specs.Events.{receiver_facts, gathered_if, is_taken, link_in_place, linked_sites, packet_at, put_before, said_of_link}
 use Rattle.vx_history.specs.KeptLinks.{kept_link, kept_links, kept_mode, kept_start}
 use Rattle.vx_history.specs.LinkForms.{plain_link, with_plain}
 use Rattle.vx_history.specs.Refusals.{Outcome}
@@ -26,6 +26,8 @@ use Rattle.vx_history.specs.World.{DataAck, Hello, Link, Message, NetAck, Node, 
 use Rattle.vx_history.specs.declared.event.Said.{Said}
 use Rattle.vx_history.specs.declared.sender.SFacts.{SFacts}
 use Rattle.vx_history.specs.Doubts.{Doubted}
+use Rattle.vx_history.specs.Steps.{worked}
+use Rattle.vx_history.proofs.Places.{in_place_same}
 use Rattle.vx_history.proofs.Updates.{all_updated, and_right, at_place, by_test, eqb_equal}
 use Rattle.vx_courier.specs.UnderWay.{FlightStands}
 use Rattle.vx_net.specs.Flights.{Flying}
@@ -39,7 +41,6 @@ use Rattle.vx_disk.specs.declared.shelf.Shelf.{Ghosts}
 use Rattle.vx_packet.specs.Assemblies.{Assembled}
 use Rattle.vx_peers.specs.Answers.{AnsweredAt, Listens, PartAnsweredAt, is_answer}
 use Rattle.vx_peers.proofs.Hears.{event_for, outcome_is}
-use Rattle.vx_diskset.specs.DiskSets.{worked}
 use Rattle.vx_diskset.specs.Holds.{KeptBeside, beside_of, header_links, row_links, state_with, sure_of}
 use Rattle.vx_diskset.specs.Keeps.{CanKeep, KeptAt, kept_anew, restated}
 use Rattle.vx_diskset.specs.Needs.{hold_of, is_needing, kept_mode_hold}
@@ -103,12 +104,6 @@ answer_keeps l (DataAck number) facts is plain = by_test (KeepsMode l) facts.lin
 
 kept_is : (q : ℕ) (l : Link) (k : PlainLink) → k.mode ≡ l.mode → kept_link q (with_plain l k) ≡ record (kept_link q l) { stored = k.stored }
 kept_is q l k same = ap (λ (m : Mode). let x : KeptLink = record (kept_link q l) { mode = kept_mode m; start = kept_start m; stored = k.stored } in x) same
-
-in_place_same : (row new : ℕ → Link) → ((k : ℕ) → (new k).made ≡ (row k).made) → (place sites : ℕ) → link_in_place new place sites ≡ link_in_place row place sites
-in_place_same row new made place zero = refl
-in_place_same row new made place (suc k) =
-    ap (λ (m : Option ℕ). if is_in_place m place then Some k else link_in_place new place k) (made k)
-    ∙ ap (λ (o : Option ℕ). if is_in_place (row k).made place then Some k else o) (in_place_same row new made place k)
 
 sites_same : (row new : ℕ → Link) → ((k : ℕ) → (new k).made ≡ (row k).made) → (sites place k : ℕ) → linked_sites new sites place k ≡ linked_sites row sites place k
 sites_same row new made sites place zero = refl

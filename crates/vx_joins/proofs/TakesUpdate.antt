@@ -27,10 +27,11 @@ use Rattle.vx_disk.specs.Causes.{OnDisks}
 use Rattle.vx_disk.specs.Disks.{Disks, Untouched}
 use Rattle.vx_disk.specs.Shelf.{Image, Meaning}
 use Rattle.vx_disk.specs.declared.shelf.Shelf.{Ghosts}
+use Rattle.vx_rvg.specs.Contents.{write_of_update}
 use Rattle.vx_rvg.specs.Views.{Core, last_of}
 use Rattle.vx_rvg.specs.declared.group.Rvg.{Rvg}
 use Rattle.vx_peers.specs.Receivers.{ReceivesWrites as ReceivesAt, StandsForOutcome}
-use Rattle.vx_secondary.specs.Receivers.{receiver_of, write_of_update, writes_of_updates}
+use Rattle.vx_secondary.specs.Receivers.{receiver_of, writes_of_updates}
 use Rattle.vx_secondary.specs.declared.secondary.Secondary.{Secondary}
 use Rattle.vx_diskset.specs.Asked.{LeavesAlone, disks_told}
 use Rattle.vx_diskset.specs.DiskSets.{Later}

@@ -24,12 +24,13 @@ use Rattle.vx_net.specs.Flights.{Flying}
 use Rattle.vx_packet.specs.Assemblies.{Assembled}
 use Rattle.vx_disk.specs.Shelf.{Meaning}
 use Rattle.vx_disk.specs.declared.shelf.Shelf.{Ghosts}
+use Rattle.vx_rvg.specs.Contents.{write_of_update}
 use Rattle.vx_rvg.specs.declared.group.Rvg.{Rvg}
 use Rattle.vx_peers.proofs.MorePackets.{more_none}
 use Rattle.vx_peers.specs.Receivers.{AcksAgain, IsIdle, NoneWaits, NotHeard, OneWaits, ReceivesWrites as ReceivesAt, TookOne, acks_of, rule_at}
 use Rattle.vx_peers.specs.Senders.{Sends}
 use Rattle.vx_events.specs.LinkFinds.{rule_of}
-use Rattle.vx_secondary.specs.Receivers.{write_of_update, writes_of_updates}
+use Rattle.vx_secondary.specs.Receivers.{writes_of_updates}
 use Rattle.vx_secondary.specs.declared.secondary.Secondary.{Secondary}
 use Rattle.vx_diskset.specs.Holds.{KeptBeside}
 use Rattle.vx_diskset.specs.Stands.{IsReceiverAt, RoleIs, SiteStands}

@@ -13,13 +13,13 @@ use Rattle.vx_history.specs.Refusals.{keeps_links}
 use Rattle.vx_history.specs.Sends.{is_linked}
 use Rattle.vx_history.specs.World.{Link, Node, World}
 use Rattle.vx_history.specs.declared.event.Said.{Said}
+use Rattle.vx_history.specs.Steps.{worked}
 use Rattle.vx_events.specs.declared.said.Said.{Said as Reply}
 use Rattle.vx_events.specs.declared.said.Said.TheVariants.{Done, Refused as IsRefused}
 use Rattle.vx_disk.specs.declared.shelf.Shelf.{Ghosts}
 use Rattle.vx_net.specs.Flights.{Flying}
 use Rattle.vx_packet.specs.Assemblies.{Assembled}
 use Rattle.vx_peers.specs.Answers.{AnsweredAt, PartAnsweredAt}
-use Rattle.vx_diskset.specs.DiskSets.{worked}
 use Rattle.vx_diskset.specs.Holds.{KeptBeside, beside_of, header_links, state_with}
 use Rattle.vx_diskset.specs.Keeps.{KeptAt}
 use Rattle.vx_diskset.specs.Stands.{SiteStands}

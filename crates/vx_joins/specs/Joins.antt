@@ -5,6 +5,7 @@ use Rattle.vx_model.specs.declared.no.No.{No}
 use Rattle.vx_model.specs.declared.no.No.TheVariants.{Device, Limit, Down as IsOff}
 use Rattle.vx_model.specs.declared.site.SiteState.TheVariants.{Up as IsUp}
 use Rattle.vx_history.specs.Events.{joined}
+use Rattle.vx_history.specs.Steps.{worked}
 use Rattle.vx_history.specs.Stops.{IsFused}
 use Rattle.vx_history.specs.World.{Node}
 use Rattle.vx_disk.specs.Counts.{Rose}
@@ -14,7 +15,7 @@ use Rattle.vx_rvg.specs.Views.{Core}
 use Rattle.vx_srl.specs.Views.{most_number}
 use Rattle.vx_events.specs.Fails.{IsLogDisk}
 use Rattle.vx_diskset.specs.declared.disk_set.DiskSet.{DiskSet}
-use Rattle.vx_diskset.specs.DiskSets.{CrashedAt, RoseAt, halted_at, no_number, worked}
+use Rattle.vx_diskset.specs.DiskSets.{CrashedAt, RoseAt, halted_at, no_number}
 use Rattle.vx_diskset.specs.Holds.{KeptBeside, KeptSite, most_header, sure_of}
 use Rattle.vx_diskset.specs.Stands.{IsHeldAt, IsReceiverAt, IsToldAt, IsUpAt, RoleIs, SiteStands}
 

@@ -16,7 +16,8 @@ ghost use Rattle.vx_joins.specs.Joins.{CanJoin, JoinedAs, JoinedAt};
 
 use std::mem;
 use vx_disk::Rack;
-use vx_diskset::{DiskSet, is_off};
+use vx_diskset::DiskSet;
+use vx_grouped::is_off;
 use vx_model::{No, State};
 use vx_rvg::Rvg;
 use vx_secondary::{Secondary, Waiting};

@@ -2,6 +2,7 @@
 use Rattle.std.proofs.Common.{Bool, IsTrue, List, None, Option, Some, [], ap, arith, false, length, refl, suc, sym, true, zero, ℕ, ◌<◌, ◌∙◌, ◌∷◌, ◌≡◌}
 use Rattle.std.specs.Prelude.{◌&&◌, ◌||◌, slice_get, if◌then◌else◌}
 use Rattle.std.specs.List.{list_any}
+use Rattle.vx_model.proofs.Tests.{and_left}
 use Rattle.vx_copyfmt.specs.Imports.{Found, first_of, missing, or_missing, settle}
 use Rattle.vx_config.specs.Checks.{blocks_of, is_live}
 use Rattle.vx_config.specs.declared.config.Config.{Config}
@@ -137,15 +138,11 @@ any_at test (q ∷ ps) (suc k) p at passes = by (test q) (any_at test ps k p at 
     by true rest = refl
     by false rest = rest
 
-and_first : (a b : Bool) → a && b ≡ true → a ≡ true
-and_first true b is = refl
-and_first false b is = is
-
 pub first_live : (disks : List DiskEntry) (ps : List PlexEntry) → list_any is_live ps ≡ true → (p : PlexEntry) × (slice_get ps (first_plex disks ps) ≡ Some p) × (is_live p ≡ true)
 first_live disks ps some = by (list_any (λ p. is_live p && is_whole disks p) ps) refl
   where
     by : (b : Bool) → list_any (λ p. is_live p && is_whole disks p) ps ≡ b → (p : PlexEntry) × (slice_get ps (first_plex disks ps) ≡ Some p) × (is_live p ≡ true)
-    by true is = let it = first_passes (λ p. is_live p && is_whole disks p) ps is in rw is (it.0, it.1, and_first (is_live it.0) (is_whole disks it.0) it.2)
+    by true is = let it = first_passes (λ p. is_live p && is_whole disks p) ps is in rw is (it.0, it.1, and_left (is_live it.0) (is_whole disks it.0) it.2)
     by false is = rw is (first_passes is_live ps some)
 
 live_in : (disks : List DiskEntry) (o : Option VolumeEntry) (p : ℕ) → IsTrue (live_or (plex_in o p)) → IsTrue (live_or (plex_in o (chosen_or disks o)))

@@ -1,7 +1,7 @@
 -- What a configuration with plexes CLEAN in place of ACTIVE has as before, and that the change can be taken back.
 use Rattle.std.proofs.Common.{◌≡◌, inl, inr, ℕ, zero, suc, ◌+◌, ◌-◌, ◌<◌, Bool, true, false, IsTrue, Option, Some, None, List, length, refl, ap, sym, ◌∙◌, subst, arith}
 use Rattle.std.specs.Prelude.{if◌then◌else◌, slice_get}
-use Rattle.std.proofs.lemmas.Bool.{cases_eq, cases_lt}
+use Rattle.std.proofs.lemmas.Bool.{both_ways, cases_eq, cases_lt}
 use Rattle.vx_model.specs.declared.site.PlexState.{PlexState}
 use Rattle.vx_model.specs.declared.site.PlexState.TheVariants.{Active, Clean, Stale}
 use Rattle.vx_config.specs.Changes.{stated, with_state, has_live}
@@ -139,16 +139,13 @@ marked_more unsure n c is = cleaned_more unsure n c ∙ ap (λ (b : Bool). if b 
 pub sure_more : (unsure : List Bool) (n : ℕ) (c : Config) → is_unsure unsure n ≡ false → cleaned unsure c (suc n) ≡ clean_plexes n (cleaned unsure c n) 8
 sure_more unsure n c is = cleaned_more unsure n c ∙ ap (λ (b : Bool). if b then cleaned unsure c n else clean_plexes n (cleaned unsure c n) 8) is
 
-clash_of : (b : Bool) → b ≡ true → b ≡ false → ⊥
-clash_of b yes_it no_it = let clash : true ≡ false = sym yes_it ∙ no_it in cc
-
 skip_volume : (unsure : List Bool) (n : ℕ) (c d : Config) → is_unsure unsure n ≡ true → AllClean unsure n c d → AllClean unsure (suc n) c d
 skip_volume unsure n c d is was = record {
   alike = was.alike;
   same = λ x q apart. was.same x q (λ lt sure. apart (omega (arith, lt)) sure);
   off = λ x q lt sure few. elim (cases_lt x n) [
     | inl less ↦ was.off x q less sure few
-    | inr le ↦ let at : x ≡ n = omega (arith, lt, le) in absurd (clash_of (is_unsure unsure n) is (subst (λ (y : ℕ). is_unsure unsure y ≡ false) at sure))
+    | inr le ↦ let at : x ≡ n = omega (arith, lt, le) in absurd (both_ways (is_unsure unsure n) (subst (λ (y : ℕ). is_unsure unsure y ≡ false) at sure) is)
   ];
 }
 

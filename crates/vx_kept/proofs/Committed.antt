@@ -239,7 +239,7 @@ module _ (c a d : Config) (G : ℕ → Type 0) (old new : Meaning) (lawful : Law
 
 -- ---- in sets of bits
 
-member_same : (good : ℕ) (m m' : Meaning) → m'.units ≡ m.units → (u : ℕ) → Member good m' u → Member good m u
+pub member_same : (good : ℕ) (m m' : Meaning) → m'.units ≡ m.units → (u : ℕ) → Member good m' u → Member good m u
 member_same good m m' units u it = record { below = omega (arith, units, it.below); is = it.is }
 
 pub held_of : (d : Config) (m : Meaning) → length d.disks ≡ m.units → (u : ℕ) → Member (good_set d.disks) m u → HeldGood d m u

@@ -1,19 +1,19 @@
 -- The invariant and its fact are one.
-use Rattle.std.proofs.Common.{◌≡◌, ℕ, true, false, Option, Some, None, refl, ap, sym, subst, ◌∙◌}
+use Rattle.std.proofs.Common.{◌≡◌, ℕ, true, false, Option, Some, None, refl, ap, sym, subst, ◌∙◌, is_some}
 use Rattle.vx_disk.specs.Shelf.{Each, Image, Meaning}
 use Rattle.vx_copyfmt.specs.Copies.{copy_at}
 use Rattle.vx_copyfmt.specs.Imports.{Damaged, Format, Found, Missing, NoConfig, ImportOutcome}
 use Rattle.vx_config.specs.declared.config.Config.{Config}
 use Rattle.vx_copies.specs.Looking.{on_shelf}
-use Rattle.vx_kept.specs.Facts.{KeptFact, TidyFact, has_one, is_found}
+use Rattle.vx_kept.specs.Facts.{KeptFact, TidyFact, is_found}
 use Rattle.vx_kept.specs.Groups.{found}
 use Rattle.vx_kept.specs.Keeping.{IsTidy, Kept, Kin}
 
-the_one : {A : Type 0} (o : Option A) → has_one o ≡ true → (x : A) × (o ≡ Some x)
+pub the_one : {A : Type 0} (o : Option A) → is_some o ≡ true → (x : A) × (o ≡ Some x)
 the_one None is = absurd (let clash : false ≡ true = is in cc)
 the_one (Some x) is = (x, refl)
 
-the_config : (o : ImportOutcome Config) → is_found o ≡ true → (x : Config) × (o ≡ Found x)
+pub the_config : (o : ImportOutcome Config) → is_found o ≡ true → (x : Config) × (o ≡ Found x)
 the_config (Found x) is = (x, refl)
 the_config (Missing disk) is = absurd (let clash : false ≡ true = is in cc)
 the_config NoConfig is = absurd (let clash : false ≡ true = is in cc)
@@ -23,7 +23,7 @@ the_config (Format version) is = absurd (let clash : false ≡ true = is in cc)
 pub to_fact : (c : Config) (good : ℕ → Type 0) (m : Meaning) → Kept c good m → KeptFact c good m
 to_fact c good m kept = record {
   below = kept.below;
-  counts = λ u d a h lt is among top. ap has_one (kept.counts u lt d a h is among top).1;
+  counts = λ u d a h lt is among top. ap is_some (kept.counts u lt d a h is among top).1;
   labels = kept.labels;
   finds = λ i each. ap is_found (kept.sees i each).found;
   kin = λ i x each is. same_kin i x each is;

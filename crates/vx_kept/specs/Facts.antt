@@ -1,5 +1,5 @@
 -- The invariant of a group as facts, which have no choice in them: a ghost field can hold them.
-use Rattle.std.specs.Prelude.{◌≡◌, ℕ, ◌<◌, Bool, true, false, Option, Some, None, List}
+use Rattle.std.specs.Prelude.{◌≡◌, ℕ, ◌<◌, Bool, true, false, List, is_some}
 use Rattle.vx_disk.specs.Shelf.{Each, Image, Meaning}
 use Rattle.vx_copyfmt.specs.Areas.{header_of}
 use Rattle.vx_copyfmt.specs.Commits.{Among, IsHeaderBlock, IsTop, target_of}
@@ -20,15 +20,10 @@ is_found NoConfig = false
 is_found (Damaged disk block stored computed) = false
 is_found (Format version) = false
 
--- whether there is one
-abbrev pub has_one : {A : Type 0} → Option A → Bool
-has_one None = false
-has_one (Some x) = true
-
 -- the disks keep a configuration of the group's kind
 pub record KeptFact (c : Config) (good : ℕ → Type 0) (m : Meaning) : Type 0 where
   pub below : Below c m
-  pub counts : (u : ℕ) (d : Disk) (a : ℕ) (h : AreaHeader) → u < m.units → IsHeaderBlock a → Among (m.leaves u) d → IsTop d a h → has_one (copy_at (on_shelf m) d a) ≡ true
+  pub counts : (u : ℕ) (d : Disk) (a : ℕ) (h : AreaHeader) → u < m.units → IsHeaderBlock a → Among (m.leaves u) d → IsTop d a h → is_some (copy_at (on_shelf m) d a) ≡ true
   pub labels : HaveLabels m
   pub finds : (i : Image) → Each m.leaves i → is_found (found m i) ≡ true
   pub kin : (i : Image) (x : Config) → Each m.leaves i → found m i ≡ Found x → Kin c x

@@ -7,9 +7,9 @@ use Rattle.std.proofs.lemmas.List.Sums.{sum_by-append, sum_by-cons}
 use Rattle.vx_config.specs.declared.entry.DiskEntry.{DiskEntry}
 use Rattle.vx_config.specs.declared.entry.Subdisk.{Subdisk}
 use Rattle.vx_config.specs.Checks.{are_apart, ends_within, in_region, pairwise, blocks_or}
-use Rattle.vx_layout.specs.Places.{subdisk_blocks, disk_blocks}
+use Rattle.vx_layout.specs.Places.{subdisk_blocks, disk_blocks, lies_on}
 use Rattle.vx_layout.specs.Free.{AreLowest, IsNext, free_blocks, holds, is_free}
-use Rattle.vx_layout.specs.Space.{AreSpread, OnOne, OnSeveral, is_on, disk_room}
+use Rattle.vx_layout.specs.Space.{AreSpread, OnOne, OnSeveral, disk_room}
 use Rattle.vx_layout.proofs.Pairs.{and_left, and_right, pairs_across}
 use Rattle.vx_layout.proofs.Gaps.{busy_at, false_from, holds_from, not_both}
 
@@ -170,12 +170,12 @@ lowest_on used disks disk from wanted (s ∷ ss) public is =
 -- a disk with room is used by none of those before
 room_away : (used : List Subdisk) (disks : List DiskEntry) (found : List Subdisk) (disk j : ℕ) (t : Subdisk) → 0 < disk_room used disks found disk → slice_get found j ≡ Some t → t.disk ≡ disk → ⊥
 unfolding disk_room
-room_away used disks found disk j t some at same = by (list_any (is_on disk) found) (any_at found j at) some
+room_away used disks found disk j t some at same = by (list_any (lies_on disk) found) (any_at found j at) some
   where
-    any_at : (xs : List Subdisk) (j : ℕ) → slice_get xs j ≡ Some t → list_any (is_on disk) xs ≡ true
+    any_at : (xs : List Subdisk) (j : ℕ) → slice_get xs j ≡ Some t → list_any (lies_on disk) xs ≡ true
     any_at [] j at = absurd cc
-    any_at (x ∷ xs) zero at = let one : x ≡ t = cc in ap (λ (b : Bool). b || list_any (is_on disk) xs) (ap (is_on disk) one ∙ eq-eqb t.disk disk same)
-    any_at (x ∷ xs) (suc j) at = or_true (is_on disk x) (list_any (is_on disk) xs) (any_at xs j at)
+    any_at (x ∷ xs) zero at = let one : x ≡ t = cc in ap (λ (b : Bool). b || list_any (lies_on disk) xs) (ap (lies_on disk) one ∙ eq-eqb t.disk disk same)
+    any_at (x ∷ xs) (suc j) at = or_true (lies_on disk x) (list_any (lies_on disk) xs) (any_at xs j at)
       where
         or_true : (a b : Bool) → b ≡ true → a || b ≡ true
         or_true true b is = refl

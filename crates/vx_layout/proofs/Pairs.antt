@@ -3,26 +3,15 @@ use Rattle.std.proofs.Common.{◌≡◌, ℕ, zero, suc, ◌<◌, Bool, true, fa
 use Rattle.std.specs.Prelude.{◌&&◌, slice_get, flat_map, if◌then◌else◌}
 use Rattle.std.specs.List.{list_all}
 use Rattle.std.proofs.lemmas.List.Folds.{list_all-append}
+pub use Rattle.vx_model.proofs.Lists.{all_at}
+pub use Rattle.vx_model.proofs.Tests.{and_left, and_right}
 use Rattle.vx_config.specs.Checks.{pairwise}
-
-pub and_left : (a b : Bool) → a && b ≡ true → a ≡ true
-and_left true b is = refl
-and_left false b is = is
 
 pub then_of : (t a b : Bool) → t ≡ true → (if t then a else b) ≡ true → a ≡ true
 then_of true a b is e = e
 then_of false a b is e = absurd (let clash : false ≡ true = is in cc)
 
-pub and_right : (a b : Bool) → a && b ≡ true → b ≡ true
-and_right true b is = is
-and_right false b is = absurd cc
-
 -- ---- lists of which each two are in a relation
-
-pub all_at : {A : Type 0} (p : A → Bool) (xs : List A) (i : ℕ) (x : A) → list_all p xs ≡ true → slice_get xs i ≡ Some x → p x ≡ true
-all_at p [] i x all at = absurd cc
-all_at p (y ∷ xs) zero x all at = let same : y ≡ x = cc in ap p (sym same) ∙ and_left (p y) (list_all p xs) all
-all_at p (y ∷ xs) (suc i) x all at = all_at p xs i x (and_right (p y) (list_all p xs) all) at
 
 pub get_left : {A : Type 0} (xs ys : List A) (i : ℕ) (x : A) → slice_get xs i ≡ Some x → (j : ℕ) × (slice_get (xs ++ ys) j ≡ Some x)
 get_left [] ys i x at = absurd cc

@@ -9,9 +9,9 @@ use Rattle.std.proofs.lemmas.List.{append-nil}
 use Rattle.std.proofs.Math.Nat.{mul-le-mul_left}
 use Rattle.vx_config.specs.declared.entry.DiskEntry.{DiskEntry}
 use Rattle.vx_config.specs.declared.entry.Subdisk.{Subdisk}
-use Rattle.vx_layout.specs.Places.{disk_blocks}
+use Rattle.vx_layout.specs.Places.{disk_blocks, lies_on}
 use Rattle.vx_layout.specs.Free.{AddsLowest, AreLowest, free_blocks, free_in}
-use Rattle.vx_layout.specs.Space.{AreColumns, AreSpread, HasNone, IsFirst, IsGreatest, IsShape, NoPlex, OnOne, OnSeveral, column_of, is_on, disk_room, room_sum}
+use Rattle.vx_layout.specs.Space.{AreColumns, AreSpread, HasNone, IsFirst, IsGreatest, IsShape, NoPlex, OnOne, OnSeveral, column_of, disk_room, room_sum}
 use Rattle.vx_layout.specs.Steps.{AddsColumn, AddsColumns, AddsPlex, AddsSpread, AddsWhole, AreRooms, ColumnShort, Columning, ColumnsShort, StepEnds, Spreading, WholeShort}
 use Rattle.vx_layout.specs.declared.shape.Shape.{Shape}
 use Rattle.vx_layout.specs.declared.short.Short.{Short}
@@ -20,7 +20,7 @@ use Rattle.vx_layout.specs.declared.short.Short.TheVariants.{OutOfMemory, Space}
 -- what is allowed is free
 pub room_free : (used : List Subdisk) (disks : List DiskEntry) (found : List Subdisk) (disk end n : ℕ) → end ≡ disk_blocks disks disk → n ≤ disk_room used disks found disk → n ≤ free_in used disk 512 (end - 512)
 unfolding disk_room free_blocks
-room_free used disks found disk end n is le = by (list_any (is_on disk) found) le
+room_free used disks found disk end n is le = by (list_any (lies_on disk) found) le
   where
     by : (t : Bool) → n ≤ (if t then 0 else free_in used disk 512 (disk_blocks disks disk - 512)) → n ≤ free_in used disk 512 (end - 512)
     by true none = omega (arith, none)

@@ -9,6 +9,7 @@ use Rattle.std.proofs.lemmas.List.Concat.{flat_map-append, flat_map-cons}
 use Rattle.std.proofs.lemmas.List.Folds.{list_all-append}
 use Rattle.std.proofs.lemmas.List.Sums.{sum_by-cons}
 use Rattle.vx_model.specs.declared.units.Units.{Units}
+use Rattle.vx_model.proofs.Lists.{get_front}
 use Rattle.vx_config.specs.declared.config.Config.{Config}
 use Rattle.vx_config.specs.declared.entry.DiskEntry.{DiskEntry}
 use Rattle.vx_config.specs.declared.entry.PlexEntry.{PlexEntry}
@@ -26,11 +27,6 @@ use Rattle.vx_layout.proofs.FreshLemmas.{AreFresh, IsFresh, all_from, apart_used
 use Rattle.vx_layout.proofs.MadeLemmas.{both, columns_of, logs_good, no_item, plexes_fresh}
 
 -- ---- the volumes that stood before the new one
-
-get_front : {A : Type 0} (xs ys : List A) (n : ℕ) → n < length xs → slice_get (xs ++ ys) n ≡ slice_get xs n
-get_front [] ys n lt = absurd (omega (arith, lt))
-get_front (x ∷ xs) ys zero lt = refl
-get_front (x ∷ xs) ys (suc n) lt = get_front xs ys n (omega (arith, lt))
 
 module _ (vs : List VolumeEntry) (v : VolumeEntry) where
   blocks_same : (n : ℕ) → nat_lt n (length vs) ≡ true → blocks_of (vs ++ (v ∷ [])) n ≡ blocks_of vs n

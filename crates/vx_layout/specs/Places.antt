@@ -14,6 +14,10 @@ abbrev pub located : List Subdisk → ℕ → ℕ × ℕ
 located [] k = (0, k)
 located (s ∷ ss) k = if nat_lt k s.blocks then (s.disk, s.start + k) else located ss (k - s.blocks)
 
+-- a subdisk lies on this disk
+abbrev pub lies_on : ℕ → Subdisk → Bool
+lies_on disk s = s.disk == disk
+
 -- The columns of a striped plex stand one behind the other. Block b lies in unit b / width, which is in a column by turns,
 -- behind the units of that column before it. This says which block of the plex's subdisks it is.
 abbrev pub linear : ℕ → ℕ → ℕ → ℕ → ℕ

@@ -1,5 +1,5 @@
 -- Where a new volume finds space, or why it finds none.
-use Rattle.std.specs.Prelude.{◌≡◌, ◌⊎◌, ℕ, zero, suc, ◌+◌, ◌-◌, ◌*◌, ◌^◌, ◌<◌, ◌≤◌, Bool, true, false, ◌==◌, min, if◌then◌else◌, List, [], ◌∷◌, ◌++◌, length, Result, Ok, Err}
+use Rattle.std.specs.Prelude.{◌≡◌, ◌⊎◌, ℕ, zero, suc, ◌+◌, ◌-◌, ◌*◌, ◌^◌, ◌<◌, ◌≤◌, Bool, true, false, min, if◌then◌else◌, List, [], ◌∷◌, ◌++◌, length, Result, Ok, Err}
 use Rattle.std.specs.Int.{div_ceil}
 use Rattle.std.specs.List.{list_any}
 use Rattle.vx_model.specs.declared.errors.Stop.{Stop}
@@ -10,7 +10,7 @@ use Rattle.vx_config.specs.declared.config.Config.{Config}
 use Rattle.vx_config.specs.declared.entry.DiskEntry.{DiskEntry}
 use Rattle.vx_config.specs.declared.entry.Subdisk.{Subdisk}
 use Rattle.vx_config.specs.Checks.{map_blocks, runs}
-use Rattle.vx_layout.specs.Places.{disk_blocks}
+use Rattle.vx_layout.specs.Places.{disk_blocks, lies_on}
 use Rattle.vx_layout.specs.Free.{AreLowest, HasNoRun, IsLowestRun, free_blocks}
 use Rattle.vx_layout.specs.declared.shape.Found.{Found}
 use Rattle.vx_layout.specs.declared.shape.Shape.{Shape}
@@ -30,12 +30,9 @@ pub record IsShape (want : Shape) : Type 0 where
 abbrev pub column_of : Shape → ℕ
 column_of want = div_ceil want.blocks (want.ncol * want.width) * want.width
 
-abbrev pub is_on : ℕ → Subdisk → Bool
-is_on disk s = s.disk == disk
-
 -- the free blocks of a disk, where it is allowed: no plex or column that was placed before uses it
 unfoldable pub disk_room : List Subdisk → List DiskEntry → List Subdisk → ℕ → ℕ
-disk_room used disks found disk = if list_any (is_on disk) found then 0 else free_blocks used disks disk
+disk_room used disks found disk = if list_any (lies_on disk) found then 0 else free_blocks used disks disk
 
 -- the room of so many disks from this one on
 abbrev pub room_sum : (ℕ → ℕ) → ℕ → ℕ → ℕ

@@ -1,8 +1,8 @@
 // How much room the disks have for a plex or a column.
 ghost use Rattle.std.specs.Prelude.{◌≡◌, ◌<◌, ◌≤◌, ℕ, slice_index, MatchOption};
 ghost use Rattle.std.specs.List.{list_any};
-ghost use Rattle.vx_layout.specs.Places.{disk_blocks};
-ghost use Rattle.vx_layout.specs.Space.{HasNone, IsFirst, IsGreatest, is_on, disk_room, room_sum};
+ghost use Rattle.vx_layout.specs.Places.{disk_blocks, lies_on};
+ghost use Rattle.vx_layout.specs.Space.{HasNone, IsFirst, IsGreatest, disk_room, room_sum};
 ghost use Rattle.vx_layout.specs.Steps.{AreRooms};
 
 use crate::gap::free_on;
@@ -23,7 +23,7 @@ pub fn end_of(disks: &[DiskEntry], disk: u8) -> u64
 }
 
 fn is_used(found: &[Subdisk], disk: u8) -> bool
-    ensures { result ≡ list_any (is_on disk) found.now }
+    ensures { result ≡ list_any (lies_on disk) found.now }
 {
     found.iter().any(|run| run.disk == disk)
 }

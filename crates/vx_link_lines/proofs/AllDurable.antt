@@ -1,12 +1,13 @@
 -- Where a yard stands for a world, all writes of a site are durable that is up and runs, and at which writes arise.
-use Rattle.std.proofs.Common.{◌≡◌, ◌∙◌, ◌<◌, ◌≤◌, ℕ, zero, suc, true, false, List, [], ◌∷◌, length, ap, sym, refl, arith}
-use Rattle.std.specs.Prelude.{Some, None, slice_get}
+use Rattle.std.proofs.Common.{◌≡◌, ◌∙◌, ◌≤◌, true, false, List, [], length, ap, sym, arith}
+use Rattle.std.specs.Prelude.{None}
 use Rattle.vx_model.specs.Sites.{is_origin}
 use Rattle.vx_model.specs.declared.site.SiteState.TheVariants.{Bare as IsBare, Down as IsDown, Up as IsUp}
 use Rattle.vx_history.specs.Doubts.{Doubted}
 use Rattle.vx_history.specs.World.{Node}
 use Rattle.vx_events.specs.Durables.{AreDurable}
 use Rattle.vx_model.specs.Content.{Write}
+use Rattle.vx_model.proofs.Lists.{get_there}
 use Rattle.vx_disk.specs.declared.shelf.Shelf.{Ghosts}
 use Rattle.vx_diskset.proofs.GroupStands.{up_has_none}
 use Rattle.vx_diskset.proofs.OverSets.{over_durable}
@@ -16,12 +17,6 @@ use Rattle.vx_diskset.specs.declared.disk_set.DiskSet.{DiskSet}
 use Rattle.vx_diskset.specs.declared.disk_set.DiskSet.TheVariants.{Bare, Spoiled, Up, Receives, Down, OfGroup, Over, Gone}
 use Rattle.vx_yard.specs.Standing.{StandsFor}
 use Rattle.vx_yard.specs.declared.yard.Yard.{Yard}
-
--- what lies in a place
-there : {A : Type 0} (xs : List A) (i : ℕ) → i < length xs → (x : A) × (slice_get xs i ≡ Some x)
-there [] i below = absurd (omega (arith, below))
-there (x ∷ xs) zero below = (x, refl)
-there (x ∷ xs) (suc i) below = there xs i (omega (arith, below))
 
 module _ {R : Type 0} {g : Ghosts R} where
   durable_at : (beside : KeptBeside) (n : Node) (e : DiskSet R g) → SiteStands beside n e → n.state ≡ IsUp → n.halted ≡ None → is_origin n.role ≡ true → length n.log ≤ n.safe
@@ -37,6 +32,6 @@ module _ {R : Type 0} {g : Ghosts R} where
   pub durable_for : (d : Doubted) (y : Yard R g) → StandsFor d y → AreDurable d.world
   durable_for d y stands = record {
     each = λ i below up none origin.
-        let one = there y.disk_sets.items i (omega (arith, below, stands.disk_sets.few, stands.disk_sets.eight)) in
+        let one = get_there y.disk_sets.items i (omega (arith, below, stands.disk_sets.few, stands.disk_sets.eight)) in
         durable_at (beside_of d i) (d.world.nodes i) one.0 (stands.disk_sets.sites i one.0 below one.1) up none origin;
   }

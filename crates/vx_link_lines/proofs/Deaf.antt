@@ -18,6 +18,7 @@ use Rattle.vx_history.specs.World.{Link, Node, Packet, Update, World}
 use Rattle.vx_history.specs.declared.event.Event.TheVariants.{Deliver as DeliverAt}
 use Rattle.vx_history.specs.declared.event.Said.{Said as EventSaid}
 use Rattle.vx_history.specs.declared.event.Said.TheVariants.{Ignored as IsIgnored, Taken as IsTaken}
+use Rattle.vx_history.proofs.GoodLemmas.{bare_or_made}
 use Rattle.vx_disk.specs.declared.shelf.Shelf.{Ghosts}
 use Rattle.vx_effects.proofs.Fitting.{fit_happened}
 use Rattle.vx_effects.proofs.Leaving.{fit_worked}
@@ -25,7 +26,7 @@ use Rattle.vx_effects.proofs.Packets.{update_effect}
 use Rattle.vx_effects.specs.Facts.{fact_of, received_fact}
 use Rattle.vx_events.proofs.Places.{some_same}
 use Rattle.vx_linked.proofs.Heard.{site_apart}
-use Rattle.vx_yard.proofs.OverGroup.{bare_or, set_notes}
+use Rattle.vx_yard.proofs.OverGroup.{set_notes}
 use Rattle.vx_events.specs.declared.said.Said.TheVariants.{Ignored}
 use Rattle.vx_net.specs.Flights.{Flying}
 use Rattle.vx_order.specs.declared.facts.RvgFacts.{RvgFacts}
@@ -138,7 +139,7 @@ module _ {R : Type 0} {g : Ghosts R} where
     ignored_by beside (Down rack) b is none role stands = ignored_is d.world number p k x at message (inl (inl (ap is_up stands.state)))
     ignored_by beside (OfGroup s) b is none role stands = ⊎_elim
         (λ (bare : (d.world.nodes p.target).state ≡ IsBare). ignored_is d.world number p k x at message (inl (inl (ap is_up bare))))
-        (λ made. ignored_is d.world number p k x at message (inr (ap is_origin (set_notes beside (d.world.nodes p.target) s stands made).1.none.role))) (bare_or (d.world.nodes p.target).state)
+        (λ made. ignored_is d.world number p k x at message (inr (ap is_origin (set_notes beside (d.world.nodes p.target) s stands made).1.none.role))) (bare_or_made (d.world.nodes p.target).state)
     ignored_by beside (Over s) b is none role stands =
         ignored_is d.world number p k x at message (⊎_elim (λ off. inl (inl off)) (λ origin. inr origin) (over_deaf beside (d.world.nodes p.target) s.site (deaf_above (above_in s) (sym is ∙ none)) role stands.1))
     ignored_by beside Gone b is none role stands = absurd stands

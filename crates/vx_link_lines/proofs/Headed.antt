@@ -1,9 +1,10 @@
 -- A yard behind an event that writes one header of the log of a site, by what the call on its disks answered.
 use Rattle.std.proofs.Common.{◌≡◌, ◌∙◌, ⊎_elim, ◌+◌, ◌<◌, ◌≤◌, ℕ, Bool, true, false, List, [], ◌∷◌, length, map, ap, sym, subst, refl, arith}
 use Rattle.std.specs.Prelude.{Option, Some, None, slice_get, slice_set, Ok, Err}
+use Rattle.vx_history.proofs.Fuses.{burned_twice, fused_before, worked_twice}
 use Rattle.vx_history.proofs.Updates.{at_place}
 use Rattle.vx_history.specs.Doubts.{After, Doubted, crashed_as, halved, resolved_at}
-use Rattle.vx_history.specs.Steps.{burned, crashed}
+use Rattle.vx_history.specs.Steps.{burned, crashed, worked}
 use Rattle.vx_history.specs.World.{Gathering, Link, Node, Volume}
 use Rattle.vx_history.specs.declared.event.Event.{Event}
 use Rattle.vx_model.specs.declared.limits.TheConstants.{MOST_SITES}
@@ -19,7 +20,7 @@ use Rattle.vx_order.specs.declared.facts.RvgFacts.{RvgFacts}
 use Rattle.vx_order.specs.declared.facts.SiteFacts.{SiteFacts}
 use Rattle.vx_diskset.specs.Asked.{FailsAs, FusedAs, LeavesFuse, size_in}
 use Rattle.vx_diskset.specs.Burning.{Burnt, NoMore}
-use Rattle.vx_diskset.specs.DiskSets.{CrashedAt, halted_at, worked}
+use Rattle.vx_diskset.specs.DiskSets.{CrashedAt, halted_at}
 use Rattle.vx_diskset.specs.Fuses.{LeftAs}
 use Rattle.vx_diskset.specs.Holds.{KeptBeside, KeptSite, beside_of, itself, header_links, row_links, sure_of}
 use Rattle.vx_diskset.specs.Stands.{RoleIs, SiteStands}
@@ -34,7 +35,6 @@ use Rattle.vx_events.specs.declared.said.Said.TheVariants.{Done, Refused}
 use Rattle.vx_effects.proofs.Effects.{changes_same}
 use Rattle.vx_effects.proofs.Facts.{facts_at, halted_is, over_apart, over_same}
 use Rattle.vx_effects.proofs.Leaving.{fit_crashed_as, fit_halved}
-use Rattle.vx_effects.proofs.Notes.{burned_twice}
 use Rattle.vx_effects.specs.Facts.{fact_of, halted_fact, halted_group as halted_there, halted_group, over_of, down_fact}
 use Rattle.vx_diskset.proofs.Roles.{role_like}
 use Rattle.vx_model.specs.Sites.{is_origin}
@@ -56,7 +56,7 @@ use Rattle.vx_link_lines.proofs.HeaderCalls.{Answered, IsHeader, in_doubt, over_
 use Rattle.vx_linked.proofs.Heard.{site_apart}
 use Rattle.vx_events.specs.GroupLines.{is_over_group}
 use Rattle.vx_link_lines.proofs.HeadedWorlds as worlds
-use Rattle.vx_link_lines.proofs.HeadedWorlds.{fused_before, stopped_noted, worked_twice}
+use Rattle.vx_link_lines.proofs.HeadedWorlds.{stopped_noted}
 use Rattle.vx_yard.proofs.Lists.{get-set_same, set_same}
 use Rattle.vx_yard.proofs.OneSite.{Changed, role_off, rose_at, told_by}
 use Rattle.vx_yard.proofs.OverGroup.{none_over}

@@ -2,18 +2,16 @@
 use Rattle.std.proofs.Common.{◌≡◌, ◌∙◌, ◌+◌, ◌<◌, ◌≤◌, ℕ, Bool, true, false, List, length, ap, sym, subst, arith}
 use Rattle.std.specs.Prelude.{Option, Some, None, slice_get}
 use Rattle.std.proofs.lemmas.Option.{slice_get_within}
+use Rattle.vx_history.proofs.Fuses.{burned_twice}
 use Rattle.vx_history.proofs.Updates.{at_place}
 use Rattle.vx_history.specs.Doubts.{After, Doubted, crashed_as, halved, resolved_at, taken_up}
 use Rattle.vx_history.specs.Events.{kept_of, lost_touch}
-use Rattle.vx_history.specs.Steps.{burned, crashed}
-use Rattle.vx_history.specs.Stops.{IsFused}
-use Rattle.vx_history.specs.World.{Fuse, FuseLit, FuseSet, Gathering, Link, NoFuse, Node, Packet, World}
+use Rattle.vx_history.specs.Steps.{crashed, worked}
+use Rattle.vx_history.specs.World.{Fuse, Gathering, Link, Node, Packet, World}
 use Rattle.vx_history.specs.declared.event.Event.{Event}
 use Rattle.vx_model.specs.declared.state.KeptLink.{KeptLink}
-use Rattle.vx_diskset.specs.DiskSets.{worked}
 use Rattle.vx_diskset.specs.Holds.{KeptBeside, KeptSite, beside_of, doubt_of, header_links, row_links}
 use Rattle.vx_effects.proofs.Effects.{changes_then}
-use Rattle.vx_effects.proofs.Notes.{burned_twice}
 use Rattle.vx_effects.proofs.Rows.{touch_kept}
 use Rattle.vx_events.specs.Effects.{ChangesNode, EffectAt}
 use Rattle.vx_events.proofs.Steps.{kept_is}
@@ -21,16 +19,6 @@ use Rattle.vx_link_lines.specs.Headed.{NotesAt, behind, noted_by}
 use Rattle.vx_yard.proofs.CrashSite.{beside_sure}
 use Rattle.vx_effects.proofs.Halves.{crashed_effect, halved_effect, may_be, may_be_node, may_be_row, stopped}
 use Rattle.vx_yard.proofs.Rows.{row_links_same}
-
--- a fuse that may run out behind a note could before it
-pub fused_before : (f : Fuse) → IsFused (burned f) → IsFused f
-fused_before NoFuse h = h
-fused_before (FuseSet calls) h = tt
-fused_before (FuseLit most) h = tt
-
--- a site that was noted twice is noted
-pub worked_twice : (n : Node) → worked (worked n) ≡ worked n
-worked_twice n = ap (λ (f : Fuse). let m : Node = record n { fuse = f } in m) (burned_twice n.fuse)
 
 pub stopped_noted : (n : Node) (disk : ℕ) → stopped (worked n) disk ≡ stopped n disk
 stopped_noted n disk = ap (λ (f : Fuse). let m : Node = record n { halted = Some disk; fuse = f } in m) (burned_twice n.fuse)

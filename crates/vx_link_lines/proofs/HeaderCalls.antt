@@ -6,12 +6,13 @@ use Rattle.vx_history.specs.Doubts.{Doubted}
 use Rattle.vx_history.specs.Stops.{IsFused, IsOpen, WritesAt}
 use Rattle.vx_history.specs.World.{Gathering, Link, Node, Volume}
 use Rattle.vx_history.specs.declared.event.Event.{Event}
+use Rattle.vx_history.specs.Steps.{worked}
 use Rattle.vx_model.specs.declared.no.No.{No}
 use Rattle.vx_model.specs.declared.no.No.TheVariants.{Device, Limit, Down as IsOff}
 use Rattle.vx_model.specs.declared.state.KeptLink.{KeptLink}
 use Rattle.vx_model.specs.declared.state.State.{State}
 use Rattle.vx_disk.specs.declared.shelf.Shelf.{Ghosts}
-use Rattle.vx_diskset.specs.DiskSets.{RoseAt, halted_at, no_number, worked}
+use Rattle.vx_diskset.specs.DiskSets.{RoseAt, halted_at, no_number}
 use Rattle.vx_diskset.specs.Holds.{KeptBeside, most_header, row_links, sure_of}
 use Rattle.vx_diskset.specs.Keeps.{KeptWith, restated}
 use Rattle.vx_diskset.specs.Stands.{IsToldAt, SiteStands}

@@ -11,13 +11,14 @@ use Rattle.vx_model.specs.declared.limits.TheConstants.{MOST_SITES}
 use Rattle.vx_model.specs.declared.no.No.{No}
 use Rattle.vx_model.specs.declared.no.No.TheVariants.{Device, Limit, Down as IsOff}
 use Rattle.vx_model.specs.declared.state.KeptLink.{KeptLink}
+use Rattle.vx_history.proofs.Fuses.{burned_twice, worked_twice}
 use Rattle.vx_history.proofs.Updates.{all_updated}
 use Rattle.vx_history.specs.Doubts.{After, Doubted}
 use Rattle.vx_history.specs.Events.{delivered, handed, packet_at}
 use Rattle.vx_history.specs.Headers.{heard_headers}
 use Rattle.vx_history.specs.Refusals.{Outcome, says}
 use Rattle.vx_history.specs.Step.{headers_counted, step}
-use Rattle.vx_history.specs.Steps.{burned, worked_on}
+use Rattle.vx_history.specs.Steps.{burned, worked, worked_on}
 use Rattle.vx_history.specs.Stops.{IsFused, IsOpen}
 use Rattle.vx_history.specs.World.{Fuse, FuseLit, FuseSet, NoFuse, Node, Packet, World}
 use Rattle.vx_history.specs.declared.event.Event.{Event}
@@ -36,7 +37,7 @@ use Rattle.vx_diskset.proofs.Roles.{role_like}
 use Rattle.vx_diskset.proofs.Worked.{stands_worked}
 use Rattle.vx_diskset.specs.Asked.{FailsAs, FusedAs, LeavesFuse, size_in}
 use Rattle.vx_diskset.specs.Burning.{Burnt, NoMore}
-use Rattle.vx_diskset.specs.DiskSets.{CrashedAt, halted_at, worked}
+use Rattle.vx_diskset.specs.DiskSets.{CrashedAt, halted_at}
 use Rattle.vx_diskset.specs.Holds.{KeptBeside, beside_of, doubt_of, header_links, row_links, state_with}
 use Rattle.vx_diskset.specs.Keeps.{KeptAt}
 use Rattle.vx_diskset.specs.Stands.{KeepsRole, RoleIs, SiteStands}
@@ -45,7 +46,6 @@ use Rattle.vx_effects.proofs.Answers.{deaf_stays, source_stays, target_stays}
 use Rattle.vx_effects.proofs.Fitting.{fit_happened}
 use Rattle.vx_effects.proofs.Leaving.{fit_worked}
 use Rattle.vx_effects.proofs.Packets.{no_header}
-use Rattle.vx_effects.proofs.Notes.{burned_twice}
 use Rattle.vx_events.proofs.Places.{never_some, some_same}
 use Rattle.vx_events.specs.Effects.{ChangesNode, EffectAt}
 use Rattle.vx_events.specs.LinkEnds.{LinkEnds, LinksDone, link_noted, target_noted}
@@ -74,7 +74,7 @@ use Rattle.vx_yard.proofs.FuseStays.{fused_on, left_passed}
 use Rattle.vx_link_lines.proofs.HeaderCalls.{Answered, IsHeader, answered_keep, in_doubt}
 use Rattle.vx_link_lines.proofs.Headed.{headed_refused}
 use Rattle.vx_link_lines.proofs.HeadedEnds.{IsBehind, headed_ends}
-use Rattle.vx_link_lines.proofs.HeadedWorlds.{noted_effect, worked_twice}
+use Rattle.vx_link_lines.proofs.HeadedWorlds.{noted_effect}
 use Rattle.vx_link_lines.proofs.HeardWorld.{answer_says, heard_effect, heard_header, heard_kept, heard_rose, no_update, row}
 use Rattle.vx_yard.proofs.LinkLines.{Relinks, carries_kept, stands_kept}
 use Rattle.vx_yard.proofs.Lists.{get-set_other, get-set_same, length-set}

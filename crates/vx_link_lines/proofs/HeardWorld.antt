@@ -30,14 +30,12 @@ use Rattle.vx_diskset.specs.Holds.{header_links, row_links}
 use Rattle.vx_effects.proofs.Answers.{answer_effect}
 use Rattle.vx_effects.proofs.Fitting.{fit_happened}
 use Rattle.vx_events.specs.Effects.{EffectAt}
-use Rattle.vx_events.specs.Fuses.{ring_taken}
 use Rattle.vx_events.specs.LinkedFacts.{link_fact, needed_by}
 use Rattle.vx_events.specs.LinksFit.{LinksFit, is_plain_mode, is_plain_mode as goes_plainly}
 use Rattle.vx_joins.specs.Hearings.{IsListening}
 use Rattle.vx_linked.specs.Hearings.{Hears}
 use Rattle.vx_link_lines.specs.Headed.{behind}
 use Rattle.vx_link_lines.proofs.HeaderCalls.{IsHeader}
-use Rattle.vx_yard.proofs.HoldsRoom.{taken_same}
 use Rattle.vx_link_lines.proofs.NotedYard.{sure_open}
 use Rattle.vx_yard.proofs.Rows.{row_links_same}
 
@@ -75,9 +73,9 @@ module _ (n : Node) (s : ℕ) (l : Link) (link : PlainLink) (is : link ≡ plain
       ∙ ap (λ (k : ℕ). if l.attached && is_log l.mode then logged_blocks (drop k n.log) else 0) (hold_log l.mode l.stored plain)
       ∙ ap (λ (k : PlainLink). if k.attached && is_log k.mode then logged_blocks (drop k.stored n.log) else 0) (sym is)
 
-  pub needs_some : (o : Option ℕ) (b : Bool) → b ≡ (link.attached && is_log link.mode) → b ≡ true → IfSome o (λ blocks. blocks ≡ ring_taken (drop link.stored n.log)) → IfSome o (λ blocks. blocks ≡ needed_by n s l)
+  pub needs_some : (o : Option ℕ) (b : Bool) → b ≡ (link.attached && is_log link.mode) → b ≡ true → IfSome o (λ blocks. blocks ≡ logged_blocks (drop link.stored n.log)) → IfSome o (λ blocks. blocks ≡ needed_by n s l)
   needs_some None b test yes_ used = tt
-  needs_some (Some blocks) b test yes_ used = used ∙ taken_same (drop link.stored n.log) ∙ sym (needs_is ∙ ap by (sym test ∙ yes_))
+  needs_some (Some blocks) b test yes_ used = used ∙ sym (needs_is ∙ ap by (sym test ∙ yes_))
 
   pub needs_none : (b : Bool) → b ≡ (link.attached && is_log link.mode) → b ≡ false → 0 ≡ needed_by n s l
   needs_none b test no_ = sym (needs_is ∙ ap by (sym test ∙ no_))

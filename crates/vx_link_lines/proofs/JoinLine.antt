@@ -3,14 +3,12 @@ use Rattle.std.proofs.Common.{◌≡◌, ◌<◌, ℕ, suc, List, [], ◌∷◌,
 use Rattle.std.specs.Prelude.{Bool, Some, None, not, ◌&&◌, eqb, slice_get, slice_set, Result, Ok, Err}
 use Rattle.std.proofs.lemmas.Bool.Decides.{nat_tests}
 use Rattle.vx_model.specs.Content.{Write}
-use Rattle.vx_model.specs.Sites.{is_origin}
 use Rattle.vx_model.specs.declared.limits.TheConstants.{MOST_SITES}
 use Rattle.vx_model.specs.declared.link.SyncMode.{SyncMode}
 use Rattle.vx_model.specs.declared.no.No.{No}
 use Rattle.vx_model.specs.declared.no.No.TheVariants.{Device, Limit, Down as IsOff}
-use Rattle.vx_model.specs.declared.site.Role.{Role}
-use Rattle.vx_model.specs.declared.site.Role.TheVariants.{Primary, Secondary, Handing, Bunker}
 use Rattle.vx_model.specs.declared.state.State.{State}
+use Rattle.vx_history.proofs.States.{primary_leads}
 use Rattle.vx_history.proofs.Updates.{and_left, and_right}
 use Rattle.vx_history.specs.Doubts.{Doubted}
 use Rattle.vx_history.specs.Events.{joined}
@@ -22,12 +20,13 @@ use Rattle.vx_history.specs.declared.event.Event.{Event}
 use Rattle.vx_history.specs.declared.event.Event.TheVariants.{Link as LinkAt}
 use Rattle.vx_history.specs.declared.event.LinkPart.TheVariants.{Joins}
 use Rattle.vx_history.specs.declared.event.Said.TheVariants.{Done as IsDone}
+use Rattle.vx_history.specs.Steps.{worked}
 use Rattle.vx_order.specs.declared.facts.SiteFacts.{SiteFacts}
 use Rattle.vx_disk.specs.declared.shelf.Shelf.{Ghosts}
 use Rattle.vx_diskset.proofs.Roles.{role_like, role_origin}
 use Rattle.vx_diskset.specs.Asked.{HeadUnder, LeavesFuse}
 use Rattle.vx_diskset.specs.Burning.{NoMore}
-use Rattle.vx_diskset.specs.DiskSets.{CrashedAt, worked}
+use Rattle.vx_diskset.specs.DiskSets.{CrashedAt}
 use Rattle.vx_diskset.specs.Holds.{KeptBeside, beside_of, header_links, state_with}
 use Rattle.vx_diskset.specs.Keeps.{done_by}
 use Rattle.vx_diskset.specs.Stands.{SiteStands}
@@ -51,12 +50,6 @@ use Rattle.vx_link_lines.proofs.LinkChain.{fresh, second_links}
 use Rattle.vx_link_lines.proofs.NotedYard.{sure_open}
 use Rattle.vx_yard.proofs.OneSite.{Changed, told_by}
 use Rattle.vx_link_lines.proofs.PartLine.{header_done, header_refused}
-
-origin_of : (role : Role) → is_primary role ≡ true → is_origin role ≡ true
-origin_of Primary is = refl
-origin_of Secondary is = absurd (cc)
-origin_of (Handing to) is = absurd (cc)
-origin_of Bunker is = absurd (cc)
 
 none_logged : (log : List Write) → is_empty log ≡ true → log ≡ []
 none_logged [] is = refl
@@ -92,7 +85,7 @@ module _ (d : Doubted) (p s : ℕ) (sync : SyncMode) (fit : LinksFit d) (alone :
     up = two_sites.up_too;
     running = two_sites.running_too;
     apart = alone;
-    origin = origin_of site.role (and_left (is_primary site.role) (is_empty site.log && no_links) (fresh d p s sync fit said));
+    origin = primary_leads site.role (and_left (is_primary site.role) (is_empty site.log && no_links) (fresh d p s sync fit said));
     empty = none_logged site.log (and_left (is_empty site.log) no_links (and_right (is_primary site.role) (is_empty site.log && no_links) (fresh d p s sync fit said)));
     unlinked = second_links d p s sync fit said;
   }

@@ -20,6 +20,7 @@ use Rattle.vx_disk.specs.Racks.{IsRack}
 use Rattle.vx_disk.specs.declared.shelf.Shelf.{Ghosts}
 use Rattle.vx_model.specs.declared.site.Mark.TheVariants.{Consistent}
 use Rattle.vx_model.specs.declared.state.State.{State}
+use Rattle.vx_model.proofs.Lists.{get_there}
 use Rattle.vx_diskset.specs.Asked.{HeadUnder}
 use Rattle.vx_diskset.specs.Holds.{beside_of, header_links, state_with}
 use Rattle.vx_diskset.specs.Stands.{SiteStands}
@@ -38,7 +39,7 @@ use Rattle.vx_link_lines.specs.Linking.{IsLinking}
 use Rattle.vx_yard.specs.BothSites.{BothSites, LinkBurns}
 use Rattle.vx_yard.specs.OfSites.{HasCalled, OfSite}
 use Rattle.vx_yard.specs.Standing.{Leads, StandsFor}
-use Rattle.vx_yard.specs.Stands.{RoseAll, RoseBy, times}
+use Rattle.vx_yard.specs.Stands.{RoseBy}
 use Rattle.vx_yard.specs.Yards.{IsTold, count_of}
 use Rattle.vx_link_lines.specs.declared.linking.LinkStates.{LinkStates}
 use Rattle.vx_yard.specs.declared.yard.Yard.{Yard}
@@ -47,14 +48,11 @@ use Rattle.vx_link_lines.proofs.LinkChain as chain
 use Rattle.vx_link_lines.proofs.NotedBoth.{carries_both, note_both, notes_both, stands_both}
 use Rattle.vx_yard.proofs.BothSites.{UnderJoined, UnderMade, UnderMarked, UnderOpened, link_burns, stops_joined, stops_made, stops_marked, stops_opened, under_joined, under_made, under_marked, under_opened}
 use Rattle.vx_yard.proofs.HeadNeeds.{head_passes, head_works, refused_undone}
-use Rattle.vx_yard.proofs.WriteLine.{get_there}
+use Rattle.vx_yard.proofs.RecoverLine.{rose_then}
 
 -- counts that rose by nothing, and then by so much
 rose_more : (n a b c : ℕ) → RoseBy 0 a b → RoseBy n b c → RoseBy n a c
 rose_more n a b c one two = omega (arith, one, two)
-
-pub rose_then : (fails : Fails) (a b c : ℕ → ℕ → ℕ) → RoseAll [] a b → RoseAll fails b c → RoseAll fails a c
-rose_then fails a b c one two = record { each = λ s k. rose_more (times fails s k) (a s k) (b s k) (c s k) (one.each s k) (two.each s k) }
 
 module _ {R : Type 0} {g : Ghosts R} where
   -- two in a row

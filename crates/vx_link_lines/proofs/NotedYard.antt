@@ -5,13 +5,12 @@ use Rattle.std.proofs.lemmas.Bool.{cases_eq}
 use Rattle.vx_history.proofs.Updates.{all_updated, at_place}
 use Rattle.vx_history.specs.Doubts.{After, Doubted}
 use Rattle.vx_history.specs.Refusals.{is_running}
-use Rattle.vx_history.specs.Steps.{burned}
+use Rattle.vx_history.specs.Steps.{burned, worked}
 use Rattle.vx_history.specs.Stops.{IsOpen}
 use Rattle.vx_history.specs.World.{Fuse, FuseLit, FuseSet, NoFuse, Node, updated}
 use Rattle.vx_disk.specs.declared.shelf.Shelf.{Ghosts}
 use Rattle.vx_diskset.proofs.Worked.{stands_worked}
 use Rattle.vx_diskset.specs.Asked.{FailsAs, FusedAs}
-use Rattle.vx_diskset.specs.DiskSets.{worked}
 use Rattle.vx_diskset.specs.Fuses.{LeftAs}
 use Rattle.vx_diskset.specs.Holds.{beside_of}
 use Rattle.vx_diskset.specs.Stands.{SiteStands}

@@ -4,6 +4,7 @@ use Rattle.std.specs.Prelude.{Option, Some, slice_get, slice_set, Result, Ok, Er
 use Rattle.vx_history.specs.Doubts.{Doubted}
 use Rattle.vx_history.specs.World.{Gathering, Node}
 use Rattle.vx_history.specs.declared.event.Event.{Event}
+use Rattle.vx_history.specs.Steps.{worked}
 use Rattle.vx_model.specs.declared.no.No.{No}
 use Rattle.vx_model.specs.Sites.{is_origin}
 use Rattle.vx_model.specs.declared.state.KeptLink.{KeptLink}
@@ -12,7 +13,7 @@ use Rattle.vx_order.specs.declared.facts.SiteFacts.{SiteFacts}
 use Rattle.vx_disk.specs.declared.shelf.Shelf.{Ghosts}
 use Rattle.vx_diskset.specs.Asked.{LeavesFuse}
 use Rattle.vx_diskset.specs.Burning.{NoMore}
-use Rattle.vx_diskset.specs.DiskSets.{CrashedAt, worked}
+use Rattle.vx_diskset.specs.DiskSets.{CrashedAt}
 use Rattle.vx_diskset.specs.Holds.{KeptBeside, beside_of}
 use Rattle.vx_diskset.specs.Keeps.{CanKeep, KeptAt, done_by, restated}
 use Rattle.vx_diskset.proofs.Roles.{role_like}

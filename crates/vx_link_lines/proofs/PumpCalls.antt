@@ -9,10 +9,10 @@ use Rattle.vx_model.specs.declared.no.No.TheVariants.{Device, Down as IsDown}
 use Rattle.vx_disk.specs.declared.shelf.Shelf.{Ghosts}
 use Rattle.vx_history.specs.World.{Node}
 use Rattle.vx_history.specs.declared.sender.Action.{Action}
+use Rattle.vx_grouped.specs.SiteEnds.{is_off}
 use Rattle.vx_events.specs.declared.said.Said.{Said}
 use Rattle.vx_diskset.specs.Asked.{LeavesAlone, LeavesFuse}
 use Rattle.vx_diskset.specs.Burning.{NoMore}
-use Rattle.vx_diskset.specs.DiskSets.{is_off}
 use Rattle.vx_diskset.specs.Pumps.{PumpStop}
 use Rattle.vx_diskset.specs.declared.disk_set.DiskSet.{DiskSet}
 use Rattle.vx_diskset.proofs.AloneCalls.{alone_refused}

@@ -25,7 +25,7 @@ use Rattle.vx_history.specs.LinkForms.{plain_receiver}
 use Rattle.vx_history.specs.Receiving.{Received, is_log_phase, with_applied}
 use Rattle.vx_history.specs.Refusals.{Outcome, at_work}
 use Rattle.vx_history.specs.Step.{outcome_of, step}
-use Rattle.vx_history.specs.Steps.{burned}
+use Rattle.vx_history.specs.Steps.{burned, worked}
 use Rattle.vx_history.specs.World.{DataAck, Gathering, Link, Node, Packet, World}
 use Rattle.vx_history.specs.declared.event.Event.{Event}
 use Rattle.vx_history.specs.declared.event.Event.TheVariants.{Apply as ApplyAt}
@@ -60,7 +60,6 @@ use Rattle.vx_diskset.proofs.Worked.{stands_worked}
 use Rattle.vx_diskset.specs.Blames.{BlamesSite}
 use Rattle.vx_diskset.specs.Asked.{FusedAs, LeavesFuse, size_in}
 use Rattle.vx_diskset.specs.Burning.{Burnt, NoMore}
-use Rattle.vx_diskset.specs.DiskSets.{worked}
 use Rattle.vx_diskset.specs.Holds.{beside_of}
 use Rattle.vx_diskset.specs.Received.{CanReceive, ReachedAt, ReachedBy, reached}
 use Rattle.vx_diskset.specs.Needs.{NoneNeeds}

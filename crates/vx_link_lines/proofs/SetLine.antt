@@ -6,7 +6,7 @@ use Rattle.vx_history.specs.Listed.{HasPlaces}
 use Rattle.vx_history.specs.Refusals.{Outcome, at_site, at_work, unless}
 use Rattle.vx_history.specs.Sends.{is_linked, with_link}
 use Rattle.vx_history.specs.Step.{done, step}
-use Rattle.vx_history.specs.Steps.{worked_on}
+use Rattle.vx_history.specs.Steps.{worked, worked_on}
 use Rattle.vx_history.specs.Stops.{IsOpen, all_fails}
 use Rattle.vx_history.specs.World.{Link, Node, World, updated}
 use Rattle.vx_history.specs.declared.event.Event.{Event}
@@ -29,7 +29,6 @@ use Rattle.vx_disk.specs.Racks.{IsRack}
 use Rattle.vx_disk.specs.declared.shelf.Shelf.{Ghosts}
 use Rattle.vx_diskset.specs.Asked.{HeadUnder, LeavesFuse}
 use Rattle.vx_diskset.specs.Burning.{NoMore}
-use Rattle.vx_diskset.specs.DiskSets.{worked}
 use Rattle.vx_diskset.proofs.Worked.{stands_worked}
 use Rattle.vx_diskset.specs.Holds.{KeptBeside, beside_of, header_links, row_links, state_with}
 use Rattle.vx_diskset.specs.Keeps.{CanKeep, KeptAt}

@@ -14,7 +14,7 @@ use Rattle.vx_history.specs.Gatherings.{completes}
 use Rattle.vx_history.specs.LinkForms.{plain_receiver}
 use Rattle.vx_history.specs.Receiving.{received_step}
 use Rattle.vx_history.specs.Refusals.{Outcome, is_running, says}
-use Rattle.vx_history.specs.Steps.{burned, worked_on}
+use Rattle.vx_history.specs.Steps.{burned, worked, worked_on}
 use Rattle.vx_history.specs.Groups.{GroupNode}
 use Rattle.vx_history.specs.World.{Fuse, FuseLit, FuseSet, Gathering, Link, Message, NoFuse, Node, Packet, Update, Volume, World}
 use Rattle.vx_history.specs.declared.event.Event.TheVariants.{Deliver as DeliverAt}
@@ -47,7 +47,6 @@ use Rattle.vx_packet.specs.Assemblies.{Assembled}
 use Rattle.vx_script.specs.declared.line.ScriptLine.TheVariants.{Deliver}
 use Rattle.vx_diskset.proofs.Worked.{stands_worked}
 use Rattle.vx_diskset.specs.Asked.{LeavesAlone}
-use Rattle.vx_diskset.specs.DiskSets.{worked}
 use Rattle.vx_diskset.specs.Fuses.{LeftAs}
 use Rattle.vx_diskset.specs.Holds.{beside_of}
 use Rattle.vx_diskset.specs.Stands.{RoleIs, SiteStands}

@@ -10,8 +10,8 @@ use Rattle.vx_history.specs.Step.{step}
 use Rattle.vx_history.specs.Stops.{IsFused}
 use Rattle.vx_history.specs.World.{Node, World}
 use Rattle.vx_history.specs.declared.event.Event.{Event}
+use Rattle.vx_history.specs.Steps.{worked}
 use Rattle.vx_disk.specs.declared.shelf.Shelf.{Ghosts}
-use Rattle.vx_diskset.specs.DiskSets.{worked}
 use Rattle.vx_events.specs.Fails.{Fails, IsLogDisk}
 use Rattle.vx_events.specs.StepsOver.{facts_over}
 use Rattle.vx_events.specs.LinksFit.{LinksFit}

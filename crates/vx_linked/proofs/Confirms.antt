@@ -27,7 +27,8 @@ use Rattle.vx_events.specs.Facts.{seat_of, site_number}
 use Rattle.vx_events.specs.LinkedFacts.{link_fact, link_facts, linked_fact, links_by, links_of_site}
 use Rattle.vx_events.specs.StepsOver.{facts_over}
 use Rattle.vx_history.specs.Listed.{AreListed, IsAmong}
-use Rattle.vx_events.proofs.LinkTesting.{AllLinked, all_linked, seat_at, up_state}
+use Rattle.vx_history.proofs.States.{up_is}
+use Rattle.vx_events.proofs.LinkTesting.{AllLinked, all_linked, seat_at}
 use Rattle.vx_events.proofs.LinkWaiting.{wait_agrees, wait_apart}
 use Rattle.vx_events.proofs.OverSeats.{fact_apart}
 use Rattle.vx_events.proofs.Places.{never_some, some_same}
@@ -189,7 +190,7 @@ wait_is w sites from number site is listed free found =
     let here : site_named (facts_over w) from ≡ Some (linked_fact w a) = one.found ∙ ap (λ (f : SiteFacts). Some f) (fact_apart w a (wait_apart w free_here.0 from number free_here.1)) in
     let same : site ≡ linked_fact w a = some_same (sym found ∙ ap (λ (fs : List SiteFacts). site_named fs from) is ∙ here) in
     let up : (w.nodes a).state ≡ Up
-    = up_state (w.nodes a).state (not_false (is_up (w.nodes a).state) (when_none (not (is_up (w.nodes a).state)) NotUp (subst (λ (o : Option SiteFacts). when (site_off o) NotUp ≡ None) here t.up))) in
+    = up_is (w.nodes a).state (not_false (is_up (w.nodes a).state) (when_none (not (is_up (w.nodes a).state)) NotUp (subst (λ (o : Option SiteFacts). when (site_off o) NotUp ≡ None) here t.up))) in
     let links : site.links ≡ links_of_site w a = ap (λ (f : SiteFacts). f.links) same ∙ ap (λ (st : SiteState). links_by st (links_of_site w a)) up in
     let kept = said_refused _ number (wait_agrees w free_here.0 from number listed free_here.1) in
     ap (wait_said number) links

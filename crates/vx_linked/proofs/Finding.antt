@@ -19,7 +19,7 @@ use Rattle.vx_order.specs.declared.facts.SiteFacts.{SiteFacts}
 use Rattle.vx_script.specs.declared.line.ScriptLine.TheVariants.{Connect, Cut, Pause, Pump, Resume, Tick}
 use Rattle.vx_events.specs.Facts.{seat_of}
 use Rattle.vx_events.specs.StepsOver.{facts_over}
-use Rattle.vx_events.proofs.LinkTesting.{OnLink, on_link_by}
+use Rattle.vx_events.proofs.LinkTesting.{OnLink, linked_none, on_link_by}
 use Rattle.vx_events.proofs.Places.{some_same}
 use Rattle.vx_events.proofs.Refused.{FoundAt, found_at, named, not_false, passes, when_none}
 use Rattle.vx_linked.specs.Tables.{FoundLink, IsUnrefused, leads_to, place_to, relinked, site_relinked}
@@ -70,10 +70,6 @@ pump_tested sites from to free =
     let t = passes sites free.0 (Pump from to) free.1 in
     record { known = t.known; other = t.other_known; up = t.up; running = t.running; role = t.link_role; linked = t.link }
 
-linked_some : (o : Option LinkFacts) (site : SiteFacts) → not_linked o (Some site) ≡ None → (l : LinkFacts) × (o ≡ Some l)
-linked_some None site e = absurd (cc)
-linked_some (Some l) site e = (l, refl)
-
 pub seat_found : (sites : List SiteFacts) (name : List ℕ) → unknown_one (Some name) (site_named sites name) ≡ None → IsSome (seat_of sites name)
 seat_found sites name known = ap (λ (o : Option ℕ). is_some o) (named sites name known).at.is
 
@@ -95,7 +91,7 @@ found sites from to t =
     (subst (λ (o : Option SiteFacts). not_linked (link_towards o (place_named sites (Some to))) (site_named sites to) ≡ None) a.found t.linked)) in
     let among : not_linked (find (leads_to b.at.place) a.facts.links) (Some b.facts) ≡ None
     = subst (λ (c : Bool). not_linked (if c then link_to a.facts.links (Some b.at.place) else None) (Some b.facts) ≡ None) up towards in
-    let l = linked_some (find (leads_to b.at.place) a.facts.links) b.facts among in
+    let l = linked_none (find (leads_to b.at.place) a.facts.links) b.facts among in
     let at : FoundAt (leads_to b.at.place) a.facts.links l.0 = found_at (leads_to b.at.place) a.facts.links l.0 l.1 in
     record {
       here = a.at.place;

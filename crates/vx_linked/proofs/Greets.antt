@@ -6,6 +6,7 @@ use Rattle.vx_history.specs.Events.{greeting_back, greets}
 use Rattle.vx_history.specs.Refusals.{is_running}
 use Rattle.vx_history.specs.Sends.{greeting, packets_of}
 use Rattle.vx_history.specs.World.{Hello, Node, Packet, World}
+use Rattle.vx_history.proofs.States.{up_is}
 use Rattle.vx_model.specs.Sites.{is_origin, is_up, same_line}
 use Rattle.vx_model.specs.declared.site.SiteState.{SiteState}
 use Rattle.vx_model.specs.declared.site.SiteState.TheVariants.{Bare, Up, Deported, Down}
@@ -19,7 +20,7 @@ use Rattle.vx_events.specs.GroupNotes.{note_at}
 use Rattle.vx_events.specs.LinkedFacts.{linked_fact}
 use Rattle.vx_events.specs.StepsOver.{fact_of_group, fact_over, facts_over}
 use Rattle.vx_events.proofs.OverSeats.{fact_apart}
-use Rattle.vx_events.proofs.LinkTesting.{seat_at, shown, up_state}
+use Rattle.vx_events.proofs.LinkTesting.{seat_at, shown}
 use Rattle.vx_linked.specs.Greetings.{Tells, greeter, greeter_of, hello_of, receives_on}
 use Rattle.vx_linked.proofs.Finding.{Tested, on_link, seat_named}
 
@@ -90,7 +91,7 @@ module _ (w : World) (from to : List ℕ) (tested : Tested (facts_over w) from t
   receives_there e =
       let up = both (is_up there.state) _ e in
       let runs = both (is_running there.halted) _ up.1 in
-      (up_state there.state up.0, runs_none there.halted runs.0, not_true (is_origin there.role) (both (not (is_origin there.role)) (same_line there.line here.line) runs.1).0)
+      (up_is there.state up.0, runs_none there.halted runs.0, not_true (is_origin there.role) (both (not (is_origin there.role)) (same_line there.line here.line) runs.1).0)
 
   -- the greeting that is sent is that of the world
   hello_is : (session stored : ℕ) → Tells there session stored → hello_of (if greets here there then Some (group_fact there) else None) b a session stored ≡ greeting_back w a b

@@ -13,6 +13,7 @@ use Rattle.vx_history.specs.World.{Link, Node, Packet, World, updated}
 use Rattle.vx_history.specs.declared.event.Event.TheVariants.{Deliver as DeliverAt}
 use Rattle.vx_history.specs.declared.event.Said.TheVariants.{Ignored as IsIgnored}
 use Rattle.vx_history.specs.declared.sender.SEvent.{SEvent}
+use Rattle.vx_history.proofs.States.{up_is}
 use Rattle.vx_history.proofs.Updates.{at_place}
 use Rattle.vx_model.specs.Sites.{is_up}
 use Rattle.vx_model.specs.declared.site.SiteState.{SiteState}
@@ -25,7 +26,6 @@ use Rattle.vx_events.specs.LinkedFacts.{link_fact, link_facts, linked_fact, link
 use Rattle.vx_events.specs.StepsOver.{fact_over, facts_over}
 use Rattle.vx_events.proofs.OverSeats.{fact_apart}
 use Rattle.vx_history.specs.Listed.{AreListed, IsAmong}
-use Rattle.vx_events.proofs.LinkTesting.{up_state}
 use Rattle.vx_events.proofs.Places.{never_some}
 use Rattle.vx_events.proofs.Values.{slice_get-values_from}
 use Rattle.vx_linked.specs.Hearings.{Hears, IsHearing, group_listens, hearing, listens}
@@ -209,7 +209,7 @@ module _ (w : World) (p : Packet) (e : SEvent) (heard_is : heard w p p.message �
       by true is same at missing =
           let up = both (is_up site.state) _ (sym same ∙ is) in
           not_heard (and_false (keeps_links site.role) (is_linked there)
-          (unlinked listed small (up_state site.state up.0) (ap (λ (b : Bool). if b then fact_between (facts_over w) p.target p.source else None) (sym is) ∙ missing) at))
+          (unlinked listed small (up_is site.state up.0) (ap (λ (b : Bool). if b then fact_between (facts_over w) p.target p.source else None) (sym is) ∙ missing) at))
       by false is same at missing =
           ⊎_elim (λ (off : (is_up site.state && is_running site.halted) ≡ false). not_handed off)
           (λ (idle : keeps_links site.role ≡ false). not_heard (ap (λ (b : Bool). b && is_linked there) idle))

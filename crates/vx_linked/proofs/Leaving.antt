@@ -1,14 +1,14 @@
 -- What events of links in memory leave of what disks hold.
-use Rattle.std.proofs.Common.{◌≡◌, ◌∙◌, ◌+◌, ◌++◌, ℕ, Bool, List, [], ap, sym, refl, arith}
+use Rattle.std.proofs.Common.{◌≡◌, ◌∙◌, ◌+◌, ◌++◌, ℕ, List, [], ap, sym, refl, arith}
 use Rattle.std.proofs.lemmas.List.{append-nil}
-use Rattle.std.specs.Prelude.{Option, Some, None, not, ◌&&◌, ◌||◌, eqb, leb, ltb, max, min, if◌then◌else◌}
+use Rattle.std.specs.Prelude.{not, ◌&&◌, ◌||◌, eqb, ltb, max, min, if◌then◌else◌}
 use Rattle.vx_history.specs.Admission.{is_live_link}
 use Rattle.vx_history.specs.Events.{greeting_back, link_event, link_step, linked_sites, promises_of, ticked_at, ticked_link, waited}
 use Rattle.vx_history.specs.KeptLinks.{kept_link, kept_links}
 use Rattle.vx_history.specs.LinkForms.{plain_link, with_plain}
-use Rattle.vx_history.specs.Refusals.{Outcome, at_site, at_work, holds_back, is_unconfirmed, keeps_links, on_link, says, some_below, unless, unless_halted, when_live}
+use Rattle.vx_history.specs.Refusals.{Outcome, at_work, holds_back, is_unconfirmed, says, some_below, unless, when_live}
 use Rattle.vx_history.specs.Sending.{Sent, by_log, pumped_up_to, with_nothing}
-use Rattle.vx_history.specs.Sends.{is_linked, promising, sending, sent_by, with_link}
+use Rattle.vx_history.specs.Sends.{promising, sending, sent_by, with_link}
 use Rattle.vx_history.specs.Step.{done, outcome_of, step}
 use Rattle.vx_history.specs.World.{Link, Packet, World, updated}
 use Rattle.vx_history.specs.declared.event.Event.TheVariants.{Connect, Cut, Pause, Pump, Resume, Tick, Wait}
@@ -16,38 +16,15 @@ use Rattle.vx_history.specs.declared.sender.Action.TheVariants.{Updates}
 use Rattle.vx_history.specs.declared.event.Said.TheVariants.{DoneAt, Pending}
 use Rattle.vx_history.specs.declared.sender.SEvent.{SEvent}
 use Rattle.vx_history.specs.declared.sender.SEvent.TheVariants.{Connect as ConnectLink, Cut as CutLink, Pause as PauseLink, Pump as PumpLink, Resume as ResumeLink}
+use Rattle.vx_history.proofs.Behind.{link_by, site_by, unless_by, work_by}
 use Rattle.vx_history.proofs.Updates.{all_updated, by_test}
-use Rattle.vx_model.specs.Sites.{is_origin, is_up}
+use Rattle.vx_model.specs.Sites.{is_origin}
 use Rattle.vx_model.specs.declared.no.Named.TheVariants.{Number as ByNumber}
-use Rattle.vx_model.specs.declared.no.No.{No}
-use Rattle.vx_model.specs.declared.no.No.TheVariants.{Down as NotUp, LinkDown, Paused, Role as WrongRole, Unconfirmed, Unknown}
+use Rattle.vx_model.specs.declared.no.No.TheVariants.{LinkDown, Paused, Role as WrongRole, Unconfirmed, Unknown}
 use Rattle.vx_model.specs.declared.no.SiteName.TheVariants.{Number as SiteNumber}
 use Rattle.vx_model.specs.declared.limits.TheConstants.{MOST_AHEAD}
 use Rattle.vx_linked.specs.Disks.{LeavesDisks}
 use Rattle.vx_effects.proofs.Rows.{kept_same, made_same, sites_same}
-
--- what holds of a world, and behind an event that its tests pass, holds behind those tests
-pub unless_by : (P : World → Type 0) (b : Bool) (why : No) (w : World) (o : Outcome) → P w → P o.world → P (unless b why w o).world
-unless_by P b why w o here there = by_test (λ (r : Outcome). P r.world) b _ o (λ _. here) (λ _. there)
-
-pub work_by : (P : World → Type 0) (w : World) (p : ℕ) (o : Outcome) → P w → P o.world → P (at_work w p o).world
-work_by P w p o here there = unless_by P (not (is_up (w.nodes p).state)) NotUp w (unless_halted (w.nodes p).halted w o) here (halted (w.nodes p).halted)
-  where
-    halted : (h : Option ℕ) → P (unless_halted h w o).world
-    halted None = there
-    halted (Some disk) = here
-
-pub site_by : (P : World → Type 0) (w : World) (p : ℕ) (o : Outcome) → P w → P o.world → P (at_site w p o).world
-site_by P w p o here there = unless_by P (leb w.sites p) (Unknown (ByNumber p)) w o here there
-
-link_by : (P : World → Type 0) (w : World) (p s : ℕ) (o : Outcome) → P w → P o.world → P (on_link w p s o).world
-link_by P w p s o here there =
-    let linked : Outcome = unless (not (is_linked (w.links p s))) (Unknown (ByNumber s)) w o in
-    let led : Outcome = unless (not (keeps_links (w.nodes p).role)) WrongRole w linked in
-    site_by P w p (at_site w s (at_work w p led)) here
-    (site_by P w s (at_work w p led) here
-    (work_by P w p led here
-    (unless_by P (not (keeps_links (w.nodes p).role)) WrongRole w linked here (unless_by P (not (is_linked (w.links p s))) (Unknown (ByNumber s)) w o here there))))
 
 -- behind what a line that waits for a write says
 pub wait_by : (P : World → Type 0) (w : World) (p number : ℕ) → P w → P (promising w (promises_of (w.nodes p) number (w.links p) w.sites)) → P (outcome_of w (Wait p number)).world

@@ -1,6 +1,6 @@
 -- What the loops over the links of a site keep.
-use Rattle.std.proofs.Common.{◌≡◌, ◌∙◌, ◌<◌, ◌≤◌, ℕ, zero, suc, List, [], ◌∷◌, ◌++◌, length, take, Bool, true, false, ap, sym, refl, arith}
-use Rattle.std.specs.Prelude.{◌||◌, Some, slice_get, slice_index_or, slice_set}
+use Rattle.std.proofs.Common.{◌≡◌, ◌∙◌, ◌≤◌, ℕ, zero, suc, List, [], ◌∷◌, ◌++◌, length, take, Bool, true, false, ap, sym, refl, arith}
+use Rattle.std.specs.Prelude.{◌||◌, Some, slice_get, slice_set}
 use Rattle.std.specs.List.{list_any}
 use Rattle.vx_model.specs.declared.state.KeptLink.{KeptLink}
 use Rattle.vx_order.specs.declared.facts.LinkFacts.{LinkFacts}
@@ -8,11 +8,6 @@ use Rattle.vx_events.proofs.Places.{some_same}
 use Rattle.vx_effects.specs.Facts.{grown_link, grown_links}
 use Rattle.vx_effects.specs.Restarts.{fact_again, facts_again}
 use Rattle.vx_linked.specs.Holds.{grown_below}
-
-pub got : {A : Type 0} (xs : List A) (k : ℕ) (d : A) → k < length xs → slice_get xs k ≡ Some (slice_index_or xs k d)
-got [] k d h = absurd (omega (arith, h))
-got (x ∷ xs) zero d h = refl
-got (x ∷ xs) (suc k) d h = got xs k d (omega (arith, h))
 
 pub none_any : {A : Type 0} (p : A → Bool) (xs : List A) (k : ℕ) (x : A) → list_any p xs ≡ false → slice_get xs k ≡ Some x → p x ≡ false
 none_any p [] k x none is = absurd (cc)
@@ -26,11 +21,6 @@ none_any p (y ∷ ys) (suc k) x none is = none_any p ys k x (second (p y) (list_
     second : (a b : Bool) → (a || b) ≡ false → b ≡ false
     second true b e = absurd (cc)
     second false b e = e
-
-pub set_length : {A : Type 0} (xs : List A) (k : ℕ) (x : A) → length (slice_set xs k x) ≡ length xs
-set_length [] k x = refl
-set_length (y ∷ xs) zero x = refl
-set_length (y ∷ xs) (suc k) x = ap suc (set_length xs k x)
 
 -- ---- links that come back
 

@@ -16,6 +16,7 @@ use Rattle.vx_model.specs.declared.site.Mark.TheVariants.{Consistent}
 use Rattle.vx_model.specs.declared.site.SiteState.{SiteState}
 use Rattle.vx_model.specs.declared.state.KeptLink.{KeptLink}
 use Rattle.vx_model.specs.declared.site.SiteState.TheVariants.{Up}
+use Rattle.vx_model.proofs.Lists.{got}
 use Rattle.vx_history.proofs.Places.{links_listed}
 use Rattle.vx_history.proofs.Updates.{and_left, and_right}
 use Rattle.vx_history.specs.Admission.{is_holding}
@@ -50,7 +51,6 @@ use Rattle.vx_effects.specs.LinkParts.{further_fact, joined_fact}
 use Rattle.vx_linked.specs.Making.{fresh_link, kept_each, opened_link}
 use Rattle.vx_linked.specs.Tables.{HasLinksOf, fact_between, leads_to, link_leading}
 use Rattle.vx_linked.proofs.Heard.{among_found, site_apart}
-use Rattle.vx_linked.proofs.Loops.{got}
 
 -- ---- the facts behind an event that changes one site
 

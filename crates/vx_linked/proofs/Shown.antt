@@ -1,10 +1,11 @@
 -- What the tests of a line see of a world, as one of its links changes.
-use Rattle.std.proofs.Common.{◌≡◌, ◌∙◌, ◌+◌, ◌<◌, ℕ, zero, suc, Bool, true, false, List, [], ◌∷◌, length, get_or, ap, sym, subst, refl, arith}
+use Rattle.std.proofs.Common.{◌≡◌, ◌∙◌, ◌+◌, ◌<◌, ℕ, zero, suc, Bool, true, false, List, [], ◌∷◌, length, ap, sym, subst, refl, arith}
 use Rattle.std.specs.Prelude.{Option, Some, None, IsSome, is_some, cond, nat_lt, slice_get, slice_set, unwrap_or}
 use Rattle.std.specs.List.{find, position, position_or_len}
 use Rattle.std.specs.Str.{bytes_eq}
 use Rattle.std.proofs.lemmas.List.Folds.{find_at}
 use Rattle.std.proofs.lemmas.Option.{slice_get_within}
+pub use Rattle.vx_model.proofs.Lists.{get_at}
 use Rattle.vx_history.specs.Events.{linked_sites}
 use Rattle.vx_history.specs.Sends.{with_link}
 use Rattle.vx_history.specs.World.{Node, Link, World, updated}
@@ -143,12 +144,6 @@ module _ (w : World) (from to : List ℕ) (f : FoundLink (facts_over w) from to)
         ∙ ap (λ (site : SiteFacts). relinked (facts_over w) a site f.place x) site_there
         ∙ ap (λ (k : ℕ). relinked (facts_over w) a (linked_fact w a) k x) place_is
         ∙ sym (facts_with_link w a b l apart_there up same)
-
--- an element that an index gave
-pub get_at : {A : Type 0} (xs : List A) (i : ℕ) (x : A) → i < length xs → x ≡ get_or xs i x → slice_get xs i ≡ Some x
-get_at [] i x h e = absurd (omega arith)
-get_at (y ∷ xs) zero x h e = ap (λ z. Some z) (sym e)
-get_at (y ∷ xs) (suc i) x h e = get_at xs i x (omega arith) e
 
 -- ---- a link between the sites of two numbers
 

@@ -1,7 +1,7 @@
 -- The maps of plexes that fell out of use in a call, as they begin.
-use Rattle.std.proofs.Common.{[], ◌≡◌, ◌∙◌, ◌⊎◌, inl, inr, ℕ, ◌+◌, ◌/◌, ◌<◌, ◌≤◌, Bool, true, false, Option, Some, None, List, IsTrue, length, replicate, set, get_or-set_same, get_or-set_other, length-set, refl, sym, ap, subst, arith}
+use Rattle.std.proofs.Common.{[], ◌≡◌, ◌∙◌, ◌⊎◌, inl, inr, ℕ, ◌+◌, ◌/◌, ◌<◌, ◌≤◌, Bool, true, false, Option, Some, None, List, IsTrue, length, replicate, set, get_or-set_same, get_or-set_other, length-set, refl, sym, ap, subst, arith, is_some}
 use Rattle.std.specs.Prelude.{◌&&◌, ◌||◌, ◌*◌, ◌%◌, not, slice_index}
-use Rattle.std.proofs.lemmas.Bool.{cases_eq, cases_lt, eqb-true}
+use Rattle.std.proofs.lemmas.Bool.{cases_eq, cases_lt, eqb-true, not-false}
 use Rattle.std.proofs.lemmas.List.{get_or-replicate, get_or_past, length-replicate}
 use Rattle.vx_bitmap.specs.Bits.{is_among, is_marked}
 use Rattle.vx_config.specs.Checks.{blocks_of as blocks_in, is_sound}
@@ -14,7 +14,7 @@ use Rattle.vx_group.specs.Holding.{wide}
 use Rattle.vx_group.specs.declared.group_core.GroupCore.{GroupCore}
 use Rattle.vx_group.proofs.DetachLemmas.{zero_bit}
 use Rattle.vx_grouplogs.specs.Covering.{OnLogs}
-use Rattle.vx_grouplogs.specs.Gone.{LogsDrop, is_there}
+use Rattle.vx_grouplogs.specs.Gone.{LogsDrop}
 use Rattle.vx_grouplogs.specs.On.{ReadsOne, VolumeOn}
 use Rattle.vx_grouplogs.proofs.GoneLemmas.{drops_of}
 use Rattle.vx_grouplogs.proofs.KnowActs.{know_logs, logs_off_plex}
@@ -90,10 +90,6 @@ or_swap true b is = absurd (let clash : true ≡ false = is in cc)
 or_swap false true is = absurd (let clash : true ≡ false = is in cc)
 or_swap false false is = refl
 
-not_clear : (a : Bool) → not a ≡ false → a ≡ true
-not_clear true is = refl
-not_clear false is = absurd (let clash : true ≡ false = is in cc)
-
 -- whatever regions are missed, plexes that read alike out of them go on to do so
 pub plexes_each : (c d : GroupCore) (v : ℕ) (m m' : Meaning) → EachOn c d m m' → (missed : ℕ → ℕ → Bool) → (IsTrue m'.down → ⊥) → PlexesKnow (wide c).config v missed m.reads → PlexesKnow (wide d).config v missed m'.reads
 plexes_each c d v m m' each missed up know = record {
@@ -119,7 +115,7 @@ plexes_logs c sound v m m' goes missed up know =
 
 pub plexes_one : (c : Config) (v : ℕ) (m : Meaning) → ReadsOne c v m → PlexesKnow c v (λ p r. not (active c v p)) m.reads
 plexes_one c v m one = record {
-  so = λ p q b x y has on inside clear at_p at_q. one.one b x y (record { inside = inside; plex = p; is_on = not_clear (active c v p) clear; value = at_p }) (record { inside = inside; plex = q; is_on = on; value = at_q });
+  so = λ p q b x y has on inside clear at_p at_q. one.one b x y (record { inside = inside; plex = p; is_on = not-false (active c v p) clear; value = at_p }) (record { inside = inside; plex = q; is_on = on; value = at_q });
 }
 
 -- out of a run, of these plexes
@@ -141,7 +137,7 @@ but_less c v first last these those m less reads = record {
 -- in each block, of fewer plexes
 pub whole_of : (c : Config) (v : ℕ) (these those : ℕ → Bool) (m : Meaning) → ((p : ℕ) → these p ≡ true → those p ≡ true) → ((IsTrue m.down → ⊥) → PlexesKnow c v (λ p r. not (those p)) m.reads) → ReadsWhole c v these m
 whole_of c v these those m less reads = record {
-  so = λ up. record { so = λ p q b x y has on inside clear at_p at_q. (reads up).so p q b x y has on inside (ap not (less p (not_clear (these p) clear))) at_p at_q };
+  so = λ up. record { so = λ p q b x y has on inside clear at_p at_q. (reads up).so p q b x y has on inside (ap not (less p (not-false (these p) clear))) at_p at_q };
 }
 
 -- ---- maps behind calls
@@ -280,7 +276,7 @@ module _ (c : Config) (sound : is_sound c ≡ true) (v : ℕ) (some : 0 < blocks
 
   pub plex_drops : k.drl ≡ l.drl → LogsDrop c v l k m m'
   plex_drops same = drops_of c v l k m m' fits
-      (λ d is none. absurd (let clash : Some d ≡ None = sym is ∙ sym same ∙ none in cc)) (λ has. sym (ap is_there same) ∙ has)
+      (λ d is none. absurd (let clash : Some d ≡ None = sym is ∙ sym same ∙ none in cc)) (λ has. sym (ap is_some same) ∙ has)
       (λ f is none. lost f l.fmr k.fmr is none ends) (there l.fmr k.fmr ends)
     where
       lost : (f : Missed) (o n : Option Missed) → o ≡ Some f → n ≡ None → EmptyEnds plex gone o n m m' → Rose (m.faults f.map.unit) (m'.faults f.map.unit) ⊎ IsTrue m'.down
@@ -288,7 +284,7 @@ module _ (c : Config) (sound : is_sound c ≡ true) (v : ℕ) (some : 0 < blocks
       lost f (Some e) None is none ends = let same : e ≡ f = cc in inl (subst (λ (x : Missed). Rose (m.faults x.map.unit) (m'.faults x.map.unit)) same ends.1)
       lost f (Some e) (Some g) is none ends = absurd cc
 
-      there : (o n : Option Missed) → EmptyEnds plex gone o n m m' → is_there n ≡ true → is_there o ≡ true
+      there : (o n : Option Missed) → EmptyEnds plex gone o n m m' → is_some n ≡ true → is_some o ≡ true
       there None None ends has = has
       there None (Some g) ends has = absurd ends
       there (Some f) n ends has = refl

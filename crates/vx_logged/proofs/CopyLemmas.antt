@@ -1,5 +1,5 @@
 -- The map of a plex that becomes that of another one: what it knows then.
-use Rattle.std.proofs.Common.{◌≡◌, ◌∙◌, ◌⊎◌, inl, inr, ℕ, ◌/◌, ◌<◌, Bool, true, false, Option, Some, None, List, IsTrue, refl, sym, ap, subst, arith}
+use Rattle.std.proofs.Common.{◌≡◌, ◌∙◌, ◌⊎◌, inl, inr, ℕ, ◌/◌, ◌<◌, Bool, true, false, Option, Some, None, List, IsTrue, refl, sym, ap, subst, arith, is_some}
 use Rattle.std.specs.Prelude.{◌||◌, not}
 use Rattle.std.proofs.lemmas.Bool.{cases_eq, eq-eqb}
 use Rattle.vx_config.specs.Checks.{blocks_of as blocks_in, is_sound}
@@ -9,7 +9,7 @@ use Rattle.vx_disk.specs.Shelf.{Goes, Meaning}
 use Rattle.vx_fmr.specs.Missed.{Missed, has_missed}
 use Rattle.vx_group.specs.Holding.{GroupStands, wide}
 use Rattle.vx_group.specs.declared.group_core.GroupCore.{GroupCore}
-use Rattle.vx_grouplogs.specs.Gone.{LogsDrop, is_there}
+use Rattle.vx_grouplogs.specs.Gone.{LogsDrop}
 use Rattle.vx_grouplogs.proofs.GoneLemmas.{drops_of}
 use Rattle.vx_grouplogs.proofs.KnowActs.{know_logs, logs_off_plex}
 use Rattle.vx_grouplogs.proofs.MapLemmas.{goes_logs, maps_logs}
@@ -95,7 +95,7 @@ module _ (c : Config) (sound : is_sound c ≡ true) (v : ℕ) (some : 0 < blocks
 
   pub copied_drops : k.drl ≡ l.drl → LogsDrop c v l k m m'
   copied_drops same = drops_of c v l k m m' fits
-      (λ d is none. absurd (let clash : Some d ≡ None = sym is ∙ sym same ∙ none in cc)) (λ has. sym (ap is_there same) ∙ has)
+      (λ d is none. absurd (let clash : Some d ≡ None = sym is ∙ sym same ∙ none in cc)) (λ has. sym (ap is_some same) ∙ has)
       (λ f is none. lost f l.fmr k.fmr is none ends) (there l.fmr k.fmr ends)
     where
       lost : (f : Missed) (o n : Option Missed) → o ≡ Some f → n ≡ None → CopyEnds to from gone o n m m' → Rose (m.faults f.map.unit) (m'.faults f.map.unit) ⊎ IsTrue m'.down
@@ -103,7 +103,7 @@ module _ (c : Config) (sound : is_sound c ≡ true) (v : ℕ) (some : 0 < blocks
       lost f (Some e) None is none ends = let same : e ≡ f = cc in inl (subst (λ (x : Missed). Rose (m.faults x.map.unit) (m'.faults x.map.unit)) same ends.1)
       lost f (Some e) (Some g) is none ends = absurd cc
 
-      there : (o n : Option Missed) → CopyEnds to from gone o n m m' → is_there n ≡ true → is_there o ≡ true
+      there : (o n : Option Missed) → CopyEnds to from gone o n m m' → is_some n ≡ true → is_some o ≡ true
       there None None ends has = has
       there None (Some g) ends has = absurd ends
       there (Some f) n ends has = refl

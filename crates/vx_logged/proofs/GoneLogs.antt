@@ -1,6 +1,5 @@
 -- Logs that calls of a group take out of memory, and those that they come to hold as lost.
-use Rattle.std.proofs.Common.{◌≡◌, ◌∙◌, inl, inr, ℕ, ◌+◌, ◌<◌, ◌≤◌, Bool, true, false, Option, Some, None, refl, sym, ap, subst}
-use Rattle.std.specs.Prelude.{is_some}
+use Rattle.std.proofs.Common.{◌≡◌, ◌∙◌, inl, inr, ℕ, ◌+◌, ◌<◌, ◌≤◌, Bool, true, false, None, refl, sym, ap, subst}
 use Rattle.std.proofs.lemmas.Bool.{cases_lt}
 use Rattle.vx_config.specs.Table.{greatest}
 use Rattle.vx_config.specs.declared.config.Config.{Config}
@@ -12,7 +11,7 @@ use Rattle.vx_group.specs.Loses.{TrustsBut, TrustsStill}
 use Rattle.vx_group.specs.declared.group_core.GroupCore.{GroupCore}
 use Rattle.vx_group.specs.declared.inner.Inner.{Inner}
 use Rattle.vx_group.proofs.HoldLemmas.{wide_none}
-use Rattle.vx_grouplogs.specs.Gone.{LogsDrop, has_log, is_there}
+use Rattle.vx_grouplogs.specs.Gone.{LogsDrop, has_log}
 use Rattle.vx_grouplogs.proofs.GoneLemmas.{drop_same}
 use Rattle.vx_kept.specs.LogRuns.{log_place}
 use Rattle.vx_logs.specs.declared.logs.Logs.{Logs}
@@ -37,10 +36,6 @@ trusts_then v k c d e one two = record { each = λ w log mem is. two.each w log 
 -- fewer logs are in memory
 pub trusts_less : (v : ℕ) (l k : Logs) (c d : Config) → ((log : VolumeLog) → has_log log k ≡ true → has_log log l ≡ true) → TrustsIn v l c d → TrustsIn v k c d
 trusts_less v l k c d none trusts = record { each = λ w log mem is. trusts.each w log (λ same. none log (mem same)) is }
-
-pub there_some : {A : Type 0} (o : Option A) → is_some o ≡ is_there o
-there_some None = refl
-there_some (Some x) = refl
 
 -- a call that may hold one log as lost, where it is not in memory
 pub trusts_but : (v : ℕ) (this : VolumeLog) (k : Logs) (c d : Config) (has : Bool) → has ≡ has_log this k → TrustsBut v this c d → (has ≡ true → TrustsStill c d) → TrustsIn v k c d

@@ -1,6 +1,7 @@
 -- What the maps of missed regions know of a volume of a group beside marks, and behind a write.
-use Rattle.std.proofs.Common.{◌≡◌, ◌∙◌, ◌⊎◌, inl, inr, ℕ, ◌+◌, ◌/◌, ◌≤◌, Bool, true, false, Some, None, List, IsTrue, length, refl, sym, ap, subst, arith}
-use Rattle.std.specs.Prelude.{◌&&◌, ◌||◌, ◌-◌, not}
+use Rattle.std.proofs.Common.{◌≡◌, ◌∙◌, ◌⊎◌, inl, inr, ℕ, ◌/◌, Bool, true, false, Some, None, List, IsTrue, length, refl, sym, ap, subst, arith}
+use Rattle.std.proofs.lemmas.Bool.{not-false, or_parts}
+use Rattle.std.specs.Prelude.{◌&&◌, ◌||◌, not}
 use Rattle.vx_bitmap.specs.Bits.{is_among}
 use Rattle.vx_config.specs.declared.config.Config.{Config}
 use Rattle.vx_disk.specs.Shelf.{Covers, Fits, Meaning, Written, Wrote}
@@ -13,6 +14,7 @@ use Rattle.vx_group.proofs.HoldLemmas.{wide_none}
 use Rattle.vx_group.proofs.Standing.{sound_of}
 use Rattle.vx_groupmaps.specs.Knowing.{MapsKnowBy, PlexesKnow, or_off, or_stale}
 use Rattle.vx_groupmaps.specs.Missing.{none_spared, or_run}
+use Rattle.vx_groupmaps.proofs.BetweenLemmas.{out_of_run}
 use Rattle.vx_groupmaps.proofs.KnowLemmas.{know_less, read_old}
 use Rattle.vx_groupmaps.proofs.MapPlaces.{stale_off}
 use Rattle.vx_grouplogs.proofs.FreshLemmas.{fresh_active}
@@ -24,7 +26,6 @@ use Rattle.vx_layout.specs.Places.{HasBlock, place}
 use Rattle.vx_logs.specs.Held.{stale}
 use Rattle.vx_logs.specs.Writes.{first_region, last_region}
 use Rattle.vx_logs.specs.declared.logs.Logs.{Logs}
-use Rattle.vx_logs.proofs.NoteLemmas.{among_is}
 use Rattle.vx_volume.specs.Plexes.{InRun, Inside, active}
 use Rattle.vx_volume.specs.Volumes.{OnPlexes}
 use Rattle.vx_volume.proofs.PlaceLemmas.{has_of}
@@ -85,24 +86,9 @@ know_run core v first last l m know = know_less (wide core).config v none_spared
 
 -- ---- a write
 
-out_of : (block n b : ℕ) → is_among (first_region block) (last_region block n) (b / 64) ≡ false → InRun block n b → ⊥
-out_of block n b out run =
-    let low : block / 64 ≤ b / 64 = omega (arith, run.first) in
-    let high : b / 64 ≤ (block + n - 1) / 64 = omega (arith, run.last) in
-    let clash : true ≡ false = sym (among_is (first_region block) (last_region block n) (b / 64) low high) ∙ out in
-    cc
-
 and_false : (a b : Bool) → (a && b) ≡ false → (a ≡ false) ⊎ (b ≡ false)
 and_false true b is = inr is
 and_false false b is = inl refl
-
-split_or : (a b : Bool) → a || b ≡ false → (a ≡ false) × (b ≡ false)
-split_or true b is = absurd (let clash : true ≡ false = is in cc)
-split_or false b is = (refl, is)
-
-not_off : (b : Bool) → not b ≡ false → b ≡ true
-not_off true is = refl
-not_off false is = absurd (let clash : true ≡ false = is in cc)
 
 module _ (c d : GroupCore) (v block : ℕ) (bytes : List ℕ) (m m' : Meaning) (stands : GroupStands c m) (fits : Fits (inner_meaning (wide c) m) v block (length bytes))
     (acts : PlexActs (OnPlexes (wide c).config v block (length bytes / 512) bytes) (wide c).config (wide d).config m m') where
@@ -118,9 +104,9 @@ module _ (c d : GroupCore) (v block : ℕ) (bytes : List ℕ) (m m' : Meaning) (
   pub plexes_wrote : (missed : ℕ → ℕ → Bool) → (IsTrue m'.down → ⊥) → PlexesKnow (wide c).config v missed m.reads → PlexesKnow (wide d).config v (or_run (first_region block) (last_region block (length bytes / 512)) missed) m'.reads
   plexes_wrote missed up know = record {
     so = λ p q b x y has on inside clear at_p at_q.
-        let free = split_or (is_among (first_region block) (last_region block (length bytes / 512)) (b / 64)) (missed p (b / 64)) clear in
+        let free = or_parts (is_among (first_region block) (last_region block (length bytes / 512)) (b / 64)) (missed p (b / 64)) clear in
         know.so p q b x y (has_back (wide c).config (wide d).config v (acts.shape.frames v) (acts.shape.blocks v) p b has) (acts.on v q on) (inside_same (wide d).config (wide c).config acts.shape v b inside) free.1
-        (old_read up p b x has (out_of block (length bytes / 512) b free.0) at_p) (old_read up q b y (has_of (wide d).config v q b on inside) (out_of block (length bytes / 512) b free.0) at_q);
+        (old_read up p b x has (out_of_run block (length bytes / 512) b free.0) at_p) (old_read up q b y (has_of (wide d).config v q b on inside) (out_of_run block (length bytes / 512) b free.0) at_q);
   }
 
 module _ (c d : GroupCore) (v block : ℕ) (bytes : List ℕ) (m m' : Meaning) (stands : GroupStands c m) (fits : Fits (inner_meaning (wide c) m) v block (length bytes))
@@ -140,9 +126,9 @@ module _ (c d : GroupCore) (v block : ℕ) (bytes : List ℕ) (m m' : Meaning) (
   know_refused = record {
     so = λ f is up. record {
       so = λ p q b x y has on inside clear at_p at_q.
-          let one = split_or (is_among (first_region block) (last_region block n) (b / 64) || false) (has_missed f p (b / 64)) clear in
-          let two = split_or (is_among (first_region block) (last_region block n) (b / 64)) false one.0 in
-          know_out f is up p q b x y has on inside one.1 (out_of block n b two.0) at_p at_q;
+          let one = or_parts (is_among (first_region block) (last_region block n) (b / 64) || false) (has_missed f p (b / 64)) clear in
+          let two = or_parts (is_among (first_region block) (last_region block n) (b / 64)) false one.0 in
+          know_out f is up p q b x y has on inside one.1 (out_of_run block n b two.0) at_p at_q;
     };
   }
 
@@ -151,11 +137,11 @@ module _ (c d : GroupCore) (v block : ℕ) (bytes : List ℕ) (m m' : Meaning) (
   know_wrote wrote = record {
     so = λ f is up. record {
       so = λ p q b x y has on inside clear at_p at_q.
-          let one = split_or ((not (active (wide d).config v p) && is_among (first_region block) (last_region block n) (b / 64)) || false) (has_missed f p (b / 64)) clear in
-          let two = split_or (not (active (wide d).config v p) && is_among (first_region block) (last_region block n) (b / 64)) false one.0 in
+          let one = or_parts ((not (active (wide d).config v p) && is_among (first_region block) (last_region block n) (b / 64)) || false) (has_missed f p (b / 64)) clear in
+          let two = or_parts (not (active (wide d).config v p) && is_among (first_region block) (last_region block n) (b / 64)) false one.0 in
           elim (and_false (not (active (wide d).config v p)) (is_among (first_region block) (last_region block n) (b / 64)) two.0) [
-            | inl off ↦ both f is up p q b x y has (not_off (active (wide d).config v p) off) on inside one.1 at_p at_q
-            | inr out ↦ know_out f is up p q b x y has on inside one.1 (out_of block n b out) at_p at_q
+            | inl off ↦ both f is up p q b x y has (not-false (active (wide d).config v p) off) on inside one.1 at_p at_q
+            | inr out ↦ know_out f is up p q b x y has on inside one.1 (out_of_run block n b out) at_p at_q
           ];
     };
   }

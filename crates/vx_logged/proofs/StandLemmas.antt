@@ -1,9 +1,9 @@
 -- The logs of a group beside its calls, and the group beside calls on a log.
-use Rattle.std.proofs.Common.{◌≡◌, ◌∙◌, inl, inr, ⊎_elim, ℕ, ◌/◌, Bool, true, false, IsTrue, Option, Some, None, List, length, refl, sym, ap, subst, arith}
+use Rattle.std.proofs.Common.{◌≡◌, ◌∙◌, inl, inr, ⊎_elim, ℕ, ◌/◌, Bool, true, IsTrue, Option, Some, None, List, length, refl, sym, ap, subst, arith}
 use Rattle.vx_config.specs.Checks.{blocks_of, is_sound}
 use Rattle.vx_config.specs.declared.config.Config.{Config}
 use Rattle.vx_model.specs.declared.site.PlexState.TheVariants.{Stale}
-use Rattle.std.specs.Prelude.{IfErr, IfOk, Result, Ok, Err, not}
+use Rattle.std.specs.Prelude.{IfErr, IfOk, Result, Ok, Err}
 use Rattle.vx_disk.specs.Causes.{Cause}
 use Rattle.vx_disk.specs.declared.shelf.ShelfError.{ShelfError}
 use Rattle.vx_disk.specs.declared.shelf.ShelfError.TheVariants.{Fault, Down}
@@ -240,14 +240,6 @@ fits_later c d v block n m m' goes fits = record {
 }
 
 -- ---- an answer that is turned
-
-pub not_false : (b : Bool) → not b ≡ false → b ≡ true
-not_false true is = refl
-not_false false is = absurd (let clash : true ≡ false = is in cc)
-
-pub not_true : (b : Bool) → not b ≡ true → b ≡ false
-not_true true is = absurd (let clash : false ≡ true = is in cc)
-not_true false is = refl
 
 -- ---- the regions that a log has
 

@@ -1,5 +1,6 @@
 -- What stands in the logs of a volume before its plexes are written.
 use Rattle.std.specs.Prelude.{◌⊎◌, ◌+◌, ◌≤◌, ℕ, Bool, false, true, List, Result, Ok, Err}
+use Rattle.vx_model.specs.declared.limits.TheConstants.{COMMIT_SERIALS}
 use Rattle.vx_config.specs.Table.{greatest}
 use Rattle.vx_disk.specs.Shelf.{Goes, Meaning, Nothing, Written}
 use Rattle.vx_group.specs.Holding.{GroupStands, wide}
@@ -12,7 +13,7 @@ use Rattle.vx_logged.specs.Logged.{LogKept, MapKept, MayWrite, are_off}
 
 -- the log of missed regions is in memory, or held as lost, unless no serial is left to say so
 abbrev pub MapSaid : GroupCore → ℕ → Logs → Type 0
-MapSaid core v l = MapKept core v l ⊎ (greatest ≤ core.inner.config.serial + 9)
+MapSaid core v l = MapKept core v l ⊎ (greatest ≤ core.inner.config.serial + COMMIT_SERIALS)
 
 -- each log of the volume is in memory, or held as lost
 pub record BothKept (core : GroupCore) (v : ℕ) (l : Logs) : Type 0 where
@@ -21,7 +22,7 @@ pub record BothKept (core : GroupCore) (v : ℕ) (l : Logs) : Type 0 where
 
 -- a log of the volume that is in memory no more is held as lost, unless no serial is left to say so
 pub record AreKept (core : GroupCore) (v : ℕ) (l : Logs) : Type 0 where
-  pub so : (LogKept core v l × MapSaid core v l) ⊎ (greatest ≤ core.inner.config.serial + 9)
+  pub so : (LogKept core v l × MapSaid core v l) ⊎ (greatest ≤ core.inner.config.serial + COMMIT_SERIALS)
 
 -- The regions of a run are durably in both logs of a volume, whatever a crash leaves, as dirty, and as missed by each plex that is STALE in c; or the
 -- log is held as lost by what is committed.

@@ -1,5 +1,6 @@
 -- The dirty region log of a volume of a group, between its calls.
 use Rattle.std.specs.Prelude.{◌≡◌, ◌⊎◌, ◌+◌, ◌≤◌, ℕ, Bool, true, not, IsTrue, None}
+use Rattle.vx_model.specs.declared.limits.TheConstants.{COMMIT_SERIALS}
 use Rattle.vx_config.specs.Table.{greatest}
 use Rattle.vx_config.specs.declared.config.Config.{Config}
 use Rattle.vx_config.specs.declared.entry.VolumeLog.{VolumeLog}
@@ -54,7 +55,7 @@ pub record TrustsIn (v : ℕ) (k : Logs) (c d : Config) : Type 0 where
 
 -- of a log that is in memory no more the count of its disk rose, unless no serial is left in d to commit that it is lost
 pub record DropsBut (c d : GroupCore) (v : ℕ) (l k : Logs) (old new : Meaning) : Type 0 where
-  pub so : LogsDrop (wide c).config v l k old new ⊎ (greatest ≤ d.inner.config.serial + 9)
+  pub so : LogsDrop (wide c).config v l k old new ⊎ (greatest ≤ d.inner.config.serial + COMMIT_SERIALS)
   pub none : (log : VolumeLog) → has_log log k ≡ true → has_log log l ≡ true
 
 -- the plexes of volume v that are not ACTIVE

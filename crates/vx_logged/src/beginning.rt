@@ -32,7 +32,7 @@ use vx_disk::{Shelf, ShelfError};
 use vx_group::GroupCore;
 use vx_groupmaps::begin_map;
 use vx_logs::Logs;
-use vx_model::limits::MOST_PLEXES;
+use vx_model::limits::{COMMIT_SERIALS, MOST_PLEXES};
 use vx_volume::is_active;
 
 /// Which plexes of a volume are ACTIVE.
@@ -156,7 +156,7 @@ pub fn mark_fallen<S: Shelf>(
     ensures free { IfOk result (λ done. done ≡ true → core.new.held ≡ None) }
     ensures holds { IfOk result (λ done. done ≡ true → HoldsRun core.new.inner.config vol (first_region block) (last_region block count) logs.new) }
     ensures may { IfOk result (λ done. done ≡ true → MayWrite core.new vol (first_region block) (last_region block count) logs.new) }
-    ensures spent { IfOk result (λ done. done ≡ false → greatest ≤ core.new.inner.config.serial + 9) }
+    ensures spent { IfOk result (λ done. done ≡ false → greatest ≤ core.new.inner.config.serial + COMMIT_SERIALS) }
     ensures drops { LogsDrop (wide core.old).config vol logs.old logs.new (S.meaning shelf.old) (S.meaning shelf.new) }
     ensures trusts { TrustsIn vol logs.new core.old.inner.config core.new.inner.config }
     ensures trust { OnOk result (core.old.inner.committed ≡ true → core.new.inner.committed ≡ true) }
@@ -204,7 +204,7 @@ pub fn keep_fallen<S: Shelf>(
     ensures left { core.old.held ≡ None → IfErr result (λ e. IsTrue (S.meaning shelf.new).down ⊎ MapsOff (fell_now was.now core.new vol) logs.new) }
     ensures kept { MapKept core.old vol logs.old → IfOk result (λ done. done ≡ true → MapKept core.new vol logs.new) }
     ensures said { 0 < blocks_of_is (wide core.old).config.volumes vol → IfOk result (λ done. done ≡ true → MapKept core.new vol logs.new) }
-    ensures spent { IfOk result (λ done. done ≡ false → greatest ≤ core.new.inner.config.serial + 9) }
+    ensures spent { IfOk result (λ done. done ≡ false → greatest ≤ core.new.inner.config.serial + COMMIT_SERIALS) }
     ensures drops { LogsDrop (wide core.old).config vol logs.old logs.new (S.meaning shelf.old) (S.meaning shelf.new) }
     ensures trusts { TrustsIn vol logs.new core.old.inner.config core.new.inner.config }
     ensures trust { OnOk result (core.old.inner.committed ≡ true → core.new.inner.committed ≡ true) }

@@ -24,6 +24,7 @@ use vx_disk::{Shelf, ShelfError};
 use vx_group::GroupCore;
 use vx_grouplogs::clear_run;
 use vx_logs::Logs;
+use vx_model::limits::COMMIT_SERIALS;
 
 /// Takes all marks off the log of a volume where more than 64 regions were marked since, and answers whether the log may be gone by further.
 /// The caller says that of each block of the volume a crash leaves one value. A log of which the disk fails is committed as lost,
@@ -50,8 +51,8 @@ pub fn clear_group<S: Shelf>(
     ensures still { (w p : ℕ) → active core.new.inner.config w p ≡ active core.old.inner.config w p }
     ensures below { SameUnits (S.meaning shelf.old) (S.meaning shelf.new) }
     ensures off { IfOk result (λ done. done ≡ true → HoldsMany logs.old.drl → NoMarks (regions_in (blocks_of_is (wide core.old).config.volumes vol)) logs.new) }
-    ensures full { IfOk result (λ done. done ≡ false → greatest ≤ core.old.inner.config.serial + 18) }
-    ensures spent { IfOk result (λ done. done ≡ false → greatest ≤ core.new.inner.config.serial + 9) }
+    ensures full { IfOk result (λ done. done ≡ false → greatest ≤ core.old.inner.config.serial + 2 * COMMIT_SERIALS) }
+    ensures spent { IfOk result (λ done. done ≡ false → greatest ≤ core.new.inner.config.serial + COMMIT_SERIALS) }
     ensures same { OnOk result (logs.new.fmr ≡ logs.old.fmr) }
     ensures kept { LogKept core.old vol logs.old → IfOk result (λ done. done ≡ true → LogKept core.new vol logs.new) }
     ensures said { 0 < blocks_of_is (wide core.old).config.volumes vol → IfOk result (λ done. done ≡ true → LogKept core.new vol logs.new) }

@@ -21,6 +21,7 @@ use crate::clearing::clear_group;
 use vx_disk::{Shelf, ShelfError};
 use vx_group::{GroupCore, flush_group};
 use vx_logs::Logs;
+use vx_model::limits::COMMIT_SERIALS;
 
 /// Makes a volume durable, and takes the marks off its log where more than 64 regions were marked since. So it is only where logs are not
 /// stopped, and where the caller is sure that each block of the volume reads as one value on all plexes that are ACTIVE: else it is a flush
@@ -48,7 +49,7 @@ pub fn flush_cleared<S: Shelf>(
     ensures maps { Known core.old vol logs.old (S.meaning shelf.old) → Known core.new vol logs.new (S.meaning shelf.new) }
     ensures narrow { Narrowed core.old core.new }
     ensures notes { MapsBut (fell_in core.old core.new vol) none_missing 0 0 logs.old logs.new }
-    ensures begins { sure ≡ true → OnOk result (MapsOff (fell_in core.old core.new vol) logs.new ⊎ (greatest ≤ core.new.inner.config.serial + 9)) }
+    ensures begins { sure ≡ true → OnOk result (MapsOff (fell_in core.old core.new vol) logs.new ⊎ (greatest ≤ core.new.inner.config.serial + COMMIT_SERIALS)) }
     ensures left { sure ≡ true → IfErr result (λ e. IsTrue (S.meaning shelf.new).down ⊎ MapsOff (fell_in core.old core.new vol) logs.new) }
     ensures kept { BothKept core.old vol logs.old → OnOk result (AreKept core.new vol logs.new) }
     ensures said { sure ≡ true → 0 < blocks_of_is (wide core.old).config.volumes vol → OnOk result (AreKept core.new vol logs.new) }

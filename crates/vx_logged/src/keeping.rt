@@ -18,7 +18,7 @@ use vx_disk::{Shelf, ShelfError};
 use vx_group::{GroupCore, lose_group};
 use vx_kept::is_trusted;
 use vx_logs::Logs;
-use vx_model::limits::MOST_NUMBER;
+use vx_model::limits::{COMMIT_SERIALS, MOST_NUMBER};
 
 // Commits that a log of a volume is lost, where it is in memory no more and not held as lost, and answers whether the log may be gone by further.
 fn keep_one<S: Shelf>(
@@ -38,9 +38,9 @@ fn keep_one<S: Shelf>(
     ensures below { SameUnits (S.meaning shelf.old) (S.meaning shelf.new) }
     ensures still { core.old.held ≡ None → (w p : ℕ) → active core.new.inner.config w p ≡ active core.old.inner.config w p }
     ensures kept { IfOk result (λ done. done ≡ true → log_trusted (wide core.new).config vol log ≡ true → has ≡ true) }
-    ensures full { IfOk result (λ done. done ≡ false → greatest ≤ core.old.inner.config.serial + 9) }
-    ensures spent { IfOk result (λ done. done ≡ false → greatest ≤ core.new.inner.config.serial + 9) }
-    ensures few { OnOk result (core.new.inner.config.serial ≤ core.old.inner.config.serial + 18) }
+    ensures full { IfOk result (λ done. done ≡ false → greatest ≤ core.old.inner.config.serial + COMMIT_SERIALS) }
+    ensures spent { IfOk result (λ done. done ≡ false → greatest ≤ core.new.inner.config.serial + COMMIT_SERIALS) }
+    ensures few { OnOk result (core.new.inner.config.serial ≤ core.old.inner.config.serial + 2 * COMMIT_SERIALS) }
     ensures trusts { TrustsBut vol log core.old.inner.config core.new.inner.config }
     ensures stays { has ≡ true → TrustsStill core.old.inner.config core.new.inner.config }
     ensures trust { OnOk result (core.old.inner.committed ≡ true → core.new.inner.committed ≡ true) }
@@ -57,7 +57,7 @@ fn keep_one<S: Shelf>(
     if !is_trusted(&core.inner.config, vol, log) {
         return Ok(true);
     }
-    if core.inner.config.serial >= MOST_NUMBER - 9 {
+    if core.inner.config.serial >= MOST_NUMBER - COMMIT_SERIALS {
         return Ok(false);
     }
     lose_group(shelf, core, vol, log)
@@ -81,8 +81,8 @@ pub fn keep_log<S: Shelf>(
     ensures below { SameUnits (S.meaning shelf.old) (S.meaning shelf.new) }
     ensures still { core.old.held ≡ None → (w p : ℕ) → active core.new.inner.config w p ≡ active core.old.inner.config w p }
     ensures kept { IfOk result (λ done. done ≡ true → LogKept core.new vol logs.now) }
-    ensures full { IfOk result (λ done. done ≡ false → greatest ≤ core.old.inner.config.serial + 9) }
-    ensures spent { IfOk result (λ done. done ≡ false → greatest ≤ core.new.inner.config.serial + 9) }
+    ensures full { IfOk result (λ done. done ≡ false → greatest ≤ core.old.inner.config.serial + COMMIT_SERIALS) }
+    ensures spent { IfOk result (λ done. done ≡ false → greatest ≤ core.new.inner.config.serial + COMMIT_SERIALS) }
     ensures trusts { TrustsIn vol logs.now core.old.inner.config core.new.inner.config }
     ensures trust { OnOk result (core.old.inner.committed ≡ true → core.new.inner.committed ≡ true) }
     ensures agreed { IfErr result (λ e. core.old.inner.committed ≡ true → core.new.inner.agreed ≡ true) }
@@ -109,8 +109,8 @@ pub fn keep_map<S: Shelf>(
     ensures below { SameUnits (S.meaning shelf.old) (S.meaning shelf.new) }
     ensures still { core.old.held ≡ None → (w p : ℕ) → active core.new.inner.config w p ≡ active core.old.inner.config w p }
     ensures kept { IfOk result (λ done. done ≡ true → MapKept core.new vol logs.now) }
-    ensures spent { IfOk result (λ done. done ≡ false → greatest ≤ core.new.inner.config.serial + 9) }
-    ensures few { OnOk result (core.new.inner.config.serial ≤ core.old.inner.config.serial + 18) }
+    ensures spent { IfOk result (λ done. done ≡ false → greatest ≤ core.new.inner.config.serial + COMMIT_SERIALS) }
+    ensures few { OnOk result (core.new.inner.config.serial ≤ core.old.inner.config.serial + 2 * COMMIT_SERIALS) }
     ensures trusts { TrustsIn vol logs.now core.old.inner.config core.new.inner.config }
     ensures trust { OnOk result (core.old.inner.committed ≡ true → core.new.inner.committed ≡ true) }
     ensures agreed { IfErr result (λ e. core.old.inner.committed ≡ true → core.new.inner.agreed ≡ true) }
@@ -138,8 +138,8 @@ pub fn keep_logs<S: Shelf>(
     ensures still { core.old.held ≡ None → (w p : ℕ) → active core.new.inner.config w p ≡ active core.old.inner.config w p }
     ensures kept { IfOk result (λ done. done ≡ true → LogKept core.new vol logs.now) }
     ensures said { IfOk result (λ done. done ≡ true → MapSaid core.new vol logs.now) }
-    ensures full { IfOk result (λ done. done ≡ false → greatest ≤ core.old.inner.config.serial + 9) }
-    ensures spent { IfOk result (λ done. done ≡ false → greatest ≤ core.new.inner.config.serial + 9) }
+    ensures full { IfOk result (λ done. done ≡ false → greatest ≤ core.old.inner.config.serial + COMMIT_SERIALS) }
+    ensures spent { IfOk result (λ done. done ≡ false → greatest ≤ core.new.inner.config.serial + COMMIT_SERIALS) }
     ensures trusts { TrustsIn vol logs.now core.old.inner.config core.new.inner.config }
     ensures trust { OnOk result (core.old.inner.committed ≡ true → core.new.inner.committed ≡ true) }
     ensures agreed { IfErr result (λ e. core.old.inner.committed ≡ true → core.new.inner.agreed ≡ true) }

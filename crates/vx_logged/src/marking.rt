@@ -25,6 +25,7 @@ use vx_disk::{Shelf, ShelfError};
 use vx_group::GroupCore;
 use vx_grouplogs::guard_run;
 use vx_logs::Logs;
+use vx_model::limits::COMMIT_SERIALS;
 
 /// Marks the regions of a run of blocks of a volume durably before a write, as dirty, and as missed by each plex that is not ACTIVE, and answers
 /// whether they may be written so. A log of which the disk fails is committed as lost. All volumes read as before; whatever is answered, each log stands, and no other region was marked. The
@@ -59,8 +60,8 @@ pub fn mark_group<S: Shelf>(
     ensures missed { IfOk result (λ done. done ≡ true → HoldMissed (wide core.old).config vol (first_region block) (last_region block count) logs.new) }
     ensures holds { IfOk result (λ done. done ≡ true → HoldsRun core.new.inner.config vol (first_region block) (last_region block count) logs.new) }
     ensures may { IfOk result (λ done. done ≡ true → MayWrite core.new vol (first_region block) (last_region block count) logs.new) }
-    ensures full { IfOk result (λ done. done ≡ false → greatest ≤ core.old.inner.config.serial + 18) }
-    ensures spent { IfOk result (λ done. done ≡ false → greatest ≤ core.new.inner.config.serial + 9) }
+    ensures full { IfOk result (λ done. done ≡ false → greatest ≤ core.old.inner.config.serial + 2 * COMMIT_SERIALS) }
+    ensures spent { IfOk result (λ done. done ≡ false → greatest ≤ core.new.inner.config.serial + COMMIT_SERIALS) }
     ensures drops { LogsDrop (wide core.old).config vol logs.old logs.new (S.meaning shelf.old) (S.meaning shelf.new) }
     ensures trusts { TrustsIn vol logs.new core.old.inner.config core.new.inner.config }
     ensures trust { OnOk result (core.old.inner.committed ≡ true → core.new.inner.committed ≡ true) }

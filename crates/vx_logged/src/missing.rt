@@ -27,7 +27,7 @@ use crate::marking::mark_group;
 use vx_disk::{Shelf, ShelfError};
 use vx_group::GroupCore;
 use vx_logs::Logs;
-use vx_model::limits::{MOST_NUMBER, MOST_PLEXES};
+use vx_model::limits::{COMMIT_SERIALS, MOST_NUMBER, MOST_PLEXES};
 
 // Whether a plex of a list is not ACTIVE.
 fn fell_any(core: &GroupCore, was: &[bool; MOST_PLEXES], vol: u32) -> bool
@@ -51,8 +51,8 @@ fn misses_any(
 ) -> bool
     ensures going { result ≡ true → going ≡ true }
     ensures some { result ≡ true → 0 < count }
-    ensures left { result ≡ true → core.now.inner.config.serial + 9 < greatest }
-    ensures none { result ≡ false → going ≡ true → 0 < count → NoneFell was.now core.now vol MOST_PLEXES ⊎ (greatest ≤ core.now.inner.config.serial + 9) }
+    ensures left { result ≡ true → core.now.inner.config.serial + COMMIT_SERIALS < greatest }
+    ensures none { result ≡ false → going ≡ true → 0 < count → NoneFell was.now core.now vol MOST_PLEXES ⊎ (greatest ≤ core.now.inner.config.serial + COMMIT_SERIALS) }
 {
     if !going {
         return false;
@@ -60,7 +60,7 @@ fn misses_any(
     if count == 0 {
         return false;
     }
-    if core.inner.config.serial >= MOST_NUMBER - 9 {
+    if core.inner.config.serial >= MOST_NUMBER - COMMIT_SERIALS {
         return false;
     }
     fell_any(core, was, vol)
@@ -93,10 +93,10 @@ fn miss_fallen<S: Shelf>(
     ensures narrow { Narrowed core.old core.new }
     ensures still { (w p : ℕ) → active core.new.inner.config w p ≡ active core.old.inner.config w p }
     ensures notes { MapsNote (are_off core.new vol) (first_region block) (last_region block count) logs.old logs.new }
-    ensures begins { MapsOff (fell_now was.now core.old vol) logs.old ⊎ (greatest ≤ core.old.inner.config.serial + 9) → OnOk result (MapsOfRun (fell_now was.now core.new vol) (first_region block) (last_region block count) logs.new ⊎ (greatest ≤ core.new.inner.config.serial + 9)) }
-    ensures left { MapsOff (fell_now was.now core.old vol) logs.old ⊎ (greatest ≤ core.old.inner.config.serial + 9) → IfErr result (λ e. MapsOfRun (fell_now was.now core.new vol) (first_region block) (last_region block count) logs.new) }
+    ensures begins { MapsOff (fell_now was.now core.old vol) logs.old ⊎ (greatest ≤ core.old.inner.config.serial + COMMIT_SERIALS) → OnOk result (MapsOfRun (fell_now was.now core.new vol) (first_region block) (last_region block count) logs.new ⊎ (greatest ≤ core.new.inner.config.serial + COMMIT_SERIALS)) }
+    ensures left { MapsOff (fell_now was.now core.old vol) logs.old ⊎ (greatest ≤ core.old.inner.config.serial + COMMIT_SERIALS) → IfErr result (λ e. MapsOfRun (fell_now was.now core.new vol) (first_region block) (last_region block count) logs.new) }
     ensures kept { AreKept core.old vol logs.old → OnOk result (AreKept core.new vol logs.new) }
-    ensures holds { going ≡ true → 0 < count → OnOk result (TheseHold (fell_now was.now core.new vol) (first_region block) (last_region block count) logs.new ⊎ (greatest ≤ core.new.inner.config.serial + 9)) }
+    ensures holds { going ≡ true → 0 < count → OnOk result (TheseHold (fell_now was.now core.new vol) (first_region block) (last_region block count) logs.new ⊎ (greatest ≤ core.new.inner.config.serial + COMMIT_SERIALS)) }
     ensures drops { LogsDrop (wide core.old).config vol logs.old logs.new (S.meaning shelf.old) (S.meaning shelf.new) }
     ensures trusts { TrustsIn vol logs.new core.old.inner.config core.new.inner.config }
     ensures trust { OnOk result (core.old.inner.committed ≡ true → core.new.inner.committed ≡ true) }
@@ -143,11 +143,11 @@ pub fn flush_behind<S: Shelf>(
     ensures maps { Known core.old vol logs.old (S.meaning shelf.old) → Known core.new vol logs.new (S.meaning shelf.new) }
     ensures narrow { Narrowed core.old core.new }
     ensures notes { MapsBut (fell_in core.old core.new vol) (are_off core.new vol) (first_region block) (last_region block count) logs.old logs.new }
-    ensures begins { sure ≡ true → OnOk result (MapsOfRun (fell_in core.old core.new vol) (first_region block) (last_region block count) logs.new ⊎ (greatest ≤ core.new.inner.config.serial + 9)) }
+    ensures begins { sure ≡ true → OnOk result (MapsOfRun (fell_in core.old core.new vol) (first_region block) (last_region block count) logs.new ⊎ (greatest ≤ core.new.inner.config.serial + COMMIT_SERIALS)) }
     ensures left { sure ≡ true → IfErr result (λ e. IsTrue (S.meaning shelf.new).down ⊎ MapsOfRun (fell_in core.old core.new vol) (first_region block) (last_region block count) logs.new) }
     ensures kept { BothKept core.old vol logs.old → OnOk result (AreKept core.new vol logs.new) }
     ensures said { sure ≡ true → 0 < blocks_of_is (wide core.old).config.volumes vol → OnOk result (AreKept core.new vol logs.new) }
-    ensures holds { going ≡ true → 0 < count → OnOk result (TheseHold (fell_in core.old core.new vol) (first_region block) (last_region block count) logs.new ⊎ (greatest ≤ core.new.inner.config.serial + 9)) }
+    ensures holds { going ≡ true → 0 < count → OnOk result (TheseHold (fell_in core.old core.new vol) (first_region block) (last_region block count) logs.new ⊎ (greatest ≤ core.new.inner.config.serial + COMMIT_SERIALS)) }
     ensures drops { LogsDrop (wide core.old).config vol logs.old logs.new (S.meaning shelf.old) (S.meaning shelf.new) }
     ensures trusts { TrustsIn vol logs.new core.old.inner.config core.new.inner.config }
     ensures trust { OnOk result (core.old.inner.committed ≡ true → core.new.inner.committed ≡ true) }

@@ -13,6 +13,7 @@ ghost use Rattle.vx_volume.specs.Plexes.{active};
 
 use vx_disk::{Shelf, ShelfError};
 use vx_group::{GroupCore, give_up, release};
+use vx_model::limits::COMMIT_SERIALS;
 
 /// Detaches the plex that is held back, in a call on a volume, and answers whether none is held back then: so it is while a serial is left. Where
 /// none is held back it is refused only where the shelf is down.
@@ -32,7 +33,7 @@ pub fn ready_group<S: Shelf>(
     ensures below { SameUnits (S.meaning shelf.old) (S.meaning shelf.new) }
     ensures none { IfOk result (λ done. done ≡ true → core.new.held ≡ None) }
     ensures quiet { core.old.held ≡ None → IfErr result (λ e. IsTrue (S.meaning shelf.new).down) }
-    ensures few { OnOk result (core.new.inner.config.serial ≤ core.old.inner.config.serial + 9) }
+    ensures few { OnOk result (core.new.inner.config.serial ≤ core.old.inner.config.serial + COMMIT_SERIALS) }
     ensures full { IfOk result (λ done. done ≡ false → greatest ≤ core.old.inner.config.serial) }
     ensures spent { IfOk result (λ done. done ≡ false → greatest ≤ core.new.inner.config.serial) }
     ensures trusts { TrustsStill core.old.inner.config core.new.inner.config }

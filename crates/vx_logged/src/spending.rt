@@ -23,18 +23,18 @@ use crate::missing::flush_behind;
 use vx_disk::{Shelf, ShelfError};
 use vx_group::GroupCore;
 use vx_logs::Logs;
-use vx_model::limits::MOST_NUMBER;
+use vx_model::limits::{COMMIT_SERIALS, MOST_NUMBER};
 
 // Takes the maps of a volume out of memory, where logs go on and no serial is left.
 fn drop_spent(core: &GroupCore, logs: &mut Logs, going: bool)
     ensures drl { logs.new.drl ≡ logs.old.drl }
-    ensures kept { (logs.new ≡ logs.old) ⊎ ((logs.new.fmr ≡ None) × (greatest ≤ core.now.inner.config.serial + 9)) }
-    ensures spent { going ≡ true → greatest ≤ core.now.inner.config.serial + 9 → logs.new.fmr ≡ None }
+    ensures kept { (logs.new ≡ logs.old) ⊎ ((logs.new.fmr ≡ None) × (greatest ≤ core.now.inner.config.serial + COMMIT_SERIALS)) }
+    ensures spent { going ≡ true → greatest ≤ core.now.inner.config.serial + COMMIT_SERIALS → logs.new.fmr ≡ None }
 {
     if !going {
         return;
     }
-    if core.inner.config.serial < MOST_NUMBER - 9 {
+    if core.inner.config.serial < MOST_NUMBER - COMMIT_SERIALS {
         return;
     }
     logs.fmr = None;

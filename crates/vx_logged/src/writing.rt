@@ -27,7 +27,7 @@ use crate::refusing::miss_refused;
 use vx_disk::{Shelf, ShelfError};
 use vx_group::{GroupCore, write_group};
 use vx_logs::Logs;
-use vx_model::limits::BLOCK;
+use vx_model::limits::{BLOCK, COMMIT_SERIALS};
 
 // Writes a run of blocks of a volume, of which the regions are marked durably in its logs before a plex is written.
 fn write_first<S: Shelf>(
@@ -57,7 +57,7 @@ fn write_first<S: Shelf>(
     ensures marked { stopped.new ≡ false → MarkedBefore (λ s. S.meaning s) vol block bytes.now (first_region block) (last_region block (length bytes.now / BLOCK)) core.old core.new (S.meaning shelf.old) (S.meaning shelf.new) }
     ensures stays { stopped.old ≡ true → stopped.new ≡ true }
     ensures rests { stopped.new ≡ false → (w p : ℕ) → IsTrue (active core.new.inner.config w p) → IsTrue (active core.old.inner.config w p) }
-    ensures full { stopped.old ≡ false → stopped.new ≡ true → greatest ≤ core.old.inner.config.serial + 18 }
+    ensures full { stopped.old ≡ false → stopped.new ≡ true → greatest ≤ core.old.inner.config.serial + 2 * COMMIT_SERIALS }
     ensures drops { LogsDrop (wide core.old).config vol logs.old logs.new (S.meaning shelf.old) (S.meaning shelf.new) }
     ensures trusts { TrustsIn vol logs.new core.old.inner.config core.new.inner.config }
     ensures trust { OnOk result (core.old.inner.committed ≡ true → core.new.inner.committed ≡ true) }
@@ -116,7 +116,7 @@ pub fn write_marked<S: Shelf>(
     ensures stays { stopped.old ≡ true → stopped.new ≡ true }
     ensures rests { stopped.new ≡ false → (w p : ℕ) → IsTrue (active core.new.inner.config w p) → IsTrue (active core.old.inner.config w p) }
     ensures free { stopped.new ≡ false → OnOk result ((core.new.held ≡ None) ⊎ (logs.new.fmr ≡ None)) }
-    ensures full { stopped.old ≡ false → stopped.new ≡ true → greatest ≤ core.old.inner.config.serial + 18 }
+    ensures full { stopped.old ≡ false → stopped.new ≡ true → greatest ≤ core.old.inner.config.serial + 2 * COMMIT_SERIALS }
     ensures drops { DropsBut core.old core.new vol logs.old logs.new (S.meaning shelf.old) (S.meaning shelf.new) }
     ensures trusts { TrustsIn vol logs.new core.old.inner.config core.new.inner.config }
     ensures kept { stopped.new ≡ false → OnOk result (AreKept core.new vol logs.new) }

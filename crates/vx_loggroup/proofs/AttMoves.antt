@@ -2,6 +2,7 @@
 use Rattle.std.proofs.Common.{◌≡◌, ◌∙◌, ◌<◌, ◌⊎◌, ◌||◌, inl, inr, ℕ, Bool, true, false, IsTrue, Option, Some, None, List, refl, sym, ap, subst, arith}
 use Rattle.std.specs.Prelude.{◌&&◌, is_some, not, slice_get, Result, Ok, Err}
 use Rattle.vx_config.specs.declared.config.Config.{Config}
+use Rattle.vx_config.specs.declared.entry.VolumeLog.TheVariants.{Fmr}
 use Rattle.std.proofs.lemmas.Bool.{cases_eq}
 use Rattle.std.proofs.lemmas.Option.{slice_get_within}
 use Rattle.vx_disk.specs.Shelf.{Meaning}
@@ -59,10 +60,10 @@ attached_on (Ok x) c d vol plex m refused already ends = by (active c.inner.conf
 
 module _ (c d : GroupCore) (vol plex : ℕ) (ls ks : List Logs) (follow : MapsFollow c.inner.config vol plex ls ks) where
   -- maps of its volume were there before
-  was_there : (l k : Logs) → slice_get ls vol ≡ Some l → slice_get ks vol ≡ Some k → on_failed_disk c.inner.config vol ≡ false → MapsTake plex follow.from l k
+  was_there : (l k : Logs) → slice_get ls vol ≡ Some l → slice_get ks vol ≡ Some k → on_failed_disk c.inner.config vol Fmr ≡ false → MapsTake plex follow.from l k
   was_there l k was now good = follow.here good l k was now
 
-  follow_none : (v : ℕ) → on_failed_disk c.inner.config v ≡ false → fmr_at ls v ≡ None → fmr_at ks v ≡ None
+  follow_none : (v : ℕ) → on_failed_disk c.inner.config v Fmr ≡ false → fmr_at ls v ≡ None → fmr_at ks v ≡ None
   follow_none v good none = elim (cases_eq v vol) [
     | inl same ↦ by (slice_get ks vol) refl same
     | inr apart ↦ ap fmr_or (follow.same v apart good) ∙ none
@@ -72,7 +73,7 @@ module _ (c d : GroupCore) (vol plex : ℕ) (ls ks : List Logs) (follow : MapsFo
       by None at same = ap (fmr_at ks) same ∙ ap fmr_or at
       by (Some k) at same =
           let l = item_at ls vol (let low = slice_get_within ks vol k at in let many = follow.many in omega (arith, low, many)) in
-          ap (fmr_at ks) same ∙ ap fmr_or at ∙ (was_there l.0 k l.1 at (subst (λ (w : ℕ). on_failed_disk c.inner.config w ≡ false) same good)).gone (sym (ap fmr_or l.1) ∙ ap (fmr_at ls) (sym same) ∙ none)
+          ap (fmr_at ks) same ∙ ap fmr_or at ∙ (was_there l.0 k l.1 at (subst (λ (w : ℕ). on_failed_disk c.inner.config w Fmr ≡ false) same good)).gone (sym (ap fmr_or l.1) ∙ ap (fmr_at ls) (sym same) ∙ none)
 
   pub follow_comes : (s : Bool) → MapsBeginIn no_volume c.inner.config d.inner.config s s ls ks
   follow_comes = att_comes c.inner.config d.inner.config ls ks follow.gone follow_none
@@ -86,7 +87,7 @@ module _ (c d : GroupCore) (vol plex : ℕ) (ls ks : List Logs) (follow : MapsFo
       pub first : MapFirst c.inner.config vol ls map
 
     follow_map : (g : Missed) → fmr_at ks vol ≡ Some g → FollowMap g
-    follow_map g is = by_disk (on_failed_disk c.inner.config vol) refl
+    follow_map g is = by_disk (on_failed_disk c.inner.config vol Fmr) refl
       where
         now : HasMaps ks vol g
         now = has_maps ks vol g is
@@ -94,7 +95,7 @@ module _ (c d : GroupCore) (vol plex : ℕ) (ls ks : List Logs) (follow : MapsFo
         old : (l : Logs) × (slice_get ls vol ≡ Some l)
         old = item_at ls vol (let low = slice_get_within ks vol now.logs now.at in let many = follow.many in omega (arith, low, many))
 
-        by_map : on_failed_disk c.inner.config vol ≡ false → (o : Option Missed) → old.0.fmr ≡ o → FollowMap g
+        by_map : on_failed_disk c.inner.config vol Fmr ≡ false → (o : Option Missed) → old.0.fmr ≡ o → FollowMap g
         by_map good None none = absurd (let clash : None ≡ Some g = sym ((was_there old.0 now.logs old.1 now.at good).gone none) ∙ now.has in cc)
         by_map good (Some f) has =
             let at : fmr_at ls vol ≡ Some f = ap fmr_or old.1 ∙ has in
@@ -105,15 +106,15 @@ module _ (c d : GroupCore) (vol plex : ℕ) (ls ks : List Logs) (follow : MapsFo
               first = first_maps c c d vol 0 ls ls ks (λ w p. refl) refl refl (lists_none vol 0 ls) (list_same c.inner.config vol ls) fits f at;
             }
 
-        by_disk : (x : Bool) → on_failed_disk c.inner.config vol ≡ x → FollowMap g
+        by_disk : (x : Bool) → on_failed_disk c.inner.config vol Fmr ≡ x → FollowMap g
         by_disk true failed = absurd (let clash : None ≡ Some g = sym (follow.gone vol failed) ∙ is in cc)
         by_disk false good = by_map good old.0.fmr refl
 
     -- of other volumes
     as_was : (v : ℕ) → (v ≡ vol → ⊥) → (g : Missed) → fmr_at ks v ≡ Some g → fmr_at ks v ≡ fmr_at ls v
-    as_was v apart g at = by (on_failed_disk c.inner.config v) refl
+    as_was v apart g at = by (on_failed_disk c.inner.config v Fmr) refl
       where
-        by : (x : Bool) → on_failed_disk c.inner.config v ≡ x → fmr_at ks v ≡ fmr_at ls v
+        by : (x : Bool) → on_failed_disk c.inner.config v Fmr ≡ x → fmr_at ks v ≡ fmr_at ls v
         by true failed = absurd (let clash : None ≡ Some g = sym (follow.gone v failed) ∙ at in cc)
         by false good = ap fmr_or (follow.same v apart good)
 
@@ -175,9 +176,9 @@ gone_none false false true (Some f) (Some g) is = let clash : true ≡ false = i
 
 -- each map is as it was, or in memory no more
 pub gone_moves : (c d : Config) (vol plex : ℕ) (ls ks : List Logs) → MapsFollow c vol plex ls ks → fmr_at ks vol ≡ None → MapsMove c d in_none in_none ls ks
-gone_moves c d vol plex ls ks follow none = move_none c d ls ks (λ v. by v (on_failed_disk c v) refl)
+gone_moves c d vol plex ls ks follow none = move_none c d ls ks (λ v. by v (on_failed_disk c v Fmr) refl)
   where
-    by : (v : ℕ) (x : Bool) → on_failed_disk c v ≡ x → (fmr_at ks v ≡ fmr_at ls v) ⊎ (fmr_at ks v ≡ None)
+    by : (v : ℕ) (x : Bool) → on_failed_disk c v Fmr ≡ x → (fmr_at ks v ≡ fmr_at ls v) ⊎ (fmr_at ks v ≡ None)
     by v true failed = inr (follow.gone v failed)
     by v false good = elim (cases_eq v vol) [
       | inl same ↦ inr (ap (fmr_at ks) same ∙ none)
@@ -201,7 +202,7 @@ pub att_moves : (same stopped : Bool) (r : Result ℕ Stop) (c d : GroupCore) (v
     → MovesAtt (leaves_maps same stopped (maps_gone c.inner.config ls ks vol) r) c.inner.config d.inner.config vol plex ls ks r
 att_moves same stopped (Ok x) c d vol plex ls ks held follow fits on = moves_by (same || stopped) c d vol plex ls ks held follow fits on
 att_moves same stopped (Err e) c d vol plex ls ks held follow fits on =
-    refused_moves same stopped (not (on_failed_disk c.inner.config vol)) ((same || stopped) || not (maps_gone c.inner.config ls ks vol)) c.inner.config d.inner.config vol plex ls ks refl held follow
+    refused_moves same stopped (not (on_failed_disk c.inner.config vol Fmr)) ((same || stopped) || not (maps_gone c.inner.config ls ks vol)) c.inner.config d.inner.config vol plex ls ks refl held follow
 
 pub att_begins : (b : Bool) (c d : GroupCore) (vol plex : ℕ) (ls ks : List Logs) (s : Bool) → (b ≡ true → MapsHeld c.inner.config ls ks) → (b ≡ false → MapsFollow c.inner.config vol plex ls ks) → MapsBeginIn no_volume c.inner.config d.inner.config s s ls ks
 att_begins true c d vol plex ls ks s held follow = held_comes c.inner.config d.inner.config ls ks (held refl) s

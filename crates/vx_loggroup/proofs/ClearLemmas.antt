@@ -8,6 +8,7 @@ use Rattle.vx_disk.specs.Shelf.{Meaning}
 use Rattle.vx_disk.specs.declared.shelf.ShelfError.{ShelfError}
 use Rattle.vx_disk.specs.declared.shelf.ShelfError.TheVariants.{Fault, Down}
 use Rattle.vx_disk.proofs.Causing.{Rose_before}
+use Rattle.vx_group.specs.Attaches.{region_count}
 use Rattle.vx_group.specs.Blames.{StopsByDevice}
 use Rattle.vx_group.specs.Holding.{wide}
 use Rattle.vx_group.specs.Stands.{inner_meaning}
@@ -20,7 +21,7 @@ use Rattle.vx_logged.proofs.StandLemmas.{alike_goes}
 use Rattle.vx_logs.specs.declared.logs.Logs.{Logs}
 use Rattle.vx_model.specs.Sizes.{regions_of}
 use Rattle.vx_loggroup.specs.LoggedVolumes.{LoggedStands, is_alike}
-use Rattle.vx_loggroup.specs.Marks.{ClearsVolume, MarksAreOff, region_count}
+use Rattle.vx_loggroup.specs.Marks.{ClearsVolume, MarksAreOff}
 use Rattle.vx_loggroup.specs.Taking.{LogsSettle, MapsShrink}
 use Rattle.vx_loggroup.proofs.SetLemmas.{item_at}
 use Rattle.vx_loggroup.proofs.SettleLemmas.{settle_none, settle_then}

@@ -9,7 +9,7 @@ use Rattle.vx_config.specs.declared.entry.Subdisk.{Subdisk}
 use Rattle.vx_config.specs.declared.entry.VolumeLog.TheVariants.{Fmr}
 use Rattle.vx_copies.specs.Marks.{failed_at}
 use Rattle.vx_fmr.specs.Missed.{Missed}
-use Rattle.vx_grouplogs.specs.Gone.{has_log, is_there}
+use Rattle.vx_grouplogs.specs.Gone.{has_log}
 use Rattle.vx_groupmaps.specs.Loading.{failed_under, held_failed, on_failed_disk}
 use Rattle.vx_kept.specs.LogRuns.{log_place, log_trusted}
 use Rattle.vx_logged.specs.Logged.{TrustsIn}
@@ -44,13 +44,9 @@ trusted_from c v e at kept = ap used_or at ∙ ap not kept
 pub trusts_maps : (v : ℕ) (c d : Config) (k : List Logs) → TrustsIn v (logs_at k v) c d → (w : ℕ) → is_some (fmr_at k w) ≡ true → log_trusted c w Fmr ≡ true → log_trusted d w Fmr ≡ true
 trusts_maps v c d k trusts w some told = trusts.each w Fmr (λ same. has (slice_get k v) refl (ap (λ (x : ℕ). is_some (fmr_at k x)) (sym same) ∙ some)) told
   where
-    there : (o : Option Missed) → is_some o ≡ true → is_there o ≡ true
-    there None is = is
-    there (Some f) is = refl
-
     has : (o : Option Logs) → slice_get k v ≡ o → is_some (fmr_at k v) ≡ true → has_log Fmr (logs_at k v) ≡ true
     has None at is = absurd (let clash : false ≡ true = sym (ap (λ (x : Option Logs). is_some (fmr_or x)) at) ∙ is in cc)
-    has (Some l) at is = ap (λ (x : Option Logs). has_log Fmr (logs_or x)) at ∙ there l.fmr (sym (ap (λ (x : Option Logs). is_some (fmr_or x)) at) ∙ is)
+    has (Some l) at is = ap (λ (x : Option Logs). has_log Fmr (logs_or x)) at ∙ sym (ap (λ (x : Option Logs). is_some (fmr_or x)) at) ∙ is
 
 module _ (c d : Config) (k : List Logs) (places : (v : ℕ) (r : Subdisk) → log_place c v Fmr ≡ Some r → log_place d v Fmr ≡ Some r) (fails : (u : ℕ) → failed_at c.disks u ≡ true → failed_at d.disks u ≡ true)
     (trusts : (v : ℕ) → is_some (fmr_at k v) ≡ true → log_trusted c v Fmr ≡ true → log_trusted d v Fmr ≡ true) where
@@ -65,32 +61,32 @@ module _ (c d : Config) (k : List Logs) (places : (v : ℕ) (r : Subdisk) → lo
       disk_of (Some r) = r.disk
 
   -- maps in memory that lay on a disk that is held as failed do so still
-  failed_still : (v : ℕ) → is_some (fmr_at k v) ≡ true → on_failed_disk c v ≡ true → on_failed_disk d v ≡ true
+  failed_still : (v : ℕ) → is_some (fmr_at k v) ≡ true → on_failed_disk c v Fmr ≡ true → on_failed_disk d v Fmr ≡ true
   failed_still v some is = by (log_of c v Fmr) refl is
     where
-      by : (o : Option LogEntry) → log_of c v Fmr ≡ o → failed_under c.disks o ≡ true → on_failed_disk d v ≡ true
+      by : (o : Option LogEntry) → log_of c v Fmr ≡ o → failed_under c.disks o ≡ true → on_failed_disk d v Fmr ≡ true
       by None at is = absurd (let clash : false ≡ true = is in cc)
       by (Some e) at is = held (slice_get c.disks e.disk) refl is
         where
-          behind : e.lost ≡ false → failed_at c.disks e.disk ≡ true → on_failed_disk d v ≡ true
+          behind : e.lost ≡ false → failed_at c.disks e.disk ≡ true → on_failed_disk d v Fmr ≡ true
           behind kept failed =
               let now : KeptLog d v = kept_log d v (trusts v some (trusted_from c v e at kept)) in
               ap (failed_under d.disks) now.is
               ∙ entry_failed d.disks now.entry.disk now.entry now.kept (ap (failed_at d.disks) (same_place v e now.entry at now.is) ∙ fails e.disk failed)
 
-          held : (o : Option DiskEntry) → slice_get c.disks e.disk ≡ o → held_failed e o ≡ true → on_failed_disk d v ≡ true
+          held : (o : Option DiskEntry) → slice_get c.disks e.disk ≡ o → held_failed e o ≡ true → on_failed_disk d v Fmr ≡ true
           held None none is = absurd (let clash : false ≡ true = is in cc)
           held (Some x) some is = behind (left_is e.lost x.failed is) (failed_entry c.disks e.disk e (ap (held_failed e) some ∙ is))
 
   pub maps_come : (may : ℕ → Bool) (l : List Logs) (s t : Bool) → (s ≡ true → t ≡ true) → ((v : ℕ) → is_some (fmr_at k v) ≡ true → fmr_at l v ≡ None → may v ≡ true) → MapsBeginIn may c d s t l k
-  maps_come may l s t stays new = record { so = λ v off on. behind v off on (third_b t (on_failed_disk d v) (is_some (fmr_at k v)) on) (on_failed_disk c v) refl }
+  maps_come may l s t stays new = record { so = λ v off on. behind v off on (third_b t (on_failed_disk d v Fmr) (is_some (fmr_at k v)) on) (on_failed_disk c v Fmr) refl }
     where
-      gone : (v : ℕ) → goes_by l c s v ≡ false → s ≡ false → on_failed_disk c v ≡ false → fmr_at l v ≡ None
-      gone v off going good = none_of (fmr_at l v) (none_b (on_failed_disk c v) (is_some (fmr_at l v)) (none_b s (not (on_failed_disk c v) && is_some (fmr_at l v)) off going) good)
+      gone : (v : ℕ) → goes_by l c s v ≡ false → s ≡ false → on_failed_disk c v Fmr ≡ false → fmr_at l v ≡ None
+      gone v off going good = none_of (fmr_at l v) (none_b (on_failed_disk c v Fmr) (is_some (fmr_at l v)) (none_b s (not (on_failed_disk c v Fmr) && is_some (fmr_at l v)) off going) good)
 
-      behind : (v : ℕ) → goes_by l c s v ≡ false → goes_by k d t v ≡ true → is_some (fmr_at k v) ≡ true → (x : Bool) → on_failed_disk c v ≡ x → (may v ≡ true) × (fmr_at l v ≡ None)
-      behind v off on some true is = absurd (let clash : false ≡ true = sym (second_b t (on_failed_disk d v) (is_some (fmr_at k v)) on) ∙ failed_still v some is in cc)
-      behind v off on some false is = let none = gone v off (going_back s t stays (first_b t (on_failed_disk d v) (is_some (fmr_at k v)) on)) is in (new v some none, none)
+      behind : (v : ℕ) → goes_by l c s v ≡ false → goes_by k d t v ≡ true → is_some (fmr_at k v) ≡ true → (x : Bool) → on_failed_disk c v Fmr ≡ x → (may v ≡ true) × (fmr_at l v ≡ None)
+      behind v off on some true is = absurd (let clash : false ≡ true = sym (second_b t (on_failed_disk d v Fmr) (is_some (fmr_at k v)) on) ∙ failed_still v some is in cc)
+      behind v off on some false is = let none = gone v off (going_back s t stays (first_b t (on_failed_disk d v Fmr) (is_some (fmr_at k v)) on)) is in (new v some none, none)
 
 -- of a call on one volume
 pub new_here : (vol : ℕ) (l k : List Logs) → ((w : ℕ) → (w ≡ vol → ⊥) → fmr_at k w ≡ fmr_at l w) → (v : ℕ) → is_some (fmr_at k v) ≡ true → fmr_at l v ≡ None → only_volume vol v ≡ true
@@ -112,9 +108,9 @@ gone_by vol l k here others w none = elim (cases_eq w vol) [
 -- ---- an attach
 
 -- where none are in memory of which the disk is held as failed, and no others that were not
-module _ (c d : Config) (l k : List Logs) (gone : (v : ℕ) → on_failed_disk c v ≡ true → fmr_at k v ≡ None) (same : (v : ℕ) → on_failed_disk c v ≡ false → fmr_at l v ≡ None → fmr_at k v ≡ None) where
+module _ (c d : Config) (l k : List Logs) (gone : (v : ℕ) → on_failed_disk c v Fmr ≡ true → fmr_at k v ≡ None) (same : (v : ℕ) → on_failed_disk c v Fmr ≡ false → fmr_at l v ≡ None → fmr_at k v ≡ None) where
   pub att_comes : (s : Bool) → MapsBeginIn no_volume c d s s l k
-  att_comes s = record { so = λ v off on. absurd (by v off on (on_failed_disk c v) refl) }
+  att_comes s = record { so = λ v off on. absurd (by v off on (on_failed_disk c v Fmr) refl) }
     where
       goes_all : (x y z : Bool) → x ≡ false → y ≡ false → z ≡ true → (not x && (not y && z)) ≡ true
       goes_all false false z going good some = some
@@ -125,20 +121,20 @@ module _ (c d : Config) (l k : List Logs) (gone : (v : ℕ) → on_failed_disk c
       some_of None q none is = absurd (let clash : false ≡ true = sym (ap (λ (x : Option Missed). is_some x) (none refl)) ∙ is in cc)
       some_of (Some f) q none is = refl
 
-      by : (v : ℕ) → goes_by l c s v ≡ false → goes_by k d s v ≡ true → (x : Bool) → on_failed_disk c v ≡ x → ⊥
-      by v off on true is = let clash : false ≡ true = sym (ap (λ (o : Option Missed). is_some o) (gone v is)) ∙ third_b s (on_failed_disk d v) (is_some (fmr_at k v)) on in cc
+      by : (v : ℕ) → goes_by l c s v ≡ false → goes_by k d s v ≡ true → (x : Bool) → on_failed_disk c v Fmr ≡ x → ⊥
+      by v off on true is = let clash : false ≡ true = sym (ap (λ (o : Option Missed). is_some o) (gone v is)) ∙ third_b s (on_failed_disk d v Fmr) (is_some (fmr_at k v)) on in cc
       by v off on false is =
-          let some : is_some (fmr_at l v) ≡ true = some_of (fmr_at l v) (fmr_at k v) (same v is) (third_b s (on_failed_disk d v) (is_some (fmr_at k v)) on) in
-          let clash : false ≡ true = sym off ∙ goes_all s (on_failed_disk c v) (is_some (fmr_at l v)) (first_b s (on_failed_disk d v) (is_some (fmr_at k v)) on) is some in
+          let some : is_some (fmr_at l v) ≡ true = some_of (fmr_at l v) (fmr_at k v) (same v is) (third_b s (on_failed_disk d v Fmr) (is_some (fmr_at k v)) on) in
+          let clash : false ≡ true = sym off ∙ goes_all s (on_failed_disk c v Fmr) (is_some (fmr_at l v)) (first_b s (on_failed_disk d v Fmr) (is_some (fmr_at k v)) on) is some in
           cc
 
 module _ (c d : Config) (l k : List Logs) (held : MapsHeld c l k) where
-  held_same : (v : ℕ) (x : Bool) → on_failed_disk c v ≡ x → (fmr_at k v ≡ fmr_at l v) ⊎ (fmr_at k v ≡ None)
+  held_same : (v : ℕ) (x : Bool) → on_failed_disk c v Fmr ≡ x → (fmr_at k v ≡ fmr_at l v) ⊎ (fmr_at k v ≡ None)
   held_same v true is = inr (held.gone v is)
   held_same v false is = inl (ap fmr_or (held.same v is))
 
   pub held_moves : MapsMove c d in_none in_none l k
-  held_moves = move_none c d l k (λ v. held_same v (on_failed_disk c v) refl)
+  held_moves = move_none c d l k (λ v. held_same v (on_failed_disk c v Fmr) refl)
 
   pub held_comes : (s : Bool) → MapsBeginIn no_volume c d s s l k
   held_comes = att_comes c d l k held.gone (λ v good none. ap fmr_or (held.same v good) ∙ none)

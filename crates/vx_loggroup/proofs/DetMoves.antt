@@ -7,7 +7,7 @@ use Rattle.std.proofs.lemmas.Option.{slice_get_within}
 use Rattle.vx_config.specs.Checks.{blocks_of, plexes_of}
 use Rattle.vx_config.specs.declared.config.Config.{Config}
 use Rattle.vx_fmr.specs.Missed.{FmrLoaded, Missed, has_missed}
-use Rattle.vx_group.specs.Attaches.{copied_regions}
+use Rattle.vx_group.specs.Attaches.{region_count}
 use Rattle.vx_group.specs.Holding.{wide}
 use Rattle.vx_group.specs.declared.group_core.GroupCore.{GroupCore}
 use Rattle.vx_group.specs.declared.group_core.Held.{Held}
@@ -25,7 +25,7 @@ use Rattle.vx_loggroup.proofs.VolumeMoves.{MapWithout, det_moves}
 use Rattle.vx_loggroup.proofs.WroteMoves.{first_maps}
 
 -- a map that has no region of a block has none of the volume
-empty_regions : (c : Config) (v p : ℕ) (o : Option Missed) → v < length c.volumes → MapIsEmpty c v p o → (f : Missed) → o ≡ Some f → (r : ℕ) → r < copied_regions c v → has_missed f p r ≡ false
+empty_regions : (c : Config) (v p : ℕ) (o : Option Missed) → v < length c.volumes → MapIsEmpty c v p o → (f : Missed) → o ≡ Some f → (r : ℕ) → r < region_count c v → has_missed f p r ≡ false
 empty_regions c v p o there empty f is r lt =
     subst (λ (n : ℕ). has_missed f p n ≡ false) (back r) (empty.so f is (64 * r) (record { volume = there; within = low (blocks_of c.volumes v) r lt }))
   where

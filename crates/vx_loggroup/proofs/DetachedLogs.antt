@@ -7,12 +7,12 @@ use Rattle.std.proofs.Math.ListN.{set}
 use Rattle.std.proofs.lemmas.Bool.{cases_eq}
 use Rattle.vx_config.specs.Checks.{blocks_of as blocks_in, is_sound}
 use Rattle.vx_config.specs.declared.config.Config.{Config}
-use Rattle.vx_disk.specs.Causes.{Cause, DeviceCause, refusal_of}
+use Rattle.vx_disk.specs.Causes.{Cause, refusal_of}
 use Rattle.vx_disk.specs.Counts.{Rose}
 use Rattle.vx_disk.specs.Shelf.{Goes, Meaning}
 use Rattle.vx_disk.specs.declared.shelf.ShelfError.{ShelfError}
 use Rattle.vx_disk.specs.declared.shelf.ShelfError.TheVariants.{Fault, Down as Fell}
-use Rattle.vx_disk.proofs.Causing.{Rose_before}
+use Rattle.vx_disk.proofs.Causing.{Rose_before, cause_before}
 use Rattle.vx_fmr.specs.Missed.{FmrLoaded, Missed, OthersSame, has_missed}
 use Rattle.vx_group.specs.Dets.{DetStops}
 use Rattle.vx_groupmaps.specs.Beginning.{EmptyAnswers, EmptyEnds, MapEmptied}
@@ -29,8 +29,7 @@ use Rattle.vx_layout.specs.Places.{HasBlock, place, plex_in}
 use Rattle.vx_logs.specs.declared.logs.Logs.{Logs}
 use Rattle.vx_model.specs.declared.errors.Stop.{Stop}
 use Rattle.vx_model.specs.declared.errors.Stop.TheVariants.{No as Refused, OutOfMemory}
-use Rattle.vx_model.specs.declared.no.No.{No}
-use Rattle.vx_model.specs.declared.no.No.TheVariants.{Device, Down as DownNo}
+use Rattle.vx_model.specs.declared.no.No.TheVariants.{Down as DownNo}
 use Rattle.vx_volume.specs.Plexes.{Inside, active, active_or}
 use Rattle.vx_volume.proofs.PlaceLemmas.{has_of}
 use Rattle.vx_loggroup.specs.Attaching.{fmr_at, fmr_or}
@@ -166,15 +165,10 @@ det_cause T U a m m' v i j one two down rises (Fault disk) cause =
     Rose_before (a.disk_faults disk) (m.disk_faults disk) (m'.disk_faults disk) (rises disk) (subst (λ (f : ℕ → ℕ). Rose (m.disk_faults disk) (f disk)) two (subst (λ (f : ℕ → ℕ). Rose (f disk) (j.disk_faults disk)) one cause.0.disk_count))
 det_cause T U a m m' v i j one two down rises Fell cause = sym down ∙ cause
 
-det_before : (a m m' : Meaning) → ((u : ℕ) → a.disk_faults u ≤ m.disk_faults u) → (why : No) → DeviceCause m m' why → DeviceCause a m' why
-det_before a m m' rises (Device disk) rose = Rose_before (a.disk_faults disk) (m.disk_faults disk) (m'.disk_faults disk) (rises disk) rose
-det_before a m m' rises DownNo down = down
-det_before a m m' rises other none = absurd none
-
 -- a refusal behind calls before it
 pub det_later : {T : Type 0} (a m m' : Meaning) → ((u : ℕ) → a.disk_faults u ≤ m.disk_faults u) → (r : Result T Stop) → DetStops m m' r → DetStops a m' r
 det_later a m m' rises (Ok x) stops = tt
-det_later a m m' rises (Err (Refused why)) stops = det_before a m m' rises why stops
+det_later a m m' rises (Err (Refused why)) stops = cause_before a m m' rises why stops
 det_later a m m' rises (Err OutOfMemory) stops = stops
 
 -- ---- answers

@@ -10,10 +10,8 @@ use Rattle.vx_config.specs.declared.entry.VolumeLog.TheVariants.{Fmr}
 use Rattle.vx_copies.specs.Marks.{failed_at}
 use Rattle.vx_disk.specs.Counts.{Rose}
 use Rattle.vx_disk.specs.Shelf.{Meaning}
-use Rattle.vx_fmr.specs.Missed.{Missed}
 use Rattle.vx_group.specs.declared.group_core.GroupCore.{GroupCore}
 use Rattle.vx_groupmaps.specs.Loading.{failed_under, held_failed, on_failed_disk}
-use Rattle.vx_grouplogs.specs.Gone.{is_there}
 use Rattle.vx_kept.specs.LogRuns.{log_place, log_trusted, run_or}
 use Rattle.vx_logs.specs.declared.logs.Logs.{Logs}
 use Rattle.vx_maplog.specs.Logs.{log_of, used_or}
@@ -44,11 +42,7 @@ none_b false y is off = is
 
 map_there_is : (o : Option Logs) → is_some (fmr_or o) ≡ has_or Fmr o
 map_there_is None = refl
-map_there_is (Some l) = by l.fmr
-  where
-    by : (f : Option Missed) → is_some f ≡ is_there f
-    by None = refl
-    by (Some f) = refl
+map_there_is (Some l) = refl
 
 -- the maps are in memory
 pub memory_is : (logs : List Logs) (v : ℕ) → is_some (fmr_at logs v) ≡ in_memory logs v Fmr
@@ -97,7 +91,7 @@ good_entry (d ∷ disks) zero e kept is = right e.lost d.failed kept is
     right false y kept is = is
 good_entry (d ∷ disks) (suc u) e kept is = good_entry disks u e kept is
 
-same_disk : (c d : Config) (v : ℕ) (e : LogEntry) → log_of c v Fmr ≡ Some e → ((r : Subdisk) → log_place c v Fmr ≡ Some r → log_place d v Fmr ≡ Some r) → on_failed_disk d v ≡ true → failed_at d.disks e.disk ≡ true
+same_disk : (c d : Config) (v : ℕ) (e : LogEntry) → log_of c v Fmr ≡ Some e → ((r : Subdisk) → log_place c v Fmr ≡ Some r → log_place d v Fmr ≡ Some r) → on_failed_disk d v Fmr ≡ true → failed_at d.disks e.disk ≡ true
 unfolding log_place
 same_disk c d v e at places is = by (log_of d v Fmr) refl is (places _ (ap run_or at))
   where
@@ -125,13 +119,13 @@ module _ (c d : GroupCore) (l k : List Logs) (s t : Bool) (m m' : Meaning) (keep
   good : (v : ℕ) (e : KeptLog c.inner.config v) → goes_by l c.inner.config s v ≡ true → failed_at c.inner.config.disks e.entry.disk ≡ false
   good v e on =
       good_entry c.inner.config.disks e.entry.disk e.entry e.kept
-      (sym (ap (failed_under c.inner.config.disks) e.is) ∙ second_b s (on_failed_disk c.inner.config v) (is_some (fmr_at l v)) on)
+      (sym (ap (failed_under c.inner.config.disks) e.is) ∙ second_b s (on_failed_disk c.inner.config v Fmr) (is_some (fmr_at l v)) on)
 
   -- it was in use
   used : (v : ℕ) (e : KeptLog c.inner.config v) → log_trusted c.inner.config v Fmr ≡ true → goes_by l c.inner.config s v ≡ true → uses_log c.inner.config l v Fmr ≡ true
   used v e trusted on =
       used_from c.inner.config l v Fmr (record { disk = e.entry.disk; start = e.entry.start; blocks = e.entry.blocks }) (place_of c.inner.config v e.entry e.is)
-      (record { has = sym (memory_is l v) ∙ third_b s (on_failed_disk c.inner.config v) (is_some (fmr_at l v)) on; trusted = trusted; good = good v e on })
+      (record { has = sym (memory_is l v) ∙ third_b s (on_failed_disk c.inner.config v Fmr) (is_some (fmr_at l v)) on; trusted = trusted; good = good v e on })
 
   none_kept : (v : ℕ) (e : KeptLog c.inner.config v) → is_some (fmr_at k v) ≡ false
       → (uses_log d.inner.config k v Fmr ≡ true) ⊎ Rose (m.faults e.entry.disk) (m'.faults e.entry.disk) ⊎ IsTrue m'.down ⊎ (greatest ≤ d.inner.config.serial + 9) → Why v
@@ -144,15 +138,15 @@ module _ (c d : GroupCore) (l k : List Logs) (s t : Bool) (m m' : Meaning) (keep
   none_kept v e none (inr (inr (inl down))) = inr (inr (inl down))
   none_kept v e none (inr (inr (inr far))) = inr (inr (inr (inr far)))
 
-  by_disk : (v : ℕ) (e : KeptLog c.inner.config v) → log_trusted c.inner.config v Fmr ≡ true → goes_by l c.inner.config s v ≡ true → (not (on_failed_disk d.inner.config v) && is_some (fmr_at k v)) ≡ false → (x : Bool) → on_failed_disk d.inner.config v ≡ x → Why v
+  by_disk : (v : ℕ) (e : KeptLog c.inner.config v) → log_trusted c.inner.config v Fmr ≡ true → goes_by l c.inner.config s v ≡ true → (not (on_failed_disk d.inner.config v Fmr) && is_some (fmr_at k v)) ≡ false → (x : Bool) → on_failed_disk d.inner.config v Fmr ≡ x → Why v
   by_disk v e trusted on off true is = inl (e.entry, e.is, disks e.entry.disk (good v e on) (same_disk c.inner.config d.inner.config v e.entry e.is (places v) is))
   by_disk v e trusted on off false is =
-      none_kept v e (none_b (on_failed_disk d.inner.config v) (is_some (fmr_at k v)) off is)
+      none_kept v e (none_b (on_failed_disk d.inner.config v Fmr) (is_some (fmr_at k v)) off is)
       (keeps.each v Fmr (record { disk = e.entry.disk; start = e.entry.start; blocks = e.entry.blocks }) (place_of c.inner.config v e.entry e.is) (used v e trusted on))
 
-  by_stop : (v : ℕ) (e : KeptLog c.inner.config v) → log_trusted c.inner.config v Fmr ≡ true → goes_by l c.inner.config s v ≡ true → (x : Bool) → t ≡ x → (not x && (not (on_failed_disk d.inner.config v) && is_some (fmr_at k v))) ≡ false → Why v
-  by_stop v e trusted on true is off = inr (inr (inr (inl (full (first_b s (on_failed_disk c.inner.config v) (is_some (fmr_at l v)) on) is))))
-  by_stop v e trusted on false is off = by_disk v e trusted on off (on_failed_disk d.inner.config v) refl
+  by_stop : (v : ℕ) (e : KeptLog c.inner.config v) → log_trusted c.inner.config v Fmr ≡ true → goes_by l c.inner.config s v ≡ true → (x : Bool) → t ≡ x → (not x && (not (on_failed_disk d.inner.config v Fmr) && is_some (fmr_at k v))) ≡ false → Why v
+  by_stop v e trusted on true is off = inr (inr (inr (inl (full (first_b s (on_failed_disk c.inner.config v Fmr) (is_some (fmr_at l v)) on) is))))
+  by_stop v e trusted on false is off = by_disk v e trusted on off (on_failed_disk d.inner.config v Fmr) refl
 
   by_trust : (v : ℕ) → goes_by l c.inner.config s v ≡ true → goes_by k d.inner.config t v ≡ false → (x : Bool) → log_trusted c.inner.config v Fmr ≡ x → Why v
   by_trust v on off true is = by_stop v (kept_log c.inner.config v is) is on t refl off
@@ -165,8 +159,8 @@ module _ (c d : GroupCore) (l k : List Logs) (s t : Bool) (m m' : Meaning) (keep
 
 module _ (c d : Config) (l : List Logs) (s : Bool) (m m' : Meaning) (disks : (u : ℕ) → failed_at c.disks u ≡ false → failed_at d.disks u ≡ true → Rose (m.faults u) (m'.faults u))
     (places : (v : ℕ) (r : Subdisk) → log_place c v Fmr ≡ Some r → log_place d v Fmr ≡ Some r) where
-  lies_off : (v : ℕ) → goes_by l c s v ≡ true → goes_by l d s v ≡ false → on_failed_disk d v ≡ true
-  lies_off v on off = by s (on_failed_disk c v) (on_failed_disk d v) (is_some (fmr_at l v)) on off
+  lies_off : (v : ℕ) → goes_by l c s v ≡ true → goes_by l d s v ≡ false → on_failed_disk d v Fmr ≡ true
+  lies_off v on off = by s (on_failed_disk c v Fmr) (on_failed_disk d v Fmr) (is_some (fmr_at l v)) on off
     where
       by : (s x y z : Bool) → (not s && (not x && z)) ≡ true → (not s && (not y && z)) ≡ false → y ≡ true
       by true x y z on off = let clash : false ≡ true = on in cc
@@ -177,11 +171,11 @@ module _ (c d : Config) (l : List Logs) (s : Bool) (m m' : Meaning) (disks : (u 
   pub same_end : MapsEnd c d s s l l m m'
   same_end = record { so = λ v on off. by_log v on (lies_off v on off) (log_trusted c v Fmr) refl }
     where
-      by_log : (v : ℕ) → goes_by l c s v ≡ true → on_failed_disk d v ≡ true → (x : Bool) → log_trusted c v Fmr ≡ x
+      by_log : (v : ℕ) → goes_by l c s v ≡ true → on_failed_disk d v Fmr ≡ true → (x : Bool) → log_trusted c v Fmr ≡ x
           → ((e : LogEntry) × (log_of c v Fmr ≡ Some e) × Rose (m.faults e.disk) (m'.faults e.disk)) ⊎ (log_trusted c v Fmr ≡ false) ⊎ IsTrue m'.down
           ⊎ (greatest ≤ c.serial + 54) ⊎ (greatest ≤ d.serial + 9)
       by_log v on failed false is = inr (inl is)
       by_log v on failed true is =
           let e : KeptLog c v = kept_log c v is in
-          let good : failed_at c.disks e.entry.disk ≡ false = good_entry c.disks e.entry.disk e.entry e.kept (sym (ap (failed_under c.disks) e.is) ∙ second_b s (on_failed_disk c v) (is_some (fmr_at l v)) on) in
+          let good : failed_at c.disks e.entry.disk ≡ false = good_entry c.disks e.entry.disk e.entry e.kept (sym (ap (failed_under c.disks) e.is) ∙ second_b s (on_failed_disk c v Fmr) (is_some (fmr_at l v)) on) in
           inl (e.entry, e.is, disks e.entry.disk good (same_disk c d v e.entry e.is (places v) failed))

@@ -1,7 +1,7 @@
 -- The map of a plex that is attached as it becomes that of another one: what the plexes read then, and what is kept beside it.
 use Rattle.std.proofs.Common.{◌≡◌, ◌∙◌, inl, inr, ℕ, ◌+◌, ◌*◌, ◌/◌, ◌<◌, ◌≤◌, Bool, true, false, Option, Some, None, List, IsTrue, length, refl, sym, ap, subst, arith}
 use Rattle.std.proofs.Math.ListN.{set}
-use Rattle.std.proofs.lemmas.Bool.{cases_eq, eqb-true}
+use Rattle.std.proofs.lemmas.Bool.{cases_eq, eqb-true, or_parts}
 use Rattle.std.proofs.lemmas.List.{length-set}
 use Rattle.std.proofs.lemmas.Option.{slice_get_within}
 use Rattle.std.specs.Prelude.{◌||◌, not, Result, Ok, Err, is_some, slice_get}
@@ -9,6 +9,7 @@ use Rattle.vx_config.specs.Checks.{blocks_of as blocks_in, plexes_of}
 use Rattle.vx_config.specs.declared.config.Config.{Config}
 use Rattle.vx_config.specs.declared.entry.Subdisk.{Subdisk}
 use Rattle.vx_config.specs.declared.entry.VolumeLog.{VolumeLog}
+use Rattle.vx_config.specs.declared.entry.VolumeLog.TheVariants.{Fmr}
 use Rattle.vx_disk.specs.Shelf.{Goes, Lawful, Meaning, Nothing, Or}
 use Rattle.vx_disk.proofs.Causing.{Rose_after, Rose_before}
 use Rattle.vx_disk.proofs.Runs.{then_nothing}
@@ -302,8 +303,8 @@ held_follows c v to old mid new held it = record {
         let middle = item_at mid v (let long = it.takes.many in omega (arith, low, long)) in
         none_at middle.0 k middle.1 at none
 
-    gone_here : (w : ℕ) → w ≡ v → on_failed_disk c w ≡ true → fmr_at new w ≡ None
-    gone_here w is on = ap (fmr_at new) is ∙ by (slice_get new v) refl (held.gone v (sym (ap (on_failed_disk c) is) ∙ on))
+    gone_here : (w : ℕ) → w ≡ v → on_failed_disk c w Fmr ≡ true → fmr_at new w ≡ None
+    gone_here w is on = ap (fmr_at new) is ∙ by (slice_get new v) refl (held.gone v (sym (ap (λ (x : ℕ). on_failed_disk c x Fmr) is) ∙ on))
 
 -- ---- the first plex that is ACTIVE
 
@@ -318,10 +319,6 @@ pub first_none : (c : Config) (v n : ℕ) → 8 ≤ n → NoneBelow c v n → (q
 first_none c v n all none q lt on = sym (none q (omega (arith, lt, all))) ∙ on
 
 -- ---- which maps an attach leaves
-
-pub or_parts : (a b : Bool) → a || b ≡ false → (a ≡ false) × (b ≡ false)
-or_parts true b is = absurd (let clash : true ≡ false = is in cc)
-or_parts false b is = (refl, is)
 
 pub or_none : (a b : Bool) → a ≡ false → b ≡ false → a || b ≡ false
 or_none true b one two = absurd (let clash : true ≡ false = one in cc)

@@ -11,6 +11,7 @@ use Rattle.vx_disk.specs.Shelf.{Goes, Meaning, Nothing, Values}
 use Rattle.vx_disk.proofs.Runs.{then_nothing}
 use Rattle.vx_drl.specs.Dirty.{Dirty}
 use Rattle.vx_kept.specs.Groups.{OnSome, group_meaning}
+use Rattle.vx_group.specs.Attaches.{region_count}
 use Rattle.vx_group.specs.Holding.{GroupStands, wide}
 use Rattle.vx_group.specs.Stands.{inner_meaning}
 use Rattle.vx_group.specs.declared.group_core.GroupCore.{GroupCore}
@@ -30,7 +31,7 @@ use Rattle.vx_model.specs.Sizes.{regions_of}
 use Rattle.vx_volume.specs.Plexes.{active, Inside}
 use Rattle.vx_loggroup.specs.Fresh.{LogsStart, FirstLogs, FreshStands, LogsFirst}
 use Rattle.vx_loggroup.specs.LoggedVolumes.{is_alike}
-use Rattle.vx_loggroup.specs.Marks.{MarksVolume, NotesMaps, RunsMaps, region_count}
+use Rattle.vx_loggroup.specs.Marks.{MarksVolume, NotesMaps, RunsMaps}
 use Rattle.vx_logged.specs.Begun.{begun_in, begun_refused, fell_in}
 use Rattle.vx_logged.proofs.BeginLemmas.{but_note}
 use Rattle.vx_logged.proofs.FallenLemmas.{run_less}

@@ -197,9 +197,9 @@ refused_attaches same stopped ls ks v p f c d e m m1 m2 m3 one two none still it
 
 -- of those on a disk that is held as failed none are there, and the others are as they were
 pub held_went : (c : Config) (v : ℕ) (old mid new : List Logs) → MapsHeld c old mid → went mid new v ≡ maps_gone c old new v
-held_went c v old mid new held = by (on_failed_disk c v) refl
+held_went c v old mid new held = by (on_failed_disk c v Fmr) refl
   where
-    by : (x : Bool) → on_failed_disk c v ≡ x → went mid new v ≡ maps_gone c old new v
+    by : (x : Bool) → on_failed_disk c v Fmr ≡ x → went mid new v ≡ maps_gone c old new v
     by true failed =
         ap (λ (o : Option Missed). is_some o && not (is_some (fmr_at new v))) (held.gone v failed)
         ∙ sym (ap (λ (x : Bool). not x && went old new v) failed)

@@ -23,7 +23,7 @@ use Rattle.vx_loggroup.specs.LoggedVolumes.{LoggedStands, VolumeStands, is_alike
 use Rattle.vx_loggroup.proofs.SetLemmas.{item_at, set_each, set_here, set_other}
 
 -- such a volume is there
-pub held_there : (c : Config) (v : ℕ) → on_failed_disk c v ≡ true → v < length c.volumes
+pub held_there : (c : Config) (v : ℕ) → on_failed_disk c v Fmr ≡ true → v < length c.volumes
 held_there c v is = by (slice_get c.volumes v) refl
   where
     by : (o : Option VolumeEntry) → slice_get c.volumes v ≡ o → v < length c.volumes
@@ -48,7 +48,7 @@ drop_stands c ls a s m v l k at same none stands = record {
 }
 
 -- nothing is given up
-pub held_same : (c : Config) (v : ℕ) (ls : List Logs) → on_failed_disk c v ≡ false → MapHeld c v ls ls
+pub held_same : (c : Config) (v : ℕ) (ls : List Logs) → on_failed_disk c v Fmr ≡ false → MapHeld c v ls ls
 held_same c v ls off = record {
   many = refl;
   same = λ is. refl;
@@ -57,7 +57,7 @@ held_same c v ls off = record {
   others = λ w apart. refl;
 }
 
-pub held_set : (c : Config) (v : ℕ) (ls : List Logs) (l k : Logs) → slice_get ls v ≡ Some l → on_failed_disk c v ≡ true → k.drl ≡ l.drl → k.fmr ≡ None → MapHeld c v ls (set ls v k)
+pub held_set : (c : Config) (v : ℕ) (ls : List Logs) (l k : Logs) → slice_get ls v ≡ Some l → on_failed_disk c v Fmr ≡ true → k.drl ≡ l.drl → k.fmr ≡ None → MapHeld c v ls (set ls v k)
 held_set c v ls l k at on same none = record {
   many = length-set ls v k;
   same = λ off. absurd (let clash : true ≡ false = sym on ∙ off in cc);
@@ -89,8 +89,8 @@ held_set c v ls l k at on same none = record {
 pub record HeldSoFar (c : GroupCore) (a : List Bool) (s : Bool) (ls0 : List Logs) (m : Meaning) (n : ℕ) (ls : List Logs) : Type 0 where
   pub stands : LoggedStands c ls a s m
   pub many : length ls ≡ length ls0
-  pub same : (w : ℕ) → on_failed_disk c.inner.config w ≡ false → slice_get ls w ≡ slice_get ls0 w
-  pub gone : (w : ℕ) → w < n → on_failed_disk c.inner.config w ≡ true → fmr_at ls w ≡ None
+  pub same : (w : ℕ) → on_failed_disk c.inner.config w Fmr ≡ false → slice_get ls w ≡ slice_get ls0 w
+  pub gone : (w : ℕ) → w < n → on_failed_disk c.inner.config w Fmr ≡ true → fmr_at ls w ≡ None
   pub drl : (w : ℕ) (l k : Logs) → slice_get ls0 w ≡ Some l → slice_get ls w ≡ Some k → k.drl ≡ l.drl
 
 same_drls : (o : Option Logs) (l k : Logs) → o ≡ Some l → o ≡ Some k → k.drl ≡ l.drl
@@ -105,11 +105,11 @@ module _ (c : GroupCore) (a : List Bool) (s : Bool) (ls0 : List Logs) (m : Meani
     stands = stands;
     many = held.many ∙ was.many;
     same = λ w off. elim (cases_eq w n) [
-      | inl is ↦ ap (λ (x : List Logs). slice_get x w) (held.same (sym (ap (on_failed_disk c.inner.config) is) ∙ off)) ∙ was.same w off
+      | inl is ↦ ap (λ (x : List Logs). slice_get x w) (held.same (sym (ap (λ (x : ℕ). on_failed_disk c.inner.config x Fmr) is) ∙ off)) ∙ was.same w off
       | inr apart ↦ held.others w apart ∙ was.same w off
     ];
     gone = λ w lt on. elim (cases_eq w n) [
-      | inl is ↦ ap (fmr_at ls') is ∙ held.gone (sym (ap (on_failed_disk c.inner.config) is) ∙ on)
+      | inl is ↦ ap (fmr_at ls') is ∙ held.gone (sym (ap (λ (x : ℕ). on_failed_disk c.inner.config x Fmr) is) ∙ on)
       | inr apart ↦ ap fmr_or (held.others w apart) ∙ was.gone w (omega (arith, lt, apart)) on
     ];
     drl = λ w l k old now.
@@ -128,9 +128,9 @@ module _ (c : GroupCore) (a : List Bool) (s : Bool) (ls0 : List Logs) (m : Meani
 
 -- what is gone by
 pub by_held : (c : Config) (v p : ℕ) (s down : Bool) (old new : List Logs) → MapsHeld c old new → map_there new c s down v p ≡ map_by old c s down v p
-by_held c v p s down old new held = by s down (nat_le (plexes_of c v) p) (on_failed_disk c v) refl
+by_held c v p s down old new held = by s down (nat_le (plexes_of c v) p) (on_failed_disk c v Fmr) refl
   where
-    by : (st dn few bad : Bool) → on_failed_disk c v ≡ bad → (if st then None else (if dn then None else (if few then None else fmr_at new v))) ≡ (if st then None else (if dn then None else (if few then None else (if bad then None else fmr_at old v))))
+    by : (st dn few bad : Bool) → on_failed_disk c v Fmr ≡ bad → (if st then None else (if dn then None else (if few then None else fmr_at new v))) ≡ (if st then None else (if dn then None else (if few then None else (if bad then None else fmr_at old v))))
     by true dn few bad is = refl
     by false true few bad is = refl
     by false false true bad is = refl

@@ -1,5 +1,5 @@
 -- Which logs a group uses behind its calls: logs that begin, maps that are given up or emptied, writes and flushes.
-use Rattle.std.proofs.Common.{◌≡◌, ◌⊎◌, ◌∙◌, inl, inr, ℕ, zero, suc, ◌<◌, Bool, true, false, Option, Some, None, List, [], ◌∷◌, length, IsTrue, refl, sym, ap, subst, arith}
+use Rattle.std.proofs.Common.{◌≡◌, ◌⊎◌, ◌∙◌, inl, inr, ℕ, zero, suc, ◌<◌, Bool, true, false, Option, Some, None, List, [], ◌∷◌, length, IsTrue, refl, sym, ap, subst, arith, is_some}
 use Rattle.std.proofs.Math.ListN.{set}
 use Rattle.std.proofs.lemmas.Bool.{cases_eq}
 use Rattle.std.proofs.lemmas.Option.{slice_get_within}
@@ -19,7 +19,7 @@ use Rattle.vx_group.specs.Holding.{wide}
 use Rattle.vx_group.specs.Loses.{LosesPlexes}
 use Rattle.vx_group.specs.declared.group_core.GroupCore.{GroupCore}
 use Rattle.vx_group.proofs.HoldLemmas.{wide_shape}
-use Rattle.vx_grouplogs.specs.Gone.{LogsDrop, has_log, is_there}
+use Rattle.vx_grouplogs.specs.Gone.{LogsDrop, has_log}
 use Rattle.vx_groupmaps.specs.Beginning.{EmptyEnds}
 use Rattle.vx_groupmaps.specs.Loading.{failed_under, held_failed, on_failed_disk}
 use Rattle.vx_kept.specs.LogRuns.{log_place, run_or}
@@ -38,14 +38,14 @@ use Rattle.vx_loggroup.proofs.SetLemmas.{item_at}
 pub first_has : (n : ℕ) (log : VolumeLog) (l k : Logs) → FirstLogs n l k → has_log log l ≡ true → has_log log k ≡ true
 first_has n Drl l k first has = by l.drl refl
   where
-    by : (o : Option Dirty) → l.drl ≡ o → is_there k.drl ≡ true
-    by None is = absurd (let clash : false ≡ true = sym (ap (λ (x : Option Dirty). is_there x) is) ∙ has in cc)
-    by (Some d) is = ap (λ (x : Option Dirty). is_there x) (first.drl d is)
+    by : (o : Option Dirty) → l.drl ≡ o → is_some k.drl ≡ true
+    by None is = absurd (let clash : false ≡ true = sym (ap (λ (x : Option Dirty). is_some x) is) ∙ has in cc)
+    by (Some d) is = ap (λ (x : Option Dirty). is_some x) (first.drl d is)
 first_has n Fmr l k first has = by l.fmr refl
   where
-    by : (o : Option Missed) → l.fmr ≡ o → is_there k.fmr ≡ true
-    by None is = absurd (let clash : false ≡ true = sym (ap (λ (x : Option Missed). is_there x) is) ∙ has in cc)
-    by (Some f) is = ap (λ (x : Option Missed). is_there x) (first.fmr f is)
+    by : (o : Option Missed) → l.fmr ≡ o → is_some k.fmr ≡ true
+    by None is = absurd (let clash : false ≡ true = sym (ap (λ (x : Option Missed). is_some x) is) ∙ has in cc)
+    by (Some f) is = ap (λ (x : Option Missed). is_some x) (first.fmr f is)
 
 first_memory : (v n : ℕ) (ls ks : List Logs) → LogsFirst v n ls ks → (w : ℕ) (log : VolumeLog) → in_memory ls w log ≡ true → in_memory ks w log ≡ true
 first_memory v n ls ks first w log has = elim (cases_eq w v) [
@@ -76,7 +76,7 @@ and_off true b is = is
 and_off false b is = refl
 
 -- the maps lie on no failed disk where their log lies on a good one
-good_disk : (c : Config) (v : ℕ) (s : Subdisk) → log_place c v Fmr ≡ Some s → failed_at c.disks s.disk ≡ false → on_failed_disk c v ≡ false
+good_disk : (c : Config) (v : ℕ) (s : Subdisk) → log_place c v Fmr ≡ Some s → failed_at c.disks s.disk ≡ false → on_failed_disk c v Fmr ≡ false
 unfolding log_place
 good_disk c v s place good = by (log_of c v Fmr) refl
   where
@@ -84,7 +84,7 @@ good_disk c v s place good = by (log_of c v Fmr) refl
     held e None is off = refl
     held e (Some d) is off = and_off (not e.lost) d.failed (sym (failed_get c.disks e.disk d is) ∙ off)
 
-    by : (o : Option LogEntry) → log_of c v Fmr ≡ o → on_failed_disk c v ≡ false
+    by : (o : Option LogEntry) → log_of c v Fmr ≡ o → on_failed_disk c v Fmr ≡ false
     by None is = ap (failed_under c.disks) is
     by (Some e) is =
         let both : run_or (Some e) ≡ Some s = sym (ap run_or is) ∙ place in
@@ -103,9 +103,9 @@ held_stays c ls ks m held =
         let it = memory_item ls v Drl has in
         let low : v < length ls = slice_get_within ls v it.0 it.1 in
         let new = item_at ks v (let many = held.many in omega (arith, low, many)) in
-        ap (has_or Drl) new.1 ∙ ap (λ (x : Option Dirty). is_there x) (held.drl v it.0 new.0 it.1 new.1) ∙ it.2
+        ap (has_or Drl) new.1 ∙ ap (λ (x : Option Dirty). is_some x) (held.drl v it.0 new.0 it.1 new.1) ∙ it.2
 
-    same_there : (v : ℕ) (log : VolumeLog) → on_failed_disk c v ≡ false → in_memory ls v log ≡ true → in_memory ks v log ≡ true
+    same_there : (v : ℕ) (log : VolumeLog) → on_failed_disk c v Fmr ≡ false → in_memory ls v log ≡ true → in_memory ks v log ≡ true
     same_there v log off has = ap (has_or log) (held.same v off) ∙ has
 
     stays : (v : ℕ) (log : VolumeLog) (s : Subdisk) → log_place c v log ≡ Some s → LogUsed c ls v log s → in_memory ks v log ≡ true
@@ -125,7 +125,7 @@ unit_of c v f l s fit is place =
     one r t is = let same : r ≡ t = cc in ap (λ (x : Subdisk). x.disk) same
 
 same_drl : (l k : Logs) → k.drl ≡ l.drl → has_log Drl k ≡ has_log Drl l
-same_drl l k same = ap (λ (x : Option Dirty). is_there x) same
+same_drl l k same = ap (λ (x : Option Dirty). is_some x) same
 
 gone_clash : (a b : Bool) → b ≡ a → a ≡ true → b ≡ false → ⊥
 gone_clash a b same on off = let clash : false ≡ true = sym off ∙ same ∙ on in cc
@@ -133,7 +133,7 @@ gone_clash a b same on off = let clash : false ≡ true = sym off ∙ same ∙ o
 pub begun_drops : (c : Config) (v plex : ℕ) (l k : Logs) (gone : Bool) (m m' : Meaning) → LogsFit c v l → k.drl ≡ l.drl → EmptyEnds plex gone l.fmr k.fmr m m' → LogsDrop c v l k m m'
 begun_drops c v plex l k gone m m' fit drl ends = record { gone = goes; none = there }
   where
-    rises : (s : Subdisk) → log_place c v Fmr ≡ Some s → (o p : Option Missed) → l.fmr ≡ o → EmptyEnds plex gone o p m m' → is_there o ≡ true → is_there p ≡ false → Rose (m.faults s.disk) (m'.faults s.disk) ⊎ IsTrue m'.down
+    rises : (s : Subdisk) → log_place c v Fmr ≡ Some s → (o p : Option Missed) → l.fmr ≡ o → EmptyEnds plex gone o p m m' → is_some o ≡ true → is_some p ≡ false → Rose (m.faults s.disk) (m'.faults s.disk) ⊎ IsTrue m'.down
     rises s at None p is end has off = absurd (let clash : false ≡ true = has in cc)
     rises s at (Some f) None is end has off = inl (subst (λ (u : ℕ). Rose (m.faults u) (m'.faults u)) (unit_of c v f l s fit is at) end.1)
     rises s at (Some f) (Some g) is end has off = absurd (let clash : true ≡ false = off in cc)
@@ -142,7 +142,7 @@ begun_drops c v plex l k gone m m' fit drl ends = record { gone = goes; none = t
     goes Drl s at has off = absurd (gone_clash (has_log Drl l) (has_log Drl k) (same_drl l k drl) has off)
     goes Fmr s at has off = rises s at l.fmr k.fmr refl ends has off
 
-    stays : (o p : Option Missed) → EmptyEnds plex gone o p m m' → is_there p ≡ true → is_there o ≡ true
+    stays : (o p : Option Missed) → EmptyEnds plex gone o p m m' → is_some p ≡ true → is_some o ≡ true
     stays None None end on = on
     stays None (Some g) end on = absurd end
     stays (Some f) p end on = refl
@@ -160,7 +160,7 @@ none_drops c v l k m m' drl none down = record { gone = goes; none = there }
 
     there : (log : VolumeLog) → has_log log k ≡ true → has_log log l ≡ true
     there Drl on = sym (same_drl l k drl) ∙ on
-    there Fmr on = absurd (let clash : false ≡ true = sym (ap (λ (x : Option Missed). is_there x) none) ∙ on in cc)
+    there Fmr on = absurd (let clash : false ≡ true = sym (ap (λ (x : Option Missed). is_some x) none) ∙ on in cc)
 
 pub dropped_stay : (c : Config) (v : ℕ) (ls : List Logs) (l k : Logs) (m m' : Meaning) → slice_get ls v ≡ Some l → LogsDrop c v l k m m' → LogsStay c c ls (set ls v k) m m'
 dropped_stay c v ls l k m m' at drops =

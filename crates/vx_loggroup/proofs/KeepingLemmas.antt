@@ -1,7 +1,7 @@
 -- Which logs a group uses behind a call, and behind two in a row.
 use Rattle.std.proofs.Common.{◌≡◌, ◌⊎◌, ◌∙◌, inl, inr, ℕ, zero, suc, ◌+◌, ◌<◌, ◌≤◌, Bool, true, false, Option, Some, None, List, [], ◌∷◌, ◌++◌, length, IsTrue, refl, sym, ap, subst, arith}
 use Rattle.std.proofs.Math.ListN.{set}
-use Rattle.std.proofs.lemmas.Bool.{cases_eq}
+use Rattle.std.proofs.lemmas.Bool.{cases_eq, not-true}
 use Rattle.std.proofs.lemmas.List.{length-set}
 use Rattle.std.proofs.lemmas.Option.{slice_get_within}
 use Rattle.std.specs.Prelude.{◌&&◌, not, slice_get}
@@ -39,10 +39,6 @@ pub record LogUsed (c : Config) (l : List Logs) (v : ℕ) (log : VolumeLog) (s :
   pub trusted : log_trusted c v log ≡ true
   pub good : failed_at c.disks s.disk ≡ false
 
-not_true : (b : Bool) → not b ≡ true → b ≡ false
-not_true true is = absurd (let clash : false ≡ true = is in cc)
-not_true false is = refl
-
 and_true : (a b : Bool) → a ≡ true → b ≡ true → a && b ≡ true
 and_true true b one two = two
 and_true false b one two = one
@@ -54,7 +50,7 @@ used_parts c l v log s at is =
     record {
       has = and_left (in_memory l v log) (log_trusted c v log && lies_well c (log_place c v log)) is;
       trusted = and_left (log_trusted c v log) (lies_well c (log_place c v log)) rest;
-      good = not_true (failed_at c.disks s.disk) (sym (ap (lies_well c) at) ∙ and_right (log_trusted c v log) (lies_well c (log_place c v log)) rest);
+      good = not-true (failed_at c.disks s.disk) (sym (ap (lies_well c) at) ∙ and_right (log_trusted c v log) (lies_well c (log_place c v log)) rest);
     }
 
 pub used_from : (c : Config) (l : List Logs) (v : ℕ) (log : VolumeLog) (s : Subdisk) → log_place c v log ≡ Some s → LogUsed c l v log s → uses_log c l v log ≡ true

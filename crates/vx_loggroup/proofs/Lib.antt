@@ -25,7 +25,6 @@ pub mod RestTells
 pub mod CloseLemmas
 pub mod AlikeFlags
 pub mod TouchLemmas
-pub mod UsesLemmas
 pub mod HeldMaps
 pub mod MirrorLemmas
 pub mod KeepingLemmas

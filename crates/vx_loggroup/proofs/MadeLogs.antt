@@ -1,5 +1,5 @@
 -- What is kept of the volumes of a group with logs, behind a volume that is made, or not.
-use Rattle.std.proofs.Common.{◌≡◌, ◌⊎◌, ◌∙◌, inl, inr, ℕ, zero, suc, ◌+◌, ◌<◌, ◌≤◌, Bool, true, false, IsTrue, Option, Some, None, List, [], ◌∷◌, ◌++◌, length, refl, sym, ap, subst, arith}
+use Rattle.std.proofs.Common.{◌≡◌, ◌⊎◌, ◌∙◌, inl, inr, ℕ, ◌+◌, ◌<◌, ◌≤◌, Bool, true, false, IsTrue, Option, Some, None, List, [], ◌∷◌, ◌++◌, length, refl, sym, ap, subst, arith}
 use Rattle.std.specs.Prelude.{Err, Ok, is_some, slice_get, take}
 use Rattle.vx_config.specs.Checks.{blocks_of as blocks_in, blocks_or_none}
 use Rattle.std.proofs.lemmas.Bool.{cases_eq, cases_lt}
@@ -23,6 +23,7 @@ use Rattle.vx_model.specs.declared.errors.Stop.{Stop}
 use Rattle.vx_model.specs.declared.errors.Stop.TheVariants.{No as Refused, OutOfMemory}
 use Rattle.vx_model.specs.declared.no.No.{No}
 use Rattle.vx_model.specs.declared.no.No.TheVariants as refusal
+use Rattle.vx_model.proofs.Lists.{get_end, get_front}
 use Rattle.vx_volume.specs.Plexes.{Inside}
 use Rattle.vx_volume.proofs.PlaceLemmas.{has_of}
 use Rattle.vx_group.specs.Calls.{GroupStays}
@@ -53,15 +54,6 @@ use Rattle.vx_loggroup.proofs.KnownLemmas.{know_seen, some_read}
 use Rattle.vx_loggroup.proofs.StayLemmas.{each_seen}
 
 -- ---- lists with one item more
-
-get_front : {A : Type 0} (xs ys : List A) (k : ℕ) → k < length xs → slice_get (xs ++ ys) k ≡ slice_get xs k
-get_front [] ys k lt = absurd (omega (arith, lt))
-get_front (x ∷ xs) ys zero lt = refl
-get_front (x ∷ xs) ys (suc k) lt = get_front xs ys k (omega (arith, lt))
-
-get_end : {A : Type 0} (xs : List A) (y : A) → slice_get (xs ++ (y ∷ [])) (length xs) ≡ Some y
-get_end [] y = refl
-get_end (x ∷ xs) y = get_end xs y
 
 pub long_one : {A : Type 0} (xs : List A) (y : A) → length (xs ++ (y ∷ [])) ≡ length xs + 1
 long_one [] y = refl

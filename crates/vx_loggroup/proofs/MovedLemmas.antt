@@ -2,6 +2,7 @@
 use Rattle.std.proofs.Common.{◌≡◌, ◌⊎◌, ◌≤◌, ◌&&◌, ℕ, Bool, true, false, List, refl, sym, ◌∙◌, ap, subst, inl, inr}
 use Rattle.std.specs.Prelude.{Option, Some, None, ◌==◌, leb}
 use Rattle.std.proofs.lemmas.Bool.{cases_eq, eq-eqb, eqb-true, le-leb, leb-true}
+use Rattle.vx_model.proofs.Tests.{and_left, and_right}
 use Rattle.vx_bitmap.specs.Bits.{is_among}
 use Rattle.vx_config.specs.declared.config.Config.{Config}
 use Rattle.vx_fmr.specs.Missed.{Missed, has_missed}
@@ -9,14 +10,6 @@ use Rattle.vx_logs.specs.declared.logs.Logs.{Logs}
 use Rattle.vx_volume.specs.Plexes.{active}
 use Rattle.vx_loggroup.specs.Attaching.{fmr_at}
 use Rattle.vx_loggroup.specs.Moving.{IsThere, MapsDoubt, MapsFlushed, MapsMove, all_anew, in_none, in_run, missed_by, missed_in}
-
-both_left : (x y : Bool) → (x && y) ≡ true → x ≡ true
-both_left true y is = refl
-both_left false y is = let clash : false ≡ true = is in cc
-
-both_right : (x y : Bool) → (x && y) ≡ true → y ≡ true
-both_right true y is = is
-both_right false y is = let clash : false ≡ true = is in cc
 
 both_are : (x y : Bool) → x ≡ true → y ≡ true → (x && y) ≡ true
 both_are true y on is = is
@@ -36,15 +29,15 @@ apart_eq v w apart = by (v == w) refl
 -- ---- runs
 
 pub run_volume : (vol first last v r : ℕ) → in_run vol first last v r ≡ true → v ≡ vol
-run_volume vol first last v r is = eqb-true v vol (both_left (v == vol) (is_among first last r) is)
+run_volume vol first last v r is = eqb-true v vol (and_left (v == vol) (is_among first last r) is)
 
 pub run_here : (vol first last r : ℕ) → first ≤ r → r ≤ last → in_run vol first last vol r ≡ true
 run_here vol first last r low high = both_are (vol == vol) (is_among first last r) (eq-eqb vol vol refl) (both_are (leb first r) (leb r last) (le-leb first r low) (le-leb r last high))
 
 pub run_among : (vol first last v r : ℕ) → in_run vol first last v r ≡ true → (first ≤ r) × (r ≤ last)
 run_among vol first last v r is =
-    let among = both_right (v == vol) (is_among first last r) is in
-    (leb-true first r (both_left (leb first r) (leb r last) among), leb-true r last (both_right (leb first r) (leb r last) among))
+    let among = and_right (v == vol) (is_among first last r) is in
+    (leb-true first r (and_left (leb first r) (leb r last) among), leb-true r last (and_right (leb first r) (leb r last) among))
 
 -- ---- maps of other volumes
 

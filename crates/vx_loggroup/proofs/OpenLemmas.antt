@@ -1,5 +1,6 @@
 -- A group with logs as an import gives it.
-use Rattle.std.proofs.Common.{◌≡◌, ◌∙◌, ◌⊎◌, inl, inr, ℕ, ◌<◌, ◌≤◌, Bool, true, false, IsTrue, Option, Some, None, List, length, refl, sym, ap, subst, arith}
+use Rattle.std.proofs.Common.{◌≡◌, ◌∙◌, ◌⊎◌, inl, inr, ℕ, ◌<◌, Bool, true, false, IsTrue, Option, Some, None, List, length, refl, sym, ap, subst, arith}
+use Rattle.std.proofs.lemmas.Bool.{both_ways}
 use Rattle.std.specs.Prelude.{Err, Ok, Result, slice_get}
 use Rattle.std.proofs.lemmas.Option.{slice_get_within}
 use Rattle.vx_config.specs.declared.config.Config.{Config}
@@ -176,10 +177,6 @@ module _ (old m1 : Meaning) (k : Marked) (law0 : Lawful old) (law : Lawful m1) (
           by (Refused why) cause = inr (half, inl (cause_before old m2 new (λ d. let one = it.goes.disk_faults d in let two = goes.disk_faults d in omega (arith, one, two)) why cause))
           by OutOfMemory none = absurd none
 
-settled_not : (b : Bool) → b ≡ false → b ≡ true → ⊥
-settled_not true off is = let clash : true ≡ false = off in cc
-settled_not false off is = let clash : false ≡ true = is in cc
-
 -- each image has the configuration in memory
 opened_newest : (old m1 : Meaning) (k : Marked) → Lawful m1 → ResumedBy old k m1 → (m2 new : Meaning) → Goes Nothing m1 m2 → Lawful m2 → (core : GroupCore) → GroupFinds (record { inner = k.core; held = None }) core m2 new → core.inner.committed ≡ true
     → AllAtOnce core.inner.config new
@@ -202,7 +199,7 @@ opens_by meaning moment old k law0 law can it r tells a mended resting ls m2 new
     committed = fin.trust it.resumed.committed;
     newest = opened_newest old (meaning moment) k law it m2 new goes law2 o.core fin.settles.finds (fin.trust it.resumed.committed);
     free = fin.settles.finds.free refl;
-    openly = λ un. fin.settles.finds.core.openly (λ missed. absurd (settled_not k.core.unsettled it.resumed.settled missed)) un;
+    openly = λ un. fin.settles.finds.core.openly (λ missed. absurd (both_ways k.core.unsettled it.resumed.settled missed)) un;
     up = fin.up;
     same = settled_units old (meaning moment) k law0 law can it r tells ls m2 new drls long goes law2 o.core fin.settles;
     counts = (settled_loses old (meaning moment) k law0 law can it r tells ls m2 new drls long goes law2 o.core fin.settles).rises;

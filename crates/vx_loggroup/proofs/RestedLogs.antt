@@ -13,16 +13,13 @@ use Rattle.vx_copyfmt.specs.Imports.{Found}
 use Rattle.vx_disk.specs.Shelf.{Each, Goes, Image, Lawful, Meaning, Nothing}
 use Rattle.vx_fmr.specs.Missed.{FmrLoaded, Missed, has_missed, missed_place}
 use Rattle.vx_group.specs.Deports.{DeportedBy}
-use Rattle.vx_group.specs.Holding.{GroupStands, config_by, wide}
+use Rattle.vx_group.specs.Holding.{GroupStands, wide}
 use Rattle.vx_group.specs.Resumes.{stopped}
 use Rattle.vx_group.specs.declared.group_core.GroupCore.{GroupCore}
 use Rattle.vx_group.specs.Dets.{any_below}
 use Rattle.vx_group.proofs.HoldLemmas.{narrow_wider, wide_shape}
-use Rattle.vx_group.proofs.UsesLemmas.{uses_stated}
-use Rattle.vx_group.specs.declared.group_core.Held.{Held}
-use Rattle.vx_kept.specs.States.{whole_of}
-use Rattle.vx_model.specs.declared.site.PlexState.TheVariants.{Active}
 use Rattle.vx_group.proofs.Standing.{fit_of, sound_of}
+use Rattle.vx_group.proofs.ThroughLemmas.{by_uses}
 use Rattle.vx_groupmaps.specs.Missing.{bit_in_maps}
 use Rattle.vx_groupmaps.proofs.KnowLemmas.{plex_below}
 use Rattle.vx_groupmaps.proofs.MapPlaces.{bit_low, region_low}
@@ -52,10 +49,10 @@ use Rattle.vx_logs.specs.declared.logs.Logs.{Logs}
 use Rattle.vx_model.specs.Content.{block_of}
 use Rattle.vx_volume.specs.Plexes.{Inside, active, active_or, uses}
 use Rattle.vx_volume.proofs.ReadRuns.{leaves_before, reads_before}
+use Rattle.vx_volume.proofs.UsesLemmas.{has_disk, has_uses}
 use Rattle.vx_loggroup.specs.LoggedVolumes.{LoggedStands, VolumeStands, is_alike}
 use Rattle.vx_loggroup.specs.Resting.{DisksSettle, NoneTouched, VolumeRests, in_disks}
 use Rattle.vx_loggroup.proofs.DeportedLogs.{at_shape, on_at}
-use Rattle.vx_loggroup.proofs.UsesLemmas.{has_disk, has_uses}
 
 active_same : (x y : Config) (v q : ℕ) → plex_at x v q ≡ plex_at y v q → active x v q ≡ active y v q
 unfolding active
@@ -79,10 +76,6 @@ any_one test (suc n) p lt is = elim (cases_eq p n) [
 pub is_stopped : (x : Config) (v p b : ℕ) → Inside x v b → IsTrue (active x v p) → stopped x v ≡ true
 unfolding stopped
 is_stopped x v p b inside on = any_one (active x v) (plexes_of x v) p (plex_below x v p b (has_of x v p b on inside)) on
-
-by_uses : (o : Option Held) (c : Config) (w q u : ℕ) → uses (config_by o c) w q u ≡ uses c w q u
-by_uses None c w q u = refl
-by_uses (Some h) c w q u = uses_stated h.vol h.plex Active (whole_of c h.vol h.plex) c w q u
 
 wide_uses : (c : GroupCore) (v p u : ℕ) → uses (wide c).config v p u ≡ uses c.inner.config v p u
 wide_uses c v p u = by_uses c.held c.inner.config v p u

@@ -21,6 +21,7 @@ use Rattle.vx_model.specs.declared.no.No.{No}
 use Rattle.vx_logs.proofs.LogLemmas.{log_off_plex}
 use Rattle.vx_resync.specs.Picks.{missed_or}
 use Rattle.vx_volume.specs.Plexes.{Inside}
+use Rattle.vx_volume.proofs.UsesLemmas.{TherePlex}
 use Rattle.vx_group.specs.Attaches.{KnowsMissed, OnMissed, att_refusal}
 use Rattle.vx_group.specs.Calls.{GroupAttaches}
 use Rattle.vx_group.specs.Holding.{GroupStands, wide}
@@ -28,7 +29,7 @@ use Rattle.vx_group.specs.Stands.{inner_meaning}
 use Rattle.vx_group.specs.declared.group_core.GroupCore.{GroupCore}
 use Rattle.vx_group.proofs.HoldLemmas.{narrow_sound, narrow_wider, wide_shape}
 use Rattle.vx_group.proofs.MissLemmas.{none_knows}
-use Rattle.vx_group.proofs.OpeningLemmas.{Present, may_attach, present}
+use Rattle.vx_group.proofs.OpeningLemmas.{may_attach, present}
 use Rattle.vx_group.proofs.Standing.{fit_of, sound_of}
 use Rattle.vx_groupmaps.specs.Missing.{none_spared, or_spared}
 use Rattle.vx_grouplogs.specs.Covering.{OnLogs}
@@ -91,7 +92,7 @@ not_le : (n p : ℕ) → nat_le n p ≡ false → p < n
 not_le n p is = elim (cases_lt p n) [ inl lt ↦ lt | inr le ↦ absurd (let clash : true ≡ false = sym (le-leb n p le) ∙ is in cc) ]
 
 -- the maps in memory, where the plex is there
-by_map_in : (ls : List Logs) (c : Config) (s down : Bool) (v p : ℕ) → s ≡ false → down ≡ false → Present c v p → map_there ls c s down v p ≡ fmr_at ls v
+by_map_in : (ls : List Logs) (c : Config) (s down : Bool) (v p : ℕ) → s ≡ false → down ≡ false → TherePlex c v p → map_there ls c s down v p ≡ fmr_at ls v
 by_map_in ls c true down v p going up there = absurd (let clash : true ≡ false = going in cc)
 by_map_in ls c false true v p going up there = absurd (let clash : true ≡ false = up in cc)
 by_map_in ls c false false v p going up there = by (nat_le (plexes_of c v) p) refl
@@ -104,7 +105,7 @@ by_map_in ls c false false v p going up there = by (nat_le (plexes_of c v) p) re
         let le = leb-true (plexes_of c v) p is in
         absurd (omega (arith, count, low, le))
 
-has_here : (c : Config) (v p k : ℕ) → Present c v p → Inside c v k → HasBlock c v p k
+has_here : (c : Config) (v p k : ℕ) → TherePlex c v p → Inside c v k → HasBlock c v p k
 unfolding has_plex
 has_here c v p k there inside = record { plex = ap (λ (o : Option VolumeEntry). is_some (plex_in o p)) there.at_v ∙ ap is_some there.at_p; block = inside.within }
 
@@ -112,7 +113,7 @@ module _ (v p : ℕ) (f : Option Missed) (c d : GroupCore) (m m' : Meaning) (sta
   inner_sound : is_sound c.inner.config ≡ true
   inner_sound = narrow_sound c m stands
 
-  there : Present c.inner.config v p
+  there : TherePlex c.inner.config v p
   there = present c.inner.config v p (may_attach c.inner.config v p may)
 
   -- no block of a log is one of the plex

@@ -1,5 +1,5 @@
 -- Logs of volumes that are in memory or held as lost, behind a flush, behind the calls of a detach and behind a volume that is made.
-use Rattle.std.proofs.Common.{◌≡◌, ◌⊎◌, ◌∙◌, inl, inr, ℕ, ◌+◌, ◌<◌, ◌≤◌, Bool, true, false, IsTrue, Option, Some, None, List, ◌++◌, length, refl, sym, ap, subst, arith}
+use Rattle.std.proofs.Common.{◌≡◌, ◌⊎◌, ◌∙◌, inl, inr, ℕ, ◌+◌, ◌<◌, ◌≤◌, Bool, true, false, IsTrue, Option, Some, None, List, ◌++◌, length, refl, sym, ap, subst, arith, is_some}
 use Rattle.std.proofs.Math.ListN.{set}
 use Rattle.std.proofs.lemmas.Bool.{cases_eq, cases_lt}
 use Rattle.std.proofs.lemmas.List.{length-set}
@@ -15,7 +15,7 @@ use Rattle.vx_group.specs.Holding.{GroupStands, wide}
 use Rattle.vx_group.specs.declared.group_core.GroupCore.{GroupCore}
 use Rattle.vx_group.proofs.HoldLemmas.{wide_shape}
 use Rattle.vx_group.proofs.TrustingLemmas.{trusting_others}
-use Rattle.vx_grouplogs.specs.Gone.{has_log, is_there}
+use Rattle.vx_grouplogs.specs.Gone.{has_log}
 use Rattle.vx_grouplogs.specs.On.{ReadsOne}
 use Rattle.vx_kept.specs.Keeping.{Extends}
 use Rattle.vx_kept.specs.LogRuns.{log_trusted}
@@ -160,7 +160,7 @@ gone_back : {A : Type 0} (o p : Option A) → ((x : A) → o ≡ Some x → p �
 gone_back None p keeps none = refl
 gone_back (Some x) p keeps none = absurd (let clash : Some x ≡ None = sym (keeps x refl) ∙ none in cc)
 
-there_clash : {A : Type 0} (o : Option A) → is_there o ≡ true → o ≡ None → ⊥
+there_clash : {A : Type 0} (o : Option A) → is_some o ≡ true → o ≡ None → ⊥
 there_clash None has none = let clash : false ≡ true = has in cc
 there_clash (Some x) has none = let clash : Some x ≡ None = none in cc
 

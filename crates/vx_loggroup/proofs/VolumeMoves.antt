@@ -5,9 +5,9 @@ use Rattle.std.proofs.lemmas.Bool.{cases_eq, eqb-true}
 use Rattle.vx_config.specs.Checks.{plexes_of}
 use Rattle.vx_config.specs.declared.config.Config.{Config}
 use Rattle.vx_fmr.specs.Missed.{Missed, OthersSame, SameMissedShape, has_missed}
-use Rattle.vx_group.specs.Attaches.{copied_regions}
 use Rattle.vx_logs.specs.declared.logs.Logs.{Logs}
 use Rattle.vx_volume.specs.Plexes.{active}
+use Rattle.vx_group.specs.Attaches.{region_count}
 use Rattle.vx_loggroup.specs.Attaching.{fmr_at}
 use Rattle.vx_loggroup.specs.Moving.{IsThere, MapsDoubt, MapsFlushed, MapsMove, all_anew, in_none, in_run, missed_in, this_anew}
 use Rattle.vx_loggroup.proofs.MovedLemmas.{doubt_run, follow_run, move_run, same_missed}
@@ -34,7 +34,7 @@ low_new n a b g low fit same = omega (arith, low, fit, same)
 pub record MapFirst (c : Config) (vol : ℕ) (l : List Logs) (f : Missed) : Type 0 where
   pub same : (p r : ℕ) → IsThere c vol p r → has_missed f p r ≡ missed_in l c vol p r
   pub plexes : plexes_of c vol ≤ f.plexes
-  pub stride : copied_regions c vol ≤ f.stride
+  pub stride : region_count c vol ≤ f.stride
 
 -- ---- a write
 
@@ -53,7 +53,7 @@ module _ (c d : Config) (vol first last : ℕ) (l k : List Logs) (others : (w : 
     had : (p r : ℕ) (g : Missed) → fmr_at k vol ≡ Some g → IsThere c vol p r → has_missed g p r ≡ true → ((active d vol p ≡ false) × (first ≤ r) × (r ≤ last)) ⊎ (missed_in l c vol p r ≡ true)
     had p r g at it has =
         let f = from g at in
-        elim (f.only p r (low_old p (plexes_of c vol) f.map.plexes it.plex f.begun.plexes) (low_old r (copied_regions c vol) f.map.stride it.region f.begun.stride) has) [
+        elim (f.only p r (low_old p (plexes_of c vol) f.map.plexes it.plex f.begun.plexes) (low_old r (region_count c vol) f.map.stride it.region f.begun.stride) has) [
           | inl was ↦ inr (sym (f.begun.same p r it) ∙ was)
           | inr run ↦ inl (off p run.0, run.1, run.2)
         ]
@@ -69,13 +69,13 @@ module _ (c d : Config) (vol first last : ℕ) (l k : List Logs) (others : (w : 
         by false is true here (inr was) = inr ((λ on away. (let clash : true ≡ false = sym (fell_is (active c vol p) (active d vol p) on away) ∙ is in cc)), was)
         by true is true here (inr was) =
             let f = from g at in
-            let run = runs here g at p r (low_new p (plexes_of c vol) f.map.plexes g.plexes it.plex f.begun.plexes f.shape.plexes) (low_new r (copied_regions c vol) f.map.stride g.stride it.region f.begun.stride f.shape.stride) is has in
+            let run = runs here g at p r (low_new p (plexes_of c vol) f.map.plexes g.plexes it.plex f.begun.plexes f.shape.plexes) (low_new r (region_count c vol) f.map.stride g.stride it.region f.begun.stride f.shape.stride) is has in
             inl (fell_off (active c vol p) (active d vol p) is, run.0, run.1)
 
     stay : (p r : ℕ) (g : Missed) → fmr_at k vol ≡ Some g → IsThere c vol p r → active c vol p ≡ false → active d vol p ≡ false → missed_in l c vol p r ≡ true → has_missed g p r ≡ true
     stay p r g at it was away has =
         let f = from g at in
-        f.stay p r (low_old p (plexes_of c vol) f.map.plexes it.plex f.begun.plexes) (low_old r (copied_regions c vol) f.map.stride it.region f.begun.stride) was (f.begun.same p r it ∙ has)
+        f.stay p r (low_old p (plexes_of c vol) f.map.plexes it.plex f.begun.plexes) (low_old r (region_count c vol) f.map.stride it.region f.begun.stride) was (f.begun.same p r it ∙ has)
 
     -- each plex that is not ACTIVE has the run
     pub write_moves : ((p r : ℕ) (g : Missed) → fmr_at k vol ≡ Some g → IsThere c vol p r → active d vol p ≡ false → first ≤ r → r ≤ last → has_missed g p r ≡ true) → MapsMove c d (in_run vol first last) (all_anew vol sure) l k
@@ -92,13 +92,13 @@ module _ (c d : Config) (vol first last : ℕ) (l k : List Logs) (others : (w : 
         doubt_run c d vol first last false l k others
         (λ p r g at it has.
         let f = from g at in
-        elim (f.only p r (low_old p (plexes_of c vol) f.map.plexes it.plex f.begun.plexes) (low_old r (copied_regions c vol) f.map.stride it.region f.begun.stride) has) [
+        elim (f.only p r (low_old p (plexes_of c vol) f.map.plexes it.plex f.begun.plexes) (low_old r (region_count c vol) f.map.stride it.region f.begun.stride) has) [
           | inl was ↦ inr (sym (f.begun.same p r it) ∙ was)
           | inr run ↦ inl (run.1, run.2)
         ])
         (λ p r g at it was away has.
         let f = from g at in
-        f.stay p r (low_old p (plexes_of c vol) f.map.plexes it.plex f.begun.plexes) (low_old r (copied_regions c vol) f.map.stride it.region f.begun.stride) was (f.begun.same p r it ∙ has))
+        f.stay p r (low_old p (plexes_of c vol) f.map.plexes it.plex f.begun.plexes) (low_old r (region_count c vol) f.map.stride it.region f.begun.stride) was (f.begun.same p r it ∙ has))
 
 -- ---- a detach
 
@@ -111,13 +111,13 @@ pub record MapWithout (c : Config) (vol plex : ℕ) (l : List Logs) (g : Missed)
   pub still : active c vol plex ≡ false → (r : ℕ) → r < map.stride → has_missed map plex r ≡ true → has_missed g plex r ≡ true
 
 module _ (c d : Config) (vol plex : ℕ) (sure : Bool) (l k : List Logs) (others : (w : ℕ) → (w ≡ vol → ⊥) → fmr_at k w ≡ fmr_at l w) (from : (g : Missed) → fmr_at k vol ≡ Some g → MapWithout c vol plex l g)
-    (empty : sure ≡ true → active c vol plex ≡ true → active d vol plex ≡ false → (g : Missed) → fmr_at k vol ≡ Some g → (r : ℕ) → r < copied_regions c vol → has_missed g plex r ≡ false) where
+    (empty : sure ≡ true → active c vol plex ≡ true → active d vol plex ≡ false → (g : Missed) → fmr_at k vol ≡ Some g → (r : ℕ) → r < region_count c vol → has_missed g plex r ≡ false) where
   -- of this volume
   was_here : (p r : ℕ) (g : Missed) → fmr_at k vol ≡ Some g → IsThere c vol p r → has_missed g p r ≡ true → missed_in l c vol p r ≡ true
   was_here p r g at it has =
       let f = from g at in
       let low = low_old p (plexes_of c vol) f.map.plexes it.plex f.begun.plexes in
-      let region = low_old r (copied_regions c vol) f.map.stride it.region f.begun.stride in
+      let region = low_old r (region_count c vol) f.map.stride it.region f.begun.stride in
       elim (cases_eq p plex) [
         | inl same ↦
             sym (f.begun.same p r it) ∙ ap (λ (q : ℕ). has_missed f.map q r) same
@@ -129,7 +129,7 @@ module _ (c d : Config) (vol plex : ℕ) (sure : Bool) (l k : List Logs) (others
   stays_here p r g at it was has =
       let f = from g at in
       let low = low_old p (plexes_of c vol) f.map.plexes it.plex f.begun.plexes in
-      let region = low_old r (copied_regions c vol) f.map.stride it.region f.begun.stride in
+      let region = low_old r (region_count c vol) f.map.stride it.region f.begun.stride in
       elim (cases_eq p plex) [
         | inl same ↦
             ap (λ (q : ℕ). has_missed g q r) same
@@ -151,7 +151,7 @@ module _ (c d : Config) (vol plex : ℕ) (sure : Bool) (l k : List Logs) (others
           let at' = subst (λ (w : ℕ). fmr_at k w ≡ Some g) volume at in
           let on' = subst (λ (q : ℕ). active c vol q ≡ true) same (subst (λ (w : ℕ). active c w p ≡ true) volume on) in
           let away' = subst (λ (q : ℕ). active d vol q ≡ false) same (subst (λ (w : ℕ). active d w p ≡ false) volume away) in
-          let none = empty is on' away' g at' r (subst (λ (w : ℕ). r < copied_regions c w) volume it.region) in
+          let none = empty is on' away' g at' r (subst (λ (w : ℕ). r < region_count c w) volume it.region) in
           let clash : true ≡ false = sym (subst (λ (q : ℕ). has_missed g q r ≡ true) same has) ∙ none in
           cc
 

@@ -2,6 +2,7 @@
 use Rattle.std.specs.Prelude.{◌≡◌, ◌||◌, ◌&&◌, not, ℕ, Bool, true, false, nat_le, if◌then◌else◌, IsTrue, is_some, Option, Some, None, List, Result, Ok, Err, length, slice_get}
 use Rattle.vx_config.specs.Checks.{plexes_of}
 use Rattle.vx_config.specs.declared.config.Config.{Config}
+use Rattle.vx_config.specs.declared.entry.VolumeLog.TheVariants.{Fmr}
 use Rattle.vx_disk.specs.Shelf.{Goes, Meaning, Nothing, Or, Values}
 use Rattle.vx_fmr.specs.Missed.{Missed}
 use Rattle.vx_group.specs.Attaches.{AnyImage, OnMissed}
@@ -31,21 +32,21 @@ map_there logs c stopped down v p = if stopped then None else (if down then None
 
 -- the same, but none where their disk is held as failed
 abbrev pub map_by : List Logs → Config → Bool → Bool → ℕ → ℕ → Option Missed
-map_by logs c stopped down v p = if stopped then None else (if down then None else (if nat_le (plexes_of c v) p then None else (if on_failed_disk c v then None else fmr_at logs v)))
+map_by logs c stopped down v p = if stopped then None else (if down then None else (if nat_le (plexes_of c v) p then None else (if on_failed_disk c v Fmr then None else fmr_at logs v)))
 
 -- The maps of volume v are in memory no more where their disk is held as failed; else all logs are as they were.
 pub record MapHeld (c : Config) (v : ℕ) (old new : List Logs) : Type 0 where
   pub many : length new ≡ length old
-  pub same : on_failed_disk c v ≡ false → new ≡ old
-  pub gone : on_failed_disk c v ≡ true → fmr_at new v ≡ None
+  pub same : on_failed_disk c v Fmr ≡ false → new ≡ old
+  pub gone : on_failed_disk c v Fmr ≡ true → fmr_at new v ≡ None
   pub drl : (w : ℕ) (l k : Logs) → slice_get old w ≡ Some l → slice_get new w ≡ Some k → k.drl ≡ l.drl
   pub others : (w : ℕ) → (w ≡ v → ⊥) → slice_get new w ≡ slice_get old w
 
 -- so it is of each volume
 pub record MapsHeld (c : Config) (old new : List Logs) : Type 0 where
   pub many : length new ≡ length old
-  pub same : (w : ℕ) → on_failed_disk c w ≡ false → slice_get new w ≡ slice_get old w
-  pub gone : (w : ℕ) → on_failed_disk c w ≡ true → fmr_at new w ≡ None
+  pub same : (w : ℕ) → on_failed_disk c w Fmr ≡ false → slice_get new w ≡ slice_get old w
+  pub gone : (w : ℕ) → on_failed_disk c w Fmr ≡ true → fmr_at new w ≡ None
   pub drl : (w : ℕ) (l k : Logs) → slice_get old w ≡ Some l → slice_get new w ≡ Some k → k.drl ≡ l.drl
 
 -- ---- a volume of which a write was refused since the import
@@ -56,7 +57,7 @@ went old new v = is_some (fmr_at old v) && not (is_some (fmr_at new v))
 
 -- the same of maps that attaches went by, as their disk was not held as failed
 abbrev pub maps_gone : Config → List Logs → List Logs → ℕ → Bool
-maps_gone c old new v = not (on_failed_disk c v) && went old new v
+maps_gone c old new v = not (on_failed_disk c v Fmr) && went old new v
 
 -- Whether an attach leaves the maps as they are: where the plexes of the volume are alike, or logs are stopped; and where it is refused, and did not end with
 -- the maps of the volume gone from memory.
@@ -105,7 +106,7 @@ pub record MapsFollow (c : Config) (v to : ℕ) (old new : List Logs) : Type 0 w
   pub many : length new ≡ length old
   pub from : ℕ
   pub is_on : IsTrue (active c v from)
-  pub here : on_failed_disk c v ≡ false → (l k : Logs) → slice_get old v ≡ Some l → slice_get new v ≡ Some k → MapsTake to from l k
-  pub same : (w : ℕ) → (w ≡ v → ⊥) → on_failed_disk c w ≡ false → slice_get new w ≡ slice_get old w
-  pub gone : (w : ℕ) → on_failed_disk c w ≡ true → fmr_at new w ≡ None
+  pub here : on_failed_disk c v Fmr ≡ false → (l k : Logs) → slice_get old v ≡ Some l → slice_get new v ≡ Some k → MapsTake to from l k
+  pub same : (w : ℕ) → (w ≡ v → ⊥) → on_failed_disk c w Fmr ≡ false → slice_get new w ≡ slice_get old w
+  pub gone : (w : ℕ) → on_failed_disk c w Fmr ≡ true → fmr_at new w ≡ None
   pub drl : (w : ℕ) (l k : Logs) → slice_get old w ≡ Some l → slice_get new w ≡ Some k → k.drl ≡ l.drl

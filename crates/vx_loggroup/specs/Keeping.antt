@@ -1,5 +1,6 @@
 -- Which logs of its volumes a group uses, and when a call comes to use one no more.
 use Rattle.std.specs.Prelude.{◌≡◌, ◌⊎◌, ◌+◌, ◌≤◌, ℕ, Bool, true, false, not, ◌&&◌, IsTrue, Option, Some, None, List, slice_get}
+use Rattle.vx_model.specs.declared.limits.TheConstants.{COMMIT_SERIALS}
 use Rattle.vx_config.specs.Table.{greatest}
 use Rattle.vx_config.specs.declared.config.Config.{Config}
 use Rattle.vx_config.specs.declared.entry.Subdisk.{Subdisk}
@@ -45,7 +46,7 @@ pub record LogsStay (c d : Config) (l k : List Logs) (old new : Meaning) : Type 
 -- The same of a group, or no serial is left to commit that a log is lost.
 pub record LogsKeep (c d : GroupCore) (l k : List Logs) (old new : Meaning) : Type 0 where
   pub each : (v : ℕ) (log : VolumeLog) (s : Subdisk) → log_place c.inner.config v log ≡ Some s → uses_log c.inner.config l v log ≡ true
-      → (uses_log d.inner.config k v log ≡ true) ⊎ Rose (old.faults s.disk) (new.faults s.disk) ⊎ IsTrue new.down ⊎ (greatest ≤ d.inner.config.serial + 9)
+      → (uses_log d.inner.config k v log ≡ true) ⊎ Rose (old.faults s.disk) (new.faults s.disk) ⊎ IsTrue new.down ⊎ (greatest ≤ d.inner.config.serial + COMMIT_SERIALS)
 
 abbrev pub KeptOr : GroupCore → ℕ → Option Logs → Type 0
 KeptOr core v None = Unit {0}
@@ -65,7 +66,7 @@ pub record SureKept (c d : GroupCore) (l k : List Logs) : Type 0 where
 
 -- the same, unless no serial was left before it
 pub record SaysLosses (c d : GroupCore) (l k : List Logs) : Type 0 where
-  pub each : (v : ℕ) → LogsKept c l v → LogsKept d k v ⊎ (greatest ≤ c.inner.config.serial + 9)
+  pub each : (v : ℕ) → LogsKept c l v → LogsKept d k v ⊎ (greatest ≤ c.inner.config.serial + COMMIT_SERIALS)
 
 -- A log that is trusted behind a call was so before it, or is one of volume v that is in memory then.
 pub record TrustsNew (v : ℕ) (k : Logs) (c d : GroupCore) : Type 0 where

@@ -1,18 +1,13 @@
 -- Which regions the dirty region logs of a group have, call by call.
 use Rattle.std.specs.Prelude.{◌≡◌, ℕ, ◌<◌, Bool, true, Some, List, slice_get}
-use Rattle.vx_config.specs.Checks.{blocks_of}
 use Rattle.vx_config.specs.declared.config.Config.{Config}
 use Rattle.vx_fmr.specs.Missed.{Missed}
 use Rattle.vx_grouplogs.specs.Marking.{MarksFewer, MarksOnly, NoMarks}
 use Rattle.vx_logged.specs.Begun.{MapsOff, MapsOfRun, NotesBut}
 use Rattle.vx_logged.specs.Holds.{TheseHold}
 use Rattle.vx_logs.specs.declared.logs.Logs.{Logs}
-use Rattle.vx_model.specs.Sizes.{regions_of}
+use Rattle.vx_group.specs.Attaches.{region_count}
 use Rattle.vx_loggroup.specs.LoggedVolumes.{is_alike}
-
--- the regions of a volume
-abbrev pub region_count : Config → ℕ → ℕ
-region_count c v = regions_of (blocks_of c.volumes v)
 
 -- only the log of volume v changed, and of its regions those from first to last alone have a mark that they had not
 pub record MarksVolume (c : Config) (v first last : ℕ) (old new : List Logs) : Type 0 where

@@ -11,7 +11,6 @@ use Rattle.vx_copies.specs.Marks.{failed_at}
 use Rattle.vx_disk.specs.Counts.{Rose}
 use Rattle.vx_disk.specs.Shelf.{Each, Image, Meaning}
 use Rattle.vx_fmr.specs.Missed.{Missed, has_missed}
-use Rattle.vx_group.specs.Attaches.{copied_regions}
 use Rattle.vx_groupmaps.specs.Loading.{on_failed_disk}
 use Rattle.vx_copyfmt.specs.Imports.{Found}
 use Rattle.vx_kept.specs.Groups.{found}
@@ -23,14 +22,16 @@ use Rattle.vx_logs.specs.Marks.{stride_of}
 use Rattle.vx_logs.specs.declared.logs.Logs.{Logs}
 use Rattle.vx_maplog.specs.Logs.{log_of}
 use Rattle.vx_model.specs.declared.errors.Stop.{Stop}
+use Rattle.vx_model.specs.declared.limits.TheConstants.{COMMIT_SERIALS}
 use Rattle.vx_volume.specs.Plexes.{active}
+use Rattle.vx_group.specs.Attaches.{region_count}
 use Rattle.vx_logged.specs.Holds.{HoldsRun}
 use Rattle.vx_loggroup.specs.Attaching.{fmr_at}
 use Rattle.vx_loggroup.specs.LoggedVolumes.{is_alike}
 
 -- whether attaches of the plexes of a volume go by its maps in memory
 abbrev pub goes_by : List Logs → Config → Bool → ℕ → Bool
-goes_by logs c stopped v = not stopped && (not (on_failed_disk c v) && is_some (fmr_at logs v))
+goes_by logs c stopped v = not stopped && (not (on_failed_disk c v Fmr) && is_some (fmr_at logs v))
 
 abbrev pub missed_by : Option Missed → Bool → ℕ → ℕ → Bool
 missed_by None on p r = not on
@@ -47,7 +48,7 @@ in_run vol first last v r = (v == vol) && is_among first last r
 -- a plex and a region of a volume
 pub record IsThere (c : Config) (v p r : ℕ) : Type 0 where
   pub plex : p < plexes_of c v
-  pub region : r < copied_regions c v
+  pub region : r < region_count c v
 
 -- A call in which those regions were written, from configuration c to d. A plex that takes no part behind it has noted them; one that took none before has what
 -- it had. What a map has besides it had before, and nothing of that where it begins anew: those say of a plex that goes off whether its map does.
@@ -134,7 +135,7 @@ pub record MapsBeginIn (may : ℕ → Bool) (c d : Config) (s t : Bool) (l k : L
 pub record MapsEnd (c d : Config) (s t : Bool) (l k : List Logs) (old new : Meaning) : Type 0 where
   pub so : (v : ℕ) → goes_by l c s v ≡ true → goes_by k d t v ≡ false
       → ((e : LogEntry) × (log_of c v Fmr ≡ Some e) × Rose (old.faults e.disk) (new.faults e.disk)) ⊎ (log_trusted c v Fmr ≡ false) ⊎ IsTrue new.down
-      ⊎ (greatest ≤ c.serial + 54) ⊎ (greatest ≤ d.serial + 9)
+      ⊎ (greatest ≤ c.serial + 6 * COMMIT_SERIALS) ⊎ (greatest ≤ d.serial + COMMIT_SERIALS)
 
 -- The map that an import took up is that of an image: its log is in use there by the configuration x, on a disk that this holds as good.
 pub record MapTaken (x d : Config) (v : ℕ) (f : Missed) (i : Image) : Type 0 where

@@ -93,8 +93,6 @@ pub fn att_whole<S: Shelf>(
     ensures alone { active core.old.inner.config vol plex ≡ false → OnOk result (core.new.held ≡ None) }
     ensures cause { att_refusal core.old.inner.config vol plex ≡ None → DetStops (S.meaning shelf.old) (S.meaning shelf.new) result }
 {
-    // What is kept of the volumes stays as it is.
-    let _kept = (logs.len(), alike.len());
     let down = shelf.is_down();
     let fmr = map_of(
         logs.as_slice(),

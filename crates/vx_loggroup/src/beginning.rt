@@ -2,13 +2,13 @@
 ghost use Rattle.std.specs.Prelude.{◌≡◌, ◌+◌, ◌<◌, ◌≤◌, true, IfErr, IsTrue, None, OnOk};
 ghost use Rattle.vx_config.specs.Checks.{blocks_of as blocks_of_is};
 ghost use Rattle.vx_disk.specs.Causes.{Cause};
+ghost use Rattle.vx_group.specs.Attaches.{region_count};
 ghost use Rattle.vx_group.specs.Holding.{GroupStands, wide};
 ghost use Rattle.vx_group.specs.Stands.{inner_meaning};
 ghost use Rattle.vx_grouplogs.specs.Covering.{AllAlike};
 ghost use Rattle.vx_grouplogs.specs.On.{ReadsOne};
 ghost use Rattle.vx_logged.specs.Logged.{Known, LogOn};
 ghost use Rattle.vx_loggroup.specs.Fresh.{LogsStart, FirstLogs, NewMaps};
-ghost use Rattle.vx_loggroup.specs.Marks.{region_count};
 ghost use Rattle.vx_loggroup.specs.Keeping.{TrustsNew};
 
 use crate::trusting::trust_first;
@@ -19,6 +19,7 @@ use vx_group::GroupCore;
 use vx_grouplogs::{begin_maps, begin_run};
 use vx_logs::Logs;
 use vx_maplog::log_of;
+use vx_model::limits::COMMIT_SERIALS;
 
 // Whether a volume has a log that is held as lost.
 fn is_waiting(config: &Config, vol: u32, log: VolumeLog) -> bool {
@@ -55,7 +56,7 @@ fn begin_log<S: Shelf>(
     ensures since { TrustsNew vol one.new core.old core.new }
     ensures log { LogOn core.new vol one.new (S.meaning shelf.new) }
     ensures maps { Known core.new vol one.new (S.meaning shelf.new) }
-    ensures few { OnOk result (core.new.inner.config.serial ≤ core.old.inner.config.serial + 9) }
+    ensures few { OnOk result (core.new.inner.config.serial ≤ core.old.inner.config.serial + COMMIT_SERIALS) }
     ensures trust { OnOk result (core.old.inner.committed ≡ true → core.new.inner.committed ≡ true) }
     ensures agreed { IfErr result (λ e. core.old.inner.committed ≡ true → core.new.inner.agreed ≡ true) }
     ensures cause { Cause (inner_meaning (wide core.old) (S.meaning shelf.old)) (inner_meaning (wide core.new) (S.meaning shelf.new)) vol result }
@@ -99,7 +100,7 @@ fn begin_map<S: Shelf>(
     ensures since { TrustsNew vol one.new core.old core.new }
     ensures log { LogOn core.new vol one.new (S.meaning shelf.new) }
     ensures maps { Known core.new vol one.new (S.meaning shelf.new) }
-    ensures few { OnOk result (core.new.inner.config.serial ≤ core.old.inner.config.serial + 9) }
+    ensures few { OnOk result (core.new.inner.config.serial ≤ core.old.inner.config.serial + COMMIT_SERIALS) }
     ensures trust { OnOk result (core.old.inner.committed ≡ true → core.new.inner.committed ≡ true) }
     ensures agreed { IfErr result (λ e. core.old.inner.committed ≡ true → core.new.inner.agreed ≡ true) }
     ensures cause { Cause (inner_meaning (wide core.old) (S.meaning shelf.old)) (inner_meaning (wide core.new) (S.meaning shelf.new)) vol result }
@@ -138,7 +139,7 @@ fn begin_drl<S: Shelf>(
     ensures since { TrustsNew vol one.new core.old core.new }
     ensures log { LogOn core.new vol one.new (S.meaning shelf.new) }
     ensures maps { Known core.new vol one.new (S.meaning shelf.new) }
-    ensures few { OnOk result (core.new.inner.config.serial ≤ core.old.inner.config.serial + 9) }
+    ensures few { OnOk result (core.new.inner.config.serial ≤ core.old.inner.config.serial + COMMIT_SERIALS) }
     ensures trust { OnOk result (core.old.inner.committed ≡ true → core.new.inner.committed ≡ true) }
     ensures agreed { IfErr result (λ e. core.old.inner.committed ≡ true → core.new.inner.agreed ≡ true) }
     ensures cause { Cause (inner_meaning (wide core.old) (S.meaning shelf.old)) (inner_meaning (wide core.new) (S.meaning shelf.new)) vol result }
@@ -180,7 +181,7 @@ fn begin_fmr<S: Shelf>(
     ensures since { TrustsNew vol one.new core.old core.new }
     ensures log { LogOn core.new vol one.new (S.meaning shelf.new) }
     ensures maps { Known core.new vol one.new (S.meaning shelf.new) }
-    ensures few { OnOk result (core.new.inner.config.serial ≤ core.old.inner.config.serial + 9) }
+    ensures few { OnOk result (core.new.inner.config.serial ≤ core.old.inner.config.serial + COMMIT_SERIALS) }
     ensures trust { OnOk result (core.old.inner.committed ≡ true → core.new.inner.committed ≡ true) }
     ensures agreed { IfErr result (λ e. core.old.inner.committed ≡ true → core.new.inner.agreed ≡ true) }
     ensures cause { Cause (inner_meaning (wide core.old) (S.meaning shelf.old)) (inner_meaning (wide core.new) (S.meaning shelf.new)) vol result }
@@ -221,7 +222,7 @@ pub fn begin_both<S: Shelf>(
     ensures since { TrustsNew vol one.new core.old core.new }
     ensures log { LogOn core.new vol one.new (S.meaning shelf.new) }
     ensures maps { Known core.new vol one.new (S.meaning shelf.new) }
-    ensures few { OnOk result (core.new.inner.config.serial ≤ core.old.inner.config.serial + 18) }
+    ensures few { OnOk result (core.new.inner.config.serial ≤ core.old.inner.config.serial + 2 * COMMIT_SERIALS) }
     ensures trust { OnOk result (core.old.inner.committed ≡ true → core.new.inner.committed ≡ true) }
     ensures agreed { IfErr result (λ e. core.old.inner.committed ≡ true → core.new.inner.agreed ≡ true) }
     ensures cause { Cause (inner_meaning (wide core.old) (S.meaning shelf.old)) (inner_meaning (wide core.new) (S.meaning shelf.new)) vol result }

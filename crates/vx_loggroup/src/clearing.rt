@@ -1,13 +1,14 @@
 // The marks of the volumes of which an import made the plexes alike.
 ghost use Rattle.std.specs.Prelude.{◌≡◌, ◌<◌, ◌≤◌, ℕ, false, length, true, IfErr, IfOk, OnOk, Some, slice_get};
 ghost use Rattle.vx_disk.specs.Causes.{Cause};
+ghost use Rattle.vx_group.specs.Attaches.{region_count};
 ghost use Rattle.vx_group.specs.Blames.{StopsByDevice};
 ghost use Rattle.vx_group.specs.Holding.{wide};
 ghost use Rattle.vx_group.specs.Stands.{inner_meaning};
 ghost use Rattle.vx_grouplogs.specs.Covering.{AllAlike};
 ghost use Rattle.vx_grouplogs.specs.Marking.{HoldsMany, NoMarks};
 ghost use Rattle.vx_loggroup.specs.LoggedVolumes.{LoggedStands, is_alike as is_alike_is};
-ghost use Rattle.vx_loggroup.specs.Marks.{ClearsVolume, MarksAreOff, region_count};
+ghost use Rattle.vx_loggroup.specs.Marks.{ClearsVolume, MarksAreOff};
 ghost use Rattle.vx_loggroup.specs.Taking.{LogsSettle, MapsShrink};
 ghost use Rattle.vx_logs.specs.declared.logs.Logs.{Logs as LogsValue};
 ghost use Rattle.vx_model.specs.declared.limits.TheConstants.{MOST_VOLUMES};

@@ -34,7 +34,5 @@ pub fn crash_whole<R: Rack>(
     ensures can { core.now.inner.agreed ≡ true → CanImport (R.meaning rack.new) }
     ensures tells { stopped ≡ false → (r : RestedValue) → RestsNone r → LogsTell r (R.meaning rack.new) }
 {
-    // What is kept of the volumes is gone with the group.
-    let _kept = (logs.len(), alike.len(), stopped);
     crash_told(rack, core, pick);
 }

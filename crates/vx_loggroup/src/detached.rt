@@ -1,5 +1,6 @@
 // A plex of a volume whose logs may not have begun, that is detached.
 ghost use Rattle.vx_loggroup.specs.Keeping.{LogsKeep, LogsStay, logs_at, SureKept, TrustsNew};
+ghost use Rattle.vx_group.specs.Attaches.{region_count};
 ghost use Rattle.vx_group.specs.Finds.{GroupFinds};
 ghost use Rattle.std.specs.Prelude.{◌≡◌, ◌⊎◌, ℕ, Err, false, IfErr, IsOk, IsTrue, List, None, OnOk, Some, true};
 ghost use Rattle.vx_copies.specs.Commits.{MoreFailed};
@@ -14,7 +15,6 @@ ghost use Rattle.vx_loggroup.specs.Attaching.{fmr_at};
 ghost use Rattle.vx_loggroup.specs.Detaching.{MapIsEmpty, MapsBegin};
 ghost use Rattle.vx_loggroup.specs.Fresh.{FreshStands, ListMaps, LogsFirst};
 ghost use Rattle.vx_loggroup.specs.LoggedVolumes.{LoggedStands, is_alike as is_alike_is};
-ghost use Rattle.vx_loggroup.specs.Marks.{region_count};
 ghost use Rattle.vx_loggroup.specs.Moving.{MovesDet};
 ghost use Rattle.vx_logged.specs.Logged.{TrustsIn};
 ghost use Rattle.vx_logs.specs.declared.logs.Logs.{Logs as LogsValue};

@@ -33,7 +33,7 @@ use vx_group::{GroupCore, refuse_det};
 use vx_groupmaps::begin_map;
 use vx_logged::{det_beside, keep_map, ready_group};
 use vx_logs::Logs;
-use vx_model::limits::MOST_VOLUMES;
+use vx_model::limits::{COMMIT_SERIALS, MOST_VOLUMES};
 use vx_model::{No, Stop};
 use vx_volume::is_active;
 
@@ -96,8 +96,6 @@ fn begin_missing<S: Shelf>(
     ensures stays { LogsStay core.now.inner.config core.now.inner.config logs.old.items logs.new.items (S.meaning shelf.old) (S.meaning shelf.new) }
     ensures down { IfErr result (λ stop. (stop ≡ Refused DownNo) × IsTrue (S.meaning shelf.new).down) }
 {
-    // What is known of the plexes stays as it is.
-    let _kept = alike.len();
     if blocks_of(&core.inner.config, vol) == 0 {
         return Ok(());
     }
@@ -122,7 +120,7 @@ fn keep_begun<S: Shelf>(
     ensures still { (w p : ℕ) → active core.new.inner.config w p ≡ active core.old.inner.config w p }
     ensures below { SameUnits (S.meaning shelf.old) (S.meaning shelf.new) }
     ensures trusts { TrustsIn vol (logs_at logs.now.items vol) core.old.inner.config core.new.inner.config }
-    ensures few { OnOk result (core.new.inner.config.serial ≤ core.old.inner.config.serial + 18) }
+    ensures few { OnOk result (core.new.inner.config.serial ≤ core.old.inner.config.serial + 2 * COMMIT_SERIALS) }
     ensures narrow { Narrowed core.old core.new }
     ensures said { OnOk result (MapSaid core.new vol (logs_at logs.now.items vol)) }
     ensures trust { OnOk result (core.old.inner.committed ≡ true → core.new.inner.committed ≡ true) }
@@ -130,8 +128,6 @@ fn keep_begun<S: Shelf>(
     ensures finds { GroupFinds core.old core.new (S.meaning shelf.old) (S.meaning shelf.new) }
     ensures cause { DetStops (S.meaning shelf.old) (S.meaning shelf.new) result }
 {
-    // What is known of the plexes stays as it is.
-    let _kept = alike.len();
     match keep_map(shelf, core, &logs[vol as usize], vol) {
         Ok(_) => Ok(()),
         Err(error) => Err(Stop::No(refusal(error))),
@@ -188,7 +184,7 @@ fn begin_early<S: Shelf>(
     ensures maps { MapsBegin vol plex logs.old.items logs.new.items }
     ensures begins { OnOk result (stopped ≡ false → is_alike_is alike.now vol ≡ true → MapIsEmpty core.old.inner.config vol plex (fmr_at logs.new.items vol)) }
     ensures free { OnOk result (core.new.held ≡ None) }
-    ensures few { OnOk result (core.new.inner.config.serial ≤ core.old.inner.config.serial + 27) }
+    ensures few { OnOk result (core.new.inner.config.serial ≤ core.old.inner.config.serial + 3 * COMMIT_SERIALS) }
     ensures trusts { TrustsIn vol (logs_at logs.new.items vol) core.old.inner.config core.new.inner.config }
     ensures stays { LogsStay core.old.inner.config core.new.inner.config logs.old.items logs.new.items (S.meaning shelf.old) (S.meaning shelf.new) }
     ensures kept { OnOk result (SureKept core.old core.new logs.old.items logs.new.items) }

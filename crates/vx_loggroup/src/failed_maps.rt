@@ -14,6 +14,7 @@ ghost use Rattle.vx_model.specs.declared.no.No.{No as NoValue};
 ghost use Rattle.vx_volume.specs.Plexes.{active};
 
 use crate::following::att_following;
+use vx_config::VolumeLog;
 use vx_disk::Shelf;
 use vx_group::GroupCore;
 use vx_groupmaps::on_failed_disk;
@@ -42,9 +43,7 @@ fn give_up<S: Shelf>(
     ensures stands { LoggedStands core.now logs.new.items alike.now stopped (S.meaning shelf.now) }
     ensures held { MapHeld core.now.inner.config vol logs.old.items logs.new.items }
 {
-    // The volumes stand as they did.
-    let _kept = (shelf.is_down(), alike.len(), stopped);
-    if !on_failed_disk(&core.inner.config, vol) {
+    if !on_failed_disk(&core.inner.config, vol, VolumeLog::Fmr) {
         return;
     }
     drop_maps(&mut logs[vol as usize]);

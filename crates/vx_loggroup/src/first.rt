@@ -1,12 +1,12 @@
 // The logs of a volume that begin in its first write, or before a plex of it is first detached.
 ghost use Rattle.std.specs.Prelude.{◌≡◌, ◌+◌, ◌<◌, ◌≤◌, false, true, IfErr, OnOk};
 ghost use Rattle.vx_disk.specs.Causes.{Cause};
+ghost use Rattle.vx_group.specs.Attaches.{region_count};
 ghost use Rattle.vx_group.specs.Holding.{wide};
 ghost use Rattle.vx_group.specs.Stands.{inner_meaning};
 ghost use Rattle.vx_grouplogs.specs.Covering.{AllAlike};
 ghost use Rattle.vx_loggroup.specs.Fresh.{ListMaps, LogsStart, LogsFirst};
 ghost use Rattle.vx_loggroup.specs.LoggedVolumes.{LoggedStands};
-ghost use Rattle.vx_loggroup.specs.Marks.{region_count};
 ghost use Rattle.vx_loggroup.specs.Keeping.{TrustsNew, logs_at};
 
 use crate::beginning::begin_both;
@@ -15,7 +15,7 @@ use vx_disk::{Shelf, ShelfError};
 use vx_group::GroupCore;
 use vx_logged::ready_group;
 use vx_logs::Logs;
-use vx_model::limits::MOST_VOLUMES;
+use vx_model::limits::{COMMIT_SERIALS, MOST_VOLUMES};
 
 /// Begins the logs of a volume that are held as lost, where of each block of it a crash leaves one value. No plex is called, and none changes its
 /// state. Where a log cannot begin it stays lost; a commit that is refused is the answer. It takes the memory of the logs, where there is some.
@@ -34,13 +34,11 @@ pub fn begin_first<S: Shelf>(
     ensures first { LogsFirst vol (region_count (wide core.old).config vol) logs.old.items logs.new.items }
     ensures news { ListMaps core.old.inner.config vol logs.old.items logs.new.items }
     ensures since { TrustsNew vol (logs_at logs.new.items vol) core.old core.new }
-    ensures few { OnOk result (core.new.inner.config.serial ≤ core.old.inner.config.serial + 27) }
+    ensures few { OnOk result (core.new.inner.config.serial ≤ core.old.inner.config.serial + 3 * COMMIT_SERIALS) }
     ensures trust { OnOk result (core.old.inner.committed ≡ true → core.new.inner.committed ≡ true) }
     ensures agreed { IfErr result (λ e. core.old.inner.committed ≡ true → core.new.inner.agreed ≡ true) }
     ensures cause { Cause (inner_meaning (wide core.old) (S.meaning shelf.old)) (inner_meaning (wide core.new) (S.meaning shelf.new)) vol result }
 {
-    // What is known of the plexes stays as it is.
-    let _kept = alike.len();
     let ready = match ready_group(shelf, core, vol) {
         Ok(ready) => ready,
         Err(error) => return Err(error),

@@ -113,8 +113,6 @@ fn take_map<S: Shelf>(
     ensures stays { LogsStay core.now.inner.config core.now.inner.config logs.old.items logs.new.items (S.meaning shelf.old) (S.meaning shelf.new) }
     ensures none { fmr_at logs.old.items vol ≡ None → (logs.new.items ≡ logs.old.items) × (shelf.new ≡ shelf.old) }
 {
-    // What is known of the plexes stays as it is.
-    let _kept = alike.len();
     if blocks_of(&core.inner.config, vol) == 0 {
         return;
     }

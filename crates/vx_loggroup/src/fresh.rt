@@ -26,7 +26,7 @@ use crate::whole::write_whole;
 use vx_disk::{Shelf, ShelfError};
 use vx_group::GroupCore;
 use vx_logs::Logs;
-use vx_model::limits::{BLOCK, MOST_VOLUMES};
+use vx_model::limits::{BLOCK, COMMIT_SERIALS, MOST_VOLUMES};
 
 /// Whether the logs of a volume may begin. From then on they may not.
 pub fn takes_fresh(fresh: &mut [bool; MOST_VOLUMES], stopped: bool, vol: u32) -> bool
@@ -80,7 +80,7 @@ pub fn write_fresh<S: Shelf>(
     ensures alike { OnOk result (alike.new ≡ alike.old) }
     ensures flags { (w : ℕ) → (w ≡ vol → ⊥) → is_alike_is alike.new w ≡ is_alike_is alike.old w }
     ensures marked { stopped.new ≡ false → MarkedBefore (λ s. S.meaning s) vol block bytes.now (first_region block) (last_region block (length bytes.now / BLOCK)) core.old core.new (S.meaning shelf.old) (S.meaning shelf.new) }
-    ensures full { stopped.old ≡ false → stopped.new ≡ true → greatest ≤ core.old.inner.config.serial + 45 }
+    ensures full { stopped.old ≡ false → stopped.new ≡ true → greatest ≤ core.old.inner.config.serial + 5 * COMMIT_SERIALS }
     ensures trust { OnOk result (core.old.inner.committed ≡ true → core.new.inner.committed ≡ true) }
     ensures agreed { IfErr result (λ e. core.old.inner.committed ≡ true → core.new.inner.agreed ≡ true) }
     ensures cause { Cause (inner_meaning (wide core.old) (S.meaning shelf.old)) (inner_meaning (wide core.new) (S.meaning shelf.new)) vol result }

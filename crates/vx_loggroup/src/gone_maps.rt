@@ -22,18 +22,15 @@ use vx_group::{GroupCore, lose_attached};
 use vx_kept::is_trusted;
 use vx_logs::Logs;
 use vx_model::Stop;
-use vx_model::limits::{MOST_NUMBER, MOST_VOLUMES};
-
-// So many serials are left at least where a log is said to be lost.
-const LEFT: u64 = 9;
+use vx_model::limits::{COMMIT_SERIALS, MOST_NUMBER, MOST_VOLUMES};
 
 // Whether the log of missed regions of a volume is in memory no more and not held as lost, and serials are left to say so.
 fn is_gone(config: &Config, logs: &[Logs], vol: u32) -> bool
     ensures gone { result ≡ true → fmr_at logs.now vol ≡ None }
-    ensures more { result ≡ true → config.now.serial + 9 < greatest }
-    ensures there { result ≡ false → config.now.serial + 9 < greatest → log_trusted config.now vol FmrLog ≡ true → fmr_at logs.now vol ≡ None → false ≡ true }
+    ensures more { result ≡ true → config.now.serial + COMMIT_SERIALS < greatest }
+    ensures there { result ≡ false → config.now.serial + COMMIT_SERIALS < greatest → log_trusted config.now vol FmrLog ≡ true → fmr_at logs.now vol ≡ None → false ≡ true }
 {
-    if MOST_NUMBER - LEFT <= config.serial {
+    if MOST_NUMBER - COMMIT_SERIALS <= config.serial {
         return false;
     }
     if has_maps(logs, vol) {
@@ -63,14 +60,12 @@ pub fn lose_gone<S: Shelf>(
     ensures gone { IfErr result (λ e. fmr_at logs.now.items vol ≡ None) }
     ensures kept { OnOk result (MapSaid core.new vol (logs_at logs.now.items vol)) }
     ensures stays { LogsStay core.old.inner.config core.new.inner.config logs.now.items logs.now.items (S.meaning shelf.old) (S.meaning shelf.new) }
-    ensures full { greatest ≤ core.old.inner.config.serial + 9 → core.new ≡ core.old }
+    ensures full { greatest ≤ core.old.inner.config.serial + COMMIT_SERIALS → core.new ≡ core.old }
     ensures trust { OnOk result (core.old.inner.committed ≡ true → core.new.inner.committed ≡ true) }
     ensures finds { CoreFinds (wide core.old) (wide core.new) (S.meaning shelf.old) (S.meaning shelf.new) }
     ensures free { OnOk result (core.new.held ≡ None) }
     ensures cause { DetStops (S.meaning shelf.old) (S.meaning shelf.new) result }
 {
-    // What is kept of the volumes stays as it is.
-    let _kept = (logs.len(), alike.len());
     if !is_gone(&core.inner.config, logs.as_slice(), vol) {
         return Ok(());
     }

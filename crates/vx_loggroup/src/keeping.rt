@@ -37,7 +37,5 @@ pub fn read_whole<S: Shelf>(
     ensures counts { CountsOnly vol result (inner_meaning (wide core.old) (S.meaning shelf.old)).faults (inner_meaning (wide core.new) (S.meaning shelf.new)).faults }
     ensures cause { Cause (inner_meaning (wide core.old) (S.meaning shelf.old)) (inner_meaning (wide core.new) (S.meaning shelf.new)) vol result }
 {
-    // What is kept of the volumes stays as it is.
-    let _kept = (logs.len(), alike.len(), stopped);
     read_in(shelf, core, vol, block, into)
 }

@@ -26,8 +26,6 @@ pub fn lose_all<S: Shelf>(
     ensures agreed { IfErr result (λ e. core.old.inner.committed ≡ true → core.new.inner.agreed ≡ true) }
     ensures cause { StopsByDevice (S.meaning shelf.old) (S.meaning shelf.new) result }
 {
-    // What is kept of the volumes stays as it is.
-    let _kept = (alike.len(), stopped);
     for vol in 0..logs.len() {
         match keep_logs(shelf, core, &logs[vol], vol as u32) {
             Ok(_) => {}

@@ -38,8 +38,6 @@ pub fn fail_whole<R: Rack>(
     ensures volumes { Alike (inner_meaning (wide core.now) (R.meaning rack.old)) (inner_meaning (wide core.now) (R.meaning rack.new)) }
     ensures still { Goes Nothing (inner_meaning (wide core.now) (R.meaning rack.old)) (inner_meaning (wide core.now) (R.meaning rack.new)) }
 {
-    // What is kept of the volumes stays as it is.
-    let _kept = (logs.len(), alike.len(), fresh.len(), stopped);
     fail_in(rack, core, disk, on);
 }
 
@@ -65,7 +63,5 @@ pub fn fuse_whole<R: Rack>(
     ensures disks { OnDisks (R.meaning rack.old).disks (R.meaning rack.new).disks (λ o n. SameBlocks o n × (n.fuse ≡ Some (calls, pick))) }
     ensures volumes { Alike (inner_meaning (wide core.now) (R.meaning rack.old)) (inner_meaning (wide core.now) (R.meaning rack.new)) }
 {
-    // What is kept of the volumes stays as it is.
-    let _kept = (logs.len(), alike.len(), fresh.len(), stopped);
     fuse_in(rack, core, calls, pick);
 }

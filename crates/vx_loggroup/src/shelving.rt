@@ -26,7 +26,7 @@ use crate::group::LoggedGroup;
 use crate::keeping::read_whole;
 use crate::whole::flush_whole;
 use vx_disk::{Shelf, ShelfError};
-use vx_model::limits::BLOCK;
+use vx_model::limits::{BLOCK, COMMIT_SERIALS};
 
 impl<S: Shelf> Shelf for LoggedGroup<S> {
     ghost meaning = { λ g. inner_meaning (wide g.core) (S.meaning g.shelf) };
@@ -104,7 +104,7 @@ impl<S: Shelf> Shelf for LoggedGroup<S> {
         ensures alike { OnOk result (self.new.alike ≡ self.old.alike) }
         ensures flags { (w : ℕ) → (w ≡ unit → ⊥) → is_alike self.new.alike w ≡ is_alike self.old.alike w }
         ensures marked { self.new.stopped ≡ false → MarkedBefore (λ s. S.meaning s) unit block bytes.now (first_region block) (last_region block (length bytes.now / BLOCK)) self.old.core self.new.core (S.meaning self.old.shelf) (S.meaning self.new.shelf) }
-        ensures full { self.old.stopped ≡ false → self.new.stopped ≡ true → greatest ≤ self.old.core.inner.config.serial + 45 }
+        ensures full { self.old.stopped ≡ false → self.new.stopped ≡ true → greatest ≤ self.old.core.inner.config.serial + 5 * COMMIT_SERIALS }
         ensures trust { OnOk result (self.old.core.inner.committed ≡ true → self.new.core.inner.committed ≡ true) }
         ensures agreed { IfErr result (λ e. self.old.core.inner.committed ≡ true → self.new.core.inner.agreed ≡ true) }
         ensures finds { GroupFinds self.old.core self.new.core (S.meaning self.old.shelf) (S.meaning self.new.shelf) }

@@ -72,8 +72,6 @@ fn take_at<S: Shelf>(
     ensures takes { TakesMap core.now.inner.config may vol logs.old.items logs.new.items }
     ensures was { (k : LogsValue) (f : Missed) → slice_get logs.new.items vol ≡ Some k → k.fmr ≡ Some f → MapWas core.now.inner.config vol f (S.meaning shelf.old) }
 {
-    // What is known of the plexes stays as it is.
-    let _kept = alike.len();
     if !may {
         return;
     }

@@ -13,6 +13,7 @@ ghost use Rattle.vx_volume.specs.Plexes.{active};
 use vx_config::VolumeLog;
 use vx_disk::{Shelf, ShelfError};
 use vx_group::{GroupCore, give_up, trust_group};
+use vx_model::limits::COMMIT_SERIALS;
 
 /// Commits that a log of a volume is trusted, in a call on this volume: where the commit is refused, so is the call. Where no serial is left nothing
 /// has changed. Memory trusts the log whatever a commit answers, since a disk may: the caller sees that it has each region in which plexes differ.
@@ -31,7 +32,7 @@ pub fn trust_first<S: Shelf>(
     ensures acts { PlexActs Nothing (lost_is vol log false (wide core.old).config) (wide core.new).config (S.meaning shelf.old) (S.meaning shelf.new) }
     ensures loses { LosesAlong core.old.inner.config core.new.inner.config (S.meaning shelf.old) (S.meaning shelf.new) }
     ensures still { (w p : ℕ) → active core.new.inner.config w p ≡ active core.old.inner.config w p }
-    ensures few { OnOk result (core.new.inner.config.serial ≤ core.old.inner.config.serial + 9) }
+    ensures few { OnOk result (core.new.inner.config.serial ≤ core.old.inner.config.serial + COMMIT_SERIALS) }
     ensures trusts { TrustsStill core.old.inner.config core.new.inner.config }
     ensures trust { OnOk result (core.old.inner.committed ≡ true → core.new.inner.committed ≡ true) }
     ensures agreed { IfErr result (λ e. core.old.inner.committed ≡ true → core.new.inner.agreed ≡ true) }

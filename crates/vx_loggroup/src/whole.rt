@@ -25,7 +25,7 @@ use vx_disk::{Shelf, ShelfError};
 use vx_group::GroupCore;
 use vx_logged::{flush_spent, write_marked};
 use vx_logs::Logs;
-use vx_model::limits::{BLOCK, MOST_VOLUMES};
+use vx_model::limits::{BLOCK, COMMIT_SERIALS, MOST_VOLUMES};
 
 /// Writes a run of blocks of a volume, of which the regions are durably marked first, and no others. Where it fails, the plexes of the volume may
 /// differ: no mark of it is taken off from then on. Where they did not before, the maps of those that were ACTIVE have regions of the run alone then.
@@ -61,7 +61,7 @@ pub fn write_whole<S: Shelf>(
     ensures alike { OnOk result (alike.new ≡ alike.old) }
     ensures flags { (w : ℕ) → (w ≡ vol → ⊥) → is_alike_is alike.new w ≡ is_alike_is alike.old w }
     ensures marked { stopped.new ≡ false → MarkedBefore (λ s. S.meaning s) vol block bytes.now (first_region block) (last_region block (length bytes.now / BLOCK)) core.old core.new (S.meaning shelf.old) (S.meaning shelf.new) }
-    ensures full { stopped.old ≡ false → stopped.new ≡ true → greatest ≤ core.old.inner.config.serial + 18 }
+    ensures full { stopped.old ≡ false → stopped.new ≡ true → greatest ≤ core.old.inner.config.serial + 2 * COMMIT_SERIALS }
     ensures trust { OnOk result (core.old.inner.committed ≡ true → core.new.inner.committed ≡ true) }
     ensures agreed { IfErr result (λ e. core.old.inner.committed ≡ true → core.new.inner.agreed ≡ true) }
     ensures cause { Cause (inner_meaning (wide core.old) (S.meaning shelf.old)) (inner_meaning (wide core.new) (S.meaning shelf.new)) vol result }

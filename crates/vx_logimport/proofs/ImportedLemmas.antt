@@ -1,5 +1,5 @@
 -- An import by logs as a whole.
-use Rattle.std.proofs.Common.{◌≡◌, inl, inr, ℕ, ◌<◌, ◌≤◌, Bool, true, IsTrue, Option, Some, List, length, refl, sym, ◌∙◌, subst, arith}
+use Rattle.std.proofs.Common.{◌≡◌, inl, inr, ℕ, ◌<◌, ◌≤◌, true, IsTrue, Option, Some, List, length, refl, sym, ◌∙◌, subst, arith}
 use Rattle.std.specs.Prelude.{Vec}
 use Rattle.std.specs.declared.alloc.Global.{Global}
 use Rattle.vx_disk.specs.Shelf.{Goes, Lawful, Meaning, Nothing}
@@ -14,7 +14,6 @@ use Rattle.vx_model.specs.declared.no.No.TheVariants as refusal
 use Rattle.vx_config.specs.declared.config.Config.{Config}
 use Rattle.vx_copies.specs.Answers.{returned}
 use Rattle.vx_copyio.specs.Labelling.{AreLarge}
-use Rattle.vx_volume.specs.Plexes.{active}
 use Rattle.vx_volume.proofs.ReadRuns.{still}
 use Rattle.vx_kept.specs.Cleans.{is_unsure}
 use Rattle.vx_kept.specs.Groups.{group_meaning}
@@ -28,7 +27,7 @@ use Rattle.vx_group.specs.Resumes.{CanImport, IsTaken, TakenUp, source_at, stopp
 use Rattle.vx_group.specs.Stands.{inner_meaning, volume_faults}
 use Rattle.vx_group.specs.declared.inner.Inner.{Inner}
 use Rattle.vx_group.specs.declared.taking.Plan.{Plan}
-use Rattle.vx_group.proofs.ImportLemmas.{import_late, import_ok}
+use Rattle.vx_group.proofs.ImportLemmas.{import_late, import_ok, stopped_back}
 use Rattle.vx_group.proofs.ResumeLemmas.{taken_Goes}
 use Rattle.vx_group.proofs.Standing.{fit_of, kept_of, low_Stands, sound_of}
 use Rattle.vx_grouplogs.specs.Covering.{OnLogs}
@@ -40,10 +39,6 @@ use Rattle.vx_logimport.specs.Marked.{AreDirtyLogs, LogsRead, ResumedBy, dirty_l
 use Rattle.vx_logimport.proofs.MarkLemmas.{marks_of, on_opened, taken_later}
 use Rattle.vx_logimport.proofs.ReadLemmas.{all_read, read_behind}
 use Rattle.vx_logimport.proofs.RenewLemmas.{alike_new, on_new, only_stopped}
-
-stopped_returned : (R : ℕ → Bool) (x : Config) (v : ℕ) → stopped (returned R x) v ≡ stopped x v
-unfolding stopped active
-stopped_returned R x v = refl
 
 module _ (old m1 : Meaning) (plan : Plan) (taken : IsTaken old m1 plan) (law : Lawful old) (law1 : Lawful m1) (goes : Goes Nothing old m1) (large : AreLarge old) (can : CanImport old) (new : Meaning) where
   abbrev opened : Config
@@ -74,7 +69,7 @@ module _ (old m1 : Meaning) (plan : Plan) (taken : IsTaken old m1 plan) (law : L
     in_back v lt = let same : length opened.volumes ≡ length (returned taken.up.readable taken.config).volumes = taken.up.opens.alike.shape.volumes in omega (arith, same, lt)
 
     unclean : (v : ℕ) → v < length opened.volumes → is_unsure plan.stopped v ≡ stopped taken.config v
-    unclean v lt = taken.made.stopped v (in_back v lt) ∙ stopped_returned taken.up.readable taken.config v
+    unclean v lt = taken.made.stopped v (in_back v lt) ∙ stopped_back taken.up.readable taken.config v
 
     in_opened : (v : ℕ) → v < length d.config.volumes → v < length opened.volumes
     in_opened v lt = let same : length d.config.volumes ≡ length opened.volumes = fin.made.on.shape.volumes in omega (arith, same, lt)

@@ -38,7 +38,7 @@ use Rattle.vx_grouplogs.proofs.CoverLemmas.{region_inside}
 use Rattle.vx_logimport.specs.Covers.{ConfigCovers, DisksTell, LogSettled}
 use Rattle.vx_logimport.specs.Marked.{LogRead, LogsRead, dirty_logs}
 
-not_lost : (o : Option LogEntry) (e : LogEntry) → o ≡ Some e → used_or o ≡ true → e.lost ≡ false
+pub not_lost : (o : Option LogEntry) (e : LogEntry) → o ≡ Some e → used_or o ≡ true → e.lost ≡ false
 not_lost o e is used = by e.lost (sym (ap used_or is) ∙ used)
   where
     by : (b : Bool) → not b ≡ true → b ≡ false

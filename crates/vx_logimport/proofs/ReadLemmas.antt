@@ -1,14 +1,13 @@
 -- Logs that were read.
-use Rattle.std.proofs.Common.{◌≡◌, ◌⊎◌, inl, inr, ⊎_elim, ℕ, zero, suc, ◌+◌, ◌<◌, ◌≤◌, Bool, true, false, IsTrue, Option, Some, None, List, [], ◌∷◌, ◌++◌, length, refl, ap, sym, ◌∙◌, subst, arith}
+use Rattle.std.proofs.Common.{◌≡◌, ◌⊎◌, inl, inr, ℕ, zero, suc, ◌+◌, ◌≤◌, Bool, true, false, IsTrue, Option, Some, None, List, [], ◌∷◌, ◌++◌, length, refl, sym, ◌∙◌, subst, arith}
 use Rattle.std.specs.Prelude.{slice_get}
-use Rattle.vx_bitmap.specs.Maps.{IsRead}
 use Rattle.vx_config.specs.declared.config.Config.{Config}
 use Rattle.vx_config.specs.declared.entry.VolumeLog.TheVariants.{Drl}
 use Rattle.vx_disk.proofs.Causing.{Rose_after, Rose_before}
-use Rattle.vx_disk.specs.Shelf.{Goes, Lawful, Meaning, Nothing}
+use Rattle.vx_disk.specs.Shelf.{Goes, Meaning, Nothing}
 use Rattle.vx_drl.specs.Dirty.{Dirty}
-use Rattle.vx_grouplogs.specs.Loading.{TakesUp, on_failed}
-use Rattle.vx_groupmaps.specs.Loading.{DeviceRose}
+use Rattle.vx_grouplogs.specs.Loading.{TakesUp}
+use Rattle.vx_groupmaps.specs.Loading.{DeviceRose, on_failed_disk}
 use Rattle.vx_logs.specs.declared.logs.Logs.{Logs}
 use Rattle.vx_volume.proofs.ReadRuns.{still}
 use Rattle.vx_logimport.specs.Marked.{AreDirtyLogs, LogRead, LogsRead, dirty_logs, log_within}
@@ -17,7 +16,7 @@ use Rattle.vx_logimport.specs.Marked.{AreDirtyLogs, LogRead, LogsRead, dirty_log
 pub read_of : (good : ℕ) (c : Config) (v : ℕ) (o : Option Dirty) (gone : Bool) (m m' : Meaning) → ((d : Dirty) → o ≡ Some d → d.held ≡ 65) → log_within good c v Drl ≡ true → TakesUp c v o gone m m' → LogRead good c v o m m'
 read_of good c v None true m m' full within takes = by takes.2
   where
-    by : (on_failed c v ≡ true) ⊎ DeviceRose m m' → LogRead good c v None m m'
+    by : (on_failed_disk c v Drl ≡ true) ⊎ DeviceRose m m' → LogRead good c v None m m'
     by (inl failed) = inr (inl failed)
     by (inr rose) = inr (inr (inl rose))
 read_of good c v None false m m' full within takes = inl takes.0

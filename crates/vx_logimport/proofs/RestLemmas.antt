@@ -1,6 +1,6 @@
 -- What a group that was imported knows of a volume that stopped cleanly, by what disks tell of it.
-use Rattle.std.proofs.Common.{◌≡◌, ◌∙◌, ◌⊎◌, inl, inr, ⊎_elim, ℕ, ◌+◌, ◌*◌, ◌/◌, ◌%◌, ◌<◌, ◌≤◌, Bool, true, false, List, IsTrue, length, refl, sym, ap, subst, arith}
-use Rattle.std.specs.Prelude.{not, Option, Some, None}
+use Rattle.std.proofs.Common.{◌≡◌, ◌∙◌, ◌⊎◌, inl, inr, ⊎_elim, ℕ, ◌+◌, ◌*◌, ◌/◌, ◌%◌, ◌<◌, Bool, true, false, List, IsTrue, length, refl, sym, ap, subst, arith}
+use Rattle.std.specs.Prelude.{not, Some, None}
 use Rattle.vx_bitmap.specs.Bits.{is_marked}
 use Rattle.vx_config.specs.Checks.{blocks_of, is_sound}
 use Rattle.vx_config.specs.declared.config.Config.{Config}
@@ -34,18 +34,12 @@ use Rattle.vx_grouplogs.proofs.LogShape.{has_back, run_back}
 use Rattle.vx_logimport.specs.Marked.{ResumedBy}
 use Rattle.vx_logimport.specs.Rests.{AlikeRests, MapsRest, MapsTell}
 use Rattle.vx_logimport.specs.declared.importing.Marked.{Marked}
-
-kept_trusted : (o : Option LogEntry) (e : LogEntry) → o ≡ Some e → used_or o ≡ true → e.lost ≡ false
-kept_trusted o e is used = by e.lost (sym (ap used_or is) ∙ used)
-  where
-    by : (b : Bool) → not b ≡ true → b ≡ false
-    by true off = absurd (let clash : false ≡ true = off in cc)
-    by false off = refl
+use Rattle.vx_logimport.proofs.MarkLemmas.{not_lost}
 
 -- by an entry that is trusted
 pub trusted_in_use : (c : Config) (v : ℕ) (e : LogEntry) → log_of c v Fmr ≡ Some e → log_trusted c v Fmr ≡ true → InUse c v Fmr e
 unfolding log_trusted
-trusted_in_use c v e is used = record { is = is; kept = kept_trusted (log_of c v Fmr) e is used }
+trusted_in_use c v e is used = record { is = is; kept = not_lost (log_of c v Fmr) e is used }
 
 -- by the test of the code
 pub used_in_use : (c : Config) (v : ℕ) (e : LogEntry) → log_of c v Fmr ≡ Some e → is_used c v Fmr ≡ true → InUse c v Fmr e

@@ -27,10 +27,8 @@ use Rattle.vx_group.specs.Imports.{ImportStops, Resumed}
 use Rattle.vx_group.specs.Mends.{drl_at}
 use Rattle.vx_group.specs.Resumes.{TakenUp, stopped}
 use Rattle.vx_group.specs.Stands.{inner_meaning}
-use Rattle.vx_group.specs.declared.inner.Inner.{Inner}
 use Rattle.vx_grouplogs.specs.Covering.{AllAlike}
-use Rattle.vx_grouplogs.specs.Loading.{on_failed}
-use Rattle.vx_groupmaps.specs.Loading.{DeviceRose}
+use Rattle.vx_groupmaps.specs.Loading.{DeviceRose, on_failed_disk}
 use Rattle.vx_grouplogs.specs.On.{VolumeOn}
 use Rattle.vx_logimport.specs.declared.importing.Marked.{Marked}
 
@@ -46,7 +44,7 @@ log_within good c v log = within_or good (log_of c v log)
 -- that is asked. None was read only where none is in use, where its disk is held as failed or is none of the set, where a device call failed, or where
 -- the volume has no block.
 abbrev pub LogRead : ℕ → Config → ℕ → Option Dirty → Meaning → Meaning → Type 0
-LogRead good c v None old new = (is_used c v Drl ≡ false) ⊎ (on_failed c v ≡ true) ⊎ DeviceRose old new ⊎ (blocks_of c.volumes v ≡ 0) ⊎ (log_within good c v Drl ≡ false)
+LogRead good c v None old new = (is_used c v Drl ≡ false) ⊎ (on_failed_disk c v Drl ≡ true) ⊎ DeviceRose old new ⊎ (blocks_of c.volumes v ≡ 0) ⊎ (log_within good c v Drl ≡ false)
 LogRead good c v (Some d) old new = (is_used c v Drl ≡ true) × DrlFits c v d × IsRead d.map old × (MOST_HELD < d.held) × (log_within good c v Drl ≡ true)
 
 -- the same of the log of each volume

@@ -107,7 +107,7 @@ has_run c v log l is = by (slice_get c.volumes v) refl
 
 -- ---- two runs that are apart
 
-no_block : (s t : Subdisk) (b : ℕ) → are_apart s t ≡ true → s.disk ≡ t.disk → s.start ≤ b → b < s.start + s.blocks → t.start ≤ b → b < t.start + t.blocks → ⊥
+pub no_block : (s t : Subdisk) (b : ℕ) → are_apart s t ≡ true → s.disk ≡ t.disk → s.start ≤ b → b < s.start + s.blocks → t.start ≤ b → b < t.start + t.blocks → ⊥
 unfolding are_apart
 no_block s t b apart disk low_s high_s low_t high_t = by (s.disk == t.disk) (eq-eqb s.disk t.disk disk) apart
   where

@@ -1,7 +1,8 @@
 -- Notes in the map of one plex.
 use Rattle.std.proofs.Common.{◌≡◌, ◌∙◌, ◌⊎◌, inl, inr, ⊎_elim, ℕ, ◌+◌, ◌-◌, ◌*◌, ◌/◌, ◌%◌, ◌^◌, ◌<◌, ◌≤◌, Bool, true, false, List, refl, sym, ap, subst, arith}
 use Rattle.std.specs.Prelude.{leb, ◌&&◌, ◌||◌, ◌==◌, not, Some, if◌then◌else◌, OnOk, Result, Ok, Err}
-use Rattle.std.proofs.lemmas.Bool.{cases_eq, eq-eqb, eqb-true, le-leb}
+use Rattle.std.proofs.lemmas.Bool.{cases_eq, eq-eqb, eqb-true}
+pub use Rattle.vx_bitmap.proofs.Runs.{among_is}
 use Rattle.vx_bitmap.specs.Bits.{AllAre, Between, Changed, is_among, is_marked}
 use Rattle.vx_bitmap.specs.Maps.{ChangedAt, MapOn, SamePlace, map_block_count, marks_with, regions_mapped}
 use Rattle.vx_disk.specs.Moves.{Run}
@@ -12,9 +13,6 @@ use Rattle.vx_fmr.proofs.Places.{others_same, plex_part}
 use Rattle.vx_logs.specs.Noting.{FmrNoted, MayBeNoted, Noted, NotedAt, SameFmr, this_plex, noted_region}
 
 -- ---- one bit after another
-
-pub among_is : (start end r : ℕ) → start ≤ r → r ≤ end → is_among start end r ≡ true
-among_is start end r low high = rw (le-leb start r low, le-leb r end high) refl
 
 pub maybe_then : (those : ℕ → Bool) (anew : Bool) (first last p r : ℕ) (was mid now : Bool) → MayBeNoted those anew first last p r was mid → MayBeNoted those anew first last p r mid now → MayBeNoted those anew first last p r was now
 maybe_then those anew first last p r was mid now one (inl same) = subst (λ (b : Bool). MayBeNoted those anew first last p r was b) (sym same) one

@@ -7,6 +7,8 @@ use Rattle.std.proofs.lemmas.Bool.{eqb-true, leb-true}
 use Rattle.std.proofs.lemmas.List.Folds.{list_all-append}
 use Rattle.std.proofs.lemmas.Nat.{mul-le}
 use Rattle.vx_model.specs.Sizes.{map_blocks}
+use Rattle.vx_model.proofs.Lists.{all_at}
+use Rattle.vx_model.proofs.Tests.{and_left, and_right}
 use Rattle.vx_disk.specs.Shelf.{Meaning}
 use Rattle.vx_config.specs.Checks.{are_apart, are_placed, blocks_of, blocks_or_none, differ, ends_within, group_or_none, has_logs, has_plexes, has_shape, in_region, is_live, is_sound, is_volume, log_has, log_run, log_runs, pairwise, plex_fills, plex_runs, preferred_is, runs, volume_runs, plexes_of, plexes_or}
 use Rattle.vx_config.specs.Configs.{subdisk_count}
@@ -20,20 +22,7 @@ use Rattle.vx_config.specs.declared.entry.VolumeLog.{VolumeLog}
 use Rattle.vx_config.specs.declared.entry.VolumeLog.TheVariants.{Drl, Fmr}
 use Rattle.vx_maplog.specs.Logs.{DisksReach, log_blocks, log_in, log_of, log_or, maps_in_log}
 
-and_left : (a b : Bool) → a && b ≡ true → a ≡ true
-and_left true b is = refl
-and_left false b is = is
-
-and_right : (a b : Bool) → a && b ≡ true → b ≡ true
-and_right true b is = is
-and_right false b is = absurd cc
-
 -- ---- tests of a list, at one of its items
-
-all_at : {A : Type 0} (p : A → Bool) (xs : List A) (i : ℕ) (x : A) → list_all p xs ≡ true → slice_get xs i ≡ Some x → p x ≡ true
-all_at p [] i x all at = absurd cc
-all_at p (y ∷ xs) zero x all at = let same : y ≡ x = cc in ap p (sym same) ∙ and_left (p y) (list_all p xs) all
-all_at p (y ∷ xs) (suc i) x all at = all_at p xs i x (and_right (p y) (list_all p xs) all) at
 
 all_left : {A : Type 0} (p : A → Bool) (xs ys : List A) → list_all p (xs ++ ys) ≡ true → list_all p xs ≡ true
 all_left p xs ys all = and_left (list_all p xs) (list_all p ys) (sym (list_all-append p xs ys) ∙ all)

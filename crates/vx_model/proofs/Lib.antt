@@ -1,1 +1,4 @@
 pub mod KeptLemmas
+pub mod Lists
+pub mod Contents
+pub mod Tests

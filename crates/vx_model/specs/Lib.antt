@@ -4,6 +4,7 @@ pub mod Content
 pub mod Kept
 pub mod Names
 pub mod Numbers
+pub mod Refusals
 pub mod Sites
 pub mod Sizes
 pub mod States

@@ -66,6 +66,8 @@ pub const MOST_PACKETS: usize = 65_536;
 
 /// The serials that are left at least where a call of its own may commit.
 pub const COMMIT_MARGIN: u64 = 65_536;
+/// The most serials that one commit takes: its own, and one for each disk that is held as failed by it.
+pub const COMMIT_SERIALS: u64 = 9;
 
 /// The greatest serial, stamp, incarnation, run, generation, record number, and replay or freeze number.
 pub const MOST_NUMBER: u64 = 0x7fff_ffff_ffff_ffff;

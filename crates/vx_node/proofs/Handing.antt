@@ -2,6 +2,7 @@
 use Rattle.std.proofs.Common.{◌≡◌, ◌∙◌, ◌++◌, ◌+◌, ◌<◌, ◌≤◌, ◌⊎◌, ℕ, zero, suc, Bool, true, false, List, [], ◌∷◌, length, drop, ap, arith, append_assoc, inl, inr, refl, sym}
 use Rattle.std.specs.Prelude.{◌&&◌, ◌||◌, ◌==◌, Option, Some, None, if◌then◌else◌, option_map, slice_get}
 use Rattle.std.proofs.lemmas.List.{drop_all}
+use Rattle.vx_model.proofs.Lists.{get_front}
 use Rattle.vx_history.proofs.Updates.{and_left, and_right, eqb_equal}
 use Rattle.vx_history.specs.Events.{packet_at}
 use Rattle.vx_history.specs.Settling.{deliver_between, is_between}
@@ -56,14 +57,8 @@ handed_all a b before n ps all =
     append_none [] = refl
     append_none (e ∷ es) = ap (λ (xs : List Event). e ∷ xs) (append_none es)
 
--- packets that are sent later change none of these
-get_more : (ps more : List Packet) (k : ℕ) → k < length ps → slice_get (ps ++ more) k ≡ slice_get ps k
-get_more [] more k low = absurd (omega (arith, low))
-get_more (p ∷ ps) more zero low = refl
-get_more (p ∷ ps) more (suc k) low = get_more ps more k (omega (arith, low))
-
 pub handed_more : (a b k : ℕ) (ps qs more : List Packet) → qs ≡ ps ++ more → k < length ps → handing_over a b k qs ≡ handing_over a b k ps
-handed_more a b k ps qs more is low = ap (λ (xs : List Packet). handing_over a b k xs) is ∙ ap (λ (o : Option Packet). handed_by a b k o) (get_more ps more k low)
+handed_more a b k ps qs more is low = ap (λ (xs : List Packet). handing_over a b k xs) is ∙ ap (λ (o : Option Packet). handed_by a b k o) (get_front ps more k low)
 
 -- ---- they are such as settle a link
 

@@ -1,16 +1,16 @@
 -- How a line that settles a link ends, by how its parts went.
-use Rattle.std.proofs.Common.{◌≡◌, ◌∙◌, ◌⊎◌, inl, inr, ⊎_elim, ◌+◌, ◌<◌, ◌≤◌, ◌++◌, ℕ, zero, suc, List, [], ◌∷◌, Bool, true, false, length, ap, sym, subst, refl, arith, append_assoc}
-use Rattle.std.specs.Prelude.{Some, eqb, slice_get, if◌then◌else◌}
+use Rattle.std.proofs.Common.{◌≡◌, ◌∙◌, ◌⊎◌, inl, inr, ⊎_elim, ◌<◌, ◌≤◌, ◌++◌, ℕ, List, [], ◌∷◌, Bool, true, false, ap, sym, subst, refl, arith, append_assoc}
+use Rattle.std.specs.Prelude.{eqb, if◌then◌else◌}
 use Rattle.vx_model.specs.Sites.{is_origin}
 use Rattle.vx_model.specs.declared.no.No.{No}
+use Rattle.vx_model.proofs.Lists.{get_there}
 use Rattle.vx_history.proofs.Updates.{eqb_equal}
 use Rattle.vx_history.specs.Doubts.{Doubted}
 use Rattle.vx_history.specs.Settling.{settling}
-use Rattle.vx_history.specs.Steps.{worked_on}
+use Rattle.vx_history.specs.Steps.{worked, worked_on}
 use Rattle.vx_history.specs.World.{Node, World, updated}
 use Rattle.vx_history.specs.declared.event.Event.{Event}
 use Rattle.vx_disk.specs.declared.shelf.Shelf.{Ghosts}
-use Rattle.vx_diskset.specs.DiskSets.{worked}
 use Rattle.vx_diskset.specs.declared.disk_set.DiskSet.{DiskSet}
 use Rattle.vx_events.specs.Facts.{site_number}
 use Rattle.vx_events.specs.LinkEnds.{AreLeft}
@@ -37,12 +37,6 @@ use Rattle.vx_link_lines.proofs.Deaf.{all_told}
 use Rattle.vx_link_lines.proofs.NotedYard.{stands_noted}
 use Rattle.vx_yard.proofs.RecoverLine.{rose_then}
 
--- what lies in a place
-there : {A : Type 0} (xs : List A) (i : ℕ) → i < length xs → (x : A) × (slice_get xs i ≡ Some x)
-there [] i below = absurd (omega (arith, below))
-there (x ∷ xs) zero below = (x, refl)
-there (x ∷ xs) (suc i) below = there xs i (omega (arith, below))
-
 -- the fuses of two sites are noted
 abbrev pub noted_two : (a b : ℕ) → Doubted → Doubted
 noted_two a b d = record d { world = worked_on (worked_on d.world a) b }
@@ -50,7 +44,7 @@ noted_two a b d = record d { world = worked_on (worked_on d.world a) b }
 module _ {R : Type 0} {g : Ghosts R} where
   note_stands : (d : Doubted) (y : Yard R g) (s : ℕ) → StandsFor d y → s < d.world.sites → StandsFor (record d { world = worked_on d.world s }) y
   note_stands d y s stands below =
-      let one = there y.disk_sets.items s (omega (arith, below, stands.disk_sets.few, stands.disk_sets.eight)) in
+      let one = get_there y.disk_sets.items s (omega (arith, below, stands.disk_sets.few, stands.disk_sets.eight)) in
       stands_noted d y s one.0 stands below one.1
 
   note_carries : (d : Doubted) (y : Yard R g) (s : ℕ) → Carries d y → Carries (record d { world = worked_on d.world s }) y

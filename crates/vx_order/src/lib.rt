@@ -38,5 +38,6 @@ pub use laws::{
     recover_lines, show_lines, site_lines, status_lines, write_lines,
 };
 pub use link_laws::{link_lines, pump_lines, set_lines, settle_lines, turn_lines, wait_lines};
+pub use links::name_at;
 pub use order::refuse;
 pub use packets::refuse_packet;

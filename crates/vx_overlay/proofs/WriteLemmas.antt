@@ -7,17 +7,11 @@ use Rattle.std.proofs.lemmas.Option.{none-some}
 use Rattle.std.proofs.lemmas.List.{take-append-drop, drop-drop, drop_at}
 use Rattle.std.proofs.lemmas.List.Elements.{All-nil, All-cons, All-head, All-tail, All-contains, All-contains_itself, All-weaker}
 use Rattle.vx_model.specs.Content.{Write, Content, blocks_in, block_of, touches, put, fold_writes}
+use Rattle.vx_model.proofs.Tests.{shows, tells}
 use Rattle.vx_overlay.specs.declared.entry.Entry.{Entry}
 use Rattle.vx_overlay.specs.Pending.{newest, newer_or, bytes_for, entry_of}
 use Rattle.vx_overlay.specs.Writes.{IsWholeWrite, put_there, newest_of, entries_at, entries_of, blocks_within_of}
 use Rattle.vx_overlay.proofs.Newest.{or-assoc, or-none, newest-append, bytes-same, bytes-other}
-
--- the test that a block lies among some
-tells : (w v b k p q : ℕ) → (eqb w v && (leb b k && ltb p q)) ≡ true → (w ≡ v) × (b ≤ k) × (p < q)
-tells w v b k p q h = (grind (arith, nat_tests), grind (arith, nat_tests), grind (arith, nat_tests))
-
-shows : (w v b k p q : ℕ) → w ≡ v → b ≤ k → p < q → (eqb w v && (leb b k && ltb p q)) ≡ true
-shows w v b k p q same low high = grind (arith, nat_tests)
 
 misses : (t : Bool) → t ≡ false → t ≡ true → ⊥
 misses t wrong right = let e : true ≡ false = sym right ∙ wrong in cc
@@ -45,11 +39,6 @@ put_block c x v b = put_by (leb (x.start + blocks_in x.bytes) (c.size x.volume))
 or_there : (later here : Option (List ℕ)) (old : List ℕ) → unwrap_or later (unwrap_or here old) ≡ unwrap_or (newer_or later here) old
 or_there (Some bytes) here old = refl
 or_there None here old = refl
-
--- writes leave the sizes of volumes
-pub fold_size : (c : Content) (xs : List Write) → (fold_writes c xs).size ≡ c.size
-fold_size c [] = refl
-fold_size c (x ∷ xs) = fold_size (put c x) xs
 
 -- a block after writes
 pub fold_newest : (c : Content) (xs : List Write) (v b : ℕ) → (fold_writes c xs).block v b ≡ unwrap_or (newest_of c.size xs v b) (c.block v b)
@@ -115,7 +104,7 @@ dropped size k xs v b = ap (λ (l : List Write). newest_of size l v b) (sym (tak
 pub newest_drop : (size : ℕ → ℕ) (k : ℕ) (xs : List Write) (v b : ℕ) (bytes : List ℕ) → newest_of size (drop k xs) v b ≡ Some bytes → newest_of size xs v b ≡ Some bytes
 newest_drop size k xs v b bytes h = dropped size k xs v b ∙ ap (λ (o : Option (List ℕ)). newer_or o (newest_of size (take k xs) v b)) h
 
-neither : (later here : Option (List ℕ)) → newer_or later here ≡ None → (later ≡ None) × (here ≡ None)
+pub neither : (later here : Option (List ℕ)) → newer_or later here ≡ None → (later ≡ None) × (here ≡ None)
 neither (Some bytes) here h = absurd (none-some bytes (sym h))
 neither None here h = (refl, h)
 

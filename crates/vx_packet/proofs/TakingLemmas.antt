@@ -68,11 +68,11 @@ all-came (None ∷ ps) is = absurd (not_both (is 0 (omega arith)))
 all-came (Some bytes ∷ ps) is = all-came ps (λ k lt. is (suc k) (omega arith))
 
 -- keys
-key-part : (e : Envelope) (m : Message) (k : ℕ) → key_in_part (part_numbered e m k) ≡ key_of_message e m
+pub key-part : (e : Envelope) (m : Message) (k : ℕ) → key_in_part (part_numbered e m k) ≡ key_of_message e m
 unfolding part_numbered key_of_message
 key-part e m k = refl
 
-parts-key : (e : Envelope) (m : Message) → (key_of_message e m).parts ≡ count_of_parts m
+pub parts-key : (e : Envelope) (m : Message) → (key_of_message e m).parts ≡ count_of_parts m
 unfolding key_of_message
 parts-key e m = refl
 

@@ -35,10 +35,11 @@ use Rattle.vx_packet.specs.declared.message.Envelope.{Envelope}
 use Rattle.vx_packet.specs.declared.message.Message.{Message as Spelled}
 use Rattle.vx_packet.specs.declared.part.Part.{Part}
 use Rattle.vx_parts.specs.Spelling.{spelled_message}
+use Rattle.vx_rvg.specs.Contents.{write_of_update}
 use Rattle.vx_rvg.specs.Holdings.{update_of as update_on}
 use Rattle.vx_rvg.specs.Views.{Core}
 use Rattle.vx_secondary.specs.Answers.{KeptIf, TakeIs, TakenBy, action_of}
-use Rattle.vx_secondary.specs.Receivers.{can_log, receiver_of, write_of_update}
+use Rattle.vx_secondary.specs.Receivers.{can_log, receiver_of}
 use Rattle.vx_peers.proofs.Found.{read_so}
 use Rattle.vx_peers.specs.Receivers.{GatheredIs, IsIdle, ReceivesWrites, SendsOn, StandsForOutcome, rule_at, update_from, waits_now}
 

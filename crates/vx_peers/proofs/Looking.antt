@@ -9,6 +9,7 @@ use Rattle.vx_disk.specs.Causes.{OnDisks}
 use Rattle.vx_disk.specs.Disks.{Disks, Untouched}
 use Rattle.vx_disk.specs.Shelf.{Goes, Meaning, Nothing}
 use Rattle.vx_disk.proofs.Runs.{same_Goes, then_nothing}
+use Rattle.vx_disk.proofs.Untouching.{untouched_both, untouched_none}
 use Rattle.vx_ringio.specs.Spends.{Spends}
 use Rattle.vx_ringio.proofs.Spending.{spends_none, then_spends}
 use Rattle.vx_rvg.specs.Holdings.{Holding, update_of}
@@ -29,37 +30,15 @@ pub record Looked (c c' : Core) (m m' : Meaning) : Type 0 where
   pub disks : OnDisks m.disks m'.disks Untouched
   pub spends : Spends m m'
 
-twice : (a b c : Disks) → Untouched a b → Untouched b c → Untouched a c
-twice a b c one two = record {
-  blocks = record {
-    stable = λ u k. two.blocks.stable u k ∙ one.blocks.stable u k;
-    latest = λ u k. two.blocks.latest u k ∙ one.blocks.latest u k;
-    loose = λ u k. two.blocks.loose u k ∙ one.blocks.loose u k;
-  };
-  fuse = two.fuse ∙ one.fuse;
-}
-
-both_untouched : (a b c : Option Disks) → OnDisks a b Untouched → OnDisks b c Untouched → OnDisks a c Untouched
-both_untouched None None None one two = tt
-both_untouched None None (Some c) one two = absurd two
-both_untouched None (Some b) c one two = absurd one
-both_untouched (Some a) None c one two = absurd one
-both_untouched (Some a) (Some b) None one two = absurd two
-both_untouched (Some a) (Some b) (Some c) one two = (twice a b c one.0 two.0, (λ u. two.1 u ∙ one.1 u))
-
-none_untouched : (a : Option Disks) → OnDisks a a Untouched
-none_untouched None = tt
-none_untouched (Some a) = (record { blocks = record { stable = λ u k. refl; latest = λ u k. refl; loose = λ u k. refl }; fuse = refl }, (λ u. refl))
-
 pub not_looked : (c : Core) (m : Meaning) → Looked c c m m
-not_looked c m = record { core = refl; goes = same_Goes Nothing m; down = refl; disks = none_untouched m.disks; spends = spends_none m }
+not_looked c m = record { core = refl; goes = same_Goes Nothing m; down = refl; disks = untouched_none m.disks; spends = spends_none m }
 
 pub looked_on : (a b c : Core) (m0 m1 m2 : Meaning) → Looked a b m0 m1 → Looked b c m1 m2 → Looked a c m0 m2
 looked_on a b c m0 m1 m2 one two = record {
   core = two.core ∙ one.core;
   goes = then_nothing Nothing m0 m1 m2 one.goes two.goes;
   down = two.down ∙ one.down;
-  disks = both_untouched m0.disks m1.disks m2.disks one.disks two.disks;
+  disks = untouched_both m0.disks m1.disks m2.disks one.disks two.disks;
   spends = then_spends m0 m1 m2 one.spends two.spends;
 }
 

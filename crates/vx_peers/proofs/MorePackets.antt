@@ -10,8 +10,8 @@ use Rattle.vx_history.specs.declared.sender.Action.TheVariants.{Ignored, Nothing
 use Rattle.vx_courier.specs.UnderWay.{FlightStands}
 use Rattle.vx_net.specs.Flights.{Flying, greatest_packet}
 use Rattle.vx_packet.specs.declared.message.Envelope.{Envelope}
+use Rattle.vx_rvg.specs.Contents.{write_of_update}
 use Rattle.vx_rvg.specs.Views.{Core}
-use Rattle.vx_secondary.specs.Receivers.{write_of_update}
 use Rattle.vx_peers.specs.Receivers.{SendsOn, acks_of}
 use Rattle.vx_peers.specs.Senders.{Sends, SendsBy, SendsRange}
 

@@ -24,10 +24,10 @@ use Rattle.vx_courier.specs.UnderWay.{FlightStands}
 use Rattle.vx_disk.specs.Shelf.{Meaning}
 use Rattle.vx_net.specs.Flights.{Flying}
 use Rattle.vx_packet.specs.declared.message.Envelope.{Envelope}
+use Rattle.vx_rvg.specs.Contents.{write_of_update}
 use Rattle.vx_rvg.specs.Holdings.{Holding}
 use Rattle.vx_rvg.specs.Views.{Core, last_of}
 use Rattle.vx_peers.specs.Senders.{AreRead, LinkMoved, SendsFrom, SentRange}
-use Rattle.vx_secondary.specs.Receivers.{write_of_update}
 use Rattle.vx_peers.proofs.Updates.{drop_at}
 
 -- updates are sent on a live link by the log alone

@@ -8,7 +8,7 @@ use Rattle.vx_packet.specs.Buffers.{AreWholeBlocks}
 use Rattle.vx_packet.specs.Messages.{count_of_parts as parts_in_bytes}
 use Rattle.vx_packet.specs.declared.message.Message.TheVariants.{Update as MUpdate}
 use Rattle.vx_parts.proofs.Counting.{parts_are}
-use Rattle.vx_secondary.specs.Receivers.{write_of_update}
+use Rattle.vx_rvg.specs.Contents.{write_of_update}
 
 pred_less : (n : ℕ) → pred n ≤ n
 pred_less zero = omega arith

@@ -12,9 +12,9 @@ use Rattle.vx_history.specs.World.{Packet, Update as PlainUpdate}
 use Rattle.vx_courier.specs.UnderWay.{FlightStands}
 use Rattle.vx_net.specs.Flights.{Flying}
 use Rattle.vx_packet.specs.declared.message.Envelope.{Envelope}
+use Rattle.vx_rvg.specs.Contents.{write_of_update}
 use Rattle.vx_rvg.specs.Holdings.{Holding, update_of}
 use Rattle.vx_peers.specs.Senders.{AreRead}
-use Rattle.vx_secondary.specs.Receivers.{write_of_update}
 
 -- the packets that were sent by now, and those that are still to be sent, are these behind the former ones
 pub record OnTheWay (old all rest : List Packet) (f : Flying) : Type 0 where

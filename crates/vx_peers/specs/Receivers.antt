@@ -26,9 +26,10 @@ use Rattle.vx_packet.specs.declared.message.Message.{Message}
 use Rattle.vx_packet.specs.declared.message.Message.TheVariants as message
 use Rattle.vx_packet.specs.declared.part.Part.{Part}
 use Rattle.vx_peers.specs.Senders.{Sends}
+use Rattle.vx_rvg.specs.Contents.{write_of_update}
 use Rattle.vx_rvg.specs.Views.{Core}
 use Rattle.vx_secondary.specs.Answers.{TakeIs}
-use Rattle.vx_secondary.specs.Receivers.{receiver_of, write_of_update}
+use Rattle.vx_secondary.specs.Receivers.{receiver_of}
 
 -- the update that a message is, on this line
 abbrev pub update_from : Message → Line → Option Update

@@ -5,7 +5,7 @@ ghost use Rattle.vx_history.specs.Sends.{packets_of, updates as updates_of};
 ghost use Rattle.vx_history.specs.World.{Packet, Update as PlainUpdate};
 ghost use Rattle.vx_net.specs.Flights.{greatest_packet};
 ghost use Rattle.vx_packet.specs.Messages.{IsCounted};
-ghost use Rattle.vx_secondary.specs.Receivers.{write_of_update};
+ghost use Rattle.vx_rvg.specs.Contents.{write_of_update};
 
 use vx_courier::send_message;
 use vx_model::Update;

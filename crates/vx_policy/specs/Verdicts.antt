@@ -3,21 +3,14 @@ use Rattle.std.specs.Prelude.{ℕ, ◌+◌, ◌*◌, Bool, true, false, List, []
 use Rattle.vx_history.specs.declared.admission.Change.{Change}
 use Rattle.vx_history.specs.declared.admission.Change.TheVariants.{Stays, ToStale, ToDcm}
 use Rattle.vx_model.specs.declared.no.No.{No}
-use Rattle.vx_model.specs.declared.no.No.TheVariants.{LogFull, Stalled, LinkDown}
-use Rattle.vx_model.specs.declared.no.SiteName.TheVariants.{Number}
-use Rattle.vx_history.specs.Admission.{Held, Link_is_down, Log_is_full, Log_stalls, Admitted, Held_by, Goes}
+use Rattle.vx_history.specs.Admission.{Held, Admitted, Held_by, Goes}
+use Rattle.vx_history.specs.Refusals.{why_held}
 use Rattle.vx_policy.specs.declared.verdict.Verdict.{Verdict}
 use Rattle.vx_policy.specs.declared.verdict.Verdict.TheVariants.{Go, Refuse}
 
--- the refusal of a write that is held; it names the link's site by its number
-abbrev pub refusal : Held → No
-refusal (Link_is_down site) = LinkDown (Number site)
-refusal (Log_is_full site) = LogFull (Number site)
-refusal (Log_stalls site) = Stalled (Number site)
-
 abbrev pub refusal_if : Option Held → Option No
 refusal_if None = None
-refusal_if (Some why) = Some (refusal why)
+refusal_if (Some why) = Some (why_held why)
 
 abbrev pub goes_stale : Change → Bool
 goes_stale Stays = false
@@ -38,5 +31,5 @@ bits_for test [] = 0
 bits_for test (c ∷ cs) = bit_for (test c) + 2 * bits_for test cs
 
 abbrev pub verdict : Admitted → Verdict
-verdict (Held_by why) = Refuse (refusal why)
+verdict (Held_by why) = Refuse (why_held why)
 verdict (Goes changes) = Go (bits_for goes_stale changes) (bits_for goes_dcm changes)

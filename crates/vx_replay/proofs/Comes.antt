@@ -3,6 +3,7 @@ use Rattle.std.proofs.Common.{◌≡◌, ◌∙◌, ℕ, ◌≤◌, ◌<◌, Boo
 use Rattle.std.specs.Prelude.{◌&&◌, eqb, leb, ltb, if◌then◌else◌}
 use Rattle.std.proofs.lemmas.Bool.{and_parts, eqb-true, leb-true, ltb-true}
 use Rattle.vx_history.specs.declared.receiver.RState.{RState}
+use Rattle.vx_history.proofs.Updates.{by_test as choose}
 use Rattle.vx_model.specs.Sites.{same_line}
 use Rattle.vx_model.specs.declared.history.Line.{Line}
 use Rattle.vx_model.specs.declared.site.Mark.{Mark}
@@ -14,7 +15,6 @@ use Rattle.vx_replay.specs.declared.event.QEvent.{QEvent}
 use Rattle.vx_replay.specs.declared.event.QEvent.TheVariants.{Start, Region, Done}
 use Rattle.vx_replay.specs.declared.event.QAction.{QAction}
 use Rattle.vx_replay.specs.declared.event.QAction.TheVariants.{Ignored, Again, Begin, Store, Close}
-use Rattle.vx_replay.proofs.Ends.{choose}
 
 abbrev is_consistent : Mark → Bool
 is_consistent Consistent = true

@@ -2,22 +2,19 @@
 use Rattle.std.proofs.Common.{◌≡◌, ◌≢◌, ◌∙◌, ℕ, ◌-◌, ◌≤◌, Bool, true, false, refl, sym, ap, arith}
 use Rattle.std.specs.Prelude.{◌&&◌, eqb, leb, if◌then◌else◌}
 use Rattle.std.proofs.lemmas.Bool.{and_parts, eqb-true, leb-true}
+use Rattle.vx_history.specs.KeptLinks.{kept_start}
 use Rattle.vx_history.specs.Sending.{phase_logs, phase_overtaken}
+use Rattle.vx_history.proofs.Updates.{by_test as choose}
 use Rattle.vx_model.specs.declared.link.Link.{Link}
 use Rattle.vx_model.specs.declared.link.Phase.{Phase}
 use Rattle.vx_model.specs.declared.link.Phase.TheVariants.{Start, Regions, Done, Log as ByLogAgain}
 use Rattle.vx_model.specs.declared.link.Mode.{Mode}
 use Rattle.vx_model.specs.declared.link.Mode.TheVariants.{Log, Dcm, Replay, Fork, Stale}
-use Rattle.vx_replay.specs.Primary.{AtPrimary, acked, as_it_was, at_start, can_begin, copying, done_heard, end_in, ends_at, filling, id_in, in_mode, mode_fallen, mode_read, mode_sends, phase_copies, phase_ends, phase_sends, primary_step, region_heard, start_heard, start_in, told_stored}
+use Rattle.vx_replay.specs.Primary.{AtPrimary, acked, as_it_was, at_start, can_begin, copying, done_heard, end_in, ends_at, filling, id_in, in_mode, mode_fallen, mode_read, mode_sends, phase_copies, phase_ends, phase_sends, primary_step, region_heard, start_heard, told_stored}
 use Rattle.vx_replay.specs.declared.event.PEvent.{PEvent}
 use Rattle.vx_replay.specs.declared.event.PEvent.TheVariants.{Begin, Ack, Read, Stored, Pump, Restart}
 use Rattle.vx_replay.specs.declared.event.PAction.{PAction}
 use Rattle.vx_replay.specs.declared.event.PAction.TheVariants.{Nothing, Ignored, SendStart, SendDone, Finished}
-
--- what both ways of a choice have
-pub choose : {A : Type 0} (P : A → Type 0) (b : Bool) (x y : A) → (b ≡ true → P x) → (b ≡ false → P y) → P (if b then x else y)
-choose P true x y one other = one refl
-choose P false x y one other = other refl
 
 -- ---- modes and actions that differ
 
@@ -116,7 +113,7 @@ ends_phase Regions is = absurd (no is)
 ends_phase Done is = refl
 ends_phase ByLogAgain is = absurd (no is)
 
-done_follows : (l : Link) (id : ℕ) (mode : Mode) → l.mode ≡ mode → Follows l (start_in mode) (done_heard l id mode)
+done_follows : (l : Link) (id : ℕ) (mode : Mode) → l.mode ≡ mode → Follows l (kept_start mode) (done_heard l id mode)
 done_follows l id Log is = alone l 0 Ignored refl
 done_follows l id Dcm is = alone l 0 Ignored refl
 done_follows l id (Replay of phase left start end) is =
@@ -132,15 +129,15 @@ third l id kind = if eqb kind 2 then done_heard l id l.mode else as_it_was l Ign
 abbrev second : Link → (id kind : ℕ) → (marked : Bool) → AtPrimary
 second l id kind marked = if eqb kind 1 then region_heard l id marked l.mode else third l id kind
 
-acked_follows : (l : Link) (id kind : ℕ) (marked : Bool) → Follows l (start_in l.mode) (acked l id kind marked)
+acked_follows : (l : Link) (id kind : ℕ) (marked : Bool) → Follows l (kept_start l.mode) (acked l id kind marked)
 acked_follows l id kind marked =
-    choose (λ (r : AtPrimary). Follows l (start_in l.mode) r) (eqb kind 0) (start_heard l id l.mode) (second l id kind marked)
-    (λ _. start_follows l (start_in l.mode) id l.mode)
-    (λ _. choose (λ (r : AtPrimary). Follows l (start_in l.mode) r) (eqb kind 1) (region_heard l id marked l.mode) (third l id kind)
-    (λ _. region_follows l (start_in l.mode) id marked l.mode)
-    (λ _. choose (λ (r : AtPrimary). Follows l (start_in l.mode) r) (eqb kind 2) (done_heard l id l.mode) (as_it_was l Ignored)
+    choose (λ (r : AtPrimary). Follows l (kept_start l.mode) r) (eqb kind 0) (start_heard l id l.mode) (second l id kind marked)
+    (λ _. start_follows l (kept_start l.mode) id l.mode)
+    (λ _. choose (λ (r : AtPrimary). Follows l (kept_start l.mode) r) (eqb kind 1) (region_heard l id marked l.mode) (third l id kind)
+    (λ _. region_follows l (kept_start l.mode) id marked l.mode)
+    (λ _. choose (λ (r : AtPrimary). Follows l (kept_start l.mode) r) (eqb kind 2) (done_heard l id l.mode) (as_it_was l Ignored)
     (λ _. done_follows l id l.mode refl)
-    (λ _. alone l (start_in l.mode) Ignored refl)))
+    (λ _. alone l (kept_start l.mode) Ignored refl)))
 
 read_back : (head : ℕ) (mode : Mode) → mode_read head mode ≡ Log → mode ≡ Log
 read_back head Log h = refl

@@ -1,5 +1,6 @@
 -- What each event of a replay makes of a link at its sending end, and what then is to be done.
 use Rattle.std.specs.Prelude.{ℕ, ◌-◌, Bool, true, false, ◌&&◌, eqb, leb, if◌then◌else◌}
+use Rattle.vx_history.specs.KeptLinks.{kept_start}
 use Rattle.vx_history.specs.Sending.{phase_overtaken, phase_logs}
 use Rattle.vx_model.specs.declared.link.Link.{Link}
 use Rattle.vx_model.specs.declared.link.Phase.{Phase}
@@ -147,13 +148,6 @@ id_in (Replay id phase left start end) = id
 id_in (Fork maps) = 0
 id_in Stale = 0
 
-abbrev pub start_in : Mode → ℕ
-start_in Log = 0
-start_in Dcm = 0
-start_in (Replay id phase left start end) = start
-start_in (Fork maps) = 0
-start_in Stale = 0
-
 abbrev pub end_in : Mode → ℕ
 end_in Log = 0
 end_in Dcm = 0
@@ -164,7 +158,7 @@ end_in Stale = 0
 -- the number up to which the receiver has all on disk, as an event tells: an answer tells no more than the replay's start
 abbrev pub told_stored : Mode → PEvent → ℕ
 told_stored mode (Begin id head regions) = 0
-told_stored mode (Ack id kind marked) = start_in mode
+told_stored mode (Ack id kind marked) = kept_start mode
 told_stored mode (Read head) = 0
 told_stored mode (Stored number) = number
 told_stored mode Pump = 0

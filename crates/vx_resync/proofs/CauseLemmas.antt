@@ -7,7 +7,7 @@ use Rattle.vx_disk.specs.Causes.{DeviceCause, refusal_of}
 use Rattle.vx_disk.specs.Shelf.{Meaning}
 use Rattle.vx_disk.specs.declared.shelf.ShelfError.{ShelfError}
 use Rattle.vx_disk.specs.declared.shelf.ShelfError.TheVariants.{Fault, Down}
-use Rattle.vx_disk.proofs.Causing.{Rose_before}
+use Rattle.vx_disk.proofs.Causing.{Rose_before, cause_before}
 use Rattle.vx_config.specs.declared.config.Config.{Config}
 use Rattle.vx_model.specs.declared.no.No.{No}
 use Rattle.vx_model.specs.declared.no.No.TheVariants as refusal
@@ -17,11 +17,6 @@ use Rattle.vx_resync.specs.Gathers.{CopyRefused, TargetRefused}
 -- no bit of nothing is set
 pub zero_bit : (set p : ℕ) → set ≡ 0 → bit_at set p ≡ false
 zero_bit set p is = ap (λ (s : ℕ). bit_at s p) is ∙ ap (λ (n : ℕ). n % 2 == 1) (zero-div (2 ^ p))
-
-pub cause_before : (old mid new : Meaning) → ((d : ℕ) → old.disk_faults d ≤ mid.disk_faults d) → (why : No) → DeviceCause mid new why → DeviceCause old new why
-cause_before old mid new less (refusal.Device disk) rose = Rose_before (old.disk_faults disk) (mid.disk_faults disk) (new.disk_faults disk) (less disk) rose
-cause_before old mid new less refusal.Down down = down
-cause_before old mid new less other none = absurd none
 
 pub later_cause : {T : Type 0} (old mid new : Meaning) → ((d : ℕ) → old.disk_faults d ≤ mid.disk_faults d) → (r : Result T No) → IfErr r (DeviceCause mid new) → IfErr r (DeviceCause old new)
 later_cause old mid new less (Ok x) none = tt
@@ -56,7 +51,7 @@ source_refused T c v source None old new error why is cause = tt
 source_refused T c v source (Some p) old new (Fault disk) why is cause = subst (λ (no : No). CopyRefused {T = T} c v source (Some p) old new (Err no)) (sym is) (inl cause.0, cause.1, cause.2)
 source_refused T c v source (Some p) old new Down why is down = subst (λ (no : No). CopyRefused {T = T} c v source (Some p) old new (Err no)) (sym is) down
 
-blamed_since : (c : Config) (v p : ℕ) (old mid new : Meaning) → ((u : ℕ) → old.faults u ≤ mid.faults u) → PlexBlamed c v p mid new → PlexBlamed c v p old new
+pub blamed_since : (c : Config) (v p : ℕ) (old mid new : Meaning) → ((u : ℕ) → old.faults u ≤ mid.faults u) → PlexBlamed c v p mid new → PlexBlamed c v p old new
 blamed_since c v p old mid new less blamed = record { disk = blamed.disk; is_its = blamed.is_its; rose = Rose_before (old.faults blamed.disk) (mid.faults blamed.disk) (new.faults blamed.disk) (less blamed.disk) blamed.rose }
 
 -- a call on the plex that is copied to, behind others

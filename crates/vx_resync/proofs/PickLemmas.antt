@@ -5,25 +5,26 @@ use Rattle.std.proofs.lemmas.Bool.{cases_eq}
 use Rattle.vx_config.specs.Checks.{blocks_of, is_sound}
 use Rattle.vx_config.specs.declared.config.Config.{Config}
 use Rattle.vx_layout.proofs.Pairs.{and_left}
+use Rattle.vx_model.specs.Numbers.{one_if}
 use Rattle.vx_model.specs.Sizes.{regions_of}
 use Rattle.vx_volume.specs.Plexes.{InRun, Inside, SomeActive, active}
 use Rattle.vx_volume.proofs.PlaceLemmas.{active_few}
 use Rattle.vx_drl.specs.Dirty.{Dirty}
 use Rattle.vx_fmr.specs.Missed.{Missed}
 use Rattle.vx_resync.specs.Copies.{TargetsActive}
-use Rattle.vx_resync.specs.Picks.{DrlReaches, FmrReaches, LiesInRegion, MapsReach, as_one, picked_below}
+use Rattle.vx_resync.specs.Picks.{DrlReaches, FmrReaches, LiesInRegion, MapsReach, picked_below}
 use Rattle.vx_resync.specs.Sources.{HasSource, can_give, is_it}
 
 -- ---- counts
 
-pub more : (f : ℕ → Bool) (n : ℕ) → picked_below f (n + 1) ≡ picked_below f n + as_one (f n)
+pub more : (f : ℕ → Bool) (n : ℕ) → picked_below f (n + 1) ≡ picked_below f n + one_if (f n)
 more f n = let next : n + 1 ≡ suc n = omega arith in ap (picked_below f) next
 
 pub more_picked : (f : ℕ → Bool) (n count : ℕ) → f n ≡ true → count ≡ picked_below f n → count + 1 ≡ picked_below f (n + 1)
-more_picked f n count is same = let one : as_one (f n) ≡ 1 = ap as_one is in omega (arith, more f n, one, same)
+more_picked f n count is same = let one : one_if (f n) ≡ 1 = ap one_if is in omega (arith, more f n, one, same)
 
 pub more_passed : (f : ℕ → Bool) (n count : ℕ) → f n ≡ false → count ≡ picked_below f n → count ≡ picked_below f (n + 1)
-more_passed f n count is same = let none : as_one (f n) ≡ 0 = ap as_one is in omega (arith, more f n, none, same)
+more_passed f n count is same = let none : one_if (f n) ≡ 0 = ap one_if is in omega (arith, more f n, none, same)
 
 -- ---- maps that reach further
 

@@ -1,6 +1,7 @@
 -- Which regions are copied.
-use Rattle.std.specs.Prelude.{◌≡◌, ℕ, zero, suc, ◌+◌, ◌/◌, ◌<◌, ◌≤◌, Bool, true, false, IsTrue, Option, Some, None}
+use Rattle.std.specs.Prelude.{◌≡◌, ℕ, zero, suc, ◌+◌, ◌/◌, ◌<◌, ◌≤◌, Bool, true, IsTrue, Option, Some, None}
 use Rattle.vx_model.specs.declared.limits.TheConstants.{REGION}
+use Rattle.vx_model.specs.Numbers.{one_if}
 use Rattle.vx_drl.specs.Dirty.{Dirty, is_dirty}
 use Rattle.vx_fmr.specs.Missed.{Missed, has_missed}
 
@@ -34,13 +35,9 @@ MapsReach n None d f = DrlReaches n d
 MapsReach n (Some p) d f = FmrReaches n p f
 
 -- how many of the first regions are copied
-abbrev pub as_one : Bool → ℕ
-as_one true = 1
-as_one false = 0
-
 abbrev pub picked_below : (ℕ → Bool) → ℕ → ℕ
 picked_below f zero = 0
-picked_below f (suc n) = picked_below f n + as_one (f n)
+picked_below f (suc n) = picked_below f n + one_if (f n)
 
 -- a block of a region that is copied
 abbrev pub InPicked : (ℕ → Bool) → ℕ → Type 0

@@ -6,10 +6,6 @@ use Rattle.std.proofs.lemmas.List.{take-append-drop}
 use Rattle.std.proofs.lemmas.List.Elements.{All-from_recursion}
 use Rattle.vx_ringlog.specs.Records.{IsWhole, first_blocks}
 
-pub count_blocks : (n : ℕ) (bytes : List ℕ) → length (first_blocks n bytes) ≡ n
-count_blocks zero bytes = refl
-count_blocks (suc n) bytes = ap suc (count_blocks n (drop 512 bytes))
-
 no_bytes : (bytes : List ℕ) → length bytes ≡ 0 → [] ≡ bytes
 no_bytes [] none = refl
 no_bytes (b ∷ bytes) none = absurd (omega arith)

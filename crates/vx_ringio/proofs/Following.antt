@@ -8,7 +8,7 @@ use Rattle.vx_srlfmt.specs.declared.header.Header.{Header}
 use Rattle.vx_disk.specs.Shelf.{Meaning, Image, Each, Lawful, Nothing, Goes}
 use Rattle.vx_disk.specs.Moves.{Moves, Run, Blocks, Says, Beside}
 use Rattle.vx_disk.proofs.Moving.{goes_on, of_goes, wider, still as still_moves}
-use Rattle.vx_disk.proofs.Runs.{at_rest}
+use Rattle.vx_disk.proofs.Runs.{at_rest, still_left}
 use Rattle.vx_ringlog.specs.Cells.{Cells, May, IsImage, read, Act, act, run_all, Always, Leaves, LeftBy, still}
 use Rattle.vx_ringlog.specs.Cells as cells
 use Rattle.vx_ringio.specs.Classes.{class_of, classes, narrowed, is_of_ring}
@@ -114,9 +114,6 @@ module _ (unit ring : ℕ) (old new : Meaning) (goes : Goes Nothing old new) whe
 pub still_read : (old new : Meaning) → Goes Nothing old new → (IsTrue new.down → ⊥) → (u b : ℕ) (v : List ℕ) → new.reads u b v → old.reads u b v
 still_read old new goes up u b v reads =
     ⊎_elim (λ or. ⊎_elim (λ was. was) (λ no. absurd no) or) (λ down. absurd (up down)) (goes.reads u b v reads)
-
-still_left : (old new : Meaning) → Goes Nothing old new → (u b : ℕ) (v : List ℕ) → new.leaves u b v → old.leaves u b v
-still_left old new goes u b v left = at_rest old u b v (goes.leaves u b v left)
 
 pub rest_tracks : (unit ring : ℕ) (u : Cells) (old new : Meaning) → Goes Nothing old new → (IsTrue new.down → ⊥) → Tracks unit ring u old → Tracks unit ring u new
 rest_tracks unit ring u old new goes up tracks = record {

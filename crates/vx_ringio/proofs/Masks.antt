@@ -5,8 +5,9 @@ use Rattle.std.specs.List.{concat}
 use Rattle.std.proofs.lemmas.List.{drop-drop, get_or-take, get_or-drop, take-set-le, drop-set-lt, drop-set-add}
 use Rattle.vx_wire.specs.Fields.{zero_bytes}
 use Rattle.vx_ringlog.specs.Records.{with_firsts, as_on_disk, first_bytes, firsts_of, first_blocks}
+use Rattle.vx_ringlog.proofs.Blocks.{cut_count}
 use Rattle.vx_ringio.specs.Bodies.{all_blocks}
-use Rattle.vx_ringio.proofs.Bodies.{count_blocks, concat_blocks}
+use Rattle.vx_ringio.proofs.Bodies.{concat_blocks}
 
 -- the first k blocks with these bytes first
 abbrev pub put_firsts : ℕ → List ℕ → List (List ℕ) → List (List ℕ)
@@ -122,7 +123,7 @@ pub mask_more : (k : ℕ) (given bytes firsts : List ℕ) → k < length given /
 mask_more k given bytes firsts low whole few masked =
     let n : ℕ = length given / 512 in
     let next : suc k ≡ k + 1 = omega arith in
-    let count : length (all_blocks given) ≡ n = count_blocks n given in
+    let count : length (all_blocks given) ≡ n = cut_count n given in
     let more : 16 - k ≡ suc (16 - suc k) = omega (arith, low, few) in
     let byte : slice_index bytes (512 * k) ≡ slice_index (get_or (all_blocks given) k []) 0 =
     sym (first_of n k bytes low) ∙ ap (λ (bs : List (List ℕ)). slice_index (get_or bs k []) 0) masked.blocks ∙ ap (λ (b : List ℕ). slice_index b 0) (same_first 0x42 k (all_blocks given)) in
@@ -138,7 +139,7 @@ mask_more k given bytes firsts low whole few masked =
 
 module _ (k : ℕ) (given bytes firsts : List ℕ) (all : length given / 512 ≤ k) (few : k ≤ length given / 512) (masked : Masked k given bytes firsts) where
   count : length (all_blocks given) ≡ length given / 512
-  count = count_blocks (length given / 512) given
+  count = cut_count (length given / 512) given
 
   pub masked_blocks : all_blocks bytes ≡ as_on_disk (all_blocks given)
   masked_blocks =
@@ -162,7 +163,7 @@ pub unmask_more : (k : ℕ) (firsts disk bytes : List ℕ) → k < length disk /
 unmask_more k firsts disk bytes low whole unmasked =
     let n : ℕ = length disk / 512 in
     let next : suc k ≡ k + 1 = omega arith in
-    let count : length (all_blocks disk) ≡ n = count_blocks n disk in
+    let count : length (all_blocks disk) ≡ n = cut_count n disk in
     record {
       blocks = block_set n k (slice_index firsts k) bytes low (omega (arith, whole, unmasked.size))
           ∙ ap (λ (bs : List (List ℕ)). set bs k (slice_index firsts k ∷ drop 1 (get_or bs k []))) unmasked.blocks
@@ -173,4 +174,4 @@ unmask_more k firsts disk bytes low whole unmasked =
 pub unmasked_all : (k : ℕ) (firsts disk bytes : List ℕ) → length disk / 512 ≤ k → length disk % 512 ≡ 0 → Unmasked k firsts disk bytes → bytes ≡ with_firsts firsts (all_blocks disk)
 unmasked_all k firsts disk bytes all whole unmasked =
     sym (concat_blocks (length disk / 512) bytes (omega (arith, whole, unmasked.size)))
-    ∙ ap (λ (bs : List (List ℕ)). concat bs) unmasked.blocks ∙ firsts_all k firsts (all_blocks disk) (omega (arith, all, count_blocks (length disk / 512) disk))
+    ∙ ap (λ (bs : List (List ℕ)). concat bs) unmasked.blocks ∙ firsts_all k firsts (all_blocks disk) (omega (arith, all, cut_count (length disk / 512) disk))

@@ -12,10 +12,10 @@ use Rattle.vx_disk.specs.Shelf.{Goes, Meaning, Nothing}
 use Rattle.vx_ringlog.specs.Acts.{body_acts}
 use Rattle.vx_ringlog.specs.Cells.{Act, Write}
 use Rattle.vx_ringlog.specs.Chain.{block}
+use Rattle.vx_ringlog.proofs.Blocks.{cut_count}
 use Rattle.vx_ringio.specs.Bodies.{all_blocks}
 use Rattle.vx_ringio.specs.Reading.{EachPlace, GaveBlocks}
 use Rattle.vx_ringio.specs.Tracks.{Follows, Arrives}
-use Rattle.vx_ringio.proofs.Bodies.{count_blocks}
 use Rattle.vx_ringio.proofs.Seeing.{gave_before}
 use Rattle.vx_ringio.proofs.Following.{sooner, nothing_arrives, then_follows, then_arrives}
 
@@ -111,7 +111,7 @@ module _ (ring place : ℕ) (one two : List ℕ) (parts : InParts ring place one
   behind : (all_blocks two ≡ []) ⊎ ((place + length (all_blocks one)) % ring ≡ 0 % ring)
   behind = ⊎_elim
       (λ none. inl (none_blocks two none))
-      (λ end. inr (round ring place (length (all_blocks one)) parts.ring_is (ap (λ (n : ℕ). place % ring + n) (count_blocks (length one / 512) one) ∙ end)))
+      (λ end. inr (round ring place (length (all_blocks one)) parts.ring_is (ap (λ (n : ℕ). place % ring + n) (cut_count (length one / 512) one) ∙ end)))
       parts.ends
 
   second_acts : (bs : List (List ℕ)) → (bs ≡ []) ⊎ ((place + length (all_blocks one)) % ring ≡ 0 % ring) → body_acts ring (place + length (all_blocks one)) bs ≡ body_acts ring 0 bs

@@ -55,7 +55,7 @@ blocks_stand blocks whole = record {
   zeros = subst (λ (n : ℕ). drop n (firsts_of blocks) ≡ zero_bytes (16 - length blocks)) (bytes_of blocks) (drop-append_seam (first_bytes blocks) (zero_bytes (16 - length blocks)));
 }
 
-cut_count : (n : ℕ) (bytes : List ℕ) → length (first_blocks n bytes) ≡ n
+pub cut_count : (n : ℕ) (bytes : List ℕ) → length (first_blocks n bytes) ≡ n
 cut_count zero bytes = refl
 cut_count (suc n) bytes = ap suc (cut_count n (drop 512 bytes))
 

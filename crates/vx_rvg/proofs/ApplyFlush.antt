@@ -6,20 +6,21 @@ use Rattle.vx_disk.specs.Moves.{Anything, Blocks, Moves, Nowhere}
 use Rattle.vx_disk.specs.Shelf.{Flushed, Goes, Meaning, Nothing}
 use Rattle.vx_disk.specs.declared.shelf.ShelfError.{ShelfError}
 use Rattle.vx_disk.specs.declared.shelf.ShelfError.TheVariants.{Fault, Down}
+use Rattle.vx_disk.proofs.Causing.{Rose_before}
 use Rattle.vx_disk.proofs.Moving.{still, then_goes}
 use Rattle.vx_disk.proofs.Runs.{at_rest}
 use Rattle.vx_ringio.specs.Spends.{Spends}
 use Rattle.vx_ringio.proofs.Spending.{works_since}
 use Rattle.vx_disk.specs.Causes.{DeviceCause, refusal_of}
 use Rattle.vx_rvg.specs.Views.{unit_of}
-use Rattle.vx_rvg.proofs.WriteLog.{cause_from, rose_from}
+use Rattle.vx_rvg.proofs.WriteLog.{cause_from}
 
 -- ---- what stops several calls
 
 module _ (T : Type 0) (mine : Blocks) (old mid new : Meaning) (moves : Moves mine Anything old mid) where
   -- a call on the shelf failed behind others
   pub cause_stops : (unit : ℕ) (e : ShelfError) → Cause {T = T} mid new unit (Err e) → DeviceCause old new (refusal_of e)
-  cause_stops unit (Fault disk) cause = rose_from (old.disk_faults disk) (mid.disk_faults disk) (new.disk_faults disk) (moves.disk_faults disk) cause.0.disk_count
+  cause_stops unit (Fault disk) cause = Rose_before (old.disk_faults disk) (mid.disk_faults disk) (new.disk_faults disk) (moves.disk_faults disk) cause.0.disk_count
   cause_stops unit Down cause = cause
 
   pub later_stops : (e : ShelfError) → DeviceCause mid new (refusal_of e) → DeviceCause old new (refusal_of e)

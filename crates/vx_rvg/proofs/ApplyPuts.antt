@@ -9,7 +9,7 @@ use Rattle.vx_srlfmt.specs.declared.record.RecordHead.{RecordHead}
 use Rattle.vx_disk.specs.Shelf.{Keeps, Meaning}
 use Rattle.vx_overlay.specs.Pending.{newest, newer_or}
 use Rattle.vx_overlay.specs.Writes.{blocks_within_of, newest_of, put_there}
-use Rattle.vx_overlay.proofs.WriteLemmas.{put_there_at, put_there_in}
+use Rattle.vx_overlay.proofs.WriteLemmas.{neither, put_there_at, put_there_in}
 use Rattle.vx_ringlog.specs.Records.{Record, given, write_logged}
 use Rattle.vx_srl.specs.declared.kept.Kept.{Kept}
 use Rattle.vx_srl.proofs.Shared_S1.{Same}
@@ -19,10 +19,6 @@ use Rattle.vx_rvg.specs.Stands.{IsWholeRecord}
 use Rattle.vx_rvg.specs.Views.{Core, blocks_within, unit_of, volume_size}
 use Rattle.vx_rvg.proofs.ApplyOne.{none_there}
 use Rattle.vx_rvg.proofs.WriteStands.{volume_size_is}
-
-both_none : (later here : Option (List ℕ)) → newer_or later here ≡ None → (later ≡ None) × (here ≡ None)
-both_none (Some bytes) here is = absurd (none-some bytes (sym is))
-both_none None here is = (refl, is)
 
 -- as many blocks as its header says
 whole_count : (r : Record) → IsWholeRecord r → blocks_in (given r) ≡ r.head.count
@@ -64,7 +60,7 @@ module _ (vols : List ℕ) (c : Content) (m : Meaning) (sizes : HasSizes vols c 
   none_put [] (k ∷ ks) v b same whole none = absurd same
   none_put (r ∷ rs) [] v b same whole none = absurd same
   none_put (r ∷ rs) (k ∷ ks) v b same whole none =
-      let both : _ = both_none (newest_of c.size (writes_of rs) v b) (put_there c.size (write_logged r) v b) none in
+      let both : _ = neither (newest_of c.size (writes_of rs) v b) (put_there c.size (write_logged r) v b) none in
       All-cons (λ k. IsPut (volume_size vols m) k v b → ⊥) k ks
       (λ put. none-some (block_of (given r) (b - r.head.block)) (sym both.1 ∙ of_put r k same.0 (All-head IsWholeRecord r rs whole) v b put))
       (none_put rs ks v b same.2 (All-tail IsWholeRecord r rs whole) both.0)

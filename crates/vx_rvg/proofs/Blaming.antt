@@ -3,6 +3,7 @@ use Rattle.std.proofs.Common.{◌≡◌, ◌∙◌, ◌<◌, ℕ, List, Bool, tr
 use Rattle.std.specs.Prelude.{IfErr, IsSome, OnOk, Option, Some, None, Result, Ok, Err}
 use Rattle.vx_model.specs.declared.no.No.{No}
 use Rattle.vx_model.specs.declared.no.No.TheVariants.{Device}
+use Rattle.vx_model.specs.Refusals.{IsNoDevice}
 use Rattle.vx_disk.specs.Causes.{Names, WithDisks, Works, refusal_of}
 use Rattle.vx_disk.specs.Disks.{Disks}
 use Rattle.vx_disk.specs.Shelf.{Meaning}
@@ -15,7 +16,7 @@ use Rattle.vx_srl.specs.Views.{Log}
 use Rattle.vx_srl.specs.declared.errors.SrlNo.{SrlNo}
 use Rattle.vx_srl.specs.declared.errors.SrlNo.TheVariants.{NoRoom, Other, Overrun}
 use Rattle.vx_rvg.specs.Commits.{StageIs}
-use Rattle.vx_rvg.specs.Groups.{BlamesVolumes, IsNoFault, no_of}
+use Rattle.vx_rvg.specs.Groups.{BlamesVolumes, no_of}
 use Rattle.vx_rvg.specs.Views.{Core, unit_of}
 
 by_log : (disks : Option Disks) (unit : ℕ) (why : SrlNo) → BlamesLog disks unit why → BlamesUnit disks unit (no_of why)
@@ -29,7 +30,7 @@ blames_of disks u unit why said here is blames =
     subst (λ (v : ℕ). BlamesUnit disks v said) here (subst (λ (x : No). BlamesUnit disks u x) (sym is) (by_log disks u why blames))
 
 -- no call of a device failed
-pub blames_idle : (disks : Option Disks) (unit : ℕ) (why : No) → IsNoFault why → BlamesUnit disks unit why
+pub blames_idle : (disks : Option Disks) (unit : ℕ) (why : No) → IsNoDevice why → BlamesUnit disks unit why
 blames_idle disks unit (Device disk) none = absurd none
 blames_idle disks unit other none = tt
 

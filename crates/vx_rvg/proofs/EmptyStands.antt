@@ -1,7 +1,7 @@
 -- A group over a call that empties its log, all of whose writes are in the volumes.
-use Rattle.std.proofs.Common.{◌≡◌, ◌⊎◌, inl, inr, ℕ, ◌+◌, ◌-◌, ◌<◌, ◌≤◌, ◌&&◌, true, List, [], ◌∷◌, length, drop, ltb, refl, sym, ◌∙◌, ap, subst, arith}
+use Rattle.std.proofs.Common.{◌≡◌, ◌⊎◌, inl, inr, ℕ, ◌+◌, ◌-◌, ◌<◌, ◌≤◌, ◌&&◌, true, List, [], length, drop, ltb, refl, sym, ◌∙◌, ap, subst, arith}
 use Rattle.std.proofs.lemmas.Bool.Decides.{nat_tests}
-use Rattle.std.proofs.lemmas.List.{drop_all}
+use Rattle.std.proofs.lemmas.List.{drop_all, nil_from_length}
 use Rattle.std.proofs.lemmas.List.Elements.{All-nil}
 use Rattle.vx_model.specs.Content.{Content, Write}
 use Rattle.vx_model.specs.declared.no.No.{No}
@@ -32,10 +32,6 @@ use Rattle.vx_rvg.specs.Views.{Core, IsSound, applied_count, blocks_within, last
 use Rattle.vx_rvg.proofs.ContentFacts.{found_as, has_content_beside, has_maps_beside, maps_beside, maps_moved, no_more, volumes_beside}
 use Rattle.vx_rvg.proofs.WriteSound.{SameSizes, failed_sound, lies_same, moved_sizes, placed_same}
 
-no_items : {X : Type 0} → (xs : List X) → length xs ≡ 0 → xs ≡ []
-no_items [] none = refl
-no_items (x ∷ xs) none = absurd (omega (arith, none))
-
 -- a stamp, a run and a number are left
 can_parts : (l : Log) (head : ℕ) → can_restart l head ≡ true → (l.header.stamp < most_number) × (l.header.run < most_number) × (head < most_number)
 can_parts l head can = three l.header.stamp l.header.run head most_number can
@@ -58,7 +54,7 @@ module _ (core : Core) (state : SiteState) (head : ℕ) (all : last_of core ≤ 
 
   -- nothing waits
   pub none_wait : core.pending.entries ≡ []
-  none_wait = no_items core.pending.entries (sound.waiting ∙ ap (λ (ks : List Kept). blocks_within (volume_size core.units.vols m) ks) none_left)
+  none_wait = nil_from_length core.pending.entries (sound.waiting ∙ ap (λ (ks : List Kept). blocks_within (volume_size core.units.vols m) ks) none_left)
 
   pub empty_sound : (m' : Meaning) → SameSizes m m' → IsSound after m'
   empty_sound m' same = record {

@@ -109,7 +109,3 @@ added old held new v b n bytes block before made is =
 
 pub added_few : (old held : List Entry) (v b n : ℕ) (bytes : List ℕ) → held ≡ old ++ entries_at v b n bytes → length held ≡ length old + n
 added_few old held v b n bytes is = ap (λ (l : List Entry). length l) is ∙ length-append old (entries_at v b n bytes) ∙ ap (λ (m : ℕ). length old + m) (entries_at_length v b n bytes)
-
--- the bytes between two places, one block apart
-pub cut : (n : ℕ) (bytes part : List ℕ) → part ≡ take (512 * n + 512 - 512 * n) (drop (512 * n) bytes) → part ≡ block_of bytes n
-cut n bytes part is = let wide : 512 * n + 512 - 512 * n ≡ 512 = omega arith in is ∙ ap (λ (m : ℕ). take m (drop (512 * n) bytes)) wide

@@ -1,5 +1,6 @@
 -- A read: what waits over what the volumes show is the content, and the group stands as before.
 use Rattle.std.proofs.Common.{◌≡◌, ℕ, zero, suc, ◌+◌, ◌-◌, ◌<◌, ◌≤◌, Bool, true, false, List, [], ◌∷◌, length, drop, Option, Some, None, IsTrue, IsFalse, MatchOption, All, refl, sym, ◌∙◌, ap, subst, arith}
+use Rattle.std.proofs.lemmas.Bool.{both_ways}
 use Rattle.std.proofs.lemmas.List.Elements.{All-nil, All-cons, All-head, All-tail}
 use Rattle.std.proofs.lemmas.Nat.{div-add-mod'}
 use Rattle.vx_model.specs.Content.{Content, Write, blocks_in, block_of}
@@ -39,16 +40,12 @@ rest_sound core m m' goes sound =
     ended_sound core core.log core.halted m m' (rest_sizes m m' goes) sound (record { unit = refl; ring = refl; header = refl; held = refl })
     (λ running up. sound.idle running (still_up m m' goes up))
 
-keeps_rest : (m m' : Meaning) → Goes Nothing m m' → (u b : ℕ) (y : List ℕ) → Keeps m u b y → Keeps m' u b y
+pub keeps_rest : (m m' : Meaning) → Goes Nothing m m' → (u b : ℕ) (y : List ℕ) → Keeps m u b y → Keeps m' u b y
 keeps_rest m m' goes u b y keeps = record { only = λ v left. keeps.only v (at_rest m u b v (goes.leaves u b v left)) }
 
 keeps_each : (m m' : Meaning) → Goes Nothing m m' → (o : Option (List ℕ)) (u b : ℕ) (y : List ℕ) → MatchOption o (Keeps m u b y) (λ bytes. bytes ≡ y) → MatchOption o (Keeps m' u b y) (λ bytes. bytes ≡ y)
 keeps_each m m' goes (Some bytes) u b y is = is
 keeps_each m m' goes None u b y keeps = keeps_rest m m' goes u b y keeps
-
-not_down : (down : Bool) → IsFalse down → IsTrue down → ⊥
-not_down true up is = let wrong : true ≡ false = up in cc
-not_down false up is = let wrong : false ≡ true = is in cc
 
 -- with whatever is staged
 pub rest_with : (staged : List Record) (core : Core) (m m' : Meaning) → Goes Nothing m m' → IsFalse m'.down → (h : Holding) → StandsWith staged core h m → StandsWith staged core h m'
@@ -59,7 +56,7 @@ rest_with staged core m m' goes up h stands = record {
   writes = stands.writes;
   maps = record { size = (let least = stands.maps.size in let same = goes.size core.units.maps in omega (arith, least, same)); each = λ b bytes there. keeps_rest m m' goes core.units.maps b bytes (stands.maps.each b bytes there) };
   ready = record {
-    ring = record { is_log = on.is_log; tracks = rest_tracks core.log.unit core.log.ring stands.log.unit m m' goes (λ down. not_down m'.down up down) on.tracks; describes = on.describes };
+    ring = record { is_log = on.is_log; tracks = rest_tracks core.log.unit core.log.ring stands.log.unit m m' goes (λ down. both_ways m'.down up down) on.tracks; describes = on.describes };
     idle = stands.ready.idle;
     whole = stands.ready.whole;
     sizes = record { each = λ v low. stands.ready.sizes.each v low ∙ sym (goes.size (unit_of core.units.vols v)); none = stands.ready.sizes.none };

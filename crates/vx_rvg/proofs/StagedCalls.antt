@@ -19,6 +19,7 @@ use Rattle.vx_srl.specs.Rings.{Finding, RingGoes, LeadsTo}
 use Rattle.vx_srl.specs.Views.{Log, free_of, head_number, kept_record, most_number, blocks_needed, next_of, record_next, widths}
 use Rattle.vx_srl.specs.declared.errors.SrlNo.{SrlNo}
 use Rattle.vx_srl.specs.declared.kept.Kept.{Kept}
+use Rattle.vx_srl.proofs.Shared_S1.{widths_append}
 use Rattle.vx_rvg.specs.Commits.{Committing, Halts, HasStaged, Seals, StageIs, number_refusal, with_sealed, with_staged}
 use Rattle.vx_rvg.specs.Contents.{writes_of}
 use Rattle.vx_rvg.specs.Groups.{core_halted, no_of}
@@ -46,10 +47,6 @@ widths_drop zero ks = omega arith
 widths_drop (suc n) [] = omega arith
 widths_drop (suc n) (k ∷ ks) = omega (arith, widths_drop n ks)
 
-widths_join : (ks ls : List Kept) → widths (ks ++ ls) ≡ widths ks + widths ls
-widths_join [] ls = omega arith
-widths_join (k ∷ ks) ls = omega (arith, widths_join ks ls)
-
 pub staged_room : (core : Core) (m : Meaning) (bytes : List ℕ) → IsSoundWith core.log.staged core m → blocks_needed bytes ≤ free_of core.log → length core.pending.entries + blocks_in bytes ≤ core.pending.capacity
 staged_room core m bytes sound room =
     let size : ℕ → ℕ = volume_size core.units.vols m in
@@ -63,7 +60,7 @@ staged_room core m bytes sound room =
       within_few size rest,
       within_few size core.log.staged,
       widths_drop (applied_count core) core.log.held,
-      widths_join core.log.held core.log.staged,
+      widths_append core.log.held core.log.staged,
     )
 
 -- ---- the group that a call leaves

@@ -5,6 +5,7 @@ use Rattle.std.proofs.lemmas.List.{append_assoc, drop-append-le}
 use Rattle.std.proofs.lemmas.List.Elements.{All-nil, All-push, All-append}
 use Rattle.std.proofs.lemmas.Nat.{div-add-mod'}
 use Rattle.vx_model.specs.Content.{Content, Write, blocks_in, fold_writes, put}
+use Rattle.vx_model.proofs.Contents.{fold_size}
 use Rattle.vx_srlfmt.specs.declared.header.Header.{Header}
 use Rattle.vx_disk.specs.Moves.{Beside, Moves, Run, Says}
 use Rattle.vx_disk.specs.Shelf.{Image, Keeps, Meaning}
@@ -13,7 +14,7 @@ use Rattle.vx_overlay.specs.declared.entry.Entry.{Entry}
 use Rattle.vx_overlay.specs.Pending.{newest}
 use Rattle.vx_overlay.specs.Writes.{IsWholeWrite, entries_at, entries_of, newest_of}
 use Rattle.vx_overlay.proofs.Newest.{newest-append}
-use Rattle.vx_overlay.proofs.WriteLemmas.{entries_append, fold_newest, fold_size, newest_entries}
+use Rattle.vx_overlay.proofs.WriteLemmas.{entries_append, fold_newest, neither, newest_entries}
 use Rattle.vx_ringlog.specs.Cells as cells
 use Rattle.vx_ringlog.specs.Chain.{Recovers}
 use Rattle.vx_ringlog.specs.Logs.{Found, Seal, Stage, State, behind_call}
@@ -31,7 +32,7 @@ use Rattle.vx_rvg.specs.Views.{Core, UnitsPlaced, applied_count, unit_of, volume
 use Rattle.vx_rvg.proofs.ContentFacts.{has_content_beside, has_maps_beside, held_length, maps_beside, maps_moved, recovers_low, volumes_beside}
 use Rattle.vx_rvg.proofs.ReadStands.{whole_writes}
 use Rattle.vx_rvg.proofs.WriteContent.{put_has, put_keeps, record_writes, writes_more}
-use Rattle.vx_rvg.proofs.WriteStands.{both_none, entries_one, volume_size_is, write_at}
+use Rattle.vx_rvg.proofs.WriteStands.{entries_one, volume_size_is, write_at}
 
 -- ---- lists of writes
 
@@ -117,7 +118,7 @@ module _ (xs : List Write) (core : Core) (h : Holding) (m : Meaning) (has : HasS
   settles v b low none =
       let n : ℕ = applied_count core in
       let front : List Entry = entries_of c.size (writes_of (drop n s.held)) in
-      let both : _ = both_none (newest (entries_of c.size xs) v b) (newest front v b) (sym (newest-append front (entries_of c.size xs) v b) ∙ (sym (ap (λ (es : List Entry). newest es v b) waits) ∙ none)) in
+      let both : _ = neither (newest (entries_of c.size xs) v b) (newest front v b) (sym (newest-append front (entries_of c.size xs) v b) ∙ (sym (ap (λ (es : List Entry). newest es v b) waits) ∙ none)) in
       let whole : All IsWholeWrite xs = subst (λ (ws : List Write). All IsWholeWrite ws) has.are (whole_writes has.records has.whole) in
       let aside : newest_of c.size xs v b ≡ None = sym (newest_entries c.size xs v b whole) ∙ both.0 in
       let low_c : b < c.size v = subst (λ (k : ℕ). b < k) (ap (λ (f : ℕ → ℕ). f v) size_is) low in
@@ -252,7 +253,7 @@ module _ (core : Core) (m m' : Meaning) (placed : UnitsPlaced core.units m) (uni
                   ∙ ap (λ (ws : List Write). front ++ entries_of c.size ws) (sym more)
                   ∙ sym (entries_are c.size (writes_of (drop (applied_count core) s.held)) (writes_of (has.records ++ r ∷ [])));
               settled = λ v b low none.
-                  let both : _ = both_none (newest own v b) (newest core.pending.entries v b) (sym (newest-append core.pending.entries own v b) ∙ none) in
+                  let both : _ = neither (newest own v b) (newest core.pending.entries v b) (sym (newest-append core.pending.entries own v b) ∙ none) in
                   kept c ready.sizes v b (c.block v b) low (ready.settled v b low both.1);
             };
           };

@@ -25,8 +25,8 @@ use Rattle.vx_srl.specs.declared.errors.SrlNo.{SrlNo}
 use Rattle.vx_srl.specs.declared.errors.SrlNo.TheVariants.{NoRoom, Other, Overrun}
 use Rattle.vx_srl.specs.declared.kept.Kept.{Kept}
 use Rattle.vx_srl.proofs.Shared_S1.{Same, held_same, widths_append}
-use Rattle.vx_rvg.specs.Contents.{writes_of}
-use Rattle.vx_rvg.specs.Fills.{FillCause, IsFilledTo, NamesOne, logged_by}
+use Rattle.vx_rvg.specs.Contents.{write_of_update, writes_of}
+use Rattle.vx_rvg.specs.Fills.{FillCause, IsFilledTo, NamesOne}
 use Rattle.vx_rvg.specs.Groups.{no_of}
 use Rattle.vx_rvg.specs.Stands.{IsWholeRecord}
 use Rattle.vx_rvg.specs.Views.{blocks_within, volume_size}
@@ -134,7 +134,7 @@ module _ (l : Log) (vols : List ℕ) (old mid new : Meaning) (k room : ℕ) (pen
       )
 
   module _ (gives : Fetches l n mid update) (goes : Goes Nothing mid new) (up : IsTrue new.down → ⊥) (after : Pending)
-      (added : after.entries ≡ pending.entries ++ entries_of (volume_size vols new) (logged_by update ∷ [])) (same_room : after.capacity ≡ pending.capacity) where
+      (added : after.entries ≡ pending.entries ++ entries_of (volume_size vols new) (write_of_update update ∷ [])) (same_room : after.capacity ≡ pending.capacity) where
     abbrev size : ℕ → ℕ
     size = volume_size vols old
 
@@ -145,16 +145,16 @@ module _ (l : Log) (vols : List ℕ) (old mid new : Meaning) (k room : ℕ) (pen
     sizes = record { units = both.units; size = both.size }
 
     abbrev own : List Entry
-    own = entries_of (volume_size vols old) (logged_by update ∷ [])
+    own = entries_of (volume_size vols old) (write_of_update update ∷ [])
 
     added_here : after.entries ≡ pending.entries ++ own
-    added_here = added ∙ ap (λ (es : List Entry). pending.entries ++ es) (size_of_one (volume_size vols old) (volume_size vols new) (logged_by update) (volume_same vols old new sizes update.vol))
+    added_here = added ∙ ap (λ (es : List Entry). pending.entries ++ es) (size_of_one (volume_size vols old) (volume_size vols new) (write_of_update update) (volume_same vols old new sizes update.vol))
 
     own_count : length own ≡ blocks_within size (agrees.front.kept ∷ [])
     own_count =
         let vol : update.vol ≡ agrees.front.kept.head.vol = agrees.vol ∙ ap (λ (h : RecordHead). h.vol) agrees.front.is in
         let block : update.block ≡ agrees.front.kept.head.block = agrees.block ∙ ap (λ (h : RecordHead). h.block) agrees.front.is in
-        entries_count size (logged_by update ∷ [])
+        entries_count size (write_of_update update ∷ [])
         ∙ ap (λ (c : ℕ). (if leb (update.block + c) (size update.vol) then c else 0) + 0) count_is
         ∙ ap (λ (b : ℕ). (if leb (b + agrees.front.kept.head.count) (size update.vol) then agrees.front.kept.head.count else 0) + 0) block
         ∙ ap (λ (v : ℕ). (if leb (agrees.front.kept.head.block + agrees.front.kept.head.count) (size v) then agrees.front.kept.head.count else 0) + 0) vol
@@ -176,7 +176,7 @@ module _ (l : Log) (vols : List ℕ) (old mid new : Meaning) (k room : ℕ) (pen
       stands_more = take_more s.held k got.0 at_k
 
       own_is : own ≡ entries_of size (write_logged got.0 ∷ [])
-      own_is = ap (λ (u : Update). entries_of size (logged_by u ∷ [])) got.2
+      own_is = ap (λ (u : Update). entries_of size (write_of_update u ∷ [])) got.2
 
       entries_more : after.entries ≡ entries_of size (writes_of (take (suc k) s.held))
       entries_more =

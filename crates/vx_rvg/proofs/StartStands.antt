@@ -42,7 +42,7 @@ use Rattle.vx_rvg.specs.Starts.{IsStarted, StartCause, Starting, ring_in}
 use Rattle.vx_rvg.specs.Views.{Core, IsSound, UnitsPlaced, applied_count, blocks_within, unit_of, volume_size}
 use Rattle.vx_rvg.proofs.ContentFacts.{has_content, has_content_beside, has_maps, has_maps_beside, held_length, maps_moved, ring_left}
 use Rattle.vx_rvg.proofs.MakeStands.{in_volumes, sizes_moved, volume_kept}
-use Rattle.vx_rvg.proofs.ReadStands.{whole_writes}
+use Rattle.vx_rvg.proofs.ReadStands.{keeps_rest, whole_writes}
 use Rattle.vx_rvg.proofs.StartFill.{none_is, ring_rests, some_is}
 use Rattle.vx_rvg.proofs.WriteLog.{cause_from}
 use Rattle.vx_rvg.proofs.WriteSound.{SameSizes, lies_same, placed_same, volume_same, within_same}
@@ -79,9 +79,6 @@ kept_option None old new u b y to keeps = to keeps
 
 uncovered : (o : Option (List ℕ)) (P : Type 0) (y : List ℕ) → o ≡ None → MatchOption o P (λ bytes. bytes ≡ y) → P
 uncovered o P y none match = subst (λ (p : Option (List ℕ)). MatchOption p P (λ bytes. bytes ≡ y)) none match
-
-keeps_rest : (old new : Meaning) → Goes Nothing old new → (u b : ℕ) (y : List ℕ) → Keeps old u b y → Keeps new u b y
-keeps_rest old new goes u b y keeps = record { only = λ v left. keeps.only v (at_rest old u b v (goes.leaves u b v left)) }
 
 -- one of these
 one_of : {X : Type 0} (P : X → Type 0) (xs : List X) (k : ℕ) (x : X) → All P xs → slice_get xs k ≡ Some x → P x

@@ -1,9 +1,11 @@
 -- A group over a call that puts blocks into a volume without the log.
-use Rattle.std.proofs.Common.{◌≡◌, ◌⊎◌, inl, inr, ⊎_elim, ℕ, ◌+◌, ◌-◌, ◌*◌, ◌<◌, ◌≤◌, ◌&&◌, Bool, true, false, List, [], ◌∷◌, length, eqb, leb, ltb, IsTrue, refl, sym, ◌∙◌, ap, subst, arith}
+use Rattle.std.proofs.Common.{◌≡◌, ◌⊎◌, inl, inr, ⊎_elim, ℕ, ◌+◌, ◌-◌, ◌*◌, ◌<◌, ◌≤◌, Bool, true, false, List, [], length, leb, IsTrue, refl, sym, ◌∙◌, ap, subst, arith}
 use Rattle.std.specs.Prelude.{if◌then◌else◌, Err}
 use Rattle.std.proofs.lemmas.Bool.Decides.{nat_tests}
+use Rattle.std.proofs.lemmas.List.{nil_from_length}
 use Rattle.vx_model.specs.Content.{Content, Write, put, block_of, blocks_in, touches}
 use Rattle.vx_model.specs.declared.no.No.{No}
+use Rattle.vx_model.proofs.Tests.{shows, tells}
 use Rattle.vx_disk.specs.Causes.{Cause}
 use Rattle.vx_disk.specs.declared.shelf.ShelfError.{ShelfError}
 use Rattle.vx_disk.specs.declared.shelf.ShelfError.TheVariants.{Down, Fault}
@@ -26,17 +28,6 @@ use Rattle.vx_rvg.specs.Views.{Core, IsSound, last_of, unit_of, volume_size}
 use Rattle.vx_rvg.proofs.ContentFacts.{found_held, found_with, has_maps_beside, held_length, maps_moved, volume_there}
 use Rattle.vx_rvg.proofs.WriteSound.{failed_sound, moved_sizes}
 use Rattle.vx_rvg.proofs.WriteStands.{volume_size_is, write_at}
-
-no_items : {X : Type 0} → (xs : List X) → length xs ≡ 0 → xs ≡ []
-no_items [] none = refl
-no_items (x ∷ xs) none = absurd (omega (arith, none))
-
--- the test that a block is one of the write
-tells : (w v b k p q : ℕ) → (eqb w v && (leb b k && ltb p q)) ≡ true → (w ≡ v) × (b ≤ k) × (p < q)
-tells w v b k p q h = (grind (arith, nat_tests), grind (arith, nat_tests), grind (arith, nat_tests))
-
-shows : (w v b k p q : ℕ) → w ≡ v → b ≤ k → p < q → (eqb w v && (leb b k && ltb p q)) ≡ true
-shows w v b k p q same low high = grind (arith, nat_tests)
 
 misses : (t : Bool) → t ≡ false → t ≡ true → ⊥
 misses t wrong right = let e : true ≡ false = sym right ∙ wrong in cc
@@ -64,7 +55,7 @@ module _ (core : Core) (c : Content) (vol start : ℕ) (bytes : List ℕ) (m : M
   inside = omega (arith, within, volume_size_is core.units.vols m vol exists, ready.sizes.each vol exists)
 
   none_held : s.held ≡ []
-  none_held = no_items s.held (omega (arith, held_length core.log s m ready.ring, emptied))
+  none_held = nil_from_length s.held (omega (arith, held_length core.log s m ready.ring, emptied))
 
   -- the log lies beside the volume
   log_aside : (b : ℕ) → b < core.log.ring + 2 → Run unit start (blocks_in bytes) core.log.unit b → ⊥

@@ -1,20 +1,13 @@
 -- The write of a call, its blocks as those that wait, and the volume that it is for.
-use Rattle.std.proofs.Common.{◌≡◌, ℕ, ◌+◌, ◌<◌, ◌≤◌, Bool, true, List, [], ◌∷◌, length, Option, Some, None, refl, sym, ◌∙◌, ap, arith, append-nil}
+use Rattle.std.proofs.Common.{◌≡◌, ℕ, ◌+◌, ◌<◌, ◌≤◌, Bool, true, List, [], ◌∷◌, length, ◌∙◌, ap, arith, append-nil}
 use Rattle.std.specs.Prelude.{if◌then◌else◌, leb}
 use Rattle.std.proofs.lemmas.Bool.{lt-ltb}
 use Rattle.std.proofs.lemmas.Bool.Decides.{nat_tests}
-use Rattle.std.proofs.lemmas.Option.{none-some}
 use Rattle.vx_model.specs.Content.{Write, blocks_in}
 use Rattle.vx_disk.specs.Shelf.{Meaning}
-use Rattle.vx_overlay.specs.Pending.{newer_or}
 use Rattle.vx_overlay.specs.Writes.{entries_at, entries_of}
 use Rattle.vx_overlay.proofs.WriteLemmas.{its_entries}
 use Rattle.vx_rvg.specs.Views.{unit_of, volume_size}
-
--- neither of two has bytes
-pub both_none : (later here : Option (List ℕ)) → newer_or later here ≡ None → (later ≡ None) × (here ≡ None)
-both_none (Some bytes) here is = absurd (none-some bytes (sym is))
-both_none None here is = (refl, is)
 
 fits : (a b : ℕ) → a ≤ b → leb a b ≡ true
 fits a b le = grind (arith, nat_tests)

@@ -1,6 +1,7 @@
 -- What writes make of the blocks of the volumes, block by block.
 use Rattle.std.specs.Prelude.{◌≡◌, ℕ, ◌+◌, ◌<◌, ◌≤◌, MatchOption, List, length, map}
 use Rattle.vx_model.specs.Content.{Content, Write, block_of}
+use Rattle.vx_model.specs.declared.call.Update.{Update}
 use Rattle.vx_disk.specs.Shelf.{Meaning, Image, Keeps}
 use Rattle.vx_overlay.specs.Writes.{newest_of}
 use Rattle.vx_ringlog.specs.Records.{Record, write_logged}
@@ -9,6 +10,10 @@ use Rattle.vx_rvg.specs.Views.{unit_of}
 -- the writes that records log
 abbrev pub writes_of : List Record → List Write
 writes_of rs = map write_logged rs
+
+-- the write of an update
+abbrev pub write_of_update : Update → Write
+write_of_update u = record { volume = u.vol; start = u.block; bytes = u.bytes }
 
 -- the content has the volumes of these units, each with the unit's size, and no other
 pub record HasSizes (vols : List ℕ) (c : Content) (m : Meaning) : Type 0 where

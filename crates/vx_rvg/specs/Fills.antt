@@ -1,7 +1,5 @@
 -- What waits once the writes of a log are taken up, one after another.
 use Rattle.std.specs.Prelude.{◌≡◌, ℕ, ◌+◌, IsTrue, List, length, take, slice_get, Some, All}
-use Rattle.vx_model.specs.Content.{Write}
-use Rattle.vx_model.specs.declared.call.Update.{Update}
 use Rattle.vx_model.specs.declared.no.No.{No}
 use Rattle.vx_model.specs.declared.no.No.TheVariants.{Damaged}
 use Rattle.vx_disk.specs.Shelf.{Meaning}
@@ -17,10 +15,6 @@ use Rattle.vx_srl.specs.declared.kept.Kept.{Kept}
 use Rattle.vx_rvg.specs.Contents.{writes_of}
 use Rattle.vx_rvg.specs.Stands.{IsWholeRecord}
 use Rattle.vx_rvg.specs.Views.{blocks_within}
-
--- the write that is read from a log
-abbrev pub logged_by : Update → Write
-logged_by u = record { volume = u.vol; start = u.block; bytes = u.bytes }
 
 -- As many blocks wait as the first k records put within their volumes. Of whatever log stands on the shelf, they are the blocks of its
 -- first k writes, which are whole.

@@ -80,11 +80,6 @@ GroupFails c old new c' (Device disk) = Ended c (Some disk) c' × DeviceCause ol
 GroupFails c old new c' Down = Ended c c.halted c' × DeviceCause old new Down
 GroupFails c old new c' other = ⊥
 
--- a refusal that no failed call gives
-abbrev pub IsNoFault : No → Type 0
-IsNoFault (Device disk) = ⊥
-IsNoFault other = Unit {0}
-
 -- where the shelf is a rack, a refusal 7 names the disk of one of these volumes
 abbrev pub BlamesVolumes : Option Disks → (vols : List ℕ) → No → Type 0
 BlamesVolumes disks vols (Device disk) = IsSome disks → (v : ℕ) × ((v < length vols) × (disk ≡ unit_of vols v))

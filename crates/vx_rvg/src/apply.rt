@@ -1,10 +1,11 @@
 // The bringing of logged writes into their volumes.
 ghost use Rattle.std.specs.Prelude.{◌≡◌, ◌+◌, ◌<◌, ◌≤◌, ℕ, length, Some, None, IsTrue, IsFalse, IfErr, IfOk, OnOk, IsSome};
+ghost use Rattle.vx_model.specs.Refusals.{IsNoDevice};
 ghost use Rattle.vx_disk.specs.Causes.{Works, refusal_of};
 ghost use Rattle.vx_disk.specs.Moves.{Moves, Anything, Nowhere};
 ghost use Rattle.vx_ringio.specs.Spends.{Spends};
 ghost use Rattle.vx_rvg.specs.Brings.{Brings, BringsOne, VolumesFlushed};
-ghost use Rattle.vx_rvg.specs.Groups.{halted_or, applied_through, ApplyIs, BlamesVolumes, IsNoFault};
+ghost use Rattle.vx_rvg.specs.Groups.{halted_or, applied_through, ApplyIs, BlamesVolumes};
 ghost use Rattle.vx_rvg.specs.Stands.{Resting, Rests};
 ghost use Rattle.vx_srl.specs.Causes.{CallsStopped};
 ghost use Rattle.vx_rvg.specs.Views.{IsSound, UnitsPlaced, Waits, last_of, unit_of};
@@ -91,7 +92,7 @@ pub(crate) fn apply_to<S: Shelf>(shelf: &mut S, core: &mut RvgCore, count: u64) 
     ensures answers { ApplyIs (halted_or core.old.halted None) core.old count (S.meaning shelf.old) (S.meaning shelf.new) core.new result }
     ensures unchanged { IsSome (halted_or core.old.halted None) → shelf.new ≡ shelf.old }
     ensures nothing { count ≤ core.old.applied → shelf.new ≡ shelf.old }
-    ensures idle { count ≤ core.old.applied → IfErr result IsNoFault }
+    ensures idle { count ≤ core.old.applied → IfErr result IsNoDevice }
     ensures blames { IfErr result (BlamesVolumes (S.meaning shelf.old).disks core.old.units.vols) }
     ensures sound { IsSound core.new (S.meaning shelf.new) }
     ensures stands { OnOk result (Rests core.old core.new (S.meaning shelf.old) (S.meaning shelf.new)) }

@@ -1,6 +1,7 @@
 // What a group is beside its shelf.
 ghost use Rattle.std.specs.Prelude.{◌≡◌, ◌+◌, ◌<◌, ◌≤◌, length, None, IfSome};
-ghost use Rattle.vx_rvg.specs.Groups.{write_refusal, read_refusal, applied_through, core_halted, IsNoFault};
+ghost use Rattle.vx_model.specs.Refusals.{IsNoDevice};
+ghost use Rattle.vx_rvg.specs.Groups.{write_refusal, read_refusal, applied_through, core_halted};
 ghost use Rattle.vx_rvg.specs.Views.{unit_of};
 
 use std::marker::Model;
@@ -55,7 +56,7 @@ impl RvgCore {
         requires { count ≤ MOST_CALL_BLOCKS }
         ensures is { result ≡ write_refusal self.now size start count }
         ensures some { result ≡ None → 0 < self.now.log.header.low }
-        ensures idle { IfSome result IsNoFault }
+        ensures idle { IfSome result IsNoDevice }
     {
         if let Some(disk) = self.halted {
             return Some(No::Halted { disk });

@@ -8,7 +8,8 @@ ghost use Rattle.vx_model.specs.Sizes.{ring_of};
 ghost use Rattle.vx_overlay.specs.Writes.{entries_of};
 ghost use Rattle.vx_ringio.specs.Spends.{Spends};
 ghost use Rattle.vx_ringio.specs.Tracks.{RingLies};
-ghost use Rattle.vx_rvg.specs.Fills.{FillCause, IsFilledTo, logged_by};
+ghost use Rattle.vx_rvg.specs.Contents.{write_of_update};
+ghost use Rattle.vx_rvg.specs.Fills.{FillCause, IsFilledTo};
 ghost use Rattle.vx_rvg.specs.Starts.{Starting, IsStarted, StartCause, StartStop, ring_in};
 ghost use Rattle.vx_rvg.specs.Views.{UnitsPlaced, volume_size};
 ghost use Rattle.vx_srl.specs.Starts.{ReadsAtLimit, StopReadsAtLimit};
@@ -28,7 +29,7 @@ use vx_srl::{LogRoom, Srl};
 fn add_within<S: Shelf>(shelf: &S, units: &Units, pending: &mut Overlay, update: &Update)
     requires placed { UnitsPlaced units.now (S.meaning shelf.now) }
     requires room { length pending.old.entries + blocks_in update.now.bytes ≤ pending.old.capacity }
-    ensures entries { pending.new.entries ≡ pending.old.entries ++ entries_of (volume_size units.now.vols (S.meaning shelf.now)) (logged_by update.now ∷ []) }
+    ensures entries { pending.new.entries ≡ pending.old.entries ++ entries_of (volume_size units.now.vols (S.meaning shelf.now)) (write_of_update update.now ∷ []) }
     ensures capacity { pending.new.capacity ≡ pending.old.capacity }
 {
     let vols = units.vols.as_slice();

@@ -4,6 +4,7 @@ use Rattle.std.specs.Prelude.{◌&&◌}
 use Rattle.std.specs.List.{list_all}
 use Rattle.std.specs.Str.{bytes_eq}
 use Rattle.std.proofs.lemmas.Slice.Eq.{bytes_eq-Decides}
+use Rattle.std.proofs.Math.Seq.{drop-append_seam, take-append_seam}
 use Rattle.hex.specs.Hex.{decode_sized, encode_with, encode_lower, lower_digits, hex_digit_value, IsBytes}
 use Rattle.hex.proofs.HexLemmas.{length-encode_with, decode_sized-twice, decode_of-encode_lower, IsDigits-lower_digits}
 use Rattle.vx_script.specs.Words.{is_visible, labelled}
@@ -31,19 +32,11 @@ word_cons b (c ∷ rest) e is = (e, is)
 pub visible : (b : ℕ) → is_visible b ≡ true → eqb b 32 ≡ false
 visible b e = grind arith
 
-take_label : (label word : List ℕ) → take (length label) (label ++ word) ≡ label
-take_label [] word = refl
-take_label (b ∷ label) word = ap (λ (l : List ℕ). b ∷ l) (take_label label word)
-
-drop_label : (label word : List ℕ) → drop (length label) (label ++ word) ≡ word
-drop_label [] word = refl
-drop_label (b ∷ label) word = drop_label label word
-
 pub labelled_again : {V : Type 0} (label : List ℕ) (value : List ℕ → Option V) (word : List ℕ) → labelled label value (label ++ word) ≡ value word
 unfolding labelled
 labelled_again label value word =
-    let same : bytes_eq (take (length label) (label ++ word)) label ≡ true = (bytes_eq-Decides (take (length label) (label ++ word)) label).1 (take_label label word) in
-    cond_true (bytes_eq (take (length label) (label ++ word)) label) (value (drop (length label) (label ++ word))) None same ∙ ap value (drop_label label word)
+    let same : bytes_eq (take (length label) (label ++ word)) label ≡ true = (bytes_eq-Decides (take (length label) (label ++ word)) label).1 (take-append_seam label word) in
+    cond_true (bytes_eq (take (length label) (label ++ word)) label) (value (drop (length label) (label ++ word))) None same ∙ ap value (drop-append_seam label word)
 
 -- the digits of bytes are a word, and are read again
 digit_visible : (x d : ℕ) → hex_digit_value x ≡ Some d → eqb x 32 ≡ false

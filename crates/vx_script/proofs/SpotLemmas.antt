@@ -1,5 +1,6 @@
 -- A line as it goes on: spaces, a word, and what follows it.
 use Rattle.std.proofs.Common.{◌≡◌, ℕ, zero, suc, ◌<◌, Bool, true, false, not, cond, List, [], ◌∷◌, ◌++◌, length, take, drop, replicate, refl, arith, ap, sym, ◌∙◌, eqb, inl, inr, ⊎_elim}
+use Rattle.std.proofs.Math.Seq.{drop-append_seam, take-append_seam}
 use Rattle.std.specs.Prelude.{◌&&◌, ◌⊎◌}
 use Rattle.std.specs.List.{list_all, position_or_len}
 use Rattle.vx_script.specs.Words.{is_space, is_visible, after_spaces, word_of, after_word}
@@ -31,20 +32,12 @@ word_end (b ∷ word) tail all ends =
     let a = both (is_visible b) (list_all is_visible word) all in
     word_more b (word ++ tail) (visible b a.0) ∙ ap (λ (n : ℕ). suc n) (word_end word tail a.1 ends)
 
-take_front : (word tail : List ℕ) → take (length word) (word ++ tail) ≡ word
-take_front [] tail = refl
-take_front (b ∷ word) tail = ap (λ (w : List ℕ). b ∷ w) (take_front word tail)
-
-drop_front : (word tail : List ℕ) → drop (length word) (word ++ tail) ≡ tail
-drop_front [] tail = refl
-drop_front (b ∷ word) tail = drop_front word tail
-
 -- a word ends where a space or nothing follows it
 pub word_then : (word tail : List ℕ) → list_all is_visible word ≡ true → is_in_word tail ≡ false → word_of (word ++ tail) ≡ word
-word_then word tail all ends = ap (λ (n : ℕ). take n (word ++ tail)) (word_end word tail all ends) ∙ take_front word tail
+word_then word tail all ends = ap (λ (n : ℕ). take n (word ++ tail)) (word_end word tail all ends) ∙ take-append_seam word tail
 
 pub tail_then : (word tail : List ℕ) → list_all is_visible word ≡ true → is_in_word tail ≡ false → after_word (word ++ tail) ≡ tail
-tail_then word tail all ends = ap (λ (n : ℕ). drop n (word ++ tail)) (word_end word tail all ends) ∙ drop_front word tail
+tail_then word tail all ends = ap (λ (n : ℕ). drop n (word ++ tail)) (word_end word tail all ends) ∙ drop-append_seam word tail
 
 -- spaces alone
 pub record Blank (bytes : List ℕ) : Type 0 where

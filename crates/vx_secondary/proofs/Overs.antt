@@ -1,10 +1,11 @@
 -- Blocks of writes put over those of a volume, block by block.
-use Rattle.std.proofs.Common.{◌≡◌, ◌∙◌, ⊎_elim, ℕ, zero, suc, ◌+◌, ◌-◌, ◌*◌, ◌/◌, ◌<◌, ◌≤◌, Bool, true, false, List, [], ◌∷◌, ◌++◌, length, take, drop, Option, Some, None, refl, sym, ap, subst, arith}
+use Rattle.std.proofs.Common.{◌≡◌, ◌∙◌, ⊎_elim, ℕ, zero, suc, ◌+◌, ◌-◌, ◌*◌, ◌/◌, ◌<◌, ◌≤◌, Bool, true, false, List, [], ◌∷◌, ◌++◌, length, take, Option, Some, None, refl, sym, ap, subst, arith}
 use Rattle.std.specs.Prelude.{if◌then◌else◌, slice_get, leb}
 use Rattle.std.proofs.lemmas.Bool.{cases_eq}
 use Rattle.std.proofs.lemmas.List.{take_all}
 use borrow.Rule.Slice.PartMut.{put_mid}
 use Rattle.vx_model.specs.Content.{Content, Write, blocks_in, block_of, block_after, touches, is_within, put, fold_writes}
+use Rattle.vx_model.proofs.Contents.{fold_append, folded_size}
 use Rattle.vx_rvg.specs.Contents.{ShowsContent}
 use Rattle.vx_rvg.proofs.PatchFacts.{put_size, put_same, put_other}
 use Rattle.vx_secondary.specs.Overs.{AreWithin, IsPutOver}
@@ -50,10 +51,6 @@ module _ (x : Write) (vol start n : ℕ) (old mid : List ℕ) (before : IsPutTo 
       fits : 512 * n + 512 ≤ length mid
       fits = omega (arith, low, before.size)
 
--- the bytes between two places, one block apart
-pub cut : (n : ℕ) (bytes part : List ℕ) → part ≡ take (512 * n + 512 - 512 * n) (drop (512 * n) bytes) → part ≡ block_of bytes n
-cut n bytes part is = let wide : 512 * n + 512 - 512 * n ≡ 512 = omega arith in is ∙ ap (λ (m : ℕ). take m (drop (512 * n) bytes)) wide
-
 -- a content with the write is what is then shown
 pub shows_put : (c : Content) (x : Write) (vol start : ℕ) (old new : List ℕ) → is_within c x ≡ true → IsPutOver x vol start old new → ShowsContent c vol start (blocks_in old) old → ShowsContent (put c x) vol start (blocks_in old) new
 shows_put c x vol start old new within over shows = record {
@@ -72,14 +69,6 @@ pub record ShowsTo (xs : List Write) (n vol start : ℕ) (old new : List ℕ) : 
 pub shows_none : (xs : List Write) (vol start : ℕ) (old : List ℕ) → ShowsTo xs 0 vol start old old
 shows_none xs vol start old = record { size = refl; shows = λ c within shows. shows }
 
-fold_size : (c : Content) (xs : List Write) (v : ℕ) → (fold_writes c xs).size v ≡ c.size v
-fold_size c [] v = refl
-fold_size c (x ∷ xs) v = fold_size (put c x) xs v
-
-fold_append : (c : Content) (xs ys : List Write) → fold_writes c (xs ++ ys) ≡ fold_writes (fold_writes c xs) ys
-fold_append c [] ys = refl
-fold_append c (x ∷ xs) ys = fold_append (put c x) xs ys
-
 take_next : (n : ℕ) (xs : List Write) (x : Write) → slice_get xs n ≡ Some x → take (suc n) xs ≡ take n xs ++ x ∷ []
 take_next zero (v ∷ xs) x is = let same : v ≡ x = cc in ap (λ (w : Write). w ∷ []) same
 take_next (suc n) (v ∷ xs) x is = ap (λ (ws : List Write). v ∷ ws) (take_next n xs x is)
@@ -91,7 +80,7 @@ shows_next xs n vol start x old mid new before here over = record {
   size = over.size ∙ before.size;
   shows = λ c within shows.
       let d : Content = fold_writes c (take n xs) in
-      let inside : is_within d x ≡ true = ap (λ (k : ℕ). leb (x.start + blocks_in x.bytes) k) (fold_size c (take n xs) x.volume) ∙ within n x here in
+      let inside : is_within d x ≡ true = ap (λ (k : ℕ). leb (x.start + blocks_in x.bytes) k) (folded_size c (take n xs) x.volume) ∙ within n x here in
       let many : blocks_in mid ≡ blocks_in old = ap (λ (k : ℕ). k / 512) before.size in
       let there : ShowsContent d vol start (blocks_in mid) mid = subst (λ (k : ℕ). ShowsContent d vol start k mid) (sym many) (before.shows c within shows) in
       let after : fold_writes c (take (n + 1) xs) ≡ put d x =

@@ -1,11 +1,12 @@
 -- Steps of a receiver's group, one behind another.
-use Rattle.std.proofs.Common.{◌≡◌, ◌∙◌, ◌⊎◌, ⊎_elim, ℕ, ◌+◌, ◌<◌, ◌≤◌, List, [], ◌∷◌, ◌++◌, length, take, drop, None, refl, sym, ap, subst, arith, append-nil, append_assoc, length-append, length-drop, drop-drop}
+use Rattle.std.proofs.Common.{◌≡◌, ◌∙◌, ◌⊎◌, ⊎_elim, ℕ, ◌+◌, ◌<◌, ◌≤◌, List, [], ◌++◌, length, take, drop, None, refl, sym, ap, subst, arith, append-nil, append_assoc, length-append, length-drop, drop-drop}
 use Rattle.std.proofs.lemmas.Bool.{cases_lt}
 use Rattle.std.proofs.lemmas.List.{drop-append-le, take-append-le, take_all}
 use Rattle.std.proofs.Math.Seq.{take-append-add}
-use Rattle.vx_model.specs.Content.{Content, Write, fold_writes, put}
+use Rattle.vx_model.specs.Content.{Content, Write, fold_writes}
 use Rattle.vx_model.specs.declared.state.State.{State as SiteState}
 use Rattle.vx_model.specs.declared.units.Units.{Units}
+use Rattle.vx_model.proofs.Contents.{fold_append}
 use Rattle.vx_disk.specs.Moves.{Blocks, Moves, Run, Says}
 use Rattle.vx_disk.specs.Shelf.{Meaning, Image}
 use Rattle.vx_disk.proofs.Moving.{goes_on, still, wider}
@@ -15,10 +16,6 @@ use Rattle.vx_rvg.specs.Views.{Core, unit_of}
 use Rattle.vx_secondary.specs.Logging.{Grows, SameGroup, Own, Logging, Step, LogsAll}
 
 -- ---- lists
-
-fold_append : (c : Content) (xs ys : List Write) → fold_writes c (xs ++ ys) ≡ fold_writes (fold_writes c xs) ys
-fold_append c [] ys = refl
-fold_append c (x ∷ xs) ys = fold_append (put c x) xs ys
 
 -- ---- holdings
 

@@ -9,11 +9,12 @@ use Rattle.vx_model.specs.declared.limits.TheConstants.{MOST_WAITING}
 use Rattle.vx_model.specs.declared.no.No.{No}
 use Rattle.vx_model.specs.declared.state.State.{State as SiteState}
 use Rattle.vx_disk.specs.Shelf.{Meaning}
+use Rattle.vx_rvg.specs.Contents.{write_of_update}
 use Rattle.vx_rvg.specs.Holdings.{Holding}
 use Rattle.vx_rvg.specs.Stands.{Stands}
 use Rattle.vx_rvg.specs.Views.{Core, last_of, unit_of}
 use Rattle.vx_secondary.specs.Logging.{SameGroup, Step, LogsAll, EndsLogging, EndsAfter}
-use Rattle.vx_secondary.specs.Receivers.{Wait, can_log, write_of_update, writes_of_updates}
+use Rattle.vx_secondary.specs.Receivers.{Wait, can_log, writes_of_updates}
 use Rattle.vx_secondary.proofs.Steps.{step_self, step_then, step_more, logs_self, logs_then}
 use Rattle.vx_secondary.specs.Overs.{AreWithin}
 use Rattle.vx_secondary.proofs.Writings.{can_parts, can_same, ends_later}

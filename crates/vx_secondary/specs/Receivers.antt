@@ -4,11 +4,8 @@ use Rattle.vx_model.specs.Content.{Write, blocks_in}
 use Rattle.vx_model.specs.declared.call.Update.{Update}
 use Rattle.vx_model.specs.declared.limits.TheConstants.{MOST_WAITING}
 use Rattle.vx_history.specs.declared.receiver.RState.{RState}
+use Rattle.vx_rvg.specs.Contents.{write_of_update}
 use Rattle.vx_rvg.specs.Views.{Core, last_of, unit_of}
-
--- the write of an update
-abbrev pub write_of_update : Update → Write
-write_of_update u = record { volume = u.vol; start = u.block; bytes = u.bytes }
 
 abbrev pub writes_of_updates : List Update → List Write
 writes_of_updates us = map write_of_update us

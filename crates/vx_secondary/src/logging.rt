@@ -1,7 +1,8 @@
 // The logging of updates that wait.
 ghost use Rattle.std.specs.Prelude.{◌≡◌, ◌+◌, ◌<◌, ◌≤◌, ℕ, [], ◌∷◌, None, OnOk, IfErr, drop, length, take, true};
+ghost use Rattle.vx_rvg.specs.Contents.{write_of_update};
 ghost use Rattle.vx_secondary.specs.Logging.{EndsLogging, EndsAfter, LogsAll, Step};
-ghost use Rattle.vx_secondary.specs.Receivers.{Wait, can_log, write_of_update, writes_of_updates};
+ghost use Rattle.vx_secondary.specs.Receivers.{Wait, can_log, writes_of_updates};
 
 use crate::Waiting;
 use crate::room::make_room;

@@ -2,9 +2,9 @@
 ghost use Rattle.std.specs.Prelude.{◌≡◌, ◌+◌, ◌-◌, ◌<◌, ◌^◌, Some, None, if◌then◌else◌, length};
 ghost use Rattle.vx_model.specs.Content.{blocks_in, touches, fold_writes, Content};
 ghost use Rattle.vx_ringio.specs.Bodies.{IsBlocks};
-ghost use Rattle.vx_rvg.specs.Contents.{ShowsContent};
+ghost use Rattle.vx_rvg.specs.Contents.{ShowsContent, write_of_update};
 ghost use Rattle.vx_secondary.specs.Overs.{AreWithin, IsPutOver};
-ghost use Rattle.vx_secondary.specs.Receivers.{write_of_update, writes_of_updates};
+ghost use Rattle.vx_secondary.specs.Receivers.{writes_of_updates};
 
 use crate::Waiting;
 use vx_model::Update;

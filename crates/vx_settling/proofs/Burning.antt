@@ -4,6 +4,7 @@ use Rattle.std.proofs.Math.Path.{fun_ext}
 use Rattle.std.specs.Prelude.{Option, Some, None, eqb, ltb, if◌then◌else◌}
 use Rattle.vx_model.specs.Sites.{is_origin}
 use Rattle.vx_model.specs.declared.history.Line.{Line}
+use Rattle.vx_history.proofs.Fuses.{burned_twice}
 use Rattle.vx_history.proofs.Updates.{at_place, eqb_apart, eqb_equal}
 use Rattle.vx_history.specs.Doubts.{After, Doubted, crashed_as, halved, resolved, resolved_at, taken_up}
 use Rattle.vx_history.specs.Events.{crash_at, kept_of, lost_touch, packet_at}
@@ -25,11 +26,6 @@ use Rattle.vx_world.proofs.LikeSteps.{looks_same, step_like}
 use Rattle.vx_settling.specs.Burnt.{MayBurn, burnt_world, noted_as}
 use Rattle.vx_settling.specs.Kinds.{is_settling}
 use Rattle.vx_settling.proofs.Running.{event_stays, happens}
-
-pub burned_twice : (f : Fuse) → burned (burned f) ≡ burned f
-burned_twice NoFuse = refl
-burned_twice (FuseSet calls) = refl
-burned_twice (FuseLit most) = refl
 
 -- ---- two worlds of which all parts are the same
 

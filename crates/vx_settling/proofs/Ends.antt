@@ -1,13 +1,11 @@
 -- Where settling ends: at the head, which the reply names.
-use Rattle.std.proofs.Common.{◌≡◌, ◌∙◌, ◌<◌, ◌≤◌, ℕ, List, [], Bool, true, false, refl, ap, sym, subst, arith, length}
+use Rattle.std.proofs.Common.{◌≡◌, ◌∙◌, ◌<◌, ◌≤◌, ℕ, List, [], Bool, true, false, ap, sym, subst, arith, length}
 use Rattle.std.proofs.lemmas.Bool.Decides.{nat_tests}
-use Rattle.std.specs.Prelude.{◌&&◌, leb, not, Option, Some, None, if◌then◌else◌}
+use Rattle.std.specs.Prelude.{◌&&◌, leb, not, None, if◌then◌else◌}
 use Rattle.vx_model.specs.Sites.{is_origin, is_up}
 use Rattle.vx_model.specs.declared.no.Named.TheVariants.{Number as ByNumber}
 use Rattle.vx_model.specs.declared.no.No.TheVariants.{Down as NotUp, LinkDown, Paused, Role as WrongRole, Unknown}
 use Rattle.vx_model.specs.declared.no.SiteName.TheVariants.{Number as SiteNumber}
-use Rattle.vx_model.specs.declared.site.Role.{Role}
-use Rattle.vx_model.specs.declared.site.Role.TheVariants.{Primary, Secondary, Handing, Bunker}
 use Rattle.vx_history.specs.Doubts.{Doubted, Runs}
 use Rattle.vx_history.specs.Events.{greeting_back, link_event, ticked_at}
 use Rattle.vx_history.specs.GoodWorld.{GoodWorld}
@@ -20,6 +18,8 @@ use Rattle.vx_history.specs.declared.event.Event.{Event}
 use Rattle.vx_history.specs.declared.event.Event.TheVariants.{Connect, Pump, Tick}
 use Rattle.vx_history.specs.declared.event.Said.TheVariants.{Done as IsDone}
 use Rattle.vx_history.specs.declared.sender.SEvent.TheVariants.{Connect as ConnectLink, Pump as PumpLink}
+use Rattle.vx_history.proofs.Behind.{runs as runs_on}
+use Rattle.vx_history.proofs.States.{origin_keeps}
 use Rattle.vx_script.specs.declared.line.ScriptLine.TheVariants.{Settle}
 use Rattle.vx_events.specs.Facts.{head_of, site_number}
 use Rattle.vx_events.specs.LinkEnds.{AreLeft, LinkEnds, LinkReplies, LinksDone}
@@ -36,18 +36,8 @@ use Rattle.vx_settling.proofs.Running.{are_all, no_fails, run_stays, runs_only}
 
 -- ---- tests that are passed
 
-origin_keeps : (r : Role) → is_origin r ≡ true → keeps_links r ≡ true
-origin_keeps Primary e = refl
-origin_keeps Secondary e = absurd (cc)
-origin_keeps (Handing to) e = refl
-origin_keeps Bunker e = absurd (cc)
-
 not_past : (a b : ℕ) → b < a → leb a b ≡ false
 not_past a b h = grind (arith, nat_tests)
-
-runs_on : (halted : Option ℕ) (w : World) (o : Outcome) → halted ≡ None → unless_halted halted w o ≡ o
-runs_on None w o e = refl
-runs_on (Some disk) w o e = absurd (cc)
 
 module _ (w : World) (p s : ℕ) (can : CanSettle w p s) where
   link_passes : (o : Outcome) → on_link w p s o ≡ o

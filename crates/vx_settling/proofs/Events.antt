@@ -7,17 +7,16 @@ use Rattle.vx_model.specs.Content.{Write}
 use Rattle.vx_model.specs.Sites.{is_origin, is_up}
 use Rattle.vx_model.specs.declared.site.Mark.TheVariants.{Consistent}
 use Rattle.vx_model.specs.declared.site.SPhase.{SPhase}
-use Rattle.vx_model.specs.declared.no.Named.TheVariants.{Number as ByNumber}
-use Rattle.vx_model.specs.declared.no.No.{No}
-use Rattle.vx_model.specs.declared.no.No.TheVariants.{Down as NotUp, LinkDown, Paused, Role as WrongRole, Unknown}
+use Rattle.vx_model.specs.declared.no.No.TheVariants.{LinkDown, Paused}
 use Rattle.vx_model.specs.declared.no.SiteName.TheVariants.{Number as SiteNumber}
+use Rattle.vx_history.proofs.Behind.{link_by, site_by, unless_by, work_by}
 use Rattle.vx_history.proofs.Updates.{by_test}
 use Rattle.vx_history.specs.Events.{acknowledged, applied, applied_by, apply_at, delivered, receiver_facts, gathered_if, greeting_back, handed, heard, is_taken, link_event, link_heard, link_step, packet_at, reached_at, said_of_link, taken_if, ticked_at, ticked_link, update_taken, with_write}
 use Rattle.vx_history.specs.Gatherings.{completes}
 use Rattle.vx_history.specs.Headers.{count_at, heard_headers}
 use Rattle.vx_history.specs.LinkForms.{plain_link, plain_receiver, with_plain}
 use Rattle.vx_history.specs.Receiving.{Received, is_log_phase, received_step, with_applied}
-use Rattle.vx_history.specs.Refusals.{Outcome, at_site, at_work, is_running, keeps_links, on_link, says, unless, unless_halted, when_live}
+use Rattle.vx_history.specs.Refusals.{Outcome, at_work, is_running, keeps_links, says, unless, when_live}
 use Rattle.vx_history.specs.Sending.{Sent, sent_step}
 use Rattle.vx_history.specs.Sends.{is_linked, packets_of, sending, sent_by, with_link}
 use Rattle.vx_history.specs.Step.{done, outcome_of, step}
@@ -36,29 +35,6 @@ use Rattle.vx_settling.proofs.Taking.{takes_applied, takes_written}
 use Rattle.vx_settling.proofs.Touching.{Changed, LinkTouch, SiteTouch, Touch, link_moved, link_same, site_gathered, site_linked, site_same, site_sent, site_taken, touch_same, with_headers}
 
 -- ---- behind tests
-
--- what holds of a world, and behind an event that its tests pass, holds behind those tests
-unless_by : (P : World → Type 0) (b : Bool) (why : No) (w : World) (o : Outcome) → P w → P o.world → P (unless b why w o).world
-unless_by P b why w o here there = by_test (λ (r : Outcome). P r.world) b _ o (λ _. here) (λ _. there)
-
-work_by : (P : World → Type 0) (w : World) (p : ℕ) (o : Outcome) → P w → P o.world → P (at_work w p o).world
-work_by P w p o here there = unless_by P (not (is_up (w.nodes p).state)) NotUp w (unless_halted (w.nodes p).halted w o) here (halted (w.nodes p).halted)
-  where
-    halted : (h : Option ℕ) → P (unless_halted h w o).world
-    halted None = there
-    halted (Some disk) = here
-
-site_by : (P : World → Type 0) (w : World) (p : ℕ) (o : Outcome) → P w → P o.world → P (at_site w p o).world
-site_by P w p o here there = unless_by P (leb w.sites p) (Unknown (ByNumber p)) w o here there
-
-link_by : (P : World → Type 0) (w : World) (p s : ℕ) (o : Outcome) → P w → P o.world → P (on_link w p s o).world
-link_by P w p s o here there =
-    let linked : Outcome = unless (not (is_linked (w.links p s))) (Unknown (ByNumber s)) w o in
-    let led : Outcome = unless (not (keeps_links (w.nodes p).role)) WrongRole w linked in
-    site_by P w p (at_site w s (at_work w p led)) here
-    (site_by P w s (at_work w p led) here
-    (work_by P w p led here
-    (unless_by P (not (keeps_links (w.nodes p).role)) WrongRole w linked here (unless_by P (not (is_linked (w.links p s))) (Unknown (ByNumber s)) w o here there))))
 
 -- ---- the link's own events
 

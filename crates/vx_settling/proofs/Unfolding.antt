@@ -3,6 +3,7 @@ use Rattle.std.proofs.Common.{◌≡◌, ◌∙◌, ◌++◌, ◌<◌, ◌≤◌
 use Rattle.std.proofs.lemmas.List.{append-nil}
 use Rattle.std.specs.Prelude.{leb, Option, Some, None, slice_get, if◌then◌else◌}
 use Rattle.vx_model.specs.declared.limits.TheConstants.{MOST_PACKETS}
+use Rattle.vx_model.proofs.Lists.{get_front}
 use Rattle.vx_history.proofs.Updates.{by_test}
 use Rattle.vx_history.specs.Events.{packet_at}
 use Rattle.vx_history.specs.Settling.{deliver_between, delivery, is_between, turn, turns}
@@ -61,12 +62,6 @@ module _ (p s k : ℕ) (qs : List Packet) where
   last_delivered all done least split =
       split ∙ ap (λ (es : List Event). done ++ es) (ap (λ (xs : List Packet). deliver_between p s k xs) (drop_all qs k least)) ∙ append-nil done
 
--- a packet stands among those that were sent before
-get_before : (xs more : List Packet) (k : ℕ) → k < length xs → slice_get (xs ++ more) k ≡ slice_get xs k
-get_before [] more k below = absurd (omega (arith, below))
-get_before (x ∷ xs) more zero below = refl
-get_before (x ∷ xs) more (suc k) below = get_before xs more k (omega (arith, below))
-
 pub some_before : (xs : List Packet) (k : ℕ) → k < length xs → (q : Packet) × (slice_get xs k ≡ Some q)
 some_before [] k below = absurd (omega (arith, below))
 some_before (x ∷ xs) zero below = (x, refl)
@@ -79,7 +74,7 @@ packet_found ps k q is =
 
 pub found_before : (w v : World) (k : ℕ) (q : Packet) → StaysAs w v → k < length w.packets → packet_at v.packets (suc k) ≡ Some q → slice_get w.packets k ≡ Some q
 found_before w v k q m below is =
-    sym (get_before w.packets m.more k below)
+    sym (get_front w.packets m.more k below)
     ∙ subst (λ (ps : List Packet). slice_get ps k ≡ Some q) m.sent (packet_found v.packets k q is)
 
 -- ---- a turn

@@ -37,6 +37,7 @@ use Rattle.vx_events.specs.Sayings.{Replies}
 use Rattle.vx_events.specs.declared.said.Said.{Said}
 use Rattle.vx_events.specs.declared.said.Said.TheVariants.{Refused}
 use Rattle.vx_world.proofs.Crashed.{crash_is, not_past}
+use Rattle.vx_world.proofs.Lining.{fault_is}
 use Rattle.vx_settling.specs.Between.{MayMove}
 use Rattle.vx_settling.specs.Burnt.{EndTo, GoesTo, MayBurn, NotedAs, OnTo, burnt_world, noted_as}
 use Rattle.vx_settling.specs.Works.{SettleStops}
@@ -46,9 +47,6 @@ use Rattle.vx_settling.proofs.WithinOne.{head_same, number_burnt, reply_on, sing
 use Rattle.vx_settling.proofs.Working.{cuts_apply, lacks_apply, stops_apply, works_apply}
 
 -- ---- the events
-
-fault_is : (w : World) (s disk : ℕ) → s < w.sites → (w.nodes s).state ≡ Up → (outcome_of w (Fault s disk)).world ≡ stopped_by w s disk
-fault_is w s disk here up = rw (not_past w.sites s here) (rw up refl)
 
 -- what a site that receives applies is the same, whatever it is said to have reached
 reached_any : (w : World) (s count reached : ℕ) → is_origin (w.nodes s).role ≡ false → step w (ApplyAt s count reached) ≡ step w (ApplyAt s count 0)

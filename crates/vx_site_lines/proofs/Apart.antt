@@ -2,6 +2,7 @@
 use Rattle.std.proofs.Common.{◌≡◌, ◌∙◌, ◌<◌, ℕ, List, length, ap, sym, subst, refl, arith, Bool, false, true}
 use Rattle.std.specs.Prelude.{Option, Some, ◌&&◌, eqb, is_some}
 use Rattle.vx_model.specs.declared.site.SiteState.TheVariants.{Bare as IsBare, Up as IsUp, Down as IsDown}
+use Rattle.vx_model.proofs.Lists.{get_there}
 use Rattle.vx_history.specs.Doubts.{Doubted}
 use Rattle.vx_history.specs.Groups.{GroupNode}
 use Rattle.vx_history.specs.World.{Node, Volume, World}
@@ -25,7 +26,6 @@ use Rattle.vx_yard.specs.OfSites.{OfSite, ReadsBy, WritesBy}
 use Rattle.vx_yard.specs.Standing.{StandsFor}
 use Rattle.vx_yard.specs.declared.yard.Yard.{Yard}
 use Rattle.vx_yard.proofs.NamedSite.{SiteAt, fact_placed, place_at, site_at}
-use Rattle.vx_yard.proofs.WriteLine.{get_there}
 use Rattle.vx_diskset.proofs.GroupFinding.{over_made}
 
 -- so is a node with the same group and volumes

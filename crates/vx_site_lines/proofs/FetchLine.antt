@@ -37,6 +37,7 @@ use Rattle.vx_events.proofs.Steps.{read_step}
 use Rattle.vx_events.specs.Ends.{Ends, noted}
 use Rattle.vx_events.specs.Fails.{Fails}
 use Rattle.vx_events.proofs.Passing.{IsCall}
+use Rattle.vx_events.proofs.Testing.{volume_at}
 use Rattle.vx_rvg.specs.Contents.{ShowsContent}
 use Rattle.vx_events.specs.Facts.{group_by, group_fact, place_of, seat_of, site_number, volume_fact, volume_number}
 use Rattle.vx_events.specs.GroupLines.{is_over_group}
@@ -62,7 +63,6 @@ use Rattle.vx_yard.proofs.NamedSite.{SiteAt, apart_at, fact_named, site_at}
 use Rattle.vx_yard.proofs.NoteSite.{comes_same, one_left, only_left}
 use Rattle.vx_yard.proofs.OneSite.{Changed, Comes, beside_same, role_kept, rose_at, stands_still, told_by}
 use Rattle.vx_site_lines.proofs.Apart.{never_up}
-use Rattle.vx_site_lines.proofs.ReadLine.{volume_at}
 use Rattle.vx_yard.proofs.RawSites.{raw_site, raw_told, ungrouped_over, ungrouped_site}
 use Rattle.vx_yard.proofs.SiteEvents.{first_choice}
 use Rattle.vx_diskset.proofs.Laying.{laid_in}

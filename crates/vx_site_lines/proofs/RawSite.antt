@@ -15,8 +15,7 @@ use Rattle.vx_model.specs.declared.errors.OutOfMemory.{OutOfMemory as MemoryErro
 use Rattle.vx_model.specs.declared.errors.Stop.{Stop}
 use Rattle.vx_model.specs.declared.errors.Stop.TheVariants.{No as Refused, OutOfMemory}
 use Rattle.vx_model.specs.declared.no.No.TheVariants.{Device, Size as WrongSize}
-use Rattle.vx_model.specs.declared.site.SiteState.{SiteState}
-use Rattle.vx_model.specs.declared.site.SiteState.TheVariants.{Bare as IsBare, Up as IsUp, Deported, Down as IsDown}
+use Rattle.vx_model.specs.declared.site.SiteState.TheVariants.{Bare as IsBare, Up as IsUp, Down as IsDown}
 use Rattle.vx_model.specs.declared.state.KeptLink.{KeptLink}
 use Rattle.vx_disk.specs.declared.shelf.Shelf.{Ghosts}
 use Rattle.vx_order.specs.Order.{line_refusal}
@@ -34,6 +33,7 @@ use Rattle.vx_diskset.specs.Stands.{RoleIs, StandsAlone, SiteStands, bare_with}
 use Rattle.vx_diskset.specs.declared.disk_set.DiskSet.{DiskSet}
 use Rattle.vx_diskset.specs.declared.disk_set.DiskSet.TheVariants.{Bare, Spoiled, Up, Receives, Down, OfGroup, Over, Gone}
 use Rattle.vx_effects.proofs.Fitting.{fit_happened}
+use Rattle.vx_events.proofs.LinkTesting.{nothing_shown}
 use Rattle.vx_events.proofs.Places.{never_some, some_same}
 use Rattle.vx_events.proofs.Refused.{Named, not_false, passes, raw_may, when_none}
 use Rattle.vx_events.proofs.Steps.{no_sites, raw_step}
@@ -112,17 +112,10 @@ raw_beside d s bare fits =
     beside_blank d s (d.world.headers s + 0) (blank_sites d s blank d.world.sites) (no_more (d.world.headers s) ∙ blank.headers) (doubt_of (raw_event d s).world s (d.after s))
     (ap (λ (o : Option After). doubt_of (raw_event d s).world s o) (bare_sure d s bare fits))
 
--- what the tests see of it shows no links
-shows_none : (state : SiteState) → links_by state [] ≡ []
-shows_none IsBare = refl
-shows_none IsUp = refl
-shows_none Deported = refl
-shows_none IsDown = refl
-
 blank_fact : (d : Doubted) (s : ℕ) (n : Node) → IsBlank d.world s → fact_from n (d.world.links s) d.world.sites ≡ site_fact n
 blank_fact d s n blank =
     ap (λ (ls : List LinkFacts). let f : SiteFacts = record (site_fact n) { links = ls } in f)
-    (ap (λ (ss : List ℕ). links_by n.state (link_facts n (d.world.links s) ss)) (no_sites (d.world.links s) d.world.sites 0 d.world.sites blank.links) ∙ shows_none n.state)
+    (ap (λ (ss : List ℕ). links_by n.state (link_facts n (d.world.links s) ss)) (no_sites (d.world.links s) d.world.sites 0 d.world.sites blank.links) ∙ nothing_shown n.state)
 
 -- one without a group becomes a raw set without one
 pub raw_apart : (s : ℕ) (n : Node) → n.group ≡ None → is_over_group (raw_set s n) ≡ false

@@ -36,7 +36,7 @@ use Rattle.vx_events.proofs.OverSeats.{fact_apart}
 use Rattle.vx_events.proofs.Places.{some_same}
 use Rattle.vx_events.proofs.Steps.{bare_step}
 use Rattle.vx_events.specs.Effects.{EffectAt}
-use Rattle.vx_events.specs.Ends.{DiskFails, Ends, FindsLinks, FindsNone, FromBare, IsNoDevice, found_linked}
+use Rattle.vx_events.specs.Ends.{DiskFails, Ends, FindsLinks, FindsNone, FromBare, found_linked}
 use Rattle.vx_events.specs.Facts.{site_fact, site_number, volume_fact}
 use Rattle.vx_events.specs.Fails.{Fails}
 use Rattle.vx_events.specs.Found.{ComesUpAs, SameDisks}
@@ -48,6 +48,7 @@ use Rattle.vx_events.specs.LinksFit.{LinksFit}
 use Rattle.vx_events.specs.declared.said.Said.{Said}
 use Rattle.vx_events.specs.declared.said.Said.TheVariants.{Recovered, Refused}
 use Rattle.vx_model.specs.declared.site.SiteState.{SiteState}
+use Rattle.vx_model.specs.Refusals.{IsNoDevice}
 use Rattle.vx_order.specs.declared.facts.SiteFacts.{SiteFacts}
 use Rattle.vx_order.specs.declared.facts.VolumeFacts.{VolumeFacts}
 use Rattle.vx_report.specs.declared.view.SiteView.{SiteView}

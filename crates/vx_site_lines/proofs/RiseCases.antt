@@ -8,6 +8,7 @@ use Rattle.vx_model.specs.declared.no.No.TheVariants.{NoConfig}
 use Rattle.vx_model.specs.declared.site.SiteState.TheVariants.{Bare as IsBare, Down as IsDown, Up as IsUp}
 use Rattle.vx_model.specs.declared.state.KeptLink.{KeptLink}
 use Rattle.vx_model.specs.declared.state.State.{State}
+use Rattle.vx_model.proofs.Lists.{get_there}
 use Rattle.vx_disk.specs.Shelf.{Lawful}
 use Rattle.vx_disk.specs.declared.shelf.Shelf.{Ghosts}
 use Rattle.vx_diskset.specs.Asked.{SameFailing}
@@ -47,7 +48,6 @@ use Rattle.vx_site_lines.proofs.RiseBare.{none_leads, stands_up_bare, stays_bare
 use Rattle.vx_site_lines.proofs.RiseLeads.{Replaced, stays_down, stood_up, withdrawn}
 use Rattle.vx_site_lines.proofs.RiseLine.{shape_at, sure, told_may, told_origin}
 use Rattle.vx_site_lines.proofs.RiseWorlds.{own_sites}
-use Rattle.vx_yard.proofs.WriteLine.{get_there}
 use Rattle.vx_diskset.proofs.GroupFinding.{over_made}
 use Rattle.vx_diskset.proofs.GroupStands.{none_apart}
 

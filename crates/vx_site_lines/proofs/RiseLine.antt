@@ -12,6 +12,7 @@ use Rattle.vx_model.specs.declared.site.SPhase.TheVariants.{Quiet, Regions, Log 
 use Rattle.vx_model.specs.declared.site.SiteState.TheVariants.{Bare as IsBare, Up as IsUp, Down as IsDown}
 use Rattle.vx_model.specs.declared.state.KeptLink.{KeptLink}
 use Rattle.vx_model.specs.declared.state.State.{State}
+use Rattle.vx_model.specs.Refusals.{IsNoDevice}
 use Rattle.vx_disk.specs.Shelf.{Lawful}
 use Rattle.vx_disk.specs.declared.shelf.Shelf.{Ghosts}
 use Rattle.vx_diskset.specs.Asked.{FailsAs, FusedAs, SameFailing}
@@ -40,7 +41,7 @@ use Rattle.vx_effects.specs.Restarts.{IsAgain, are_fine, row_of_kept}
 use Rattle.vx_events.proofs.LinkTesting.{AllLinked, all_linked}
 use Rattle.vx_events.proofs.Places.{never_some, some_same}
 use Rattle.vx_events.specs.Effects.{EffectAt}
-use Rattle.vx_events.specs.Ends.{IsNoDevice, found_linked}
+use Rattle.vx_events.specs.Ends.{found_linked}
 use Rattle.vx_events.specs.Found.{ComesUpAs, SameDisks}
 use Rattle.vx_events.specs.LinkViews.{linked_view}
 use Rattle.vx_events.specs.GroupLines.{is_over_group}

@@ -1,14 +1,14 @@
 -- The blocks of a log that the links need which its header keeps.
-use Rattle.std.proofs.Common.{◌≡◌, ◌∙◌, ◌<◌, ◌≤◌, ◌+◌, ◌⊎◌, ℕ, zero, suc, Bool, true, false, List, [], ◌∷◌, length, slice_index_or, ap, sym, subst, refl, arith, inl, inr, ⊎_elim}
+use Rattle.std.proofs.Common.{◌≡◌, ◌∙◌, ◌<◌, ◌≤◌, ◌+◌, ◌⊎◌, ℕ, Bool, true, false, List, [], ◌∷◌, length, ap, sym, subst, refl, arith, inl, inr, ⊎_elim}
 use Rattle.std.specs.Prelude.{Option, Some, None, ◌&&◌, drop, if◌then◌else◌, slice_get, slice_set, IfSome, IsSome}
 use Rattle.std.proofs.lemmas.Bool.{cases_eq}
 use Rattle.std.proofs.lemmas.Option.{slice_get_within}
+use Rattle.vx_history.specs.Events.{logged_blocks}
 use Rattle.vx_history.specs.World.{Node}
 use Rattle.vx_model.specs.declared.state.KeptLink.{KeptLink}
 use Rattle.vx_model.specs.declared.state.KeptMode.{KeptMode}
 use Rattle.vx_model.specs.declared.state.KeptMode.TheVariants.{Log, Dcm, Replay, Fork, Stale}
 use Rattle.vx_diskset.specs.Needs.{hold_of, is_needing}
-use Rattle.vx_events.specs.Fuses.{ring_taken}
 use Rattle.vx_events.proofs.Places.{some_same}
 use Rattle.vx_model.specs.declared.state.State.{State}
 use Rattle.vx_diskset.specs.Holds.{state_with}
@@ -22,12 +22,12 @@ use Rattle.vx_model.specs.declared.limits.TheConstants.{LINK_PLACES}
 
 -- one that needs nothing, and one that needs what is above its hold
 pub need_none : (n : Node) (l : KeptLink) (b : Bool) → b ≡ (l.attached && is_by_log l.mode) → b ≡ false → IsNeed n l 0
-need_none n l b is none = record { is = sym (ap (λ (x : Bool). if x then ring_taken (drop l.stored n.log) else 0) (sym is ∙ none)) }
+need_none n l b is none = record { is = sym (ap (λ (x : Bool). if x then logged_blocks (drop l.stored n.log) else 0) (sym is ∙ none)) }
 
-pub need_some : (n : Node) (l : KeptLink) (b : Bool) (blocks : ℕ) → b ≡ (l.attached && is_by_log l.mode) → b ≡ true → blocks ≡ ring_taken (drop l.stored n.log) → blocks ≡ link_needs n l
-need_some n l b blocks is some used = used ∙ sym (ap (λ (x : Bool). if x then ring_taken (drop l.stored n.log) else 0) (sym is ∙ some))
+pub need_some : (n : Node) (l : KeptLink) (b : Bool) (blocks : ℕ) → b ≡ (l.attached && is_by_log l.mode) → b ≡ true → blocks ≡ logged_blocks (drop l.stored n.log) → blocks ≡ link_needs n l
+need_some n l b blocks is some used = used ∙ sym (ap (λ (x : Bool). if x then logged_blocks (drop l.stored n.log) else 0) (sym is ∙ some))
 
-pub need_if : (n : Node) (l : KeptLink) (b : Bool) (r : Option ℕ) → b ≡ (l.attached && is_by_log l.mode) → b ≡ true → IfSome r (λ blocks. blocks ≡ ring_taken (drop l.stored n.log))
+pub need_if : (n : Node) (l : KeptLink) (b : Bool) (r : Option ℕ) → b ≡ (l.attached && is_by_log l.mode) → b ≡ true → IfSome r (λ blocks. blocks ≡ logged_blocks (drop l.stored n.log))
     → IfSome r (λ blocks. IsNeed n l blocks)
 need_if n l b None is some used = tt
 need_if n l b (Some blocks) is some used = record { is = need_some n l b blocks is some used }
@@ -87,12 +87,6 @@ needs_all n links used k all below = record { each = λ j l at. below.each j l (
 pub need_got : (n : Node) (l : KeptLink) (r : Option ℕ) (blocks : ℕ) → r ≡ Some blocks → IfSome r (λ b. IsNeed n l b) → IsNeed n l blocks
 need_got n l r blocks is h = subst (λ (x : Option ℕ). IfSome x (λ b. IsNeed n l b)) is h
 
--- an element of a list, at its place
-pub got : {A : Type 0} (xs : List A) (k : ℕ) (d : A) → k < length xs → slice_get xs k ≡ Some (slice_index_or xs k d)
-got [] k d h = absurd (omega (arith, h))
-got (x ∷ xs) zero d h = refl
-got (x ∷ xs) (suc k) d h = got xs k d (omega (arith, h))
-
 -- a site may rise with what its log keeps where it may with the links that it has
 pub rises_with : (s sites : ℕ) (n : Node) (links : List KeptLink) (state : State) → state ≡ state_with n state.links → state.links ≡ links → can_rise s sites (state_with n links) ≡ true → can_rise s sites state ≡ true
 rises_with s sites n links state is same may = ap (λ st. can_rise s sites st) (is ∙ ap (λ ls. state_with n ls) same) ∙ may
@@ -118,12 +112,6 @@ noted_risen fs s f before stood again state last ring used links below at first 
     ∙ ap (λ (x : SiteFacts). slice_set fs s (record x { links = links }))
     (some_same (sym second ∙ get-set_same fs s stood below) ∙ is ∙ ap (λ (x : SiteFacts). up_facts state last ring x) (some_same (sym first ∙ at)))
     ∙ ap (λ (ls : List LinkFacts). slice_set fs s (record (up_facts state last ring f) { links = ls })) found
-
--- a place of a list has an element
-pub some_at : {A : Type 0} (xs : List A) (i : ℕ) → i < length xs → (x : A) × (slice_get xs i ≡ Some x)
-some_at [] i h = absurd (omega (arith, h))
-some_at (x ∷ xs) zero h = (x, refl)
-some_at (x ∷ xs) (suc i) h = some_at xs i (omega (arith, h))
 
 few_again : (ls : List KeptLink) (us : List ℕ) → length (facts_again ls us) ≤ length ls
 few_again [] us = omega arith

@@ -46,7 +46,6 @@ use Rattle.vx_yard.specs.Yards.{IsTold}
 use Rattle.vx_yard.specs.declared.yard.Yard.{Yard}
 use Rattle.vx_yard.proofs.Carrying.{feeds_same}
 use Rattle.vx_yard.proofs.CrashSite.{beside_sure}
-use Rattle.vx_yard.proofs.HoldsRoom.{taken_same}
 use Rattle.vx_yard.proofs.Lists.{get-set_other, get-set_same, length-set}
 use Rattle.vx_yard.proofs.OneSite.{Changed, Comes, stands_at, told_by}
 use Rattle.vx_yard.proofs.Rows.{fact_from, fact_same, row_links_same}
@@ -62,7 +61,6 @@ need_in : (n : Node) (s : ℕ) (l : Link) (m : Mode) → l.mode ≡ m → is_pla
 need_in n s l Log e plain =
     let with_mode : Mode → Link = λ m. record l { mode = m } in
     ap (λ (m : Mode). needed_by n s (with_mode m)) e
-    ∙ ap (λ (k : ℕ). if l.attached && true then k else 0) (sym (taken_same (drop l.stored n.log)))
     ∙ sym (ap (λ (m : Mode). link_needs n (kept_link s (with_mode m))) e)
 need_in n s l Dcm e plain = absurd (cc)
 need_in n s l (Replay id phase left start end) e plain = absurd (cc)

@@ -14,6 +14,7 @@ use Rattle.vx_model.specs.declared.site.SiteState.TheVariants.{Bare, Up, Deporte
 use Rattle.vx_disk.specs.declared.shelf.Shelf.{Ghosts}
 use Rattle.vx_order.specs.declared.facts.LinkFacts.{LinkFacts}
 use Rattle.vx_order.specs.declared.facts.SiteFacts.{SiteFacts}
+use Rattle.vx_order.specs.Links.{named_at as name_in, site_name}
 use Rattle.vx_report.specs.declared.view.LinkView.{LinkView}
 use Rattle.vx_report.specs.declared.view.RvgView.{RvgView}
 use Rattle.vx_report.specs.declared.view.SiteView.{SiteView}
@@ -35,7 +36,7 @@ use Rattle.vx_events.specs.StepsOver.{fact_over, facts_over, over_group_at}
 use Rattle.vx_events.specs.LinksFit.{LinksFit}
 use Rattle.vx_events.specs.Views.{group_shown, group_view, name_of}
 use Rattle.vx_events.specs.declared.said.Said.TheVariants.{Shown}
-use Rattle.vx_site_lines.specs.Seen.{group_at, group_seen, link_seen, links_seen, name_at, site_seen}
+use Rattle.vx_site_lines.specs.Seen.{group_at, group_seen, link_seen, links_seen, site_seen}
 use Rattle.vx_yard.specs.Standing.{Leads, StandsFor}
 use Rattle.vx_yard.specs.Yards.{count_of}
 use Rattle.vx_yard.specs.declared.yard.Yard.{Yard}
@@ -45,17 +46,17 @@ use Rattle.vx_yard.proofs.SiteEvents.{first_choice}
 use Rattle.vx_site_lines.proofs.StatusLine.{past_values}
 
 -- the name that stands in the facts is that of the world
-name_by : (w : World) (i : ℕ) (b : Bool) → nat_lt i w.sites ≡ b → name_at (slice_get (facts_over w) i) i ≡ (if b then Known (w.nodes i).name else Number i)
+name_by : (w : World) (i : ℕ) (b : Bool) → nat_lt i w.sites ≡ b → site_name (facts_over w) i ≡ (if b then Known (w.nodes i).name else Number i)
 name_by w i true e =
     let start : 0 + i ≡ i = omega arith in
     let inside : i < w.sites = grind (arith, nat_tests) in
-    ap (λ (o : Option SiteFacts). name_at o i) (slice_get-values_from (λ j. fact_over w j) 0 w.sites i inside)
+    ap (λ (o : Option SiteFacts). name_in o i) (slice_get-values_from (λ j. fact_over w j) 0 w.sites i inside)
     ∙ ap (λ (j : ℕ). Known (fact_over w j).name) start ∙ ap (λ (name : List ℕ). Known name) (name_over w i)
 name_by w i false e =
     let past : w.sites ≤ i = grind (arith, nat_tests) in
-    ap (λ (o : Option SiteFacts). name_at o i) (past_values (λ j. fact_over w j) 0 w.sites i past)
+    ap (λ (o : Option SiteFacts). name_in o i) (past_values (λ j. fact_over w j) 0 w.sites i past)
 
-name_is : (w : World) (i : ℕ) → name_at (slice_get (facts_over w) i) i ≡ name_of w i
+name_is : (w : World) (i : ℕ) → site_name (facts_over w) i ≡ name_of w i
 name_is w i = name_by w i (nat_lt i w.sites) refl
 
 abbrev group_with : Node → ℕ → SiteName → RvgView

@@ -13,7 +13,7 @@ use Rattle.vx_model.specs.declared.site.SiteState.{SiteState}
 use Rattle.vx_model.specs.declared.site.SiteState.TheVariants.{Up as IsUp}
 use Rattle.vx_history.specs.Doubts.{Doubted}
 use Rattle.vx_history.specs.Refusals.{is_waited_for, some_below}
-use Rattle.vx_history.specs.Steps.{burned, crashed, half_begun, logged, worked_on, write_calls}
+use Rattle.vx_history.specs.Steps.{burned, crashed, half_begun, logged, worked, worked_on, write_calls}
 use Rattle.vx_history.specs.World.{Link, Node, World}
 use Rattle.vx_history.specs.declared.event.Event.{Event}
 use Rattle.vx_history.specs.declared.event.Event.TheVariants.{Write as WriteAt}
@@ -29,7 +29,7 @@ use Rattle.vx_events.specs.Fails.{IsSiteDisk, Fails}
 use Rattle.vx_diskset.specs.Blames.{BlamesSite}
 use Rattle.vx_diskset.specs.Asked.{FailsAs, FusedAs, LeavesFuse, WritesUnder, disks_told, size_in, IsRawSet}
 use Rattle.vx_diskset.specs.Burning.{Burnt, IsLogged}
-use Rattle.vx_diskset.specs.DiskSets.{WroteAt, halted_with, worked, fell_to}
+use Rattle.vx_diskset.specs.DiskSets.{WroteAt, halted_with, fell_to}
 use Rattle.vx_diskset.specs.Holds.{KeptSite, beside_of, itself, sure_of, KeptBeside}
 use Rattle.vx_diskset.specs.Needs.{HasRoom}
 use Rattle.vx_diskset.specs.Stands.{IsToldAt, KeepsRole, RoleIs, SiteStands}

@@ -18,10 +18,10 @@ use Rattle.vx_history.specs.Doubts.{Doubted}
 use Rattle.vx_history.specs.Sends.{packets_of}
 use Rattle.vx_history.specs.World.{Hello, Node, Packet, World}
 use Rattle.vx_history.specs.declared.event.Event.TheVariants.{Crash as CrashAt}
+use Rattle.vx_history.specs.Events.{logged_blocks}
 use Rattle.vx_effects.specs.Restarts.{are_fine, facts_again}
 use Rattle.vx_events.specs.Doubts.{run_as, with_disks}
 use Rattle.vx_events.specs.Fails.{Fails}
-use Rattle.vx_events.specs.Fuses.{ring_taken}
 use Rattle.vx_events.specs.GroupLines.{is_over_group}
 use Rattle.vx_events.specs.Lines.{IsDone as IsDoneLine}
 use Rattle.vx_events.specs.LinkViews.{linked_view}
@@ -63,7 +63,7 @@ is_by_log Stale = false
 
 -- the blocks of its site's log that a link needs which the header keeps
 abbrev pub link_needs : Node → KeptLink → ℕ
-link_needs n l = if l.attached && is_by_log l.mode then ring_taken (drop l.stored n.log) else 0
+link_needs n l = if l.attached && is_by_log l.mode then logged_blocks (drop l.stored n.log) else 0
 
 -- so many blocks are what this link needs
 pub record IsNeed (n : Node) (l : KeptLink) (blocks : ℕ) : Type 0 where
@@ -82,13 +82,13 @@ abbrev pub hello_by : (s : ℕ) → State → (session last : ℕ) → List Pack
 hello_by s state session last = if is_origin state.role then [] else packets_of s state.other state.line (Hello session last last)
 
 -- the same with the disks of a site that are made to fail, where it turned out to be what it was in doubt of
-abbrev pub own_disks : (ring_taken : Bool) → (s : ℕ) → World → Doubted → Doubted
-own_disks ring_taken s w h = record h { world = with_disks ring_taken s w h.world }
+abbrev pub own_disks : (taken : Bool) → (s : ℕ) → World → Doubted → Doubted
+own_disks taken s w h = record h { world = with_disks taken s w h.world }
 
 -- the world from which a site is recovered, but for the disks that are made to fail: one that is up crashes first
-pub data RisesFrom (d : Doubted) (s : ℕ) (c : Choice) (ring_taken : Bool) (h : Doubted) : Type 0 where
-  WasUp : (d.world.nodes s).state ≡ Up → h ≡ run_as ring_taken d (CrashAt s c.kept ∷ []) → RisesFrom d s c ring_taken h
-  WasDown : (d.world.nodes s).state ≡ Down → ring_taken ≡ false → h ≡ d → RisesFrom d s c ring_taken h
+pub data RisesFrom (d : Doubted) (s : ℕ) (c : Choice) (taken : Bool) (h : Doubted) : Type 0 where
+  WasUp : (d.world.nodes s).state ≡ Up → h ≡ run_as taken d (CrashAt s c.kept ∷ []) → RisesFrom d s c taken h
+  WasDown : (d.world.nodes s).state ≡ Down → taken ≡ false → h ≡ d → RisesFrom d s c taken h
 
 -- the links before place k have theirs
 pub record NeedsBelow (n : Node) (links : List KeptLink) (used : List ℕ) (k : ℕ) : Type 0 where

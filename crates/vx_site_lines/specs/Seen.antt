@@ -1,26 +1,20 @@
 -- What the status of a site is made from.
-use Rattle.std.specs.Prelude.{ℕ, List, [], Option, Some, None, map, slice_get}
-use Rattle.vx_model.specs.declared.no.SiteName.{SiteName}
-use Rattle.vx_model.specs.declared.no.SiteName.TheVariants.{Known, Number}
+use Rattle.std.specs.Prelude.{ℕ, List, [], Option, Some, None, map}
 use Rattle.vx_model.specs.declared.site.SiteState.{SiteState}
 use Rattle.vx_model.specs.declared.site.SiteState.TheVariants.{Bare, Up, Deported, Down}
 use Rattle.vx_order.specs.declared.facts.SiteFacts.{SiteFacts}
 use Rattle.vx_order.specs.declared.facts.RvgFacts.{RvgFacts}
 use Rattle.vx_order.specs.declared.facts.LinkFacts.{LinkFacts}
+use Rattle.vx_order.specs.Links.{site_name}
 use Rattle.vx_report.specs.declared.view.LinkView.{LinkView}
 use Rattle.vx_report.specs.declared.view.RvgView.{RvgView}
 use Rattle.vx_report.specs.declared.view.SiteView.{SiteView}
-
--- the name in these facts, or this number where there are none
-abbrev pub name_at : Option SiteFacts → ℕ → SiteName
-name_at None i = Number i
-name_at (Some site) i = Known site.name
 
 abbrev pub group_seen : List SiteFacts → ℕ → RvgFacts → RvgView
 group_seen sites session rvg = record {
   role = rvg.role;
   generation = rvg.line.generation;
-  origin = name_at (slice_get sites rvg.line.origin) rvg.line.origin;
+  origin = site_name sites rvg.line.origin;
   head = rvg.last;
   mark = rvg.mark;
   session = session;
@@ -41,7 +35,7 @@ group_at Down sites session rvg = None
 -- a link, which keeps no map
 abbrev pub link_seen : List SiteFacts → LinkFacts → LinkView
 link_seen sites l = record {
-  name = name_at (slice_get sites l.link.site) l.link.site;
+  name = site_name sites l.link.site;
   bunker = l.link.bunker;
   attached = l.link.attached;
   connected = l.link.connected;

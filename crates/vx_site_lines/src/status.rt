@@ -1,9 +1,9 @@
 // What the status of a site shows.
-ghost use Rattle.std.specs.Prelude.{◌≡◌, ◌<◌, [], IfOk, Some, false, length, slice_get};
+ghost use Rattle.std.specs.Prelude.{◌≡◌, ◌<◌, IfOk, Some, false, length, slice_get};
 ghost use Rattle.vx_history.specs.Doubts.{Doubted};
 ghost use Rattle.vx_order.specs.declared.facts.SiteFacts.{SiteFacts};
 ghost use Rattle.vx_script.specs.declared.line.ScriptLine.TheVariants.{Status as StatusLine};
-ghost use Rattle.vx_site_lines.specs.Seen.{name_at, group_seen, group_at, link_seen, links_seen, site_seen};
+ghost use Rattle.vx_site_lines.specs.Seen.{group_seen, group_at, link_seen, links_seen, site_seen};
 ghost use Rattle.vx_yard.specs.Standing.{LeadsIs, StandsFor};
 ghost use Rattle.vx_events.specs.GroupLines.{is_over_group};
 ghost use Rattle.vx_events.specs.LinkViews.{linked_view};
@@ -14,20 +14,10 @@ ghost use Rattle.vx_yard.specs.Yards.{IsYardKept};
 use std::alloc::Global;
 use vx_disk::Rack;
 use vx_events::Said;
-use vx_model::{Name, OutOfMemory, SiteName, SiteState};
-use vx_order::{LinkFacts, RvgFacts, SiteFacts};
+use vx_model::{Name, OutOfMemory, SiteState};
+use vx_order::{LinkFacts, RvgFacts, SiteFacts, name_at};
 use vx_report::{DiskViews, LinkView, LinkViews, RvgView, SiteView, VolumeViews};
 use vx_yard::Yard;
-
-// The name of a site, or its number where it is not here.
-fn name_of(sites: &[SiteFacts], number: u32) -> SiteName
-    ensures { result ≡ name_at (slice_get sites.now number) number }
-{
-    match sites.get(number as usize) {
-        Some(site) => SiteName::Known(site.name),
-        None => SiteName::Number(number),
-    }
-}
 
 fn group(sites: &[SiteFacts], session: u64, rvg: &RvgFacts) -> RvgView
     ensures { result ≡ group_seen sites.now session rvg.now }
@@ -35,7 +25,7 @@ fn group(sites: &[SiteFacts], session: u64, rvg: &RvgFacts) -> RvgView
     RvgView {
         role: rvg.role,
         generation: rvg.line.generation,
-        origin: name_of(sites, rvg.line.origin),
+        origin: name_at(sites, rvg.line.origin),
         head: rvg.last,
         mark: rvg.mark,
         session,
@@ -61,7 +51,7 @@ pub(crate) fn link_view(sites: &[SiteFacts], link: &LinkFacts) -> LinkView
     ensures { result ≡ link_seen sites.now link.now }
 {
     LinkView {
-        name: name_of(sites, link.link.site),
+        name: name_at(sites, link.link.site),
         bunker: link.link.bunker,
         attached: link.link.attached,
         connected: link.link.connected,

@@ -1,12 +1,8 @@
 -- What writes make of volumes of zeros.
-use Rattle.std.proofs.Common.{◌≡◌, ◌∙◌, ℕ, ◌+◌, ◌<◌, List, [], ◌∷◌, length, get_or, take, refl, sym, ap}
+use Rattle.std.proofs.Common.{◌≡◌, ◌∙◌, ℕ, ◌+◌, ◌<◌, List, [], ◌∷◌, length, get_or, take, sym, ap}
 use Rattle.std.proofs.lemmas.List.{take_more}
 use Rattle.vx_model.specs.Content.{Write, Content, put, fold_writes}
 use Rattle.vx_history.proofs.GoodLemmas.{fold_append}
-
-pub size_fold : (c : Content) (xs : List Write) → (fold_writes c xs).size ≡ c.size
-size_fold c [] = refl
-size_fold c (x ∷ xs) = size_fold (put c x) xs
 
 -- one more write
 pub fold_more : (c : Content) (xs : List Write) (i : ℕ) (x : Write) → i < length xs → x ≡ get_or xs i x → fold_writes c (take (i + 1) xs) ≡ put (fold_writes c (take i xs)) x

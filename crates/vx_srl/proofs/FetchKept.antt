@@ -1,10 +1,11 @@
 -- The record of a number that is held, in memory.
-use Rattle.std.proofs.Common.{◌≡◌, ℕ, zero, suc, ◌+◌, ◌-◌, ◌*◌, ◌%◌, ◌<◌, ◌≤◌, Some, Bool, true, false, List, [], ◌∷◌, IsTrue, length, take, get_or, refl, sym, ap, subst, arith, length-take}
+use Rattle.std.proofs.Common.{◌≡◌, ℕ, zero, suc, ◌+◌, ◌-◌, ◌*◌, ◌%◌, ◌<◌, ◌≤◌, Some, true, List, [], ◌∷◌, IsTrue, length, take, get_or, refl, sym, ap, subst, arith, length-take}
 use Rattle.std.specs.Prelude.{slice_get, nat_lt, ◌&&◌}
 use Rattle.std.proofs.lemmas.Bool.{ltb-true}
 use Rattle.std.proofs.lemmas.Option.{slice_get_read}
 use Rattle.std.proofs.lemmas.List.Elements.{recursion_from_All}
 use Rattle.std.specs.List.{AllByRecursion}
+use Rattle.vx_model.proofs.Tests.{and_left, and_right}
 use Rattle.vx_wire.specs.Seals.{digest_of}
 use Rattle.vx_srlfmt.specs.Kinds.{Kind}
 use Rattle.vx_srlfmt.specs.Records.{CanSpellHead}
@@ -47,16 +48,8 @@ spelled_each [] k x each is = absurd (none_is x is)
 spelled_each (y ∷ ks) zero x each is = subst (λ (z : Kept). CanSpellHead z.head) (some_is y x is) each.0
 spelled_each (y ∷ ks) (suc k) x each is = spelled_each ks k x each.1 is
 
-both : (a b : Bool) → (a && b) ≡ true → b ≡ true
-both true b is = is
-both false b is = cc
-
-first : (a b : Bool) → (a && b) ≡ true → a ≡ true
-first true b is = refl
-first false b is = cc
-
 low_some : (ring : ℕ) (h : Header) → is_of_ring ring h ≡ true → 0 < h.low
-low_some ring h is = ltb-true 0 h.low (first (nat_lt 0 h.low) (nat_lt h.run (h.stamp + 1)) (both (nat_lt h.place ring) (nat_lt 0 h.low && nat_lt h.run (h.stamp + 1)) is))
+low_some ring h is = ltb-true 0 h.low (and_left (nat_lt 0 h.low) (nat_lt h.run (h.stamp + 1)) (and_right (nat_lt h.place ring) (nat_lt 0 h.low && nat_lt h.run (h.stamp + 1)) is))
 
 module _ (unit ring : ℕ) (header : Header) (records : List Kept) (capacity sealed end used : ℕ) (kept : IsLogKept ring header records capacity sealed end used)
     (l : Log) (is : seen unit ring header records sealed ≡ l) (n : ℕ) (low : header.low ≤ n) (high : n ≤ head_number l) (one : Kept) (indexed : one ≡ get_or records (n - header.low) one) where

@@ -11,12 +11,12 @@ use Rattle.vx_ringlog.specs.Chain.{block, width}
 use Rattle.vx_ringlog.specs.Logs.{State}
 use Rattle.vx_ringlog.specs.Ready.{RecordsFit, SureBody, SureAll}
 use Rattle.vx_ringlog.specs.Records.{Era, era_of, Record, Genuine, given, with_firsts}
+use Rattle.vx_ringlog.proofs.Blocks.{cut_count}
 use Rattle.vx_ringlog.proofs.CellLemmas.{may_read}
 use Rattle.vx_ringio.specs.Bodies.{BodyIs, all_blocks, given_of}
 use Rattle.vx_ringio.specs.Classes.{class_of}
 use Rattle.vx_ringio.specs.Reading.{ReadsAs, ShowsBlocks}
 use Rattle.vx_ringio.specs.declared.body.Body.TheVariants.{Differs}
-use Rattle.vx_ringio.proofs.Bodies.{count_blocks}
 use Rattle.vx_ringio.proofs.Following.{body_same, tracks_read}
 use Rattle.vx_srl.specs.Calls.{Fetches, update_with}
 use Rattle.vx_srl.specs.Rings.{RingOn}
@@ -107,7 +107,7 @@ module _ (l : Log) (k : ℕ) (kept : Kept) (there : slice_get l.held k ≡ Some 
         on.describes.place there
 
     long : length (all_blocks disk) ≡ length at.one.body
-    long = omega (arith, count_blocks (length disk / 512) disk, size, ap (λ (h : RecordHead). h.count) at.head, at.genuine.count)
+    long = omega (arith, cut_count (length disk / 512) disk, size, ap (λ (h : RecordHead). h.count) at.head, at.genuine.count)
 
     wraps : suc at.place % l.ring ≡ (kept.place + 1) % l.ring
     wraps =

@@ -1,11 +1,10 @@
 -- The headers of records, written one after another.
-use Rattle.std.proofs.Common.{◌≡◌, ℕ, ◌+◌, ◌-◌, ◌%◌, ◌<◌, ◌≤◌, List, [], ◌∷◌, ◌++◌, length, take, drop, get_or, inl, inr, ⊎_elim, All, Result, Ok, Err, IsTrue, refl, sym, ◌∙◌, ap, subst, arith, length-drop}
+use Rattle.std.proofs.Common.{◌≡◌, ℕ, ◌+◌, ◌-◌, ◌%◌, ◌<◌, ◌≤◌, List, [], ◌∷◌, ◌++◌, length, take, drop, get_or, All, Result, Ok, Err, IsTrue, refl, sym, ◌∙◌, ap, subst, arith, length-drop}
 use Rattle.std.proofs.Math.Nat.{mod-lt}
 use Rattle.std.proofs.lemmas.List.{get_or-drop, take-append-drop, take_all, take_more}
 use Rattle.std.proofs.lemmas.List.Elements.{All-cons, All-nil}
 use Rattle.vx_srlfmt.specs.Kinds.{Front}
 use Rattle.vx_disk.specs.Causes.{Cause}
-use Rattle.vx_disk.specs.Counts.{Rose}
 use Rattle.vx_disk.specs.Shelf.{Meaning}
 use Rattle.vx_disk.specs.declared.shelf.ShelfError.{ShelfError}
 use Rattle.vx_disk.specs.declared.shelf.ShelfError.TheVariants.{Fault, Down}
@@ -14,6 +13,7 @@ use Rattle.vx_ringlog.specs.Chain.{block}
 use Rattle.vx_disk.specs.Burns.{FallsShort, MakesCalls}
 use Rattle.vx_ringio.specs.Tracks.{Arrives, Follows, RingLies}
 use Rattle.vx_disk.proofs.Burning.{sooner_short, then_calls, then_short}
+use Rattle.vx_disk.proofs.Causing.{Rose_before}
 use Rattle.vx_ringio.proofs.Following.{nothing_arrives, nothing_follows, sooner, then_arrives, then_follows}
 use Rattle.vx_disk.specs.Causes.{DeviceCause, refusal_of}
 use Rattle.vx_srl.specs.Causes.{CallsEnded}
@@ -65,19 +65,13 @@ lies_stays unit ring acts old new follows lies = record {
   within = omega (arith, lies.within, follows.size unit);
 }
 
-rose_later : (a b c : ℕ) → a ≤ b → Rose b c → Rose a c
-rose_later a b c le rose = record {
-  fell_not = omega (arith, le, rose.fell_not);
-  rose = ⊎_elim (λ less. inl (omega (arith, le, less))) (λ most. inr most) rose.rose;
-}
-
 -- a failed call behind others has its cause in all of them
 pub later_cause : (T : Type 0) (unit ring : ℕ) (acts : List Act) (old mid new : Meaning) (e : ShelfError) → Follows unit ring acts old mid → Cause {T = T} mid new unit (Err e) → DeviceCause old new (refusal_of e)
-later_cause T unit ring acts old mid new (Fault disk) follows cause = rose_later (old.disk_faults disk) (mid.disk_faults disk) (new.disk_faults disk) (follows.disk_faults disk) cause.0.disk_count
+later_cause T unit ring acts old mid new (Fault disk) follows cause = Rose_before (old.disk_faults disk) (mid.disk_faults disk) (new.disk_faults disk) (follows.disk_faults disk) cause.0.disk_count
 later_cause T unit ring acts old mid new Down follows cause = cause
 
 pub later_device : (unit ring : ℕ) (acts : List Act) (old mid new : Meaning) (e : ShelfError) → Follows unit ring acts old mid → DeviceCause mid new (refusal_of e) → DeviceCause old new (refusal_of e)
-later_device unit ring acts old mid new (Fault disk) follows cause = rose_later (old.disk_faults disk) (mid.disk_faults disk) (new.disk_faults disk) (follows.disk_faults disk) cause
+later_device unit ring acts old mid new (Fault disk) follows cause = Rose_before (old.disk_faults disk) (mid.disk_faults disk) (new.disk_faults disk) (follows.disk_faults disk) cause
 later_device unit ring acts old mid new Down follows cause = cause
 
 -- what the loop keeps: the headers before number k are written

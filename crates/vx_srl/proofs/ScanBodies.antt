@@ -12,10 +12,10 @@ use Rattle.vx_disk.specs.Shelf.{Meaning}
 use Rattle.vx_ringlog.specs.Cells.{RingImage}
 use Rattle.vx_ringlog.specs.Chain.{HasBody}
 use Rattle.vx_ringlog.specs.Records.{Record, Genuine, with_firsts, first_blocks}
+use Rattle.vx_ringlog.proofs.Blocks.{cut_count}
 use Rattle.vx_ringio.specs.Bodies.{all_blocks, given_of}
 use Rattle.vx_ringio.specs.Classes.{class_of}
 use Rattle.vx_ringio.specs.Reading.{GaveBlocks, ShowsBlocks}
-use Rattle.vx_ringio.proofs.Bodies.{count_blocks}
 use Rattle.vx_ringio.proofs.Classing.{class_body}
 use Rattle.vx_ringio.proofs.Following.{narrowed_body, body_same}
 use Rattle.vx_srl.specs.Damages.{SeesRecordBody}
@@ -71,7 +71,7 @@ stand_read ring c p (b ∷ bs) all shows = (sym shows.0 ∙ class_body ring b al
 
 module _ (ring : ℕ) (c : RingImage) (p : ℕ) (head : RecordHead) (bytes : List ℕ) (size : length bytes ≡ 512 * head.count) (shows : ShowsBlocks ring c p (all_blocks bytes)) where
   count : length (all_blocks bytes) ≡ head.count
-  count = count_blocks (length bytes / 512) bytes ∙ omega arith
+  count = cut_count (length bytes / 512) bytes ∙ omega arith
 
   -- of a record with this header, whose body stands there
   module _ (r : Record) (is : r.head ≡ head) (genuine : Genuine r) (has : HasBody ring c p r.body) where
@@ -100,7 +100,7 @@ pub body_shown : (unit ring place : ℕ) (head : RecordHead) (bytes : List ℕ) 
     → computed ≡ digest_of (given_of head bytes) → SeesRecordBody unit ring place head computed m
 body_shown unit ring place head bytes m computed size gave is = record {
   body = all_blocks bytes;
-  count = count_blocks (length bytes / 512) bytes ∙ omega (arith, size);
+  count = cut_count (length bytes / 512) bytes ∙ omega (arith, size);
   gave = gave;
   computed_is = is;
 }

@@ -11,10 +11,9 @@ use Rattle.vx_srlfmt.specs.declared.record.RecordHead.{RecordHead}
 use Rattle.vx_disk.specs.Shelf.{Meaning}
 use Rattle.vx_ringlog.specs.Acts.{body_acts}
 use Rattle.vx_ringlog.specs.Records.{as_on_disk, firsts_of}
-use Rattle.vx_ringlog.proofs.Blocks.{blocks_stand}
+use Rattle.vx_ringlog.proofs.Blocks.{blocks_stand, cut_count}
 use Rattle.vx_ringio.specs.Bodies.{IsBlocks, all_blocks}
 use Rattle.vx_ringio.specs.Tracks.{Follows, Arrives}
-use Rattle.vx_ringio.proofs.Bodies.{count_blocks}
 use Rattle.vx_srl.specs.Calls.{staging, staged_with}
 use Rattle.vx_srl.specs.Kepts.{IsLogKept}
 use Rattle.vx_srl.specs.Rings.{RingGoes, LeadsTo}
@@ -58,7 +57,7 @@ module _ (unit ring : ℕ) (header : Header) (records : List Kept) (capacity sea
 
     module _ (vol block : ℕ) (few : next_of (seen unit ring header records sealed) ≤ most_number) where
       count_is : length (all_blocks bytes) ≡ blocks_in bytes
-      count_is = count_blocks (length bytes / 512) bytes
+      count_is = cut_count (length bytes / 512) bytes
 
       spells : CanSpellHead (record_next (seen unit ring header records sealed) vol block bytes).head
       spells = record {

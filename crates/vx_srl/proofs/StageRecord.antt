@@ -13,12 +13,12 @@ use Rattle.vx_ringlog.specs.Cells.{Act, run_all, LeftBy}
 use Rattle.vx_ringlog.specs.Logs.{State, Stage, MayStage, Found, acts_of}
 use Rattle.vx_ringlog.specs.Ready.{after}
 use Rattle.vx_ringlog.specs.Records.{Record, Genuine, IsWhole, as_on_disk, given}
-use Rattle.vx_ringlog.proofs.Blocks.{blocks_stand, given_comes_back}
+use Rattle.vx_ringlog.proofs.Blocks.{blocks_stand, cut_count, given_comes_back}
 use Rattle.vx_ringlog.proofs.Calls.{call_safe}
 use Rattle.vx_ringio.specs.Bodies.{IsBlocks, all_blocks}
 use Rattle.vx_ringio.specs.Classes.{classes}
 use Rattle.vx_ringio.specs.Tracks.{Tracks, Follows, Arrives}
-use Rattle.vx_ringio.proofs.Bodies.{count_blocks, whole_blocks, concat_blocks}
+use Rattle.vx_ringio.proofs.Bodies.{whole_blocks, concat_blocks}
 use Rattle.vx_ringio.proofs.Following.{following_gives, always_left}
 use Rattle.vx_srl.specs.Calls.{staging, staged_with}
 use Rattle.vx_srl.specs.Rings.{RingOn, Finding, RingGoes, LeadsTo, heads_of, kept_heads}
@@ -36,7 +36,7 @@ module _ (bytes : List ℕ) (blocks : IsBlocks bytes) where
   all_whole = whole_blocks (length bytes / 512) bytes size_is
 
   pub count_is : length (as_on_disk (all_blocks bytes)) ≡ blocks_in bytes
-  count_is = (blocks_stand (all_blocks bytes) all_whole).count ∙ count_blocks (length bytes / 512) bytes
+  count_is = (blocks_stand (all_blocks bytes) all_whole).count ∙ cut_count (length bytes / 512) bytes
 
   pub body_is : All IsBody (as_on_disk (all_blocks bytes))
   body_is = (blocks_stand (all_blocks bytes) all_whole).body

@@ -9,7 +9,8 @@ use Rattle.vx_model.specs.declared.state.State.{State}
 use Rattle.vx_wire.specs.Fields.{spelled, zero_bytes}
 use Rattle.vx_wire.specs.Seals.{sealed, filled, digest_of}
 use Rattle.vx_wire.specs.Numbers.{be_bytes, number_at}
-use Rattle.vx_srlfmt.proofs.Numbers.{read, number_at-behind}
+use Rattle.vx_wire.proofs.NumberLemmas.{reads_back}
+use Rattle.vx_srlfmt.proofs.Numbers.{number_at-behind}
 use Rattle.vx_srlfmt.specs.Codes.{role_code, mark_code, phase_code, mode_code, sync_code, prot_code, flags_code, role_of}
 use Rattle.vx_srlfmt.specs.HeaderReading.{link_at, links_at, state_in, header_in}
 use Rattle.vx_srlfmt.specs.Headers.{header_magic, header_table, link_table, link_bytes, header_fields, header_block, Agrees, CanSpellLink, CanSpellState, CanSpellHeader, IsTypedState, IsHeader}
@@ -30,13 +31,13 @@ record HasLink (xs : List ℕ) (l : KeptLink) : Type 0 where
 HasLink-link_bytes : (l : KeptLink) (rest : List ℕ) → CanSpellLink l → l.site < 2 ^ 32 → HasLink (link_bytes l ++ rest) l
 unfolding number_at be_bytes spelled link_table
 HasLink-link_bytes l rest can typed = record {
-  site = read 4 l.site typed;
-  flags = read 1 (flags_code l.attached l.bunker) (flags_code-lt l.attached l.bunker);
-  mode = read 1 (mode_code l.mode) (mode_code-lt l.mode);
-  sync = read 1 (sync_code l.sync) (sync_code-lt l.sync);
-  prot = read 1 (prot_code l.prot) (prot_code-lt l.prot);
-  stored = read 8 l.stored (omega (arith, can.stored));
-  start = read 8 l.start (omega (arith, can.start));
+  site = reads_back 4 l.site typed;
+  flags = reads_back 1 (flags_code l.attached l.bunker) (flags_code-lt l.attached l.bunker);
+  mode = reads_back 1 (mode_code l.mode) (mode_code-lt l.mode);
+  sync = reads_back 1 (sync_code l.sync) (sync_code-lt l.sync);
+  prot = reads_back 1 (prot_code l.prot) (prot_code-lt l.prot);
+  stored = reads_back 8 l.stored (omega (arith, can.stored));
+  start = reads_back 8 l.start (omega (arith, can.start));
 }
 
 link_at-has : (xs : List ℕ) (l : KeptLink) → HasLink xs l → link_at 0 xs ≡ l
@@ -97,31 +98,31 @@ record HasHeader (block : List ℕ) (h : Header) : Type 0 where
 HasState-table : (h : Header) (rest : List ℕ) → CanSpellState h.state → IsTypedState h.state → HasState (spelled (header_table h) ++ rest) h.state
 unfolding number_at be_bytes spelled header_table
 HasState-table h rest can typed = record {
-  generation = read 8 h.state.line.generation (omega (arith, can.generation));
-  origin = read 4 h.state.line.origin typed.origin;
-  top = read 8 h.state.top (omega (arith, can.top));
-  role = read 1 (role_code h.state.role) (role_code-lt h.state.role);
-  mark = read 1 (mark_code h.state.mark) (mark_code-lt h.state.mark);
-  phase = read 1 (phase_code h.state.phase) (phase_code-lt h.state.phase);
-  replay = read 8 h.state.replay (omega (arith, can.replay));
-  end = read 8 h.state.end (omega (arith, can.end));
-  other = read 4 h.state.other typed.other;
-  parent = read 8 h.state.parent.generation (omega (arith, can.parent));
-  parent_origin = read 4 h.state.parent.origin typed.parent;
-  fork = read 8 h.state.fork (omega (arith, can.fork));
-  count = read 1 (length h.state.links) (omega (arith, can.few));
+  generation = reads_back 8 h.state.line.generation (omega (arith, can.generation));
+  origin = reads_back 4 h.state.line.origin typed.origin;
+  top = reads_back 8 h.state.top (omega (arith, can.top));
+  role = reads_back 1 (role_code h.state.role) (role_code-lt h.state.role);
+  mark = reads_back 1 (mark_code h.state.mark) (mark_code-lt h.state.mark);
+  phase = reads_back 1 (phase_code h.state.phase) (phase_code-lt h.state.phase);
+  replay = reads_back 8 h.state.replay (omega (arith, can.replay));
+  end = reads_back 8 h.state.end (omega (arith, can.end));
+  other = reads_back 4 h.state.other typed.other;
+  parent = reads_back 8 h.state.parent.generation (omega (arith, can.parent));
+  parent_origin = reads_back 4 h.state.parent.origin typed.parent;
+  fork = reads_back 8 h.state.fork (omega (arith, can.fork));
+  count = reads_back 1 (length h.state.links) (omega (arith, can.few));
 }
 
 HasHeader-table : (h : Header) (rest : List ℕ) → CanSpellHeader h → h.place < 2 ^ 32 → HasHeader (spelled (header_table h) ++ rest) h
 unfolding number_at be_bytes spelled header_table
 HasHeader-table h rest can typed = record {
-  stamp = read 8 h.stamp (omega (arith, can.stamp));
-  incarnation = read 8 h.incarnation (omega (arith, can.incarnation));
-  floor = read 8 h.floor (omega (arith, can.floor));
-  run = read 8 h.run (omega (arith, can.run));
-  low = read 8 h.low (omega (arith, can.low));
-  place = read 4 h.place typed;
-  applied = read 8 h.applied (omega (arith, can.applied));
+  stamp = reads_back 8 h.stamp (omega (arith, can.stamp));
+  incarnation = reads_back 8 h.incarnation (omega (arith, can.incarnation));
+  floor = reads_back 8 h.floor (omega (arith, can.floor));
+  run = reads_back 8 h.run (omega (arith, can.run));
+  low = reads_back 8 h.low (omega (arith, can.low));
+  place = reads_back 4 h.place typed;
+  applied = reads_back 8 h.applied (omega (arith, can.applied));
 }
 
 state_in-has : (block : List ℕ) (s : State) → HasState block s → Agrees s.role s.other → length s.links ≤ 4 → links_at (length s.links) 124 block ≡ s.links → state_in block ≡ s

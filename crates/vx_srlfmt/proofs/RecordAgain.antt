@@ -5,7 +5,7 @@ use Rattle.vx_wire.specs.Fields.{spelled, zero_bytes}
 use Rattle.vx_wire.specs.Numbers.{be_bytes, number_at}
 use Rattle.vx_wire.specs.Places.{cut}
 use Rattle.vx_wire.specs.Seals.{sealed, filled, digest_of}
-use Rattle.vx_srlfmt.proofs.Numbers.{read}
+use Rattle.vx_wire.proofs.NumberLemmas.{reads_back}
 use Rattle.vx_srlfmt.specs.RecordReading.{head_in}
 use Rattle.vx_srlfmt.specs.Records.{record_magic, record_table, record_fields, record_block, CanSpellHead, IsTypedHead, IsRecord}
 use Rattle.vx_srlfmt.specs.declared.record.RecordHead.{RecordHead}
@@ -32,14 +32,14 @@ record HasNumbers (block : List ℕ) (r : RecordHead) : Type 0 where
 HasNumbers-table : (r : RecordHead) (rest : List ℕ) → CanSpellHead r → IsTypedHead r → HasNumbers (spelled (record_table r) ++ rest) r
 unfolding number_at be_bytes spelled record_table
 HasNumbers-table r rest can typed = record {
-  incarnation = read 8 r.incarnation (omega (arith, can.incarnation));
-  run = read 8 r.run (omega (arith, can.run));
-  generation = read 8 r.line.generation (omega (arith, can.generation));
-  origin = read 4 r.line.origin typed.origin;
-  number = read 8 r.number (omega (arith, can.number));
-  vol = read 4 r.vol typed.vol;
-  from = read 8 r.block typed.block;
-  count = read 4 r.count (omega (arith, can.few));
+  incarnation = reads_back 8 r.incarnation (omega (arith, can.incarnation));
+  run = reads_back 8 r.run (omega (arith, can.run));
+  generation = reads_back 8 r.line.generation (omega (arith, can.generation));
+  origin = reads_back 4 r.line.origin typed.origin;
+  number = reads_back 8 r.number (omega (arith, can.number));
+  vol = reads_back 4 r.vol typed.vol;
+  from = reads_back 8 r.block typed.block;
+  count = reads_back 4 r.count (omega (arith, can.few));
 }
 
 head_in-has : (block : List ℕ) (r : RecordHead) → HasNumbers block r → cut 60 32 block ≡ r.digest → cut 92 16 block ≡ r.firsts → head_in block ≡ r

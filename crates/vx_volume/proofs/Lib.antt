@@ -1,3 +1,4 @@
+pub mod UsesLemmas
 pub mod PlaceLemmas
 pub mod WriteRuns
 pub mod ReadRuns

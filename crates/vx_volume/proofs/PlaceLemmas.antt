@@ -1,37 +1,30 @@
 -- What a checked configuration says of the places of plexes that are ACTIVE.
-use Rattle.std.proofs.Common.{◌≡◌, inl, inr, ℕ, suc, ◌+◌, ◌-◌, ◌<◌, ◌≤◌, ◌^◌, Bool, true, false, Option, Some, None, List, [], ◌∷◌, length, refl, ap, sym, ◌∙◌, arith, IsTrue}
-use Rattle.std.specs.Prelude.{◌&&◌, ◌||◌, nat_lt, nat_le, slice_get, sum_by, is_some, if◌then◌else◌}
+use Rattle.std.proofs.Common.{◌≡◌, ℕ, ◌+◌, ◌<◌, ◌≤◌, ◌^◌, true, false, Option, Some, None, length, refl, ap, sym, ◌∙◌, arith, IsTrue}
+use Rattle.std.specs.Prelude.{◌&&◌, nat_le, slice_get, is_some}
 use Rattle.std.specs.List.{list_all, list_any}
-use Rattle.std.proofs.lemmas.Bool.{cases_lt, eq-eqb, eqb-true, leb-true, lt-ltb, ltb-true}
-use Rattle.std.proofs.lemmas.List.Sums.{sum_by-cons}
-use Rattle.std.proofs.lemmas.Option.{slice_get_past, slice_get_within}
+use Rattle.std.proofs.lemmas.Bool.{leb-true, ltb-true}
+use Rattle.std.proofs.lemmas.Option.{slice_get_within}
 use Rattle.vx_disk.specs.Shelf.{Meaning}
 use Rattle.vx_config.specs.declared.config.Config.{Config}
 use Rattle.vx_config.specs.declared.entry.PlexEntry.{PlexEntry}
-use Rattle.vx_config.specs.declared.entry.Subdisk.{Subdisk}
 use Rattle.vx_config.specs.declared.entry.VolumeEntry.{VolumeEntry}
-use Rattle.vx_config.specs.Checks.{blocks_of, blocks_or_none, column_blocks, has_logs, has_plexes, has_shape, in_region, is_live, is_sound, is_volume, plex_fills, preferred_is, plexes_of, plexes_or, blocks_or}
-use Rattle.vx_layout.specs.Places.{HasBlock, subdisk_blocks, disk_blocks, has_plex, linear, located, place, place_in, place_or, plex_at, plex_in}
+use Rattle.vx_config.specs.Checks.{blocks_of, has_logs, has_plexes, has_shape, is_live, is_sound, is_volume, plex_fills, preferred_is, plexes_of, plexes_or}
+use Rattle.vx_layout.specs.Places.{HasBlock, disk_blocks, has_plex, place, plex_in}
 use Rattle.vx_layout.proofs.Pairs.{all_at, and_left, and_right}
-use Rattle.vx_layout.proofs.Placing.{filled, from_sound, linear_within, region_of, sound_apart, subdisk_region}
-use Rattle.vx_volume.specs.Plexes.{Apart, DisksFit, InRun, Inside, OneEach, RunFits, VolumeFits, active, active_or, lies_on, uses, uses_or}
+use Rattle.vx_layout.proofs.Placing.{from_sound, sound_apart}
+use Rattle.vx_volume.specs.Plexes.{Apart, DisksFit, InRun, Inside, OneEach, RunFits, VolumeFits, active, active_or, uses}
+use Rattle.vx_volume.proofs.UsesLemmas.{TherePlex, disk_there, plex_disk, plex_uses}
 
 -- a plex that is ACTIVE is there
-record There (c : Config) (v p : ℕ) : Type 0 where
-  volume : VolumeEntry
-  plex : PlexEntry
-  at_v : slice_get c.volumes v ≡ Some volume
-  at_p : slice_get volume.plexes p ≡ Some plex
-
-there_of : (c : Config) (v p : ℕ) → IsTrue (active c v p) → There c v p
+there_of : (c : Config) (v p : ℕ) → IsTrue (active c v p) → TherePlex c v p
 unfolding active
 there_of c v p is_on = by_volume (slice_get c.volumes v) refl
   where
-    by_plex : (x : VolumeEntry) → slice_get c.volumes v ≡ Some x → (o : Option PlexEntry) → slice_get x.plexes p ≡ o → active_or o ≡ true → There c v p
+    by_plex : (x : VolumeEntry) → slice_get c.volumes v ≡ Some x → (o : Option PlexEntry) → slice_get x.plexes p ≡ o → active_or o ≡ true → TherePlex c v p
     by_plex x at None at_p is = absurd (let clash : false ≡ true = is in cc)
     by_plex x at (Some a) at_p is = record { volume = x; plex = a; at_v = at; at_p = at_p }
 
-    by_volume : (o : Option VolumeEntry) → slice_get c.volumes v ≡ o → There c v p
+    by_volume : (o : Option VolumeEntry) → slice_get c.volumes v ≡ o → TherePlex c v p
     by_volume None at = absurd (let clash : false ≡ true = ap (λ (o : Option VolumeEntry). active_or (plex_in o p)) (sym at) ∙ is_on in cc)
     by_volume (Some x) at = by_plex x at (slice_get x.plexes p) refl (ap (λ (o : Option VolumeEntry). active_or (plex_in o p)) (sym at) ∙ is_on)
 
@@ -50,15 +43,8 @@ module _ (c : Config) (sound : is_sound c ≡ true) where
   pub one_of : (v p : ℕ) → IsTrue (active c v p) → OneEach c v p
   one_of v p is_on = record { same = λ k l in_k in_l is. (apart_of.one v p k v p l in_k in_l is_on is_on is).2 }
 
-  -- a disk with blocks is there
-  disk_there : (d : ℕ) → 0 < disk_blocks c.disks d → d < length c.disks
-  disk_there d some = elim (cases_lt d (length c.disks)) [
-    | inl lt ↦ lt
-    | inr le ↦ absurd (let none : disk_blocks c.disks d ≡ 0 = ap blocks_or (slice_get_past c.disks d le) in omega (arith, none, some))
-  ]
-
   pub place_there : (v p k : ℕ) → IsTrue (active c v p) → Inside c v k → ((place c v p k).0 < length c.disks) × ((place c v p k).1 < disk_blocks c.disks (place c v p k).0)
-  place_there v p k is_on inside = let r = (sound_apart c sound).region v p k (has_of c v p k is_on inside) in (disk_there (place c v p k).0 (omega (arith, r.end)), omega (arith, r.end))
+  place_there v p k is_on inside = let r = (sound_apart c sound).region v p k (has_of c v p k is_on inside) in (disk_there c (place c v p k).0 (omega (arith, r.end)), omega (arith, r.end))
 
   pub fits_of : (v p block n : ℕ) (m : Meaning) → DisksFit c.disks m → IsTrue (active c v p) → ((k : ℕ) → InRun block n k → Inside c v k) → RunFits c v p block n m
   fits_of v p block n m fit is_on inside = record {
@@ -106,50 +92,8 @@ module _ (c : Config) (sound : is_sound c ≡ true) where
 
   -- ---- the disks that a plex uses
 
-  located_on : (ss : List Subdisk) (k : ℕ) → k < sum_by subdisk_blocks ss → list_any (lies_on (located ss k).0) ss ≡ true
-  located_on [] k lt = absurd (omega (arith, lt))
-  located_on (s ∷ ss) k lt = by (nat_lt k s.blocks) refl (λ out. located_on ss (k - s.blocks) (let cons = sum_by-cons subdisk_blocks s ss in omega (arith, lt, cons, out)))
-    where
-      or_true : (a b : Bool) → b ≡ true → a || b ≡ true
-      or_true true b is = refl
-      or_true false b is = is
-
-      by : (t : Bool) → nat_lt k s.blocks ≡ t → (s.blocks ≤ k → list_any (lies_on (located ss (k - s.blocks)).0) ss ≡ true) → list_any (lies_on (if t then (s.disk, s.start + k) else located ss (k - s.blocks)).0) (s ∷ ss) ≡ true
-      by true is more = ap (λ (b : Bool). b || list_any (lies_on s.disk) ss) (eq-eqb s.disk s.disk refl)
-      by false is more = or_true (lies_on (located ss (k - s.blocks)).0 s) _ (more (elim (cases_lt k s.blocks) [ inl lt ↦ absurd (let clash : true ≡ false = sym (lt-ltb k s.blocks lt) ∙ is in cc) | inr le ↦ le ]))
-
   pub place_uses : (v p k : ℕ) → IsTrue (active c v p) → Inside c v k → IsTrue (uses c v p (place c v p k).0)
-  unfolding uses place
-  place_uses v p k is_on inside = by (there_of c v p is_on)
-    where
-      by : There c v p → uses_or (place_or (slice_get c.volumes v) p k).0 (plex_at c v p) ≡ true
-      by t =
-          let blocks : blocks_of c.volumes v ≡ t.volume.blocks = ap blocks_or_none t.at_v in
-          let is = filled t.volume p t.plex (all_at is_volume c.volumes v t.volume (from_sound c sound).2 t.at_v) t.at_p in
-          let within = linear_within t.volume t.plex k is (omega (arith, blocks, inside.within)) in
-          let plex : plex_at c v p ≡ Some t.plex = ap (λ (o : Option VolumeEntry). plex_in o p) t.at_v ∙ t.at_p in
-          let at : place_or (slice_get c.volumes v) p k ≡ located t.plex.subdisks (linear (column_blocks t.volume) t.volume.ncol t.volume.width k) = ap (λ (o : Option VolumeEntry). place_or o p k) t.at_v ∙ ap (λ (o : Option PlexEntry). place_in t.volume o k) t.at_p in
-          ap (λ (o : Option PlexEntry). uses_or (place_or (slice_get c.volumes v) p k).0 o) plex ∙ ap (λ (q : ℕ × ℕ). list_any (lies_on q.0) t.plex.subdisks) at ∙ located_on t.plex.subdisks (linear (column_blocks t.volume) t.volume.ncol t.volume.width k) within
+  place_uses v p k is_on inside = plex_uses c sound v p (there_of c v p is_on) k inside
 
   pub used_there : (v p d : ℕ) → IsTrue (active c v p) → IsTrue (uses c v p d) → d < length c.disks
-  unfolding uses
-  used_there v p d is_on is = by (there_of c v p is_on)
-    where
-      find : (ss : List Subdisk) → list_any (lies_on d) ss ≡ true → (i : ℕ) × ((s : Subdisk) × (slice_get ss i ≡ Some s) × (s.disk ≡ d))
-      find [] any = absurd (let clash : false ≡ true = any in cc)
-      find (s ∷ ss) any = at (lies_on d s) refl any (find ss)
-        where
-          at : (t : Bool) → lies_on d s ≡ t → t || list_any (lies_on d) ss ≡ true → (list_any (lies_on d) ss ≡ true → (i : ℕ) × ((s : Subdisk) × (slice_get ss i ≡ Some s) × (s.disk ≡ d))) → (i : ℕ) × ((x : Subdisk) × (slice_get (s ∷ ss) i ≡ Some x) × (x.disk ≡ d))
-          at true is any more = (0, (s, refl, eqb-true s.disk d is))
-          at false is any more = let w = more any in (suc w.0, (w.1.0, w.1.1, w.1.2))
-
-      by : There c v p → d < length c.disks
-      by t =
-          let plex : plex_at c v p ≡ Some t.plex = ap (λ (o : Option VolumeEntry). plex_in o p) t.at_v ∙ t.at_p in
-          let w = find t.plex.subdisks (ap (uses_or d) (sym plex) ∙ is) in
-          let r = subdisk_region c sound v p w.0 t.volume t.plex w.1.0 t.at_v t.at_p w.1.1 in
-          let lt = region_there w.1.0 r in
-          omega (arith, lt, w.1.2)
-        where
-          region_there : (s : Subdisk) → in_region c.disks s ≡ true → s.disk < length c.disks
-          region_there s is = let r = region_of c.disks s is in disk_there s.disk (omega (arith, r.end, r.public))
+  used_there v p d is_on is = plex_disk c sound v p (there_of c v p is_on) d is

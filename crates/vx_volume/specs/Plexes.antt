@@ -1,5 +1,5 @@
 -- The plexes of a volume that reads and writes go to.
-use Rattle.std.specs.Prelude.{◌≡◌, ℕ, ◌+◌, ◌<◌, ◌≤◌, ◌^◌, Bool, true, false, IsTrue, ◌==◌, Option, Some, None, List, length, slice_get}
+use Rattle.std.specs.Prelude.{◌≡◌, ℕ, ◌+◌, ◌<◌, ◌≤◌, ◌^◌, Bool, true, false, IsTrue, Option, Some, None, List, length, slice_get}
 use Rattle.vx_model.specs.declared.limits.TheConstants.{MOST_PLEXES}
 use Rattle.std.specs.List.{list_any}
 use Rattle.vx_disk.specs.Shelf.{Meaning}
@@ -9,9 +9,8 @@ use Rattle.vx_config.specs.Checks.{blocks_of, is_sound}
 use Rattle.vx_config.specs.declared.config.Config.{Config}
 use Rattle.vx_config.specs.declared.entry.DiskEntry.{DiskEntry}
 use Rattle.vx_config.specs.declared.entry.PlexEntry.{PlexEntry}
-use Rattle.vx_config.specs.declared.entry.Subdisk.{Subdisk}
 use Rattle.vx_config.specs.declared.entry.VolumeEntry.{VolumeEntry}
-use Rattle.vx_layout.specs.Places.{disk_blocks, place, plex_at}
+use Rattle.vx_layout.specs.Places.{disk_blocks, lies_on, place, plex_at}
 
 abbrev pub is_active : PlexState → Bool
 is_active Active = true
@@ -25,10 +24,6 @@ active_or (Some p) = is_active p.state
 -- whether a plex takes part in reads and writes
 unfoldable pub active : Config → ℕ → ℕ → Bool
 active c v p = active_or (plex_at c v p)
-
--- a subdisk lies on this disk
-abbrev pub lies_on : ℕ → Subdisk → Bool
-lies_on disk s = s.disk == disk
 
 abbrev pub uses_or : ℕ → Option PlexEntry → Bool
 uses_or disk None = false

@@ -2,7 +2,8 @@
 ghost use Rattle.std.specs.Prelude.{◌≡◌};
 ghost use Rattle.std.specs.List.{list_any};
 ghost use Rattle.vx_config.specs.Checks.{plexes_of};
-ghost use Rattle.vx_volume.specs.Plexes.{active, lies_on, prefer_of, uses as uses_is};
+ghost use Rattle.vx_layout.specs.Places.{lies_on};
+ghost use Rattle.vx_volume.specs.Plexes.{active, prefer_of, uses as uses_is};
 
 use vx_config::{Config, PlexState, Subdisk};
 

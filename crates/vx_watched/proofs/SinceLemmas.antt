@@ -53,7 +53,7 @@ on_both None (Some n) P Q more it = absurd it
 on_both (Some o) None P Q more it = absurd it
 on_both (Some o) (Some n) P Q more it = more o n it
 
-rack_same : (old new : Option Disks) (P : Disks → Disks → Type 0) → WithDisks old new P → is_rack new ≡ is_rack old
+pub rack_same : (old new : Option Disks) (P : Disks → Disks → Type 0) → WithDisks old new P → is_rack new ≡ is_rack old
 rack_same None None P it = refl
 rack_same None (Some n) P it = absurd it
 rack_same (Some o) None P it = absurd it

@@ -105,3 +105,12 @@ unfolding number_at
 number_at-is w at k bytes n same is = is ∙ ap (λ (j : ℕ). big_number w (take j (drop at bytes))) same ∙ sym (number_at-cut w at bytes)
 
 pub ruleset widths = length-be_bytes
+
+-- a number that is spelled is read
+pub reads_back : (w n : ℕ) → n < 256 ^ w → number_at w 0 (be_bytes w n ++ []) ≡ n
+reads_back w n lt = number_at-be_bytes w n [] [] lt
+
+-- a block that begins with these eight bytes has this number there
+pub magic_is : (n m : ℕ) (block : List ℕ) → n < 256 ^ 8 → m < 256 ^ 8 → be_bytes 8 n ≡ take 8 block → take 8 block ≡ be_bytes 8 m → n ≡ m
+magic_is n m block small low first second =
+    sym (reads_back 8 n small) ∙ ap (λ (b : List ℕ). number_at 8 0 (b ++ [])) (first ∙ second) ∙ reads_back 8 m low

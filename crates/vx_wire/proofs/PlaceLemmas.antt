@@ -44,7 +44,7 @@ unfolding put_at
 put_at-nothing at bytes = rw add-zero (sym (take-append-drop at bytes))
 
 -- the first m and then the next n
-take_sum : (m n : ℕ) (xs : List ℕ) → take (m + n) xs ≡ take m xs ++ take n (drop m xs)
+pub take_sum : (m n : ℕ) (xs : List ℕ) → take (m + n) xs ≡ take m xs ++ take n (drop m xs)
 take_sum m n xs = sym (take-append-drop m (take (m + n) xs)) ∙ rw (take-take m (m + n) xs (omega arith), drop-take m n xs) refl
 
 -- two parts that stand one behind the other

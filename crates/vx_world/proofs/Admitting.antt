@@ -8,22 +8,19 @@ use Rattle.std.proofs.Math.ListN.{set}
 use Rattle.vx_model.specs.Content.{Write, blocks_in}
 use Rattle.vx_model.specs.declared.link.Link.{Link as PlainLink}
 use Rattle.vx_history.specs.World.{World, Node, Link}
-use Rattle.vx_history.specs.Admission.{Admitted, Held_by, Goes, Held, Link_is_down, Log_is_full, Log_stalls, or_else, unless_held, blocks, is_holding, held_by_room, held_when_full, full_log_of, change, change_by, changes, first_down, first_full, admit}
+use Rattle.vx_history.specs.Admission.{Admitted, Held_by, Goes, Held, or_else, unless_held, blocks, is_holding, held_by_room, held_when_full, full_log_of, change, change_by, changes, first_down, first_full, admit}
 use Rattle.vx_history.specs.LinkForms.{plain_link}
 use Rattle.vx_history.specs.declared.admission.Change.{Change}
 use Rattle.vx_history.specs.declared.admission.Change.TheVariants.{Stays}
-use Rattle.vx_policy.specs.Verdicts.{refusal, verdict}
-use Rattle.vx_history.specs.Refusals.{refused, unless_at_most, why_held}
+use Rattle.vx_policy.specs.Verdicts.{verdict}
+use Rattle.vx_history.specs.Refusals.{unless_at_most, why_held}
 use Rattle.vx_history.specs.Events.{link_in_place, put_before, linked_sites, plain_links, log_uses, admitted, links_changed, put_in, written_if}
+use Rattle.vx_history.proofs.Places.{before_more}
 use Rattle.vx_model.specs.declared.no.No.{No}
 use Rattle.vx_sites.specs.Refusing.{unless_refused}
 use Rattle.vx_world.specs.Counted.{AreCounted, taken_above, most_counted, refusal_by}
 
 -- ## The links in their order
-
-before_append : (o : Option ℕ) (xs ys : List ℕ) → put_before o (xs ++ ys) ≡ put_before o xs ++ ys
-before_append None xs ys = refl
-before_append (Some s) xs ys = refl
 
 -- one more place, behind the others
 pub linked_on : (row : ℕ → Link) (sites place k : ℕ)
@@ -32,7 +29,7 @@ linked_on row sites place zero = ap (λ (p : ℕ). put_before (link_in_place row
 linked_on row sites place (suc k) =
     let there : place + 1 + k ≡ place + suc k = omega arith in
     ap (λ (xs : List ℕ). put_before (link_in_place row place sites) xs) (linked_on row sites (place + 1) k)
-    ∙ before_append (link_in_place row place sites) (linked_sites row sites (place + 1) k) (put_before (link_in_place row (place + 1 + k) sites) [])
+    ∙ before_more (link_in_place row place sites) (linked_sites row sites (place + 1) k) (put_before (link_in_place row (place + 1 + k) sites) [])
     ∙ ap (λ (p : ℕ). put_before (link_in_place row place sites) (linked_sites row sites (place + 1) k) ++ put_before (link_in_place row p sites) []) there
 
 pub plain_append : (row : ℕ → Link) (xs ys : List ℕ) → plain_links row (xs ++ ys) ≡ plain_links row xs ++ plain_links row ys
@@ -122,19 +119,13 @@ counted_as log was links at u d e lt same is =
 
 -- why a write is not let in
 abbrev pub held_by : Admitted → Option No
-held_by (Held_by why) = Some (refusal why)
+held_by (Held_by why) = Some (why_held why)
 held_by (Goes changes) = None
-
-same_refusal : (why : Held) → refusal why ≡ why_held why
-same_refusal (Link_is_down site) = refl
-same_refusal (Log_is_full site) = refl
-same_refusal (Log_stalls site) = refl
 
 pub held_write : (a : Admitted) (w : World) (p : ℕ) (x : Write) (fails : Option ℕ) (answer : Option No) → answer ≡ held_by a
     → unless_refused answer w (unless_at_most (w.nodes p).safe w (put_in (links_changed w p x) p x fails)) ≡ written_if a w p x fails
 held_write (Held_by why) w p x fails answer is =
-    ap (λ (n : Option No). unless_refused n w (unless_at_most (w.nodes p).safe w (put_in (links_changed w p x) p x fails))) is ∙ ap
-    (λ (n : No). refused w n) (same_refusal why)
+    ap (λ (n : Option No). unless_refused n w (unless_at_most (w.nodes p).safe w (put_in (links_changed w p x) p x fails))) is
 held_write (Goes changes) w p x fails answer is =
     ap (λ (n : Option No). unless_refused n w (unless_at_most (w.nodes p).safe w (put_in (links_changed w p x) p x fails))) is
 

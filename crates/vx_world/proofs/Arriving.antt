@@ -2,7 +2,7 @@
 use Rattle.std.proofs.Common.{◌≡◌, ◌∙◌, ◌⊎◌, inl, inr, ℕ, zero, suc, ◌+◌, ◌-◌, ◌≤◌, ◌<◌, List, [], ◌∷◌, ◌++◌, length, take, ap, sym, subst, refl, arith, Bool, true, false, append_assoc, length-append, get_or}
 use Rattle.std.specs.Prelude.{Option, Some, ltb, slice_get}
 use Rattle.std.proofs.lemmas.Bool.Decides.{nat_tests}
-use Rattle.std.proofs.lemmas.List.{length-set}
+use Rattle.std.proofs.lemmas.List.{append-nil, length-set}
 use Rattle.vx_model.specs.Content.{Write}
 use Rattle.vx_model.specs.declared.history.Line.{Line}
 use Rattle.vx_history.specs.World.{World, Node, Link, Packet, Key, Gathering, Update, NetAck}
@@ -14,7 +14,7 @@ use Rattle.vx_history.specs.declared.event.Event.TheVariants.{Deliver}
 use Rattle.std.specs.List.{AllByRecursion}
 use Rattle.vx_history.specs.Settling.{is_between}
 use Rattle.vx_world.proofs.Pair.{At, Fit}
-use Rattle.vx_world.proofs.Told.{append-nil, IsYoung, taken_at, kept_at, ignored_at, again_at, memory_at, stale_at}
+use Rattle.vx_world.proofs.Told.{IsYoung, taken_at, kept_at, ignored_at, again_at, memory_at, stale_at}
 use Rattle.vx_world.proofs.Batches.{deliver_each, between_back, IsIn, in_head, in_tail, in_more, fit_log, fit_link}
 use Rattle.vx_world.proofs.PartsCame.{Came, all_true, came_more, kept_came, by_value}
 

@@ -5,6 +5,7 @@ use Rattle.std.specs.Prelude.{slice_get, Some, eqb, ◌&&◌, ◌||◌, if◌the
 use Rattle.std.specs.List.{AllByRecursion}
 use Rattle.vx_model.specs.Content.{Write}
 use Rattle.vx_model.specs.declared.history.Line.{Line}
+use Rattle.vx_model.proofs.Lists.{found_more}
 use Rattle.vx_history.proofs.Updates.{eqb_self}
 use Rattle.vx_history.specs.World.{Node, Link, Packet, Message, Update, Regions}
 use Rattle.vx_history.specs.Sends.{packet, packets_of, updates}
@@ -79,13 +80,8 @@ in_head ps k q qs h = subst (λ i. slice_get ps i ≡ Some q) (let e : k + zero 
 pub in_tail : (ps : List Packet) (k : ℕ) (q : Packet) (qs : List Packet) → IsIn ps k (q ∷ qs) → IsIn ps (suc k) qs
 in_tail ps k q qs h j x e = subst (λ i. slice_get ps i ≡ Some x) (let f : k + suc j ≡ suc k + j = omega arith in f) (h (suc j) x e)
 
-kept_get : (xs more : List Packet) (k : ℕ) (x : Packet) → slice_get xs k ≡ Some x → slice_get (xs ++ more) k ≡ Some x
-kept_get [] more k x h = absurd (cc)
-kept_get (y ∷ xs) more zero x h = h
-kept_get (y ∷ xs) more (suc k) x h = kept_get xs more k x h
-
 pub in_more : (ps more : List Packet) (k : ℕ) (qs : List Packet) → IsIn ps k qs → IsIn (ps ++ more) k qs
-in_more ps more k qs h j q e = kept_get ps more (k + j) q (h j q e)
+in_more ps more k qs h j q e = found_more ps more (k + j) q (h j q e)
 
 pub in_new : (xs ys : List Packet) → IsIn (xs ++ ys) (length xs) ys
 in_new [] ys j q e = subst (λ i. slice_get ys i ≡ Some q) (let f : j ≡ zero + j = omega arith in f) e

@@ -1,5 +1,6 @@
 -- Crashes, recoveries and halts keep what holds of the world.
 use Rattle.std.proofs.Common.{◌≡◌, ℕ, ◌+◌, ◌≤◌, [], length, take, refl, ap, sym, ◌∙◌, subst, arith, Bool, true, false}
+use Rattle.std.proofs.lemmas.Bool.{not-false}
 use Rattle.std.specs.Prelude.{Option, Some, None, not}
 use Rattle.std.specs.List.{AllByRecursion}
 use Rattle.std.proofs.lemmas.List.{length-take, take-take}
@@ -24,7 +25,7 @@ use Rattle.vx_history.specs.Refusals.{says}
 use Rattle.vx_history.specs.declared.event.Said.TheVariants.{Done}
 use Rattle.vx_model.specs.declared.no.No.TheVariants.{Role as WrongRole}
 use Rattle.vx_history.specs.Sound.{GoodPacket, LosesNothing, is_at_rest, Sound}
-use Rattle.vx_world.proofs.Lists.{not_false, prefix_take}
+use Rattle.vx_world.proofs.Lists.{prefix_take}
 use Rattle.vx_world.proofs.Carry.{IsLater}
 use Rattle.vx_world.proofs.Moves.{sound_gathering, sound_sending, sound_with_links, sound_with_node, sound_with_history, good_later, stays_fed}
 use Rattle.vx_world.proofs.Tests.{Keeps, unless_keeps}
@@ -225,7 +226,7 @@ back_keeps w q s rest plain =
 pub again_keeps : (w : World) (q : ℕ) → Sound w → is_at_rest (w.nodes q).state ≡ true → Keeps (Events.group_again w q)
 again_keeps w q s rest =
     unless_keeps (not (is_plain_group (w.nodes q))) WrongRole w (says (group_back w q) Done) s
-    (λ plain. back_keeps w q s rest (not_false (is_plain_group (w.nodes q)) plain))
+    (λ plain. back_keeps w q s rest (not-false (is_plain_group (w.nodes q)) plain))
 
 pub fault_keeps : (w : World) (q disk : ℕ) → Sound w → (w.nodes q).state ≡ Up → Sound (stopped_by w q disk)
 fault_keeps w q disk s up =

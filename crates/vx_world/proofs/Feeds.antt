@@ -22,6 +22,7 @@ use Rattle.vx_model.specs.declared.no.No.TheVariants.{Unknown, Unconfirmed}
 use Rattle.vx_model.specs.declared.no.Named.TheVariants.{Number as ByNumber}
 use Rattle.vx_history.proofs.Updates.{by_test, and_left, and_right, same_line_equal, at_place, eqb_equal}
 use Rattle.vx_history.proofs.GoodLemmas.{up_is_made}
+use Rattle.vx_history.proofs.States.{up_is}
 use Rattle.vx_history.specs.declared.event.Said.TheVariants.{Ignored as IsIgnored, Pending, DoneAt}
 use Rattle.vx_history.specs.Sends.{is_linked, with_link, sending, promising, packets_of, greeting, sent_by}
 use Rattle.vx_history.specs.Refusals.{Outcome, says, unless, is_running, keeps_links, some_below, is_unconfirmed, holds_back}
@@ -33,7 +34,7 @@ use Rattle.vx_history.specs.Sound.{GoodLink, GoodMessage, GoodPacket, IsStranger
 use Rattle.vx_world.proofs.Lists.{prefix_refl, prefix_trans, prefix_take, each_found, not_true, not_both}
 use Rattle.vx_world.proofs.Moves.{sound_gathering, sound_sending, sound_promising, sound_with_link, sound_with_node, good_later, stranger_of_links, still_linked, stays_fed}
 use Rattle.vx_world.proofs.Tests.{Keeps, unless_keeps}
-use Rattle.vx_world.proofs.Guards.{up_is, runs_is}
+use Rattle.vx_world.proofs.Guards.{runs_is}
 use Rattle.vx_world.proofs.Changes.{greeting_good, memory_good, up_whole}
 use Rattle.vx_world.proofs.Nodes
 use Rattle.vx_world.proofs.Links

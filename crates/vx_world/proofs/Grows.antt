@@ -1,7 +1,8 @@
 -- Every event leaves what lines hold, what was answered, sent and promised.
 use Rattle.std.proofs.Common.{◌≡◌, ℕ, ◌+◌, ◌-◌, ◌≤◌, List, [], ◌∷◌, ◌++◌, take, refl, ap, sym, ◌∙◌, subst, arith, append_assoc, Bool, true, false}
+use Rattle.std.proofs.lemmas.Bool.{not-false}
 use Rattle.std.specs.Prelude.{leb, not, if◌then◌else◌, Option, Some, None, eqb, ltb, ◌&&◌, ◌||◌, bytes_eq}
-use Rattle.std.proofs.lemmas.List.{take-take}
+use Rattle.std.proofs.lemmas.List.{append-nil, take-take}
 use Rattle.vx_model.specs.Content.{Write, Content, IsPrefixOf, blocks_in}
 use Rattle.vx_model.specs.Answer.{is_too_large}
 use Rattle.vx_history.specs.Admission.{Admitted, Held_by, Goes}
@@ -28,6 +29,7 @@ use Rattle.vx_model.specs.declared.no.Named.TheVariants.{Number as ByNumber}
 use Rattle.vx_model.specs.declared.no.Counted.TheVariants.{Sites, Disks, Links}
 use Rattle.vx_history.proofs.Updates.{all_updated, all_lines, by_test}
 use Rattle.vx_history.proofs.GoodLemmas.{up_is_made}
+use Rattle.vx_history.proofs.States.{bare_is, up_is}
 use Rattle.vx_history.specs.declared.event.LinkPart.{LinkPart}
 use Rattle.vx_history.specs.declared.event.LinkPart.TheVariants.{Joins, Made, Marked, Opened}
 use Rattle.vx_history.specs.declared.event.Event.{Event}
@@ -44,16 +46,12 @@ use Rattle.vx_history.specs.Sends.{is_linked, with_link, with_links, sending, pr
 use Rattle.vx_model.specs.declared.limits.TheConstants.{MOST_DISKS, MOST_LINKS, MOST_SITES}
 use Rattle.vx_history.specs.Sound.{has_line, Sound}
 use Rattle.vx_world.specs.Grown.{GrownWorld}
-use Rattle.vx_world.proofs.Lists.{prefix_refl, prefix_trans, prefix_more, prefix_take, not_false}
+use Rattle.vx_world.proofs.Lists.{prefix_refl, prefix_trans, prefix_more, prefix_take}
 use Rattle.vx_world.proofs.Stood.{more_lines}
 use Rattle.vx_world.proofs.Guards
 use Rattle.vx_world.proofs.Nodes
 use Rattle.vx_world.proofs.Changes.{links_changed_keeps}
 use Rattle.vx_world.proofs.Stays.{step_keeps}
-
-append-nil : {A : Type 0} (xs : List A) → xs ++ [] ≡ xs
-append-nil [] = refl
-append-nil (x ∷ xs) = ap (λ t. x ∷ t) (append-nil xs)
 
 pub grown_same : (w : World) → GrownWorld w w
 grown_same w = record {
@@ -326,7 +324,7 @@ outcome_grows w (Raw q) s =
     Guards.at_site_holds (GrownWorld w) w q (unless (not (is_bare (w.nodes q).state)) WrongRole w shaped) (grown_same w)
     (λ _. Guards.unless_holds (GrownWorld w) (not (is_bare (w.nodes q).state)) WrongRole w shaped (grown_same w)
     (λ bare. Guards.unless_holds (GrownWorld w) (not (is_raw_shape (w.nodes q).disks (w.nodes q).blocks)) Size w o (grown_same w)
-    (λ _. raw_grows w q (Guards.bare_is (w.nodes q).state (not_false (is_bare (w.nodes q).state) bare)))))
+    (λ _. raw_grows w q (bare_is (w.nodes q).state (not-false (is_bare (w.nodes q).state) bare)))))
 outcome_grows w (Group q) s = Guards.at_site_holds (GrownWorld w) w q _ (grown_same w) (λ _. group_grows w q (w.nodes q).state refl)
 outcome_grows w (Volumes q log xs) s =
     let n : Node = w.nodes q in
@@ -390,7 +388,7 @@ outcome_grows w (Crash q kept) s =
     let o : Outcome = done (Events.crash_at w q (Events.kept_of (w.nodes q) kept)) in
     Guards.at_site_holds (GrownWorld w) w q (unless (not (is_up (w.nodes q).state)) NotUp w o) (grown_same w)
     (λ _. Guards.unless_holds (GrownWorld w) (not (is_up (w.nodes q).state)) NotUp w o (grown_same w)
-    (λ up. crash_grows w q (Events.kept_of (w.nodes q) kept) s (Guards.up_is (w.nodes q).state (not_false (is_up (w.nodes q).state) up))
+    (λ up. crash_grows w q (Events.kept_of (w.nodes q) kept) s (up_is (w.nodes q).state (not-false (is_up (w.nodes q).state) up))
     (Nodes.kept_least (w.nodes q) kept (s.good.nodes q).safe_fits)))
 outcome_grows w (Fall q) s = Guards.at_site_holds (GrownWorld w) w q _ (grown_same w) (λ _. fall_grows w q (w.nodes q).state)
 outcome_grows w (Deport q) s =

@@ -1,5 +1,6 @@
 -- What is refused leaves a world as it was, and what goes past a test is known of it.
 use Rattle.std.proofs.Common.{◌≡◌, ◌∙◌, ℕ, ◌≤◌, Bool, true, false, ap, sym, refl, arith, length}
+use Rattle.std.proofs.lemmas.Bool.{not-false}
 use Rattle.std.specs.Prelude.{not, ◌&&◌, ◌||◌, leb, Option, Some, None}
 use Rattle.std.proofs.lemmas.Bool.Decides.{nat_tests}
 use Rattle.vx_history.specs.World.{World, Link}
@@ -7,30 +8,18 @@ use Rattle.vx_model.specs.Sites.{is_origin}
 use Rattle.vx_model.specs.declared.site.Role.{Role}
 use Rattle.vx_model.specs.declared.site.Role.TheVariants.{Primary, Secondary, Handing, Bunker}
 use Rattle.vx_model.specs.declared.site.SiteState.{SiteState}
-use Rattle.vx_model.specs.declared.site.SiteState.TheVariants.{Bare, Up, Deported, Down}
+use Rattle.vx_model.specs.declared.site.SiteState.TheVariants.{Bare, Up}
 use Rattle.vx_model.specs.declared.no.No.{No}
 use Rattle.vx_model.specs.declared.no.No.TheVariants.{Unknown, Role as WrongRole, Down as NotUp, LinkDown, Paused, Size, Range}
 use Rattle.vx_model.specs.declared.no.Named.TheVariants.{Number as ByNumber}
 use Rattle.vx_model.specs.declared.no.SiteName.TheVariants.{Number as SiteNumber}
 use Rattle.vx_model.specs.Answer.{is_wrong_count, is_past}
+use Rattle.vx_history.proofs.States.{up_is}
 use Rattle.vx_history.proofs.Updates.{by_test, and_left, and_right}
 use Rattle.vx_history.specs.Sends.{is_linked}
 use Rattle.vx_history.specs.Sound.{is_at_rest}
 use Rattle.vx_history.specs.Refusals.{Outcome, refused, unless, unless_halted, is_primary, is_running, at_site, at_work, both_at_work, on_link_if, when_live, on_volume}
 use Rattle.vx_model.specs.Sites.{is_up, is_bare}
-use Rattle.vx_world.proofs.Lists.{not_false}
-
-pub up_is : (s : SiteState) → is_up s ≡ true → s ≡ Up
-up_is Bare e = absurd (cc)
-up_is Up e = refl
-up_is Deported e = absurd (cc)
-up_is Down e = absurd (cc)
-
-pub bare_is : (s : SiteState) → is_bare s ≡ true → s ≡ Bare
-bare_is Bare e = refl
-bare_is Up e = absurd (cc)
-bare_is Deported e = absurd (cc)
-bare_is Down e = absurd (cc)
 
 -- a site that is down or deported is more than bare, and not up
 pub rest_up : (s : SiteState) → is_at_rest s ≡ true → s ≡ Up → ⊥
@@ -71,7 +60,7 @@ module _ (P : World → Type 0) where
   pub at_work_holds : (w : World) (p : ℕ) (o : Outcome) → P w → ((w.nodes p).state ≡ Up → (w.nodes p).halted ≡ None → Holds o) → Holds (at_work w p o)
   at_work_holds w p o s k =
       unless_holds (not (is_up (w.nodes p).state)) NotUp w (unless_halted (w.nodes p).halted w o) s
-      (λ u. halted_holds (w.nodes p).halted w o s (k (up_is (w.nodes p).state (not_false (is_up (w.nodes p).state) u))))
+      (λ u. halted_holds (w.nodes p).halted w o s (k (up_is (w.nodes p).state (not-false (is_up (w.nodes p).state) u))))
 
   pub both_holds : (w : World) (p q : ℕ) (o : Outcome) → P w → ((w.nodes p).state ≡ Up → (w.nodes q).state ≡ Up → (w.nodes p).halted ≡ None → (w.nodes q).halted ≡ None → Holds o)
       → Holds (both_at_work w p q o)
@@ -79,7 +68,7 @@ module _ (P : World → Type 0) where
       unless_holds (not (is_up (w.nodes p).state && is_up (w.nodes q).state)) NotUp w
       (unless_halted (w.nodes p).halted w (unless_halted (w.nodes q).halted w o)) s
       (λ u.
-      let both : (is_up (w.nodes p).state && is_up (w.nodes q).state) ≡ true = not_false (is_up (w.nodes p).state && is_up (w.nodes q).state) u in
+      let both : (is_up (w.nodes p).state && is_up (w.nodes q).state) ≡ true = not-false (is_up (w.nodes p).state && is_up (w.nodes q).state) u in
       halted_holds (w.nodes p).halted w (unless_halted (w.nodes q).halted w o) s
       (λ none. halted_holds (w.nodes q).halted w o s
       (λ runs. k (up_is (w.nodes p).state (and_left (is_up (w.nodes p).state) (is_up (w.nodes q).state) both))
@@ -93,7 +82,7 @@ module _ (P : World → Type 0) where
       (λ _. at_work_holds w p _ s
       (λ up _. unless_holds (not (test (w.nodes p).role)) WrongRole w (unless (not (is_linked (w.links p q))) (Unknown (ByNumber q)) w o) s
       (λ r. unless_holds (not (is_linked (w.links p q))) (Unknown (ByNumber q)) w o s
-      (λ m. k up (not_false (test (w.nodes p).role) r) (not_false (is_linked (w.links p q)) m))))))
+      (λ m. k up (not-false (test (w.nodes p).role) r) (not-false (is_linked (w.links p q)) m))))))
 
   pub when_live_holds : (w : World) (q : ℕ) (l : Link) (o : Outcome) → P w → Holds o → Holds (when_live w q l o)
   when_live_holds w q l o s k =
@@ -111,4 +100,4 @@ module _ (P : World → Type 0) where
       (λ r. unless_holds (leb (length (w.nodes p).volumes) volume) (Unknown (ByNumber volume)) w _ s
       (λ _. unless_holds (is_wrong_count count || too_large) Size w _ s
       (λ _. unless_holds (is_past (w.nodes p).base volume start count) Range w o s
-      (λ _. k up runs (not_false (is_primary (w.nodes p).role) r))))))))
+      (λ _. k up runs (not-false (is_primary (w.nodes p).role) r))))))))

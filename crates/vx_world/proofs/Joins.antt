@@ -1,7 +1,7 @@
 -- Sites that are made, and the events of a link, keep what holds of the world.
 use Rattle.std.proofs.Common.{◌≡◌, ℕ, ◌+◌, ◌-◌, ◌≤◌, ◌<◌, List, [], ◌∷◌, length, refl, ap, sym, ◌∙◌, subst, arith, Bool, true, false, inl}
 use Rattle.std.specs.Prelude.{None, if◌then◌else◌, eqb, leb, not, ◌&&◌, ◌||◌, zero, suc, bytes_eq, ltb}
-use Rattle.std.proofs.lemmas.Bool.{eq-eqb}
+use Rattle.std.proofs.lemmas.Bool.{eq-eqb, not-false}
 use Rattle.std.proofs.lemmas.Bool.Decides.{nat_tests}
 use Rattle.vx_history.specs.World.{World, Node, Volume, History, updated, line_updated, with_node, bare_site, no_volumes}
 use Rattle.vx_model.specs.Content.{Content}
@@ -32,7 +32,7 @@ use Rattle.vx_history.specs.Gatherings.{emptied}
 use Rattle.vx_history.specs.Step.{done, link_part}
 use Rattle.vx_model.specs.declared.limits.TheConstants.{MOST_DISKS, MOST_LINKS, MOST_SITES}
 use Rattle.vx_history.specs.Sound.{has_line, HasCome, Sound}
-use Rattle.vx_world.proofs.Lists.{each_append, each_weaker, not_true, not_false, not_both, or_left, or_right}
+use Rattle.vx_world.proofs.Lists.{each_append, each_weaker, not_true, not_both, or_left, or_right}
 use Rattle.vx_world.proofs.Stood.{last_line, who_came}
 use Rattle.vx_world.proofs.Moves.{sound_gathering, sound_with_node, sound_with_link, good_later, given, stays_fed, at_changed}
 use Rattle.vx_world.proofs.Comes.{sound_joining, sound_founding}
@@ -181,7 +181,7 @@ may_join_keeps w p q s up_p up_q =
     (λ may. unless_keeps (is_linked (w.links p q)) (Exists (w.nodes q).name) w few s
     (λ unlinked. unless_keeps (leb MOST_LINKS (count_links_of w p)) (Limit Links MOST_LINKS) w fits s
     (λ _. unless_keeps (not (sizes_meet (w.nodes p).volumes (w.nodes q).volumes && rings_fit (w.nodes p) (w.nodes q))) Size w o s
-    (λ _. sound_gathering (with_node w q (joined (w.nodes p) p (w.nodes q))) _ (joins (not_false (may_link w p q) may) unlinked)))))
+    (λ _. sound_gathering (with_node w q (joined (w.nodes p) p (w.nodes q))) _ (joins (not-false (may_link w p q) may) unlinked)))))
   where
     joins : may_link w p q ≡ true → is_linked (w.links p q) ≡ false → Sound (with_node w q (joined (w.nodes p) p (w.nodes q)))
     joins may unlinked =
@@ -273,11 +273,11 @@ link_part_keeps Made w p q sync s up_p up_q runs_q =
     unless_keeps (not test) WrongRole w (unless (is_linked (w.links p q)) (Exists (w.nodes q).name) w o) s
     (λ c. unless_keeps (is_linked (w.links p q)) (Exists (w.nodes q).name) w o s
     (λ _. make_keeps w p q (count_links_of w p) sync s up_p up_q runs_q
-    (primary_origin (w.nodes p).role (and_left (is_primary (w.nodes p).role) (follows w p q) (not_false test c)))
-    (follows_is w p q (and_right (is_primary (w.nodes p).role) (follows w p q) (not_false test c)))
+    (primary_origin (w.nodes p).role (and_left (is_primary (w.nodes p).role) (follows w p q) (not-false test c)))
+    (follows_is w p q (and_right (is_primary (w.nodes p).role) (follows w p q) (not-false test c)))
     (same_line_equal (w.nodes q).line (w.nodes p).line
     (and_right (not (is_origin (w.nodes q).role)) (same_line (w.nodes q).line (w.nodes p).line)
-    (and_right (is_primary (w.nodes p).role) (follows w p q) (not_false test c))))))
+    (and_right (is_primary (w.nodes p).role) (follows w p q) (not-false test c))))))
 link_part_keeps Marked w p q sync s up_p up_q runs_q =
     unless_keeps (not (is_primary (w.nodes p).role && (follows w p q && (is_linked (w.links p q) && is_empty (w.nodes p).log)))) WrongRole w
     (done (with_node w q (record (w.nodes q) { mark = Consistent }))) s
@@ -294,6 +294,6 @@ link_part_keeps Opened w p q sync s up_p up_q runs_q =
     unless_keeps (not test) WrongRole w (done (with_link w p q (opened (w.links p q) a.safe))) s
     (λ c.
     let all : empty ≡ true = and_right (is_linked (w.links p q)) empty
-    (and_right (follows w p q) linked (and_right (is_primary a.role) followed (not_false test c))) in
+    (and_right (follows w p q) linked (and_right (is_primary a.role) followed (not-false test c))) in
     let last : (taken && marked) ≡ true = and_right (is_stale_mode (w.links p q).mode) (taken && marked) (and_right (is_empty a.log) stale all) in
     open_keeps w p q s (and_left (is_empty a.log) stale all) (and_left taken marked last) (and_right taken marked last))

@@ -1,12 +1,14 @@
 -- The ways in which an event changes the world, by what they make of messages in assembly, of the sizes of writes and of the places of links.
 use Rattle.std.proofs.Common.{◌≡◌, ◌∙◌, ℕ, zero, suc, ◌+◌, ◌≤◌, List, [], ◌∷◌, ◌++◌, take, refl, ap, sym, subst, arith, Bool, true, false}
-use Rattle.std.specs.Prelude.{Option, Some, None, ◌||◌, eqb, leb, if◌then◌else◌, slice_get}
+use Rattle.std.specs.Prelude.{Option, Some, None, ◌||◌, eqb, leb, if◌then◌else◌}
 use Rattle.std.specs.List.{AllByRecursion}
 use Rattle.std.proofs.lemmas.Bool.Decides.{nat_tests}
-use Rattle.vx_model.specs.Content.{Write, Content, blocks_in, put, fold_writes}
+use Rattle.std.proofs.lemmas.List.{append-nil}
+use Rattle.vx_model.specs.Content.{Write, blocks_in}
 use Rattle.vx_model.specs.declared.history.Line.{Line}
 use Rattle.vx_model.specs.declared.site.SiteState.TheVariants.{Bare, Up}
 use Rattle.vx_model.specs.declared.limits.TheConstants.{MOST_CALL_BLOCKS}
+use Rattle.vx_model.proofs.Lists.{found_more}
 use Rattle.vx_history.proofs.Places.{places_same}
 use Rattle.vx_history.proofs.Updates.{all_updated, all_lines, eqb_equal, and_left, and_right}
 use Rattle.vx_history.specs.World.{World, Node, Link, History, Packet, Promise, Message, Gathering, Volume, with_node, with_history, updated, line_updated}
@@ -17,7 +19,6 @@ use Rattle.vx_history.specs.Refusals.{agree}
 use Rattle.vx_history.specs.Fits.{WriteFits, Fitting, IsSized, IsAlike, LeadsAlone, blocks_of_volume}
 use Rattle.vx_history.specs.GoodGatherings.{IsPart, Gathers, MayGather}
 use Rattle.vx_world.proofs.Lists.{each_append, each_weaker}
-use Rattle.vx_world.proofs.Told.{append-nil}
 
 -- the links of each site have their places
 abbrev pub ArePlaced : World → Type 0
@@ -36,11 +37,6 @@ pub keeps_trans : (u v w : World) → Keeps u v → Keeps v w → Keeps u w
 keeps_trans u v w h k = record { gathers = λ g. k.gathers (h.gathers g); fits = λ f. k.fits (h.fits f); places = λ a. k.places (h.places a) }
 
 -- ## Messages in assembly
-
-found_more : (ps more : List Packet) (k : ℕ) (q : Packet) → slice_get ps k ≡ Some q → slice_get (ps ++ more) k ≡ Some q
-found_more [] more k q e = absurd (cc)
-found_more (p ∷ ps) more zero q e = e
-found_more (p ∷ ps) more (suc k) q e = found_more ps more k q e
 
 -- more is sent, and the site is up still
 pub gather_later : (i : ℕ) (n m : Node) (ps more : List Packet) (g : Option Gathering) → (n.state ≡ Up → m.state ≡ Up) → MayGather i n ps g
@@ -101,10 +97,6 @@ alike_there o n p m ov or nv nr h = record {
   volumes = ap (λ (vs : List Volume). agree vs m.volumes) ov ∙ ap (λ (vs : List Volume). agree o.volumes vs) nv ∙ h.volumes;
   rings = ap (λ (k : ℕ). leb 17 m.ring || leb k m.ring) or ∙ ap (λ (k : ℕ). leb 17 k || leb o.ring k) nr ∙ h.rings;
 }
-
-pub fold_size : (c : Content) (xs : List Write) (v : ℕ) → (fold_writes c xs).size v ≡ c.size v
-fold_size c [] v = refl
-fold_size c (x ∷ xs) v = fold_size (put c x) xs v
 
 pub each_take : {A : Type 0} (P : A → Type 0) (n : ℕ) (xs : List A) → AllByRecursion P xs → AllByRecursion P (take n xs)
 each_take P zero xs h = tt

@@ -1,13 +1,15 @@
 -- Packets that are delivered keep all that holds of the world.
-use Rattle.std.proofs.Common.{◌≡◌, ◌∙◌, ℕ, zero, suc, ◌+◌, List, [], ◌∷◌, ◌++◌, length, refl, ap, sym, subst, Bool, true, false}
+use Rattle.std.proofs.Common.{◌≡◌, ◌∙◌, ℕ, zero, suc, ◌+◌, List, [], length, refl, ap, sym, subst, Bool, true, false}
 use Rattle.std.specs.Prelude.{leb, if◌then◌else◌, Option, Some, None, eqb, ltb, ◌&&◌, slice_get}
 use Rattle.vx_model.specs.Content.{Write, IsNumber}
 use Rattle.vx_model.specs.Sites.{is_origin, is_up, same_line}
 use Rattle.vx_model.specs.declared.history.Line.{Line}
 use Rattle.vx_model.specs.declared.limits.TheConstants.{MOST_PACKETS}
 use Rattle.vx_model.specs.declared.site.SiteState.TheVariants.{Up}
+use Rattle.vx_model.proofs.Lists.{found_more}
 use Rattle.vx_history.proofs.Updates.{all_updated, by_test, at_place, same_line_equal, and_left}
 use Rattle.vx_history.proofs.GoodLemmas.{up_is_made}
+use Rattle.vx_history.proofs.States.{up_is}
 use Rattle.vx_history.specs.Receiving.{Received, received_step, takes, repeats, with_next, phase_takes}
 use Rattle.vx_history.specs.LinkForms.{plain_receiver}
 use Rattle.vx_history.specs.World.{World, Node, Gathering, Packet, Message, Hello, Update, NetAck, DataAck, with_node, updated}
@@ -26,7 +28,6 @@ use Rattle.vx_history.specs.declared.receiver.RState.{RState}
 use Rattle.vx_history.specs.declared.receiver.RAction.{RAction}
 use Rattle.vx_history.specs.declared.receiver.RAction.TheVariants.{Nothing as DoesNothing, Ignored as Ignores, IgnoredAck, Take, DataAck as AcksFromDisk}
 use Rattle.vx_world.proofs.Lists.{each_found}
-use Rattle.vx_world.proofs.Guards
 use Rattle.vx_world.proofs.Pair.{after_places, places_in}
 use Rattle.vx_world.proofs.Keeping.{Keeps, keeps_same, keeps_links, made_link, keeps_sending, keeps_gathering, keeps_node, fits_alike, all_parts}
 use Rattle.vx_world.proofs.Quiet.{Adds, heard_adds}
@@ -114,11 +115,6 @@ heard_up w p (Update number x) up =
 heard_up w p (NetAck session number) up = link_up w p (HearNetAck session number) up
 heard_up w p (DataAck number) up = link_up w p (HearDataAck number) up
 
-pub found_more : (ps more : List Packet) (k : ℕ) (q : Packet) → slice_get ps k ≡ Some q → slice_get (ps ++ more) k ≡ Some q
-found_more [] more k q e = absurd (cc)
-found_more (p ∷ ps) more zero q e = e
-found_more (p ∷ ps) more (suc k) q e = found_more ps more k q e
-
 module _ (w : World) (k : ℕ) (p : Packet) (found : slice_get w.packets k ≡ Some p) (good : GoodPacket w.nodes w.links w.lines p) where
   abbrev pub heard_world : World
   heard_world = (Events.heard w p p.message).world
@@ -160,7 +156,7 @@ module _ (w : World) (k : ℕ) (p : Packet) (found : slice_get w.packets k ≡ S
       by_open : (c : Bool) → (is_up (w.nodes p.target).state && is_running (w.nodes p.target).halted) ≡ c
           → Leaves w (Events.gathers p (if c then Events.heard w p p.message else says w IsIgnored))
       by_open true e = kept (Events.is_taken (Events.heard w p p.message).said)
-          (Guards.up_is (w.nodes p.target).state (and_left (is_up (w.nodes p.target).state) (is_running (w.nodes p.target).halted) e))
+          (up_is (w.nodes p.target).state (and_left (is_up (w.nodes p.target).state) (is_running (w.nodes p.target).halted) e))
       by_open false e = keeps_same w
 
 pub delivered_leaves : (w : World) (number k : ℕ) (p : Option Packet) → slice_get w.packets k ≡ p → Sound w → Leaves w (Events.delivered w number p)

@@ -1,5 +1,6 @@
 -- Crashes, recoveries, and sites that are made or join keep all that holds of the world.
 use Rattle.std.proofs.Common.{◌≡◌, ◌∙◌, ◌⊎◌, inl, inr, ℕ, zero, suc, ◌+◌, ◌-◌, ◌<◌, List, [], ◌∷◌, length, take, drop, refl, ap, sym, subst, arith, Bool, true, false}
+use Rattle.std.proofs.lemmas.Bool.{not-false}
 use Rattle.std.specs.Prelude.{leb, not, if◌then◌else◌, Option, Some, None, eqb, ltb, ◌&&◌, ◌||◌}
 use Rattle.std.specs.List.{AllByRecursion}
 use Rattle.std.proofs.lemmas.Bool.Decides.{nat_tests}
@@ -14,6 +15,7 @@ use Rattle.vx_model.specs.declared.no.Counted.TheVariants.{Links}
 use Rattle.vx_model.specs.declared.site.Mark.TheVariants.{Consistent}
 use Rattle.vx_model.specs.declared.site.SiteState.{SiteState}
 use Rattle.vx_model.specs.declared.site.SiteState.TheVariants.{Bare, Up, Deported, Down}
+use Rattle.vx_model.proofs.Contents.{folded_size}
 use Rattle.vx_history.proofs.Updates.{all_updated, all_lines, by_test, at_place, and_left, and_right}
 use Rattle.vx_history.proofs.CrashLemmas.{crash_state}
 use Rattle.vx_history.proofs.GoodLemmas.{up_is_made, made_is_given}
@@ -33,11 +35,11 @@ use Rattle.vx_history.specs.GoodGatherings.{IsPart, MayGather}
 use Rattle.vx_history.specs.Sound.{Sound, is_at_rest}
 use Rattle.vx_history.specs.declared.event.LinkPart.{LinkPart}
 use Rattle.vx_history.specs.declared.event.LinkPart.TheVariants.{Joins, Made, Marked, Opened}
-use Rattle.vx_world.proofs.Lists.{each_weaker, not_false}
+use Rattle.vx_world.proofs.Lists.{each_weaker}
 use Rattle.vx_world.proofs.Guards
 use Rattle.vx_world.proofs.Guards.{rest_bare}
 use Rattle.vx_world.proofs.Nodes
-use Rattle.vx_world.proofs.Keeping.{Keeps, keeps_same, keeps_trans, keeps_links, made_link, made_rows, ArePlaced, keeps_sending, keeps_node, keeps_crash, IsFitted, fold_size, each_take, fits_there, alike_there, gather_up, all_parts}
+use Rattle.vx_world.proofs.Keeping.{Keeps, keeps_same, keeps_trans, keeps_links, made_link, made_rows, ArePlaced, keeps_sending, keeps_node, keeps_crash, IsFitted, each_take, fits_there, alike_there, gather_up, all_parts}
 use Rattle.vx_world.proofs.KeptWrites.{Leaves, like_fitted, bare_same}
 
 -- ## Crashes and recoveries
@@ -52,7 +54,7 @@ crash_leaves w q k s up =
       line = refl;
       made = λ _ e. let g : Up ≡ Bare = sym up ∙ e in cc;
       start = λ v. refl;
-      base = fold_size n.base (drop n.safe (take k n.log));
+      base = folded_size n.base (drop n.safe (take k n.log));
       log = each_take (WriteFits n) k n.log;
     } in
     let bare : Fitting w → (crashed n k).state ≡ Bare → n.ring ≡ 0 = λ f e. absurd (let g : Down ≡ Bare = e in cc) in
@@ -294,13 +296,13 @@ link_part_leaves Joins w p q sync s up there =
     (λ _. Guards.unless_holds (Keeps w) (leb MOST_LINKS (count_links_of w p)) (Limit Links MOST_LINKS) w fits (keeps_same w)
     (λ _. Guards.unless_holds (Keeps w) (not fit) Size w o (keeps_same w)
     (λ sizes. join_leaves w p q
-    ((s.good.nodes p).own_line (up_is_made a up) (Guards.primary_origin a.role (and_left (is_primary a.role) _ (not_false (may_link w p q) may))))
-    (meets_some a.volumes (w.nodes q).volumes (and_left (sizes_meet a.volumes (w.nodes q).volumes) (rings_fit a (w.nodes q)) (not_false fit sizes)))
+    ((s.good.nodes p).own_line (up_is_made a up) (Guards.primary_origin a.role (and_left (is_primary a.role) _ (not-false (may_link w p q) may))))
+    (meets_some a.volumes (w.nodes q).volumes (and_left (sizes_meet a.volumes (w.nodes q).volumes) (rings_fit a (w.nodes q)) (not-false fit sizes)))
     (record {
       volumes = and_right (not (eqb (length a.volumes) 0)) (agree a.volumes (w.nodes q).volumes)
-          (and_left (sizes_meet a.volumes (w.nodes q).volumes) (rings_fit a (w.nodes q)) (not_false fit sizes));
+          (and_left (sizes_meet a.volumes (w.nodes q).volumes) (rings_fit a (w.nodes q)) (not-false fit sizes));
       rings = and_right
-          (sizes_meet a.volumes (w.nodes q).volumes) (rings_fit a (w.nodes q)) (not_false fit sizes);
+          (sizes_meet a.volumes (w.nodes q).volumes) (rings_fit a (w.nodes q)) (not-false fit sizes);
     })))))
 link_part_leaves Made w p q sync s up there =
     let l : LinkRecord = Events.new_link (count_links_of w p) sync (w.nodes q) in

@@ -1,5 +1,6 @@
 -- Writes, packets that are sent and records that are applied keep all that holds of the world.
 use Rattle.std.proofs.Common.{◌≡◌, ◌∙◌, ℕ, ◌+◌, ◌≤◌, List, [], ◌∷◌, ◌++◌, length, take, drop, refl, ap, sym, subst, arith, Bool, true, false}
+use Rattle.std.proofs.lemmas.Bool.{not-false}
 use Rattle.std.specs.Prelude.{leb, not, Option, Some, None, eqb, ltb, ◌||◌}
 use Rattle.std.specs.List.{AllByRecursion}
 use Rattle.std.proofs.lemmas.Bool.Decides.{nat_tests}
@@ -11,6 +12,7 @@ use Rattle.vx_model.specs.declared.limits.TheConstants.{MOST_CALL_BLOCKS}
 use Rattle.vx_model.specs.declared.no.No.TheVariants.{Size, Range, Role as WrongRole, Unknown}
 use Rattle.vx_model.specs.declared.no.Named.TheVariants.{Number as ByNumber}
 use Rattle.vx_model.specs.declared.site.SiteState.TheVariants.{Bare, Up}
+use Rattle.vx_model.proofs.Contents.{folded_size}
 use Rattle.vx_history.proofs.Updates.{by_test}
 use Rattle.vx_history.proofs.GoodLemmas.{up_is_made}
 use Rattle.vx_history.specs.Admission.{Admitted, Held_by, Goes}
@@ -31,9 +33,9 @@ use Rattle.vx_history.specs.declared.sender.SEvent.{SEvent}
 use Rattle.vx_history.specs.declared.receiver.RState.{RState}
 use Rattle.vx_history.specs.declared.receiver.RAction.{RAction}
 use Rattle.vx_history.specs.declared.receiver.RAction.TheVariants.{Nothing as DoesNothing, Ignored as Ignores, IgnoredAck, Take, DataAck as AcksFromDisk}
-use Rattle.vx_world.proofs.Lists.{each_append, not_false}
+use Rattle.vx_world.proofs.Lists.{each_append}
 use Rattle.vx_world.proofs.Guards
-use Rattle.vx_world.proofs.Keeping.{Keeps, keeps_same, keeps_trans, keeps_links, made_link, made_rows, keeps_sending, keeps_node, keeps_history, IsFitted, fold_size, all_parts}
+use Rattle.vx_world.proofs.Keeping.{Keeps, keeps_same, keeps_trans, keeps_links, made_link, made_rows, keeps_sending, keeps_node, keeps_history, IsFitted, all_parts}
 
 abbrev pub Leaves : World → Outcome → Type 0
 Leaves w o = Keeps w o.world
@@ -152,7 +154,7 @@ write_leaves w p x fails s =
     (λ _. Guards.unless_holds (Keeps w) (is_wrong_count (blocks_in x.bytes) || is_too_large n.ring (blocks_in x.bytes)) Size w _ (keeps_same w)
     (λ few. Guards.unless_holds (Keeps w) (is_past n.base x.volume x.start (blocks_in x.bytes)) Range w o (keeps_same w)
     (λ within. written_if_leaves (Events.admitted w p x) w p x fails up
-    ((s.good.nodes p).own_line (up_is_made n up) (Guards.primary_origin n.role (not_false (is_primary n.role) r)))
+    ((s.good.nodes p).own_line (up_is_made n up) (Guards.primary_origin n.role (not-false (is_primary n.role) r)))
     (λ f. tested_fits n x (f.sized p) few within))))))))
 
 -- ## Packets that are sent
@@ -199,7 +201,7 @@ applied_leaves w q r (AcksFromDisk number) =
       line = refl;
       made = λ made. made;
       start = λ v. refl;
-      base = fold_size b.base
+      base = folded_size b.base
           (drop b.safe (take number b.log));
       log = λ h. h;
     })

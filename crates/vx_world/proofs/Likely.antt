@@ -1,5 +1,6 @@
 -- Changes that leave worlds that differ in notes alone such worlds.
 use Rattle.std.proofs.Common.{◌≡◌, ◌∙◌, ℕ, zero, suc, ◌+◌, List, ◌++◌, ap, sym, subst, refl, Bool, true, false}
+use Rattle.std.proofs.lemmas.Bool.{not-false}
 use Rattle.std.specs.Prelude.{Option, Some, None, not, ◌&&◌, ◌||◌, eqb, leb, if◌then◌else◌}
 use Rattle.vx_model.specs.Sites.{same_line, is_up}
 use Rattle.vx_model.specs.declared.no.No.{No}
@@ -11,7 +12,6 @@ use Rattle.vx_history.specs.World.{Node, Link, History, Packet, Promise, Gatheri
 use Rattle.vx_history.specs.Likes.{IsLike, SameLink}
 use Rattle.vx_history.specs.Sends.{is_made, is_linked, with_links, with_link, sending, promising}
 use Rattle.vx_history.specs.Refusals.{Outcome, says, unless, unless_halted, at_site, at_work, both_at_work, on_link_if, when_live, some_below, how_many_below}
-use Rattle.vx_world.proofs.Lists.{not_false}
 use Rattle.vx_history.specs.declared.event.Said.{Said}
 use Rattle.vx_history.specs.declared.event.Said.TheVariants.{Refused}
 
@@ -200,7 +200,7 @@ module _ (w v : World) (like : IsLike w v) where
       (ap (λ (n : Node). not (test n.role)) (like.nodes p)) refl like
       (λ _. tests (not (is_linked (w.links p q))) (not (is_linked (v.links p q))) (Unknown (ByNumber q)) (Unknown (ByNumber q)) w v o r
       (ap not (like.links p q).linked) refl like
-      (λ is. let made : is_linked (w.links p q) ≡ true = not_false (is_linked (w.links p q)) is in rest ((like.links p q).same made) made)))))
+      (λ is. let made : is_linked (w.links p q) ≡ true = not-false (is_linked (w.links p q)) is in rest ((like.links p q).same made) made)))))
 
   pub when_live_same : (q : ℕ) (l m : Link) (o r : Outcome) → m ≡ l → Same o r → Same (when_live w q l o) (when_live v q m r)
   when_live_same q l m o r e rest =

@@ -78,7 +78,7 @@ calm_write w (Fall p) site at s apart = tt
 calm_write w (Recover p fails) site at s apart = absurd at
 calm_write w (Fault p disk) site at s apart = λ here. apart (sym here ∙ at)
 
-fault_is : (w : World) (s disk : ℕ) → s < w.sites → (w.nodes s).state ≡ Up → (outcome_of w (Fault s disk)).world ≡ stopped_by w s disk
+pub fault_is : (w : World) (s disk : ℕ) → s < w.sites → (w.nodes s).state ≡ Up → (outcome_of w (Fault s disk)).world ≡ stopped_by w s disk
 fault_is w s disk here up = rw (not_past w.sites s here) (rw up refl)
 
 module _ (d : Doubted) (e : Event) (site disk : ℕ) (g : GoodDoubted d) (opens : IsOpen (d.world.nodes site)) (at : WritesAt d.world e site) where

@@ -1,12 +1,10 @@
 -- First parts of lists of writes, and what holds of each item of a list.
 use Rattle.std.proofs.Common.{◌≡◌, ℕ, zero, suc, ◌+◌, ◌≤◌, List, [], ◌∷◌, ◌++◌, length, take, drop, refl, ap, sym, ◌∙◌, subst, append_assoc, arith, length-append, Bool, true, false}
+use Rattle.std.proofs.lemmas.List.{append-nil}
 use Rattle.std.specs.Prelude.{slice_get, Some, pred, ◌||◌, not}
 use Rattle.std.specs.List.{AllByRecursion}
 use Rattle.vx_model.specs.Content.{Write, IsPrefixOf, IsNumber}
-
-append-nil : {A : Type 0} (xs : List A) → xs ++ [] ≡ xs
-append-nil [] = refl
-append-nil (x ∷ xs) = ap (λ t. x ∷ t) (append-nil xs)
+use Rattle.vx_model.proofs.Lists.{found_more}
 
 pub prefix_refl : (xs : List Write) → IsPrefixOf xs xs
 unfolding IsPrefixOf
@@ -37,14 +35,9 @@ prefix_take n xs = (drop n xs, take_drop n xs)
     take_drop (suc n) [] = refl
     take_drop (suc n) (x ∷ xs) = ap (λ t. x ∷ t) (take_drop n xs)
 
-front_get : (xs rest : List Write) (k : ℕ) (x : Write) → slice_get xs k ≡ Some x → slice_get (xs ++ rest) k ≡ Some x
-front_get [] rest k x h = absurd (cc)
-front_get (y ∷ xs) rest zero x h = h
-front_get (y ∷ xs) rest (suc k) x h = front_get xs rest k x h
-
 pub prefix_get : (xs ys : List Write) (k : ℕ) (x : Write) → IsPrefixOf xs ys → slice_get xs k ≡ Some x → slice_get ys k ≡ Some x
 unfolding IsPrefixOf
-prefix_get xs ys k x (r, e) h = subst (λ t. slice_get t k ≡ Some x) e (front_get xs r k x h)
+prefix_get xs ys k x (r, e) h = subst (λ t. slice_get t k ≡ Some x) e (found_more xs r k x h)
 
 pub prefix_number : (xs ys : List Write) (n : ℕ) (x : Write) → IsPrefixOf xs ys → IsNumber xs n x → IsNumber ys n x
 prefix_number xs ys n x p (h, e) = (h, prefix_get xs ys (pred n) x p e)
@@ -82,10 +75,6 @@ or_right false b h = h
 pub not_true : (a : Bool) → not a ≡ true → a ≡ false
 not_true true h = absurd (cc)
 not_true false h = refl
-
-pub not_false : (a : Bool) → not a ≡ false → a ≡ true
-not_false true h = refl
-not_false false h = absurd (cc)
 
 pub not_both : {P : Type 0} (b : Bool) → b ≡ true → b ≡ false → P
 not_both b h k = absurd (let e : true ≡ false = sym h ∙ k in cc)

@@ -11,7 +11,8 @@ use Rattle.vx_model.specs.declared.site.SiteState.TheVariants.{Up}
 use Rattle.vx_model.specs.declared.link.Mode.TheVariants.{Log}
 use Rattle.vx_history.specs.declared.sender.SEvent.{SEvent}
 use Rattle.vx_model.specs.declared.no.No.{No}
-use Rattle.vx_history.proofs.Updates.{at_place, by_test, eqb_equal, and_right}
+use Rattle.vx_history.proofs.Behind.{runs}
+use Rattle.vx_history.proofs.Updates.{at_place, by_test, eqb_equal, and_right, updated_other}
 use Rattle.vx_history.specs.Sends.{is_linked, with_link, sending, sent_by}
 use Rattle.vx_history.specs.Refusals.{Outcome, unless, at_work, on_link, keeps_links, is_running, unless_halted}
 use Rattle.vx_model.specs.Sites.{is_up}
@@ -70,19 +71,12 @@ pub passes : (b : Bool) (why : No) (w : World) (o : Outcome) → b ≡ false →
 passes true why w o e = absurd (cc)
 passes false why w o e = refl
 
-runs : (halted : Option ℕ) (w : World) (o : Outcome) → halted ≡ None → unless_halted halted w o ≡ o
-runs None w o e = refl
-runs (Some disk) w o e = absurd (cc)
-
 pub falls : (b : Bool) → b ≡ true → not b ≡ false
 falls true e = refl
 falls false e = absurd (cc)
 
 pub at_link : (w : World) (p s : ℕ) (l : Link) → (with_link w p s l).links p s ≡ l
 at_link w p s l = ap (λ (row : ℕ → Link). row s) (at_place w.links p (updated (w.links p) s l)) ∙ at_place (w.links p) s l
-
-other_place : {A : Type 0} (f : ℕ → A) (i k : ℕ) (x : A) → (k ≡ i → ⊥) → updated f i x k ≡ f k
-other_place f i k x apart = by_test (λ y. y ≡ f k) (eqb k i) x (f k) (λ e. absurd (apart (eqb_equal k i e))) (λ _. refl)
 
 module _ (v : World) (p s : ℕ) (a b : Node) (l : Link) (ps : List Packet) (at : At v p s a b l ps) where
   -- what the rule of the link makes of it
@@ -118,7 +112,7 @@ module _ (v : World) (p s : ℕ) (a b : Node) (l : Link) (ps : List Packet) (at 
   with_node_at n apart = record {
     given_p = at.given_p;
     given_s = at.given_s;
-    at_p = other_place v.nodes s p n apart ∙ at.at_p;
+    at_p = updated_other v.nodes s p n apart ∙ at.at_p;
     at_s = at_place v.nodes s n;
     at_l = at.at_l;
     sent = at.sent;

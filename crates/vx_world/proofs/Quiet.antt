@@ -1,5 +1,6 @@
 -- Delivering what was sent, and what was sent in answer, leaves nothing to be delivered.
 use Rattle.std.proofs.Common.{◌≡◌, ℕ, suc, ◌+◌, List, [], ◌∷◌, ◌++◌, length, refl, ap, sym, ◌∙◌, subst, append_assoc, drop, Bool, true, false}
+use Rattle.std.proofs.lemmas.List.{append-nil}
 use Rattle.std.specs.Prelude.{leb, slice_get, Some, None, Option, ◌&&◌}
 use Rattle.std.specs.List.{AllByRecursion}
 use Rattle.vx_model.specs.Content.{Write}
@@ -25,7 +26,6 @@ use Rattle.vx_model.specs.declared.limits.TheConstants.{MOST_PACKETS}
 use Rattle.vx_history.specs.Step.{step, run}
 use Rattle.vx_history.specs.Settling.{is_between, deliver_between, deliver_new, delivery}
 use Rattle.vx_world.proofs.Lists.{each_append}
-use Rattle.vx_world.proofs.Told.{append-nil}
 use Rattle.vx_world.proofs.Batches.{IsIn, in_head, in_tail, in_new}
 use Rattle.vx_world.proofs.Turns.{run_append, new_between, nothing_new}
 

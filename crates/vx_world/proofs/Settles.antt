@@ -10,14 +10,13 @@ use Rattle.vx_history.specs.Good.{IsMade}
 use Rattle.vx_model.specs.declared.history.Line.{Line}
 use Rattle.vx_model.specs.declared.limits.TheConstants.{MOST_WAITING}
 use Rattle.vx_model.specs.declared.link.Mode.{Mode}
-use Rattle.vx_model.specs.declared.site.Role.{Role}
-use Rattle.vx_model.specs.declared.site.Role.TheVariants.{Primary, Secondary, Handing, Bunker}
+use Rattle.vx_model.specs.declared.site.Role.TheVariants.{Secondary}
 use Rattle.vx_history.proofs.GoodLemmas.{up_is_made, made_is_given}
+use Rattle.vx_history.proofs.States.{origin_keeps}
 use Rattle.vx_history.proofs.Updates.{by_test}
 use Rattle.vx_history.specs.declared.event.Event.{Event}
 use Rattle.vx_history.specs.declared.event.Event.TheVariants.{Apply, Pump, Tick, Connect}
 use Rattle.vx_history.specs.Sends.{packet, is_linked}
-use Rattle.vx_history.specs.Refusals.{keeps_links}
 use Rattle.vx_history.specs.Step.{step, run}
 use Rattle.vx_history.specs.Settling.{delivery, greeting_events, is_stuck, turn, turns, settling, MaySettle, IsMet}
 use Rattle.vx_history.specs.Sound.{Sound, GoodLink, IsFollowed, ModeSays}
@@ -30,12 +29,6 @@ use Rattle.vx_world.proofs.ToldApart.{connect_at, hello_at}
 use Rattle.vx_world.proofs.Batches.{deliver_each, between_back, fit_link}
 use Rattle.vx_world.proofs.Turns.{IsSmall, run_append, new_is, Sent, sends, Came, comes, Turned, closes}
 use Rattle.vx_world.proofs.Whole.{run_good}
-
-origin_keeps : (r : Role) → is_origin r ≡ true → keeps_links r ≡ true
-origin_keeps Primary e = refl
-origin_keeps Secondary e = absurd (cc)
-origin_keeps (Handing to) e = refl
-origin_keeps Bunker e = absurd (cc)
 
 not_past : (a b : ℕ) → b < a → leb a b ≡ false
 not_past a b h = grind (arith, nat_tests)

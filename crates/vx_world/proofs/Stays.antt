@@ -1,5 +1,6 @@
 -- Every event keeps what holds of the world, and so does every list of events.
 use Rattle.std.proofs.Common.{◌≡◌, ℕ, ◌<◌, List, [], ◌∷◌, refl, ap, arith, true, false}
+use Rattle.std.proofs.lemmas.Bool.{not-false}
 use Rattle.std.specs.Prelude.{leb, not, if◌then◌else◌, Option}
 use Rattle.std.proofs.lemmas.Bool.Decides.{nat_tests}
 use Rattle.vx_model.specs.Content.{Write, blocks_in}
@@ -15,6 +16,7 @@ use Rattle.vx_history.specs.LinkForms.{plain_link}
 use Rattle.vx_model.specs.declared.link.Link.{Link as PlainLink}
 use Rattle.vx_history.proofs.Updates.{by_test}
 use Rattle.vx_history.proofs.GoodLemmas.{good_empty}
+use Rattle.vx_history.proofs.States.{bare_is, up_is}
 use Rattle.vx_history.specs.declared.event.Event.{Event}
 use Rattle.vx_history.specs.declared.event.Event.TheVariants.{Site, Raw, Group, Volumes, Write as WriteAt, Read, Apply, Pump, Tick, Deliver, Connect, Cut, Pause, Resume, Wait, Link, Set, Crash, Deport, Fall, Recover, Fault}
 use Rattle.vx_history.specs.Refusals.{Outcome, unless, at_work, keeps_links}
@@ -24,10 +26,9 @@ use Rattle.vx_history.specs.Events
 use Rattle.vx_history.specs.Step.{done, outcome_of, step, run, link_part, write_at}
 use Rattle.vx_history.specs.Sends.{with_link}
 use Rattle.vx_history.specs.Sound.{Sound, is_at_rest}
-use Rattle.vx_world.proofs.Lists.{not_false}
 use Rattle.vx_world.proofs.Moves.{sound_headers, sound_with_link, unlinked_good}
 use Rattle.vx_world.proofs.Tests.{Keeps, unless_keeps, at_site_keeps, at_work_keeps, both_keeps, on_link_keeps, when_live_keeps, on_volume_keeps}
-use Rattle.vx_world.proofs.Guards.{primary_origin, up_is, bare_is}
+use Rattle.vx_world.proofs.Guards.{primary_origin}
 use Rattle.vx_world.proofs.Changes.{written_if_keeps, apply_keeps}
 use Rattle.vx_world.proofs.Feeds.{quiet_keeps, pump_keeps, connect_keeps, deliver_keeps, wait_keeps}
 use Rattle.vx_world.proofs.Crashes.{again_keeps, crash_keeps, deport_keeps, fall_keeps, recover_keeps, fault_keeps}
@@ -60,7 +61,7 @@ outcome_keeps w (Raw q) s =
     at_site_keeps w q (unless (not (is_bare (w.nodes q).state)) WrongRole w shaped) s
     (λ there. unless_keeps (not (is_bare (w.nodes q).state)) WrongRole w shaped s
     (λ bare. unless_keeps (not (is_raw_shape (w.nodes q).disks (w.nodes q).blocks)) Size w o s
-    (λ _. raw_keeps w q s (less w.sites q there) (bare_is (w.nodes q).state (not_false (is_bare (w.nodes q).state) bare)))))
+    (λ _. raw_keeps w q s (less w.sites q there) (bare_is (w.nodes q).state (not-false (is_bare (w.nodes q).state) bare)))))
 outcome_keeps w (Group q) s = at_site_keeps w q _ s (λ there. group_from_keeps w q (w.nodes q).state s (less w.sites q there) refl)
 outcome_keeps w (Volumes q log xs) s =
     let o : Outcome = done (volumes_made w q log xs) in
@@ -97,7 +98,7 @@ outcome_keeps w (Wait p number) s =
     at_site_keeps w p (at_work w p o) s
     (λ _. at_work_keeps w p o s
     (λ up _. unless_keeps (not (is_origin (w.nodes p).role)) WrongRole w (Events.waited w p number) s
-    (λ o. wait_keeps w p number s up (not_false (is_origin (w.nodes p).role) o))))
+    (λ o. wait_keeps w p number s up (not-false (is_origin (w.nodes p).role) o))))
 outcome_keeps w (Link p q sync part) s =
     at_site_keeps w p _ s
     (λ _. at_site_keeps w q _ s (λ _. both_keeps w p q (link_part part w p q sync) s (λ up_p up_q _ runs_q. link_part_keeps part w p q sync s up_p up_q runs_q)))
@@ -110,7 +111,7 @@ outcome_keeps w (Crash q kept) s =
     let o : Outcome = done (Events.crash_at w q (Events.kept_of (w.nodes q) kept)) in
     at_site_keeps w q (unless (not (is_up (w.nodes q).state)) NotUp w o) s
     (λ _. unless_keeps (not (is_up (w.nodes q).state)) NotUp w o s
-    (λ up. crash_keeps w q kept s (up_is (w.nodes q).state (not_false (is_up (w.nodes q).state) up))))
+    (λ up. crash_keeps w q kept s (up_is (w.nodes q).state (not-false (is_up (w.nodes q).state) up))))
 outcome_keeps w (Fall q) s = at_site_keeps w q _ s (λ _. fall_keeps w q (w.nodes q).state s refl)
 outcome_keeps w (Deport q) s =
     let o : Outcome = done (Events.deport_at w q) in
@@ -119,7 +120,7 @@ outcome_keeps w (Recover q fails) s = at_site_keeps w q _ s (λ _. recover_keeps
 outcome_keeps w (Fault q disk) s =
     at_site_keeps w q _ s
     (λ _. unless_keeps (not (is_up (w.nodes q).state)) NotUp w _ s
-    (λ up. fault_keeps w q disk s (up_is (w.nodes q).state (not_false (is_up (w.nodes q).state) up))))
+    (λ up. fault_keeps w q disk s (up_is (w.nodes q).state (not-false (is_up (w.nodes q).state) up))))
 
 -- whatever headers it writes
 pub step_keeps : (w : World) (e : Event) → Sound w → Sound (step w e).world

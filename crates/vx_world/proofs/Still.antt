@@ -1,5 +1,6 @@
 -- A halted site stands still: no event changes it or its links, but a crash, and a disk that halts it again.
 use Rattle.std.proofs.Common.{◌≡◌, ◌∙◌, ℕ, ◌<◌, List, ap, sym, refl, arith, Bool, true, false}
+use Rattle.std.proofs.lemmas.Bool.{not-false}
 use Rattle.std.specs.Prelude.{length, Option, Some, None, not, ◌&&◌, ◌||◌, eqb, leb, ltb, bytes_eq}
 use Rattle.vx_model.specs.Content.{Write as LogWrite, blocks_in}
 use Rattle.vx_model.specs.Answer.{is_too_large, is_wrong_count, is_past}
@@ -15,6 +16,7 @@ use Rattle.vx_model.specs.declared.site.Mark.TheVariants.{Consistent}
 use Rattle.vx_model.specs.declared.site.Role.{Role}
 use Rattle.vx_model.specs.declared.site.SiteState.{SiteState}
 use Rattle.vx_model.specs.declared.site.SiteState.TheVariants.{Bare, Up, Deported, Down}
+use Rattle.vx_history.proofs.States.{bare_is}
 use Rattle.vx_history.proofs.Updates.{by_test}
 use Rattle.vx_history.specs.Volumes.{volumes_set}
 use Rattle.vx_history.specs.Admission.{Admitted, Held_by, Goes}
@@ -40,9 +42,7 @@ use Rattle.vx_history.specs.declared.receiver.RState.{RState}
 use Rattle.vx_history.specs.declared.sender.SEvent.{SEvent}
 use Rattle.vx_history.specs.declared.sender.SEvent.TheVariants.{Pump as PumpLink, Connect as ConnectLink, Cut as CutLink, Pause as PauseLink, Resume as ResumeLink, Hello as HearHello, NetAck as HearNetAck, DataAck as HearDataAck}
 use Rattle.vx_world.specs.Twins.{IsElsewhere}
-use Rattle.vx_world.proofs.Guards.{bare_is}
 use Rattle.vx_world.proofs.Halving.{aside}
-use Rattle.vx_world.proofs.Lists.{not_false}
 
 -- the site and its links are as they were
 pub record Stands (s : ℕ) (w v : World) : Type 0 where
@@ -283,7 +283,7 @@ module _ (s : ℕ) (w : World) (up : (w.nodes s).state ≡ Up) (halted : is_runn
       (λ bare. tested (not (is_raw_shape (w.nodes q).disks (w.nodes q).blocks)) _ _
       (λ _. history_still q (raw_set q (w.nodes q)) _
       (λ here. let g : Up ≡ Bare = sym up ∙ ap (λ (i : ℕ). (w.nodes i).state) here ∙ bare_is (w.nodes q).state
-      (not_false (is_bare (w.nodes q).state) bare) in absurd (cc)))))
+      (not-false (is_bare (w.nodes q).state) bare) in absurd (cc)))))
   outcome_still (Group q) there calm = site_still q _ (group_still q (w.nodes q).state refl)
   outcome_still (Volumes q log xs) there calm =
       work_still q _ (λ apart. tested (not (Events.is_plain_group (w.nodes q))) _ _ (λ _. history_still q (volumes_set log xs (w.nodes q)) _ apart))

@@ -2,6 +2,7 @@
 use Rattle.std.proofs.Common.{◌≡◌, ℕ, suc, ◌+◌, ◌-◌, ◌≤◌, ◌<◌, List, [], ◌∷◌, ◌++◌, length, refl, ap, sym, ◌∙◌, subst, arith, Bool, true, false}
 use Rattle.std.specs.Prelude.{if◌then◌else◌, leb, ltb, eqb, not, max, min, slice_get, Some, None, Option, ◌&&◌}
 use Rattle.std.proofs.lemmas.Bool.Decides.{nat_tests}
+use Rattle.std.proofs.lemmas.List.{append-nil}
 use Rattle.vx_model.specs.Content.{Write}
 use Rattle.vx_history.specs.World.{World, Node, Link, Packet, Message, Update, NetAck, DataAck, no_regions, with_node}
 use Rattle.vx_model.specs.Sites.{is_origin, same_line}
@@ -28,10 +29,6 @@ use Rattle.vx_history.specs.Gatherings.{key_of, came_after, completes, left_by}
 use Rattle.vx_model.specs.declared.limits.TheConstants.{MOST_AHEAD, MOST_PACKETS, MOST_WAITING}
 use Rattle.vx_history.specs.Step.{outcome_of, step, done}
 use Rattle.vx_world.proofs.Pair.{gathers_at, counted_at, At, Fit, link_event_at, sending_at, with_node_at, with_link_at, link_passes, hears, passes, falls}
-
-pub append-nil : {A : Type 0} (xs : List A) → xs ++ [] ≡ xs
-append-nil [] = refl
-append-nil (x ∷ xs) = ap (λ t. x ∷ t) (append-nil xs)
 
 -- by a test that comes out so
 pub by_true : {A : Type 0} (b : Bool) (x y : A) → b ≡ true → (if b then x else y) ≡ x

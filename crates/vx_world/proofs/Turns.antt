@@ -5,7 +5,7 @@ use Rattle.std.proofs.lemmas.Bool.Decides.{nat_tests}
 use Rattle.std.proofs.Math.Nat.{lt-div-mul-add}
 use Rattle.std.proofs.Math.Numerals.{sub-one}
 use Rattle.std.proofs.lemmas.Nat.{div_below}
-use Rattle.std.proofs.lemmas.List.{length-take, length-drop}
+use Rattle.std.proofs.lemmas.List.{length-take, length-drop, append-nil}
 use Rattle.std.specs.List.{AllByRecursion}
 use Rattle.vx_model.specs.Content.{Write, blocks_in}
 use Rattle.vx_model.specs.declared.history.Line.{Line}
@@ -20,7 +20,7 @@ use Rattle.vx_history.specs.Events.{applied}
 use Rattle.vx_history.specs.Step.{step, run}
 use Rattle.vx_history.specs.Settling.{is_between, deliver_between, deliver_new, delivery}
 use Rattle.vx_world.proofs.Pair.{At, Fit}
-use Rattle.vx_world.proofs.Told.{append-nil, tick_at, pump_at, pump_none, disk_at}
+use Rattle.vx_world.proofs.Told.{tick_at, pump_at, pump_none, disk_at}
 use Rattle.vx_world.proofs.ToldApart.{apply_none, apply_all}
 use Rattle.vx_world.proofs.Batches.{deliver_each, all_between, between_back, between_none, updates_between, in_new, fit_log, fit_link, fit_since}
 use Rattle.vx_world.proofs.Arriving.{Arrived, Told, parts_length, acks_between, updates_any, acks_any}

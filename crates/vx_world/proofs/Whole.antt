@@ -1,5 +1,6 @@
 -- Every event keeps all that holds of the world.
 use Rattle.std.proofs.Common.{◌≡◌, ℕ, List, [], ◌∷◌, refl, arith, Bool, true, false}
+use Rattle.std.proofs.lemmas.Bool.{not-false}
 use Rattle.std.specs.Prelude.{leb, not, if◌then◌else◌, eqb, ltb, ◌||◌, bytes_eq}
 use Rattle.vx_model.specs.Sites.{is_origin, is_up, is_bare}
 use Rattle.vx_model.specs.Sizes.{is_raw_shape}
@@ -8,6 +9,7 @@ use Rattle.vx_model.specs.declared.link.Prot.TheVariants.{Fail as FailsWhenFull}
 use Rattle.vx_model.specs.declared.no.No.TheVariants.{Size, Role as WrongRole, Down as NotUp, Exists, Limit, Unknown, Unconfirmed}
 use Rattle.vx_model.specs.declared.no.Named.TheVariants.{Number as ByNumber}
 use Rattle.vx_model.specs.declared.no.Counted.TheVariants.{Sites, Disks}
+use Rattle.vx_history.proofs.States.{bare_is, up_is}
 use Rattle.vx_history.proofs.Updates.{by_test}
 use Rattle.vx_history.specs.Receiving.{Received, received_step}
 use Rattle.vx_history.specs.LinkForms.{plain_receiver}
@@ -26,7 +28,6 @@ use Rattle.vx_history.specs.declared.event.Said.TheVariants.{Pending, DoneAt}
 use Rattle.vx_history.specs.declared.sender.SEvent.{SEvent}
 use Rattle.vx_history.specs.declared.sender.SEvent.TheVariants.{Connect as ConnectLink, Pump as PumpLink, Cut as CutLink, Pause as PauseLink, Resume as ResumeLink}
 use Rattle.vx_history.specs.declared.receiver.REvent.TheVariants.{Applied}
-use Rattle.vx_world.proofs.Lists.{not_false}
 use Rattle.vx_world.proofs.Guards
 use Rattle.vx_world.proofs.Keeping.{Keeps, keeps_same, keeps_links, made_link, keeps_headers, keeps_promising, keeps_sending}
 use Rattle.vx_world.proofs.Stays.{step_keeps, empty_sound}
@@ -57,7 +58,7 @@ outcome_leaves w (Raw q) s =
     Guards.at_site_holds (Keeps w) w q (unless (not (is_bare (w.nodes q).state)) WrongRole w shaped) (keeps_same w)
     (λ _. Guards.unless_holds (Keeps w) (not (is_bare (w.nodes q).state)) WrongRole w shaped (keeps_same w)
     (λ bare. Guards.unless_holds (Keeps w) (not (is_raw_shape (w.nodes q).disks (w.nodes q).blocks)) Size w o (keeps_same w)
-    (λ _. raw_leaves w q s (Guards.bare_is (w.nodes q).state (not_false (is_bare (w.nodes q).state) bare)))))
+    (λ _. raw_leaves w q s (bare_is (w.nodes q).state (not-false (is_bare (w.nodes q).state) bare)))))
 outcome_leaves w (Group q) s =
     Guards.at_site_holds (Keeps w) w q _ (keeps_same w) (λ _. group_from_leaves w q (w.nodes q).state s refl)
 outcome_leaves w (Volumes q log xs) s =
@@ -115,7 +116,7 @@ outcome_leaves w (Crash q kept) s =
     let o : Outcome = done (Events.crash_at w q (Events.kept_of (w.nodes q) kept)) in
     Guards.at_site_holds (Keeps w) w q (unless (not (is_up (w.nodes q).state)) NotUp w o) (keeps_same w)
     (λ _. Guards.unless_holds (Keeps w) (not (is_up (w.nodes q).state)) NotUp w o (keeps_same w)
-    (λ up. crash_leaves w q (Events.kept_of (w.nodes q) kept) s (Guards.up_is (w.nodes q).state (not_false (is_up (w.nodes q).state) up))))
+    (λ up. crash_leaves w q (Events.kept_of (w.nodes q) kept) s (up_is (w.nodes q).state (not-false (is_up (w.nodes q).state) up))))
 outcome_leaves w (Fall q) s = Guards.at_site_holds (Keeps w) w q _ (keeps_same w) (λ _. fall_leaves w q (w.nodes q).state refl)
 outcome_leaves w (Deport q) s =
     let o : Outcome = done (Events.deport_at w q) in

@@ -5,7 +5,7 @@ use Rattle.vx_history.specs.Doubts.{After, Doubted, happened}
 use Rattle.vx_history.specs.Events.{linked_sites}
 use Rattle.vx_history.specs.Refusals.{Outcome}
 use Rattle.vx_history.specs.Step.{step}
-use Rattle.vx_history.specs.Steps.{burned, crashed, worked_on}
+use Rattle.vx_history.specs.Steps.{burned, crashed, worked, worked_on}
 use Rattle.vx_history.specs.World.{Fuse, Gathering, Link, Node, Packet}
 use Rattle.vx_history.specs.declared.event.Event.{Event}
 use Rattle.vx_history.specs.declared.event.Event.TheVariants.{Apply as ApplyAt, Fault}
@@ -24,7 +24,7 @@ use Rattle.vx_script.specs.declared.line.ScriptLine.TheVariants.{Apply}
 use Rattle.vx_diskset.proofs.KeepsFailing.{same_on}
 use Rattle.vx_diskset.specs.Asked.{FailsAs, FusedAs, LeavesFuse, SameFailing, disks_told, size_in}
 use Rattle.vx_diskset.specs.Burning.{Burnt, NoMore}
-use Rattle.vx_diskset.specs.DiskSets.{AppliedAt, CanApply, halted_at, worked, fell_to}
+use Rattle.vx_diskset.specs.DiskSets.{AppliedAt, CanApply, halted_at, fell_to}
 use Rattle.vx_diskset.specs.Holds.{KeptBeside, KeptSite, beside_of, itself, sure_of}
 use Rattle.vx_diskset.proofs.Roles.{role_like}
 use Rattle.vx_diskset.specs.Stands.{KeepsRole, OverStands, RoleIs, SiteStands}

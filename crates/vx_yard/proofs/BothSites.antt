@@ -10,11 +10,11 @@ use Rattle.vx_events.proofs.Places.{some_same}
 use Rattle.vx_events.specs.declared.said.Said.{Said}
 use Rattle.vx_events.specs.declared.said.Said.TheVariants.{Done, Refused}
 use Rattle.vx_model.specs.declared.no.No.{No}
+use Rattle.vx_model.proofs.Lists.{get_there}
 use Rattle.vx_yard.specs.BothSites.{BothSites, LinkBurns, LinkBreaks, AtJoined, AtMade, AtMarked, AtOpened}
 use Rattle.vx_yard.specs.OfSites.{OfSite}
 use Rattle.vx_yard.specs.declared.yard.Yard.{Yard}
 use Rattle.vx_yard.proofs.Lists.{get-set_other, get-set_same, length-set, set_same, set_twice}
-use Rattle.vx_yard.proofs.WriteLine.{get_there}
 
 -- two places are set in either order
 pub set_apart : {A : Type 0} (xs : List A) (i j : ℕ) (x y : A) → (i ≡ j → ⊥) → slice_set (slice_set xs i x) j y ≡ slice_set (slice_set xs j y) i x

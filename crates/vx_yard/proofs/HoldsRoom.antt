@@ -24,17 +24,11 @@ use Rattle.vx_diskset.specs.Needs.{HasRoom, NoneNeeds, hold_of, is_needing, kept
 use Rattle.vx_events.proofs.LinkTesting.{AllLinked, all_linked}
 use Rattle.vx_events.proofs.Places.{some_same}
 use Rattle.vx_events.specs.Facts.{group_by}
-use Rattle.vx_events.specs.Fuses.{ring_taken}
 use Rattle.vx_events.specs.LinkedFacts.{link_fact, link_facts, linked_fact, links_by}
 use Rattle.vx_events.specs.LinksFit.{RowFits, is_plain_mode}
 use Rattle.vx_effects.proofs.Rooms.{has_room}
 use Rattle.vx_linked.specs.Holds.{HeldBy, least_hold}
 use Rattle.vx_linked.proofs.LeastHolds.{least_by, least_each}
-
--- the blocks of writes are counted alike
-pub taken_same : (xs : List Write) → ring_taken xs ≡ logged_blocks xs
-taken_same [] = refl
-taken_same (x ∷ xs) = ap (λ (k : ℕ). (blocks_in x.bytes + 1) + k) (taken_same xs)
 
 -- a link by the log needs it, and its hold is what it has stored
 needing_is : (m : Mode) → mode_needs (kept_mode m) ≡ mode_holds m
@@ -107,14 +101,14 @@ module _ (w : World) (s : ℕ) (fit : RowFits s w.sites (w.links s)) (up : (w.no
     last_is : last_number f.rvg ≡ n.safe
     last_is = ap (λ (t : SiteState). last_number (group_by t n)) up ∙ ap (λ (b : Bool). if b then n.safe else length n.log) origin
 
-    by_last : least_hold f ≡ last_number f.rvg → blocks_in x.bytes + 1 + ring_taken (drop (least_hold f) n.log) ≤ n.ring
+    by_last : least_hold f ≡ last_number f.rvg → blocks_in x.bytes + 1 + logged_blocks (drop (least_hold f) n.log) ≤ n.ring
     by_last e =
         let at : least_hold f ≡ n.safe = e ∙ last_is in
         let none : drop (least_hold f) n.log ≡ [] = drop_all (least_hold f) n.log (omega (arith, at, all)) in
-        let zero_blocks : ring_taken (drop (least_hold f) n.log) ≡ 0 = ap ring_taken none in
+        let zero_blocks : logged_blocks (drop (least_hold f) n.log) ≡ 0 = ap logged_blocks none in
         omega (arith, zero_blocks, fits)
 
-    by_held : HeldBy (least_hold f) f.links → blocks_in x.bytes + 1 + ring_taken (drop (least_hold f) n.log) ≤ n.ring
+    by_held : HeldBy (least_hold f) f.links → blocks_in x.bytes + 1 + logged_blocks (drop (least_hold f) n.log) ≤ n.ring
     by_held h =
         let there : slice_get (link_facts n row ss) h.place ≡ Some h.link = ap (λ (ls : List LinkFacts). slice_get ls h.place) (sym shown) ∙ h.there in
         let a : AtPlace n row ss h.place = of_fact n row ss h.place h.link (all_linked row w.sites 0 w.sites) there in
@@ -123,7 +117,7 @@ module _ (w : World) (s : ℕ) (fit : RowFits s w.sites (w.links s)) (up : (w.no
         let holding : is_holding (plain_link a.to r) ≡ true = sym (ap (λ (y : LinkFacts). is_holding y.link) same) ∙ h.needs in
         let room : (blocks_in x.bytes + 1) + used_above n a.to r ≤ n.ring = has_room w s x cs fit goes a.to a.linked holding in
         let at : least_hold f ≡ hold (plain_link a.to r) = h.is ∙ ap (λ (y : LinkFacts). hold y.link) same in
-        let used : ring_taken (drop (least_hold f) n.log) ≡ used_above n a.to r = taken_same (drop (least_hold f) n.log) ∙ ap (λ (k : ℕ). logged_blocks (drop k n.log)) at in
+        let used : logged_blocks (drop (least_hold f) n.log) ≡ used_above n a.to r = ap (λ (k : ℕ). logged_blocks (drop k n.log)) at in
         omega (arith, room, used)
 
     pub room_beside : HasRoom (header_links w s) n (least_hold f) (blocks_in x.bytes)

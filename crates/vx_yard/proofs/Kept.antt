@@ -6,6 +6,7 @@ use Rattle.std.specs.Str.{bytes_eq}
 use Rattle.std.proofs.lemmas.Option.{slice_get_within}
 use Rattle.vx_history.specs.Doubts.{Doubted}
 use Rattle.vx_history.specs.World.{Link, Node}
+use Rattle.vx_history.proofs.GoodLemmas.{bare_or_made}
 use Rattle.vx_model.specs.declared.limits.TheConstants.{LEAST_BLOCKS, MOST_DISKS, MOST_VOLUMES}
 use Rattle.vx_model.specs.declared.site.SiteState.TheVariants.{Bare as IsBare, Up as IsUp, Deported as IsDeported, Down as IsDown}
 use Rattle.vx_disk.specs.Shelf.{Meaning}
@@ -29,7 +30,7 @@ use Rattle.vx_yard.specs.Yards.{IsYardKept, IsShaped}
 use Rattle.vx_yard.specs.declared.yard.Yard.{Yard}
 use Rattle.vx_yard.proofs.NamedSite.{fact_of}
 use Rattle.vx_yard.proofs.NotedFew.{few_noted}
-use Rattle.vx_yard.proofs.OverGroup.{bare_apart, bare_or, many_apart, set_over}
+use Rattle.vx_yard.proofs.OverGroup.{bare_apart, many_apart, set_over}
 use Rattle.vx_yard.proofs.Rows.{fact_from, over_from}
 use Rattle.vx_diskset.proofs.Laying.{raw_in}
 
@@ -98,7 +99,7 @@ module _ {R : Type 0} {g : Ghosts R} where
   shape_at beside n row sites (OfGroup s) h = ⊎_elim
       (λ (bare : n.state ≡ IsBare). bare_shape n row sites (h.bare bare) h.few h.some)
       (λ made. group_shape n row sites (set_over beside n s h made) h.few h.some)
-      (bare_or n.state)
+      (bare_or_made n.state)
   shape_at beside n row sites Gone h = absurd h
 
   pub kept_for : (d : Doubted) (y : Yard R g) → StandsFor d y → Carries d y → IsYardKept y

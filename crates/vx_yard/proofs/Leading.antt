@@ -4,6 +4,7 @@ use Rattle.std.specs.Prelude.{Some, slice_get}
 use Rattle.vx_model.specs.Sites.{is_origin}
 use Rattle.vx_model.specs.declared.site.Role.{Role}
 use Rattle.vx_model.specs.declared.site.SiteState.TheVariants.{Up as IsUp}
+use Rattle.vx_model.proofs.Lists.{get_there}
 use Rattle.vx_history.specs.Doubts.{Doubted}
 use Rattle.vx_disk.specs.declared.shelf.Shelf.{Ghosts}
 use Rattle.vx_order.specs.declared.facts.SiteFacts.{SiteFacts}
@@ -24,7 +25,6 @@ use Rattle.vx_yard.specs.Yards.{in_files}
 use Rattle.vx_yard.specs.declared.yard.Yard.{Yard}
 use Rattle.vx_yard.proofs.NamedSite.{fact_named, fact_placed, place_at, site_at}
 use Rattle.vx_yard.proofs.OverGroup.{over_none}
-use Rattle.vx_yard.proofs.WriteLine.{get_there}
 use Rattle.vx_yard.proofs.Leads.{room_origin, room_receives}
 
 -- what holds of a site over a group, and of one over none

@@ -31,4 +31,3 @@ pub mod Rows
 pub mod Seats
 pub mod SettleCalls
 pub mod SiteEvents
-pub mod WriteLine

@@ -1,24 +1,8 @@
 -- Lists with another element at one place.
-use Rattle.std.proofs.Common.{◌≡◌, ◌∙◌, ◌+◌, ◌<◌, ℕ, zero, suc, List, [], ◌∷◌, ◌++◌, length, take, get_or, ap, sym, refl, arith, ◌-◌, length-append}
+use Rattle.std.proofs.Common.{◌≡◌, ◌∙◌, ◌+◌, ◌<◌, ℕ, zero, suc, List, [], ◌∷◌, ◌++◌, length, take, ap, sym, refl, arith, ◌-◌, length-append}
 use Rattle.std.specs.Prelude.{Some, slice_get, slice_set}
+pub use Rattle.vx_model.proofs.Lists.{get-set_other, get-set_same, get_at, length-set}
 use Rattle.vx_events.specs.Facts.{values_from}
-
-pub get-set_same : {A : Type 0} (xs : List A) (i : ℕ) (x : A) → i < length xs → slice_get (slice_set xs i x) i ≡ Some x
-get-set_same [] i x h = absurd (omega arith)
-get-set_same (y ∷ xs) zero x h = refl
-get-set_same (y ∷ xs) (suc i) x h = get-set_same xs i x (omega arith)
-
-pub get-set_other : {A : Type 0} (xs : List A) (i j : ℕ) (x : A) → (j ≡ i → ⊥) → slice_get (slice_set xs i x) j ≡ slice_get xs j
-get-set_other [] i j x apart = refl
-get-set_other (y ∷ xs) zero zero x apart = absurd (apart refl)
-get-set_other (y ∷ xs) zero (suc j) x apart = refl
-get-set_other (y ∷ xs) (suc i) zero x apart = refl
-get-set_other (y ∷ xs) (suc i) (suc j) x apart = get-set_other xs i j x (λ e. apart (ap suc e))
-
-pub length-set : {A : Type 0} (xs : List A) (i : ℕ) (x : A) → length (slice_set xs i x) ≡ length xs
-length-set [] i x = refl
-length-set (y ∷ xs) zero x = refl
-length-set (y ∷ xs) (suc i) x = ap suc (length-set xs i x)
 
 pub set_twice : {A : Type 0} (xs : List A) (i : ℕ) (x y : A) → slice_set (slice_set xs i x) i y ≡ slice_set xs i y
 set_twice [] i x y = refl
@@ -53,12 +37,6 @@ values_from-set f h k (suc n) (suc i) x here there =
     let e : (k + 1) + i ≡ k + suc i = omega arith in
     ap (λ y. y ∷ values_from h (k + 1) n) (there k (omega arith))
     ∙ ap (λ ys. f k ∷ ys) (values_from-set f h (k + 1) n i x (ap h e ∙ here) (λ j apart. there j (λ is. apart (is ∙ sym e))))
-
--- an element that an index gave
-pub get_at : {A : Type 0} (xs : List A) (i : ℕ) (x : A) → i < length xs → x ≡ get_or xs i x → slice_get xs i ≡ Some x
-get_at [] i x h e = absurd (omega arith)
-get_at (y ∷ xs) zero x h e = ap (λ z. Some z) (sym e)
-get_at (y ∷ xs) (suc i) x h e = get_at xs i x (omega arith) e
 
 pub take_pushed : {A : Type 0} (xs : List A) (x : A) → take (length xs) (xs ++ x ∷ []) ≡ xs
 take_pushed [] x = refl

@@ -1,5 +1,6 @@
 -- A yard without sites.
-use Rattle.std.proofs.Common.{◌≡◌, ◌∙◌, ◌≤◌, ℕ, zero, suc, List, [], ◌∷◌, length, ap, sym, subst, refl, arith}
+use Rattle.std.proofs.Common.{◌≡◌, ◌∙◌, ◌≤◌, ℕ, zero, suc, List, [], ◌∷◌, sym, subst, refl, arith}
+use Rattle.std.proofs.lemmas.List.{length-map}
 use Rattle.std.specs.Prelude.{Some, None, slice_get, map}
 use Rattle.vx_history.specs.World.{empty_world}
 use Rattle.vx_disk.specs.declared.shelf.Shelf.{Ghosts}
@@ -14,10 +15,6 @@ use Rattle.vx_yard.specs.Holds.{AreFresh, rack_faults}
 use Rattle.vx_yard.specs.Stands.{site_faults}
 use Rattle.vx_diskset.specs.Stands.{IsUnused}
 use Rattle.vx_diskset.proofs.StaysUp.{not_true}
-
-length-bare : {A B : Type 0} (f : A → B) (rs : List A) → length (map f rs) ≡ length rs
-length-bare f [] = refl
-length-bare f (r ∷ rs) = ap suc (length-bare f rs)
 
 pub counts_new : {R : Type 0} (g : Ghosts R) (rs : List R) (s d : ℕ) → site_faults {g = g} (map (λ (r : R). let e : DiskSet R g = Bare r in e) rs) s d ≡ rack_faults g.meaning rs s d
 counts_new g [] s d = refl
@@ -39,7 +36,7 @@ module _ {R : Type 0} {g : Ghosts R} where
   -- fresh racks are the disk sets of numbers that no site has
   pub disk_sets_new : (rs : List R) → AreFresh g.meaning rs → SitesAgree (sure empty_world) (map (λ (r : R). let e : DiskSet R g = Bare r in e) rs)
   disk_sets_new rs fresh = record {
-    eight = length-bare (λ (r : R). let e : DiskSet R g = Bare r in e) rs ∙ fresh.eight;
+    eight = length-map rs (λ (r : R). let e : DiskSet R g = Bare r in e) ∙ fresh.eight;
     few = omega arith;
     sites = λ s e below is. absurd (omega (arith, below));
     others = λ s e past is. let found = rack_of rs s e is in subst IsUnused (sym found.2) (record {

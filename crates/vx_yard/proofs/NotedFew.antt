@@ -1,10 +1,11 @@
 -- Whatever a site notes as the configuration of its group, it has no more volumes than a group may have.
-use Rattle.std.proofs.Common.{◌≡◌, ◌∙◌, ◌≤◌, ℕ, zero, suc, Bool, true, false, cond, List, [], ◌∷◌, length, ap, sym, refl, arith}
+use Rattle.std.proofs.Common.{◌≡◌, ◌∙◌, ◌≤◌, ℕ, zero, suc, cond, List, [], ◌∷◌, length, ap, sym, refl, arith}
 use Rattle.std.specs.Prelude.{◌&&◌, ◌==◌, Option, Ok, Err, nat_le}
 use Rattle.std.proofs.lemmas.Bool.{leb-true}
 use Rattle.std.proofs.lemmas.List.{length-map}
 use Rattle.vx_model.specs.declared.limits.TheConstants.{MOST_DISKS, MOST_VOLUMES}
 use Rattle.vx_model.specs.declared.units.Units.{Units}
+use Rattle.vx_model.proofs.Tests.{and_right}
 use Rattle.vx_history.specs.Groups.{GroupNode}
 use Rattle.vx_config.specs.Forms.{Reading, ◌>>=◌, Form, counted, number, optional, pair, read_many, within}
 use Rattle.vx_config.specs.Table.{behind_version, config, disk, format_1, greatest, units, volume}
@@ -31,15 +32,11 @@ many_long {A} form (suc n) bytes x e =
     let whole : List A × List ℕ = (one.0.0 ∷ more.0.0, more.0.1) in
     ap (λ (y : List A × List ℕ). length y.0) (sym (same_read whole x more.2)) ∙ ap suc (many_long form n one.0.1 more.0 more.1)
 
-most_of : (a b : Bool) → (a && b) ≡ true → b ≡ true
-most_of true b e = e
-most_of false b e = absurd (cc)
-
 within_few : (w least most : ℕ) (bytes : List ℕ) (n : ℕ × List ℕ) → (within w least most).read bytes ≡ Ok n → n.0 ≤ most
 within_few w least most bytes n e =
     let one = bind_ok ((number w).read bytes) (λ (x : ℕ × List ℕ). cond (nat_le least x.0 && nat_le x.0 most) (read_as x) (Err (length bytes))) n e in
     let tested = test_ok (nat_le least one.0.0 && nat_le one.0.0 most) (length bytes) (read_as one.0) n one.2 in
-    let few : one.0.0 ≤ most = leb-true one.0.0 most (most_of (nat_le least one.0.0) (nat_le one.0.0 most) tested.0) in
+    let few : one.0.0 ≤ most = leb-true one.0.0 most (and_right (nat_le least one.0.0) (nat_le one.0.0 most) tested.0) in
     omega (arith, few, ap (λ (x : ℕ × List ℕ). x.0) (same_read one.0 n tested.1))
 
 counted_few : {A : Type 0} (least most : ℕ) (form : Form A) (bytes : List ℕ) (x : List A × List ℕ) → (counted least most form).read bytes ≡ Ok x → length x.0 ≤ most

@@ -3,6 +3,7 @@ use Rattle.std.proofs.Common.{◌≡◌, ◌∙◌, ◌<◌, ℕ, List, length, 
 use Rattle.std.specs.Prelude.{Some, slice_get, slice_set}
 use Rattle.std.proofs.lemmas.Bool.{cases_eq}
 use Rattle.std.proofs.lemmas.Option.{slice_get_within}
+use Rattle.vx_model.proofs.Lists.{get_there}
 use Rattle.vx_disk.specs.Disks.{Disks}
 use Rattle.vx_disk.specs.declared.shelf.Shelf.{Ghosts}
 use Rattle.vx_events.proofs.Places.{some_same}
@@ -14,7 +15,6 @@ use Rattle.vx_diskset.specs.declared.disk_set.DiskSet.{DiskSet}
 use Rattle.vx_yard.specs.declared.yard.Yard.{Yard}
 use Rattle.vx_diskset.proofs.KeepsFailing.{failing_same, failing_then, same_on}
 use Rattle.vx_yard.proofs.Lists.{get-set_other, get-set_same, set_same, set_twice}
-use Rattle.vx_yard.proofs.WriteLine.{get_there}
 
 module _ {R : Type 0} {g : Ghosts R} where
   -- the calls of a line

@@ -1,13 +1,13 @@
 -- Which sites are over a group, as their disks stand.
-use Rattle.std.proofs.Common.{◌≡◌, ◌∙◌, ◌≤◌, ◌⊎◌, inl, inr, ⊎_elim, ℕ, ◌-◌, Bool, true, false, List, [], length, ap, subst, sym, refl, arith}
+use Rattle.std.proofs.Common.{◌≡◌, ◌∙◌, ◌≤◌, ◌⊎◌, ⊎_elim, ℕ, ◌-◌, Bool, true, false, List, [], length, ap, subst, sym, refl, arith}
 use Rattle.std.specs.Prelude.{◌&&◌, eqb, not, Option, Some, None, is_some}
 use Rattle.std.proofs.lemmas.Bool.Decides.{nat_tests}
 use Rattle.vx_history.specs.Groups.{GroupNode}
 use Rattle.vx_history.specs.World.{Node, Volume}
+use Rattle.vx_history.proofs.GoodLemmas.{bare_or_made}
 use Rattle.vx_model.specs.Sites.{is_origin}
 use Rattle.vx_model.specs.declared.site.Role.{Role}
-use Rattle.vx_model.specs.declared.site.SiteState.{SiteState}
-use Rattle.vx_model.specs.declared.site.SiteState.TheVariants.{Bare as IsBare, Up as IsUp, Deported as IsDeported, Down as IsDown}
+use Rattle.vx_model.specs.declared.site.SiteState.TheVariants.{Bare as IsBare, Up as IsUp}
 use Rattle.vx_disk.specs.Shelf.{Meaning}
 use Rattle.vx_disk.specs.declared.shelf.Shelf.{Ghosts}
 use Rattle.vx_grouped.specs.GroupSites.{GroupSiteStands, HasNoRvg, NotesGroup}
@@ -86,12 +86,6 @@ none_rvg n none = ap (λ (o : Option GroupNode). is_some o && not (eqb (length n
 pub both_ways : {b : Bool} → b ≡ true → b ≡ false → ⊥
 both_ways over apart = let e : true ≡ false = sym over ∙ apart in cc
 
-pub bare_or : (t : SiteState) → (t ≡ IsBare) ⊎ (t ≡ IsBare → ⊥)
-bare_or IsBare = inl refl
-bare_or IsUp = inr (λ e. cc)
-bare_or IsDeported = inr (λ e. cc)
-bare_or IsDown = inr (λ e. cc)
-
 module _ {R : Type 0} {g : Ghosts R} where
   site_over : (n : Node) (s : GroupSite R g) → GroupSiteStands n s → (n.state ≡ IsBare → ⊥) → is_over_group n ≡ true
   site_over n (GroupUp group) (note, it) made = noted_over n note it.noted
@@ -117,7 +111,7 @@ module _ {R : Type 0} {g : Ghosts R} where
 
   -- one that is over none is bare
   pub apart_bare : (beside : KeptBeside) (n : Node) (s : GroupSet R g) → IsGroupSet beside n s → is_over_group n ≡ false → n.state ≡ IsBare
-  apart_bare beside n s it apart = ⊎_elim (λ (bare : n.state ≡ IsBare). bare) (λ made. absurd (both_ways (set_over beside n s it made) apart)) (bare_or n.state)
+  apart_bare beside n s it apart = ⊎_elim (λ (bare : n.state ≡ IsBare). bare) (λ made. absurd (both_ways (set_over beside n s it made) apart)) (bare_or_made n.state)
 
   -- one with a replicated volume group over its group has a volume of that
   over_many : (beside : KeptBeside) (n : Node) (s : OverSite R g) → OverStands beside n s → 1 ≤ length n.volumes

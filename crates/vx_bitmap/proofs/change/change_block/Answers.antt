@@ -1,9 +1,10 @@
 -- The change of a run within one block, case by case.
 use Rattle.std.proofs.Common.{◌≡◌, ◌∙◌, ◌+◌, ◌-◌, ◌*◌, ◌/◌, ◌≤◌, ℕ, List, length, take, drop, sym, ap, subst, refl, arith}
 use Rattle.vx_model.specs.Content.{block_of}
+use Rattle.vx_model.proofs.Contents.{cut}
 use Rattle.vx_bitmap.specs.Bits.{Changed, is_marked}
 use Rattle.vx_bitmap.specs.Maps.{Map}
-use Rattle.vx_bitmap.proofs.Blocks.{all_in_block, block_moves, block_stands, block_writes, bytes_changed, cut, equal_bytes, put_other, put_same, put_size, unequal_bytes}
+use Rattle.vx_bitmap.proofs.Blocks.{all_in_block, block_moves, block_stands, block_writes, bytes_changed, equal_bytes, put_other, put_same, put_size, unequal_bytes}
 use Rattle.vx_bitmap.proofs.change.change_block.Goals as goal
 
 pub returns-then-eq-clause-changed : goal.returns-then-eq-clause-changed

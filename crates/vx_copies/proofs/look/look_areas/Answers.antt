@@ -1,10 +1,10 @@
 -- `look_areas`: clauses sees, goes, disks and counts.
 use Rattle.std.proofs.Common.{IsTrue, subst, Bool, ◌∙◌}
 use Rattle.vx_disk.proofs.Runs.{then_nothing}
+use Rattle.vx_disk.proofs.Untouching.{untouched_both}
 use Rattle.vx_disk.specs.Shelf.{Nothing}
 use Rattle.vx_copies.specs.Looking.{CountsArea, SeesArea}
 use Rattle.vx_copies.proofs.Reading.{both_areas}
-use Rattle.vx_copies.proofs.Untouching.{untouched_both}
 use Rattle.vx_copies.proofs.look.look_areas.Goals as goal
 
 pub returns-in-Ok-Seen-read_area-clause-sees : goal.returns-in-Ok-Seen-read_area-clause-sees

@@ -1,8 +1,8 @@
 -- `search_all`: what stays true in its loop over `disk`.
 use Rattle.std.proofs.Common.{refl, ◌∙◌, IsTrue, subst, Bool}
 use Rattle.vx_disk.proofs.Runs.{same_Goes, then_nothing}
+use Rattle.vx_disk.proofs.Untouching.{untouched_both, untouched_none}
 use Rattle.vx_disk.specs.Shelf.{Nothing}
-use Rattle.vx_copies.proofs.Untouching.{untouched_both, untouched_none}
 use Rattle.vx_copies.proofs.Searching.{none_yet, one_more}
 use Rattle.vx_copies.proofs.search.search_all.Goals as goal
 

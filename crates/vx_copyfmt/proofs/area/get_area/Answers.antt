@@ -2,10 +2,11 @@
 use Rattle.std.proofs.Common.{◌≡◌, ◌∙◌, ap, sym, subst, false, refl}
 use Rattle.std.specs.Option.{is_some}
 use Rattle.vx_wire.specs.Seals.{filled}
+use Rattle.vx_wire.proofs.SealLemmas.{from_sealed, sealed-is, sealed_from}
 use Rattle.vx_copyfmt.specs.Areas.{area_fields, area_block, CanSpellArea, IsArea}
 use Rattle.vx_copyfmt.specs.declared.area.AreaHeader.{AreaHeader}
 use Rattle.vx_copyfmt.proofs.AreaLemmas.{area_in-is, front_area, header_of-is, header_of-none}
-use Rattle.vx_copyfmt.proofs.Told.{sealed_from, from_sealed, sealed-is, not_both}
+use Rattle.vx_copyfmt.proofs.Told.{not_both}
 use Rattle.vx_copyfmt.proofs.area.get_area.Goals.{else-can_spell-via-then-can_spell+then-is_spelled+else-is_none, else-can_spell-via-then-can_spell+else-is_spelled, else-can_spell-via-else-can_spell}
 use Rattle.vx_copyfmt.proofs.area.get_area.Goals as goal
 

@@ -2,9 +2,11 @@
 use Rattle.std.proofs.Common.{arith, ◌≡◌, ◌∙◌, sym, ap, true, false}
 use Rattle.std.specs.Option.{is_some}
 use Rattle.vx_wire.specs.Numbers.{be_bytes}
+use Rattle.vx_wire.proofs.NumberLemmas.{magic_is}
+use Rattle.vx_wire.proofs.SealLemmas.{from_sealed, sealed_from}
 use Rattle.vx_copyfmt.specs.Labels.{label_magic, begins_label}
 use Rattle.vx_copyfmt.proofs.LabelLemmas.{begins_from, from_begins, seen_none}
-use Rattle.vx_copyfmt.proofs.Told.{magic_is, sealed_from, from_sealed, not_both}
+use Rattle.vx_copyfmt.proofs.Told.{not_both}
 use Rattle.vx_copyfmt.proofs.label.get_label.Goals.{else-get_u64-eq-LABEL_MAGIC-via-then-get_u64-eq-LABEL_MAGIC+else-is_none, else-get_u64-eq-LABEL_MAGIC-via-else-get_u64-eq-LABEL_MAGIC}
 use Rattle.vx_copyfmt.proofs.label.get_label.Goals as goal
 

@@ -3,8 +3,8 @@ use Rattle.std.proofs.Common.{◌≤◌, ◌∙◌, ℕ, ap, arith}
 use Rattle.vx_model.specs.declared.limits.TheConstants.{MOST_CALL_BLOCKS}
 use Rattle.std.specs.Prelude.{Err, Ok, min}
 use Rattle.std.proofs.lemmas.Result.{err_from_is_err_and}
+use Rattle.vx_history.specs.Steps.{worked}
 use Rattle.vx_srl.specs.Views.{Log, free_of}
-use Rattle.vx_diskset.specs.DiskSets.{worked}
 use Rattle.vx_diskset.proofs.Blamed.{blamed_since}
 use Rattle.vx_diskset.proofs.MakeRoom.{room_unapplied, room_later, room_again, room_after}
 use Rattle.vx_ringio.proofs.Spending.{spends_none, then_spends}

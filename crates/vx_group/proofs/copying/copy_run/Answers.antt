@@ -1,7 +1,7 @@
 -- `copy_run`: clauses moved, copied and agreed; what `read_plex`, `write_all` and `detach` ask.
 use Rattle.std.proofs.Common.{◌≡◌, refl, sym, ◌∙◌, true, false, arith}
+use Rattle.vx_resync.proofs.CauseLemmas.{blamed_since}
 use Rattle.vx_group.proofs.LoseLemmas.{loses_detach}
-use Rattle.vx_group.proofs.UsesLemmas.{blamed_later}
 use Rattle.vx_group.proofs.CallLemmas.{left_done, ok_by}
 use Rattle.vx_group.proofs.CopyLemmas.{fits_source, ok_both, put_Copied, put_Moved, put_Stands, read_Moved, spent_by, spent_none}
 use Rattle.vx_group.proofs.DetachLemmas.{zero_bit}
@@ -31,13 +31,13 @@ pub returns-in-Err-write_all-clause-moved : goal.returns-in-Err-write_all-clause
 returns-in-Err-write_all-clause-moved g c = put_Moved c.args.core.now c.args.vol c.args.source c.args.block _ c.read_plex.new.into (g.S.Shelf.meaning c.args.shelf.now) (g.S.Shelf.meaning c.read_plex.new.shelf) (g.S.Shelf.meaning c.write_all.new.shelf) (g.met.S.Shelf.lawful c.args.shelf.now) (g.met.S.Shelf.lawful c.read_plex.new.shelf) (g.met.S.Shelf.lawful c.write_all.new.shelf) c.requires.stands c.read_plex.auto.into c.requires.fits c.read_plex.ensures.goes c.in-Ok.ensures.ok c.write_all.ensures.goes c.args.core.now (g.S.Shelf.meaning c.write_all.new.shelf) (g.met.S.Shelf.lawful c.write_all.new.shelf) (no_commit c.args.core.now (g.S.Shelf.meaning c.write_all.new.shelf)) (put_Stands c.args.core.now c.args.vol c.args.source c.args.block _ c.read_plex.new.into (g.S.Shelf.meaning c.args.shelf.now) (g.S.Shelf.meaning c.read_plex.new.shelf) (g.S.Shelf.meaning c.write_all.new.shelf) (g.met.S.Shelf.lawful c.args.shelf.now) (g.met.S.Shelf.lawful c.read_plex.new.shelf) (g.met.S.Shelf.lawful c.write_all.new.shelf) c.requires.stands c.read_plex.auto.into c.requires.fits c.read_plex.ensures.goes c.in-Ok.ensures.ok c.write_all.ensures.goes) (spent_none c.args.core.now.config (g.S.Shelf.meaning c.args.shelf.now) (g.S.Shelf.meaning c.write_all.new.shelf)) (λ w p apart. refl)
 
 pub returns-else-is_member-clause-moved : goal.returns-else-is_member-clause-moved
-returns-else-is_member-clause-moved g c = put_Moved c.args.core.now c.args.vol c.args.source c.args.block _ c.read_plex.new.into (g.S.Shelf.meaning c.args.shelf.now) (g.S.Shelf.meaning c.read_plex.new.shelf) (g.S.Shelf.meaning c.write_all.new.shelf) (g.met.S.Shelf.lawful c.args.shelf.now) (g.met.S.Shelf.lawful c.read_plex.new.shelf) (g.met.S.Shelf.lawful c.write_all.new.shelf) c.requires.stands c.read_plex.auto.into c.requires.fits c.read_plex.ensures.goes c.in-Ok.ensures.ok c.write_all.ensures.goes c.detach.new.core (g.S.Shelf.meaning c.detach.new.shelf) (g.met.S.Shelf.lawful c.detach.new.shelf) c.detach.ensures.narrows c.detach.ensures.stands (spent_by c.args.core.now.config c.detach.new.core.config (g.S.Shelf.meaning c.args.shelf.now) (g.S.Shelf.meaning c.read_plex.new.shelf) (g.S.Shelf.meaning c.write_all.new.shelf) (g.S.Shelf.meaning c.detach.new.shelf) c.in-Ok-write_all.failed.disk c.read_plex.ensures.goes.disk_faults c.detach.ensures.narrows.acts.disk_faults (c.in-Ok-write_all.ensures.ends.1.rose (omega (arith, c.if-failed-eq0.false))) (loses_detach (g.S.Shelf.meaning c.args.shelf.now) (g.S.Shelf.meaning c.write_all.new.shelf) (g.S.Shelf.meaning c.detach.new.shelf) (λ u. let one = c.read_plex.ensures.goes.faults u in let two = c.write_all.ensures.goes.faults u in omega (arith, one, two)) c.detach.ensures.narrows.acts.faults c.args.core.now.config c.detach.new.core.config c.args.vol c.in-Ok-write_all.failed.set (λ p bit. blamed_later c.args.core.now.config c.args.vol p (g.S.Shelf.meaning c.args.shelf.now) (g.S.Shelf.meaning c.read_plex.new.shelf) (g.S.Shelf.meaning c.write_all.new.shelf) c.read_plex.ensures.goes.faults (c.in-Ok-write_all.ensures.ends.0.blamed p bit).1) c.detach.ensures.lies c.detach.ensures.others c.detach.ensures.failing c.detach.ensures.parts c.detach.ensures.narrows.shape c.detach.ensures.narrows.on)) (λ w p apart. c.detach.ensures.others w p (λ same bit. apart same))
+returns-else-is_member-clause-moved g c = put_Moved c.args.core.now c.args.vol c.args.source c.args.block _ c.read_plex.new.into (g.S.Shelf.meaning c.args.shelf.now) (g.S.Shelf.meaning c.read_plex.new.shelf) (g.S.Shelf.meaning c.write_all.new.shelf) (g.met.S.Shelf.lawful c.args.shelf.now) (g.met.S.Shelf.lawful c.read_plex.new.shelf) (g.met.S.Shelf.lawful c.write_all.new.shelf) c.requires.stands c.read_plex.auto.into c.requires.fits c.read_plex.ensures.goes c.in-Ok.ensures.ok c.write_all.ensures.goes c.detach.new.core (g.S.Shelf.meaning c.detach.new.shelf) (g.met.S.Shelf.lawful c.detach.new.shelf) c.detach.ensures.narrows c.detach.ensures.stands (spent_by c.args.core.now.config c.detach.new.core.config (g.S.Shelf.meaning c.args.shelf.now) (g.S.Shelf.meaning c.read_plex.new.shelf) (g.S.Shelf.meaning c.write_all.new.shelf) (g.S.Shelf.meaning c.detach.new.shelf) c.in-Ok-write_all.failed.disk c.read_plex.ensures.goes.disk_faults c.detach.ensures.narrows.acts.disk_faults (c.in-Ok-write_all.ensures.ends.1.rose (omega (arith, c.if-failed-eq0.false))) (loses_detach (g.S.Shelf.meaning c.args.shelf.now) (g.S.Shelf.meaning c.write_all.new.shelf) (g.S.Shelf.meaning c.detach.new.shelf) (λ u. let one = c.read_plex.ensures.goes.faults u in let two = c.write_all.ensures.goes.faults u in omega (arith, one, two)) c.detach.ensures.narrows.acts.faults c.args.core.now.config c.detach.new.core.config c.args.vol c.in-Ok-write_all.failed.set (λ p bit. blamed_since c.args.core.now.config c.args.vol p (g.S.Shelf.meaning c.args.shelf.now) (g.S.Shelf.meaning c.read_plex.new.shelf) (g.S.Shelf.meaning c.write_all.new.shelf) c.read_plex.ensures.goes.faults (c.in-Ok-write_all.ensures.ends.0.blamed p bit).1) c.detach.ensures.lies c.detach.ensures.others c.detach.ensures.failing c.detach.ensures.parts c.detach.ensures.narrows.shape c.detach.ensures.narrows.on)) (λ w p apart. c.detach.ensures.others w p (λ same bit. apart same))
 
 pub returns-then-failed-eq0-clause-copied : goal.returns-then-failed-eq0-clause-copied
 returns-then-failed-eq0-clause-copied g c = put_Copied c.args.core.now c.args.vol c.args.source c.args.block _ c.read_plex.new.into (g.S.Shelf.meaning c.args.shelf.now) (g.S.Shelf.meaning c.read_plex.new.shelf) (g.S.Shelf.meaning c.write_all.new.shelf) (g.met.S.Shelf.lawful c.args.shelf.now) (g.met.S.Shelf.lawful c.read_plex.new.shelf) (g.met.S.Shelf.lawful c.write_all.new.shelf) c.requires.stands c.read_plex.auto.into c.requires.fits c.read_plex.ensures.goes c.in-Ok.ensures.ok c.write_all.ensures.goes c.args.core.now (g.S.Shelf.meaning c.write_all.new.shelf) (g.met.S.Shelf.lawful c.write_all.new.shelf) (no_commit c.args.core.now (g.S.Shelf.meaning c.write_all.new.shelf)) (put_Stands c.args.core.now c.args.vol c.args.source c.args.block _ c.read_plex.new.into (g.S.Shelf.meaning c.args.shelf.now) (g.S.Shelf.meaning c.read_plex.new.shelf) (g.S.Shelf.meaning c.write_all.new.shelf) (g.met.S.Shelf.lawful c.args.shelf.now) (g.met.S.Shelf.lawful c.read_plex.new.shelf) (g.met.S.Shelf.lawful c.write_all.new.shelf) c.requires.stands c.read_plex.auto.into c.requires.fits c.read_plex.ensures.goes c.in-Ok.ensures.ok c.write_all.ensures.goes) (spent_none c.args.core.now.config (g.S.Shelf.meaning c.args.shelf.now) (g.S.Shelf.meaning c.write_all.new.shelf)) (λ w p apart. refl) (λ is. is) c.requires.settled c.requires.is_on c.in-Ok-write_all.ensures.ends.0.up (λ p on. c.in-Ok-write_all.ensures.ends.0.is_done p on (zero_bit c.in-Ok-write_all.failed.set p (omega (arith, c.if-failed-eq0.true))))
 
 pub returns-else-is_member-clause-copied : goal.returns-else-is_member-clause-copied
-returns-else-is_member-clause-copied g c = ok_by c.detach.result c.in-Ok-write_all.failed.disk (g.S.Shelf.meaning c.write_all.new.shelf) (g.S.Shelf.meaning c.detach.new.shelf) (ok_both _ _ c.detach.result (ok_both _ _ c.detach.result c.detach.ensures.off c.detach.ensures.settled) c.detach.ensures.trust) c.detach.ensures.cause (λ both up. put_Copied c.args.core.now c.args.vol c.args.source c.args.block _ c.read_plex.new.into (g.S.Shelf.meaning c.args.shelf.now) (g.S.Shelf.meaning c.read_plex.new.shelf) (g.S.Shelf.meaning c.write_all.new.shelf) (g.met.S.Shelf.lawful c.args.shelf.now) (g.met.S.Shelf.lawful c.read_plex.new.shelf) (g.met.S.Shelf.lawful c.write_all.new.shelf) c.requires.stands c.read_plex.auto.into c.requires.fits c.read_plex.ensures.goes c.in-Ok.ensures.ok c.write_all.ensures.goes c.detach.new.core (g.S.Shelf.meaning c.detach.new.shelf) (g.met.S.Shelf.lawful c.detach.new.shelf) c.detach.ensures.narrows c.detach.ensures.stands (spent_by c.args.core.now.config c.detach.new.core.config (g.S.Shelf.meaning c.args.shelf.now) (g.S.Shelf.meaning c.read_plex.new.shelf) (g.S.Shelf.meaning c.write_all.new.shelf) (g.S.Shelf.meaning c.detach.new.shelf) c.in-Ok-write_all.failed.disk c.read_plex.ensures.goes.disk_faults c.detach.ensures.narrows.acts.disk_faults (c.in-Ok-write_all.ensures.ends.1.rose (omega (arith, c.if-failed-eq0.false))) (loses_detach (g.S.Shelf.meaning c.args.shelf.now) (g.S.Shelf.meaning c.write_all.new.shelf) (g.S.Shelf.meaning c.detach.new.shelf) (λ u. let one = c.read_plex.ensures.goes.faults u in let two = c.write_all.ensures.goes.faults u in omega (arith, one, two)) c.detach.ensures.narrows.acts.faults c.args.core.now.config c.detach.new.core.config c.args.vol c.in-Ok-write_all.failed.set (λ p bit. blamed_later c.args.core.now.config c.args.vol p (g.S.Shelf.meaning c.args.shelf.now) (g.S.Shelf.meaning c.read_plex.new.shelf) (g.S.Shelf.meaning c.write_all.new.shelf) c.read_plex.ensures.goes.faults (c.in-Ok-write_all.ensures.ends.0.blamed p bit).1) c.detach.ensures.lies c.detach.ensures.others c.detach.ensures.failing c.detach.ensures.parts c.detach.ensures.narrows.shape c.detach.ensures.narrows.on)) (λ w p apart. c.detach.ensures.others w p (λ same bit. apart same)) both.1 both.0.1 (c.detach.ensures.others c.args.vol c.args.source (λ same bit. let clash : true ≡ false = sym bit ∙ sym c.is_member.ensures ∙ c.if-is_member.false in cc) ∙ c.requires.is_on) up (left_done c.args.core.now.config c.detach.new.core.config c.args.vol c.in-Ok-write_all.failed.set _ (g.S.Shelf.meaning c.read_plex.new.shelf) (g.S.Shelf.meaning c.write_all.new.shelf) (c.detach.ensures.narrows.on c.args.vol) c.in-Ok-write_all.ensures.ends.0 both.0.0))
+returns-else-is_member-clause-copied g c = ok_by c.detach.result c.in-Ok-write_all.failed.disk (g.S.Shelf.meaning c.write_all.new.shelf) (g.S.Shelf.meaning c.detach.new.shelf) (ok_both _ _ c.detach.result (ok_both _ _ c.detach.result c.detach.ensures.off c.detach.ensures.settled) c.detach.ensures.trust) c.detach.ensures.cause (λ both up. put_Copied c.args.core.now c.args.vol c.args.source c.args.block _ c.read_plex.new.into (g.S.Shelf.meaning c.args.shelf.now) (g.S.Shelf.meaning c.read_plex.new.shelf) (g.S.Shelf.meaning c.write_all.new.shelf) (g.met.S.Shelf.lawful c.args.shelf.now) (g.met.S.Shelf.lawful c.read_plex.new.shelf) (g.met.S.Shelf.lawful c.write_all.new.shelf) c.requires.stands c.read_plex.auto.into c.requires.fits c.read_plex.ensures.goes c.in-Ok.ensures.ok c.write_all.ensures.goes c.detach.new.core (g.S.Shelf.meaning c.detach.new.shelf) (g.met.S.Shelf.lawful c.detach.new.shelf) c.detach.ensures.narrows c.detach.ensures.stands (spent_by c.args.core.now.config c.detach.new.core.config (g.S.Shelf.meaning c.args.shelf.now) (g.S.Shelf.meaning c.read_plex.new.shelf) (g.S.Shelf.meaning c.write_all.new.shelf) (g.S.Shelf.meaning c.detach.new.shelf) c.in-Ok-write_all.failed.disk c.read_plex.ensures.goes.disk_faults c.detach.ensures.narrows.acts.disk_faults (c.in-Ok-write_all.ensures.ends.1.rose (omega (arith, c.if-failed-eq0.false))) (loses_detach (g.S.Shelf.meaning c.args.shelf.now) (g.S.Shelf.meaning c.write_all.new.shelf) (g.S.Shelf.meaning c.detach.new.shelf) (λ u. let one = c.read_plex.ensures.goes.faults u in let two = c.write_all.ensures.goes.faults u in omega (arith, one, two)) c.detach.ensures.narrows.acts.faults c.args.core.now.config c.detach.new.core.config c.args.vol c.in-Ok-write_all.failed.set (λ p bit. blamed_since c.args.core.now.config c.args.vol p (g.S.Shelf.meaning c.args.shelf.now) (g.S.Shelf.meaning c.read_plex.new.shelf) (g.S.Shelf.meaning c.write_all.new.shelf) c.read_plex.ensures.goes.faults (c.in-Ok-write_all.ensures.ends.0.blamed p bit).1) c.detach.ensures.lies c.detach.ensures.others c.detach.ensures.failing c.detach.ensures.parts c.detach.ensures.narrows.shape c.detach.ensures.narrows.on)) (λ w p apart. c.detach.ensures.others w p (λ same bit. apart same)) both.1 both.0.1 (c.detach.ensures.others c.args.vol c.args.source (λ same bit. let clash : true ≡ false = sym bit ∙ sym c.is_member.ensures ∙ c.if-is_member.false in cc) ∙ c.requires.is_on) up (left_done c.args.core.now.config c.detach.new.core.config c.args.vol c.in-Ok-write_all.failed.set _ (g.S.Shelf.meaning c.read_plex.new.shelf) (g.S.Shelf.meaning c.write_all.new.shelf) (c.detach.ensures.narrows.on c.args.vol) c.in-Ok-write_all.ensures.ends.0 both.0.0))
 
 pub returns-in-Err-clause-agreed : goal.returns-in-Err-clause-agreed
 returns-in-Err-clause-agreed g c = c.requires.stands.trusts.both

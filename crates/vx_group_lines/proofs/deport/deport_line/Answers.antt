@@ -1,6 +1,7 @@
 -- Each case of a line that deports a group.
 use Rattle.std.proofs.Common.{◌∙◌, ap, sym, subst, refl}
 use Rattle.std.specs.Prelude.{slice_set}
+use Rattle.vx_model.proofs.Lists.{get_there}
 use Rattle.vx_events.proofs.Places.{some_same}
 use Rattle.vx_yard.specs.GroupFacts.{deported_facts}
 use Rattle.vx_script.specs.declared.line.ScriptLine.TheVariants.{GroupDeport}
@@ -11,7 +12,6 @@ use Rattle.vx_yard.proofs.ChangeSite.{told_before}
 use Rattle.vx_yard.proofs.Lists.{get_at}
 use Rattle.vx_yard.proofs.NamedSite.{asks_at, place_at}
 use Rattle.vx_yard.proofs.Seats.{named_some}
-use Rattle.vx_yard.proofs.WriteLine.{get_there}
 use Rattle.vx_yard.specs.OfSites.{HasCalled}
 use Rattle.vx_yard.specs.Yards.{in_files}
 use Rattle.vx_yard.specs.Stands.{AreTold}

@@ -16,11 +16,11 @@ use Rattle.vx_yard.proofs.ChangeSite.{told_before}
 use Rattle.vx_yard.proofs.Lists.{get_at, get-set_same, set_twice}
 use Rattle.vx_yard.proofs.NamedSite.{asks_at, place_at, unbegun_by, unbegun_site}
 use Rattle.vx_yard.proofs.Seats.{named_some}
-use Rattle.vx_yard.proofs.WriteLine.{get_there}
 use Rattle.vx_yard.specs.OfSites.{HasCalled}
 use Rattle.vx_yard.specs.Stands.{AreTold}
 use Rattle.vx_yard.specs.Yards.{in_files}
 use Rattle.std.proofs.lemmas.Option.{slice_get_within}
+use Rattle.vx_model.proofs.Lists.{get_there}
 use Rattle.vx_group_lines.proofs.Choosing.{or_stops}
 use Rattle.vx_group_lines.proofs.GroupImports.{import_done, import_stopped}
 use Rattle.vx_group_lines.proofs.GroupNamed.{away_named, if_ok, reply_same, unbegun_over}

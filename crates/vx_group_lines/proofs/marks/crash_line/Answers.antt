@@ -1,11 +1,11 @@
 -- Each case of a line that crashes a site over a group.
 use Rattle.std.proofs.Common.{◌≡◌}
 use Rattle.std.specs.Prelude.{Some}
+use Rattle.vx_model.proofs.Lists.{get_there}
 use Rattle.vx_events.proofs.Refused.{crash_may}
 use Rattle.vx_events.specs.Facts.{seat_of}
 use Rattle.vx_yard.proofs.CrashSite.{crash_asks}
 use Rattle.vx_yard.proofs.Seats.{named_some}
-use Rattle.vx_yard.proofs.WriteLine.{get_there}
 use Rattle.vx_yard.specs.Yards.{in_files}
 use Rattle.vx_group_lines.proofs.GroupMarks.{crash_group_leads}
 use Rattle.vx_group_lines.proofs.marks.crash_line.Goals as goal

@@ -1,6 +1,7 @@
 -- Each case of a line that detaches a plex.
 use Rattle.std.proofs.Common.{◌∙◌, ap, subst, refl}
 use Rattle.std.specs.Prelude.{Ok, Err}
+use Rattle.vx_model.proofs.Lists.{get_there}
 use Rattle.vx_script.specs.declared.line.ScriptLine.TheVariants.{PlexDetach}
 use Rattle.vx_diskset.specs.Asked.{FuseGoesOn, SameFailing}
 use Rattle.vx_events.specs.GroupNotes.{note_at}
@@ -9,7 +10,6 @@ use Rattle.vx_yard.proofs.ChangeSite.{told_before}
 use Rattle.vx_yard.proofs.Lists.{get_at}
 use Rattle.vx_yard.proofs.NamedSite.{asks_at, place_at}
 use Rattle.vx_yard.proofs.Seats.{named_some}
-use Rattle.vx_yard.proofs.WriteLine.{get_there}
 use Rattle.vx_yard.specs.OfSites.{HasCalled}
 use Rattle.vx_yard.specs.Yards.{in_files}
 use Rattle.vx_yard.specs.Stands.{AreTold}

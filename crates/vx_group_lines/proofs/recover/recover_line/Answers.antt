@@ -3,6 +3,7 @@ use Rattle.std.proofs.Common.{◌≡◌, ◌∙◌, ap, sym, subst, refl}
 use Rattle.std.specs.Prelude.{Some}
 use Rattle.std.proofs.lemmas.Result.{err_from_is_err_and}
 use Rattle.vx_model.specs.declared.site.SiteState.TheVariants.{Down as IsDown, Up as IsUp}
+use Rattle.vx_model.proofs.Lists.{get_there}
 use Rattle.vx_diskset.proofs.KeepsFailing.{failing_same}
 use Rattle.vx_diskset.specs.Asked.{SameFailing}
 use Rattle.vx_events.proofs.Places.{some_same}
@@ -13,7 +14,6 @@ use Rattle.vx_yard.proofs.Lists.{get_at}
 use Rattle.vx_yard.proofs.NamedSite.{named_same, place_at, unbegun_site}
 use Rattle.vx_yard.proofs.OfSites.{site_by, site_then}
 use Rattle.vx_yard.proofs.Seats.{named_some}
-use Rattle.vx_yard.proofs.WriteLine.{get_there}
 use Rattle.vx_yard.specs.Yards.{in_files}
 use Rattle.vx_group_lines.proofs.GroupAt.{group_at}
 use Rattle.vx_group_lines.proofs.Recovering.{from_down, from_up, off_down, unbegun_rise}

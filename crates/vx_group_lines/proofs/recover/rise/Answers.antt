@@ -1,10 +1,10 @@
 -- `rise`: what the import of a group leads a yard to.
 use Rattle.std.proofs.Common.{◌∙◌, ap, sym, subst, refl}
 use Rattle.std.specs.Prelude.{Some, slice_set}
+use Rattle.vx_model.proofs.Lists.{get_there}
 use Rattle.vx_diskset.specs.Recovers.{RaisesGroup, RaisesMaps}
 use Rattle.vx_diskset.specs.declared.disk_set.DiskSet.TheVariants.{Gone}
 use Rattle.vx_yard.proofs.Lists.{get_at, set_twice}
-use Rattle.vx_yard.proofs.WriteLine.{get_there}
 use Rattle.vx_group_lines.proofs.Recovering.{came_down, came_up, dir_mid, of_down, of_up, told_down, told_up}
 use Rattle.vx_group_lines.proofs.recover.rise.Goals as goal
 

@@ -1,8 +1,8 @@
 -- A line that asks for the status of a site over a group.
 use Rattle.std.specs.Prelude.{Some}
+use Rattle.vx_model.proofs.Lists.{get_there}
 use Rattle.vx_events.proofs.Refused.{status_may}
 use Rattle.vx_yard.proofs.Seats.{named_some}
-use Rattle.vx_yard.proofs.WriteLine.{get_there}
 use Rattle.vx_yard.specs.Yards.{in_files}
 use Rattle.vx_group_lines.proofs.GroupShown.{config_at, small_set, status_leads}
 use Rattle.vx_group_lines.proofs.status.status_line.Goals as goal

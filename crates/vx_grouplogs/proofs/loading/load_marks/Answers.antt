@@ -3,14 +3,13 @@ use Rattle.std.proofs.Common.{◌∙◌, inr, refl, sym}
 use Rattle.vx_config.specs.declared.entry.VolumeLog.TheVariants.{Drl}
 use Rattle.vx_logs.proofs.LoadLemmas.{has_log}
 use Rattle.vx_logs.proofs.LogLemmas.{holds_of}
-use Rattle.vx_grouplogs.proofs.LoadedLemmas.{unused_held}
-use Rattle.vx_groupmaps.proofs.TakenLemmas.{device_rose}
+use Rattle.vx_groupmaps.proofs.TakenLemmas.{device_rose, unused_apart}
 use Rattle.vx_grouplogs.proofs.loading.load_marks.Goals as goal
 
 pub returns-then-not-is_used-clause-takes : goal.returns-then-not-is_used-clause-takes
 returns-then-not-is_used-clause-takes g c =
     let off = sym c.is_used.ensures ∙ c.if-not-is_used.true in
-    (off, unused_held c.args.config.now c.args.vol off)
+    (off, unused_apart c.args.config.now c.args.vol Drl off)
 
 pub returns-in-Err-No-Device-clause-takes : goal.returns-in-Err-No-Device-clause-takes
 returns-in-Err-No-Device-clause-takes g c =

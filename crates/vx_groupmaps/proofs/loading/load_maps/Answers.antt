@@ -1,12 +1,13 @@
 -- A log of missed regions that is taken up, or lost.
 use Rattle.std.proofs.Common.{◌≡◌, ◌∙◌, Some, None, inr, refl, sym}
+use Rattle.vx_config.specs.declared.entry.VolumeLog.TheVariants.{Fmr}
 use Rattle.vx_groupmaps.proofs.TakenLemmas.{device_rose, found_fits, taken_agrees, unused_apart}
 use Rattle.vx_groupmaps.proofs.loading.load_maps.Goals as goal
 
 pub returns-then-not-is_used-clause-takes : goal.returns-then-not-is_used-clause-takes
 returns-then-not-is_used-clause-takes g c =
     let off = sym c.is_used.ensures ∙ c.if-not-is_used.true in
-    (off, unused_apart c.args.config.now c.args.vol off)
+    (off, unused_apart c.args.config.now c.args.vol Fmr off)
 
 pub returns-then-not-is_used-clause-covers : goal.returns-then-not-is_used-clause-covers
 returns-then-not-is_used-clause-covers g c = λ disk f is up. absurd (let clash : None ≡ Some f = is in cc)

@@ -1,7 +1,8 @@
 -- Notes in the maps of the first plexes.
 use Rattle.std.proofs.Common.{◌+◌, ◌<◌, false, arith}
 use Rattle.vx_groupmaps.specs.Refusing.{all_plexes}
-use Rattle.vx_groupmaps.proofs.RefusedLemmas.{first_noted, has_all, map_later, same_then}
+use Rattle.vx_groupmaps.proofs.ReadyLemmas.{same_then}
+use Rattle.vx_groupmaps.proofs.RefusedLemmas.{first_noted, has_all, map_later}
 use Rattle.vx_logs.proofs.PlexesLemmas.{notes_next, notes_none, notes_writes}
 use Rattle.vx_groupmaps.proofs.refusing.miss_first.Goals as goal
 

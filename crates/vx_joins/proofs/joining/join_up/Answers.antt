@@ -6,7 +6,7 @@ use Rattle.vx_diskset.specs.DiskSets.{halted_at}
 use Rattle.vx_diskset.specs.declared.disk_set.DiskSet.TheVariants.{Up}
 use Rattle.vx_events.specs.declared.said.Said.TheVariants.{Done}
 use Rattle.vx_history.specs.Events.{joined}
-use Rattle.vx_diskset.specs.DiskSets.{worked}
+use Rattle.vx_history.specs.Steps.{worked}
 use Rattle.vx_diskset.proofs.CallsBurn.{called_cut, done_called}
 use Rattle.vx_diskset.proofs.HeadCalls.{head_called, head_cut, log_place}
 use Rattle.vx_joins.specs.Joins.{joins_in_doubt, joined_anew}

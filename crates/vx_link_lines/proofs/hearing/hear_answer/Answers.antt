@@ -4,6 +4,7 @@ use Rattle.std.specs.Prelude.{Result, Some, Err, slice_get, slice_set}
 use Rattle.std.proofs.lemmas.List.{with_items_is}
 use Rattle.vx_model.specs.declared.errors.Stop.{Stop}
 use Rattle.vx_model.specs.declared.state.State.{State}
+use Rattle.vx_model.proofs.Lists.{get_there}
 use Rattle.vx_history.specs.LinkForms.{plain_link}
 use Rattle.vx_history.specs.declared.event.Said.{Said as EventSaid}
 use Rattle.vx_history.specs.declared.event.Said.TheVariants.{Ignored as IsIgnored, Taken as IsTaken}
@@ -36,7 +37,6 @@ use Rattle.vx_yard.proofs.Lists.{get_at, set_same}
 use Rattle.vx_yard.specs.OfSites.{heard_calls}
 use Rattle.vx_yard.proofs.OfSites.{all_of_site, all_still, site_still}
 use Rattle.vx_yard.proofs.OneSite.{role_kept}
-use Rattle.vx_yard.proofs.WriteLine.{get_there}
 use Rattle.vx_link_lines.proofs.hearing.hear_answer.Goals as goal
 
 pub returns-in_default-clause-leads : goal.returns-in_default-clause-leads

@@ -1,11 +1,11 @@
 -- Each case of the parts of a line that makes a link.
 use Rattle.std.proofs.Common.{List, length, ap, arith}
 use Rattle.std.specs.Prelude.{Ok}
+use Rattle.vx_model.proofs.Lists.{get_there}
 use Rattle.vx_events.specs.declared.said.Said.TheVariants.{Done}
 use Rattle.vx_order.specs.declared.facts.LinkFacts.{LinkFacts}
 use Rattle.vx_link_lines.proofs.LinkEnding.{burns_done, burns_four, burns_one, burns_three, burns_two, under_one, under_three, under_two, comes_one, comes_three, comes_two, ends_done, ends_four, ends_one, ends_three, ends_two, below_one, below_three, below_two, raw_one, raw_three, raw_two}
 use Rattle.vx_yard.proofs.OfSites.{all_of_site, all_then}
-use Rattle.vx_yard.proofs.WriteLine.{get_there}
 use Rattle.vx_link_lines.proofs.linking.link_parts.Goals as goal
 
 pub join_site-requires-clause-empty : goal.join_site-requires-clause-empty

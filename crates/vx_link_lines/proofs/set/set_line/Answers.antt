@@ -2,8 +2,8 @@
 use Rattle.std.proofs.Common.{◌∙◌, refl, subst, sym}
 use Rattle.std.specs.Prelude.{Ok, Err}
 use Rattle.std.proofs.lemmas.List.{with_items_is}
+use Rattle.vx_history.specs.Steps.{worked}
 use Rattle.vx_diskset.specs.Holds.{beside_of}
-use Rattle.vx_diskset.specs.DiskSets.{worked}
 use Rattle.vx_yard.specs.Yards.{in_files}
 use Rattle.vx_yard.proofs.ChangeSite.{told_before}
 use Rattle.vx_diskset.proofs.KeepsFailing.{failing_same}

@@ -1,11 +1,12 @@
 -- `note_links`: its result; what `put_at` asks; what stays true in its loop over `k`; that each place lies within.
 use Rattle.std.proofs.Common.{◌≡◌, ◌∙◌, ◌+◌, ◌<◌, ◌≤◌, ℕ, suc, List, length, ap, sym, arith}
 use Rattle.std.specs.Prelude.{Some, slice_get, slice_index_or, slice_set}
+use Rattle.vx_model.proofs.Lists.{got, length-set}
 use Rattle.vx_order.specs.declared.facts.LinkFacts.{LinkFacts}
 use Rattle.vx_order.specs.declared.facts.SiteFacts.{SiteFacts}
 use Rattle.vx_linked.specs.Holds.{grown_below, is_over}
 use Rattle.vx_linked.specs.Tables.{site_relinked}
-use Rattle.vx_linked.proofs.Loops.{got, grown_all, grown_get, grown_step, none_any, set_length}
+use Rattle.vx_linked.proofs.Loops.{grown_all, grown_get, grown_step, none_any}
 use Rattle.vx_linked.proofs.growing.note_links.Goals as goal
 
 -- the links in the middle of the loop
@@ -31,7 +32,7 @@ loop-k-preserved c =
     let next : suc k ≡ k + 1 = omega arith in
     let less : k < length c.as_slice.result.now = omega (arith, c.loop-k.invariant.0, c.loop-k.invariant.1, c.loop-k-test.true, ap length c.as_slice.ensures) in (
       c.loop-k.invariant.0,
-      ap (λ (s : SiteFacts). length s.links) c.put_at.ensures ∙ set_length c.loop-k.site.links k c.grow-next.result ∙ c.loop-k.invariant.1,
+      ap (λ (s : SiteFacts). length s.links) c.put_at.ensures ∙ length-set c.loop-k.site.links k c.grow-next.result ∙ c.loop-k.invariant.1,
       λ none.
           let here = c.loop-k.invariant.2 none in
           let there = old_link c.args.number c.args.blocks k old c.loop-k.site c.as_slice.result.now _ here c.as_slice.ensures less in

@@ -1,8 +1,9 @@
 -- `restart_links`: what `push` asks; what stays true in its loop over `k`.
 use Rattle.std.proofs.Common.{◌≡◌, ◌∙◌, ◌+◌, ◌<◌, ◌≤◌, ℕ, suc, List, [], ◌∷◌, ◌++◌, length, take, ap, sym, arith}
+use Rattle.vx_model.proofs.Lists.{got}
 use Rattle.vx_order.specs.declared.facts.LinkFacts.{LinkFacts}
 use Rattle.vx_effects.specs.Restarts.{facts_again}
-use Rattle.vx_linked.proofs.Loops.{facts_few, facts_more, got}
+use Rattle.vx_linked.proofs.Loops.{facts_few, facts_more}
 use Rattle.vx_linked.proofs.restarting.restart_links.Goals as goal
 
 pub push-requires : goal.push-requires

@@ -2,7 +2,7 @@
 use Rattle.std.proofs.Common.{◌≡◌, ◌∙◌, Bool, true, false, ap, sym}
 use Rattle.std.specs.Prelude.{is_some}
 use Rattle.vx_group.proofs.LostLemmas.{if_ok_from}
-use Rattle.vx_logged.proofs.GoneLogs.{there_some, trusts_but}
+use Rattle.vx_logged.proofs.GoneLogs.{trusts_but}
 use Rattle.vx_config.specs.declared.entry.VolumeLog.TheVariants.{Drl}
 use Rattle.vx_logged.proofs.keeping.keep_log.Goals as goal
 
@@ -12,7 +12,7 @@ returns-clause-kept g c =
 
 pub returns-clause-trusts : goal.returns-clause-trusts
 returns-clause-trusts g c =
-    trusts_but c.args.vol Drl c.args.logs.now c.args.core.now.inner.config c.keep_one.new.core.inner.config c.is_some.result (c.is_some.ensures ∙ there_some c.args.logs.now.drl) c.keep_one.ensures.trusts c.keep_one.ensures.stays
+    trusts_but c.args.vol Drl c.args.logs.now c.args.core.now.inner.config c.keep_one.new.core.inner.config c.is_some.result c.is_some.ensures c.keep_one.ensures.trusts c.keep_one.ensures.stays
 
 pub returns-clause-spent : goal.returns-clause-spent
 returns-clause-spent g c =

@@ -1,5 +1,6 @@
 -- A write that is marked first.
 use Rattle.std.proofs.Common.{◌≡◌, ◌∙◌, inl, inr, ◌/◌, true, false, length, refl, sym, arith}
+use Rattle.std.proofs.lemmas.Bool.{not-false, not-true}
 use Rattle.std.specs.Prelude.{not}
 use Rattle.vx_disk.specs.Shelf.{Written}
 use Rattle.vx_disk.proofs.Causing.{Cause_both}
@@ -17,7 +18,7 @@ use Rattle.vx_logged.proofs.EmptyLemmas.{run_wider}
 use Rattle.vx_logged.proofs.HoldsLemmas.{narrow_inner}
 use Rattle.vx_logged.proofs.MissLemmas.{know_refused, know_run, know_wrote, more_off, plexes_wrote}
 use Rattle.vx_volume.specs.Plexes.{active}
-use Rattle.vx_logged.proofs.StandLemmas.{fits_later, narrowed_acts, narrowed_then, not_false, not_true, others_then, same_only, write_here, write_others}
+use Rattle.vx_logged.proofs.StandLemmas.{fits_later, narrowed_acts, narrowed_then, others_then, same_only, write_here, write_others}
 use Rattle.vx_group.proofs.LoseLemmas.{then_along}
 use Rattle.vx_group.proofs.FindingLemmas.{then_group}
 use Rattle.vx_logged.proofs.GoneLogs.{trusts_in, trusts_then}
@@ -83,7 +84,7 @@ returns-clause-ok g c =
 pub returns-clause-log : goal.returns-clause-log
 returns-clause-log g c =
     λ is.
-    let done = not_false c.in-Ok.done is in
+    let done = not-false c.in-Ok.done is in
     write_here c.mark_group.new.core c.write_group-2.new.core c.args.vol c.args.block c.args.bytes.now (g.S.Shelf.meaning c.mark_group.new.shelf) (g.S.Shelf.meaning c.write_group-2.new.shelf) c.mark_group.ensures.stands (fits_later c.args.core.now c.mark_group.new.core c.args.vol c.args.block (length c.args.bytes.now) (g.S.Shelf.meaning c.args.shelf.now) (g.S.Shelf.meaning c.mark_group.new.shelf) c.mark_group.ensures.goes c.requires.fits) c.write_group-2.ensures.acts c.mark_group.new.logs
     (c.in-Ok.ensures.may done) c.mark_group.ensures.log
 
@@ -98,7 +99,7 @@ returns-clause-stays g c =
 
 pub returns-clause-full : goal.returns-clause-full
 returns-clause-full g c =
-    λ off is. c.in-Ok.ensures.full (not_true c.in-Ok.done is)
+    λ off is. c.in-Ok.ensures.full (not-true c.in-Ok.done is)
 
 pub returns-clause-trust : goal.returns-clause-trust
 returns-clause-trust g c =
@@ -172,7 +173,7 @@ returns-clause-missed g c = λ off know.
 
 pub returns-clause-marked : goal.returns-clause-marked
 returns-clause-marked g c = λ off.
-    let done = not_false c.in-Ok.done off in
+    let done = not-false c.in-Ok.done off in
     inr (record {
       moment = c.mark_group.new.shelf;
       core = c.mark_group.new.core;
@@ -256,5 +257,5 @@ returns-in-Err-clause-rests g c = λ off w p is. sym (c.mark_group.ensures.still
 
 pub returns-clause-rests : goal.returns-clause-rests
 returns-clause-rests g c = λ off w p is.
-    let none = c.in-Ok.ensures.free (not_false c.in-Ok.done off) in
+    let none = c.in-Ok.ensures.free (not-false c.in-Ok.done off) in
     sym (c.mark_group.ensures.still w p) ∙ narrow_inner c.mark_group.new.core c.write_group-2.new.core none (c.write_group-2.ensures.finds.free none) (narrowed_acts _ c.mark_group.new.core c.write_group-2.new.core (g.S.Shelf.meaning c.mark_group.new.shelf) (g.S.Shelf.meaning c.write_group-2.new.shelf) c.write_group-2.ensures.acts) w p is

@@ -2,11 +2,11 @@
 use Rattle.std.proofs.Common.{ap, arith}
 use Rattle.vx_config.specs.Checks.{blocks_of}
 use Rattle.vx_disk.proofs.Causing.{Cause_both}
+use Rattle.vx_group.specs.Attaches.{region_count}
 use Rattle.vx_group.specs.Holding.{wide}
 use Rattle.vx_group.specs.Stands.{inner_meaning}
 use Rattle.vx_group.proofs.TrustLemmas.{err_from, ok_from}
 use Rattle.vx_model.specs.Sizes.{regions_of}
-use Rattle.vx_loggroup.specs.Marks.{region_count}
 use Rattle.vx_loggroup.proofs.BegunLemmas.{blocks_later}
 use Rattle.vx_loggroup.proofs.FreshLemmas.{begins_then, first_then}
 use Rattle.vx_loggroup.proofs.NewLemmas.{news_start}

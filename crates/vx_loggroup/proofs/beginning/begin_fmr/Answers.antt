@@ -1,7 +1,7 @@
 -- `begin_fmr`: where no log begins; what its call asks.
 use Rattle.std.proofs.Common.{◌∙◌, sym}
+use Rattle.vx_group.specs.Attaches.{region_count}
 use Rattle.vx_group.specs.Holding.{wide}
-use Rattle.vx_loggroup.specs.Marks.{region_count}
 use Rattle.vx_loggroup.proofs.FreshLemmas.{begins_none, first_none, none_of}
 use Rattle.vx_loggroup.proofs.NewLemmas.{news_same}
 use Rattle.vx_loggroup.proofs.SureLemmas.{since_same}

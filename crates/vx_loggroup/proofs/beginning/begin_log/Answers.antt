@@ -5,6 +5,7 @@ use Rattle.vx_config.specs.declared.entry.VolumeLog.TheVariants.{Drl}
 use Rattle.vx_config.proofs.Changed.{sound_lost}
 use Rattle.vx_disk.specs.Shelf.{Nothing}
 use Rattle.vx_disk.proofs.Causing.{Cause_both}
+use Rattle.vx_group.specs.Attaches.{region_count}
 use Rattle.vx_group.specs.Holding.{wide}
 use Rattle.vx_group.specs.Stands.{inner_meaning}
 use Rattle.vx_group.proofs.CallLemmas.{not_down}
@@ -17,13 +18,11 @@ use Rattle.vx_grouplogs.specs.Covering.{AllAlike}
 use Rattle.vx_grouplogs.specs.Marking.{NoMarks}
 use Rattle.vx_grouplogs.proofs.KnowActs.{know_none}
 use Rattle.vx_logged.proofs.StandLemmas.{alike_goes, config_is, inner_fit, inner_others, inner_sound, logs_Stands, logs_goes, to_wide, logs_finds}
-use Rattle.vx_loggroup.specs.Marks.{region_count}
 use Rattle.vx_loggroup.proofs.FreshLemmas.{begins_then, first_begun}
 use Rattle.vx_loggroup.proofs.NewLemmas.{news_gone}
 use Rattle.vx_loggroup.proofs.TrustedLogs.{trusted_here, trusted_others}
 use Rattle.vx_group.proofs.FindingLemmas.{idle_group}
 use Rattle.std.specs.Prelude.{not}
-use Rattle.vx_logged.proofs.GoneLogs.{there_some}
 use Rattle.vx_loggroup.proofs.SureLemmas.{since_same, since_told}
 use Rattle.vx_loggroup.proofs.beginning.begin_log.Goals as goal
 
@@ -127,4 +126,4 @@ pub returns-then-is_none-clause-since : goal.returns-then-is_none-clause-since
 returns-then-is_none-clause-since g c = since_same c.args.vol c.begin_run.new.logs c.args.core.now
 
 pub returns-clause-since : goal.returns-clause-since
-returns-clause-since g c = since_told c.args.vol Drl c.args.core.now c.trust_first.new.core c.begin_run.new.logs (g.S.Shelf.meaning c.begin_run.new.shelf) (g.S.Shelf.meaning c.trust_first.new.shelf) c.trust_first.ensures.acts (sym (there_some c.begin_run.new.logs.drl) ∙ c.is_none.ensures ∙ ap not c.if-is_none.false)
+returns-clause-since g c = since_told c.args.vol Drl c.args.core.now c.trust_first.new.core c.begin_run.new.logs (g.S.Shelf.meaning c.begin_run.new.shelf) (g.S.Shelf.meaning c.trust_first.new.shelf) c.trust_first.ensures.acts (c.is_none.ensures ∙ ap not c.if-is_none.false)

@@ -1,10 +1,11 @@
 -- `begin_map`: its clauses; what `begin_maps` and `trust_first` ask.
-use Rattle.std.proofs.Common.{◌≡◌, ◌∙◌, false, IsTrue, refl, subst, sym, ap}
+use Rattle.std.proofs.Common.{◌≡◌, ◌∙◌, false, refl, subst, sym, ap}
 use Rattle.vx_config.specs.declared.config.Config.{Config}
 use Rattle.vx_config.specs.declared.entry.VolumeLog.TheVariants.{Drl, Fmr}
 use Rattle.vx_config.proofs.Changed.{sound_lost}
 use Rattle.vx_disk.specs.Shelf.{Nothing}
 use Rattle.vx_disk.proofs.Causing.{Cause_both}
+use Rattle.vx_group.specs.Attaches.{region_count}
 use Rattle.vx_group.specs.Holding.{wide}
 use Rattle.vx_group.specs.Stands.{inner_meaning}
 use Rattle.vx_group.proofs.CallLemmas.{not_down}
@@ -17,12 +18,10 @@ use Rattle.vx_grouplogs.proofs.MapLemmas.{goes_logs}
 use Rattle.vx_groupmaps.specs.Missing.{none_spared}
 use Rattle.vx_kept.specs.Keeping.{AllOn}
 use Rattle.vx_logged.proofs.StandLemmas.{config_is, inner_fit, inner_others, inner_sound, know_wide, logs_Stands, logs_goes, others_each, to_inner, to_wide, logs_finds}
-use Rattle.vx_loggroup.specs.Marks.{region_count}
 use Rattle.vx_loggroup.proofs.FreshLemmas.{begins_then, first_mapped}
 use Rattle.vx_loggroup.proofs.TrustedLogs.{mapped_each}
 use Rattle.vx_group.proofs.FindingLemmas.{idle_group}
 use Rattle.std.specs.Prelude.{not}
-use Rattle.vx_logged.proofs.GoneLogs.{there_some}
 use Rattle.vx_loggroup.proofs.SureLemmas.{since_same, since_told}
 use Rattle.vx_loggroup.proofs.beginning.begin_map.Goals as goal
 
@@ -123,4 +122,4 @@ pub returns-then-is_none-clause-since : goal.returns-then-is_none-clause-since
 returns-then-is_none-clause-since g c = since_same c.args.vol c.begin_maps.new.logs c.args.core.now
 
 pub returns-clause-since : goal.returns-clause-since
-returns-clause-since g c = since_told c.args.vol Fmr c.args.core.now c.trust_first.new.core c.begin_maps.new.logs (g.S.Shelf.meaning c.begin_maps.new.shelf) (g.S.Shelf.meaning c.trust_first.new.shelf) c.trust_first.ensures.acts (sym (there_some c.begin_maps.new.logs.fmr) ∙ c.is_none.ensures ∙ ap not c.if-is_none.false)
+returns-clause-since g c = since_told c.args.vol Fmr c.args.core.now c.trust_first.new.core c.begin_maps.new.logs (g.S.Shelf.meaning c.begin_maps.new.shelf) (g.S.Shelf.meaning c.trust_first.new.shelf) c.trust_first.ensures.acts (c.is_none.ensures ∙ ap not c.if-is_none.false)

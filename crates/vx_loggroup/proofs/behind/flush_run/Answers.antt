@@ -1,8 +1,10 @@
 -- `flush_run`: clauses stands and marks; what the calls ask.
 use Rattle.std.proofs.Common.{◌∙◌, ap, refl, sym, arith}
+use Rattle.std.proofs.lemmas.Bool.{not-true}
 use Rattle.std.specs.Prelude.{not}
 use Rattle.std.proofs.Math.ListN.{set}
 use Rattle.vx_disk.specs.Shelf.{Nothing}
+use Rattle.vx_group.specs.Attaches.{region_count}
 use Rattle.vx_group.specs.Holding.{wide}
 use Rattle.vx_group.specs.Stands.{inner_meaning}
 use Rattle.vx_group.proofs.CallLemmas.{not_down}
@@ -14,10 +16,8 @@ use Rattle.vx_loggroup.proofs.NewLemmas.{list_same}
 use Rattle.vx_loggroup.proofs.SetLemmas.{item_of, set_other}
 use Rattle.vx_loggroup.proofs.WroteMoves.{gone_set, run_follows, trusts_set}
 use Rattle.vx_loggroup.specs.Attaching.{fmr_or}
-use Rattle.vx_loggroup.specs.Marks.{region_count}
 use Rattle.vx_logged.specs.Begun.{fell_in}
 use Rattle.vx_logged.specs.Logged.{are_off}
-use Rattle.vx_logged.proofs.StandLemmas.{not_true}
 use Rattle.vx_logs.specs.Writes.{first_region, last_region}
 use Rattle.vx_loggroup.proofs.KeepingCalls.{marked_keeps}
 use Rattle.vx_group.proofs.HoldLemmas.{wide_shape}
@@ -29,7 +29,7 @@ pub index_mut-requires : goal.index_mut-requires
 index_mut-requires g c = let lt = (index_low c.args.core.now c.args.logs.now.items c.args.alike.now c.args.stopped (g.S.Shelf.meaning c.args.shelf.now) c.args.vol c.requires.stands c.requires.there) in omega (arith, c.args.logs.now.ok, lt)
 
 pub flush_noted-requires-clause-log : goal.flush_noted-requires-clause-log
-flush_noted-requires-clause-log g c = λ is. (c.requires.stands.each c.args.vol c.index_mut.result.now (item_of c.args.logs.now.items c.args.vol c.index_mut.result.now c.index_mut.ensures.value (index_low c.args.core.now c.args.logs.now.items c.args.alike.now c.args.stopped (g.S.Shelf.meaning c.args.shelf.now) c.args.vol c.requires.stands c.requires.there))).on (not_true c.args.stopped is)
+flush_noted-requires-clause-log g c = λ is. (c.requires.stands.each c.args.vol c.index_mut.result.now (item_of c.args.logs.now.items c.args.vol c.index_mut.result.now c.index_mut.ensures.value (index_low c.args.core.now c.args.logs.now.items c.args.alike.now c.args.stopped (g.S.Shelf.meaning c.args.shelf.now) c.args.vol c.requires.stands c.requires.there))).on (not-true c.args.stopped is)
 
 pub flush_noted-requires-clause-sure : goal.flush_noted-requires-clause-sure
 flush_noted-requires-clause-sure g c = λ is. ap not (c.is_sure-sure.ensures.going is)

@@ -1,13 +1,13 @@
 -- `clear_one`: clauses stands, marks and off; what the calls ask.
 use Rattle.std.proofs.Common.{Bool, false, refl, subst, sym, arith}
 use Rattle.vx_disk.specs.Shelf.{Nothing}
+use Rattle.vx_group.specs.Attaches.{region_count}
 use Rattle.vx_group.specs.Holding.{wide}
 use Rattle.vx_group.proofs.LostLemmas.{if_ok_from}
 use Rattle.vx_grouplogs.specs.Marking.{HoldsMany, NoMarks}
 use Rattle.vx_logs.specs.declared.logs.Logs.{Logs}
 use Rattle.std.specs.Prelude.{slice_get}
 use Rattle.vx_loggroup.specs.LoggedVolumes.{is_alike}
-use Rattle.vx_loggroup.specs.Marks.{region_count}
 use Rattle.vx_loggroup.proofs.AlikeLemmas.{clears_set, here_stands, index_low, same_item, set_stands}
 use Rattle.vx_loggroup.proofs.SetLemmas.{item_of, set_here}
 use Rattle.vx_loggroup.proofs.SettleLemmas.{settle_none}

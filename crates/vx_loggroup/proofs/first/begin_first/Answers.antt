@@ -4,6 +4,7 @@ use Rattle.vx_config.specs.Checks.{blocks_of}
 use Rattle.vx_disk.specs.Shelf.{Nothing}
 use Rattle.vx_disk.proofs.Causing.{Cause_both}
 use Rattle.vx_disk.proofs.Runs.{then_nothing}
+use Rattle.vx_group.specs.Attaches.{region_count}
 use Rattle.vx_group.specs.Holding.{wide}
 use Rattle.vx_group.specs.Stands.{inner_meaning}
 use Rattle.vx_group.proofs.TrustLemmas.{err_from, ok_from}
@@ -11,7 +12,6 @@ use Rattle.vx_model.specs.Sizes.{regions_of}
 use Rattle.vx_groupmaps.specs.Missing.{none_spared}
 use Rattle.vx_logged.proofs.StandLemmas.{alike_goes, others_each}
 use Rattle.vx_loggroup.specs.LoggedVolumes.{is_alike}
-use Rattle.vx_loggroup.specs.Marks.{region_count}
 use Rattle.vx_loggroup.proofs.AlikeLemmas.{all_whole, here_stands, index_low, set_stands}
 use Rattle.vx_loggroup.proofs.FreshLemmas.{begins_then, lists_none, lists_set}
 use Rattle.vx_loggroup.proofs.NewLemmas.{list_same, list_set, news_same, news_start}

@@ -3,6 +3,7 @@ use Rattle.std.proofs.Common.{◌/◌, ◌∙◌, ap, ℕ, List, inl, true, fals
 use Rattle.vx_disk.specs.Shelf.{Written}
 use Rattle.vx_disk.proofs.Causing.{Cause_both}
 use Rattle.vx_disk.proofs.Runs.{none_written, nothing_then}
+use Rattle.vx_group.specs.Attaches.{region_count}
 use Rattle.vx_group.specs.Holding.{wide}
 use Rattle.vx_group.specs.Stands.{inner_meaning}
 use Rattle.vx_group.proofs.CallLemmas.{nothing_Wrote}
@@ -24,7 +25,6 @@ use Rattle.vx_loggroup.proofs.WroteMoves.{first_doubts, run_moves}
 use Rattle.vx_group.proofs.FindingLemmas.{then_group}
 use Rattle.vx_loggroup.proofs.KeepingLemmas.{frames_places, stay_keeps, then_keeps}
 use Rattle.vx_loggroup.proofs.KeepingCalls.{begins_stay}
-use Rattle.vx_loggroup.specs.Marks.{region_count}
 use Rattle.vx_loggroup.proofs.fresh.write_fresh.Goals as goal
 
 pub takes_fresh-requires : goal.takes_fresh-requires

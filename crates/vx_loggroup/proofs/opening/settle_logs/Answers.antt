@@ -1,8 +1,8 @@
 -- `settle_logs`: its result; what the calls ask.
 use Rattle.std.proofs.Common.{◌∙◌, Bool, refl, sym, arith}
+use Rattle.std.proofs.lemmas.Bool.{not-false}
 use Rattle.std.specs.Prelude.{not}
 use Rattle.vx_group.specs.Holding.{wide}
-use Rattle.vx_logged.proofs.StandLemmas.{not_false}
 use Rattle.vx_loggroup.proofs.AlikeLemmas.{stop_stands}
 use Rattle.vx_loggroup.proofs.OpenLemmas.{begins_later}
 use Rattle.vx_loggroup.proofs.SettleLemmas.{settle_then, stop_by}
@@ -55,7 +55,7 @@ returns g c = record {
   same = refl;
   shrink = c.clear_all.ensures.shrink;
   up = not_down c.is_down.result (g.S.Shelf.meaning c.lose_all.new.shelf).down c.is_down.ensures c.if-is_down.false;
-  off = λ going. c.in-Ok.ensures.off (not_false c.in-Ok.done going);
+  off = λ going. c.in-Ok.ensures.off (not-false c.in-Ok.done going);
   stands = c.lose_all.ensures.stands;
   begins = begins_later c.args.core c.lose_all.new.core c.args.alike c.args.logs.items (g.S.Shelf.meaning c.args.shelf.now) (g.S.Shelf.meaning c.lose_all.new.shelf) c.requires.stands c.requires.same
       (settle_then c.args.core c.clear_all.new.core c.lose_all.new.core (g.S.Shelf.meaning c.args.shelf.now) (g.S.Shelf.meaning c.clear_all.new.shelf) (g.S.Shelf.meaning c.lose_all.new.shelf) c.clear_all.ensures.settles c.lose_all.ensures.settles).goes;

@@ -1,5 +1,6 @@
 -- What the laws say, by the lemmas.
-use Rattle.vx_overlay.proofs.WriteLemmas.{fold_newest, fold_size, put_there_in, put_there_at, newest_append, newest_drop, covered, uncovered, newest_entries, entries_append, entries_count, entries_drop, entries_at_snoc, newest_entries_at}
+use Rattle.vx_model.proofs.Contents.{fold_size}
+use Rattle.vx_overlay.proofs.WriteLemmas.{fold_newest, put_there_in, put_there_at, newest_append, newest_drop, covered, uncovered, newest_entries, entries_append, entries_count, entries_drop, entries_at_snoc, newest_entries_at}
 use Rattle.vx_overlay.proofs.laws.writes_wait.Goals as goal
 
 pub returns : goal.returns

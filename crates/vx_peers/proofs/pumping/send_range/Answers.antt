@@ -4,7 +4,7 @@ use Rattle.vx_model.specs.declared.call.Update.{Update}
 use Rattle.vx_courier.specs.UnderWay.{FlightStands}
 use Rattle.vx_history.specs.Sends.{updates}
 use Rattle.vx_history.specs.World.{Packet}
-use Rattle.vx_secondary.specs.Receivers.{write_of_update}
+use Rattle.vx_rvg.specs.Contents.{write_of_update}
 use Rattle.vx_peers.proofs.MorePackets.{more_updates}
 use Rattle.vx_peers.proofs.pumping.send_range.Goals as goal
 

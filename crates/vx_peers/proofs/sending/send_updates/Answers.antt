@@ -1,7 +1,7 @@
 -- `send_updates`: its result; what `send_update` asks; what stays true in its loop over `past`.
 use Rattle.std.proofs.Common.{◌+◌, arith, map}
 use Rattle.vx_history.specs.Sends.{updates}
-use Rattle.vx_secondary.specs.Receivers.{write_of_update}
+use Rattle.vx_rvg.specs.Contents.{write_of_update}
 use Rattle.vx_peers.proofs.Updates.{all_sent, at_place_of, one_sent, start_of}
 use Rattle.vx_peers.proofs.sending.send_updates.Goals as goal
 

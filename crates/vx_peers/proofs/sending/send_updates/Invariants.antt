@@ -3,7 +3,7 @@ use Rattle.std.proofs.Common.{◌+◌, ◌*◌, ◌≤◌, List, map, drop}
 use Rattle.vx_history.specs.World.{Packet}
 use Rattle.vx_history.specs.Sends.{updates}
 use Rattle.vx_courier.specs.UnderWay.{FlightStands}
-use Rattle.vx_secondary.specs.Receivers.{write_of_update}
+use Rattle.vx_rvg.specs.Contents.{write_of_update}
 use Rattle.vx_peers.proofs.Updates.{OnTheWay}
 use Rattle.vx_peers.proofs.sending.send_updates.Given as goal
 

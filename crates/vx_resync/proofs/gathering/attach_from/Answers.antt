@@ -2,9 +2,10 @@
 use Rattle.std.proofs.Common.{ℕ, Result, Err, refl}
 use Rattle.std.specs.Prelude.{Some}
 use Rattle.std.specs.Option.{option_copied}
+use Rattle.vx_disk.proofs.Causing.{cause_before}
 use Rattle.vx_volume.proofs.PlaceLemmas.{apart_of}
 use Rattle.vx_resync.specs.Picks.{missed_or}
-use Rattle.vx_resync.proofs.CauseLemmas.{cause_before, copy_refused, retyped}
+use Rattle.vx_resync.proofs.CauseLemmas.{copy_refused, retyped}
 use Rattle.vx_resync.proofs.CopyLemmas.{disks_after, flushed_goes, flushed_left}
 use Rattle.vx_resync.proofs.GatherLemmas.{all_copied}
 use Rattle.vx_resync.proofs.PickLemmas.{one_active}

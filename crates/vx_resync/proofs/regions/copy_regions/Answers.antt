@@ -3,9 +3,10 @@ use Rattle.std.proofs.Common.{◌≡◌, ◌+◌, ℕ, sym, ◌∙◌, subst, ar
 use Rattle.std.specs.Option.{option_copied}
 use Rattle.vx_config.specs.Checks.{blocks_of}
 use Rattle.vx_model.specs.Sizes.{regions_of}
+use Rattle.vx_disk.proofs.Causing.{cause_before}
 use Rattle.vx_resync.specs.Copies.{CopiedBelow}
 use Rattle.vx_resync.specs.Picks.{InPicked, InPickedBelow, is_picked, picked_below}
-use Rattle.vx_resync.proofs.CauseLemmas.{cause_before, copy_accepted, copy_refused_later}
+use Rattle.vx_resync.proofs.CauseLemmas.{copy_accepted, copy_refused_later}
 use Rattle.vx_resync.proofs.CopyLemmas.{alike_less, below_goes, none_copied, passed_region, ready_after, region_copied, region_goes}
 use Rattle.vx_resync.proofs.PickLemmas.{in_regions, maps_less}
 use Rattle.vx_resync.proofs.regions.copy_regions.Goals.{then-is_picked+in-Ok, else-is_picked}

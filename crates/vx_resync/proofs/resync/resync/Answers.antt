@@ -1,7 +1,7 @@
 -- `resync`: clauses moved, done and cause; what `copy_regions` and `flush_targets` ask.
 use Rattle.std.specs.Option.{option_copied}
+use Rattle.vx_disk.proofs.Causing.{cause_before}
 use Rattle.vx_resync.specs.Picks.{is_picked}
-use Rattle.vx_resync.proofs.CauseLemmas.{cause_before}
 use Rattle.vx_resync.proofs.CopyLemmas.{disks_after, flushed_Resynced, flushed_Resyncs, plain_Resyncs, source_some}
 use Rattle.vx_resync.proofs.PickLemmas.{gives_active}
 use Rattle.vx_resync.proofs.resync.resync.Goals as goal

@@ -1,6 +1,7 @@
 -- `add_all`: what `insert` asks; what stays true in its loop over `k`.
 use Rattle.std.proofs.Common.{◌∙◌, arith}
-use Rattle.vx_rvg.proofs.PatchFacts.{added, added_few, cut}
+use Rattle.vx_model.proofs.Contents.{cut}
+use Rattle.vx_rvg.proofs.PatchFacts.{added, added_few}
 use Rattle.vx_rvg.proofs.patch.add_all.Goals as goal
 
 pub insert-requires : goal.insert-requires

@@ -2,9 +2,9 @@
 use Rattle.std.proofs.Common.{◌+◌, ◌≤◌, ℕ, List, [], ◌∷◌, ap, subst, arith}
 use Rattle.std.proofs.lemmas.Result.{err_from_is_err_and}
 use Rattle.vx_model.specs.Content.{blocks_in}
+use Rattle.vx_rvg.specs.Contents.{write_of_update}
 use Rattle.vx_rvg.specs.Views.{unit_of}
 use Rattle.vx_secondary.specs.Logging.{LogsAll, Step}
-use Rattle.vx_secondary.specs.Receivers.{write_of_update}
 use Rattle.vx_secondary.proofs.Steps.{step_more, step_then, logs_then}
 use Rattle.vx_secondary.proofs.Writings.{can_parts, can_same, written_step, written_logs, written_ends, ends_later}
 use Rattle.vx_secondary.proofs.logging.log_one.Goals as goal

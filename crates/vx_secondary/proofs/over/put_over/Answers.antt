@@ -1,8 +1,9 @@
 -- A block of a write over that of a volume, case by case.
 use Rattle.std.proofs.Common.{◌∙◌, ◌+◌, ◌-◌, ℕ, List, sym, ap, subst, arith}
 use Rattle.vx_model.specs.Content.{block_of, touches}
-use Rattle.vx_secondary.specs.Receivers.{write_of_update}
-use Rattle.vx_secondary.proofs.Overs.{IsPutTo, cut, touch_told, touch_none, touched, untouched}
+use Rattle.vx_model.proofs.Contents.{cut}
+use Rattle.vx_rvg.specs.Contents.{write_of_update}
+use Rattle.vx_secondary.proofs.Overs.{IsPutTo, touch_told, touch_none, touched, untouched}
 use Rattle.vx_secondary.proofs.over.put_over.Goals as goal
 use Rattle.vx_secondary.proofs.over.put_over.Goals.{in-Some, in_default}
 

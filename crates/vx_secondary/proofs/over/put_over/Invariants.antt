@@ -1,5 +1,5 @@
 -- The loop of `put_over` over `k`: what stays true.
-use Rattle.vx_secondary.specs.Receivers.{write_of_update}
+use Rattle.vx_rvg.specs.Contents.{write_of_update}
 use Rattle.vx_secondary.proofs.Overs.{IsPutTo}
 use Rattle.vx_secondary.proofs.over.put_over.Given as goal
 

@@ -1,6 +1,7 @@
 -- What waits over blocks of a volume, one update after another.
 use Rattle.std.proofs.Common.{sym}
-use Rattle.vx_secondary.specs.Receivers.{write_of_update, writes_of_updates}
+use Rattle.vx_rvg.specs.Contents.{write_of_update}
+use Rattle.vx_secondary.specs.Receivers.{writes_of_updates}
 use Rattle.vx_secondary.proofs.Overs.{shows_next}
 use Rattle.vx_secondary.proofs.Waits.{map_get}
 use Rattle.vx_secondary.proofs.over.put_waiting.Goals as goal

@@ -1,8 +1,9 @@
 -- Each place has what the link of that place needs.
 use Rattle.std.proofs.Common.{◌≡◌, ◌∙◌, ◌<◌, ℕ, length, ap, sym, refl, arith}
 use Rattle.std.specs.Prelude.{is_some, slice_get}
+use Rattle.vx_model.proofs.Lists.{got}
 use Rattle.vx_yard.proofs.Lists.{length-set}
-use Rattle.vx_site_lines.proofs.RiseNeeds.{got, need_got, needs_all, needs_more, needs_none}
+use Rattle.vx_site_lines.proofs.RiseNeeds.{need_got, needs_all, needs_more, needs_none}
 use Rattle.vx_site_lines.proofs.rooms.used_links.Goals as goal
 
 pub loop-k-init : goal.loop-k-init

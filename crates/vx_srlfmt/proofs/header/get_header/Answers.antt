@@ -2,12 +2,12 @@
 use Rattle.std.proofs.Common.{arith, ◌≡◌, ◌≤◌, ◌∙◌, ap, sym, subst, List, ℕ, length, take, false, Some, refl}
 use Rattle.std.specs.Option.{is_some}
 use Rattle.vx_wire.specs.Seals.{filled, IsSealed}
-use Rattle.vx_wire.proofs.SealLemmas.{take-sealed, IsSealed-sealed}
+use Rattle.vx_wire.proofs.SealLemmas.{take-sealed, IsSealed-sealed, sealed-is, from_sealed, sealed_from}
 use Rattle.vx_srlfmt.specs.Headers.{header_fields, header_block, CanSpellHeader, IsHeader}
 use Rattle.vx_srlfmt.specs.declared.header.Header.{Header}
 use Rattle.vx_srlfmt.proofs.HeaderAgain.{Agrees-header_in, few-header_in, header_in-is}
 use Rattle.vx_srlfmt.proofs.Lengths.{length-header_fields}
-use Rattle.vx_srlfmt.proofs.Told.{sealed_from, from_sealed, sealed-is, not_both}
+use Rattle.vx_srlfmt.proofs.Told.{not_both}
 use Rattle.vx_srlfmt.proofs.header.get_header.Goals.{else-can_spell-via-then-can_spell+then-is_spelled+else-is_none, else-can_spell-via-then-can_spell+else-is_spelled, else-can_spell-via-else-can_spell}
 use Rattle.vx_srlfmt.proofs.header.get_header.Goals as goal
 

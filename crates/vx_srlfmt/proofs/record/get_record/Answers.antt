@@ -1,9 +1,9 @@
 -- `get_record`: clauses seen, only and damaged.
 use Rattle.std.proofs.Common.{arith, ◌≡◌, take}
 use Rattle.vx_wire.specs.Numbers.{be_bytes}
+use Rattle.vx_wire.proofs.NumberLemmas.{magic_is}
 use Rattle.vx_srlfmt.specs.Records.{record_magic}
 use Rattle.vx_srlfmt.proofs.RecordAgain.{begins_record}
-use Rattle.vx_srlfmt.proofs.Numbers.{magic_is}
 use Rattle.vx_srlfmt.proofs.RecordLaws.{front_record, seen_only, seen_damaged}
 use Rattle.vx_srlfmt.proofs.record.get_record.Goals as goal
 

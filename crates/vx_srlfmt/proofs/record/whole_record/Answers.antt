@@ -1,11 +1,12 @@
 -- `whole_record`: its result.
 use Rattle.std.proofs.Common.{◌≡◌, ◌∙◌, ap, sym, subst, refl}
 use Rattle.vx_wire.specs.Seals.{filled}
+use Rattle.vx_wire.proofs.SealLemmas.{sealed-is}
 use Rattle.vx_srlfmt.specs.Records.{record_fields, record_block, CanSpellHead}
 use Rattle.vx_srlfmt.specs.declared.record.RecordHead.{RecordHead}
 use Rattle.vx_srlfmt.proofs.RecordAgain.{head_in-is}
 use Rattle.vx_srlfmt.proofs.RecordLaws.{front_record}
-use Rattle.vx_srlfmt.proofs.Told.{sealed-is, not_both}
+use Rattle.vx_srlfmt.proofs.Told.{not_both}
 use Rattle.vx_srlfmt.proofs.record.whole_record.Goals.{else-can_spell-via-then-can_spell+else-is_spelled, else-can_spell-via-else-can_spell}
 use Rattle.vx_srlfmt.proofs.record.whole_record.Goals as goal
 

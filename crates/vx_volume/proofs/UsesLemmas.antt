@@ -10,19 +10,19 @@ use Rattle.vx_config.specs.declared.config.Config.{Config}
 use Rattle.vx_config.specs.declared.entry.PlexEntry.{PlexEntry}
 use Rattle.vx_config.specs.declared.entry.Subdisk.{Subdisk}
 use Rattle.vx_config.specs.declared.entry.VolumeEntry.{VolumeEntry}
-use Rattle.vx_layout.specs.Places.{disk_blocks, has_plex, linear, located, place, place_in, place_or, plex_at, plex_in, subdisk_blocks}
+use Rattle.vx_layout.specs.Places.{disk_blocks, has_plex, lies_on, linear, located, place, place_in, place_or, plex_at, plex_in, subdisk_blocks}
 use Rattle.vx_layout.proofs.Pairs.{all_at}
 use Rattle.vx_layout.proofs.Placing.{filled, from_sound, linear_within, region_of, subdisk_region}
-use Rattle.vx_volume.specs.Plexes.{Inside, lies_on, uses, uses_or}
+use Rattle.vx_volume.specs.Plexes.{Inside, uses, uses_or}
 
 -- a plex that is there
-record TherePlex (c : Config) (v p : ℕ) : Type 0 where
-  volume : VolumeEntry
-  plex : PlexEntry
-  at_v : slice_get c.volumes v ≡ Some volume
-  at_p : slice_get volume.plexes p ≡ Some plex
+pub record TherePlex (c : Config) (v p : ℕ) : Type 0 where
+  pub volume : VolumeEntry
+  pub plex : PlexEntry
+  pub at_v : slice_get c.volumes v ≡ Some volume
+  pub at_p : slice_get volume.plexes p ≡ Some plex
 
-there_plex : (c : Config) (v p : ℕ) → IsTrue (has_plex c v p) → TherePlex c v p
+pub there_plex : (c : Config) (v p : ℕ) → IsTrue (has_plex c v p) → TherePlex c v p
 unfolding has_plex
 there_plex c v p is = by_volume (slice_get c.volumes v) refl
   where
@@ -46,8 +46,16 @@ found_on (s ∷ ss) k lt = by (nat_lt k s.blocks) refl (λ out. found_on ss (k -
     by true is more = ap (λ (b : Bool). b || list_any (lies_on s.disk) ss) (eq-eqb s.disk s.disk refl)
     by false is more = or_true (lies_on (located ss (k - s.blocks)).0 s) _ (more (elim (cases_lt k s.blocks) [ inl lt ↦ absurd (let clash : true ≡ false = sym (lt-ltb k s.blocks lt) ∙ is in cc) | inr le ↦ le ]))
 
+-- a disk with blocks is there
+pub disk_there : (c : Config) (d : ℕ) → 0 < disk_blocks c.disks d → d < length c.disks
+disk_there c d some = elim (cases_lt d (length c.disks)) [
+  | inl lt ↦ lt
+  | inr le ↦ absurd (let none : disk_blocks c.disks d ≡ 0 = ap blocks_or (slice_get_past c.disks d le) in omega (arith, none, some))
+]
+
 module _ (c : Config) (sound : is_sound c ≡ true) (v p : ℕ) (there : TherePlex c v p) where
-  plex_uses : (k : ℕ) → Inside c v k → IsTrue (uses c v p (place c v p k).0)
+  -- a block of it lies on a disk that it uses
+  pub plex_uses : (k : ℕ) → Inside c v k → IsTrue (uses c v p (place c v p k).0)
   unfolding uses place
   plex_uses k inside = by there
     where
@@ -60,13 +68,8 @@ module _ (c : Config) (sound : is_sound c ≡ true) (v p : ℕ) (there : TherePl
           let at : place_or (slice_get c.volumes v) p k ≡ located t.plex.subdisks (linear (column_blocks t.volume) t.volume.ncol t.volume.width k) = ap (λ (o : Option VolumeEntry). place_or o p k) t.at_v ∙ ap (λ (o : Option PlexEntry). place_in t.volume o k) t.at_p in
           ap (λ (o : Option PlexEntry). uses_or (place_or (slice_get c.volumes v) p k).0 o) plex ∙ ap (λ (q : ℕ × ℕ). list_any (lies_on q.0) t.plex.subdisks) at ∙ found_on t.plex.subdisks (linear (column_blocks t.volume) t.volume.ncol t.volume.width k) within
 
-  disk_there : (d : ℕ) → 0 < disk_blocks c.disks d → d < length c.disks
-  disk_there d some = elim (cases_lt d (length c.disks)) [
-    | inl lt ↦ lt
-    | inr le ↦ absurd (let none : disk_blocks c.disks d ≡ 0 = ap blocks_or (slice_get_past c.disks d le) in omega (arith, none, some))
-  ]
-
-  plex_disk : (d : ℕ) → IsTrue (uses c v p d) → d < length c.disks
+  -- and a disk that it uses is there
+  pub plex_disk : (d : ℕ) → IsTrue (uses c v p d) → d < length c.disks
   unfolding uses
   plex_disk d is = by there
     where
@@ -87,7 +90,7 @@ module _ (c : Config) (sound : is_sound c ≡ true) (v p : ℕ) (there : TherePl
           omega (arith, lt, w.1.2)
         where
           region_there : (s : Subdisk) → in_region c.disks s ≡ true → s.disk < length c.disks
-          region_there s is = let r = region_of c.disks s is in disk_there s.disk (omega (arith, r.end))
+          region_there s is = let r = region_of c.disks s is in disk_there c s.disk (omega (arith, r.end))
 
 -- a block of a plex lies on a disk that it uses, which is there
 pub has_uses : (c : Config) → is_sound c ≡ true → (v p : ℕ) → IsTrue (has_plex c v p) → (k : ℕ) → Inside c v k → IsTrue (uses c v p (place c v p k).0)

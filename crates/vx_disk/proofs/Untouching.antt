@@ -1,9 +1,9 @@
--- Calls that leave the disks of a rack untouched, one after the other.
-use Rattle.std.proofs.Common.{Option, Some, None, refl, ◌∙◌}
+-- Disks of which a call touches none.
+use Rattle.std.proofs.Common.{◌∙◌, None, Option, Some, refl}
 use Rattle.vx_disk.specs.Causes.{OnDisks}
 use Rattle.vx_disk.specs.Disks.{Disks, Untouched}
 
-untouched_twice : (a b c : Disks) → Untouched a b → Untouched b c → Untouched a c
+pub untouched_twice : (a b c : Disks) → Untouched a b → Untouched b c → Untouched a c
 untouched_twice a b c one two = record {
   blocks = record {
     stable = λ u k. two.blocks.stable u k ∙ one.blocks.stable u k;
