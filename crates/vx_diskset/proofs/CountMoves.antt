@@ -4,13 +4,14 @@ use Rattle.std.specs.Prelude.{Option, Some, None}
 use Rattle.vx_disk.specs.Counts.{Rose}
 use Rattle.vx_disk.specs.Shelf.{Meaning}
 use Rattle.vx_model.specs.declared.site.PlexState.{PlexState}
+use Rattle.vx_config.specs.Changes.{Matched}
 use Rattle.vx_config.specs.declared.config.Config.{Config}
 use Rattle.vx_config.specs.declared.entry.DiskEntry.{DiskEntry}
 use Rattle.vx_config.specs.declared.entry.PlexEntry.{PlexEntry}
 use Rattle.vx_config.specs.declared.entry.VolumeEntry.{VolumeEntry}
-use Rattle.vx_grouped.specs.ConfigMoves.{AnyRose, DiskMoves, InBoth, LosesSome, PlexMoves, StateMoves, VolumeMoves, none_again}
+use Rattle.vx_grouped.specs.ConfigMoves.{AnyRose, DiskMoves, LosesSome, PlexMoves, StateMoves, VolumeMoves, none_again}
 
-in_both : {A : Type 0} (P Q : A → A → Type 0) (x y : Option A) → ((a b : A) → P a b → Q a b) → InBoth P x y → InBoth Q x y
+in_both : {A : Type 0} (P Q : A → A → Type 0) (x y : Option A) → ((a b : A) → P a b → Q a b) → Matched P x y → Matched Q x y
 in_both P Q None None go it = it
 in_both P Q None (Some b) go it = it
 in_both P Q (Some a) None go it = it

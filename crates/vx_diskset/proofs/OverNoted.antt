@@ -18,7 +18,7 @@ use Rattle.vx_model.specs.declared.units.Units.{Units}
 use Rattle.vx_grouped.specs.ConfigMoves.{LosesSome}
 use Rattle.vx_grouped.specs.GroupNotes.{NotesConfig, noted_config}
 use Rattle.vx_grouped.specs.GroupSites.{CutNoted, DownNoted, UpNoted, idle_disks, site_disks, with_note}
-use Rattle.vx_grouped.specs.SiteEnds.{ConfigGoes, HasNow}
+use Rattle.vx_grouped.specs.SiteEnds.{ConfigGoes, HasNow, is_off}
 use Rattle.vx_grouped.specs.declared.group_site.GroupSite.{GroupSite}
 use Rattle.vx_grouped.specs.declared.group_site.GroupSite.TheVariants.{Up, Deported, Down, Marked, Gone}
 use Rattle.vx_grouped.proofs.NotedLemmas.{noted_is}
@@ -26,7 +26,6 @@ use Rattle.vx_grouped.proofs.SiteLemmas.{away_as}
 use Rattle.vx_diskset.specs.Aboves.{InsideOf, IsInside, above_in, above_site, below_site, site_in}
 use Rattle.vx_diskset.specs.Asked.{IsRawSet}
 use Rattle.vx_diskset.specs.Blames.{IsGroupDisk}
-use Rattle.vx_diskset.specs.DiskSets.{is_off}
 use Rattle.vx_diskset.specs.GroupSets.{cut_value}
 use Rattle.vx_diskset.specs.Holds.{KeptBeside}
 use Rattle.vx_diskset.specs.Layouts.{config_units, units_by, units_of, units_or}

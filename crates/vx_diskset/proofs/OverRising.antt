@@ -4,12 +4,12 @@ use Rattle.std.specs.Prelude.{Err, None, Ok, Option}
 use Rattle.vx_disk.specs.Counts.{Rose}
 use Rattle.vx_disk.specs.declared.shelf.Shelf.{Ghosts}
 use Rattle.vx_grouped.specs.GroupSites.{DownNoted, UpNoted, site_disks, with_note}
-use Rattle.vx_grouped.specs.SiteEnds.{MayCrashSite, burned_site}
+use Rattle.vx_grouped.specs.SiteEnds.{MayCrashSite}
 use Rattle.vx_grouped.specs.Volumes.{GoesOff}
 use Rattle.vx_grouped.specs.declared.group_site.GroupSite.{GroupSite}
 use Rattle.vx_grouped.specs.declared.group_site.GroupSite.TheVariants.{Deported, Down, Gone, Marked, Up}
 use Rattle.vx_history.specs.Groups.{GroupNode}
-use Rattle.vx_history.specs.Steps.{crashed}
+use Rattle.vx_history.specs.Steps.{crashed, worked}
 use Rattle.vx_history.specs.World.{Node}
 use Rattle.vx_model.specs.declared.errors.Stop.TheVariants.{No as Refused}
 use Rattle.vx_model.specs.declared.no.No.{No}
@@ -40,7 +40,7 @@ module _ {R : Type 0} {g : Ghosts R} where
   module _ (n : Node) (note : GroupNode) (cut : Option CutWrite) (old mid : GroupSite R g) (s : OverSet R g) where
     pub over_kept : (kept : Option KeptWrite) → LooksKept n note cut old mid (Ok kept) → site_in s ≡ mid → s.cut ≡ None → RisesOver n note cut old (Over s) (Ok kept)
     over_kept kept it same none = (
-      subst (λ (e : GroupSite R g). UpNoted (burned_site n) note e) (sym same) it.0,
+      subst (λ (e : GroupSite R g). UpNoted (worked n) note e) (sym same) it.0,
       ap (λ (k : Option CutWrite). cut_value k) none,
       it.1,
     )

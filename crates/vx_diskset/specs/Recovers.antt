@@ -93,7 +93,7 @@ module _ {R : Type 0} {g : Ghosts R} where
 
   -- the same where a group came up with its replicated volume group
   abbrev pub RisesOver : Node → GroupNode → Option CutWrite → GroupSite R g → DiskSet R g → Result (Option KeptWrite) Stop → Type 0
-  RisesOver n note cut old new (Ok kept) = AtOver (UpNoted (burned_site n) note) new × (cut_in new ≡ None) × KeptIs note (site_disks old) cut kept
+  RisesOver n note cut old new (Ok kept) = AtOver (UpNoted (worked n) note) new × (cut_in new ≡ None) × KeptIs note (site_disks old) cut kept
   RisesOver n note cut old new (Err (Refused (Device disk))) =
       AtOver (DownNoted (crashed (with_note (still_cut cut note) n) 0) (still_cut cut note)) new × (cut_in new ≡ cut_value cut) × CutFits note cut
       × AtOver (λ e. Rose ((site_disks old).disk_faults disk) ((site_disks e).disk_faults disk)) new

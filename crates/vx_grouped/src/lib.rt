@@ -37,6 +37,6 @@ pub use leaving::deport_group;
 pub use making::make_volume_of;
 pub use plain::{read_plain, write_plain};
 pub use plexes::{att_plex, det_plex};
-pub use tracing::{trace, traced, untrace, untraced};
 pub use site_plain::is_off;
+pub use tracing::{trace, traced, untrace, untraced};
 pub use watching::{att_watched, det_watched, read_watched, write_watched};

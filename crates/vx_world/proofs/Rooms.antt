@@ -1,5 +1,6 @@
 -- No event changes the log and the data volumes of a site that has some.
 use Rattle.std.proofs.Common.{◌≡◌, ◌∙◌, ℕ, ◌+◌, ◌-◌, List, [], ◌∷◌, ◌++◌, refl, ap, sym, subst, arith, Bool, true, false}
+use Rattle.std.proofs.lemmas.Bool.{not-false}
 use Rattle.std.specs.Prelude.{leb, not, eqb, ltb, ◌&&◌, ◌||◌, if◌then◌else◌, Option, Some, None, bytes_eq}
 use Rattle.vx_model.specs.Answer.{is_too_large}
 use Rattle.vx_model.specs.Content.{Content, Write, blocks_in}
@@ -15,6 +16,7 @@ use Rattle.vx_model.specs.declared.site.Mark.TheVariants.{Consistent}
 use Rattle.vx_model.specs.declared.site.SiteState.{SiteState}
 use Rattle.vx_model.specs.declared.site.SiteState.TheVariants.{Bare, Up, Deported, Down}
 use Rattle.vx_history.proofs.GroupLemmas.{group_facts}
+use Rattle.vx_history.proofs.States.{bare_is}
 use Rattle.vx_history.proofs.Updates.{by_test, eqb_equal}
 use Rattle.vx_history.specs.Admission.{Admitted, Goes, Held_by}
 use Rattle.vx_history.specs.Events
@@ -41,7 +43,6 @@ use Rattle.vx_history.specs.declared.receiver.RState.{RState}
 use Rattle.vx_history.specs.declared.sender.SEvent.{SEvent}
 use Rattle.vx_history.specs.declared.sender.SEvent.TheVariants.{Connect as ConnectLink, Cut as CutLink, DataAck as HearDataAck, Hello as HearHello, NetAck as HearNetAck, Pause as PauseLink, Pump as PumpLink, Resume as ResumeLink}
 use Rattle.vx_world.proofs.Guards
-use Rattle.vx_world.proofs.Lists.{not_false}
 use Rattle.vx_world.proofs.Nodes
 use Rattle.vx_world.specs.Lines.{SameRoom}
 
@@ -346,7 +347,7 @@ module _ (w : World) (i : ℕ) where
         (λ _. Guards.unless_holds Stays (not (is_bare n.state)) WrongRole w shaped still
         (λ bare. Guards.unless_holds Stays (not (is_raw_shape n.disks n.blocks)) Size w o still
         (λ _. begun_room q (ring_of n.blocks) (raw_volumes 1 (n.disks - 2) n.blocks) (raw_content n.disks n.blocks)
-        (Guards.bare_is n.state (not_false (is_bare n.state) bare)))))
+        (bare_is n.state (not-false (is_bare n.state) bare)))))
     outcome_room (Group q) gives = Guards.at_site_holds Stays w q _ still (λ _. group_room q (w.nodes q).state refl)
     outcome_room (Volumes q log xs) gives =
         let n : Node = w.nodes q in
@@ -356,7 +357,7 @@ module _ (w : World) (i : ℕ) where
         (λ _. Guards.at_work_holds Stays w q tested still
         (λ _ runs. Guards.unless_holds Stays (not (Events.is_plain_group n)) WrongRole w o still
         (λ plain. unmoved_at w i q (volumes_set log xs n)
-        (volumes_room q (volumes_set log xs n) gives runs (not_false (Events.is_plain_group n) plain)))))
+        (volumes_room q (volumes_set log xs n) gives runs (not-false (Events.is_plain_group n) plain)))))
     outcome_room other gives = calm_outcome other tt
 
     pub step_room : (e : Event) → GivesNone e (w.nodes i) → Unmoved (w.nodes i) ((step w e).world.nodes i)

@@ -69,7 +69,7 @@ outcome_keeps w (Volumes q log xs) s =
     at_site_keeps w q (at_work w q tested) s
     (λ _. at_work_keeps w q tested s
     (λ up _. unless_keeps (not (Events.is_plain_group (w.nodes q))) WrongRole w o s
-    (λ plain. volumes_keeps w q log xs s up (not_false (Events.is_plain_group (w.nodes q)) plain))))
+    (λ plain. volumes_keeps w q log xs s up (not-false (Events.is_plain_group (w.nodes q)) plain))))
 outcome_keeps w (WriteAt p volume start bytes fails) s = write_keeps w p (record { volume = volume; start = start; bytes = bytes }) fails s
 outcome_keeps w (Read p volume start count) s = on_volume_keeps w p volume start count false _ s (λ _ _ _. s)
 outcome_keeps w (Apply q count reached) s =

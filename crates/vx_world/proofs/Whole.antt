@@ -67,7 +67,7 @@ outcome_leaves w (Volumes q log xs) s =
     Guards.at_site_holds (Keeps w) w q (at_work w q tested) (keeps_same w)
     (λ _. Guards.at_work_holds (Keeps w) w q tested (keeps_same w)
     (λ up _. Guards.unless_holds (Keeps w) (not (Events.is_plain_group (w.nodes q))) WrongRole w o (keeps_same w)
-    (λ plain. volumes_leaves w q log xs s up (not_false (Events.is_plain_group (w.nodes q)) plain))))
+    (λ plain. volumes_leaves w q log xs s up (not-false (Events.is_plain_group (w.nodes q)) plain))))
 outcome_leaves w (WriteAt p volume start bytes fails) s = write_leaves w p (record { volume = volume; start = start; bytes = bytes }) fails s
 outcome_leaves w (Read p volume start count) s = Guards.on_volume_holds (Keeps w) w p volume start count false _ (keeps_same w) (λ _ _ _. keeps_same w)
 outcome_leaves w (Apply q count reached) s =
