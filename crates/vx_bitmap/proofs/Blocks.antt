@@ -11,12 +11,12 @@ use Rattle.std.proofs.lemmas.List.{get_or-take, get_or-drop}
 use Rattle.std.proofs.lemmas.Slice.{take-put_mid_below, drop-put_mid, between-put_mid}
 use borrow.Rule.Slice.PartMut.{put_mid}
 use Rattle.vx_model.specs.Content.{block_of}
-use Rattle.vx_disk.specs.Moves.{Blocks, Moves, Run}
-use Rattle.vx_disk.specs.Shelf.{Covers, Each, Goes, Image, Keeps, KeepsAll, Meaning, Or, Written, piece}
-use Rattle.vx_disk.proofs.Moving.{kept_beside, of_goes}
+use Rattle.vx_disk.specs.Moves.{Moves, Run}
+use Rattle.vx_disk.specs.Shelf.{Each, Goes, Image, Keeps, KeepsAll, Meaning, Or, Written, piece}
+use Rattle.vx_disk.proofs.Moving.{of_goes}
 use Rattle.vx_disk.proofs.Runs.{weaker}
-use Rattle.vx_bitmap.specs.Bits.{AllAre, bit, Between, Changed, is_among, is_marked}
-use Rattle.vx_bitmap.specs.Maps.{ChangedAt, Changing, Map, MapOn, map_block_count, is_marked_in, regions_mapped}
+use Rattle.vx_bitmap.specs.Bits.{AllAre, bit, Changed, is_among, is_marked}
+use Rattle.vx_bitmap.specs.Maps.{ChangedAt, Changing, Map, MapOn, map_block_count, is_marked_in}
 
 -- a region is marked where its block has it marked
 pub by_block : (bytes : List ℕ) (r : ℕ) → is_marked bytes r ≡ is_marked (block_of bytes (r / 4096)) (r % 4096)

@@ -1,8 +1,8 @@
 -- A map that was read stands where a crash leaves one value at most in each of its blocks.
-use Rattle.std.proofs.Common.{◌≡◌, ◌∙◌, ℕ, ◌+◌, ◌-◌, ◌*◌, ◌/◌, ◌%◌, ◌<◌, ◌≤◌, Bool, true, false, List, length, take, drop, IsTrue, ⊎_elim, refl, sym, ap, subst, arith}
+use Rattle.std.proofs.Common.{◌≡◌, ◌∙◌, ℕ, ◌+◌, ◌-◌, ◌*◌, ◌<◌, Bool, true, false, List, take, drop, ⊎_elim, refl, ap, arith}
 use Rattle.vx_model.specs.Content.{block_of}
 use Rattle.vx_disk.specs.Moves.{Run, Settled}
-use Rattle.vx_disk.specs.Shelf.{Covers, Goes, Keeps, Lawful, Meaning, Nothing, Read, piece}
+use Rattle.vx_disk.specs.Shelf.{Goes, Lawful, Meaning, Nothing, Read, piece}
 use Rattle.vx_bitmap.specs.Maps.{Map, MapOn, map_block_count}
 
 module _ (old new : Meaning) (map : Map) (lawful : Lawful old) (read : Read old map.unit map.first map.bytes) (goes : Goes Nothing old new) (settled : Settled old (Run map.unit map.first (map_block_count map))) where

@@ -1,19 +1,20 @@
 -- A run of regions that passes the ends of blocks.
-use Rattle.std.proofs.Common.{◌≡◌, ◌∙◌, ◌⊎◌, inl, inr, ⊎_elim, ℕ, ◌+◌, ◌-◌, ◌*◌, ◌/◌, ◌%◌, ◌<◌, ◌≤◌, Bool, true, false, List, length, IsTrue, refl, sym, ap, subst, arith}
+use Rattle.std.proofs.Common.{◌≡◌, ◌∙◌, ◌⊎◌, inl, inr, ⊎_elim, ℕ, ◌+◌, ◌*◌, ◌/◌, ◌%◌, ◌<◌, ◌≤◌, Bool, true, false, List, length, refl, sym, ap, arith}
 use Rattle.std.specs.Prelude.{◌&&◌, ◌==◌, leb, ltb, if◌then◌else◌, min, max, Err}
-use Rattle.std.proofs.lemmas.Bool.{and_parts, and_from, cases_lt, lt-ltb, le-leb, leb-true}
+use Rattle.std.proofs.lemmas.Bool.{and_parts, cases_lt, lt-ltb, le-leb, leb-true}
 use Rattle.std.proofs.lemmas.Bool.Decides.{nat_tests}
+use Rattle.std.proofs.lemmas.Nat.{mul-le}
+use Rattle.std.proofs.Math.Nat.{add-mul}
 use Rattle.vx_disk.specs.Causes.{Cause, DeviceCause, refusal_of}
-use Rattle.vx_disk.specs.Counts.{Rose}
 use Rattle.vx_disk.specs.Moves.{Moves, Run}
-use Rattle.vx_disk.specs.Shelf.{Goes, Image, Meaning, Or, Values}
+use Rattle.vx_disk.specs.Shelf.{Goes, Meaning, Or, Values}
 use Rattle.vx_disk.specs.declared.shelf.ShelfError.{ShelfError}
 use Rattle.vx_disk.specs.declared.shelf.ShelfError.TheVariants.{Fault, Down}
 use Rattle.vx_disk.proofs.Moving.{goes_on, still}
 use Rattle.vx_disk.proofs.Runs.{both_Goes, weaker}
 use Rattle.vx_bitmap.specs.Bits.{AllAre, Between, Changed, ChangedBelow, is_among, is_marked}
-use Rattle.vx_bitmap.specs.Maps.{ChangedAt, Changing, Map, MapOn, map_block_count, is_marked_in, marks_with, regions_mapped}
-use Rattle.vx_bitmap.proofs.Marks.{below_end, below_start}
+use Rattle.vx_bitmap.specs.Maps.{ChangedAt, Changing, MapOn, marks_with}
+use Rattle.vx_bitmap.proofs.Marks.{below_end}
 
 -- ---- tests of the run and of its part in a block
 
@@ -201,3 +202,7 @@ module _ (unit first start end n from to : ℕ) (value : Bool) (old mid_bytes : 
         ∙ ap (λ (b : Bool). if b then value else is_marked old r) (ap (λ (b : Bool). is_among start end r && b) (not_below r n (omega (arith, low, from_is))) ∙ and_no (is_among start end r))
         ∙ all.each r (omega (arith, low, from_is)) (omega (arith, high, to_is));
   }
+
+-- a slot ends where a later one begins
+pub slot_before : (k s stride : ℕ) → k < s → k * stride + stride ≤ s * stride
+slot_before k s stride lt = let one = mul-le (k + 1) stride s stride (omega (arith, lt)) (omega arith) in let two : (k + 1) * stride ≡ k * stride + 1 * stride = add-mul k 1 stride in omega (arith, one, two)

@@ -1,5 +1,5 @@
 -- Bits of bytes, one for each region.
-use Rattle.std.specs.Prelude.{◌≡◌, ◌⊎◌, ℕ, ◌+◌, ◌-◌, ◌/◌, ◌%◌, ◌^◌, ◌==◌, ◌<◌, ◌≤◌, Bool, true, false, ◌&&◌, leb, ltb, if◌then◌else◌, List, slice_index}
+use Rattle.std.specs.Prelude.{◌≡◌, ◌⊎◌, ℕ, ◌+◌, ◌-◌, ◌/◌, ◌%◌, ◌^◌, ◌==◌, ◌<◌, ◌≤◌, Bool, true, ◌&&◌, leb, ltb, if◌then◌else◌, List, slice_index}
 
 -- bit k of a byte, from the lowest
 abbrev pub bit : ℕ → ℕ → Bool

@@ -39,7 +39,7 @@ pub record MapOn (map : Map) (m : Meaning) : Type 0 where
 
 -- whether an image has a region marked
 abbrev pub is_marked_in : Map → Image → ℕ → Bool
-is_marked_in map i r = is_marked (i map.unit (map.first + r / 4096)) (r % 4096)
+is_marked_in map i r = is_marked (i map.unit (map.first + r / MAP_REGIONS)) (r % MAP_REGIONS)
 
 -- an image in a change of a run of regions: each of them is as it was or changed, and the others are as they were
 pub record Changing (map : Map) (start end : ℕ) (value : Bool) (m : Meaning) (i : Image) : Type 0 where
@@ -47,7 +47,7 @@ pub record Changing (map : Map) (start end : ℕ) (value : Bool) (m : Meaning) (
 
 -- the marks of a map of which this block has another value
 abbrev pub marks_with : Map → ℕ → List ℕ → ℕ → Bool
-marks_with map b x r = if map.first + r / 4096 == b then is_marked x (r % 4096) else is_marked map.bytes r
+marks_with map b x r = if map.first + r / MAP_REGIONS == b then is_marked x (r % MAP_REGIONS) else is_marked map.bytes r
 
 -- a value of a block of a map in such a change: each region of the run in this block is as it was or changed, and the others are as they were
 pub record ChangedAt (map : Map) (start end : ℕ) (value : Bool) (m : Meaning) (u b : ℕ) (x : List ℕ) : Type 0 where

@@ -1,6 +1,7 @@
 // A map of regions, kept in memory beside its blocks.
 ghost use Rattle.std.specs.Prelude.{◌≡◌, ◌+◌, ◌*◌, ◌/◌, ◌<◌, ◌≤◌, ◌%◌, true, false, ℕ, IfOk, IfErr, IsFalse, OnOk, length};
 ghost use Rattle.std.specs.Int.{div_ceil};
+ghost use Rattle.vx_model.specs.declared.limits.TheConstants.{MOST_MAP_BLOCKS};
 ghost use Rattle.vx_bitmap.specs.Bits.{AllAre, Between, Changed, is_marked as is_marked_is};
 ghost use Rattle.vx_bitmap.specs.Maps.{ChangedAt, Changing, IsRead, Lies, LoadCause, Loaded, Map, MapOn, UnitCause, map_block_count, SamePlace, regions_mapped};
 ghost use Rattle.vx_disk.specs.Causes.{DeviceCause};
@@ -25,13 +26,14 @@ pub struct Bitmap {
 
 impl Model for Bitmap {
     ghost use Rattle.std.specs.Prelude.{◌≡◌, ◌%◌, length};
+    ghost use Rattle.vx_model.specs.declared.limits.TheConstants.{BLOCK};
     ghost use Rattle.vx_bitmap.specs.Maps.{Map};
 
     ghost Value = { Map };
 
     ghost view = { λ b. record { unit = b.unit; first = b.first; bytes = b.bytes.items } };
 
-    ghost invariant = { λ b. length b.bytes.items % 512 ≡ 0 };
+    ghost invariant = { λ b. length b.bytes.items % BLOCK ≡ 0 };
 }
 
 impl Bitmap {
@@ -47,7 +49,7 @@ impl Bitmap {
         regions: u64,
     ) -> Result<Bitmap, Stop>
         requires some { 0 < regions }
-        requires few { regions ≤ 65536 * MAP_REGIONS }
+        requires few { regions ≤ MOST_MAP_BLOCKS * MAP_REGIONS }
         requires exists { unit < (S.meaning shelf.old).units }
         requires within { first + div_ceil regions MAP_REGIONS ≤ (S.meaning shelf.old).size unit }
         requires up { IsFalse (S.meaning shelf.old).down }

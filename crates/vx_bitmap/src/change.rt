@@ -8,7 +8,7 @@ ghost use Rattle.vx_disk.specs.Shelf.{Goes};
 
 use crate::run::mark_run;
 use vx_disk::{Shelf, ShelfError, put};
-use vx_model::limits::BLOCK;
+use vx_model::limits::{BLOCK, MAP_REGIONS};
 
 // Changes a run of regions of one block, durably. Where all of them have that value already it makes no call.
 fn change_block<S: Shelf>(
@@ -24,8 +24,8 @@ fn change_block<S: Shelf>(
     requires lies { Lies (record { unit = unit; first = first; bytes = bytes.old }) (S.meaning shelf.old) }
     requires whole { length bytes.old % BLOCK ≡ 0 }
     requires inside { block < length bytes.old / BLOCK }
-    requires from { 4096 * block ≤ start }
-    requires to { end < 4096 * block + 4096 }
+    requires from { MAP_REGIONS * block ≤ start }
+    requires to { end < MAP_REGIONS * block + MAP_REGIONS }
     requires some { start ≤ end }
     ensures moves { Moves (Run unit first (length bytes.old / BLOCK)) (Changing (record { unit = unit; first = first; bytes = bytes.old }) start end value (S.meaning shelf.old)) (S.meaning shelf.old) (S.meaning shelf.new) }
     ensures writes { Goes (ChangedAt (record { unit = unit; first = first; bytes = bytes.old }) start end value (S.meaning shelf.old)) (S.meaning shelf.old) (S.meaning shelf.new) }
@@ -39,7 +39,12 @@ fn change_block<S: Shelf>(
     let at = (BLOCK as u64 * block) as usize;
     let mut fresh = [0; BLOCK];
     fresh.copy_from_slice(&bytes[at..at + BLOCK]);
-    mark_run(&mut fresh, start - 4096 * block, end - 4096 * block, value);
+    mark_run(
+        &mut fresh,
+        start - MAP_REGIONS * block,
+        end - MAP_REGIONS * block,
+        value,
+    );
     if fresh[..] == bytes[at..at + BLOCK] {
         return Ok(());
     }
@@ -71,9 +76,9 @@ pub(crate) fn change<S: Shelf>(
     ensures up { ShelfCause unit (S.meaning shelf.old) (S.meaning shelf.new) result }
     ensures nothing { AllAre start end value (is_marked bytes.old) → shelf.new ≡ shelf.old }
 {
-    for block in start / 4096..end / 4096 + 1 {
-        let from = start.max(4096 * block);
-        let to = end.min(4096 * block + 4095);
+    for block in start / MAP_REGIONS..end / MAP_REGIONS + 1 {
+        let from = start.max(MAP_REGIONS * block);
+        let to = end.min(MAP_REGIONS * block + (MAP_REGIONS - 1));
         change_block(shelf, unit, first, bytes, block, from, to, value)?;
     }
     Ok(())

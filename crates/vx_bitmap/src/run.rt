@@ -1,5 +1,6 @@
 // A run of regions within one block.
 ghost use Rattle.std.specs.Prelude.{◌≡◌, ◌<◌, ◌≤◌, ℕ, length};
+ghost use Rattle.vx_model.specs.declared.limits.TheConstants.{MAP_REGIONS};
 ghost use Rattle.vx_bitmap.specs.Bits.{AllAre, Changed, is_marked};
 
 use crate::bit::with_bit;
@@ -7,8 +8,8 @@ use vx_model::limits::BLOCK;
 
 /// Marks the regions of a block from `start` to `end`, both included, or takes their marks off.
 pub(crate) fn mark_run(block: &mut [u8; BLOCK], start: u64, end: u64, value: bool)
-    requires last { end < 4096 }
-    ensures changed { Changed start end value 4096 (is_marked block.old) (is_marked block.new) }
+    requires last { end < MAP_REGIONS }
+    ensures changed { Changed start end value MAP_REGIONS (is_marked block.old) (is_marked block.new) }
     ensures still { AllAre start end value (is_marked block.old) → block.new ≡ block.old }
 {
     for r in start..end + 1 {

@@ -1,8 +1,7 @@
 -- The calls that stay of a legal history are one.
-use Rattle.std.proofs.Common.{◌≡◌, ◌⊎◌, ℕ, suc, ◌≤◌, List, [], ◌∷◌, map, refl, ap, sym, ◌∙◌, subst, ⊎_elim, arith}
+use Rattle.std.proofs.Common.{◌≡◌, ◌⊎◌, ℕ, suc, List, [], ◌∷◌, map, refl, ap, sym, ◌∙◌, subst, ⊎_elim, arith}
 use Rattle.vx_model.specs.declared.call.Call.{Call}
 use Rattle.vx_model.specs.declared.call.Call.TheVariants.{Read, Write as WriteBlocks}
-use Rattle.vx_model.specs.declared.call.Reply.{Reply}
 use Rattle.vx_model.specs.declared.call.Reply.TheVariants.{Refused}
 use Rattle.vx_model.specs.declared.no.No.TheVariants as no
 use Rattle.vx_turn.specs.declared.ask.Ask.{Ask}
@@ -15,7 +14,6 @@ use Rattle.vx_turn.specs.Volumes.{Volumes}
 use Rattle.vx_turn.specs.Acting.{Rises, CountRose, RepliesTo, volumes_after, head_after}
 use Rattle.vx_turn.specs.History.{Point, point_of, next_point, point_after, FollowsEntry, LegalFrom, Legal, asked}
 use Rattle.vx_settle.specs.Bringing.{Events}
-use Rattle.vx_burst_threads.specs.Planning.{IsStalled}
 use Rattle.vx_burst.specs.Finishing.{IsLeftOut, IsCallAsk, Stay, LeadsHistory}
 
 -- what is left out changes neither volumes nor the last number

@@ -40,7 +40,7 @@ use Rattle.vx_burst.proofs.Placings.{once-same}
 use Rattle.vx_burst.proofs.Underways.{job_entry}
 use Rattle.vx_burst.proofs.Ends.{classify, of-plan, IsMadeAt, IsOpen, IsIdle}
 use Rattle.vx_burst.specs.Setting.{AreBlank}
-use Rattle.vx_burst.specs.Finishing.{IsLeftOut, IsCallAsk, Stay, IsAskedAgain, unplaced, BurstUnderway, IsPlaced, BurstStage}
+use Rattle.vx_burst.specs.Finishing.{IsLeftOut, IsCallAsk, Stay, IsAskedAgain, unplaced, BurstUnderway, BurstStage}
 use Rattle.vx_burst.proofs.Ends.{Joined, begins-of}
 
 -- an entry that stands at a place, as it is found

@@ -1,5 +1,5 @@
 -- One call more has its place.
-use Rattle.std.proofs.Common.{◌≡◌, ◌≢◌, ◌⊎◌, ℕ, zero, suc, ◌+◌, ◌-◌, ◌<◌, ◌≤◌, ◌==◌, Bool, true, false, List, [], ◌∷◌, ◌++◌, length, map, take, refl, ap, sym, ◌∙◌, subst, ⊎_elim, inl, inr, arith, append_assoc, eq-eqb, ne_eqb, Option, Some, None, slice_get, slice_set}
+use Rattle.std.proofs.Common.{◌≡◌, ◌≢◌, ◌⊎◌, ℕ, zero, suc, ◌+◌, ◌-◌, ◌<◌, ◌≤◌, ◌==◌, Bool, true, false, List, [], ◌∷◌, ◌++◌, length, map, take, refl, ap, sym, ◌∙◌, subst, ⊎_elim, inl, inr, arith, append_assoc, eq-eqb, ne_eqb, Some, slice_get, slice_set}
 use Rattle.std.proofs.lemmas.List.{append-nil}
 use mathlib.Core.List.{map-append}
 use Rattle.vx_model.specs.declared.call.Call.{Call}
@@ -26,7 +26,7 @@ use Rattle.vx_settle.proofs.ManyPeers.{some-one, get-set, set-long, get-inside}
 use Rattle.vx_burst_threads.specs.declared.plan.Planned.{Planned}
 use Rattle.vx_burst_threads.specs.declared.plan.Answered.{Answered}
 use Rattle.vx_burst_threads.specs.Planning.{call_for}
-use Rattle.vx_burst.specs.Finishing.{AckWithin, Went, BurstUnderway, IsSoundRun, PeersApart, Excused, IsCalm, Splits, head_behind, IsLeftOut, IsCallAsk, IsOfPlan, Stay, IsAskedAgain, AreBefore, unplaced, ArePlaced, HasExcuse, IsPlaced, BurstStage, StagesOn, AskedOne}
+use Rattle.vx_burst.specs.Finishing.{AckWithin, BurstUnderway, PeersApart, Excused, IsCalm, head_behind, IsLeftOut, IsCallAsk, IsOfPlan, Stay, IsAskedAgain, AreBefore, unplaced, ArePlaced, HasExcuse, IsPlaced, BurstStage, StagesOn, AskedOne}
 use Rattle.vx_burst.proofs.Underways.{job_entry, jobs-among, asked-jobs, underway-brings, underway-acts}
 
 -- jobs at the end change nothing of what stays

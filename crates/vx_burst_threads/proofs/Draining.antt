@@ -1,9 +1,8 @@
 -- A worker goes on, one step more.
-use Rattle.std.proofs.Common.{◌≡◌, ◌≢◌, ◌⊎◌, ℕ, zero, suc, ◌+◌, ◌<◌, ◌≤◌, ◌==◌, Bool, true, false, List, [], ◌∷◌, ◌++◌, length, cond, refl, ap, sym, ◌∙◌, subst, ⊎_elim, inl, inr, arith, append_assoc, eq-eqb}
+use Rattle.std.proofs.Common.{◌≡◌, ◌⊎◌, ℕ, zero, suc, ◌<◌, ◌==◌, Bool, true, false, List, [], ◌∷◌, ◌++◌, length, cond, ap, sym, ◌∙◌, subst, ⊎_elim, inl, inr, arith, append_assoc, eq-eqb}
 use Rattle.std.proofs.lemmas.List.{append-nil}
 use Rattle.vx_turn.specs.declared.ask.Ask.{Ask}
 use Rattle.vx_turn.specs.declared.ask.Ask.TheVariants.{Ordered, Charged}
-use Rattle.vx_turn.specs.declared.ask.Said.{Said}
 use Rattle.vx_turn.specs.declared.ask.Said.TheVariants.{Worked}
 use Rattle.vx_turn.specs.declared.ask.Job.{Job}
 use Rattle.vx_turn.specs.declared.ask.Job.TheVariants.{Apply, Fetch, Acked, Wait}
@@ -14,15 +13,14 @@ use Rattle.vx_turn.specs.declared.meaning.Entry.{Entry}
 use Rattle.vx_turn.specs.declared.meaning.State.{State}
 use Rattle.vx_turn.specs.declared.passes.Pass.{Pass}
 use Rattle.vx_turn.specs.Acting.{LiesAmong}
-use Rattle.vx_turn.specs.History.{BeginsWith, HasLogged, places_from}
-use Rattle.vx_turn.specs.Passing.{seen_of, start_of, mine_of, IsSame, PassCalls, Jobs}
-use Rattle.vx_turn.proofs.Histories.{begins-self, begins-trans, among-split, logged-more}
+use Rattle.vx_turn.specs.History.{HasLogged, places_from}
+use Rattle.vx_turn.specs.Passing.{seen_of, start_of, mine_of, IsSame, Jobs}
+use Rattle.vx_turn.proofs.Histories.{among-split, logged-more}
 use Rattle.vx_settle.specs.declared.peer.Ack.{Ack}
 use Rattle.vx_settle.specs.declared.peer.Stand.{Stand}
-use Rattle.vx_settle.specs.Peers.{PeerGoes, Hands, Finishes}
+use Rattle.vx_settle.specs.Peers.{PeerGoes, Hands}
 use Rattle.vx_settle.proofs.Bringings.{goes-none, goes-then, among-one}
-use Rattle.vx_burst_threads.specs.Writing.{KeepsPass}
-use Rattle.vx_burst_threads.specs.Draining.{JobFits, JobsFit, Drained}
+use Rattle.vx_burst_threads.specs.Draining.{JobFits, Drained}
 use Rattle.vx_burst_threads.proofs.Making.{keeps-self, keeps-then, called-keeps, called-behind}
 
 pub fits-later : (a b : Stand) → PeerGoes a b → (ask : Ask) → JobFits a ask → JobFits b ask

@@ -1,5 +1,5 @@
 -- What was made is laid, one after another.
-use Rattle.std.proofs.Common.{◌≡◌, ◌≢◌, ◌⊎◌, ℕ, zero, suc, ◌+◌, ◌<◌, ◌≤◌, List, [], ◌∷◌, ◌++◌, length, refl, ap, sym, ◌∙◌, subst, ⊎_elim, inl, inr, arith, append_assoc, slice_get, slice_set, Some}
+use Rattle.std.proofs.Common.{◌≡◌, ◌≢◌, ◌⊎◌, suc, ◌≤◌, List, [], ◌∷◌, ◌++◌, length, refl, ap, sym, ◌∙◌, subst, ⊎_elim, inl, inr, arith, append_assoc, slice_get, slice_set, Some}
 use Rattle.std.proofs.lemmas.List.{append-nil}
 use Rattle.vx_turn.specs.Acting.{LiesAmong}
 use Rattle.vx_turn.proofs.Histories.{among-cons}

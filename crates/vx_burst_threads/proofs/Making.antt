@@ -1,7 +1,6 @@
 -- What a thread made, one more.
-use Rattle.std.proofs.Common.{◌≡◌, ◌≢◌, ◌⊎◌, ℕ, zero, suc, ◌+◌, ◌<◌, ◌≤◌, ◌==◌, ◌%◌, Bool, true, false, List, [], ◌∷◌, ◌++◌, length, take, cond, refl, ap, sym, ◌∙◌, subst, ⊎_elim, inl, inr, arith, append_assoc, length-append, eq-eqb, Option, Some, None, slice_get, vec_capacity}
+use Rattle.std.proofs.Common.{◌≡◌, ◌≢◌, ◌⊎◌, ℕ, zero, suc, ◌+◌, ◌<◌, ◌≤◌, ◌==◌, ◌%◌, Bool, true, false, List, [], ◌∷◌, ◌++◌, length, take, cond, refl, ap, sym, ◌∙◌, subst, ⊎_elim, inl, inr, arith, append_assoc, length-append, eq-eqb, Option, Some, slice_get, vec_capacity}
 use Rattle.std.proofs.lemmas.List.{append-nil}
-use Rattle.std.specs.Prelude.{MatchOption}
 use Rattle.vx_model.specs.declared.call.Reply.{Reply}
 use Rattle.vx_turn.specs.declared.ask.Ask.{Ask}
 use Rattle.vx_turn.specs.declared.ask.Ask.TheVariants.{Ordered}
@@ -11,9 +10,9 @@ use Rattle.vx_turn.specs.declared.meaning.Entry.{Entry}
 use Rattle.vx_turn.specs.declared.passes.Pass.{Pass}
 use Rattle.vx_turn.specs.Acting.{LiesAmong}
 use Rattle.vx_turn.specs.History.{BeginsWith}
-use Rattle.vx_turn.specs.Passing.{PassCalls, IsSame, seen_of, start_of, mine_of}
+use Rattle.vx_turn.specs.Passing.{PassCalls, IsSame, seen_of, mine_of}
 use Rattle.vx_turn.proofs.Histories.{begins-self, begins-trans, among-split}
-use Rattle.vx_turn.proofs.Dealing.{get-snoc, get-longer, get-last}
+use Rattle.vx_turn.proofs.Dealing.{get-snoc}
 use Rattle.vx_settle.proofs.Bringings.{among-left, among-right, among-one}
 use Rattle.vx_settle.proofs.ManyPeers.{some-one, get-inside}
 use Rattle.vx_burst_threads.specs.declared.plan.Planned.{Planned}

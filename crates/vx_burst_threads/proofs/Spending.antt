@@ -1,5 +1,5 @@
 -- Why a worker ended, one step more.
-use Rattle.std.proofs.Common.{◌≡◌, ◌⊎◌, ℕ, ◌+◌, ◌-◌, ◌^◌, ◌<◌, ◌≤◌, List, [], ◌∷◌, ◌++◌, refl, ap, sym, ◌∙◌, subst, ⊎_elim, inl, inr, arith}
+use Rattle.std.proofs.Common.{◌≡◌, ◌⊎◌, ℕ, ◌+◌, ◌-◌, ◌^◌, ◌≤◌, [], ◌∷◌, ◌++◌, refl, ap, sym, ◌∙◌, subst, ⊎_elim, inl, inr, arith}
 use Rattle.vx_model.specs.declared.call.Update.{Update}
 use Rattle.vx_turn.specs.declared.ask.Ask.TheVariants.{Charged}
 use Rattle.vx_turn.specs.declared.ask.Said.TheVariants.{Worked}
@@ -8,7 +8,7 @@ use Rattle.vx_turn.specs.declared.ask.JobReply.{JobReply}
 use Rattle.vx_turn.specs.declared.ask.JobReply.TheVariants as job
 use Rattle.vx_turn.specs.declared.meaning.Entry.{Entry}
 use Rattle.vx_turn.specs.declared.passes.Pass.{Pass}
-use Rattle.vx_turn.specs.Acting.{LiesAmong, CountRose}
+use Rattle.vx_turn.specs.Acting.{LiesAmong}
 use Rattle.vx_turn.specs.Passing.{seen_of, IsSame, Jobs}
 use Rattle.vx_turn.proofs.Histories.{rose-wider}
 use Rattle.vx_settle.specs.declared.peer.Ack.{Ack}

@@ -3,9 +3,8 @@ use Rattle.std.specs.Prelude.{◌≡◌, ℕ, List, [], ◌∷◌, ◌++◌}
 use Rattle.atomic_table.specs.Seated.{TableId}
 use Rattle.vx_turn.specs.declared.passes.Pass.{Pass}
 use Rattle.vx_turn.specs.Acting.{LiesAmong}
-use Rattle.vx_turn.specs.History.{BeginsWith, Legal, places}
-use Rattle.vx_turn.specs.Turning.{Has}
-use Rattle.vx_turn.specs.Passing.{pass_view, seen_of, start_of, mine_of, met_of, callers_of, table_id_of, IsSame}
+use Rattle.vx_turn.specs.History.{BeginsWith}
+use Rattle.vx_turn.specs.Passing.{seen_of, start_of, mine_of, met_of, callers_of, table_id_of, IsSame}
 use Rattle.vx_settle.specs.declared.peer.Stand.{Stand}
 use Rattle.vx_burst_threads.specs.declared.plan.Planned.{Planned}
 use Rattle.vx_burst_threads.specs.declared.plan.Answered.{Answered}

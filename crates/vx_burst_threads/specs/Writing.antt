@@ -13,7 +13,6 @@ use Rattle.vx_turn.specs.Acting.{LiesAmong}
 use Rattle.vx_turn.specs.History.{BeginsWith}
 use Rattle.vx_turn.specs.Passing.{PassCalls, IsSame, seen_of, start_of, mine_of, met_of, callers_of, table_id_of}
 use Rattle.vx_burst_threads.specs.declared.plan.Planned.{Planned}
-use Rattle.vx_burst_threads.specs.declared.plan.Told.{Told}
 use Rattle.vx_burst_threads.specs.declared.writer.Made.{Made}
 use Rattle.vx_burst_threads.specs.declared.writer.Writer.{Writer}
 use Rattle.vx_burst_threads.specs.Planning.{AllCalls, IsToldAs, IsStalled, IsNotStalled, call_for, own_count}

@@ -1,5 +1,5 @@
 -- What a change of a configuration in place leaves as it was, and when what is sound stays so.
-use Rattle.std.proofs.Common.{◌≡◌, ℕ, zero, suc, ◌+◌, ◌*◌, ◌<◌, ◌≤◌, Bool, true, false, List, [], ◌∷◌, ◌++◌, Option, Some, None, length, get_or, length-set, refl, ap, sym, subst, ◌∙◌, arith}
+use Rattle.std.proofs.Common.{◌≡◌, ℕ, zero, suc, ◌+◌, ◌*◌, ◌<◌, ◌≤◌, Bool, true, List, [], ◌∷◌, ◌++◌, Option, Some, None, length, get_or, refl, ap, sym, subst, ◌∙◌, arith}
 use Rattle.std.specs.Prelude.{◌&&◌, nat_le, nat_lt, slice_get, slice_set, flat_map, sum_by}
 use Rattle.std.specs.List.{list_all, list_any}
 use Rattle.std.proofs.lemmas.Bool.{and_parts, and_from}
@@ -8,8 +8,8 @@ use Rattle.std.proofs.lemmas.List.Sums.{sum_by-cons}
 use Rattle.vx_model.specs.Sizes.{map_blocks}
 use Rattle.vx_model.specs.declared.site.PlexState.{PlexState}
 use Rattle.vx_model.specs.declared.units.Units.{Units}
-use Rattle.vx_config.specs.Changes.{changed_at, has_live, lost, lost_as, stated, with_lost, with_plex, with_state, with_volumes}
-use Rattle.vx_config.specs.Checks.{are_apart, are_placed, blocks_of, column_blocks, differ, fill, group_or_none, has_logs, has_plexes, has_shape, in_region, is_group, is_live, is_sound, is_volume, log_has, log_runs, map_blocks_of, other_than, pairwise, plex_fills, plex_runs, preferred_is, runs, volume_runs}
+use Rattle.vx_config.specs.Changes.{changed_at, has_live, lost, lost_as, with_lost, with_plex, with_state, with_volumes}
+use Rattle.vx_config.specs.Checks.{are_placed, blocks_of, column_blocks, differ, group_or_none, has_logs, has_plexes, has_shape, is_live, is_sound, is_volume, log_has, log_runs, map_blocks_of, other_than, pairwise, plex_fills, plex_runs, preferred_is, runs, volume_runs}
 use Rattle.vx_config.specs.Configs.{plex_subdisks, subdisk_count, volume_subdisks}
 use Rattle.vx_config.specs.declared.config.Config.{Config}
 use Rattle.vx_config.specs.declared.entry.LogEntry.{LogEntry}

@@ -1,9 +1,8 @@
 -- What is sound with one volume less, and a change that is taken back.
-use Rattle.std.proofs.Common.{◌≡◌, ℕ, zero, suc, ◌+◌, ◌*◌, ◌<◌, ◌≤◌, Bool, true, false, List, [], ◌∷◌, ◌++◌, Option, Some, None, length, refl, ap, sym, subst, ◌∙◌, arith}
+use Rattle.std.proofs.Common.{◌≡◌, ℕ, zero, suc, ◌+◌, ◌*◌, ◌<◌, ◌≤◌, Bool, true, List, [], ◌∷◌, ◌++◌, Option, Some, None, length, refl, ap, sym, subst, ◌∙◌, arith}
 use Rattle.std.specs.Prelude.{◌&&◌, nat_le, nat_lt, slice_get, flat_map, sum_by}
 use Rattle.std.specs.List.{list_all}
-use Rattle.std.proofs.lemmas.Bool.{and_parts, and_from, le-leb, leb-true, ltb-true, lt-ltb}
-use Rattle.std.proofs.lemmas.List.{length-append}
+use Rattle.std.proofs.lemmas.Bool.{and_parts, and_from, le-leb, leb-true, ltb-true}
 use Rattle.std.proofs.lemmas.List.Concat.{flat_map-append}
 use Rattle.std.proofs.lemmas.List.Folds.{list_all-append}
 use Rattle.std.proofs.lemmas.List.Sums.{sum_by-append, sum_by-cons}
@@ -12,8 +11,8 @@ use Rattle.vx_model.specs.declared.site.PlexState.{PlexState}
 use Rattle.vx_model.specs.declared.units.Units.{Units}
 use Rattle.vx_model.proofs.Lists.{get_front}
 use Rattle.vx_config.specs.Changes.{changed_at, names_below, stated, with_plex, with_state, with_volumes}
-use Rattle.vx_config.specs.Checks.{are_apart, are_placed, blocks_of, differ, group_or_none, in_region, is_sound, is_volume, map_blocks_of, other_than, pairwise, runs, volume_runs}
-use Rattle.vx_config.specs.Configs.{subdisk_count, volume_subdisks}
+use Rattle.vx_config.specs.Checks.{are_apart, blocks_of, differ, group_or_none, in_region, is_sound, is_volume, map_blocks_of, other_than, pairwise, runs, volume_runs}
+use Rattle.vx_config.specs.Configs.{volume_subdisks}
 use Rattle.vx_config.specs.declared.config.Config.{Config}
 use Rattle.vx_config.specs.declared.entry.PlexEntry.{PlexEntry}
 use Rattle.vx_config.specs.declared.entry.Subdisk.{Subdisk}

@@ -2,7 +2,7 @@
 use Rattle.std.proofs.Common.{◌≡◌, ◌<◌, ◌≤◌, ℕ, suc, ◌+◌, ◌-◌, List, length, drop, get_or, refl, ap, sym, ◌∙◌, arith, Bool, true, false, ◌&&◌, ◌||◌}
 use Rattle.std.specs.Prelude.{◌==◌, nat_le, if◌then◌else◌}
 use Rattle.std.proofs.Math.Seq.{drop-cons}
-use Rattle.std.proofs.lemmas.Bool.{le-leb, lt-leb, eq-eqb, eqb-true}
+use Rattle.std.proofs.lemmas.Bool.{le-leb, lt-leb, eq-eqb, eqb-true, false_from_ne_true}
 use Rattle.std.proofs.lemmas.List.{drop_all}
 use Rattle.vx_config.specs.Checks.{fill, next_room}
 use Rattle.vx_config.specs.declared.entry.Subdisk.{Subdisk}
@@ -36,16 +36,12 @@ fill-full column columns room blocks ss i whole lt is full so_far =
     let one : step column columns room (get_or ss i no_subdisk) (drop (i + 1) ss) ≡ fill column (columns - 1) (next_room column columns) (drop (i + 1) ss) = rw (small, same) refl in
     sym (fill-drop column columns room ss i lt ∙ one) ∙ so_far
 
-false_from : (b : Bool) → (b ≡ true → ⊥) → b ≡ false
-false_from true h = absurd (h refl)
-false_from false h = refl
-
 -- it leaves room
 pub fill-part : (column columns room blocks : ℕ) (ss : List Subdisk) (i : ℕ) (whole : Bool) → i < length ss → blocks ≡ (get_or ss i no_subdisk).blocks → blocks ≤ room → (blocks ≡ room → ⊥) → fill column columns room (drop i ss) ≡ whole
     → fill column columns (room - blocks) (drop (i + 1) ss) ≡ whole
 fill-part column columns room blocks ss i whole lt is fits other so_far =
     let small : nat_le (get_or ss i no_subdisk).blocks room ≡ true = le-leb (get_or ss i no_subdisk).blocks room (omega arith) in
-    let differs : ((get_or ss i no_subdisk).blocks == room) ≡ false = false_from ((get_or ss i no_subdisk).blocks == room) (λ t. let same : (get_or ss i no_subdisk).blocks ≡ room = eqb-true (get_or ss i no_subdisk).blocks room t in other (omega arith)) in
+    let differs : ((get_or ss i no_subdisk).blocks == room) ≡ false = false_from_ne_true ((get_or ss i no_subdisk).blocks == room) (λ t. let same : (get_or ss i no_subdisk).blocks ≡ room = eqb-true (get_or ss i no_subdisk).blocks room t in other (omega arith)) in
     let one : step column columns room (get_or ss i no_subdisk) (drop (i + 1) ss) ≡ fill column columns (room - blocks) (drop (i + 1) ss) = rw (small, differs, is) refl in
     sym (fill-drop column columns room ss i lt ∙ one) ∙ so_far
 
@@ -63,9 +59,9 @@ fill-ends column columns room ss i whole le none so_far =
 -- some column is not
 pub fill-stops : (column columns room : ℕ) (ss : List Subdisk) (i : ℕ) (whole : Bool) → length ss ≤ i → (columns ≡ 0 → ⊥) → fill column columns room (drop i ss) ≡ whole → (column == 0) ≡ whole
 fill-stops column columns room ss i whole le other so_far =
-    let test : (columns == 0) ≡ false = false_from (columns == 0) (λ t. other (eqb-true columns 0 t)) in
+    let test : (columns == 0) ≡ false = false_from_ne_true (columns == 0) (λ t. other (eqb-true columns 0 t)) in
     let second : (columns == 0 || column == 0) ≡ (column == 0) = rw test refl in
     sym second ∙ fill-all column columns room ss i whole le so_far
 
 pub not-zero : (n : ℕ) → (n ≡ 0 → ⊥) → (n == 0) ≡ false
-not-zero n other = false_from (n == 0) (λ t. other (eqb-true n 0 t))
+not-zero n other = false_from_ne_true (n == 0) (λ t. other (eqb-true n 0 t))

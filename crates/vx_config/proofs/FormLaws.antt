@@ -1,7 +1,7 @@
 -- What is read is spelled so, and what is spelled is read, for each kind of form.
 use Rattle.std.proofs.Common.{◌≡◌, ℕ, zero, suc, ◌^◌, ◌<◌, ◌≤◌, Bool, true, false, cond, ◌||◌, ◌&&◌, List, [], ◌∷◌, ◌++◌, length, take, drop, Option, Some, None, Ok, Err, refl, sym, ap, subst, ◌∙◌, append_assoc, arith, ◌⊎◌, inl, inr}
 use Rattle.std.specs.Prelude.{nat_lt, nat_le, ◌==◌, if◌then◌else◌}
-use Rattle.std.proofs.lemmas.Bool.{ltb-false, le-ltb, leb-true, le-leb, eqb-true, eqb-false}
+use Rattle.std.proofs.lemmas.Bool.{ltb-false, le-ltb, leb-true, le-leb, eqb-true, eqb-false, false_from_ne_true}
 use Rattle.std.proofs.lemmas.List.{take_at, drop_at, take-append-drop, length-append, length-take}
 use Rattle.vx_wire.specs.Fields.{name_bytes}
 use Rattle.vx_wire.specs.Numbers.{be_bytes, number_at, AreBytes}
@@ -223,13 +223,9 @@ name-takes (n ∷ rest) x h e =
     let bounds : (0 < length (take n rest)) × (length (take n rest) ≤ 8) = rw len (t.0, t.1.0) in
     subst (λ (y : List ℕ × List ℕ). Takes (n ∷ rest) (name_bytes y.0) y.1 × ((0 < length y.0) × (length y.0 ≤ 8))) g.1 (record { parts = parts; behind = behind }, bounds)
 
-false_from : (b : Bool) → (b ≡ true → ⊥) → b ≡ false
-false_from true h = absurd (h refl)
-false_from false h = refl
-
 name-tested : (n : ℕ) (rest : List ℕ) → 0 < n → n ≤ 8 → n ≤ length rest → (n == 0 || nat_lt 8 n || nat_lt (length rest) n) ≡ false
 name-tested n rest least few long =
-    let zero_not : (n == 0) ≡ false = false_from (n == 0) (λ t. let z : n ≡ 0 = eqb-true n 0 t in absurd (omega arith)) in
+    let zero_not : (n == 0) ≡ false = false_from_ne_true (n == 0) (λ t. let z : n ≡ 0 = eqb-true n 0 t in absurd (omega arith)) in
     let few_is : nat_lt 8 n ≡ false = le-ltb 8 n few in
     let long_is : nat_lt (length rest) n ≡ false = le-ltb (length rest) n long in
     rw (zero_not, few_is, long_is) refl

@@ -2,7 +2,7 @@
 use Rattle.std.proofs.Common.{◌≡◌, ◌≤◌, ℕ, ◌+◌, ◌-◌, List, [], ◌++◌, ◌<◌, length, take, drop, get_or, refl, sym, ap, ◌∙◌, arith, append_assoc, ◌⊎◌, inl, inr}
 use Rattle.std.specs.Prelude.{flat_map}
 use Rattle.std.proofs.lemmas.Bool.{cases_lt}
-use Rattle.std.proofs.lemmas.List.{length-append, length-take, length-drop, take_all, take_at, drop_at, take-take, take-append-le, append-nil, drop_all, take_more}
+use Rattle.std.proofs.lemmas.List.{length-append, length-take, take_all, take_at, drop_at, take-take, take-append-le, append-nil, drop_all, take_more}
 use Rattle.std.proofs.lemmas.List.Concat.{flat_map-append}
 use Rattle.vx_wire.specs.Numbers.{be_bytes}
 use Rattle.vx_wire.specs.Places.{put_at}

@@ -1,7 +1,7 @@
 -- What an import finds in the middle of a commit, and behind it.
 use Rattle.std.proofs.Common.{◌≡◌, ◌⊎◌, inl, inr, ⊎_elim, ℕ, zero, suc, ◌+◌, ◌<◌, ◌≤◌, Bool, true, false, IsFalse, Option, Some, Err, List, length, refl, ap, sym, subst, ◌∙◌, arith}
 use Rattle.std.specs.Prelude.{not}
-use Rattle.std.proofs.lemmas.Bool.{cases_lt}
+use Rattle.std.proofs.lemmas.Bool.{both_ways, cases_lt}
 use Rattle.vx_disk.specs.Moves.{Along, Beside}
 use Rattle.vx_disk.specs.Shelf.{Each, Image, Lawful, Meaning}
 use Rattle.vx_disk.proofs.Moving.{wider}
@@ -25,7 +25,7 @@ use Rattle.vx_copies.specs.Looking.{on_shelf}
 use Rattle.vx_copies.specs.Marks.{HasGood, NoneGood, failed_at, good_count}
 use Rattle.vx_copies.proofs.Goods.{good_bit}
 use Rattle.vx_copies.proofs.Outcomes.{outcome}
-use Rattle.vx_copies.proofs.OneTry.{as_before, held_or, new_wider, not_both, shelf_same}
+use Rattle.vx_copies.proofs.OneTry.{as_before, held_or, new_wider, shelf_same}
 use Rattle.vx_copies.proofs.Silence.{committed_silent, none_gives, quiet}
 
 -- some image of before, where the shelf tells
@@ -46,7 +46,7 @@ module _ (begun : ℕ → Config → Type 0) (c : Config) (old new : Meaning) (l
   out_of_reach i beside u b le = ⊎_elim (λ was. was) (λ (mine : AreasOf (HeldGood c old) u b). absurd (omega (arith, le, mine.on.below))) (beside u b)
 
   failed_left : (i : Image) → Beside (AreasOf (HeldGood c old)) old.leaves i → (u b : ℕ) → failed_at c.disks u ≡ true → old.leaves u b (i u b)
-  failed_left i beside u b failed = ⊎_elim (λ was. was) (λ (mine : AreasOf (HeldGood c old) u b). absurd (not_both (failed_at c.disks u) mine.on.good failed)) (beside u b)
+  failed_left i beside u b failed = ⊎_elim (λ was. was) (λ (mine : AreasOf (HeldGood c old) u b). absurd (both_ways (failed_at c.disks u) mine.on.good failed)) (beside u b)
 
   amid : ReadyDisks c old → (i : Image) → Beside (AreasOf (HeldGood c old)) old.leaves i → OldOrBegun begun c old i → Amid (on_shelf old) begun (HeldGood c old) old.units old.leaves i
   amid ready i beside seen u lt = elim (held_or c.disks u) [
@@ -170,7 +170,7 @@ module _ (good : ℕ) (c d : Config) (old new : Meaning) (underway : Underway go
     still_good : (s : ℕ) (x : Config) → IsBefore c d old new s x → failed_in x left.disk ≡ false
     still_good s x made = elim (held_or x.disks left.disk) [
       | inl is ↦ is
-      | inr failed ↦ absurd (not_both (failed_at d.disks left.disk) left.held (made.fewer left.disk failed))
+      | inr failed ↦ absurd (both_ways (failed_at d.disks left.disk) left.held (made.fewer left.disk failed))
     ]
 
     leading : left.disk < old.units
@@ -205,7 +205,7 @@ module _ (good : ℕ) (c d : Config) (old new : Meaning) (underway : Underway go
 
       left_so : (u : ℕ) → failed_at c.disks u ≡ true → Among (old.leaves u) (i u)
       left_so u failed b =
-          ⊎_elim (λ was. was) (λ (mine : AreasOf (HeldGood c old) u b). absurd (not_both (failed_at c.disks u) mine.on.good failed)) (underway.moves.leaves u b (i u b) (is u b))
+          ⊎_elim (λ was. was) (λ (mine : AreasOf (HeldGood c old) u b). absurd (both_ways (failed_at c.disks u) mine.on.good failed)) (underway.moves.leaves u b (i u b) (is u b))
 
       of_marked : (u : ℕ) → Marked c d old u → Becomes (IsBefore c d old new) old u (i u)
           → FromOld (on_shelf old) (old.leaves u) (i u) ⊎ FromNew (on_shelf old) (IsBefore c d old new) (old.leaves u) (i u) ⊎ (Marked c d old u × Torn (on_shelf old) (old.leaves u) (i u))
@@ -269,7 +269,7 @@ module _ (good : ℕ) (c d : Config) (old new : Meaning) (underway : Underway go
           ])
           one_more n none (inr failed) b is_b lt = inr (λ u below_u good_one. elim (cases_lt u n) [
             | inl less ↦ none u less good_one
-            | inr last ↦ let same_disk : n ≡ u = omega (arith, below_u, last) in absurd (not_both (failed_at d.disks u) good_one (subst (λ (k : ℕ). failed_at d.disks k ≡ true) same_disk failed))
+            | inr last ↦ let same_disk : n ≡ u = omega (arith, below_u, last) in absurd (both_ways (failed_at d.disks u) good_one (subst (λ (k : ℕ). failed_at d.disks k ≡ true) same_disk failed))
           ])
 
           some_of : (n : ℕ) → n ≤ old.units → ((g : ℕ) × (g < old.units) × (failed_at d.disks g ≡ false) × (readable g ≡ true)) ⊎ ((u : ℕ) → u < n → failed_at d.disks u ≡ false → readable u ≡ false)

@@ -1,7 +1,7 @@
 -- Tries one after the other.
 use Rattle.std.proofs.Common.{◌≡◌, ◌⊎◌, inl, inr, ⊎_elim, ℕ, ◌+◌, ◌<◌, ◌≤◌, Bool, true, false, Option, Some, List, length, refl, ap, sym, subst, ◌∙◌, arith}
 use Rattle.std.specs.Prelude.{nat_lt, if◌then◌else◌}
-use Rattle.std.proofs.lemmas.Bool.{cases_lt, le-ltb, lt-ltb}
+use Rattle.std.proofs.lemmas.Bool.{both_ways, cases_lt, le-ltb, lt-ltb}
 use Rattle.vx_disk.specs.Blocks.{bit_at}
 use Rattle.vx_disk.specs.Counts.{Rose}
 use Rattle.vx_disk.specs.Moves.{Beside}
@@ -23,7 +23,7 @@ use Rattle.vx_copies.specs.Marks.{NoneGood, failed_at}
 use Rattle.vx_disk.proofs.Causing.{Rose_after}
 use Rattle.vx_copies.proofs.Growing.{before_first, before_later, grown_both}
 use Rattle.vx_copies.proofs.MarkedDisks.{serial_grown}
-use Rattle.vx_copies.proofs.OneTry.{as_before, held_or, kept_good, later_old, later_torn, new_wider, not_both, shelf_same}
+use Rattle.vx_copies.proofs.OneTry.{as_before, held_or, kept_good, later_old, later_torn, new_wider, shelf_same}
 
 -- ---- none yet
 
@@ -203,7 +203,7 @@ module _ (good : ℕ) (a c d : Config) (old mid new : Meaning) (one : Underway g
   left_alone u b v out (inr mine) = absurd (out mine.on)
 
   not_held : (u : ℕ) → failed_at c.disks u ≡ true → HeldGood c mid u → ⊥
-  not_held u failed held = not_both (failed_at c.disks u) held.good failed
+  not_held u failed held = both_ways (failed_at c.disks u) held.good failed
 
   fit_two : Below a old → (u : ℕ) (e : Disk) → HeldGood c mid u → Tidy (on_shelf mid) (d.serial + 1) (exactly e) ⊎ Forged (mid.leaves u) e → Tidy (on_shelf old) (d.serial + 1) (exactly e) ⊎ Forged (old.leaves u) e
   fit_two below u e held (inl tidy) = inl (subst (λ (r : ℕ → List ℕ → Option Config). Tidy r (d.serial + 1) (exactly e)) (sym same) tidy)

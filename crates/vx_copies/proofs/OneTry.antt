@@ -1,7 +1,7 @@
 -- What one try of a commit makes of the disks.
 use Rattle.std.proofs.Common.{◌≡◌, ◌⊎◌, inl, inr, ⊎_elim, ℕ, ◌+◌, ◌<◌, ◌≤◌, Bool, true, false, Option, Some, List, length, refl, ap, sym, subst, ◌∙◌, arith}
 use Rattle.std.specs.Prelude.{◌&&◌, not, nat_eq}
-use Rattle.std.proofs.lemmas.Bool.{eqb-true, and_parts}
+use Rattle.std.proofs.lemmas.Bool.{eqb-true, and_parts, both_ways}
 use Rattle.vx_disk.specs.Blocks.{bit_at}
 use Rattle.vx_disk.specs.Moves.{Beside, Moves}
 use Rattle.vx_disk.specs.Shelf.{Each, Image, Meaning}
@@ -53,9 +53,6 @@ held_or disks u = by_test (failed_at disks u)
     by_test false = inl refl
     by_test true = inr refl
 
-pub not_both : (b : Bool) → b ≡ false → b ≡ true → ⊥
-not_both b one two = let clash : false ≡ true = sym one ∙ two in cc
-
 not_true : (b : Bool) → not b ≡ true → b ≡ false
 not_true false is = refl
 not_true true is = absurd cc
@@ -66,7 +63,7 @@ kept_good {old} {new} {c} {d} grown u is = by_failed (held_or c.disks u)
   where
     by_failed : (failed_at c.disks u ≡ false) ⊎ (failed_at c.disks u ≡ true) → failed_at c.disks u ≡ false
     by_failed (inl good) = good
-    by_failed (inr failed) = absurd (not_both (failed_at d.disks u) is (grown.disks.stays u failed))
+    by_failed (inr failed) = absurd (both_ways (failed_at d.disks u) is (grown.disks.stays u failed))
 
 module _ (c : Config) (m : Meaning) (count : length c.disks ≡ m.units) where
   pub member_held : (u : ℕ) → IsMember (bit_at (good_set c.disks)) m.units u → HeldGood c m u
@@ -132,7 +129,7 @@ module _ (c t d : Config) (old new : Meaning) (next : t.serial ≡ c.serial + 1)
 
   -- what was held as failed is as it was
   left_out : (u : ℕ) → failed_at c.disks u ≡ true → (b : ℕ) (v : List ℕ) → new.leaves u b v → old.leaves u b v
-  left_out u failed b v left = ⊎_elim (λ was. was) (λ (mine : AreasOf Mine u b). absurd (not_both (failed_at c.disks u) (mine_held u mine.on).good failed)) (tried.moves.leaves u b v left)
+  left_out u failed b v left = ⊎_elim (λ was. was) (λ (mine : AreasOf Mine u b). absurd (both_ways (failed_at c.disks u) (mine_held u mine.on).good failed)) (tried.moves.leaves u b v left)
 
   lower_next : Below c old → (u : ℕ) → u < old.units → Lower t.serial (old.leaves u)
   lower_next below u lt = subst (λ (n : ℕ). Lower n (old.leaves u)) (sym next) (below.each u lt)

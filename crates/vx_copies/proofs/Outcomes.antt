@@ -1,7 +1,7 @@
 -- What all imports over one image find.
 use Rattle.std.proofs.Common.{◌≡◌, ◌⊎◌, inl, inr, ⊎_elim, ℕ, zero, suc, ◌+◌, ◌<◌, ◌≤◌, Bool, true, false, Option, Some, None, List, refl, ap, sym, subst, ◌∙◌, arith}
 use Rattle.std.specs.Prelude.{◌&&◌, if◌then◌else◌}
-use Rattle.std.proofs.lemmas.Bool.{cases_lt}
+use Rattle.std.proofs.lemmas.Bool.{both_ways, cases_lt}
 use Rattle.vx_disk.specs.Blocks.{bit_at}
 use Rattle.vx_disk.specs.Moves.{Beside}
 use Rattle.vx_disk.specs.Shelf.{Each, Image, Meaning}
@@ -19,7 +19,7 @@ use Rattle.vx_copies.specs.Bodies.{failed_in}
 use Rattle.vx_copies.specs.Commits.{Becomes, Behind, Below as Under, HaveLabels, HeldGood, IsOne, IsTry, FoundOutcome, ReadyDisks, Stage, Underway, WasCommitted}
 use Rattle.vx_copies.specs.Looking.{on_shelf}
 use Rattle.vx_copies.specs.Marks.{failed_at}
-use Rattle.vx_copies.proofs.OneTry.{as_before, held_or, later_torn, not_both}
+use Rattle.vx_copies.proofs.OneTry.{as_before, held_or, later_torn}
 
 -- ---- the greatest copy of those that can be read
 
@@ -43,7 +43,7 @@ module _ (reads : ℕ → List ℕ → Option Config) (s : ℕ) (x : Config) (un
       let none : later o None ≡ o = later_none o in
       elim top [
         | inl new ↦ inl (new.0, new.1, none ∙ new.2)
-        | inr old ↦ inr (subst (Below s) (sym none) old.0, longer n old.1 (λ is. absurd (not_both (readable n) out is)))
+        | inr old ↦ inr (subst (Below s) (sym none) old.0, longer n old.1 (λ is. absurd (both_ways (readable n) out is)))
       ]
   one_more n o lt top true in_it =
       let put : Put true n ≡ on_disk n (copy_of reads (i n)) = rw (labels n lt) refl in
@@ -108,7 +108,7 @@ module _ (good : ℕ) (c d : Config) (old new : Meaning) (underway : Underway go
   -- each disk is as one of before, or has a copy that was begun
   kind : (u : ℕ) → u < old.units → Old u ⊎ (HeldGood c old u × New u)
   kind u lt = elim (held_or c.disks u) [
-    | inr failed ↦ inl (as_before reads (old.leaves u) (i u) (λ b. failed_left u b (λ mine. not_both (failed_at c.disks u) mine.good failed)))
+    | inr failed ↦ inl (as_before reads (old.leaves u) (i u) (λ b. failed_left u b (λ mine. both_ways (failed_at c.disks u) mine.good failed)))
     | inl stays ↦
         let mine : HeldGood c old u = record { below = lt; good = stays } in
         ⊎_elim (λ from. inl from) (λ from. inr (mine, from)) (plain u mine)
@@ -251,7 +251,7 @@ module _ (good : ℕ) (c d : Config) (old new : Meaning) (underway : Underway go
       | inr failed ↦
           let early : failed_at (underway.tries s).disks u ≡ true = subst (λ (k : Config). failed_at k.disks u ≡ true) begun.2 failed in
           let late : failed_at (underway.tries from.serial).disks u ≡ true = underway.chain s from.serial begun.0 begun.1 from.made.within u early in
-          absurd (not_both (failed_at (underway.tries from.serial).disks u) (subst (λ (k : Config). failed_at k.disks u ≡ false) from.made.is from.made.holds) late)
+          absurd (both_ways (failed_at (underway.tries from.serial).disks u) (subst (λ (k : Config). failed_at k.disks u ≡ false) from.made.is from.made.holds) late)
     ]
 
     each_gives : (readable : ℕ → Bool) → GivesConfig from.config (import_of reads failed_in old.units readable i)
@@ -303,7 +303,7 @@ module _ (good : ℕ) (c d : Config) (old new : Meaning) (underway : Underway go
   kind_of u = elim (cases_lt u old.units) [
     | inr above ↦ inl (λ mine. omega (arith, above, mine.below))
     | inl lt ↦ elim (held_or c.disks u) [
-      | inr failed ↦ inl (λ mine. not_both (failed_at c.disks u) mine.good failed)
+      | inr failed ↦ inl (λ mine. both_ways (failed_at c.disks u) mine.good failed)
       | inl good_one ↦ let mine : HeldGood c old u = record { below = lt; good = good_one } in inr (mine, stage.each ready u mine)
     ]
   ]

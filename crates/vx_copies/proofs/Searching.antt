@@ -1,7 +1,7 @@
 -- One disk more.
 use Rattle.std.proofs.Common.{◌≡◌, ◌⊎◌, inl, inr, ℕ, zero, suc, ◌+◌, ◌<◌, Bool, true, false, IsTrue, Option, Some, None, List, [], refl, ap, sym, subst, ◌∙◌, arith}
 use Rattle.std.specs.Prelude.{◌&&◌, ◌==◌, if◌then◌else◌}
-use Rattle.std.proofs.lemmas.Bool.{cases_lt, eq-eqb, eqb-true}
+use Rattle.std.proofs.lemmas.Bool.{cases_lt, eq-eqb, eqb-true, false_from_ne_true}
 use Rattle.vx_disk.specs.Counts.{Rose}
 use Rattle.vx_disk.specs.Shelf.{Meaning, Image, Lawful, Goes, Nothing}
 use Rattle.vx_disk.proofs.Causing.{Rose_after, Rose_before}
@@ -10,7 +10,6 @@ use Rattle.vx_copyfmt.specs.Imports.{first_of, is_label, later, newest_found, on
 use Rattle.vx_copyfmt.specs.Labels.{seen_in}
 use Rattle.vx_copyfmt.specs.declared.label.LabelSeen.{LabelSeen}
 use Rattle.vx_copyfmt.specs.declared.label.LabelSeen.TheVariants as label
-use Rattle.vx_copyfmt.proofs.Told.{false_from}
 use Rattle.vx_config.specs.declared.config.Config.{Config}
 use Rattle.vx_copies.specs.Answers.{flag_at}
 use Rattle.vx_copies.specs.Looking.{CountsDisk, IsDiskRead, SeesDisk, ShowsDisk, ShowsFormat, FitsDisk, copy_view, on_shelf}
@@ -40,7 +39,7 @@ newest_below r p q i j (suc n) same alike =
 -- ---- one more
 
 other_is : (u k : ℕ) → u < k → (u == k) ≡ false
-other_is u k lt = false_from (u == k) (λ same. let is : u ≡ k = eqb-true u k same in omega (arith, is, lt))
+other_is u k lt = false_from_ne_true (u == k) (λ same. let is : u ≡ k = eqb-true u k same in omega (arith, is, lt))
 
 abbrev put_flag : Bool → ℕ → (ℕ → Bool) → ℕ → Bool
 put_flag f k p u = if u == k then f else p u

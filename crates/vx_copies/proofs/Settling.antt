@@ -90,9 +90,5 @@ pub not_true : (b : Bool) → not b ≡ true → b ≡ false
 not_true true is = cc
 not_true false is = refl
 
-pub not_false : (b : Bool) → not b ≡ false → b ≡ true
-not_false true is = refl
-not_false false is = cc
-
 abbrev pub no_disk : DiskEntry
 no_disk = record { blocks = 0; failed = false }

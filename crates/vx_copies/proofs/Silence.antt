@@ -1,7 +1,7 @@
 -- What an import finds that reads none of the disks that are held as good.
 use Rattle.std.proofs.Common.{◌≡◌, ◌⊎◌, inl, inr, ⊎_elim, ℕ, zero, suc, ◌<◌, Bool, true, false, IsFalse, Option, Some, None, List, refl, ap, sym, subst, ◌∙◌, arith}
 use Rattle.std.specs.Prelude.{◌&&◌, if◌then◌else◌}
-use Rattle.std.proofs.lemmas.Bool.{cases_lt}
+use Rattle.std.proofs.lemmas.Bool.{both_ways, cases_lt}
 use Rattle.vx_disk.specs.Shelf.{Each, Image, Lawful, Meaning}
 use Rattle.vx_copyfmt.specs.Copies.{Copy, Disk, copy_of}
 use Rattle.vx_copyfmt.specs.Commits.{GivesConfig}
@@ -15,7 +15,7 @@ use Rattle.vx_copies.specs.Bodies.{failed_in}
 use Rattle.vx_copies.specs.Commits.{HeldGood, IsNone, ReadsFailed, Silent, Underway, WasCommitted}
 use Rattle.vx_copies.specs.Looking.{on_shelf}
 use Rattle.vx_copies.specs.Marks.{HasGood, failed_at}
-use Rattle.vx_copies.proofs.OneTry.{held_or, not_both}
+use Rattle.vx_copies.proofs.OneTry.{held_or}
 
 -- ---- an import depends on the disks alone that it reads
 
@@ -87,7 +87,7 @@ committed_silent good members d m some lt was = record {
       misses d (import_of (on_shelf m) failed_in m.units readable i) (was.committed.each i readable left)
       (λ x found is.
       let there : readable some.disk ≡ true = found_wants failed_in (on_shelf m) m.units readable i some.disk lt x found (subst (λ (k : Config). failed_in k some.disk ≡ false) (sym is) some.held) in
-      not_both (readable some.disk) (unread some.disk (record { below = lt; good = some.held })) there);
+      both_ways (readable some.disk) (unread some.disk (record { below = lt; good = some.held })) there);
 }
 
 -- ---- a disk that was held as failed is as it was
@@ -98,7 +98,7 @@ module _ (good : ℕ) (c d : Config) (old new : Meaning) (underway : Underway go
     | inr above ↦ inr (λ held. omega (arith, above, held.below))
     | inl lt ↦ elim (held_or c.disks u) [
       | inl stays ↦ inl (record { below = lt; good = stays })
-      | inr failed ↦ inr (λ held. not_both (failed_at c.disks u) held.good failed)
+      | inr failed ↦ inr (λ held. both_ways (failed_at c.disks u) held.good failed)
     ]
   ]
 
@@ -112,7 +112,7 @@ module _ (good : ℕ) (c d : Config) (old new : Meaning) (underway : Underway go
     at_among u b (inr out) = ⊎_elim (λ was. was) (λ (mine : AreasOf (HeldGood c old) u b). absurd (out mine.on)) (underway.moves.leaves u b (i u b) (left u b))
 
     at_read : (readable : ℕ → Bool) → ((u : ℕ) → HeldGood c old u → readable u ≡ false) → (u : ℕ) (k : HeldGood c old u ⊎ (HeldGood c old u → ⊥)) → readable u ≡ true → i u ≡ at_disk u k
-    at_read readable unread u (inl held) is = absurd (not_both (readable u) (unread u held) is)
+    at_read readable unread u (inl held) is = absurd (both_ways (readable u) (unread u held) is)
     at_read readable unread u (inr out) is = refl
 
     quiet_over : (readable : ℕ → Bool) → Silent c old → ReadsFailed c old readable → ((u : ℕ) → HeldGood c old u → readable u ≡ false) → IsNone (import_of (on_shelf old) failed_in old.units readable i)
@@ -145,7 +145,7 @@ module _ (good : ℕ) (c d : Config) (old new : Meaning) (underway : Underway go
       by_tells true is = elim (any_read readable old.units) [
         | inr none ↦ subst IsNone (sym (import_none (on_shelf old) readable i i failed_in old.units none)) tt
         | inl found ↦ elim (held_or c.disks found.0) [
-          | inl stays ↦ absurd (not_both (readable found.0) (unread found.0 (record { below = found.1; good = stays })) found.2)
+          | inl stays ↦ absurd (both_ways (readable found.0) (unread found.0 (record { below = found.1; good = stays })) found.2)
           | inr failed ↦
               let some = lawful.image is in
               quiet_over i some.0 left (lawful.within some.0 some.1) readable silent (record { disk = found.0; below = found.1; failed = failed; read = found.2 }) unread

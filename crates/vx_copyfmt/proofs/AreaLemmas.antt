@@ -1,17 +1,16 @@
 -- An area's header that is spelled is read again.
 use Rattle.std.proofs.Common.{◌≡◌, ◌≤◌, ℕ, ◌-◌, ◌^◌, ◌<◌, Bool, true, false, ◌&&◌, Some, None, List, [], ◌∷◌, ◌++◌, length, take, drop, refl, ap, sym, subst, append_assoc, ◌∙◌, arith}
 use Rattle.std.specs.Prelude.{nat_lt, ◌==◌, bytes_eq, if◌then◌else◌}
-use Rattle.std.proofs.lemmas.Bool.{and_parts, and_from, ltb-true, lt-ltb, eqb-true, eq-eqb}
+use Rattle.std.proofs.lemmas.Bool.{and_parts, and_from, ltb-true, lt-ltb, eqb-true, eq-eqb, false_from_ne_true}
 use Rattle.std.proofs.lemmas.List.{drop_at, take_at, length-append}
 use Rattle.vx_wire.specs.Fields.{spelled, zero_bytes}
 use Rattle.vx_wire.specs.Numbers.{be_bytes, number_at}
 use Rattle.vx_wire.specs.Places.{cut}
 use Rattle.vx_wire.specs.Seals.{sealed, filled, digest_of, IsSealed}
 use Rattle.vx_wire.proofs.NumberLemmas.{reads_back}
-use Rattle.vx_wire.proofs.SealLemmas.{take-sealed, IsSealed-sealed, length-sealed}
+use Rattle.vx_wire.proofs.SealLemmas.{take-sealed, IsSealed-sealed, length-sealed, alike, same_bytes}
 use Rattle.vx_copyfmt.specs.Areas.{area_table, area_fields, area_block, CanSpellArea, IsTypedArea, IsArea, area_in, is_area, header_of}
 use Rattle.vx_copyfmt.specs.declared.area.AreaHeader.{AreaHeader}
-use Rattle.vx_copyfmt.proofs.Told.{false_from, same_bytes, alike}
 
 pub length-area_table : (h : AreaHeader) → length (spelled (area_table h)) ≡ 20
 unfolding spelled be_bytes area_table
@@ -122,7 +121,7 @@ begins h rest = refl
 pub header_of-none : (block : List ℕ) → ((h : AreaHeader) → IsArea block h → ⊥) → header_of block ≡ None
 unfolding header_of
 header_of-none block none =
-    let test : is_area block (area_in block) ≡ false = false_from (is_area block (area_in block)) (λ is. none (area_in block) (area_from block (area_in block) is)) in
+    let test : is_area block (area_in block) ≡ false = false_from_ne_true (is_area block (area_in block)) (λ is. none (area_in block) (area_from block (area_in block) is)) in
     rw test refl
 
 pub header_of-zeros : header_of (zero_bytes 512) ≡ None

@@ -3,8 +3,9 @@ use Rattle.std.proofs.Common.{◌≡◌, ◌⊎◌, inl, inr, ⊎_elim, ℕ, zer
 use Rattle.std.specs.Prelude.{nat_lt, bytes_eq, if◌then◌else◌}
 use Rattle.std.proofs.lemmas.Bool.{cases_lt, lt-ltb, le-ltb}
 use Rattle.vx_wire.specs.Seals.{digest_of}
+use Rattle.vx_wire.proofs.SealLemmas.{alike, same_bytes}
 use Rattle.vx_copyfmt.proofs.Targets.{Bare, Here, OnTop, Sent, area_out, head_out, one_top, own_target, sent_by, target_block, top_first, top_greatest, top_same, top_second}
-use Rattle.vx_copyfmt.proofs.Told.{alike, same_bytes, not_both}
+use Rattle.vx_copyfmt.proofs.Told.{not_both}
 use Rattle.vx_copyfmt.specs.Areas.{header_of}
 use Rattle.vx_copyfmt.specs.Labels.{seen_in}
 use Rattle.vx_copyfmt.specs.declared.area.AreaHeader.{AreaHeader}

@@ -1,16 +1,16 @@
 -- A label that is spelled is read again.
 use Rattle.std.proofs.Common.{◌≡◌, ◌≤◌, ℕ, ◌-◌, Bool, true, false, ◌&&◌, List, ◌++◌, length, take, drop, refl, ap, sym, subst, append_assoc, ◌∙◌, arith}
 use Rattle.std.specs.Prelude.{◌==◌, bytes_eq}
-use Rattle.std.proofs.lemmas.Bool.{and_parts, and_from, eqb-true, eq-eqb}
+use Rattle.std.proofs.lemmas.Bool.{and_parts, and_from, eqb-true, eq-eqb, false_from_ne_true}
 use Rattle.vx_wire.specs.Fields.{spelled, zero_bytes}
 use Rattle.vx_wire.specs.Numbers.{be_bytes, number_at}
 use Rattle.vx_wire.specs.Seals.{sealed, filled, digest_of, IsSealed}
 use Rattle.vx_wire.proofs.NumberLemmas.{reads_back}
-use Rattle.vx_wire.proofs.SealLemmas.{take-sealed, IsSealed-sealed, length-sealed}
+use Rattle.vx_wire.proofs.SealLemmas.{take-sealed, IsSealed-sealed, length-sealed, alike, same_bytes}
 use Rattle.vx_copyfmt.specs.Labels.{label_magic, label_version, label_table, label_fields, label_block, IsTypedLabel, IsLabel, label_in, begins_label, is_spelled, seen_in}
 use Rattle.vx_copyfmt.specs.declared.label.Label.{Label}
 use Rattle.vx_copyfmt.specs.declared.label.LabelSeen.TheVariants as seen
-use Rattle.vx_copyfmt.proofs.Told.{not_both, false_from, same_bytes, alike}
+use Rattle.vx_copyfmt.proofs.Told.{not_both}
 
 pub length-label_table : (l : Label) → length (label_fields l) ≡ 28
 unfolding spelled be_bytes label_table
@@ -97,7 +97,7 @@ from_begins block begins =
 pub seen_format : (block : List ℕ) (version : ℕ) → begins_label block ≡ true → version ≡ number_at 4 8 block → (version ≡ label_version → ⊥) → seen.Format version ≡ seen_in block
 unfolding seen_in
 seen_format block version begins is other =
-    let test : (number_at 4 8 block == label_version) ≡ false = false_from (number_at 4 8 block == label_version) (λ same. other (is ∙ eqb-true (number_at 4 8 block) label_version same)) in
+    let test : (number_at 4 8 block == label_version) ≡ false = false_from_ne_true (number_at 4 8 block == label_version) (λ same. other (is ∙ eqb-true (number_at 4 8 block) label_version same)) in
     rw (begins, test) (ap (λ (n : ℕ). seen.Format n) is)
 
 pub seen_label : (block : List ℕ) (l : Label) → begins_label block ≡ true → label_version ≡ number_at 4 8 block → l ≡ label_in block → take 480 block ≡ filled (label_fields l) → seen.Label l ≡ seen_in block
@@ -113,13 +113,13 @@ unfolding seen_in is_spelled
 seen_other block l begins version is not_so =
     let test : (number_at 4 8 block == label_version) ≡ true = eq-eqb (number_at 4 8 block) label_version (sym version) in
     let again : bytes_eq (take 480 block) (filled (label_fields (label_in block))) ≡ false =
-    false_from (bytes_eq (take 480 block) (filled (label_fields (label_in block))))
+    false_from_ne_true (bytes_eq (take 480 block) (filled (label_fields (label_in block))))
     (λ same. not_so (same_bytes (take 480 block) (filled (label_fields (label_in block))) same ∙ ap (λ (k : Label). filled (label_fields k)) (sym is))) in
     rw (begins, test, again) refl
 
 pub seen_none : (block : List ℕ) → (begins_label block ≡ true → ⊥) → seen.Other ≡ seen_in block
 unfolding seen_in
-seen_none block not_so = let test : begins_label block ≡ false = false_from (begins_label block) not_so in rw test refl
+seen_none block not_so = let test : begins_label block ≡ false = false_from_ne_true (begins_label block) not_so in rw test refl
 
 -- what is seen as a label is the spelling of it
 pub seen_in-only : (block : List ℕ) (l : Label) → seen_in block ≡ seen.Label l → begins_label block ≡ true

@@ -1,6 +1,6 @@
 -- Packets that are sent and found, one by one.
-use Rattle.std.proofs.Common.{◌≡◌, ◌∙◌, ◌⊎◌, inl, inr, ◌+◌, ◌-◌, ◌<◌, ◌≤◌, ℕ, zero, suc, Bool, true, false, List, [], ◌∷◌, ◌++◌, length, map, ap, sym, subst, refl, arith, length-append, length-drop}
-use Rattle.std.specs.Prelude.{Option, Some, None, All, slice_get, ltb, leb, if◌then◌else◌}
+use Rattle.std.proofs.Common.{◌≡◌, ◌∙◌, ◌⊎◌, ◌+◌, ◌-◌, ◌<◌, ◌≤◌, ℕ, zero, suc, Bool, true, false, List, [], ◌∷◌, ◌++◌, length, map, ap, sym, subst, refl, arith, length-append, length-drop}
+use Rattle.std.specs.Prelude.{Option, Some, None, slice_get, ltb, leb, if◌then◌else◌}
 use Rattle.std.specs.Option.{option_map}
 use Rattle.std.proofs.lemmas.Bool.Decides.{nat_tests}
 use Rattle.std.proofs.lemmas.List.{length-map}

@@ -1,5 +1,7 @@
 -- A packet that is put to what is in assembly at its target.
-use Rattle.std.proofs.Common.{◌≡◌, ◌∙◌, ◌⊎◌, inl, inr, ◌<◌, ℕ, zero, suc, List, [], ◌∷◌, ◌++◌, length, map, ap, sym, subst, refl, arith, Bool, true, false}
+use Rattle.std.proofs.Common.{◌≡◌, ◌∙◌, ◌⊎◌, inl, inr, ◌<◌, ℕ, zero, suc, List, [], ◌∷◌, ◌++◌, length, map, ap, sym, subst, refl, arith, true, false}
+use Rattle.std.proofs.lemmas.Bool.{cases_Bool}
+use Rattle.std.proofs.lemmas.Option.{same_Some}
 use Rattle.std.specs.Prelude.{Option, Some, None, slice_get, slice_index_or}
 use Rattle.std.specs.Option.{is_some}
 use Rattle.vx_model.specs.Content.{Write}
@@ -7,7 +9,7 @@ use Rattle.vx_model.specs.declared.history.Line.{Line}
 use Rattle.vx_model.proofs.Lists.{found_more}
 use Rattle.vx_history.specs.Gatherings.{came_after, completes, key_of as world_key, left_by}
 use Rattle.vx_history.specs.Sends.{parts_of as parts_in}
-use Rattle.vx_history.specs.World.{DataAck, Gathering, Hello, Key as WorldKey, Message, NetAck, Packet, Update}
+use Rattle.vx_history.specs.World.{DataAck, Gathering, Hello, Message, NetAck, Packet, Update}
 use Rattle.vx_packet.specs.Assemblies.{Assembled, HeldParts, TakesPart, key_in_part, parts_after, parts_before, same_part_key}
 use Rattle.vx_packet.specs.Gathering.{Parts, all_parts_came}
 use Rattle.vx_packet.specs.Messages.{chunk, count_of_parts, payload_of, row}
@@ -18,7 +20,6 @@ use Rattle.vx_packet.specs.declared.assembly.Taken.TheVariants as taken
 use Rattle.vx_packet.specs.declared.key.Key.{Key}
 use Rattle.vx_packet.specs.declared.message.Envelope.{Envelope}
 use Rattle.vx_packet.specs.declared.message.Message.{Message as Spelled}
-use Rattle.vx_packet.specs.declared.part.Part.{Part}
 use Rattle.vx_packet.proofs.KeyLemmas.{same_key-is}
 use Rattle.vx_packet.proofs.PacketLemmas.{payload_in-packet_of}
 use Rattle.vx_packet.proofs.TakingLemmas.{fresh, key-part, none-bad, parts-key, same_key-refl, step-kept, step-whole}
@@ -27,13 +28,6 @@ use Rattle.vx_parts.proofs.Counting.{key_is, parts_are}
 use Rattle.vx_parts.proofs.Wholes.{after_same, whole_same}
 use Rattle.vx_courier.specs.Together.{AreOne, AssemblyStands, ComesFrom, IsPutTo}
 use Rattle.vx_courier.specs.UnderWay.{CanFly, carrier, part_carried, way_of}
-
-some_same : {A : Type 0} (x y : A) → Some x ≡ Some y → x ≡ y
-some_same x y e = cc
-
-true_or_false : (b : Bool) → (b ≡ true) ⊎ (b ≡ false)
-true_or_false true = inl refl
-true_or_false false = inr refl
 
 -- ---- keys, field by field
 
@@ -139,10 +133,10 @@ module _ (ps : List Packet) (site place : ℕ) (p : Packet) (one : AreOne ps) (t
     where
       by_held : (o : Option HeldParts) → a.held ≡ o → HoldsSome e m a
       by_held None is = fresh e m a (λ h some same. absurd (cc))
-      by_held (Some h) is = elim (true_or_false (same_part_key h.key (key_of_message e m))) [
+      by_held (Some h) is = elim (cases_Bool (same_part_key h.key (key_of_message e m))) [
         | inl same ↦ by_key h (stands.each h is) (same_key-is h.key (key_of_message e m) same)
         | inr apart ↦ fresh e m a (λ k some same.
-            let both : h ≡ k = some_same h k (sym is ∙ some) in
+            let both : h ≡ k = same_Some h k (sym is ∙ some) in
             let key : h.key ≡ key_of_message e m = ap (λ (i : HeldParts). i.key) both ∙ same in
             let self : same_part_key (key_of_message e m) (key_of_message e m) ≡ true = same_key-refl (key_of_message e m) in
             let other : same_part_key (key_of_message e m) (key_of_message e m) ≡ false = sym (ap (λ (i : Key). same_part_key i (key_of_message e m)) key) ∙ apart in
@@ -171,7 +165,7 @@ module _ (ps : List Packet) (site place : ℕ) (p : Packet) (one : AreOne ps) (t
             packet = p;
             there = there;
             target = target;
-            key = ap (λ (i : HeldParts). i.key) (some_same h _ (sym some ∙ is.held)) ∙ key-part e m p.part;
+            key = ap (λ (i : HeldParts). i.key) (same_Some h _ (sym some ∙ is.held)) ∙ key-part e m p.part;
             some = step-kept e m a new p.part fly.can within holds is;
           };
         },

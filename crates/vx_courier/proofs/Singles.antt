@@ -1,7 +1,7 @@
 -- A message that goes in one packet, and its payload.
-use Rattle.std.proofs.Common.{◌≡◌, ◌∙◌, ◌+◌, ◌<◌, ◌≤◌, ◌*◌, ◌/◌, ℕ, List, [], length, take, drop, ap, sym, subst, refl, arith}
+use Rattle.std.proofs.Common.{◌≡◌, ◌∙◌, ◌≤◌, ℕ, List, length, ap, sym, refl, arith}
 use Rattle.std.proofs.lemmas.List.{take_all}
-use Rattle.vx_packet.specs.Messages.{IsMessage, IsSpelled, chunk, part_count, count_of_parts, payload_of, row}
+use Rattle.vx_packet.specs.Messages.{IsMessage, IsSpelled, chunk, part_count, payload_of}
 use Rattle.vx_packet.specs.Packets.{part_numbered, payload_in}
 use Rattle.vx_packet.specs.declared.message.Envelope.{Envelope}
 use Rattle.vx_packet.specs.declared.message.Message.{Message as Spelled}

@@ -1,5 +1,5 @@
 -- How the message in assembly at a site stands for that of the world.
-use Rattle.std.specs.Prelude.{◌≡◌, ℕ, List, Option, Some, None, slice_get, true, false}
+use Rattle.std.specs.Prelude.{◌≡◌, ℕ, List, Option, Some, slice_get, true, false}
 use Rattle.vx_model.specs.Content.{Write}
 use Rattle.vx_history.specs.Gatherings.{completes, left_by}
 use Rattle.vx_history.specs.World.{Gathering, Packet, Update}

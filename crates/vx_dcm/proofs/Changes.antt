@@ -1,6 +1,6 @@
 -- A change of one region, as each map tells it.
-use Rattle.std.proofs.Common.{◌≡◌, ◌∙◌, inl, inr, ℕ, ◌<◌, ◌≤◌, Bool, true, List, length, refl, sym, ap, subst, arith}
-use Rattle.std.specs.Prelude.{◌&&◌, OnOk, Result, Ok, Err, if◌then◌else◌, leb}
+use Rattle.std.proofs.Common.{◌≡◌, ◌∙◌, inl, inr, ℕ, ◌<◌, Bool, true, refl, sym, ap, subst, arith}
+use Rattle.std.specs.Prelude.{OnOk, Result, Ok, Err, if◌then◌else◌, leb}
 use Rattle.std.proofs.lemmas.Bool.{and_parts, le-leb, leb-true}
 use Rattle.vx_bitmap.specs.Bits.{AllAre, Between, Changed, is_among, is_marked}
 use Rattle.vx_bitmap.specs.Maps.{Map, regions_mapped}

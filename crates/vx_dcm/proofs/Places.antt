@@ -4,11 +4,10 @@ use Rattle.std.specs.Prelude.{slice_index}
 use Rattle.std.specs.Int.{div_ceil}
 use Rattle.std.proofs.lemmas.Bool.{cases_eq, cases_lt}
 use Rattle.std.proofs.lemmas.List.{get_or-take, length-take, take-take}
-use Rattle.std.proofs.lemmas.List.Sums.{sum_by_more_le, sum_by-take-le}
-use Rattle.std.proofs.lemmas.Nat.{mul-le}
-use Rattle.std.proofs.Math.Nat.{add-mul}
+use Rattle.std.proofs.lemmas.List.Sums.{sum_by_more_le}
 use Rattle.vx_model.specs.Sizes.{map_blocks}
-use Rattle.vx_bitmap.specs.Maps.{Map, regions_mapped}
+use Rattle.vx_bitmap.specs.Maps.{regions_mapped}
+use Rattle.vx_bitmap.proofs.Runs.{slot_before}
 use Rattle.vx_dcm.specs.Places.{HasMap, HasRegion, AreMapsKept, Maps, map_first, maps_in, region_place, mapped_size}
 
 -- the map of a volume ends within those of a place of a link
@@ -25,10 +24,6 @@ ends_before sizes v w lt le =
     (sum_by_more_le (λ n. map_blocks n) (take w sizes) v 0 (omega (arith, lt, le, length-take w sizes)))
     (ap (λ (xs : List ℕ). maps_in xs) (take-take v w sizes (omega (arith, lt))))
     (ap (λ (n : ℕ). map_blocks n) (get_or-take w sizes v 0 lt))
-
--- the maps of a place of a link end before those of a later one
-pub slot_before : (k s stride : ℕ) → k < s → k * stride + stride ≤ s * stride
-slot_before k s stride lt = let one = mul-le (k + 1) stride s stride (omega (arith, lt)) (omega arith) in let two : (k + 1) * stride ≡ k * stride + 1 * stride = add-mul k 1 stride in omega (arith, one, two)
 
 -- a map has a bit for each region
 pub in_map : (regions r : ℕ) → r < regions → r < 4096 * div_ceil regions 4096

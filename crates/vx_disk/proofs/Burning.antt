@@ -1,6 +1,6 @@
 -- Calls that are made one after another.
 use Rattle.std.proofs.Common.{◌≡◌, ℕ, ◌+◌, ◌-◌, ◌≤◌, ◌<◌, Option, Some, None, Result, Ok, Err, OnOk, Bool, true, false, IsTrue, IsFalse, refl, sym, ◌∙◌, ap, subst, arith}
-use Rattle.std.proofs.lemmas.Option.{none-some}
+use Rattle.std.proofs.lemmas.Option.{none-some, same_Some}
 use Rattle.vx_disk.specs.declared.shelf.ShelfError.{ShelfError}
 use Rattle.vx_disk.specs.Causes.{Calls, OnDisks, WithDisks}
 use Rattle.vx_disk.specs.Disks.{Burns, Disks}
@@ -43,16 +43,13 @@ fewer_by j k old mid new le is le' is' =
     let pick : mid.1 ≡ old.1 = ap (λ (f : ℕ × ℕ). f.1) is in
     (omega (arith, le, left, le'), is' ∙ (λ i. (rest i, pick i)))
 
-some_same : (a b : ℕ × ℕ) → Some a ≡ Some b → a ≡ b
-some_same a b is = cc
-
 both_fewer : (j k : ℕ) (old mid new : Option (ℕ × ℕ)) → FewerLeft j old mid → FewerLeft k mid new → FewerLeft (j + k) old new
 both_fewer j k None None new one two = two
 both_fewer j k None (Some f) new one two = absurd (none-some f (sym one))
 both_fewer j k (Some f) None new one two = absurd (none-some (f.0 - j, f.1) one.1)
 both_fewer j k (Some f) (Some g) None one two = absurd (none-some (g.0 - k, g.1) two.1)
 both_fewer j k (Some f) (Some g) (Some h) one two =
-    let all : _ = fewer_by j k f g h one.0 (some_same g (f.0 - j, f.1) one.1) two.0 (some_same h (g.0 - k, g.1) two.1) in
+    let all : _ = fewer_by j k f g h one.0 (same_Some {A = ℕ × ℕ} g (f.0 - j, f.1) one.1) two.0 (same_Some {A = ℕ × ℕ} h (g.0 - k, g.1) two.1) in
     (all.0, ap (λ (x : ℕ × ℕ). Some x) all.1)
 
 both_on : (j k : ℕ) (old mid new : Option Disks) → WithDisks old mid (λ o n. FewerLeft j o.fuse n.fuse) → WithDisks mid new (λ o n. FewerLeft k o.fuse n.fuse)
@@ -94,7 +91,7 @@ then_fuse j k None None fewer short = absurd short
 then_fuse j k None (Some g) fewer short = absurd (none-some g (sym fewer))
 then_fuse j k (Some f) None fewer short = absurd short
 then_fuse j k (Some f) (Some g) fewer short =
-    let left : g.0 ≡ f.0 - j = ap (λ (x : ℕ × ℕ). x.0) (some_same g (f.0 - j, f.1) fewer.1) in
+    let left : g.0 ≡ f.0 - j = ap (λ (x : ℕ × ℕ). x.0) (same_Some {A = ℕ × ℕ} g (f.0 - j, f.1) fewer.1) in
     omega (arith, fewer.0, left, short)
 
 then_rack : (j k : ℕ) (old mid : Option Disks) → WithDisks old mid (λ o n. FewerLeft j o.fuse n.fuse) → RackIsShort k mid → RackIsShort (j + k) old

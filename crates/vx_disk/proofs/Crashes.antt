@@ -20,7 +20,7 @@ count_list l (suc n) = elim (cases_lt n (length l)) [
       (λ i. count_list l n i + cond (none i) 1 0) ∙ omega arith ∙ ap trues same
 ]
 
-some_unit : (units : List MemUnit) (u : ℕ) → u < length units → MemUnit
+pub some_unit : (units : List MemUnit) (u : ℕ) → u < length units → MemUnit
 some_unit [] u below = absurd (omega arith)
 some_unit (m ∷ units) u below = m
 

@@ -9,6 +9,7 @@ use Rattle.vx_disk.specs.declared.unit.MemUnit.{MemUnit}
 use Rattle.vx_disk.specs.Blocks.{block_at}
 use Rattle.vx_disk.specs.Racks.{Alike, Fitted, SameContents, Unfitted}
 use Rattle.vx_disk.specs.Memory.{stable_of, latest_of, loose_of, size_of, faults_of, failing_of, may_keep, meaning_of, Since, IsZeroed, AllZeroed}
+use Rattle.vx_disk.proofs.Crashes.{some_unit}
 use Rattle.vx_disk.proofs.Flags.{no_loose}
 use Rattle.vx_disk.proofs.Pasts.{States, was-since}
 
@@ -22,10 +23,6 @@ zero_at n b rest split =
 
 zero_block : (blocks b : ℕ) → b < blocks → block_at (replicate (512 * blocks) 0) b ≡ replicate 512 0
 zero_block blocks b below = zero_at (512 * blocks) b (512 * (blocks - b - 1)) (omega arith)
-
-some_unit : (units : List MemUnit) (u : ℕ) → u < length units → MemUnit
-some_unit [] u below = absurd (omega arith)
-some_unit (m ∷ units) u below = m
 
 module _ (disks blocks : ℕ) (units : List MemUnit) (zeroed : AllZeroed disks blocks units) where
   at : (u : ℕ) (below : u < disks) → (d : MemUnit) × IsZeroed blocks (get_or units u d) × (u < length units)

@@ -1,5 +1,6 @@
 // One disk in memory.
 ghost use Rattle.std.specs.Prelude.{◌≡◌, ◌*◌, ◌+◌, ◌≤◌, ℕ, ◌/◌, ◌%◌, ◌<◌, length, take, drop, replicate, true, false, cond, ◌≢◌, IfOk, slice_index_or};
+ghost use Rattle.vx_model.specs.declared.limits.TheConstants.{BLOCK};
 ghost use Rattle.vx_disk.specs.Blocks.{bit_at, block_at, kept, over, trues};
 ghost use Rattle.vx_disk.specs.Counts.{Rose};
 ghost use Rattle.vx_disk.specs.Runs.{AreInside, AreNoted};
@@ -20,8 +21,8 @@ pub struct MemUnit {
     pub number: usize,
     pub faults: u64,
     pub failing: bool,
-    pub ghost stable_size: { length stable.items ≡ 512 * length loose.items },
-    pub ghost latest_size: { length latest.items ≡ 512 * length loose.items },
+    pub ghost stable_size: { length stable.items ≡ BLOCK * length loose.items },
+    pub ghost latest_size: { length latest.items ≡ BLOCK * length loose.items },
     // A block that is not loose has one value.
     pub ghost clean: { (b : ℕ) → slice_index_or loose.items b false ≡ false → block_at stable.items b ≡ block_at latest.items b },
     // A block that lies in none of the runs is not loose.

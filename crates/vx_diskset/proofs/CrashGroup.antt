@@ -1,5 +1,5 @@
 -- What a crash leaves of a site that was up.
-use Rattle.std.proofs.Common.{◌≡◌, ◌⊎◌, inl, inr, ⊎_elim, ℕ, zero, suc, ◌+◌, ◌-◌, ◌<◌, ◌≤◌, Bool, true, false, List, [], length, take, drop, Option, Some, None, IsTrue, MatchOption, refl, sym, ◌∙◌, ap, subst, arith}
+use Rattle.std.proofs.Common.{◌≡◌, ◌⊎◌, inl, inr, ⊎_elim, ℕ, zero, suc, ◌+◌, ◌-◌, ◌<◌, ◌≤◌, Bool, true, false, List, length, take, drop, Option, Some, None, IsTrue, MatchOption, refl, sym, ◌∙◌, ap, subst, arith}
 use Rattle.std.proofs.lemmas.List.{length-take}
 use Rattle.std.specs.Prelude.{slice_get, Err}
 use Rattle.vx_model.specs.Content.{Content, Write, fold_writes}
@@ -38,6 +38,7 @@ use Rattle.vx_diskset.specs.Stands.{IsUpAt, IsHeldAt, IsDownAt, CutAt, IsToldAt,
 use Rattle.vx_diskset.proofs.Laying.{laid_in, lies_as, lies_sized, sizes_of, raw_sized, units_raw}
 use Rattle.vx_diskset.proofs.BesideLemmas.{doubted, writes_itself}
 use Rattle.vx_diskset.proofs.StaysUp.{held_up}
+use Rattle.vx_events.proofs.Places.{never_some, some_same}
 use Rattle.vx_events.proofs.Values.{length-values_from, slice_index-values_from}
 use Rattle.vx_diskset.proofs.RawSets.{cut_there}
 
@@ -60,14 +61,8 @@ keeps_option m u b here bytes (Some new) keeps is = is
 keeps_option m u b here bytes None keeps is = record { only = λ v left. keeps.only v left ∙ is }
 
 value_there : (f : ℕ → List ℕ) (k n b : ℕ) (bytes : List ℕ) → slice_get (values_from f k n) b ≡ Some bytes → f (k + b) ≡ bytes
-value_there f k zero b bytes is = absurd (none_there is)
-  where
-    none_there : {A : Type 0} {x : A} → None ≡ Some x → ⊥
-    none_there e = cc
-value_there f k (suc n) zero bytes is = ap f (omega arith) ∙ same is
-  where
-    same : {A : Type 0} {x y : A} → Some x ≡ Some y → x ≡ y
-    same e = cc
+value_there f k zero b bytes is = absurd (never_some is)
+value_there f k (suc n) zero bytes is = ap f (omega arith) ∙ some_same is
 value_there f k (suc n) (suc b) bytes is = ap f (omega arith) ∙ value_there f (k + 1) n b bytes is
 
 -- with the blocks of the map unit as an image has them

@@ -1,7 +1,6 @@
 -- A group that is begun on the disks of a bare site.
 use Rattle.std.proofs.Common.{◌≡◌, ◌∙◌, ◌<◌, ◌≤◌, ℕ, ap, refl, subst, sym, IsTrue}
 use Rattle.std.specs.Prelude.{IfErr, Option, Some, None, Result, Ok, Err}
-use Rattle.vx_model.specs.Content.{Write}
 use Rattle.vx_model.specs.declared.errors.Stop.{Stop}
 use Rattle.vx_model.specs.declared.errors.Stop.TheVariants.{No as Refused, OutOfMemory}
 use Rattle.vx_model.specs.declared.limits.TheConstants.{LEAST_BLOCKS, LEAST_GROUP_BLOCKS, MOST_DISKS}
@@ -25,7 +24,7 @@ use Rattle.vx_diskset.specs.GroupSets.{cut_value, noted_cut}
 use Rattle.vx_diskset.specs.Holds.{KeptBeside}
 use Rattle.vx_diskset.specs.Stands.{IsBareAt, IsGroupSet, SiteStands, bare_with, IsRackTold}
 use Rattle.vx_diskset.specs.declared.disk_set.DiskSet.{DiskSet}
-use Rattle.vx_diskset.specs.declared.disk_set.DiskSet.TheVariants.{Bare, OfGroup}
+use Rattle.vx_diskset.specs.declared.disk_set.DiskSet.TheVariants.{OfGroup}
 use Rattle.vx_diskset.specs.declared.group_set.CutWrite.{CutWrite}
 use Rattle.vx_diskset.specs.declared.group_set.GroupSet.{GroupSet}
 use Rattle.vx_diskset.proofs.GroupCalling.{HasDisks, IsSettled, OnGroup, failing_risen, fuse_risen, later_risen, on_group, rises_called, settled, up_settled, told_behind, plain_set, at_both}

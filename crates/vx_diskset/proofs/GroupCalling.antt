@@ -1,5 +1,5 @@
 -- What a call on the group of a site leaves of the disks below it.
-use Rattle.std.proofs.Common.{arith, ◌≡◌, ◌∙◌, ◌⊎◌, inl, inr, ℕ, ◌≤◌, Bool, true, false, List, ap, refl, subst, sym, IsTrue}
+use Rattle.std.proofs.Common.{arith, ◌≡◌, ◌∙◌, ◌⊎◌, inl, inr, ℕ, ◌≤◌, true, false, List, ap, refl, subst, sym, IsTrue}
 use Rattle.std.specs.Prelude.{Option, Some, None, IsFalse, Result, Ok, Err, OnOk, unwrap_or}
 use Rattle.vx_model.specs.Content.{Write}
 use Rattle.vx_model.specs.declared.errors.Stop.{Stop}
@@ -16,7 +16,7 @@ use Rattle.vx_history.specs.Groups.{GroupNode, note_cut, note_doubt, note_write}
 use Rattle.vx_history.specs.Steps.{crashed, worked}
 use Rattle.vx_history.specs.World.{Node}
 use Rattle.vx_watched.proofs.SinceLemmas.{since_none}
-use Rattle.vx_watched.specs.Since.{CalledSince, fuse_calls, is_rack}
+use Rattle.vx_watched.specs.Since.{CalledSince, is_rack}
 use Rattle.vx_grouped.specs.Added.{note_added}
 use Rattle.vx_grouped.specs.GroupSites.{AwayNoted, DownNoted, GroupSiteStands, UpNoted, deported_with, site_disks, with_note, site_below}
 use Rattle.vx_grouped.specs.SiteAdds.{LacksVolume, SiteAdded}

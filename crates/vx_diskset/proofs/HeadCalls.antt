@@ -1,16 +1,16 @@
 -- The calls of a header on the disks of a site: how many, and what they leave of the fuse.
-use Rattle.std.proofs.Common.{◌≡◌, ◌∙◌, ◌<◌, ℕ, ap, arith, sym, subst, refl, true, false, IsTrue}
-use Rattle.std.specs.Prelude.{Option, Some, None, Result, Ok, Err, OnOk, IsFalse}
+use Rattle.std.proofs.Common.{◌≡◌, ◌∙◌, ℕ, ap, arith, sym, subst, refl, true, false}
+use Rattle.std.specs.Prelude.{Option, Result, Ok, Err, OnOk, IsFalse}
 use Rattle.vx_model.specs.declared.no.No.{No}
 use Rattle.vx_model.specs.declared.no.No.TheVariants.{Down as IsDown}
 use Rattle.vx_model.specs.declared.units.Units.{Units}
 use Rattle.vx_disk.specs.Burns.{FallsShort, FewerLeft, MakesCalls}
-use Rattle.vx_disk.specs.Causes.{OnDisks, WithDisks, Works}
+use Rattle.vx_disk.specs.Causes.{WithDisks, Works}
 use Rattle.vx_disk.specs.Disks.{Disks}
 use Rattle.vx_disk.specs.Shelf.{Meaning}
 use Rattle.vx_disk.specs.declared.shelf.Shelf.{Ghosts}
 use Rattle.vx_disk.proofs.Burning.{no_calls}
-use Rattle.vx_ringio.specs.Spends.{Passed, Spends}
+use Rattle.vx_ringio.specs.Spends.{Spends}
 use Rattle.vx_rvg.specs.declared.group.Rvg.{Rvg}
 use Rattle.vx_grouped.specs.GroupSites.{site_disks}
 use Rattle.vx_grouped.specs.SiteEnds.{is_off}
@@ -19,7 +19,7 @@ use Rattle.vx_events.specs.declared.said.Said.{Said}
 use Rattle.vx_events.specs.declared.said.Said.TheVariants.{Done, Refused}
 use Rattle.vx_history.specs.World.{Node}
 use Rattle.vx_diskset.specs.Aboves.{site_in}
-use Rattle.vx_diskset.specs.Asked.{HeadUnder, LeavesFuse, MayCrash, ShortBy, TakesBy, WorksBy, disks_told, size_in}
+use Rattle.vx_diskset.specs.Asked.{HeadUnder, LeavesFuse, MayCrash, ShortBy, TakesBy, WorksBy, disks_told}
 use Rattle.vx_diskset.specs.Burning.{NoMore, OffIf}
 use Rattle.vx_diskset.specs.Holds.{KeptBeside}
 use Rattle.vx_diskset.specs.Keeps.{done_by}

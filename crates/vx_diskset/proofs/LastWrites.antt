@@ -7,6 +7,7 @@ use Rattle.vx_rvg.specs.Holdings.{Holding, kept_in, with_last, with_writes}
 use Rattle.vx_rvg.specs.Stands.{FoundAs, Resting, Rests, Retains, Saving, Stands, Writing}
 use Rattle.vx_rvg.specs.Views.{Core}
 use Rattle.vx_rvg.proofs.ContentFacts.{stands_count, stands_found}
+use Rattle.vx_rvg.proofs.WriteCommit.{no_part}
 use Rattle.vx_model.specs.declared.limits.TheConstants.{MOST_CALL_BLOCKS}
 use Rattle.vx_history.specs.Events.{logged_blocks}
 use Rattle.vx_srlfmt.specs.declared.header.Header.{Header}
@@ -54,10 +55,6 @@ pub last_kept : (ring : ℕ) (xs : List Write) (c : Content) (h : Holding) (low 
     → HasLast ring xs c (with_last low place count h)
 last_kept ring xs c h low place count has some last few full = kept_by ring xs c h low place count (length h.writes - count) refl has some last few full
 
-none_more : (k : ℕ) → take {A = Write} k [] ≡ []
-none_more zero = refl
-none_more (suc k) = refl
-
 -- an image in a write
 pub writing_found : (core : Core) (xs : List Write) (x : Write) (c : Content) (m : Meaning) (i : Image) → Writing core (x ∷ []) m i → StandsHolding core xs c m → FoundOf core i xs c ⊎ FoundOf core i (xs ++ x ∷ []) (put c x)
 writing_found core xs x c m i writing stood = by (writing.each stood.held stood.stands).0 (writing.each stood.held stood.stands).1
@@ -68,7 +65,7 @@ writing_found core xs x c m i writing stood = by (writing.each stood.held stood.
       held = with_writes (x ∷ []) stood.held;
       has = last_more core.log.ring xs x c stood.held stood.has;
       needs = stood.needs;
-      found = subst (λ (ws : List Write). FoundAs core i (with_writes (x ∷ ws) stood.held)) (none_more k) found;
+      found = subst (λ (ws : List Write). FoundAs core i (with_writes (x ∷ ws) stood.held)) (no_part k) found;
     })
 
 -- in another ring that is as large

@@ -47,6 +47,7 @@ use Rattle.vx_diskset.specs.Layouts.{raw_units, CanBeRaw, units_of}
 use Rattle.vx_diskset.proofs.Laying.{laid_in, lies_as, raw_lies, raw_none, raw_on, raw_size, units_raw}
 use Rattle.vx_diskset.specs.Fuses.{FuseOn, LetsOn}
 use Rattle.vx_diskset.specs.Stands.{IsFitted, IsBareAt, bare_with, IsUpAt, faults_at}
+use Rattle.vx_events.proofs.Places.{never_some, some_same}
 use Rattle.vx_events.proofs.Values.{length-values_from, slice_index-values_from}
 
 pub keeps_still : (m new : Meaning) (u b : ℕ) (x : List ℕ) → Goes Nothing m new → Keeps m u b x → Keeps new u b x
@@ -169,14 +170,8 @@ raw_state site n is = sym (ap (λ (k : Node). state_with (raw_set site k) []) is
 
 -- a block of zeros in a row of them
 one_of_all : (n b : ℕ) (bytes : List ℕ) → slice_get (replicate n zero_block) b ≡ Some bytes → (b < n) × (zero_block ≡ bytes)
-one_of_all zero b bytes is = absurd (none_there is)
-  where
-    none_there : {A : Type 0} {x : A} → None ≡ Some x → ⊥
-    none_there e = cc
-one_of_all (suc n) zero bytes is = (omega arith, same is)
-  where
-    same : {A : Type 0} {x y : A} → Some x ≡ Some y → x ≡ y
-    same e = cc
+one_of_all zero b bytes is = absurd (never_some is)
+one_of_all (suc n) zero bytes is = (omega arith, some_same is)
 one_of_all (suc n) (suc b) bytes is = let more = one_of_all n b bytes is in (omega (arith, more.0), more.1)
 
 -- the volumes and the maps of a bare site hold zeros

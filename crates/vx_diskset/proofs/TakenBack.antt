@@ -1,5 +1,5 @@
 -- Disks that tell no contents stand for a site whatever links its log keeps and whoever feeds it; and where it goes down again, for any that was down on them.
-use Rattle.std.proofs.Common.{◌≡◌, ◌∙◌, ◌<◌, ◌+◌, ◌-◌, ℕ, List, length, ap, sym, arith, IsTrue}
+use Rattle.std.proofs.Common.{◌≡◌, ◌∙◌, ◌<◌, ◌+◌, ◌-◌, ℕ, List, ap, sym, arith, IsTrue}
 use Rattle.std.specs.Prelude.{None}
 use Rattle.vx_model.specs.Content.{zero_block}
 use Rattle.vx_model.specs.declared.site.SiteState.TheVariants.{Bare as IsBare, Up as IsUp, Down as IsDown}

@@ -1,6 +1,6 @@
 -- The disks of a bare site on which a group was begun: what they stand for, and a raw set over them.
 use Rattle.std.proofs.Common.{◌≡◌, ◌∙◌, ◌<◌, ◌≤◌, ℕ, ap, arith, refl, subst, sym}
-use Rattle.std.specs.Prelude.{Option, None, Some, Result, Ok, Err, IsFalse, IsTrue}
+use Rattle.std.specs.Prelude.{Option, None, Result, Ok, Err, IsFalse}
 use Rattle.vx_model.specs.declared.errors.Stop.{Stop}
 use Rattle.vx_model.specs.declared.errors.Stop.TheVariants.{No as Refused, OutOfMemory}
 use Rattle.vx_model.specs.declared.no.No.TheVariants.{Device, Down as Off}
@@ -15,7 +15,7 @@ use Rattle.vx_disk.specs.declared.shelf.ShelfError.{ShelfError}
 use Rattle.vx_disk.specs.declared.shelf.ShelfError.TheVariants.{Fault, Down as IsOff}
 use Rattle.vx_history.specs.Groups.{GroupNode}
 use Rattle.vx_history.specs.World.{Node}
-use Rattle.vx_grouped.specs.GroupSites.{GroupSiteStands, IsMarkedSite}
+use Rattle.vx_grouped.specs.GroupSites.{GroupSiteStands}
 use Rattle.vx_grouped.specs.declared.group_site.GroupSite.{GroupSite}
 use Rattle.vx_grouped.specs.declared.group_site.GroupSite.TheVariants.{Up, Deported, Down, Marked, Gone}
 use Rattle.vx_diskset.specs.DiskSets.{MadeIs}
@@ -26,7 +26,6 @@ use Rattle.vx_diskset.specs.Zeroing.{LeavesZeros}
 use Rattle.vx_diskset.specs.Zeros.{OnlyZeros}
 use Rattle.vx_diskset.specs.declared.disk_set.DiskSet.{DiskSet}
 use Rattle.vx_diskset.specs.declared.disk_set.DiskSet.TheVariants.{Bare, Spoiled, OfGroup}
-use Rattle.vx_diskset.specs.declared.group_set.CutWrite.{CutWrite}
 use Rattle.vx_diskset.specs.declared.group_set.GroupSet.{GroupSet}
 use Rattle.vx_diskset.proofs.StaysUp.{never_both, not_true}
 

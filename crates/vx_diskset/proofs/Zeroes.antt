@@ -1,13 +1,11 @@
 -- Zeros on the disks of a site, run by run and disk by disk.
-use Rattle.std.proofs.Common.{◌≡◌, inl, inr, ⊎_elim, ℕ, suc, ◌+◌, ◌-◌, ◌*◌, ◌/◌, ◌<◌, ◌≤◌, List, length, replicate, Result, Ok, Err, OnOk, ap, refl, subst, sym, ◌∙◌, arith}
-use Rattle.std.specs.Prelude.{IfErr, Option, Some, None, take}
+use Rattle.std.proofs.Common.{◌≡◌, inl, inr, ⊎_elim, ℕ, ◌+◌, ◌-◌, ◌*◌, ◌<◌, ◌≤◌, List, length, replicate, Result, Ok, Err, OnOk, ap, refl, subst, ◌∙◌, arith}
+use Rattle.std.specs.Prelude.{IfErr, take}
 use Rattle.std.proofs.lemmas.Bool.{cases_lt}
 use Rattle.std.proofs.lemmas.List.{drop-replicate, length-replicate, take-replicate}
 use Rattle.vx_model.specs.Content.{zero_block}
 use Rattle.vx_disk.specs.Causes.{Cause, DeviceCause, refusal_of}
-use Rattle.vx_disk.specs.Counts.{Rose}
-use Rattle.vx_disk.specs.Disks.{Disks}
-use Rattle.vx_disk.specs.Shelf.{Covers, Flushed, Goes, Keeps, Meaning, Nothing, Or, Written, Wrote, piece}
+use Rattle.vx_disk.specs.Shelf.{Flushed, Goes, Keeps, Meaning, Nothing, Or, Written, Wrote, piece}
 use Rattle.vx_disk.specs.declared.shelf.ShelfError.{ShelfError}
 use Rattle.vx_disk.specs.declared.shelf.ShelfError.TheVariants.{Fault, Down}
 use Rattle.vx_disk.proofs.Causing.{Rose_before}

@@ -175,7 +175,7 @@ links_grown Up number blocks fs = refl
 links_grown Deported number blocks fs = refl
 links_grown Down number blocks fs = refl
 
-abbrev with_parts : SiteFacts → Option RvgFacts → List LinkFacts → SiteFacts
+abbrev pub with_parts : SiteFacts → Option RvgFacts → List LinkFacts → SiteFacts
 with_parts f rvg links = record f { rvg = rvg; links = links }
 
 module _ (n : Node) (row : ℕ → Link) (sites : ℕ) where

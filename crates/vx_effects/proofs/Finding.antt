@@ -1,7 +1,7 @@
 -- What a line of links finds over disks that tell no contents keeps the links fitting.
 use Rattle.std.proofs.Common.{◌≡◌, ◌∙◌, ℕ, ◌≤◌, Bool, true, false, List, refl, ap, sym, subst}
 use Rattle.std.specs.Prelude.{Option, Some, eqb}
-use Rattle.vx_history.proofs.Updates.{at_place, eqb_equal}
+use Rattle.vx_history.proofs.Updates.{at_place, eqb_apart, eqb_equal}
 use Rattle.vx_history.specs.Doubts.{Doubted, halved}
 use Rattle.vx_history.specs.Events.{with_write}
 use Rattle.vx_history.specs.Refusals.{is_running}
@@ -18,7 +18,7 @@ use Rattle.vx_events.specs.Fails.{Fails}
 use Rattle.vx_events.specs.LinkFinds.{ApplyCut, ApplyHalts, EndsBetween, FindsOther, GivesUp, HasMoved, HeaderCut, HeaderHalts, IsStored, IsUnread, KeepsOther, LosesOther, MovesBetween, ReadsNone, SendsOther, SettlesOther, TakesOf, TakesOther, pumped_with, target_with}
 use Rattle.vx_events.specs.LinksFit.{IsPlain, LinksFit}
 use Rattle.vx_events.specs.declared.said.Said.{Said}
-use Rattle.vx_effects.proofs.Fitting.{apart_by, fit_happened}
+use Rattle.vx_effects.proofs.Fitting.{fit_happened}
 use Rattle.vx_effects.proofs.Leaving.{fit_crashed_as, fit_halved}
 use Rattle.vx_effects.proofs.Links.{KeepsLink, keeps_equal, none_of}
 use Rattle.vx_effects.proofs.Moves.{All, Moves, Rests, Stays, StillKeeps, fit_moves, keeps_role, moves_alike, moves_like, moves_same, rests_same, stays_same}
@@ -68,16 +68,16 @@ module _ (p s : ℕ) (d e : Doubted) (m : MovesBetween p s d e) where
     where
       choose : (b : Bool) → eqb i s ≡ b → P i (d.world.nodes i) (e.world.nodes i)
       choose true same = subst (λ (j : ℕ). P j (d.world.nodes j) (e.world.nodes j)) (sym (eqb_equal i s same)) here
-      choose false other = subst (λ (n : Node). P i (d.world.nodes i) n) (sym (m.nodes i (apart_by i s other))) (there i)
+      choose false other = subst (λ (n : Node). P i (d.world.nodes i) n) (sym (m.nodes i (eqb_apart i s other))) (there i)
 
   link_kept : (i k : ℕ) → KeepsLink (d.world.links i k) (e.world.links i k)
   link_kept i k = choose (eqb i p) refl (eqb k s) refl
     where
       choose : (a : Bool) → eqb i p ≡ a → (b : Bool) → eqb k s ≡ b → KeepsLink (d.world.links i k) (e.world.links i k)
-      choose false other b _ = keeps_equal (d.world.links i k) (e.world.links i k) (m.rows i k (apart_by i p other))
+      choose false other b _ = keeps_equal (d.world.links i k) (e.world.links i k) (m.rows i k (eqb_apart i p other))
       choose true same false other =
           keeps_equal (d.world.links i k) (e.world.links i k)
-          (subst (λ (j : ℕ). e.world.links j k ≡ d.world.links j k) (sym (eqb_equal i p same)) (m.links k (apart_by k s other)))
+          (subst (λ (j : ℕ). e.world.links j k ≡ d.world.links j k) (sym (eqb_equal i p same)) (m.links k (eqb_apart k s other)))
       choose true same true too =
           subst (λ (j : ℕ). KeepsLink (d.world.links j k) (e.world.links j k)) (sym (eqb_equal i p same))
           (subst (λ (j : ℕ). KeepsLink (d.world.links p j) (e.world.links p j)) (sym (eqb_equal k s too)) (moved_keeps (d.world.links p s) (e.world.links p s) m.linked m.moves))

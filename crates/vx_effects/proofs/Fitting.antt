@@ -1,7 +1,6 @@
 -- Whatever happens, the links of every world fit.
 use Rattle.std.proofs.Common.{◌≡◌, ◌∙◌, ℕ, ◌+◌, ◌≤◌, ◌<◌, List, [], ◌∷◌, Bool, true, false, refl, ap, sym, subst, arith}
 use Rattle.std.proofs.lemmas.Bool.{not-false}
-use Rattle.std.proofs.lemmas.Bool.Decides.{nat_tests}
 use Rattle.std.specs.Prelude.{not, ◌&&◌, ◌||◌, eqb, leb, ltb, Option, Some, None, bytes_eq}
 pub use Rattle.vx_history.proofs.Updates.{updated_other}
 use Rattle.vx_model.specs.Sites.{is_origin, is_up}
@@ -17,7 +16,7 @@ use Rattle.vx_model.specs.declared.site.SiteState.TheVariants.{Bare, Down, Up}
 use Rattle.vx_history.proofs.CrashLemmas.{crash_state}
 use Rattle.vx_history.proofs.Places.{places_further, places_made}
 use Rattle.vx_history.proofs.States.{primary_leads, up_is}
-use Rattle.vx_history.proofs.Updates.{all_updated, and_left, at_place, by_test, eqb_equal}
+use Rattle.vx_history.proofs.Updates.{all_updated, and_left, at_place, by_test, eqb_apart, eqb_equal}
 use Rattle.vx_history.specs.Doubts.{After, Doubted, Runs, happened, resolved, resolved_at, taken_up}
 use Rattle.vx_history.specs.Events.{crash_at, deport_at, kept_of, new_link}
 use Rattle.vx_history.specs.Headers.{headers_by}
@@ -31,21 +30,13 @@ use Rattle.vx_history.specs.declared.event.Event.TheVariants.{Site, Raw, Group, 
 use Rattle.vx_history.specs.declared.event.LinkPart.TheVariants.{Joins, Made, Marked, Opened}
 use Rattle.vx_events.specs.Doubts.{run_as}
 use Rattle.vx_events.specs.LinksFit.{DoubtFits, IsBlank, IsPlain, IsRested, LinksFit, RowFits, StartsAt}
+use Rattle.vx_events.proofs.Places.{never_some}
 use Rattle.vx_effects.proofs.Headers.{bare_none}
 use Rattle.vx_effects.proofs.Moves.{All, fit_moves, moves_like, moves_same}
 use Rattle.vx_effects.proofs.Outcomes.{IsSettled, crash_moves, deported_moves, outcome_moves}
 use Rattle.vx_effects.proofs.Tests
 
 -- ---- sites in doubt
-
-pub apart_by : (p s : ℕ) → eqb p s ≡ false → p ≡ s → ⊥
-apart_by p s e same = grind (arith, nat_tests)
-
-pub some_one : {A : Type 0} {a b : A} → Some a ≡ Some b → a ≡ b
-some_one e = cc
-
-pub never_some : {A : Type 0} {a : A} → None ≡ Some a → ⊥
-never_some e = cc
 
 -- of other sites nothing is in doubt but what was
 left_doubts : (after : ℕ → Option After) (s : ℕ) (p : ℕ) (a : After) → updated after s None p ≡ Some a → (after p ≡ Some a) × (p ≡ s → ⊥)
@@ -92,7 +83,7 @@ fit_taken d s a is fit = record {
         (subst (λ (n : Node). StartsAt n (updated d.world.links s a.row s)) (sym (at_place d.world.nodes s a.node))
         (subst (λ (row : ℕ → LinkOf). StartsAt a.node row) (sym (at_place d.world.links s a.row)) f.starts))
     starting p false e =
-        let other : p ≡ s → ⊥ = apart_by p s e in
+        let other : p ≡ s → ⊥ = eqb_apart p s e in
         subst (λ (n : Node). StartsAt n (updated d.world.links s a.row p)) (sym (updated_other d.world.nodes s p a.node other))
         (subst (λ (row : ℕ → LinkOf). StartsAt (d.world.nodes p) row) (sym (updated_other d.world.links s p a.row other)) (fit.starts p))
 

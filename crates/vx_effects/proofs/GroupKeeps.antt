@@ -1,6 +1,6 @@
 -- How a line over a group of disks ends keeps the disks of its site, but for those that a line makes fail.
-use Rattle.std.proofs.Common.{◌≡◌, ◌∙◌, ℕ, List, [], ◌∷◌, ◌++◌, Bool, true, false, refl, ap, sym, subst}
-use Rattle.std.specs.Prelude.{not, Option, Some, None}
+use Rattle.std.proofs.Common.{◌≡◌, ◌∙◌, ℕ, [], ◌∷◌, ◌++◌, false, refl, sym, subst}
+use Rattle.std.specs.Prelude.{not, Some}
 use Rattle.vx_model.specs.declared.no.No.TheVariants.{Role as WrongRole, Down as NotUp}
 use Rattle.vx_model.specs.declared.site.SiteState.{SiteState}
 use Rattle.vx_model.specs.declared.site.SiteState.TheVariants.{Bare, Up, Deported, Down}
@@ -10,18 +10,18 @@ use Rattle.vx_history.specs.Doubts.{Doubted, happened}
 use Rattle.vx_history.specs.Events.{crash_at, deport_at, group_again, group_from, is_plain_group, kept_of}
 use Rattle.vx_history.specs.Groups.{GroupNode}
 use Rattle.vx_history.specs.Refusals.{Outcome, at_work, unless}
-use Rattle.vx_history.specs.Step.{done, outcome_of}
+use Rattle.vx_history.specs.Step.{done}
 use Rattle.vx_history.specs.Steps.{crashed, deported_site, group_back, group_set, group_up}
 use Rattle.vx_history.specs.World.{Node, World, with_node}
 use Rattle.vx_history.specs.declared.event.Event.TheVariants.{Crash as CrashAt, Deport as DeportAt, Group as GroupAt}
 use Rattle.vx_script.specs.declared.line.ScriptLine.{ScriptLine}
 use Rattle.vx_script.specs.declared.line.ScriptLine.TheVariants.{GroupInit, GroupDeport, GroupImport, Volume, PlexDetach, PlexAttach, Disk, Crash, Fuse, Recover, Write, Put, Read, Show}
 use Rattle.vx_events.proofs.Keeping.{past, past_site, past_work}
-use Rattle.vx_events.specs.Doubts.{IsAs, run_as}
+use Rattle.vx_events.specs.Doubts.{run_as}
 use Rattle.vx_events.specs.Effects.{KeepsDisks}
 use Rattle.vx_events.specs.Fails.{Fails}
 use Rattle.vx_events.specs.GroupEnds.{GroupEnds, GroupDone, GroupLacks, GroupFails, InitFails, ImportFails, KeptUnread, GroupCut, GroupNotFound, FindsGroup, FindsNoGroup, IsLeftOver}
-use Rattle.vx_events.specs.GroupLines.{MakesNoFailure, crash_first, cut_events, fuse_lost, group_events, group_noted, group_recovery, noting, refused_events, unread_events}
+use Rattle.vx_events.specs.GroupLines.{MakesNoFailure, crash_first, cut_events, fuse_lost, group_events, group_noted, group_recovery, noting, refused_events}
 use Rattle.vx_events.specs.declared.said.Said.{Said}
 use Rattle.vx_effects.proofs.Effects.{crash_turns}
 use Rattle.vx_effects.proofs.Groups.{deport_turns}

@@ -1,11 +1,12 @@
 -- What an event that writes one header leaves where a disk failed in it, and where a fuse cut it.
 use Rattle.std.proofs.Common.{◌≡◌, ◌∙◌, ℕ, ◌+◌, List, Bool, refl, ap}
 use Rattle.std.specs.Prelude.{Option, Some, None}
+use Rattle.vx_history.proofs.Behind.{after_of}
 use Rattle.vx_history.proofs.Updates.{at_place}
-use Rattle.vx_history.specs.Doubts.{After, Doubted, crashed_as, halved, resolved_at}
+use Rattle.vx_history.specs.Doubts.{Doubted, crashed_as, halved, resolved_at}
 use Rattle.vx_history.specs.Events.{kept_of, lost_touch}
 use Rattle.vx_history.specs.Step.{step}
-use Rattle.vx_history.specs.Steps.{burned, crashed, stopped_by}
+use Rattle.vx_history.specs.Steps.{burned, crashed}
 use Rattle.vx_history.specs.World.{Gathering, Link, Node, Packet, World}
 use Rattle.vx_history.specs.declared.event.Event.{Event}
 use Rattle.vx_events.specs.Effects.{ChangesAt, EffectAt}
@@ -16,10 +17,6 @@ use Rattle.vx_effects.proofs.Fitting.{updated_other}
 abbrev pub stopped : Node → (disk : ℕ) → Node
 stopped n disk = record n { halted = Some disk; fuse = burned n.fuse }
 
--- what such a site may be besides: the event on its disks
-abbrev pub may_be : Doubted → Event → (s disk : ℕ) → After
-may_be d e s disk = record { node = (stopped_by (step d.world e).world s disk).nodes s; row = (step d.world e).world.links s }
-
 -- the world behind an event that crashes no site
 abbrev pub behind : Doubted → Event → Doubted
 behind d e = record d { world = (step d.world e).world }
@@ -27,31 +24,31 @@ behind d e = record d { world = (step d.world e).world }
 module _ (d : Doubted) (e : Event) (s : ℕ) (n : Node) (row : ℕ → Link) (packets : List Packet) (gathered : Option Gathering)
     (f : EffectAt s d (behind d e) n row (d.world.headers s + 1) (d.after s) packets gathered) where
   pub halved_effect : (disk : ℕ)
-      → EffectAt s d (halved d e s disk) (stopped (d.world.nodes s) disk) (d.world.links s) (d.world.headers s + 1) (Some (may_be d e s disk)) d.world.packets (d.world.gathering s)
+      → EffectAt s d (halved d e s disk) (stopped (d.world.nodes s) disk) (d.world.links s) (d.world.headers s + 1) (Some (after_of d e s disk)) d.world.packets (d.world.gathering s)
   halved_effect disk = record {
     site = record {
       sites = refl;
       nodes = λ i apart. updated_other d.world.nodes s i (stopped (d.world.nodes s) disk) apart;
       links = λ i k apart. refl;
       headers = f.site.headers;
-      after = λ i apart. updated_other d.after s i (Some (may_be d e s disk)) apart;
+      after = λ i apart. updated_other d.after s i (Some (after_of d e s disk)) apart;
       gathering = λ i apart. refl;
     };
     is = record {
       node = at_place d.world.nodes s (stopped (d.world.nodes s) disk);
       links = λ k. refl;
       headers = f.is.headers;
-      after = at_place d.after s (Some (may_be d e s disk));
+      after = at_place d.after s (Some (after_of d e s disk));
     };
     sent = refl;
     gathering = refl;
   }
 
   -- the node that it may be is that of the event, halted
-  pub may_be_node : (disk : ℕ) → (may_be d e s disk).node ≡ stopped n disk
+  pub may_be_node : (disk : ℕ) → (after_of d e s disk).node ≡ stopped n disk
   may_be_node disk = at_place (step d.world e).world.nodes s (stopped ((step d.world e).world.nodes s) disk) ∙ ap (λ (m : Node). stopped m disk) f.is.node
 
-  pub may_be_row : (disk k : ℕ) → (may_be d e s disk).row k ≡ row k
+  pub may_be_row : (disk k : ℕ) → (after_of d e s disk).row k ≡ row k
   may_be_row disk k = f.is.links k
 
 -- a crash of a site that may be in doubt

@@ -1,7 +1,7 @@
 -- What disks, fuses and notes leave of a world keeps its links fitting.
 use Rattle.std.proofs.Common.{◌≡◌, ◌∙◌, ℕ, ◌≤◌, ◌<◌, Bool, true, false, refl, ap, sym, subst, arith}
 use Rattle.std.specs.Prelude.{not, ◌&&◌, eqb, ltb, Option, Some, None}
-use Rattle.vx_history.proofs.Updates.{all_updated, at_place, by_test, eqb_equal}
+use Rattle.vx_history.proofs.Updates.{all_updated, at_place, by_test, eqb_apart, eqb_equal}
 use Rattle.vx_history.specs.Doubts.{After, Doubted, crashed_as, halved, resolved_at, taken_up}
 use Rattle.vx_history.specs.Events.{kept_of, new_link, packet_at}
 use Rattle.vx_history.specs.Headers.{headers_by}
@@ -28,7 +28,8 @@ use Rattle.vx_events.specs.Facts.{site_number}
 use Rattle.vx_events.specs.Failing.{is_failing, made_fail}
 use Rattle.vx_events.specs.LinkEnds.{AreLeft, link_noted, target_noted}
 use Rattle.vx_events.specs.LinksFit.{DoubtFits, IsBlank, IsRested, LinksFit, RowFits, StartsAt}
-use Rattle.vx_effects.proofs.Fitting.{apart_by, fit_crashed, fit_happened, fit_resolved, never_some, none_more, some_one, updated_other}
+use Rattle.vx_events.proofs.Places.{never_some, some_same}
+use Rattle.vx_effects.proofs.Fitting.{fit_crashed, fit_happened, fit_resolved, none_more, updated_other}
 use Rattle.vx_effects.proofs.Headers.{bare_none}
 use Rattle.vx_effects.proofs.Moves.{All, Moves, Rests, fit_moves, moves_alike, moves_like}
 use Rattle.vx_effects.proofs.Outcomes.{outcome_moves, stopped_moves}
@@ -46,7 +47,7 @@ fit_doubt d s a doubt fit = record {
   quiet = fit.quiet;
   rests = fit.rests;
   doubts = all_updated (λ (p : ℕ) (o : Option After). (b : After) → o ≡ Some b → DoubtFits d.world p b) d.after s (Some a)
-      (λ b e. subst (λ (c : After). DoubtFits d.world s c) (some_one e) doubt) (λ p _. fit.doubts p);
+      (λ b e. subst (λ (c : After). DoubtFits d.world s c) (some_same e) doubt) (λ p _. fit.doubts p);
 }
 
 -- an event that writes a header of a log, or a record that a disk ends, makes no site, and its site stays up
@@ -285,7 +286,7 @@ fit_found d s n k row below sure comes fit = record {
         (subst (λ (m : Node). StartsAt m (updated d.world.links s row s)) (sym (at_place d.world.nodes s k))
         (subst (λ (r : ℕ → LinkOf). StartsAt k r) (sym (at_place d.world.links s row)) comes.starts))
     starting p false e =
-        let other : p ≡ s → ⊥ = apart_by p s e in
+        let other : p ≡ s → ⊥ = eqb_apart p s e in
         subst (λ (m : Node). StartsAt m (updated d.world.links s row p)) (sym (updated_other d.world.nodes s p k other))
         (subst (λ (r : ℕ → LinkOf). StartsAt (d.world.nodes p) r) (sym (updated_other d.world.links s p row other)) (fit.starts p))
 

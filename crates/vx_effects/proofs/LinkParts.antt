@@ -11,6 +11,7 @@ use Rattle.vx_model.specs.declared.no.No.TheVariants.{Down as NotUp, Exists, Lim
 use Rattle.vx_model.specs.declared.site.Mark.TheVariants.{Consistent}
 use Rattle.vx_model.specs.declared.site.SiteState.{SiteState}
 use Rattle.vx_model.specs.declared.site.SiteState.TheVariants.{Up}
+use Rattle.vx_model.proofs.Tests.{both_true}
 use Rattle.vx_history.proofs.Updates.{and_left, and_right, at_place, by_test, eqb_apart, eqb_equal, eqb_self, same_line_self}
 use Rattle.vx_history.specs.Doubts.{Doubted, happened}
 use Rattle.vx_history.specs.Events.{joined, new_link, opened}
@@ -208,10 +209,6 @@ pub record IsPaired (w : World) (p s : ℕ) (l : LinkOf) : Type 0 where
   pub apart : s ≡ p → ⊥
   pub pair : IsPair (w.nodes p) (w.nodes s)
   pub link : w.links p s ≡ l
-
-both_true : (a b : Bool) → a ≡ true → b ≡ true → (a && b) ≡ true
-both_true true b e f = f
-both_true false b e f = absurd (cc)
 
 two_of : (w : World) (p s : ℕ) (l : LinkOf) → IsPaired w p s l → AreTwo w p s
 two_of w p s l q = record {

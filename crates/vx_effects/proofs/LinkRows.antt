@@ -20,6 +20,7 @@ use Rattle.vx_events.specs.LinkedFacts.{link_fact, link_facts, links_by}
 use Rattle.vx_events.proofs.Steps.{not_made}
 use Rattle.vx_effects.specs.Facts.{fact_of, marked_fact, marked_group}
 use Rattle.vx_effects.specs.LinkParts.{further_fact, joined_fact, joined_group, kept_over}
+use Rattle.vx_effects.proofs.Facts.{with_parts}
 use Rattle.vx_effects.proofs.Fitting.{updated_other}
 use Rattle.vx_effects.proofs.Rows.{made_same, placed, sites_same}
 
@@ -191,9 +192,6 @@ joins_group a n p Bare = refl
 joins_group a n p Up = refl
 joins_group a n p Deported = refl
 joins_group a n p Down = refl
-
-abbrev with_parts : SiteFacts → Option RvgFacts → List LinkFacts → SiteFacts
-with_parts f rvg links = record f { rvg = rvg; links = links }
 
 pub joined_is : (a n : Node) (p : ℕ) (row : ℕ → Link) (sites : ℕ) → ((k : ℕ) → k < sites → is_linked (row k) ≡ false) → fact_of (joined a p n) row sites ≡ joined_fact a.line a.parent (fact_of n row sites)
 joined_is a n p row sites free =

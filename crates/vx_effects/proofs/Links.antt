@@ -22,6 +22,7 @@ use Rattle.vx_model.specs.declared.link.Mode.{Mode}
 use Rattle.vx_model.specs.declared.link.Mode.TheVariants.{Log, Dcm, Replay, Fork, Stale}
 use Rattle.vx_model.specs.declared.link.Prot.{Prot}
 use Rattle.vx_model.specs.declared.link.Prot.TheVariants.{Fail}
+use Rattle.vx_model.proofs.Tests.{by_bool}
 use Rattle.vx_events.specs.LinksFit.{IsPlain, RowFits, is_plain_mode}
 
 -- a changed link has the place of the old one, is plain where that was, and is none where that was none
@@ -192,10 +193,6 @@ row_moves p sites row new keeps fits = record {
   plain = λ k linked. (keeps k).plain (fits.plain k (ap is_made (sym (keeps k).made) ∙ linked));
   none = λ k unlinked. (keeps k).none (fits.none k (ap is_made (sym (keeps k).made) ∙ unlinked));
 }
-
-pub by_bool : {A : Type 0} (b : Bool) → (b ≡ true → A) → (b ≡ false → A) → A
-by_bool true f g = f refl
-by_bool false f g = g refl
 
 -- a write that is let in changes no link of a row that fits
 pub row_after : (n : Node) (x : Write) (p sites : ℕ) (row : ℕ → Link) → RowFits p sites row → (k : ℕ) → link_after n x k (row k) ≡ row k

@@ -22,6 +22,7 @@ use Rattle.vx_events.specs.LinksFit.{LinksFit}
 use Rattle.vx_events.specs.StepsOver.{fact_of_group, fact_over, facts_over}
 use Rattle.vx_effects.specs.Facts.{fact_of, over_of}
 use Rattle.vx_effects.specs.LinkParts.{noted_both}
+use Rattle.vx_effects.proofs.Facts.{with_parts}
 use Rattle.vx_effects.proofs.Fitting.{updated_other}
 use Rattle.vx_effects.proofs.Leaving.{fit_worked}
 
@@ -36,9 +37,6 @@ group_burnt n Bare = refl
 group_burnt n Up = refl
 group_burnt n Deported = refl
 group_burnt n Down = refl
-
-abbrev with_parts : SiteFacts → Option RvgFacts → List LinkFacts → SiteFacts
-with_parts f rvg links = record f { rvg = rvg; links = links }
 
 fact_burnt : (n : Node) (row : ℕ → Link) (sites : ℕ) → fact_of (worked n) row sites ≡ fact_of n row sites
 fact_burnt n row sites =

@@ -1,6 +1,6 @@
 -- The links of a header that fit are those of a row that fits, and the other way round.
 use Rattle.std.proofs.Common.{◌≡◌, ◌∙◌, inl, inr, ◌⊎◌, ◌+◌, ◌<◌, ◌≤◌, ℕ, zero, suc, List, [], ◌∷◌, ◌++◌, Bool, true, false, ap, sym, subst, refl, arith, append_assoc}
-use Rattle.std.proofs.lemmas.Bool.{or_parts}
+use Rattle.std.proofs.lemmas.Bool.{not-true, or_parts}
 use Rattle.std.specs.Prelude.{Option, Some, None, not, ◌&&◌, ◌||◌, eqb, ltb, if◌then◌else◌}
 use Rattle.std.specs.List.{list_any}
 use Rattle.std.proofs.lemmas.Bool.Decides.{nat_tests}
@@ -13,6 +13,7 @@ use Rattle.vx_model.specs.declared.link.Prot.TheVariants.{Off, Override, Fail, D
 use Rattle.vx_model.specs.declared.state.KeptLink.{KeptLink}
 use Rattle.vx_model.specs.declared.state.KeptMode.{KeptMode}
 use Rattle.vx_model.specs.declared.state.KeptMode.TheVariants.{Log, Dcm, Replay, Fork, Stale}
+use Rattle.vx_model.proofs.Tests.{both_true, by_bool}
 use Rattle.vx_history.proofs.Places.{count_most, places_made}
 use Rattle.vx_history.proofs.Updates.{all_updated, at_place, eqb_apart, eqb_equal, eqb_self, and_left, and_right}
 use Rattle.vx_history.specs.Events.{is_in_place, link_in_place, linked_sites, put_before, restarted_link}
@@ -25,27 +26,20 @@ use Rattle.vx_history.specs.Sends.{is_linked, is_made}
 use Rattle.vx_history.specs.World.{Link, Node, no_link, updated}
 use Rattle.vx_order.specs.declared.facts.LinkFacts.{LinkFacts}
 use Rattle.vx_events.proofs.LinkTesting.{AllLinked, all_linked}
+use Rattle.vx_events.proofs.Places.{never_some}
 use Rattle.vx_events.proofs.Steps.{no_sites}
 use Rattle.vx_events.specs.LinkedFacts.{link_facts, needed_by}
 use Rattle.vx_events.specs.LinksFit.{IsPlain, RowFits, is_plain_mode}
 use Rattle.vx_effects.specs.Restarts.{IsAgain, are_fine, fact_again, facts_again, is_failing_prot, is_fine, is_plain_kept, leads_there, link_again, link_found, mode_again, needs_of, row_of_kept, row_with}
-use Rattle.vx_effects.proofs.Fitting.{never_some, updated_other}
+use Rattle.vx_effects.proofs.Fitting.{updated_other}
 use Rattle.vx_effects.proofs.Headers.{count_none}
-use Rattle.vx_effects.proofs.Links.{by_bool, restarted_plain}
+use Rattle.vx_effects.proofs.Links.{restarted_plain}
 use Rattle.vx_effects.proofs.Rows.{AreApart, apart}
 
 -- ---- what the test of a link says
 
-both : (a b : Bool) → a ≡ true → b ≡ true → (a && b) ≡ true
-both true b e f = f
-both false b e f = absurd (cc)
-
 never : {A : Type 0} → true ≡ false → A
 never e = absurd (cc)
-
-not_true : (b : Bool) → not b ≡ true → b ≡ false
-not_true true e = absurd (cc)
-not_true false e = refl
 
 prot_is : (p : Prot) → is_failing_prot p ≡ true → p ≡ Fail
 prot_is Off e = absurd (cc)
@@ -118,9 +112,9 @@ fine_is p sites l e =
     record {
       prot = prot_is l.prot (and_left (is_failing_prot l.prot) _ e);
       mode = and_left (is_plain_kept l.mode) _ e1;
-      bunker = not_true l.bunker (and_left (not l.bunker) _ e2);
+      bunker = not-true l.bunker (and_left (not l.bunker) _ e2);
       start = eqb_equal l.start 0 (and_left (eqb l.start 0) last e3);
-      other = eqb_apart l.site p (not_true (eqb l.site p) (and_left (not (eqb l.site p)) (ltb l.site sites) e4));
+      other = eqb_apart l.site p (not-true (eqb l.site p) (and_left (not (eqb l.site p)) (ltb l.site sites) e4));
       below = below_is l.site sites (and_right (not (eqb l.site p)) (ltb l.site sites) e4);
     }
 
@@ -394,11 +388,11 @@ module _ (p sites : ℕ) where
     one_fine s is =
         let f : IsPlain (row s) = fit.plain s is in
         let other : eqb s p ≡ false = by_bool (eqb s p) (λ e. absurd (fit.apart s is (eqb_equal s p e))) (λ e. e) in
-        both (is_failing_prot (row s).prot) _ (ap is_failing_prot f.prot)
-        (both (is_plain_kept (kept_mode (row s).mode)) _ (plain_kept (row s).mode f.mode)
-        (both (not (row s).bunker) _ (ap (λ (b : Bool). not b) f.bunker)
-        (both (eqb (kept_start (row s).mode) 0) _ (ap (λ (n : ℕ). eqb n 0) (plain_start (row s).mode f.mode))
-        (both (not (eqb s p)) (ltb s sites) (ap (λ (b : Bool). not b) other) (below_true s sites (fit.places.within s is))))))
+        both_true (is_failing_prot (row s).prot) _ (ap is_failing_prot f.prot)
+        (both_true (is_plain_kept (kept_mode (row s).mode)) _ (plain_kept (row s).mode f.mode)
+        (both_true (not (row s).bunker) _ (ap (λ (b : Bool). not b) f.bunker)
+        (both_true (eqb (kept_start (row s).mode) 0) _ (ap (λ (n : ℕ). eqb n 0) (plain_start (row s).mode f.mode))
+        (both_true (not (eqb s p)) (ltb s sites) (ap (λ (b : Bool). not b) other) (below_true s sites (fit.places.within s is))))))
 
     none_leads : (s : ℕ) (ss : List ℕ) → (IsAmong s ss → ⊥) → list_any (leads_there s) (kept_links row ss) ≡ false
     none_leads s [] h = refl
@@ -409,8 +403,8 @@ module _ (p sites : ℕ) where
     fine_from : (ss : List ℕ) → AllLinked row ss → AreApart ss → are_fine p sites (kept_links row ss) ≡ true
     fine_from [] all apart = refl
     fine_from (s ∷ ss) all apart =
-        both (is_fine p sites (kept_link s (row s))) _ (one_fine s all.0)
-        (both (not (list_any (leads_there s) (kept_links row ss))) (are_fine p sites (kept_links row ss)) (ap (λ (b : Bool). not b) (none_leads s ss apart.0)) (fine_from ss all.1 apart.1))
+        both_true (is_fine p sites (kept_link s (row s))) _ (one_fine s all.0)
+        (both_true (not (list_any (leads_there s) (kept_links row ss))) (are_fine p sites (kept_links row ss)) (ap (λ (b : Bool). not b) (none_leads s ss apart.0)) (fine_from ss all.1 apart.1))
 
     pub kept_fine : are_fine p sites (kept_links row (linked_sites row sites 0 sites)) ≡ true
     kept_fine = fine_from (linked_sites row sites 0 sites) (all_linked row sites 0 sites) (apart row sites 0 sites)

@@ -11,10 +11,11 @@ use Rattle.vx_history.specs.Sends.{is_linked, is_made}
 use Rattle.vx_history.specs.World.{Link, Node, updated}
 use Rattle.vx_model.specs.declared.link.Mode.{Mode}
 use Rattle.vx_model.specs.declared.state.KeptLink.{KeptLink}
+use Rattle.vx_model.proofs.Tests.{by_bool}
 use Rattle.vx_order.specs.declared.facts.LinkFacts.{LinkFacts}
 use Rattle.vx_events.specs.LinkedFacts.{link_fact, link_facts}
 use Rattle.vx_events.specs.LinksFit.{RowFits}
-use Rattle.vx_effects.proofs.Links.{by_bool, mode_same}
+use Rattle.vx_effects.proofs.Links.{mode_same}
 
 -- ---- which links there are goes by their places alone
 

@@ -1,5 +1,5 @@
 -- Where no test of a line on a link refuses, its event does not either.
-use Rattle.std.proofs.Common.{◌≡◌, ◌∙◌, ◌+◌, ◌<◌, ℕ, zero, suc, List, [], length, Bool, true, false, ap, subst, refl, arith}
+use Rattle.std.proofs.Common.{◌≡◌, ◌∙◌, ◌+◌, ◌<◌, ℕ, zero, suc, List, length, Bool, false, ap, subst, refl, arith}
 use Rattle.std.proofs.lemmas.Bool.{or_parts}
 use Rattle.std.specs.Prelude.{Option, Some, None, slice_get, not, ◌&&◌, ◌||◌, ◌==◌, nat_lt, nat_le, if◌then◌else◌}
 use Rattle.std.proofs.lemmas.Bool.Decides.{nat_tests}
@@ -46,10 +46,6 @@ passes_link w p s test o m =
     ∙ is_at_work w a led m.up m.running
     ∙ off (not (test (w.nodes a).role)) WrongRole w linked (ap (λ (t : Bool). not t) m.role)
     ∙ off (not (is_linked (w.links a b))) (Unknown (ByNumber b)) w o (ap (λ (t : Bool). not t) m.linked)
-
-not_cut : (b : Bool) → not b ≡ false → b ≡ true
-not_cut true e = refl
-not_cut false e = absurd (cc)
 
 module _ (w : World) (files : Bool) (p s : List ℕ) where
   abbrev a : ℕ

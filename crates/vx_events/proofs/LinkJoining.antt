@@ -2,7 +2,7 @@
 -- confirmed or pending.
 use Rattle.std.proofs.Common.{◌≡◌, ◌∙◌, inl, inr, ◌<◌, ◌≤◌, ℕ, suc, List, [], ◌∷◌, length, Bool, true, false, ap, sym, subst, refl, arith}
 use Rattle.std.specs.Prelude.{Option, Some, None, not, ◌&&◌, ◌||◌, ◌==◌, cond, eqb, leb, nat_le, is_some, slice_get, map, if◌then◌else◌}
-use Rattle.std.proofs.lemmas.Bool.{or_parts}
+use Rattle.std.proofs.lemmas.Bool.{or_parts, and_parts, false_from_ne_true}
 use Rattle.std.specs.List.{find}
 use Rattle.std.proofs.lemmas.Bool.Decides.{nat_tests}
 use Rattle.vx_model.specs.Sites.{is_up, is_origin, same_line, first_line}
@@ -15,10 +15,11 @@ use Rattle.vx_model.specs.declared.no.No.TheVariants.{Exists, Size, Role as Wron
 use Rattle.vx_model.specs.declared.site.Role.TheVariants.{Primary}
 use Rattle.vx_model.specs.declared.site.SiteState.{SiteState}
 use Rattle.vx_model.specs.declared.site.SiteState.TheVariants.{Up}
+use Rattle.vx_model.proofs.Tests.{both_true}
 use Rattle.vx_history.specs.Events.{linked_sites, joined}
 use Rattle.vx_history.specs.Gatherings.{emptied}
 use Rattle.vx_history.specs.Refusals as history
-use Rattle.vx_history.specs.Refusals.{Outcome, unless, unless_halted, at_site, both_at_work, may_join, may_link, is_fresh, agree, sizes_meet, is_empty, count_links_of, some_below, is_primary}
+use Rattle.vx_history.specs.Refusals.{Outcome, unless, unless_halted, at_site, both_at_work, may_join, may_link, agree, sizes_meet, is_empty, count_links_of, some_below, is_primary}
 use Rattle.vx_history.specs.Sends.{is_linked}
 use Rattle.vx_history.specs.Step.{step, outcome_of, done}
 use Rattle.vx_history.specs.World.{Node, Link as LinkOf, Volume, World, with_node}
@@ -49,10 +50,6 @@ use Rattle.vx_events.proofs.Passing.{off, is_site, above}
 use Rattle.vx_events.proofs.Refused.{passes, when_none, not_false, running_by}
 use Rattle.vx_events.proofs.Testing.{none_under}
 
-pub all_of : (a b : Bool) → (a && b) ≡ true → (a ≡ true) × (b ≡ true)
-all_of true b e = (refl, e)
-all_of false b e = absurd (cc)
-
 none_of : (k : ℕ) → (k == 0) ≡ true → k ≡ 0
 none_of k e = grind (arith, nat_tests)
 
@@ -70,7 +67,7 @@ record IsUnused (n : Node) : Type 0 where
 unused_of : (w : World) → AreDurable w → (i : ℕ) → i < w.sites → IsHere w i → is_unused (Some (group_fact (w.nodes i))) ≡ true → IsUnused (w.nodes i)
 unused_of w whole i below here e =
     let n : Node = w.nodes i in
-    let parts = all_of (is_primary n.role) (head_of n == 0) e in
+    let parts = and_parts (is_primary n.role) (head_of n == 0) e in
     let role : n.role ≡ Primary = primary_is n.role parts.0 in
     let origin : is_origin n.role ≡ true = ap is_origin role in
     let head : head_of n ≡ n.safe = ap (λ (b : Bool). if b then n.safe else length n.log) origin in
@@ -103,10 +100,6 @@ among_found n row s (t ∷ ts) (inr more) e = by (t == s) (λ none. among_found 
     by : (b : Bool) → (find (λ (x : LinkFacts). x.link.site == s) (link_facts n row ts) ≡ None → ⊥) → cond b (Some (link_fact n t (row t))) (find (λ (x : LinkFacts). x.link.site == s) (link_facts n row ts)) ≡ None → ⊥
     by true rest none = absurd (cc)
     by false rest none = rest none
-
-pub by_test : (b : Bool) → (b ≡ true → ⊥) → b ≡ false
-by_test true never = absurd (never refl)
-by_test false never = refl
 
 length-link_facts : (n : Node) (row : ℕ → LinkOf) (ss : List ℕ) → length (link_facts n row ss) ≡ length ss
 length-link_facts n row [] = refl
@@ -182,10 +175,6 @@ joins_step w a b sync m =
     ∙ off (leb MOST_LINKS (count_links_of w a)) (Limit Links MOST_LINKS) w sized (above MOST_LINKS (count_links_of w a) m.few)
     ∙ off (not (sizes_meet (w.nodes a).volumes (w.nodes b).volumes && history.rings_fit (w.nodes a) (w.nodes b))) Size w o (ap not m.fits)
 
-pub both_hold : (x y : Bool) → x ≡ true → y ≡ true → (x && y) ≡ true
-both_hold true y e f = f
-both_hold false y e f = absurd (cc)
-
 -- by what the one order says of the sites
 module _ (w : World) (whole : AreDurable w) (listed : AreListed w) (p s : List ℕ) (one : Seat w p) (two : Seat w s)
     (here : IsHere w (site_number w p)) (there : IsHere w (site_number w s)) where
@@ -204,30 +193,30 @@ module _ (w : World) (whole : AreDurable w) (listed : AreListed w) (p s : List �
   fresh : link_count (Some (linked_fact w b)) ≡ 0 → some_below w.sites (λ k. is_linked (w.links b k)) ≡ false
   fresh e =
       none_under w.sites (λ k. is_linked (w.links b k))
-      (λ k below. by_test (is_linked (w.links b k)) (λ is. some_among k (row_of b) (listed.each b k below is) (sym (counted_here b there.up) ∙ e)))
+      (λ k below. false_from_ne_true (is_linked (w.links b k)) (λ is. some_among k (row_of b) (listed.each b k below is) (sym (counted_here b there.up) ∙ e)))
 
   can : can_link (Some a) (Some b) (Some (linked_fact w a)) (Some (linked_fact w b)) ≡ true → may_link w a b ≡ true
   can e =
       let at_a : is_unused (Some (group_fact (w.nodes a))) && (on_first (Some a) (Some (group_fact (w.nodes a))) && (are_two (Some a) (Some b) && (is_unused (Some (group_fact (w.nodes b))) && link_count (Some (linked_fact w b)) == 0))) ≡ true =
       subst (λ (o : Option RvgFacts). is_unused o && (on_first (Some a) o && (are_two (Some a) (Some b) && (is_unused (Some (group_fact (w.nodes b))) && link_count (Some (linked_fact w b)) == 0))) ≡ true) here.group
       (subst (λ (o : Option RvgFacts). is_unused (rvg_of (Some (linked_fact w a))) && (on_first (Some a) (rvg_of (Some (linked_fact w a))) && (are_two (Some a) (Some b) && (is_unused o && link_count (Some (linked_fact w b)) == 0))) ≡ true) there.group e) in
-      let q = all_of (is_unused (Some (group_fact (w.nodes a)))) _ at_a in
-      let r = all_of (on_first (Some a) (Some (group_fact (w.nodes a)))) _ q.1 in
-      let t = all_of (are_two (Some a) (Some b)) _ r.1 in
-      let u = all_of (is_unused (Some (group_fact (w.nodes b)))) _ t.1 in
+      let q = and_parts (is_unused (Some (group_fact (w.nodes a)))) _ at_a in
+      let r = and_parts (on_first (Some a) (Some (group_fact (w.nodes a)))) _ q.1 in
+      let t = and_parts (are_two (Some a) (Some b)) _ r.1 in
+      let u = and_parts (is_unused (Some (group_fact (w.nodes b)))) _ t.1 in
       let first = unused_of w whole a one.below here q.0 in
       let second = unused_of w whole b two.below there u.0 in
       let none : link_count (Some (linked_fact w b)) ≡ 0 = none_of (link_count (Some (linked_fact w b))) u.1 in
-      both_hold (history.is_primary (w.nodes a).role) _ (ap history.is_primary first.role)
-      (both_hold (not (eqb b a)) _ t.0
-      (both_hold (is_empty (w.nodes a).log) _ first.empty
-      (both_hold (same_line (w.nodes a).line (first_line a)) _ r.0
-      (both_hold (history.is_primary (w.nodes b).role) _ (ap history.is_primary second.role)
-      (both_hold (is_empty (w.nodes b).log) _ second.empty (ap not (fresh none)))))))
+      both_true (history.is_primary (w.nodes a).role) _ (ap history.is_primary first.role)
+      (both_true (not (eqb b a)) _ t.0
+      (both_true (is_empty (w.nodes a).log) _ first.empty
+      (both_true (same_line (w.nodes a).line (first_line a)) _ r.0
+      (both_true (history.is_primary (w.nodes b).role) _ (ap history.is_primary second.role)
+      (both_true (is_empty (w.nodes b).log) _ second.empty (ap not (fresh none)))))))
 
   free_here : link_towards (Some (linked_fact w a)) (Some b) ≡ None → is_linked (w.links a b) ≡ false
   free_here e =
-      by_test (is_linked (w.links a b))
+      false_from_ne_true (is_linked (w.links a b))
       (λ is. among_found (w.nodes a) (w.links a) b (row_of a) (listed.each a b two.below is)
       (sym (ap (λ (t : SiteState). if is_up t then link_to (links_by t (links_of_site w a)) (Some b) else None) here.up) ∙ e))
 
@@ -241,10 +230,10 @@ module _ (w : World) (whole : AreDurable w) (listed : AreListed w) (p s : List �
 -- both sites of a link that may be made have logged nothing
 both_unused : (first second : Option SiteFacts) (here there : Option ℕ) → can_link here there first second ≡ true → (is_unused (rvg_of first) ≡ true) × (is_unused (rvg_of second) ≡ true)
 both_unused first second here there e =
-    let q = all_of (is_unused (rvg_of first)) _ e in
-    let r = all_of (on_first here (rvg_of first)) _ q.1 in
-    let t = all_of (are_two here there) _ r.1 in
-    let u = all_of (is_unused (rvg_of second)) _ t.1 in
+    let q = and_parts (is_unused (rvg_of first)) _ e in
+    let r = and_parts (on_first here (rvg_of first)) _ q.1 in
+    let t = and_parts (are_two here there) _ r.1 in
+    let u = and_parts (is_unused (rvg_of second)) _ t.1 in
     (q.0, u.0)
 
 -- neither of the sites of a link that may be made is over a group

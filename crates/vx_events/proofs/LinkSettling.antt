@@ -1,6 +1,6 @@
 -- Where no test of a line that settles a link refuses, the link may be settled.
 use Rattle.std.proofs.Common.{◌≡◌, ◌∙◌, ℕ, List, Bool, true, false, ap, subst, refl}
-use Rattle.std.proofs.lemmas.Bool.{or_parts}
+use Rattle.std.proofs.lemmas.Bool.{and_parts, or_parts}
 use Rattle.std.specs.Prelude.{Option, Some, None, not, ◌&&◌, ◌||◌}
 use Rattle.vx_model.specs.declared.link.Mode.{Mode}
 use Rattle.vx_model.specs.declared.link.Mode.TheVariants.{Log, Dcm, Replay, Fork, Stale}
@@ -28,7 +28,7 @@ use Rattle.vx_events.specs.LinkedFacts.{link_fact, linked_fact}
 use Rattle.vx_events.specs.StepsOver.{fact_over, facts_over, refused_over}
 use Rattle.vx_events.specs.LinksFit.{LinksFit, is_plain_mode}
 use Rattle.vx_events.specs.Settles.{CanSettle}
-use Rattle.vx_events.proofs.LinkJoining.{all_of, first_halt, here_by}
+use Rattle.vx_events.proofs.LinkJoining.{first_halt, here_by}
 use Rattle.vx_events.proofs.LinkTesting.{on_link_by, seat_at, shown}
 use Rattle.vx_events.proofs.OverSeats.{apart_shown, fact_apart}
 use Rattle.vx_events.proofs.Refused.{not_false, passes, when_none}
@@ -54,7 +54,7 @@ ends_on mode bunker f g log none leads =
     let at : (not (is_fork Log) && not (takes_from false (Some f) (Some g))) ≡ false =
     subst (λ (b : Bool). (not (is_fork Log) && not (takes_from b (Some f) (Some g))) ≡ false) none
     (subst (λ (m : Mode). (not (is_fork m) && not (takes_from bunker (Some f) (Some g))) ≡ false) log leads) in
-    let takes = all_of (is_taker false g.role) (same_line g.line f.line) (not_false (takes_from false (Some f) (Some g)) at) in
+    let takes = and_parts (is_taker false g.role) (same_line g.line f.line) (not_false (takes_from false (Some f) (Some g)) at) in
     (secondary_of g.role takes.0, same_line_equal g.line f.line takes.1)
 
 -- and so it leads to a site that takes what comes by it
@@ -83,7 +83,7 @@ settle_agrees d files p s fits free =
     let m = on_link_by w p s sends keeps_links (λ n. refl) refl t.known t.other_known (ap (λ (c : Bool). when c NotUp) ups.0) halts.0 (ap (λ (c : Bool). when c WrongRole) roles.0) t.link in
     let l : LinkOf = w.links a b in
     let live = subst (λ (o : Option SiteFacts). cut_off to o ≡ None) m.second t.link_up in
-    let lives = all_of l.attached l.connected
+    let lives = and_parts l.attached l.connected
     (not_false (l.attached && l.connected) (when_none (not (l.attached && l.connected)) _ (subst (λ (o : Option LinkFacts). cut_off o (Some (fact_over w b)) ≡ None) m.towards live))) in
     let plain = (fits.rows a).plain b m.linked in
     let mode : l.mode ≡ Log = by_log l.mode plain.mode (subst (λ (o : Option LinkFacts). goes_by_nothing o ≡ false) m.towards roles.1) in

@@ -20,7 +20,7 @@ use Rattle.vx_order.specs.Links.{place_named, link_to, link_towards}
 use Rattle.vx_order.specs.Sending.{not_linked}
 use Rattle.vx_order.specs.Sites.{site_named, unknown_one, site_off, rvg_of, halted_one}
 use Rattle.vx_order.specs.Tests.{when}
-use Rattle.vx_events.specs.Facts.{site_fact, facts_of, values_from, seat_of, site_number, group_fact, group_by}
+use Rattle.vx_events.specs.Facts.{site_fact, facts_of, values_from, site_number, group_fact, group_by}
 use Rattle.vx_events.specs.GroupLines.{is_over_group}
 use Rattle.vx_events.specs.LinkedFacts.{link_fact, link_facts, links_by, links_of_site, linked_fact, linked_facts}
 use Rattle.vx_events.specs.Plain.{IsUnlinked}

@@ -1,11 +1,13 @@
 -- Where no test of a line that waits for a write refuses, the write is confirmed or pending.
 use Rattle.std.proofs.Common.{◌≡◌, ◌∙◌, ◌⊎◌, inl, inr, ◌<◌, ℕ, List, [], ◌∷◌, Bool, true, false, ap, sym, subst, refl}
+use Rattle.std.proofs.lemmas.Bool.{and_parts, false_from_ne_true}
 use Rattle.std.specs.Prelude.{Option, Some, None, not, ◌&&◌, ◌||◌, ◌==◌, nat_lt, if◌then◌else◌, length}
 use Rattle.std.specs.List.{list_any}
 use Rattle.vx_model.specs.Sites.{is_up, is_origin}
 use Rattle.vx_model.specs.declared.no.Named.TheVariants.{Number as ByNumber}
 use Rattle.vx_model.specs.declared.no.No.TheVariants.{Unknown, Role as WrongRole, Down as NotUp, Unconfirmed}
 use Rattle.vx_model.specs.declared.site.SiteState.{SiteState}
+use Rattle.vx_model.proofs.Tests.{both_true}
 use Rattle.vx_history.specs.Admission.{is_fail}
 use Rattle.vx_history.specs.Events.{linked_sites, waited, promises_of}
 use Rattle.vx_history.specs.Refusals.{Outcome, says, unless, at_work, some_below, is_unconfirmed, holds_back, goes}
@@ -27,7 +29,7 @@ use Rattle.vx_events.specs.GroupLines.{is_over_group}
 use Rattle.vx_events.specs.LinkedFacts.{link_fact, link_facts, links_by, links_of_site, linked_fact}
 use Rattle.vx_events.specs.StepsOver.{fact_over, facts_over, refused_over}
 use Rattle.vx_history.specs.Listed.{IsAmong, AreListed}
-use Rattle.vx_events.proofs.LinkJoining.{IsHere, here_by, all_of, both_hold, by_test}
+use Rattle.vx_events.proofs.LinkJoining.{IsHere, here_by}
 use Rattle.vx_events.proofs.LinkTesting.{seat_at}
 use Rattle.vx_events.proofs.OverSeats.{apart_shown, fact_apart}
 use Rattle.vx_events.proofs.Passing.{off, is_site, is_at_work}
@@ -48,13 +50,13 @@ any_among number n row k (t ∷ ts) (inr more) e = by (lacks number (link_fact n
 -- an unconfirmed link lacks it
 lacking : (number : ℕ) (n : Node) (k : ℕ) (l : LinkOf) → is_unconfirmed number k l ≡ true → (is_linked l ≡ true) × (lacks number (link_fact n k l) ≡ true)
 lacking number n k l e =
-    let linked = all_of (is_linked l) _ e in
-    let attached = all_of l.attached _ linked.1 in
-    let fails = all_of (is_fail l.sync) _ attached.1 in
-    let below = all_of (nat_lt l.net number) _ fails.1 in (
+    let linked = and_parts (is_linked l) _ e in
+    let attached = and_parts l.attached _ linked.1 in
+    let fails = and_parts (is_fail l.sync) _ attached.1 in
+    let below = and_parts (nat_lt l.net number) _ fails.1 in (
       linked.0,
-      both_hold (l.attached && (is_fail l.sync && not (goes k l))) (nat_lt l.net number)
-          (both_hold l.attached (is_fail l.sync && not (goes k l)) attached.0 (both_hold (is_fail l.sync) (not (goes k l)) fails.0 below.1)) below.0,
+      both_true (l.attached && (is_fail l.sync && not (goes k l))) (nat_lt l.net number)
+          (both_true l.attached (is_fail l.sync && not (goes k l)) attached.0 (both_true (is_fail l.sync) (not (goes k l)) fails.0 below.1)) below.0,
     )
 
 never_both : (b : Bool) → b ≡ true → b ≡ false → ⊥
@@ -70,7 +72,7 @@ module _ (w : World) (listed : AreListed w) (a number : ℕ) (below : a < w.site
       let none : list_any (lacks number) (links_of_site w a) ≡ false =
       sym (ap (λ (t : SiteState). is_up t && list_any (lacks number) (links_by t (links_of_site w a))) here.up) ∙ when_none (is_up n.state && list_any (lacks number) (links_by n.state (links_of_site w a))) _ e in
       none_under w.sites (λ k. is_unconfirmed number k (w.links a k))
-      (λ k small. by_test (is_unconfirmed number k (w.links a k))
+      (λ k small. false_from_ne_true (is_unconfirmed number k (w.links a k))
       (λ is. let both = lacking number n k (w.links a k) is in
       never_both (list_any (lacks number) (links_of_site w a)) (any_among number n (w.links a) k (linked_sites (w.links a) w.sites 0 w.sites) (listed.each a k small both.0) both.1) none))
 

@@ -1,6 +1,6 @@
 -- What is known of a line that is not refused before it works.
 use Rattle.std.proofs.Common.{◌≡◌, ◌∙◌, ◌+◌, ◌<◌, ◌≤◌, ℕ, suc, List, [], ◌∷◌, length, ap, subst, refl, arith, Bool, true, false}
-use Rattle.std.proofs.lemmas.Bool.{or_parts}
+use Rattle.std.proofs.lemmas.Bool.{and_parts, or_parts}
 use Rattle.std.specs.Prelude.{◌-◌, ◌*◌, Option, Some, None, slice_get, cond, not, ◌&&◌, ◌||◌, ◌==◌, nat_lt, nat_le, if◌then◌else◌}
 use Rattle.std.specs.List.{find, position, position_from}
 use Rattle.std.specs.Str.{bytes_eq}
@@ -143,10 +143,6 @@ pub not_false : (b : Bool) → not b ≡ false → b ≡ true
 not_false true e = refl
 not_false false e = absurd (cc)
 
-both : (a b : Bool) → (a && b) ≡ true → (a ≡ true) × (b ≡ true)
-both true b e = (refl, e)
-both false b e = absurd (cc)
-
 -- an element that passes is found at its place
 place_by : {A : Type 0} (p : A → Bool) (k : ℕ) (y : A) (xs : List A) (x : A) (b : Bool) → p y ≡ b → cond b (Some y) (find p xs) ≡ Some x
     → (find p xs ≡ Some x → (i : ℕ) × (position_from p (k + 1) xs ≡ Some ((k + 1) + i)) × (slice_get xs i ≡ Some x))
@@ -225,9 +221,9 @@ raw_role_none site e = bare_is site.state (not_false (is_bare site.state) (when_
 pub raw_set : (disks blocks : ℕ) → is_raw_shape disks blocks ≡ true → (3 ≤ disks) × (8 ≤ blocks) × (LINK_PLACES * (disks - 2) * map_blocks blocks ≤ blocks)
 unfolding is_raw_shape
 raw_set disks blocks e =
-    let all = both (nat_le 3 disks && nat_le disks 32 && nat_le 8 blocks) (nat_le (8 * (disks - 2) * map_blocks blocks) blocks) e in
-    let most = both (nat_le 3 disks && nat_le disks 32) (nat_le 8 blocks) all.0 in
-    let few = both (nat_le 3 disks) (nat_le disks 32) most.0 in
+    let all = and_parts (nat_le 3 disks && nat_le disks 32 && nat_le 8 blocks) (nat_le (8 * (disks - 2) * map_blocks blocks) blocks) e in
+    let most = and_parts (nat_le 3 disks && nat_le disks 32) (nat_le 8 blocks) all.0 in
+    let few = and_parts (nat_le 3 disks) (nat_le disks 32) most.0 in
     (le_true 3 disks few.0, le_true 8 blocks most.1, le_true (8 * (disks - 2) * map_blocks blocks) blocks all.1)
 
 raw_size_none : (site : SiteFacts) → raw_size (Some site) ≡ None → (3 ≤ site.disks) × (8 ≤ site.blocks) × (LINK_PLACES * (site.disks - 2) * map_blocks site.blocks ≤ site.blocks)

@@ -1,6 +1,6 @@
 -- How a line at a site over a group of disks without a replicated volume group ends: a line that works on the group, its volumes or its disks. No
 -- other site changes, and of this one its state and its notes alone.
-use Rattle.std.specs.Prelude.{◌≡◌, ◌≢◌, ◌⊎◌, ℕ, ◌*◌, true, false, List, [], map, replicate, Option, Some, None, Contains}
+use Rattle.std.specs.Prelude.{◌≡◌, ◌⊎◌, ℕ, ◌*◌, true, false, List, [], map, replicate, Option, Some, Contains}
 use Rattle.std.specs.List.{AllByRecursion}
 use Rattle.vx_model.specs.Content.{Write}
 use Rattle.vx_model.specs.declared.limits.TheConstants.{BLOCK, MOST_NUMBER, MOST_SUBDISKS}

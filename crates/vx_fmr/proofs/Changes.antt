@@ -1,5 +1,5 @@
 -- A change of a run of the map of one plex.
-use Rattle.std.proofs.Common.{◌≡◌, ◌∙◌, ℕ, ◌+◌, ◌*◌, ◌<◌, ◌≤◌, Bool, refl, sym, ap, subst, arith}
+use Rattle.std.proofs.Common.{◌≡◌, ◌∙◌, ℕ, ◌+◌, ◌*◌, ◌<◌, ◌≤◌, Bool, sym, ap, subst, arith}
 use Rattle.std.specs.Prelude.{OnOk, Result, Ok, Err}
 use Rattle.vx_bitmap.specs.Bits.{AllAre, Between, Changed, is_marked}
 use Rattle.vx_bitmap.specs.Maps.{Map, regions_mapped}

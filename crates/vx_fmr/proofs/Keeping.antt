@@ -1,10 +1,9 @@
 -- What the log of missed regions keeps.
-use Rattle.std.proofs.Common.{◌≡◌, ◌∙◌, ℕ, ◌+◌, ◌-◌, ◌*◌, ◌/◌, ◌%◌, ◌^◌, ◌<◌, ◌≤◌, length, refl, sym, ap, subst, arith}
-use Rattle.std.specs.Prelude.{min}
+use Rattle.std.proofs.Common.{◌≡◌, ◌∙◌, ℕ, ◌*◌, ◌<◌, ◌≤◌, length, sym, ap, subst, arith}
 use Rattle.std.specs.Int.{div_ceil}
 use Rattle.std.proofs.Math.Nat.{mul_left_comm}
 use Rattle.vx_model.specs.Sizes.{map_blocks}
-use Rattle.vx_bitmap.specs.Maps.{Map, regions_mapped}
+use Rattle.vx_bitmap.specs.Maps.{Map}
 use Rattle.vx_config.specs.Checks.{blocks_of, plexes_of}
 use Rattle.vx_config.specs.declared.config.Config.{Config}
 use Rattle.vx_config.specs.declared.entry.VolumeLog.TheVariants.{Fmr as FmrLog}

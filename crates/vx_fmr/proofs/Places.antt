@@ -1,15 +1,10 @@
 -- A run of the maps of all plexes, as one of the map of one plex.
-use Rattle.std.proofs.Common.{◌≡◌, ◌≢◌, ◌∙◌, ◌⊎◌, inl, inr, ⊎_elim, ℕ, ◌+◌, ◌-◌, ◌*◌, ◌<◌, ◌≤◌, Bool, true, false, refl, sym, ap, subst, arith}
+use Rattle.std.proofs.Common.{◌≡◌, ◌∙◌, ◌⊎◌, inl, inr, ⊎_elim, ℕ, ◌+◌, ◌-◌, ◌*◌, ◌<◌, ◌≤◌, Bool, false, sym, ap, subst, arith}
 use Rattle.std.specs.Prelude.{◌&&◌, leb, if◌then◌else◌}
 use Rattle.std.proofs.lemmas.Bool.{and_parts, cases_lt, le-leb, leb-true}
 use Rattle.std.proofs.lemmas.Bool.Decides.{nat_tests}
-use Rattle.std.proofs.lemmas.Nat.{mul-le}
-use Rattle.std.proofs.Math.Nat.{add-mul}
 use Rattle.vx_bitmap.specs.Bits.{AllAre, Between, Changed, is_among}
-
--- the map of a plex ends before that of a later one
-pub before : (p q stride : ℕ) → p < q → p * stride + stride ≤ q * stride
-before p q stride lt = let one = mul-le (p + 1) stride q stride (omega (arith, lt)) (omega arith) in let two : (p + 1) * stride ≡ p * stride + 1 * stride = add-mul p 1 stride in omega (arith, one, two)
+use Rattle.vx_bitmap.proofs.Runs.{slot_before}
 
 same_test : (b x y : ℕ) → leb (b + x) (b + y) ≡ leb x y
 same_test b x y =
@@ -26,7 +21,7 @@ among_same b first last r = ap (λ (t : Bool). t && leb (b + r) (b + last)) (sam
 
 module _ (plexes stride bits plex first last : ℕ) (value : Bool) (old new : ℕ → Bool) (fits : plexes * stride ≤ bits) (there : plex < plexes) where
   inside : (r : ℕ) → r < stride → plex * stride + r < bits
-  inside r low = omega (arith, low, before plex plexes stride there, fits)
+  inside r low = omega (arith, low, slot_before plex plexes stride there, fits)
 
   pub plex_changed : Changed (plex * stride + first) (plex * stride + last) value bits old new → Changed first last value stride (λ r. old (plex * stride + r)) (λ r. new (plex * stride + r))
   plex_changed changed = record {
@@ -44,15 +39,15 @@ module _ (plexes stride bits plex first last : ℕ) (value : Bool) (old new : �
   -- no region of another plex is one of the run
   pub others_same : last < stride → Between (plex * stride + first) (plex * stride + last) value bits old new → (p r : ℕ) → p < plexes → r < stride → (p ≡ plex → ⊥) → new (p * stride + r) ≡ old (p * stride + r)
   others_same end part p r lt low other =
-      elim (part.each (p * stride + r) (omega (arith, low, before p plexes stride lt, fits))) [
+      elim (part.each (p * stride + r) (omega (arith, low, slot_before p plexes stride lt, fits))) [
         | inl same ↦ same
         | inr now ↦
             (let parts = and_parts (leb (plex * stride + first) (p * stride + r)) (leb (p * stride + r) (plex * stride + last)) now.0 in
             let from : plex * stride + first ≤ p * stride + r = leb-true (plex * stride + first) (p * stride + r) parts.0 in
             let to : p * stride + r ≤ plex * stride + last = leb-true (p * stride + r) (plex * stride + last) parts.1 in
             absurd (⊎_elim
-            (λ (less : p < plex). omega (arith, from, low, before p plex stride less))
-            (λ (more : plex ≤ p). let above : plex < p = omega (arith, more, other) in omega (arith, to, end, before plex p stride above))
+            (λ (less : p < plex). omega (arith, from, low, slot_before p plex stride less))
+            (λ (more : plex ≤ p). let above : plex < p = omega (arith, more, other) in omega (arith, to, end, slot_before plex p stride above))
             (cases_lt p plex)))
       ]
 

@@ -1,7 +1,7 @@
 -- What a crash or a deport leaves of a group may be imported, where all choices of the disks that can be read agree.
 use Rattle.std.proofs.Common.{◌≡◌, ◌⊎◌, inl, inr, ℕ, zero, suc, ◌<◌, ◌≤◌, Bool, true, false, Option, Some, None, List, refl, ap, sym, ◌∙◌, subst, arith}
 use Rattle.std.specs.Prelude.{◌&&◌, ◌==◌, bytes_eq, nat_lt, if◌then◌else◌}
-use Rattle.std.proofs.lemmas.Bool.{cases_lt, eqb-true, lt-ltb, ltb-true}
+use Rattle.std.proofs.lemmas.Bool.{cases_lt, eqb-true, false_from_ne_true, lt-ltb, ltb-true}
 use Rattle.vx_wire.specs.Seals.{digest_of}
 use Rattle.vx_disk.specs.Shelf.{Each, Image, Meaning}
 use Rattle.vx_copyfmt.specs.Areas.{header_of}
@@ -13,7 +13,6 @@ use Rattle.vx_copyfmt.specs.declared.area.AreaHeader.{AreaHeader}
 use Rattle.vx_copyfmt.proofs.Areas.{serial_under, top_copy}
 use Rattle.vx_copyfmt.proofs.Subs.{counts_sub}
 use Rattle.vx_copyfmt.proofs.Targets.{top_greatest}
-use Rattle.vx_copyfmt.proofs.Told.{false_from}
 use Rattle.vx_config.specs.declared.config.Config.{Config}
 use Rattle.vx_copies.specs.Answers.{good_set}
 use Rattle.vx_copies.specs.Bodies.{failed_in, of_serial, reads_in}
@@ -72,7 +71,7 @@ later_most (Some x) None y (inl is) = let same : x ≡ y = cc in (x, refl, rw sa
 later_most (Some x) None y (inr is) = absurd cc
 later_most {C} (Some x) (Some q) y which = elim (cases_lt x.1.serial q.1.serial) [
   | inl lt ↦ (q, ap (λ (b : Bool). if b then Some q else Some x) (lt-ltb x.1.serial q.1.serial lt), most_q lt which)
-  | inr le ↦ (x, ap (λ (b : Bool). if b then Some q else Some x) (false_from (nat_lt x.1.serial q.1.serial) (λ is. let lt : x.1.serial < q.1.serial = ltb-true x.1.serial q.1.serial is in omega (arith, le, lt))), most_x le which)
+  | inr le ↦ (x, ap (λ (b : Bool). if b then Some q else Some x) (false_from_ne_true (nat_lt x.1.serial q.1.serial) (λ is. let lt : x.1.serial < q.1.serial = ltb-true x.1.serial q.1.serial is in omega (arith, le, lt))), most_x le which)
 ]
   where
     most_q : x.1.serial < q.1.serial → (Some x ≡ Some y) ⊎ (Some q ≡ Some y) → y.1.serial ≤ q.1.serial

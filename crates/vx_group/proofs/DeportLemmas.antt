@@ -1,6 +1,6 @@
 -- A deport, over the core of a group.
-use Rattle.std.proofs.Common.{◌≡◌, inl, inr, ℕ, ◌<◌, ◌≤◌, Bool, true, false, IsTrue, length, Result, Ok, Err, refl, ap, sym, ◌∙◌, arith}
-use Rattle.std.proofs.lemmas.Bool.{both_ways, cases_lt}
+use Rattle.std.proofs.Common.{◌≡◌, inl, inr, ℕ, ◌<◌, ◌≤◌, true, false, IsTrue, length, Result, Ok, Err, refl, ap, sym, ◌∙◌, arith}
+use Rattle.std.proofs.lemmas.Bool.{both_ways, cases_lt, false_from_ne_true}
 use Rattle.std.proofs.lemmas.Option.{slice_get_past}
 use Rattle.vx_disk.specs.Shelf.{Meaning, Nothing}
 use Rattle.vx_disk.specs.declared.shelf.ShelfError.{ShelfError}
@@ -40,10 +40,6 @@ use Rattle.vx_group.proofs.QuiesceLemmas.{both_parts, both_quiesce, quiet, same_
 use Rattle.vx_group.proofs.Standing.{apart_of_core, sound_of}
 use Rattle.vx_group.proofs.LoseLemmas.{but_parts}
 
-from_no : (b : Bool) → (IsTrue b → ⊥) → b ≡ false
-from_no true none = absurd (none refl)
-from_no false none = refl
-
 -- a plex that is ACTIVE is one of a volume
 active_there : (c : Config) (v p : ℕ) → IsTrue (active c v p) → v < length c.volumes
 unfolding active
@@ -60,7 +56,7 @@ module _ (core : Inner) (d : Config) (m m' : Meaning) (stands : InnerStands core
   all = all_clean core.unsure (length core.config.volumes) core.config
 
   off_in : (v p : ℕ) → is_unsure core.unsure v ≡ false → active d v p ≡ false
-  off_in v p sure = from_no (active d v p) (λ is_d.
+  off_in v p sure = false_from_ne_true (active d v p) (λ is_d.
       let a : Config = cleaned core.unsure core.config (length core.config.volumes) in
       let is : IsTrue (active a v p) = sym (active_volumes d a shown.grown.volumes v p) ∙ is_d in
       let is_c : IsTrue (active core.config v p) = stands.on.each v p (sym (all.alike.lives v p) ∙ on_live a v p is) in

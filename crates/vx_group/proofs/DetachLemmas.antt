@@ -1,5 +1,6 @@
 -- A commit that detaches plexes, over the core of a group.
-use Rattle.std.proofs.Common.{◌≡◌, inl, inr, ⊎_elim, ℕ, ◌<◌, ◌≤◌, ◌^◌, Bool, true, false, IsTrue, List, length, Err, refl, ap, sym, ◌∙◌, subst, arith}
+use Rattle.std.proofs.Common.{◌≡◌, inl, inr, ⊎_elim, ℕ, ◌<◌, ◌≤◌, ◌^◌, true, false, IsTrue, List, length, Err, refl, ap, sym, ◌∙◌, subst, arith}
+use Rattle.std.proofs.lemmas.Bool.{both_ways, false_from_ne_true}
 pub use Rattle.vx_resync.proofs.CauseLemmas.{zero_bit}
 use Rattle.vx_disk.specs.Blocks.{bit_at}
 use Rattle.vx_disk.specs.Shelf.{Meaning, Nothing}
@@ -36,13 +37,6 @@ use Rattle.vx_group.proofs.Standing.{made, sound_of, still_large}
 pub some_good : (disks : List DiskEntry) (good : ℕ) → HasGood disks good → NoneGood disks (length disks) good → ⊥
 some_good disks good some none = let failed = none.each some.disk some.below some.member in let clash : false ≡ true = sym some.held ∙ failed in cc
 
-false_true : (b : Bool) → b ≡ false → IsTrue b → ⊥
-false_true b off is = let clash : false ≡ true = sym off ∙ is in cc
-
-from_no : (b : Bool) → (IsTrue b → ⊥) → b ≡ false
-from_no true none = absurd (none refl)
-from_no false none = refl
-
 module _ (core e : Inner) (v set : ℕ) (m m' : Meaning) (stands : InnerStands core m) (acts : Acts Nothing (Sees core.config (Member core.good m) m) m m')
     (wanted : is_wanted m'.units m'.size e.config ≡ true) (can : CanSpell e.config) (on : AllOn e.config) (faults : e.faults ≡ core.faults) (unsure : e.unsure ≡ core.unsure) where
   few_same : length e.config.volumes ≡ length core.config.volumes → length e.config.volumes ≤ 32
@@ -75,9 +69,9 @@ module _ (core e : Inner) (v set : ℕ) (m m' : Meaning) (stands : InnerStands c
 
     pub taken_off : AreOn core.config v set → AreOff e.config v set
     taken_off those = record {
-      each = λ q in_it. from_no (active e.config v q) (λ is.
+      each = λ q in_it. false_from_ne_true (active e.config v q) (λ is.
           let lt : q < 8 = active_few core.config (sound_of core m stands) v q (those.each q in_it) in
-          false_true (live (staled v set core.config 8) v q) ((is_staled v set 8 core.config).off q lt in_it) (on_live (staled v set core.config 8) v q (sym (active_was v q) ∙ is)));
+          both_ways (live (staled v set core.config 8) v q) ((is_staled v set 8 core.config).off q lt in_it) (on_live (staled v set core.config 8) v q (sym (active_was v q) ∙ is)));
     }
 
     pub taken_others : (x q : ℕ) → (x ≡ v → bit_at set q ≡ true → ⊥) → active e.config x q ≡ active core.config x q

@@ -1,6 +1,6 @@
 -- When a write or a flush of a volume gives up.
-use Rattle.std.proofs.Common.{◌≡◌, ◌⊎◌, inl, inr, ⊎_elim, ℕ, zero, suc, ◌≤◌, Bool, IsTrue, List, Result, Ok, Err, IfErr, refl, ap, sym, ◌∙◌}
-use Rattle.std.specs.Prelude.{if◌then◌else◌, slice_get}
+use Rattle.std.proofs.Common.{◌≡◌, ◌⊎◌, inl, inr, ⊎_elim, ℕ, zero, suc, ◌≤◌, Bool, IsTrue, Result, Ok, Err, IfErr, refl, ap, sym, ◌∙◌}
+use Rattle.std.specs.Prelude.{if◌then◌else◌}
 use Rattle.vx_disk.specs.Shelf.{Meaning}
 use Rattle.vx_disk.specs.declared.shelf.ShelfError.{ShelfError}
 use Rattle.vx_disk.specs.declared.shelf.ShelfError.TheVariants.{Fault, Down}
@@ -8,9 +8,6 @@ use Rattle.vx_disk.proofs.Causing.{Rose_before}
 use Rattle.vx_model.specs.declared.no.No.{No}
 use Rattle.vx_model.specs.declared.no.No.TheVariants as refusal
 use Rattle.vx_config.specs.declared.config.Config.{Config}
-use Rattle.vx_config.specs.declared.entry.VolumeEntry.{VolumeEntry}
-use Rattle.vx_layout.specs.Places.{plex_in}
-use Rattle.vx_volume.specs.Plexes.{uses, uses_or}
 use Rattle.vx_volume.specs.Volumes.{EndsAt, PlexBlamed}
 use Rattle.vx_kept.specs.States.{stale_at, staled}
 use Rattle.vx_kept.proofs.Chosen.{active_volumes}
@@ -18,6 +15,7 @@ use Rattle.vx_group.specs.Blames.{Blames, BlamesOr, fault_of}
 use Rattle.vx_group.specs.GivesUp.{EachBlamed, GivesUp, KeepsVolumes, NoCommit}
 use Rattle.vx_group.specs.declared.inner.Inner.{Inner}
 use Rattle.vx_group.proofs.DetachLemmas.{zero_bit}
+use Rattle.vx_group.proofs.UsesLemmas.{uses_volumes}
 
 -- no plex of an empty set is made STALE
 pub staled_none : (v set n : ℕ) (c : Config) → set ≡ 0 → staled v set c n ≡ c
@@ -37,10 +35,6 @@ kept_or_down b c d old new (Fault disk) volumes keeps why = inr (keeps ∙ volum
 kept_or_down b c d old new Down volumes keeps down = inl down
 
 -- ---- why
-
-uses_volumes : (c d : Config) → d.volumes ≡ c.volumes → (v p disk : ℕ) → uses d v p disk ≡ uses c v p disk
-unfolding uses
-uses_volumes c d same v p disk = ap (λ (vs : List VolumeEntry). uses_or disk (plex_in (slice_get vs v) p)) same
 
 blamed_before : (c d : Config) (v p : ℕ) (old mid new : Meaning) → d.volumes ≡ c.volumes → ((u : ℕ) → old.faults u ≤ mid.faults u) → PlexBlamed d v p mid new → PlexBlamed c v p old new
 blamed_before c d v p old mid new same before blamed = record { disk = blamed.disk; is_its = sym (uses_volumes c d same v p blamed.disk) ∙ blamed.is_its; rose = Rose_before _ _ _ (before blamed.disk) blamed.rose }

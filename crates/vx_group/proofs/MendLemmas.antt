@@ -3,6 +3,7 @@ use Rattle.std.proofs.Common.{◌≡◌, ◌⊎◌, inl, inr, ⊎_elim, ℕ, ◌
 use Rattle.std.proofs.lemmas.Bool.{cases_eq, cases_lt}
 use Rattle.vx_disk.specs.Moves.{Says}
 use Rattle.vx_disk.specs.Shelf.{Goes, Lawful, Meaning, Nothing, Or, Values}
+use Rattle.vx_disk.proofs.Runs.{same_Goes as any_same}
 use Rattle.vx_layout.specs.Places.{place}
 use Rattle.vx_volume.specs.Plexes.{Inside, active}
 use Rattle.vx_config.specs.Checks.{blocks_of}
@@ -134,21 +135,7 @@ none_mended core flags sources logs m stands settled up goes = record {
 
 -- no call at all
 pub same_Goes : (m : Meaning) → Goes Nothing m m
-same_Goes m = record {
-  units = refl;
-  size = λ u. refl;
-  tells = refl;
-  reads = λ u b v is. inl (inl is);
-  leaves = λ u b v left. inl left;
-  later = omega arith;
-  since = λ t i le left. inl left;
-  keeps = λ t i le left. left;
-  faults = λ u. omega arith;
-  disk_faults = λ d. omega arith;
-  falls = λ is. is;
-  unarmed = λ is. is;
-  safe = λ no is. is;
-}
+same_Goes m = any_same Nothing m
 
 -- a volume that was made alike stays so in each call that changes nothing
 pub mended_later : (core d e : Inner) (v source : ℕ) (old m1 m2 : Meaning) → Goes Nothing (inner_meaning d m1) (inner_meaning e m2) → IsMended core.config v source d old m1 → IsMended core.config v source e old m2

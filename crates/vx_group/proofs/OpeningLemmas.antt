@@ -1,7 +1,7 @@
 -- A configuration in which one plex more is ACTIVE, over the core of a group.
 use Rattle.std.proofs.Common.{◌≡◌, ◌⊎◌, inl, inr, ℕ, ◌+◌, ◌-◌, ◌<◌, ◌≤◌, Bool, true, false, IsTrue, Option, Some, None, List, length, refl, ap, sym, ◌∙◌, subst, arith}
 use Rattle.std.specs.Prelude.{nat_le, nat_lt, if◌then◌else◌, slice_get}
-use Rattle.std.proofs.lemmas.Bool.{and_from, and_parts, cases_eq, cases_lt, le-leb, lt-ltb}
+use Rattle.std.proofs.lemmas.Bool.{and_from, and_parts, cases_eq, cases_lt, false_from_ne_true, le-leb, lt-ltb}
 use Rattle.vx_disk.specs.Shelf.{Meaning}
 use Rattle.vx_model.specs.declared.no.No.{No}
 use Rattle.vx_model.specs.declared.site.PlexState.{PlexState}
@@ -107,10 +107,6 @@ here_or_apart x v q p = elim (cases_eq x v) [
   | inr apart ↦ inr (λ s t. apart s)
 ]
 
-off_false : (b : Bool) → (b ≡ true → ⊥) → b ≡ false
-off_false true none = absurd (none refl)
-off_false false none = refl
-
 module _ (c : Config) (v p : ℕ) (there : TherePlex c v p) where
   abbrev d : Config
   d = attached v p c
@@ -152,7 +148,7 @@ module _ (c : Config) (v p : ℕ) (there : TherePlex c v p) where
   pub closed : AllOn c → active c v p ≡ false → (whole : Bool) → whole ≡ whole_of c v p → stated v p Stale whole d ≡ c
   unfolding live whole_of
   closed on off whole is =
-      let none : live c v p ≡ false = off_false (live c v p) (λ is_on. let clash : false ≡ true = sym off ∙ on.each v p is_on in cc) in
+      let none : live c v p ≡ false = false_from_ne_true (live c v p) (λ is_on. let clash : false ≡ true = sym off ∙ on.each v p is_on in cc) in
       let state : there.plex.state ≡ Stale = stale_state there.plex there.plex.state refl (sym (ap live_or at_plex) ∙ none) in
       let flag : whole ≡ there.plex.whole = is ∙ ap whole_or at_plex in
       ap (λ (b : Bool). stated v p Stale b d) flag ∙ ap (λ (s : PlexState). stated v p s there.plex.whole d) (sym state) ∙ stated_back c v p there.volume there.plex Active false there.at_v there.at_p

@@ -4,6 +4,7 @@ use Rattle.std.specs.Prelude.{◌*◌, ◌&&◌, not, nat_le, nat_lt, if◌then�
 use Rattle.std.specs.List.{list_all}
 use Rattle.std.proofs.lemmas.Bool.{and_from, and_parts, lt-ltb, ltb-true}
 use Rattle.std.proofs.lemmas.List.Elements.{All-cons, All-nil}
+use Rattle.std.proofs.lemmas.Option.{same_Some}
 use Rattle.vx_disk.specs.Shelf.{Meaning}
 use Rattle.vx_model.specs.declared.limits.TheConstants.{LEAST_BLOCKS, LINK_PLACES, MOST_DATA_VOLUMES}
 use Rattle.vx_model.specs.declared.errors.Stop.{Stop}
@@ -46,11 +47,8 @@ not_late a b le = by (nat_lt a b) refl
     by false is = is
     by true is = absurd (let lt = ltb-true a b is in omega (arith, lt, le))
 
-one_some : (x y : No) → Some x ≡ Some y → x ≡ y
-one_some x y is = cc
-
 pub refused_as : (x y : No) → Some x ≡ Some y → ◌≡◌ {A = Result (Unit {0}) Stop} (Err (Refused x)) (Err (Refused y))
-refused_as x y is = ap (λ (n : No). Err (Refused n)) (one_some x y is)
+refused_as x y is = ap (λ (n : No). Err (Refused n)) (same_Some x y is)
 
 pub none_some : {P : Type 0} (x : No) → Some x ≡ None → P
 none_some x is = absurd (let clash : Some x ≡ None = is in cc)

@@ -1,6 +1,6 @@
 -- A log that is trusted again, over the core of a group.
 use Rattle.std.proofs.Common.{◌≡◌, ◌⊎◌, inl, inr, ℕ, zero, suc, ◌<◌, ◌≤◌, true, false, IsTrue, Option, Some, None, List, [], ◌∷◌, length, refl, ap, sym, ◌∙◌, subst, arith}
-use Rattle.std.specs.Prelude.{slice_get}
+use Rattle.std.specs.Prelude.{not, slice_get}
 use Rattle.std.proofs.lemmas.Bool.{and_from, and_parts, cases_eq}
 use Rattle.vx_disk.specs.Shelf.{Goes, Image, Lawful, Meaning, Nothing}
 use Rattle.vx_disk.proofs.Runs.{then_nothing}
@@ -29,6 +29,7 @@ use Rattle.vx_kept.proofs.PlexActing.{both_PlexActs, wider_Acts}
 use Rattle.vx_disk.specs.Moves.{Anything}
 use Rattle.vx_kept.proofs.StateLemmas.{get_same, map_one, same_shape, then_shape}
 use Rattle.vx_kept.proofs.Steps.{same_Acts}
+use Rattle.vx_logs.specs.Held.{InUse}
 use Rattle.vx_group.specs.Holding.{with_config}
 use Rattle.vx_group.specs.Loses.{LosesPlexes, SameParts}
 use Rattle.vx_group.specs.Moves.{Narrows}
@@ -283,3 +284,7 @@ trusted_loses v log c b told d m m1 m2 one two first failing parts is last faile
     then_loses m m1 m2 one two c b d (loses_none c b m m1 first failing parts)
     (loses_plexes b d m1 m2 (λ w. frames_volumes d told last w ∙ ap (λ (x : Config). frame_at x w) is ∙ sym ((trusting_shape v log b).frames w)) (λ w p. left_plexes told d last w p ∙ ap (λ (x : Config). plex_at x w p) is ∙ trusting_plexes v log b w p)
     (subst (λ (x : Config). MoreFailed m1 m2 x.disks d.disks) is failed) (record { site = same.site ∙ ap (λ (x : Config). x.site) is; rvg = same.rvg ∙ ap (λ (x : Config). x.rvg) is; count = same.count ∙ ap (λ (x : Config). length x.disks) is; later = (let one' : told.serial ≡ b.serial = ap (λ (x : Config). x.serial) is in let two' = same.later in omega (arith, one', two')) }))
+
+pub used_trusted : (x : Config) (v : ℕ) (e : LogEntry) → InUse x v Drl e → log_trusted x v Drl ≡ true
+unfolding log_trusted
+used_trusted x v e use_it = ap used_or use_it.is ∙ ap not use_it.kept

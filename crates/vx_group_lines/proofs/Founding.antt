@@ -43,6 +43,7 @@ use Rattle.vx_events.specs.LinkedFacts.{linked_fact, links_by, links_of_site}
 use Rattle.vx_events.specs.StepsOver.{FindsKept, fact_of_group}
 use Rattle.vx_events.specs.declared.said.Said.{Said}
 use Rattle.vx_events.specs.declared.said.Said.TheVariants.{Refused as SaidNo, Resumed}
+use Rattle.vx_events.proofs.Places.{some_same}
 use Rattle.vx_yard.proofs.Carrying.{SameLoad, carries_same}
 use Rattle.vx_yard.proofs.CrashLine.{rose_still}
 use Rattle.vx_yard.proofs.FailsStay.{fails_then}
@@ -250,13 +251,10 @@ module _ {R : Type 0} {g : Ghosts R} where
     bare = ap (λ (k : ℕ). (d.world.nodes k).state) number ∙ bare;
     untold = λ e at told.
         let same : Some e ≡ Some after = sym at ∙ ap (λ (k : ℕ). slice_get new.disk_sets.items k) number ∙ there in
-        let is_told : IsToldAt after = subst (λ (x : DiskSet R g). IsToldAt x) (some_of same) told in
+        let is_told : IsToldAt after = subst (λ (x : DiskSet R g). IsToldAt x) (some_same same) told in
         let never : true ≡ false = sym is ∙ none (raw_told before raw (changed.later.told (raw_rack after raw_after is_told))) in
         absurd (cc);
   }
-    where
-      some_of : {a b : DiskSet R g} → Some a ≡ Some b → a ≡ b
-      some_of e = cc
 
   -- memory ran out before anything was done
   pub unbegun_found : (d : Doubted) (name : List ℕ) (y : Yard R g) (r : Result Said MemoryError) (x : MemoryError) → r ≡ Err x → StandsFor d y → LeadsFoundIs d (Recover name) y y r

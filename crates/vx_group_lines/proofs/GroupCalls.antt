@@ -1,6 +1,7 @@
 -- What calls on the group of a site that is up lead its yard to, where it stays up and where its fuse runs out.
-use Rattle.std.proofs.Common.{◌≡◌, ◌∙◌, ◌<◌, ◌≤◌, ℕ, Bool, true, false, List, [], length, ap, sym, subst, refl, arith}
-use Rattle.std.specs.Prelude.{Option, Some, None, Contains, IsTrue, IsFalse, slice_get, slice_set}
+use Rattle.std.proofs.Common.{◌≡◌, ◌∙◌, ◌<◌, ◌≤◌, ℕ, true, false, List, [], length, ap, sym, subst, refl, arith}
+use Rattle.std.proofs.lemmas.Bool.{false_from_ne_true}
+use Rattle.std.specs.Prelude.{Option, Some, None, Contains, IsTrue, slice_get, slice_set}
 use Rattle.std.proofs.lemmas.Option.{slice_get_within}
 use Rattle.vx_model.specs.Content.{Write}
 use Rattle.vx_model.specs.declared.site.SiteState.{SiteState}
@@ -72,10 +73,6 @@ some_disks : (o : Option Disks) → is_rack o ≡ true → (d : Disks) × (o ≡
 some_disks None is = absurd (cc)
 some_disks (Some d) is = (d, refl)
 
-pub not_so : (b : Bool) → (IsTrue b → ⊥) → IsFalse b
-not_so true h = absurd (h refl)
-not_so false h = refl
-
 -- the facts of such a site that went down
 pub down_seen : (n : Node) (note : GroupNode) (k : GroupNode) → n.volumes ≡ [] → noted_table k ≡ noted_table note
     → down_fact (fact_of_group n note) ≡ fact_of_group (crashed (with_note k n) 0) k
@@ -134,7 +131,7 @@ module _ {R : Type 0} {g : Ghosts R} where
 
   pub fused_since : (n m : Node) (set next : GroupSet R g) → m.fuse ≡ burned n.fuse → CalledSince (site_disks set.site) (site_disks next.site) → (IsTrue (site_disks next.site).down → ⊥)
       → FusedAs n (OfGroup set) → FusedAs m (OfGroup next)
-  fused_since n m set next is since up h = fused_goes n m (OfGroup set) (OfGroup next) is since.rack (λ o x was now. (since.told o x was now).fuse (not_so (site_disks next.site).down up)) h
+  fused_since n m set next is since up h = fused_goes n m (OfGroup set) (OfGroup next) is since.rack (λ o x was now. (since.told o x was now).fuse (false_from_ne_true (site_disks next.site).down up)) h
 
   -- ---- a call on the group of a site
 

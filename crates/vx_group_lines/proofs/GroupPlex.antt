@@ -1,7 +1,7 @@
 -- The line that detaches a plex, and what refuses one that attaches it.
 use Rattle.std.proofs.Common.{◌≡◌, ◌∙◌, ◌⊎◌, ◌-◌, ◌<◌, ℕ, zero, suc, Bool, true, false, List, length, ap, sym, subst, refl, arith, inl, inr, ⊎_elim}
 use Rattle.std.specs.Prelude.{Option, Some, None, not, ◌&&◌, ◌==◌, nat_le, nat_lt, if◌then◌else◌, slice_get, Result, Ok, Err, option_map}
-use Rattle.std.proofs.lemmas.Bool.{cases_eq, or_parts}
+use Rattle.std.proofs.lemmas.Bool.{and_parts, cases_eq, not-true, or_parts}
 use Rattle.std.proofs.lemmas.Bool.Decides.{nat_tests}
 use Rattle.std.proofs.lemmas.Option.{slice_get-map, slice_get_within}
 use Rattle.vx_model.specs.declared.errors.OutOfMemory.{OutOfMemory}
@@ -69,14 +69,6 @@ some_first false x y o is = inr (refl, is)
 none_some : {A : Type 0} (b : Bool) (x y : A) → (if b then Some x else None) ≡ Some y → (b ≡ true) × (x ≡ y)
 none_some true x y is = (refl, some_same is)
 none_some false x y is = absurd (cc)
-
-both_of : (a b : Bool) → (a && b) ≡ true → (a ≡ true) × (b ≡ true)
-both_of true b is = (refl, is)
-both_of false b is = absurd (cc)
-
-not_of : (b : Bool) → not b ≡ true → b ≡ false
-not_of true is = absurd (cc)
-not_of false is = refl
 
 no_other : (test : ℕ → Bool) (n q : ℕ) → any_below test n ≡ false → q < n → test q ≡ false
 no_other test zero q none below = absurd (omega (arith, below))
@@ -168,8 +160,8 @@ det_why note c v p why noted has is = ⊎_elim
     (λ past. absurd (past_of (plexes_of c v) p has.plex past.0))
     (λ third. ⊎_elim
     (λ last.
-    let parts = both_of (active c v p) (not (any_below (is_other c v p) (plexes_of c v))) last.0 in
-    inl (sym last.1, last_plex note c v p noted parts.0 (not_of (any_below (is_other c v p) (plexes_of c v)) parts.1)))
+    let parts = and_parts (active c v p) (not (any_below (is_other c v p) (plexes_of c v))) last.0 in
+    inl (sym last.1, last_plex note c v p noted parts.0 (not-true (any_below (is_other c v p) (plexes_of c v)) parts.1)))
     (λ rest. inr (sym (none_some (nat_lt (greatest - margin) c.serial) (Limit Numbers greatest) why rest.1).1))
     (some_first (active c v p && not (any_below (is_other c v p) (plexes_of c v))) LastPlex why _ third.1))
     (some_first (nat_le (plexes_of c v) p) (Unknown (Number p)) why _ second.1))

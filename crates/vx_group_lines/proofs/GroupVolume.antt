@@ -1,10 +1,11 @@
 -- The line that makes a volume of a disk group.
 use Rattle.std.proofs.Common.{◌≡◌, ◌∙◌, ◌⊎◌, ◌+◌, ◌-◌, ◌^◌, ◌<◌, ◌≤◌, ℕ, Bool, true, false, List, [], ◌∷◌, map, length, ap, sym, subst, refl, arith, inl, inr, ⊎_elim}
-use Rattle.std.specs.Prelude.{Option, Some, None, find, not, ◌&&◌, ◌||◌, ◌==◌, nat_le, nat_lt, bytes_eq, if◌then◌else◌, slice_get, slice_set, Result, Ok, Err}
+use Rattle.std.specs.Prelude.{Option, Some, None, find, not, ◌&&◌, ◌||◌, ◌==◌, nat_le, nat_lt, bytes_eq, if◌then◌else◌, slice_set, Result, Ok, Err}
 use Rattle.std.specs.List.{list_any}
 use Rattle.std.proofs.lemmas.Bool.{and_parts, both_ways, eqb-true}
 use Rattle.std.proofs.lemmas.Bool.Decides.{nat_tests}
 use Rattle.std.proofs.lemmas.List.{length-map}
+use Rattle.std.proofs.lemmas.Option.{same_Some}
 use Rattle.vx_model.specs.declared.errors.OutOfMemory.{OutOfMemory}
 use Rattle.vx_model.specs.declared.errors.Stop.{Stop}
 use Rattle.vx_model.specs.declared.errors.Stop.TheVariants.{No as StopsBy, OutOfMemory as MemoryStop}
@@ -12,7 +13,6 @@ use Rattle.vx_model.specs.declared.limits.TheConstants.{MOST_COLUMNS, MOST_NUMBE
 use Rattle.vx_model.specs.declared.no.Counted.TheVariants.{Number as Numbers, Plexes, Subdisks, Volumes}
 use Rattle.vx_model.specs.declared.no.No.{No}
 use Rattle.vx_model.specs.declared.no.No.TheVariants.{Exists, Limit, Size, Space}
-use Rattle.vx_model.specs.declared.site.SiteState.TheVariants.{Up as IsUp}
 use Rattle.vx_disk.specs.declared.shelf.Shelf.{Ghosts}
 use Rattle.vx_config.specs.Table.{greatest}
 use Rattle.vx_config.specs.declared.config.Config.{Config}
@@ -45,19 +45,18 @@ use Rattle.vx_grouped.specs.SiteEnds.{ConfigGoes, HasNow}
 use Rattle.vx_grouped.specs.declared.group_site.GroupSite.{GroupSite}
 use Rattle.vx_grouped.specs.declared.group_site.GroupSite.TheVariants.{Up as SiteUp, Deported as SiteAway, Down as SiteDown, Marked, Gone as SiteGone}
 use Rattle.vx_diskset.specs.Asked.{FailsAs, FusedAs}
-use Rattle.vx_diskset.specs.Fuses.{HasLeft, LeftAs}
+use Rattle.vx_diskset.specs.Fuses.{LeftAs}
 use Rattle.vx_diskset.specs.GroupCalls.{AtSite, OnSites, cut_in}
 use Rattle.vx_diskset.specs.GroupSets.{cut_value}
 use Rattle.vx_diskset.specs.Holds.{beside_of}
 use Rattle.vx_diskset.specs.declared.disk_set.DiskSet.{DiskSet}
 use Rattle.vx_diskset.specs.declared.disk_set.DiskSet.TheVariants.{OfGroup}
-use Rattle.vx_diskset.specs.declared.group_set.GroupSet.{GroupSet}
 use Rattle.vx_events.specs.Fails.{Fails}
 use Rattle.vx_events.specs.GroupConfigs.{ConfigLoses}
-use Rattle.vx_events.specs.GroupEnds.{GroupCuts, GroupDone, GroupSpoils, GroupWants}
+use Rattle.vx_events.specs.GroupEnds.{GroupDone, GroupWants}
 use Rattle.vx_events.specs.GroupLines.{shape_of}
 use Rattle.vx_events.specs.GroupNotes.{AddsZeros, NotesVolume, note_at, Reconfigures}
-use Rattle.vx_events.specs.GroupViews.{config_of, noted_table, plain_fact}
+use Rattle.vx_events.specs.GroupViews.{noted_table, plain_fact}
 use Rattle.vx_events.specs.StepsOver.{fact_of_group}
 use Rattle.vx_events.specs.declared.said.Said.{Said}
 use Rattle.vx_events.specs.declared.said.Said.TheVariants.{Done}
@@ -70,9 +69,9 @@ use Rattle.vx_yard.specs.Standing.{LeadsOver, LeadsOverIs, StandsFor, StaysFor}
 use Rattle.vx_yard.specs.declared.yard.Yard.{Yard}
 use Rattle.vx_group_lines.proofs.Changing.{moves_table, moves_to, notes_config, notes_table, reconfigures}
 use Rattle.vx_group_lines.proofs.GroupAt.{up_notes}
-use Rattle.vx_group_lines.proofs.GroupCalls.{Called, SetThen, calls, calls_all, calls_are, calls_names, calls_none, fused_since, note_uncut, set_uncut, sets_then, site_up, maps_were}
+use Rattle.vx_group_lines.proofs.GroupCalls.{SetThen, calls, calls_all, calls_are, calls_names, calls_none, fused_since, note_uncut, set_uncut, sets_then, site_up, maps_were}
 use Rattle.vx_group_lines.proofs.GroupDone.{refused_leads}
-use Rattle.vx_group_lines.proofs.GroupEnding.{Calling, IsCalling, Midway, since_at, turned_leads}
+use Rattle.vx_group_lines.proofs.GroupEnding.{Calling, Midway, since_at, turned_leads}
 use Rattle.vx_group_lines.proofs.GroupLeads.{follows_on, sized_of, up_set}
 use Rattle.vx_group_lines.proofs.GroupMarks.{begins_at}
 use Rattle.vx_group_lines.proofs.Losing.{Names, found_zero, short_zero}
@@ -86,11 +85,8 @@ use Rattle.vx_group_lines.specs.Noting.{reply_noted}
 
 -- ---- tests in order
 
-some_is : {A : Type 0} (x y : A) → Some x ≡ Some y → x ≡ y
-some_is x y is = cc
-
 some_first : {A : Type 0} (b : Bool) (x y : A) (o : Option A) → (if b then Some x else o) ≡ Some y → ((b ≡ true) × (x ≡ y)) ⊎ ((b ≡ false) × (o ≡ Some y))
-some_first true x y o is = inl (refl, some_is x y is)
+some_first true x y o is = inl (refl, same_Some x y is)
 some_first false x y o is = inr (refl, is)
 
 both_true : (a b : Bool) → a ≡ true → b ≡ true → (a && b) ≡ true

@@ -74,6 +74,7 @@ use Rattle.vx_group_lines.proofs.Rising.{has_up, refused_as}
 use Rattle.vx_group_lines.proofs.Raising.{Begins, RaisedTo, later_then, stays_back}
 use Rattle.vx_group_lines.proofs.Resuming.{looked}
 use Rattle.vx_model.specs.Sites.{is_up}
+use Rattle.vx_model.proofs.Tests.{or_true}
 
 -- the site of the line is over a group, which notes it
 over_noted : (n : Node) → is_over_group n ≡ true → n.group ≡ Some (note_at n)
@@ -82,10 +83,6 @@ over_noted n over = by n.group refl
     by : (o : Option GroupNode) → n.group ≡ o → n.group ≡ Some (note_at n)
     by None is = absurd (let e : false ≡ true = sym (ap (λ (x : Option GroupNode). is_some x && eqb (length n.volumes) 0) is) ∙ over in cc)
     by (Some note) is = is ∙ ap (λ (x : Option GroupNode). Some (unwrap_or x no_note)) (sym is)
-
-or_true : (a b : Bool) → b ≡ true → (a || b) ≡ true
-or_true true b is = refl
-or_true false b is = is
 
 module _ (told : Type 0) (d e : Doubted) (name : List ℕ) (s : ℕ) (next : GroupNode) (place : group_place d.world (Recover name) ≡ s) (over : is_over_group (d.world.nodes s) ≡ true) (comes : ComesDown d e s) (notes : NotesShort (note_at (e.world.nodes s)) next) where
   -- it crashed first, or may not agree

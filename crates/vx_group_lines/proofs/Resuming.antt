@@ -9,6 +9,7 @@ use Rattle.vx_model.specs.declared.limits.TheConstants.{MOST_DISKS}
 use Rattle.vx_model.specs.declared.no.No.TheVariants.{Device}
 use Rattle.vx_model.specs.declared.site.SiteState.{SiteState}
 use Rattle.vx_model.specs.declared.site.SiteState.TheVariants.{Up as IsUp, Down as IsDown}
+use Rattle.vx_model.proofs.Tests.{by_bool}
 use Rattle.vx_disk.specs.Counts.{Rose}
 use Rattle.vx_disk.specs.declared.shelf.Shelf.{Ghosts}
 use Rattle.vx_config.specs.Checks.{blocks_of}
@@ -66,7 +67,7 @@ use Rattle.vx_group_lines.proofs.GroupLeads.{Follows, Sized, down_set, follows_o
 use Rattle.vx_group_lines.proofs.GroupShown.{view_up}
 use Rattle.vx_group_lines.proofs.GroupStatus.{config_is, table_is}
 use Rattle.vx_group_lines.proofs.Returning.{SitsOn, back_of, NoneKnown, none_known}
-use Rattle.vx_group_lines.proofs.Rising.{HasUp, bool_by, fits_by, has_up, risen_is, risen_node, shows_cut, sits_down, some_config, told_of, unfused_down, unread_as, up_as}
+use Rattle.vx_group_lines.proofs.Rising.{HasUp, fits_by, has_up, risen_is, risen_node, shows_cut, sits_down, some_config, told_of, unfused_down, unread_as, up_as}
 use Rattle.vx_grouped.specs.GroupNotes.{note_dimmed}
 use Rattle.vx_group_lines.proofs.Dimming.{dark_moves}
 use Rattle.vx_group_lines.proofs.MapGoing.{stand_as}
@@ -250,7 +251,7 @@ module _ {R : Type 0} {g : Ghosts R} where
             ends : (d : Doubted) (name : List ℕ) → ComesDown d e s → GroupEnds (IsTold new) d (Recover name) s (calls s old new MOST_DISKS) (Resumed view shown) (noted_at (happened e (Regroup s) false) s next)
             ends d name comes =
                 subst (λ (x : Doubted). GroupEnds (IsTold new) d (Recover name) s (calls s old new MOST_DISKS) (Resumed view shown) (noted_at x s next)) (up_as d e s comes)
-                (bool_by (site_disks m).tells
+                (by_bool (site_disks m).tells
                 (λ yes_.
                 GroupDone next (calls_are e old new [] s before after begin.stands call MOST_DISKS) (
                   back_for t.set t.is MOST_DISKS (omega arith) d comes,

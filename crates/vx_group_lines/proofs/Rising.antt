@@ -1,5 +1,5 @@
 -- What a recovery of a site that is down leads a yard to, where its group comes up.
-use Rattle.std.proofs.Common.{◌≡◌, ◌∙◌, ◌⊎◌, ⊎_elim, ◌+◌, ◌/◌, ◌<◌, ℕ, zero, suc, Bool, true, false, List, [], ◌∷◌, ◌++◌, length, map, ap, sym, subst, refl, arith, IsTrue}
+use Rattle.std.proofs.Common.{◌≡◌, ◌∙◌, ◌⊎◌, ⊎_elim, ◌/◌, ◌<◌, ℕ, zero, suc, false, List, [], ◌∷◌, ◌++◌, length, map, ap, sym, subst, refl, arith, IsTrue}
 use Rattle.std.specs.Prelude.{Option, Some, None, slice_get}
 use Rattle.vx_model.specs.Content.{Write}
 use Rattle.vx_model.specs.declared.site.SiteState.{SiteState}
@@ -152,10 +152,6 @@ risen_is n next none = ap (λ (x : FuseOf). let k : Node = record (risen_node ne
 
 pub some_config : (c d : Config) → Some (at_serial 0 c) ≡ Some (at_serial 0 d) → c.volumes ≡ d.volumes
 some_config c d is = ap (λ (x : Config). x.volumes) (some_same is)
-
-pub bool_by : {P : Type 0} (b : Bool) → (b ≡ true → P) → (b ≡ false → P) → P
-bool_by true yes_ no_ = yes_ refl
-bool_by false yes_ no_ = no_ refl
 
 module _ {R : Type 0} {g : Ghosts R} where
   -- the configuration of a group that is up

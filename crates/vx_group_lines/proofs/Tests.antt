@@ -1,5 +1,6 @@
 -- What is known of a line of a disk group that no test refuses.
 use Rattle.std.proofs.Common.{◌≡◌, ◌∙◌, ◌<◌, ◌≤◌, ℕ, List, length, ap, subst, sym, refl, arith, Bool, true, false}
+use Rattle.std.proofs.lemmas.Bool.{and_parts}
 use Rattle.std.specs.Prelude.{Option, Some, None, not, ◌&&◌, nat_le, nat_lt, if◌then◌else◌}
 use Rattle.std.specs.List.{find}
 use Rattle.std.specs.Str.{bytes_eq}
@@ -30,10 +31,6 @@ away_by Deported e = refl
 away_by Bare e = absurd (cc)
 away_by Up e = absurd (cc)
 away_by Down e = absurd (cc)
-
-both : (a b : Bool) → (a && b) ≡ true → (a ≡ true) × (b ≡ true)
-both true b e = (refl, e)
-both false b e = absurd (cc)
 
 below_by : (a b : ℕ) → nat_le a b ≡ false → b < a
 below_by a b e = grind (arith, nat_tests)
@@ -72,7 +69,7 @@ pub record UpMay (sites : List SiteFacts) (name : List ℕ) : Type 0 where
 
 up_role : (f : SiteFacts) → group_role (Some f) ≡ None → (f.state ≡ Up) × (f.grouped ≡ true)
 up_role f e =
-    let parts = both (is_up f.state) f.grouped (not_false (is_up f.state && f.grouped) (when_none (not (is_up f.state && f.grouped)) _ e)) in
+    let parts = and_parts (is_up f.state) f.grouped (not_false (is_up f.state && f.grouped) (when_none (not (is_up f.state && f.grouped)) _ e)) in
     (up_is f.state parts.0, parts.1)
 
 up_may : (sites : List SiteFacts) (name : List ℕ) (site : Named sites name) → group_role (site_named sites name) ≡ None → UpMay sites name

@@ -1,5 +1,5 @@
 -- The line that makes a volume, in the yard of its site.
-use Rattle.std.proofs.Common.{◌≡◌, ◌∙◌, ◌<◌, ℕ, List, [], map, length, ap, sym, subst, refl, true, false, arith}
+use Rattle.std.proofs.Common.{◌≡◌, ◌∙◌, ◌<◌, ℕ, List, map, length, ap, sym, subst, refl, true, false, arith}
 use Rattle.std.specs.Prelude.{Option, Some, None, find, bytes_eq, slice_get, slice_set, Result, Ok, Err, IfOk, IsSome}
 use Rattle.std.proofs.lemmas.Option.{slice_get_within}
 use Rattle.vx_model.specs.declared.errors.OutOfMemory.{OutOfMemory}
@@ -21,7 +21,7 @@ use Rattle.vx_script.specs.declared.line.ReadPolicy.{ReadPolicy}
 use Rattle.vx_script.specs.declared.line.ScriptLine.TheVariants.{Volume}
 use Rattle.vx_script.specs.declared.line.VolumeLog.{VolumeLog}
 use Rattle.vx_script.specs.declared.line.VolumeMap.{VolumeMap}
-use Rattle.vx_grouped.specs.GroupSites.{UpNoted, site_config}
+use Rattle.vx_grouped.specs.GroupSites.{UpNoted}
 use Rattle.vx_grouped.specs.SiteAdds.{SiteAdded}
 use Rattle.vx_diskset.proofs.KeepsFailing.{failing_same}
 use Rattle.vx_diskset.specs.Asked.{FuseGoesOn, SameFailing}
@@ -30,7 +30,7 @@ use Rattle.vx_diskset.specs.declared.disk_set.DiskSet.{DiskSet}
 use Rattle.vx_events.specs.Facts.{seat_of, site_number}
 use Rattle.vx_events.specs.GroupLines.{shape_of}
 use Rattle.vx_events.specs.GroupNotes.{note_at}
-use Rattle.vx_events.specs.GroupViews.{noted_table, plain_fact}
+use Rattle.vx_events.specs.GroupViews.{plain_fact}
 use Rattle.vx_events.specs.StepsOver.{fact_of_group, over_group_at}
 use Rattle.vx_events.specs.declared.said.Said.{Said}
 use Rattle.vx_events.specs.declared.said.Said.TheVariants.{Done}

@@ -1,11 +1,11 @@
 -- What the lines that go to a group hand on to their work.
-use Rattle.std.proofs.Common.{◌≡◌, ◌∙◌, ◌+◌, ◌*◌, ◌<◌, ◌≤◌, ℕ, Bool, true, false, List, ap, arith, length, refl, replicate, subst, sym}
+use Rattle.std.proofs.Common.{◌≡◌, ◌∙◌, ◌*◌, ◌<◌, ◌≤◌, ℕ, Bool, true, false, List, ap, arith, length, refl, replicate, subst, sym}
+use Rattle.std.proofs.lemmas.Bool.{and_parts}
 use Rattle.std.proofs.lemmas.List.{length-replicate}
 use Rattle.std.proofs.lemmas.Bool.Decides.{nat_tests}
-use Rattle.std.specs.Prelude.{◌&&◌, ◌^◌, IfOk, IfSome, None, Option, Some, Result, Ok, Err, min, nat_le, nat_lt}
-use Rattle.vx_layout.specs.declared.shape.Shape.{Shape}
+use Rattle.std.specs.Prelude.{◌&&◌, ◌^◌, IfOk, IfSome, None, Result, Ok, Err, min, nat_le, nat_lt}
 use Rattle.vx_events.proofs.Refused.{when_none}
-use Rattle.vx_events.specs.GroupLines.{layout_columns, layout_width, preferred_plex, shape_of}
+use Rattle.vx_events.specs.GroupLines.{layout_columns, layout_width, preferred_plex}
 use Rattle.vx_order.specs.Volumes.{is_layout, is_volume_shape, preferred_unknown}
 use Rattle.vx_script.specs.declared.line.Layout.{Layout}
 use Rattle.vx_script.specs.declared.line.Layout.TheVariants.{Concat, Stripe}
@@ -56,10 +56,6 @@ filled_length count fill bytes is = ap (λ (xs : List ℕ). length xs) is ∙ le
 
 -- ---- the shape of a new volume
 
-both_parts : (a b : Bool) → (a && b) ≡ true → (a ≡ true) × (b ≡ true)
-both_parts true b e = (refl, e)
-both_parts false b e = absurd (cc)
-
 le_by : (a b : ℕ) → nat_le a b ≡ true → a ≤ b
 le_by a b e = grind (arith, nat_tests)
 
@@ -72,15 +68,15 @@ more_by a b e = grind (arith, nat_tests)
 layout_by : (layout : Layout) → is_layout layout ≡ true → (layout_columns layout ≤ 8) × (layout_width layout ≤ 0xffff_ffff)
 layout_by Concat e = (omega arith, omega arith)
 layout_by (Stripe columns width) e =
-    let one = both_parts (nat_le 1 columns && nat_le columns 8 && nat_le 1 width) (nat_lt width (2 ^ 32)) e in
-    let two = both_parts (nat_le 1 columns && nat_le columns 8) (nat_le 1 width) one.0 in
-    let three = both_parts (nat_le 1 columns) (nat_le columns 8) two.0 in
+    let one = and_parts (nat_le 1 columns && nat_le columns 8 && nat_le 1 width) (nat_lt width (2 ^ 32)) e in
+    let two = and_parts (nat_le 1 columns && nat_le columns 8) (nat_le 1 width) one.0 in
+    let three = and_parts (nat_le 1 columns) (nat_le columns 8) two.0 in
     let below : width < 2 ^ 32 = lt_by width (2 ^ 32) one.1 in
     (le_by columns 8 three.1, omega (arith, below))
 
 pub shape_layout : (blocks mirrors : ℕ) (layout : Layout) → is_volume_shape blocks mirrors layout ≡ true → (layout_columns layout ≤ 8) × (layout_width layout ≤ 0xffff_ffff)
 shape_layout blocks mirrors layout e =
-    layout_by layout (both_parts (nat_le 1 blocks && nat_le blocks (2 ^ 40) && nat_le 1 mirrors) (is_layout layout) e).1
+    layout_by layout (and_parts (nat_le 1 blocks && nat_le blocks (2 ^ 40) && nat_le 1 mirrors) (is_layout layout) e).1
 
 pub prefers_below : (policy : ReadPolicy) (mirrors : ℕ) → preferred_unknown policy mirrors ≡ None → IfSome (preferred_plex policy) (λ p. p < mirrors)
 prefers_below Round mirrors e = tt

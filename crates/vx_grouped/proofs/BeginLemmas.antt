@@ -1,7 +1,7 @@
 -- A group that is begun on the disks of a bare site, by its note.
 use Rattle.std.proofs.Common.{◌≡◌, ◌⊎◌, inl, inr, ℕ, ◌<◌, Bool, true, false, List, [], length, IsTrue, IsFalse, refl, sym, ◌∙◌, ap, subst, arith}
-use Rattle.std.proofs.lemmas.Bool.{both_ways}
-use Rattle.std.specs.Prelude.{Option, None, Some, Result, Ok, Err, IfErr, not, slice_get}
+use Rattle.std.proofs.lemmas.Bool.{both_ways, false_from_ne_true, not-false}
+use Rattle.std.specs.Prelude.{Option, None, Result, Ok, Err, IfErr, not, Some}
 use Rattle.std.proofs.lemmas.Option.{slice_get_within}
 use Rattle.vx_model.specs.declared.errors.Stop.{Stop}
 use Rattle.vx_model.specs.declared.errors.Stop.TheVariants.{No as Refused, OutOfMemory}
@@ -16,7 +16,6 @@ use Rattle.vx_history.specs.World.{Fuse, Node, NoFuse, no_volumes}
 use Rattle.vx_config.specs.Checks.{blocks_of}
 use Rattle.vx_config.specs.Configs.{HasSpelling}
 use Rattle.vx_config.specs.declared.config.Config.{Config}
-use Rattle.vx_config.specs.declared.entry.DiskEntry.{DiskEntry}
 use Rattle.vx_config.specs.declared.entry.VolumeEntry.{VolumeEntry}
 use Rattle.vx_copies.proofs.OneTry.{wanted_count}
 use Rattle.vx_copyio.specs.Labelling.{HasSmall}
@@ -36,11 +35,10 @@ use Rattle.vx_untold.specs.declared.shade.Shade.TheVariants.{Bright}
 use Rattle.vx_watched.specs.Since.{CalledSince}
 use Rattle.vx_grouped.specs.Begins.{BeginRefuses, BeginsGroup, CanBegin, IsEmptyConfig, IsFirstNote, group_begun}
 use Rattle.vx_grouped.specs.GroupNotes.{noted_config}
-use Rattle.vx_grouped.specs.GroupSites.{GroupUp, IsMarkedSite, idle_disks, laid_disks, laid_below}
+use Rattle.vx_grouped.specs.GroupSites.{GroupUp, IsMarkedSite, laid_disks, laid_below}
 use Rattle.vx_grouped.specs.Plain.{HoldsPlain}
 use Rattle.vx_grouped.specs.SetFuses.{HasFuse}
 use Rattle.vx_grouped.specs.SiteMaps.{StandMaps}
-use Rattle.vx_grouped.specs.declared.idle.Idle.{Idle}
 use Rattle.vx_grouped.specs.declared.laid.Laid.{Laid}
 use Rattle.vx_grouped.specs.declared.group_site.GroupSite.TheVariants.{Up, Marked}
 use Rattle.vx_kept.specs.Finds.{AllAtOnce}
@@ -65,17 +63,9 @@ first_note core = record {
   inside = λ v. false;
 }
 
-was_kept : (kept : Bool) → not kept ≡ false → kept ≡ true
-was_kept true is = refl
-was_kept false is = cc
-
 kept_tight : (kept : Bool) → kept ≡ true → not kept ≡ false
 kept_tight true is = refl
 kept_tight false is = cc
-
-is_up : (down : Bool) → (IsTrue down → ⊥) → IsFalse down
-is_up true never = absurd (never refl)
-is_up false never = refl
 
 none_blocks : (v : ℕ) → blocks_of [] v ≡ 0
 none_blocks v = refl
@@ -93,7 +83,7 @@ module _ (m m' : Meaning) (n : Node) (can : CanBegin n m) (since : CalledSince m
     units = since.units ∙ can.units;
     size = λ u low. since.size u ∙ can.size u low;
     unfused = can.unfused;
-    up = is_up m'.down stays_up;
+    up = false_from_ne_true m'.down stays_up;
     unarmed = since.unarmed can.unarmed;
   }
 
@@ -128,8 +118,8 @@ module _ (m m' : Meaning) (n : Node) (can : CanBegin n m) (since : CalledSince m
           units = since.units ∙ can.units;
           size = λ u low. since.size u ∙ can.size u low;
           config = refl;
-          agreed = λ tight. new.stands.trusts.both (was_kept core.inner.committed tight);
-          committed = λ tight none. was_kept core.inner.committed tight;
+          agreed = λ tight. new.stands.trusts.both (not-false core.inner.committed tight);
+          committed = λ tight none. not-false core.inner.committed tight;
           images = record {
             noted = record { each = λ tight i x each is. inl ((newest_at core.inner.config m' new.newest).each i x each is) };
             newest = λ is. subst (λ (i : Inner). AllAtOnce i.config m') (sym (wide_none core held)) (newest_at core.inner.config m' new.newest);

@@ -1,18 +1,15 @@
 -- What the calls of a group say of two configurations in memory, one before and one behind.
-use Rattle.std.proofs.Common.{◌≡◌, ◌∙◌, ◌⊎◌, inl, inr, zero, suc, List, [], ◌∷◌, ℕ, ◌<◌, ◌≤◌, Bool, true, false, IsTrue, length, refl, sym, ap, subst, arith}
-use Rattle.std.specs.Prelude.{Option, Some, None, Result, Ok, Err, OnOk, IfErr}
+use Rattle.std.proofs.Common.{◌≡◌, ◌∙◌, ◌⊎◌, inl, inr, zero, suc, List, [], ◌∷◌, ℕ, ◌<◌, ◌≤◌, IsTrue, length, refl, sym, subst, arith}
+use Rattle.std.specs.Prelude.{Option, Some, None, Result, Ok, Err, OnOk}
 use Rattle.std.proofs.lemmas.Bool.{cases_lt}
 use Rattle.vx_model.specs.declared.errors.Stop.{Stop}
 use Rattle.vx_model.specs.declared.errors.Stop.TheVariants.{No as Refused, OutOfMemory}
 use Rattle.vx_model.specs.declared.no.No.{No}
-use Rattle.vx_disk.specs.Counts.{Rose}
 use Rattle.vx_disk.specs.Shelf.{Meaning}
-use Rattle.vx_config.specs.declared.config.Config.{Config}
 use Rattle.vx_config.specs.declared.entry.DiskEntry.{DiskEntry}
 use Rattle.vx_copies.specs.Commits.{MoreFailed}
-use Rattle.vx_copies.specs.Marks.{blocks_at, failed_at}
+use Rattle.vx_copies.specs.Marks.{blocks_at}
 use Rattle.vx_copies.proofs.OneTry.{wanted_count}
-use Rattle.vx_layout.specs.Places.{disk_blocks}
 use Rattle.vx_volume.specs.Plexes.{active, uses}
 use Rattle.vx_kept.specs.Keeping.{SameShape, frame_at}
 use Rattle.vx_group.specs.Holding.{GroupStands, wide}

@@ -1,10 +1,8 @@
 -- A group that is found on disks of which it is not known what they hold, by its note.
-use Rattle.std.proofs.Common.{◌≡◌, ℕ, true, false, List, [], IsTrue, IsFalse, refl, sym, ◌∙◌, ap, subst}
-use Rattle.std.proofs.lemmas.Bool.{both_ways}
-use Rattle.std.specs.Prelude.{None, Some, Ok, Err}
+use Rattle.std.proofs.Common.{◌≡◌, ℕ, true, false, [], IsTrue, IsFalse, refl, sym, ◌∙◌, ap, subst}
+use Rattle.std.proofs.lemmas.Bool.{both_ways, false_from_ne_true}
+use Rattle.std.specs.Prelude.{None, Ok, Some}
 use Rattle.vx_model.specs.declared.errors.Stop.{Stop}
-use Rattle.vx_model.specs.declared.errors.Stop.TheVariants.{No as Refused}
-use Rattle.vx_model.specs.declared.no.No.TheVariants.{Down as IsOff}
 use Rattle.vx_model.specs.declared.site.SiteState.TheVariants.{Up as IsUp}
 use Rattle.vx_disk.specs.Racks.{IsRack}
 use Rattle.vx_disk.specs.Shelf.{Meaning}
@@ -16,7 +14,6 @@ use Rattle.vx_config.specs.Configs.{HasSpelling}
 use Rattle.vx_config.specs.declared.config.Config.{Config}
 use Rattle.vx_group.specs.Imports.{ImportStops}
 use Rattle.vx_group.specs.Resumes.{CanImport}
-use Rattle.vx_group.specs.declared.group_core.GroupCore.{GroupCore}
 use Rattle.vx_untold.specs.Untold.{untold}
 use Rattle.vx_watched.specs.Since.{CalledSince}
 use Rattle.vx_grouped.specs.Away.{AwayLies}
@@ -31,12 +28,10 @@ use Rattle.vx_grouped.specs.SiteEnds.{stops_down}
 use Rattle.vx_grouped.specs.SiteMaps.{StandMaps}
 use Rattle.vx_grouped.specs.SiteReturns.{ReturnSince}
 use Rattle.vx_grouped.specs.declared.laid.Laid.{Laid}
-use Rattle.vx_grouped.specs.declared.group_site.GroupSite.{GroupSite}
 use Rattle.vx_grouped.specs.declared.group_site.GroupSite.TheVariants.{Up}
 use Rattle.vx_grouped.proofs.NotedLemmas.{spells_zero}
 use Rattle.vx_grouped.proofs.SinceReturns.{returns_unarmed}
 use Rattle.vx_grouped.proofs.SiteLemmas.{lies_as}
-use Rattle.vx_grouped.proofs.SiteReturnLemmas.{is_up}
 use Rattle.vx_grouped.proofs.StopLemmas.{down_of}
 use Rattle.vx_grouped.proofs.WhyLemmas.{why_by}
 
@@ -126,7 +121,7 @@ pub find_stops : (n : Node) (m m' : Meaning) (stop : Stop) → IsRack m → IsRa
 find_stops n m m' stop was now can since stops = record {
   units = since.units ∙ can.units;
   size = λ u low. since.size u ∙ can.size u low;
-  up = is_up m'.down still;
+  up = false_from_ne_true m'.down still;
   unarmed = since.unarmed can.unarmed;
   why = why_by m (untold m) (untold m') m' (λ u. refl) (λ u. refl) was.counts now.counts ⊥ (λ never i readable each. absurd never) (λ never. absurd never) can.up stop
       (λ off. still (down_of (untold m) (untold m') stop (ap stops_down off) stops)) stops;

@@ -1,5 +1,6 @@
 -- Disks that are imported no more, as their logs were stopped: an import of them is refused for want of serials.
 use Rattle.std.proofs.Common.{◌≡◌, ◌∙◌, inr, Bool, true, false, not, IsTrue, Option, Some, None, refl, sym, subst}
+use Rattle.std.proofs.lemmas.Bool.{false_from_ne_true}
 use Rattle.std.specs.Prelude.{Err}
 use Rattle.vx_config.specs.Table.{greatest}
 use Rattle.vx_disk.specs.Shelf.{Meaning}
@@ -29,7 +30,6 @@ use Rattle.vx_grouped.proofs.ReadyLemmas.{below_ready, lies_ready, noted_ready, 
 use Rattle.vx_grouped.proofs.SettleLemmas.{fuse_burned}
 use Rattle.vx_grouped.proofs.SinceReturns.{dark_armed, dark_down}
 use Rattle.vx_grouped.proofs.SiteLemmas.{away_dimmed, lit_dimmed, noted_dimmed}
-use Rattle.vx_grouped.proofs.SiteReturnLemmas.{is_up}
 
 -- by equal values they tell the same
 pub rested_tells : (r s : Rested) (m : Meaning) → Some s ≡ Some r → LogsTell s m → LogsTell r m
@@ -46,7 +46,7 @@ module _ {R : Type 0} (meaning : R → Meaning) where
   dark_disks (Dark r) = refl
 
   dark_keeps : (s : Shade R) → (IsTrue (shade_meaning meaning s).down → ⊥) → KeepsFuse (shade_meaning meaning s) (shade_meaning meaning (Dark (rack_of s)))
-  dark_keeps s up = record { goes = λ o k was is. ((since_none (shade_meaning meaning s)).told o k was (sym (dark_disks s) ∙ is)).fuse (is_up (shade_meaning meaning s).down up) }
+  dark_keeps s up = record { goes = λ o k was is. ((since_none (shade_meaning meaning s)).told o k was (sym (dark_disks s) ∙ is)).fuse (false_from_ne_true (shade_meaning meaning s).down up) }
 
   module _ (n : Node) (note : GroupNode) (told : Bool) (s : Shade R) where
     -- disks that crashed, of which nothing is known any more

@@ -1,6 +1,6 @@
 -- What an import asks, and its fact, are one.
-use Rattle.std.proofs.Common.{◌≡◌, ℕ, Bool, ap, sym, ◌∙◌, is_some}
-use Rattle.vx_disk.specs.Shelf.{Each, Image, Meaning}
+use Rattle.std.proofs.Common.{◌≡◌, ap, sym, ◌∙◌, is_some}
+use Rattle.vx_disk.specs.Shelf.{Meaning}
 use Rattle.vx_config.specs.declared.config.Config.{Config}
 use Rattle.vx_copyfmt.specs.Copies.{copy_at}
 use Rattle.vx_copyfmt.specs.Imports.{Found}

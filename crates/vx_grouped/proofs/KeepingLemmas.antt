@@ -1,5 +1,5 @@
 -- Which blocks of a write a volume has: one block more, and what a read tells of them.
-use Rattle.std.proofs.Common.{◌≡◌, ◌⊎◌, ◌∙◌, ℕ, zero, suc, ◌+◌, ◌-◌, ◌*◌, ◌<◌, ◌≤◌, Bool, false, Some, List, [], ◌++◌, length, take, drop, slice_get, slice_set, bytes_eq, ap, sym, refl, subst, inl, inr, arith}
+use Rattle.std.proofs.Common.{◌≡◌, ◌⊎◌, ◌∙◌, ℕ, zero, suc, ◌+◌, ◌-◌, ◌*◌, ◌<◌, ◌≤◌, Bool, false, Some, List, ◌++◌, length, take, drop, slice_get, slice_set, bytes_eq, ap, sym, refl, subst, inl, inr, arith}
 use Rattle.std.proofs.lemmas.List.{take_at}
 use Rattle.vx_model.specs.Content.{block_of}
 use Rattle.vx_model.proofs.Lists.{get-set_other, get-set_same, length-set}

@@ -14,7 +14,6 @@ use Rattle.vx_history.specs.Groups.{GroupNode}
 use Rattle.vx_history.specs.World.{Node}
 use Rattle.vx_config.specs.Changes.{Matched, live_again}
 use Rattle.vx_config.specs.Table.{greatest}
-use Rattle.vx_config.specs.declared.config.Config.{Config}
 use Rattle.vx_group.specs.Dets.{DetStops}
 use Rattle.vx_watched.specs.Since.{CalledSince}
 use Rattle.vx_group.specs.declared.group_core.GroupCore.{GroupCore}

@@ -1,11 +1,10 @@
 -- What a call makes of a configuration, place by place, from what it makes of frames, disks and states.
-use Rattle.std.proofs.Common.{◌≡◌, ◌⊎◌, inl, inr, ℕ, zero, suc, ◌<◌, Bool, true, false, IsTrue, Option, Some, None, List, [], ◌∷◌, length, refl, sym, ◌∙◌, ap, subst, arith}
-use Rattle.std.specs.Prelude.{◌||◌, is_some, map, slice_get}
+use Rattle.std.proofs.Common.{◌≡◌, ◌⊎◌, inl, inr, ℕ, zero, suc, ◌<◌, Bool, true, false, Option, Some, None, List, [], ◌∷◌, length, refl, sym, ◌∙◌, ap, subst, arith}
+use Rattle.std.specs.Prelude.{◌||◌, is_some, slice_get}
 use Rattle.std.specs.List.{list_any}
 use Rattle.std.proofs.lemmas.Bool.{cases_lt, eqb-true}
-use Rattle.std.proofs.lemmas.Option.{slice_get_past}
+use Rattle.std.proofs.lemmas.Option.{same_Some, slice_get_past}
 use Rattle.vx_model.specs.declared.site.PlexState.{PlexState}
-use Rattle.vx_model.specs.declared.site.PlexState.TheVariants.{Active, Clean, Stale}
 use Rattle.vx_disk.specs.Counts.{Rose}
 use Rattle.vx_disk.specs.Shelf.{Meaning}
 use Rattle.vx_config.specs.Changes.{Matched}
@@ -24,7 +23,7 @@ use Rattle.vx_volume.specs.Volumes.{PlexBlamed}
 use Rattle.vx_kept.specs.Keeping.{frame_at}
 use Rattle.vx_kept.proofs.Chosen.{frames_volumes}
 use Rattle.vx_kept.proofs.Frames.{SameOne, SamePlex, SameVolume, same_of}
-use Rattle.vx_group.specs.Loses.{AnyBlamed, LosesPlexes, SameParts}
+use Rattle.vx_group.specs.Loses.{LosesPlexes, SameParts}
 use Rattle.vx_grouped.specs.ConfigMoves.{AnyRose, ConfigMoves, DiskMoves, LosesSome, PlexMoves, StateMoves, VolumeMoves, none_again}
 use Rattle.vx_grouped.specs.CoreMoves.{BothOn, CoreMoves}
 use Rattle.vx_grouped.specs.StateChanges.{StateStays}
@@ -47,17 +46,14 @@ placed_by P (Some x) (Some y) same each = each x y refl refl
 
 -- ---- disks
 
-one_disk : (d e : DiskEntry) → Some d ≡ Some e → d ≡ e
-one_disk d e is = cc is
-
 pub disk_blocks_at : (ds : List DiskEntry) (k : ℕ) (d : DiskEntry) → slice_get ds k ≡ Some d → blocks_at ds k ≡ d.blocks
 disk_blocks_at [] k d is = absurd (let no_one : None ≡ Some d = is in cc)
-disk_blocks_at (e ∷ ds) zero d is = ap (λ (x : DiskEntry). x.blocks) (one_disk e d is)
+disk_blocks_at (e ∷ ds) zero d is = ap (λ (x : DiskEntry). x.blocks) (same_Some e d is)
 disk_blocks_at (e ∷ ds) (suc k) d is = disk_blocks_at ds k d is
 
 pub disk_failed_at : (ds : List DiskEntry) (k : ℕ) (d : DiskEntry) → slice_get ds k ≡ Some d → failed_at ds k ≡ d.failed
 disk_failed_at [] k d is = absurd (let no_one : None ≡ Some d = is in cc)
-disk_failed_at (e ∷ ds) zero d is = ap (λ (x : DiskEntry). x.failed) (one_disk e d is)
+disk_failed_at (e ∷ ds) zero d is = ap (λ (x : DiskEntry). x.failed) (same_Some e d is)
 disk_failed_at (e ∷ ds) (suc k) d is = disk_failed_at ds k d is
 
 pub rose_as : (m m' : Meaning) (u : ℕ) → m.disk_faults u ≡ m.faults u → m'.disk_faults u ≡ m'.faults u → Rose (m.faults u) (m'.faults u) → Rose (m.disk_faults u) (m'.disk_faults u)
@@ -115,14 +111,11 @@ module _ (By : PlexState → PlexState → Type 0) where
   volume_moves c d v frames each = volume_placed (slice_get c.volumes v) (slice_get d.volumes v) (same_of (slice_get c.volumes v) (slice_get d.volumes v) frames) each
 
 -- where the volumes are the same
-one_plex : (p q : PlexEntry) → Some p ≡ Some q → p ≡ q
-one_plex p q is = cc is
-
 pub volumes_same : (x d : Config) (m m' : Meaning) → d.volumes ≡ x.volumes → (v : ℕ) → Matched (VolumeMoves (StateMoves m m')) (slice_get x.volumes v) (slice_get d.volumes v)
 volumes_same x d m m' same v = volume_moves (StateMoves m m') x d v (frames_volumes d x same v) each
   where
     each : (k : ℕ) (p q : PlexEntry) → plex_at x v k ≡ Some p → plex_at d v k ≡ Some q → StateMoves m m' p.state q.state
-    each k p q at_p at_q = inl (ap (λ (e : PlexEntry). e.state) (one_plex q p (sym at_q ∙ ap (λ (vs : List VolumeEntry). plex_in (slice_get vs v) k) same ∙ at_p)))
+    each k p q at_p at_q = inl (ap (λ (e : PlexEntry). e.state) (same_Some q p (sym at_q ∙ ap (λ (vs : List VolumeEntry). plex_in (slice_get vs v) k) same ∙ at_p)))
 
 -- and disks may have failed alone
 pub fails_alone : (c x d : Config) (m m' : Meaning) → ((u : ℕ) → m.disk_faults u ≡ m.faults u) → ((u : ℕ) → m'.disk_faults u ≡ m'.faults u) → x.disks ≡ c.disks → SameParts x d → MoreFailed m m' c.disks d.disks → d.volumes ≡ x.volumes

@@ -1,22 +1,19 @@
 -- What a detach and an attach make of a configuration.
 use Rattle.std.proofs.Common.{◌≡◌, ◌⊎◌, inl, inr, ℕ, Bool, true, false, IsTrue, Option, Some, None, refl, sym, ◌∙◌, ap, subst}
-use Rattle.std.specs.Prelude.{slice_get}
 use Rattle.std.proofs.lemmas.Bool.{cases_eq}
+use Rattle.std.proofs.lemmas.Option.{same_Some}
 use Rattle.vx_model.specs.declared.site.PlexState.{PlexState}
 use Rattle.vx_model.specs.declared.site.PlexState.TheVariants.{Active, Clean, Stale}
 use Rattle.vx_disk.specs.Shelf.{Meaning}
 use Rattle.vx_config.specs.Changes.{stated, with_state}
 use Rattle.vx_config.specs.declared.config.Config.{Config}
-use Rattle.vx_config.specs.declared.entry.DiskEntry.{DiskEntry}
 use Rattle.vx_config.specs.declared.entry.PlexEntry.{PlexEntry}
-use Rattle.vx_copies.specs.Commits.{MoreFailed}
 use Rattle.vx_layout.specs.Places.{plex_at}
-use Rattle.vx_volume.specs.Plexes.{active, active_or, uses}
-use Rattle.vx_kept.specs.Choice.{live, live_or}
-use Rattle.vx_kept.specs.Keeping.{AllOn, frame_at}
+use Rattle.vx_volume.specs.Plexes.{active, uses}
+use Rattle.vx_kept.specs.Choice.{live}
+use Rattle.vx_kept.specs.Keeping.{AllOn}
 use Rattle.vx_kept.proofs.StateLemmas.{map_one, plex_apart, plex_same, stated_shape}
-use Rattle.vx_group.specs.Loses.{SameParts}
-use Rattle.vx_grouped.specs.ConfigMoves.{AttDone, AttFails, ConfigMoves, DetDone, DetFails, LosesSome, Restated, StateMoves, none_again}
+use Rattle.vx_grouped.specs.ConfigMoves.{AttDone, AttFails, ConfigMoves, DetDone, DetFails, StateMoves, none_again}
 use Rattle.vx_grouped.specs.CoreMoves.{CoreMoves}
 use Rattle.vx_grouped.proofs.MovesLemmas.{config_moves, disk_at, volume_moves}
 use Rattle.vx_grouped.proofs.StateChangeLemmas.{live_state, live_there, on_state, on_there}
@@ -45,12 +42,9 @@ active_state Clean on = let clash : false ≡ true = on in cc
 pub on_by : (c : Config) → AllOn c → (v k : ℕ) (p : PlexEntry) → plex_at c v k ≡ Some p → live_state p.state ≡ true → on_state p.state ≡ true
 on_by c all v k p at live = sym (on_there c v k p at) ∙ all.each v k (live_there c v k p at ∙ live)
 
-one_plex : (p q : PlexEntry) → Some p ≡ Some q → p ≡ q
-one_plex p q is = cc is
-
 state_same : (s : PlexState) (w : Bool) (o : Option PlexEntry) (p : PlexEntry) → map_one (with_state s w) o ≡ Some p → p.state ≡ s
 state_same s w None p is = absurd (let no_one : None ≡ Some p = is in cc)
-state_same s w (Some x) p is = sym (ap (λ (e : PlexEntry). e.state) (one_plex (with_state s w x) p is))
+state_same s w (Some x) p is = sym (ap (λ (e : PlexEntry). e.state) (same_Some (with_state s w x) p is))
 
 -- either it is this plex, or another one
 this_plex : (v p w q : ℕ) → ((w ≡ v) × (q ≡ p)) ⊎ (w ≡ v → q ≡ p → ⊥)

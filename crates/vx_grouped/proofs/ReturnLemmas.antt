@@ -125,10 +125,6 @@ stopped_by c v p is = any_from (λ q. active_or (plex_at c v q)) (plexes_of c v)
 
 -- ---- volumes that are the first ones of others
 
-not_trusted : (b : Bool) → (b ≡ true → ⊥) → b ≡ false
-not_trusted true none = absurd (none refl)
-not_trusted false none = refl
-
 then_extends : (z x c : Config) → Extends z x → Extends x c → length x.volumes ≡ length c.volumes → Extends z c
 then_extends z x c one two same = record {
   volumes = let a = one.volumes in omega (arith, a, same);

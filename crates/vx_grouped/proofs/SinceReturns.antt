@@ -1,5 +1,6 @@
 -- The disks of a site behind an import of them, beside what they were.
-use Rattle.std.proofs.Common.{◌≡◌, ◌∙◌, ◌⊎◌, inl, inr, ℕ, ◌≤◌, Bool, true, false, ap, refl, subst, sym, arith, IsTrue}
+use Rattle.std.proofs.Common.{◌≡◌, ◌∙◌, ◌⊎◌, ℕ, ◌≤◌, Bool, true, false, ap, refl, subst, sym, arith, IsTrue}
+use Rattle.std.proofs.lemmas.Option.{same_Some}
 use Rattle.std.specs.Prelude.{Option, Some, None, IsFalse}
 use Rattle.vx_disk.specs.Causes.{OnDisks, WithDisks}
 use Rattle.vx_disk.specs.Disks.{Crashed, Disks, Untouched, is_set}
@@ -47,12 +48,9 @@ stays_then a b c one two = record {
     between None middle x z was is u = absurd (no_rack a b one.rack x was middle)
     between (Some y) middle x z was is u = two.failing y z middle is u ∙ one.failing x y was middle u
 
-some_same : (a b : Disks) → Some a ≡ Some b → a ≡ b
-some_same a b same = cc
-
 unarmed_set : (m : Meaning) (rack : IsRack m) → IsFalse m.armed → (y : Disks) → m.disks ≡ Some y → is_set y.fuse ≡ true → ⊥
 unarmed_set m rack unarmed y is on =
-    let told : rack.told ≡ y = some_same rack.told y (sym rack.is ∙ is) in
+    let told : rack.told ≡ y = same_Some rack.told y (sym rack.is ∙ is) in
     let off : is_set y.fuse ≡ false = sym (ap (λ (d : Disks). is_set d.fuse) told) ∙ sym rack.armed ∙ unarmed in
     let e : true ≡ false = sym on ∙ off in
     cc
@@ -80,7 +78,7 @@ return_none m = record {
   tells = λ on. on;
   counts = λ d. omega arith;
   rack = refl;
-  told = λ x y was is. fused x y (some_same y x (sym is ∙ was));
+  told = λ x y was is. fused x y (same_Some y x (sym is ∙ was));
 }
   where
     fused : (x y : Disks) → y ≡ x → FailsFused x y
@@ -123,7 +121,7 @@ return_at meaning old s t same it = subst (λ y. ReturnSince old (meaning y)) (s
 with_at : (old new : Option Disks) (P : Disks → Disks → Type 0) → WithDisks old new P → (x y : Disks) → old ≡ Some x → new ≡ Some y → P x y
 with_at None new P it x y was is = let no_one : None ≡ Some x = was in cc
 with_at (Some o) None P it x y was is = absurd it
-with_at (Some o) (Some n) P it x y was is = subst (λ (a : Disks). P a y) (some_same o x was) (subst (λ (b : Disks). P o b) (some_same n y is) it)
+with_at (Some o) (Some n) P it x y was is = subst (λ (a : Disks). P a y) (same_Some o x was) (subst (λ (b : Disks). P o b) (same_Some n y is) it)
 
 pub return_fell : (a b : Meaning) (pick : ℕ) → IsRack b → Stopped a b → OnDisks a.disks b.disks (Crashed a.size pick) → ReturnSince a b
 return_fell a b pick rack stopped on = unset a b rack stopped.unarmed (record {

@@ -38,7 +38,7 @@ use Rattle.vx_grouped.specs.declared.laid.Laid.{Laid}
 use Rattle.vx_grouped.specs.declared.group_site.GroupSite.TheVariants.{Up, Down}
 use Rattle.vx_grouped.proofs.CalledLemmas.{called_cut, called_up, err_is, goes, blames_device, none_refused}
 use Rattle.vx_grouped.proofs.SettleLemmas.{called_settles, fuse_burned}
-use Rattle.vx_grouped.proofs.SiteLemmas.{up_burned, up_with}
+use Rattle.vx_grouped.proofs.SiteLemmas.{up_with}
 use Rattle.vx_config.specs.Configs.{HasSpelling}
 use Rattle.vx_grouped.specs.ConfigMoves.{LosesSome, VolumeAdded}
 use Rattle.vx_copies.specs.Commits.{MoreFailed}

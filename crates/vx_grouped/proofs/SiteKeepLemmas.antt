@@ -11,9 +11,8 @@ use Rattle.vx_history.specs.World.{Node}
 use Rattle.vx_watched.specs.Since.{CalledSince}
 use Rattle.vx_config.specs.declared.config.Config.{Config}
 use Rattle.vx_grouped.specs.GroupNotes.{IsGroupAt}
-use Rattle.vx_grouped.specs.GroupSites.{GroupUp, idle_disks, laid_disks, laid_below}
+use Rattle.vx_grouped.specs.GroupSites.{GroupUp, laid_disks, laid_below}
 use Rattle.vx_grouped.specs.SiteKeeps.{PlainKeeps, PlainKept}
-use Rattle.vx_grouped.specs.declared.idle.Idle.{Idle}
 use Rattle.vx_grouped.specs.declared.laid.Laid.{Laid}
 use Rattle.vx_grouped.specs.declared.group_site.GroupSite.TheVariants.{Up}
 use Rattle.vx_grouped.proofs.SettleLemmas.{fuse_burned}

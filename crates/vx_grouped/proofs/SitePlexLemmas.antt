@@ -1,6 +1,6 @@
 -- Plexes of a site's group that are detached and attached, by its note.
-use Rattle.std.proofs.Common.{◌≡◌, ◌-◌, ◌&&◌, ℕ, Bool, true, false, IsTrue, length, refl, sym, ◌∙◌, ap, subst}
-use Rattle.std.specs.Prelude.{Option, Some, None, Result, Ok, Err, IfErr, nat_le, nat_lt, not}
+use Rattle.std.proofs.Common.{◌≡◌, ◌-◌, ◌&&◌, ℕ, Bool, true, false, IsTrue, length, refl, sym, ap, subst}
+use Rattle.std.specs.Prelude.{Some, Result, Ok, Err, nat_le, nat_lt, not}
 use Rattle.vx_model.specs.declared.errors.Stop.{Stop}
 use Rattle.vx_model.specs.declared.errors.Stop.TheVariants.{No as Refused}
 use Rattle.vx_model.specs.declared.no.No.{No}

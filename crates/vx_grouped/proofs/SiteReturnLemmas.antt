@@ -1,6 +1,6 @@
 -- A recovery of a site's group, by its note.
 use Rattle.std.proofs.Common.{⊎_elim, ◌≡◌, ◌⊎◌, inl, inr, ℕ, zero, suc, ◌<◌, Bool, true, false, List, [], ◌∷◌, length, IsTrue, IsFalse, refl, sym, ◌∙◌, ap, subst, arith, not}
-use Rattle.std.proofs.lemmas.Bool.{both_ways}
+use Rattle.std.proofs.lemmas.Bool.{both_ways, false_from_ne_true}
 use Rattle.std.specs.Prelude.{if◌then◌else◌, slice_get, Option, Some, None, Ok, Err}
 use Rattle.std.proofs.lemmas.Option.{slice_get_within}
 use Rattle.vx_model.specs.declared.errors.Stop.{Stop}
@@ -113,10 +113,6 @@ none_can m none = record {
   one = λ i j readable x each_i each_j is. absurd (none.leaves 0 0 (i 0 0) (each_i 0 0));
   plain = λ i readable x each is. absurd (none.leaves 0 0 (i 0 0) (each 0 0));
 }
-
-pub is_up : (down : Bool) → (IsTrue down → ⊥) → IsFalse down
-is_up true never = absurd (never refl)
-is_up false never = refl
 
 frame_blocks : (o : Option VolumeEntry) → blocks_or_none (frame_or o) ≡ blocks_or_none o
 unfolding frame
@@ -321,7 +317,7 @@ module _ {R : Type 0} {g : Ghosts R} (n : Node) (note : GroupNode) (racks : (s :
     had_away = record { is = away.away.config; spells = away.spells }
 
     keeps_fuse : (m : Meaning) → CalledSince (shade_meaning g.meaning rack) m → (IsTrue m.down → ⊥) → KeepsFuse (shade_meaning g.meaning rack) m
-    keeps_fuse m since still = record { goes = λ o k was is. (since.told o k was is).fuse (is_up m.down still) }
+    keeps_fuse m since still = record { goes = λ o k was is. (since.told o k was is).fuse (false_from_ne_true m.down still) }
 
     pub imported_up : (group : Laid R g) → CalledSince (shade_meaning g.meaning rack) (laid_disks group) → TellsLess (g.meaning (rack_of rack)) (laid_below group) → HasSpelling group.core.inner.config
         → ((last : Config) → AwayLies n note last (shade_meaning g.meaning rack) → GroupReturns n note last (shade_meaning g.meaning rack) group.core (laid_disks group)) → ImportsFrom n note (shade_meaning g.meaning rack) (Up group) (Ok tt)
@@ -378,7 +374,7 @@ module _ {R : Type 0} {g : Ghosts R} (n : Node) (note : GroupNode) (racks : (s :
                 still (fuse_burned n.fuse (shade_meaning g.meaning rack) (shade_meaning g.meaning middle) since.unarmed away.fuse)
                 (subst (λ (t : Bool). IsLit (note_dimmed (not t) note) (g.meaning (rack_of middle)).tells (shade_meaning g.meaning middle)) (sym early) lit_middle) agreed,
             inr (keeps_fuse (shade_meaning g.meaning middle) since still),
-            why_away middle (is_up (shade_meaning g.meaning rack).down away.up) (λ d. refl) (λ tells. sym since.tells ∙ tells) (never_stops (early_up stop early)),
+            why_away middle (false_from_ne_true (shade_meaning g.meaning rack).down away.up) (λ d. refl) (λ tells. sym since.tells ∙ tells) (never_stops (early_up stop early)),
           ))
 
       module _ (fallen : Shade R) (falls : TellsLess (g.meaning (rack_of middle)) (g.meaning (rack_of fallen))) (fell : AreStopped (shade_meaning g.meaning fallen)) (counts : (d : ℕ) → (shade_meaning g.meaning fallen).disk_faults d ≡ (shade_meaning g.meaning middle).disk_faults d) (kept : ReturnSince (shade_meaning g.meaning middle) (shade_meaning g.meaning fallen))
@@ -414,7 +410,7 @@ module _ {R : Type 0} {g : Ghosts R} (n : Node) (note : GroupNode) (racks : (s :
                   (both_ways (shade_meaning g.meaning new).down up) (unarmed_any n.fuse (shade_meaning g.meaning new) (armed ∙ fell.unarmed))
                   (λ bright told. alike.contents.tells ∙ lit_fell (stops_early stop) refl bright (rises told)) agreed,
               inl (armed ∙ fell.unarmed),
-              why_away new (is_up (shade_meaning g.meaning rack).down away.up) (λ d. alike.counts.disk_faults d ∙ counts d) (λ tells. tells_rack (sym alike.contents.tells ∙ tells)) (never_stops off),
+              why_away new (false_from_ne_true (shade_meaning g.meaning rack).down away.up) (λ d. alike.counts.disk_faults d ∙ counts d) (λ tells. tells_rack (sym alike.contents.tells ∙ tells)) (never_stops off),
             ))
 
         -- the fuse ran out in it, so that it had begun to write

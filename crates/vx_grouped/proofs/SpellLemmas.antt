@@ -1,8 +1,8 @@
 -- A configuration that differs from one with a spelling in flags, states and serials alone has one.
-use Rattle.std.proofs.Common.{◌≡◌, ℕ, zero, suc, ◌≤◌, Bool, true, false, Option, Some, None, List, [], ◌∷◌, length, refl, sym, ◌∙◌, ap, subst, arith}
-use Rattle.std.specs.Prelude.{is_some, map, slice_get}
+use Rattle.std.proofs.Common.{◌≡◌, ℕ, suc, false, Option, Some, None, List, [], ◌∷◌, length, refl, sym, ap, subst, arith}
+use Rattle.std.proofs.lemmas.Option.{same_Some}
+use Rattle.std.specs.Prelude.{map, slice_get}
 use Rattle.std.specs.List.{AllByRecursion}
-use Rattle.vx_model.specs.declared.limits.TheConstants.{MOST_DISKS, MOST_VOLUMES}
 use Rattle.vx_model.specs.declared.site.PlexState.TheVariants.{Stale}
 use Rattle.vx_config.specs.Changes.{lost_as, with_state}
 use Rattle.vx_config.specs.Configs.{HasSpelling}
@@ -16,6 +16,7 @@ use Rattle.vx_config.specs.declared.entry.VolumeEntry.{VolumeEntry}
 use Rattle.vx_copies.specs.Marks.{blocks_at}
 use Rattle.vx_kept.specs.Cleans.{at_serial}
 use Rattle.vx_kept.specs.Keeping.{frame, frame_at, frame_or}
+use Rattle.vx_kept.proofs.Frames.{heads_of}
 use Rattle.vx_group.specs.Loses.{SameParts}
 
 -- ---- disks
@@ -61,15 +62,12 @@ plex_like : (p q : PlexEntry) → with_state Stale false q ≡ with_state Stale 
 unfolding plex_form state_form flag_form
 plex_like p q same fits = (tt, (tt, subst (λ ss. (counted 0 255 subdisk_form).Fits ss) (sym (ap (λ (e : PlexEntry). e.subdisks) same)) fits.1.1))
 
-heads : (p q : PlexEntry) (ps qs : List PlexEntry) → q ∷ qs ≡ p ∷ ps → (q ≡ p) × (qs ≡ ps)
-heads p q ps qs is = (cc is, cc is)
-
 plexes_like : (ps qs : List PlexEntry) → map (with_state Stale false) qs ≡ map (with_state Stale false) ps → AllByRecursion plex_form.Fits ps → AllByRecursion plex_form.Fits qs × (length qs ≡ length ps)
 plexes_like [] [] is fits = (tt, refl)
 plexes_like [] (q ∷ qs) is fits = absurd (let no_one : with_state Stale false q ∷ map (with_state Stale false) qs ≡ [] = is in cc)
 plexes_like (p ∷ ps) [] is fits = absurd (let no_one : [] ≡ with_state Stale false p ∷ map (with_state Stale false) ps = is in cc)
 plexes_like (p ∷ ps) (q ∷ qs) is fits =
-    let both = heads (with_state Stale false p) (with_state Stale false q) (map (with_state Stale false) ps) (map (with_state Stale false) qs) is in
+    let both = heads_of (with_state Stale false p) (with_state Stale false q) (map (with_state Stale false) ps) (map (with_state Stale false) qs) is in
     let rest = plexes_like ps qs both.1 fits.1 in
     ((plex_like p q both.0 fits.0, rest.0), let long = rest.1 in omega (arith, long))
 
@@ -96,16 +94,13 @@ volume_like v u is fits =
       ),
     )
 
-one_frame : (a b : VolumeEntry) → Some b ≡ Some a → b ≡ a
-one_frame a b is = cc is
-
 pub volumes_like : (vs us : List VolumeEntry) → ((k : ℕ) → frame_or (slice_get us k) ≡ frame_or (slice_get vs k)) → AllByRecursion volume_form.Fits vs → AllByRecursion volume_form.Fits us × (length us ≡ length vs)
 volumes_like [] [] same fits = (tt, refl)
 volumes_like [] (u ∷ us) same fits = absurd (let no_one : Some (frame u) ≡ None = same 0 in cc)
 volumes_like (v ∷ vs) [] same fits = absurd (let no_one : None ≡ Some (frame v) = same 0 in cc)
 volumes_like (v ∷ vs) (u ∷ us) same fits =
     let rest = volumes_like vs us (λ k. same (suc k)) fits.1 in
-    ((volume_like v u (one_frame (frame v) (frame u) (same 0)) fits.0, rest.0), let long = rest.1 in omega (arith, long))
+    ((volume_like v u (same_Some (frame u) (frame v) (same 0)) fits.0, rest.0), let long = rest.1 in omega (arith, long))
 
 -- ---- configurations
 

@@ -19,16 +19,10 @@ use Rattle.vx_group.specs.Resumes.{CanImport}
 use Rattle.vx_group.proofs.AgainLemmas.{goes_can}
 use Rattle.vx_grouped.specs.SiteEnds.{stops_down}
 use Rattle.vx_grouped.specs.SiteReturns.{stops_early}
-use Rattle.vx_grouped.proofs.CalledLemmas.{err_is}
+use Rattle.vx_grouped.proofs.CalledLemmas.{blames_device, err_is}
 
--- it names a device, or says that the disks are down
-abbrev is_blame : No → Bool
-is_blame (Device disk) = true
-is_blame IsOff = true
-is_blame other = false
-
-not_blame : (why x : No) → why ≡ x → is_blame x ≡ false → is_blame why ≡ true → ⊥
-not_blame why x same off on = let clash : true ≡ false = sym (subst (λ (y : No). is_blame y ≡ true) same on) ∙ off in never_both clash
+not_blame : (why x : No) → why ≡ x → blames_device x ≡ false → blames_device why ≡ true → ⊥
+not_blame why x same off on = let clash : true ≡ false = sym (subst (λ (y : No). blames_device y ≡ true) same on) ∙ off in never_both clash
   where
     never_both : true ≡ false → ⊥
     never_both clash = cc
@@ -40,7 +34,7 @@ answer_is why x r is (inl none) = let clash : Refused why ≡ OutOfMemory = err_
     never_memory y clash = cc
 answer_is why x r is (inr other) = let same : Refused why ≡ Refused x = err_is r (Refused why) (Refused x) is other in cc
 
-never_answer : (readable : ℕ → Bool) (o : ImportOutcome Config) (why : No) (r : Result (Config × ℕ) Stop) → r ≡ Err (Refused why) → is_blame why ≡ true → IsAnswer (answer_to readable o) r → ⊥
+never_answer : (readable : ℕ → Bool) (o : ImportOutcome Config) (why : No) (r : Result (Config × ℕ) Stop) → r ≡ Err (Refused why) → blames_device why ≡ true → IsAnswer (answer_to readable o) r → ⊥
 never_answer readable (Found x) why r is on (inl none) = not_blame why NoConfig (answer_is why NoConfig r is (inl none)) refl on
 never_answer readable (Found x) why r is on (inr done) = never_done (sym is ∙ done)
   where
@@ -51,7 +45,7 @@ never_answer readable NothingFound why r is on it = not_blame why NoConfig (answ
 never_answer readable (Damaged d block stored computed) why r is on it = not_blame why (IsDamaged d block stored computed) (answer_is why (IsDamaged d block stored computed) r is it) refl on
 never_answer readable (Format version) why r is on it = not_blame why (HasFormat version) (answer_is why (HasFormat version) r is it) refl on
 
-early_blames : (m m' : Meaning) (why : No) → is_blame why ≡ true → Goes Nothing m m' → StopsEarly m m' (Refused why) → DeviceCause m m' why
+early_blames : (m m' : Meaning) (why : No) → blames_device why ≡ true → Goes Nothing m m' → StopsEarly m m' (Refused why) → DeviceCause m m' why
 early_blames m m' why on goes (inl down) = subst (λ (x : No). DeviceCause m m' x) (sym down.1) (goes.falls down.0)
 early_blames m m' why on goes (inr (inl small)) = absurd (not_blame why NoConfig small.1 refl on)
 early_blames m m' why on goes (inr (inr (inl imported))) =
@@ -61,7 +55,7 @@ early_blames m m' why on goes (inr (inr (inr not))) = elim not.refuses [
   | inr none ↦ absurd (not_blame why NoConfig none.1 refl on)
 ]
 
-blames : (m m' : Meaning) (why : No) → is_blame why ≡ true → ImportStops m m' (Refused why) → DeviceCause m m' why
+blames : (m m' : Meaning) (why : No) → blames_device why ≡ true → ImportStops m m' (Refused why) → DeviceCause m m' why
 blames m m' why on (inl early) = early_blames m m' why on early.0 early.1
 blames m m' why on (inr late) = elim late.1 [
   | inl cause ↦ cause

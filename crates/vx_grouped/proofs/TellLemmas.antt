@@ -1,5 +1,5 @@
 -- What disks by themselves tell an import by logs.
-use Rattle.std.proofs.Common.{◌≡◌, ⊎_elim, ℕ, Bool, List, true, false, refl, sym}
+use Rattle.std.proofs.Common.{◌≡◌, ⊎_elim, Bool, true, false, refl, sym}
 use Rattle.vx_disk.specs.Racks.{Alike, Stopped}
 use Rattle.vx_disk.specs.Shelf.{Goes, Meaning, Nothing}
 use Rattle.vx_group.specs.Imports.{ImportStops}

@@ -1,6 +1,5 @@
 -- A rack inside what is known of its contents, with an account of whether it tells.
 use Rattle.std.proofs.Common.{◌≡◌, ◌∙◌, Bool, IsTrue, refl, sym, ap, subst}
-use Rattle.vx_disk.specs.Racks.{Alike, Stopped}
 use Rattle.vx_disk.specs.Shelf.{Meaning}
 use Rattle.vx_disk.specs.declared.shelf.Shelf.{Ghosts}
 use Rattle.vx_history.specs.Groups.{GroupNode}

@@ -1,6 +1,7 @@
 -- Why an import is refused.
 use Rattle.std.proofs.Common.{◌≡◌, ◌⊎◌, inl, inr, ℕ, zero, suc, ◌<◌, Bool, true, false, IsTrue, IsFalse, List, refl, sym, ◌∙◌, ap, subst, arith}
-use Rattle.std.specs.Prelude.{◌||◌, Option, Some, None, Result, Ok, Err, if◌then◌else◌}
+use Rattle.std.proofs.lemmas.Option.{same_Some}
+use Rattle.std.specs.Prelude.{◌||◌, Option, Some, None, Ok, Err, if◌then◌else◌}
 use Rattle.vx_model.specs.declared.errors.Stop.{Stop}
 use Rattle.vx_model.specs.declared.errors.Stop.TheVariants.{No as Refused, OutOfMemory}
 use Rattle.vx_model.specs.declared.no.Counted.TheVariants.{Number as Numbers}
@@ -8,7 +9,7 @@ use Rattle.vx_model.specs.declared.no.No.{No}
 use Rattle.vx_model.specs.declared.no.No.TheVariants.{Damaged as IsDamaged, Device, Down as IsOff, Format as HasFormat, Limit, Missing as Lacks, NoConfig}
 use Rattle.vx_disk.specs.Causes.{DeviceCause}
 use Rattle.vx_disk.specs.Counts.{Rose}
-use Rattle.vx_disk.specs.Shelf.{Each, Image, Lawful, Meaning}
+use Rattle.vx_disk.specs.Shelf.{Each, Image, Meaning}
 use Rattle.vx_config.specs.Table.{greatest}
 use Rattle.vx_config.specs.declared.config.Config.{Config}
 use Rattle.vx_copyfmt.specs.Copies.{Body, Copy, Differs, Holds}
@@ -16,11 +17,9 @@ use Rattle.vx_copyfmt.specs.Imports.{ImportOutcome, Found, Missing, NoConfig as 
 use Rattle.vx_copies.specs.Answers.{Imported, IsAnswer, answer_to}
 use Rattle.vx_copies.specs.Bodies.{failed_in}
 use Rattle.vx_copies.specs.Looking.{on_shelf}
-use Rattle.vx_kept.specs.Facts.{is_found}
-use Rattle.vx_kept.specs.Groups.{found, found_by}
+use Rattle.vx_kept.specs.Groups.{found_by}
 use Rattle.vx_kept.specs.Trusts.{is_plain}
-use Rattle.vx_group.specs.Imports.{ImportStops, StopsEarly}
-use Rattle.vx_group.specs.Resumes.{CanImport}
+use Rattle.vx_group.specs.Imports.{ImportStops}
 use Rattle.vx_grouped.specs.SiteReturns.{ImportWhy}
 use Rattle.vx_grouped.proofs.CalledLemmas.{err_is}
 
@@ -30,16 +29,13 @@ or_off : (a b : Bool) → a || b ≡ false → b ≡ false
 or_off true b is = let clash : true ≡ false = is in cc
 or_off false b is = is
 
-some_is : (a b : ℕ) → Some a ≡ Some b → a ≡ b
-some_is a b is = cc
-
 missing_unread : (failed readable : ℕ → Bool) (n d : ℕ) → missing failed readable n ≡ Some d → (d < n) × (readable d ≡ false)
 missing_unread failed readable zero d is = absurd (let no_one : None ≡ Some d = is in cc)
 missing_unread failed readable (suc n) d is = by (missing_unread failed readable n d) (missing failed readable n) refl is
   where
     last : (t : Bool) → failed n || readable n ≡ t → (if t then None else Some n) ≡ Some d → (d < suc n) × (readable d ≡ false)
     last true on same = absurd (let no_one : None ≡ Some d = same in cc)
-    last false off same = let here : n ≡ d = some_is n d same in (omega (arith, here), subst (λ (k : ℕ). readable k ≡ false) here (or_off (failed n) (readable n) off))
+    last false off same = let here : n ≡ d = same_Some n d same in (omega (arith, here), subst (λ (k : ℕ). readable k ≡ false) here (or_off (failed n) (readable n) off))
 
     by : (missing failed readable n ≡ Some d → (d < n) × (readable d ≡ false)) → (o : Option ℕ) → missing failed readable n ≡ o → first_of o (if failed n || readable n then None else Some n) ≡ Some d → (d < suc n) × (readable d ≡ false)
     by rest None none same = last (failed n || readable n) refl same

@@ -1,5 +1,5 @@
 -- A dirty region log that begins without marks.
-use Rattle.std.proofs.Common.{◌≡◌, ◌∙◌, inl, inr, ⊎_elim, ℕ, ◌+◌, ◌-◌, ◌<◌, ◌≤◌, Bool, true, false, Option, Some, None, List, refl, sym, ap, subst, arith}
+use Rattle.std.proofs.Common.{◌≡◌, ◌∙◌, ⊎_elim, ℕ, ◌+◌, ◌-◌, ◌<◌, ◌≤◌, true, false, Option, Some, None, List, refl, sym, ap, subst, arith}
 use Rattle.vx_bitmap.specs.Maps.{MapOn, map_block_count}
 use Rattle.vx_config.specs.Checks.{blocks_of as blocks_in, is_sound}
 use Rattle.vx_config.specs.declared.config.Config.{Config}

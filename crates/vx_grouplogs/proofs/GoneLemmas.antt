@@ -1,6 +1,7 @@
 -- Logs that a call took out of memory: of calls in a row, behind marks, and behind marks that were taken off.
 use Rattle.std.proofs.Common.{◌≡◌, ◌∙◌, ◌⊎◌, inl, inr, ℕ, ◌≤◌, Bool, true, false, Option, Some, None, IsTrue, refl, sym, ap, subst, is_some}
-use Rattle.std.specs.Prelude.{Result, Ok, Err}
+use Rattle.std.proofs.lemmas.Option.{same_Some}
+use Rattle.std.specs.Prelude.{Err}
 use Rattle.vx_config.specs.declared.config.Config.{Config}
 use Rattle.vx_config.specs.declared.entry.LogEntry.{LogEntry}
 use Rattle.vx_config.specs.declared.entry.Subdisk.{Subdisk}
@@ -132,16 +133,10 @@ drops_maps c v l k m m' same gone down = record { gone = λ log s is has none. i
 
 -- ---- marks
 
-same_dirty : (d e : Dirty) → Some d ≡ Some e → d ≡ e
-same_dirty d e is = cc
-
-same_missed : (f g : Missed) → Some f ≡ Some g → f ≡ g
-same_missed f g is = cc
-
 drl_gone : (first last : ℕ) (lost : Bool) (o n : Option Dirty) (m m' : Meaning) → DrlEnds first last lost o n m m' → (d : Dirty) → o ≡ Some d → n ≡ None → Rose (m.faults d.map.unit) (m'.faults d.map.unit) ⊎ IsTrue m'.down
 drl_gone first last lost None n m m' ends d is none = absurd (let clash : None ≡ Some d = is in cc)
 drl_gone first last lost (Some e) (Some n) m m' ends d is none = absurd (let clash : Some n ≡ None = none in cc)
-drl_gone first last lost (Some e) None m m' ends d is none = inl (subst (λ (x : Dirty). Rose (m.faults x.map.unit) (m'.faults x.map.unit)) (same_dirty e d is) ends.1)
+drl_gone first last lost (Some e) None m m' ends d is none = inl (subst (λ (x : Dirty). Rose (m.faults x.map.unit) (m'.faults x.map.unit)) (same_Some e d is) ends.1)
 
 drl_none : (first last : ℕ) (lost : Bool) (o n : Option Dirty) (m m' : Meaning) → DrlEnds first last lost o n m m' → is_some n ≡ true → is_some o ≡ true
 drl_none first last lost None None m m' ends has = has
@@ -151,7 +146,7 @@ drl_none first last lost (Some d) n m m' ends has = refl
 fmr_gone : (those : ℕ → Bool) (anew : Bool) (first last : ℕ) (lost : Bool) (o n : Option Missed) (m m' : Meaning) → FmrEnds those anew first last lost o n m m' → (f : Missed) → o ≡ Some f → n ≡ None → Rose (m.faults f.map.unit) (m'.faults f.map.unit) ⊎ IsTrue m'.down
 fmr_gone those anew first last lost None n m m' ends f is none = absurd (let clash : None ≡ Some f = is in cc)
 fmr_gone those anew first last lost (Some g) (Some n) m m' ends f is none = absurd (let clash : Some n ≡ None = none in cc)
-fmr_gone those anew first last lost (Some g) None m m' ends f is none = inl (subst (λ (x : Missed). Rose (m.faults x.map.unit) (m'.faults x.map.unit)) (same_missed g f is) ends.1)
+fmr_gone those anew first last lost (Some g) None m m' ends f is none = inl (subst (λ (x : Missed). Rose (m.faults x.map.unit) (m'.faults x.map.unit)) (same_Some g f is) ends.1)
 
 fmr_none : (those : ℕ → Bool) (anew : Bool) (first last : ℕ) (lost : Bool) (o n : Option Missed) (m m' : Meaning) → FmrEnds those anew first last lost o n m m' → is_some n ≡ true → is_some o ≡ true
 fmr_none those anew first last lost None None m m' ends has = has
@@ -178,7 +173,7 @@ noted_down those anew first last o n m m' other none = absurd none
 ending_gone : (gone : Bool) (o n : Option Dirty) (m m' : Meaning) → DrlEnding gone o n m m' → (d : Dirty) → o ≡ Some d → n ≡ None → Rose (m.faults d.map.unit) (m'.faults d.map.unit) ⊎ IsTrue m'.down
 ending_gone gone None n m m' ends d is none = absurd (let clash : None ≡ Some d = is in cc)
 ending_gone gone (Some e) (Some n) m m' ends d is none = absurd (let clash : Some n ≡ None = none in cc)
-ending_gone gone (Some e) None m m' ends d is none = inl (subst (λ (x : Dirty). Rose (m.faults x.map.unit) (m'.faults x.map.unit)) (same_dirty e d is) ends.1)
+ending_gone gone (Some e) None m m' ends d is none = inl (subst (λ (x : Dirty). Rose (m.faults x.map.unit) (m'.faults x.map.unit)) (same_Some e d is) ends.1)
 
 ending_none : (gone : Bool) (o n : Option Dirty) (m m' : Meaning) → DrlEnding gone o n m m' → is_some n ≡ true → is_some o ≡ true
 ending_none gone None None m m' ends has = has

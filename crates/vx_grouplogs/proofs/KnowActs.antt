@@ -1,10 +1,9 @@
 -- What the maps of missed regions of a volume know beside calls of a group, and beside calls on logs.
-use Rattle.std.proofs.Common.{◌≡◌, ◌∙◌, ℕ, ◌/◌, Bool, true, false, Option, Some, None, List, IsTrue, refl, sym, ap, subst, arith}
+use Rattle.std.proofs.Common.{◌≡◌, ◌∙◌, ℕ, Bool, true, Some, None, List, IsTrue, sym, ap, subst}
 use Rattle.vx_config.specs.Checks.{blocks_of as blocks_in, is_sound}
 use Rattle.vx_config.specs.declared.config.Config.{Config}
 use Rattle.vx_disk.specs.Shelf.{Goes, Meaning, Nothing, Values}
-use Rattle.vx_fmr.specs.Missed.{Missed, has_missed}
-use Rattle.vx_groupmaps.specs.Between.{ReadsOr}
+use Rattle.vx_fmr.specs.Missed.{has_missed}
 use Rattle.vx_groupmaps.specs.Knowing.{MapsKnowBy}
 use Rattle.vx_groupmaps.specs.Missing.{or_spared}
 use Rattle.vx_groupmaps.proofs.BetweenLemmas.{goes_reads}

@@ -1,9 +1,9 @@
 -- The logs and the plexes of a volume in two configurations in which it lies alike.
-use Rattle.std.proofs.Common.{◌≡◌, ◌∙◌, ℕ, ◌*◌, ◌≤◌, Option, Some, None, List, IsTrue, false, length, refl, sym, ap, subst, arith}
+use Rattle.std.proofs.Common.{◌≡◌, ◌∙◌, ℕ, ◌*◌, ◌≤◌, Option, Some, None, false, refl, sym, ap, subst, arith}
 use Rattle.std.specs.Prelude.{is_some, map, slice_get}
 use Rattle.std.specs.Option.{option_map}
 use Rattle.std.proofs.lemmas.List.{length-map}
-use Rattle.std.proofs.lemmas.Option.{slice_get-map}
+use Rattle.std.proofs.lemmas.Option.{same_Some, slice_get-map}
 use Rattle.vx_config.specs.Changes.{with_state}
 use Rattle.vx_config.specs.Checks.{blocks_of as blocks_in, plexes_of, plexes_or}
 use Rattle.vx_config.specs.declared.config.Config.{Config}
@@ -14,12 +14,10 @@ use Rattle.vx_config.specs.declared.entry.VolumeEntry.{VolumeEntry}
 use Rattle.vx_config.specs.declared.entry.VolumeLog.{VolumeLog}
 use Rattle.vx_config.specs.declared.entry.VolumeLog.TheVariants.{Drl as DrlLog, Fmr as FmrLog}
 use Rattle.vx_bitmap.specs.Maps.{Map}
-use Rattle.vx_drl.specs.Dirty.{Dirty}
-use Rattle.vx_fmr.specs.Missed.{FmrLoaded, Missed}
 use Rattle.vx_kept.specs.Keeping.{frame, frame_at, frame_or}
 use Rattle.vx_kept.specs.LogRuns.{log_place, run_or}
 use Rattle.vx_layout.specs.Places.{HasBlock, has_plex, plex_in}
-use Rattle.vx_logs.specs.Held.{DrlFits, LogsFit}
+use Rattle.vx_logs.specs.Held.{LogsFit}
 use Rattle.vx_logs.specs.declared.logs.Logs.{Logs}
 use Rattle.vx_maplog.specs.Logs.{LogLoaded, log_blocks, log_of, maps_in_log}
 use Rattle.vx_model.specs.Sizes.{map_blocks, regions_of as regions_in}
@@ -35,16 +33,13 @@ pub record SameRun (o : Option LogEntry) (e : LogEntry) : Type 0 where
   pub start : entry.start ≡ e.start
   pub blocks : entry.blocks ≡ e.blocks
 
-one_run : (s t : Subdisk) → Some s ≡ Some t → s ≡ t
-one_run s t is = cc
-
 same_run : (o p : Option LogEntry) (e : LogEntry) → run_or o ≡ run_or p → p ≡ Some e → SameRun o e
 same_run o p e same at = by o refl (same ∙ ap run_or at)
   where
     by : (q : Option LogEntry) → o ≡ q → run_or q ≡ run_or (Some e) → SameRun o e
     by None is none = absurd cc
     by (Some f) is run =
-        let one = one_run (record { disk = f.disk; start = f.start; blocks = f.blocks }) (record { disk = e.disk; start = e.start; blocks = e.blocks }) run in
+        let one = same_Some {A = Subdisk} (record { disk = f.disk; start = f.start; blocks = f.blocks }) (record { disk = e.disk; start = e.start; blocks = e.blocks }) run in
         record { entry = f; is = is; disk = ap (λ (s : Subdisk). s.disk) one; start = ap (λ (s : Subdisk). s.start) one; blocks = ap (λ (s : Subdisk). s.blocks) one }
 
 pub run_in : (c d : Config) (v : ℕ) (log : VolumeLog) → log_place d v log ≡ log_place c v log → (e : LogEntry) → log_of c v log ≡ Some e → SameRun (log_of d v log) e

@@ -1,8 +1,6 @@
 -- The log of missed regions of a volume as it begins anew, beside its dirty region log.
-use Rattle.std.proofs.Common.{◌≡◌, ◌∙◌, ◌⊎◌, inl, inr, ℕ, ◌+◌, ◌-◌, ◌/◌, ◌%◌, ◌<◌, ◌≤◌, Bool, true, false, Option, Some, None, List, IsTrue, ⊎_elim, refl, sym, ap, subst, arith}
-use Rattle.std.specs.Prelude.{◌&&◌, ◌||◌}
-use Rattle.vx_bitmap.specs.Bits.{is_marked}
-use Rattle.vx_bitmap.specs.Maps.{Map, MapOn, map_block_count}
+use Rattle.std.proofs.Common.{◌≡◌, ◌∙◌, ◌⊎◌, inl, inr, ℕ, ◌+◌, ◌-◌, ◌/◌, ◌<◌, ◌≤◌, Bool, true, false, Option, Some, None, List, IsTrue, ⊎_elim, refl, sym, ap, subst, arith}
+use Rattle.vx_bitmap.specs.Maps.{MapOn, map_block_count}
 use Rattle.vx_config.specs.Checks.{blocks_of as blocks_in, is_sound}
 use Rattle.vx_config.specs.declared.config.Config.{Config}
 use Rattle.vx_config.specs.declared.entry.LogEntry.{LogEntry}
@@ -13,12 +11,10 @@ use Rattle.vx_disk.proofs.Runs.{both_Goes, weaker}
 use Rattle.vx_drl.specs.Dirty.{Dirty, is_dirty}
 use Rattle.vx_fmr.specs.Missed.{FmrLoaded, Missed, has_missed}
 use Rattle.vx_groupmaps.specs.Knowing.{MapsKnow}
-use Rattle.vx_groupmaps.specs.Missing.{HoldMissed, OnMaps, none_spared}
+use Rattle.vx_groupmaps.specs.Missing.{HoldMissed, OnMaps}
 use Rattle.vx_groupmaps.proofs.MapPlaces.{maps_on}
-use Rattle.vx_kept.specs.Choice.{live}
 use Rattle.vx_kept.specs.Groups.{OnSome}
 use Rattle.vx_kept.specs.Keeping.{AllOn}
-use Rattle.vx_kept.specs.LogRuns.{log_trusted}
 use Rattle.vx_layout.specs.Places.{HasBlock, place}
 use Rattle.vx_logs.specs.Held.{DrlRun, FmrRun, LogsFit, LogsStand, stale}
 use Rattle.vx_logs.specs.Dirtying.{DrlEnds}
@@ -28,13 +24,13 @@ use Rattle.vx_logs.specs.declared.logs.Logs.{Logs}
 use Rattle.vx_logs.proofs.LogLemmas.{log_placed, logs_off}
 use Rattle.vx_logs.proofs.WriteLemmas.{marked_run}
 use Rattle.vx_maplog.specs.Logs.{log_of}
-use Rattle.vx_volume.specs.Plexes.{DisksFit, Inside, active}
+use Rattle.vx_volume.specs.Plexes.{DisksFit}
 use Rattle.vx_wire.specs.Fields.{zero_bytes}
-use Rattle.vx_grouplogs.specs.Covering.{AlikeBut, DiskCovers, MemoryCovers, OnLogs}
+use Rattle.vx_grouplogs.specs.Covering.{OnLogs}
 use Rattle.vx_grouplogs.specs.Mapping.{map_logs}
 use Rattle.vx_grouplogs.specs.On.{ReadsOne, VolumeOn}
 use Rattle.vx_grouplogs.specs.Zeroing.{AreZeros, ZerosIn}
-use Rattle.vx_grouplogs.proofs.CoverLemmas.{alike_stays, mark_stands, plex_stays, region_inside, some_of}
+use Rattle.vx_grouplogs.proofs.CoverLemmas.{alike_stays, mark_stands, plex_stays, region_inside}
 use Rattle.vx_grouplogs.proofs.FreshLemmas.{fresh_active}
 use Rattle.vx_grouplogs.proofs.LogPlaces.{entry_blocks, logs_beside}
 
@@ -50,9 +46,6 @@ zeros_maps c v e m m' is goes = weaker (ZerosIn e.disk e.start e.blocks) (OnMaps
 
 entry_one : (o : Option LogEntry) (e f : LogEntry) → o ≡ Some e → o ≡ Some f → e ≡ f
 entry_one o e f one two = let both : Some e ≡ Some f = sym one ∙ two in cc
-
-pub some_one : {A : Type 0} (x y : A) → Some x ≡ Some y → x ≡ y
-some_one x y is = cc
 
 -- behind them a crash leaves one value of each block of it
 pub maps_settled : (c : Config) (v : ℕ) (e : LogEntry) (f : Missed) (m : Meaning) → log_of c v FmrLog ≡ Some e → map_block_count f.map ≤ e.blocks → FmrLoaded c v f → AreZeros e.disk e.start e.blocks m → Settled m (Run f.map.unit f.map.first (map_block_count f.map))

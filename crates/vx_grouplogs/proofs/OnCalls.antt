@@ -1,21 +1,16 @@
 -- The log of a volume behind its marks, and behind marks that were taken off.
-use Rattle.std.proofs.Common.{◌≡◌, ◌∙◌, ℕ, Bool, true, false, Option, Some, None, IsTrue, refl, sym, subst}
-use Rattle.std.specs.Prelude.{Result, Ok, Err}
+use Rattle.std.proofs.Common.{◌≡◌, ℕ, true, Some, None, IsTrue}
+use Rattle.std.specs.Prelude.{Err}
 use Rattle.vx_config.specs.declared.config.Config.{Config}
 use Rattle.vx_config.specs.declared.entry.VolumeLog.TheVariants.{Drl as DrlLog}
 use Rattle.vx_disk.specs.Shelf.{Meaning}
-use Rattle.vx_drl.specs.Dirty.{Dirty}
-use Rattle.vx_fmr.specs.Missed.{Missed}
 use Rattle.vx_kept.specs.LogRuns.{log_trusted}
-use Rattle.vx_logs.specs.Held.{LogsFit, LogsStand, stale}
-use Rattle.vx_logs.specs.Noting.{FmrEnds}
-use Rattle.vx_logs.specs.Writes.{MarkedLogs, MarksLogs, StaleStill}
+use Rattle.vx_logs.specs.Writes.{MarksLogs}
 use Rattle.vx_logs.specs.declared.logs.Logs.{Logs}
-use Rattle.vx_logs.specs.declared.logs.Lost.{Lost}
 use Rattle.vx_model.specs.declared.no.No.{No}
 use Rattle.vx_model.specs.declared.no.No.TheVariants as refusal
 use Rattle.vx_grouplogs.specs.Clearing.{Clears}
-use Rattle.vx_grouplogs.specs.Covering.{DiskCovers, KeepsOthers, MemoryCovers}
+use Rattle.vx_grouplogs.specs.Covering.{DiskCovers, KeepsOthers}
 use Rattle.vx_grouplogs.specs.On.{VolumeOn}
 
 -- a log that is in memory no more

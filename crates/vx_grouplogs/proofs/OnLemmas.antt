@@ -1,9 +1,8 @@
 -- The log of a volume stands on beside calls that spare it.
-use Rattle.std.proofs.Common.{◌≡◌, ◌∙◌, inl, inr, ℕ, ◌+◌, ◌*◌, ◌-◌, ◌/◌, ◌%◌, ◌<◌, ◌≤◌, Bool, true, false, Option, Some, None, List, length, IsTrue, refl, sym, ap, subst, arith}
-use Rattle.std.proofs.lemmas.Bool.{cases_eq}
+use Rattle.std.proofs.Common.{◌≡◌, ◌∙◌, inl, inr, ℕ, ◌+◌, ◌/◌, ◌%◌, true, false, Option, Some, None, List, length, IsTrue, refl, sym, ap, subst, arith}
 use Rattle.vx_bitmap.proofs.Blocks.{by_block}
 use Rattle.vx_bitmap.specs.Bits.{is_marked}
-use Rattle.vx_bitmap.specs.Maps.{Map, MapOn, map_block_count}
+use Rattle.vx_bitmap.specs.Maps.{Map, MapOn}
 use Rattle.vx_config.specs.Checks.{blocks_of as blocks_in, is_sound}
 use Rattle.vx_config.specs.declared.config.Config.{Config}
 use Rattle.vx_config.specs.declared.entry.LogEntry.{LogEntry}
@@ -22,12 +21,12 @@ use Rattle.vx_logs.specs.declared.logs.Logs.{Logs}
 use Rattle.vx_maplog.specs.Logs.{LogLoaded, log_of}
 use Rattle.vx_volume.specs.Plexes.{DisksFit, InRun, Inside, active}
 use Rattle.vx_volume.specs.Volumes.{OnPlexes}
-use Rattle.vx_grouplogs.specs.Covering.{AlikeBut, DiskCovers, MemoryCovers, OnLogs}
+use Rattle.vx_grouplogs.specs.Covering.{DiskCovers, MemoryCovers, OnLogs}
 use Rattle.vx_grouplogs.specs.Marking.{HoldRegions}
 use Rattle.vx_grouplogs.specs.On.{MayTouch, SparesVolume, VolumeOn}
 use Rattle.vx_grouplogs.proofs.CoverLemmas.{low_of, region_inside, region_low, some_of}
 use Rattle.vx_grouplogs.proofs.LogShape.{fits_same, run_back}
-use Rattle.vx_grouplogs.proofs.LogPlaces.{entry_blocks, log_public, logs_above, logs_beside, map_on}
+use Rattle.vx_grouplogs.proofs.LogPlaces.{entry_blocks, logs_above, logs_beside, map_on}
 
 -- ---- calls that spare the volume
 

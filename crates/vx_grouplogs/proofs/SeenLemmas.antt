@@ -1,5 +1,5 @@
 -- The log of a volume stands on beside calls that leave its blocks alone and show nothing new of the volume.
-use Rattle.std.proofs.Common.{◌≡◌, ◌∙◌, ℕ, ◌+◌, ◌/◌, ◌<◌, true, Some, List, refl, sym, subst, arith}
+use Rattle.std.proofs.Common.{◌≡◌, ◌∙◌, ℕ, ◌+◌, ◌/◌, true, List, refl, sym, subst, arith}
 use Rattle.vx_bitmap.specs.Maps.{Map, MapOn}
 use Rattle.vx_config.specs.Checks.{blocks_of as blocks_in, is_sound}
 use Rattle.vx_config.specs.declared.config.Config.{Config}

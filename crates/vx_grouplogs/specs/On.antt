@@ -1,5 +1,5 @@
 -- What stands of the dirty region log of a volume between the calls of a group.
-use Rattle.std.specs.Prelude.{◌≡◌, ℕ, ◌/◌, Bool, true, false, IsTrue, Option, Some, None, List}
+use Rattle.std.specs.Prelude.{◌≡◌, ℕ, ◌/◌, true, IsTrue, Some, None, List}
 use Rattle.vx_model.specs.declared.limits.TheConstants.{REGION}
 use Rattle.vx_config.specs.declared.config.Config.{Config}
 use Rattle.vx_config.specs.declared.entry.VolumeLog.TheVariants.{Drl}

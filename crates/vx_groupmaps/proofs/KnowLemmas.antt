@@ -10,13 +10,13 @@ use Rattle.vx_config.specs.declared.entry.PlexEntry.{PlexEntry}
 use Rattle.vx_config.specs.declared.entry.VolumeEntry.{VolumeEntry}
 use Rattle.vx_disk.specs.Shelf.{Meaning, Values}
 use Rattle.vx_fmr.specs.Missed.{Missed, has_missed}
-use Rattle.vx_layout.specs.Places.{HasBlock, has_plex, place, plex_at, plex_in}
+use Rattle.vx_layout.specs.Places.{HasBlock, has_plex, place, plex_in}
 use Rattle.vx_logs.specs.Held.{LogsFit, stale}
 use Rattle.vx_logs.specs.Noting.{FmrEnds, FmrNoted}
 use Rattle.vx_logs.specs.Writes.{MarkedLogs}
 use Rattle.vx_logs.specs.declared.logs.Logs.{Logs}
 use Rattle.vx_logs.specs.declared.logs.Lost.{Lost}
-use Rattle.vx_volume.specs.Plexes.{Inside, active}
+use Rattle.vx_volume.specs.Plexes.{Inside}
 use Rattle.vx_volume.proofs.PlaceLemmas.{has_of}
 use Rattle.vx_groupmaps.specs.Between.{ReadsOr}
 use Rattle.vx_groupmaps.specs.Knowing.{MapsKnowBy, MapsNote, NotesMore, PlexesKnow, or_stale, or_those}

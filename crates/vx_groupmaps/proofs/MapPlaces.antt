@@ -2,6 +2,7 @@
 use Rattle.std.proofs.Common.{◌≡◌, ◌∙◌, ℕ, ◌/◌, ◌<◌, Bool, true, false, Option, Some, None, List, IsTrue, refl, sym, ap, arith}
 use Rattle.std.specs.Prelude.{not, is_some}
 use Rattle.vx_bitmap.specs.Maps.{map_block_count}
+use Rattle.vx_bitmap.proofs.Runs.{slot_before}
 use Rattle.vx_config.specs.Checks.{blocks_of as blocks_in, is_sound, is_stale}
 use Rattle.vx_config.specs.declared.config.Config.{Config}
 use Rattle.vx_config.specs.declared.entry.PlexEntry.{PlexEntry}
@@ -10,7 +11,6 @@ use Rattle.vx_disk.specs.Moves.{Run}
 use Rattle.vx_disk.specs.Shelf.{Meaning}
 use Rattle.vx_fmr.specs.Missed.{FmrLoaded, IsMissedKept, Missed, missed_place}
 use Rattle.vx_fmr.proofs.Keeping.{kept_of}
-use Rattle.vx_fmr.proofs.Places.{before}
 use Rattle.vx_layout.specs.Places.{HasBlock, has_plex, place, plex_at}
 use Rattle.vx_logs.specs.Held.{stale, stale_or}
 use Rattle.vx_logs.proofs.LogLemmas.{log_off_plex, log_placed, stale_below, stale_few}
@@ -107,4 +107,4 @@ module _ (c : Config) (sound : is_sound c ≡ true) (v : ℕ) (some : 0 < blocks
 
   -- which is one of the blocks of the maps
   pub bit_low : (p r : ℕ) → p < f.plexes → r < f.stride → missed_place f p r / 4096 < map_block_count f.map
-  bit_low p r lt low = omega (arith, low, before p f.plexes f.stride lt, maps_kept.all, it.log.run.long)
+  bit_low p r lt low = omega (arith, low, slot_before p f.plexes f.stride lt, maps_kept.all, it.log.run.long)

@@ -1,5 +1,5 @@
 -- Maps of all plexes of a volume that note a run, as behind a write that was refused.
-use Rattle.std.specs.Prelude.{ℕ, ◌≤◌, Option, Some, None, List}
+use Rattle.std.specs.Prelude.{ℕ, ◌≤◌, Option, Some, None}
 use Rattle.vx_disk.specs.Shelf.{Meaning, Values}
 use Rattle.vx_fmr.specs.Missed.{Missed}
 use Rattle.vx_logs.specs.Held.{FmrRun}

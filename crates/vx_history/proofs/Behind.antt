@@ -5,8 +5,12 @@ use Rattle.vx_model.specs.Sites.{is_up}
 use Rattle.vx_model.specs.declared.no.Named.TheVariants.{Number as ByNumber}
 use Rattle.vx_model.specs.declared.no.No.{No}
 use Rattle.vx_model.specs.declared.no.No.TheVariants.{Down as NotUp, Role as WrongRole, Unknown}
+use Rattle.vx_history.specs.declared.event.Event.{Event}
+use Rattle.vx_history.specs.Doubts.{After, Doubted}
 use Rattle.vx_history.specs.Refusals.{Outcome, at_site, at_work, keeps_links, on_link, unless, unless_halted}
 use Rattle.vx_history.specs.Sends.{is_linked}
+use Rattle.vx_history.specs.Step.{step}
+use Rattle.vx_history.specs.Steps.{stopped_by}
 use Rattle.vx_history.specs.World.{World}
 use Rattle.vx_history.proofs.Updates.{by_test}
 
@@ -35,3 +39,7 @@ link_by P w p s o here there =
 pub runs : (halted : Option ℕ) (w : World) (o : Outcome) → halted ≡ None → unless_halted halted w o ≡ o
 runs None w o e = refl
 runs (Some disk) w o e = absurd (cc)
+
+-- what a halted site may be
+abbrev pub after_of : Doubted → Event → (site disk : ℕ) → After
+after_of d e site disk = record { node = (stopped_by (step d.world e).world site disk).nodes site; row = (step d.world e).world.links site }

@@ -1,5 +1,5 @@
 -- What the test of a group of disks without a replicated volume group tells.
-use Rattle.std.proofs.Common.{◌≡◌, ℕ, List, [], ◌∷◌, length, Bool, true, refl, arith}
+use Rattle.std.proofs.Common.{◌≡◌, List, [], ◌∷◌, length, true, refl, arith}
 use Rattle.std.specs.Prelude.{◌&&◌, eqb}
 use Rattle.std.proofs.lemmas.Bool.Decides.{nat_tests}
 use Rattle.vx_history.proofs.Updates.{and_left, and_right}

@@ -1,8 +1,9 @@
 -- Links and packets of a world, with one more or another in place, and the parts of messages.
-use Rattle.std.specs.Prelude.{ℕ, ◌+◌, ◌/◌, zero, suc, pred, List, [], ◌∷◌, ◌++◌, length, take, drop, Bool, true, false, Option, Some, None}
+use Rattle.std.specs.Prelude.{ℕ, ◌+◌, ◌-◌, ◌/◌, zero, suc, pred, List, [], ◌∷◌, ◌++◌, length, take, drop, Bool, true, false, Option, Some, None}
 use Rattle.vx_model.specs.Content.{Write}
 use Rattle.vx_history.specs.World.{Node, Link, Message, Packet, Promise, World, Hello, Update, NetAck, DataAck, updated}
 use Rattle.vx_model.specs.declared.history.Line.{Line}
+use Rattle.vx_model.specs.declared.limits.TheConstants.{PART_BYTES}
 use Rattle.vx_history.specs.declared.sender.Action.{Action}
 use Rattle.vx_history.specs.declared.sender.Action.TheVariants.{Nothing, Ignored, Taken, Updates}
 
@@ -37,7 +38,7 @@ payload_size (DataAck number) = 0
 
 -- A message goes in packets of 1,024 bytes of it, all but the first in further packets.
 abbrev pub further_parts : Message → ℕ
-further_parts m = pred ((payload_size m + 1023) / 1024)
+further_parts m = pred ((payload_size m + (PART_BYTES - 1)) / PART_BYTES)
 
 -- in how many parts a message goes
 abbrev pub parts_of : Message → ℕ

@@ -24,8 +24,6 @@ use Rattle.vx_diskset.specs.Holds.{KeptBeside, beside_of, header_links, state_wi
 use Rattle.vx_diskset.specs.Keeps.{KeptAt}
 use Rattle.vx_diskset.specs.Stands.{SiteStands}
 use Rattle.vx_diskset.specs.declared.disk_set.DiskSet.{DiskSet}
-use Rattle.vx_model.specs.declared.link.Mode.{Mode}
-use Rattle.vx_model.specs.declared.link.Mode.TheVariants.{Log, Dcm, Replay, Fork, Stale}
 
 -- a site that is up and runs, and keeps this link, which goes by the log or by nothing
 pub record IsListening (n : Node) (l : Link) : Type 0 where

@@ -1,7 +1,7 @@
 -- What a configuration with plexes CLEAN in place of ACTIVE has as before, and that the change can be taken back.
 use Rattle.std.proofs.Common.{◌≡◌, inl, inr, ℕ, zero, suc, ◌+◌, ◌-◌, ◌<◌, Bool, true, false, IsTrue, Option, Some, None, List, length, refl, ap, sym, ◌∙◌, subst, arith}
 use Rattle.std.specs.Prelude.{if◌then◌else◌, slice_get}
-use Rattle.std.proofs.lemmas.Bool.{both_ways, cases_eq, cases_lt}
+use Rattle.std.proofs.lemmas.Bool.{both_ways, cases_eq, cases_lt, false_from_ne_true}
 use Rattle.vx_model.specs.declared.site.PlexState.{PlexState}
 use Rattle.vx_model.specs.declared.site.PlexState.TheVariants.{Active, Clean, Stale}
 use Rattle.vx_config.specs.Changes.{stated, with_state, has_live}
@@ -219,14 +219,10 @@ not_clean (Some p) is it = by p.state is it
     by Clean is it = let clash : false ≡ true = is in cc
     by Stale is it = let clash : false ≡ true = it in cc
 
-from_not : (b : Bool) → (b ≡ true → ⊥) → b ≡ false
-from_not true none = absurd (none refl)
-from_not false none = refl
-
 -- where each plex that takes part is ACTIVE none is CLEAN
 pub none_clean : (c : Config) → AllOn c → (v : ℕ) → NoneClean c v
 unfolding clean active live
-none_clean c on v = record { each = λ p. from_not (clean c v p) (λ is. not_clean (plex_at c v p) (on.each v p (clean_takes (plex_at c v p) is)) is) }
+none_clean c on v = record { each = λ p. false_from_ne_true (clean c v p) (λ is. not_clean (plex_at c v p) (on.each v p (clean_takes (plex_at c v p) is)) is) }
 
 -- and so it is with a volume that no change has come to
 pub still_none : (unsure : List Bool) (n : ℕ) (c : Config) → AllOn c → NoneClean (cleaned unsure c n) n

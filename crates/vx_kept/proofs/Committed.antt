@@ -1,5 +1,6 @@
 -- A commit keeps a configuration of the group's kind, whatever it answers.
 use Rattle.std.proofs.Common.{◌≡◌, ◌⊎◌, inl, inr, ⊎_elim, ℕ, ◌+◌, ◌<◌, ◌≤◌, Bool, true, IsTrue, Option, List, length, refl, ap, sym, ◌∙◌, subst, arith}
+use Rattle.std.proofs.lemmas.Bool.{both_ways}
 use Rattle.std.specs.Prelude.{not}
 use Rattle.vx_disk.specs.Moves.{Beside}
 use Rattle.vx_disk.specs.Shelf.{Each, Image, Lawful, Meaning, Nothing}
@@ -14,7 +15,7 @@ use Rattle.vx_copies.specs.Bodies.{failed_in}
 use Rattle.vx_copies.specs.Commits.{Becomes, Begins, Below, Done, HaveLabels, HeldGood, IsTry, MayFind, OldOrBegun, ReadyDisks, Refused, StayFit}
 use Rattle.vx_copies.specs.Looking.{on_shelf}
 use Rattle.vx_copies.specs.Marks.{HasGood, failed_at}
-use Rattle.vx_copies.proofs.OneTry.{as_before, held_or, not_both, shelf_same}
+use Rattle.vx_copies.proofs.OneTry.{as_before, held_or, shelf_same}
 use Rattle.vx_kept.specs.Choice.{chosen}
 use Rattle.vx_model.specs.declared.no.No.{No}
 use Rattle.vx_copies.specs.Answers.{good_set}
@@ -61,7 +62,7 @@ module _ (c a d : Config) (old new : Meaning) (lawful : Lawful old) (lawful' : L
   -- ---- each image of the commit, whenever it was left
 
   failed_left : (i : Image) → Beside (AreasOf (HeldGood a old)) old.leaves i → (u b : ℕ) → failed_at a.disks u ≡ true → old.leaves u b (i u b)
-  failed_left i beside u b failed = ⊎_elim (λ was. was) (λ (mine : AreasOf (HeldGood a old) u b). absurd (not_both (failed_at a.disks u) mine.on.good failed)) (beside u b)
+  failed_left i beside u b failed = ⊎_elim (λ was. was) (λ (mine : AreasOf (HeldGood a old) u b). absurd (both_ways (failed_at a.disks u) mine.on.good failed)) (beside u b)
 
   amid : (i : Image) → Beside (AreasOf (HeldGood a old)) old.leaves i → OldOrBegun Begun a old i → Amid (on_shelf old) Begun (HeldGood a old) old.units old.leaves i
   amid i beside seen u lt = elim (held_or a.disks u) [
@@ -95,7 +96,7 @@ module _ (c a d : Config) (old new : Meaning) (lawful : Lawful old) (lawful' : L
   pub counts_new : (u : ℕ) → u < new.units → Counts (on_shelf new) (new.leaves u)
   counts_new u lt = subst (λ (r : ℕ → List ℕ → Option Config). Counts r (new.leaves u)) (shelf_same old new begins.moves.units begins.moves.size) (elim (held_or a.disks u) [
     | inl good ↦ good_counts u (record { below = omega (arith, begins.moves.units, lt); good = good })
-    | inr failed ↦ counts_sub (on_shelf old) (old.leaves u) (new.leaves u) (λ b v left. ⊎_elim (λ was. was) (λ (mine : AreasOf (HeldGood a old) u b). absurd (not_both (failed_at a.disks u) mine.on.good failed)) (begins.moves.leaves u b v left))
+    | inr failed ↦ counts_sub (on_shelf old) (old.leaves u) (new.leaves u) (λ b v left. ⊎_elim (λ was. was) (λ (mine : AreasOf (HeldGood a old) u b). absurd (both_ways (failed_at a.disks u) mine.on.good failed)) (begins.moves.leaves u b v left))
         (base.counts u (omega (arith, begins.moves.units, lt)))
   ])
     where

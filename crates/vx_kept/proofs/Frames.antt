@@ -1,5 +1,6 @@
 -- What is the same of volumes that have one frame: all but the states of their plexes and the loss of their logs.
 use Rattle.std.proofs.Common.{◌≡◌, ℕ, zero, suc, false, Option, Some, None, List, [], ◌∷◌, refl, ap, sym, ◌∙◌}
+use Rattle.std.proofs.lemmas.Option.{same_Some}
 use Rattle.std.specs.Prelude.{is_some, map, slice_get}
 use Rattle.vx_model.specs.declared.site.PlexState.TheVariants.{Stale}
 use Rattle.vx_config.specs.Changes.{lost_as, with_state}
@@ -49,7 +50,7 @@ some_lost : (o : Option LogEntry) → is_some (lost_as false o) ≡ is_some o
 some_lost None = refl
 some_lost (Some l) = refl
 
-heads_of : (p q : PlexEntry) (ps qs : List PlexEntry) → q ∷ qs ≡ p ∷ ps → (q ≡ p) × (qs ≡ ps)
+pub heads_of : (p q : PlexEntry) (ps qs : List PlexEntry) → q ∷ qs ≡ p ∷ ps → (q ≡ p) × (qs ≡ ps)
 heads_of p q ps qs is = (cc is, cc is)
 
 subdisks_of : (p q : PlexEntry) → with_state Stale false q ≡ with_state Stale false p → q.subdisks ≡ p.subdisks
@@ -75,11 +76,8 @@ frame_same v u is = record {
   plexes = same_plexes v.plexes u.plexes (ap (λ (x : VolumeEntry). x.plexes) is);
 }
 
-one_frame : (a b : VolumeEntry) → Some b ≡ Some a → b ≡ a
-one_frame a b is = cc is
-
 pub same_of : (o p : Option VolumeEntry) → frame_or p ≡ frame_or o → SameOne o p
 same_of None None is = tt
 same_of None (Some u) is = absurd (let no_one : Some (frame u) ≡ None = is in cc)
 same_of (Some v) None is = absurd (let no_one : None ≡ Some (frame v) = is in cc)
-same_of (Some v) (Some u) is = frame_same v u (one_frame (frame v) (frame u) is)
+same_of (Some v) (Some u) is = frame_same v u (same_Some (frame u) (frame v) is)

@@ -1,7 +1,7 @@
 -- What a change of the states of plexes leaves as it was.
 use Rattle.std.proofs.Common.{◌≡◌, inl, inr, ℕ, zero, suc, ◌<◌, Bool, true, false, IsTrue, Option, Some, None, List, [], ◌∷◌, refl, ap, sym, ◌∙◌, subst, arith}
 use Rattle.std.specs.Prelude.{map, slice_get, if◌then◌else◌}
-use Rattle.std.proofs.lemmas.Bool.{cases_eq, cases_lt}
+use Rattle.std.proofs.lemmas.Bool.{both_ways, cases_eq, cases_lt}
 use Rattle.vx_disk.specs.Blocks.{bit_at}
 use Rattle.vx_model.specs.declared.site.PlexState.{PlexState}
 use Rattle.vx_model.specs.declared.site.PlexState.TheVariants.{Active, Clean, Stale}
@@ -204,9 +204,6 @@ pub record IsStaled (v set n : ℕ) (c d : Config) : Type 0 where
   pub lives : (x q : ℕ) → IsTrue (live d x q) → IsTrue (live c x q)
   pub off : (q : ℕ) → q < n → bit_at set q ≡ true → live d v q ≡ false
 
-false_true : (b : Bool) → b ≡ false → IsTrue b → ⊥
-false_true b off is = let clash : false ≡ true = sym off ∙ is in cc
-
 one_more : (v set n : ℕ) (c d : Config) → bit_at set n ≡ true → IsStaled v set n c d → IsStaled v set (suc n) c (stale_at v n d)
 unfolding live
 one_more v set n c d bit was = record {
@@ -218,7 +215,7 @@ one_more v set n c d bit was = record {
   same = λ x q apart. plex_apart v n Stale (whole_of d v n) d x q (λ in_v at. apart in_v (omega (arith, at)) (ap (bit_at set) at ∙ bit)) ∙ was.same x q (λ in_v lt is. apart in_v (omega (arith, lt)) is);
   lives = λ x q is. elim (cases_eq x v) [
     | inl in_v ↦ elim (cases_eq q n) [
-      | inl at ↦ absurd (false_true (live (stale_at v n d) v n) (live_off v n d) (subst (λ (r : ℕ). IsTrue (live (stale_at v n d) v r)) at (subst (λ (y : ℕ). IsTrue (live (stale_at v n d) y q)) in_v is)))
+      | inl at ↦ absurd (both_ways (live (stale_at v n d) v n) (live_off v n d) (subst (λ (r : ℕ). IsTrue (live (stale_at v n d) v r)) at (subst (λ (y : ℕ). IsTrue (live (stale_at v n d) y q)) in_v is)))
       | inr other ↦ was.lives x q (sym (live_apart v n Stale (whole_of d v n) d x q (λ same at. other at)) ∙ is)
     ]
     | inr apart ↦ was.lives x q (sym (live_apart v n Stale (whole_of d v n) d x q (λ same at. apart same)) ∙ is)
@@ -240,7 +237,7 @@ none_more v set n c d bit was = record {
   lives = was.lives;
   off = λ q lt is. elim (cases_lt q n) [
     | inl less ↦ was.off q less is
-    | inr le ↦ let at : q ≡ n = omega (arith, lt, le) in absurd (false_true (bit_at set n) bit (subst (λ (r : ℕ). bit_at set r ≡ true) at is))
+    | inr le ↦ let at : q ≡ n = omega (arith, lt, le) in absurd (both_ways (bit_at set n) bit (subst (λ (r : ℕ). bit_at set r ≡ true) at is))
   ];
 }
 

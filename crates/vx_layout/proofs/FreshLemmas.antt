@@ -2,7 +2,7 @@
 use Rattle.std.proofs.Common.{◌≡◌, ◌⊎◌, inl, inr, ℕ, zero, suc, ◌+◌, ◌-◌, ◌<◌, ◌≤◌, Bool, true, false, Option, Some, None, List, [], ◌∷◌, ◌++◌, refl, ap, sym, ◌∙◌, subst, arith}
 use Rattle.std.specs.Prelude.{◌&&◌, ◌||◌, ◌==◌, not, nat_le, min, max, slice_get, sum_by, if◌then◌else◌}
 use Rattle.std.specs.List.{list_all, list_any}
-use Rattle.std.proofs.lemmas.Bool.{cases_lt, eq-eqb, eqb-true, le-leb}
+use Rattle.std.proofs.lemmas.Bool.{cases_lt, eq-eqb, eqb-true, false_from_ne_true, le-leb}
 use Rattle.std.proofs.lemmas.List.Sums.{sum_by-append, sum_by-cons}
 use Rattle.vx_config.specs.declared.entry.DiskEntry.{DiskEntry}
 use Rattle.vx_config.specs.declared.entry.Subdisk.{Subdisk}
@@ -11,7 +11,7 @@ use Rattle.vx_layout.specs.Places.{subdisk_blocks, disk_blocks, lies_on}
 use Rattle.vx_layout.specs.Free.{AreLowest, IsNext, free_blocks, holds, is_free}
 use Rattle.vx_layout.specs.Space.{AreSpread, OnOne, OnSeveral, disk_room}
 use Rattle.vx_layout.proofs.Pairs.{and_left, and_right, pairs_across}
-use Rattle.vx_layout.proofs.Gaps.{busy_at, false_from, holds_from, not_both}
+use Rattle.vx_layout.proofs.Gaps.{busy_at, holds_from, not_both}
 
 -- a run with blocks that are free, in the public region of its disk
 pub record IsFresh (used : List Subdisk) (disks : List DiskEntry) (s : Subdisk) : Type 0 where
@@ -37,7 +37,7 @@ apart_behind s t le = by (s.disk == t.disk) (let less : min (s.start + s.blocks)
 
 pub apart_disks : (s t : Subdisk) → (s.disk ≡ t.disk → ⊥) → are_apart s t ≡ true
 unfolding are_apart
-apart_disks s t other = by (s.disk == t.disk) (false_from (s.disk == t.disk) (λ is. other (eqb-true s.disk t.disk is)))
+apart_disks s t other = by (s.disk == t.disk) (false_from_ne_true (s.disk == t.disk) (λ is. other (eqb-true s.disk t.disk is)))
   where
     by : (b : Bool) → b ≡ false → not b || nat_le (min (s.start + s.blocks) (t.start + t.blocks)) (max s.start t.start) ≡ true
     by true is = absurd (let clash : true ≡ false = is in cc)

@@ -2,7 +2,7 @@
 use Rattle.std.proofs.Common.{◌≡◌, ◌⊎◌, inl, inr, ℕ, zero, suc, ◌+◌, ◌-◌, ◌<◌, ◌≤◌, Bool, true, false, Some, List, [], ◌∷◌, length, get_or, take, refl, ap, sym, ◌∙◌, arith}
 use Rattle.std.specs.Prelude.{◌&&◌, ◌||◌, ◌==◌, not, nat_lt, nat_le, slice_get, if◌then◌else◌}
 use Rattle.std.specs.List.{list_any}
-use Rattle.std.proofs.lemmas.Bool.{cases_lt, eq-eqb, eqb-true, le-leb, leb-true, lt-ltb, ltb-true}
+use Rattle.std.proofs.lemmas.Bool.{cases_lt, eq-eqb, eqb-true, false_from_ne_true, le-leb, leb-true, lt-ltb, ltb-true}
 use Rattle.std.proofs.lemmas.List.{take_all}
 use Rattle.std.proofs.lemmas.List.Folds.{list_any_at}
 use Rattle.std.proofs.lemmas.Option.{get_or_from_slice_get, slice_get-get_or, slice_get_within}
@@ -12,10 +12,6 @@ use Rattle.vx_layout.specs.Free.{IsGap, free_in, holds, is_free}
 use Rattle.vx_layout.specs.Reaches.{IsCut, IsReach, Reaching}
 use Rattle.vx_layout.specs.declared.gap.Gap.{Gap}
 use Rattle.vx_layout.proofs.Pairs.{and_left, and_right}
-
-pub false_from : (b : Bool) → (b ≡ true → ⊥) → b ≡ false
-false_from true h = absurd (h refl)
-false_from false h = refl
 
 pub not_both : {b : Bool} → b ≡ true → b ≡ false → ⊥
 not_both yes' no' = let e : true ≡ false = sym yes' ∙ no' in cc
@@ -43,7 +39,7 @@ pub busy_at : (used : List Subdisk) (disk b k : ℕ) (s : Subdisk) → slice_get
 busy_at used disk b k s at is = busy used disk b k (slice_get_within used k s at) (ap (holds disk b) (get_or_from_slice_get used k s no_subdisk at) ∙ is)
 
 pub free_one : (used : List Subdisk) (disk b k : ℕ) (s : Subdisk) → is_free used disk b ≡ true → slice_get used k ≡ Some s → holds disk b s ≡ false
-free_one used disk b k s free at = false_from (holds disk b s) (λ is. not_both free (busy_at used disk b k s at is))
+free_one used disk b k s free at = false_from_ne_true (holds disk b s) (λ is. not_both free (busy_at used disk b k s at is))
 
 pub free_item : (used : List Subdisk) (disk b k : ℕ) → is_free used disk b ≡ true → k < length used → holds disk b (get_or used k no_subdisk) ≡ false
 free_item used disk b k free lt = free_one used disk b k (get_or used k no_subdisk) free (slice_get-get_or used k no_subdisk lt)

@@ -4,7 +4,7 @@ use Rattle.std.specs.Prelude.{◌&&◌, ◌||◌, ◌==◌, not, nat_lt, nat_le,
 use Rattle.std.specs.List.{list_all, list_any}
 use Rattle.std.proofs.lemmas.List.Sums.{sum_by-cons}
 use Rattle.std.proofs.lemmas.Option.{slice_get_past, slice_get_read}
-use Rattle.std.proofs.lemmas.Bool.{cases_lt, eq-eqb, eqb-true, leb-true, lt-ltb, ltb-true}
+use Rattle.std.proofs.lemmas.Bool.{cases_lt, eq-eqb, eqb-true, false_from_ne_true, leb-true, lt-ltb, ltb-true}
 use Rattle.std.specs.Int.{div_ceil}
 use Rattle.vx_config.specs.Checks.{are_apart, are_placed, blocks_of, blocks_or_none, column_blocks, differ, ends_within, fill, group_or_none, has_logs, has_plexes, has_shape, in_region, is_live, is_sound, is_volume, log_runs, pairwise, plex_fills, plex_runs, preferred_is, runs, volume_runs, blocks_or}
 use Rattle.vx_config.specs.Configs.{subdisk_count}
@@ -19,10 +19,6 @@ use Rattle.vx_layout.proofs.Pairs.{all_at, and_left, and_right, flat_across, fla
 use Rattle.vx_layout.specs.declared.spot.Seat.{Seat}
 use Rattle.vx_layout.specs.declared.spot.Spot.{Spot}
 use Rattle.vx_layout.proofs.Stripes.{fill_sum, linear_below, linear_one, linear_run}
-
-false_from : (b : Bool) → (b ≡ true → ⊥) → b ≡ false
-false_from true h = absurd (h refl)
-false_from false h = refl
 
 -- ---- subdisks that are apart have no block in common
 
@@ -69,7 +65,7 @@ at_of (s ∷ ss) k lt = elim (cases_lt k s.blocks) [
 ]
   where
     not_lt : (m n : ℕ) → n ≤ m → nat_lt m n ≡ false
-    not_lt m n le = false_from (nat_lt m n) (λ is. let lt : m < n = ltb-true m n is in omega (arith, le, lt))
+    not_lt m n le = false_from_ne_true (nat_lt m n) (λ is. let lt : m < n = ltb-true m n is in omega (arith, le, lt))
 
 -- two blocks of one list that have one place are one
 one_in : (ss : List Subdisk) (k l : ℕ) → pairwise are_apart ss ≡ true → k < sum_by subdisk_blocks ss → l < sum_by subdisk_blocks ss → located ss k ≡ located ss l → k ≡ l

@@ -1,5 +1,5 @@
 -- Where a yard stands for a world, all writes of a site are durable that is up and runs, and at which writes arise.
-use Rattle.std.proofs.Common.{◌≡◌, ◌∙◌, ◌≤◌, true, false, List, [], length, ap, sym, arith}
+use Rattle.std.proofs.Common.{◌≡◌, ◌∙◌, ◌≤◌, true, false, List, length, ap, sym, arith}
 use Rattle.std.specs.Prelude.{None}
 use Rattle.vx_model.specs.Sites.{is_origin}
 use Rattle.vx_model.specs.declared.site.SiteState.TheVariants.{Bare as IsBare, Down as IsDown, Up as IsUp}

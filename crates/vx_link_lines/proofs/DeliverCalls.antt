@@ -6,7 +6,6 @@ use Rattle.vx_model.specs.Content.{Write}
 use Rattle.vx_model.specs.declared.errors.Stop.{Stop}
 use Rattle.vx_model.specs.declared.errors.Stop.TheVariants.{No as StoppedBy, OutOfMemory as NoMemory}
 use Rattle.vx_model.specs.declared.no.No.{No}
-use Rattle.vx_history.specs.Doubts.{Doubted}
 use Rattle.vx_history.specs.Events.{delivered, packet_at}
 use Rattle.vx_history.specs.Refusals.{Outcome, says}
 use Rattle.vx_history.specs.World.{DataAck, Hello, Message, NetAck, Packet, Update, World}

@@ -1,6 +1,7 @@
 -- A yard behind an event that writes one header of the log of a site, by what the call on its disks answered.
 use Rattle.std.proofs.Common.{◌≡◌, ◌∙◌, ⊎_elim, ◌+◌, ◌<◌, ◌≤◌, ℕ, Bool, true, false, List, [], ◌∷◌, length, map, ap, sym, subst, refl, arith}
 use Rattle.std.specs.Prelude.{Option, Some, None, slice_get, slice_set, Ok, Err}
+use Rattle.vx_history.proofs.Behind.{after_of}
 use Rattle.vx_history.proofs.Fuses.{burned_twice, fused_before, worked_twice}
 use Rattle.vx_history.proofs.Updates.{at_place}
 use Rattle.vx_history.specs.Doubts.{After, Doubted, crashed_as, halved, resolved_at}
@@ -51,7 +52,7 @@ use Rattle.vx_yard.proofs.CrashLine.{rose_still}
 use Rattle.vx_yard.proofs.CrashSite.{down_up}
 use Rattle.vx_yard.proofs.FailsStay.{fails_then}
 use Rattle.vx_yard.proofs.FuseStays.{fused_none, fused_on, left_passed}
-use Rattle.vx_effects.proofs.Halves.{may_be, stopped}
+use Rattle.vx_effects.proofs.Halves.{stopped}
 use Rattle.vx_link_lines.proofs.HeaderCalls.{Answered, IsHeader, in_doubt, over_body}
 use Rattle.vx_linked.proofs.Heard.{site_apart}
 use Rattle.vx_events.specs.GroupLines.{is_over_group}
@@ -182,9 +183,9 @@ module _ {R : Type 0} {g : Ghosts R} (note : (ℕ → Node) → ℕ → Node) (s
             ∙ sym (halted_is (worked n) (d.world.links s) d.world.sites disk) ∙ ap (λ (k : Node). fact_of k (d.world.links s) d.world.sites) (stopped_noted n disk))
             ∙ sym (facts_there start to s (stopped n disk) (d.world.links s) w.site below (none_over n h.none) w.is.node w.is.links))
             (λ a some.
-            let same : may_be d e s disk ≡ a = some_same (sym w.is.after ∙ some) in
+            let same : after_of d e s disk ≡ a = some_same (sym w.is.after ∙ some) in
             subst (λ (b : After). IsSameSite (to.world.nodes s) b.node) same
-            (subst (λ (k : Node). IsSameSite k (may_be d e s disk).node) there
+            (subst (λ (k : Node). IsSameSite k (after_of d e s disk).node) there
             (subst (λ (k : Node). IsSameSite (stopped n disk) k) (sym may) (record { name = h.like.name; disks = h.like.disks; blocks = h.like.blocks; volumes = h.like.volumes }))));
         carries = carries_node s start to (stopped n disk) old new load w.site w.sent w.gathering w.is.node (sym (ap (λ (k : Node). k.state) here)) (sym (ap (λ (k : Node). k.role) here))
             (sym (ap (λ (k : Node). k.fed_by) here)) told_then;

@@ -1,13 +1,14 @@
 -- What a world with noted fuses has of a site behind an event that writes one header of its log, or that a disk or a fuse ended.
-use Rattle.std.proofs.Common.{◌≡◌, ◌∙◌, ◌+◌, ◌<◌, ◌≤◌, ℕ, Bool, true, false, List, length, ap, sym, subst, arith}
+use Rattle.std.proofs.Common.{◌≡◌, ◌∙◌, ◌+◌, ◌<◌, ◌≤◌, ℕ, Bool, true, false, List, length, ap, sym, subst}
 use Rattle.std.specs.Prelude.{Option, Some, None, slice_get}
 use Rattle.std.proofs.lemmas.Option.{slice_get_within}
+use Rattle.vx_history.proofs.Behind.{after_of}
 use Rattle.vx_history.proofs.Fuses.{burned_twice}
 use Rattle.vx_history.proofs.Updates.{at_place}
 use Rattle.vx_history.specs.Doubts.{After, Doubted, crashed_as, halved, resolved_at, taken_up}
 use Rattle.vx_history.specs.Events.{kept_of, lost_touch}
 use Rattle.vx_history.specs.Steps.{crashed, worked}
-use Rattle.vx_history.specs.World.{Fuse, Gathering, Link, Node, Packet, World}
+use Rattle.vx_history.specs.World.{Fuse, Gathering, Link, Node, Packet}
 use Rattle.vx_history.specs.declared.event.Event.{Event}
 use Rattle.vx_model.specs.declared.state.KeptLink.{KeptLink}
 use Rattle.vx_diskset.specs.Holds.{KeptBeside, KeptSite, beside_of, doubt_of, header_links, row_links}
@@ -17,7 +18,7 @@ use Rattle.vx_events.specs.Effects.{ChangesNode, EffectAt}
 use Rattle.vx_events.proofs.Steps.{kept_is}
 use Rattle.vx_link_lines.specs.Headed.{NotesAt, behind, noted_by}
 use Rattle.vx_yard.proofs.CrashSite.{beside_sure}
-use Rattle.vx_effects.proofs.Halves.{crashed_effect, halved_effect, may_be, may_be_node, may_be_row, stopped}
+use Rattle.vx_effects.proofs.Halves.{crashed_effect, halved_effect, may_be_node, may_be_row, stopped}
 use Rattle.vx_yard.proofs.Rows.{row_links_same}
 
 pub stopped_noted : (n : Node) (disk : ℕ) → stopped (worked n) disk ≡ stopped n disk
@@ -74,23 +75,23 @@ module _ (note : (ℕ → Node) → ℕ → Node) (s : ℕ) (notes : NotesAt s n
     abbrev pub halted : Doubted
     halted = noted_by note half
 
-    pub half_effect : EffectAt s d half (stopped n disk) (d.world.links s) (d.world.headers s + 1) (Some (may_be d e s disk)) d.world.packets (d.world.gathering s)
+    pub half_effect : EffectAt s d half (stopped n disk) (d.world.links s) (d.world.headers s + 1) (Some (after_of d e s disk)) d.world.packets (d.world.gathering s)
     half_effect = halved_effect d e s m row d.world.packets gathered f disk
 
-    pub halted_effect : EffectAt s before halted (stopped n disk) (d.world.links s) (d.world.headers s + 1) (Some (may_be d e s disk)) d.world.packets (d.world.gathering s)
+    pub halted_effect : EffectAt s before halted (stopped n disk) (d.world.links s) (d.world.headers s + 1) (Some (after_of d e s disk)) d.world.packets (d.world.gathering s)
     halted_effect =
-        subst (λ (k : Node). EffectAt s before halted k (d.world.links s) (d.world.headers s + 1) (Some (may_be d e s disk)) d.world.packets (d.world.gathering s)) (worked_stopped n disk)
+        subst (λ (k : Node). EffectAt s before halted k (d.world.links s) (d.world.headers s + 1) (Some (after_of d e s disk)) d.world.packets (d.world.gathering s)) (worked_stopped n disk)
         (noted_effect note s notes d half half_effect)
 
     -- what it may be besides
-    pub may_node : (may_be d e s disk).node ≡ stopped m disk
+    pub may_node : (after_of d e s disk).node ≡ stopped m disk
     may_node = may_be_node d e s m row d.world.packets gathered f disk
 
-    pub may_row : (k : ℕ) → (may_be d e s disk).row k ≡ row k
+    pub may_row : (k : ℕ) → (after_of d e s disk).row k ≡ row k
     may_row k = may_be_row d e s m row d.world.packets gathered f disk k
 
-    may_links : row_links (may_be d e s disk).row halted.world.sites ≡ ls
-    may_links = row_links_same row (may_be d e s disk).row may_row halted.world.sites ∙ ap (λ (k : ℕ). row_links row k) halted_effect.site.sites ∙ kept
+    may_links : row_links (after_of d e s disk).row halted.world.sites ≡ ls
+    may_links = row_links_same row (after_of d e s disk).row may_row halted.world.sites ∙ ap (λ (k : ℕ). row_links row k) halted_effect.site.sites ∙ kept
 
     abbrev other : KeptSite
     other = record { node = stopped m disk; links = ls; headers = d.world.headers s + 1 }
@@ -98,7 +99,7 @@ module _ (note : (ℕ → Node) → ℕ → Node) (s : ℕ) (notes : NotesAt s n
     pub halted_doubt : doubt_of halted.world s (halted.after s) ≡ Some other
     halted_doubt =
         ap (λ (o : Option After). doubt_of halted.world s o) halted_effect.is.after
-        ∙ ap (λ (k : Node). Some (let x : KeptSite = record { node = k; links = row_links (may_be d e s disk).row halted.world.sites; headers = halted.world.headers s } in x)) may_node
+        ∙ ap (λ (k : Node). Some (let x : KeptSite = record { node = k; links = row_links (after_of d e s disk).row halted.world.sites; headers = halted.world.headers s } in x)) may_node
         ∙ ap (λ (ls : List KeptLink). Some (let x : KeptSite = record { node = stopped m disk; links = ls; headers = halted.world.headers s } in x)) may_links
         ∙ ap (λ (k : ℕ). Some (let x : KeptSite = record { node = stopped m disk; links = ls; headers = k } in x)) halted_effect.is.headers
 
@@ -166,12 +167,12 @@ module _ (note : (ℕ → Node) → ℕ → Node) (s : ℕ) (notes : NotesAt s n
   -- or the event is on its disks
   pub other_node : (resolved_at (halved d e s 0) s true).world.nodes s ≡ stopped m 0
   other_node =
-      ap (λ (o : Option After). (taken_up (halved d e s 0).world s o).nodes s) (half_effect 0).is.after ∙ at_place (halved d e s 0).world.nodes s (may_be d e s 0).node ∙ may_node 0
+      ap (λ (o : Option After). (taken_up (halved d e s 0).world s o).nodes s) (half_effect 0).is.after ∙ at_place (halved d e s 0).world.nodes s (after_of d e s 0).node ∙ may_node 0
 
   pub other_row : (j : ℕ) → (resolved_at (halved d e s 0) s true).world.links s j ≡ row j
   other_row j =
       ap (λ (o : Option After). (taken_up (halved d e s 0).world s o).links s j) (half_effect 0).is.after
-      ∙ ap (λ (r : ℕ → Link). r j) (at_place (halved d e s 0).world.links s (may_be d e s 0).row) ∙ may_row 0 j
+      ∙ ap (λ (r : ℕ → Link). r j) (at_place (halved d e s 0).world.links s (after_of d e s 0).row) ∙ may_row 0 j
 
 -- ---- places
 

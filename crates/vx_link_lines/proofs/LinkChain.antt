@@ -1,7 +1,7 @@
 -- The worlds behind the parts of a line that makes a link, and that each header keeps what was computed before the first of them.
 use Rattle.std.proofs.Common.{◌≡◌, ◌∙◌, ◌+◌, ◌<◌, ℕ, zero, suc, List, [], ◌∷◌, ◌++◌, Bool, true, false, ap, sym, refl, arith, ⊎_elim}
 use Rattle.std.specs.Prelude.{None, not, ◌&&◌, ◌||◌, eqb}
-use Rattle.std.proofs.lemmas.Bool.{cases_eq}
+use Rattle.std.proofs.lemmas.Bool.{cases_eq, false_from_ne_true, not-true}
 use Rattle.vx_model.specs.Sites.{first_line, same_line}
 use Rattle.vx_model.specs.declared.link.SyncMode.{SyncMode}
 use Rattle.vx_model.specs.declared.site.Mark.TheVariants.{Consistent}
@@ -25,7 +25,6 @@ use Rattle.vx_effects.proofs.Fitting.{fit_happened}
 use Rattle.vx_effects.proofs.LinkParts.{AreTwo, joins_done, joins_effect, made_effect, made_follows, marked_effect, marked_follows, opened_follows, two_done}
 use Rattle.vx_effects.proofs.LinkRows.{changed_kept}
 use Rattle.vx_effects.specs.LinkParts.{kept_over}
-use Rattle.vx_events.proofs.LinkJoining.{by_test}
 use Rattle.vx_events.proofs.Steps.{no_sites}
 use Rattle.vx_events.specs.Effects.{ChangesNode, EffectAt}
 use Rattle.vx_events.specs.LinksFit.{LinksFit}
@@ -59,10 +58,6 @@ none_below (suc m) test none k less =
     rest true b e = absurd (cc)
     rest false b e = e
 
-is_false : (b : Bool) → not b ≡ true → b ≡ false
-is_false true e = absurd (cc)
-is_false false e = refl
-
 module _ (d : Doubted) (p s : ℕ) (sync : SyncMode) (fit : LinksFit d) (said : (step d.world (LinkAt p s sync Joins)).said ≡ IsDone) where
   abbrev w : World
   w = d.world
@@ -75,7 +70,7 @@ module _ (d : Doubted) (p s : ℕ) (sync : SyncMode) (fit : LinksFit d) (said : 
 
   -- the two are not one site
   pub apart : s ≡ p → ⊥
-  apart = eqb_apart s p (is_false (eqb s p) (and_left (not (eqb s p)) (is_empty (w.nodes p).log && fresh_tests) tests))
+  apart = eqb_apart s p (not-true (eqb s p) (and_left (not (eqb s p)) (is_empty (w.nodes p).log && fresh_tests) tests))
 
   pub apart_too : p ≡ s → ⊥
   apart_too e = apart (sym e)
@@ -87,12 +82,12 @@ module _ (d : Doubted) (p s : ℕ) (sync : SyncMode) (fit : LinksFit d) (said : 
 
   unlinked : (k : ℕ) → is_linked (w.links s k) ≡ false
   unlinked k =
-      by_test (is_linked (w.links s k))
+      false_from_ne_true (is_linked (w.links s k))
       (λ linked. absurd (let f : false ≡ true = sym (none_below w.sites (λ j. is_linked (w.links s j)) none k ((fit.rows s).places.within k linked)) ∙ linked in cc))
     where
       none : some_below w.sites (λ j. is_linked (w.links s j)) ≡ false
       none =
-          is_false (some_below w.sites (λ j. is_linked (w.links s j)))
+          not-true (some_below w.sites (λ j. is_linked (w.links s j)))
           (and_right (is_empty (w.nodes s).log) (not (some_below w.sites (λ j. is_linked (w.links s j))))
           (and_right (is_primary (w.nodes s).role) (is_empty (w.nodes s).log && not (some_below w.sites (λ j. is_linked (w.links s j)))) fresh))
 

@@ -39,7 +39,6 @@ use Rattle.vx_link_lines.specs.Linking.{IsLinking}
 use Rattle.vx_yard.specs.BothSites.{BothSites, LinkBurns}
 use Rattle.vx_yard.specs.OfSites.{HasCalled, OfSite}
 use Rattle.vx_yard.specs.Standing.{Leads, StandsFor}
-use Rattle.vx_yard.specs.Stands.{RoseBy}
 use Rattle.vx_yard.specs.Yards.{IsTold, count_of}
 use Rattle.vx_link_lines.specs.declared.linking.LinkStates.{LinkStates}
 use Rattle.vx_yard.specs.declared.yard.Yard.{Yard}
@@ -49,10 +48,6 @@ use Rattle.vx_link_lines.proofs.NotedBoth.{carries_both, note_both, notes_both, 
 use Rattle.vx_yard.proofs.BothSites.{UnderJoined, UnderMade, UnderMarked, UnderOpened, link_burns, stops_joined, stops_made, stops_marked, stops_opened, under_joined, under_made, under_marked, under_opened}
 use Rattle.vx_yard.proofs.HeadNeeds.{head_passes, head_works, refused_undone}
 use Rattle.vx_yard.proofs.RecoverLine.{rose_then}
-
--- counts that rose by nothing, and then by so much
-rose_more : (n a b c : ℕ) → RoseBy 0 a b → RoseBy n b c → RoseBy n a c
-rose_more n a b c one two = omega (arith, one, two)
 
 module _ {R : Type 0} {g : Ghosts R} where
   -- two in a row

@@ -24,7 +24,7 @@ use Rattle.vx_events.specs.GroupLines.{is_over_group}
 use Rattle.vx_events.specs.LinkedFacts.{linked_fact, links_by, links_of_site}
 use Rattle.vx_events.specs.RvgLinks.{links_rvg}
 use Rattle.vx_events.specs.RvgSteps.{over_rvg_at}
-use Rattle.vx_events.specs.StepsOver.{facts_over, refused_over}
+use Rattle.vx_events.specs.StepsOver.{refused_over}
 use Rattle.vx_linked.proofs.Finding.{seat_found}
 use Rattle.vx_link_lines.specs.Linking.{AreLinkStates, IsLinking}
 use Rattle.vx_yard.specs.Standing.{StandsFor}

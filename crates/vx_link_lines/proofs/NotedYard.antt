@@ -47,7 +47,7 @@ notes_one s = record {
   fits = λ d fit. fit_worked d s fit;
 }
 
-left_burned : (f : Fuse) (x : Option (ℕ × ℕ)) → LeftAs f x → LeftAs (burned f) x
+pub left_burned : (f : Fuse) (x : Option (ℕ × ℕ)) → LeftAs f x → LeftAs (burned f) x
 left_burned NoFuse x h = tt
 left_burned (FuseSet calls) x h = h
 left_burned (FuseLit most) x h = h

@@ -1,5 +1,5 @@
 -- A site over a group of disks keeps no link.
-use Rattle.std.proofs.Common.{◌≡◌, ◌∙◌, ◌<◌, ℕ, Bool, true, false, List, [], ◌∷◌, sym, subst, refl}
+use Rattle.std.proofs.Common.{◌≡◌, ◌<◌, ℕ, Bool, true, false, List, [], ◌∷◌, subst, refl}
 use Rattle.std.specs.Prelude.{Some, slice_get}
 use Rattle.vx_disk.specs.declared.shelf.Shelf.{Ghosts}
 use Rattle.vx_diskset.specs.Holds.{KeptBeside, beside_of}

@@ -16,7 +16,7 @@ use Rattle.vx_history.specs.Receiving.{received_step}
 use Rattle.vx_history.specs.Refusals.{Outcome, is_running, says}
 use Rattle.vx_history.specs.Steps.{burned, worked, worked_on}
 use Rattle.vx_history.specs.Groups.{GroupNode}
-use Rattle.vx_history.specs.World.{Fuse, FuseLit, FuseSet, Gathering, Link, Message, NoFuse, Node, Packet, Update, Volume, World}
+use Rattle.vx_history.specs.World.{Fuse, Gathering, Link, Message, Node, Packet, Update, Volume, World}
 use Rattle.vx_history.specs.declared.event.Event.TheVariants.{Deliver as DeliverAt}
 use Rattle.vx_history.specs.declared.event.Said.{Said as EventSaid}
 use Rattle.vx_history.specs.declared.event.Said.TheVariants.{Ignored as IsIgnored, Taken as IsTaken}
@@ -62,6 +62,7 @@ use Rattle.vx_yard.proofs.FailsStay.{alone_keeps, fails_then}
 use Rattle.vx_yard.proofs.FuseStays.{fused_on}
 use Rattle.vx_yard.proofs.Lists.{get-set_other, get-set_same, length-set}
 use Rattle.vx_yard.proofs.OneSite.{Changed, Comes, stands_at, stands_still}
+use Rattle.vx_link_lines.proofs.NotedYard.{left_burned}
 
 -- ---- what is noted of the target
 
@@ -163,11 +164,6 @@ written_site n k source x is = record {
 over_site : (n k : Node) → SameSite n k → is_over_group k ≡ is_over_group n
 over_site n k same =
     ap (λ (o : Option GroupNode). is_some o && eqb (length k.volumes) 0) same.group ∙ ap (λ (vs : List Volume). is_some n.group && eqb (length vs) 0) same.volumes
-
-left_burned : (f : Fuse) (z : Option (ℕ × ℕ)) → LeftAs f z → LeftAs (burned f) z
-left_burned NoFuse z left = tt
-left_burned (FuseSet calls) z left = left
-left_burned (FuseLit most) z left = left
 
 -- ---- its facts
 

@@ -1,5 +1,6 @@
 -- A line that waits for a write, as an event of the world.
 use Rattle.std.proofs.Common.{◌≡◌, ◌∙◌, ◌⊎◌, ⊎_elim, inl, inr, ◌+◌, ◌<◌, ℕ, zero, suc, List, [], ◌∷◌, Bool, true, false, ap, sym, subst, refl, arith}
+use Rattle.std.proofs.lemmas.Bool.{and_parts}
 use Rattle.std.specs.Prelude.{Option, Some, None, IsSome, not, ◌&&◌, ◌||◌, eqb, leb, ltb, if◌then◌else◌}
 use Rattle.std.specs.List.{list_any}
 use Rattle.vx_history.specs.Events.{linked_sites, link_in_place, put_before, is_in_place, promises_of, waited}
@@ -17,6 +18,7 @@ use Rattle.vx_model.specs.declared.no.No.{No}
 use Rattle.vx_model.specs.declared.no.No.TheVariants.{Down as NotUp, Role as WrongRole, Unconfirmed, Unknown}
 use Rattle.vx_model.specs.declared.site.SiteState.{SiteState}
 use Rattle.vx_model.specs.declared.site.SiteState.TheVariants.{Up}
+use Rattle.vx_model.proofs.Tests.{or_true}
 use Rattle.vx_order.specs.Asks.{ask_of}
 use Rattle.vx_order.specs.Sites.{site_named, site_off}
 use Rattle.vx_order.specs.Subject.{first_name, halt_of, need_of, second_name}
@@ -86,10 +88,6 @@ both_ways true b f g = sym (f refl)
 both_ways false true f g = g refl
 both_ways false false f g = refl
 
-pub or_right : (a b : Bool) → b ≡ true → (a || b) ≡ true
-or_right true b e = refl
-or_right false b e = e
-
 split : (k n : ℕ) → k < suc n → (k ≡ n) ⊎ (k < n)
 split zero zero h = inl refl
 split zero (suc n) h = inr (omega arith)
@@ -100,7 +98,7 @@ pub below_at : (n : ℕ) (test : ℕ → Bool) (k : ℕ) → k < n → test k �
 below_at zero test k h e = absurd (omega (arith, h))
 below_at (suc n) test k h e =
     ⊎_elim (λ (is : k ≡ n). ap (λ (b : Bool). b || some_below n test) (subst (λ (j : ℕ). test j ≡ true) is e))
-    (λ (less : k < n). or_right (test n) (some_below n test) (below_at n test k less e)) (split k n h)
+    (λ (less : k < n). or_true (test n) (some_below n test) (below_at n test k less e)) (split k n h)
 
 pub below_of : (n : ℕ) (test : ℕ → Bool) → some_below n test ≡ true → (k : ℕ) × (k < n) × (test k ≡ true)
 below_of zero test e = absurd (cc)
@@ -130,10 +128,6 @@ all_below row sites place (suc k) = by (link_in_place row place sites) (λ s is.
     by None there more = more
     by (Some s) there more = (there s refl, more)
 
-pub all_of : (a b : Bool) → (a && b) ≡ true → (a ≡ true) × (b ≡ true)
-all_of true b e = (refl, e)
-all_of false b e = absurd (cc)
-
 module _ (n : Node) (row : ℕ → Link) (number sites : ℕ) where
   abbrev holds : ℕ → Bool
   holds k = holds_back number k (row k)
@@ -154,7 +148,7 @@ module _ (n : Node) (row : ℕ → Link) (number sites : ℕ) where
   among_any : (k : ℕ) (ss : List ℕ) → IsAmong k ss → held k ≡ true → list_any (holds_up number) (link_facts n row ss) ≡ true
   among_any k [] h e = absurd h
   among_any k (t ∷ ts) (inl same) e = ap (λ (b : Bool). b || list_any (holds_up number) (link_facts n row ts)) (subst (λ (j : ℕ). held j ≡ true) same e)
-  among_any k (t ∷ ts) (inr more) e = or_right (held t) _ (among_any k ts more e)
+  among_any k (t ∷ ts) (inr more) e = or_true (held t) _ (among_any k ts more e)
 
 pub holds_same : (w : World) → AreListed w → (p number : ℕ) → some_below w.sites (λ k. holds_back number k (w.links p k)) ≡ list_any (holds_up number) (links_of_site w p)
 holds_same w listed p number =
@@ -164,7 +158,7 @@ holds_same w listed p number =
     both_ways _ _
     (λ back.
     let k = below_of w.sites (holds n row number w.sites) back in
-    let parts = all_of (is_linked (row k.0)) (held n row number w.sites k.0) k.2 in
+    let parts = and_parts (is_linked (row k.0)) (held n row number w.sites k.0) k.2 in
     among_any n row number w.sites k.0 ss (listed.each p k.0 k.1 parts.0) parts.1)
     (λ up. holding n row number w.sites ss (all_linked row w.sites 0 w.sites) (all_below row w.sites 0 w.sites) up)
 

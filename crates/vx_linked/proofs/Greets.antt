@@ -1,5 +1,6 @@
 -- What a site greets with, as the tests of a line see it and as the world has it.
 use Rattle.std.proofs.Common.{◌≡◌, ◌∙◌, ℕ, List, [], ◌++◌, length, Bool, true, false, ap, sym, subst, refl}
+use Rattle.std.proofs.lemmas.Bool.{and_parts, not-true}
 use Rattle.std.specs.Prelude.{Option, Some, None, not, ◌&&◌, slice_get, if◌then◌else◌}
 use Rattle.vx_courier.specs.UnderWay.{FlightStands}
 use Rattle.vx_history.specs.Events.{greeting_back, greets}
@@ -44,14 +45,6 @@ by_up : (u : Bool) (a b : RvgFacts) → greeter_of (Some a) (if u then Some b el
 by_up true a b = refl
 by_up false a b = refl
 
-both : (a b : Bool) → (a && b) ≡ true → (a ≡ true) × (b ≡ true)
-both true b e = (refl, e)
-both false b e = absurd (cc)
-
-not_true : (b : Bool) → not b ≡ true → b ≡ false
-not_true true e = absurd (cc)
-not_true false e = refl
-
 runs_none : (h : Option ℕ) → is_running h ≡ true → h ≡ None
 runs_none None e = refl
 runs_none (Some disk) e = let no : false ≡ true = e in absurd (cc)
@@ -89,9 +82,9 @@ module _ (w : World) (from to : List ℕ) (tested : Tested (facts_over w) from t
 
   receives_there : greets here there ≡ true → (there.state ≡ Up) × (there.halted ≡ None) × (is_origin there.role ≡ false)
   receives_there e =
-      let up = both (is_up there.state) _ e in
-      let runs = both (is_running there.halted) _ up.1 in
-      (up_is there.state up.0, runs_none there.halted runs.0, not_true (is_origin there.role) (both (not (is_origin there.role)) (same_line there.line here.line) runs.1).0)
+      let up = and_parts (is_up there.state) _ e in
+      let runs = and_parts (is_running there.halted) _ up.1 in
+      (up_is there.state up.0, runs_none there.halted runs.0, not-true (is_origin there.role) (and_parts (not (is_origin there.role)) (same_line there.line here.line) runs.1).0)
 
   -- the greeting that is sent is that of the world
   hello_is : (session stored : ℕ) → Tells there session stored → hello_of (if greets here there then Some (group_fact there) else None) b a session stored ≡ greeting_back w a b

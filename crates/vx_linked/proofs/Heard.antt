@@ -1,5 +1,6 @@
 -- What a link in memory has heard, as a delivery of the world.
 use Rattle.std.proofs.Common.{◌≡◌, ◌∙◌, ◌⊎◌, ⊎_elim, inl, inr, ◌+◌, ◌<◌, ℕ, List, [], ◌∷◌, Bool, true, false, ap, sym, subst, refl, arith}
+use Rattle.std.proofs.lemmas.Bool.{and_parts, false_from_ne_true}
 use Rattle.std.specs.Prelude.{Option, Some, None, ◌&&◌, ◌==◌, cond, slice_get, if◌then◌else◌}
 use Rattle.std.specs.List.{find}
 use Rattle.std.proofs.lemmas.Bool.Decides.{nat_tests}
@@ -13,7 +14,7 @@ use Rattle.vx_history.specs.World.{Link, Node, Packet, World, updated}
 use Rattle.vx_history.specs.declared.event.Event.TheVariants.{Deliver as DeliverAt}
 use Rattle.vx_history.specs.declared.event.Said.TheVariants.{Ignored as IsIgnored}
 use Rattle.vx_history.specs.declared.sender.SEvent.{SEvent}
-use Rattle.vx_history.proofs.States.{up_is}
+use Rattle.vx_history.proofs.States.{runs_is, up_is}
 use Rattle.vx_history.proofs.Updates.{at_place}
 use Rattle.vx_model.specs.Sites.{is_up}
 use Rattle.vx_model.specs.declared.site.SiteState.{SiteState}
@@ -104,14 +105,6 @@ listens_up Down n = refl
 pub listens_is : (w : World) (i : ℕ) → listens (Some (linked_fact w i)) ≡ (is_up (w.nodes i).state && (is_running (w.nodes i).halted && keeps_links (w.nodes i).role))
 listens_is w i = listens_up (w.nodes i).state (w.nodes i)
 
-both : (a b : Bool) → (a && b) ≡ true → (a ≡ true) × (b ≡ true)
-both true b e = (refl, e)
-both false b e = absurd (cc)
-
-runs : (h : Option ℕ) → is_running h ≡ true → h ≡ None
-runs None e = refl
-runs (Some disk) e = absurd (cc)
-
 picks : (b : Bool) (o : Option LinkFacts) (l : LinkFacts) → (if b then o else None) ≡ Some l → (b ≡ true) × (o ≡ Some l)
 picks true o l e = (refl, e)
 picks false o l e = absurd (never_some e)
@@ -133,9 +126,9 @@ hears_so w sites target source l facts is =
     let link : IsLinkOf w target source l = between w target source l found.1 in
     let listening : (is_up (w.nodes target).state && (is_running (w.nodes target).halted && keeps_links (w.nodes target).role)) ≡ true
     = sym (listens_is w target) ∙ ap listens (sym (site_apart w target link.below link.apart)) ∙ found.0 in
-    let up = both (is_up (w.nodes target).state) _ listening in
-    let running = both (is_running (w.nodes target).halted) _ up.1 in
-    record { site = record { up = link.up; running = runs (w.nodes target).halted running.0; keeps = running.1 }; link = link }
+    let up = and_parts (is_up (w.nodes target).state) _ listening in
+    let running = and_parts (is_running (w.nodes target).halted) _ up.1 in
+    record { site = record { up = link.up; running = runs_is (w.nodes target).halted running.0; keeps = running.1 }; link = link }
 
 -- ---- where nothing hears
 
@@ -155,10 +148,6 @@ among_found n row s (t ∷ ts) (inr more) e = by (t == s) (λ none. among_found 
     by : (b : Bool) → (find (leads_to s) (link_facts n row ts) ≡ None → ⊥) → cond b (Some (link_fact n t (row t))) (find (leads_to s) (link_facts n row ts)) ≡ None → ⊥
     by true rest none = never_some (sym none)
     by false rest none = rest none
-
-not_so : (b : Bool) → (b ≡ true → ⊥) → b ≡ false
-not_so true never = absurd (never refl)
-not_so false never = refl
 
 neither : (u v k : Bool) → (u && (v && k)) ≡ false → ((u && v) ≡ false) ⊎ (k ≡ false)
 neither false v k e = inl refl
@@ -193,7 +182,7 @@ module _ (w : World) (p : Packet) (e : SEvent) (heard_is : heard w p p.message �
 
   unlinked : AreListed w → p.source < w.sites → site.state ≡ Up → fact_between (facts_over w) p.target p.source ≡ None → slice_get (facts_over w) p.target ≡ Some (linked_fact w p.target) → is_linked there ≡ false
   unlinked listed small up none at =
-      not_so (is_linked there)
+      false_from_ne_true (is_linked there)
       (λ is. among_found site (w.links p.target) p.source (linked_sites (w.links p.target) w.sites 0 w.sites) (listed.each p.target p.source small is)
       (ap (λ (st : SiteState). find (leads_to p.source) (links_by st (links_of_site w p.target))) (sym up) ∙ ap (λ (o : Option SiteFacts). link_leading o p.source) (sym at) ∙ none))
 
@@ -207,7 +196,7 @@ module _ (w : World) (p : Packet) (e : SEvent) (heard_is : heard w p p.message �
       by : (b : Bool) → listens (slice_get (facts_over w) p.target) ≡ b → listens (slice_get (facts_over w) p.target) ≡ (is_up site.state && (is_running site.halted && keeps_links site.role))
           → slice_get (facts_over w) p.target ≡ Some (linked_fact w p.target) → (if listens (slice_get (facts_over w) p.target) then fact_between (facts_over w) p.target p.source else None) ≡ None → handed w p ≡ says w IsIgnored
       by true is same at missing =
-          let up = both (is_up site.state) _ (sym same ∙ is) in
+          let up = and_parts (is_up site.state) _ (sym same ∙ is) in
           not_heard (and_false (keeps_links site.role) (is_linked there)
           (unlinked listed small (up_is site.state up.0) (ap (λ (b : Bool). if b then fact_between (facts_over w) p.target p.source else None) (sym is) ∙ missing) at))
       by false is same at missing =

@@ -1,7 +1,9 @@
 -- The numbers that the links of a site need, and those that a write waits for.
 use Rattle.std.proofs.Common.{◌≡◌, ◌∙◌, ◌⊎◌, inl, inr, ⊎_elim, ◌≤◌, ℕ, zero, suc, List, [], ◌∷◌, Bool, true, false, ap, subst, refl, arith}
+use Rattle.std.proofs.lemmas.Bool.{and_parts}
 use Rattle.std.specs.Prelude.{◌&&◌, ◌||◌, min, Some, slice_get, if◌then◌else◌}
 use Rattle.std.specs.List.{list_any}
+use Rattle.vx_model.proofs.Tests.{or_true}
 use Rattle.vx_order.specs.Sending.{last_number}
 use Rattle.vx_history.specs.Admission.{hold, is_holding}
 use Rattle.vx_history.specs.Events.{linked_sites}
@@ -15,7 +17,7 @@ use Rattle.vx_events.proofs.LinkTesting.{AllLinked, all_linked}
 use Rattle.vx_events.proofs.Places.{some_same}
 use Rattle.vx_events.specs.LinkedFacts.{link_fact, link_facts, links_of_site}
 use Rattle.vx_linked.specs.Holds.{HeldBy, awaits, held_from, least_hold, lesser_hold}
-use Rattle.vx_linked.proofs.Confirms.{AllBelow, all_below, all_of, below_at, below_of, both_ways, or_right}
+use Rattle.vx_linked.proofs.Confirms.{AllBelow, all_below, below_at, below_of, both_ways}
 
 -- ---- the least hold
 
@@ -106,7 +108,7 @@ module _ (n : Node) (row : ℕ → Link) (sites : ℕ) where
   among : (k : ℕ) (ss : List ℕ) → IsAmong k ss → held k ≡ true → list_any awaits (link_facts n row ss) ≡ true
   among k [] h e = absurd h
   among k (t ∷ ts) (inl same) e = ap (λ (b : Bool). b || list_any awaits (link_facts n row ts)) (subst (λ (j : ℕ). held j ≡ true) same e)
-  among k (t ∷ ts) (inr more) e = or_right (held t) _ (among k ts more e)
+  among k (t ∷ ts) (inr more) e = or_true (held t) _ (among k ts more e)
 
 pub awaits_same : (w : World) → AreListed w → (p : ℕ) → some_below w.sites (λ k. is_waited_for k (w.links p k)) ≡ list_any awaits (links_of_site w p)
 awaits_same w listed p =
@@ -116,6 +118,6 @@ awaits_same w listed p =
     both_ways _ _
     (λ back.
     let k = below_of w.sites (waited n row w.sites) back in
-    let parts = all_of (is_linked (row k.0)) (held n row w.sites k.0) k.2 in
+    let parts = and_parts (is_linked (row k.0)) (held n row w.sites k.0) k.2 in
     among n row w.sites k.0 ss (listed.each p k.0 k.1 parts.0) parts.1)
     (λ up. awaiting n row w.sites ss (all_linked row w.sites 0 w.sites) (all_below row w.sites 0 w.sites) up)

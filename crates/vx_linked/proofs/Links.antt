@@ -3,6 +3,7 @@ use Rattle.std.proofs.Common.{◌≡◌, ◌∙◌, inl, inr, ◌+◌, ℕ, suc,
 use Rattle.std.specs.Prelude.{◌==◌, not, cond, slice_set}
 use Rattle.std.specs.List.{position_or_len}
 use Rattle.std.proofs.lemmas.Bool.Decides.{nat_tests}
+use Rattle.vx_model.proofs.Tests.{by_bool}
 use Rattle.vx_history.specs.World.{Node, Link, updated}
 use Rattle.vx_history.proofs.Updates.{at_place}
 use Rattle.vx_order.specs.declared.facts.LinkFacts.{LinkFacts}
@@ -32,10 +33,6 @@ place_here p x xs e = ap (λ (b : Bool). cond (not b) (1 + position_or_len p xs)
 place_later : {A : Type 0} (p : A → Bool) (x : A) (xs : List A) → p x ≡ false → position_or_len p (x ∷ xs) ≡ suc (position_or_len p xs)
 place_later p x xs e = let more : 1 + position_or_len p xs ≡ suc (position_or_len p xs) = omega arith in ap (λ (b : Bool). cond (not b) (1 + position_or_len p xs) 0) e ∙ more
 
-by_cases : {A : Type 0} (b : Bool) → (b ≡ true → A) → (b ≡ false → A) → A
-by_cases true here later = here refl
-by_cases false here later = later refl
-
 -- the facts of one link and those of the others, where they stand before and behind
 set_here : (n : Node) (row : ℕ → Link) (s : ℕ) (l : Link) (t : ℕ) (ts : List ℕ) → (IsAmong t ts → ⊥) → (t == s) ≡ true
     → link_facts n (updated row s l) (t ∷ ts) ≡ slice_set (link_facts n row (t ∷ ts)) (position_or_len (leads_to s) (link_facts n row (t ∷ ts))) (link_fact n s l)
@@ -60,4 +57,4 @@ set_later n row s l t ts is rest =
 pub link_facts_set : (n : Node) (row : ℕ → Link) (s : ℕ) (l : Link) (ss : List ℕ) → AreApart ss
     → link_facts n (updated row s l) ss ≡ slice_set (link_facts n row ss) (position_or_len (leads_to s) (link_facts n row ss)) (link_fact n s l)
 link_facts_set n row s l [] all = refl
-link_facts_set n row s l (t ∷ ts) all = by_cases (t == s) (set_here n row s l t ts all.0) (λ is. set_later n row s l t ts is (link_facts_set n row s l ts all.1))
+link_facts_set n row s l (t ∷ ts) all = by_bool (t == s) (set_here n row s l t ts all.0) (λ is. set_later n row s l t ts is (link_facts_set n row s l ts all.1))

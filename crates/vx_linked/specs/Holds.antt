@@ -1,11 +1,10 @@
 -- What a write of a site has to do with its links in memory.
-use Rattle.std.specs.Prelude.{◌≡◌, ℕ, zero, suc, ◌-◌, ◌^◌, min, nat_lt, slice_get, Bool, true, ◌&&◌, List, [], ◌∷◌, Option, Some, None, if◌then◌else◌}
+use Rattle.std.specs.Prelude.{◌≡◌, ℕ, zero, suc, ◌-◌, ◌^◌, min, nat_lt, slice_get, Bool, true, ◌&&◌, List, [], ◌∷◌, Some, if◌then◌else◌}
 use Rattle.std.specs.List.{list_any}
 use Rattle.vx_order.specs.Sending.{last_number}
 use Rattle.vx_history.specs.Admission.{hold, is_holding, is_live_link, is_log}
 use Rattle.vx_history.specs.Refusals.{waits}
 use Rattle.vx_order.specs.declared.facts.LinkFacts.{LinkFacts}
-use Rattle.vx_order.specs.declared.facts.RvgFacts.{RvgFacts}
 use Rattle.vx_order.specs.declared.facts.SiteFacts.{SiteFacts}
 use Rattle.vx_effects.specs.Facts.{grown_link}
 

@@ -10,6 +10,7 @@ use Rattle.vx_fmr.specs.Missed.{Missed, has_missed}
 use Rattle.vx_group.specs.Holding.{GroupStands, wide}
 use Rattle.vx_group.specs.declared.group_core.GroupCore.{GroupCore}
 use Rattle.vx_grouplogs.specs.Gone.{LogsDrop}
+use Rattle.vx_grouplogs.proofs.CoverLemmas.{region_inside}
 use Rattle.vx_grouplogs.proofs.GoneLemmas.{drops_of}
 use Rattle.vx_grouplogs.proofs.KnowActs.{know_logs, logs_off_plex}
 use Rattle.vx_grouplogs.proofs.MapLemmas.{goes_logs, maps_logs}
@@ -22,7 +23,6 @@ use Rattle.vx_groupmaps.proofs.MapPlaces.{region_low}
 use Rattle.vx_layout.specs.Places.{HasBlock, place}
 use Rattle.vx_logs.specs.Held.{LogsFit}
 use Rattle.vx_logs.specs.declared.logs.Logs.{Logs}
-use Rattle.vx_model.specs.Sizes.{regions_of as regions_in}
 use Rattle.vx_volume.specs.Plexes.{Inside}
 use Rattle.vx_volume.proofs.PlaceLemmas.{has_of}
 use Rattle.vx_logged.specs.Copied.{MapsTake, ReadsRow, TakesRow}
@@ -32,10 +32,6 @@ use Rattle.vx_logged.proofs.StandLemmas.{inner_wide}
 -- blocks of the maps by the configuration in memory are such ones by that which the disks keep
 pub maps_wide : (core : GroupCore) (v : ℕ) (m m1 m2 : Meaning) → GroupStands core m → Goes (OnMaps core.inner.config v) m1 m2 → Goes (OnMaps (wide core).config v) m1 m2
 maps_wide core v m m1 m2 stands goes = maps_alike core.inner.config (wide core).config v (λ log. sym ((inner_wide core m stands).logs v log)) m1 m2 goes
-
--- a block lies in a region of the volume
-region_in : (blocks b : ℕ) → b < blocks → b / 64 < regions_in blocks
-region_in blocks b lt = omega (arith, lt)
 
 module _ (c : Config) (sound : is_sound c ≡ true) (v : ℕ) (some : 0 < blocks_in c.volumes v) (to from : ℕ) (l k : Logs) (m m' : Meaning) (goes : Goes (OnMaps c v) m m') (fits : LogsFit c v l) (gone : Bool) (ends : CopyEnds to from gone l.fmr k.fmr m m') where
   off_maps : (p b : ℕ) (x : List ℕ) → HasBlock c v p b → OnMaps c v (place c v p b).0 (place c v p b).1 x → ⊥
@@ -47,7 +43,7 @@ module _ (c : Config) (sound : is_sound c ≡ true) (v : ℕ) (some : 0 < blocks
     where
       by : (t : Bool) → has_missed f from (b / 64) ≡ t → t ≡ false
       by false is = refl
-      by true is = absurd (let clash : true ≡ false = sym (it.has (b / 64) (omega (arith, region_in (blocks_in c.volumes v) b inside.within, (fits.fmr f at).regions)) is) ∙ clear in cc)
+      by true is = absurd (let clash : true ≡ false = sym (it.has (b / 64) (omega (arith, region_inside (blocks_in c.volumes v) b inside.within, (fits.fmr f at).regions)) is) ∙ clear in cc)
 
   pub copied_knows : ReadsRow c v to from l m → MapsKnow c v l m → MapsKnow c v k m'
   copied_knows reads know = record { so = λ g is up. by g up l.fmr k.fmr refl is ends }

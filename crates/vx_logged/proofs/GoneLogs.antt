@@ -19,10 +19,6 @@ use Rattle.vx_logged.specs.Logged.{DropsBut, Narrowed, TrustsIn}
 
 -- ---- logs that are held as lost
 
--- a call that left the configuration alone
-pub trusts_same : (c : Config) → TrustsStill c c
-trusts_same c = record { each = λ w log is. is }
-
 pub trusts_all : (v : ℕ) (this : VolumeLog) (c : Config) → TrustsBut v this c c
 trusts_all v this c = record { each = λ w log apart is. is }
 

@@ -1,30 +1,23 @@
 -- What the logs of a group tell of each image.
 use Rattle.std.proofs.Common.{◌≡◌, ◌∙◌, ℕ, ◌+◌, ◌/◌, ◌%◌, ◌<◌, true, false, List, length, sym, ap, arith}
-use Rattle.std.specs.Prelude.{not}
 use Rattle.vx_bitmap.specs.Bits.{is_marked}
 use Rattle.vx_config.specs.declared.config.Config.{Config}
-use Rattle.vx_config.specs.declared.entry.LogEntry.{LogEntry}
 use Rattle.vx_config.specs.declared.entry.VolumeLog.TheVariants.{Drl}
 use Rattle.vx_disk.specs.Shelf.{Each, Image, Meaning}
 use Rattle.vx_kept.specs.Keeping.{Kin}
-use Rattle.vx_maplog.specs.Logs.{used_or}
-use Rattle.vx_kept.specs.LogRuns.{log_trusted}
 use Rattle.vx_kept.proofs.Low.{found_same}
-use Rattle.vx_logs.specs.Held.{InUse, logged_in}
+use Rattle.vx_logs.specs.Held.{logged_in}
 use Rattle.vx_logs.specs.declared.logs.Logs.{Logs}
 use Rattle.vx_volume.specs.Plexes.{Inside}
 use Rattle.vx_group.specs.Holding.{GroupStands, wide}
 use Rattle.vx_group.specs.declared.group_core.GroupCore.{GroupCore}
 use Rattle.vx_group.proofs.HoldLemmas.{wide_shape}
+use Rattle.vx_group.proofs.TrustingLemmas.{used_trusted}
 use Rattle.vx_grouplogs.specs.On.{VolumeOn}
 use Rattle.vx_grouplogs.proofs.GroupLemmas.{image_covers}
 use Rattle.vx_grouplogs.proofs.LogShape.{run_back}
 use Rattle.vx_logged.specs.Logged.{LogOn}
 use Rattle.vx_logged.specs.Tells.{ImageTells, LogTells}
-
-used_trusted : (x : Config) (v : ℕ) (e : LogEntry) → InUse x v Drl e → log_trusted x v Drl ≡ true
-unfolding log_trusted
-used_trusted x v e use_it = ap used_or use_it.is ∙ ap not use_it.kept
 
 -- an image of a group tells by its own configuration what the disks cover by that in memory
 module _ (c x : Config) (v : ℕ) (l : Logs) (m : Meaning) (i : Image) (lt : v < length c.volumes) (on : VolumeOn c v l m) (each : Each m.leaves i) (kin : Kin c x) where

@@ -186,10 +186,6 @@ clears_set c v ls l k is fewer = record {
   others = λ w apart. set_other ls v k w apart;
 }
 
-pub up_false : (b : Bool) → (IsTrue b → ⊥) → b ≡ false
-up_false true up = absurd (up refl)
-up_false false up = refl
-
 -- what is said where a call began up is said of each that was done
 pub done_up : {T P Q : Type 0} (r : Result T ShelfError) (a b : Meaning) (v : ℕ) → Cause a b v r → ((IsTrue a.down → ⊥) → OnOk r P) → (P → Q) → OnOk r Q
 done_up (Ok x) a b v cause so to = to (so cause.before)

@@ -1,14 +1,12 @@
 -- A deport behind flushes of the disks, at which volumes may have become unsure.
-use Rattle.std.proofs.Common.{◌≡◌, ◌∙◌, ◌⊎◌, inl, inr, ⊎_elim, ℕ, ◌≤◌, Bool, true, false, IsTrue, List, refl, sym, arith}
+use Rattle.std.proofs.Common.{◌≡◌, ◌⊎◌, inl, inr, ⊎_elim, ℕ, ◌≤◌, Bool, false, IsTrue, List, refl}
 use Rattle.std.specs.Prelude.{Err, Ok, Result}
-use Rattle.vx_config.specs.declared.config.Config.{Config}
 use Rattle.vx_disk.specs.Shelf.{Each, Goes, Image, Lawful, Meaning, Nothing, Or}
 use Rattle.vx_group.specs.Calls.{GroupBack, GroupCloses}
 use Rattle.vx_group.specs.Copying.{NoMember}
 use Rattle.vx_group.specs.Dets.{DetStops}
 use Rattle.vx_group.specs.Holding.{GroupStands, wide}
 use Rattle.vx_group.specs.Quiesces.{AnyFailed, QuiescesBy}
-use Rattle.vx_group.specs.Stands.{inner_meaning}
 use Rattle.vx_group.specs.declared.group_core.GroupCore.{GroupCore}
 use Rattle.vx_group.specs.declared.inner.Inner.{Inner}
 use Rattle.vx_group.proofs.CopyLemmas.{sees_none, sees_wider}

@@ -1,7 +1,6 @@
 -- What the disks of a group with logs tell behind a deport, and what a refused one leaves.
-use Rattle.std.proofs.Common.{◌≡◌, ◌⊎◌, ◌∙◌, inl, inr, ℕ, ◌<◌, Bool, false, Some, List, length, refl, sym, arith}
-use Rattle.std.specs.Prelude.{Result, Ok, Err, IfErr, OnOk, slice_get}
-use Rattle.std.proofs.lemmas.Option.{slice_get_within}
+use Rattle.std.proofs.Common.{◌≡◌, ◌⊎◌, ◌∙◌, inl, inr, ℕ, ◌<◌, Bool, List, length, refl, sym, arith}
+use Rattle.std.specs.Prelude.{Result, Ok, Err, IfErr}
 use Rattle.vx_config.specs.declared.config.Config.{Config}
 use Rattle.vx_config.specs.declared.entry.VolumeLog.TheVariants.{Drl}
 use Rattle.vx_copyfmt.specs.Imports.{Found}

@@ -1,5 +1,5 @@
 -- A plex that is detached behind a beginning of logs: it may be, where it might before.
-use Rattle.std.proofs.Common.{◌≡◌, ◌∙◌, ℕ, zero, suc, ◌-◌, ◌&&◌, ◌||◌, ◌≤◌, Bool, true, false, IsTrue, Option, Some, None, length, refl, ap, sym, subst, arith}
+use Rattle.std.proofs.Common.{◌≡◌, ◌∙◌, ℕ, zero, suc, ◌-◌, ◌&&◌, ◌||◌, ◌≤◌, Bool, true, false, Option, Some, None, length, refl, ap, sym, arith}
 use Rattle.std.specs.Prelude.{◌==◌, Err, IsOk, Ok, Result, if◌then◌else◌, is_some, nat_le, nat_lt, not}
 use Rattle.std.proofs.lemmas.Bool.{leb-true}
 use Rattle.vx_config.specs.Checks.{plexes_of}
@@ -8,7 +8,6 @@ use Rattle.vx_config.specs.declared.config.Config.{Config}
 use Rattle.vx_disk.specs.Shelf.{Meaning}
 use Rattle.vx_grouplogs.proofs.LogShape.{same_count}
 use Rattle.vx_group.specs.Dets.{any_below, det_refusal, is_other, margin}
-use Rattle.vx_group.specs.Holding.{wide}
 use Rattle.vx_group.specs.declared.group_core.GroupCore.{GroupCore}
 use Rattle.vx_group.proofs.HoldLemmas.{wide_shape}
 use Rattle.vx_model.specs.declared.no.No.{No}

@@ -1,6 +1,6 @@
 -- The map of a plex that was detached, as it begins.
 use Rattle.std.proofs.Common.{◌≡◌, ◌∙◌, inl, inr, ℕ, ◌/◌, ◌<◌, ◌≤◌, Bool, true, false, Option, Some, None, List, IsTrue, length, refl, sym, ap, subst, arith}
-use Rattle.std.specs.Prelude.{IfErr, OnOk, Result, Ok, Err, slice_get}
+use Rattle.std.specs.Prelude.{IfErr, Result, Ok, Err, slice_get}
 use Rattle.std.proofs.lemmas.Option.{slice_get_within}
 use Rattle.vx_config.specs.declared.entry.VolumeEntry.{VolumeEntry}
 use Rattle.std.proofs.Math.ListN.{set}
@@ -13,12 +13,11 @@ use Rattle.vx_disk.specs.Shelf.{Goes, Meaning}
 use Rattle.vx_disk.specs.declared.shelf.ShelfError.{ShelfError}
 use Rattle.vx_disk.specs.declared.shelf.ShelfError.TheVariants.{Fault, Down as Fell}
 use Rattle.vx_disk.proofs.Causing.{Rose_before, cause_before}
-use Rattle.vx_fmr.specs.Missed.{FmrLoaded, Missed, OthersSame, has_missed}
+use Rattle.vx_fmr.specs.Missed.{FmrLoaded, Missed, has_missed}
 use Rattle.vx_group.specs.Dets.{DetStops}
-use Rattle.vx_groupmaps.specs.Beginning.{EmptyAnswers, EmptyEnds, MapEmptied}
+use Rattle.vx_groupmaps.specs.Beginning.{EmptyEnds, MapEmptied}
 use Rattle.vx_groupmaps.specs.Knowing.{MapsKnow, PlexesKnow}
 use Rattle.vx_groupmaps.specs.Missing.{OnMaps, none_spared, or_spared}
-use Rattle.vx_groupmaps.proofs.BeginLemmas.{down_of}
 use Rattle.vx_groupmaps.proofs.BetweenLemmas.{goes_reads}
 use Rattle.vx_groupmaps.proofs.KnowLemmas.{plex_below, read_old}
 use Rattle.vx_groupmaps.proofs.MapPlaces.{region_low}
@@ -172,10 +171,6 @@ det_later a m m' rises (Err (Refused why)) stops = cause_before a m m' rises why
 det_later a m m' rises (Err OutOfMemory) stops = stops
 
 -- ---- answers
-
-pub on_any : {T E P : Type 0} (r : Result T E) → P → OnOk r P
-on_any (Ok x) p = p
-on_any (Err e) p = tt
 
 pub err_any : {T E P : Type 0} (r : Result T E) → P → IfErr r (λ e. P)
 err_any (Ok x) p = tt

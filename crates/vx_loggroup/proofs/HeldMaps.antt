@@ -93,7 +93,7 @@ pub record HeldSoFar (c : GroupCore) (a : List Bool) (s : Bool) (ls0 : List Logs
   pub gone : (w : ℕ) → w < n → on_failed_disk c.inner.config w Fmr ≡ true → fmr_at ls w ≡ None
   pub drl : (w : ℕ) (l k : Logs) → slice_get ls0 w ≡ Some l → slice_get ls w ≡ Some k → k.drl ≡ l.drl
 
-same_drls : (o : Option Logs) (l k : Logs) → o ≡ Some l → o ≡ Some k → k.drl ≡ l.drl
+pub same_drls : (o : Option Logs) (l k : Logs) → o ≡ Some l → o ≡ Some k → k.drl ≡ l.drl
 same_drls o l k one two = let both : Some l ≡ Some k = sym one ∙ two in let is : l ≡ k = cc in ap (λ (x : Logs). x.drl) (sym is)
 
 pub none_held : (c : GroupCore) (a : List Bool) (s : Bool) (ls : List Logs) (m : Meaning) → LoggedStands c ls a s m → HeldSoFar c a s ls m 0 ls

@@ -1,5 +1,5 @@
 -- What the maps of missed regions know of the volumes of a group beside calls that show nothing new of them.
-use Rattle.std.proofs.Common.{◌≡◌, ◌∙◌, inl, inr, ℕ, ◌/◌, ◌<◌, Bool, true, false, Option, Some, None, List, IsTrue, refl, sym, ap, subst, arith}
+use Rattle.std.proofs.Common.{◌≡◌, inl, inr, ℕ, ◌/◌, Bool, true, false, Some, List, IsTrue, subst}
 use Rattle.vx_config.specs.Checks.{blocks_of as blocks_in, is_sound}
 use Rattle.vx_config.specs.declared.config.Config.{Config}
 use Rattle.vx_disk.specs.Shelf.{Goes, Meaning, Nothing, Values}
@@ -13,12 +13,11 @@ use Rattle.vx_groupmaps.specs.Knowing.{MapsKnowBy}
 use Rattle.vx_groupmaps.specs.Missing.{or_spared}
 use Rattle.vx_groupmaps.proofs.KnowLemmas.{read_old}
 use Rattle.vx_grouplogs.proofs.LogShape.{has_back}
-use Rattle.vx_kept.specs.Groups.{OnSome, OutsideVolumes}
+use Rattle.vx_kept.specs.Groups.{OnSome}
 use Rattle.vx_kept.specs.Keeping.{SameShape, frame_at}
 use Rattle.vx_kept.proofs.Steps.{inside_same}
 use Rattle.vx_layout.specs.Places.{HasBlock, place}
 use Rattle.vx_logs.specs.declared.logs.Logs.{Logs}
-use Rattle.vx_volume.specs.Plexes.{Inside, active}
 use Rattle.vx_logged.specs.Logged.{KnownBy}
 
 -- A volume of which two configurations have the same plexes at the same places, and of which nothing new is read; no block of a plex gets a value in a

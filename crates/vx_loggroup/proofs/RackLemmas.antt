@@ -1,6 +1,5 @@
 -- A group with logs beside the own calls of its rack.
-use Rattle.std.proofs.Common.{◌≡◌, ℕ, Bool, IsTrue, List, ap, sym, ◌∙◌}
-use Rattle.std.specs.Prelude.{true}
+use Rattle.std.proofs.Common.{◌≡◌, ℕ, Bool, List, ◌∙◌}
 use Rattle.vx_config.specs.declared.config.Config.{Config}
 use Rattle.vx_disk.specs.Racks.{Alike}
 use Rattle.vx_disk.specs.Shelf.{Meaning, Values}

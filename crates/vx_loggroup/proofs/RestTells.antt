@@ -1,5 +1,5 @@
 -- All that disks tell behind a deport of a group with logs.
-use Rattle.std.proofs.Common.{◌≡◌, ◌∙◌, inl, inr, ℕ, ◌<◌, ◌≤◌, Bool, true, false, IsTrue, Option, None, Some, List, length, refl, sym, ap, subst, arith}
+use Rattle.std.proofs.Common.{◌≡◌, ◌∙◌, inl, inr, ℕ, ◌≤◌, Bool, true, false, IsTrue, Option, None, Some, List, length, refl, sym, ap, subst, arith}
 use Rattle.std.specs.Prelude.{not, slice_get}
 use Rattle.std.proofs.lemmas.Bool.{cases_lt}
 use Rattle.vx_config.specs.declared.config.Config.{Config}
@@ -15,7 +15,6 @@ use Rattle.vx_group.specs.declared.group_core.Held.{Held}
 use Rattle.vx_groupmaps.specs.Knowing.{MapsKnow}
 use Rattle.vx_logged.specs.Logged.{Known}
 use Rattle.vx_group.proofs.HoldLemmas.{wide_shape}
-use Rattle.vx_kept.specs.Cleans.{is_unsure}
 use Rattle.vx_kept.specs.Groups.{found}
 use Rattle.vx_maplog.specs.Logs.{used_or}
 use Rattle.vx_kept.specs.LogRuns.{log_trusted}

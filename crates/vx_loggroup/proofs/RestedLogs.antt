@@ -1,6 +1,6 @@
 -- What the disks of a group with logs tell behind a deport before which they were flushed.
 use Rattle.std.proofs.Common.{◌≡◌, ◌∙◌, ◌⊎◌, inl, inr, ⊎_elim, ℕ, zero, suc, ◌+◌, ◌*◌, ◌/◌, ◌%◌, ◌<◌, ◌≤◌, Bool, true, false, IsTrue, Option, Some, None, List, length, refl, sym, ap, subst, arith}
-use Rattle.std.specs.Prelude.{◌||◌, slice_get}
+use Rattle.std.specs.Prelude.{◌||◌}
 use Rattle.std.proofs.lemmas.Bool.{cases_eq}
 use Rattle.vx_bitmap.specs.Bits.{is_marked}
 use Rattle.vx_bitmap.specs.Maps.{MapOn, map_block_count}
@@ -8,9 +8,9 @@ use Rattle.vx_bitmap.proofs.Blocks.{by_block}
 use Rattle.vx_config.specs.Checks.{blocks_of as blocks_in, is_sound, plexes_of}
 use Rattle.vx_config.specs.declared.config.Config.{Config}
 use Rattle.vx_config.specs.declared.entry.LogEntry.{LogEntry}
-use Rattle.vx_config.specs.declared.entry.VolumeLog.TheVariants.{Drl, Fmr}
+use Rattle.vx_config.specs.declared.entry.VolumeLog.TheVariants.{Fmr}
 use Rattle.vx_copyfmt.specs.Imports.{Found}
-use Rattle.vx_disk.specs.Shelf.{Each, Goes, Image, Lawful, Meaning, Nothing}
+use Rattle.vx_disk.specs.Shelf.{Each, Goes, Image, Meaning, Nothing}
 use Rattle.vx_fmr.specs.Missed.{FmrLoaded, Missed, has_missed, missed_place}
 use Rattle.vx_group.specs.Deports.{DeportedBy}
 use Rattle.vx_group.specs.Holding.{GroupStands, wide}
@@ -27,18 +27,16 @@ use Rattle.vx_grouplogs.specs.On.{ReadsOne}
 use Rattle.vx_grouplogs.proofs.LogShape.{has_back, run_back, same_count}
 use Rattle.vx_kept.specs.Choice.{live}
 use Rattle.vx_kept.specs.Cleans.{at_serial, cleaned, is_unsure}
-use Rattle.vx_kept.specs.Groups.{OnSome, found}
+use Rattle.vx_kept.specs.Groups.{found}
 use Rattle.vx_kept.specs.Keeping.{Kin, SameShape}
 use Rattle.vx_kept.specs.LogRuns.{log_trusted}
 use Rattle.vx_kept.proofs.Chosen.{active_volumes}
 use Rattle.vx_kept.proofs.CleanLemmas.{AllClean, all_clean}
-use Rattle.vx_kept.proofs.Lasting.{cases_bool}
 use Rattle.vx_layout.specs.Places.{HasBlock, place, plex_at}
 use Rattle.vx_layout.proofs.Placing.{sound_apart}
 use Rattle.vx_logged.specs.Logged.{Known, LogOn}
-use Rattle.vx_logimport.specs.Covers.{DisksTell}
 use Rattle.vx_group.specs.Settles.{LivesAgree}
-use Rattle.vx_logimport.specs.Rests.{AlikeRests, LogsTell, MapsRest, MapsTell, rests}
+use Rattle.vx_logimport.specs.Rests.{AlikeRests, MapsRest, MapsTell}
 use Rattle.vx_logimport.proofs.RestLemmas.{in_use_trusts}
 use Rattle.vx_logs.specs.Held.{InUse}
 use Rattle.vx_logs.proofs.LogLemmas.{log_placed}
@@ -48,10 +46,9 @@ use Rattle.vx_volume.proofs.PlaceLemmas.{has_of}
 use Rattle.vx_logs.specs.declared.logs.Logs.{Logs}
 use Rattle.vx_model.specs.Content.{block_of}
 use Rattle.vx_volume.specs.Plexes.{Inside, active, active_or, uses}
-use Rattle.vx_volume.proofs.ReadRuns.{leaves_before, reads_before}
+use Rattle.vx_volume.proofs.ReadRuns.{reads_before}
 use Rattle.vx_volume.proofs.UsesLemmas.{has_disk, has_uses}
-use Rattle.vx_loggroup.specs.LoggedVolumes.{LoggedStands, VolumeStands, is_alike}
-use Rattle.vx_loggroup.specs.Resting.{DisksSettle, NoneTouched, VolumeRests, in_disks}
+use Rattle.vx_loggroup.specs.Resting.{DisksSettle, NoneTouched, VolumeRests}
 use Rattle.vx_loggroup.proofs.DeportedLogs.{at_shape, on_at}
 
 active_same : (x y : Config) (v q : ℕ) → plex_at x v q ≡ plex_at y v q → active x v q ≡ active y v q

@@ -1,9 +1,8 @@
 -- Logs of a group that are lost by commits, one after the other.
-use Rattle.std.proofs.Common.{◌≡◌, ◌∙◌, ◌⊎◌, inl, inr, ℕ, ◌+◌, ◌<◌, ◌≤◌, Bool, true, false, IsTrue, List, length, refl, sym, subst, arith}
+use Rattle.std.proofs.Common.{◌≡◌, ◌⊎◌, ℕ, ◌<◌, ◌≤◌, Bool, true, List, length, sym, subst, arith}
 use Rattle.std.specs.Prelude.{Err}
-use Rattle.vx_config.specs.declared.config.Config.{Config}
 use Rattle.vx_disk.specs.Causes.{Cause, DeviceCause, refusal_of}
-use Rattle.vx_disk.specs.Shelf.{Goes, Meaning, Nothing}
+use Rattle.vx_disk.specs.Shelf.{Meaning, Nothing}
 use Rattle.vx_disk.specs.declared.shelf.ShelfError.{ShelfError}
 use Rattle.vx_disk.specs.declared.shelf.ShelfError.TheVariants.{Fault, Down}
 use Rattle.vx_disk.proofs.Causing.{Rose_before}
@@ -18,7 +17,7 @@ use Rattle.vx_group.proofs.HoldLemmas.{wide_shape}
 use Rattle.vx_group.proofs.LoseLemmas.{along_none, then_along}
 use Rattle.vx_group.proofs.MendLemmas.{same_Goes}
 use Rattle.vx_group.proofs.UnitLemmas.{same_units, then_units}
-use Rattle.vx_logged.specs.Logged.{EachOn, Narrowed}
+use Rattle.vx_logged.specs.Logged.{EachOn}
 use Rattle.vx_logged.proofs.StandLemmas.{narrowed_same, narrowed_then}
 use Rattle.vx_logs.specs.declared.logs.Logs.{Logs}
 use Rattle.vx_model.specs.declared.no.No.{No}

@@ -1,5 +1,5 @@
 -- A group beside calls on the shelf below it that write nothing.
-use Rattle.std.proofs.Common.{◌≡◌, ℕ, refl}
+use Rattle.std.proofs.Common.{ℕ, refl}
 use Rattle.vx_disk.specs.Shelf.{Goes, Lawful, Meaning, Nothing}
 use Rattle.vx_disk.proofs.Runs.{weaker}
 use Rattle.vx_group.specs.Holding.{GroupStands, wide}

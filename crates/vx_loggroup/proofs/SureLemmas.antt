@@ -3,7 +3,7 @@ use Rattle.std.proofs.Common.{◌≡◌, ◌⊎◌, ◌∙◌, inl, inr, ℕ, �
 use Rattle.std.proofs.Math.ListN.{set}
 use Rattle.std.proofs.lemmas.Bool.{cases_eq, cases_lt}
 use Rattle.std.proofs.lemmas.List.{length-set}
-use Rattle.std.proofs.lemmas.Option.{slice_get_within}
+use Rattle.std.proofs.lemmas.Option.{same_Some, slice_get_within}
 use Rattle.std.specs.Prelude.{OnOk, Result, Ok, Err, slice_get}
 use Rattle.vx_config.specs.Changes.{lost}
 use Rattle.vx_config.specs.Table.{greatest}
@@ -53,14 +53,11 @@ kept_each core ls v each = by (slice_get ls v) refl
 pub sure_kept : (c d : GroupCore) (ls ks : List Logs) (v : ℕ) → Narrowed c d → slice_get ks v ≡ slice_get ls v → LogsSure c ls v → LogsKept d ks v
 sure_kept c d ls ks v narrow same sure = kept_each d ks v (λ l is. both_kept d v l (both_later c d v l narrow (sure.each l (sym same ∙ is))))
 
-same_item : (l x : Logs) → Some l ≡ Some x → l ≡ x
-same_item l x is = cc
-
 pub sure_or : (core : GroupCore) (ls : List Logs) (v : ℕ) → LogsKept core ls v → LogsSure core ls v ⊎ (greatest ≤ core.inner.config.serial + 9)
 sure_or core ls v kept = by (slice_get ls v) refl kept
   where
     here : (l : Logs) → slice_get ls v ≡ Some l → BothKept core v l → LogsSure core ls v
-    here l at both = record { each = λ x is. subst (BothKept core v) (same_item l x (sym at ∙ is)) both }
+    here l at both = record { each = λ x is. subst (BothKept core v) (same_Some l x (sym at ∙ is)) both }
 
     by : (o : Option Logs) → slice_get ls v ≡ o → KeptOr core v o → LogsSure core ls v ⊎ (greatest ≤ core.inner.config.serial + 9)
     by None at was = inl (record { each = λ x is. absurd (let clash : None ≡ Some x = sym at ∙ is in cc) })
@@ -168,7 +165,7 @@ there_clash (Some x) has none = let clash : Some x ≡ None = none in cc
 first_gone : (v n : ℕ) (ls ks : List Logs) → LogsFirst v n ls ks → (w : ℕ) (l k : Logs) → slice_get ls w ≡ Some l → slice_get ks w ≡ Some k → (k.drl ≡ None → l.drl ≡ None) × (k.fmr ≡ None → l.fmr ≡ None)
 first_gone v n ls ks first w l k was now = elim (cases_eq w v) [
   | inl same ↦ let it = first.here l k (subst (λ (x : ℕ). slice_get ls x ≡ Some l) same was) (subst (λ (x : ℕ). slice_get ks x ≡ Some k) same now) in (gone_back l.drl k.drl it.drl, gone_back l.fmr k.fmr it.fmr)
-  | inr apart ↦ let same : l ≡ k = same_item l k (sym was ∙ sym (first.others w apart) ∙ now) in (λ none. ap (λ (x : Logs). x.drl) same ∙ none, λ none. ap (λ (x : Logs). x.fmr) same ∙ none)
+  | inr apart ↦ let same : l ≡ k = same_Some l k (sym was ∙ sym (first.others w apart) ∙ now) in (λ none. ap (λ (x : Logs). x.drl) same ∙ none, λ none. ap (λ (x : Logs). x.fmr) same ∙ none)
 ]
 
 pub sure_first : (v n : ℕ) (c d : GroupCore) (ls ks : List Logs) → LogsFirst v n ls ks → TrustsNew v (logs_at ks v) c d → (w : ℕ) → LogsSure c ls w → LogsSure d ks w
@@ -251,4 +248,4 @@ made_sure c d ls ks m stands shape many same = record {
 pub front_item : (ls ks : List Logs) (v : ℕ) (k : Logs) → v < length ls → slice_get (ls ++ ks) v ≡ Some k → slice_get ls v ≡ Some k
 front_item ls ks v k low is =
     let it = item_at ls v low in
-    subst (λ (x : Logs). slice_get ls v ≡ Some x) (same_item it.0 k (sym (appended ls ks v it.0 it.1) ∙ is)) it.1
+    subst (λ (x : Logs). slice_get ls v ≡ Some x) (same_Some it.0 k (sym (appended ls ks v it.0 it.1) ∙ is)) it.1

@@ -1,18 +1,16 @@
 -- Logs of missed regions that an import reads.
-use Rattle.std.proofs.Common.{◌≡◌, ◌∙◌, ◌⊎◌, inl, inr, ℕ, ◌+◌, ◌*◌, ◌/◌, ◌%◌, ◌<◌, ◌≤◌, Bool, true, false, IsTrue, IsFalse, Option, Some, None, List, length, ⊎_elim, refl, sym, ap, subst, arith}
+use Rattle.std.proofs.Common.{◌≡◌, ◌∙◌, ◌⊎◌, inl, inr, ℕ, ◌+◌, ◌*◌, ◌/◌, ◌%◌, ◌<◌, ◌≤◌, Bool, true, false, IsTrue, Option, Some, None, List, length, ⊎_elim, refl, sym, ap, subst, arith}
 use Rattle.std.specs.Prelude.{◌-◌, slice_get}
 use Rattle.std.proofs.Math.ListN.{set}
 use Rattle.std.proofs.lemmas.Bool.{cases_eq}
 use Rattle.std.proofs.lemmas.List.{length-set}
-use Rattle.std.proofs.lemmas.Option.{slice_get_within}
+use Rattle.std.proofs.lemmas.Option.{same_Some, slice_get_within}
 use Rattle.vx_bitmap.specs.Bits.{is_marked}
 use Rattle.vx_bitmap.specs.Maps.{MapOn, map_block_count}
 use Rattle.vx_bitmap.proofs.Blocks.{by_block}
-use Rattle.vx_config.specs.Checks.{blocks_of as blocks_in, is_sound, plexes_of}
+use Rattle.vx_config.specs.Checks.{blocks_of as blocks_in, is_sound}
 use Rattle.vx_config.specs.declared.config.Config.{Config}
-use Rattle.vx_config.specs.declared.entry.LogEntry.{LogEntry}
 use Rattle.vx_config.specs.declared.entry.VolumeLog.TheVariants.{Fmr}
-use Rattle.vx_disk.specs.Moves.{Run, Settled}
 use Rattle.vx_disk.specs.Shelf.{Goes, Lawful, Meaning, Nothing}
 use Rattle.vx_disk.proofs.Runs.{none_written}
 use Rattle.vx_volume.proofs.ReadRuns.{still}
@@ -27,10 +25,9 @@ use Rattle.vx_groupmaps.proofs.MapPlaces.{bit_low, region_low}
 use Rattle.vx_grouplogs.specs.On.{VolumeOn}
 use Rattle.vx_grouplogs.proofs.KnowActs.{know_none}
 use Rattle.vx_grouplogs.proofs.MapLemmas.{map_low, on_mapped}
-use Rattle.vx_kept.specs.Choice.{live}
 use Rattle.vx_kept.specs.Cleans.{is_unsure}
 use Rattle.vx_kept.proofs.Narrower.{on_live}
-use Rattle.vx_layout.specs.Places.{HasBlock, place}
+use Rattle.vx_layout.specs.Places.{place}
 use Rattle.vx_logimport.specs.Marked.{log_within}
 use Rattle.vx_logimport.specs.Rests.{MapsTell, rests}
 use Rattle.vx_logimport.specs.declared.rested.Rested.{Rested}
@@ -40,9 +37,10 @@ use Rattle.vx_maplog.specs.Logs.{is_used}
 use Rattle.vx_logs.specs.Held.{FmrFound, InUse}
 use Rattle.vx_logs.specs.declared.logs.Logs.{Logs}
 use Rattle.vx_model.specs.Content.{block_of}
-use Rattle.vx_volume.specs.Plexes.{DisksFit, Inside, active}
+use Rattle.vx_volume.specs.Plexes.{DisksFit}
 use Rattle.vx_loggroup.specs.LoggedVolumes.{LoggedStands}
 use Rattle.vx_loggroup.specs.Taking.{MapWas, MapsMay, MapsShrink, MapsWere, MapsWhy, SameDrls, TakesMap}
+use Rattle.vx_loggroup.proofs.HeldMaps.{same_drls}
 use Rattle.vx_loggroup.proofs.SetLemmas.{item_at, set_here, set_other}
 
 -- ---- what a log that was read knows
@@ -104,9 +102,6 @@ module _ (c : Config) (sound : is_sound c ≡ true) (v : ℕ) (some : 0 < blocks
           left (subst (λ (n : ℕ). is_marked z (n % 4096) ≡ false) (sym (bit_is p b)) off) left_p left_q;
     }
 
-some_one : (f g : Missed) → Some f ≡ Some g → f ≡ g
-some_one f g is = cc
-
 -- logs without maps
 pub none_same : (l : Logs) → l.fmr ≡ None → record { drl = l.drl; fmr = None } ≡ l
 none_same l plain = ap (λ (o : Option Missed). record { drl = l.drl; fmr = o }) (sym plain)
@@ -120,14 +115,14 @@ module _ (c : Config) (sound : is_sound c ≡ true) (v : ℕ) (some : 0 < blocks
   taken_log None gone takes = none_on
   taken_log (Some f) true takes = absurd (let clash : Some f ≡ None = takes.0 in cc)
   taken_log (Some f) false takes =
-      on_mapped c sound v some m m' fit (none_written _ m m' goes) l (Some f) (λ g is. subst (λ (h : Missed). FmrLoaded c v h) (some_one f g is) takes.0.1)
-      (λ g is. subst (λ (h : Missed). MapOn h.map m') (some_one f g is) (taken_on c sound v some m m' law fit goes tells f takes.0)) on
+      on_mapped c sound v some m m' fit (none_written _ m m' goes) l (Some f) (λ g is. subst (λ (h : Missed). FmrLoaded c v h) (same_Some f g is) takes.0.1)
+      (λ g is. subst (λ (h : Missed). MapOn h.map m') (same_Some f g is) (taken_on c sound v some m m' law fit goes tells f takes.0)) on
 
   pub taken_known : (o : Option Missed) (gone : Bool) → TakesMaps c v o gone m m' → MapsKnow c v (record { drl = l.drl; fmr = o }) m'
   taken_known None gone takes = know_none c v none_spared (record { drl = l.drl; fmr = None }) m' refl
   taken_known (Some f) true takes = absurd (let clash : Some f ≡ None = takes.0 in cc)
   taken_known (Some f) false takes = record {
-    so = λ g is up. subst (λ (h : Missed). PlexesKnow c v (has_missed h) m'.reads) (some_one f g is) (taken_knows c sound v some m m' law fit goes tells f takes.0 up);
+    so = λ g is up. subst (λ (h : Missed). PlexesKnow c v (has_missed h) m'.reads) (same_Some f g is) (taken_knows c sound v some m m' law fit goes tells f takes.0 up);
   }
 
 -- what was read is in use
@@ -140,7 +135,7 @@ taken_used c v (Some f) false m m' takes some = takes.0.0
 pub taken_was : (c : Config) (v : ℕ) (o : Option Missed) (gone : Bool) (m m' : Meaning) → Lawful m → 0 < blocks_in c.volumes v → TakesMaps c v o gone m m' → (f : Missed) → o ≡ Some f → MapWas c v f m
 taken_was c v None gone m m' law some takes f at = absurd (let clash : None ≡ Some f = at in cc)
 taken_was c v (Some g) true m m' law some takes f at = absurd (let clash : Some g ≡ None = takes.0 in cc)
-taken_was c v (Some g) false m m' law some takes f at = subst (λ (h : Missed). MapWas c v h m) (some_one g f at) (record {
+taken_was c v (Some g) false m m' law some takes f at = subst (λ (h : Missed). MapWas c v h m) (same_Some g f at) (record {
   some = some;
   used = takes.0.0;
   fits = takes.0.1;
@@ -180,14 +175,11 @@ pub record TakenSoFar (c : GroupCore) (a : List Bool) (good : ℕ) (st : List Bo
   pub why : MapsWhy good c.inner.config st r ls
   pub were : MapsWere c.inner.config ls m0
 
-same_drl : (o : Option Logs) (l k : Logs) → o ≡ Some l → o ≡ Some k → k.drl ≡ l.drl
-same_drl o l k one two = let both : Some l ≡ Some k = sym one ∙ two in let same : l ≡ k = cc in ap (λ (x : Logs). x.drl) (sym same)
-
 pub none_taken : (c : GroupCore) (a : List Bool) (good : ℕ) (st : List Bool) (r : Rested) (ls : List Logs) (m : Meaning) → LoggedStands c ls a false m → ((v : ℕ) (l : Logs) → slice_get ls v ≡ Some l → l.fmr ≡ None) → TakenSoFar c a good st r ls m 0 ls m
 none_taken c a good st r ls m stands plain = record {
   stands = stands;
   goes = same_Goes m;
-  drls = record { each = λ v l k was now. same_drl (slice_get ls v) l k was now };
+  drls = record { each = λ v l k was now. same_drls (slice_get ls v) l k was now };
   rest = λ v le. refl;
   long = refl;
   why = record { each = λ v l is some. absurd (some (plain v l is)) };

@@ -1,5 +1,5 @@
 -- An import by logs as a whole.
-use Rattle.std.proofs.Common.{◌≡◌, inl, inr, ℕ, ◌<◌, ◌≤◌, true, IsTrue, Option, Some, List, length, refl, sym, ◌∙◌, subst, arith}
+use Rattle.std.proofs.Common.{◌≡◌, inl, ℕ, ◌<◌, ◌≤◌, true, IsTrue, Option, List, length, refl, sym, ◌∙◌, subst, arith}
 use Rattle.std.specs.Prelude.{Vec}
 use Rattle.std.specs.declared.alloc.Global.{Global}
 use Rattle.vx_disk.specs.Shelf.{Goes, Lawful, Meaning, Nothing}
@@ -9,7 +9,6 @@ use Rattle.vx_drl.specs.Dirty.{Dirty}
 use Rattle.vx_logs.specs.declared.logs.Logs.{Logs}
 use Rattle.vx_model.specs.declared.errors.Stop.{Stop}
 use Rattle.vx_model.specs.declared.errors.Stop.TheVariants.{No as Refused, OutOfMemory}
-use Rattle.vx_model.specs.declared.no.No.{No}
 use Rattle.vx_model.specs.declared.no.No.TheVariants as refusal
 use Rattle.vx_config.specs.declared.config.Config.{Config}
 use Rattle.vx_copies.specs.Answers.{returned}

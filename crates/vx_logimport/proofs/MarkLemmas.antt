@@ -1,7 +1,7 @@
 -- What logs that were read tell of the plexes.
-use Rattle.std.proofs.Common.{◌≡◌, ◌⊎◌, inl, inr, ⊎_elim, ℕ, ◌+◌, ◌/◌, ◌%◌, ◌<◌, ◌≤◌, Bool, true, false, IsTrue, IsFalse, Option, Some, None, List, length, refl, ap, sym, ◌∙◌, subst, arith}
+use Rattle.std.proofs.Common.{◌≡◌, ◌⊎◌, inl, inr, ⊎_elim, ℕ, ◌+◌, ◌/◌, ◌<◌, Bool, true, false, IsTrue, Option, Some, None, List, length, refl, ap, sym, ◌∙◌, subst, arith}
+use Rattle.std.proofs.lemmas.Option.{same_Some}
 use Rattle.std.specs.Prelude.{not, slice_get}
-use Rattle.vx_bitmap.specs.Bits.{is_marked}
 use Rattle.vx_bitmap.specs.Maps.{MapOn, map_block_count}
 use Rattle.vx_bitmap.proofs.Blocks.{by_block}
 use Rattle.vx_config.specs.Checks.{blocks_of, is_sound}
@@ -13,7 +13,6 @@ use Rattle.vx_copyfmt.specs.Imports.{Found}
 use Rattle.vx_disk.specs.Shelf.{Each, Goes, Image, Lawful, Meaning, Nothing}
 use Rattle.vx_disk.proofs.Causing.{Rose_after}
 use Rattle.vx_drl.specs.Dirty.{Dirty, is_dirty}
-use Rattle.vx_fmr.specs.Missed.{Missed}
 use Rattle.vx_layout.specs.Places.{place}
 use Rattle.vx_logs.specs.Held.{DrlFits, InUse}
 use Rattle.vx_logs.specs.declared.logs.Logs.{Logs}
@@ -23,13 +22,13 @@ use Rattle.vx_model.specs.Sizes.{map_blocks, regions_of}
 use Rattle.vx_resync.specs.Picks.{DrlReaches, marked_or}
 use Rattle.vx_volume.specs.Plexes.{DisksFit, Inside, active}
 use Rattle.vx_kept.specs.Choice.{live}
-use Rattle.vx_kept.specs.Groups.{OnSome, found}
+use Rattle.vx_kept.specs.Groups.{found}
 use Rattle.vx_kept.specs.LogRuns.{log_trusted}
 use Rattle.vx_kept.proofs.Chosen.{place_volumes}
 use Rattle.vx_kept.proofs.Lasting.{cases_bool}
 use Rattle.vx_kept.proofs.Narrower.{on_live}
 use Rattle.vx_group.specs.Mends.{AgreeElsewhere, MarksTell, drl_at, drl_or}
-use Rattle.vx_group.specs.Resumes.{CanImport, IsTaken, TakenUp}
+use Rattle.vx_group.specs.Resumes.{CanImport, IsTaken}
 use Rattle.vx_group.specs.declared.taking.Plan.{Plan}
 use Rattle.vx_group.proofs.Standing.{fit_of, low_Stands, sound_of}
 use Rattle.vx_grouplogs.specs.Covering.{AlikeBut, DiskCovers}
@@ -48,9 +47,6 @@ not_lost o e is used = by e.lost (sym (ap used_or is) ∙ used)
 trusted_used : (c : Config) (v : ℕ) → log_trusted c v Drl ≡ true → used_or (log_of c v Drl) ≡ true
 unfolding log_trusted
 trusted_used c v is = is
-
-some_is : (d e : Dirty) → Some d ≡ Some e → d ≡ e
-some_is d e is = cc
 
 -- a plan behind calls that changed nothing
 pub taken_later : (old m1 m2 : Meaning) (plan : Plan) → IsTaken old m1 plan → Goes Nothing m1 m2 → Lawful m1 → Lawful m2 → IsTaken old m2 plan
@@ -184,9 +180,9 @@ module _ (old m1 : Meaning) (plan : Plan) (taken : IsTaken old m1 plan) (law : L
   on_read : (good v : ℕ) (o : Option Dirty) (m2 : Meaning) → LogRead good opened v o old m2 → VolumeOn opened v (dirty_logs o) m1
   on_read good v None m2 read = on_none v
   on_read good v (Some g) m2 read = record {
-    fits = record { drl = λ d is. subst (λ (h : Dirty). DrlFits opened v h) (some_is g d is) read.1; fmr = λ f is. absurd (let clash : None ≡ Some f = is in cc) };
-    stands = record { drl = λ d is. subst (λ (h : Dirty). MapOn h.map m1) (some_is g d is) (map_of good v g m2 read); fmr = λ f is. absurd (let clash : None ≡ Some f = is in cc) };
-    memory = record { so = λ d is. subst (λ (h : Dirty). AlikeBut opened v (is_dirty h) m1) (some_is g d is) (alike_of good v g m2 read) };
+    fits = record { drl = λ d is. subst (λ (h : Dirty). DrlFits opened v h) (same_Some g d is) read.1; fmr = λ f is. absurd (let clash : None ≡ Some f = is in cc) };
+    stands = record { drl = λ d is. subst (λ (h : Dirty). MapOn h.map m1) (same_Some g d is) (map_of good v g m2 read); fmr = λ f is. absurd (let clash : None ≡ Some f = is in cc) };
+    memory = record { so = λ d is. subst (λ (h : Dirty). AlikeBut opened v (is_dirty h) m1) (same_Some g d is) (alike_of good v g m2 read) };
     disk = disk_of v;
   }
 

@@ -10,6 +10,7 @@ use Rattle.vx_grouplogs.specs.Loading.{TakesUp}
 use Rattle.vx_groupmaps.specs.Loading.{DeviceRose, on_failed_disk}
 use Rattle.vx_logs.specs.declared.logs.Logs.{Logs}
 use Rattle.vx_volume.proofs.ReadRuns.{still}
+use Rattle.vx_group.proofs.MendLemmas.{same_Goes}
 use Rattle.vx_logimport.specs.Marked.{AreDirtyLogs, LogRead, LogsRead, dirty_logs, log_within}
 
 -- one that was taken up, or is lost
@@ -50,24 +51,6 @@ read_behind good c v None m m1 m2 more (inr (inl failed)) = inr (inl failed)
 read_behind good c v None m m1 m2 more (inr (inr (inl rose))) = inr (inr (inl (record { disk = rose.disk; rose = Rose_after (m.disk_faults rose.disk) (m1.disk_faults rose.disk) (m2.disk_faults rose.disk) rose.rose (more rose.disk) })))
 read_behind good c v None m m1 m2 more (inr (inr (inr none))) = inr (inr (inr none))
 read_behind good c v (Some d) m m1 m2 more read = read
-
--- no call at all
-same_Goes : (m : Meaning) → Goes Nothing m m
-same_Goes m = record {
-  units = refl;
-  size = λ u. refl;
-  tells = refl;
-  reads = λ u b v is. inl (inl is);
-  leaves = λ u b v left. inl left;
-  later = omega arith;
-  since = λ t i le left. inl left;
-  keeps = λ t i le left. left;
-  faults = λ u. omega arith;
-  disk_faults = λ d. omega arith;
-  falls = λ is. is;
-  unarmed = λ is. is;
-  safe = λ no is. is;
-}
 
 -- ---- one log more
 

@@ -1,8 +1,7 @@
 -- Logs behind the copies of an import.
-use Rattle.std.proofs.Common.{◌≡◌, ◌⊎◌, inl, inr, ⊎_elim, ℕ, ◌/◌, ◌<◌, Bool, true, false, IsTrue, IsFalse, Option, Some, None, List, length, refl, ap, sym, ◌∙◌, subst, arith}
+use Rattle.std.proofs.Common.{◌≡◌, ◌⊎◌, inl, ⊎_elim, ℕ, ◌/◌, ◌<◌, Bool, true, false, IsTrue, IsFalse, Option, Some, None, List, length, refl, sym, ◌∙◌, subst}
 use Rattle.vx_config.specs.Checks.{is_sound}
 use Rattle.vx_config.specs.declared.config.Config.{Config}
-use Rattle.vx_config.specs.declared.entry.VolumeLog.TheVariants.{Drl}
 use Rattle.vx_disk.specs.Moves.{Anything}
 use Rattle.vx_disk.specs.Shelf.{Goes, Meaning, Nothing, Or, Values}
 use Rattle.vx_drl.specs.Dirty.{Dirty, is_dirty}
@@ -11,9 +10,7 @@ use Rattle.vx_logs.specs.declared.logs.Logs.{Logs}
 use Rattle.vx_resync.specs.Picks.{marked_or}
 use Rattle.vx_volume.specs.Plexes.{DisksFit, Inside, active}
 use Rattle.vx_kept.specs.Cleans.{is_unsure}
-use Rattle.vx_kept.specs.Groups.{OnSome}
 use Rattle.vx_kept.specs.Keeping.{Acts}
-use Rattle.vx_kept.specs.LogRuns.{log_trusted}
 use Rattle.vx_kept.specs.PlexActs.{PlexActs}
 use Rattle.vx_kept.proofs.Lasting.{cases_bool}
 use Rattle.vx_kept.proofs.Narrower.{stand_apart}
@@ -22,7 +19,6 @@ use Rattle.vx_kept.proofs.Steps.{both_Acts, inside_same, wide_Acts}
 use Rattle.vx_group.specs.Attaches.{AnyImage}
 use Rattle.vx_group.specs.Mends.{GroupGoesOn, OnMarked, drl_at}
 use Rattle.vx_group.specs.Resumes.{IsMended, stopped}
-use Rattle.vx_group.specs.Stands.{inner_meaning}
 use Rattle.vx_group.specs.declared.inner.Inner.{Inner}
 use Rattle.vx_grouplogs.specs.Covering.{AllAlike, OnLogs}
 use Rattle.vx_grouplogs.specs.On.{SparesVolume, VolumeOn}

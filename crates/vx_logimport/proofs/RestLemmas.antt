@@ -1,6 +1,6 @@
 -- What a group that was imported knows of a volume that stopped cleanly, by what disks tell of it.
 use Rattle.std.proofs.Common.{◌≡◌, ◌∙◌, ◌⊎◌, inl, inr, ⊎_elim, ℕ, ◌+◌, ◌*◌, ◌/◌, ◌%◌, ◌<◌, Bool, true, false, List, IsTrue, length, refl, sym, ap, subst, arith}
-use Rattle.std.specs.Prelude.{not, Some, None}
+use Rattle.std.specs.Prelude.{not, Some}
 use Rattle.vx_bitmap.specs.Bits.{is_marked}
 use Rattle.vx_config.specs.Checks.{blocks_of, is_sound}
 use Rattle.vx_config.specs.declared.config.Config.{Config}
@@ -19,7 +19,6 @@ use Rattle.vx_volume.specs.Plexes.{Inside, active}
 use Rattle.vx_volume.proofs.PlaceLemmas.{has_of}
 use Rattle.vx_kept.specs.Choice.{live}
 use Rattle.vx_kept.specs.Groups.{found}
-use Rattle.vx_kept.specs.Keeping.{SameShape}
 use Rattle.vx_kept.specs.LogRuns.{log_trusted}
 use Rattle.vx_kept.proofs.Chosen.{place_volumes}
 use Rattle.vx_kept.proofs.Lasting.{cases_bool}

@@ -1,5 +1,5 @@
 -- What disks tell an import by logs, where a crash leaves less, and of disks that tell nothing.
-use Rattle.std.proofs.Common.{◌≡◌, ◌∙◌, ℕ, ◌+◌, ◌/◌, ◌%◌, Bool, true, false, List, sym}
+use Rattle.std.proofs.Common.{◌≡◌, ◌∙◌, ℕ, ◌+◌, ◌/◌, true, false, List, sym}
 use Rattle.vx_config.specs.declared.config.Config.{Config}
 use Rattle.vx_copyfmt.specs.Imports.{Found}
 use Rattle.vx_disk.specs.Shelf.{Each, Image, Meaning}
@@ -9,7 +9,7 @@ use Rattle.vx_kept.proofs.Low.{found_same}
 use Rattle.vx_layout.specs.Places.{place}
 use Rattle.vx_logimport.specs.Covers.{DisksTell}
 use Rattle.vx_group.specs.Settles.{LivesAgree}
-use Rattle.vx_logimport.specs.Rests.{AlikeRests, LogsTell, MapsRest, MapsTell, RestsNone, rests}
+use Rattle.vx_logimport.specs.Rests.{LogsTell, MapsTell, RestsNone}
 use Rattle.vx_logimport.specs.declared.rested.Rested.{Rested}
 use Rattle.vx_logimport.proofs.ToldLemmas.{tells_less}
 

@@ -1,6 +1,5 @@
 -- What the disks of a group tell behind a crash, where its logs stood.
-use Rattle.std.proofs.Common.{◌≡◌, ◌⊎◌, ◌∙◌, inl, inr, ℕ, ◌+◌, ◌/◌, ◌%◌, ◌<◌, ◌≤◌, Bool, true, false, IsTrue, Option, Some, None, List, length, refl, sym, ap, subst, arith}
-use Rattle.std.specs.Prelude.{not}
+use Rattle.std.proofs.Common.{◌≡◌, ◌⊎◌, ◌∙◌, inl, inr, ℕ, ◌+◌, ◌/◌, ◌<◌, ◌≤◌, true, false, Option, Some, None, List, length, refl, sym, ap, subst, arith}
 use Rattle.vx_config.specs.Checks.{blocks_of}
 use Rattle.vx_config.specs.declared.config.Config.{Config}
 use Rattle.vx_config.specs.declared.entry.LogEntry.{LogEntry}
@@ -15,7 +14,7 @@ use Rattle.vx_kept.proofs.Low.{found_same}
 use Rattle.vx_layout.specs.Places.{place}
 use Rattle.vx_logs.specs.Held.{InUse}
 use Rattle.vx_logs.specs.declared.logs.Logs.{Logs}
-use Rattle.vx_maplog.specs.Logs.{log_of, used_or}
+use Rattle.vx_maplog.specs.Logs.{log_of}
 use Rattle.vx_model.specs.Content.{block_of}
 use Rattle.vx_model.specs.Sizes.{map_blocks}
 use Rattle.vx_volume.specs.Plexes.{Inside}
@@ -23,13 +22,10 @@ use Rattle.vx_group.specs.Holding.{GroupStands, wide}
 use Rattle.vx_group.specs.Resumes.{AtRest}
 use Rattle.vx_group.specs.declared.group_core.GroupCore.{GroupCore}
 use Rattle.vx_group.proofs.HoldLemmas.{wide_shape}
+use Rattle.vx_group.proofs.TrustingLemmas.{used_trusted}
 use Rattle.vx_grouplogs.specs.On.{VolumeOn}
 use Rattle.vx_grouplogs.proofs.LogShape.{run_back}
 use Rattle.vx_logimport.specs.Covers.{ConfigCovers, DisksTell, LogSettled}
-
-in_use_trusted : (x : Config) (v : ℕ) (e : LogEntry) → InUse x v Drl e → log_trusted x v Drl ≡ true
-unfolding log_trusted
-in_use_trusted x v e use_it = ap used_or use_it.is ∙ ap not use_it.kept
 
 the_entry : (o : Option LogEntry) (f h : LogEntry) → o ≡ Some f → o ≡ Some h → h ≡ f
 the_entry o f h one two = let both : Some h ≡ Some f = sym two ∙ one in cc
@@ -50,7 +46,7 @@ module _ (c x : Config) (v : ℕ) (l : Logs) (m : Meaning) (lt : v < length c.vo
   pub covers_of : ConfigCovers x v m
   covers_of = record {
     so = λ e p q b y z w in_use inside live_p live_q left off at_p at_q.
-        let trusted = kin.shape.trusted v Drl lt (in_use_trusted x v e in_use) in
+        let trusted = kin.shape.trusted v Drl lt (used_trusted x v e in_use) in
         let run = run_back c x v Drl (kin.shape.logs v Drl lt) e in_use.is in
         let there : Inside c v b = record { volume = lt; within = omega (arith, inside.within, kin.shape.blocks v lt) } in
         let left' : m.leaves run.entry.disk (run.entry.start + (b / 64) / 4096) w = subst (λ (n : ℕ). m.leaves run.entry.disk (n + (b / 64) / 4096) w) (sym run.start) (subst (λ (u : ℕ). m.leaves u (e.start + (b / 64) / 4096) w) (sym run.disk) left) in
@@ -78,7 +74,7 @@ module _ (c x : Config) (v : ℕ) (l : Logs) (m : Meaning) (lt : v < length c.vo
     }
       where
         by : (e : LogEntry) (k : ℕ) (y z : List ℕ) → InUse x v Drl e → k < map_blocks (blocks_of x.volumes v) → m.leaves e.disk (e.start + k) y → m.leaves e.disk (e.start + k) z → (o : Option Dirty) → l.drl ≡ o → y ≡ z
-        by e k y z in_use low left_y left_z None none = absurd (kept (kin.shape.trusted v Drl lt (in_use_trusted x v e in_use)) none)
+        by e k y z in_use low left_y left_z None none = absurd (kept (kin.shape.trusted v Drl lt (used_trusted x v e in_use)) none)
         by e k y z in_use low left_y left_z (Some d) at = only_one d at e k y in_use.is low left_y ∙ sym (only_one d at e k z in_use.is low left_z)
 
 -- fewer images tell what all told
@@ -127,4 +123,4 @@ beyond_told core v m m' stands le units size less = record {
     none : (i : Image) (x : Config) → Each m'.leaves i → found m' i ≡ Found x → (e : LogEntry) → InUse x v Drl e → ⊥
     none i x each is e in_use =
         let kin = stands.stands.kept.kin i x (λ u b. less u b (i u b) (each u b)) (sym (found_same m m' units size (λ u. true) i) ∙ is) in
-        let clash : true ≡ false = sym (in_use_trusted x v e in_use) ∙ kin.shape.beyond v Drl le in cc
+        let clash : true ≡ false = sym (used_trusted x v e in_use) ∙ kin.shape.beyond v Drl le in cc

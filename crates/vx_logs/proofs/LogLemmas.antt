@@ -1,13 +1,11 @@
 -- Where the logs of a volume lie, and that no plex lies there.
-use Rattle.std.proofs.Common.{◌≡◌, ◌∙◌, inl, inr, ℕ, zero, suc, ◌+◌, ◌-◌, ◌*◌, ◌/◌, ◌<◌, ◌≤◌, ◌⊎◌, Bool, true, false, Option, Some, None, List, [], ◌∷◌, ◌++◌, length, IsTrue, refl, sym, ap, subst, arith}
+use Rattle.std.proofs.Common.{◌≡◌, ◌∙◌, inl, inr, ℕ, suc, ◌+◌, ◌-◌, ◌<◌, ◌≤◌, ◌⊎◌, Bool, true, false, Option, Some, None, List, [], ◌∷◌, ◌++◌, length, IsTrue, refl, sym, ap, arith}
 use Rattle.std.specs.Prelude.{◌&&◌, ◌||◌, ◌==◌, not, nat_lt, nat_le, min, max, is_some, if◌then◌else◌, slice_get, flat_map, sum_by}
-use Rattle.std.specs.Int.{div_ceil}
 use Rattle.std.proofs.lemmas.Bool.{cases_lt, eq-eqb, leb-true, ltb-true, lt-ltb}
 use Rattle.std.proofs.lemmas.List.Sums.{sum_by-cons}
 use Rattle.std.proofs.lemmas.Option.{slice_get_within}
-use Rattle.vx_model.specs.Sizes.{regions_of as regions_in}
 use Rattle.vx_bitmap.specs.Maps.{Lies, Map, map_block_count}
-use Rattle.vx_config.specs.Checks.{are_apart, blocks_of as blocks_in, blocks_or_none, column_blocks, is_sound, is_stale, is_volume, log_run, log_runs, pairwise, plex_runs, runs, volume_runs, plexes_of, plexes_or, blocks_or}
+use Rattle.vx_config.specs.Checks.{are_apart, blocks_of as blocks_in, blocks_or_none, column_blocks, is_sound, is_volume, log_run, log_runs, pairwise, plex_runs, runs, volume_runs, plexes_of, plexes_or, blocks_or}
 use Rattle.vx_config.specs.declared.config.Config.{Config}
 use Rattle.vx_config.specs.declared.entry.DiskEntry.{DiskEntry}
 use Rattle.vx_config.specs.declared.entry.LogEntry.{LogEntry}
@@ -22,10 +20,10 @@ use Rattle.vx_disk.specs.Shelf.{Meaning}
 use Rattle.vx_layout.specs.Places.{HasBlock, subdisk_blocks as blocks_at, has_plex, linear, located, place, place_in, place_or, plex_in}
 use Rattle.vx_layout.proofs.Pairs.{all_at, flat_across, flat_part, get_left, get_right, in_flat, pairs_across, pairs_right}
 use Rattle.vx_layout.proofs.Placing.{filled, from_sound, linear_within}
-use Rattle.vx_maplog.specs.Logs.{DisksReach as HoldDisks, LogLoaded, log_blocks, log_in, log_of, log_or}
+use Rattle.vx_maplog.specs.Logs.{DisksReach as HoldDisks, LogLoaded, log_in, log_of, log_or}
 use Rattle.vx_maplog.proofs.Entries.{Placed, placed}
-use Rattle.vx_volume.specs.Plexes.{DisksFit, Inside, active}
-use Rattle.vx_volume.proofs.PlaceLemmas.{count_few, has_of}
+use Rattle.vx_volume.specs.Plexes.{DisksFit}
+use Rattle.vx_volume.proofs.PlaceLemmas.{count_few}
 use Rattle.vx_logs.specs.Held.{stale, stale_or}
 use Rattle.vx_logs.specs.Noting.{is_one}
 

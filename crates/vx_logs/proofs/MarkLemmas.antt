@@ -1,31 +1,29 @@
 -- Marks in the logs of a volume.
-use Rattle.std.proofs.Common.{◌≡◌, ◌∙◌, inl, inr, ⊎_elim, ◌⊎◌, ℕ, ◌+◌, ◌*◌, ◌/◌, ◌%◌, ◌<◌, ◌≤◌, Bool, true, false, Option, Some, None, List, length, IsTrue, refl, sym, ap, subst, arith}
+use Rattle.std.proofs.Common.{◌≡◌, ◌∙◌, inl, inr, ⊎_elim, ◌⊎◌, ℕ, ◌+◌, ◌<◌, ◌≤◌, Bool, true, false, Option, Some, None, List, IsTrue, refl, sym, ap, subst, arith}
 use Rattle.std.specs.Prelude.{if◌then◌else◌, Err}
 use Rattle.vx_model.specs.Sizes.{regions_of as regions_in}
-use Rattle.vx_bitmap.specs.Bits.{AllAre}
-use Rattle.vx_bitmap.specs.Maps.{ChangedAt, Lies, Map, MapOn, SamePlace, map_block_count}
+use Rattle.vx_bitmap.specs.Maps.{Map, MapOn, SamePlace, map_block_count}
 use Rattle.vx_config.specs.Checks.{blocks_of as blocks_in, is_sound, plexes_of}
 use Rattle.vx_config.specs.declared.config.Config.{Config}
 use Rattle.vx_config.specs.declared.entry.VolumeLog.TheVariants.{Drl as DrlLog, Fmr as FmrLog}
-use Rattle.vx_disk.specs.Counts.{Rose}
 use Rattle.vx_disk.specs.Moves.{Run}
-use Rattle.vx_disk.specs.Shelf.{Goes, Keeps, Meaning, Or, Values}
+use Rattle.vx_disk.specs.Shelf.{Goes, Meaning, Or, Values}
 use Rattle.vx_disk.proofs.Causing.{Rose_after, Rose_before}
 use Rattle.vx_disk.proofs.Runs.{both_Goes, weaker}
-use Rattle.vx_drl.specs.Dirty.{Dirty, is_dirty}
-use Rattle.vx_fmr.specs.Missed.{FmrLoaded, IsMissedKept, Missed, has_missed}
+use Rattle.vx_drl.specs.Dirty.{Dirty}
+use Rattle.vx_fmr.specs.Missed.{FmrLoaded, Missed, has_missed}
 use Rattle.vx_fmr.proofs.Keeping.{kept_of}
-use Rattle.vx_maplog.specs.Logs.{MapInRun, LogLoaded, log_blocks}
+use Rattle.vx_maplog.specs.Logs.{LogLoaded}
 use Rattle.vx_volume.specs.Plexes.{DisksFit}
 use Rattle.vx_model.specs.declared.no.No.{No}
 use Rattle.vx_model.specs.declared.no.No.TheVariants as refusal
-use Rattle.vx_logs.specs.Dirtying.{DrlAnswers, DrlAt, DrlEnds, DrlHas, DrlKeeps, DrlMarked, SameDrl}
+use Rattle.vx_logs.specs.Dirtying.{DrlAnswers, DrlAt, DrlEnds, DrlHas, DrlKeeps}
 use Rattle.vx_logs.specs.Held.{DrlFits, DrlRun, FmrRun, LogsFit, stale}
-use Rattle.vx_logs.specs.Noting.{FmrAnswers, FmrAt, FmrEnds, FmrHas, FmrKeeps, FmrNoted, FmrReady, FmrStill, MayBeNoted, Noted, NotedAt, SameFmr, is_one, noted_region}
+use Rattle.vx_logs.specs.Noting.{FmrAnswers, FmrAt, FmrEnds, FmrKeeps, FmrReady, FmrStill, MayBeNoted, Noted, is_one, noted_region}
 use Rattle.vx_logs.specs.Writes.{MarkedLogs, MarkedAt, MarksLogs, StaleStill}
 use Rattle.vx_logs.specs.declared.logs.Logs.{Logs}
 use Rattle.vx_logs.specs.declared.logs.Lost.{Lost}
-use Rattle.vx_logs.proofs.LogLemmas.{log_lies, maps_off, stale_below}
+use Rattle.vx_logs.proofs.LogLemmas.{log_lies, maps_off}
 
 -- a volume with a region has blocks
 pub some_blocks : (blocks last : ℕ) → last < regions_in blocks → 0 < blocks

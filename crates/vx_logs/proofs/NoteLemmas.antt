@@ -1,9 +1,9 @@
 -- Notes in the map of one plex.
 use Rattle.std.proofs.Common.{◌≡◌, ◌∙◌, ◌⊎◌, inl, inr, ⊎_elim, ℕ, ◌+◌, ◌-◌, ◌*◌, ◌/◌, ◌%◌, ◌^◌, ◌<◌, ◌≤◌, Bool, true, false, List, refl, sym, ap, subst, arith}
-use Rattle.std.specs.Prelude.{leb, ◌&&◌, ◌||◌, ◌==◌, not, Some, if◌then◌else◌, OnOk, Result, Ok, Err}
+use Rattle.std.specs.Prelude.{◌&&◌, ◌||◌, ◌==◌, not, if◌then◌else◌, OnOk, Result, Ok, Err}
 use Rattle.std.proofs.lemmas.Bool.{cases_eq, eq-eqb, eqb-true}
 pub use Rattle.vx_bitmap.proofs.Runs.{among_is}
-use Rattle.vx_bitmap.specs.Bits.{AllAre, Between, Changed, is_among, is_marked}
+use Rattle.vx_bitmap.specs.Bits.{Changed, is_among, is_marked}
 use Rattle.vx_bitmap.specs.Maps.{ChangedAt, MapOn, SamePlace, map_block_count, marks_with, regions_mapped}
 use Rattle.vx_disk.specs.Moves.{Run}
 use Rattle.vx_disk.specs.Shelf.{Goes, Meaning, Or}

@@ -1,5 +1,5 @@
 -- Notes in the maps of several plexes, one after another.
-use Rattle.std.proofs.Common.{◌≡◌, ◌∙◌, inl, inr, ⊎_elim, ℕ, ◌+◌, ◌<◌, ◌≤◌, Bool, true, false, IsTrue, refl, sym, ap, subst, arith}
+use Rattle.std.proofs.Common.{◌≡◌, ◌∙◌, inl, inr, ℕ, ◌+◌, ◌<◌, ◌≤◌, Bool, true, false, IsTrue, refl, sym, ap, subst, arith}
 use Rattle.std.specs.Prelude.{◌&&◌, ltb, if◌then◌else◌}
 use Rattle.std.proofs.lemmas.Bool.{and_parts, cases_eq, cases_lt, eq-eqb, eqb-true, lt-ltb, ltb-true}
 use Rattle.vx_bitmap.specs.Bits.{AllAre}
@@ -8,7 +8,7 @@ use Rattle.vx_disk.specs.Blocks.{bit_at}
 use Rattle.vx_disk.specs.Shelf.{Goes, Meaning}
 use Rattle.vx_disk.proofs.Runs.{same_Goes, weaker}
 use Rattle.vx_fmr.specs.Missed.{Missed, has_missed, missed_place}
-use Rattle.vx_logs.specs.Noting.{FmrHas, FmrNoted, IsMissedMap, IsStill, MayBeNoted, Noted, NotedAt, SameFmr, this_plex, below, is_one, noted_region}
+use Rattle.vx_logs.specs.Noting.{FmrHas, FmrNoted, IsMissedMap, IsStill, MayBeNoted, NotedAt, SameFmr, this_plex, below, is_one, noted_region}
 use Rattle.vx_logs.proofs.NoteLemmas.{kept_later, noted_maybe, then_writes}
 
 -- the plexes of the set below one have noted the run

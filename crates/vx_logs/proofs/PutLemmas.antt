@@ -1,35 +1,29 @@
 -- Writes of the plexes beside the logs.
-use Rattle.std.proofs.Common.{◌≡◌, ◌∙◌, inl, inr, ⊎_elim, ◌⊎◌, ℕ, ◌+◌, ◌-◌, ◌*◌, ◌/◌, ◌%◌, ◌<◌, ◌≤◌, Bool, true, false, Option, Some, None, List, length, IsTrue, refl, sym, ap, subst, arith}
-use Rattle.std.specs.Prelude.{◌&&◌, ltb, Err}
+use Rattle.std.proofs.Common.{◌≡◌, ◌∙◌, inl, inr, ⊎_elim, ◌⊎◌, ℕ, ◌+◌, ◌<◌, ◌≤◌, Bool, true, Option, Some, None, List, length, IsTrue, refl, sym, subst, arith}
+use Rattle.std.specs.Prelude.{ltb, Err}
 use Rattle.std.proofs.lemmas.Bool.{and_parts}
 use Rattle.vx_model.specs.Sizes.{regions_of as regions_in}
 use Rattle.vx_model.specs.declared.no.No.{No}
 use Rattle.vx_model.specs.declared.no.No.TheVariants as refusal
-use Rattle.vx_bitmap.specs.Maps.{Map, MapOn, map_block_count}
+use Rattle.vx_bitmap.specs.Maps.{MapOn}
 use Rattle.vx_config.specs.Checks.{blocks_of as blocks_in, is_sound, plexes_of}
 use Rattle.vx_config.specs.declared.config.Config.{Config}
-use Rattle.vx_config.specs.declared.entry.VolumeLog.{VolumeLog}
 use Rattle.vx_config.specs.declared.entry.VolumeLog.TheVariants.{Drl as DrlLog, Fmr as FmrLog}
 use Rattle.vx_disk.specs.Blocks.{bit_at}
-use Rattle.vx_disk.specs.Counts.{Rose}
-use Rattle.vx_disk.specs.Moves.{Run}
-use Rattle.vx_disk.specs.Shelf.{Goes, Meaning, Or, Values}
+use Rattle.vx_disk.specs.Shelf.{Goes, Meaning, Or}
 use Rattle.vx_disk.proofs.Causing.{Rose_after, Rose_before}
 use Rattle.vx_disk.proofs.Runs.{both_Goes, weaker}
 use Rattle.vx_drl.specs.Dirty.{Dirty}
 use Rattle.vx_fmr.specs.Missed.{Missed}
 use Rattle.vx_layout.specs.Places.{place}
-use Rattle.vx_maplog.specs.Logs.{LogLoaded}
-use Rattle.vx_volume.specs.Plexes.{DisksFit, InRun, Inside, active}
-use Rattle.vx_volume.specs.Volumes.{AllBut, AllPlexesFailed, EndsAt, LastPlexFailed, OnPlexes, PlexBlamed, PlexWrote}
+use Rattle.vx_volume.specs.Plexes.{DisksFit, Inside, active}
+use Rattle.vx_volume.specs.Volumes.{AllBut, EndsAt, LastPlexFailed, OnPlexes, PlexBlamed}
 use Rattle.vx_volume.specs.declared.sets.Failed.{Failed}
 use Rattle.vx_volume.proofs.PlaceLemmas.{active_below, has_of}
-use Rattle.vx_logs.specs.Dirtying.{DrlKeeps}
 use Rattle.vx_logs.specs.Held.{DrlRun, FmrRun, LogsFit, LogsStand}
 use Rattle.vx_logs.specs.Noting.{FmrAnswers, FmrAt, FmrEnds, is_one}
-use Rattle.vx_logs.specs.Writes.{IsPlexPut, NonePut, PutAt, PutsPlexes, Took, first_region, last_region}
+use Rattle.vx_logs.specs.Writes.{IsPlexPut, PutAt, PutsPlexes, Took, first_region, last_region}
 use Rattle.vx_logs.specs.declared.logs.Logs.{Logs}
-use Rattle.vx_logs.specs.declared.writing.Stored.{Stored}
 use Rattle.vx_logs.proofs.LogLemmas.{map_off_plex}
 use Rattle.vx_logs.proofs.MarkLemmas.{at_before, fmr_ends, fmr_run, logs_apart, stands_beside}
 

@@ -1,48 +1,46 @@
 -- A write of a volume: marks, and then the plexes.
-use Rattle.std.proofs.Common.{◌≡◌, ◌∙◌, inl, inr, ⊎_elim, ◌⊎◌, ℕ, ◌+◌, ◌-◌, ◌*◌, ◌/◌, ◌%◌, ◌<◌, ◌≤◌, Bool, true, false, Option, Some, None, List, length, IsTrue, refl, sym, ap, subst, arith}
-use Rattle.std.specs.Prelude.{◌&&◌, ◌||◌, ◌==◌, not, ltb, if◌then◌else◌, Err}
+use Rattle.std.proofs.Common.{◌≡◌, ◌∙◌, inl, inr, ⊎_elim, ◌⊎◌, ℕ, ◌+◌, ◌*◌, ◌/◌, ◌%◌, ◌<◌, ◌≤◌, Bool, true, false, Option, Some, None, List, length, IsTrue, refl, sym, ap, subst, arith}
+use Rattle.std.specs.Prelude.{◌&&◌, ◌||◌, ◌==◌, if◌then◌else◌, Err}
 use Rattle.std.proofs.lemmas.Bool.{eq-eqb}
-use Rattle.vx_model.specs.Content.{block_of}
-use Rattle.vx_model.specs.Sizes.{map_blocks, regions_of as regions_in}
+use Rattle.vx_model.specs.Sizes.{regions_of as regions_in}
 use Rattle.vx_model.specs.declared.no.No.{No}
 use Rattle.vx_model.specs.declared.no.No.TheVariants as refusal
 use Rattle.vx_bitmap.proofs.Blocks.{by_block}
-use Rattle.vx_bitmap.specs.Bits.{AllAre, is_among, is_marked}
+use Rattle.vx_bitmap.proofs.Runs.{slot_before}
+use Rattle.vx_bitmap.specs.Bits.{is_marked}
 use Rattle.vx_bitmap.specs.Maps.{Map, MapOn, map_block_count, marks_with, regions_mapped}
-use Rattle.vx_config.specs.Checks.{blocks_of as blocks_in, is_sound, is_stale, plexes_of}
+use Rattle.vx_config.specs.Checks.{blocks_of as blocks_in, is_sound, is_stale}
 use Rattle.vx_config.specs.declared.entry.PlexEntry.{PlexEntry}
 use Rattle.vx_model.specs.declared.site.PlexState.{PlexState}
 use Rattle.vx_model.specs.declared.site.PlexState.TheVariants.{Active, Clean, Stale}
 use Rattle.vx_config.specs.declared.config.Config.{Config}
 use Rattle.vx_config.specs.declared.entry.LogEntry.{LogEntry}
 use Rattle.vx_config.specs.declared.entry.VolumeLog.TheVariants.{Drl as DrlLog, Fmr as FmrLog}
-use Rattle.vx_disk.specs.Blocks.{bit_at}
 use Rattle.vx_disk.specs.Counts.{Rose}
-use Rattle.vx_disk.specs.Moves.{Along, Beside, Run}
-use Rattle.vx_disk.specs.Shelf.{Each, Goes, Image, Meaning, Or, Values}
+use Rattle.vx_disk.specs.Moves.{Along}
+use Rattle.vx_disk.specs.Shelf.{Each, Goes, Image, Meaning, Or}
 use Rattle.vx_disk.proofs.Causing.{Rose_after, Rose_before}
 use Rattle.vx_disk.proofs.Moving.{both_Along, goes_Along}
 use Rattle.vx_disk.proofs.Runs.{both_Goes, weaker}
 use Rattle.vx_drl.specs.Dirty.{Dirty, is_dirty}
-use Rattle.vx_fmr.specs.Missed.{FmrLoaded, Missed, has_missed, missed_place}
+use Rattle.vx_fmr.specs.Missed.{Missed, has_missed, missed_place}
 use Rattle.vx_drl.proofs.Keeping.{kept_of as drl_kept}
 use Rattle.vx_fmr.proofs.Keeping.{kept_of as fmr_kept}
-use Rattle.vx_fmr.proofs.Places.{before}
 use Rattle.vx_layout.specs.Places.{place, plex_at}
 use Rattle.vx_maplog.specs.Logs.{log_of}
-use Rattle.vx_volume.specs.Plexes.{DisksFit, Inside, active, active_or, is_active}
-use Rattle.vx_volume.specs.Volumes.{AllBut, AllPlexesFailed, LastPlexFailed, OnPlexes, PlexWrote}
-use Rattle.vx_logs.specs.Dirtying.{DrlAt, DrlEnds, DrlKeeps, DrlMarked}
-use Rattle.vx_logs.specs.Held.{DrlRun, FmrRun, InUse, LogsFit, LogsRun, LogsStand, LogsWhole, logged_in, stale, stale_or}
+use Rattle.vx_volume.specs.Plexes.{DisksFit, active, active_or, is_active}
+use Rattle.vx_volume.specs.Volumes.{OnPlexes}
+use Rattle.vx_logs.specs.Dirtying.{DrlEnds, DrlKeeps, DrlMarked}
+use Rattle.vx_logs.specs.Held.{DrlRun, FmrRun, InUse, LogsFit, LogsStand, LogsWhole, logged_in, stale, stale_or}
 use Rattle.vx_logs.specs.Marks.{AreMarked, MarksFirst, stride_of}
-use Rattle.vx_logs.specs.Noting.{FmrAt, FmrEnds, FmrKeeps, FmrNoted, MayBeNoted, Noted, NotedAt, SameFmr, is_one, noted_region}
-use Rattle.vx_logs.specs.Writes.{FmrAfter, FmrWrote, IsPlexPut, MapsAt, MarkedLogs, MarkedAt, MarksLogs, NonePut, NoneTook, PutAt, PutsPlexes, Took, WasLost, WasPut, WritesMarked, WritesPlexes, WroteMaps, first_region, last_region, missed_after, none_lost}
+use Rattle.vx_logs.specs.Noting.{FmrAt, FmrEnds, FmrNoted, MayBeNoted, NotedAt, SameFmr, is_one, noted_region}
+use Rattle.vx_logs.specs.Writes.{FmrAfter, IsPlexPut, MapsAt, MarkedLogs, MarkedAt, MarksLogs, NonePut, NoneTook, PutAt, PutsPlexes, Took, WasPut, WritesMarked, WritesPlexes, first_region, last_region, missed_after}
 use Rattle.vx_logs.specs.declared.logs.Logs.{Logs}
 use Rattle.vx_logs.specs.declared.logs.Lost.{Lost}
 use Rattle.vx_logs.specs.declared.writing.Stored.{Stored}
 use Rattle.vx_logs.proofs.LogLemmas.{stale_below}
-use Rattle.vx_logs.proofs.MarkLemmas.{drl_ends, drl_run, fmr_run, logs_apart, stands_beside}
-use Rattle.vx_logs.proofs.NoteLemmas.{among_is, maybe_then, noted_maybe, same_run, with_moved, with_there}
+use Rattle.vx_logs.proofs.MarkLemmas.{drl_ends, drl_run, fmr_run, logs_apart}
+use Rattle.vx_logs.proofs.NoteLemmas.{among_is, noted_maybe, same_run, with_moved, with_there}
 use Rattle.vx_logs.proofs.PutLemmas.{blamed_around, fmr_stays, last_around, last_inside, off_logs, write_off}
 
 -- ---- the marks of an image
@@ -243,7 +241,7 @@ module _ (c : Config) (sound : is_sound c ≡ true) (v block n : ℕ) (bytes : L
         let kept = fmr_kept c v now.new.map (blocks_in c.volumes v) now.new.plexes now.new.stride now.new.regions fits.log refl some fits.plexes fits.stride fits.regions in
         let lt : p < now.new.plexes = omega (arith, stale_below c v p stale_is, fits.plexes) in
         let narrow : r < now.new.stride = omega (arith, high, inside, kept.fit, fits.regions) in
-        let few : missed_place now.new p r < regions_mapped now.new.map = omega (arith, narrow, before p now.new.plexes now.new.stride lt, kept.all) in
+        let few : missed_place now.new p r < regions_mapped now.new.map = omega (arith, narrow, slot_before p now.new.plexes now.new.stride lt, kept.all) in
         let block_low : missed_place now.new p r / 4096 < map_block_count now.new.map = omega (arith, few, fits.log.run.long) in
         let is : has_missed now.new p r ≡ true =
         now.noted.notes.each p r (omega (arith, lt, now.noted.same.shape.plexes)) (omega (arith, narrow, now.noted.same.shape.stride))

@@ -1,5 +1,6 @@
 -- The logs of a volume in memory, and what they have to do with a configuration and a shelf.
 use Rattle.std.specs.Prelude.{◌≡◌, ◌⊎◌, ℕ, ◌+◌, ◌/◌, ◌%◌, Bool, true, false, Option, Some, None}
+use Rattle.vx_model.specs.declared.limits.TheConstants.{MAP_REGIONS}
 use Rattle.vx_model.specs.Sizes.{regions_of as regions_in}
 use Rattle.vx_bitmap.specs.Bits.{is_marked}
 use Rattle.vx_bitmap.specs.Maps.{IsRead, MapOn, map_block_count}
@@ -32,7 +33,7 @@ pub record InUse (c : Config) (v : ℕ) (log : VolumeLog) (e : LogEntry) : Type 
 
 -- whether an image has bit k of a log
 abbrev pub logged_in : LogEntry → Image → ℕ → Bool
-logged_in e i k = is_marked (i e.disk (e.start + k / 4096)) (k % 4096)
+logged_in e i k = is_marked (i e.disk (e.start + k / MAP_REGIONS)) (k % MAP_REGIONS)
 
 -- a dirty region log in memory is the one of the volume, with a bit for each region
 pub record DrlFits (c : Config) (v : ℕ) (d : Dirty) : Type 0 where

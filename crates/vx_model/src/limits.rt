@@ -61,6 +61,10 @@ pub const LINK_PLACES: usize = 8;
 pub const MOST_WAITING: u64 = 16;
 /// The most updates that a link sends ahead of what its site has acknowledged.
 pub const MOST_AHEAD: u64 = 8;
+/// The most bytes of a message's payload that a packet carries.
+pub const PART_BYTES: usize = 1024;
+/// The most bytes of a map of regions that a message carries.
+pub const MOST_MAP_BYTES: usize = 65_536;
 /// The packets that the network keeps, the oldest being lost.
 pub const MOST_PACKETS: usize = 65_536;
 

@@ -1,17 +1,15 @@
 -- How a line that settles a link ends, by how its parts went.
-use Rattle.std.proofs.Common.{◌≡◌, ◌∙◌, ◌⊎◌, inl, inr, ⊎_elim, ◌<◌, ◌≤◌, ◌++◌, ℕ, List, [], ◌∷◌, Bool, true, false, ap, sym, subst, refl, arith, append_assoc}
+use Rattle.std.proofs.Common.{◌≡◌, ◌∙◌, ◌⊎◌, ⊎_elim, ◌<◌, ◌≤◌, ◌++◌, ℕ, List, [], ◌∷◌, Bool, true, false, ap, sym, subst, refl, arith}
 use Rattle.std.specs.Prelude.{eqb, if◌then◌else◌}
 use Rattle.vx_model.specs.Sites.{is_origin}
 use Rattle.vx_model.specs.declared.no.No.{No}
 use Rattle.vx_model.proofs.Lists.{get_there}
 use Rattle.vx_history.proofs.Updates.{eqb_equal}
 use Rattle.vx_history.specs.Doubts.{Doubted}
-use Rattle.vx_history.specs.Settling.{settling}
 use Rattle.vx_history.specs.Steps.{worked, worked_on}
-use Rattle.vx_history.specs.World.{Node, World, updated}
+use Rattle.vx_history.specs.World.{World}
 use Rattle.vx_history.specs.declared.event.Event.{Event}
 use Rattle.vx_disk.specs.declared.shelf.Shelf.{Ghosts}
-use Rattle.vx_diskset.specs.declared.disk_set.DiskSet.{DiskSet}
 use Rattle.vx_events.specs.Facts.{site_number}
 use Rattle.vx_events.specs.LinkEnds.{AreLeft}
 use Rattle.vx_events.specs.LinkLists.{link_events}
@@ -27,12 +25,12 @@ use Rattle.vx_settling.specs.Burnt.{noted_as}
 use Rattle.vx_settling.specs.Kinds.{AreSettling}
 use Rattle.vx_settling.specs.Works.{Shortens, SettleWorks}
 use Rattle.vx_yard.specs.Carries.{Carries}
-use Rattle.vx_node.specs.Settling.{EndedFor, NotedFor, OnFor, SettlesFor, ShortFor}
+use Rattle.vx_node.specs.Settling.{EndedFor, NotedFor, OnFor, ShortFor}
 use Rattle.vx_yard.specs.Standing.{Leads, StandsFor, StopsFor}
 use Rattle.vx_yard.specs.Stands.{RoseAll}
 use Rattle.vx_yard.specs.Yards.{IsTold, count_of}
 use Rattle.vx_yard.specs.declared.yard.Yard.{Yard}
-use Rattle.vx_yard.proofs.Carrying.{Feeds, SameLoad, carries_on, feeds_like, feeds_same}
+use Rattle.vx_yard.proofs.Carrying.{Feeds, carries_on, feeds_like, feeds_same}
 use Rattle.vx_link_lines.proofs.Deaf.{all_told}
 use Rattle.vx_link_lines.proofs.NotedYard.{stands_noted}
 use Rattle.vx_yard.proofs.RecoverLine.{rose_then}

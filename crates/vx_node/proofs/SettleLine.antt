@@ -1,12 +1,12 @@
 -- The line that settles a link: its connect, and what follows on it.
-use Rattle.std.proofs.Common.{◌≡◌, ◌∙◌, ◌+◌, ◌<◌, ◌≤◌, ◌++◌, ℕ, List, [], ◌∷◌, Bool, false, length, ap, sym, subst, refl, arith, length-append, append-nil}
-use Rattle.std.specs.Prelude.{IfOk, None, Ok, Err, Result, Some, drop, true}
+use Rattle.std.proofs.Common.{◌≡◌, ◌∙◌, ◌<◌, ◌≤◌, ◌++◌, ℕ, List, [], ◌∷◌, Bool, false, length, ap, sym, subst, refl, arith, length-append, append-nil}
+use Rattle.std.specs.Prelude.{IfOk, None, Ok, Err, Result, Some, true}
 use Rattle.vx_model.specs.declared.errors.OutOfMemory.{OutOfMemory}
 use Rattle.vx_model.specs.Sites.{is_origin}
 use Rattle.vx_model.specs.declared.no.No.{No}
 use Rattle.vx_history.specs.Doubts.{Doubted}
 use Rattle.vx_history.specs.Settling.{settling}
-use Rattle.vx_history.specs.Step.{run, step}
+use Rattle.vx_history.specs.Step.{step}
 use Rattle.vx_history.specs.World.{Packet, World}
 use Rattle.vx_history.specs.declared.event.Event.{Event}
 use Rattle.vx_history.specs.declared.event.Event.TheVariants.{Connect as ConnectAt}
@@ -17,7 +17,6 @@ use Rattle.vx_events.proofs.LinkSettling.{settle_agrees}
 use Rattle.vx_events.proofs.Parts.{none_done}
 use Rattle.vx_events.proofs.Places.{some_same}
 use Rattle.vx_events.specs.Facts.{seat_of, site_number}
-use Rattle.vx_events.specs.LinkLists.{link_events}
 use Rattle.vx_events.specs.Parts.{StopsInPart}
 use Rattle.vx_events.specs.Settles.{CanSettle}
 use Rattle.vx_events.specs.declared.said.Said.{Said}
@@ -40,7 +39,6 @@ use Rattle.vx_yard.specs.Yards.{IsTold, count_of, in_files}
 use Rattle.vx_node.specs.declared.going.Went.{Went}
 use Rattle.vx_node.specs.declared.going.Went.TheVariants.{Ended, On, Short}
 use Rattle.vx_yard.specs.declared.yard.Yard.{Yard}
-use Rattle.vx_yard.proofs.Carrying.{sent_count}
 use Rattle.vx_yard.proofs.ChangeSite.{rose_none}
 use Rattle.vx_yard.proofs.NamedSite.{place_at}
 use Rattle.vx_yard.proofs.OfSites.{all_then}

@@ -1,5 +1,5 @@
 -- The sites of a link that is settled within its yard, and the calls of one event at them.
-use Rattle.std.proofs.Common.{◌≡◌, ◌∙◌, ◌<◌, ⊎_elim, ℕ, List, length, ap, sym, subst, refl, true, arith}
+use Rattle.std.proofs.Common.{◌≡◌, ◌<◌, ⊎_elim, ℕ, List, length, sym, subst, true, arith}
 use Rattle.std.specs.Prelude.{IfOk, Result, Some}
 use Rattle.vx_model.specs.declared.errors.OutOfMemory.{OutOfMemory}
 use Rattle.vx_history.specs.Doubts.{Doubted}

@@ -1,5 +1,5 @@
 -- The packets of a link that is settled, as they are delivered one by one.
-use Rattle.std.proofs.Common.{◌≡◌, ◌∙◌, ◌++◌, ◌+◌, ◌<◌, ◌≤◌, ℕ, suc, List, drop, length, ap, arith, append_assoc, refl, subst, sym}
+use Rattle.std.proofs.Common.{◌≡◌, ◌∙◌, ◌++◌, ◌+◌, ◌<◌, ℕ, suc, List, drop, length, ap, arith, append_assoc, subst, sym}
 use Rattle.std.proofs.lemmas.List.{length-append}
 use Rattle.vx_disk.specs.declared.shelf.Shelf.{Ghosts}
 use Rattle.vx_history.specs.Doubts.{Doubted}

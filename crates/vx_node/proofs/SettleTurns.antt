@@ -1,10 +1,10 @@
 -- The turns in which a link is settled.
 use Rattle.std.proofs.lemmas.List.{length-append}
-use Rattle.std.proofs.Common.{drop, ◌≡◌, ◌∙◌, ◌++◌, ◌+◌, ◌-◌, ◌<◌, ◌≤◌, ℕ, zero, suc, Bool, true, false, List, [], ◌∷◌, length, ap, arith, append_assoc, refl, subst, sym}
+use Rattle.std.proofs.Common.{drop, ◌≡◌, ◌∙◌, ◌++◌, ◌-◌, ◌<◌, ◌≤◌, ℕ, suc, Bool, true, false, List, [], ◌∷◌, length, ap, arith, append_assoc, refl, subst, sym}
 use Rattle.std.specs.Prelude.{if◌then◌else◌, leb}
 use Rattle.vx_disk.specs.declared.shelf.Shelf.{Ghosts}
 use Rattle.vx_history.specs.Doubts.{Doubted}
-use Rattle.vx_history.specs.Settling.{deliver_between, deliver_new, delivery, greeting_events, is_stuck, settling, turn, turns}
+use Rattle.vx_history.specs.Settling.{deliver_between, deliver_new, delivery, greeting_events, is_stuck, turn, turns}
 use Rattle.vx_history.specs.Step.{run}
 use Rattle.vx_history.specs.World.{Packet, World}
 use Rattle.vx_history.specs.declared.event.Event.{Event}

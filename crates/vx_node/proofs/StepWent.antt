@@ -1,14 +1,12 @@
 -- A line within one that settles a link, as one of its events.
-use Rattle.std.proofs.Common.{◌≡◌, ◌∙◌, ◌+◌, ◌≤◌, ℕ, List, [], ◌∷◌, ap, sym, subst, refl, arith}
+use Rattle.std.proofs.Common.{◌≡◌, ◌∙◌, ℕ, List, [], sym, subst, refl, arith}
 use Rattle.std.specs.Prelude.{IfOk, Result, Ok, Err}
 use Rattle.vx_model.specs.declared.errors.OutOfMemory.{OutOfMemory}
 use Rattle.vx_model.specs.declared.no.No.{No}
 use Rattle.vx_history.specs.Doubts.{Doubted}
 use Rattle.vx_history.specs.World.{Fuse}
 use Rattle.vx_history.specs.declared.event.Event.{Event}
-use Rattle.vx_history.specs.Stops.{IsLikeDoubted}
 use Rattle.vx_disk.specs.declared.shelf.Shelf.{Ghosts}
-use Rattle.vx_events.specs.Facts.{site_number}
 use Rattle.vx_events.specs.Fails.{Fails}
 use Rattle.vx_events.specs.Lines.{IsDone}
 use Rattle.vx_events.specs.declared.said.Said.{Said}
@@ -24,7 +22,7 @@ use Rattle.vx_yard.specs.Carries.{Carries}
 use Rattle.vx_yard.specs.BothSites.{BothSites, SettleBurns}
 use Rattle.vx_yard.specs.OfSites.{AllSameFailing, OfSite}
 use Rattle.vx_node.specs.Settling.{EndedFor, NotedFor, OnFor, SettlesFor, ShortFor, WentFor, went_by, went_of}
-use Rattle.vx_yard.specs.Standing.{GoodFor, Leads, LeadsIs, StandsFor, StaysFor}
+use Rattle.vx_yard.specs.Standing.{GoodFor, Leads, LeadsIs, StandsFor}
 use Rattle.vx_yard.specs.Stands.{AreTold, RoseAll}
 use Rattle.vx_yard.specs.Yards.{IsTold, count_of}
 use Rattle.vx_yard.specs.declared.yard.Yard.{Yard}

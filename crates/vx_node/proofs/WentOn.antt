@@ -1,5 +1,5 @@
 -- Parts of a line that settles a link, of which the later ones go by what the earlier ones made of the world.
-use Rattle.std.proofs.Common.{◌≡◌, ◌∙◌, ◌++◌, ℕ, List, ap, sym}
+use Rattle.std.proofs.Common.{◌≡◌, ◌++◌, ℕ, List, ap}
 use Rattle.vx_disk.specs.declared.shelf.Shelf.{Ghosts}
 use Rattle.vx_history.specs.Doubts.{Doubted}
 use Rattle.vx_history.specs.Step.{run}
@@ -12,7 +12,7 @@ use Rattle.vx_yard.specs.Yards.{IsTold}
 use Rattle.vx_node.specs.declared.going.Went.{Went}
 use Rattle.vx_node.specs.declared.going.Went.TheVariants.{Ended, On, Short}
 use Rattle.vx_yard.specs.declared.yard.Yard.{Yard}
-use Rattle.vx_node.proofs.WentThen.{went_as, went_more, went_then}
+use Rattle.vx_node.proofs.WentThen.{went_as, went_then}
 
 module _ {R : Type 0} {g : Ghosts R} (first second : List ℕ) (a b : ℕ) where
   -- contents that are told behind it were told before

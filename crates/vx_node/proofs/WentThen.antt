@@ -1,9 +1,8 @@
 -- Parts of a line that settles a link, one after another.
-use Rattle.std.proofs.Common.{◌≡◌, ◌∙◌, ◌++◌, ℕ, List, [], arith, refl, subst, sym}
+use Rattle.std.proofs.Common.{◌≡◌, ◌∙◌, ◌++◌, ℕ, List, [], arith, refl, subst}
 use Rattle.vx_disk.specs.declared.shelf.Shelf.{Ghosts}
 use Rattle.vx_history.specs.Doubts.{Doubted, Runs}
 use Rattle.vx_history.specs.declared.event.Event.{Event}
-use Rattle.vx_model.specs.declared.no.No.{No}
 use Rattle.vx_events.specs.declared.said.Said.TheVariants.{Done, Refused}
 use Rattle.vx_settling.specs.Ending.{StopsAmong}
 use Rattle.vx_settling.specs.Kinds.{AreSettling}

@@ -1,5 +1,5 @@
 -- The tests of one kind of line of disk groups, from the one order.
-use Rattle.std.proofs.Common.{◌≡◌, ◌∙◌, ap, ℕ, refl, Bool, true, false, List, [], ◌∷◌, not, ◌&&◌, nat_lt, if◌then◌else◌, is_some}
+use Rattle.std.proofs.Common.{◌≡◌, ℕ, refl, Bool, true, false, List, [], ◌∷◌, not, ◌&&◌, nat_lt, if◌then◌else◌, is_some}
 use Rattle.std.specs.Prelude.{Option, Some, None}
 use Rattle.vx_model.specs.declared.no.No.{No}
 use Rattle.vx_model.specs.declared.no.No.TheVariants.{Exists, Size, Role, Down}

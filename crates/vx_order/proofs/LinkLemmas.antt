@@ -1,5 +1,5 @@
 -- The tests of one kind of line of links, from the one order.
-use Rattle.std.proofs.Common.{◌≡◌, ◌∙◌, ap, ℕ, refl, Bool, true, false, List, [], ◌∷◌, not, ◌&&◌, ◌||◌, nat_le, if◌then◌else◌}
+use Rattle.std.proofs.Common.{◌≡◌, ap, ℕ, refl, Bool, true, false, List, [], ◌∷◌, not, ◌&&◌, ◌||◌, nat_le, if◌then◌else◌}
 use Rattle.std.specs.Prelude.{Option, Some, None}
 use Rattle.vx_model.specs.declared.limits.TheConstants.{MOST_LINKS}
 use Rattle.vx_model.specs.declared.link.SyncMode.{SyncMode}

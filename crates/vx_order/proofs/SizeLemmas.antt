@@ -1,13 +1,10 @@
 -- Lists that agree in each place.
 use Rattle.std.proofs.Common.{◌≡◌, ℕ, zero, suc, ◌+◌, ◌<◌, ◌≤◌, List, [], ◌∷◌, length, Bool, true, false, refl, arith}
 use Rattle.std.specs.Prelude.{◌&&◌, ◌==◌, slice_get, if◌then◌else◌}
+use Rattle.vx_model.proofs.Tests.{both_true}
 use Rattle.vx_order.specs.declared.facts.VolumeFacts.{VolumeFacts}
 use Rattle.vx_order.specs.Calls.{is_data}
 use Rattle.vx_order.specs.Joining.{data_sizes, same_size, same_sizes}
-
-both_true : (a b : Bool) → a ≡ true → b ≡ true → (a && b) ≡ true
-both_true true b e f = f
-both_true false b e f = absurd (cc)
 
 left_false : (a b : Bool) → a ≡ false → (a && b) ≡ false
 left_false true b e = absurd (cc)

@@ -1,7 +1,7 @@
 -- What the last write that covers a block puts there, and the blocks of writes as those that wait.
 use Rattle.std.proofs.Common.{IsSome, ◌≡◌, ℕ, zero, suc, ◌+◌, ◌-◌, ◌*◌, ◌/◌, ◌%◌, ◌<◌, ◌≤◌, ◌&&◌, Bool, true, false, eqb, leb, ltb, if◌then◌else◌, List, [], ◌∷◌, ◌++◌, length, take, drop, Option, Some, None, All, Contains, refl, ap, sym, ◌∙◌, arith, ⊎_elim, append_assoc, length-append}
 use Rattle.std.specs.Prelude.{unwrap_or}
-use Rattle.std.proofs.lemmas.Bool.{cases_lt}
+use Rattle.std.proofs.lemmas.Bool.{both_ways, cases_lt}
 use Rattle.std.proofs.lemmas.Bool.Decides.{nat_tests}
 use Rattle.std.proofs.lemmas.Option.{none-some}
 use Rattle.std.proofs.lemmas.List.{take-append-drop, drop-drop, drop_at}
@@ -12,9 +12,6 @@ use Rattle.vx_overlay.specs.declared.entry.Entry.{Entry}
 use Rattle.vx_overlay.specs.Pending.{newest, newer_or, bytes_for, entry_of}
 use Rattle.vx_overlay.specs.Writes.{IsWholeWrite, put_there, newest_of, entries_at, entries_of, blocks_within_of}
 use Rattle.vx_overlay.proofs.Newest.{or-assoc, or-none, newest-append, bytes-same, bytes-other}
-
-misses : (t : Bool) → t ≡ false → t ≡ true → ⊥
-misses t wrong right = let e : true ≡ false = sym right ∙ wrong in cc
 
 by_outcome : (o : Option (List ℕ)) (t : Bool) (new : List ℕ) → (t ≡ true → o ≡ Some new) → (t ≡ false → o ≡ None) → o ≡ (if t then Some new else None)
 by_outcome o true new there not_there = there refl
@@ -202,7 +199,7 @@ newest_entries_at v b n bytes w k =
     let test : Bool = eqb w v && (leb b k && ltb k (b + n)) in
     by_outcome (newest (entries_at v b n bytes) w k) test (block_of bytes (k - b))
     (λ right. let it : _ = tells w v b k k (b + n) right in entries_at_hit v b n bytes w k it.0 it.1 it.2)
-    (λ wrong. entries_at_miss v b n bytes w k (λ same low high. misses test wrong (shows w v b k k (b + n) same low high)))
+    (λ wrong. entries_at_miss v b n bytes w k (λ same low high. both_ways test wrong (shows w v b k k (b + n) same low high)))
 
 -- the blocks of writes
 
@@ -232,7 +229,7 @@ its_newest size x v b whole =
     not_there : touches x v b ≡ false → newest (entries_at x.volume x.start (blocks_in x.bytes) x.bytes) v b ≡ None
     not_there untouched =
         entries_at_miss x.volume x.start (blocks_in x.bytes) x.bytes v b
-        (λ same low high. misses (touches x v b) untouched
+        (λ same low high. both_ways (touches x v b) untouched
         (shows v x.volume x.start b (512 * (b - x.start)) (length x.bytes) same low (lies_whole (length x.bytes) x.start b whole low high)))
 
 pub newest_of_entries_append : (es fs : List Entry) (v b : ℕ) → newest (es ++ fs) v b ≡ newer_or (newest fs v b) (newest es v b)

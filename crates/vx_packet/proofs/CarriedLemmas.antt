@@ -1,8 +1,9 @@
 -- What was put together is cut into the same packets again.
-use Rattle.std.proofs.Common.{◌≡◌, ◌≤◌, ◌<◌, ℕ, zero, suc, ◌+◌, ◌*◌, ◌-◌, Bool, true, false, List, [], ◌∷◌, ◌++◌, length, take, drop, get_or, replicate, refl, ap, sym, subst, ◌∙◌, arith, Option, Some, None, inl, inr, get_or-set_same, get_or-set_other, length-append}
+use Rattle.std.proofs.Common.{◌≡◌, ◌≤◌, ◌<◌, ℕ, zero, suc, ◌+◌, ◌*◌, ◌-◌, true, List, [], ◌∷◌, ◌++◌, length, take, drop, get_or, replicate, refl, ap, sym, subst, ◌∙◌, arith, Option, Some, None, inl, inr, get_or-set_same, get_or-set_other, length-append}
 use Rattle.std.specs.Prelude.{◌⊎◌}
 use Rattle.std.proofs.lemmas.List.{take_all, take_at, length-set, length-replicate, length-take, length-drop, append-nil, get_or-replicate, get_or_past}
-use Rattle.std.proofs.lemmas.Bool.{cases_eq, cases_lt}
+use Rattle.std.proofs.lemmas.Bool.{cases_Bool, cases_eq, cases_lt}
+use Rattle.std.proofs.lemmas.Option.{same_Some}
 use Rattle.std.proofs.Math.Seq.{drop-append-add}
 use Rattle.vx_packet.specs.Assemblies.{HeldParts, Assembled, key_in_part, same_part_key, parts_before, parts_after, TakesPart}
 use Rattle.vx_packet.specs.Carried.{IsCarried, MayCarry, CameInPackets, envelope_of}
@@ -16,20 +17,12 @@ use Rattle.vx_packet.specs.declared.message.Message.{Message}
 use Rattle.vx_packet.specs.declared.part.Part.{Part}
 use Rattle.vx_packet.proofs.GatherLemmas.{kept-in}
 use Rattle.vx_packet.proofs.KeyLemmas.{same_key-is}
-use Rattle.vx_packet.proofs.MessageAgain.{some_same}
 use Rattle.vx_packet.proofs.Numbers.{not_both}
 use Rattle.vx_packet.proofs.PacketLemmas.{same_parts, packet_of-is}
 use Rattle.vx_packet.proofs.TakingLemmas.{payload-few}
 
-is_or_not : (b : Bool) → (b ≡ true) ⊎ (b ≡ false)
-is_or_not true = inl refl
-is_or_not false = inr refl
-
 none_is : {o : Option HeldParts} {h : HeldParts} → o ≡ None → o ≡ Some h → ⊥
 none_is none some = absurd cc
-
-held_same : (a b : HeldParts) → Some a ≡ Some b → a ≡ b
-held_same a b h = cc
 
 -- the k-th payload
 abbrev at : Parts → ℕ → List ℕ
@@ -121,7 +114,7 @@ Carries-none n = record {
 
 Carries-before : (o : Option HeldParts) (key : Key) → ((h : HeldParts) → o ≡ Some h → Carries h.key.parts h.parts) → Carries key.parts (parts_before o key)
 Carries-before None key held = Carries-none key.parts
-Carries-before (Some h) key held = elim (is_or_not (same_part_key h.key key)) [
+Carries-before (Some h) key held = elim (cases_Bool (same_part_key h.key key)) [
   | inl same ↦
       let one : h.key ≡ key = same_key-is h.key key same in
       let now : parts_before (Some h) key ≡ h.parts = rw same refl in
@@ -169,7 +162,7 @@ nothing-came a none = record { count = λ h is. absurd (none_is none is); length
 
 carries_held : (p : Part) (ps : Parts) → Carries p.parts ps → (h : HeldParts) → Some (record { key = key_in_part p; parts = ps }) ≡ Some h → Carries h.key.parts h.parts
 carries_held p ps now h same =
-    let one : record { key = key_in_part p; parts = ps } ≡ h = held_same (record { key = key_in_part p; parts = ps }) h same in
+    let one : record { key = key_in_part p; parts = ps } ≡ h = same_Some {A = HeldParts} (record { key = key_in_part p; parts = ps }) h same in
     subst (λ (q : HeldParts). Carries q.key.parts q.parts) one now
 
 pub came-fresh : (a : Assembled) → a.held ≡ None → CameInPackets a
@@ -199,7 +192,7 @@ whole-again a new bytes p m came is whole same =
     let before : Parts = parts_before a.held (key_in_part p) in
     let now : Parts = parts_after a.held p payload in
     let carries : Carries p.parts now = Carries-after a.held bytes p is (held-carries a came) in
-    let one : whole.message ≡ m = some_same whole.message m (sym whole.whole ∙ same) in
+    let one : whole.message ≡ m = same_Some whole.message m (sym whole.whole ∙ same) in
     let message : IsMessage p.kind p.session p.number (joined_parts now) m = subst (λ (q : Message). IsMessage p.kind p.session p.number (joined_parts now) q) one whole.is in
     let short : length (joined_parts now) ≤ 65544 = omega (arith, payload-few m message.can, ap length message.spelled.payload_is) in
     let cut : IsCutAgain p.parts now = cut-again p.parts now (omega (arith, is.can.part)) carries whole.all short in

@@ -3,6 +3,7 @@ use Rattle.std.proofs.Common.{◌≡◌, ◌≤◌, ℕ, ◌+◌, ◌*◌, ◌/�
 use Rattle.std.specs.Prelude.{nat_lt, nat_le}
 use Rattle.std.proofs.lemmas.Bool.{le-ltb}
 use Rattle.std.proofs.lemmas.Bool.Decides.{nat_tests}
+use Rattle.vx_model.specs.declared.limits.TheConstants.{MOST_MAP_BYTES}
 use Rattle.vx_wire.specs.Fields.{spelled}
 use Rattle.vx_wire.specs.declared.field.Field.TheVariants.{U8, U32, U64}
 use Rattle.vx_wire.specs.Numbers.{be_bytes, number_at}
@@ -39,7 +40,7 @@ update-again n vol block p bytes len blocks behind v b =
 fork_map-again : (n regions : ℕ) (p bytes : List ℕ) → length p ≡ 8 + length bytes → length bytes ≤ 65536 → drop 8 p ≡ bytes → number_at 8 0 p ≡ regions → fork_map_in n p ≡ Some (ForkMap n regions bytes)
 fork_map-again n regions p bytes len few behind r =
     let long : nat_le 8 (length p) ≡ true = le_true 8 (length p) (omega arith) in
-    let short : nat_le (length p) 65544 ≡ true = le_true (length p) 65544 (omega arith) in
+    let short : nat_le (length p) (8 + MOST_MAP_BYTES) ≡ true = le_true (length p) (8 + MOST_MAP_BYTES) (omega arith) in
     rw (long, short, behind, r) refl
 
 ack-again : (n vol region kind : ℕ) (p : List ℕ) → 1 ≤ length p → region < 2 ^ 32 → number_at 1 0 p ≡ kind
@@ -77,6 +78,3 @@ message_in-row (Trim number) can typed = refl
 pub message_in-is : (kind session number : ℕ) (payload : List ℕ) (m : Message) → IsMessage kind session number payload m → message_in kind session number payload ≡ Some m
 message_in-is kind session number payload m is =
     rw (← is.spelled.kind_is, ← is.spelled.session_is, ← is.spelled.number_is, ← is.spelled.payload_is) (message_in-row m is.can is.typed)
-
-pub some_same : (a b : Message) → Some a ≡ Some b → a ≡ b
-some_same a b h = cc

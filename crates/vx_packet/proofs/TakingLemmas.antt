@@ -1,9 +1,9 @@
 -- The parts of one message come whole.
-use Rattle.std.proofs.Common.{◌≡◌, ◌≤◌, ◌<◌, ℕ, zero, suc, ◌+◌, ◌*◌, Bool, true, false, List, [], ◌∷◌, ◌++◌, length, take, drop, set, get_or, replicate, refl, ap, sym, subst, ◌∙◌, arith, Option, Some, None, inl, inr, get_or-set_same, get_or-set_other}
+use Rattle.std.proofs.Common.{◌≡◌, ◌≤◌, ◌<◌, ℕ, zero, suc, ◌+◌, ◌*◌, true, false, List, [], ◌∷◌, ◌++◌, length, take, drop, set, get_or, replicate, refl, ap, sym, subst, ◌∙◌, arith, Option, Some, None, inl, inr, get_or-set_same, get_or-set_other}
 use Rattle.std.specs.Prelude.{◌==◌, ◌⊎◌}
 use Rattle.std.specs.Option.{is_some}
 use Rattle.std.proofs.lemmas.List.{drop-drop, take_all, length-set, length-replicate, get_or-replicate}
-use Rattle.std.proofs.lemmas.Bool.{cases_eq}
+use Rattle.std.proofs.lemmas.Bool.{cases_Bool, cases_eq}
 use Rattle.std.proofs.lemmas.Bool.Decides.{nat_tests}
 use Rattle.vx_wire.specs.Fields.{spelled}
 use Rattle.vx_wire.specs.Numbers.{be_bytes}
@@ -166,11 +166,6 @@ step-bad e m a new k can typed holds lt is =
     let payload : joined_parts (parts_after a.held p (chunk k (payload_of m))) ≡ payload_of m = joined-after e m a k can lt holds is.all in
     is.none m (subst (λ (t : List ℕ). IsMessage p.kind p.session p.number t m) (sym payload) (IsMessage-self e m k can typed))
 
--- nothing in assembly
-is_or_not : (b : Bool) → (b ≡ true) ⊎ (b ≡ false)
-is_or_not true = inl refl
-is_or_not false = inr refl
-
 some-part : (m : Message) → 0 < count_of_parts m
 unfolding count_of_parts
 some-part m = omega arith
@@ -181,7 +176,7 @@ missing-replicate (suc n) h = refl
 
 none-before : (o : Option HeldParts) (key : Key) → ((h : HeldParts) → o ≡ Some h → h.key ≡ key → ⊥) → parts_before o key ≡ replicate key.parts None
 none-before None key other = refl
-none-before (Some h) key other = elim (is_or_not (same_part_key h.key key)) [ inl same ↦ absurd (other h refl (same_key-is h.key key same)) | inr unlike ↦ rw unlike refl ]
+none-before (Some h) key other = elim (cases_Bool (same_part_key h.key key)) [ inl same ↦ absurd (other h refl (same_key-is h.key key same)) | inr unlike ↦ rw unlike refl ]
 
 pub fresh : (e : Envelope) (m : Message) (a : Assembled) → ((h : HeldParts) → a.held ≡ Some h → h.key ≡ key_of_message e m → ⊥) → HoldsSome e m a
 fresh e m a other =

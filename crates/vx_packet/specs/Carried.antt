@@ -1,13 +1,14 @@
 -- What an assembly has, where all of it came in packets.
 use Rattle.std.specs.Prelude.{◌≡◌, ℕ, ◌+◌, ◌<◌, ◌≤◌, List, length, Option, Some, None, slice_index_or}
+use Rattle.vx_model.specs.declared.limits.TheConstants.{PART_BYTES}
 use Rattle.vx_packet.specs.Assemblies.{HeldParts, Assembled}
 use Rattle.vx_packet.specs.declared.message.Envelope.{Envelope}
 use Rattle.vx_packet.specs.declared.part.Part.{Part}
 
 -- a payload as long as the k-th of so many parts is
 pub record IsCarried (count k : ℕ) (payload : List ℕ) : Type 0 where
-  pub full : k + 1 < count → length payload ≡ 1024
-  pub few : length payload ≤ 1024
+  pub full : k + 1 < count → length payload ≡ PART_BYTES
+  pub few : length payload ≤ PART_BYTES
   pub some : 1 < count → 0 < length payload
 
 abbrev pub MayCarry : ℕ → ℕ → Option (List ℕ) → Type 0

@@ -2,6 +2,7 @@
 use Rattle.std.specs.Prelude.{◌≡◌, ℕ, Bool, ◌+◌, ◌≤◌, nat_lt, if◌then◌else◌, unwrap_or, List, [], ◌∷◌, length, take, drop, flat_map, Option, Some, None}
 use Rattle.std.specs.List.{list_all}
 use Rattle.std.specs.Option.{is_some}
+use Rattle.vx_model.specs.declared.limits.TheConstants.{PART_BYTES}
 
 -- of each part its payload, where it has come
 abbrev pub Parts : Type 0
@@ -31,15 +32,15 @@ slot (Some n) place = Some (take n place)
 -- the parts with these lengths, in their places of a buffer
 abbrev pub parts_came : List (Option ℕ) → List ℕ → Parts
 parts_came [] buffer = []
-parts_came (n ∷ rest) buffer = slot n (take 1024 buffer) ∷ parts_came rest (drop 1024 buffer)
+parts_came (n ∷ rest) buffer = slot n (take PART_BYTES buffer) ∷ parts_came rest (drop PART_BYTES buffer)
 
 abbrev pub IsAtMost : Option ℕ → Type 0
 IsAtMost None = Unit {0}
-IsAtMost (Some n) = n ≤ 1024
+IsAtMost (Some n) = n ≤ PART_BYTES
 
 abbrev pub IsFullPart : Option ℕ → Type 0
 IsFullPart None = Unit {0}
-IsFullPart (Some n) = n ≡ 1024
+IsFullPart (Some n) = n ≡ PART_BYTES
 
 -- all that have come are full, but for the last
 abbrev pub AreFull : List (Option ℕ) → Type 0
@@ -58,4 +59,4 @@ pub record IsGathered (count : ℕ) (lengths : List (Option ℕ)) (buffer : List
 abbrev pub whole_length : List (Option ℕ) → ℕ
 whole_length [] = 0
 whole_length (n ∷ []) = unwrap_or n 0
-whole_length (n ∷ m ∷ rest) = 1024 + whole_length (m ∷ rest)
+whole_length (n ∷ m ∷ rest) = PART_BYTES + whole_length (m ∷ rest)

@@ -1,6 +1,6 @@
 -- What stands in the places of a message's numbers, whether or not the payload is one of its kind's.
-use Rattle.std.specs.Prelude.{ℕ, Bool, ◌*◌, ◌/◌, ◌%◌, ◌^◌, ◌&&◌, ◌==◌, nat_lt, nat_le, if◌then◌else◌, List, length, drop, Option, Some, None}
-use Rattle.vx_model.specs.declared.limits.TheConstants.{BLOCK, MOST_CALL_BLOCKS}
+use Rattle.std.specs.Prelude.{ℕ, Bool, ◌+◌, ◌*◌, ◌/◌, ◌%◌, ◌^◌, ◌&&◌, ◌==◌, nat_lt, nat_le, if◌then◌else◌, List, length, drop, Option, Some, None}
+use Rattle.vx_model.specs.declared.limits.TheConstants.{BLOCK, MOST_CALL_BLOCKS, MOST_MAP_BYTES, REGION}
 use Rattle.vx_wire.specs.Numbers.{number_at}
 use Rattle.vx_packet.specs.declared.message.Message.{Message}
 use Rattle.vx_packet.specs.declared.message.Message.TheVariants.{Hello, Update, NetAck, DataAck, ReplayStart, Region, RegionsDone, RegionAck, Fork, ForkMap, Handover, Trim}
@@ -17,10 +17,10 @@ abbrev pub update_in : ℕ → List ℕ → Option Message
 update_in n p = if nat_lt 16 (length p) && are_blocks MOST_CALL_BLOCKS (drop 16 p) then Some (Update n (number_at 4 0 p) (number_at 8 4 p) (drop 16 p)) else None
 
 abbrev pub region_in : ℕ → ℕ → List ℕ → Option Message
-region_in s n p = if are_blocks 64 p then Some (Region n (s / 2 ^ 32) (s % 2 ^ 32) p) else None
+region_in s n p = if are_blocks REGION p then Some (Region n (s / 2 ^ 32) (s % 2 ^ 32) p) else None
 
 abbrev pub fork_map_in : ℕ → List ℕ → Option Message
-fork_map_in n p = if nat_le 8 (length p) && nat_le (length p) 65544 then Some (ForkMap n (number_at 8 0 p) (drop 8 p)) else None
+fork_map_in n p = if nat_le 8 (length p) && nat_le (length p) (8 + MOST_MAP_BYTES) then Some (ForkMap n (number_at 8 0 p) (drop 8 p)) else None
 
 -- what is read under a kind, with these fields of the header
 unfoldable pub message_in : ℕ → ℕ → ℕ → List ℕ → Option Message

@@ -1,6 +1,6 @@
 -- Messages, as the table of kinds spells them.
-use Rattle.std.specs.Prelude.{◌≡◌, ℕ, ◌+◌, ◌*◌, ◌/◌, ◌%◌, ◌^◌, ◌<◌, ◌≤◌, ◌≢◌, max, List, [], ◌∷◌, ◌++◌, length, slice_index}
-use Rattle.vx_model.specs.declared.limits.TheConstants.{BLOCK, MOST_CALL_BLOCKS}
+use Rattle.std.specs.Prelude.{◌≡◌, ℕ, ◌+◌, ◌-◌, ◌*◌, ◌/◌, ◌%◌, ◌^◌, ◌<◌, ◌≤◌, ◌≢◌, max, List, [], ◌∷◌, ◌++◌, length, slice_index}
+use Rattle.vx_model.specs.declared.limits.TheConstants.{BLOCK, MOST_CALL_BLOCKS, MOST_MAP_BYTES, PART_BYTES, REGION}
 use Rattle.vx_model.specs.Numbers.{number_bound}
 use Rattle.vx_wire.specs.declared.field.Field.{Field}
 use Rattle.vx_wire.specs.declared.field.Field.TheVariants.{U8, U32, U64}
@@ -48,7 +48,7 @@ IsAck kind vol region = (kind ≤ 2) × (kind ≢ 1 → vol ≡ 0) × (kind ≢ 
 -- a bit for each of so many regions, and zeros behind them in the last byte
 pub record IsMap (regions : ℕ) (bytes : List ℕ) : Type 0 where
   pub whole : length bytes ≡ (regions + 7) / 8
-  pub few : length bytes ≤ 65536
+  pub few : length bytes ≤ MOST_MAP_BYTES
   pub unused : slice_index bytes (regions / 8) / 2 ^ (regions % 8) ≡ 0
 
 -- a message that the table can spell
@@ -58,7 +58,7 @@ CanSpellMessage (Update number vol block bytes) = IsCounted number × AreWholeBl
 CanSpellMessage (NetAck session number) = IsCounted session × IsCounted number
 CanSpellMessage (DataAck number) = IsCounted number
 CanSpellMessage (ReplayStart id start) = IsCounted id × IsCounted start
-CanSpellMessage (Region id vol region bytes) = IsCounted id × AreWholeBlocks 64 bytes
+CanSpellMessage (Region id vol region bytes) = IsCounted id × AreWholeBlocks REGION bytes
 CanSpellMessage (RegionsDone id start end) = IsCounted id × IsCounted start × IsCounted end
 CanSpellMessage (RegionAck id vol region kind) = IsCounted id × IsAck kind vol region
 CanSpellMessage (Fork fork parent) = IsCounted fork × IsCounted parent.generation
@@ -87,7 +87,7 @@ payload_of m = spelled (row m).numbers ++ (row m).bytes
 
 -- in how many parts a payload of so many bytes goes
 abbrev pub part_count : ℕ → ℕ
-part_count n = max 1 ((n + 1023) / 1024)
+part_count n = max 1 ((n + (PART_BYTES - 1)) / PART_BYTES)
 
 -- in how many parts a message goes
 unfoldable pub count_of_parts : Message → ℕ
@@ -95,7 +95,7 @@ count_of_parts m = part_count (length (payload_of m))
 
 -- a part of a payload
 abbrev pub chunk : ℕ → List ℕ → List ℕ
-chunk k payload = cut (1024 * k) 1024 payload
+chunk k payload = cut (PART_BYTES * k) PART_BYTES payload
 
 -- a message is spelled by this kind, these fields of the header and this payload
 pub record IsSpelled (kind session number : ℕ) (payload : List ℕ) (m : Message) : Type 0 where

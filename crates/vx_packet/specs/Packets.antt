@@ -1,6 +1,7 @@
 -- Packets: a header, and a part of a message's payload.
 use Rattle.std.specs.Prelude.{◌≡◌, ℕ, Bool, true, ◌+◌, ◌^◌, ◌<◌, ◌≤◌, ◌&&◌, ◌==◌, nat_lt, IsTrue, List, [], ◌∷◌, ◌++◌, length}
 use Rattle.std.specs.List.{list_any}
+use Rattle.vx_model.specs.declared.limits.TheConstants.{PART_BYTES}
 use Rattle.vx_model.specs.Numbers.{number_bound}
 use Rattle.vx_wire.specs.declared.field.Field.{Field}
 use Rattle.vx_wire.specs.declared.field.Field.TheVariants.{U8, U16, U32, U64}
@@ -88,8 +89,8 @@ packet_bytes p payload = spelled (packet_table p) ++ payload
 
 -- all parts but the last have 1,024 bytes, and the last has none only where it is the one part of a message without payload
 pub record HasLength (p : Part) : Type 0 where
-  pub whole : p.part + 1 < p.parts → p.length ≡ 1024
-  pub few : p.length ≤ 1024
+  pub whole : p.part + 1 < p.parts → p.length ≡ PART_BYTES
+  pub few : p.length ≤ PART_BYTES
   pub some : 1 < p.parts → 0 < p.length
 
 -- a part that a packet can carry

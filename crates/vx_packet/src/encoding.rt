@@ -4,9 +4,10 @@ ghost use Rattle.vx_packet.specs.Messages.{CanSpellMessage, IsCounted, count_of_
 ghost use Rattle.vx_packet.specs.Packets.{part_numbered, part_packet, IsTypedEnvelope, IsPacket};
 
 use crate::part::{HEADER, table};
-use crate::payload::{PART_BYTES, part_count, put_chunk};
+use crate::payload::{part_count, put_chunk};
 use crate::row::{put_front, row_of};
 use crate::{Envelope, Message, Part};
+use vx_model::limits::PART_BYTES;
 use vx_wire::put_fields;
 
 /// In how many parts a message goes: one for each 1,024 bytes of its payload that have begun, and one where it has none.

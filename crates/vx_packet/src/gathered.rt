@@ -4,10 +4,10 @@ ghost use Rattle.std.specs.List.{list_all};
 ghost use Rattle.std.specs.Option.{is_some};
 ghost use Rattle.vx_packet.specs.Gathering.{all_parts_came, parts_came, joined_parts, kept_payload, AreFull, whole_length};
 
-use crate::payload::PART_BYTES;
 use std::alloc::Global;
 use std::marker::Model;
 use vx_model::OutOfMemory;
+use vx_model::limits::PART_BYTES;
 use vx_wire::put_bytes;
 
 // So many parts a packet can tell of, and so many a message has at most.
@@ -59,8 +59,8 @@ fn clear(lengths: &mut [Option<u16>], count: usize)
 fn keep(lengths: &mut [Option<u16>], count: usize, buffer: &mut [u8], part: usize, payload: &[u8])
     requires part { part < count }
     requires count { count ≤ length lengths.old }
-    requires few { length payload.now ≤ 1024 }
-    requires whole { part + 1 < count → length payload.now ≡ 1024 }
+    requires few { length payload.now ≤ PART_BYTES }
+    requires whole { part + 1 < count → length payload.now ≡ PART_BYTES }
     requires room { length buffer.old ≡ 66560 }
     ensures came { parts_came (take count lengths.new) buffer.new ≡ set (parts_came (take count lengths.old) buffer.old) part (Some (kept_payload part payload.now)) }
     ensures full { AreFull (take count lengths.old) → AreFull (take count lengths.new) }
@@ -114,8 +114,8 @@ impl Gathered {
     /// Takes a part, in place of an earlier one.
     pub fn put(&mut self, part: u16, payload: &[u8])
         requires part { part < length self.old }
-        requires few { length payload.now ≤ 1024 }
-        requires whole { part + 1 < length self.old → length payload.now ≡ 1024 }
+        requires few { length payload.now ≤ PART_BYTES }
+        requires whole { part + 1 < length self.old → length payload.now ≡ PART_BYTES }
         ensures { self.new ≡ set self.old part (Some (kept_payload part payload.now)) }
     {
         keep(

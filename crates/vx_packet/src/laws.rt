@@ -1,5 +1,6 @@
 // What the definitions of packets and of assembly promise.
-ghost use Rattle.std.specs.Prelude.{◌≡◌, ℕ, ◌<◌, ◌≤◌, List, length, Some, None};
+ghost use Rattle.std.specs.Prelude.{◌≡◌, ℕ, ◌+◌, ◌<◌, ◌≤◌, List, length, Some, None};
+ghost use Rattle.vx_model.specs.declared.limits.TheConstants.{MOST_MAP_BYTES};
 ghost use Rattle.vx_packet.specs.Assemblies.{HeldParts, Assembled, TakesPart};
 ghost use Rattle.vx_packet.specs.Carried.{CameInPackets, envelope_of};
 ghost use Rattle.vx_packet.specs.Messages.{payload_of, count_of_parts, chunk, CanSpellMessage, IsTyped, IsMessage};
@@ -16,7 +17,7 @@ ghost use Rattle.vx_packet.specs.declared.part.Part.{Part};
 pub fn one_spelling()
     ensures part { (bytes : List ℕ) (p q : Part) → IsPacket bytes p → IsPacket bytes q → p ≡ q }
     ensures message { (kind session number : ℕ) (payload : List ℕ) (m n : Message) → IsMessage kind session number payload m → IsMessage kind session number payload n → m ≡ n }
-    ensures few { (m : Message) → CanSpellMessage m → length (payload_of m) ≤ 65544 }
+    ensures few { (m : Message) → CanSpellMessage m → length (payload_of m) ≤ 8 + MOST_MAP_BYTES }
     ensures packet { (bytes : List ℕ) (e : Envelope) (m : Message) (k : ℕ) → IsPacket bytes (part_numbered e m k) → payload_in (part_numbered e m k) bytes ≡ chunk k (payload_of m) → bytes ≡ part_packet e m k }
     ensures payload { (e : Envelope) (m : Message) (k : ℕ) → payload_in (part_numbered e m k) (part_packet e m k) ≡ chunk k (payload_of m) }
 {}

@@ -6,7 +6,7 @@ ghost use Rattle.vx_packet.specs.declared.part.Part.{Part as PartValue};
 ghost use Rattle.vx_wire.specs.Fields.{spelled};
 
 use vx_model::Line;
-use vx_model::limits::MOST_NUMBER;
+use vx_model::limits::{MOST_NUMBER, PART_BYTES};
 use vx_wire::{Field, get_line, get_u8, get_u16, get_u32, get_u64, put_fields};
 
 // The bytes "VXPK", with which a packet begins, and the version behind them.
@@ -106,7 +106,9 @@ fn has_length(p: &Part) -> bool
     ensures { IsTrue result ↔ HasLength p.now }
 {
     let last = p.part as u32 + 1 >= p.parts as u32;
-    (last || p.length == 1024) && p.length <= 1024 && (p.parts <= 1 || p.length > 0)
+    (last || p.length as usize == PART_BYTES)
+        && p.length as usize <= PART_BYTES
+        && (p.parts <= 1 || p.length > 0)
 }
 
 // Whether a part that was read is one that a packet can carry.

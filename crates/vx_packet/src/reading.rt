@@ -9,12 +9,12 @@ ghost use Rattle.vx_packet.specs.declared.message.Message.{Message as MessageVal
 use crate::row::{Row, put_front, row_of};
 use crate::spelling::can_spell;
 use crate::{BlockBytes, MapBytes, Message, RegionBytes};
-use vx_model::limits::{BLOCK, MOST_CALL_BLOCKS};
+use vx_model::limits::{BLOCK, MOST_CALL_BLOCKS, MOST_MAP_BYTES, REGION};
 use vx_wire::{get_line, get_u8, get_u32, get_u64};
 
 // Whether these are 1 to so many whole blocks.
 fn are_blocks(most: usize, bytes: &[u8]) -> bool
-    requires { most ≤ 64 }
+    requires { most ≤ REGION }
     ensures { result ≡ are_blocks_is most bytes.now }
 {
     !bytes.is_empty() && bytes.len() <= BLOCK * most && bytes.len() % BLOCK == 0
@@ -49,7 +49,7 @@ fn read_update(number: u64, payload: &[u8]) -> Option<Message<'_>>
 fn read_region(session: u64, number: u64, payload: &[u8]) -> Option<Message<'_>>
     ensures { result ≡ region_in session number payload.now }
 {
-    if are_blocks(64, payload) {
+    if are_blocks(REGION as usize, payload) {
         let (vol, region) = region_of(session);
         Some(Message::Region {
             id: number,
@@ -65,7 +65,7 @@ fn read_region(session: u64, number: u64, payload: &[u8]) -> Option<Message<'_>>
 fn read_fork_map(number: u64, payload: &[u8]) -> Option<Message<'_>>
     ensures { result ≡ fork_map_in number payload.now }
 {
-    if payload.len() >= 8 && payload.len() <= 65544 {
+    if payload.len() >= 8 && payload.len() <= 8 + MOST_MAP_BYTES {
         Some(Message::ForkMap {
             vol: number,
             regions: get_u64(payload, 0),

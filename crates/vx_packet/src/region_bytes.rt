@@ -1,5 +1,6 @@
 // The blocks of a region.
 ghost use Rattle.std.specs.Prelude.{◌≡◌};
+ghost use Rattle.vx_model.specs.declared.limits.TheConstants.{REGION};
 ghost use Rattle.vx_packet.specs.Buffers.{AreWholeBlocks};
 
 use std::marker::Model;
@@ -12,19 +13,20 @@ pub struct RegionBytes<'a> {
 
 impl<'a> Model for RegionBytes<'a> {
     ghost use Rattle.std.specs.Prelude.{List, ℕ};
+    ghost use Rattle.vx_model.specs.declared.limits.TheConstants.{REGION};
     ghost use Rattle.vx_packet.specs.Buffers.{AreWholeBlocks};
 
     ghost Value = { List ℕ };
 
     ghost view = { λ b. b.bytes.now };
 
-    ghost invariant = { λ b. AreWholeBlocks 64 b.bytes.now };
+    ghost invariant = { λ b. AreWholeBlocks REGION b.bytes.now };
 }
 
 impl<'a> RegionBytes<'a> {
     /// These bytes, which are 1 to 64 whole blocks.
     pub fn new(bytes: &'a [u8]) -> RegionBytes<'a>
-        requires { AreWholeBlocks 64 bytes.now }
+        requires { AreWholeBlocks REGION bytes.now }
         ensures { result ≡ bytes.now }
     {
         RegionBytes { bytes }
@@ -33,7 +35,7 @@ impl<'a> RegionBytes<'a> {
     /// The bytes of the blocks.
     pub fn as_bytes(&self) -> &[u8]
         ensures bytes { result.now ≡ self.now }
-        ensures blocks { AreWholeBlocks 64 self.now }
+        ensures blocks { AreWholeBlocks REGION self.now }
     {
         self.bytes
     }

@@ -1,5 +1,6 @@
 // The table of kinds, as the code reads it.
 ghost use Rattle.std.specs.Prelude.{◌≡◌, ◌+◌, ◌/◌, ◌≤◌, length, take};
+ghost use Rattle.vx_model.specs.declared.limits.TheConstants.{MOST_MAP_BYTES};
 ghost use Rattle.vx_packet.specs.Messages.{row as row_is, region_number as region_number_is, IsTyped};
 ghost use Rattle.vx_packet.specs.Rows.{IsRow, numbers_list};
 ghost use Rattle.vx_wire.specs.Fields.{spelled};
@@ -92,7 +93,7 @@ fn block_count(bytes: &BlockBytes<'_>) -> u32
 pub fn row_of<'a>(m: &'a Message<'a>) -> Row<'a>
     ensures row { IsRow result (row_is m.now) }
     ensures typed { IsTyped m.now }
-    ensures few { length result.bytes.now ≤ 65536 }
+    ensures few { length result.bytes.now ≤ MOST_MAP_BYTES }
 {
     match m {
         Message::Hello {

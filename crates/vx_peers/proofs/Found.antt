@@ -1,5 +1,6 @@
 -- The packet of a number, as it is found and read.
 use Rattle.std.proofs.Common.{◌≡◌, ◌∙◌, ℕ, List, ap, sym, subst, refl}
+use Rattle.std.proofs.lemmas.Option.{same_Some}
 use Rattle.std.specs.Prelude.{Option, Some, None}
 use Rattle.vx_history.specs.Events.{packet_at}
 use Rattle.vx_history.specs.World.{Packet}
@@ -11,9 +12,6 @@ use Rattle.vx_packet.specs.declared.message.Envelope.{Envelope}
 use Rattle.vx_packet.specs.declared.message.Message.{Message as Spelled}
 use Rattle.vx_packet.specs.declared.part.Part.{Part}
 use Rattle.vx_parts.specs.Spelling.{spelled_message}
-
-some_same : {A : Type 0} (x y : A) → Some x ≡ Some y → x ≡ y
-some_same x y e = cc
 
 line_of_part : (e : Envelope) (m : Spelled) (k : ℕ) → (part_numbered e m k).line ≡ e.line
 unfolding part_numbered
@@ -43,7 +41,7 @@ module _ (ps : List Packet) (number : ℕ) (p : Packet) (at : packet_at ps numbe
   never_none is = let e : None ≡ Some (carrier p) = is ∙ kept in absurd (cc)
 
   same_bytes : (bytes : List ℕ) → Some bytes ≡ bytes_at f number → bytes ≡ carrier p
-  same_bytes bytes is = some_same bytes (carrier p) (is ∙ kept)
+  same_bytes bytes is = same_Some bytes (carrier p) (is ∙ kept)
 
   flies : CanFly p
   flies = let place = place_of_number ps number p at in can_fly ps f flight place.0 p place.2
@@ -56,7 +54,7 @@ module _ (ps : List Packet) (number : ℕ) (p : Packet) (at : packet_at ps numbe
 
   pub read_so : (bytes : List ℕ) (part : Part) → Some bytes ≡ bytes_at f number → (r : Option Part) → ((q : Part) → IsPacket bytes q → r ≡ Some q) → r ≡ Some part → ReadSo p bytes part
   read_so bytes part some r only is =
-      let same : part ≡ part_carried p = some_same part (part_carried p) (sym is ∙ found bytes some r only) in
+      let same : part ≡ part_carried p = same_Some part (part_carried p) (sym is ∙ found bytes some r only) in
       record {
         part_is = same;
         bytes_are = same_bytes bytes some;

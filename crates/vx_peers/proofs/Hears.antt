@@ -1,5 +1,6 @@
 -- A greeting or an acknowledgement, as the world has it delivered.
 use Rattle.std.proofs.Common.{◌≡◌, ◌∙◌, ◌⊎◌, inl, inr, ℕ, Bool, true, false, List, ap, sym, subst, refl}
+use Rattle.std.proofs.lemmas.Option.{same_Some}
 use Rattle.std.specs.Prelude.{Option, Some, None, ◌&&◌, if◌then◌else◌}
 use Rattle.vx_model.specs.Sites.{is_up, same_line}
 use Rattle.vx_model.specs.declared.history.Line.{Line}
@@ -37,9 +38,6 @@ use Rattle.vx_parts.specs.Spelling.{spelled_message}
 use Rattle.vx_peers.specs.Answers.{LinkStandsFor, Listens, PartStandsFor, event_in, is_answer}
 use Rattle.vx_peers.proofs.Found.{ReadSo}
 use Rattle.vx_peers.proofs.Links.{data_again, hello_again, net_again}
-
-some_same : {A : Type 0} (x y : A) → Some x ≡ Some y → x ≡ y
-some_same x y e = cc
 
 -- the event that an answer is
 abbrev pub event_for : Message → SEvent
@@ -186,4 +184,4 @@ pub never_empty : {A : Type 0} (o : Option A) (x : A) → o ≡ Some x → o ≡
 never_empty o x some none = let e : Some x ≡ None = sym some ∙ none in absurd (cc)
 
 pub same_value : {A : Type 0} (o : Option A) (x y : A) → o ≡ Some x → o ≡ Some y → y ≡ x
-same_value o x y one two = some_same y x (sym two ∙ one)
+same_value o x y one two = same_Some y x (sym two ∙ one)

@@ -1,5 +1,6 @@
 -- Reads of a group one after another.
-use Rattle.std.proofs.Common.{◌≡◌, ◌∙◌, ◌-◌, ◌≤◌, ℕ, Bool, true, false, IsTrue, IsFalse, ap, sym, subst, refl}
+use Rattle.std.proofs.Common.{◌≡◌, ◌∙◌, ◌-◌, ◌≤◌, ℕ, true, false, IsTrue, IsFalse, ap, sym, subst, refl}
+use Rattle.std.proofs.lemmas.Bool.{false_from_ne_true}
 use Rattle.std.specs.Prelude.{IsSome, Option, Some, None, slice_get}
 use Rattle.vx_model.specs.Content.{Write}
 use Rattle.vx_model.specs.declared.call.Update.{Update}
@@ -41,10 +42,6 @@ looked_on a b c m0 m1 m2 one two = record {
   disks = untouched_both m0.disks m1.disks m2.disks one.disks two.disks;
   spends = then_spends m0 m1 m2 one.spends two.spends;
 }
-
-pub not_down : (b : Bool) → (IsTrue b → ⊥) → IsFalse b
-not_down true never = absurd (never refl)
-not_down false never = refl
 
 -- ---- refusals
 
@@ -97,5 +94,5 @@ stands_on a b c m0 m1 m2 n u looked tells h stands gives up on same =
       x = given.0;
       there = given.1;
       is = given.2 ∙ ap (λ (y : Core). update_of y.log.header.state.line n given.0) looked.core;
-      stands = subst (λ (y : Core). Stands y h m2) (same ∙ looked.core) (on h back (not_down m2.down up));
+      stands = subst (λ (y : Core). Stands y h m2) (same ∙ looked.core) (on h back (false_from_ne_true m2.down up));
     }

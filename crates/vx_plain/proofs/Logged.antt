@@ -1,10 +1,10 @@
 -- A small log does as an engine must.
-use Rattle.std.proofs.Common.{◌≡◌, ◌≢◌, ◌⊎◌, ℕ, zero, suc, ◌+◌, ◌-◌, ◌<◌, ◌≤◌, ◌||◌, Bool, true, false, List, [], ◌∷◌, ◌++◌, length, replicate, refl, ap, sym, ◌∙◌, subst, ⊎_elim, inl, inr, arith, Some, slice_get, slice_set, slice_index_or}
+use Rattle.std.proofs.Common.{◌≡◌, ◌≢◌, ◌⊎◌, ℕ, zero, suc, ◌+◌, ◌-◌, ◌<◌, ◌≤◌, ◌||◌, Bool, true, false, List, [], ◌∷◌, ◌++◌, length, refl, ap, sym, ◌∙◌, subst, ⊎_elim, inl, inr, arith, Some, slice_get, slice_set, slice_index_or}
 use Rattle.std.proofs.Common.{length-append}
 use Rattle.std.proofs.lemmas.Bool.{lt-ltb, le-ltb, ne_eqb}
-use Rattle.std.specs.Prelude.{if◌then◌else◌, eqb, ltb}
+use Rattle.std.specs.Prelude.{if◌then◌else◌}
 use Rattle.vx_model.specs.Answer.{Answer, Shows, Accepts, WrongSize, OutOfRange, answer_of, is_wrong_count, is_past, is_too_large}
-use Rattle.vx_model.specs.Content.{Content, blocks_in, blocks_from, put, zero_block}
+use Rattle.vx_model.specs.Content.{Content, blocks_in, blocks_from, put}
 use Rattle.vx_model.specs.declared.call.Call.{Call}
 use Rattle.vx_model.specs.declared.call.Call.TheVariants.{Read, Write as WriteBlocks}
 use Rattle.vx_model.specs.declared.call.Reply.TheVariants.{Logged, Refused}
@@ -18,11 +18,10 @@ use Rattle.vx_turn.specs.declared.ask.Job.TheVariants.{Apply, Fetch, Acked, Wait
 use Rattle.vx_turn.specs.declared.ask.JobReply.{JobReply}
 use Rattle.vx_turn.specs.declared.ask.JobReply.TheVariants as job
 use Rattle.vx_turn.specs.declared.meaning.Counts.{Counts}
-use Rattle.vx_turn.specs.Acting.{EngineActs, LiesAmong, RepliesBy, LogsUpdate, Nets, SaysJob, IsLow, volumes_after}
-use Rattle.vx_turn.specs.Volumes.{as_content, blocks_as, volumes_written}
+use Rattle.vx_turn.specs.Acting.{LiesAmong, RepliesBy, LogsUpdate, Nets, SaysJob, volumes_after}
+use Rattle.vx_turn.specs.Volumes.{as_content, blocks_as}
 use Rattle.vx_turn.proofs.Histories.{among-split}
-use Rattle.vx_turn.proofs.Dealing.{get-last}
-use Rattle.vx_settle.proofs.Bringings.{among-left, among-right, among-one}
+use Rattle.vx_settle.proofs.Bringings.{among-right, among-one}
 use Rattle.vx_settle.proofs.ManyPeers.{some-one, get-set, set-here, set-long, get-inside}
 use Rattle.vx_settle.specs.Bringing.{Events}
 use Rattle.vx_plain.specs.declared.small.Core.{Core}

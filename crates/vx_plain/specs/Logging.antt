@@ -1,6 +1,6 @@
 -- What an engine with one small volume and a log in memory stands for.
-use Rattle.std.specs.Prelude.{◌≡◌, ℕ, suc, ◌+◌, ◌*◌, ◌≤◌, Bool, true, false, List, [], ◌∷◌, ◌++◌, length, replicate}
-use Rattle.vx_model.specs.Content.{Write, put, zero_block}
+use Rattle.std.specs.Prelude.{◌≡◌, ℕ, suc, ◌≤◌, Bool, true, false, List, [], ◌∷◌, ◌++◌, length, replicate}
+use Rattle.vx_model.specs.Content.{put, zero_block}
 use Rattle.vx_model.specs.declared.call.Update.{Update}
 use Rattle.vx_model.specs.declared.no.No.{No}
 use Rattle.vx_turn.specs.declared.ask.Ask.{Ask}
@@ -11,7 +11,7 @@ use Rattle.vx_turn.specs.declared.ask.Job.TheVariants.{Fetch}
 use Rattle.vx_turn.specs.declared.ask.JobReply.{JobReply}
 use Rattle.vx_turn.specs.declared.ask.JobReply.TheVariants as job
 use Rattle.vx_turn.specs.declared.meaning.State.{State}
-use Rattle.vx_turn.specs.Acting.{EngineActs, LiesAmong, CountRose, IsHoldCause}
+use Rattle.vx_turn.specs.Acting.{EngineActs, CountRose, IsHoldCause}
 use Rattle.vx_turn.specs.Volumes.{as_content, blocks_as}
 use Rattle.vx_settle.specs.Bringing.{Events}
 use Rattle.vx_plain.specs.declared.small.Core.{Core}

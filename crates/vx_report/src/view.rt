@@ -4,7 +4,7 @@ ghost use Rattle.vx_model.specs.declared.limits.TheConstants.{LINK_PLACES};
 
 use std::alloc::Global;
 use std::marker::Model;
-use vx_model::limits::LINK_PLACES;
+use vx_model::limits::{LINK_PLACES, MOST_CALL_BLOCKS};
 use vx_model::{Mark, Mode, Name, OutOfMemory, PlexState, Role, SiteName, SiteState};
 
 /// The replicated volume group of a site, or its log as a bunker.
@@ -212,7 +212,7 @@ pub struct Kept {
     /// How many blocks it has, 1 to 16.
     pub count: u32,
     /// Of each of them whether it now has what was to be written.
-    pub bits: [bool; 16],
+    pub bits: [bool; MOST_CALL_BLOCKS as usize],
 }
 
 /// The links of a site in the order of their making. Contracts see their list.

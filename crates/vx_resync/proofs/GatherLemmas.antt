@@ -1,5 +1,6 @@
 -- A plex that has got the regions that it had missed.
-use Rattle.std.proofs.Common.{◌≡◌, ◌⊎◌, inl, inr, ℕ, ◌/◌, ◌<◌, Bool, true, false, IsTrue, IsFalse, List, refl, ap, sym, ◌∙◌, subst}
+use Rattle.std.proofs.Common.{◌≡◌, ◌⊎◌, inl, inr, ℕ, ◌/◌, Bool, true, false, IsTrue, IsFalse, List, refl, ap, sym, ◌∙◌, subst}
+use Rattle.std.proofs.lemmas.Bool.{cases_Bool}
 use Rattle.std.specs.Prelude.{Some}
 use Rattle.vx_config.specs.declared.config.Config.{Config}
 use Rattle.vx_disk.specs.Shelf.{Goes, Lawful, Meaning, Nothing}
@@ -7,13 +8,9 @@ use Rattle.vx_layout.specs.Places.{place}
 use Rattle.vx_volume.specs.Copies.{IsCopied}
 use Rattle.vx_volume.specs.Plexes.{Apart, Inside, active}
 use Rattle.vx_volume.specs.Volumes.{PlexFlushed}
-use Rattle.vx_resync.specs.Copies.{FromPlex, ReadAlike, TargetsActive}
+use Rattle.vx_resync.specs.Copies.{FromPlex, ReadAlike}
 use Rattle.vx_resync.specs.Gathers.{MissesOnly}
 use Rattle.vx_resync.specs.Picks.{InPicked}
-
-cases_bool : (b : Bool) → IsTrue b ⊎ IsFalse b
-cases_bool true = inl refl
-cases_bool false = inr refl
 
 module _ (c : Config) (v source p : ℕ) (apart : Apart c) (to : IsTrue (active c v p)) (f : ℕ → Bool) (old m : Meaning) (goes : Goes (FromPlex c v source (Some p) (InPicked f) old) old m) (up : IsTrue m.down → ⊥) where
   -- a block of a region that is not missed reads on each plex what it read
@@ -33,10 +30,10 @@ module _ (c : Config) (v source p : ℕ) (apart : Apart c) (to : IsTrue (active 
   misses_later q is_on misses = record { same = λ k x y in_it off here there. misses.same k x y in_it off (rest_reads p k x to in_it off here) (rest_reads q k y is_on in_it off there) }
 
   pub all_copied : (new : Meaning) → Lawful old → Lawful new → Goes Nothing m new → ReadAlike c v source (Some p) (InPicked f) old m → PlexFlushed c v p m new → MissesOnly c v source p f old → IsCopied c v source p old new
-  all_copied new law_old law_new flush alike flushed misses = record { each = λ k x in_it left. by k x in_it left (cases_bool (f (k / 64))) }
+  all_copied new law_old law_new flush alike flushed misses = record { each = λ k x in_it left. by k x in_it left (cases_Bool (f (k / 64))) }
     where
       told : (u b : ℕ) (x : List ℕ) → new.leaves u b x → IsTrue old.tells
-      told u b x left = elim (cases_bool new.tells) [ inl tells ↦ sym (flush.tells ∙ goes.tells) ∙ tells | inr not ↦ absurd (law_new.none not u b x left) ]
+      told u b x left = elim (cases_Bool new.tells) [ inl tells ↦ sym (flush.tells ∙ goes.tells) ∙ tells | inr not ↦ absurd (law_new.none not u b x left) ]
 
       by : (k : ℕ) (x : List ℕ) → Inside c v k → new.leaves (place c v p k).0 (place c v p k).1 x → IsTrue (f (k / 64)) ⊎ IsFalse (f (k / 64)) → old.reads (place c v source k).0 (place c v source k).1 x
       by k x in_it left (inl picked) =

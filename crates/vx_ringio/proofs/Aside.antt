@@ -1,5 +1,5 @@
 -- Calls that write the headers of a log alone.
-use Rattle.std.proofs.Common.{◌≡◌, inl, inr, ℕ, suc, ◌+◌, ◌<◌, ◌≤◌, List, [], ◌∷◌, length, IsTrue, arith}
+use Rattle.std.proofs.Common.{◌≡◌, inl, inr, ℕ, suc, ◌<◌, ◌≤◌, List, [], ◌∷◌, length, IsTrue, arith}
 use Rattle.vx_disk.specs.Moves.{Anything, Moves, Run}
 use Rattle.vx_disk.specs.Shelf.{Goes, Meaning, Nothing, Written}
 use Rattle.vx_disk.proofs.Moving.{goes_on, of_goes, then_goes}

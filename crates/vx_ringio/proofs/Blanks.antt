@@ -8,6 +8,7 @@ use Rattle.vx_srlfmt.specs.Headers.{header_magic}
 use Rattle.vx_srlfmt.specs.Kinds.{IsBody, Other}
 use Rattle.vx_srlfmt.specs.Records.{record_magic}
 use Rattle.vx_srlfmt.proofs.HeaderAgain.{begins_header}
+use Rattle.vx_srlfmt.proofs.KindLaws.{header_letter, record_letter}
 use Rattle.vx_srlfmt.proofs.RecordAgain.{begins_record}
 use Rattle.vx_disk.specs.Shelf.{Meaning, Wrote, Flushed, Goes, Nothing, piece}
 use Rattle.vx_disk.specs.Moves.{Moves, Run, Anything}
@@ -65,14 +66,6 @@ not_begun m letter begins =
     let zero : slice_index zero_block 0 ≡ 0 = refl in
     let same : slice_index (take 8 zero_block) 0 ≡ slice_index (be_bytes 8 m) 0 = ap (λ (b : List ℕ). slice_index b 0) begins in
     absurd (omega (arith, first, zero, same, letter))
-
-header_letter : slice_index (be_bytes 8 header_magic) 0 ≡ 0x56
-unfolding be_bytes
-header_letter = refl
-
-record_letter : slice_index (be_bytes 8 record_magic) 0 ≡ 0x56
-unfolding be_bytes
-record_letter = refl
 
 not_body : IsBody zero_block → ⊥
 not_body is = let zero : slice_index zero_block 0 ≡ 0 = refl in absurd (omega (arith, is, zero))

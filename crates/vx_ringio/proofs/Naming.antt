@@ -1,5 +1,5 @@
 -- Of two calls on one unit of a rack a later one names the disk of the unit as the first does.
-use Rattle.std.proofs.Common.{◌≡◌, ℕ}
+use Rattle.std.proofs.Common.{ℕ}
 use Rattle.std.specs.Prelude.{Option, Some, None, Result, Ok, Err}
 use Rattle.vx_disk.specs.Causes.{Names, WithDisks}
 use Rattle.vx_disk.specs.Disks.{Disks}

@@ -1,18 +1,15 @@
 -- What calls make of the disks of a rack, one after another.
-use Rattle.std.proofs.Common.{◌≡◌, ◌⊎◌, inl, inr, ℕ, ◌+◌, ◌-◌, ◌≤◌, ◌<◌, Bool, List, Option, Some, None, Result, Ok, Err, OnOk, IsTrue, refl, sym, ◌∙◌, ap, subst, arith}
-use Rattle.std.proofs.lemmas.Option.{none-some}
+use Rattle.std.proofs.Common.{◌≡◌, ◌⊎◌, inl, inr, ℕ, ◌+◌, ◌-◌, ◌≤◌, Bool, List, Option, Some, None, Result, Ok, Err, OnOk, IsTrue, refl, sym, ◌∙◌, ap, subst, arith}
+use Rattle.std.proofs.lemmas.Option.{none-some, same_Some}
 use Rattle.vx_disk.specs.declared.shelf.ShelfError.{ShelfError}
 use Rattle.vx_disk.specs.declared.shelf.ShelfError.TheVariants.{Fault, Down}
 use Rattle.vx_disk.specs.Burns.{FewerLeft, MakesCalls}
 use Rattle.vx_disk.specs.Causes.{Calls, Cause, OnDisks, WithDisks, Works}
 use Rattle.vx_disk.specs.Disks.{Burns, Disks, RanOut, SameBlocks, Untouched}
 use Rattle.vx_disk.specs.Shelf.{DisksFlushed, DisksWrote, Goes, Meaning, Nothing, Values, Written}
-use Rattle.vx_ringio.specs.Spends.{BurntOut, Loses, MakesAtLeast, Passed, Spends, Spent}
+use Rattle.vx_ringio.specs.Spends.{Loses, MakesAtLeast, Passed, Spends, Spent}
 
 -- ---- fuses
-
-some_same : (a b : ℕ × ℕ) → Some a ≡ Some b → a ≡ b
-some_same a b is = cc
 
 pub loses_none : (f : Option (ℕ × ℕ)) → Loses 0 f f
 loses_none None = refl
@@ -34,7 +31,7 @@ loses_both j k None None new one two = two
 loses_both j k None (Some g) new one two = absurd (none-some g (sym one))
 loses_both j k (Some f) None new one two = absurd (none-some (one.0, f.1) one.2)
 loses_both j k (Some f) (Some g) new one two =
-    let is : g ≡ (one.0, f.1) = some_same g (one.0, f.1) one.2 in
+    let is : g ≡ (one.0, f.1) = same_Some {A = ℕ × ℕ} g (one.0, f.1) one.2 in
     let calls : g.0 ≡ one.0 = ap (λ (x : ℕ × ℕ). x.0) is in
     let pick : g.1 ≡ f.1 = ap (λ (x : ℕ × ℕ). x.1) is in
     (two.0, omega (arith, one.1, two.1, calls), two.2 ∙ ap (λ (p : ℕ). Some (two.0, p)) pick)
@@ -44,9 +41,9 @@ between : (x y z : Option (ℕ × ℕ)) (f : ℕ × ℕ) → Loses 0 x y → Los
 between None y z f one two first last = absurd (none-some f first)
 between (Some g) None z f one two first last = absurd (none-some (one.0, g.1) one.2)
 between (Some g) (Some h) z f one two first last =
-    let same : g ≡ f = some_same g f first in
-    let is : h ≡ (one.0, g.1) = some_same h (one.0, g.1) one.2 in
-    let end : (two.0, h.1) ≡ f = some_same (two.0, h.1) f (sym two.2 ∙ last) in
+    let same : g ≡ f = same_Some {A = ℕ × ℕ} g f first in
+    let is : h ≡ (one.0, g.1) = same_Some {A = ℕ × ℕ} h (one.0, g.1) one.2 in
+    let end : (two.0, h.1) ≡ f = same_Some {A = ℕ × ℕ} (two.0, h.1) f (sym two.2 ∙ last) in
     let calls : h.0 ≡ one.0 = ap (λ (p : ℕ × ℕ). p.0) is in
     let ends : two.0 ≡ f.0 = ap (λ (p : ℕ × ℕ). p.0) end in
     let begins : g.0 ≡ f.0 = ap (λ (p : ℕ × ℕ). p.0) same in
@@ -57,8 +54,8 @@ between (Some g) (Some h) z f one two first last =
 never_less : (old new : Option (ℕ × ℕ)) (f : ℕ × ℕ) → Burns old new → old ≡ Some f → new ≡ Some f → ⊥
 never_less None new f burns first last = none-some f first
 never_less (Some g) new f burns first last =
-    let same : g ≡ f = some_same g f first in
-    let end : (g.0 - 1, g.1) ≡ f = some_same (g.0 - 1, g.1) f (sym burns.1 ∙ last) in
+    let same : g ≡ f = same_Some {A = ℕ × ℕ} g f first in
+    let end : (g.0 - 1, g.1) ≡ f = same_Some {A = ℕ × ℕ} (g.0 - 1, g.1) f (sym burns.1 ∙ last) in
     let begins : g.0 ≡ f.0 = ap (λ (p : ℕ × ℕ). p.0) same in
     let ends : g.0 - 1 ≡ f.0 = ap (λ (p : ℕ × ℕ). p.0) end in
     omega (arith, burns.0, begins, ends)

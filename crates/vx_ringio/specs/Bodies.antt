@@ -1,5 +1,5 @@
 -- The body of a record, as bytes.
-use Rattle.std.specs.Prelude.{◌≡◌, ℕ, zero, suc, ◌/◌, ◌≤◌, ◌<◌, ◌%◌, List, [], ◌∷◌, length, take, drop}
+use Rattle.std.specs.Prelude.{◌≡◌, ℕ, ◌/◌, ◌≤◌, ◌<◌, ◌%◌, List, length}
 use Rattle.vx_model.specs.declared.limits.TheConstants.{BLOCK, MOST_CALL_BYTES}
 use Rattle.vx_wire.specs.Seals.{digest_of}
 use Rattle.vx_srlfmt.specs.declared.record.RecordHead.{RecordHead}

@@ -1,8 +1,8 @@
 -- The definitions of content, fold and answer on small inputs, against values worked by hand.
-use Rattle.std.proofs.Common.{◌≡◌, ◌*◌, ℕ, List, [], ◌∷◌, refl}
+use Rattle.std.proofs.Common.{◌≡◌, ◌*◌, ℕ, [], ◌∷◌, refl}
 use Rattle.std.specs.Prelude.{replicate}
-use Rattle.vx_model.specs.Answer.{answer_of, Answer, Shows, Accepts, WrongSize, OutOfRange}
-use Rattle.vx_model.specs.Content.{Write, Content, put, fold_writes, zeros, zero_block, blocks_from}
+use Rattle.vx_model.specs.Answer.{answer_of, Shows, Accepts, WrongSize, OutOfRange}
+use Rattle.vx_model.specs.Content.{Write, Content, fold_writes, zeros, zero_block}
 use Rattle.vx_model.specs.declared.call.Call.TheVariants.{Read, Write as WriteBlocks}
 
 -- two volumes of 64 blocks

@@ -1,5 +1,5 @@
 -- Records whose blocks are written to their volumes, one after another, and then made durable.
-use Rattle.std.proofs.Common.{◌≡◌, ℕ, ◌+◌, ◌-◌, ◌≤◌, Bool, true, false, List, [], ◌∷◌, ◌++◌, length, take, drop, get_or, Some, All, IsTrue, IsFalse, refl, sym, ◌∙◌, ap, subst, arith, length-drop}
+use Rattle.std.proofs.Common.{◌≡◌, ℕ, ◌+◌, ◌-◌, ◌≤◌, Bool, true, false, List, [], ◌∷◌, ◌++◌, length, take, drop, get_or, Some, All, IsTrue, sym, ◌∙◌, ap, subst, arith, length-drop}
 use Rattle.std.specs.Prelude.{if◌then◌else◌, leb, slice_get}
 use Rattle.std.proofs.lemmas.List.{drop-drop, get_or-drop, take-append-drop, take_more}
 use Rattle.std.proofs.lemmas.List.Elements.{All-nil, All-push, All-weaker}
@@ -15,11 +15,11 @@ use Rattle.vx_rvg.specs.Brings.{Brings, BringsOne, IsPut, KeepsNewest, ReadsNewe
 use Rattle.vx_rvg.specs.Groups.{core_applied}
 use Rattle.vx_rvg.specs.Views.{Core, IsSound, Waits, applied_count, blocks_within, last_of, volume_size}
 use Rattle.vx_rvg.proofs.ApplyOne.{put_there_is}
-use Rattle.vx_rvg.proofs.WriteSound.{SameSizes, lies_same, moved_sizes, placed_same, volume_same, within_append, within_same}
+use Rattle.vx_rvg.proofs.WriteSound.{SameSizes, lies_same, moved_sizes, placed_same, volume_same, was_up, within_append, within_same}
 
 -- ---- how many blocks they are
 
-if_few : (t : Bool) (n : ℕ) → (if t then n else 0) ≤ n
+pub if_few : (t : Bool) (n : ℕ) → (if t then n else 0) ≤ n
 if_few true n = omega arith
 if_few false n = omega arith
 
@@ -47,10 +47,6 @@ due_few core size k ordered =
       ordered.fits,
       ordered.few,
     )
-
-was_up : (before after : Bool) → (IsTrue before → IsTrue after) → IsFalse after → IsFalse before
-was_up false after falls not = refl
-was_up true after falls not = let wrong : false ≡ true = sym not ∙ falls refl in cc
 
 -- ---- the same sizes
 

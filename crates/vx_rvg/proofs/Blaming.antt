@@ -1,5 +1,5 @@
 -- Which disk a refused call of the group names, and which one works where it is done.
-use Rattle.std.proofs.Common.{◌≡◌, ◌∙◌, ◌<◌, ℕ, List, Bool, true, false, ap, length, refl, sym, subst, IsTrue}
+use Rattle.std.proofs.Common.{◌≡◌, ◌∙◌, ◌<◌, ℕ, List, true, false, ap, length, refl, sym, subst}
 use Rattle.std.specs.Prelude.{IfErr, IsSome, OnOk, Option, Some, None, Result, Ok, Err}
 use Rattle.vx_model.specs.declared.no.No.{No}
 use Rattle.vx_model.specs.declared.no.No.TheVariants.{Device}

@@ -12,7 +12,6 @@ use Rattle.vx_disk.specs.Shelf.{Meaning, Image, Each, Lawful, Keeps}
 use Rattle.vx_disk.specs.Moves.{Blocks, Beside, Moves, Run, Says}
 use Rattle.vx_disk.proofs.Moving.{kept_beside, left_beside}
 use Rattle.vx_overlay.specs.Writes.{newest_of}
-use Rattle.vx_ringlog.specs.Cells.{IsImage}
 use Rattle.vx_ringlog.specs.Cells as cells
 use Rattle.vx_ringlog.specs.Chain.{IsGreaterTop, Recovers}
 use Rattle.vx_ringlog.specs.Logs.{State, Seal, Found as LogFound}

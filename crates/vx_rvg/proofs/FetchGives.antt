@@ -2,6 +2,7 @@
 use Rattle.std.proofs.Common.{◌≡◌, ℕ, zero, suc, ◌+◌, ◌-◌, List, [], ◌∷◌, ◌++◌, length, drop, Some, Result, Ok, Err, OnOk, IsTrue, refl, sym, ◌∙◌, ap, subst, arith, append-nil}
 use Rattle.std.specs.Prelude.{slice_get, All}
 use Rattle.std.proofs.lemmas.List.Elements.{All-head, All-tail}
+use Rattle.std.proofs.lemmas.Option.{same_Some}
 use Rattle.vx_model.specs.Content.{Write}
 use Rattle.vx_model.specs.declared.call.Update.{Update}
 use Rattle.vx_model.specs.declared.history.Line.{Line}
@@ -22,19 +23,19 @@ use Rattle.vx_rvg.specs.Holdings.{Holding, blocks_taken, update_of}
 use Rattle.vx_rvg.specs.Stands.{GivesWrite, IsWholeRecord, Stands}
 use Rattle.vx_rvg.specs.Views.{Core}
 use Rattle.vx_rvg.proofs.ReadStands.{whole_drop, writes_drop}
-use Rattle.vx_rvg.proofs.StartFill.{none_is, some_is}
+use Rattle.vx_rvg.proofs.StartFill.{none_is}
 
 -- ---- the write of a number
 
 write_at_place : (rs : List Record) (k : ℕ) (r : Record) → slice_get rs k ≡ Some r → slice_get (writes_of rs) k ≡ Some (write_logged r)
 write_at_place [] k r is = absurd (none_is r is)
-write_at_place (x ∷ rs) zero r is = ap (λ (y : Record). Some (write_logged y)) (some_is x r is)
+write_at_place (x ∷ rs) zero r is = ap (λ (y : Record). Some (write_logged y)) (same_Some x r is)
 write_at_place (x ∷ rs) (suc k) r is = write_at_place rs k r is
 
 -- each record is of the line of its log
 line_at_place : (e : Era) (n prev : ℕ) (rs : List Record) (k : ℕ) (r : Record) → RecordsFit e n prev rs → slice_get rs k ≡ Some r → r.line ≡ e.line
 line_at_place e n prev [] k r fits is = absurd (none_is r is)
-line_at_place e n prev (x ∷ rs) zero r fits is = ap (λ (y : Record). y.line) (sym (some_is x r is)) ∙ fits.2.line
+line_at_place e n prev (x ∷ rs) zero r fits is = ap (λ (y : Record). y.line) (sym (same_Some x r is)) ∙ fits.2.line
 line_at_place e n prev (x ∷ rs) (suc k) r fits is = line_at_place e (suc n) x.incarnation rs k r fits.5 is
 
 update_same : (line : Line) (n : ℕ) (r : Record) → r.head.line ≡ line → r.head.number ≡ n → srl.update_with r ≡ update_of line n (write_logged r)

@@ -1,5 +1,5 @@
 -- What the calls of the log that write a header make of a group.
-use Rattle.std.proofs.Common.{◌≡◌, ◌⊎◌, inl, inr, ⊎_elim, ℕ, ◌+◌, ◌<◌, ◌≤◌, Bool, true, false, IsTrue, IsFalse, Result, Ok, Err, refl, sym, ◌∙◌, subst, arith}
+use Rattle.std.proofs.Common.{◌≡◌, ◌⊎◌, inl, inr, ⊎_elim, ℕ, ◌+◌, ◌<◌, ◌≤◌, Bool, true, false, IsFalse, Result, Ok, Err, refl, sym, ◌∙◌, subst, arith}
 use Rattle.std.specs.Prelude.{if◌then◌else◌, leb}
 use Rattle.std.proofs.lemmas.Bool.{cases_lt}
 use Rattle.std.proofs.lemmas.Bool.Decides.{nat_tests}
@@ -18,7 +18,7 @@ use Rattle.vx_rvg.specs.Saves.{log_without, reclaimed}
 use Rattle.vx_rvg.specs.Stands.{Retains, Saving}
 use Rattle.vx_rvg.specs.Views.{Core, IsSound, applied_count}
 use Rattle.vx_rvg.proofs.SaveStands.{save_sound, save_moves, save_rests}
-use Rattle.vx_rvg.proofs.WriteSound.{ended_sound, moved_sizes}
+use Rattle.vx_rvg.proofs.WriteSound.{ended_sound, moved_sizes, was_up}
 
 -- the log is as it was, or has the new header
 saves_cases : (l after l' : Log) (m m' : Meaning) (r : Result (Unit {0}) SrlNo) → SavesHeader l after m m' l' r → (l' ≡ l) ⊎ (l' ≡ after)
@@ -43,10 +43,6 @@ reclaim_cases l l' to m m' r x x' low limit saves =
     (cases_lt to most_number))
     (λ past. inl (limit low (inl past)).1)
     (cases_lt l.header.stamp most_number)
-
-was_up : (before after : Bool) → (IsTrue before → IsTrue after) → IsFalse after → IsFalse before
-was_up false after falls not = refl
-was_up true after falls not = let wrong : false ≡ true = sym not ∙ falls refl in cc
 
 pub still_up : (mine : Blocks) (P : Says) (m m' : Meaning) → Moves mine P m m' → IsFalse m'.down → IsFalse m.down
 still_up mine P m m' moves up = was_up m.down m'.down moves.falls up

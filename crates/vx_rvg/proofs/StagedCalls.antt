@@ -1,6 +1,6 @@
 -- The calls of a group commit, from what the calls on the log are.
 use Rattle.std.proofs.Common.{◌≡◌, ◌⊎◌, inl, inr, ⊎_elim, ℕ, zero, suc, ◌+◌, ◌<◌, ◌≤◌, Bool, true, false, List, [], ◌∷◌, ◌++◌, length, drop, Result, Ok, Err, Some, None, IsSome, IsTrue, refl, sym, ◌∙◌, ap, subst, arith, append-nil}
-use Rattle.std.specs.Prelude.{if◌then◌else◌, leb, ltb}
+use Rattle.std.specs.Prelude.{if◌then◌else◌, ltb}
 use Rattle.std.proofs.lemmas.Bool.Decides.{nat_tests}
 use Rattle.vx_model.specs.Content.{Write, blocks_in}
 use Rattle.vx_model.specs.declared.no.Counted.TheVariants.{Number}
@@ -25,7 +25,8 @@ use Rattle.vx_rvg.specs.Contents.{writes_of}
 use Rattle.vx_rvg.specs.Groups.{core_halted, no_of}
 use Rattle.vx_rvg.specs.Holdings.{Holding, with_writes}
 use Rattle.vx_rvg.specs.Stands.{Stands, StandsWith}
-use Rattle.vx_rvg.specs.Views.{Core, IsSoundWith, applied_count, blocks_within, volume_size}
+use Rattle.vx_rvg.specs.Views.{Core, IsSoundWith, applied_count, volume_size}
+use Rattle.vx_rvg.proofs.ApplyAll.{within_few}
 use Rattle.vx_rvg.proofs.ContentFacts.{heads_length}
 use Rattle.vx_rvg.proofs.StagedSound.{few_applied, halted_sound, more_sound, sealed_sound, staged_same, waiting_is}
 use Rattle.vx_rvg.proofs.StagedStands.{seal_moves, seal_stands, stage_has, stage_moves}
@@ -33,14 +34,6 @@ use Rattle.vx_rvg.proofs.WriteLog.{no_cause}
 use Rattle.vx_rvg.proofs.WriteSound.{moved_sizes}
 
 -- ---- what waits has room
-
-some_of : (w : Bool) (n : ℕ) → (if w then n else 0) ≤ n
-some_of true n = omega arith
-some_of false n = omega arith
-
-within_few : (size : ℕ → ℕ) (ks : List Kept) → blocks_within size ks ≤ widths ks
-within_few size [] = omega arith
-within_few size (k ∷ ks) = omega (arith, some_of (leb (k.head.block + k.head.count) (size k.head.vol)) k.head.count, within_few size ks)
 
 widths_drop : (n : ℕ) (ks : List Kept) → widths (drop n ks) ≤ widths ks
 widths_drop zero ks = omega arith

@@ -1,8 +1,9 @@
 -- The writes of a log are taken up, one after another.
-use Rattle.std.proofs.Common.{◌≡◌, ℕ, zero, suc, ◌+◌, ◌-◌, ◌≤◌, Bool, true, false, List, [], ◌∷◌, ◌++◌, length, take, drop, Some, None, IsTrue, sym, ◌∙◌, ap, subst, arith, length-append}
+use Rattle.std.proofs.Common.{◌≡◌, ℕ, zero, suc, ◌+◌, ◌-◌, ◌≤◌, Bool, List, [], ◌∷◌, ◌++◌, length, take, drop, Some, None, IsTrue, sym, ◌∙◌, ap, subst, arith, length-append}
 use Rattle.std.specs.Prelude.{if◌then◌else◌, leb, slice_get, All}
 use Rattle.std.proofs.lemmas.List.{map-append, take-append-drop}
 use Rattle.std.proofs.lemmas.List.Elements.{All-nil, All-push}
+use Rattle.std.proofs.lemmas.Option.{same_Some}
 use Rattle.vx_model.specs.Content.{Write, blocks_in}
 use Rattle.vx_model.specs.declared.call.Update.{Update}
 use Rattle.vx_model.specs.declared.no.No.{No}
@@ -30,6 +31,7 @@ use Rattle.vx_rvg.specs.Fills.{FillCause, IsFilledTo, NamesOne}
 use Rattle.vx_rvg.specs.Groups.{no_of}
 use Rattle.vx_rvg.specs.Stands.{IsWholeRecord}
 use Rattle.vx_rvg.specs.Views.{blocks_within, volume_size}
+use Rattle.vx_rvg.proofs.ApplyAll.{within_few}
 use Rattle.vx_rvg.proofs.WriteLog.{cause_from}
 use Rattle.vx_rvg.proofs.WriteSound.{SameSizes, volume_same, within_append}
 
@@ -38,12 +40,9 @@ use Rattle.vx_rvg.proofs.WriteSound.{SameSizes, volume_same, within_append}
 pub none_is : {A : Type 0} → (x : A) → None ≡ Some x → ⊥
 none_is x is = cc
 
-pub some_is : {A : Type 0} → (a x : A) → Some a ≡ Some x → a ≡ x
-some_is a x is = cc
-
 take_more : {A : Type 0} → (xs : List A) (k : ℕ) (x : A) → slice_get xs k ≡ Some x → take (suc k) xs ≡ take k xs ++ x ∷ []
 take_more [] k x is = absurd (none_is x is)
-take_more (a ∷ xs) zero x is = ap (λ b. b ∷ []) (some_is a x is)
+take_more (a ∷ xs) zero x is = ap (λ b. b ∷ []) (same_Some a x is)
 take_more (a ∷ xs) (suc k) x is = ap (λ ys. a ∷ ys) (take_more xs k x is)
 
 -- the header that is kept of a record
@@ -51,19 +50,10 @@ head_at : (rs : List Record) (ks : List Kept) (k : ℕ) (r : Record) (kept : Kep
 head_at [] ks k r kept same at there = absurd (none_is r at)
 head_at (a ∷ rs) [] k r kept same at there = absurd same
 head_at (a ∷ rs) (b ∷ ks) zero r kept same at there =
-    ap (λ (x : Record). x.head) (sym (some_is a r at)) ∙ same.0 ∙ ap (λ (x : Kept). x.head) (some_is b kept there)
+    ap (λ (x : Record). x.head) (sym (same_Some a r at)) ∙ same.0 ∙ ap (λ (x : Kept). x.head) (same_Some b kept there)
 head_at (a ∷ rs) (b ∷ ks) (suc k) r kept same at there = head_at rs ks k r kept same.2 at there
 
 -- ---- sums
-
-at_most : (t : Bool) (n : ℕ) → (if t then n else 0) ≤ n
-at_most true n = omega arith
-at_most false n = omega arith
-
--- records take more than the blocks that they put
-within_widths : (size : ℕ → ℕ) (ks : List Kept) → blocks_within size ks ≤ widths ks
-within_widths size [] = omega arith
-within_widths size (k ∷ ks) = omega (arith, at_most (leb (k.head.block + k.head.count) (size k.head.vol)) k.head.count, within_widths size ks)
 
 take_widths : (k : ℕ) (ks : List Kept) → widths (take k ks) ≤ widths ks
 take_widths k ks =
@@ -122,7 +112,7 @@ module _ (l : Log) (vols : List ℕ) (old mid new : Meaning) (k room : ℕ) (pen
       omega (
         arith,
         so.filled.count,
-        within_widths size (take k l.held),
+        within_few size (take k l.held),
         more,
         widths_append (take k l.held) (agrees.front.kept ∷ []),
         take_widths (suc k) l.held,

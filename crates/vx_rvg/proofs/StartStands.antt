@@ -4,6 +4,7 @@ use Rattle.std.specs.Prelude.{if◌then◌else◌, leb, slice_get, All}
 use Rattle.std.proofs.lemmas.Bool.{cases_lt, lt-ltb, le-ltb}
 use Rattle.std.proofs.lemmas.List.{take_all}
 use Rattle.std.proofs.lemmas.List.Elements.{All-head, All-tail}
+use Rattle.std.proofs.lemmas.Option.{same_Some}
 use Rattle.vx_model.specs.Content.{Content, Write, blocks_in}
 use Rattle.vx_model.specs.Sizes.{ring_of}
 use Rattle.vx_model.specs.declared.no.No.{No}
@@ -43,7 +44,7 @@ use Rattle.vx_rvg.specs.Views.{Core, IsSound, UnitsPlaced, applied_count, blocks
 use Rattle.vx_rvg.proofs.ContentFacts.{has_content, has_content_beside, has_maps, has_maps_beside, held_length, maps_moved, ring_left}
 use Rattle.vx_rvg.proofs.MakeStands.{in_volumes, sizes_moved, volume_kept}
 use Rattle.vx_rvg.proofs.ReadStands.{keeps_rest, whole_writes}
-use Rattle.vx_rvg.proofs.StartFill.{none_is, ring_rests, some_is}
+use Rattle.vx_rvg.proofs.StartFill.{none_is, ring_rests}
 use Rattle.vx_rvg.proofs.WriteLog.{cause_from}
 use Rattle.vx_rvg.proofs.WriteSound.{SameSizes, lies_same, placed_same, volume_same, within_same}
 
@@ -83,7 +84,7 @@ uncovered o P y none match = subst (λ (p : Option (List ℕ)). MatchOption p P 
 -- one of these
 one_of : {X : Type 0} (P : X → Type 0) (xs : List X) (k : ℕ) (x : X) → All P xs → slice_get xs k ≡ Some x → P x
 one_of P [] k x all is = absurd (none_is x is)
-one_of P (y ∷ xs) zero x all is = subst P (some_is y x is) (All-head P y xs all)
+one_of P (y ∷ xs) zero x all is = subst P (same_Some y x is) (All-head P y xs all)
 one_of P (y ∷ xs) (suc k) x all is = one_of P xs k x (All-tail P y xs all) is
 
 -- ---- the log that was left

@@ -1,5 +1,6 @@
 -- A group over a call that puts blocks into a volume without the log.
 use Rattle.std.proofs.Common.{◌≡◌, ◌⊎◌, inl, inr, ⊎_elim, ℕ, ◌+◌, ◌-◌, ◌*◌, ◌<◌, ◌≤◌, Bool, true, false, List, [], length, leb, IsTrue, refl, sym, ◌∙◌, ap, subst, arith}
+use Rattle.std.proofs.lemmas.Bool.{both_ways}
 use Rattle.std.specs.Prelude.{if◌then◌else◌, Err}
 use Rattle.std.proofs.lemmas.Bool.Decides.{nat_tests}
 use Rattle.std.proofs.lemmas.List.{nil_from_length}
@@ -28,9 +29,6 @@ use Rattle.vx_rvg.specs.Views.{Core, IsSound, last_of, unit_of, volume_size}
 use Rattle.vx_rvg.proofs.ContentFacts.{found_held, found_with, has_maps_beside, held_length, maps_moved, volume_there}
 use Rattle.vx_rvg.proofs.WriteSound.{failed_sound, moved_sizes}
 use Rattle.vx_rvg.proofs.WriteStands.{volume_size_is, write_at}
-
-misses : (t : Bool) → t ≡ false → t ≡ true → ⊥
-misses t wrong right = let e : true ≡ false = sym right ∙ wrong in cc
 
 fits : (a b : ℕ) → a ≤ b → leb a b ≡ true
 fits a b le = grind (arith, nat_tests)
@@ -70,7 +68,7 @@ module _ (core : Core) (c : Content) (vol start : ℕ) (bytes : List ℕ) (m : M
 
   not_there : (v b : ℕ) → b < c.size v → touches own v b ≡ false → Covers unit start bytes (unit_of core.units.vols v) b → ⊥
   not_there v b low is over =
-      misses (touches own v b) is (shows v vol start b (512 * (b - start)) (length bytes) (sound.placed.distinct v vol (volume_there core.units.vols c m v b ready.sizes low) exists over.there) over.first over.last)
+      both_ways (touches own v b) is (shows v vol start b (512 * (b - start)) (length bytes) (sound.placed.distinct v vol (volume_there core.units.vols c m v b ready.sizes low) exists over.there) over.first over.last)
 
   -- a run of as many blocks has no other
   out_of_run : (v b : ℕ) → b < c.size v → touches own v b ≡ false → Run unit start (blocks_in bytes) (unit_of core.units.vols v) b → ⊥

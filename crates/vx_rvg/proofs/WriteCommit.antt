@@ -38,7 +38,7 @@ sound_staged core m idle sound = subst (λ (ks : List Kept). IsSoundWith ks core
 one_next : (l : Log) → l.staged ≡ [] → next_of l ≡ l.header.low + length l.held
 one_next l idle = let none : length l.staged ≡ 0 = ap (λ (ks : List Kept). length ks) idle in omega (arith, none, length-append l.held l.staged)
 
-no_part : (k : ℕ) → take {A = Write} k [] ≡ []
+pub no_part : (k : ℕ) → take {A = Write} k [] ≡ []
 no_part zero = refl
 no_part (suc k) = refl
 

@@ -110,7 +110,7 @@ log_failed core l' m m' (no.Device disk) ended cause = (core_ended core l' (Some
 log_failed core l' m m' no.Down ended cause = (core_ended core l' core.halted ended, cause)
 log_failed core l' m m' other ended cause = absurd cause
 
-was_up : (before after : Bool) → (IsTrue before → IsTrue after) → IsFalse after → IsFalse before
+pub was_up : (before after : Bool) → (IsTrue before → IsTrue after) → IsFalse after → IsFalse before
 was_up false after falls not = refl
 was_up true after falls not = let wrong : false ≡ true = sym not ∙ falls refl in cc
 

@@ -1,8 +1,6 @@
 -- A replicated volume group as its callers see it.
 use Rattle.std.specs.Prelude.{◌≡◌, ◌≢◌, ℕ, ◌+◌, ◌*◌, ◌<◌, ◌≤◌, leb, ltb, if◌then◌else◌, Option, None, List, [], ◌∷◌, length, drop, slice_index, IsFalse, Contains}
-use Rattle.std.specs.List.{sum_by}
 use Rattle.vx_disk.specs.Maps.{maps_of}
-use Rattle.vx_model.specs.Sizes.{map_blocks}
 use Rattle.vx_model.specs.declared.limits.TheConstants.{LINK_PLACES}
 use Rattle.vx_model.specs.declared.units.Units.{Units}
 use Rattle.vx_disk.specs.Shelf.{Meaning}

@@ -1,5 +1,6 @@
 // What a group is beside its shelf.
 ghost use Rattle.std.specs.Prelude.{◌≡◌, ◌+◌, ◌<◌, ◌≤◌, length, None, IfSome};
+ghost use Rattle.vx_model.specs.declared.limits.TheConstants.{REGION};
 ghost use Rattle.vx_model.specs.Refusals.{IsNoDevice};
 ghost use Rattle.vx_rvg.specs.Groups.{write_refusal, read_refusal, applied_through, core_halted};
 ghost use Rattle.vx_rvg.specs.Views.{unit_of};
@@ -78,7 +79,7 @@ impl RvgCore {
 
     /// The same of a read.
     pub(crate) fn read_refusal(&self, size: u64, start: u64, count: u64) -> Option<No>
-        requires { count ≤ 64 }
+        requires { count ≤ REGION }
         ensures { result ≡ read_refusal self.now size start count }
     {
         if let Some(disk) = self.halted {

@@ -3,7 +3,7 @@ use Rattle.std.proofs.Common.{◌≡◌, ℕ, zero, suc, ◌+◌, ◌-◌, ◌<�
 use Rattle.std.specs.Prelude.{◌⊎◌}
 use Rattle.std.specs.List.{list_all}
 use Rattle.std.proofs.Math.Dec.{eqb-suc-zero}
-use Rattle.std.proofs.lemmas.Bool.{ltb-true}
+use Rattle.std.proofs.lemmas.Bool.{cases_Bool, ltb-true}
 use Rattle.vx_script.specs.Words.{WordReading, and_then, placed, is_visible, after_spaces, word_of, after_word}
 use Rattle.vx_script.specs.Tokens.{Token, Key, is_in_word}
 use Rattle.vx_script.specs.Keywords.{keyword_text, keyword_of}
@@ -14,8 +14,8 @@ use Rattle.vx_script.specs.declared.keyword.Keyword.{Keyword}
 use Rattle.vx_script.specs.declared.keyword.Keyword.TheVariants.{End as EndKey}
 use Rattle.vx_script.specs.declared.line.ScriptLine.{ScriptLine}
 use Rattle.vx_script.specs.declared.line.ScriptLine.TheVariants.{End}
-use Rattle.vx_script.proofs.FormatLemmas.{Faithful, either}
-use Rattle.vx_script.proofs.KindLemmas.{faithful, line_only, line_found}
+use Rattle.vx_script.proofs.FormatLemmas.{Faithful}
+use Rattle.vx_script.proofs.KindLemmas.{faithful, line_only, line_found, some_is}
 use Rattle.vx_script.proofs.SpotLemmas.{after_led, after_kept, word_then, tail_then, Blank, At, spot}
 
 -- reading skips spaces
@@ -265,17 +265,13 @@ loud_word word loud = ⊎_elim
     }))
     (either_keyword (keyword_of word))
 
-silent_word : (word tail : List ℕ) (left : ℕ) → is_silent word ≡ true → line_by word tail left ≡ Ok None
+pub silent_word : (word tail : List ℕ) (left : ℕ) → is_silent word ≡ true → line_by word tail left ≡ Ok None
 unfolding line_by
 silent_word word tail left e = ap (λ (b : Bool). cond b (Ok None) (line_of_keyword (keyword_of word) tail left)) e
 
 some_err : (r : WordReading ScriptLine) (left : ℕ) → some_line r ≡ Err left → r ≡ Err left
 some_err (Ok l) left e = absurd (cc)
 some_err (Err n) left e = let same : n ≡ left = cc in ap (λ (k : ℕ). Err k) same
-
-some_ok : (r : WordReading ScriptLine) (line : ScriptLine) → some_line r ≡ Ok (Some line) → r ≡ Ok line
-some_ok (Ok l) line e = let same : l ≡ line = cc in ap (λ (k : ScriptLine). Ok k) same
-some_ok (Err n) line e = absurd (cc)
 
 -- a line that is not read stops somewhere
 record LineStop (bytes : List ℕ) (left : ℕ) : Type 0 where
@@ -343,7 +339,7 @@ line_known n word tail left shown some ends of e =
             stops = λ b.
                 let form : (front ++ word_of s.here) ++ 32 ∷ b.0 ≡ front ++ (word_of s.here ++ 32 ∷ b.0) = append_assoc front (word_of s.here) (32 ∷ b.0) in
                 let read_it : line_after_spaces (front ++ (word_of s.here ++ 32 ∷ b.0)) ≡ Ok (Some b.1) = sym (ap line_after_spaces form) ∙ line_only ((front ++ word_of s.here) ++ 32 ∷ b.0) b.1 b.2 in
-                at_.stops b.0 b.1 (some_ok (read_by f (s.front ++ (word_of s.here ++ 32 ∷ b.0))) b.1 (sym (through (word_of s.here ++ 32 ∷ b.0) (at_.spaced (word_of s.here ++ 32 ∷ b.0))) ∙ read_it));
+                at_.stops b.0 b.1 (some_is (read_by f (s.front ++ (word_of s.here ++ 32 ∷ b.0))) b.1 (sym (through (word_of s.here ++ 32 ∷ b.0) (at_.spaced (word_of s.here ++ 32 ∷ b.0))) ∙ read_it));
           }))
           (λ (none : s.here ≡ []). inr none) s.stop;
     }
@@ -358,7 +354,7 @@ line_stops bytes left e = ⊎_elim
     (λ (none : NoKeyword a.word). line_unknown a.count a.word a.tail left a.shown a.some a.ends none (sym (ap line_after_spaces a.is) ∙ e))
     (λ (of : OfKeyword a.word). line_known a.count a.word a.tail left a.shown a.some a.ends of (sym (ap line_after_spaces a.is) ∙ e))
     (loud_word a.word loud))
-    (either (is_silent a.word))))
+    (cases_Bool (is_silent a.word))))
     (spot bytes)
 
 -- the column of a line that is not too long
@@ -394,4 +390,4 @@ column_exact bytes column e = ⊎_elim
     (λ (t : ltb 4096 (length bytes) ≡ false).
     let a = at_err bytes (length bytes) column (line_after_spaces bytes) (sym (ap (λ (b : Bool). cond b (Err 4097) (at_column (length bytes) (line_after_spaces bytes))) t) ∙ e) in
     inr (subst (WrongAt bytes) a.2 (column_of bytes a.0 a.1)))
-    (either (ltb 4096 (length bytes)))
+    (cases_Bool (ltb 4096 (length bytes)))

@@ -4,16 +4,16 @@ use Rattle.std.specs.Prelude.{◌&&◌}
 use Rattle.std.specs.List.{list_all, join_with_byte, slice_split}
 use Rattle.std.specs.Fmt.{decimal}
 use Rattle.std.specs.Str.{bytes_eq}
-use Rattle.std.proofs.lemmas.Bool.{ltb-true}
+use Rattle.std.proofs.lemmas.Bool.{and_parts, cases_Bool, ltb-true}
 use Rattle.std.proofs.lemmas.Fmt.{length-decimal-le}
 use Rattle.std.proofs.lemmas.List.{take-append-drop}
 use Rattle.std.proofs.lemmas.List.Splits.{join_with_byte-slice_split}
+use Rattle.std.proofs.lemmas.Option.{same_Some}
 use Rattle.std.proofs.lemmas.Slice.Eq.{bytes_eq-Decides}
 use Rattle.hex.specs.Hex.{lower_digits}
 use Rattle.hex.proofs.HexLemmas.{length-encode_with, decode_sized-twice, decode_sized-ok, decode_of-ok}
 use Rattle.vx_script.specs.Words.{is_visible, is_digit, is_name, word_name, digits_after, is_number, word_number, labelled, is_comma, both_names, all_names, names_of}
 use Rattle.vx_script.specs.Tokens.{Token, Key, Named, Number, Hex, NameList, Spells, SpellAll, words_of, before_word, is_in_word, printed, spaced, joined_words, IsWord, FitsToken, FitAll}
-use Rattle.vx_script.proofs.FormatLemmas.{either, some_same}
 
 -- all of these are words
 abbrev pub AllWords : List (List ℕ) → Type 0
@@ -35,7 +35,7 @@ words_are [] = tt
 words_are (b ∷ bytes) = ⊎_elim
     (λ (t : eqb b 32 ≡ true). subst AllWords (sym (ap (λ (u : Bool). cond u (words_of bytes) (before_word b (is_in_word bytes) (words_of bytes))) t)) (words_are bytes))
     (λ (t : eqb b 32 ≡ false). subst AllWords (sym (ap (λ (u : Bool). cond u (words_of bytes) (before_word b (is_in_word bytes) (words_of bytes))) t)) (words_before b (is_in_word bytes) (words_of bytes) t (words_are bytes)))
-    (either (eqb b 32))
+    (cases_Bool (eqb b 32))
 
 -- the bytes of words, with a space before each
 abbrev pub span : List (List ℕ) → ℕ
@@ -68,7 +68,7 @@ span_space b bytes below e =
 
 span_is : (bytes : List ℕ) → span (words_of bytes) ≤ length bytes + begun (is_in_word bytes)
 span_is [] = omega arith
-span_is (b ∷ bytes) = ⊎_elim (span_space b bytes (span_is bytes)) (span_other b bytes (span_is bytes)) (either (eqb b 32))
+span_is (b ∷ bytes) = ⊎_elim (span_space b bytes (span_is bytes)) (span_other b bytes (span_is bytes)) (cases_Bool (eqb b 32))
 
 pub span_words : (bytes : List ℕ) → span (words_of bytes) ≤ length bytes + 1
 span_words bytes =
@@ -84,7 +84,7 @@ labelled_is label value word x e = ⊎_elim
       sym (ap (λ (b : Bool). cond b (value (drop (length label) word)) None) t) ∙ e,
     ))
     (λ (t : bytes_eq (take (length label) word) label ≡ false). let f = sym (ap (λ (b : Bool). cond b (value (drop (length label) word)) None) t) ∙ e in absurd (cc))
-    (either (bytes_eq (take (length label) word) label))
+    (cases_Bool (bytes_eq (take (length label) word) label))
 
 visible_byte : (b : ℕ) → eqb b 32 ≡ false → is_visible b ≡ true
 visible_byte b e = ap not e
@@ -101,13 +101,9 @@ label_visible label word is e = front_visible label (drop (length label) word) (
 name_is : (word name : List ℕ) → word_name word ≡ Some name → (word ≡ name) × (is_name word ≡ true)
 unfolding word_name
 name_is word name e = ⊎_elim
-    (λ (t : is_name word ≡ true). (some_same word name (sym (ap (λ (b : Bool). cond b (Some word) None) t) ∙ e), t))
+    (λ (t : is_name word ≡ true). (same_Some word name (sym (ap (λ (b : Bool). cond b (Some word) None) t) ∙ e), t))
     (λ (t : is_name word ≡ false). let f = sym (ap (λ (b : Bool). cond b (Some word) None) t) ∙ e in absurd (cc))
-    (either (is_name word))
-
-both : (a b : Bool) → (a && b) ≡ true → (a ≡ true) × (b ≡ true)
-both true b e = (refl, e)
-both false b e = absurd (cc)
+    (cases_Bool (is_name word))
 
 -- digits stand for a number below the power of ten of their count
 digit_small : (b : ℕ) → is_digit b ≡ true → b - 48 < 10
@@ -116,7 +112,7 @@ digit_small b e = grind arith
 digits_below : (n k : ℕ) (ds : List ℕ) → list_all is_digit ds ≡ true → n < 10 ^ k → digits_after n ds < 10 ^ (k + length ds)
 digits_below n k [] all small = let same : k ≡ k + length {A = ℕ} [] = omega arith in subst (λ (m : ℕ). n < 10 ^ m) same small
 digits_below n k (d ∷ ds) all small =
-    let e = both (is_digit d) (list_all is_digit ds) all in
+    let e = and_parts (is_digit d) (list_all is_digit ds) all in
     let next : 10 * n + (d - 48) < 10 ^ suc k = omega (arith, small, digit_small d e.0) in
     let h = digits_below (10 * n + (d - 48)) (suc k) ds e.1 next in
     let same : suc k + length ds ≡ k + length (d ∷ ds) = omega arith in
@@ -128,9 +124,9 @@ record IsNumber (n : ℕ) (word : List ℕ) : Type 0 where
 
 number_fits : (word : List ℕ) → is_number word ≡ true → IsNumber (digits_after 0 word) word
 number_fits word e =
-    let a = both (ltb 0 (length word) && leb (length word) 20 && list_all is_digit word) (ltb (digits_after 0 word) (2 ^ 64)) e in
-    let b = both (ltb 0 (length word) && leb (length word) 20) (list_all is_digit word) a.0 in
-    let c = both (ltb 0 (length word)) (leb (length word) 20) b.0 in
+    let a = and_parts (ltb 0 (length word) && leb (length word) 20 && list_all is_digit word) (ltb (digits_after 0 word) (2 ^ 64)) e in
+    let b = and_parts (ltb 0 (length word) && leb (length word) 20) (list_all is_digit word) a.0 in
+    let c = and_parts (ltb 0 (length word)) (leb (length word) 20) b.0 in
     let some : 0 < length word = ltb-true 0 (length word) c.0 in
     let small : digits_after 0 word < 2 ^ 64 = ltb-true (digits_after 0 word) (2 ^ 64) a.1 in
     let same : 0 + length word ≡ length word = omega arith in
@@ -140,18 +136,18 @@ number_fits word e =
 number_is : (word : List ℕ) (n : ℕ) → word_number word ≡ Some n → IsNumber n word
 unfolding word_number
 number_is word n e = ⊎_elim
-    (λ (t : is_number word ≡ true). subst (λ (m : ℕ). IsNumber m word) (some_same (digits_after 0 word) n (sym (ap (λ (b : Bool). cond b (Some (digits_after 0 word)) None) t) ∙ e)) (number_fits word t))
+    (λ (t : is_number word ≡ true). subst (λ (m : ℕ). IsNumber m word) (same_Some (digits_after 0 word) n (sym (ap (λ (b : Bool). cond b (Some (digits_after 0 word)) None) t) ∙ e)) (number_fits word t))
     (λ (t : is_number word ≡ false). let f = sym (ap (λ (b : Bool). cond b (Some (digits_after 0 word)) None) t) ∙ e in absurd (cc))
-    (either (is_number word))
+    (cases_Bool (is_number word))
 
 -- names that were read
 both_is : (o : Option (List ℕ)) (os : Option (List (List ℕ))) (names : List (List ℕ)) → both_names o os ≡ Some names → (name : List ℕ) × (others : List (List ℕ)) × (o ≡ Some name) × (os ≡ Some others) × (name ∷ others ≡ names)
 both_is None os names e = absurd (cc)
 both_is (Some name) None names e = absurd (cc)
-both_is (Some name) (Some others) names e = (name, others, refl, refl, some_same (name ∷ others) names e)
+both_is (Some name) (Some others) names e = (name, others, refl, refl, same_Some (name ∷ others) names e)
 
 all_names_are : (parts names : List (List ℕ)) → all_names parts ≡ Some names → (parts ≡ names) × (list_all is_name names ≡ true)
-all_names_are [] names e = let same = some_same [] names e in (same, ap (list_all is_name) (sym same))
+all_names_are [] names e = let same = same_Some [] names e in (same, ap (list_all is_name) (sym same))
 all_names_are (part ∷ parts) names e =
     let a = both_is (word_name part) (all_names parts) names e in
     let n = name_is part a.0 a.2 in

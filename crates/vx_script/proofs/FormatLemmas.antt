@@ -1,8 +1,10 @@
 -- How a format is read, for every format.
-use Rattle.std.proofs.Common.{◌≡◌, ℕ, Bool, true, false, cond, List, [], ◌∷◌, ◌++◌, Option, Some, None, Ok, Err, refl, ap, sym, subst, ◌∙◌, inl, inr, ⊎_elim}
+use Rattle.std.proofs.Common.{◌≡◌, ℕ, Bool, true, false, cond, List, [], ◌∷◌, ◌++◌, Option, Some, None, Ok, Err, refl, ap, sym, subst, ◌∙◌, ⊎_elim}
+use Rattle.std.proofs.lemmas.Bool.{cases_Bool}
 use Rattle.std.specs.Prelude.{◌⊎◌, ◌&&◌, codes}
 use Rattle.std.specs.List.{list_all}
 use Rattle.std.proofs.lemmas.List.Folds.{list_all-append}
+use Rattle.std.proofs.lemmas.Option.{same_Some}
 use Rattle.std.specs.Str.{bytes_eq}
 use Rattle.std.proofs.lemmas.Slice.Eq.{bytes_eq-Decides}
 use Rattle.vx_script.specs.Words.{WordReading, and_then, next_word, words_end, word_name, word_number, labelled, names_of, is_visible}
@@ -104,20 +106,13 @@ read_found (Then {V} place more) before line bytes is e =
     let n = next_found place.value bytes a.0 is.0.empty a.1 in
     record { places = place.token a.0.0 ∷ b.places; is = b.is; spelt = spelt_more (place.token a.0.0) b.places bytes n.0 a.0.1 n.1 (is.0.found n.0 a.0.0 n.2) b.spelt }
 
-pub either : (t : Bool) → (t ≡ true) ⊎ (t ≡ false)
-either true = inl refl
-either false = inr refl
-
-pub some_same : {V : Type 0} (x y : V) → Some x ≡ Some y → x ≡ y
-some_same x y e = cc
-
 -- what is picked has the word for its text
 pub picked : {V : Type 0} (text : V → List ℕ) (all : List V) (word : List ℕ) (x : V) → pick_of text all word ≡ Some x → word ≡ text x
 picked text [] word x e = absurd (cc)
 picked text (v ∷ vs) word x e = ⊎_elim
-    (λ (t : bytes_eq word (text v) ≡ true). (bytes_eq-Decides word (text v)).0 t ∙ ap text (some_same v x (sym (ap (λ (b : Bool). cond b (Some v) (pick_of text vs word)) t) ∙ e)))
+    (λ (t : bytes_eq word (text v) ≡ true). (bytes_eq-Decides word (text v)).0 t ∙ ap text (same_Some v x (sym (ap (λ (b : Bool). cond b (Some v) (pick_of text vs word)) t) ∙ e)))
     (λ (t : bytes_eq word (text v) ≡ false). picked text vs word x (sym (ap (λ (b : Bool). cond b (Some v) (pick_of text vs word)) t) ∙ e))
-    (either (bytes_eq word (text v)))
+    (cases_Bool (bytes_eq word (text v)))
 
 -- the laws of each kind of place
 no_name : word_name [] ≡ None

@@ -1,7 +1,7 @@
 -- What a line says.
 use Rattle.std.proofs.Common.{◌≡◌, ◌≤◌, false, ℕ, ◌<◌, List, [], ◌∷◌, length, Err, refl, arith, ap, cond, true, Bool, ltb, sym, subst, ◌∙◌, ⊎_elim}
 use Rattle.std.specs.Prelude.{◌↔◌, Option, Some, None, Ok}
-use Rattle.std.proofs.lemmas.Bool.{ltb-false, le-ltb}
+use Rattle.std.proofs.lemmas.Bool.{ltb-false, le-ltb, cases_Bool}
 use Rattle.vx_script.specs.Words.{WordReading, after_spaces, word_of, after_word}
 use Rattle.vx_script.specs.Keywords.{keyword_of}
 use Rattle.vx_script.specs.Formats.{format_of, read_by}
@@ -9,8 +9,8 @@ use Rattle.vx_script.specs.Grammar.{line_of, line_after_spaces, line_by, line_of
 use Rattle.vx_script.specs.Tokens.{IsWord, words_of}
 use Rattle.vx_script.specs.declared.keyword.Keyword.{Keyword}
 use Rattle.vx_script.specs.declared.line.ScriptLine.{ScriptLine}
+use Rattle.vx_script.proofs.ColumnLemmas.{silent_word}
 use Rattle.vx_script.proofs.WordLemmas.{FirstWord, NoWord, first_word}
-use Rattle.vx_script.proofs.FormatLemmas.{either}
 use Rattle.vx_script.proofs.KindLemmas.{line_only, line_found}
 use Rattle.vx_script.proofs.PrintLemmas.{spelling_again}
 use Rattle.vx_script.proofs.FitLemmas.{AllWords, words_are, printed_short, read_fits}
@@ -66,11 +66,7 @@ unfolding line_by
 silent_is word rest left e = ⊎_elim
     (λ (t : is_silent word ≡ true). t)
     (λ (t : is_silent word ≡ false). absurd (no_keyword (keyword_of word) rest left (sym (ap (λ (b : Bool). cond b (Ok None) (line_of_keyword (keyword_of word) rest left)) t) ∙ e)))
-    (either (is_silent word))
-
-silent_gives : (word rest : List ℕ) (left : ℕ) → is_silent word ≡ true → line_by word rest left ≡ Ok None
-unfolding line_by
-silent_gives word rest left e = ap (λ (b : Bool). cond b (Ok None) (line_of_keyword (keyword_of word) rest left)) e
+    (cases_Bool (is_silent word))
 
 quiet_word : (word : List ℕ) (words : List (List ℕ)) → IsWord word → is_silent word ≡ true → IsQuiet (word ∷ words)
 quiet_word [] words is e = absurd is
@@ -93,8 +89,8 @@ at_quiet bytes e = ⊎_elim
 quiet_at : (bytes : List ℕ) → IsQuiet (words_of bytes) → line_after_spaces bytes ≡ Ok None
 unfolding line_after_spaces
 quiet_at bytes quiet = ⊎_elim
-    (λ (first : FirstWord bytes). silent_gives (word_of (after_spaces bytes)) (after_word (after_spaces bytes)) (length (after_spaces bytes)) (word_quiet (word_of (after_spaces bytes)) (words_of (after_word (after_spaces bytes))) (subst IsQuiet first.words quiet)))
-    (λ (none : NoWord bytes). silent_gives (word_of (after_spaces bytes)) (after_word (after_spaces bytes)) (length (after_spaces bytes)) (ap (λ (w : List ℕ). is_silent (word_of w)) none.none))
+    (λ (first : FirstWord bytes). silent_word (word_of (after_spaces bytes)) (after_word (after_spaces bytes)) (length (after_spaces bytes)) (word_quiet (word_of (after_spaces bytes)) (words_of (after_word (after_spaces bytes))) (subst IsQuiet first.words quiet)))
+    (λ (none : NoWord bytes). silent_word (word_of (after_spaces bytes)) (after_word (after_spaces bytes)) (length (after_spaces bytes)) (ap (λ (w : List ℕ). is_silent (word_of w)) none.none))
     (first_word bytes)
 
 at_none : (len : ℕ) (r : WordReading (Option ScriptLine)) → at_column len r ≡ Ok None → r ≡ Ok None

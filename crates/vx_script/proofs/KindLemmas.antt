@@ -213,7 +213,7 @@ line_only bytes line is =
     ∙ by_keyword k.keyword (after_word (after_spaces bytes)) (length (after_spaces bytes))
     ∙ ap some_line (read_only (format_of k.keyword) (λ ts. Key (keyword_text k.keyword) ∷ ts) k.places line (after_word (after_spaces bytes)) (faithful k.keyword) k.reads b.spelt)
 
-some_is : (r : WordReading ScriptLine) (line : ScriptLine) → some_line r ≡ Ok (Some line) → r ≡ Ok line
+pub some_is : (r : WordReading ScriptLine) (line : ScriptLine) → some_line r ≡ Ok (Some line) → r ≡ Ok line
 some_is (Ok l) line e = let same : l ≡ line = cc in ap (λ (k : ScriptLine). Ok k) same
 some_is (Err left) line e = absurd (cc)
 

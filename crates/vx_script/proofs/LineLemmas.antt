@@ -2,6 +2,7 @@
 use Rattle.std.proofs.Common.{suc, zero, eq-eqb, ◌≡◌, ◌≤◌, ◌<◌, ℕ, ◌+◌, Bool, true, false, cond, List, [], ◌∷◌, ◌++◌, length, refl, arith, ◌∙◌, ap, eqb, sym, subst, get_or, take}
 use Rattle.std.specs.Prelude.{◌&&◌}
 use Rattle.vx_script.specs.Lines.{onto_lines, onto_whole, split_lines, whole_lines_of, without_return, HasNoNewline}
+use Rattle.vx_script.proofs.SpellLemmas.{cond_true}
 
 cond_is : {A : Type 0} (t : Bool) (x y : A) → t ≡ false → cond t x y ≡ y
 cond_is t x y e = ap (λ (b : Bool). cond b x y) e
@@ -101,13 +102,10 @@ pub plain_from : (bytes : List ℕ) → ((k : ℕ) → k < length bytes → eqb 
 plain_from [] h = tt
 plain_from (b ∷ bytes) h = (h 0 (omega arith), plain_from bytes (λ k below. h (suc k) (omega arith)))
 
-cond_at : {A : Type 0} (t : Bool) (x y : A) → t ≡ true → cond t x y ≡ x
-cond_at t x y e = ap (λ (b : Bool). cond b x y) e
-
 -- a line with a carriage return at its end, and one without
 pub without_return_strips : (line : List ℕ) (n : ℕ) → length line ≡ suc n → get_or line n 0 ≡ 13 → without_return line ≡ take n line
 without_return_strips [] n len e = absurd (omega (arith, len))
-without_return_strips (b ∷ []) zero len e = cond_at (eqb b 13) _ _ (eq-eqb b 13 e)
+without_return_strips (b ∷ []) zero len e = cond_true (eqb b 13) _ _ (eq-eqb b 13 e)
 without_return_strips (b ∷ []) (suc n) len e = absurd (omega (arith, len))
 without_return_strips (b ∷ c ∷ bytes) zero len e = absurd (omega (arith, len))
 without_return_strips (b ∷ c ∷ bytes) (suc n) len e = ap (λ (t : List ℕ). b ∷ t) (without_return_strips (c ∷ bytes) n (omega (arith, len)) e)

@@ -1,17 +1,12 @@
 -- Names with commas between are read one by one.
 use Rattle.std.proofs.Common.{◌≡◌, ℕ, zero, suc, get_or, ltb, ◌+◌, ◌<◌, Bool, true, false, not, cond, List, [], ◌∷◌, ◌++◌, length, take, drop, Option, Some, None, refl, arith, ap, sym, ◌∙◌, ⊎_elim, append_assoc}
 use Rattle.std.specs.List.{position_or_len, slice_split, onto_first, join_with_byte}
-use Rattle.std.proofs.lemmas.Bool.{lt-ltb}
+use Rattle.std.proofs.lemmas.Bool.{cases_Bool, lt-ltb}
 use Rattle.std.proofs.lemmas.List.{take_more}
 use Rattle.vx_script.specs.Tokens.{comma_name}
 use Rattle.std.proofs.lemmas.List.Splits.{slice_split_first}
 use Rattle.vx_script.specs.Words.{is_comma, word_name, both_names, all_names, names_of, with_front}
 use Rattle.std.specs.Prelude.{◌⊎◌}
-use Rattle.std.proofs.Common.{inl, inr}
-
-either : (t : Bool) → (t ≡ true) ⊎ (t ≡ false)
-either true = inl refl
-either false = inr refl
 
 -- no comma is left
 pub no_more : (p : ℕ → Bool) (xs : List ℕ) → position_or_len p xs ≡ length xs → slice_split p xs ≡ xs ∷ []
@@ -22,7 +17,7 @@ no_more p (x ∷ xs) e = ⊎_elim
     let one : position_or_len p (x ∷ xs) ≡ 1 + position_or_len p xs = ap (λ (b : Bool). cond (not b) (1 + position_or_len p xs) 0) t in
     let rest : position_or_len p xs ≡ length xs = omega (arith, one, e) in
     ap (λ (b : Bool). cond b ([] ∷ slice_split p xs) (onto_first x (slice_split p xs))) t ∙ ap (onto_first x) (no_more p xs rest))
-    (either (p x))
+    (cases_Bool (p x))
 
 -- the first part ends at the first comma
 pub first_part : (p : ℕ → Bool) (xs : List ℕ) → (parts : List (List ℕ)) × (slice_split p xs ≡ take (position_or_len p xs) xs ∷ parts)
@@ -37,7 +32,7 @@ first_part p (x ∷ xs) = ⊎_elim
     let a = first_part p xs in
     let one : position_or_len p (x ∷ xs) ≡ suc (position_or_len p xs) = ap (λ (b : Bool). cond (not b) (1 + position_or_len p xs) 0) t ∙ omega arith in
     (a.0, ap (λ (b : Bool). cond b ([] ∷ slice_split p xs) (onto_first x (slice_split p xs))) t ∙ ap (onto_first x) a.1 ∙ ap (λ (n : ℕ). take n (x ∷ xs) ∷ a.0) (sym one)))
-    (either (p x))
+    (cases_Bool (p x))
 
 pub front_none : (names : Option (List (List ℕ))) → names ≡ with_front [] names
 front_none None = refl

@@ -1,6 +1,8 @@
 -- The laws of the places that take one of a few words or digits, and of the keywords.
 use Rattle.std.proofs.Common.{◌≡◌, ℕ, zero, suc, ◌<◌, Bool, true, false, not, cond, List, [], ◌∷◌, length, replicate, Option, Some, None, Result, Ok, Err, refl, arith, ap, sym, subst, ◌∙◌, ⊎_elim}
-use Rattle.std.specs.Prelude.{codes, ◌&&◌}
+use Rattle.std.proofs.lemmas.Bool.{and_parts, cases_Bool, not-true}
+use Rattle.std.proofs.lemmas.Option.{same_Some}
+use Rattle.std.specs.Prelude.{codes}
 use Rattle.std.specs.List.{list_all, find}
 use Rattle.std.specs.Str.{bytes_eq}
 use Rattle.std.proofs.lemmas.Slice.Eq.{bytes_eq-Decides}
@@ -43,7 +45,7 @@ use Rattle.vx_script.specs.declared.keyword.NumberVerb.TheVariants.{Crash, Apply
 use Rattle.vx_script.specs.declared.keyword.SpanVerb.TheVariants.{Read, Show}
 use Rattle.vx_script.specs.declared.keyword.LinkVerb.TheVariants.{Link, Set, Bunker}
 use Rattle.vx_script.specs.declared.keyword.PairVerb.TheVariants.{Attach, Detach, Pause, Resume, Connect, Cut, Pump, Tick, Settle, Resync, Migrate, Failback, Activate}
-use Rattle.vx_script.proofs.FormatLemmas.{IsPlace, pick_place, picked, either, labelled_empty, some_same, no_number}
+use Rattle.vx_script.proofs.FormatLemmas.{IsPlace, pick_place, picked, labelled_empty, no_number}
 
 disk_state_again : (x : DiskState) → pick_of disk_state_text DISK_STATES (disk_state_text x) ≡ Some x
 disk_state_again Fail = refl
@@ -116,12 +118,12 @@ call_place = pick_place call_text CALL_VERBS CallsWrite call_again refl refl
 -- digits
 only_byte_is : (r : Result (List ℕ) FromHexError) (b : ℕ) → only_byte r ≡ Some b → r ≡ Ok (b ∷ [])
 only_byte_is (Ok []) b e = absurd (cc)
-only_byte_is (Ok (c ∷ [])) b e = ap (λ (x : ℕ). Ok (x ∷ [])) (some_same c b e)
+only_byte_is (Ok (c ∷ [])) b e = ap (λ (x : ℕ). Ok (x ∷ [])) (same_Some c b e)
 only_byte_is (Ok (c ∷ d ∷ bytes)) b e = absurd (cc)
 only_byte_is (Err x) b e = absurd (cc)
 
 decoded_is : (r : Result (List ℕ) FromHexError) (bytes : List ℕ) → decoded r ≡ Some bytes → r ≡ Ok bytes
-decoded_is (Ok x) bytes e = ap (λ (y : List ℕ). Ok y) (some_same x bytes e)
+decoded_is (Ok x) bytes e = ap (λ (y : List ℕ). Ok y) (same_Some x bytes e)
 decoded_is (Err x) bytes e = absurd (cc)
 
 zero_byte : only_byte (decode_sized (codes "00") 1) ≡ Some 0
@@ -196,19 +198,15 @@ pub keyword_is : (word : List ℕ) (k : Keyword) → keyword_of word ≡ Some k 
 unfolding keyword_of
 keyword_is word k e = picked keyword_text KEYWORDS word k e
 
-both : (a b : Bool) → (a && b) ≡ true → (a ≡ true) × (b ≡ true)
-both true b e = (refl, e)
-both false b e = absurd (cc)
-
 -- what is picked passes what all pass
 passes : {V : Type 0} (p q : V → Bool) (all : List V) (x : V) → list_all q all ≡ true → find p all ≡ Some x → q x ≡ true
 passes p q [] x all e = absurd (cc)
 passes p q (v ∷ vs) x all e =
-    let a = both (q v) (list_all q vs) all in
+    let a = and_parts (q v) (list_all q vs) all in
     ⊎_elim
-    (λ (t : p v ≡ true). subst (λ y. q y ≡ true) (some_same v x (sym (ap (λ (b : Bool). cond b (Some v) (find p vs)) t) ∙ e)) a.0)
+    (λ (t : p v ≡ true). subst (λ y. q y ≡ true) (same_Some v x (sym (ap (λ (b : Bool). cond b (Some v) (find p vs)) t) ∙ e)) a.0)
     (λ (t : p v ≡ false). passes p q vs x a.1 (sym (ap (λ (b : Bool). cond b (Some v) (find p vs)) t) ∙ e))
-    (either (p v))
+    (cases_Bool (p v))
 
 abbrev is_loud : Keyword → Bool
 is_loud k = not (is_silent (keyword_text k))
@@ -217,13 +215,9 @@ loud : (k : Keyword) → is_loud k ≡ true
 unfolding keyword_of
 loud k = passes (λ v. bytes_eq (keyword_text k) (keyword_text v)) is_loud KEYWORDS k refl (keyword_again k)
 
-not_true : (t : Bool) → not t ≡ true → t ≡ false
-not_true true e = absurd (cc)
-not_true false e = refl
-
 -- no keyword is empty or begins a comment
 pub keyword_loud : (k : Keyword) → is_silent (keyword_text k) ≡ false
-keyword_loud k = not_true (is_silent (keyword_text k)) (loud k)
+keyword_loud k = not-true (is_silent (keyword_text k)) (loud k)
 
 some_byte : (word : List ℕ) → is_silent word ≡ false → 0 < length word
 some_byte [] e = absurd (cc)
@@ -235,7 +229,7 @@ keyword_some k = some_byte (keyword_text k) (keyword_loud k)
 -- the reading policy
 preferred_is : (o : Option ℕ) (x : ReadPolicy) → preferred_policy o ≡ Some x → (n : ℕ) × (o ≡ Some n) × (x ≡ Prefer n)
 preferred_is None x e = absurd (cc)
-preferred_is (Some n) x e = (n, refl, sym (some_same (Prefer n) x e))
+preferred_is (Some n) x e = (n, refl, sym (same_Some (Prefer n) x e))
 
 round_no_prefer : labelled (codes "rdpol=prefer:") word_number (codes "rdpol=round") ≡ None
 unfolding labelled
@@ -248,19 +242,19 @@ policy_only word (Prefer n) h =
     ⊎_elim
     (λ (t : bytes_eq word (codes "rdpol=round") ≡ true). let e : None ≡ Some n = sym round_no_prefer ∙ sym (ap (labelled (codes "rdpol=prefer:") word_number) ((bytes_eq-Decides word (codes "rdpol=round")).0 t)) ∙ h in absurd (cc))
     (λ (t : bytes_eq word (codes "rdpol=round") ≡ false). ap (λ (b : Bool). cond b (Some Round) (preferred_policy (labelled (codes "rdpol=prefer:") word_number word))) t ∙ ap preferred_policy h)
-    (either (bytes_eq word (codes "rdpol=round")))
+    (cases_Bool (bytes_eq word (codes "rdpol=round")))
 
 policy_found : (word : List ℕ) (x : ReadPolicy) → policy_of word ≡ Some x → Spells (policy_token x) word
 unfolding policy_of
 policy_found word x e =
     ⊎_elim
     (λ (t : bytes_eq word (codes "rdpol=round") ≡ true).
-    let same : Round ≡ x = some_same Round x (sym (ap (λ (b : Bool). cond b (Some Round) (preferred_policy (labelled (codes "rdpol=prefer:") word_number word))) t) ∙ e) in
+    let same : Round ≡ x = same_Some Round x (sym (ap (λ (b : Bool). cond b (Some Round) (preferred_policy (labelled (codes "rdpol=prefer:") word_number word))) t) ∙ e) in
     subst (λ (y : ReadPolicy). Spells (policy_token y) word) same ((bytes_eq-Decides word (codes "rdpol=round")).0 t))
     (λ (t : bytes_eq word (codes "rdpol=round") ≡ false).
     let a = preferred_is (labelled (codes "rdpol=prefer:") word_number word) x (sym (ap (λ (b : Bool). cond b (Some Round) (preferred_policy (labelled (codes "rdpol=prefer:") word_number word))) t) ∙ e) in
     subst (λ (y : ReadPolicy). Spells (policy_token y) word) (sym a.2) a.1)
-    (either (bytes_eq word (codes "rdpol=round")))
+    (cases_Bool (bytes_eq word (codes "rdpol=round")))
 
 policy_empty : policy_of [] ≡ None
 unfolding policy_of

@@ -1,5 +1,6 @@
 -- What is printed is read again.
 use Rattle.std.proofs.Common.{◌≡◌, ℕ, ◌+◌, ◌-◌, ◌*◌, ◌/◌, ◌%◌, ◌<◌, ◌≤◌, ◌^◌, Bool, true, false, cond, List, [], ◌∷◌, ◌++◌, length, Some, None, Ok, ◌≢◌, refl, arith, ap, sym, subst, ◌∙◌, eqb, ltb, leb, get_or, length-append}
+use Rattle.std.proofs.lemmas.Bool.{and_parts}
 use Rattle.std.specs.Prelude.{◌&&◌}
 use Rattle.std.specs.List.{list_all, join_with_byte, slice_split, All}
 use Rattle.std.proofs.lemmas.List.Splits.{slice_split_none, slice_split_at}
@@ -12,13 +13,10 @@ use Rattle.vx_script.specs.Grammar.{line_after_spaces, tokens, spelling}
 use Rattle.vx_script.specs.Tokens.{Token, Key, Named, Number, Hex, NameList, Spells, SpellAll, words_of, before_word, is_in_word, printed, spaced, joined_words, IsWord, FitsToken, FitAll}
 use Rattle.vx_script.specs.declared.line.ScriptLine.{ScriptLine}
 use Rattle.vx_script.proofs.KindLemmas.{line_only}
-use Rattle.vx_script.proofs.SpellLemmas.{both, word_from, word_cons, visible, labelled_again, hex_word, hex_again}
+use Rattle.vx_script.proofs.SpellLemmas.{word_from, word_cons, visible, labelled_again, hex_word, hex_again, cond_true}
 
 cond_false : {A : Type 0} (t : Bool) (x y : A) → t ≡ false → cond t x y ≡ y
 cond_false t x y e = ap (λ (b : Bool). cond b x y) e
-
-cond_true : {A : Type 0} (t : Bool) (x y : A) → t ≡ true → cond t x y ≡ x
-cond_true t x y e = ap (λ (b : Bool). cond b x y) e
 
 goes : (c : ℕ) (bytes : List ℕ) → IsWord (c ∷ bytes) → cond (eqb c 32) false true ≡ true
 goes c [] is = cond_false (eqb c 32) false true is
@@ -85,20 +83,20 @@ unfolding word_name
 name_again name e = cond_true (is_name name) (Some name) None e
 
 name_bytes : (name : List ℕ) → is_name name ≡ true → list_all is_name_byte name ≡ true
-name_bytes name e = (both (ltb 0 (length name) && leb (length name) 8 && is_letter (get_or name 0 0)) (list_all is_name_byte name) e).1
+name_bytes name e = (and_parts (ltb 0 (length name) && leb (length name) 8 && is_letter (get_or name 0 0)) (list_all is_name_byte name) e).1
 
 name_word : (name : List ℕ) → is_name name ≡ true → IsWord name
 name_word name e =
-    let a = both (ltb 0 (length name) && leb (length name) 8 && is_letter (get_or name 0 0)) (list_all is_name_byte name) e in
-    let b = both (ltb 0 (length name) && leb (length name) 8) (is_letter (get_or name 0 0)) a.0 in
-    let c = both (ltb 0 (length name)) (leb (length name) 8) b.0 in
+    let a = and_parts (ltb 0 (length name) && leb (length name) 8 && is_letter (get_or name 0 0)) (list_all is_name_byte name) e in
+    let b = and_parts (ltb 0 (length name) && leb (length name) 8) (is_letter (get_or name 0 0)) a.0 in
+    let c = and_parts (ltb 0 (length name)) (leb (length name) 8) b.0 in
     word_from is_name_byte name_apart name (grind arith) a.1
 
 -- a label before a word
 label_word : (label word : List ℕ) → list_all is_visible label ≡ true → IsWord word → IsWord (label ++ word)
 label_word [] word all is = is
 label_word (b ∷ label) word all is =
-    let a = both (is_visible b) (list_all is_visible label) all in
+    let a = and_parts (is_visible b) (list_all is_visible label) all in
     word_cons b (label ++ word) (visible b a.0) (label_word label word a.1 is)
 
 -- names with commas between are a word, and are read again
@@ -109,9 +107,9 @@ word_append (c ∷ d ∷ a) b x y = word_cons c (d ∷ a ++ b) x.0 (word_append 
 
 names_word : (names : List (List ℕ)) → names ≢ [] → list_all is_name names ≡ true → IsWord (join_with_byte 44 names)
 names_word [] some all = absurd (some refl)
-names_word (name ∷ []) some all = name_word name (both (is_name name) true all).0
+names_word (name ∷ []) some all = name_word name (and_parts (is_name name) true all).0
 names_word (name ∷ next ∷ names) some all =
-    let a = both (is_name name) (list_all is_name (next ∷ names)) all in
+    let a = and_parts (is_name name) (list_all is_name (next ∷ names)) all in
     let more : next ∷ names ≢ [] = λ e. cc in
     word_append name (44 ∷ join_with_byte 44 (next ∷ names)) (name_word name a.0) (word_cons 44 (join_with_byte 44 (next ∷ names)) refl (names_word (next ∷ names) more a.1))
 
@@ -125,10 +123,10 @@ names_again : (names : List (List ℕ)) → names ≢ [] → list_all is_name na
 unfolding names_of
 names_again [] some all = absurd (some refl)
 names_again (name ∷ []) some all =
-    let a = (both (is_name name) true all).0 in
+    let a = (and_parts (is_name name) true all).0 in
     ap all_names (slice_split_none is_comma name (no_comma name (name_bytes name a))) ∙ ap (λ o. both_names o (Some [])) (name_again name a)
 names_again (name ∷ next ∷ names) some all =
-    let a = both (is_name name) (list_all is_name (next ∷ names)) all in
+    let a = and_parts (is_name name) (list_all is_name (next ∷ names)) all in
     let more : next ∷ names ≢ [] = λ e. cc in
     ap all_names (slice_split_at is_comma name 44 (join_with_byte 44 (next ∷ names)) (no_comma name (name_bytes name a.0)) refl)
     ∙ ap (λ o. both_names o (all_names (slice_split is_comma (join_with_byte 44 (next ∷ names))))) (name_again name a.0)

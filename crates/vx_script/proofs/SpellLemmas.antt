@@ -1,5 +1,6 @@
 -- Words that are all of one kind of byte, labels, and hexadecimal digits.
 use Rattle.std.proofs.Common.{◌≡◌, ℕ, suc, ◌/◌, ◌%◌, ◌<◌, Bool, true, false, not, cond, List, [], ◌∷◌, ◌++◌, length, Some, None, Ok, refl, arith, ap, ◌∙◌, eqb, slice_index, take, drop, Option}
+use Rattle.std.proofs.lemmas.Bool.{and_parts}
 use Rattle.std.specs.Prelude.{◌&&◌}
 use Rattle.std.specs.List.{list_all}
 use Rattle.std.specs.Str.{bytes_eq}
@@ -10,19 +11,15 @@ use Rattle.hex.proofs.HexLemmas.{length-encode_with, decode_sized-twice, decode_
 use Rattle.vx_script.specs.Words.{is_visible, labelled}
 use Rattle.vx_script.specs.Tokens.{IsWord}
 
-cond_true : {A : Type 0} (t : Bool) (x y : A) → t ≡ true → cond t x y ≡ x
+pub cond_true : {A : Type 0} (t : Bool) (x y : A) → t ≡ true → cond t x y ≡ x
 cond_true t x y e = ap (λ (b : Bool). cond b x y) e
-
-pub both : (a b : Bool) → (a && b) ≡ true → (a ≡ true) × (b ≡ true)
-both true b e = (refl, e)
-both false b e = absurd (cc)
 
 -- bytes that are all of a kind without the space are a word
 pub word_from : (p : ℕ → Bool) → ((b : ℕ) → p b ≡ true → eqb b 32 ≡ false) → (word : List ℕ) → 0 < length word → list_all p word ≡ true → IsWord word
 word_from p apart [] some all = absurd (omega arith)
-word_from p apart (b ∷ []) some all = apart b (both (p b) true all).0
+word_from p apart (b ∷ []) some all = apart b (and_parts (p b) true all).0
 word_from p apart (b ∷ c ∷ bytes) some all =
-    let e = both (p b) (list_all p (c ∷ bytes)) all in (apart b e.0, word_from p apart (c ∷ bytes) (omega arith) e.1)
+    let e = and_parts (p b) (list_all p (c ∷ bytes)) all in (apart b e.0, word_from p apart (c ∷ bytes) (omega arith) e.1)
 
 -- a label before a word
 pub word_cons : (b : ℕ) (rest : List ℕ) → eqb b 32 ≡ false → IsWord rest → IsWord (b ∷ rest)

@@ -1,12 +1,12 @@
 -- A line as it goes on: spaces, a word, and what follows it.
 use Rattle.std.proofs.Common.{◌≡◌, ℕ, zero, suc, ◌<◌, Bool, true, false, not, cond, List, [], ◌∷◌, ◌++◌, length, take, drop, replicate, refl, arith, ap, sym, ◌∙◌, eqb, inl, inr, ⊎_elim}
+use Rattle.std.proofs.lemmas.Bool.{and_parts, cases_Bool}
 use Rattle.std.proofs.Math.Seq.{drop-append_seam, take-append_seam}
 use Rattle.std.specs.Prelude.{◌&&◌, ◌⊎◌}
 use Rattle.std.specs.List.{list_all, position_or_len}
 use Rattle.vx_script.specs.Words.{is_space, is_visible, after_spaces, word_of, after_word}
 use Rattle.vx_script.specs.Tokens.{is_in_word}
-use Rattle.vx_script.proofs.FormatLemmas.{either}
-use Rattle.vx_script.proofs.SpellLemmas.{both, visible}
+use Rattle.vx_script.proofs.SpellLemmas.{visible}
 use Rattle.vx_script.proofs.WordLemmas.{skip_space, skip_none, word_space, word_more}
 
 -- spaces at the front are skipped
@@ -17,19 +17,19 @@ after_led (suc n) bytes = skip_space 32 (replicate n 32 ++ bytes) refl ∙ after
 -- the front of a word is kept
 pub after_kept : (word tail : List ℕ) → list_all is_visible word ≡ true → 0 < length word → after_spaces (word ++ tail) ≡ word ++ tail
 after_kept [] tail all some = absurd (omega arith)
-after_kept (b ∷ word) tail all some = skip_none b (word ++ tail) (visible b (both (is_visible b) (list_all is_visible word) all).0)
+after_kept (b ∷ word) tail all some = skip_none b (word ++ tail) (visible b (and_parts (is_visible b) (list_all is_visible word) all).0)
 
 no_word_at : (tail : List ℕ) → is_in_word tail ≡ false → position_or_len is_space tail ≡ 0
 no_word_at [] e = refl
 no_word_at (b ∷ bytes) e = ⊎_elim
     (λ (t : eqb b 32 ≡ true). word_space b bytes t)
     (λ (t : eqb b 32 ≡ false). let f : true ≡ false = sym (ap (λ (u : Bool). cond u false true) t) ∙ e in absurd (cc))
-    (either (eqb b 32))
+    (cases_Bool (eqb b 32))
 
 word_end : (word tail : List ℕ) → list_all is_visible word ≡ true → is_in_word tail ≡ false → position_or_len is_space (word ++ tail) ≡ length word
 word_end [] tail all ends = no_word_at tail ends
 word_end (b ∷ word) tail all ends =
-    let a = both (is_visible b) (list_all is_visible word) all in
+    let a = and_parts (is_visible b) (list_all is_visible word) all in
     word_more b (word ++ tail) (visible b a.0) ∙ ap (λ (n : ℕ). suc n) (word_end word tail a.1 ends)
 
 -- a word ends where a space or nothing follows it
@@ -73,7 +73,7 @@ begun (b ∷ bytes) = ⊎_elim
       shown = ap (λ (u : Bool). not u && list_all is_visible a.word) t ∙ a.shown;
       ends = a.ends;
     })
-    (either (eqb b 32))
+    (cases_Bool (eqb b 32))
 
 blank_more : (b : ℕ) (bytes : List ℕ) → eqb b 32 ≡ true → Blank bytes → Blank (b ∷ bytes)
 blank_more b bytes e blank =
@@ -111,4 +111,4 @@ spot [] = inl (record { count = 0; is = refl })
 spot (b ∷ bytes) = ⊎_elim
     (λ (t : eqb b 32 ≡ true). ⊎_elim (λ (blank : Blank bytes). inl (blank_more b bytes t blank)) (λ (at_ : At bytes). inr (at_more b bytes t at_)) (spot bytes))
     (λ (t : eqb b 32 ≡ false). inr (at_once b bytes t))
-    (either (eqb b 32))
+    (cases_Bool (eqb b 32))

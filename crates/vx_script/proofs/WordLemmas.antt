@@ -1,13 +1,12 @@
 -- The words of a line, and the next word.
 use Rattle.std.proofs.Common.{◌≡◌, ◌<◌, ℕ, suc, ◌+◌, Bool, true, false, not, cond, List, [], ◌∷◌, length, take, drop, Option, Some, None, Ok, Err, refl, arith, ap, sym, subst, ◌∙◌, eqb, inl, inr, ⊎_elim}
+use Rattle.std.proofs.lemmas.Bool.{cases_Bool}
 use Rattle.std.specs.Prelude.{◌⊎◌}
 use Rattle.std.proofs.Math.Dec.{eqb-suc-zero}
 use Rattle.std.specs.List.{position_or_len}
 use Rattle.vx_script.specs.Words.{is_space, is_visible, after_spaces, word_of, after_word, placed, next_word, words_end}
 use Rattle.vx_script.specs.Tokens.{before_word, is_in_word, words_of}
-
-cond_true : {A : Type 0} (t : Bool) (x y : A) → t ≡ true → cond t x y ≡ x
-cond_true t x y e = ap (λ (b : Bool). cond b x y) e
+use Rattle.vx_script.proofs.SpellLemmas.{cond_true}
 
 cond_false : {A : Type 0} (t : Bool) (x y : A) → t ≡ false → cond t x y ≡ y
 cond_false t x y e = ap (λ (b : Bool). cond b x y) e
@@ -31,10 +30,6 @@ word_space b bytes e = cond_false (not (eqb b 32)) (1 + position_or_len is_space
 pub word_more : (b : ℕ) (bytes : List ℕ) → eqb b 32 ≡ false → position_or_len is_space (b ∷ bytes) ≡ suc (position_or_len is_space bytes)
 word_more b bytes e = cond_true (not (eqb b 32)) (1 + position_or_len is_space bytes) 0 (ap not e) ∙ one_more (position_or_len is_space bytes)
 
-either : (t : Bool) → (t ≡ true) ⊎ (t ≡ false)
-either true = inl refl
-either false = inr refl
-
 goes_space : (b c : ℕ) (bytes : List ℕ) → eqb c 32 ≡ true
     → before_word b (is_in_word (c ∷ bytes)) (words_of (c ∷ bytes)) ≡ (b ∷ word_of (c ∷ bytes)) ∷ words_of (after_word (c ∷ bytes))
 goes_space b c bytes e =
@@ -51,7 +46,7 @@ goes_more b c bytes below e =
 -- a word that a byte begins, or goes on with
 word_goes : (b : ℕ) (bytes : List ℕ) → before_word b (is_in_word bytes) (words_of bytes) ≡ (b ∷ word_of bytes) ∷ words_of (after_word bytes)
 word_goes b [] = refl
-word_goes b (c ∷ bytes) = ⊎_elim (goes_space b c bytes) (goes_more b c bytes (word_goes c bytes)) (either (eqb c 32))
+word_goes b (c ∷ bytes) = ⊎_elim (goes_space b c bytes) (goes_more b c bytes (word_goes c bytes)) (cases_Bool (eqb c 32))
 
 -- the front of a line that begins with a word
 pub front_word : (b : ℕ) (bytes : List ℕ) → eqb b 32 ≡ false → words_of (b ∷ bytes) ≡ word_of (b ∷ bytes) ∷ words_of (after_word (b ∷ bytes))
@@ -88,7 +83,7 @@ first_space b bytes (inr none) e =
 
 pub first_word : (bytes : List ℕ) → FirstWord bytes ⊎ NoWord bytes
 first_word [] = inr (record { words = refl; none = refl })
-first_word (b ∷ bytes) = ⊎_elim (first_space b bytes (first_word bytes)) (first_other b bytes) (either (eqb b 32))
+first_word (b ∷ bytes) = ⊎_elim (first_space b bytes (first_word bytes)) (first_other b bytes) (cases_Bool (eqb b 32))
 
 only_first : {A : Type 0} (value : List ℕ → Option A) (bytes word : List ℕ) (words : List (List ℕ)) (x : A)
     → words_of bytes ≡ word ∷ words → value word ≡ Some x → FirstWord bytes → (rest : List ℕ) × (next_word value bytes ≡ Ok (x, rest)) × (words_of rest ≡ words)

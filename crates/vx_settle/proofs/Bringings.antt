@@ -1,24 +1,24 @@
 -- What follows from the clauses of an engine and a peer.
-use Rattle.std.proofs.Common.{◌≡◌, ◌≢◌, ◌⊎◌, ℕ, zero, suc, ◌+◌, ◌<◌, ◌≤◌, Bool, true, false, List, [], ◌∷◌, ◌++◌, length, refl, ap, sym, ◌∙◌, subst, ⊎_elim, inl, inr, arith, append_assoc, Option, Some, None, slice_get}
+use Rattle.std.proofs.Common.{◌≡◌, ◌⊎◌, ℕ, zero, suc, ◌+◌, ◌<◌, ◌≤◌, true, false, List, [], ◌∷◌, ◌++◌, refl, ap, sym, ◌∙◌, subst, ⊎_elim, inl, inr, arith, append_assoc, Some, None}
+use Rattle.std.proofs.lemmas.Bool.{false_from_ne_true}
 use Rattle.std.proofs.lemmas.List.{append-nil}
-use Rattle.std.specs.Option.{IfSome, IfNone}
 use Rattle.vx_model.specs.declared.call.Update.{Update}
 use Rattle.vx_model.specs.declared.no.No.{No}
 use Rattle.vx_turn.specs.declared.ask.Ask.{Ask}
-use Rattle.vx_turn.specs.declared.ask.Ask.TheVariants.{Ordered, Charged}
+use Rattle.vx_turn.specs.declared.ask.Ask.TheVariants.{Charged}
 use Rattle.vx_turn.specs.declared.ask.Said.{Said}
-use Rattle.vx_turn.specs.declared.ask.Said.TheVariants.{Replied, Worked}
+use Rattle.vx_turn.specs.declared.ask.Said.TheVariants.{Worked}
 use Rattle.vx_turn.specs.declared.ask.Job.{Job}
-use Rattle.vx_turn.specs.declared.ask.Job.TheVariants.{Apply, Fetch, Acked, Wait}
+use Rattle.vx_turn.specs.declared.ask.Job.TheVariants.{Fetch, Acked}
 use Rattle.vx_turn.specs.declared.ask.JobReply.{JobReply}
 use Rattle.vx_turn.specs.declared.ask.JobReply.TheVariants as job
 use Rattle.vx_turn.specs.declared.meaning.State.{State}
-use Rattle.vx_turn.specs.Acting.{LiesAmong, EngineActs, Rises, CountRose, Caused, IsFault, IsHalt, IsBound}
+use Rattle.vx_turn.specs.Acting.{LiesAmong, EngineActs, CountRose, Caused, IsFault, IsHalt, IsBound}
 use Rattle.vx_turn.proofs.Histories.{rises-trans, rose-wider, among-split, nets-long}
 use Rattle.vx_settle.specs.declared.peer.Ack.{Ack}
 use Rattle.vx_settle.specs.declared.peer.Stand.{Stand}
 use Rattle.vx_settle.specs.Peers.{LiesIn, PeerGoes, Hands, Finishes}
-use Rattle.vx_settle.specs.Bringing.{Events, IsJob, HasLink, EngineMoves, Walks, NoLimit, NoGone, HasAcked, NoAck, AcksFit, Drains, Steps, Climbs, BringsPeer}
+use Rattle.vx_settle.specs.Bringing.{Events, IsJob, EngineMoves, Walks, NoLimit, HasAcked, NoAck, Drains, Steps, Climbs, BringsPeer}
 
 pub among-left : {A : Type 0} (x : A) (xs ys : List A) → LiesAmong x xs → LiesAmong x (xs ++ ys)
 among-left x [] ys a = absurd (cc a.1)
@@ -101,11 +101,6 @@ hand-walks kept p q u ack m h = ⊎_elim
 pub finish-walks : (kept : List Update) (p q : Stand) (ack : Ack) → Finishes p ack q → Walks kept p q
 finish-walks kept p q ack f = record { goes = f.goes; got = []; handed = f.handed ∙ sym (append-nil p.handed); from = λ v a. absurd (cc a.1) }
 
--- what stands in the way
-not-true : (b : Bool) → (b ≡ true → ⊥) → b ≡ false
-not-true true n = absurd (n refl)
-not-true false n = refl
-
 pub unrefused : (s t : State) (cause : No) → Caused s cause t → s.halted ≡ false → (CountRose s.counts.faults t.counts.faults → ⊥) → (IsBound cause → ⊥) → ⊥
 unrefused s t cause c runs whole limit = ⊎_elim (λ (a : IsFault cause × CountRose s.counts.faults t.counts.faults). whole a.1)
     (λ (b : (IsHalt cause × (s.halted ≡ true)) ⊎ IsBound cause). ⊎_elim (λ (h : IsHalt cause × (s.halted ≡ true)). absurd (cc (h.1, runs))) (λ (d : IsBound cause). limit d) b) c
@@ -118,7 +113,7 @@ pub calm-last : (a b c : ℕ) → a ≤ b → (CountRose a c → ⊥) → CountR
 calm-last a b c le calm r = calm (rose-wider a b c c le (omega arith) r)
 
 pub still-runs : (s t u : State) → EngineMoves s t → s.halted ≡ false → t.counts.faults ≤ u.counts.faults → (CountRose s.counts.faults u.counts.faults → ⊥) → t.halted ≡ false
-still-runs s t u a runs le calm = not-true t.halted (λ h. ⊎_elim (λ (z : s.halted ≡ true). absurd (cc (z, runs))) (λ (z : CountRose s.counts.faults t.counts.faults). calm-first s.counts.faults t.counts.faults u.counts.faults le calm z) (a.halts h))
+still-runs s t u a runs le calm = false_from_ne_true t.halted (λ h. ⊎_elim (λ (z : s.halted ≡ true). absurd (cc (z, runs))) (λ (z : CountRose s.counts.faults t.counts.faults). calm-first s.counts.faults t.counts.faults u.counts.faults le calm z) (a.halts h))
 
 -- the last part of a run drains where the run does
 pub drains-last : (s t u : State) (p q r : Stand) (a : EngineMoves s t) (b : EngineMoves t u) → PeerGoes p q → PeerGoes q r → Drains s p u r (a.more ++ b.more) → Drains t q u r b.more

@@ -1,13 +1,12 @@
 -- Several peers, one after the other, and a wait.
-use Rattle.std.proofs.Common.{◌≡◌, ◌≢◌, ◌⊎◌, ℕ, zero, suc, ◌+◌, ◌<◌, ◌≤◌, Bool, true, false, List, [], ◌∷◌, ◌++◌, length, refl, ap, sym, ◌∙◌, subst, ⊎_elim, inl, inr, arith, Option, Some, None, slice_get, slice_set}
+use Rattle.std.proofs.Common.{◌≡◌, ◌≢◌, ◌⊎◌, ℕ, zero, suc, ◌+◌, ◌<◌, ◌≤◌, true, false, List, [], ◌∷◌, ◌++◌, length, refl, ap, sym, ◌∙◌, subst, ⊎_elim, inl, inr, arith, Some, slice_get, slice_set}
 use Rattle.vx_model.specs.declared.call.Update.{Update}
 use Rattle.vx_model.specs.declared.no.No.{No}
 use Rattle.vx_model.specs.declared.no.No.TheVariants as no
-use Rattle.vx_turn.specs.declared.ask.Ask.{Ask}
-use Rattle.vx_turn.specs.declared.ask.Ask.TheVariants.{Ordered, Charged}
+use Rattle.vx_turn.specs.declared.ask.Ask.TheVariants.{Charged}
 use Rattle.vx_turn.specs.declared.ask.Said.{Said}
-use Rattle.vx_turn.specs.declared.ask.Said.TheVariants.{Replied, Worked}
-use Rattle.vx_turn.specs.declared.ask.Job.TheVariants.{Apply, Fetch, Acked, Wait}
+use Rattle.vx_turn.specs.declared.ask.Said.TheVariants.{Worked}
+use Rattle.vx_turn.specs.declared.ask.Job.TheVariants.{Fetch, Acked, Wait}
 use Rattle.vx_turn.specs.declared.ask.JobReply.{JobReply}
 use Rattle.vx_turn.specs.declared.ask.JobReply.TheVariants as job
 use Rattle.vx_turn.specs.declared.meaning.State.{State}
@@ -17,8 +16,8 @@ use Rattle.vx_settle.specs.declared.peer.Stand.{Stand}
 use Rattle.vx_settle.specs.declared.bringing.Ended.{Ended}
 use Rattle.vx_settle.specs.declared.bringing.Ended.TheVariants as ended
 use Rattle.vx_settle.specs.Peers.{PeerGoes}
-use Rattle.vx_settle.specs.Bringing.{Events, HasLink, HaveLinks, EngineMoves, Walks, NoLimit, NoGone, HasAcked, AcksFit, Drains, BringsPeer, IsBrought, BringsAll, WaitEndsBy, Once}
-use Rattle.vx_settle.proofs.Bringings.{among-left, among-right, moves-none, moves-then, job-moves, goes-none, goes-then, walks-none, walks-then, drains-last, calm-first, unrefused}
+use Rattle.vx_settle.specs.Bringing.{Events, HasLink, HaveLinks, EngineMoves, NoLimit, HasAcked, Drains, BringsPeer, IsBrought, BringsAll, WaitEndsBy, Once}
+use Rattle.vx_settle.proofs.Bringings.{among-left, among-right, moves-none, moves-then, job-moves, goes-none, walks-none, walks-then, drains-last, calm-first, unrefused}
 
 pub some-one : {A : Type 0} {x y : A} → Some x ≡ Some y → x ≡ y
 some-one e = cc e

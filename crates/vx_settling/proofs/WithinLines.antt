@@ -1,5 +1,6 @@
 -- What a line within one that settles a link comes to, in a world in which fuses were noted.
 use Rattle.std.proofs.Common.{◌≡◌, ◌∙◌, ◌⊎◌, inl, ◌+◌, ◌≤◌, ℕ, List, [], ◌∷◌, Bool, true, false, ap, sym, subst, refl}
+use Rattle.std.proofs.lemmas.Option.{same_Some}
 use Rattle.std.proofs.Math.Path.{fun_ext}
 use Rattle.std.specs.Prelude.{Option, Some, None, ltb, if◌then◌else◌}
 use Rattle.vx_model.specs.declared.limits.TheConstants.{MOST_NUMBER}
@@ -39,7 +40,7 @@ use Rattle.vx_settling.proofs.Burning.{burns_kept, crashed_sites, burns_noted, c
 use Rattle.vx_settling.proofs.Ends.{connect_done, pump_done, tick_done}
 use Rattle.vx_settling.proofs.Running.{event_stays, happens}
 use Rattle.vx_settling.proofs.Working.{cuts_header, gives_up, lacks_header, stops_header, stops_unread, works_connect, works_deliver, works_keep_other, works_lose_other, works_pump, works_pump_other, works_take_other, works_tick}
-use Rattle.vx_settling.proofs.WithinOne.{OneCut, OneDone, OneEnds, OneFinds, OneFull, OneHalts, OneUnread, delivered_says, first_heard, fuse_at, number_burnt, one_ends, reply_on, some_is, target_of}
+use Rattle.vx_settling.proofs.WithinOne.{OneCut, OneDone, OneEnds, OneFinds, OneFull, OneHalts, OneUnread, delivered_says, first_heard, fuse_at, number_burnt, one_ends, reply_on, target_of}
 
 -- ---- in a world with noted fuses
 
@@ -207,7 +208,7 @@ module _ (told : Type 0) (a b : ℕ) (d : Doubted) (may : MayMove a b d.world) (
       -- one that is heard of a link is heard at the first site
       site_is : (site : ℕ) → WritesAt (burnt_world fuses d.world) (DeliverAt number) site → site ≡ a
       site_is site writes =
-          let same : writes.0 ≡ q = some_is writes.0 q (sym writes.1 ∙ at) in
+          let same : writes.0 ≡ q = same_Some writes.0 q (sym writes.1 ∙ at) in
           sym writes.2 ∙ ap (λ (x : Packet). x.target) same ∙ first_heard a b q may.can.apart sent between (λ k x is. writes.3 k x (ap (λ (y : Packet). y.message) same ∙ is))
 
       moved_may : (q' : Packet) → q' ≡ q → (m : MayTake d.world number q') → (n : MayTake d.world number q) × (n.count ≡ m.count)
@@ -217,7 +218,7 @@ module _ (told : Type 0) (a b : ℕ) (d : Doubted) (may : MayMove a b d.world) (
       take number' q' is takes =
           let n : number' ≡ number = (let e : Deliver number ≡ Deliver number' = is in cc) in
           let there : packet_at d.world.packets number ≡ Some q' = ap (λ (k : ℕ). packet_at d.world.packets k) (sym n) ∙ takes.packet in
-          let same : q' ≡ q = some_is q' q (sym there ∙ at) in (
+          let same : q' ≡ q = same_Some q' q (sym there ∙ at) in (
             same,
             moved_may q' same (record { packet = there; count = takes.count; write = takes.write; message = takes.message; opens = takes.opens; receives = takes.receives; next = takes.next }),
           )

@@ -1,5 +1,6 @@
 -- A line within one that settles a link, as its one event: how it ends, what it is answered, and which packets go between two sites.
 use Rattle.std.proofs.Common.{◌≡◌, ◌∙◌, ◌⊎◌, inl, inr, ◌+◌, ◌≤◌, ℕ, List, [], ◌∷◌, ◌++◌, Bool, true, false, ap, sym, subst, refl}
+use Rattle.std.proofs.lemmas.Bool.{and_parts}
 use Rattle.std.proofs.Math.Path.{fun_ext}
 use Rattle.std.specs.Prelude.{◌&&◌, ◌||◌, Option, Some, eqb, unwrap_or, if◌then◌else◌}
 use Rattle.vx_model.specs.Content.{Write}
@@ -154,13 +155,6 @@ number_burnt fuses w name =
 
 -- ---- packets
 
-pub some_is : (x y : Packet) → Some x ≡ Some y → x ≡ y
-some_is x y e = cc
-
-both_are : (x y : Bool) → (x && y) ≡ true → (x ≡ true) × (y ≡ true)
-both_are true y e = (refl, e)
-both_are false y e = absurd (cc)
-
 one_is : (x y : Bool) → (x || y) ≡ true → (x ≡ true) ⊎ (y ≡ true)
 one_is true y e = inl refl
 one_is false y e = inr e
@@ -170,8 +164,8 @@ ends_of : (a b : ℕ) (q : Packet) → is_between a b q ≡ true → ((q.source 
 ends_of a b q between = by (one_is (eqb q.source a && eqb q.target b) (eqb q.source b && eqb q.target a) between)
   where
     by : ((eqb q.source a && eqb q.target b) ≡ true) ⊎ ((eqb q.source b && eqb q.target a) ≡ true) → ((q.source ≡ a) × (q.target ≡ b)) ⊎ ((q.source ≡ b) × (q.target ≡ a))
-    by (inl there) = let e = both_are (eqb q.source a) (eqb q.target b) there in inl (eqb_equal q.source a e.0, eqb_equal q.target b e.1)
-    by (inr back) = let e = both_are (eqb q.source b) (eqb q.target a) back in inr (eqb_equal q.source b e.0, eqb_equal q.target a e.1)
+    by (inl there) = let e = and_parts (eqb q.source a) (eqb q.target b) there in inl (eqb_equal q.source a e.0, eqb_equal q.target b e.1)
+    by (inr back) = let e = and_parts (eqb q.source b) (eqb q.target a) back in inr (eqb_equal q.source b e.0, eqb_equal q.target a e.1)
 
 pub target_of : (a b : ℕ) (q : Packet) → is_between a b q ≡ true → (q.target ≡ a) ⊎ (q.target ≡ b)
 target_of a b q between = by (ends_of a b q between)

@@ -1,5 +1,5 @@
 -- What a line that reads blocks comes to.
-use Rattle.std.proofs.Common.{ℕ, List, [], ⊎_elim}
+use Rattle.std.proofs.Common.{ℕ, List, ⊎_elim}
 use Rattle.vx_disk.specs.declared.shelf.Shelf.{Ghosts}
 use Rattle.vx_yard.specs.declared.yard.Yard.{Yard}
 use Rattle.vx_site_lines.specs.Fetching.{IsFetchFree}

@@ -1,12 +1,11 @@
 -- What a line leads to that starts what an earlier run left on the disks of a bare site.
-use Rattle.std.proofs.Common.{◌≡◌, ◌∙◌, ◌<◌, ◌≤◌, ◌++◌, ◌+◌, ◌-◌, ◌⊎◌, ℕ, Bool, true, false, List, [], ◌∷◌, length, ap, sym, subst, refl, arith, inl, inr, ⊎_elim, IsTrue}
-use Rattle.std.specs.Prelude.{Option, Some, None, Result, Ok, Err, ◌&&◌, ◌||◌, map, slice_get, slice_set}
+use Rattle.std.proofs.Common.{◌≡◌, ◌∙◌, ◌<◌, ◌++◌, ◌-◌, ◌⊎◌, ℕ, true, false, List, [], ◌∷◌, ap, sym, subst, refl, arith, inl}
+use Rattle.std.specs.Prelude.{Some, None, Err, ◌&&◌, ◌||◌, map, slice_get, slice_set}
 use Rattle.std.proofs.lemmas.Option.{slice_get_within}
 use Rattle.vx_model.specs.Sites.{is_origin}
 use Rattle.vx_model.specs.Sizes.{ring_of}
 use Rattle.vx_model.specs.declared.no.No.{No}
 use Rattle.vx_model.specs.declared.no.No.TheVariants.{Device, NoConfig}
-use Rattle.vx_model.specs.declared.site.SPhase.TheVariants.{Quiet}
 use Rattle.vx_model.specs.declared.site.SiteState.TheVariants.{Bare as IsBare, Up as IsUp}
 use Rattle.vx_model.specs.declared.state.KeptLink.{KeptLink}
 use Rattle.vx_model.specs.declared.state.State.{State}
@@ -16,18 +15,15 @@ use Rattle.vx_courier.specs.UnderWay.{FlightStands}
 use Rattle.vx_diskset.specs.Asked.{SameFailing}
 use Rattle.vx_diskset.specs.DiskSets.{BareUp, BareUpIs, Later, RoseAt}
 use Rattle.vx_diskset.specs.Holds.{KeptBeside, beside_of, row_links, state_with}
-use Rattle.vx_diskset.specs.Stands.{IsToldAt, RoleIs, SiteStands, faults_at}
+use Rattle.vx_diskset.specs.Stands.{IsToldAt, RoleIs, SiteStands}
 use Rattle.vx_diskset.specs.declared.disk_set.DiskSet.{DiskSet}
-use Rattle.vx_diskset.proofs.KeepsFailing.{failing_same}
 use Rattle.vx_diskset.proofs.TakenBack.{any_links}
 use Rattle.vx_history.proofs.Updates.{and_left, and_right}
-use Rattle.vx_history.specs.Doubts.{Doubted, happened}
+use Rattle.vx_history.specs.Doubts.{Doubted}
 use Rattle.vx_history.specs.Events.{recovery_greeting}
-use Rattle.vx_history.specs.Refusals.{Outcome, refused}
-use Rattle.vx_history.specs.Step.{headers_counted}
+use Rattle.vx_history.specs.Refusals.{refused}
 use Rattle.vx_history.specs.Steps.{raw_set, raw_volumes}
-use Rattle.vx_history.specs.World.{Link, Node, NoFuse, Packet, World}
-use Rattle.vx_history.specs.declared.event.Event.{Event}
+use Rattle.vx_history.specs.World.{Link, Node, NoFuse, Packet}
 use Rattle.vx_history.specs.declared.event.Event.TheVariants.{Recover as RecoverAt}
 use Rattle.vx_effects.proofs.Leaving.{fit_found}
 use Rattle.vx_effects.proofs.Restarts.{found_again, found_fits, found_kept}
@@ -37,24 +33,21 @@ use Rattle.vx_events.proofs.Places.{some_same}
 use Rattle.vx_events.proofs.Steps.{bare_step}
 use Rattle.vx_events.specs.Effects.{EffectAt}
 use Rattle.vx_events.specs.Ends.{DiskFails, Ends, FindsLinks, FindsNone, FromBare, found_linked}
-use Rattle.vx_events.specs.Facts.{site_fact, site_number, volume_fact}
+use Rattle.vx_events.specs.Facts.{site_number, volume_fact}
 use Rattle.vx_events.specs.Fails.{Fails}
-use Rattle.vx_events.specs.Found.{ComesUpAs, SameDisks}
+use Rattle.vx_events.specs.Found.{ComesUpAs}
 use Rattle.vx_events.specs.LinkViews.{linked_view}
 use Rattle.vx_events.specs.GroupLines.{is_over_group}
 use Rattle.vx_events.specs.LinkedFacts.{linked_fact}
-use Rattle.vx_events.specs.Lists.{events_of, recovery_of}
 use Rattle.vx_events.specs.LinksFit.{LinksFit}
 use Rattle.vx_events.specs.declared.said.Said.{Said}
 use Rattle.vx_events.specs.declared.said.Said.TheVariants.{Recovered, Refused}
-use Rattle.vx_model.specs.declared.site.SiteState.{SiteState}
 use Rattle.vx_model.specs.Refusals.{IsNoDevice}
 use Rattle.vx_order.specs.declared.facts.SiteFacts.{SiteFacts}
 use Rattle.vx_order.specs.declared.facts.VolumeFacts.{VolumeFacts}
 use Rattle.vx_report.specs.declared.view.SiteView.{SiteView}
 use Rattle.vx_script.specs.declared.line.ScriptLine.TheVariants.{Recover}
 use Rattle.vx_diskset.proofs.Roles.{role_like}
-use Rattle.vx_yard.specs.Carries.{Carries}
 use Rattle.vx_yard.specs.Changes.{raw_facts}
 use Rattle.vx_site_lines.specs.Rises.{AreNeeds, IsRisen, RisesTo, can_rise, hello_by, is_none, is_quiet, risen_facts}
 use Rattle.vx_yard.specs.Standing.{Leads, StandsFor}
@@ -67,7 +60,7 @@ use Rattle.vx_yard.proofs.FailsStay.{fails_then}
 use Rattle.vx_site_lines.proofs.Apart.{bare_over, over_is}
 use Rattle.vx_site_lines.proofs.FetchLine.{no_more, recounted, recounted_fits}
 use Rattle.vx_yard.proofs.FuseStays.{fused_none}
-use Rattle.vx_yard.proofs.Lists.{get-set_same, set_same, set_twice}
+use Rattle.vx_yard.proofs.Lists.{get-set_same, set_twice}
 use Rattle.vx_yard.proofs.NamedSite.{fact_of}
 use Rattle.vx_yard.proofs.NoteSite.{comes_same, one_left}
 use Rattle.vx_yard.proofs.OneSite.{Changed, Comes, beside_same, role_off, rose_at, stands_still, told_by}

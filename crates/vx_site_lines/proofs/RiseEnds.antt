@@ -1,6 +1,6 @@
 -- The events of a line that recovers a site which is down or goes down first, and how they end.
-use Rattle.std.proofs.Common.{◌≡◌, ◌∙◌, ◌<◌, ◌≤◌, ◌++◌, ◌+◌, ◌⊎◌, ℕ, Bool, true, false, List, [], ◌∷◌, length, ap, sym, subst, refl, inl, inr}
-use Rattle.std.specs.Prelude.{Option, Some, None}
+use Rattle.std.proofs.Common.{◌≡◌, ◌∙◌, ◌<◌, ◌≤◌, ◌++◌, ◌+◌, ◌⊎◌, ℕ, Bool, List, [], ◌∷◌, length, ap, sym, subst, refl, inl, inr}
+use Rattle.std.specs.Prelude.{Some, None}
 use Rattle.vx_model.specs.declared.limits.TheConstants.{MOST_NUMBER}
 use Rattle.vx_model.specs.declared.no.Counted.TheVariants.{Number}
 use Rattle.vx_model.specs.declared.no.No.{No}
@@ -9,7 +9,6 @@ use Rattle.vx_model.specs.declared.site.SiteState.{SiteState}
 use Rattle.vx_model.specs.declared.site.SiteState.TheVariants.{Up, Down}
 use Rattle.vx_model.specs.Refusals.{IsNoDevice}
 use Rattle.vx_history.specs.Doubts.{Doubted, happened}
-use Rattle.vx_history.specs.Events.{recovery}
 use Rattle.vx_history.specs.Refusals.{Outcome}
 use Rattle.vx_history.specs.Step.{step}
 use Rattle.vx_history.specs.World.{Link, Node, World}
@@ -23,7 +22,6 @@ use Rattle.vx_events.proofs.Steps.{recover_step}
 use Rattle.vx_events.specs.Doubts.{run_as}
 use Rattle.vx_events.specs.Ends.{AllDone, DiskFails, Ends, FindsLinks, FindsNone, FromDown, FromUp, IsLeft, NoNumber, Recovering, found_linked}
 use Rattle.vx_events.specs.Facts.{site_number}
-use Rattle.vx_events.specs.Fails.{Fails}
 use Rattle.vx_events.specs.Found.{ComesUpAs}
 use Rattle.vx_events.specs.LinkViews.{linked_view}
 use Rattle.vx_events.specs.Lists.{Choice, events_of, recovery_of}

@@ -1,6 +1,6 @@
 -- What a line leads to that starts the group of a site: it stands up with its links, or stays down.
-use Rattle.std.proofs.Common.{◌≡◌, ◌∙◌, ◌<◌, ◌≤◌, ◌++◌, ◌+◌, ◌⊎◌, ℕ, Bool, true, false, List, [], ◌∷◌, length, ap, sym, subst, refl, arith, inl, inr, ⊎_elim, IsTrue}
-use Rattle.std.specs.Prelude.{Option, Some, None, Result, Ok, Err, map, slice_get, slice_set}
+use Rattle.std.proofs.Common.{◌≡◌, ◌∙◌, ◌<◌, ◌≤◌, ◌++◌, ◌+◌, ◌⊎◌, ℕ, Bool, true, false, List, [], ◌∷◌, length, ap, sym, subst, refl, arith, ⊎_elim}
+use Rattle.std.specs.Prelude.{Some, None, Err, map, slice_get, slice_set}
 use Rattle.std.proofs.lemmas.Option.{slice_get_within}
 use Rattle.vx_model.specs.Sizes.{ring_of}
 use Rattle.vx_model.specs.declared.limits.TheConstants.{MOST_NUMBER}
@@ -9,27 +9,25 @@ use Rattle.vx_model.specs.declared.no.No.TheVariants.{Device, Limit, NoConfig}
 use Rattle.vx_model.specs.declared.site.SiteState.TheVariants.{Down as IsDown, Up as IsUp}
 use Rattle.vx_model.specs.declared.state.KeptLink.{KeptLink}
 use Rattle.vx_model.specs.declared.state.State.{State}
-use Rattle.vx_model.specs.Refusals.{IsNoDevice}
 use Rattle.vx_disk.specs.Shelf.{Lawful}
 use Rattle.vx_disk.specs.declared.shelf.Shelf.{Ghosts}
 use Rattle.vx_courier.specs.UnderWay.{FlightStands}
 use Rattle.vx_diskset.specs.Asked.{IsRawSet, FailsAs, FusedAs, SameFailing}
-use Rattle.vx_diskset.specs.DiskSets.{CameUp, CameUpIs, CrashedAt, Later, RoseAt, StillDown, no_number, fell_to}
-use Rattle.vx_diskset.specs.Holds.{KeptBeside, KeptSite, beside_of, doubt_of, itself, header_links, row_links, state_with, sure_of}
+use Rattle.vx_diskset.specs.DiskSets.{CameUp, CameUpIs, CrashedAt, Later, RoseAt, no_number, fell_to}
+use Rattle.vx_diskset.specs.Holds.{KeptBeside, KeptSite, beside_of, itself, row_links, state_with, sure_of}
 use Rattle.vx_diskset.specs.Stands.{IsToldAt, RoleIs, SiteStands}
 use Rattle.vx_diskset.specs.declared.disk_set.DiskSet.{DiskSet}
-use Rattle.vx_diskset.specs.declared.disk_set.DiskSet.TheVariants.{Bare, Spoiled, Up, Receives, Down, Gone}
 use Rattle.vx_diskset.proofs.TakenBack.{any_down}
-use Rattle.vx_history.specs.Doubts.{After, Doubted, happened}
+use Rattle.vx_history.specs.Doubts.{Doubted, happened}
 use Rattle.vx_history.specs.Events.{come_back, restarted_link}
-use Rattle.vx_history.specs.World.{Link, Node, Packet, World}
+use Rattle.vx_history.specs.World.{Link, Node, Packet}
 use Rattle.vx_history.specs.declared.event.Event.TheVariants.{Recover as RecoverAt}
 use Rattle.vx_effects.proofs.Fitting.{fit_happened}
 use Rattle.vx_effects.proofs.Leaving.{fit_disks}
 use Rattle.vx_effects.proofs.Rises.{session_effect}
 use Rattle.vx_effects.specs.Restarts.{row_of_kept}
 use Rattle.vx_events.proofs.OverSeats.{fact_apart}
-use Rattle.vx_events.proofs.Places.{never_some, some_same}
+use Rattle.vx_events.proofs.Places.{never_some}
 use Rattle.vx_events.specs.Effects.{EffectAt}
 use Rattle.vx_events.specs.Ends.{Ends, found_linked}
 use Rattle.vx_events.specs.Facts.{site_number, volume_fact}
@@ -38,7 +36,6 @@ use Rattle.vx_events.specs.Found.{SameDisks}
 use Rattle.vx_events.specs.LinkViews.{linked_view}
 use Rattle.vx_events.specs.GroupLines.{is_over_group}
 use Rattle.vx_events.specs.LinkedFacts.{linked_fact}
-use Rattle.vx_events.specs.Lines.{IsDone as IsDoneLine}
 use Rattle.vx_events.specs.Lists.{Choice}
 use Rattle.vx_events.specs.LinksFit.{LinksFit}
 use Rattle.vx_events.specs.Stamps.{most_stamp_at}

@@ -1,67 +1,56 @@
 -- What a line leads to that starts the group of a site which is down.
-use Rattle.std.proofs.Common.{◌≡◌, ◌∙◌, ◌<◌, ◌≤◌, ◌++◌, ◌+◌, ◌⊎◌, ℕ, zero, suc, Bool, true, false, List, [], ◌∷◌, length, ap, sym, subst, refl, arith, inl, inr, ⊎_elim, IsTrue}
-use Rattle.std.specs.Prelude.{Option, Some, None, Result, Ok, Err, not, ◌&&◌, ◌||◌, map, slice_get, slice_set}
-use Rattle.std.proofs.lemmas.Option.{slice_get_within}
+use Rattle.std.proofs.Common.{◌≡◌, ◌∙◌, ◌<◌, ◌++◌, ◌⊎◌, ℕ, zero, suc, Bool, true, false, List, [], ◌∷◌, length, ap, sym, subst, refl, arith}
+use Rattle.std.specs.Prelude.{Option, Some, None, ◌&&◌, ◌||◌, slice_get}
 use Rattle.vx_model.specs.Sites.{is_origin}
 use Rattle.vx_model.specs.Sizes.{ring_of}
 use Rattle.vx_model.specs.declared.limits.TheConstants.{MOST_NUMBER}
-use Rattle.vx_model.specs.declared.no.No.{No}
-use Rattle.vx_model.specs.declared.no.No.TheVariants.{Device, Limit, NoConfig}
 use Rattle.vx_model.specs.declared.site.SPhase.{SPhase}
 use Rattle.vx_model.specs.declared.site.SPhase.TheVariants.{Quiet, Regions, Log as LogPhase, ForkKept}
 use Rattle.vx_model.specs.declared.site.SiteState.TheVariants.{Bare as IsBare, Up as IsUp, Down as IsDown}
 use Rattle.vx_model.specs.declared.state.KeptLink.{KeptLink}
 use Rattle.vx_model.specs.declared.state.State.{State}
-use Rattle.vx_model.specs.Refusals.{IsNoDevice}
+use Rattle.vx_model.proofs.Tests.{both_true}
 use Rattle.vx_disk.specs.Shelf.{Lawful}
 use Rattle.vx_disk.specs.declared.shelf.Shelf.{Ghosts}
 use Rattle.vx_diskset.specs.Asked.{FailsAs, FusedAs, SameFailing}
-use Rattle.vx_diskset.specs.DiskSets.{CameUp, CameUpIs, CrashedAt, Later, RoseAt, StillDown}
-use Rattle.vx_diskset.specs.Holds.{KeptBeside, beside_of, doubt_of, header_links, row_links, state_with}
+use Rattle.vx_diskset.specs.DiskSets.{CameUp}
+use Rattle.vx_diskset.specs.Holds.{KeptBeside, beside_of, header_links, row_links, state_with}
 use Rattle.vx_diskset.specs.Stands.{IsToldAt, RoleIs, SiteStands}
 use Rattle.vx_diskset.specs.declared.disk_set.DiskSet.{DiskSet}
 use Rattle.vx_diskset.specs.declared.disk_set.DiskSet.TheVariants.{Bare, Spoiled, Up, Receives, Down, OfGroup, Over, Gone}
-use Rattle.vx_diskset.proofs.TakenBack.{any_down, any_links}
+use Rattle.vx_diskset.proofs.TakenBack.{any_links}
 use Rattle.vx_history.proofs.Updates.{and_left, and_right}
 use Rattle.vx_history.specs.Groups.{GroupNode}
 use Rattle.vx_history.specs.Doubts.{After, Doubted, happened}
 use Rattle.vx_history.specs.Events.{come_back, linked_sites, recovery_greeting, restarted_link}
 use Rattle.vx_history.specs.KeptLinks.{kept_links}
 use Rattle.vx_history.specs.Sends.{is_linked}
-use Rattle.vx_history.specs.Step.{step}
-use Rattle.vx_history.specs.Steps.{crashed, recovered}
-use Rattle.vx_history.specs.World.{Gathering, Link, Node, NoFuse, Packet, World, no_link}
+use Rattle.vx_history.specs.Steps.{recovered}
+use Rattle.vx_history.specs.World.{Gathering, Link, Node, NoFuse, Packet}
 use Rattle.vx_history.specs.declared.event.Event.TheVariants.{Crash as CrashAt, Recover as RecoverAt}
 use Rattle.vx_effects.proofs.Fitting.{fit_happened, fit_run}
 use Rattle.vx_effects.proofs.Leaving.{fit_disks, fit_found}
 use Rattle.vx_effects.proofs.Restarts.{found_again, found_fits, found_kept, kept_fine, restarted_again}
-use Rattle.vx_effects.proofs.Rises.{recover_effect, session_effect}
+use Rattle.vx_effects.proofs.Rises.{recover_effect}
 use Rattle.vx_effects.proofs.Rows.{restarted_kept}
-use Rattle.vx_effects.specs.Restarts.{IsAgain, are_fine, row_of_kept}
+use Rattle.vx_effects.specs.Restarts.{are_fine, row_of_kept}
 use Rattle.vx_events.proofs.LinkTesting.{AllLinked, all_linked}
-use Rattle.vx_events.proofs.Places.{never_some, some_same}
+use Rattle.vx_events.proofs.Places.{never_some}
 use Rattle.vx_events.specs.Effects.{EffectAt}
 use Rattle.vx_events.specs.Ends.{found_linked}
 use Rattle.vx_events.specs.Found.{ComesUpAs, SameDisks}
-use Rattle.vx_events.specs.LinkViews.{linked_view}
 use Rattle.vx_events.specs.GroupLines.{is_over_group}
-use Rattle.vx_events.specs.LinkedFacts.{linked_fact}
 use Rattle.vx_events.specs.Lists.{Choice}
 use Rattle.vx_events.specs.LinksFit.{LinksFit, is_plain_mode}
-use Rattle.vx_events.specs.declared.said.Said.{Said}
-use Rattle.vx_events.specs.declared.said.Said.TheVariants.{Recovered, Refused}
-use Rattle.vx_order.specs.declared.facts.SiteFacts.{SiteFacts}
 use Rattle.vx_diskset.proofs.Roles.{role_like}
-use Rattle.vx_site_lines.specs.Rises.{AreNeeds, IsRisen, RisesFrom, RisesTo, WasDown, WasUp, can_rise, is_none, is_quiet, own_disks}
+use Rattle.vx_site_lines.specs.Rises.{RisesFrom, WasDown, WasUp, can_rise, is_none, is_quiet, own_disks}
 use Rattle.vx_yard.specs.Standing.{StandsFor}
-use Rattle.vx_yard.specs.Yards.{IsTold}
 use Rattle.vx_yard.specs.declared.yard.Yard.{Yard}
 use Rattle.vx_yard.proofs.CrashSite.{beside_sure}
 use Rattle.vx_yard.proofs.FailsStay.{fails_then}
 use Rattle.vx_yard.proofs.FuseStays.{fused_none}
-use Rattle.vx_yard.proofs.OneSite.{Changed}
 use Rattle.vx_site_lines.proofs.Apart.{never_apart, never_down}
-use Rattle.vx_site_lines.proofs.RiseSite.{AllPlain, ComesUp, IsWhole, SeesDisks}
+use Rattle.vx_site_lines.proofs.RiseSite.{AllPlain, ComesUp, IsWhole}
 use Rattle.vx_site_lines.proofs.RiseWorlds.{behind_disks, come_quiet, found_effect, own_gathering, own_greeting, own_headers, own_is, own_links, own_node, own_packets, own_recovered, own_sites}
 use Rattle.vx_yard.proofs.Rows.{row_links_same}
 use Rattle.vx_diskset.proofs.GroupStands.{none_apart}
@@ -78,10 +67,6 @@ quiet_is ForkKept e = absurd (cc)
 or_left : (a b : Bool) → a ≡ true → (a || b) ≡ true
 or_left true b e = refl
 or_left false b e = absurd (cc)
-
-and_both : (a b : Bool) → a ≡ true → b ≡ true → (a && b) ≡ true
-and_both true b e f = f
-and_both false b e f = absurd (cc)
 
 -- a node without the disks that were made to fail since
 own_same : (b : Bool) (was n k : Node) → SameDisks (own_node b was n) k → SameDisks n (record k { failing = n.failing; group = n.group })
@@ -331,9 +316,9 @@ module _ {R : Type 0} {g : Ghosts R} where
       told_may =
           let ss : List ℕ = linked_sites (mid.world.links s) mid.world.sites 0 mid.world.sites in
           let ls : List KeptLink = header_links mid.world s in
-          and_both (is_quiet k.phase) (are_fine s mid.world.sites ls && (is_origin k.role || is_none ls))
+          both_true (is_quiet k.phase) (are_fine s mid.world.sites ls && (is_origin k.role || is_none ls))
           (ap (λ (n : Node). is_quiet n.phase) (came.is told) ∙ ap is_quiet (stands.links.quiet s))
-          (and_both (are_fine s mid.world.sites ls) (is_origin k.role || is_none ls) (kept_fine s mid.world.sites (mid.world.links s) (stands.links.rows s))
+          (both_true (are_fine s mid.world.sites ls) (is_origin k.role || is_none ls) (kept_fine s mid.world.sites (mid.world.links s) (stands.links.rows s))
           (ap (λ (n : Node). is_origin n.role || is_none ls) (came.is told)
           ∙ none_or (mid.world.links s) (is_origin m.role) (stands.links.starts s) ss (all_linked (mid.world.links s) mid.world.sites 0 mid.world.sites)))
 

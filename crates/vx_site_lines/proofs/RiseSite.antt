@@ -1,13 +1,12 @@
 -- A yard in which a site came up with the links that the header of its log keeps.
-use Rattle.std.proofs.Common.{◌≡◌, ◌∙◌, ◌<◌, ◌++◌, ◌+◌, ℕ, zero, suc, Bool, true, false, List, [], ◌∷◌, length, map, ap, sym, subst, refl, arith, ⊎_elim}
+use Rattle.std.proofs.Common.{◌≡◌, ◌∙◌, ◌<◌, ◌++◌, ℕ, suc, Bool, true, false, List, [], ◌∷◌, length, map, ap, sym, subst, refl, ⊎_elim}
 use Rattle.std.specs.Prelude.{Option, Some, None, drop, ◌&&◌, if◌then◌else◌, slice_get, slice_set}
 use Rattle.std.proofs.lemmas.Bool.{cases_eq}
-use Rattle.std.proofs.lemmas.Option.{slice_get_within}
 use Rattle.vx_model.specs.Sites.{is_origin}
 use Rattle.vx_model.specs.declared.link.Mode.{Mode}
 use Rattle.vx_model.specs.declared.link.Mode.TheVariants.{Log, Dcm, Replay, Fork, Stale}
 use Rattle.vx_model.specs.declared.site.SiteState.{SiteState}
-use Rattle.vx_model.specs.declared.site.SiteState.TheVariants.{Bare, Up, Deported, Down}
+use Rattle.vx_model.specs.declared.site.SiteState.TheVariants.{Up}
 use Rattle.vx_model.specs.declared.state.KeptLink.{KeptLink}
 use Rattle.vx_model.specs.declared.state.State.{State}
 use Rattle.vx_courier.proofs.Joining.{stands_later}
@@ -18,31 +17,28 @@ use Rattle.vx_diskset.specs.Asked.{FailsAs, FusedAs}
 use Rattle.vx_diskset.specs.Holds.{KeptBeside, beside_of, row_links, state_with}
 use Rattle.vx_diskset.specs.Stands.{RoleIs, SiteStands}
 use Rattle.vx_diskset.specs.declared.disk_set.DiskSet.{DiskSet}
-use Rattle.vx_history.specs.Doubts.{After, Doubted}
+use Rattle.vx_history.specs.Doubts.{Doubted}
 use Rattle.vx_history.specs.Events.{linked_sites, logged_blocks, recovery_greeting}
-use Rattle.vx_history.specs.KeptLinks.{kept_link, kept_links, kept_mode}
-use Rattle.vx_history.specs.LinkForms.{plain_link}
+use Rattle.vx_history.specs.KeptLinks.{kept_link, kept_links}
 use Rattle.vx_history.specs.Sends.{is_linked, packets_of}
-use Rattle.vx_history.specs.World.{Gathering, Hello, Link, Node, Packet, World}
+use Rattle.vx_history.specs.World.{Gathering, Hello, Link, Node, Packet}
 use Rattle.vx_effects.proofs.Restarts.{row_facts}
 use Rattle.vx_effects.specs.Restarts.{IsAgain, fact_again, facts_again, needs_of}
 use Rattle.vx_events.proofs.LinkTesting.{AllLinked, all_linked}
 use Rattle.vx_events.proofs.Places.{never_some, some_same}
-use Rattle.vx_events.specs.Effects.{ChangesNode, EffectAt}
-use Rattle.vx_events.specs.Facts.{group_by, group_fact, head_of, site_fact, volume_fact}
+use Rattle.vx_events.specs.Effects.{EffectAt}
+use Rattle.vx_events.specs.Facts.{group_by, group_fact, head_of, volume_fact}
 use Rattle.vx_events.specs.GroupLines.{is_over_group}
-use Rattle.vx_events.specs.LinkedFacts.{link_facts, links_by, linked_fact, needed_by}
-use Rattle.vx_events.specs.LinksFit.{LinksFit, RowFits, is_plain_mode}
+use Rattle.vx_events.specs.LinkedFacts.{link_facts, links_by, needed_by}
+use Rattle.vx_events.specs.LinksFit.{LinksFit, is_plain_mode}
 use Rattle.vx_order.specs.declared.facts.LinkFacts.{LinkFacts}
 use Rattle.vx_order.specs.declared.facts.RvgFacts.{RvgFacts}
 use Rattle.vx_order.specs.declared.facts.SiteFacts.{SiteFacts}
 use Rattle.vx_order.specs.declared.facts.VolumeFacts.{VolumeFacts}
-use Rattle.vx_packet.specs.Assemblies.{Assembled}
 use Rattle.vx_yard.specs.Carries.{Carries}
-use Rattle.vx_yard.specs.Changes.{up_facts, up_group}
-use Rattle.vx_site_lines.specs.Rises.{AreNeeds, RisesTo, hello_by, link_needs, risen_facts}
+use Rattle.vx_yard.specs.Changes.{up_group}
+use Rattle.vx_site_lines.specs.Rises.{AreNeeds, hello_by, link_needs, risen_facts}
 use Rattle.vx_yard.specs.Standing.{StandsFor}
-use Rattle.vx_yard.specs.Yards.{IsTold}
 use Rattle.vx_yard.specs.declared.yard.Yard.{Yard}
 use Rattle.vx_yard.proofs.Carrying.{feeds_same}
 use Rattle.vx_yard.proofs.CrashSite.{beside_sure}

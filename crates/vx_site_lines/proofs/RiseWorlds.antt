@@ -1,8 +1,7 @@
 -- The world behind the recovery of a site, of which the disks that are made to fail and the group are noted anew.
-use Rattle.std.proofs.Common.{◌≡◌, ◌∙◌, ◌<◌, ◌++◌, ◌+◌, ℕ, Bool, true, false, List, [], ◌∷◌, length, ap, sym, subst, refl}
-use Rattle.std.specs.Prelude.{Option, Some, None, nat_lt, leb, ◌&&◌, if◌then◌else◌}
+use Rattle.std.proofs.Common.{◌≡◌, ◌∙◌, ◌++◌, ◌+◌, ℕ, Bool, true, false, List, [], ◌∷◌, length, ap, sym, refl}
+use Rattle.std.specs.Prelude.{Option, Some, nat_lt, leb, ◌&&◌, if◌then◌else◌}
 use Rattle.vx_model.specs.Sites.{is_origin}
-use Rattle.vx_model.specs.declared.limits.TheConstants.{MOST_NUMBER}
 use Rattle.vx_model.specs.declared.no.SiteName.{SiteName}
 use Rattle.vx_model.specs.declared.no.SiteName.TheVariants.{Known, Number}
 use Rattle.vx_model.specs.declared.site.Mark.TheVariants.{Consistent}
@@ -11,20 +10,18 @@ use Rattle.vx_model.specs.declared.site.SPhase.TheVariants.{Quiet}
 use Rattle.vx_model.specs.declared.site.SiteState.{SiteState}
 use Rattle.vx_model.specs.declared.site.SiteState.TheVariants.{Bare, Up, Deported, Down}
 use Rattle.vx_history.proofs.Updates.{all_updated, at_place, by_test}
-use Rattle.vx_history.specs.Doubts.{After, Doubted, happened}
+use Rattle.vx_history.specs.Doubts.{After, Doubted}
 use Rattle.vx_history.specs.Events.{come_back, linked_sites, recovery_greeting}
 use Rattle.vx_history.specs.Groups.{GroupNode}
 use Rattle.vx_history.specs.LinkForms.{plain_receiver}
 use Rattle.vx_history.specs.Receiving.{is_log_phase}
-use Rattle.vx_history.specs.Sends.{with_links}
 use Rattle.vx_history.specs.Steps.{recovered}
 use Rattle.vx_history.specs.World.{Gathering, Link, Node, Packet, Volume, World, with_node}
 use Rattle.vx_history.specs.declared.receiver.RState.{RState}
-use Rattle.vx_events.specs.Doubts.{with_disks}
-use Rattle.vx_events.specs.Effects.{ChangesNode, EffectAt}
+use Rattle.vx_events.specs.Effects.{EffectAt}
 use Rattle.vx_events.specs.Ends.{found_linked}
 use Rattle.vx_events.specs.LinkViews.{link_view, link_views, linked_view, marked_from, views_by}
-use Rattle.vx_events.specs.Views.{group_shown, name_of, view_of}
+use Rattle.vx_events.specs.Views.{group_shown, name_of}
 use Rattle.vx_report.specs.declared.view.LinkView.{LinkView}
 use Rattle.vx_report.specs.declared.view.RvgView.{RvgView}
 use Rattle.vx_report.specs.declared.view.SiteView.{SiteView}

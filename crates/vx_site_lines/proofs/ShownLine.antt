@@ -1,6 +1,6 @@
 -- What a line leaves that shows blocks of a site that receives.
-use Rattle.std.proofs.Common.{◌≡◌, ◌∙◌, ◌*◌, ◌<◌, ◌≤◌, inl, inr, ℕ, Bool, true, false, List, [], ◌∷◌, length, ap, arith, sym, subst, refl}
-use Rattle.std.specs.Prelude.{Result, Ok, Err, slice_get, Some}
+use Rattle.std.proofs.Common.{◌≡◌, ◌∙◌, ◌*◌, inl, inr, ℕ, Bool, true, false, List, [], length, ap, arith, sym, subst, refl}
+use Rattle.std.specs.Prelude.{Ok, Err, slice_get, Some}
 use Rattle.std.proofs.lemmas.List.{drop_all}
 use Rattle.std.proofs.lemmas.Option.{slice_get_within}
 use Rattle.vx_model.specs.Content.{Content, Write, fold_writes}
@@ -25,11 +25,11 @@ use Rattle.vx_events.specs.declared.said.Said.TheVariants.{Got, Refused}
 use Rattle.vx_script.specs.declared.line.ScriptLine.{ScriptLine}
 use Rattle.vx_script.specs.declared.line.ScriptLine.TheVariants.{Read, Show}
 use Rattle.vx_diskset.specs.Asked.{LeavesAlone}
-use Rattle.vx_diskset.specs.DiskSets.{CanRead, RoseAt, ReadAt}
+use Rattle.vx_diskset.specs.DiskSets.{CanRead}
 use Rattle.vx_diskset.specs.Fetching.{GaveAt}
 use Rattle.vx_diskset.specs.Holds.{KeptBeside, beside_of}
 use Rattle.vx_diskset.specs.Received.{ShowedAt}
-use Rattle.vx_diskset.specs.Stands.{IsToldAt, KeepsRole, SiteStands}
+use Rattle.vx_diskset.specs.Stands.{IsToldAt, KeepsRole}
 use Rattle.vx_diskset.specs.declared.disk_set.DiskSet.{DiskSet}
 use Rattle.vx_site_lines.specs.Fetching.{IsReadLine}
 use Rattle.vx_site_lines.specs.Shown.{GaveShown, GaveShownAt}

@@ -1,5 +1,5 @@
 -- What the yard promises where a site comes up with the links that the header of its log keeps.
-use Rattle.std.specs.Prelude.{◌≡◌, ℕ, ◌+◌, ◌<◌, ◌≤◌, Bool, true, false, not, ◌&&◌, ◌||◌, leb, drop, if◌then◌else◌, List, [], ◌∷◌, ◌++◌, Option, Some, None, slice_get, slice_set}
+use Rattle.std.specs.Prelude.{◌≡◌, ℕ, ◌<◌, Bool, true, false, ◌&&◌, ◌||◌, drop, if◌then◌else◌, List, [], ◌∷◌, ◌++◌, Some, None, slice_get, slice_set}
 use Rattle.vx_model.specs.Sites.{is_origin}
 use Rattle.vx_model.specs.declared.site.SPhase.{SPhase}
 use Rattle.vx_model.specs.declared.site.SPhase.TheVariants.{Quiet, Regions, Log as LogPhase, ForkKept}

@@ -6,6 +6,7 @@ ghost use Rattle.vx_sites.specs.Messages.{message_of};
 
 use crate::Write;
 use std::alloc::Global;
+use vx_model::limits::PART_BYTES;
 use vx_model::{Line, OutOfMemory};
 
 /// A message. The blocks of a write lie on the heap.
@@ -96,7 +97,7 @@ pub struct Promise {
 pub fn parts_of(message: &Message) -> u32
     ensures { result ≡ parts (message_of message.now) }
 {
-    ((payload_size(message) + 1023) / 1024).max(1) as u32
+    ((payload_size(message) + (PART_BYTES - 1)) / PART_BYTES).max(1) as u32
 }
 
 /// The kind of a message, as its packets name it.

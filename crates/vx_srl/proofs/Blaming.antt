@@ -1,6 +1,6 @@
 -- Which disk a refused call of the log names.
 use Rattle.std.proofs.Common.{◌≡◌, ℕ, false, true, subst, sym}
-use Rattle.std.specs.Prelude.{IsSome, Option, Some, None, Result, Ok, Err}
+use Rattle.std.specs.Prelude.{Option, Some, None, Result, Ok, Err}
 use Rattle.vx_model.specs.declared.no.No.{No}
 use Rattle.vx_disk.specs.Causes.{Names, WithDisks, refusal_of}
 use Rattle.vx_disk.specs.Disks.{Disks}

@@ -2,7 +2,7 @@
 use Rattle.std.proofs.Common.{◌≡◌, ℕ, zero, suc, ◌+◌, ◌-◌, ◌*◌, ◌%◌, ◌<◌, ◌≤◌, Some, true, List, [], ◌∷◌, IsTrue, length, take, get_or, refl, sym, ap, subst, arith, length-take}
 use Rattle.std.specs.Prelude.{slice_get, nat_lt, ◌&&◌}
 use Rattle.std.proofs.lemmas.Bool.{ltb-true}
-use Rattle.std.proofs.lemmas.Option.{slice_get_read}
+use Rattle.std.proofs.lemmas.Option.{same_Some, slice_get_read}
 use Rattle.std.proofs.lemmas.List.Elements.{recursion_from_All}
 use Rattle.std.specs.List.{AllByRecursion}
 use Rattle.vx_model.proofs.Tests.{and_left, and_right}
@@ -23,7 +23,7 @@ use Rattle.vx_srl.specs.Kepts.{IsLogKept}
 use Rattle.vx_srl.specs.Rings.{RingOn}
 use Rattle.vx_srl.specs.Views.{Log, PlacedFrom, head_number, width_of, widths}
 use Rattle.vx_srl.specs.declared.kept.Kept.{Kept}
-use Rattle.vx_srl.proofs.FetchRecord.{some_is, none_is, none_differ, fetches}
+use Rattle.vx_srl.proofs.FetchRecord.{none_is, none_differ, fetches}
 use Rattle.vx_srl.proofs.StageKept.{seen}
 
 first_part : (n : ℕ) (ks : List Kept) (k : ℕ) (x : Kept) → k < n → slice_get ks k ≡ Some x → slice_get (take n ks) k ≡ Some x
@@ -40,12 +40,12 @@ first_placed (suc n) ring p (k ∷ ks) placed = (placed.0, first_placed n ring (
 -- one record takes no more blocks than all
 width_within : (ks : List Kept) (k : ℕ) (x : Kept) → slice_get ks k ≡ Some x → width_of x ≤ widths ks
 width_within [] k x is = absurd (none_is x is)
-width_within (y ∷ ks) zero x is = omega (arith, ap (λ (z : Kept). width_of z) (some_is y x is))
+width_within (y ∷ ks) zero x is = omega (arith, ap (λ (z : Kept). width_of z) (same_Some y x is))
 width_within (y ∷ ks) (suc k) x is = omega (arith, width_within ks k x is)
 
 spelled_each : (ks : List Kept) (k : ℕ) (x : Kept) → AllByRecursion (λ k. CanSpellHead k.head) ks → slice_get ks k ≡ Some x → CanSpellHead x.head
 spelled_each [] k x each is = absurd (none_is x is)
-spelled_each (y ∷ ks) zero x each is = subst (λ (z : Kept). CanSpellHead z.head) (some_is y x is) each.0
+spelled_each (y ∷ ks) zero x each is = subst (λ (z : Kept). CanSpellHead z.head) (same_Some y x is) each.0
 spelled_each (y ∷ ks) (suc k) x each is = spelled_each ks k x each.1 is
 
 low_some : (ring : ℕ) (h : Header) → is_of_ring ring h ≡ true → 0 < h.low

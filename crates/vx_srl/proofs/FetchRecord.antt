@@ -1,5 +1,6 @@
 -- The record that stands under a number, and what a read of its blocks shows.
 use Rattle.std.proofs.Common.{◌≡◌, ℕ, zero, suc, ◌+◌, ◌-◌, ◌*◌, ◌/◌, ◌%◌, ◌≤◌, Some, None, List, [], ◌∷◌, IsTrue, length, refl, sym, ◌∙◌, ap, subst, arith}
+use Rattle.std.proofs.lemmas.Option.{same_Some}
 use Rattle.std.specs.Prelude.{slice_get}
 use Rattle.vx_wire.specs.Seals.{digest_of}
 use Rattle.vx_srlfmt.specs.Kinds.{Kind, Body}
@@ -37,9 +38,6 @@ pub record At (ring : ℕ) (u : Cells) (n : ℕ) (rs : List Record) (k : ℕ) (k
   pub wraps : place % ring ≡ kept.place
   pub sure : SureBody ring u (suc place) one.body
 
-pub some_is : (a b : Kept) → Some a ≡ Some b → a ≡ b
-some_is a b is = cc
-
 pub none_is : (b : Kept) → None ≡ Some b → ⊥
 none_is b is = cc
 
@@ -49,7 +47,7 @@ found ring u e n prev p q [] [] k kept same fits sure placed wraps is = absurd (
 found ring u e n prev p q [] (x ∷ ks) k kept same fits sure placed wraps is = absurd same
 found ring u e n prev p q (r ∷ rs) [] k kept same fits sure placed wraps is = absurd same
 found ring u e n prev p q (r ∷ rs) (x ∷ ks) zero kept same fits sure placed wraps is =
-    let it : x ≡ kept = some_is x kept is in
+    let it : x ≡ kept = same_Some x kept is in
     record {
       one = r;
       there = refl;

@@ -2,15 +2,14 @@
 use Rattle.std.proofs.Common.{◌≡◌, ◌≤◌, ℕ, ◌-◌, ◌^◌, ◌<◌, Bool, true, false, ◌&&◌, not, List, [], ◌∷◌, length, take, drop, refl, ap, sym, ◌∙◌, arith}
 use Rattle.std.specs.Prelude.{◌==◌, nat_lt, slice_index, bytes_eq, if◌then◌else◌}
 use Rattle.std.specs.List.{list_all, AllByRecursion}
-use Rattle.std.specs.Cmp.Lexicographic.{same_text}
-use Rattle.std.proofs.lemmas.Bool.{and_parts, and_from, ltb-true, lt-ltb, eqb-true, eq-eqb}
-use Rattle.std.proofs.lemmas.Cmp.{nat_list_eq_equiv}
+use Rattle.std.proofs.lemmas.Bool.{and_parts, and_from, ltb-true, lt-ltb, eqb-true, eq-eqb, false_from_ne_true}
 use Rattle.std.proofs.lemmas.List.{get_or-take}
 use Rattle.std.proofs.lemmas.List.Elements.{All-from_recursion, recursion_from_All}
 use Rattle.vx_model.specs.declared.state.KeptLink.{KeptLink}
 use Rattle.vx_wire.specs.Fields.{zero_bytes}
 use Rattle.vx_wire.specs.Numbers.{be_bytes}
 use Rattle.vx_wire.specs.Seals.{digest_of}
+use Rattle.vx_wire.proofs.SealLemmas.{alike, same_bytes}
 use Rattle.vx_srlfmt.specs.HeaderReading.{header_in}
 use Rattle.vx_srlfmt.specs.Headers.{header_magic, header_block, Agrees, IsHeader, CanSpellLink}
 use Rattle.vx_srlfmt.specs.RecordReading.{head_in}
@@ -24,12 +23,6 @@ use Rattle.vx_srlfmt.proofs.RecordLaws.{front_record}
 use Rattle.vx_srlfmt.proofs.Told.{not_both}
 
 -- ---- tests and facts
-
-same_bytes : (xs ys : List ℕ) → bytes_eq xs ys ≡ true → xs ≡ ys
-same_bytes xs ys h = same_text xs ys (sym h)
-
-alike : (xs ys : List ℕ) → xs ≡ ys → bytes_eq xs ys ≡ true
-alike xs ys e = ap (λ (t : List ℕ). bytes_eq t ys) e ∙ nat_list_eq_equiv.refl ys
 
 below_from : (pairs : List (ℕ × ℕ)) → all_below pairs ≡ true → AllByRecursion (λ p. p.0 < p.1) pairs
 below_from [] h = tt
@@ -165,11 +158,11 @@ not_body block m begins letter body =
     let same : slice_index (take 8 block) 0 ≡ slice_index (be_bytes 8 m) 0 = ap (λ (b : List ℕ). slice_index b 0) begins in
     absurd (omega (arith, first, same, letter, body))
 
-header_letter : slice_index (be_bytes 8 header_magic) 0 ≡ 0x56
+pub header_letter : slice_index (be_bytes 8 header_magic) 0 ≡ 0x56
 unfolding be_bytes
 header_letter = refl
 
-record_letter : slice_index (be_bytes 8 record_magic) 0 ≡ 0x56
+pub record_letter : slice_index (be_bytes 8 record_magic) 0 ≡ 0x56
 unfolding be_bytes
 record_letter = refl
 
@@ -193,10 +186,6 @@ damaged_not_body block is = not_body block record_magic is.begins record_letter
 
 -- ---- the tests tell the kind
 
-false_from : (b : Bool) → (b ≡ true → ⊥) → b ≡ false
-false_from true h = absurd (h refl)
-false_from false h = refl
-
 damaged_from : (block : List ℕ) → (begins_record block && not (is_sealed block)) ≡ true → IsDamaged block
 unfolding begins_record is_sealed
 damaged_from block test =
@@ -212,7 +201,7 @@ damaged_from block test =
 from_damaged : (block : List ℕ) → IsDamaged block → (begins_record block && not (is_sealed block)) ≡ true
 unfolding begins_record is_sealed
 from_damaged block is =
-    let no : is_sealed block ≡ false = false_from (is_sealed block) (λ yes. is.broken (same_bytes (drop 480 block) (digest_of (take 480 block)) yes)) in
+    let no : is_sealed block ≡ false = false_from_ne_true (is_sealed block) (λ yes. is.broken (same_bytes (drop 480 block) (digest_of (take 480 block)) yes)) in
     and_from (begins_record block) (not (is_sealed block)) (alike (take 8 block) (be_bytes 8 record_magic) is.begins) (ap not no)
 
 header_read : (block : List ℕ) (h : Header) → IsHeader block h → is_header block (header_in block) ≡ true
@@ -262,13 +251,13 @@ picks block a b c d e f g i = ap (λ t. picked block t (front_test block) (damag
     ∙ ap (λ t. picked block a b c t) i
 
 no_header : (block : List ℕ) → ((h : Header) → IsHeader block h → ⊥) → top_test block ≡ false
-no_header block none = false_from (top_test block) (λ yes. none (header_in block) (header_from block (header_in block) (Agrees-header_in block) (few-header_in block) yes))
+no_header block none = false_from_ne_true (top_test block) (λ yes. none (header_in block) (header_from block (header_in block) (Agrees-header_in block) (few-header_in block) yes))
 
 no_record : (block : List ℕ) → ((r : RecordHead) → IsRecord block r → ⊥) → front_test block ≡ false
-no_record block none = false_from (front_test block) (λ yes. none (head_in block) (record_from block (head_in block) yes))
+no_record block none = false_from_ne_true (front_test block) (λ yes. none (head_in block) (record_from block (head_in block) yes))
 
 not_damaged : (block : List ℕ) → (IsDamaged block → ⊥) → damaged_test block ≡ false
-not_damaged block none = false_from (damaged_test block) (λ yes. none (damaged_from block yes))
+not_damaged block none = false_from_ne_true (damaged_test block) (λ yes. none (damaged_from block yes))
 
 pub kind_of-only : (block : List ℕ) (kind : Kind) → IsKind block kind → kind_of block ≡ kind
 kind_of-only block (Top h) is =
@@ -284,4 +273,4 @@ kind_of-only block Damaged is =
     picks block false false true (body_test block) (no_header block (λ h also. header_not_damaged block h also is)) (no_record block (λ r also. record_not_damaged block r also is)) (from_damaged block is) refl
 kind_of-only block Other is =
     picks block false false false false (no_header block is.0) (no_record block is.1) (not_damaged block is.3)
-    (false_from (body_test block) (λ yes. is.2 (eqb-true (slice_index block 0) body_byte yes)))
+    (false_from_ne_true (body_test block) (λ yes. is.2 (eqb-true (slice_index block 0) body_byte yes)))

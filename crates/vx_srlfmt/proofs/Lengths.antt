@@ -1,7 +1,7 @@
 -- How many bytes the fields have.
-use Rattle.std.proofs.Common.{◌≡◌, ◌≤◌, false, ℕ, ◌+◌, ◌*◌, ◌<◌, List, [], ◌∷◌, ◌++◌, length, take, drop, get_or, refl, ap, sym, append_assoc, ◌∙◌, arith}
+use Rattle.std.proofs.Common.{◌≡◌, ◌≤◌, false, ℕ, ◌+◌, ◌*◌, ◌<◌, List, [], ◌∷◌, ◌++◌, length, take, get_or, refl, ap, sym, append_assoc, ◌∙◌, arith}
 use Rattle.std.specs.Prelude.{flat_map}
-use Rattle.std.proofs.lemmas.List.{length-append, take_more, take_all, take_at, drop_all, append-nil}
+use Rattle.std.proofs.lemmas.List.{length-append, take_more, take_all, append-nil}
 use Rattle.std.proofs.lemmas.Grind.{flat_map-append}
 use Rattle.vx_model.specs.declared.link.Prot.TheVariants as prot
 use Rattle.vx_model.specs.declared.link.SyncMode.TheVariants as sync
@@ -9,7 +9,6 @@ use Rattle.vx_model.specs.declared.state.KeptLink.{KeptLink}
 use Rattle.vx_model.specs.declared.state.KeptMode.TheVariants as mode
 use Rattle.vx_wire.specs.Fields.{spelled}
 use Rattle.vx_wire.specs.Numbers.{be_bytes}
-use Rattle.vx_wire.specs.Places.{put_at}
 use Rattle.vx_srlfmt.specs.Headers.{header_table, link_table, link_bytes, header_fields}
 use Rattle.vx_srlfmt.specs.declared.header.Header.{Header}
 

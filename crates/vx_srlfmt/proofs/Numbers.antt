@@ -1,5 +1,5 @@
 -- Numbers that are spelled at a place are read there.
-use Rattle.std.proofs.Common.{◌≡◌, ℕ, ◌+◌, List, [], ◌++◌, length, refl}
+use Rattle.std.proofs.Common.{◌≡◌, ℕ, ◌+◌, List, ◌++◌, length, refl}
 use Rattle.std.proofs.lemmas.List.{drop-drop, drop_at}
 use Rattle.vx_wire.specs.Numbers.{number_at}
 

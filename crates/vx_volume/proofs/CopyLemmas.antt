@@ -1,7 +1,7 @@
 -- A plex that is copied to another one.
-use Rattle.std.proofs.Common.{◌≡◌, ◌≢◌, ◌⊎◌, inl, inr, ⊎_elim, ℕ, ◌+◌, ◌*◌, ◌/◌, ◌<◌, ◌≤◌, ◌^◌, Bool, true, false, IsTrue, IsFalse, List, length, Result, Ok, Err, OnOk, refl, sym, ◌∙◌, subst, arith}
-use Rattle.std.proofs.lemmas.Bool.{cases_lt}
-use Rattle.vx_disk.specs.Shelf.{Goes, Lawful, Meaning, Nothing, Or, piece}
+use Rattle.std.proofs.Common.{◌≡◌, ◌≢◌, ◌⊎◌, inl, inr, ⊎_elim, ℕ, ◌+◌, ◌*◌, ◌/◌, ◌<◌, ◌≤◌, ◌^◌, true, IsTrue, List, length, Result, Ok, Err, OnOk, sym, ◌∙◌, subst, arith}
+use Rattle.std.proofs.lemmas.Bool.{cases_Bool, cases_lt}
+use Rattle.vx_disk.specs.Shelf.{Goes, Lawful, Meaning, Nothing, Or}
 use Rattle.vx_disk.specs.declared.shelf.ShelfError.{ShelfError}
 use Rattle.vx_disk.specs.declared.shelf.ShelfError.TheVariants.{Fault, Down}
 use Rattle.vx_disk.proofs.Causing.{Rose_before}
@@ -51,13 +51,9 @@ cause_later c v source p old mid new before disks_before (Fault disk) why = (
 )
 cause_later c v source p old mid new before disks_before Down down = down
 
-cases_bool : (b : Bool) → IsTrue b ⊎ IsFalse b
-cases_bool true = inl refl
-cases_bool false = inr refl
-
 -- a value that is read is told
 pub reads_tell : (m : Meaning) (u b : ℕ) (x : List ℕ) → Lawful m → m.reads u b x → IsTrue m.tells
-reads_tell m u b x lawful is = elim (cases_bool m.tells) [ inl tells ↦ tells | inr not ↦ absurd (lawful.none not u b x (lawful.shown u b x is)) ]
+reads_tell m u b x lawful is = elim (cases_Bool m.tells) [ inl tells ↦ tells | inr not ↦ absurd (lawful.none not u b x (lawful.shown u b x is)) ]
 
 -- ---- a run
 

@@ -1,5 +1,6 @@
 -- Calls on a shelf one after another: what they make of it and of its disks.
 use Rattle.std.proofs.Common.{◌≡◌, ℕ, ◌-◌, Bool, true, false, Option, Some, None, Result, Ok, Err, IsTrue, IsFalse, refl, sym, ◌∙◌, ap, subst, arith}
+use Rattle.std.proofs.lemmas.Option.{same_Some}
 use Rattle.vx_disk.specs.declared.shelf.ShelfError.{ShelfError}
 use Rattle.vx_disk.specs.declared.shelf.ShelfError.TheVariants.{Fault, Down}
 use Rattle.vx_disk.specs.Causes.{Calls, Cause, OnDisks, WithDisks}
@@ -64,11 +65,8 @@ told_then first None None b c falls since step o n is now = cc
 told_then first None (Some z) b c falls since step o n is now = absurd step
 told_then first (Some y) None b c falls since step o n is now = absurd step
 told_then first (Some y) (Some z) b c falls since step o n is now =
-    let same : z ≡ n = some_is z n now in
+    let same : z ≡ n = same_Some z n now in
     both_go b c o y n falls (since o y is refl) (subst (λ (x : Disks). DisksGo c y x) same step)
-  where
-    some_is : (x y : Disks) → Some x ≡ Some y → x ≡ y
-    some_is x y is = cc
 
 told_none : (d : Option Disks) (b : Bool) (o n : Disks) → d ≡ Some o → d ≡ Some n → DisksGo b o n
 told_none None b o n is now = cc

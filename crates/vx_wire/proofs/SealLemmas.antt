@@ -1,7 +1,9 @@
 -- Digests and sealed blocks.
-use Rattle.std.proofs.Common.{◌≡◌, ◌≤◌, ℕ, ◌-◌, List, length, take, drop, sym, ap, ◌∙◌, arith, ◌++◌, false, Option, Some, None, refl}
+use Rattle.std.proofs.Common.{◌≡◌, ◌≤◌, ℕ, ◌-◌, List, length, take, drop, sym, ap, ◌∙◌, arith, ◌++◌, false, Option, Some, None, refl, true}
+use Rattle.std.proofs.lemmas.Cmp.{nat_list_eq_equiv}
+use Rattle.std.specs.Cmp.Lexicographic.{same_text}
 use Rattle.std.specs.Option.{is_some}
-use Rattle.std.specs.Prelude.{MatchOption}
+use Rattle.std.specs.Prelude.{MatchOption, bytes_eq}
 use Rattle.std.proofs.lemmas.List.{length-append, length-replicate, take_at, drop_at, take-append-drop}
 use Rattle.sha2.proofs.Facts256.{length-sha256}
 use Rattle.vx_wire.specs.declared.sealed.BrokenSeal.{BrokenSeal}
@@ -45,3 +47,9 @@ from_sealed (Some broken) block told is = absurd (told.differ is)
 pub sealed_from : (o : Option BrokenSeal) (block : List ℕ) → MatchOption o (IsSealed block) (λ broken. IsBroken block broken) → is_some o ≡ false → IsSealed block
 sealed_from None block told none = told
 sealed_from (Some broken) block told none = absurd cc
+
+pub alike : (xs ys : List ℕ) → xs ≡ ys → bytes_eq xs ys ≡ true
+alike xs ys e = ap (λ (t : List ℕ). bytes_eq t ys) e ∙ nat_list_eq_equiv.refl ys
+
+pub same_bytes : (xs ys : List ℕ) → bytes_eq xs ys ≡ true → xs ≡ ys
+same_bytes xs ys h = same_text xs ys (sym h)

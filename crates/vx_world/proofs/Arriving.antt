@@ -5,6 +5,7 @@ use Rattle.std.proofs.lemmas.Bool.Decides.{nat_tests}
 use Rattle.std.proofs.lemmas.List.{append-nil, length-set}
 use Rattle.vx_model.specs.Content.{Write}
 use Rattle.vx_model.specs.declared.history.Line.{Line}
+use Rattle.vx_model.proofs.Tests.{by_bool}
 use Rattle.vx_history.specs.World.{World, Node, Link, Packet, Key, Gathering, Update, NetAck}
 use Rattle.vx_history.specs.Gatherings.{message_key, came_before, came_after, completes}
 use Rattle.vx_history.specs.Sends.{packet, packets_from, updates, further_parts}
@@ -16,7 +17,7 @@ use Rattle.vx_history.specs.Settling.{is_between}
 use Rattle.vx_world.proofs.Pair.{At, Fit}
 use Rattle.vx_world.proofs.Told.{IsYoung, taken_at, kept_at, ignored_at, again_at, memory_at, stale_at}
 use Rattle.vx_world.proofs.Batches.{deliver_each, between_back, IsIn, in_head, in_tail, in_more, fit_log, fit_link}
-use Rattle.vx_world.proofs.PartsCame.{Came, all_true, came_more, kept_came, by_value}
+use Rattle.vx_world.proofs.PartsCame.{Came, all_true, came_more, kept_came}
 
 -- ## Acknowledgements
 
@@ -144,7 +145,7 @@ module _ (p s : ℕ) (a : Node) (Q : World → Type 0) where
       let ack : Packet = packet s p b.line (NetAck b.session n) 0 in
       let tail : List Packet = parts n x (j + 1) (suc m) ++ rest in
       let key : Key = message_key p a.line (Update n x) in
-      by_value (completes (v.gathering s) q)
+      by_bool (completes (v.gathering s) q)
       (λ whole. whole_run (suc m) k j n x rest v b l ps at fit next room whole is young each)
       (λ some.
       let w : World = (step v (Deliver (suc k))).world in
@@ -298,7 +299,7 @@ updates_any p s a (x ∷ xs) k n v b l ps at fit is next young =
     let rest : List Packet = updates p s a.line (n + 1) xs in
     let size : ℕ = length (updates p s a.line n (x ∷ xs)) in
     let long : size ≡ suc f + length rest = parts_length p s a.line n x 0 (suc f) rest in
-    by_value (ltb (length b.log - b.safe) 16)
+    by_bool (ltb (length b.log - b.safe) 16)
     (λ room. next_run p s a (λ w. Arrived p s a b l ps (x ∷ xs) size w) f k 0 n x rest v b l ps at fit (omega arith) next room
     (none_below (v.gathering s) (message_key p a.line (Update n x))) is young
     (λ w more acks few at_w is_w young_w. one_came (run w (deliver_each (k + suc f) rest)) p s a b l ps more n x xs (length rest) size next acks

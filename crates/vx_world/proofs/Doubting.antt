@@ -2,6 +2,7 @@
 use Rattle.std.proofs.Common.{◌≡◌, ◌∙◌, inl, inr, ℕ, ◌<◌, List, [], ◌∷◌, ap, sym, subst, refl, Bool, true, false}
 use Rattle.std.specs.Prelude.{Option, Some, None, eqb, leb, not, if◌then◌else◌}
 use Rattle.std.proofs.lemmas.Bool.{cases_eq}
+use Rattle.std.proofs.lemmas.Option.{same_Some}
 use Rattle.vx_model.specs.Sites.{is_up}
 use Rattle.vx_model.specs.declared.no.No.TheVariants.{Unknown, Down as NotUp}
 use Rattle.vx_model.specs.declared.no.Named.TheVariants.{Number as ByNumber}
@@ -288,15 +289,12 @@ step_good_as d (Fault p disk) g calm = by_doubt (d.after p) refl
 pub happened_good : (d : Doubted) (e : Event) (taken : Bool) → GoodDoubted d → GoodDoubted (happened d e taken)
 happened_good d e taken g = by_crash (crashed_by e) refl
   where
-    same_site : (s t : ℕ) → Some s ≡ Some t → s ≡ t
-    same_site s t e = cc
-
     by_crash : (o : Option ℕ) → crashed_by e ≡ o
         → (let r = resolved_for o d taken in GoodDoubted (record r { world = (step r.world e).world }))
     by_crash None none = step_good_as d e g (λ s a is here. let f : None ≡ Some s = sym none ∙ here in absurd (cc))
     by_crash (Some t) crashes =
         step_good_as (resolved_at d t taken) e (resolve_good d t taken g)
-        (λ s a is here. (others d.after t s a is).0 (same_site s t (sym here ∙ crashes)))
+        (λ s a is here. (others d.after t s a is).0 (same_Some s t (sym here ∙ crashes)))
 
 pub runs_good : (es : List Event) (d new : Doubted) → GoodDoubted d → Runs d es new → GoodDoubted new
 runs_good [] d new g is = subst GoodDoubted (sym is) g

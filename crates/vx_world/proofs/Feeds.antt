@@ -1,5 +1,6 @@
 -- What is sent on links, and what is delivered, keeps what holds of the world.
 use Rattle.std.proofs.Common.{◌≡◌, ℕ, ◌+◌, ◌≤◌, [], ◌∷◌, length, refl, ap, sym, ◌∙◌, subst, arith, take, Bool, true, false, length-append}
+use Rattle.std.proofs.lemmas.Bool.{not-true}
 use Rattle.std.specs.Prelude.{leb, ltb, if◌then◌else◌, eqb, min, max, slice_get, Some, None, Option, ◌&&◌, ◌||◌, not, zero, suc}
 use Rattle.std.specs.List.{AllByRecursion}
 use Rattle.vx_model.specs.Content.{Write, IsNumber, IsPrefixOf}
@@ -22,7 +23,7 @@ use Rattle.vx_model.specs.declared.no.No.TheVariants.{Unknown, Unconfirmed}
 use Rattle.vx_model.specs.declared.no.Named.TheVariants.{Number as ByNumber}
 use Rattle.vx_history.proofs.Updates.{by_test, and_left, and_right, same_line_equal, at_place, eqb_equal}
 use Rattle.vx_history.proofs.GoodLemmas.{up_is_made}
-use Rattle.vx_history.proofs.States.{up_is}
+use Rattle.vx_history.proofs.States.{runs_is, up_is}
 use Rattle.vx_history.specs.declared.event.Said.TheVariants.{Ignored as IsIgnored, Pending, DoneAt}
 use Rattle.vx_history.specs.Sends.{is_linked, with_link, sending, promising, packets_of, greeting, sent_by}
 use Rattle.vx_history.specs.Refusals.{Outcome, says, unless, is_running, keeps_links, some_below, is_unconfirmed, holds_back}
@@ -31,10 +32,9 @@ use Rattle.vx_history.specs.Events
 use Rattle.vx_history.specs.Gatherings.{completes}
 use Rattle.vx_model.specs.declared.limits.TheConstants.{MOST_AHEAD, MOST_PACKETS}
 use Rattle.vx_history.specs.Sound.{GoodLink, GoodMessage, GoodPacket, IsStranger, StrangerSays, Sound}
-use Rattle.vx_world.proofs.Lists.{prefix_refl, prefix_trans, prefix_take, each_found, not_true, not_both}
+use Rattle.vx_world.proofs.Lists.{prefix_refl, prefix_trans, prefix_take, each_found, not_both}
 use Rattle.vx_world.proofs.Moves.{sound_gathering, sound_sending, sound_promising, sound_with_link, sound_with_node, good_later, stranger_of_links, still_linked, stays_fed}
 use Rattle.vx_world.proofs.Tests.{Keeps, unless_keeps}
-use Rattle.vx_world.proofs.Guards.{runs_is}
 use Rattle.vx_world.proofs.Changes.{greeting_good, memory_good, up_whole}
 use Rattle.vx_world.proofs.Nodes
 use Rattle.vx_world.proofs.Links
@@ -119,7 +119,7 @@ greets_is a b g =
     let rest : (is_running b.halted && (not (is_origin b.role) && same_line b.line a.line)) ≡ true = and_right (is_up b.state)
     (is_running b.halted && (not (is_origin b.role) && same_line b.line a.line)) g in (
       up_is b.state (and_left (is_up b.state) (is_running b.halted && (not (is_origin b.role) && same_line b.line a.line)) g),
-      not_true (is_origin b.role) (and_left (not (is_origin b.role)) (same_line b.line a.line)
+      not-true (is_origin b.role) (and_left (not (is_origin b.role)) (same_line b.line a.line)
           (and_right (is_running b.halted) (not (is_origin b.role) && same_line b.line a.line) rest)),
       runs_is b.halted (and_left (is_running b.halted) (not (is_origin b.role) && same_line b.line a.line) rest),
     )

@@ -18,7 +18,7 @@ use Rattle.vx_history.proofs.States.{up_is}
 use Rattle.vx_history.proofs.Updates.{by_test, and_left, and_right}
 use Rattle.vx_history.specs.Sends.{is_linked}
 use Rattle.vx_history.specs.Sound.{is_at_rest}
-use Rattle.vx_history.specs.Refusals.{Outcome, refused, unless, unless_halted, is_primary, is_running, at_site, at_work, both_at_work, on_link_if, when_live, on_volume}
+use Rattle.vx_history.specs.Refusals.{Outcome, refused, unless, unless_halted, is_primary, at_site, at_work, both_at_work, on_link_if, when_live, on_volume}
 use Rattle.vx_model.specs.Sites.{is_up, is_bare}
 
 -- a site that is down or deported is more than bare, and not up
@@ -27,10 +27,6 @@ rest_up s rest up = let e : false ≡ true = sym (ap is_at_rest up) ∙ rest in 
 
 pub rest_bare : (s : SiteState) → is_at_rest s ≡ true → s ≡ Bare → ⊥
 rest_bare s rest bare = let e : false ≡ true = sym (ap is_at_rest bare) ∙ rest in cc
-
-pub runs_is : (halted : Option ℕ) → is_running halted ≡ true → halted ≡ None
-runs_is None e = refl
-runs_is (Some disk) e = absurd (cc)
 
 pub primary_origin : (r : Role) → is_primary r ≡ true → is_origin r ≡ true
 primary_origin Primary e = refl

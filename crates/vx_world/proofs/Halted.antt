@@ -6,6 +6,7 @@ use Rattle.vx_model.specs.Answer.{is_too_large, is_wrong_count, is_past}
 use Rattle.vx_model.specs.Sites.{is_up, is_bare}
 use Rattle.vx_model.specs.declared.limits.TheConstants.{MOST_NUMBER}
 use Rattle.vx_model.specs.declared.site.SiteState.TheVariants.{Up}
+use Rattle.vx_history.proofs.Behind.{after_of}
 use Rattle.vx_history.proofs.Updates.{at_place}
 use Rattle.vx_history.specs.Admission.{Admitted, Held_by, Goes}
 use Rattle.vx_history.specs.World.{Node, World}
@@ -133,10 +134,6 @@ twin_like s w v a t like = record {
   good = good_like w v t.good like;
   good_too = good_like (resolved w s a) (resolved v s a) t.good_too (like_resolved w v s a like);
 }
-
--- what a halted site may be
-abbrev pub after_of : Doubted → Event → (site disk : ℕ) → After
-after_of d e site disk = record { node = (stopped_by (step d.world e).world site disk).nodes site; row = (step d.world e).world.links site }
 
 pub halved_good : (d : Doubted) (e : Event) (site disk : ℕ) → GoodWorld d.world → (d.world.nodes site).state ≡ Up → WritesAt d.world e site
     → GoodTwin site (halved d e site disk).world (resolved (halved d e site disk).world site (after_of d e site disk))

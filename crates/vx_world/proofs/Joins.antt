@@ -1,7 +1,7 @@
 -- Sites that are made, and the events of a link, keep what holds of the world.
 use Rattle.std.proofs.Common.{◌≡◌, ℕ, ◌+◌, ◌-◌, ◌≤◌, ◌<◌, List, [], ◌∷◌, length, refl, ap, sym, ◌∙◌, subst, arith, Bool, true, false, inl}
 use Rattle.std.specs.Prelude.{None, if◌then◌else◌, eqb, leb, not, ◌&&◌, ◌||◌, zero, suc, bytes_eq, ltb}
-use Rattle.std.proofs.lemmas.Bool.{eq-eqb, not-false}
+use Rattle.std.proofs.lemmas.Bool.{eq-eqb, not-false, not-true}
 use Rattle.std.proofs.lemmas.Bool.Decides.{nat_tests}
 use Rattle.vx_history.specs.World.{World, Node, Volume, History, updated, line_updated, with_node, bare_site, no_volumes}
 use Rattle.vx_model.specs.Content.{Content}
@@ -32,7 +32,7 @@ use Rattle.vx_history.specs.Gatherings.{emptied}
 use Rattle.vx_history.specs.Step.{done, link_part}
 use Rattle.vx_model.specs.declared.limits.TheConstants.{MOST_DISKS, MOST_LINKS, MOST_SITES}
 use Rattle.vx_history.specs.Sound.{has_line, HasCome, Sound}
-use Rattle.vx_world.proofs.Lists.{each_append, each_weaker, not_true, not_both, or_left, or_right}
+use Rattle.vx_world.proofs.Lists.{each_append, each_weaker, not_both, or_left, or_right}
 use Rattle.vx_world.proofs.Stood.{last_line, who_came}
 use Rattle.vx_world.proofs.Moves.{sound_gathering, sound_with_node, sound_with_link, good_later, given, stays_fed, at_changed}
 use Rattle.vx_world.proofs.Comes.{sound_joining, sound_founding}
@@ -196,9 +196,9 @@ may_join_keeps w p q s up_p up_q =
         (and_right (is_primary (w.nodes q).role) (is_empty (w.nodes q).log && not links) fresh) in
         join_keeps w p q s up_p up_q
         (primary_origin a.role (and_left (is_primary a.role) rest may))
-        (not_true (eqb q p) (and_left (not (eqb q p)) (is_empty a.log && own) apart))
+        (not-true (eqb q p) (and_left (not (eqb q p)) (is_empty a.log && own) apart))
         unlinked
-        (no_links w q s (not_true links alone))
+        (no_links w q s (not-true links alone))
         (primary_plain (w.nodes q).role (and_left (is_primary (w.nodes q).role) (is_empty (w.nodes q).log && not links) fresh))
 
 make_keeps : (w : World) (p q place : ℕ) (sync : SyncMode) → Sound w → (w.nodes p).state ≡ Up → (w.nodes q).state ≡ Up
@@ -262,7 +262,7 @@ open_keeps w p q s empty taken marked =
     equal a b e = grind (arith, nat_tests)
 
 follows_is : (w : World) (p q : ℕ) → follows w p q ≡ true → is_origin (w.nodes q).role ≡ false
-follows_is w p q f = not_true (is_origin (w.nodes q).role) (and_left (not (is_origin (w.nodes q).role)) (same_line (w.nodes q).line (w.nodes p).line) f)
+follows_is w p q f = not-true (is_origin (w.nodes q).role) (and_left (not (is_origin (w.nodes q).role)) (same_line (w.nodes q).line (w.nodes p).line) f)
 
 pub link_part_keeps : (part : LinkPart) (w : World) (p q : ℕ) (sync : SyncMode) → Sound w → (w.nodes p).state ≡ Up → (w.nodes q).state ≡ Up
     → (w.nodes q).halted ≡ None → Keeps (link_part part w p q sync)

@@ -1,5 +1,5 @@
 -- Packets that are delivered keep all that holds of the world.
-use Rattle.std.proofs.Common.{◌≡◌, ◌∙◌, ℕ, zero, suc, ◌+◌, List, [], length, refl, ap, sym, subst, Bool, true, false}
+use Rattle.std.proofs.Common.{◌≡◌, ◌∙◌, ℕ, zero, suc, ◌+◌, List, length, refl, ap, sym, subst, Bool, true, false}
 use Rattle.std.specs.Prelude.{leb, if◌then◌else◌, Option, Some, None, eqb, ltb, ◌&&◌, slice_get}
 use Rattle.vx_model.specs.Content.{Write, IsNumber}
 use Rattle.vx_model.specs.Sites.{is_origin, is_up, same_line}

@@ -1,5 +1,6 @@
 -- Worlds that differ in notes alone are good together.
-use Rattle.std.proofs.Common.{◌≡◌, ◌∙◌, ◌⊎◌, inl, inr, ℕ, ◌≤◌, List, length, ap, sym, subst, refl, arith, Bool, true, false, []}
+use Rattle.std.proofs.Common.{◌≡◌, ◌∙◌, ◌⊎◌, inl, inr, ℕ, ◌≤◌, List, length, ap, sym, subst, refl, arith, true, false, []}
+use Rattle.std.proofs.lemmas.Bool.{cases_Bool}
 use Rattle.std.specs.Prelude.{Option, Some, None}
 use Rattle.std.specs.List.{AllByRecursion}
 use Rattle.vx_model.specs.Content.{Write, IsPrefixOf}
@@ -21,12 +22,10 @@ use Rattle.vx_history.specs.Fits.{WriteFits, Fitting, IsSized, IsAlike}
 use Rattle.vx_history.specs.GoodGatherings.{IsPart, Gathers, MayGather}
 use Rattle.vx_history.specs.GoodWorld.{GoodWorld}
 use Rattle.vx_world.proofs.Keeping.{gather_up, fits_there, alike_there}
+use Rattle.vx_world.proofs.Likely.{noted}
 use Rattle.vx_world.proofs.Lists.{each_weaker}
 
-abbrev with_notes : Node → Node → Node
-with_notes a b = record a { fuse = b.fuse; failing = b.failing; group = b.group }
-
-later_note : (a b : Node) → IsLater a (with_notes a b)
+later_note : (a b : Node) → IsLater a (noted a b)
 later_note a b = record {
   line = refl;
   origin = refl;
@@ -41,7 +40,7 @@ later_note a b = record {
   stood = refl;
 }
 
-good_note : (h : History) (i : ℕ) (a b : Node) → GoodNode h i a → GoodNode h i (with_notes a b)
+good_note : (h : History) (i : ℕ) (a b : Node) → GoodNode h i a → GoodNode h i (noted a b)
 good_note h i a b g = record {
   safe_fits = g.safe_fits;
   own_line = g.own_line;
@@ -53,12 +52,8 @@ good_note h i a b g = record {
   content = g.content;
 }
 
-true_or_false : (b : Bool) → (b ≡ true) ⊎ (b ≡ false)
-true_or_false true = inl refl
-true_or_false false = inr refl
-
 module _ (w v : World) (s : Sound w) (like : IsLike w v) where
-  at : (P : Node → Type 0) (i : ℕ) → P (with_notes (w.nodes i) (v.nodes i)) → P (v.nodes i)
+  at : (P : Node → Type 0) (i : ℕ) → P (noted (w.nodes i) (v.nodes i)) → P (v.nodes i)
   at P i h = subst P (sym (like.nodes i)) h
 
   later : (i : ℕ) → IsLater (w.nodes i) (v.nodes i)
@@ -94,7 +89,7 @@ module _ (w v : World) (s : Sound w) (like : IsLike w v) where
   held_by x p = (x.lines (x.nodes p).line).held
 
   link_good : (p q : ℕ) → GoodLink (held_by v p) p q (v.nodes p) (v.nodes q) (v.links p q)
-  link_good p q = elim (true_or_false (is_linked (w.links p q))) [
+  link_good p q = elim (cases_Bool (is_linked (w.links p q))) [
     | inl is ↦
         subst (λ (l : Link). GoodLink (held_by v p) p q (v.nodes p) (v.nodes q) l) (sym ((like.links p q).same is))
         (link_later (held_by w p) (held_by v p) p q (w.nodes p) (w.nodes q) (v.nodes p) (v.nodes q) (w.links p q) (later p) (later q)
@@ -139,8 +134,8 @@ module _ (w v : World) (s : Sound w) (like : IsLike w v) where
   fits_like f = record {
     sized = λ i. at (λ b. IsSized b) i (record { start = (f.sized i).start; base = (f.sized i).base; bare = (f.sized i).bare });
     logs = λ i. at (λ b. AllByRecursion (WriteFits b) b.log) i
-        (each_weaker (WriteFits (w.nodes i)) (WriteFits (with_notes (w.nodes i) (v.nodes i)))
-        (fits_there (w.nodes i) (with_notes (w.nodes i) (v.nodes i)) refl refl) (w.nodes i).log (f.logs i));
+        (each_weaker (WriteFits (w.nodes i)) (WriteFits (noted (w.nodes i) (v.nodes i)))
+        (fits_there (w.nodes i) (noted (w.nodes i) (v.nodes i)) refl refl) (w.nodes i).log (f.logs i));
     held = λ l. subst (λ (h : History). AllByRecursion (WriteFits (v.nodes l.origin)) h.held) (sym (like.lines l))
         (each_weaker (WriteFits (w.nodes l.origin)) (WriteFits (v.nodes l.origin))
         (fits_there (w.nodes l.origin) (v.nodes l.origin) (volumes l.origin) (rings l.origin)) (w.lines l).held (f.held l));

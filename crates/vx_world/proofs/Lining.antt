@@ -2,7 +2,9 @@
 use Rattle.std.proofs.Common.{◌≡◌, ◌∙◌, inl, inr, ℕ, ◌<◌, List, ap, sym, subst, refl, Bool, true, false}
 use Rattle.std.specs.Prelude.{Option, Some, None, eqb, if◌then◌else◌}
 use Rattle.std.proofs.lemmas.Bool.{cases_eq}
+use Rattle.std.proofs.lemmas.Option.{same_Some}
 use Rattle.vx_model.specs.declared.site.SiteState.TheVariants.{Up}
+use Rattle.vx_history.proofs.Behind.{after_of}
 use Rattle.vx_history.proofs.Updates.{all_updated, at_place, eqb_equal}
 use Rattle.vx_history.specs.Doubts.{After, Doubted, resolved, resolved_at, taken_up, crashed_as, halved}
 use Rattle.vx_history.specs.Events.{kept_of, crash_at}
@@ -18,7 +20,7 @@ use Rattle.vx_history.specs.declared.event.Event.TheVariants.{Site, Raw, Group, 
 use Rattle.vx_world.specs.Lines.{IsDoubt, GoodDoubted, node_as, row_as, resolved_as}
 use Rattle.vx_world.specs.Twins.{GoodTwin, IsElsewhere}
 use Rattle.vx_world.proofs.Crashed.{not_past, crash_is}
-use Rattle.vx_world.proofs.Halted.{halved_good, after_of, like_counted}
+use Rattle.vx_world.proofs.Halted.{halved_good, like_counted}
 use Rattle.vx_world.proofs.Halving.{aside, half}
 use Rattle.vx_world.proofs.Likely.{noted, link_self}
 use Rattle.vx_world.proofs.Liking.{good_like}
@@ -249,16 +251,13 @@ crashed_all d s kept taken a is g =
     let u : World = (step r.world (Crash s kept)).world in
     let stands = standing taken in
     like_good (record { world = u; after = r.after }) (crashed_as d s kept taken)
-    (step_good_as r (Crash s kept) (resolve_good d s taken g) (λ t b other crash. (others d.after s t b other).0 (same_site t s (sym crash))))
+    (step_good_as r (Crash s kept) (resolve_good d s taken g) (λ t b other crash. (others d.after s t b other).0 (same_Some t s (sym crash))))
     (record {
       worlds = like_sym v u (subst (λ (x : World). IsLike v (record x { headers = u.headers })) (sym (crash_is r.world s kept stands.0 stands.1))
           (like_counted v u.headers));
       after = λ _. refl;
     })
   where
-    same_site : (s t : ℕ) → Some s ≡ Some t → s ≡ t
-    same_site s t e = cc
-
     standing : (b : Bool) → (s < (resolved_at d s b).world.sites) × (((resolved_at d s b).world.nodes s).state ≡ Up)
     standing false = ((g.doubts s a is).here, (g.doubts s a is).up)
     standing true =

@@ -2,7 +2,7 @@
 use Rattle.std.proofs.Common.{◌≡◌, ◌⊎◌, inl, inr, ℕ, zero, suc, ◌+◌, ◌≤◌, ◌<◌, List, [], ◌∷◌, take, refl, ap, sym, ◌∙◌, subst, arith, Bool, true, false}
 use Rattle.std.specs.Prelude.{if◌then◌else◌, leb, ltb, eqb, not, max, slice_get, Some, pred, ◌&&◌}
 use Rattle.std.specs.List.{AllByRecursion}
-use Rattle.std.proofs.lemmas.Bool.{leb-true}
+use Rattle.std.proofs.lemmas.Bool.{false_from_ne_true, leb-true}
 use Rattle.std.proofs.lemmas.Bool.Decides.{nat_tests}
 use Rattle.std.proofs.lemmas.List.{take-take}
 use Rattle.vx_model.specs.Content.{Write, IsNumber, IsPrefixOf}
@@ -26,7 +26,7 @@ use Rattle.vx_history.specs.Sound.{IsPresent, IsFollowed, HasStored, ModeSays, G
 use Rattle.vx_history.specs.Sends.{is_linked, packets_of, packets_from, parts_of, packet, updates, between}
 use Rattle.vx_history.specs.Refusals.{holds_back, is_unconfirmed, some_below, goes, waits}
 use Rattle.vx_history.specs.Events.{receiver_facts, restarted_link, lost_touch, link_after, promise_of, promises_of}
-use Rattle.vx_world.proofs.Lists.{prefix_get, prefix_take, drop_get, or_left, or_right, each_append, prefix_trans, refuted}
+use Rattle.vx_world.proofs.Lists.{prefix_get, prefix_take, drop_get, or_left, or_right, each_append, prefix_trans}
 
 -- a mode that says no more: by the log only where it went by the log
 mode_less : (held : List Write) (b : Node) (l m : Mode) → (m ≡ Log → l ≡ Log) → ModeSays held b l → ModeSays held b m
@@ -271,7 +271,7 @@ pub receives : (nodes : ℕ → Node) (lines : Line → History) (held : List Wr
     → ((i : ℕ) → GoodNode (lines (nodes i).line) i (nodes i)) → GoodLink held p s (nodes p) (nodes s) l → is_linked l ≡ true → is_origin (nodes p).role ≡ true → (nodes s).line ≡ (nodes p).line
     → is_origin (nodes s).role ≡ false
 receives nodes lines held p s l good link is o e =
-    refuted (is_origin (nodes s).role)
+    false_from_ne_true (is_origin (nodes s).role)
     (λ q. link.apart is (sym ((good p).own_line (link.ends is).0 o) ∙ ap (λ (x : Line). x.origin) (sym e) ∙ (good s).own_line (link.ends is).1 q))
 
 module _ (nodes : ℕ → Node) (links : ℕ → ℕ → Link) (lines : Line → History) (good : (i : ℕ) → GoodNode (lines (nodes i).line) i (nodes i)) (p : ℕ) (n : ℕ)

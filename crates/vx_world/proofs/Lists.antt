@@ -1,7 +1,7 @@
 -- First parts of lists of writes, and what holds of each item of a list.
 use Rattle.std.proofs.Common.{◌≡◌, ℕ, zero, suc, ◌+◌, ◌≤◌, List, [], ◌∷◌, ◌++◌, length, take, drop, refl, ap, sym, ◌∙◌, subst, append_assoc, arith, length-append, Bool, true, false}
 use Rattle.std.proofs.lemmas.List.{append-nil}
-use Rattle.std.specs.Prelude.{slice_get, Some, pred, ◌||◌, not}
+use Rattle.std.specs.Prelude.{slice_get, Some, pred, ◌||◌}
 use Rattle.std.specs.List.{AllByRecursion}
 use Rattle.vx_model.specs.Content.{Write, IsPrefixOf, IsNumber}
 use Rattle.vx_model.proofs.Lists.{found_more}
@@ -72,17 +72,8 @@ pub or_right : (a b : Bool) → (a || b) ≡ false → b ≡ false
 or_right true b h = absurd (cc)
 or_right false b h = h
 
-pub not_true : (a : Bool) → not a ≡ true → a ≡ false
-not_true true h = absurd (cc)
-not_true false h = refl
-
 pub not_both : {P : Type 0} (b : Bool) → b ≡ true → b ≡ false → P
 not_both b h k = absurd (let e : true ≡ false = sym h ∙ k in cc)
-
--- what is not so is false
-pub refuted : (b : Bool) → (b ≡ true → ⊥) → b ≡ false
-refuted true k = absurd (k refl)
-refuted false k = refl
 
 pub each_append : {A : Type 0} (P : A → Type 0) (xs ys : List A) → AllByRecursion P xs → AllByRecursion P ys → AllByRecursion P (xs ++ ys)
 each_append P [] ys h k = k

@@ -1,5 +1,6 @@
 -- The few ways in which an event changes the world, each with what it has to show.
 use Rattle.std.proofs.Common.{◌≡◌, ℕ, ◌≤◌, List, ◌++◌, sym, ◌∙◌, ap, refl, subst, true, false, inl}
+use Rattle.std.proofs.lemmas.Bool.{false_from_ne_true}
 use Rattle.std.specs.Prelude.{Option}
 use Rattle.std.specs.List.{AllByRecursion}
 use Rattle.vx_model.specs.Content.{Write, IsPrefixOf}
@@ -17,7 +18,7 @@ use Rattle.vx_model.specs.declared.site.Role.{Role}
 use Rattle.vx_model.specs.declared.site.Role.TheVariants.{Primary, Secondary, Handing, Bunker}
 use Rattle.vx_history.specs.Sends.{is_linked, with_links, with_link, sending, promising}
 use Rattle.vx_history.specs.Sound.{LosesNothing, IsFed, TakesUpdates, IsMarked, IsNewest, StoodHere, HasCome, GoesElsewhere, IsFollowed, ModeSays, GoodLink, GoodPacket, GoodPromise, IsStranger, KnownNode, Sound}
-use Rattle.vx_world.proofs.Lists.{each_append, each_weaker, prefix_refl, refuted, not_both}
+use Rattle.vx_world.proofs.Lists.{each_append, each_weaker, prefix_refl, not_both}
 use Rattle.vx_world.proofs.Carry.{IsLater, OriginHere, later_same, come_later, mode_later, link_later, packets_later, promises_later}
 
 -- what is said of sites by themselves rests on no link
@@ -100,14 +101,14 @@ sound_promising w es s h = record {
 pub stranger_of_links : (nodes : ℕ → Node) (links more : ℕ → ℕ → Link) → ((p s : ℕ) → is_linked (links p s) ≡ true → is_linked (more p s) ≡ true)
     → (l : Line) (i : ℕ) → IsStranger nodes more l i → IsStranger nodes links l i
 stranger_of_links nodes links more made l i
-    (e, none, plain) = (e, refuted (is_linked (links l.origin i)) (λ is. not_both (is_linked (more l.origin i)) (made l.origin i is) none), plain)
+    (e, none, plain) = (e, false_from_ne_true (is_linked (links l.origin i)) (λ is. not_both (is_linked (more l.origin i)) (made l.origin i is) none), plain)
 
 -- an origin is a stranger on its own line
 pub origin_strange : (w : World) (i : ℕ) (l : Line) → Good w → GoesElsewhere i i (w.links i i) → OriginHere (w.nodes i) l → IsStranger w.nodes w.links l i
 origin_strange w i l good apart (up, e, o) =
     let own : l.origin ≡ i = ap (λ (k : Line). k.origin) (sym e) ∙ (good.nodes i).own_line (up_is_made (w.nodes i) up) o in (
       ap (λ (k : ℕ). (w.nodes k).line) own ∙ e,
-      refuted (is_linked (w.links l.origin i)) (λ is. apart (subst (λ (k : ℕ). is_linked (w.links k i) ≡ true) own is) refl),
+      false_from_ne_true (is_linked (w.links l.origin i)) (λ is. apart (subst (λ (k : ℕ). is_linked (w.links k i) ≡ true) own is) refl),
       plain (w.nodes i).role o,
     )
   where

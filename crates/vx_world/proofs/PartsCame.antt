@@ -62,7 +62,3 @@ key_itself key =
 -- what is then in assembly is what came of this message
 pub kept_came : (key : Key) (came : List Bool) → (let g : Gathering = record { key = key; came = came } in came_before (Some g) key) ≡ came
 kept_came key came = ap (λ (b : Bool). if b then came else replicate key.parts false) (key_itself key)
-
-pub by_value : {R : Type 0} (c : Bool) → (c ≡ true → R) → (c ≡ false → R) → R
-by_value true f g = f refl
-by_value false f g = g refl

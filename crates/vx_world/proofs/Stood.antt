@@ -4,6 +4,7 @@ use Rattle.std.specs.Prelude.{◌||◌}
 use Rattle.std.specs.List.{AllByRecursion}
 use Rattle.vx_model.specs.Sites.{same_line}
 use Rattle.vx_model.specs.declared.history.Line.{Line}
+use Rattle.vx_model.proofs.Tests.{or_true}
 use Rattle.vx_history.proofs.Updates.{same_line_equal, same_line_self}
 use Rattle.vx_history.specs.World.{World}
 use Rattle.vx_history.specs.Sound.{has_line, HasCome, CameTo, Sound}
@@ -15,10 +16,6 @@ one_of_both false b P e f g = g e
 either_true : (a b c : Bool) → (a || b) ≡ true → (b ≡ true → c ≡ true) → (a || c) ≡ true
 either_true true b c e f = refl
 either_true false b c e f = f e
-
-right_true : (a b : Bool) → b ≡ true → (a || b) ≡ true
-right_true true b e = refl
-right_true false b e = e
 
 -- what holds of each of these lines holds of one of them
 pub of_line : (P : Line → Type 0) (ls : List Line) (line : Line) → has_line ls line ≡ true → AllByRecursion P ls → P line
@@ -36,7 +33,7 @@ more_lines (l ∷ ls) ms line e = either_true (same_line line l) (has_line ls li
 -- and so is the last of them
 pub last_line : (ls : List Line) (line : Line) → has_line (ls ++ line ∷ []) line ≡ true
 last_line [] line = ap (λ (b : Bool). b || false) (same_line_self line)
-last_line (l ∷ ls) line = right_true (same_line line l) (has_line (ls ++ line ∷ []) line) (last_line ls line)
+last_line (l ∷ ls) line = or_true (same_line line l) (has_line (ls ++ line ∷ []) line) (last_line ls line)
 
 -- who came to a line
 pub who_came : (w : World) (s : Sound w) (line : Line) (i : ℕ) → CameTo w.nodes line i → HasCome w.nodes i line

@@ -27,6 +27,7 @@ use Rattle.vx_model.specs.Sites.{is_up}
 use Rattle.vx_history.specs.Events
 use Rattle.vx_history.specs.Gatherings.{key_of, came_after, completes, left_by}
 use Rattle.vx_model.specs.declared.limits.TheConstants.{MOST_AHEAD, MOST_PACKETS, MOST_WAITING}
+use Rattle.vx_model.proofs.Tests.{both_true}
 use Rattle.vx_history.specs.Step.{outcome_of, step, done}
 use Rattle.vx_world.proofs.Pair.{gathers_at, counted_at, At, Fit, link_event_at, sending_at, with_node_at, with_link_at, link_passes, hears, passes, falls}
 
@@ -42,10 +43,6 @@ by_false false x y e = refl
 -- the network keeps what stands behind so many packets
 abbrev pub IsYoung : List Packet → ℕ → Type 0
 IsYoung ps k = length ps ≤ k + MOST_PACKETS
-
-pub both : (a b : Bool) → a ≡ true → b ≡ true → (a && b) ≡ true
-both true b e f = f
-both false b e f = absurd (cc)
 
 module _ (v : World) (p s : ℕ) (a b : Node) (l : Link) (ps : List Packet) (at : At v p s a b l ps) (fit : Fit p s a b l) where
   pub nothing_sent : (w : World) (m : Link) → At w p s a b m (ps ++ []) → At w p s a b m ps
@@ -64,8 +61,8 @@ module _ (v : World) (p s : ℕ) (a b : Node) (l : Link) (ps : List Packet) (at 
 
   pub live : (is_live_link (plain_link s l) && by_log l.mode) ≡ true
   live =
-      both (is_live_link (plain_link s l)) (by_log l.mode)
-      (both l.attached (l.connected && not l.paused) fit.attached (both l.connected (not l.paused) fit.connected (ap not fit.running)))
+      both_true (is_live_link (plain_link s l)) (by_log l.mode)
+      (both_true l.attached (l.connected && not l.paused) fit.attached (both_true l.connected (not l.paused) fit.connected (ap not fit.running)))
       (ap by_log fit.mode)
 
   pub pumps : sent_step (plain_link s l) PumpLink (Events.receiver_facts a a.line) ≡ pumped_up_to (plain_link s l) (max l.sent l.stored) (min a.safe (l.net + MOST_AHEAD))
@@ -76,7 +73,7 @@ module _ (v : World) (p s : ℕ) (a b : Node) (l : Link) (ps : List Packet) (at 
       link_passes v p s a b l ps at _ fit
       ∙ passes (not ((v.links p s).attached && (v.links p s).connected)) _ v _
       (falls ((v.links p s).attached && (v.links p s).connected)
-      (ap (λ (x : Link). x.attached && x.connected) at.at_l ∙ both l.attached l.connected fit.attached fit.connected))
+      (ap (λ (x : Link). x.attached && x.connected) at.at_l ∙ both_true l.attached l.connected fit.attached fit.connected))
       ∙ passes (v.links p s).paused _ v o (ap (λ (x : Link). x.paused) at.at_l ∙ fit.running)
 
   -- what the receiver may lack is sent
@@ -155,10 +152,10 @@ module _ (v : World) (p s : ℕ) (a b : Node) (l : Link) (ps : List Packet) (at 
   can_take n next room =
       let t : RState = plain_receiver b in
       let taken : takes t a.line n ≡ true =
-      both (same_line a.line b.line) (eqb n (length b.log + 1) && (ltb (length b.log - b.safe) MOST_WAITING && phase_takes b.phase))
+      both_true (same_line a.line b.line) (eqb n (length b.log + 1) && (ltb (length b.log - b.safe) MOST_WAITING && phase_takes b.phase))
       (ap (λ (y : Line). same_line a.line y) fit.line ∙ same_line_self a.line)
-      (both (eqb n (length b.log + 1)) (ltb (length b.log - b.safe) MOST_WAITING && phase_takes b.phase) (same n (length b.log + 1) next)
-      (both (ltb (length b.log - b.safe) MOST_WAITING) (phase_takes b.phase) room fit.takes)) in
+      (both_true (eqb n (length b.log + 1)) (ltb (length b.log - b.safe) MOST_WAITING && phase_takes b.phase) (same n (length b.log + 1) next)
+      (both_true (ltb (length b.log - b.safe) MOST_WAITING) (phase_takes b.phase) room fit.takes)) in
       ap (λ (r : Received). r.action) (by_true (takes t a.line n) (record { state = with_next t; action = Take n }) _ taken)
     where
       same : (m n : ℕ) → m ≡ n → eqb m n ≡ true
@@ -226,7 +223,7 @@ module _ (v : World) (p s : ℕ) (a b : Node) (l : Link) (ps : List Packet) (at 
       let qs : List Packet = ps ++ the_ack (length b.log) ∷ [] in
       let untaken : takes t a.line n ≡ false = none_left (same_line a.line b.line) (eqb n (length b.log + 1))
       (ltb (length b.log - b.safe) MOST_WAITING && phase_takes b.phase) (above n (length b.log) old) in
-      let known : repeats t a.line n ≡ true = both (same_line a.line b.line) (leb n (length b.log))
+      let known : repeats t a.line n ≡ true = both_true (same_line a.line b.line) (leb n (length b.log))
       (ap (λ (y : Line). same_line a.line y) fit.line ∙ same_line_self a.line) (at_most n (length b.log) old) in
       let action : (update_heard t a.line n).action ≡ IgnoredAck (length b.log) =
       ap (λ (r : Received). r.action) (by_false (takes t a.line n) _ _ untaken) ∙ by_true (repeats t a.line n) (IgnoredAck t.last) Ignores known in
@@ -255,7 +252,7 @@ module _ (v : World) (p s : ℕ) (a b : Node) (l : Link) (ps : List Packet) (at 
       let v' : World = with_link v p s (with_plain (v.links p s) (r (v.links p s) (v.nodes p)).link) in
       let goes : Events.link_heard v q e ≡ says v' (Events.said_of_link (r (v.links p s) (v.nodes p)).action) =
       by_true (keeps_links (v.nodes p).role && is_linked (v.links p s)) _ _
-      (both (keeps_links (v.nodes p).role) (is_linked (v.links p s)) (ap (λ (x : Node). keeps_links x.role) at.at_p ∙ fit.sends)
+      (both_true (keeps_links (v.nodes p).role) (is_linked (v.links p s)) (ap (λ (x : Node). keeps_links x.role) at.at_p ∙ fit.sends)
       (ap is_linked at.at_l ∙ fit.linked)) in
       deliver_via k q (says v' (Events.said_of_link (r (v.links p s) (v.nodes p)).action)) a b (with_plain l (r l a).link) ps young found
       (handed_is q a at.at_p fit.up_a fit.runs_a ∙ is ∙ goes)
@@ -276,8 +273,8 @@ module _ (v : World) (p s : ℕ) (a b : Node) (l : Link) (ps : List Packet) (at 
       → At (step v (Deliver (suc k))).world p s a b (record l { net = n }) ps
   memory_at k n young e session new =
       let t : (by_log l.mode && (eqb b.session l.session && ltb l.net n)) ≡ true =
-      both (by_log l.mode) (eqb b.session l.session && ltb l.net n) (ap by_log fit.mode)
-      (both (eqb b.session l.session) (ltb l.net n) (same b.session l.session (sym session)) (below l.net n new)) in
+      both_true (by_log l.mode) (eqb b.session l.session && ltb l.net n) (ap by_log fit.mode)
+      (both_true (eqb b.session l.session) (ltb l.net n) (same b.session l.session (sym session)) (below l.net n new)) in
       subst (λ (x : Sent). At (step v (Deliver (suc k))).world p s a b (with_plain l x.link) ps)
       (heard_as (memory_acknowledged (plain_link s l) b.session n) ∙ by_true (by_log l.mode && (eqb b.session l.session && ltb l.net n)) _ _ t)
       (link_at k (NetAck b.session n) (HearNetAck b.session n) young e refl)
@@ -309,7 +306,7 @@ module _ (v : World) (p s : ℕ) (a b : Node) (l : Link) (ps : List Packet) (at 
   pub disk_at : (k n : ℕ) → IsYoung ps k → slice_get ps k ≡ Some (packet s p b.line (DataAck n) 0) → l.stored < n
       → At (step v (Deliver (suc k))).world p s a b (record l { stored = n; net = max l.net n }) ps
   disk_at k n young e new =
-      let t : (by_log l.mode && ltb l.stored n) ≡ true = both (by_log l.mode) (ltb l.stored n) (ap by_log fit.mode) (below l.stored n new) in
+      let t : (by_log l.mode && ltb l.stored n) ≡ true = both_true (by_log l.mode) (ltb l.stored n) (ap by_log fit.mode) (below l.stored n new) in
       subst (λ (x : Sent). At (step v (Deliver (suc k))).world p s a b (with_plain l x.link) ps)
       (heard_as (disk_acknowledged (plain_link s l) n) ∙ by_true (by_log l.mode && ltb l.stored n) _ _ t)
       (link_at k (DataAck n) (HearDataAck n) young e refl)

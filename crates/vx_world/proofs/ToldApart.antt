@@ -17,10 +17,11 @@ use Rattle.vx_history.specs.declared.event.Said.TheVariants.{DoneAt}
 use Rattle.vx_history.specs.Sends.{sending, packet, greeting}
 use Rattle.vx_history.specs.Refusals.{Outcome, says, is_running}
 use Rattle.vx_model.specs.Sites.{is_up}
+use Rattle.vx_model.proofs.Tests.{both_true}
 use Rattle.vx_history.specs.Events
 use Rattle.vx_history.specs.Step.{outcome_of, step, done}
 use Rattle.vx_world.proofs.Pair.{counted_at, At, Fit, link_event_at, sending_at, with_node_at, link_passes, work_passes, passes}
-use Rattle.vx_world.proofs.Told.{by_true, by_false, IsYoung, both, nothing_sent, link_at, ours, heard_as}
+use Rattle.vx_world.proofs.Told.{by_true, by_false, IsYoung, nothing_sent, link_at, ours, heard_as}
 
 -- ## Greetings and records
 
@@ -29,9 +30,9 @@ module _ (v : World) (p s : ℕ) (a b : Node) (l : Link) (ps : List Packet) (at 
 
   pub greets_is : Events.greets a b ≡ true
   greets_is =
-      both (is_up b.state) (is_running b.halted && (not (is_origin b.role) && same_line b.line a.line)) (ap is_up fit.up_b)
-      (both (is_running b.halted) (not (is_origin b.role) && same_line b.line a.line) (ap is_running fit.runs_b)
-      (both (not (is_origin b.role)) (same_line b.line a.line) (ap not fit.receives) (ours v p s a b l ps at fit)))
+      both_true (is_up b.state) (is_running b.halted && (not (is_origin b.role) && same_line b.line a.line)) (ap is_up fit.up_b)
+      (both_true (is_running b.halted) (not (is_origin b.role) && same_line b.line a.line) (ap is_running fit.runs_b)
+      (both_true (not (is_origin b.role)) (same_line b.line a.line) (ap not fit.receives) (ours v p s a b l ps at fit)))
 
   -- a link that is connected is connected again: its receiver greets
   pub connect_at : At (step v (Connect p s)).world p s a b l (ps ++ packet s p b.line (Hello b.session (length b.log) b.safe) 0 ∷ [])

@@ -12,6 +12,7 @@ use Rattle.vx_model.specs.declared.history.Line.{Line}
 use Rattle.vx_model.specs.declared.limits.TheConstants.{MOST_AHEAD, MOST_CALL_BLOCKS, MOST_PACKETS}
 use Rattle.vx_history.specs.World.{World, Node, Link, Packet, Update, DataAck, no_regions}
 use Rattle.vx_model.specs.declared.site.Mark.{Mark}
+use Rattle.vx_model.proofs.Tests.{by_bool}
 use Rattle.vx_history.specs.declared.event.Event.{Event}
 use Rattle.vx_history.specs.declared.event.Event.TheVariants.{Apply, Pump, Tick, Deliver}
 use Rattle.vx_history.proofs.Updates.{eqb_equal}
@@ -94,10 +95,6 @@ few_between low high log most =
     let front : length (take high log) ≤ high = omega (arith, length-take high log) in
     omega (arith, most, length-drop (pred (low + 1)) (take high log), front)
 
-by_value : {R : Type 0} (c : Bool) → (c ≡ true → R) → (c ≡ false → R) → R
-by_value true f g = f refl
-by_value false f g = g refl
-
 is_less : (m n : ℕ) → ltb m n ≡ true → m < n
 is_less m n h = grind (arith, nat_tests)
 
@@ -122,7 +119,7 @@ module _ (p s : ℕ) (a b : Node) (l : Link) (ps : List Packet) (fits : b.safe �
       let m : Link = record l { sent = l.net; trimmed = 0; since = no_regions } in
       let at_v : At v p s a b m ps = tick_at w p s a b l ps at fit in
       let fit_v : Fit p s a b m = fit_since p s a b (record l { sent = l.net; trimmed = 0 }) no_regions (fit_link p s a b l l.session l.net l.stored l.net 0 fit) in
-      by_value (ltb (length b.log) high)
+      by_bool (ltb (length b.log) high)
       (λ less. record {
         high = high;
         writes = between (length b.log + 1) high a.log;
@@ -237,7 +234,7 @@ module _ (p s : ℕ) (a b : Node) (l : Link) (ps : List Packet) (fits : b.safe �
   closes w came =
       let n : Node = record b { log = came.log; fed_by = came.fed } in
       subst (λ (y : Node). let x = run w (Apply s (length y.log - y.safe) 0 ∷ []) in Turned p s a b l (run x (delivery p s w x))) (sym came.at.at_s)
-      (by_value (eqb (length came.log - b.safe) 0) (λ none. at_rest (is_none (length came.log - b.safe) none))
+      (by_bool (eqb (length came.log - b.safe) 0) (λ none. at_rest (is_none (length came.log - b.safe) none))
       (λ some. at_work (is_some (length came.log - b.safe) some)))
     where
       is_none : (m : ℕ) → eqb m 0 ≡ true → m ≡ 0
@@ -355,4 +352,4 @@ module _ (p s : ℕ) (a b : Node) (l : Link) (ps : List Packet) (fits : b.safe �
           (subst (λ (es : List Event). Turned p s a b l (run x es)) (sym (nothing_new p s x x (came.packets ++ ack ∷ []) at_x.sent at_x.sent)) over)
 
       at_work : 0 < length came.log - b.safe → (let x = run w (Apply s (length came.log - b.safe) 0 ∷ []) in Turned p s a b l (run x (delivery p s w x)))
-      at_work some = by_value (eqb came.fed p) (λ back. told_back (eqb_equal came.fed p back) some) (λ other. told_apart other some)
+      at_work some = by_bool (eqb came.fed p) (λ back. told_back (eqb_equal came.fed p back) some) (λ other. told_apart other some)

@@ -1,5 +1,6 @@
 -- What headers that are done say of the disks of their site: that of the log is not made to fail, and the fuse may let as many calls pass.
-use Rattle.std.proofs.Common.{◌≡◌, ◌∙◌, ◌<◌, ◌≤◌, ℕ, Bool, true, false, arith, refl, sym, subst}
+use Rattle.std.proofs.Common.{◌≡◌, ◌∙◌, ◌<◌, ◌≤◌, ℕ, true, false, arith, sym, subst}
+use Rattle.std.proofs.lemmas.Bool.{false_from_ne_true}
 use Rattle.std.specs.Prelude.{Option, Some, None}
 use Rattle.vx_disk.specs.Burns.{FewerLeft}
 use Rattle.vx_disk.specs.Causes.{WithDisks, Works}
@@ -40,16 +41,12 @@ passes_on k f (Some o) (Some n) d at fewer left =
     let same : o ≡ d = cc in
     passes k f o.fuse n.fuse fewer (subst (λ (x : Disks). LeftAs f x.fuse) (sym same) left)
 
-not_on : (b : Bool) → (b ≡ true → ⊥) → b ≡ false
-not_on true never = absurd (never refl)
-not_on false never = refl
-
 module _ {R : Type 0} {g : Ghosts R} (racks : (r : R) → IsRack (g.meaning r)) (k : ℕ) (beside : KeptBeside) (n : Node) (before after : DiskSet R g) (stood : SiteStands beside n before) (head : HeadUnder k Done before after) where
   pub head_works : 0 < k → FailsAs n before → n.failing 0 ≡ false
   head_works some fails =
       let d = told_disks racks beside n before stood in
       let works : d.0.failing 0 ≡ false = works_on (disks_told before) d.0 d.1 (head.works some) in
-      not_on (n.failing 0) (λ on. let e : true ≡ false = sym (fails.told d.0 d.1 0 on) ∙ works in cc)
+      false_from_ne_true (n.failing 0) (λ on. let e : true ≡ false = sym (fails.told d.0 d.1 0 on) ∙ works in cc)
 
   pub head_passes : FusedAs n before → MayPass k n.fuse
   head_passes lit =

@@ -35,6 +35,7 @@ use Rattle.vx_grouped.specs.declared.group_site.GroupSite.TheVariants.{Up as Gro
 use Rattle.vx_history.specs.Groups.{GroupNode}
 use Rattle.vx_events.specs.GroupLines.{is_over_group}
 use Rattle.vx_diskset.specs.Stands.{IsGroupSet, IsUnused, IsBareAt, IsUpAt, IsReceiverAt, IsDownAt, IsRackTold, OverStands, SiteStands}
+use Rattle.vx_events.proofs.Places.{some_same}
 use Rattle.vx_yard.specs.Standing.{SitesAgree}
 use Rattle.vx_diskset.proofs.CrashGroup.{left_with}
 use Rattle.vx_diskset.proofs.StaysUp.{all_taken, durable_content, told_now}
@@ -78,9 +79,6 @@ bare_has n m state = record {
 
 bare_holds : {beside : KeptBeside} (n : Node) (m : Meaning) → IsBareAt n m → HoldsSite beside n m
 bare_holds n m bare = bare_has n m (ap (λ (k : Node). k.state) bare.is)
-
-some_same : {A : Type 0} {a b : A} → Some a ≡ Some b → a ≡ b
-some_same e = cc
 
 bright_as : (k note : GroupNode) → Some k ≡ Some note → note.dark ≡ false → k.dark ≡ false
 bright_as k note same bright = ap (λ (x : GroupNode). x.dark) (some_same same) ∙ bright

@@ -5,6 +5,7 @@ use Rattle.vx_model.specs.Sites.{is_origin}
 use Rattle.vx_model.specs.declared.site.Role.{Role}
 use Rattle.vx_model.specs.declared.site.SiteState.TheVariants.{Up as IsUp}
 use Rattle.vx_model.proofs.Lists.{get_there}
+use Rattle.vx_model.proofs.Tests.{by_bool}
 use Rattle.vx_history.specs.Doubts.{Doubted}
 use Rattle.vx_disk.specs.declared.shelf.Shelf.{Ghosts}
 use Rattle.vx_order.specs.declared.facts.SiteFacts.{SiteFacts}
@@ -27,11 +28,6 @@ use Rattle.vx_yard.proofs.NamedSite.{fact_named, fact_placed, place_at, site_at}
 use Rattle.vx_yard.proofs.OverGroup.{over_none}
 use Rattle.vx_yard.proofs.Leads.{room_origin, room_receives}
 
--- what holds of a site over a group, and of one over none
-by_group : {P : Type 0} (b : Bool) → (b ≡ true → P) → (b ≡ false → P) → P
-by_group true over apart = over refl
-by_group false over apart = apart refl
-
 module _ {R : Type 0} {g : Ghosts R} (d : Doubted) (y : Yard R g) (name : List ℕ) (s : ℕ) (stands : StandsFor d y) (seat : seat_of y.facts.items name ≡ Some s) where
   -- a site of which the tests see that it is up
   up_at : (n : Named y.facts.items name) → n.facts.state ≡ IsUp → (d.world.nodes s).state ≡ IsUp
@@ -52,7 +48,7 @@ module _ {R : Type 0} {g : Ghosts R} (d : Doubted) (y : Yard R g) (name : List �
       let may = read_may y.facts.items (in_files y) name volume start count free in
       let up : (d.world.nodes s).state ≡ IsUp = up_at may.site may.up in
       subst (λ (i : ℕ). is_origin (d.world.nodes i).role ≡ true) (some_same (sym seat ∙ at))
-      (by_group (is_over_group (d.world.nodes s)) over_leads
+      (by_bool (is_over_group (d.world.nodes s)) over_leads
       (λ apart. ap is_origin (read_role d.world s y.facts.items (in_files y) name volume start count may.site (fact_named d y name s (site_at d y name s stands apart seat) seat may.site) up free)))
 
   module _ (e : DiskSet R g) (b : Bool) (there : slice_get y.disk_sets.items s ≡ Some e) (is : Receives e b) where

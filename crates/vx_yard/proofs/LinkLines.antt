@@ -1,5 +1,5 @@
 -- What a line of links leaves that needs no disk.
-use Rattle.std.proofs.Common.{◌≡◌, ◌∙◌, ◌++◌, ◌⊎◌, ◌≤◌, ℕ, List, [], length, true, false, ap, sym, subst, refl, arith, ⊎_elim}
+use Rattle.std.proofs.Common.{◌≡◌, ◌∙◌, ◌++◌, ◌⊎◌, ◌≤◌, ℕ, List, [], length, false, ap, sym, subst, refl, arith, ⊎_elim}
 use Rattle.std.proofs.lemmas.List.{append-nil}
 use Rattle.std.specs.Prelude.{Option, Some, None, Bool, Result, Err, slice_get}
 use Rattle.std.specs.Vec.{vec_capacity}

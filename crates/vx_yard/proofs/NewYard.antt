@@ -9,6 +9,7 @@ use Rattle.vx_diskset.specs.declared.disk_set.DiskSet.TheVariants.{Bare}
 use Rattle.std.specs.Vec.{vec_capacity}
 use Rattle.vx_effects.proofs.Leaving.{fit_empty}
 use Rattle.vx_events.specs.Doubts.{sure}
+use Rattle.vx_events.proofs.Places.{never_some, some_same}
 use Rattle.vx_yard.specs.Standing.{SitesAgree, StandsFor}
 use Rattle.vx_yard.specs.declared.yard.Yard.{Yard}
 use Rattle.vx_yard.specs.Holds.{AreFresh, rack_faults}
@@ -23,14 +24,8 @@ counts_new g (r ∷ rs) (suc s) d = counts_new g rs s d
 
 module _ {R : Type 0} {g : Ghosts R} where
   rack_of : (rs : List R) (s : ℕ) (e : DiskSet R g) → slice_get (map (λ (r : R). let e : DiskSet R g = Bare r in e) rs) s ≡ Some e → (r : R) × (slice_get rs s ≡ Some r) × (e ≡ Bare r)
-  rack_of [] s e is = absurd (never is)
-    where
-      never : {A : Type 0} {x : A} → None ≡ Some x → ⊥
-      never e = cc
-  rack_of (r ∷ rs) zero e is = (r, refl, sym (same is))
-    where
-      same : {A : Type 0} {a b : A} → Some a ≡ Some b → a ≡ b
-      same e = cc
+  rack_of [] s e is = absurd (never_some is)
+  rack_of (r ∷ rs) zero e is = (r, refl, sym (some_same is))
   rack_of (r ∷ rs) (suc s) e is = rack_of rs s e is
 
   -- fresh racks are the disk sets of numbers that no site has

@@ -2,7 +2,6 @@
 use Rattle.std.proofs.Common.{◌≡◌, ◌∙◌, ◌⊎◌, inl, inr, ⊎_elim, ◌<◌, ℕ, List, length, ap, sym, subst, refl}
 use Rattle.std.specs.Prelude.{Option, Some, None, slice_get, slice_set}
 use Rattle.std.proofs.lemmas.Option.{slice_get_within}
-use Rattle.vx_model.specs.declared.no.No.{No}
 use Rattle.vx_history.specs.Events.{packet_at}
 use Rattle.vx_history.specs.World.{DataAck, Hello, Message, NetAck, Packet, Update, World}
 use Rattle.vx_disk.specs.Causes.{OnDisks}
@@ -12,8 +11,8 @@ use Rattle.vx_ringio.specs.Spends.{Passed}
 use Rattle.vx_events.proofs.Places.{some_same}
 use Rattle.vx_events.specs.declared.said.Said.{Said}
 use Rattle.vx_events.specs.declared.said.Said.TheVariants.{Done, DoneAt, Logged, Refused}
-use Rattle.vx_diskset.specs.Asked.{LeavesFuse, SameFailing, disks_told, size_in}
-use Rattle.vx_diskset.specs.Burning.{Burnt, NoMore}
+use Rattle.vx_diskset.specs.Asked.{LeavesFuse, disks_told, size_in}
+use Rattle.vx_diskset.specs.Burning.{NoMore}
 use Rattle.vx_diskset.specs.declared.disk_set.DiskSet.{DiskSet}
 use Rattle.vx_diskset.proofs.HeadCalls.{head_none}
 use Rattle.vx_diskset.proofs.ThenUnder.{then_leaves}

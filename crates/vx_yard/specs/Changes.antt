@@ -1,5 +1,5 @@
 -- What the tests of a line look at, as events change it.
-use Rattle.std.specs.Prelude.{ℕ, false, ◌+◌, List, [], ◌∷◌, Option, Some, None}
+use Rattle.std.specs.Prelude.{ℕ, false, ◌+◌, List, [], ◌∷◌, Some, None}
 use Rattle.vx_effects.specs.Facts.{halted_group, last_group}
 use Rattle.vx_model.specs.Sites.{first_line}
 use Rattle.vx_model.specs.Sizes.{ring_of}

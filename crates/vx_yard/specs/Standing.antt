@@ -1,7 +1,7 @@
 -- What a yard stands for, where sites may keep links and be in doubt, and what a line leads it to. One record serves all lines: a line that
 -- looks at packets, or at what every world keeps, has a promise for those worlds alone that the yard carries (`Carries`), or that are good
 -- where contents are told (`GoodFor`).
-use Rattle.std.specs.Prelude.{◌≡◌, ◌≢◌, ◌⊎◌, ℕ, Bool, true, false, ◌≤◌, ◌<◌, List, [], ◌++◌, length, Option, Some, None, slice_get, Result, Ok, Err}
+use Rattle.std.specs.Prelude.{◌≡◌, ◌≢◌, ◌⊎◌, ℕ, Bool, true, false, ◌≤◌, ◌<◌, List, [], ◌++◌, length, Option, Some, slice_get, Result, Ok, Err}
 use Rattle.std.specs.Vec.{vec_capacity}
 use Rattle.vx_model.specs.declared.errors.OutOfMemory.{OutOfMemory}
 use Rattle.vx_model.specs.declared.limits.TheConstants.{MOST_SITES}

@@ -1,5 +1,5 @@
 -- The change of a run, block by block.
-use Rattle.std.proofs.Common.{◌≡◌, ◌∙◌, ◌+◌, ◌*◌, ℕ, List, subst, arith}
+use Rattle.std.proofs.Common.{◌≡◌, ◌∙◌, ◌+◌, ◌*◌, ℕ, subst, arith}
 use Rattle.vx_bitmap.proofs.Runs.{DoneTo, done_next, next_moves, next_writes, rest_are}
 use Rattle.vx_bitmap.proofs.change.change.Goals as goal
 

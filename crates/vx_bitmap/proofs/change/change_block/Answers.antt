@@ -1,5 +1,5 @@
 -- The change of a run within one block, case by case.
-use Rattle.std.proofs.Common.{◌≡◌, ◌∙◌, ◌+◌, ◌-◌, ◌*◌, ◌/◌, ◌≤◌, ℕ, List, length, take, drop, sym, ap, subst, refl, arith}
+use Rattle.std.proofs.Common.{◌≡◌, ◌∙◌, ◌+◌, ◌-◌, ◌*◌, ◌≤◌, ℕ, List, length, sym, ap, subst, refl, arith}
 use Rattle.vx_model.specs.Content.{block_of}
 use Rattle.vx_model.proofs.Contents.{cut}
 use Rattle.vx_bitmap.specs.Bits.{Changed, is_marked}

@@ -1,6 +1,6 @@
 -- A run of regions, one after another.
 use Rattle.std.proofs.Common.{arith, refl}
-use Rattle.vx_bitmap.proofs.Marks.{marked_start, marked_next, marked_end}
+use Rattle.vx_bitmap.proofs.Marks.{marked_next, marked_end}
 use Rattle.vx_bitmap.proofs.run.mark_run.Goals as goal
 
 pub loop-r-preserved : goal.loop-r-preserved

@@ -1,12 +1,12 @@
 -- `meet_all`: clauses met and laid; what stays true in its loop over `worker`.
-use Rattle.std.proofs.Common.{rules, ◌≡◌, ◌+◌, ◌≤◌, length, vec_capacity, List, [], ◌∷◌, ◌++◌, ap, sym, subst, ◌∙◌, refl, arith, true, false}
+use Rattle.std.proofs.Common.{rules, ◌≡◌, length, [], ◌∷◌, ◌++◌, ap, sym, subst, ◌∙◌, arith, true}
 use Rattle.std.specs.Bool.{if◌then◌else◌}
 use Rattle.std.specs.Result.{is_ok}
 use Rattle.std.proofs.lemmas.List.{append-nil}
 use Rattle.vx_settle.proofs.Bringings.{among-left}
 use Rattle.vx_burst_threads.specs.declared.worker.Worker.TheVariants.{Writes, Drains}
-use Rattle.vx_burst_threads.specs.Joining.{AllOf, pass_of}
-use Rattle.vx_burst_threads.proofs.Joining.{Loop, loop-first, loop-more, loop-last, lays-none, lays-writer, among-head}
+use Rattle.vx_burst_threads.specs.Joining.{pass_of}
+use Rattle.vx_burst_threads.proofs.Joining.{loop-first, loop-more, loop-last, lays-none, lays-writer, among-head}
 use Rattle.vx_turn.specs.Passing.{table_of, table_id_of}
 use Rattle.vx_burst_threads.proofs.joins.meet_all.Goals as goal
 

@@ -1,5 +1,5 @@
 -- The loop of `meet_all` over `worker`: what stays true, and what falls.
-use Rattle.std.proofs.Common.{length, ◌≡◌, ◌+◌, ◌≤◌, vec_capacity}
+use Rattle.std.proofs.Common.{length, ◌+◌, ◌≤◌, vec_capacity}
 use Rattle.vx_turn.specs.Passing.{table_of}
 use Rattle.vx_burst_threads.specs.Joining.{AllOf}
 use Rattle.vx_burst_threads.proofs.Joining.{Loop}

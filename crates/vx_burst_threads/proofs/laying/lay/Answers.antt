@@ -1,5 +1,5 @@
 -- `lay`: its result; what stays true in its loop over `one`.
-use Rattle.std.proofs.Common.{rules, ◌≡◌, ◌∷◌, ◌++◌, []}
+use Rattle.std.proofs.Common.{rules}
 use Rattle.vx_burst_threads.proofs.Layings.{laying-set, laying-past, laying-end, laying-first}
 use Rattle.vx_burst_threads.proofs.laying.lay.Goals as goal
 

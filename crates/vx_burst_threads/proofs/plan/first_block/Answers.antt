@@ -1,5 +1,5 @@
 -- `first_block`: what `copy_from_slice` asks.
-use Rattle.std.proofs.Common.{◌≡◌, ◌<◌, ◌%◌, length, List, sym, subst}
+use Rattle.std.proofs.Common.{◌≡◌, ◌<◌, ◌%◌, length, sym, subst}
 use Rattle.vx_burst_threads.proofs.Making.{front_long}
 use Rattle.vx_burst_threads.proofs.plan.first_block.Goals as goal
 

@@ -1,11 +1,9 @@
 -- `work_and_meet`: what the search does not find.
-use Rattle.std.proofs.Common.{rules, ◌≡◌}
 use denote.RattleType.{RattleType}
 use denote.Param.Send.{IsSend, IsSync}
 use denote.Param.{param}
 use Rattle.vx_turn.specs.contracts.turn.Turn as turn
 use Rattle.vx_burst_threads.proofs.Crossing.{turn_sync}
-use Rattle.vx_burst_threads.proofs.Joining.{all-stay}
 use Rattle.vx_burst_threads.proofs.threads.work_and_meet.Goals as goal
 
 pub work_each-requires-sync-S : goal.work_each-requires-sync-S

@@ -1,9 +1,10 @@
 -- `lowest_missing`: its result; what stays true in its loop over `k`.
 use Rattle.std.proofs.Common.{arith, ◌≡◌, ◌∙◌, ◌<◌, length, get_or, ap, sym, inl, inr, List}
+use Rattle.std.proofs.lemmas.Bool.{not-false}
 use Rattle.vx_config.specs.declared.entry.DiskEntry.{DiskEntry}
 use Rattle.vx_copies.specs.Answers.{flag_at}
 use Rattle.vx_copies.specs.Bodies.{failed_in}
-use Rattle.vx_copies.proofs.Settling.{failed_at, missing_is, missing_more, not_false, not_true, no_disk}
+use Rattle.vx_copies.proofs.Settling.{failed_at, missing_is, missing_more, not_true, no_disk}
 use Rattle.vx_copies.proofs.settle.lowest_missing.Goals.{else-not-disk-via-then-not-disk+else-not-readable-k, else-not-disk-via-else-not-disk}
 use Rattle.vx_copies.proofs.settle.lowest_missing.Goals as goal
 
@@ -25,5 +26,5 @@ loop-k-preserved c =
     missing_more (failed_in c.args.config.now) (flag_at c.args.readable.now) c.loop-k.k c.loop-k.invariant
     (elim c.else-not-disk.branch [
       | else-not-disk-via-then-not-disk+else-not-readable-k w ↦ inr w.if-not-readable-k.false
-      | else-not-disk-via-else-not-disk w ↦ inl (same ∙ not_false (get_or c.as_slice-disks.result.now c.loop-k.k no_disk).failed w.if-not-disk.false)
+      | else-not-disk-via-else-not-disk w ↦ inl (same ∙ not-false (get_or c.as_slice-disks.result.now c.loop-k.k no_disk).failed w.if-not-disk.false)
     ])

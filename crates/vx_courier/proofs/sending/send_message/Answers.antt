@@ -1,5 +1,5 @@
 -- `send_message`: its result; what stays true in its loop over `part`.
-use Rattle.std.proofs.Common.{◌≡◌, ◌+◌, ◌++◌, ◌≤◌, List, ap, sym, subst, refl, arith, append-nil}
+use Rattle.std.proofs.Common.{◌+◌, ◌++◌, List, sym, subst, arith, append-nil}
 use Rattle.vx_history.specs.World.{Packet}
 use Rattle.vx_courier.specs.UnderWay.{FlightStands}
 use Rattle.vx_courier.proofs.Flying.{count_next}

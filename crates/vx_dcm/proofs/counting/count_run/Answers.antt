@@ -1,5 +1,5 @@
 -- The marks of a run, counted one after another.
-use Rattle.std.proofs.Common.{◌≡◌, ◌∙◌, ◌+◌, ap, refl, sym, arith}
+use Rattle.std.proofs.Common.{◌+◌, arith}
 use Rattle.vx_bitmap.specs.Bits.{is_marked}
 use Rattle.vx_dcm.proofs.Tallies.{count_few, count_next}
 use Rattle.vx_dcm.proofs.counting.count_run.Goals as goal

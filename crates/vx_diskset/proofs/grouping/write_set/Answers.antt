@@ -1,5 +1,5 @@
 -- `write_set`: a write, and the one that the fuse cut.
-use Rattle.std.proofs.Common.{◌≡◌, ◌∙◌, ap, subst, sym}
+use Rattle.std.proofs.Common.{◌∙◌, subst, sym}
 use Rattle.vx_grouped.specs.Ends.{plain_write}
 use Rattle.vx_grouped.specs.SiteEnds.{PlainWrote}
 use Rattle.vx_diskset.proofs.GroupCut.{cut_none, cut_some}

@@ -1,5 +1,5 @@
 -- `has_label_at`: a read leaves the disks alone.
-use Rattle.std.proofs.Common.{◌≡◌, ◌∙◌, ℕ, ap}
+use Rattle.std.proofs.Common.{◌∙◌, ℕ, ap}
 use Rattle.std.proofs.lemmas.List.{length-replicate}
 use Rattle.std.specs.Prelude.{not}
 use Rattle.vx_copyfmt.specs.Labels.{seen_in}

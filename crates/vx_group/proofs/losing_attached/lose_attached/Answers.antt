@@ -1,5 +1,5 @@
 -- `lose_attached`: what `lose_up` asks; clauses stands, attaches, ends, failing, finds and logs.
-use Rattle.std.proofs.Common.{◌∙◌, refl, sym}
+use Rattle.std.proofs.Common.{◌∙◌, refl}
 use Rattle.vx_kept.proofs.StateLemmas.{same_shape}
 use Rattle.vx_group.proofs.AloneLemmas.{alone_attaches, alone_core, back_failing}
 use Rattle.vx_group.proofs.HoldLemmas.{back_Stands, back_gone, back_others, back_parts, back_shape, back_wide, from_none, none_Stands, wide_none}

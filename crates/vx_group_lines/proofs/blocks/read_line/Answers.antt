@@ -1,5 +1,4 @@
 -- `read_line`: what it hands on, and where memory is short.
-use Rattle.std.proofs.Common.{arith}
 use Rattle.vx_yard.proofs.NamedSite.{unbegun_for}
 use Rattle.vx_group_lines.proofs.WorkLines.{filled_is, filled_length, reads_may, reads_none}
 use Rattle.vx_group_lines.proofs.blocks.read_line.Goals as goal

@@ -1,7 +1,7 @@
 -- Whether a line goes to a group: by its word, or by its site.
 use Rattle.std.proofs.Common.{◌∙◌, ap, sym}
 use Rattle.std.specs.Prelude.{option_copied}
-use Rattle.vx_group_lines.proofs.Choosing.{group_for, never_for, plain_for, plain_named}
+use Rattle.vx_group_lines.proofs.Choosing.{group_for, plain_named}
 use Rattle.vx_group_lines.proofs.lines.is_of_group.Goals as goal
 
 pub returns-then-is_word_of_group-clause-is : goal.returns-then-is_word_of_group-clause-is

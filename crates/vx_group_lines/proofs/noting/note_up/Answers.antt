@@ -1,9 +1,8 @@
 -- `note_up`: what the tests see then.
-use Rattle.std.proofs.Common.{◌≡◌, ◌∙◌, ap, sym, subst}
+use Rattle.std.proofs.Common.{◌≡◌, ◌∙◌, ap, sym}
 use Rattle.std.specs.Prelude.{Option, Some, map, slice_set}
 use Rattle.vx_config.specs.declared.config.Config.{Config}
-use Rattle.vx_diskset.specs.GroupCalls.{AtSite, config_in}
-use Rattle.vx_grouped.specs.GroupSites.{site_config}
+use Rattle.vx_diskset.specs.GroupCalls.{config_in}
 use Rattle.vx_events.proofs.Places.{some_same}
 use Rattle.vx_events.specs.GroupViews.{plain_fact, volumes_of}
 use Rattle.vx_order.specs.declared.facts.SiteFacts.{SiteFacts}

@@ -1,5 +1,5 @@
 -- Each case of a line that makes a volume of a group.
-use Rattle.std.proofs.Common.{◌≡◌, ap, refl}
+use Rattle.std.proofs.Common.{ap, refl}
 use Rattle.std.specs.Prelude.{is_some}
 use Rattle.vx_yard.proofs.Lists.{get_at}
 use Rattle.vx_group_lines.proofs.VolumeLine.{asked_by, asked_none, called_by, done_by, if_ok, rest_of, stopped_by, told_on}

@@ -1,5 +1,6 @@
 -- A group of disks that tell nothing, of which the calls are accounted for.
-use Rattle.std.proofs.Common.{◌≡◌, ◌∙◌, IsTrue, ap, refl, sym, subst}
+use Rattle.std.proofs.Common.{◌∙◌, IsTrue, ap, refl, sym, subst}
+use Rattle.std.proofs.lemmas.Bool.{false_from_ne_true}
 use Rattle.vx_group.specs.Imports.{ImportStops}
 use Rattle.vx_logimport.proofs.TellLemmas.{untold_tells}
 use Rattle.vx_loggroup.specs.Fresh.{FreshStands}
@@ -14,7 +15,6 @@ use Rattle.vx_grouped.proofs.CarryLemmas.{carried, carried_two}
 use Rattle.vx_grouped.proofs.FindLemmas.{untold_can}
 use Rattle.vx_grouped.proofs.PlainMapLemmas.{parts_same}
 use Rattle.vx_grouped.proofs.SinceReturns.{return_at, return_calls, return_dark, return_then}
-use Rattle.vx_grouped.proofs.SiteReturnLemmas.{is_up}
 use Rattle.vx_grouped.proofs.finding.find_from.Goals as goal
 
 pub returns-in-Ok-clause-leaves : goal.returns-in-Ok-clause-leaves
@@ -34,7 +34,7 @@ returns-in-Ok-clause-since g c =
     let since = c.into_shelf-rack.ensures.since in
     return_at (λ s. shade_meaning g.R.Shelf.meaning s) _ (Dark c.into_shelf-rack.result) c.dimmed.result.shelf (c.dimmed.ensures.shelf ∙ ap (λ u. Dark u.shelf) c.together.ensures.shelf)
     (return_then _ (g.R.Shelf.meaning c.into_shelf-rack.result) (untold (g.R.Shelf.meaning c.into_shelf-rack.result))
-    (return_calls _ (g.R.Shelf.meaning c.into_shelf-rack.result) since (is_up (g.R.Shelf.meaning c.into_shelf-rack.result).down
+    (return_calls _ (g.R.Shelf.meaning c.into_shelf-rack.result) since (false_from_ne_true (g.R.Shelf.meaning c.into_shelf-rack.result).down
     (subst (λ s. IsTrue (g.R.Shelf.meaning s).down → ⊥) (sym (c.into_shelf-rack.ensures.shelf ∙ ap (λ u. u.shelf.shelf) c.apart-watched.ensures.shelf)) c.in-Ok.ensures.up)))
     (return_dark g.R.Shelf.meaning (Bright c.into_shelf-rack.result)))
 

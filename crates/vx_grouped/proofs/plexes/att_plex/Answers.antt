@@ -1,5 +1,6 @@
 -- A plex that is attached: what it leaves, and refusals of disks that are down behind it.
 use Rattle.std.proofs.Common.{◌∙◌, ◌-◌, Bool, ap, length, sym}
+use Rattle.std.proofs.lemmas.Bool.{false_from_ne_true}
 use Rattle.std.specs.Prelude.{nat_le, nat_lt}
 use Rattle.vx_config.specs.Checks.{plexes_of}
 use Rattle.vx_config.specs.Table.{greatest}
@@ -10,7 +11,6 @@ use Rattle.vx_grouped.proofs.CopiedLemmas.{copies_by}
 use Rattle.vx_grouped.proofs.KeepLemmas.{att_not_down, attached_by, call_cut, call_leaves, never_fell, same_at}
 use Rattle.vx_grouped.proofs.BothLemmas.{regains_by, stays_by}
 use Rattle.vx_loggroup.specs.Attaching.{map_by}
-use Rattle.vx_loggroup.proofs.AlikeLemmas.{up_false}
 use Rattle.vx_grouped.proofs.PlexMapLemmas.{att_parts, ok_each}
 use Rattle.vx_group.specs.declared.group_core.GroupCore.{GroupCore}
 use Rattle.vx_grouped.proofs.StayPartLemmas.{stay_held}
@@ -70,7 +70,7 @@ pub returns-clause-maps : goal.returns-clause-maps
 returns-clause-maps g c = λ was now.
     att_parts c.args.group.now.core c.att-answer.new.self.core c.args.group.now.logs.items c.att-answer.new.self.logs.items c.args.group.now.stopped c.att-answer.new.self.stopped c.args.group.now.alike c.att-answer.new.self.alike (g.S.Shelf.meaning c.args.group.now.shelf) (g.S.Shelf.meaning c.att-answer.new.self.shelf) was now c.args.group.now.stands.group c.att-answer.new.self.stands.group
     c.att-answer.ensures.attaches.shape.frames c.att-answer.ensures.attaches.shape.volumes c.att-answer.ensures.attaches.shape.blocks c.att-answer.ensures.ends_maps c.att-answer.ensures.flags
-    c.args.vol c.args.plex c.att-answer.result c.att-answer.ensures.comes c.att-answer.ensures.moves (λ why is. (c.att-answer.ensures.refused why is).0) (λ off. ok_each c.att-answer.result (λ n same. same ∙ ap (λ (x : Bool). missed_regions c.args.group.now.core.inner.config c.args.vol c.args.plex (map_by c.args.group.now.logs.items c.args.group.now.core.inner.config c.args.group.now.stopped x c.args.vol c.args.plex)) (up_false (g.S.Shelf.meaning c.args.group.now.shelf).down c.requires.up)) (c.att-answer.ensures.count off))
+    c.args.vol c.args.plex c.att-answer.result c.att-answer.ensures.comes c.att-answer.ensures.moves (λ why is. (c.att-answer.ensures.refused why is).0) (λ off. ok_each c.att-answer.result (λ n same. same ∙ ap (λ (x : Bool). missed_regions c.args.group.now.core.inner.config c.args.vol c.args.plex (map_by c.args.group.now.logs.items c.args.group.now.core.inner.config c.args.group.now.stopped x c.args.vol c.args.plex)) (false_from_ne_true (g.S.Shelf.meaning c.args.group.now.shelf).down c.requires.up)) (c.att-answer.ensures.count off))
     (λ why is.
     let same = c.att-answer.ensures.refused why is in
     stay_held c.args.group.now.core.inner.config c.att-answer.new.self.core.inner.config c.args.group.now.logs.items c.att-answer.new.self.logs.items c.args.group.now.alike c.att-answer.new.self.alike c.args.group.now.stopped c.att-answer.new.self.stopped

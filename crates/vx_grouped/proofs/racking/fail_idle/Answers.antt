@@ -10,7 +10,7 @@ use Rattle.vx_untold.specs.Shades.{rack_of, shade_meaning}
 use Rattle.vx_grouped.proofs.ImportFactLemmas.{fact_import}
 use Rattle.vx_logimport.specs.Rests.{LogsTell}
 use Rattle.vx_grouped.proofs.TellLemmas.{alike_tells}
-use Rattle.vx_grouped.proofs.TraceLemmas.{carried_both, carried_off, carried_on, off}
+use Rattle.vx_grouped.proofs.TraceLemmas.{carried_both, carried_on}
 use Rattle.vx_grouped.proofs.racking.fail_idle.Goals as goal
 
 pub returns-clause-alike : goal.returns-clause-alike

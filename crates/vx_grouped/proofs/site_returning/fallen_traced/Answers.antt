@@ -1,5 +1,5 @@
 -- Disks that fell: as a crash leaves them, or dark.
-use Rattle.std.proofs.Common.{◌≡◌, ◌∙◌, refl, sym, subst, IsTrue}
+use Rattle.std.proofs.Common.{◌≡◌, ◌∙◌, sym, subst, IsTrue}
 use Rattle.vx_group.specs.Resumes.{CanImport, CanImportBehind}
 use Rattle.vx_untold.specs.Shades.{rack_of, shade_meaning, shade_rack}
 use Rattle.vx_untold.specs.declared.shade.Shade.TheVariants.{Dark}

@@ -1,9 +1,10 @@
 -- An import of a site's group that was deported.
 use Rattle.std.proofs.Common.{◌∙◌, IsTrue, subst, sym, ⊎_elim, refl}
+use Rattle.std.proofs.lemmas.Bool.{false_from_ne_true}
 use Rattle.vx_group.proofs.CallLemmas.{not_down}
 use Rattle.vx_untold.specs.Shades.{rack_of, shade_lawful, shade_meaning, shade_rack}
 use Rattle.vx_grouped.proofs.SinceReturns.{return_all, return_at, return_calls, return_none, return_then}
-use Rattle.vx_grouped.proofs.SiteReturnLemmas.{imported_down, imported_early, imported_late, imported_up, is_up}
+use Rattle.vx_grouped.proofs.SiteReturnLemmas.{imported_down, imported_early, imported_late, imported_up}
 use Rattle.vx_grouped.proofs.StopLemmas.{still_can, early_goes}
 use Rattle.vx_grouped.proofs.GivenUpLemmas.{rested_tells}
 use Rattle.vx_grouped.proofs.TellLemmas.{alike_tells, early_tells, fallen_tells}
@@ -21,7 +22,7 @@ returns-in-Ok-clause-imported g c = λ n note away.
     imported_up n note (shade_rack g.R.Shelf.meaning is_rack) (shade_lawful g.R.Shelf.meaning (g.met.R.Shelf g.world.𝓛 g.world.𝓜 g.world.𝓡 ((λ s x. x), (λ x. x), (λ x. x), λ x. x)).lawful) c.args.rack away c.in-Ok.laid c.in-Ok.ensures.since c.in-Ok.ensures.told c.spelled.ensures (c.in-Ok.ensures.leaves n note)
 
 pub returns-in-Ok-clause-since : goal.returns-in-Ok-clause-since
-returns-in-Ok-clause-since g c = return_calls (shade_meaning g.R.Shelf.meaning c.args.rack) (shade_meaning g.R.Shelf.meaning c.in-Ok.laid.shelf) c.in-Ok.ensures.since (is_up (shade_meaning g.R.Shelf.meaning c.in-Ok.laid.shelf).down c.in-Ok.ensures.up)
+returns-in-Ok-clause-since g c = return_calls (shade_meaning g.R.Shelf.meaning c.args.rack) (shade_meaning g.R.Shelf.meaning c.in-Ok.laid.shelf) c.in-Ok.ensures.since (false_from_ne_true (shade_meaning g.R.Shelf.meaning c.in-Ok.laid.shelf).down c.in-Ok.ensures.up)
 
 pub returns-then-not-is_down-clause-imported : goal.returns-then-not-is_down-clause-imported
 returns-then-not-is_down-clause-imported g c = λ n note away.
@@ -33,7 +34,7 @@ pub returns-then-not-is_down-clause-since : goal.returns-then-not-is_down-clause
 returns-then-not-is_down-clause-since g c =
     return_at (λ s. shade_meaning g.R.Shelf.meaning s) (shade_meaning g.R.Shelf.meaning c.args.rack) c.in-Err.rack c.of-then-not-is_down.result.rack c.of-then-not-is_down.ensures.rack
     (return_calls (shade_meaning g.R.Shelf.meaning c.args.rack) (shade_meaning g.R.Shelf.meaning c.in-Err.rack) c.in-Err.ensures.since
-    (is_up (shade_meaning g.R.Shelf.meaning c.in-Err.rack).down (not_down c.is_down-then-early.result (shade_meaning g.R.Shelf.meaning c.in-Err.rack).down c.is_down-then-early.ensures c.if-not-is_down.true)))
+    (false_from_ne_true (shade_meaning g.R.Shelf.meaning c.in-Err.rack).down (not_down c.is_down-then-early.result (shade_meaning g.R.Shelf.meaning c.in-Err.rack).down c.is_down-then-early.ensures c.if-not-is_down.true)))
 
 pub of-requires-then-not-is_down-clause-can : goal.of-requires-then-not-is_down-clause-can
 of-requires-then-not-is_down-clause-can g c = λ κs lives agreed.

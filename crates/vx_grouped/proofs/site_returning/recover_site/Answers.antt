@@ -1,8 +1,9 @@
 -- A recovery of a site's group.
 use Rattle.std.proofs.Common.{IsTrue, subst, ◌∙◌, ⊎_elim}
+use Rattle.std.proofs.lemmas.Bool.{false_from_ne_true}
 use Rattle.vx_untold.specs.Shades.{rack_of, shade_lawful, shade_meaning, shade_rack}
 use Rattle.vx_grouped.proofs.SinceReturns.{return_all, return_at, return_calls, return_none, return_then}
-use Rattle.vx_grouped.proofs.SiteReturnLemmas.{is_up, recovered_not, recovered_up}
+use Rattle.vx_grouped.proofs.SiteReturnLemmas.{recovered_not, recovered_up}
 use Rattle.vx_grouped.proofs.GivenUpLemmas.{rested_tells}
 use Rattle.vx_grouped.proofs.TellLemmas.{alike_tells, fallen_tells}
 use Rattle.std.specs.Prelude.{Some}
@@ -36,7 +37,7 @@ returns-in-Err-clause-since g c =
 pub returns-in-Ok-clause-since : goal.returns-in-Ok-clause-since
 returns-in-Ok-clause-since g c =
     return_then (shade_meaning g.R.Shelf.meaning c.args.rack) (shade_meaning g.R.Shelf.meaning c.risen.result) (shade_meaning g.R.Shelf.meaning c.in-Ok.laid.shelf) c.risen.ensures.since
-    (return_calls (shade_meaning g.R.Shelf.meaning c.risen.result) (shade_meaning g.R.Shelf.meaning c.in-Ok.laid.shelf) c.in-Ok.ensures.since (is_up (shade_meaning g.R.Shelf.meaning c.in-Ok.laid.shelf).down c.in-Ok.ensures.up))
+    (return_calls (shade_meaning g.R.Shelf.meaning c.risen.result) (shade_meaning g.R.Shelf.meaning c.in-Ok.laid.shelf) c.in-Ok.ensures.since (false_from_ne_true (shade_meaning g.R.Shelf.meaning c.in-Ok.laid.shelf).down c.in-Ok.ensures.up))
 
 pub returns-then-not-is_down-clause-since : goal.returns-then-not-is_down-clause-since
 returns-then-not-is_down-clause-since g c = return_at (λ s. shade_meaning g.R.Shelf.meaning s) (shade_meaning g.R.Shelf.meaning c.args.rack) c.args.rack c.of.result.rack c.of.ensures.rack (return_none (shade_meaning g.R.Shelf.meaning c.args.rack))

@@ -1,7 +1,5 @@
 -- Disks that are up again.
 use Rattle.std.proofs.Common.{◌≡◌, IsFalse, IsTrue}
-use Rattle.vx_disk.specs.Causes.{OnDisks}
-use Rattle.vx_disk.specs.Disks.{Untouched}
 use Rattle.vx_disk.specs.Racks.{Alike}
 use Rattle.vx_group.specs.Resumes.{CanImport}
 use Rattle.vx_grouped.specs.SiteReturns.{ReturnSince}

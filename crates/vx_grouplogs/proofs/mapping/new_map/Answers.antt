@@ -1,7 +1,6 @@
 -- `new_map`: its clauses; what the calls ask.
-use Rattle.std.proofs.Common.{◌∙◌, refl, subst, sym, arith}
 use Rattle.vx_logs.specs.Writes.{first_region, last_region}
-use Rattle.vx_grouplogs.proofs.MapLemmas.{bare_maps, bare_stands, fit_behind, maps_then}
+use Rattle.vx_grouplogs.proofs.MapLemmas.{bare_maps, fit_behind, maps_then}
 use Rattle.vx_grouplogs.proofs.mapping.new_map.Goals as goal
 
 pub ready_maps-requires-clause-disks : goal.ready_maps-requires-clause-disks

@@ -1,15 +1,16 @@
 -- `zeroed_map`: its clauses; what the calls ask.
 use Rattle.vx_bitmap.specs.Maps.{MapOn}
 use Rattle.vx_fmr.specs.Missed.{Missed}
-use Rattle.std.proofs.Common.{◌≡◌, ◌∙◌, ◌+◌, ◌≤◌, ℕ, Some, sym, subst, arith}
+use Rattle.std.proofs.Common.{◌≡◌, ◌∙◌, ◌+◌, ◌≤◌, ℕ, sym, subst, arith}
+use Rattle.std.proofs.lemmas.Option.{same_Some}
 use Rattle.vx_config.specs.declared.entry.VolumeLog.TheVariants.{Fmr}
-use Rattle.vx_disk.specs.Shelf.{Goes, Nothing}
+use Rattle.vx_disk.specs.Shelf.{Goes}
 use Rattle.vx_disk.proofs.Runs.{then_nothing}
 use Rattle.vx_groupmaps.specs.Missing.{OnMaps}
 use Rattle.vx_logs.proofs.LogLemmas.{holds_of}
 use Rattle.vx_maplog.proofs.Entries.{placed}
 use Rattle.vx_grouplogs.specs.Zeroing.{AreZeros, ZerosIn}
-use Rattle.vx_grouplogs.proofs.MapLemmas.{map_low, maps_settled, some_one, zeros_maps}
+use Rattle.vx_grouplogs.proofs.MapLemmas.{map_low, maps_settled, zeros_maps}
 use Rattle.vx_grouplogs.proofs.mapping.zeroed_map.Goals as goal
 
 pub zero_run-requires-clause-exists : goal.zero_run-requires-clause-exists
@@ -34,7 +35,7 @@ returns-in-Ok-load-clause-goes g c = then_nothing (OnMaps c.args.config.now c.ar
 
 pub returns-in-Ok-load-clause-stands : goal.returns-in-Ok-load-clause-stands
 returns-in-Ok-load-clause-stands g c = λ f is.
-    let one : c.in-Ok-load.fmr ≡ f = some_one c.in-Ok-load.fmr f is in
+    let one : c.in-Ok-load.fmr ≡ f = same_Some c.in-Ok-load.fmr f is in
     subst (λ (x : Missed). MapOn x.map (g.S.Shelf.meaning c.load.new.shelf)) one
     (c.in-Ok-load.ensures.stands
     (maps_settled c.args.config.now c.args.vol c.in-Some.entry c.in-Ok-load.fmr (g.S.Shelf.meaning c.zero_run.new.shelf) (sym c.log_of.ensures ∙ c.in-Some.is)

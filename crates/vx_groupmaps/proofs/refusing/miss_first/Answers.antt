@@ -1,5 +1,5 @@
 -- Notes in the maps of the first plexes.
-use Rattle.std.proofs.Common.{◌+◌, ◌<◌, false, arith}
+use Rattle.std.proofs.Common.{◌<◌, false, arith}
 use Rattle.vx_groupmaps.specs.Refusing.{all_plexes}
 use Rattle.vx_groupmaps.proofs.ReadyLemmas.{same_then}
 use Rattle.vx_groupmaps.proofs.RefusedLemmas.{first_noted, has_all, map_later}

@@ -1,5 +1,5 @@
 -- A note in the map of one plex.
-use Rattle.std.proofs.Common.{false, refl, arith}
+use Rattle.std.proofs.Common.{false, refl}
 use Rattle.vx_logs.proofs.NoteLemmas.{note_writes, ok_noted}
 use Rattle.vx_groupmaps.proofs.refusing.miss_one.Goals as goal
 

@@ -8,7 +8,8 @@ use Rattle.vx_group.proofs.UnitLemmas.{acts_units, same_units}
 use Rattle.vx_logged.proofs.StandLemmas.{each_on, each_same, narrowed_acts, narrowed_same}
 use Rattle.vx_group.proofs.LoseLemmas.{along_none}
 use Rattle.vx_group.proofs.FindingLemmas.{still_group}
-use Rattle.vx_logged.proofs.GoneLogs.{trusts_all, trusts_same}
+use Rattle.vx_group.proofs.TrustStillLemmas.{same_logs}
+use Rattle.vx_logged.proofs.GoneLogs.{trusts_all}
 use Rattle.vx_logged.proofs.keeping.keep_one.Goals as goal
 
 pub returns-then-is_down-clause-logs : goal.returns-then-is_down-clause-logs
@@ -141,19 +142,19 @@ returns-clause-trusts g c =
 
 pub returns-then-is_down-clause-stays : goal.returns-then-is_down-clause-stays
 returns-then-is_down-clause-stays g c =
-    λ has. trusts_same c.args.core.now.inner.config
+    λ has. same_logs c.args.core.now.inner.config
 
 pub returns-then-has-clause-stays : goal.returns-then-has-clause-stays
 returns-then-has-clause-stays g c =
-    λ has. trusts_same c.args.core.now.inner.config
+    λ has. same_logs c.args.core.now.inner.config
 
 pub returns-then-not-is_trusted-clause-stays : goal.returns-then-not-is_trusted-clause-stays
 returns-then-not-is_trusted-clause-stays g c =
-    λ has. trusts_same c.args.core.now.inner.config
+    λ has. same_logs c.args.core.now.inner.config
 
 pub returns-then-core-clause-stays : goal.returns-then-core-clause-stays
 returns-then-core-clause-stays g c =
-    λ has. trusts_same c.args.core.now.inner.config
+    λ has. same_logs c.args.core.now.inner.config
 
 pub returns-clause-stays : goal.returns-clause-stays
 returns-clause-stays g c =

@@ -6,6 +6,7 @@ use Rattle.vx_group.specs.Holding.{wide}
 use Rattle.vx_group.specs.Stands.{inner_meaning}
 use Rattle.vx_group.proofs.FindingLemmas.{idle_group}
 use Rattle.vx_group.proofs.LoseLemmas.{along_same}
+use Rattle.vx_group.proofs.TrustStillLemmas.{same_logs}
 use Rattle.vx_grouplogs.proofs.GoneLemmas.{drop_same}
 use Rattle.vx_groupmaps.specs.Missing.{none_spared}
 use Rattle.vx_groupmaps.proofs.KnowLemmas.{note_same}
@@ -13,7 +14,7 @@ use Rattle.vx_logs.specs.Writes.{first_region, last_region}
 use Rattle.vx_logged.specs.Begun.{fell_now}
 use Rattle.vx_logged.specs.Logged.{are_off}
 use Rattle.vx_logged.proofs.FallenLemmas.{fell_same, finds_none, off_run}
-use Rattle.vx_logged.proofs.GoneLogs.{trusts_in, trusts_same}
+use Rattle.vx_logged.proofs.GoneLogs.{trusts_in}
 use Rattle.vx_logged.proofs.HoldsLemmas.{either_way, inner_count, none_hold, off_any, these_hold}
 use Rattle.vx_logged.proofs.StandLemmas.{cause_to, each_same, others_each, same_only, narrowed_same}
 use Rattle.vx_logged.proofs.KeptLemmas.{kept_said}
@@ -65,7 +66,7 @@ pub returns-then-not-misses-clause-drops : goal.returns-then-not-misses-clause-d
 returns-then-not-misses-clause-drops g c = drop_same (wide c.args.core.now).config c.args.vol c.args.logs.now (g.S.Shelf.meaning c.args.shelf.now) (g.S.Shelf.meaning c.args.shelf.now)
 
 pub returns-then-not-misses-clause-trusts : goal.returns-then-not-misses-clause-trusts
-returns-then-not-misses-clause-trusts g c = trusts_in c.args.vol c.args.logs.now c.args.core.now.inner.config c.args.core.now.inner.config (trusts_same c.args.core.now.inner.config)
+returns-then-not-misses-clause-trusts g c = trusts_in c.args.vol c.args.logs.now c.args.core.now.inner.config c.args.core.now.inner.config (same_logs c.args.core.now.inner.config)
 
 pub returns-then-not-misses-clause-trust : goal.returns-then-not-misses-clause-trust
 returns-then-not-misses-clause-trust g c = λ is. is

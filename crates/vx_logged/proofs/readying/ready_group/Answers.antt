@@ -14,7 +14,8 @@ use Rattle.vx_group.proofs.LoseLemmas.{along_none, loses_none}
 use Rattle.vx_group.proofs.UnitLemmas.{acts_units, same_units}
 use Rattle.vx_kept.proofs.Chosen.{active_volumes}
 use Rattle.vx_group.proofs.FindingLemmas.{still_group, as_finds}
-use Rattle.vx_logged.proofs.GoneLogs.{ready_spent, trusts_same}
+use Rattle.vx_group.proofs.TrustStillLemmas.{same_logs}
+use Rattle.vx_logged.proofs.GoneLogs.{ready_spent}
 use Rattle.vx_logged.proofs.readying.ready_group.Goals as goal
 
 pub returns-then-is_down-clause-logs : goal.returns-then-is_down-clause-logs
@@ -99,7 +100,7 @@ returns-in-Err-clause-finds g c =
 
 pub returns-then-is_down-clause-trusts : goal.returns-then-is_down-clause-trusts
 returns-then-is_down-clause-trusts g c =
-    trusts_same c.args.core.now.inner.config
+    same_logs c.args.core.now.inner.config
 
 pub returns-in-Ok-clause-trusts : goal.returns-in-Ok-clause-trusts
 returns-in-Ok-clause-trusts g c =

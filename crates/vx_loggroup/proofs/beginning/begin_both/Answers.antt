@@ -1,6 +1,5 @@
 -- `begin_both`: its clauses; what the second call asks.
 use Rattle.std.proofs.Common.{ap, arith}
-use Rattle.vx_config.specs.Checks.{blocks_of}
 use Rattle.vx_disk.proofs.Causing.{Cause_both}
 use Rattle.vx_group.specs.Attaches.{region_count}
 use Rattle.vx_group.specs.Holding.{wide}

@@ -1,6 +1,6 @@
 -- `flush_run`: clauses stands and marks; what the calls ask.
 use Rattle.std.proofs.Common.{◌∙◌, ap, refl, sym, arith}
-use Rattle.std.proofs.lemmas.Bool.{not-true}
+use Rattle.std.proofs.lemmas.Bool.{false_from_ne_true, not-true}
 use Rattle.std.specs.Prelude.{not}
 use Rattle.std.proofs.Math.ListN.{set}
 use Rattle.vx_disk.specs.Shelf.{Nothing}
@@ -10,7 +10,7 @@ use Rattle.vx_group.specs.Stands.{inner_meaning}
 use Rattle.vx_group.proofs.CallLemmas.{not_down}
 use Rattle.vx_group.proofs.TrustLemmas.{ok_from}
 use Rattle.vx_loggroup.specs.LoggedVolumes.{is_alike}
-use Rattle.vx_loggroup.proofs.AlikeLemmas.{done_up, here_stands, hold_set, index_low, left_up, marks_set, notes_set, runs_set, set_stands, up_false}
+use Rattle.vx_loggroup.proofs.AlikeLemmas.{done_up, here_stands, hold_set, index_low, left_up, marks_set, notes_set, runs_set, set_stands}
 use Rattle.vx_loggroup.proofs.FreshLemmas.{lists_none}
 use Rattle.vx_loggroup.proofs.NewLemmas.{list_same}
 use Rattle.vx_loggroup.proofs.SetLemmas.{item_of, set_other}
@@ -57,7 +57,7 @@ returns-clause-keeps g c = marked_keeps c.args.core.now c.flush_noted.new.core c
 pub returns-clause-begins : goal.returns-clause-begins
 returns-clause-begins g c = λ alike going.
     done_up c.flush_noted.result (inner_meaning (wide c.args.core.now) (g.S.Shelf.meaning c.args.shelf.now)) (inner_meaning (wide c.flush_noted.new.core) (g.S.Shelf.meaning c.flush_noted.new.shelf)) c.args.vol c.flush_noted.ensures.cause
-    (λ up. c.flush_noted.ensures.begins (c.is_sure-sure.ensures.all (c.is_alike.ensures ∙ alike) going (c.is_down-down.ensures ∙ up_false (g.S.Shelf.meaning c.args.shelf.now).down up)))
+    (λ up. c.flush_noted.ensures.begins (c.is_sure-sure.ensures.all (c.is_alike.ensures ∙ alike) going (c.is_down-down.ensures ∙ false_from_ne_true (g.S.Shelf.meaning c.args.shelf.now).down up)))
     (λ run. runs_set (fell_in c.args.core.now c.flush_noted.new.core c.args.vol) c.args.vol (first_region c.args.block) (last_region c.args.block c.args.count) c.args.logs.now.items c.flush_noted.new.logs run)
 
 pub returns-clause-holds : goal.returns-clause-holds
@@ -82,7 +82,7 @@ returns-clause-rests g c = c.flush_noted.ensures.rests
 pub returns-clause-left : goal.returns-clause-left
 returns-clause-left g c = λ alike going.
     left_up c.flush_noted.result (g.S.Shelf.meaning c.args.shelf.now) (g.S.Shelf.meaning c.flush_noted.new.shelf) c.flush_noted.ensures.goes.falls
-    (λ up. c.flush_noted.ensures.left (c.is_sure-sure.ensures.all (c.is_alike.ensures ∙ alike) going (c.is_down-down.ensures ∙ up_false (g.S.Shelf.meaning c.args.shelf.now).down up)))
+    (λ up. c.flush_noted.ensures.left (c.is_sure-sure.ensures.all (c.is_alike.ensures ∙ alike) going (c.is_down-down.ensures ∙ false_from_ne_true (g.S.Shelf.meaning c.args.shelf.now).down up)))
     (λ none. runs_set (fell_in c.args.core.now c.flush_noted.new.core c.args.vol) c.args.vol (first_region c.args.block) (last_region c.args.block c.args.count) c.args.logs.now.items c.flush_noted.new.logs none)
 
 pub returns-clause-kept : goal.returns-clause-kept
@@ -91,5 +91,5 @@ returns-clause-kept g c = ok_from c.flush_noted.result (set_sure c.args.core.now
 pub returns-clause-said : goal.returns-clause-said
 returns-clause-said g c = λ alike going some.
     done_up c.flush_noted.result (inner_meaning (wide c.args.core.now) (g.S.Shelf.meaning c.args.shelf.now)) (inner_meaning (wide c.flush_noted.new.core) (g.S.Shelf.meaning c.flush_noted.new.shelf)) c.args.vol c.flush_noted.ensures.cause
-    (λ up. c.flush_noted.ensures.said (c.is_sure-sure.ensures.all (c.is_alike.ensures ∙ alike) going (c.is_down-down.ensures ∙ up_false (g.S.Shelf.meaning c.args.shelf.now).down up)) (let same = (wide_shape c.args.core.now).blocks c.args.vol in omega (arith, some, same)))
+    (λ up. c.flush_noted.ensures.said (c.is_sure-sure.ensures.all (c.is_alike.ensures ∙ alike) going (c.is_down-down.ensures ∙ false_from_ne_true (g.S.Shelf.meaning c.args.shelf.now).down up)) (let same = (wide_shape c.args.core.now).blocks c.args.vol in omega (arith, some, same)))
     (λ kept. kept_set c.flush_noted.new.core c.args.logs.now.items c.args.vol c.flush_noted.new.logs kept)

@@ -1,11 +1,10 @@
 -- `deport_rested`: its clauses; what the calls ask.
-use Rattle.std.proofs.Common.{◌∙◌, inl, Bool, List, length, false, refl, sym, ap, arith}
+use Rattle.std.proofs.Common.{length, false, refl, arith}
 use Rattle.std.specs.Prelude.{Err, Ok}
 use Rattle.vx_disk.specs.Shelf.{Nothing}
 use Rattle.vx_disk.proofs.Runs.{then_nothing}
 use Rattle.vx_group.specs.Holding.{wide}
 use Rattle.vx_group.specs.Stands.{inner_meaning}
-use Rattle.vx_group.proofs.BehindLemmas.{group_still}
 use Rattle.vx_group.proofs.HoldLemmas.{wide_shape}
 use Rattle.vx_group.proofs.Standing.{fit_of}
 use Rattle.vx_model.specs.declared.errors.Stop.{Stop}

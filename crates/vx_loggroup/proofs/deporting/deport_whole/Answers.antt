@@ -1,5 +1,5 @@
 -- `deport_whole`: its clauses; what the calls ask.
-use Rattle.std.proofs.Common.{◌∙◌, Bool, true, false, length, refl, sym, ap, subst, arith}
+use Rattle.std.proofs.Common.{Bool, true, length, sym, ap, subst, arith}
 use Rattle.std.specs.Prelude.{Err, IfOk}
 use Rattle.vx_loggroup.specs.LoggedVolumes.{LoggedStands}
 use Rattle.vx_loggroup.specs.Moving.{RestsOr}

@@ -1,9 +1,8 @@
 -- `begin_before`: its clauses; what the calls ask.
-use Rattle.std.proofs.Common.{◌≡◌, ◌∙◌, ◌≤◌, ◌-◌, Err, false, refl, subst, sym, arith}
+use Rattle.std.proofs.Common.{◌≡◌, ◌∙◌, Err, false, refl, subst, sym, arith}
 use Rattle.std.specs.Prelude.{None, Some}
-use Rattle.vx_config.specs.Table.{greatest}
 use Rattle.vx_group.specs.Attaches.{region_count}
-use Rattle.vx_group.specs.Dets.{DetStops, margin}
+use Rattle.vx_group.specs.Dets.{DetStops}
 use Rattle.vx_group.specs.Holding.{wide}
 use Rattle.vx_group.specs.Stands.{inner_meaning}
 use Rattle.vx_group.proofs.HoldLemmas.{wide_shape}
@@ -12,7 +11,7 @@ use Rattle.vx_group.proofs.MendLemmas.{same_Goes}
 use Rattle.vx_group.proofs.UnitLemmas.{same_units}
 use Rattle.vx_model.specs.declared.errors.Stop.TheVariants.{No as Refused}
 use Rattle.vx_loggroup.specs.LoggedVolumes.{LoggedStands}
-use Rattle.vx_loggroup.proofs.DetFresh.{begins_may, some_of}
+use Rattle.vx_loggroup.proofs.DetFresh.{begins_may}
 use Rattle.vx_loggroup.proofs.DetachedLogs.{active_low, det_cause}
 use Rattle.vx_loggroup.proofs.FreshLemmas.{fresh_still, fresh_taken, lists_none, none_of}
 use Rattle.vx_loggroup.proofs.NewLemmas.{list_same}

@@ -1,5 +1,5 @@
 -- `det_fresh`: its clauses.
-use Rattle.std.proofs.Common.{◌≡◌, ◌∙◌, inl, inr, ap, arith, refl, subst, sym}
+use Rattle.std.proofs.Common.{◌≡◌, ◌∙◌, inl, inr, ap, arith, sym}
 use Rattle.vx_config.specs.Checks.{blocks_of}
 use Rattle.vx_disk.specs.Shelf.{Nothing}
 use Rattle.vx_disk.proofs.Runs.{then_nothing}
@@ -14,7 +14,7 @@ use Rattle.vx_group.proofs.TrustLemmas.{err_from, ok_from}
 use Rattle.vx_group.proofs.UnitLemmas.{then_units}
 use Rattle.vx_group.specs.declared.group_core.GroupCore.{GroupCore}
 use Rattle.vx_grouplogs.proofs.LogShape.{same_count}
-use Rattle.vx_loggroup.specs.Attaching.{fmr_at, fmr_or}
+use Rattle.vx_loggroup.specs.Attaching.{fmr_or}
 use Rattle.vx_loggroup.specs.LoggedVolumes.{is_alike}
 use Rattle.vx_loggroup.proofs.DetFresh.{never_err}
 use Rattle.vx_loggroup.proofs.DetMoves.{first_moves, run_det}

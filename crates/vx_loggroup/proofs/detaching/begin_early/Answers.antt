@@ -10,6 +10,7 @@ use Rattle.vx_group.specs.Stands.{inner_meaning}
 use Rattle.vx_group.proofs.FindingLemmas.{idle_group, then_group}
 use Rattle.vx_group.proofs.HoldLemmas.{narrow_sound, wide_shape}
 use Rattle.vx_group.proofs.LoseLemmas.{along_same, then_along}
+use Rattle.vx_group.proofs.RegainLemmas.{all_holds}
 use Rattle.vx_group.proofs.TrustLemmas.{err_from, ok_from}
 use Rattle.vx_group.proofs.UnitLemmas.{goes_units, then_units}
 use Rattle.vx_grouplogs.specs.On.{ReadsOne}
@@ -20,7 +21,7 @@ use Rattle.vx_volume.proofs.PlaceLemmas.{active_below}
 use Rattle.vx_loggroup.specs.Attaching.{fmr_at}
 use Rattle.vx_loggroup.specs.LoggedVolumes.{LoggedStands}
 use Rattle.vx_loggroup.proofs.AlikeLemmas.{all_whole}
-use Rattle.vx_loggroup.proofs.DetachedLogs.{active_low, begin_none, det_cause, det_later, down_stops, empty_later, on_any}
+use Rattle.vx_loggroup.proofs.DetachedLogs.{active_low, begin_none, det_cause, det_later, down_stops, empty_later}
 use Rattle.vx_loggroup.proofs.KeepingLemmas.{frames_places, stays_in, stays_same, then_stays}
 use Rattle.vx_loggroup.proofs.SetLemmas.{item_at}
 use Rattle.vx_loggroup.proofs.SureLemmas.{alike_here, begun_sure, narrow_kept, ready_free}
@@ -149,13 +150,13 @@ pub returns-then-not-may_begin-clause-begins : goal.returns-then-not-may_begin-c
 returns-then-not-may_begin-clause-begins g c = λ going same. absurd (let clash : true ≡ false = sym (c.may_begin.ensures.all refl going (ready_free c.in-Ok.field-0 c.args.core.now.inner.config.serial c.in-Ok.ensures.none c.in-Ok.ensures.full c.requires.more) same) ∙ c.if-not-may_begin.true in cc)
 
 pub returns-clause-begins : goal.returns-clause-begins
-returns-clause-begins g c = on_any c.keep_begun.result (λ going same. empty_later c.ready_group.new.core.inner.config c.args.core.now.inner.config c.args.vol c.args.plex (fmr_at c.begin_missing.new.logs.items c.args.vol) (λ b is. record { volume = let old = (wide_shape c.args.core.now).volumes in let new = (wide_shape c.ready_group.new.core).volumes in let units = c.ready_group.ensures.goes.units in let lt = is.volume in omega (arith, old, new, units, lt); within = let old = (wide_shape c.args.core.now).blocks c.args.vol in let new = (wide_shape c.ready_group.new.core).blocks c.args.vol in let size = c.ready_group.ensures.goes.size c.args.vol in let lt = is.within in omega (arith, old, new, size, lt) }) c.in-Ok-begin_missing.ensures.empty)
+returns-clause-begins g c = all_holds c.keep_begun.result (λ going same. empty_later c.ready_group.new.core.inner.config c.args.core.now.inner.config c.args.vol c.args.plex (fmr_at c.begin_missing.new.logs.items c.args.vol) (λ b is. record { volume = let old = (wide_shape c.args.core.now).volumes in let new = (wide_shape c.ready_group.new.core).volumes in let units = c.ready_group.ensures.goes.units in let lt = is.volume in omega (arith, old, new, units, lt); within = let old = (wide_shape c.args.core.now).blocks c.args.vol in let new = (wide_shape c.ready_group.new.core).blocks c.args.vol in let size = c.ready_group.ensures.goes.size c.args.vol in let lt = is.within in omega (arith, old, new, size, lt) }) c.in-Ok-begin_missing.ensures.empty)
 
 pub returns-then-not-may_begin-clause-free : goal.returns-then-not-may_begin-clause-free
 returns-then-not-may_begin-clause-free g c = (ready_free c.in-Ok.field-0 c.args.core.now.inner.config.serial c.in-Ok.ensures.none c.in-Ok.ensures.full c.requires.more)
 
 pub returns-clause-free : goal.returns-clause-free
-returns-clause-free g c = on_any c.keep_begun.result (c.keep_begun.ensures.finds.free (c.may_begin.ensures.none c.if-not-may_begin.false))
+returns-clause-free g c = all_holds c.keep_begun.result (c.keep_begun.ensures.finds.free (c.may_begin.ensures.none c.if-not-may_begin.false))
 
 pub returns-then-not-may_begin-clause-few : goal.returns-then-not-may_begin-clause-few
 returns-then-not-may_begin-clause-few g c = let few = c.in-Ok.ensures.few in omega (arith, few)

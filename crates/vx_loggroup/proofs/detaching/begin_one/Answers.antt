@@ -1,5 +1,5 @@
 -- `begin_one`: its clauses; what `begin_map` asks.
-use Rattle.std.proofs.Common.{◌≡◌, ◌∙◌, None, Some, refl, sym}
+use Rattle.std.proofs.Common.{◌≡◌, None, Some, refl}
 use Rattle.vx_fmr.specs.Missed.{Missed}
 use Rattle.vx_grouplogs.proofs.CoverLemmas.{others_kept}
 use Rattle.vx_grouplogs.proofs.GroupLemmas.{logs_keep}

@@ -11,13 +11,14 @@ use Rattle.vx_group.proofs.FindingLemmas.{still_group, then_group}
 use Rattle.vx_group.proofs.HoldLemmas.{det_other}
 use Rattle.vx_group.proofs.LoseLemmas.{none_parts, then_parts}
 use Rattle.vx_group.proofs.MendLemmas.{same_Goes}
+use Rattle.vx_group.proofs.RegainLemmas.{all_holds}
 use Rattle.vx_group.proofs.TrustLemmas.{err_from, ok_from}
 use Rattle.vx_group.proofs.UnitLemmas.{same_units, then_units}
 use Rattle.vx_kept.proofs.Chosen.{active_volumes}
 use Rattle.vx_logged.proofs.StandLemmas.{narrowed_same}
 use Rattle.vx_loggroup.specs.Keeping.{logs_at}
 use Rattle.vx_loggroup.proofs.AlikeLemmas.{all_whole}
-use Rattle.vx_loggroup.proofs.DetachedLogs.{begin_none, det_later, on_any}
+use Rattle.vx_loggroup.proofs.DetachedLogs.{begin_none, det_later}
 use Rattle.vx_loggroup.proofs.KeepingLemmas.{frames_places, shape_places, stay_keeps, stays_none, stays_same, then_stays}
 use Rattle.vx_loggroup.proofs.SureLemmas.{later_sure, narrow_kept, said_later}
 use Rattle.vx_loggroup.proofs.detaching.det_whole.Goals as goal
@@ -155,7 +156,7 @@ pub returns-then-not-is_active-clause-begins : goal.returns-then-not-is_active-c
 returns-then-not-is_active-clause-begins g c = λ going none same on. absurd (let clash : false ≡ true = sym c.if-not-is_active.true ∙ c.is_active.ensures ∙ on in cc)
 
 pub returns-clause-begins : goal.returns-clause-begins
-returns-clause-begins g c = on_any c.det_beside.result (λ going none same on. c.in-Ok.ensures.begins going same)
+returns-clause-begins g c = all_holds c.det_beside.result (λ going none same on. c.in-Ok.ensures.begins going same)
 
 pub returns-then-not-is_active-clause-off : goal.returns-then-not-is_active-clause-off
 returns-then-not-is_active-clause-off g c = sym c.is_active.ensures ∙ c.if-not-is_active.true
@@ -176,7 +177,7 @@ pub returns-then-not-is_active-clause-kept : goal.returns-then-not-is_active-cla
 returns-then-not-is_active-clause-kept g c = narrow_kept c.args.core.now c.args.core.now c.args.logs.now.items (narrowed_same c.args.core.now)
 
 pub returns-clause-kept : goal.returns-clause-kept
-returns-clause-kept g c = on_any c.det_beside.result (later_sure c.args.core.now c.begin_early.new.core c.det_beside.new.core c.args.logs.now.items c.begin_early.new.logs.items (let few = c.in-Ok.ensures.few in let low = may_margin c.args.core.now.inner.config c.args.vol c.args.plex (sym c.refuse_det.ensures ∙ c.in_default.is) in omega (arith, few, low)) c.det_beside.ensures.narrow c.in-Ok.ensures.kept)
+returns-clause-kept g c = all_holds c.det_beside.result (later_sure c.args.core.now c.begin_early.new.core c.det_beside.new.core c.args.logs.now.items c.begin_early.new.logs.items (let few = c.in-Ok.ensures.few in let low = may_margin c.args.core.now.inner.config c.args.vol c.args.plex (sym c.refuse_det.ensures ∙ c.in_default.is) in omega (arith, few, low)) c.det_beside.ensures.narrow c.in-Ok.ensures.kept)
 
 pub returns-in-Some-clause-said : goal.returns-in-Some-clause-said
 returns-in-Some-clause-said g c = λ on going same. tt
@@ -188,7 +189,7 @@ pub returns-in-Err-clause-said : goal.returns-in-Err-clause-said
 returns-in-Err-clause-said g c = λ on going same. tt
 
 pub returns-clause-said : goal.returns-clause-said
-returns-clause-said g c = λ on going same. on_any c.det_beside.result (said_later c.begin_early.new.core c.det_beside.new.core c.args.vol (logs_at c.begin_early.new.logs.items c.args.vol) (let few = c.in-Ok.ensures.few in let low = may_margin c.args.core.now.inner.config c.args.vol c.args.plex (sym c.refuse_det.ensures ∙ c.in_default.is) in omega (arith, few, low)) c.det_beside.ensures.narrow (c.in-Ok.ensures.said going same))
+returns-clause-said g c = λ on going same. all_holds c.det_beside.result (said_later c.begin_early.new.core c.det_beside.new.core c.args.vol (logs_at c.begin_early.new.logs.items c.args.vol) (let few = c.in-Ok.ensures.few in let low = may_margin c.args.core.now.inner.config c.args.vol c.args.plex (sym c.refuse_det.ensures ∙ c.in_default.is) in omega (arith, few, low)) c.det_beside.ensures.narrow (c.in-Ok.ensures.said going same))
 
 pub returns-in-Some-clause-others : goal.returns-in-Some-clause-others
 returns-in-Some-clause-others g c = λ w p apart. refl
@@ -236,7 +237,7 @@ pub returns-in-Err-clause-free : goal.returns-in-Err-clause-free
 returns-in-Err-clause-free g c = λ on. tt
 
 pub returns-clause-free : goal.returns-clause-free
-returns-clause-free g c = λ on. on_any c.det_beside.result c.det_beside.ensures.free
+returns-clause-free g c = λ on. all_holds c.det_beside.result c.det_beside.ensures.free
 
 pub returns-in-Some-clause-trusts : goal.returns-in-Some-clause-trusts
 returns-in-Some-clause-trusts g c = record { each = λ w log has told. told }

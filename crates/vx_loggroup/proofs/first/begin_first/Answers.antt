@@ -1,9 +1,8 @@
 -- `begin_first`: its clauses; what its calls ask.
-use Rattle.std.proofs.Common.{◌∙◌, Bool, false, ap, refl, subst, sym, arith}
+use Rattle.std.proofs.Common.{false, ap, refl, arith}
 use Rattle.vx_config.specs.Checks.{blocks_of}
 use Rattle.vx_disk.specs.Shelf.{Nothing}
 use Rattle.vx_disk.proofs.Causing.{Cause_both}
-use Rattle.vx_disk.proofs.Runs.{then_nothing}
 use Rattle.vx_group.specs.Attaches.{region_count}
 use Rattle.vx_group.specs.Holding.{wide}
 use Rattle.vx_group.specs.Stands.{inner_meaning}

@@ -1,5 +1,5 @@
 -- `write_fresh`: its clauses; what the calls ask.
-use Rattle.std.proofs.Common.{◌/◌, ◌∙◌, ap, ℕ, List, inl, true, false, length, refl, subst, sym, arith, ◌≡◌}
+use Rattle.std.proofs.Common.{◌/◌, ◌∙◌, ap, inl, true, false, length, refl, subst, sym, arith, ◌≡◌}
 use Rattle.vx_disk.specs.Shelf.{Written}
 use Rattle.vx_disk.proofs.Causing.{Cause_both}
 use Rattle.vx_disk.proofs.Runs.{none_written, nothing_then}
@@ -7,7 +7,6 @@ use Rattle.vx_group.specs.Attaches.{region_count}
 use Rattle.vx_group.specs.Holding.{wide}
 use Rattle.vx_group.specs.Stands.{inner_meaning}
 use Rattle.vx_group.proofs.CallLemmas.{nothing_Wrote}
-use Rattle.vx_group.proofs.HoldLemmas.{wide_shape}
 use Rattle.vx_group.proofs.LoseLemmas.{then_along}
 use Rattle.vx_group.proofs.TrustLemmas.{err_from, ok_from}
 use Rattle.vx_volume.specs.Plexes.{active}

@@ -2,7 +2,6 @@
 use Rattle.std.proofs.Common.{◌∙◌, Bool, refl, sym, arith}
 use Rattle.std.proofs.lemmas.Bool.{not-false}
 use Rattle.std.specs.Prelude.{not}
-use Rattle.vx_group.specs.Holding.{wide}
 use Rattle.vx_loggroup.proofs.AlikeLemmas.{stop_stands}
 use Rattle.vx_loggroup.proofs.OpenLemmas.{begins_later}
 use Rattle.vx_loggroup.proofs.SettleLemmas.{settle_then, stop_by}

@@ -1,5 +1,4 @@
 -- `fail_whole`: clauses stands and fresh.
-use Rattle.vx_group.specs.Holding.{wide}
 use Rattle.vx_loggroup.proofs.RackLemmas.{alike_fresh, alike_logged}
 use Rattle.vx_loggroup.proofs.racking.fail_whole.Goals as goal
 

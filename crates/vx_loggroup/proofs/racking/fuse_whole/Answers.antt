@@ -1,5 +1,4 @@
 -- `fuse_whole`: clauses stands and fresh.
-use Rattle.vx_group.specs.Holding.{wide}
 use Rattle.vx_loggroup.proofs.RackLemmas.{alike_fresh, alike_logged}
 use Rattle.vx_loggroup.proofs.racking.fuse_whole.Goals as goal
 

@@ -1,8 +1,7 @@
 -- `are_kept`: its clause; what stays true in its loop over `vol`.
-use Rattle.std.proofs.Common.{◌≡◌, true, false, arith}
+use Rattle.std.proofs.Common.{false, arith}
 use Rattle.std.proofs.lemmas.Option.{slice_get_within}
-use Rattle.vx_loggroup.proofs.SetLemmas.{item_of}
-use Rattle.vx_loggroup.proofs.TouchLemmas.{none_kept, one_kept}
+use Rattle.vx_loggroup.proofs.TouchLemmas.{none_kept}
 use Rattle.vx_loggroup.proofs.resting.are_kept.Goals as goal
 
 pub loop-vol-init : goal.loop-vol-init

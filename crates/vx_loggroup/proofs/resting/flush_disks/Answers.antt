@@ -1,6 +1,5 @@
 -- `flush_disks`: its clauses; what stays true in its loop over `disk`, and what `flush_disk` asks.
-use Rattle.std.proofs.Common.{◌∙◌, length, ap, sym, subst, arith}
-use Rattle.vx_volume.proofs.ReadRuns.{still}
+use Rattle.std.proofs.Common.{length, ap, arith}
 use Rattle.vx_loggroup.proofs.RestingLemmas.{disks_done, flush_on, one_flushed}
 use Rattle.vx_loggroup.proofs.resting.flush_disks.Goals as goal
 

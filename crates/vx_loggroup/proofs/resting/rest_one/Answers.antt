@@ -1,8 +1,8 @@
 -- `rest_one`: its clauses.
-use Rattle.std.proofs.Common.{◌≡◌, ◌∙◌, Option, None, Some, Bool, true, false, refl, sym, ap}
+use Rattle.std.proofs.Common.{◌≡◌, ◌∙◌, Option, true, false, refl, sym, ap}
 use Rattle.std.specs.Prelude.{is_some, not}
 use Rattle.vx_fmr.specs.Missed.{Missed}
-use Rattle.vx_loggroup.proofs.TouchLemmas.{has_rests, marked_unsure, none_rests, same_unsure}
+use Rattle.vx_loggroup.proofs.TouchLemmas.{marked_unsure, same_unsure}
 use Rattle.vx_loggroup.proofs.resting.rest_one.Goals as goal
 
 pub returns-then-is_none-clause-unsure : goal.returns-then-is_none-clause-unsure

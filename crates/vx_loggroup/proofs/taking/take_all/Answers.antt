@@ -1,6 +1,5 @@
 -- `take_all`: its clauses; what stays true in its loop over `vol`, and what the calls ask.
-use Rattle.std.proofs.Common.{◌∙◌, refl, sym, arith}
-use Rattle.std.specs.Prelude.{slice_get}
+use Rattle.std.proofs.Common.{◌∙◌, sym, arith}
 use Rattle.vx_group.proofs.HoldLemmas.{wide_shape}
 use Rattle.vx_logs.specs.declared.logs.Logs.{Logs}
 use Rattle.vx_loggroup.proofs.TakenMaps.{next_tells, none_taken, one_taken}

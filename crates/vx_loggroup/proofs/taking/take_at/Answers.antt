@@ -1,8 +1,6 @@
 -- `take_at`: its clauses; what `take_one` asks.
 use Rattle.std.proofs.Common.{◌≡◌, ◌∙◌, None, Some, false, refl, sym, arith}
 use Rattle.vx_disk.specs.Shelf.{Nothing}
-use Rattle.vx_group.specs.Holding.{wide}
-use Rattle.vx_group.specs.Stands.{inner_meaning}
 use Rattle.vx_group.proofs.MendLemmas.{same_Goes}
 use Rattle.vx_loggroup.specs.LoggedVolumes.{is_alike}
 use Rattle.vx_loggroup.proofs.AlikeLemmas.{here_stands, set_stands}

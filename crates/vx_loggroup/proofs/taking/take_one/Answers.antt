@@ -1,6 +1,5 @@
 -- `take_one`: its clauses; what `load_maps` asks.
-use Rattle.std.proofs.Common.{◌≡◌, ◌∙◌, Option, None, Some, refl, sym, ap, subst, arith}
-use Rattle.vx_fmr.specs.Missed.{Missed}
+use Rattle.std.proofs.Common.{◌≡◌, ◌∙◌, None, Some, sym, subst, arith}
 use Rattle.vx_group.proofs.MendLemmas.{same_Goes}
 use Rattle.vx_grouplogs.proofs.KnowActs.{know_none}
 use Rattle.vx_groupmaps.specs.Missing.{none_spared}

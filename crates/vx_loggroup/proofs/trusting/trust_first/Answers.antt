@@ -1,5 +1,5 @@
 -- `trust_first`: its clauses.
-use Rattle.std.proofs.Common.{ℕ, Bool, List, ap, refl, subst, arith}
+use Rattle.std.proofs.Common.{ℕ, Bool, List, refl, subst, arith}
 use Rattle.vx_disk.specs.Shelf.{Nothing}
 use Rattle.vx_disk.proofs.Runs.{then_nothing}
 use Rattle.vx_group.specs.Blames.{CountsRise}

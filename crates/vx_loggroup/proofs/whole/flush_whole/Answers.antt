@@ -1,11 +1,12 @@
 -- `flush_whole`: clauses stands and marks; what the calls ask.
 use Rattle.std.proofs.Common.{◌∙◌, refl, sym, arith}
+use Rattle.std.proofs.lemmas.Bool.{false_from_ne_true}
 use Rattle.vx_disk.specs.Shelf.{Nothing}
 use Rattle.vx_group.specs.Holding.{wide}
 use Rattle.vx_group.specs.Stands.{inner_meaning}
 use Rattle.vx_group.proofs.CallLemmas.{not_down}
 use Rattle.vx_loggroup.specs.LoggedVolumes.{is_alike}
-use Rattle.vx_loggroup.proofs.AlikeLemmas.{clears_set, done_up, left_up, notes_set, off_set, up_false, here_stands, index_low, set_stands}
+use Rattle.vx_loggroup.proofs.AlikeLemmas.{clears_set, done_up, left_up, notes_set, off_set, here_stands, index_low, set_stands}
 use Rattle.vx_loggroup.proofs.SetLemmas.{item_of}
 use Rattle.vx_logged.specs.Begun.{fell_in}
 use Rattle.vx_logged.specs.Behind.{none_missing}
@@ -45,13 +46,13 @@ returns-clause-keeps g c = marked_keeps c.args.core.now c.flush_spent.new.core c
 pub returns-clause-begins : goal.returns-clause-begins
 returns-clause-begins g c = λ alike going.
     done_up c.flush_spent.result (inner_meaning (wide c.args.core.now) (g.S.Shelf.meaning c.args.shelf.now)) (inner_meaning (wide c.flush_spent.new.core) (g.S.Shelf.meaning c.flush_spent.new.shelf)) c.args.vol c.flush_spent.ensures.cause
-    (λ up. c.flush_spent.ensures.begins (c.is_sure-sure.ensures.all (c.is_alike.ensures ∙ alike) going (c.is_down-down.ensures ∙ up_false (g.S.Shelf.meaning c.args.shelf.now).down up)))
+    (λ up. c.flush_spent.ensures.begins (c.is_sure-sure.ensures.all (c.is_alike.ensures ∙ alike) going (c.is_down-down.ensures ∙ false_from_ne_true (g.S.Shelf.meaning c.args.shelf.now).down up)))
     (λ none. off_set (fell_in c.args.core.now c.flush_spent.new.core c.args.vol) c.args.vol c.args.logs.now.items c.flush_spent.new.logs none)
 
 pub returns-clause-left : goal.returns-clause-left
 returns-clause-left g c = λ alike going.
     left_up c.flush_spent.result (g.S.Shelf.meaning c.args.shelf.now) (g.S.Shelf.meaning c.flush_spent.new.shelf) c.flush_spent.ensures.goes.falls
-    (λ up. c.flush_spent.ensures.left (c.is_sure-sure.ensures.all (c.is_alike.ensures ∙ alike) going (c.is_down-down.ensures ∙ up_false (g.S.Shelf.meaning c.args.shelf.now).down up)))
+    (λ up. c.flush_spent.ensures.left (c.is_sure-sure.ensures.all (c.is_alike.ensures ∙ alike) going (c.is_down-down.ensures ∙ false_from_ne_true (g.S.Shelf.meaning c.args.shelf.now).down up)))
     (λ none. off_set (fell_in c.args.core.now c.flush_spent.new.core c.args.vol) c.args.vol c.args.logs.now.items c.flush_spent.new.logs none)
 
 pub returns-clause-kept : goal.returns-clause-kept
@@ -60,5 +61,5 @@ returns-clause-kept g c = ok_from c.flush_spent.result (set_sure c.args.core.now
 pub returns-clause-said : goal.returns-clause-said
 returns-clause-said g c = λ alike going some.
     done_up c.flush_spent.result (inner_meaning (wide c.args.core.now) (g.S.Shelf.meaning c.args.shelf.now)) (inner_meaning (wide c.flush_spent.new.core) (g.S.Shelf.meaning c.flush_spent.new.shelf)) c.args.vol c.flush_spent.ensures.cause
-    (λ up. c.flush_spent.ensures.said (c.is_sure-sure.ensures.all (c.is_alike.ensures ∙ alike) going (c.is_down-down.ensures ∙ up_false (g.S.Shelf.meaning c.args.shelf.now).down up)) (let same = (wide_shape c.args.core.now).blocks c.args.vol in omega (arith, some, same)))
+    (λ up. c.flush_spent.ensures.said (c.is_sure-sure.ensures.all (c.is_alike.ensures ∙ alike) going (c.is_down-down.ensures ∙ false_from_ne_true (g.S.Shelf.meaning c.args.shelf.now).down up)) (let same = (wide_shape c.args.core.now).blocks c.args.vol in omega (arith, some, same)))
     (λ kept. kept_set c.flush_spent.new.core c.args.logs.now.items c.args.vol c.flush_spent.new.logs kept)

@@ -1,9 +1,10 @@
 -- `write_whole`: clauses stands and marks; what `write_marked` asks.
 use Rattle.std.proofs.Common.{◌≡◌, ◌∙◌, ◌/◌, inl, inr, true, false, length, refl, sym, arith}
+use Rattle.std.proofs.lemmas.Bool.{false_from_ne_true}
 use Rattle.vx_disk.specs.Shelf.{Written}
 use Rattle.vx_group.specs.Holding.{wide}
 use Rattle.vx_logs.specs.Writes.{first_region, last_region}
-use Rattle.vx_loggroup.proofs.AlikeLemmas.{going_back, index_low, marks_set, notes_set, reads_wrote, set_stands, runs_set, up_false}
+use Rattle.vx_loggroup.proofs.AlikeLemmas.{going_back, index_low, marks_set, notes_set, reads_wrote, set_stands, runs_set}
 use Rattle.vx_group.proofs.CallLemmas.{not_down}
 use Rattle.vx_logged.specs.Begun.{begun_refused, fell_in}
 use Rattle.vx_logged.specs.Behind.{all_those}
@@ -80,7 +81,7 @@ write_marked-requires-clause-one g c = λ is. (c.requires.stands.each c.args.vol
 
 pub returns-in-Ok-clause-begins : goal.returns-in-Ok-clause-begins
 returns-in-Ok-clause-begins g c = λ alike going. runs_set (fell_in c.args.core.now c.write_marked.new.core c.args.vol) c.args.vol (first_region c.args.block) (last_region c.args.block (length c.args.bytes.now / 512)) c.args.logs.now.items c.write_marked.new.logs
-    (c.in-Ok.ensures.begins (c.is_sure-sure.ensures.all (c.is_alike.ensures ∙ alike) (going_back c.args.stopped.now c.write_marked.new.stopped c.write_marked.ensures.stays going) (c.is_down-down.ensures ∙ up_false (g.S.Shelf.meaning c.args.shelf.now).down c.in-Ok.ensures.cause.before)) going)
+    (c.in-Ok.ensures.begins (c.is_sure-sure.ensures.all (c.is_alike.ensures ∙ alike) (going_back c.args.stopped.now c.write_marked.new.stopped c.write_marked.ensures.stays going) (c.is_down-down.ensures ∙ false_from_ne_true (g.S.Shelf.meaning c.args.shelf.now).down c.in-Ok.ensures.cause.before)) going)
 
 pub returns-in-Err-clause-begins : goal.returns-in-Err-clause-begins
 returns-in-Err-clause-begins g c = λ alike going. tt
@@ -90,7 +91,7 @@ returns-in-Ok-clause-refused g c = λ alike going up. tt
 
 pub returns-in-Err-clause-refused : goal.returns-in-Err-clause-refused
 returns-in-Err-clause-refused g c = λ alike going up off. runs_set (active c.args.core.now.inner.config c.args.vol) c.args.vol (first_region c.args.block) (last_region c.args.block (length c.args.bytes.now / 512)) c.args.logs.now.items c.write_marked.new.logs
-    (c.in-Err.ensures.refused (c.is_sure-sure.ensures.all (c.is_alike.ensures ∙ alike) (going_back c.args.stopped.now c.write_marked.new.stopped c.write_marked.ensures.stays going) (c.is_down-down.ensures ∙ up_false (g.S.Shelf.meaning c.args.shelf.now).down up)) going)
+    (c.in-Err.ensures.refused (c.is_sure-sure.ensures.all (c.is_alike.ensures ∙ alike) (going_back c.args.stopped.now c.write_marked.new.stopped c.write_marked.ensures.stays going) (c.is_down-down.ensures ∙ false_from_ne_true (g.S.Shelf.meaning c.args.shelf.now).down up)) going)
 
 pub returns-in-Ok-clause-holds : goal.returns-in-Ok-clause-holds
 returns-in-Ok-clause-holds g c = λ off. holds_set c.write_marked.new.core.inner.config c.args.vol (first_region c.args.block) (last_region c.args.block (length c.args.bytes.now / 512)) c.args.logs.now.items c.write_marked.new.logs (c.in-Ok.ensures.holds off)

@@ -1,5 +1,4 @@
 -- The loop of `read_logs` over `vol`: what stays true.
-use Rattle.std.proofs.Common.{ℕ}
 use Rattle.vx_logimport.proofs.ReadLemmas.{ReadSoFar}
 use Rattle.vx_logimport.proofs.reading.read_logs.Given as goal
 

@@ -1,5 +1,5 @@
 -- A log that is read where it is in use.
-use Rattle.std.proofs.Common.{◌≡◌, ◌∙◌, sym}
+use Rattle.std.proofs.Common.{◌∙◌, sym}
 use Rattle.vx_config.specs.declared.entry.VolumeLog.TheVariants.{Fmr}
 use Rattle.vx_logs.proofs.LoadLemmas.{has_log}
 use Rattle.vx_logs.proofs.LogLemmas.{holds_of}

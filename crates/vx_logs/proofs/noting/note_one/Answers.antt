@@ -1,6 +1,5 @@
 -- A note in the map of one plex.
-use Rattle.std.proofs.Common.{arith}
-use Rattle.vx_logs.proofs.NoteLemmas.{begin_writes, both_writes, kept_on, note_writes, ok_both, ok_noted}
+use Rattle.vx_logs.proofs.NoteLemmas.{begin_writes, both_writes, note_writes, ok_both, ok_noted}
 use Rattle.vx_logs.proofs.noting.note_one.Goals as goal
 
 pub returns-then-not-anew-clause-writes : goal.returns-then-not-anew-clause-writes

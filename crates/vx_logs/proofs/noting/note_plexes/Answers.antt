@@ -1,5 +1,5 @@
 -- Notes in the maps of a set of plexes.
-use Rattle.std.proofs.Common.{◌≡◌, ◌∙◌, ◌+◌, ◌<◌, sym, arith}
+use Rattle.std.proofs.Common.{◌∙◌, ◌<◌, sym, arith}
 use Rattle.vx_logs.proofs.PlexesLemmas.{notes_writes, notes_next, notes_pass, still_there}
 use Rattle.vx_logs.proofs.noting.note_plexes.Goals.{then-is_in+in-Ok, else-is_in}
 use Rattle.vx_logs.proofs.noting.note_plexes.Goals as goal

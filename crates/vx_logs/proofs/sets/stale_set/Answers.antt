@@ -1,5 +1,5 @@
 -- The flags as bits.
-use Rattle.std.proofs.Common.{◌≡◌, ◌∙◌, ap, arith}
+use Rattle.std.proofs.Common.{◌∙◌, ap, arith}
 use Rattle.vx_disk.specs.Blocks.{bit_at}
 use Rattle.vx_volume.proofs.BitLemmas.{bit_of}
 use Rattle.vx_logs.proofs.LogLemmas.{set_is}

@@ -1,9 +1,7 @@
 -- A mark in both logs.
-use Rattle.std.proofs.Common.{◌≡◌, ◌∙◌, ◌+◌, ◌<◌, ◌≤◌, IsTrue, false, sym, arith}
+use Rattle.std.proofs.Common.{◌∙◌, false, sym}
 use Rattle.vx_logs.specs.Noting.{is_one}
-use Rattle.vx_config.specs.Checks.{blocks_of}
 use Rattle.vx_volume.proofs.CopyLemmas.{disks_still}
-use Rattle.vx_volume.specs.Plexes.{DisksFit}
 use Rattle.vx_logs.proofs.LogLemmas.{stale_below}
 use Rattle.vx_logs.proofs.MarkLemmas.{both_marked, both_write, drl_has, drl_refused, first_writes, fmr_refused, fits_later, fmr_ready, same_fmr, some_blocks, stale_still}
 use Rattle.vx_logs.proofs.writing.mark.Goals as goal

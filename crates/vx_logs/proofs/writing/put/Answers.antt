@@ -1,14 +1,12 @@
 -- A write of the plexes, and notes for those that failed.
-use Rattle.std.proofs.Common.{◌≡◌, ◌∙◌, ◌+◌, ◌/◌, ◌<◌, ◌≤◌, length, true, refl, sym, arith}
+use Rattle.std.proofs.Common.{◌/◌, ◌<◌, length, true, refl, arith}
 use Rattle.vx_disk.specs.Shelf.{Goes}
-use Rattle.vx_disk.specs.Blocks.{bit_at}
 use Rattle.vx_config.specs.Checks.{blocks_of}
 use Rattle.vx_volume.proofs.CopyLemmas.{disks_still}
-use Rattle.vx_volume.specs.Plexes.{DisksFit}
 use Rattle.vx_logs.specs.Noting.{FmrAt, FmrEnds, is_one}
 use Rattle.vx_logs.specs.Writes.{first_region, last_region}
 use Rattle.vx_logs.proofs.MarkLemmas.{fits_later, fmr_ready, same_drl}
-use Rattle.vx_logs.proofs.PutLemmas.{both_puts, failed_below, first_last, first_puts, is_put, last_inside, none_put, put_refused, renamed}
+use Rattle.vx_logs.proofs.PutLemmas.{both_puts, failed_below, first_last, first_puts, is_put, last_inside, renamed}
 use Rattle.vx_logs.proofs.writing.put.Goals as goal
 
 pub last_region-last-requires-clause-end : goal.last_region-last-requires-clause-end

@@ -1,5 +1,5 @@
 -- A write of a volume with its logs.
-use Rattle.std.proofs.Common.{◌≡◌, ◌∙◌, ◌⊎◌, inl, inr, ◌+◌, ◌/◌, ◌<◌, ◌≤◌, length, true, refl, sym, arith}
+use Rattle.std.proofs.Common.{◌⊎◌, inl, inr, ◌/◌, ◌<◌, length, true, arith}
 use Rattle.vx_config.specs.Checks.{blocks_of}
 use Rattle.vx_disk.specs.Moves.{Along}
 use Rattle.vx_disk.specs.Shelf.{Goes}

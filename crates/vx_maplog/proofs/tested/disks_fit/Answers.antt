@@ -1,5 +1,5 @@
 -- Whether each disk fits, one after another.
-use Rattle.std.proofs.Common.{◌≡◌, ◌+◌, ◌<◌, ◌≤◌, arith}
+use Rattle.std.proofs.Common.{arith}
 use Rattle.vx_maplog.proofs.Fits.{fit_all, fit_next, size_there, unit_there}
 use Rattle.vx_maplog.proofs.tested.disks_fit.Goals as goal
 

@@ -1,7 +1,6 @@
 -- What waits is applied within a line that settles a link.
 use Rattle.vx_model.specs.Sites.{is_origin}
-use Rattle.std.proofs.Common.{◌≡◌, ◌∙◌, ◌∷◌, ◌-◌, [], List, length, ℕ, ap, refl, subst, sym}
-use Rattle.std.specs.Prelude.{Ok}
+use Rattle.std.proofs.Common.{◌≡◌, ◌∙◌, ◌∷◌, ◌-◌, [], length, ℕ, ap, refl, subst, sym}
 use Rattle.vx_history.specs.declared.event.Event.TheVariants.{Apply as ApplyAt}
 use Rattle.vx_script.specs.declared.line.ScriptLine.TheVariants.{Apply}
 use Rattle.vx_settling.proofs.WithinApply.{apply_goes}

@@ -1,6 +1,5 @@
 -- A connect within a line that settles a link.
-use Rattle.std.proofs.Common.{◌≡◌, ◌∙◌, ◌∷◌, [], List, ap, refl, subst, sym}
-use Rattle.std.specs.Prelude.{Ok}
+use Rattle.std.proofs.Common.{◌∷◌, [], ap, refl, subst, sym}
 use Rattle.vx_history.specs.declared.event.Event.TheVariants.{Connect as ConnectAt}
 use Rattle.vx_script.specs.declared.line.ScriptLine.TheVariants.{Connect}
 use Rattle.vx_settling.proofs.WithinLines.{connect_goes}

@@ -1,6 +1,5 @@
 -- A packet within a line that settles a link.
-use Rattle.std.proofs.Common.{◌≡◌, ◌∙◌, ◌∷◌, [], List, ap, refl, subst, sym}
-use Rattle.std.specs.Prelude.{Ok}
+use Rattle.std.proofs.Common.{◌∷◌, [], refl, subst, sym}
 use Rattle.vx_history.specs.declared.event.Event.TheVariants.{Deliver as DeliverAt}
 use Rattle.vx_script.specs.declared.line.ScriptLine.TheVariants.{Deliver}
 use Rattle.vx_settling.proofs.WithinLines.{deliver_goes}

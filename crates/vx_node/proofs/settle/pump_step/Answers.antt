@@ -1,6 +1,5 @@
 -- A pump within a line that settles a link.
-use Rattle.std.proofs.Common.{◌≡◌, ◌∙◌, ◌∷◌, [], List, ap, refl, subst, sym}
-use Rattle.std.specs.Prelude.{Ok}
+use Rattle.std.proofs.Common.{◌∙◌, ◌∷◌, [], refl, subst, sym}
 use Rattle.vx_history.specs.declared.event.Event.TheVariants.{Pump as PumpAt}
 use Rattle.vx_script.specs.declared.line.ScriptLine.TheVariants.{Pump}
 use Rattle.vx_settling.proofs.WithinLines.{pump_goes}
@@ -11,7 +10,7 @@ use Rattle.vx_yard.specs.Yards.{IsTold}
 use Rattle.vx_node.specs.declared.going.Went.{Went}
 use Rattle.vx_yard.proofs.OfSites.{all_still}
 use Rattle.vx_node.proofs.SettleParts.{first_at}
-use Rattle.vx_node.proofs.StepWent.{all_alone, step_same, step_went, told_same}
+use Rattle.vx_node.proofs.StepWent.{all_alone, step_same, step_went}
 use Rattle.vx_node.proofs.settle.pump_step.Goals as goal
 
 pub pump_line-requires-clause-kept : goal.pump_line-requires-clause-kept

@@ -1,5 +1,5 @@
 -- A tick within a line that settles a link.
-use Rattle.std.proofs.Common.{◌≡◌, ◌∙◌, ◌∷◌, [], List, ap, refl, subst, sym}
+use Rattle.std.proofs.Common.{◌∷◌, [], ap, refl, subst, sym}
 use Rattle.std.specs.Prelude.{Ok}
 use Rattle.vx_history.specs.declared.event.Event.TheVariants.{Tick as TickAt}
 use Rattle.vx_script.specs.declared.line.ScriptLine.TheVariants.{Tick}

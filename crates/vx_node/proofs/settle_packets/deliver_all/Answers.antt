@@ -1,5 +1,5 @@
 -- Packets, and what was sent in answer to them.
-use Rattle.std.proofs.Common.{◌≡◌, ◌∙◌, ◌≤◌, arith, length, sym}
+use Rattle.std.proofs.Common.{◌∙◌, arith, sym}
 use Rattle.vx_history.specs.Settling.{deliver_new}
 use Rattle.vx_history.specs.Step.{run}
 use Rattle.vx_settling.proofs.Running.{are_new}

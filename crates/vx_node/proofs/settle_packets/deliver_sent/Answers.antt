@@ -1,7 +1,7 @@
 -- Packets, one by one.
-use Rattle.std.proofs.Common.{◌≡◌, ◌∙◌, ◌≤◌, ◌+◌, ◌-◌, ◌<◌, arith, length, refl}
+use Rattle.std.proofs.Common.{◌∙◌, ◌+◌, arith, refl}
 use Rattle.vx_node.proofs.SettleSent.{sent_all, sent_ends, sent_many, sent_more}
-use Rattle.vx_node.proofs.WentThen.{went_none, went_short}
+use Rattle.vx_node.proofs.WentThen.{went_none}
 use Rattle.vx_node.proofs.settle_packets.deliver_sent.Goals as goal
 
 pub returns-then-end-before-clause-went : goal.returns-then-end-before-clause-went

@@ -1,5 +1,5 @@
 -- The loop of `deliver_sent` over `done`: what stays true.
-use Rattle.std.proofs.Common.{◌≡◌, ◌≤◌, ◌+◌, length}
+use Rattle.std.proofs.Common.{◌≡◌, ◌≤◌, length}
 use Rattle.vx_history.specs.Doubts.{Doubted}
 use Rattle.vx_node.specs.Settling.{OnFor, SettlesFor}
 use Rattle.vx_yard.specs.Yards.{IsTold, in_files}

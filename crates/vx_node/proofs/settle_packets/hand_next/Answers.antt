@@ -1,6 +1,6 @@
 -- The next packet, case by case.
-use Rattle.std.proofs.Common.{◌≡◌, ◌∙◌, ◌+◌, ℕ, suc, ap, arith, refl, sym}
-use Rattle.std.specs.Prelude.{Some, option_map}
+use Rattle.std.proofs.Common.{◌≡◌, ◌∙◌, ◌+◌, suc, ap, arith, sym}
+use Rattle.std.specs.Prelude.{option_map}
 use Rattle.vx_courier.specs.UnderWay.{part_carried}
 use Rattle.vx_history.specs.Events.{packet_at}
 use Rattle.vx_node.proofs.Handing.{carried_at, goes_so, handed_none, handed_some}

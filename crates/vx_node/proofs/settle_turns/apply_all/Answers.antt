@@ -1,5 +1,5 @@
 -- What waits is applied, and that is acknowledged.
-use Rattle.std.proofs.Common.{◌≡◌, ◌∙◌, ◌≤◌, ◌-◌, [], ◌∷◌, List, arith, length, refl, sym}
+use Rattle.std.proofs.Common.{◌∙◌, ◌-◌, [], ◌∷◌, List, arith, length, refl, sym}
 use Rattle.vx_history.specs.Settling.{delivery}
 use Rattle.vx_history.specs.Step.{run}
 use Rattle.vx_history.specs.declared.event.Event.{Event}

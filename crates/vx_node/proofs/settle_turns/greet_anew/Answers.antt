@@ -1,5 +1,5 @@
 -- A greeting, and what was sent by it.
-use Rattle.std.proofs.Common.{◌≡◌, ◌∙◌, ◌≤◌, [], ◌∷◌, List, arith, length, refl}
+use Rattle.std.proofs.Common.{◌∙◌, [], ◌∷◌, List, arith, refl}
 use Rattle.vx_history.specs.Settling.{deliver_new}
 use Rattle.vx_history.specs.Step.{run}
 use Rattle.vx_history.specs.declared.event.Event.{Event}

@@ -1,5 +1,5 @@
 -- A greeting where a turn has brought nothing.
-use Rattle.std.proofs.Common.{◌≡◌, ◌∙◌, [], ap, sym}
+use Rattle.std.proofs.Common.{◌∙◌, [], ap, sym}
 use Rattle.vx_history.specs.Settling.{greeting_events, is_stuck}
 use Rattle.vx_settling.specs.Turning.{greeting_if}
 use Rattle.vx_node.proofs.SettleTurns.{greets_not, greets_so}

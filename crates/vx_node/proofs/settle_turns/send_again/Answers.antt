@@ -1,5 +1,5 @@
 -- What was sent again, and is delivered.
-use Rattle.std.proofs.Common.{◌≡◌, ◌∙◌, ◌≤◌, [], ◌∷◌, List, arith, length, refl, sym}
+use Rattle.std.proofs.Common.{◌∙◌, [], ◌∷◌, List, arith, refl, sym}
 use Rattle.vx_history.specs.Settling.{delivery}
 use Rattle.vx_history.specs.Step.{run}
 use Rattle.vx_history.specs.declared.event.Event.{Event}

@@ -1,5 +1,5 @@
 -- How far a link has come.
-use Rattle.std.proofs.Common.{◌≡◌, ◌∙◌, ◌<◌, arith, ap, length, refl, sym}
+use Rattle.std.proofs.Common.{◌∙◌, arith, ap, refl}
 use Rattle.vx_diskset.specs.Holds.{beside_of}
 use Rattle.vx_order.specs.declared.facts.LinkFacts.{LinkFacts}
 use Rattle.vx_settling.specs.Burnt.{noted_as}

@@ -1,5 +1,4 @@
 -- The parts of a turn.
-use Rattle.std.proofs.Common.{◌≡◌}
 use Rattle.vx_history.specs.Step.{run}
 use Rattle.vx_settling.specs.Turning.{applying_all, greeting_if, sending_again}
 use Rattle.vx_node.proofs.SettleTurns.{are_again, are_applying, turn_later, turn_went}

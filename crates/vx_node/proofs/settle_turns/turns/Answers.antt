@@ -1,5 +1,5 @@
 -- Turn by turn.
-use Rattle.std.proofs.Common.{◌+◌, ◌≡◌, ◌∙◌, ◌≤◌, ◌<◌, ℕ, Bool, true, false, ap, arith, refl, sym}
+use Rattle.std.proofs.Common.{◌+◌, ◌≡◌, ◌∙◌, ◌≤◌, ◌<◌, ℕ, true, false, arith, refl}
 use Rattle.std.proofs.lemmas.Bool.Decides.{nat_tests}
 use Rattle.std.specs.Prelude.{leb}
 use Rattle.vx_node.proofs.SettleTurns.{turns_begin, turns_end, turns_more, turns_out, turns_over_here, turns_short}

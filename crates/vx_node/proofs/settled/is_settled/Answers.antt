@@ -1,7 +1,6 @@
 -- Whether all is stored.
-use Rattle.std.proofs.Common.{◌≡◌, ◌≤◌, ℕ, Bool, true, arith}
+use Rattle.std.proofs.Common.{arith}
 use Rattle.std.proofs.lemmas.Bool.Decides.{nat_tests}
-use Rattle.std.specs.Prelude.{leb}
 use Rattle.vx_node.proofs.settled.is_settled.Goals as goal
 
 pub returns : goal.returns

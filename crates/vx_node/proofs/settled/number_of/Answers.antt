@@ -1,5 +1,5 @@
 -- The number of a site.
-use Rattle.std.proofs.Common.{◌≡◌, ◌∙◌, List, ap, sym}
+use Rattle.std.proofs.Common.{◌∙◌, List, ap, sym}
 use Rattle.vx_order.specs.declared.facts.SiteFacts.{SiteFacts}
 use Rattle.vx_events.specs.Facts.{seat_of}
 use Rattle.vx_node.proofs.settled.number_of.Goals as goal

@@ -1,5 +1,5 @@
 -- Each case of the connect and what follows on it.
-use Rattle.std.proofs.Common.{◌≡◌, ◌∙◌, ap, refl}
+use Rattle.std.proofs.Common.{◌∙◌, ap, refl}
 use Rattle.vx_script.specs.declared.line.ScriptLine.TheVariants.{Settle}
 use Rattle.vx_settling.specs.Burnt.{noted_as}
 use Rattle.vx_yard.proofs.OfSites.{all_still}

@@ -1,5 +1,5 @@
 -- What is looked up before the link is connected.
-use Rattle.std.proofs.Common.{◌≡◌, ℕ, refl, subst, sym}
+use Rattle.std.proofs.Common.{ℕ, refl, subst, sym}
 use Rattle.std.specs.Prelude.{IfOk}
 use Rattle.vx_events.specs.Facts.{site_number}
 use Rattle.vx_script.specs.declared.line.ScriptLine.TheVariants.{Settle}

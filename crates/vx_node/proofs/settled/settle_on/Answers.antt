@@ -1,5 +1,4 @@
 -- What was sent by the connect is delivered, and turns follow.
-use Rattle.std.proofs.Common.{◌≡◌, ◌++◌}
 use Rattle.std.specs.Prelude.{drop}
 use Rattle.vx_history.specs.Settling.{deliver_between, turns}
 use Rattle.vx_history.specs.Step.{run}

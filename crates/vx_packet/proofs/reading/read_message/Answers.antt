@@ -1,8 +1,9 @@
 -- `read_message`: clause only.
 use Rattle.std.proofs.Common.{◌≡◌, ◌∙◌, sym, subst}
+use Rattle.std.proofs.lemmas.Option.{same_Some}
 use Rattle.vx_packet.specs.Messages.{CanSpellMessage, IsSpelled}
 use Rattle.vx_packet.specs.declared.message.Message.{Message}
-use Rattle.vx_packet.proofs.MessageAgain.{message_in-is, some_same}
+use Rattle.vx_packet.proofs.MessageAgain.{message_in-is}
 use Rattle.vx_packet.proofs.Numbers.{not_both}
 use Rattle.vx_packet.proofs.reading.read_message.Goals.{else-spelled-via-then-spelled+else-can_spell, else-spelled-via-else-spelled}
 use Rattle.vx_packet.proofs.reading.read_message.Goals as goal
@@ -12,7 +13,7 @@ returns-then-can_spell-clause-only c m is = c.in-Some.ensures ∙ message_in-is 
 
 pub returns-else-spelled-clause-only : goal.returns-else-spelled-clause-only
 returns-else-spelled-clause-only c m is =
-    let same : m ≡ c.in-Some.message = some_same m c.in-Some.message (sym (message_in-is c.args.kind c.args.session c.args.number c.args.payload.now m is) ∙ sym c.in-Some.ensures) in
+    let same : m ≡ c.in-Some.message = same_Some m c.in-Some.message (sym (message_in-is c.args.kind c.args.session c.args.number c.args.payload.now m is) ∙ sym c.in-Some.ensures) in
     elim c.else-spelled.branch [
       | else-spelled-via-then-spelled+else-can_spell w ↦ absurd (not_both (w.if-can_spell.ensures.1 (subst CanSpellMessage same is.can)))
       | else-spelled-via-else-spelled w ↦

@@ -1,5 +1,5 @@
 -- `attach_from`: clauses moved, done, copied, blamed and cause; what `copy_regions` and `flush_targets` ask.
-use Rattle.std.proofs.Common.{ℕ, Result, Err, refl}
+use Rattle.std.proofs.Common.{ℕ, Err, refl}
 use Rattle.std.specs.Prelude.{Some}
 use Rattle.std.specs.Option.{option_copied}
 use Rattle.vx_disk.proofs.Causing.{cause_before}

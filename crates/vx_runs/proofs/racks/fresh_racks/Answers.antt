@@ -1,5 +1,5 @@
 -- `fresh_racks`: its result; what stays true in its loop over `step`.
-use Rattle.std.proofs.Common.{◌≡◌, List, ap, arith, length, subst, sym}
+use Rattle.std.proofs.Common.{List, ap, arith, length, subst, sym}
 use Rattle.std.specs.List.{All}
 use Rattle.std.proofs.lemmas.List.{length_push}
 use Rattle.std.proofs.lemmas.List.Elements.{All-push}

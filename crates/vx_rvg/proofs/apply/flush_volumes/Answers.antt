@@ -1,5 +1,5 @@
 -- `flush_volumes`: clauses blames, spends and works; what stays true in its loop over `vol`.
-use Rattle.std.proofs.Common.{ℕ, arith}
+use Rattle.std.proofs.Common.{arith}
 use Rattle.std.proofs.lemmas.Result.{err_from_is_err_and}
 use Rattle.vx_rvg.proofs.Blaming.{named_volume, volumes_exit}
 use Rattle.vx_ringio.proofs.Spending.{spends_flush, spends_none, then_spends}

@@ -1,5 +1,5 @@
 -- `bring_all`: clause brings; what stays true in its loop over `i`.
-use Rattle.std.proofs.Common.{arith, slice_get, Some, ◌≡◌, ◌∙◌, refl, slice_index_or, length}
+use Rattle.std.proofs.Common.{arith, slice_get, Some, ◌≡◌, ◌∙◌, refl, slice_index_or}
 use Rattle.std.proofs.lemmas.Option.{slice_get-get_or}
 use Rattle.vx_settle.proofs.ManyPeers.{brought-first, brought-step, brought-all, brought-link}
 use Rattle.vx_settle.proofs.bringing.bring_all.Goals as goal

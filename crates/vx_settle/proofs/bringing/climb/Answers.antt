@@ -1,5 +1,5 @@
 -- `climb`: clause climbs; what `step` asks; what stays true in its loop over `net`.
-use Rattle.std.proofs.Common.{rules, arith, subst, refl, ◌∙◌, Some, None}
+use Rattle.std.proofs.Common.{rules, subst, refl, ◌∙◌}
 use Rattle.vx_settle.specs.Bringing.{Steps}
 use Rattle.vx_settle.proofs.Bringings.{mid-step, mid-stuck, mid-end, mid-first}
 use Rattle.vx_settle.proofs.bringing.climb.Goals as goal

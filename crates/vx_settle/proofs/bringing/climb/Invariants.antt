@@ -1,5 +1,5 @@
 -- The loop of `climb` over `net`: what stays true, and what falls.
-use Rattle.std.proofs.Common.{◌≡◌, ◌≤◌, ◌<◌, ◌^◌, ◌-◌, ℕ}
+use Rattle.std.proofs.Common.{◌≡◌, ◌^◌, ◌-◌}
 use Rattle.vx_settle.proofs.Bringings.{Mid}
 use Rattle.vx_settle.proofs.bringing.climb.Given as goal
 

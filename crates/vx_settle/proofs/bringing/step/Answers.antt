@@ -1,5 +1,5 @@
 -- `step`: clause steps.
-use Rattle.std.proofs.Common.{rules, arith}
+use Rattle.std.proofs.Common.{rules}
 use Rattle.vx_settle.proofs.Bringings.{step-some, step-stuck, step-end}
 use Rattle.vx_settle.proofs.bringing.step.Goals as goal
 

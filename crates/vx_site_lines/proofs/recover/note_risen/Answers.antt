@@ -1,5 +1,5 @@
 -- The facts of the site are those of one that came up, with its links behind them.
-use Rattle.std.proofs.Common.{◌≡◌, ◌∙◌, ap, sym, arith, length, slice_set}
+use Rattle.std.proofs.Common.{◌∙◌, ap, arith, slice_set}
 use Rattle.vx_diskset.specs.Stands.{SiteStands}
 use Rattle.vx_effects.specs.Restarts.{facts_again}
 use Rattle.vx_yard.proofs.Lists.{get_at, length-set}

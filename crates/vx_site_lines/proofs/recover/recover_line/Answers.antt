@@ -1,6 +1,5 @@
 -- Each case of a line that recovers a site.
-use Rattle.std.proofs.Common.{◌≡◌, ◌∙◌, ap, subst, sym, refl, arith}
-use Rattle.std.specs.Prelude.{Some}
+use Rattle.std.proofs.Common.{◌∙◌, ap, subst, sym, refl, arith}
 use Rattle.vx_model.specs.Sizes.{ring_of}
 use Rattle.vx_order.specs.declared.facts.SiteFacts.{SiteFacts}
 use Rattle.std.proofs.lemmas.Result.{err_from_is_err_and}

@@ -1,5 +1,5 @@
 -- The site that came up has a row, with no more links than any.
-use Rattle.std.proofs.Common.{◌≡◌, ◌∙◌, ap, length}
+use Rattle.std.proofs.Common.{◌∙◌, ap, length}
 use Rattle.vx_model.proofs.Lists.{get_there}
 use Rattle.vx_site_lines.specs.Rises.{risen_facts}
 use Rattle.vx_site_lines.proofs.RiseNeeds.{few_places, risen_few, risen_many}

@@ -1,9 +1,6 @@
 -- The blocks that a link needs are those above its hold, which a told log has.
 use Rattle.std.proofs.Common.{arith}
 use Rattle.vx_site_lines.proofs.RiseNeeds.{holds_log, need_if}
-use Rattle.vx_site_lines.proofs.RecoverSite.{recover_from_down}
-use Rattle.vx_site_lines.proofs.RiseBare.{stands_up_bare}
-use Rattle.vx_site_lines.proofs.RiseLeads.{stood_up}
 use Rattle.vx_site_lines.proofs.rooms.used_by.Goals as goal
 
 pub returns-then-needs_log-clause-is : goal.returns-then-needs_log-clause-is

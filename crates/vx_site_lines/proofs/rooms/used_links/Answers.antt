@@ -1,5 +1,5 @@
 -- Each place has what the link of that place needs.
-use Rattle.std.proofs.Common.{◌≡◌, ◌∙◌, ◌<◌, ℕ, length, ap, sym, refl, arith}
+use Rattle.std.proofs.Common.{◌∙◌, ap, sym, refl, arith}
 use Rattle.std.specs.Prelude.{is_some, slice_get}
 use Rattle.vx_model.proofs.Lists.{got}
 use Rattle.vx_yard.proofs.Lists.{length-set}

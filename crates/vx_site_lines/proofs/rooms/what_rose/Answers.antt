@@ -1,5 +1,5 @@
 -- What a site comes up with is what its log keeps of it.
-use Rattle.std.proofs.Common.{◌≡◌, ◌∙◌, ap, sym}
+use Rattle.std.proofs.Common.{◌∙◌, ap, sym}
 use Rattle.std.specs.Prelude.{is_some, slice_get}
 use Rattle.vx_site_lines.proofs.RiseNeeds.{rises_with, risen_copy}
 use Rattle.vx_site_lines.proofs.rooms.what_rose.Goals as goal

@@ -1,6 +1,5 @@
 -- Blocks of a site that receives are shown, case by case.
 use Rattle.std.proofs.Common.{◌≡◌, ◌∙◌, arith, false, inr, refl, subst, sym}
-use Rattle.std.specs.Prelude.{Some}
 use Rattle.vx_diskset.specs.Asked.{LeavesAlone}
 use Rattle.vx_diskset.specs.Holds.{beside_of}
 use Rattle.vx_events.proofs.Places.{some_same}

@@ -1,5 +1,5 @@
 -- What a map that was read keeps.
-use Rattle.std.proofs.Common.{◌≡◌, ◌∙◌, ◌/◌, ℕ, List, length, sym, subst}
+use Rattle.std.proofs.Common.{◌∙◌, ◌/◌, ℕ, List, length, sym, subst}
 use Rattle.std.proofs.lemmas.List.{with_items_is}
 use Rattle.vx_disk.specs.Moves.{Run, Settled}
 use Rattle.vx_bitmap.specs.Maps.{MapOn}

@@ -1,8 +1,7 @@
 -- `drain`: its result; what `go_on` asks; what stays true in its loop.
-use Rattle.std.proofs.Common.{rules, ◌≡◌, ◌∙◌, sym, subst, refl}
+use Rattle.std.proofs.Common.{◌∙◌, sym, refl}
 use Rattle.vx_settle.proofs.Bringings.{goes-none}
 use Rattle.vx_burst_threads.specs.declared.drainer.Next.TheVariants as next
-use Rattle.vx_burst_threads.specs.Draining.{LeadsOn}
 use Rattle.vx_burst_threads.proofs.Draining.{drained-then, drained-peer}
 use Rattle.vx_burst_threads.proofs.Making.{keeps-self}
 use Rattle.vx_burst_threads.proofs.Spending.{spent-later, leads-as, leads-from}

@@ -1,5 +1,5 @@
 -- `write_all`: its result; what `write_one` asks; what stays true in its loop over `k`.
-use Rattle.std.proofs.Common.{rules, ◌≡◌, ◌∙◌, ap, subst, sym, refl, slice_get, Some, true, false}
+use Rattle.std.proofs.Common.{rules, ◌≡◌, subst, refl, slice_get, Some, true, false}
 use Rattle.std.proofs.lemmas.Option.{slice_get_read}
 use Rattle.vx_burst_threads.specs.Writing.{WriterGoes}
 use Rattle.vx_burst_threads.proofs.Making.{loop-first, loop-room, loop-step, loop-stop, loop-end}

@@ -1,9 +1,8 @@
 -- The loss of a log of a volume, by its place.
-use Rattle.std.proofs.Common.{ap, arith, subst, sym, ◌∙◌, Option}
+use Rattle.std.proofs.Common.{ap, arith, sym, ◌∙◌, Option}
 use Rattle.vx_config.specs.Changes.{with_lost}
 use Rattle.vx_config.specs.declared.entry.LogEntry.{LogEntry}
 use Rattle.vx_config.specs.declared.entry.VolumeLog.{VolumeLog}
-use Rattle.vx_config.specs.declared.entry.VolumeLog.TheVariants.{Drl, Fmr}
 use Rattle.vx_config.proofs.Changed.{changed-item, changed-none}
 use Rattle.vx_config.proofs.volumes.Volumes.set_lost.Goals as goal
 

@@ -1,5 +1,5 @@
 -- The marks of all volumes are few.
-use Rattle.std.proofs.Common.{◌≡◌, ◌+◌, ◌≤◌, length, arith}
+use Rattle.std.proofs.Common.{◌+◌, ◌≤◌, length, arith}
 use Rattle.vx_dcm.proofs.Tallies.{left_bound, left_more}
 use Rattle.vx_dcm.proofs.dcm.Dcm.left.Goals as goal
 

@@ -1,9 +1,9 @@
 -- `attach_plex`: what it leaves of the disks of the site.
-use Rattle.std.proofs.Common.{◌≡◌, ◌∙◌, refl, subst, sym, ap}
+use Rattle.std.proofs.Common.{◌≡◌, subst, sym, ap}
 use Rattle.vx_grouped.specs.GroupSites.{UpNoted}
 use Rattle.vx_diskset.specs.Aboves.{site_in}
 use Rattle.vx_diskset.specs.Asked.{FuseGoesOn}
-use Rattle.vx_diskset.specs.GroupCalls.{CalledOn, OnSites, AtSite, cut_in}
+use Rattle.vx_diskset.specs.GroupCalls.{CalledOn, AtSite, cut_in}
 use Rattle.vx_diskset.specs.declared.disk_set.DiskSet.TheVariants.{OfGroup, Over}
 use Rattle.vx_diskset.specs.GroupSets.{cut_value}
 use Rattle.vx_diskset.proofs.OverCalling.{at_overs, on_overs, others_over, plain_failing, plain_fuse, plain_later}

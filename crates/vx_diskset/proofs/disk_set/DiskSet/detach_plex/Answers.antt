@@ -1,15 +1,15 @@
 -- `detach_plex`: what it leaves of the disks of the site.
-use Rattle.std.proofs.Common.{◌≡◌, ◌∙◌, refl, subst, sym, ap}
+use Rattle.std.proofs.Common.{◌≡◌, subst, sym, ap}
 use Rattle.vx_grouped.specs.GroupSites.{UpNoted}
 use Rattle.vx_diskset.specs.Aboves.{site_in}
 use Rattle.vx_diskset.specs.Asked.{FuseGoesOn}
-use Rattle.vx_diskset.specs.GroupCalls.{CalledOn, OnSites, cut_in}
+use Rattle.vx_diskset.specs.GroupCalls.{CalledOn, cut_in}
 use Rattle.vx_diskset.specs.declared.disk_set.DiskSet.TheVariants.{OfGroup, Over}
 use Rattle.vx_diskset.specs.GroupSets.{cut_value}
 use Rattle.vx_diskset.proofs.OverCalling.{at_overs, on_overs, others_over, plain_failing, plain_fuse, plain_later}
 use Rattle.vx_diskset.proofs.GroupCalling.{at_none, at_sites, called_rest, group_failing, group_fuse, group_later, on_sites, det_settled, others_on}
-use Rattle.vx_grouped.specs.SiteEnds.{DetCalled, refuses_det, is_plex_on}
-use Rattle.std.specs.Prelude.{Err, None, Ok, Some, false, IfOk, IsTrue}
+use Rattle.vx_grouped.specs.SiteEnds.{DetCalled, refuses_det}
+use Rattle.std.specs.Prelude.{Err, Some}
 use Rattle.vx_model.specs.declared.errors.Stop.TheVariants.{No as Refused}
 use Rattle.vx_grouped.specs.SiteMaps.{DetMapped}
 use Rattle.vx_diskset.proofs.disk_set.DiskSet.detach_plex.Goals as goal

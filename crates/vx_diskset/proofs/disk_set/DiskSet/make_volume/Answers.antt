@@ -1,5 +1,5 @@
 -- `make_volume`: what it leaves of the disks of the site.
-use Rattle.std.proofs.Common.{◌≡◌, ◌∙◌, refl, subst, sym, ap}
+use Rattle.std.proofs.Common.{◌≡◌, subst, sym, ap}
 use Rattle.vx_grouped.specs.GroupSites.{UpNoted}
 use Rattle.vx_diskset.specs.Aboves.{site_in}
 use Rattle.vx_diskset.specs.Asked.{FuseGoesOn}
@@ -9,7 +9,7 @@ use Rattle.vx_diskset.specs.GroupSets.{cut_value}
 use Rattle.vx_diskset.proofs.OverCalling.{at_overs, on_overs, plain_failing, plain_fuse, plain_later}
 use Rattle.vx_diskset.proofs.GroupCalling.{at_none, at_sites, called_rest, group_failing, group_fuse, group_later, on_sites, added_settled}
 use Rattle.vx_grouped.specs.SiteAdds.{SiteAdded, VolumeIn, refuses_volume}
-use Rattle.std.specs.Prelude.{Err, None, Ok, Some, false, IfOk, IsTrue}
+use Rattle.std.specs.Prelude.{Err, Some, IfOk}
 use Rattle.vx_model.specs.declared.errors.Stop.TheVariants.{No as Refused}
 use Rattle.vx_grouped.specs.SiteMaps.{AddedMapped}
 use Rattle.vx_diskset.proofs.disk_set.DiskSet.make_volume.Goals as goal

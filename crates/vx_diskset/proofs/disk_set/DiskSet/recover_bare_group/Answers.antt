@@ -3,7 +3,7 @@ use Rattle.std.proofs.Common.{subst, sym}
 use Rattle.vx_diskset.specs.Asked.{SameFailing}
 use Rattle.vx_diskset.specs.DiskSets.{Later}
 use Rattle.vx_diskset.specs.GroupFinds.{FindsIs}
-use Rattle.vx_diskset.specs.Stands.{IsToldAt, SiteStands}
+use Rattle.vx_diskset.specs.Stands.{SiteStands}
 use Rattle.vx_diskset.proofs.GroupFinding.{find_can, finds_is, other_finds, untold_later}
 use Rattle.vx_diskset.proofs.disk_set.DiskSet.recover_bare_group.Goals as goal
 

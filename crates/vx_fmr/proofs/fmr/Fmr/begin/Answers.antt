@@ -1,5 +1,5 @@
 -- The map of a plex that is emptied.
-use Rattle.std.proofs.Common.{◌≡◌, ◌∙◌, ℕ, ◌-◌, ◌<◌, ◌≤◌, ap, true, false, arith}
+use Rattle.std.proofs.Common.{◌≡◌, ◌∙◌, ℕ, ◌-◌, ◌<◌, ap, false, arith}
 use Rattle.vx_fmr.specs.Missed.{Missed, missed_place}
 use Rattle.vx_fmr.proofs.Changes.{run_all, run_changed, run_others}
 use Rattle.vx_fmr.proofs.fmr.Fmr.begin.Goals as goal

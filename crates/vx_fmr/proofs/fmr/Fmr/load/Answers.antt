@@ -1,5 +1,5 @@
 -- What was read has a bit for each region of each plex.
-use Rattle.std.proofs.Common.{◌≡◌, ◌*◌, ◌<◌, ℕ, ap, arith}
+use Rattle.std.proofs.Common.{◌*◌, ℕ, ap, arith}
 use Rattle.vx_fmr.proofs.Keeping.{kept_of}
 use Rattle.vx_fmr.proofs.fmr.Fmr.load.Goals as goal
 

@@ -1,5 +1,5 @@
 -- The regions that are noted for a plex.
-use Rattle.std.proofs.Common.{◌≡◌, ◌-◌, ◌<◌, ◌≤◌, ap, true, false, arith}
+use Rattle.std.proofs.Common.{◌≡◌, ◌<◌, ap, true, arith}
 use Rattle.vx_fmr.specs.Missed.{Missed}
 use Rattle.vx_fmr.proofs.Changes.{run_all, run_changed, run_others}
 use Rattle.vx_fmr.proofs.fmr.Fmr.note.Goals as goal

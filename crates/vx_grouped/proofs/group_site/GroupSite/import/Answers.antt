@@ -1,5 +1,5 @@
 -- `import`: a recovery, or an import of disks that were deported.
-use Rattle.std.proofs.Common.{ap, subst, sym}
+use Rattle.std.proofs.Common.{subst, sym}
 use Rattle.vx_grouped.specs.GroupSites.{AwayNoted, DownNoted, site_below, site_disks}
 use Rattle.vx_grouped.specs.SiteReturns.{ReturnSince, SiteImports, SiteRecovers, as_imported}
 use Rattle.vx_watched.specs.Traces.{TellsLess}

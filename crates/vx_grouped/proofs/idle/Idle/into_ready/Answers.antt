@@ -1,9 +1,7 @@
 -- Disks for an import: it asks nothing of those that tell nothing.
-use Rattle.std.proofs.Common.{◌∙◌, refl, sym, subst}
-use Rattle.vx_disk.specs.Shelf.{Meaning}
+use Rattle.std.proofs.Common.{sym, subst}
 use Rattle.vx_group.specs.Resumes.{CanImport}
-use Rattle.vx_untold.specs.Shades.{rack_of, shade_meaning}
-use Rattle.vx_untold.specs.declared.shade.Shade.TheVariants.{Dark}
+use Rattle.vx_untold.specs.Shades.{shade_meaning}
 use Rattle.vx_grouped.proofs.ImportFactLemmas.{fact_import}
 use Rattle.vx_grouped.proofs.SinceReturns.{dark_can}
 use Rattle.vx_grouped.proofs.TellLemmas.{dark_tells}

@@ -1,5 +1,4 @@
 -- A sound configuration has few subdisks.
-use Rattle.vx_config.specs.Configs.{subdisk_count}
 use Rattle.vx_group.proofs.HoldLemmas.{narrow_sound}
 use Rattle.vx_kept.proofs.Narrower.{sound_few}
 use Rattle.vx_untold.specs.Shades.{shade_meaning}

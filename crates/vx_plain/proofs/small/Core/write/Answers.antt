@@ -1,5 +1,5 @@
 -- `write`: its result.
-use Rattle.std.proofs.Common.{rules, ◌≡◌, ◌<◌, ◌≤◌, ◌+◌, ◌∷◌, ◌++◌, [], true, false, refl, inl, inr, arith, sym, subst, length}
+use Rattle.std.proofs.Common.{rules, ◌≡◌, ◌<◌, ◌≤◌, ◌+◌, true, false, refl, inl, inr, arith, sym, subst, length}
 use Rattle.vx_model.specs.Content.{blocks_in}
 use Rattle.vx_model.specs.declared.call.Call.TheVariants.{Write as WriteBlocks}
 use Rattle.vx_model.specs.declared.call.Reply.TheVariants.{Logged}

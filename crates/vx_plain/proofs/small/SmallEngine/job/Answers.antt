@@ -1,5 +1,5 @@
 -- `job`: clause acts.
-use Rattle.std.proofs.Common.{◌≡◌, ◌∙◌, [], ◌∷◌, ◌++◌}
+use Rattle.std.proofs.Common.{◌∙◌, [], ◌∷◌, ◌++◌}
 use Rattle.vx_turn.specs.declared.ask.Ask.TheVariants.{Charged}
 use Rattle.vx_turn.specs.declared.ask.Said.TheVariants.{Worked}
 use Rattle.vx_plain.specs.Trails.{trail_of}

@@ -1,5 +1,5 @@
 -- Each test is a field of what a line asks.
-use Rattle.std.proofs.Common.{◌≡◌, ◌∙◌, List, ap, arith}
+use Rattle.std.proofs.Common.{◌∙◌, List, ap, arith}
 use Rattle.std.specs.Prelude.{slice_get}
 use Rattle.vx_order.specs.declared.facts.SiteFacts.{SiteFacts}
 use Rattle.vx_yard.proofs.yard.Yard.is_whole.Goals as goal
