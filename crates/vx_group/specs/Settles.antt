@@ -1,5 +1,6 @@
 -- Whether images say of a volume that it stopped cleanly, and what a crash leaves of its plexes where one does.
-use Rattle.std.specs.Prelude.{◌≡◌, ◌⊎◌, ℕ, IsTrue, List, false}
+use Rattle.std.specs.Prelude.{◌≡◌, ◌⊎◌, ℕ, ◌≤◌, IsTrue, List, false, true}
+use Rattle.vx_config.specs.Table.{greatest}
 use Rattle.vx_config.specs.declared.config.Config.{Config}
 use Rattle.vx_copyfmt.specs.Imports.{Found}
 use Rattle.vx_disk.specs.Shelf.{Each, Image, Meaning}
@@ -27,3 +28,8 @@ pub record FindsAlike (v : ℕ) (m : Meaning) : Type 0 where
 pub record CleanSettled (c : Inner) (m : Meaning) : Type 0 where
   pub alike : (v : ℕ) → FindsAlike v m
   pub none : c.unsettled ≡ false → (v : ℕ) → FindsNoneClean v m
+
+-- a commit is missed, and no serial is left to make up for it: writes go to plexes without it
+pub record LacksCommit (c : Inner) : Type 0 where
+  pub missed : c.unsettled ≡ true
+  pub spent : greatest ≤ c.config.serial

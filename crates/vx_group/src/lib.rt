@@ -59,6 +59,7 @@ pub use making::make_in;
 pub use racking::{fail_in, fuse_in};
 pub use reading::read_in;
 pub use releasing::release;
+pub use settling::lacks_commit;
 pub use shaping::refuse_volume;
 pub use taking::{Plan, take_up};
 pub use trusting::trust_group;

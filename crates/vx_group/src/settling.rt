@@ -9,6 +9,7 @@ ghost use Rattle.vx_group.specs.Loses.{SameParts};
 ghost use Rattle.vx_group.specs.Moves.{Narrows};
 ghost use Rattle.vx_group.specs.Quiesces.{AnyFailed};
 ghost use Rattle.vx_group.specs.Settled.{SameBut};
+ghost use Rattle.vx_group.specs.Settles.{LacksCommit};
 ghost use Rattle.vx_group.specs.Stands.{InnerStands};
 ghost use Rattle.vx_config.specs.Table.{greatest};
 
@@ -128,4 +129,17 @@ pub fn make_ready<S: Shelf>(shelf: &mut S, core: &mut Inner) -> Result<(), Shelf
         Err(error) => return Err(error),
     }
     detach(shelf, core, 0, Failed { set: 0, disk: 0 })
+}
+
+/// Whether a commit is missed for which no serial is left: then writes go to plexes without it.
+pub fn lacks_commit(core: &Inner) -> bool
+    ensures free { result ≡ false → LacksCommit core.now → ⊥ }
+{
+    if !core.unsettled {
+        return false;
+    }
+    if core.config.serial < MOST_NUMBER {
+        return false;
+    }
+    true
 }

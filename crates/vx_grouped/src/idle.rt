@@ -13,7 +13,7 @@ use vx_logimport::Rested;
 use vx_untold::Shade;
 
 /// Disks on which a group lay, whether imports of them agree, and which volumes are as a deport left them. None says that its logs were stopped, as no
-/// serial was left to commit that one is lost: then it is not imported again.
+/// serial was left to commit that one is lost, or that none was left for a commit that was missed: then it is not imported again.
 #[derive(Drop)]
 pub struct Idle<R: Rack> {
     pub rack: Shade<R>,
