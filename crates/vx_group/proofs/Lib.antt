@@ -53,3 +53,4 @@ pub mod MissingLemmas
 pub mod TrustingLemmas
 pub mod TrustStillLemmas
 pub mod SettleFinds
+pub mod SettleCalls

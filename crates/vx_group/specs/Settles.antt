@@ -33,3 +33,15 @@ pub record CleanSettled (c : Inner) (m : Meaning) : Type 0 where
 pub record LacksCommit (c : Inner) : Type 0 where
   pub missed : c.unsettled ≡ true
   pub spent : greatest ≤ c.config.serial
+
+-- what a group keeps of that, unless it lacks a commit
+abbrev pub CleansTold : Inner → Meaning → Type 0
+CleansTold c m = LacksCommit c ⊎ CleanSettled c m
+
+-- a call keeps it
+pub record CoreSettles (c d : Inner) (old new : Meaning) : Type 0 where
+  pub keeps : CleansTold c old → CleansTold d new
+
+-- a call that ends with a commit, done or refused, brings it about
+pub record EndsSettled (d : Inner) (old new : Meaning) : Type 0 where
+  pub ends : ((v : ℕ) → FindsAlike v old) → CleanSettled d new
