@@ -1,6 +1,6 @@
 -- The calls of a header on the disks of a site: how many, and what they leave of the fuse.
 use Rattle.std.proofs.Common.{◌≡◌, ◌∙◌, ℕ, ap, arith, sym, subst, refl, true, false}
-use Rattle.std.specs.Prelude.{Option, Result, Ok, Err, OnOk, IsFalse}
+use Rattle.std.specs.Prelude.{Option, None, Result, Ok, Err, OnOk, IsFalse}
 use Rattle.vx_model.specs.declared.no.No.{No}
 use Rattle.vx_model.specs.declared.no.No.TheVariants.{Down as IsDown}
 use Rattle.vx_model.specs.declared.units.Units.{Units}
