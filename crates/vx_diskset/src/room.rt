@@ -1,6 +1,7 @@
 // The room that writes take in the log of a site.
 ghost use Rattle.std.specs.Prelude.{◌≡◌, ◌≤◌, ◌<◌, ◌+◌, ◌-◌, None, Some, IfSome, IsSome, List, ℕ, drop, slice_get, true, false};
 ghost use Rattle.vx_events.specs.GroupLines.{is_over_group};
+ghost use Rattle.vx_disk.specs.Shelf.{Meaning};
 ghost use Rattle.vx_model.specs.Sites.{is_origin};
 ghost use Rattle.vx_model.specs.declared.state.KeptLink.{KeptLink};
 ghost use Rattle.vx_diskset.specs.Holds.{KeptBeside};
