@@ -71,11 +71,11 @@ module _ (w : MissedNote) (c : Config) (v p n many : ℕ) (same : copied_regions
 
 -- ---- so many disks have the logs of missed regions of volumes
 
-entry_bound : Option LogEntry → ℕ
+abbrev entry_bound : Option LogEntry → ℕ
 entry_bound None = 0
 entry_bound (Some e) = e.disk + 1
 
-pub logs_bound : List VolumeEntry → ℕ
+abbrev pub logs_bound : List VolumeEntry → ℕ
 logs_bound [] = 0
 logs_bound (x ∷ xs) = entry_bound x.fmr + logs_bound xs
 

@@ -51,7 +51,7 @@ log_low c v e is = by (slice_get c.volumes v) refl is
 
 -- behind the making of a volume that answers no 6 the disks are up, where they were
 pub add_still : (n : Node) (note : GroupNode) (want : Shape) (core : GroupCore) (m : Meaning) (stop : Stop) → stops_down stop ≡ false → VolumeLeaves n note want core m (Err stop) → IsTrue m.down → ⊥
-add_still n note want core m (Refused why) off leaves = call_still {T = ℕ} n note core m (Refused why) off leaves
+add_still n note want core m (Refused why) off leaves = call_still ℕ n note core m (Refused why) off leaves
 add_still n note want core m OutOfMemory off leaves = leaves.up
 
 -- where it was not made there are as many

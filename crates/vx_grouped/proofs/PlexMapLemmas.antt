@@ -73,11 +73,11 @@ first_off true y is = let clash : true ≡ false = is in cc
 first_off false y is = refl
 
 -- behind a call that answers no 6 the disks are up
-pub call_still : {T : Type 0} (n : Node) (note : GroupNode) (core : GroupCore) (m : Meaning) (stop : Stop) → stops_down stop ≡ false → CallLeaves {T = T} n note core m (Err stop) → IsTrue m.down → ⊥
-call_still n note core m (Refused (Device disk)) off leaves = leaves.1.up
-call_still n note core m (Refused IsOff) off leaves = absurd (let clash : true ≡ false = off in cc)
-call_still n note core m (Refused other) off leaves = leaves.up
-call_still n note core m OutOfMemory off leaves = absurd leaves
+pub call_still : (T : Type 0) (n : Node) (note : GroupNode) (core : GroupCore) (m : Meaning) (stop : Stop) → stops_down stop ≡ false → CallLeaves {T = T} n note core m (Err stop) → IsTrue m.down → ⊥
+call_still T n note core m (Refused (Device disk)) off leaves = leaves.1.up
+call_still T n note core m (Refused IsOff) off leaves = absurd (let clash : true ≡ false = off in cc)
+call_still T n note core m (Refused other) off leaves = leaves.up
+call_still T n note core m OutOfMemory off leaves = absurd leaves
 
 module _ (c d : GroupCore) (l k : List Logs) (s t : Bool) (a b : List Bool) (m m' : Meaning) (was : IsRack m) (now : IsRack m') (one : GroupStands c m) (two : GroupStands d m') (frames : (v : ℕ) → frame_at d.inner.config v ≡ frame_at c.inner.config v)
     (many : length d.inner.config.volumes ≡ length c.inner.config.volumes) (blocks : (v : ℕ) → blocks_of d.inner.config.volumes v ≡ blocks_of c.inner.config.volumes v) (ends : MapsEnd c.inner.config d.inner.config s t l k m m')

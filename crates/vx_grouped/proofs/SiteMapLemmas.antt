@@ -110,7 +110,7 @@ module _ (w : MissedNote) (c d : Config) (l k : List Logs) (s t : Bool) (a b : L
     }
 
     module _ (moves : MapsAttach c d vol plex l k) (low : vol < length c.volumes) (off : is_alike a vol ≡ false) where
-      row : ℕ → Bool
+      abbrev row : ℕ → Bool
       row r = w.missed vol moves.from r || w.perhaps vol moves.from r
 
       or_either : (x y : Bool) → (x ≡ true) ⊎ (y ≡ true) → (x || y) ≡ true

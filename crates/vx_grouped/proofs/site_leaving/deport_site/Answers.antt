@@ -74,7 +74,7 @@ returns-else-is_down_stop-clause-maps g c = λ n note up.
     let is_rack = (g.met.R.Rack g.world.𝓛 g.world.𝓜 g.world.𝓡 ((λ s x. x), (λ x. x), (λ x. x), λ x. x)).rack in
     let racks = shade_rack g.R.Shelf.meaning is_rack in
     let maps = (c.in-Err.ensures.maps (racks c.args.laid.shelf) (racks c.in-Err.laid.shelf)) in
-    (up_maps MapsLike c.args.laid c.in-Err.laid (call_still {T = Unit {0}} n note c.in-Err.laid.core (shade_meaning g.R.Shelf.meaning c.in-Err.laid.shelf) c.in-Err.stop (sym c.is_down_stop.ensures ∙ c.if-is_down_stop.false) (c.in-Err.ensures.leaves n note up.at)) maps.0, quiet_map (PartsStay (laid_parts c.args.laid) (laid_parts c.in-Err.laid)) (StaysMapped (Up c.args.laid) (Up c.in-Err.laid)) c.in-Err.stop (stays_up c.args.laid c.in-Err.laid) maps.1)
+    (up_maps MapsLike c.args.laid c.in-Err.laid (call_still (Unit {0}) n note c.in-Err.laid.core (shade_meaning g.R.Shelf.meaning c.in-Err.laid.shelf) c.in-Err.stop (sym c.is_down_stop.ensures ∙ c.if-is_down_stop.false) (c.in-Err.ensures.leaves n note up.at)) maps.0, quiet_map (PartsStay (laid_parts c.args.laid) (laid_parts c.in-Err.laid)) (StaysMapped (Up c.args.laid) (Up c.in-Err.laid)) c.in-Err.stop (stays_up c.args.laid c.in-Err.laid) maps.1)
 
 pub returns-then-is_down-clause-volumes : goal.returns-then-is_down-clause-volumes
 returns-then-is_down-clause-volumes g c = same_go (laid_seen c.args.laid)

@@ -65,7 +65,7 @@ returns-else-is_down_stop-clause-maps g c = λ n note up.
     let racks = shade_rack g.R.Shelf.meaning is_rack in
     let works = (subst (λ r. PlexAtts c.args.vol c.args.plex c.args.laid.core (shade_meaning g.R.Shelf.meaning c.args.laid.shelf) c.att_watched-laid.result.0.core (shade_meaning g.R.Shelf.meaning c.att_watched-laid.result.0.shelf) r) c.in-Err.is c.att_watched-laid.ensures.works) in
     let maps = (subst (λ r. AttsMaps c.args.vol c.args.plex (laid_parts c.args.laid) (shade_meaning g.R.Shelf.meaning c.args.laid.shelf) (laid_parts c.att_watched-laid.result.0) (shade_meaning g.R.Shelf.meaning c.att_watched-laid.result.0.shelf) r) c.in-Err.is (c.att_watched-laid.ensures.maps (racks c.args.laid.shelf) (racks c.att_watched-laid.result.0.shelf))) in
-    (up_maps MapsLike c.args.laid c.att_watched-laid.result.0 (call_still {T = ℕ} n note c.att_watched-laid.result.0.core (shade_meaning g.R.Shelf.meaning c.att_watched-laid.result.0.shelf) c.in-Err.stop (sym c.is_down_stop.ensures ∙ c.if-is_down_stop.false) (works.leaves n note up.at)) maps.0, quiet_map (PartsStay (laid_parts c.args.laid) (laid_parts c.att_watched-laid.result.0)) (StaysMapped (Up c.args.laid) (Up c.att_watched-laid.result.0)) c.in-Err.stop (stays_up c.args.laid c.att_watched-laid.result.0) maps.1)
+    (up_maps MapsLike c.args.laid c.att_watched-laid.result.0 (call_still ℕ n note c.att_watched-laid.result.0.core (shade_meaning g.R.Shelf.meaning c.att_watched-laid.result.0.shelf) c.in-Err.stop (sym c.is_down_stop.ensures ∙ c.if-is_down_stop.false) (works.leaves n note up.at)) maps.0, quiet_map (PartsStay (laid_parts c.args.laid) (laid_parts c.att_watched-laid.result.0)) (StaysMapped (Up c.args.laid) (Up c.att_watched-laid.result.0)) c.in-Err.stop (stays_up c.args.laid c.att_watched-laid.result.0) maps.1)
 
 pub returns-then-is_down-clause-volumes : goal.returns-then-is_down-clause-volumes
 returns-then-is_down-clause-volumes g c = same_go (laid_seen c.args.laid)

@@ -64,7 +64,7 @@ returns-else-is_down_stop-clause-maps g c = λ n note up.
     let racks = shade_rack g.R.Shelf.meaning is_rack in
     let works = (subst (λ r. PlexDets c.args.vol c.args.plex c.args.laid.core (shade_meaning g.R.Shelf.meaning c.args.laid.shelf) c.det_watched-laid.result.0.core (shade_meaning g.R.Shelf.meaning c.det_watched-laid.result.0.shelf) r) c.in-Err.is c.det_watched-laid.ensures.works) in
     let maps = (subst (λ r. DetsMaps c.args.vol c.args.plex (laid_parts c.args.laid) (shade_meaning g.R.Shelf.meaning c.args.laid.shelf) (laid_parts c.det_watched-laid.result.0) (shade_meaning g.R.Shelf.meaning c.det_watched-laid.result.0.shelf) r) c.in-Err.is (c.det_watched-laid.ensures.maps (racks c.args.laid.shelf) (racks c.det_watched-laid.result.0.shelf))) in
-    (up_maps (DetMapsFailed c.args.vol c.args.plex) c.args.laid c.det_watched-laid.result.0 (call_still {T = Unit {0}} n note c.det_watched-laid.result.0.core (shade_meaning g.R.Shelf.meaning c.det_watched-laid.result.0.shelf) c.in-Err.stop (sym c.is_down_stop.ensures ∙ c.if-is_down_stop.false) (works.leaves n note up.at)) maps.0, quiet_map (PartsStay (laid_parts c.args.laid) (laid_parts c.det_watched-laid.result.0)) (StaysMapped (Up c.args.laid) (Up c.det_watched-laid.result.0)) c.in-Err.stop (stays_up c.args.laid c.det_watched-laid.result.0) maps.1)
+    (up_maps (DetMapsFailed c.args.vol c.args.plex) c.args.laid c.det_watched-laid.result.0 (call_still (Unit {0}) n note c.det_watched-laid.result.0.core (shade_meaning g.R.Shelf.meaning c.det_watched-laid.result.0.shelf) c.in-Err.stop (sym c.is_down_stop.ensures ∙ c.if-is_down_stop.false) (works.leaves n note up.at)) maps.0, quiet_map (PartsStay (laid_parts c.args.laid) (laid_parts c.det_watched-laid.result.0)) (StaysMapped (Up c.args.laid) (Up c.det_watched-laid.result.0)) c.in-Err.stop (stays_up c.args.laid c.det_watched-laid.result.0) maps.1)
 
 pub returns-then-is_down-clause-volumes : goal.returns-then-is_down-clause-volumes
 returns-then-is_down-clause-volumes g c = same_go (laid_seen c.args.laid)
