@@ -136,3 +136,16 @@ pub settled_behind : (c s e : Inner) (m m1 m2 : Meaning) → InnerStands c m →
 settled_behind c s e m m1 m2 stands more narrows finds ends =
     ends_told c e m m2 (λ lacks. let spent = lacks.spent in omega (arith, more, spent))
     (before_settled e m m1 m2 (λ alike. alike_behind c.config (Member c.good m) m m1 stands.kept (header_less c s m m1 stands narrows) finds alike) ends)
+
+-- the same where the call is one that ends with a commit
+pub headers_ended : (c s : Inner) (m m' : Meaning) → InnerStands c m → Narrows c s m m' → FindsFrom NoConfiguration m m' → s.unsettled ≡ true → EndsSettled s m m'
+headers_ended c s m m' stands narrows finds missed = record {
+  ends = λ alike. record {
+    alike = alike_behind c.config (Member c.good m) m m' stands.kept (header_less c s m m' stands narrows) finds alike;
+    none = λ off v. absurd (not_missed s.unsettled missed off);
+  };
+}
+
+pub ends_behind : (c s e : Inner) (m m1 m2 : Meaning) → InnerStands c m → Narrows c s m m1 → FindsFrom NoConfiguration m m1 → EndsSettled e m1 m2 → EndsSettled e m m2
+ends_behind c s e m m1 m2 stands narrows finds ends =
+    before_settled e m m1 m2 (λ alike. alike_behind c.config (Member c.good m) m m1 stands.kept (header_less c s m m1 stands narrows) finds alike) ends
