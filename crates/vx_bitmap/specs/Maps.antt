@@ -60,6 +60,12 @@ pub record Loaded (unit first regions : ℕ) (map : Map) : Type 0 where
   pub begins : map.first ≡ first
   pub long : length map.bytes ≡ BLOCK * div_ceil regions MAP_REGIONS
 
+-- the same of a map of so many bytes
+pub record LoadedIn (unit first count : ℕ) (map : Map) : Type 0 where
+  pub there : map.unit ≡ unit
+  pub begins : map.first ≡ first
+  pub long : length map.bytes ≡ count
+
 -- each block of it is one that a read may give
 pub record IsRead (map : Map) (m : Meaning) : Type 0 where
   pub each : IsTrue m.tells → (k : ℕ) → k < map_block_count map → m.reads map.unit (map.first + k) (block_of map.bytes k)

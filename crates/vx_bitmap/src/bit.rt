@@ -3,7 +3,7 @@ ghost use Rattle.std.specs.Prelude.{◌≡◌, ◌<◌, ℕ, ◌^◌};
 ghost use Rattle.vx_bitmap.specs.Bits.{bit as bit_is, with_bit as with_bit_is};
 
 /// Whether bit k is set, from the lowest.
-pub(crate) fn bit(byte: u8, k: u32) -> bool
+pub fn has_bit(byte: u8, k: u32) -> bool
     requires { k < 8 }
     ensures { result ≡ bit_is byte k }
 {
@@ -15,7 +15,7 @@ pub(crate) fn with_bit(byte: u8, k: u32, value: bool) -> u8
     requires { k < 8 }
     ensures { result ≡ with_bit_is byte k value }
 {
-    let has = bit(byte, k);
+    let has = has_bit(byte, k);
     if value {
         if has { byte } else { byte + weight(k) }
     } else {

@@ -3,12 +3,13 @@ ghost use Rattle.std.specs.Prelude.{◌≡◌, ◌+◌, ◌*◌, ◌/◌, ◌<�
 ghost use Rattle.std.specs.Int.{div_ceil};
 ghost use Rattle.vx_model.specs.declared.limits.TheConstants.{MOST_MAP_BLOCKS};
 ghost use Rattle.vx_bitmap.specs.Bits.{AllAre, Between, Changed, is_marked as is_marked_is};
-ghost use Rattle.vx_bitmap.specs.Maps.{ChangedAt, Changing, IsRead, Lies, LoadCause, Loaded, Map, MapOn, UnitCause, map_block_count, SamePlace, regions_mapped};
-ghost use Rattle.vx_disk.specs.Causes.{DeviceCause};
+ghost use Rattle.vx_bitmap.specs.Maps.{ChangedAt, Changing, IsRead, Lies, LoadCause, Loaded, LoadedIn, Map, MapOn, UnitCause, map_block_count, SamePlace, regions_mapped};
+ghost use Rattle.vx_disk.specs.Causes.{BlamesUnit, DeviceCause};
 ghost use Rattle.vx_disk.specs.Moves.{Moves, Run, Settled};
 ghost use Rattle.vx_disk.specs.Shelf.{Goes, Nothing};
+ghost use Rattle.vx_disk.specs.Spends.{Spends};
 
-use crate::bit::bit;
+use crate::bit::has_bit;
 use crate::change::change;
 use std::alloc::Global;
 use std::marker::Model;
@@ -60,10 +61,41 @@ impl Bitmap {
         ensures cause { IfErr result (LoadCause (S.meaning shelf.old) (S.meaning shelf.new)) }
     {
         let blocks = regions.div_ceil(MAP_REGIONS) as usize;
-        let mut bytes = Vec::from_elem(alloc, 0u8, BLOCK * blocks)?;
+        let bytes = Vec::from_elem(alloc, 0u8, BLOCK * blocks)?;
+        match Bitmap::load_in(bytes, shelf, unit, first) {
+            Ok(map) => Ok(map),
+            Err(no) => Err(Stop::No(no)),
+        }
+    }
+
+    /// The same with memory that was taken before, as many bytes as the map's blocks have. For a map without blocks it makes no device
+    /// call.
+    pub fn load_in<S: Shelf>(
+        bytes: Vec<u8>,
+        shelf: &mut S,
+        unit: u32,
+        first: u64,
+    ) -> Result<Bitmap, No>
+        requires whole { length bytes.items % BLOCK ≡ 0 }
+        requires exists { unit < (S.meaning shelf.old).units }
+        requires within { first + length bytes.items / BLOCK ≤ (S.meaning shelf.old).size unit }
+        requires up { IsFalse (S.meaning shelf.old).down }
+        ensures loaded { IfOk result (λ map. LoadedIn unit first (length bytes.items) map) }
+        ensures lies { IfOk result (λ map. Lies map (S.meaning shelf.new)) }
+        ensures read { IfOk result (λ map. IsRead map (S.meaning shelf.old)) }
+        ensures stands { IfOk result (λ map. Settled (S.meaning shelf.old) (Run unit first (map_block_count map)) → MapOn map (S.meaning shelf.new)) }
+        ensures goes { Goes Nothing (S.meaning shelf.old) (S.meaning shelf.new) }
+        ensures up { (S.meaning shelf.new).down ≡ (S.meaning shelf.old).down }
+        ensures spends { Spends (S.meaning shelf.old) (S.meaning shelf.new) }
+        ensures cause { IfErr result (DeviceCause (S.meaning shelf.old) (S.meaning shelf.new)) }
+    {
+        let mut bytes = bytes;
+        if bytes.is_empty() {
+            return Ok(Bitmap { unit, first, bytes });
+        }
         match shelf.read(unit, first, &mut bytes) {
             Ok(()) => Ok(Bitmap { unit, first, bytes }),
-            Err(error) => Err(Stop::No(refusal(error))),
+            Err(error) => Err(refusal(error)),
         }
     }
 
@@ -72,7 +104,7 @@ impl Bitmap {
         requires inside { region < regions_mapped self.now }
         ensures { result ≡ is_marked_is self.now.bytes region }
     {
-        bit(self.bytes[(region / 8) as usize], (region % 8) as u32)
+        has_bit(self.bytes[(region / 8) as usize], (region % 8) as u32)
     }
 
     /// Marks the regions from `start` to `end`, both included, durably, with a write and a flush for each block in which one is not
@@ -92,6 +124,8 @@ impl Bitmap {
         ensures cause { IfErr result (DeviceCause (S.meaning shelf.old) (S.meaning shelf.new)) }
         ensures unit { UnitCause self.old.unit (S.meaning shelf.old) (S.meaning shelf.new) result }
         ensures nothing { AllAre start end true (is_marked_is self.old.bytes) → shelf.new ≡ shelf.old }
+        ensures spends { Spends (S.meaning shelf.old) (S.meaning shelf.new) }
+        ensures blames { IfErr result (BlamesUnit (S.meaning shelf.old).disks self.old.unit) }
     {
         match change(
             shelf,
@@ -121,6 +155,8 @@ impl Bitmap {
         ensures cause { IfErr result (DeviceCause (S.meaning shelf.old) (S.meaning shelf.new)) }
         ensures unit { UnitCause self.old.unit (S.meaning shelf.old) (S.meaning shelf.new) result }
         ensures nothing { AllAre start end false (is_marked_is self.old.bytes) → shelf.new ≡ shelf.old }
+        ensures spends { Spends (S.meaning shelf.old) (S.meaning shelf.new) }
+        ensures blames { IfErr result (BlamesUnit (S.meaning shelf.old).disks self.old.unit) }
     {
         match change(
             shelf,
@@ -149,6 +185,8 @@ impl Bitmap {
         ensures cause { IfErr result (DeviceCause (S.meaning shelf.old) (S.meaning shelf.new)) }
         ensures unit { UnitCause self.old.unit (S.meaning shelf.old) (S.meaning shelf.new) result }
         ensures nothing { AllAre region region true (is_marked_is self.old.bytes) → shelf.new ≡ shelf.old }
+        ensures spends { Spends (S.meaning shelf.old) (S.meaning shelf.new) }
+        ensures blames { IfErr result (BlamesUnit (S.meaning shelf.old).disks self.old.unit) }
     {
         self.set_run(shelf, region, region)
     }
@@ -166,6 +204,8 @@ impl Bitmap {
         ensures cause { IfErr result (DeviceCause (S.meaning shelf.old) (S.meaning shelf.new)) }
         ensures unit { UnitCause self.old.unit (S.meaning shelf.old) (S.meaning shelf.new) result }
         ensures nothing { AllAre region region false (is_marked_is self.old.bytes) → shelf.new ≡ shelf.old }
+        ensures spends { Spends (S.meaning shelf.old) (S.meaning shelf.new) }
+        ensures blames { IfErr result (BlamesUnit (S.meaning shelf.old).disks self.old.unit) }
     {
         self.clear_run(shelf, region, region)
     }

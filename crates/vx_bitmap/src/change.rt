@@ -2,9 +2,10 @@
 ghost use Rattle.std.specs.Prelude.{◌≡◌, ◌+◌, ◌*◌, ◌/◌, ◌%◌, ◌<◌, ◌≤◌, ◌^◌, ℕ, length, IfErr, OnOk, OnErr, Err};
 ghost use Rattle.vx_bitmap.specs.Bits.{AllAre, Between, Changed, is_marked};
 ghost use Rattle.vx_bitmap.specs.Maps.{ChangedAt, Changing, Lies, MapOn, ShelfCause};
-ghost use Rattle.vx_disk.specs.Causes.{Cause, DeviceCause, refusal_of};
+ghost use Rattle.vx_disk.specs.Causes.{Cause, DeviceCause, Names, refusal_of};
 ghost use Rattle.vx_disk.specs.Moves.{Moves, Run};
 ghost use Rattle.vx_disk.specs.Shelf.{Goes};
+ghost use Rattle.vx_disk.specs.Spends.{Spends};
 
 use crate::run::mark_run;
 use vx_disk::{Shelf, ShelfError, put};
@@ -35,6 +36,8 @@ fn change_block<S: Shelf>(
     ensures cause { IfErr result (λ e. Cause {T = Unit {0}} (S.meaning shelf.old) (S.meaning shelf.new) unit (Err e)) }
     ensures up { ShelfCause unit (S.meaning shelf.old) (S.meaning shelf.new) result }
     ensures nothing { AllAre start end value (is_marked bytes.old) → shelf.new ≡ shelf.old }
+    ensures spends { Spends (S.meaning shelf.old) (S.meaning shelf.new) }
+    ensures names { Names (S.meaning shelf.old).disks unit result }
 {
     let at = (BLOCK as u64 * block) as usize;
     let mut fresh = [0; BLOCK];
@@ -75,6 +78,8 @@ pub(crate) fn change<S: Shelf>(
     ensures cause { IfErr result (λ e. DeviceCause (S.meaning shelf.old) (S.meaning shelf.new) (refusal_of e)) }
     ensures up { ShelfCause unit (S.meaning shelf.old) (S.meaning shelf.new) result }
     ensures nothing { AllAre start end value (is_marked bytes.old) → shelf.new ≡ shelf.old }
+    ensures spends { Spends (S.meaning shelf.old) (S.meaning shelf.new) }
+    ensures names { Names (S.meaning shelf.old).disks unit result }
 {
     for block in start / MAP_REGIONS..end / MAP_REGIONS + 1 {
         let from = start.max(MAP_REGIONS * block);

@@ -8,4 +8,5 @@ mod bitmap;
 mod change;
 mod run;
 
+pub use bit::has_bit;
 pub use bitmap::Bitmap;

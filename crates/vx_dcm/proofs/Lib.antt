@@ -1,4 +1,5 @@
 pub mod Places
 pub mod Tallies
-pub mod Changes
+pub mod RunMarks
+pub mod SlotMarks
 pub mod Fits

@@ -20,8 +20,7 @@ fn all_exist<S: Shelf>(shelf: &S, vols: &[u32]) -> bool
     true
 }
 
-/// Whether the map unit and the volumes are units of a shelf, some volume has a block, and the map unit has room for a map of each volume
-/// for each place of a link.
+/// Whether the map unit and the volumes are units of a shelf, and the map unit has room for a map of each volume for each place of a link.
 pub fn maps_fit<S: Shelf>(units: &Units, shelf: &S) -> bool
     ensures fit { result ≡ true → MapsFit units.now (S.meaning shelf.now) }
     ensures only { MapsFit units.now (S.meaning shelf.now) → result ≡ true }
@@ -32,5 +31,5 @@ pub fn maps_fit<S: Shelf>(units: &Units, shelf: &S) -> bool
     }
     let sizes = sizes_of(shelf, vols);
     let blocks = maps_to(&sizes, sizes.len());
-    blocks > 0 && LINK_PLACES as u64 * blocks <= shelf.size(units.maps)
+    LINK_PLACES as u64 * blocks <= shelf.size(units.maps)
 }

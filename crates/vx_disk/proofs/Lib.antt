@@ -9,8 +9,10 @@ pub mod Fits
 pub mod Flags
 mod Kept
 pub mod Moving
+pub mod Naming
 pub mod Pasts
 pub mod Runs
 pub mod Same
+pub mod Spending
 pub mod Stops
 pub mod Untouching

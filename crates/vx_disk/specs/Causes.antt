@@ -1,5 +1,5 @@
 -- Why a call on a shelf failed, and what is told of the disks of a rack beside.
-use Rattle.std.specs.Prelude.{◌≡◌, ◌≢◌, ◌⊎◌, ℕ, Option, Some, None, IsTrue, false, Result, Ok, Err}
+use Rattle.std.specs.Prelude.{◌≡◌, ◌≢◌, ◌⊎◌, ℕ, Option, Some, None, IsSome, IsTrue, false, Result, Ok, Err}
 use Rattle.vx_disk.specs.declared.shelf.ShelfError.{ShelfError}
 use Rattle.vx_disk.specs.declared.shelf.ShelfError.TheVariants.{Fault, Down}
 use Rattle.vx_model.specs.declared.no.No.{No}
@@ -68,3 +68,8 @@ abbrev pub DeviceCause : Meaning → Meaning → No → Type 0
 DeviceCause old new (Device disk) = Rose (old.disk_faults disk) (new.disk_faults disk)
 DeviceCause old new IsDown = IsTrue new.down
 DeviceCause old new other = ⊥
+
+-- where the shelf is a rack, a refusal 7 names the disk that is this unit
+abbrev pub BlamesUnit : Option Disks → (unit : ℕ) → No → Type 0
+BlamesUnit disks unit (Device disk) = IsSome disks → disk ≡ unit
+BlamesUnit disks unit other = Unit {0}

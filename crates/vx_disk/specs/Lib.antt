@@ -11,4 +11,5 @@ pub mod Plans
 pub mod Racks
 pub mod Runs
 pub mod Shelf
+pub mod Spends
 pub mod Maps

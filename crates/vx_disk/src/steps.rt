@@ -1,8 +1,9 @@
 // A write and a flush.
 ghost use Rattle.std.specs.Prelude.{length, OnOk};
 ghost use Rattle.vx_disk.specs.Burns.{MakesCalls};
-ghost use Rattle.vx_disk.specs.Causes.{Cause};
+ghost use Rattle.vx_disk.specs.Causes.{Cause, Names};
 ghost use Rattle.vx_disk.specs.Shelf.{Fits, Goes, Written, HoldsAll, KeepsAll};
+ghost use Rattle.vx_disk.specs.Spends.{Spends};
 
 use crate::{Shelf, ShelfError};
 
@@ -15,6 +16,8 @@ pub fn put<S: Shelf>(shelf: &mut S, unit: u32, block: u64, bytes: &[u8]) -> Resu
     ensures holds { OnOk result (HoldsAll (S.meaning shelf.new) unit block bytes.now) }
     ensures cause { Cause (S.meaning shelf.old) (S.meaning shelf.new) unit result }
     ensures calls { OnOk result (MakesCalls 2 (S.meaning shelf.old) (S.meaning shelf.new)) }
+    ensures spends { Spends (S.meaning shelf.old) (S.meaning shelf.new) }
+    ensures names { Names (S.meaning shelf.old).disks unit result }
 {
     shelf.write(unit, block, bytes)?;
     shelf.flush(unit)

@@ -7,8 +7,8 @@ use Rattle.vx_disk.specs.Causes.{OnDisks}
 use Rattle.vx_disk.specs.Disks.{Disks, Untouched}
 use Rattle.vx_disk.specs.declared.shelf.Shelf.{Ghosts}
 use Rattle.vx_grouped.specs.SiteEnds.{is_off}
-use Rattle.vx_ringio.proofs.Spending.{loses_none}
-use Rattle.vx_ringio.specs.Spends.{Loses, Passed}
+use Rattle.vx_disk.proofs.Spending.{loses_none}
+use Rattle.vx_disk.specs.Spends.{Loses, Passed}
 use Rattle.vx_events.specs.declared.said.Said.{Said}
 use Rattle.vx_events.specs.declared.said.Said.TheVariants.{DoneAt, Logged, Refused}
 use Rattle.vx_diskset.specs.Asked.{LeavesAlone, LeavesFuse, disks_told, size_in}

@@ -10,7 +10,7 @@ use Rattle.vx_disk.specs.Disks.{Disks}
 use Rattle.vx_disk.specs.Racks.{IsRack}
 use Rattle.vx_disk.specs.Shelf.{Meaning}
 use Rattle.vx_disk.specs.declared.shelf.Shelf.{Ghosts}
-use Rattle.vx_srl.specs.Causes.{BlamesUnit}
+use Rattle.vx_disk.specs.Causes.{BlamesUnit}
 use Rattle.vx_rvg.specs.Groups.{BlamesVolumes}
 use Rattle.vx_rvg.specs.Views.{Core, unit_of}
 use Rattle.vx_rvg.specs.declared.group.Rvg.{Rvg}
@@ -21,7 +21,8 @@ use Rattle.vx_events.specs.Fails.{IsSiteDisk}
 use Rattle.vx_events.proofs.Values.{length-values_from, slice_index-values_from}
 use Rattle.vx_diskset.specs.Layouts.{raw_units, units_of}
 use Rattle.vx_diskset.specs.Shelves.{BlamesRack}
-use Rattle.vx_ringio.specs.Spends.{Spends, Spent}
+use Rattle.vx_disk.specs.Spends.{Spent}
+use Rattle.vx_disk.specs.Spends.{Spends}
 use Rattle.vx_diskset.specs.Stands.{IsReceiverAt, IsUpAt, SiteStands}
 use Rattle.vx_diskset.specs.declared.disk_set.DiskSet.{DiskSet}
 use Rattle.vx_diskset.specs.declared.disk_set.DiskSet.TheVariants.{Up, Receives}

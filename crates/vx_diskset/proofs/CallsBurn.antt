@@ -14,8 +14,8 @@ use Rattle.vx_disk.specs.Disks.{Disks, Crashed, Untouched}
 use Rattle.vx_disk.specs.Shelf.{Meaning}
 use Rattle.vx_disk.specs.declared.shelf.Shelf.{Ghosts}
 use Rattle.vx_disk.proofs.Alikes.{picked_stable}
-use Rattle.vx_ringio.proofs.Spending.{loses_none, loses_both, loses_fewer, works_since}
-use Rattle.vx_ringio.specs.Spends.{BurntOut, Loses, MakesAtLeast, Passed, Spends, Spent}
+use Rattle.vx_disk.proofs.Spending.{loses_none, loses_both, loses_fewer, works_since}
+use Rattle.vx_disk.specs.Spends.{BurntOut, Loses, MakesAtLeast, Passed, Spends, Spent}
 use Rattle.vx_rvg.specs.Groups.{ApplyIs, GroupFails, WriteIs, halted_or, write_refusal}
 use Rattle.vx_rvg.specs.Saves.{SaveIs, change_refusal, reclaim_refusal}
 use Rattle.vx_rvg.specs.Views.{Core, last_of}

@@ -40,6 +40,7 @@ alike_stands core m new alike h stands = record {
   writes = stands.writes;
   place = stands.place;
   maps = record { size = (let least = stands.maps.size in let same = alike.contents.size core.units.maps in omega (arith, least, same)); each = λ b bytes there. keeps_alike m new alike core.units.maps b bytes (stands.maps.each b bytes there) };
+  marks = stands.marks;
   ready = record {
     ring = record {
       is_log = on.is_log;

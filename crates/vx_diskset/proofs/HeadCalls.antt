@@ -10,7 +10,7 @@ use Rattle.vx_disk.specs.Disks.{Disks}
 use Rattle.vx_disk.specs.Shelf.{Meaning}
 use Rattle.vx_disk.specs.declared.shelf.Shelf.{Ghosts}
 use Rattle.vx_disk.proofs.Burning.{no_calls}
-use Rattle.vx_ringio.specs.Spends.{Spends}
+use Rattle.vx_disk.specs.Spends.{Spends}
 use Rattle.vx_rvg.specs.declared.group.Rvg.{Rvg}
 use Rattle.vx_grouped.specs.GroupSites.{site_disks}
 use Rattle.vx_grouped.specs.SiteEnds.{is_off}

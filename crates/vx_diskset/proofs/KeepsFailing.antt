@@ -5,7 +5,7 @@ use Rattle.vx_disk.specs.Causes.{OnDisks, WithDisks}
 use Rattle.vx_disk.specs.Disks.{Disks, Crashed, Untouched}
 use Rattle.vx_disk.specs.Shelf.{Meaning}
 use Rattle.vx_disk.specs.declared.shelf.Shelf.{Ghosts}
-use Rattle.vx_ringio.specs.Spends.{Spends, Spent}
+use Rattle.vx_disk.specs.Spends.{Spends, Spent}
 use Rattle.vx_rvg.specs.declared.group.Rvg.{Rvg}
 use Rattle.vx_diskset.specs.Asked.{SameFailing, LeavesAlone, MayCrash, disks_told, size_in}
 use Rattle.vx_diskset.specs.declared.disk_set.DiskSet.{DiskSet}

@@ -12,8 +12,8 @@ use Rattle.vx_disk.specs.Causes.{DeviceCause}
 use Rattle.vx_disk.specs.Shelf.{Covers, Goes, Keeps, Lawful, Meaning, Nothing, Or, Read, Written, piece}
 use Rattle.vx_disk.proofs.Causing.{cause_before}
 use Rattle.vx_disk.proofs.Runs.{both_Goes, same_Goes, then_nothing, weaker}
-use Rattle.vx_ringio.proofs.Spending.{spends_none, then_spends}
-use Rattle.vx_ringio.specs.Spends.{Spends}
+use Rattle.vx_disk.proofs.Spending.{spends_none, then_spends}
+use Rattle.vx_disk.specs.Spends.{Spends}
 use Rattle.vx_history.specs.World.{Node}
 use Rattle.vx_diskset.specs.Stands.{IsCleanAt}
 use Rattle.vx_diskset.specs.Unlabels.{HasNoFront, OnlyReads, Unlabels}

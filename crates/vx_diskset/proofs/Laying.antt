@@ -1,13 +1,14 @@
 -- How a site lies on its disks, past calls that leave their number and sizes alone, and of a raw set as it is made.
-use Rattle.std.proofs.Common.{◌≡◌, ◌∙◌, ℕ, zero, suc, ◌+◌, ◌-◌, ◌*◌, ◌<◌, ◌≤◌, true, List, [], ◌++◌, length, ap, sym, subst, refl, arith}
+use Rattle.std.proofs.Common.{◌≡◌, ◌∙◌, ℕ, zero, suc, ◌+◌, ◌-◌, ◌*◌, ◌<◌, ◌≤◌, true, List, [], ◌++◌, length, take, ap, sym, subst, refl, arith}
 use Rattle.std.specs.Fmt.{decimal}
-use Rattle.std.specs.Prelude.{None, Option, Some, slice_get, codes}
+use Rattle.std.specs.Prelude.{None, Option, Some, slice_get, slice_index, codes}
+use Rattle.std.proofs.Math.Seq.{take-suc}
 use Rattle.std.proofs.lemmas.Bool.Decides.{nat_tests}
 use Rattle.std.proofs.lemmas.Option.{slice_get_within}
 use Rattle.vx_disk.specs.Maps.{maps_of}
 use Rattle.vx_model.specs.Content.{Content}
 use Rattle.vx_model.specs.Sizes.{map_blocks, ring_of}
-use Rattle.vx_model.specs.declared.limits.TheConstants.{LINK_PLACES}
+use Rattle.vx_model.specs.declared.limits.TheConstants.{LINK_PLACES, MOST_DISKS}
 use Rattle.vx_model.specs.declared.units.Units.{Units}
 use Rattle.vx_history.specs.Steps.{raw_volumes, raw_content}
 use Rattle.vx_events.specs.GroupViews.{config_of}
@@ -18,10 +19,11 @@ use Rattle.vx_disk.specs.Moves.{Blocks, Says, Moves}
 use Rattle.vx_disk.specs.Shelf.{Meaning}
 use Rattle.vx_rvg.specs.Contents.{HasSizes}
 use Rattle.vx_rvg.specs.Views.{unit_of}
+use Rattle.std.proofs.lemmas.Nat.{mul-le}
 use Rattle.std.proofs.lemmas.List.Sums.{sum_by-cons, sum_by_push}
 use Rattle.vx_events.specs.Facts.{values_from}
 use Rattle.vx_events.proofs.Values.{length-values_from, slice_index-values_from, values_from-push}
-use Rattle.vx_diskset.specs.Layouts.{CanBeRaw, IsLaid, IsRaw, LiesBy, LiesOn, LiesRaw, config_units, raw_units, units_by, units_of}
+use Rattle.vx_diskset.specs.Layouts.{CanBeRaw, IsLaid, IsRaw, LiesBy, LiesOn, LiesRaw, config_units, maps_room, raw_units, units_by, units_of}
 
 -- ---- past a call
 
@@ -138,6 +140,19 @@ maps_fit disks blocks m can size =
     let all = maps_from 1 (disks - 2) blocks m (λ i low. size (1 + i) (omega (arith, low))) in
     let last = size (disks - 1) (omega (arith, can.some)) in
     omega (arith, all, last, can.maps)
+
+-- one volume more
+pub maps_next : (m : Meaning) (vols : List ℕ) (k : ℕ) → k < length vols → maps_of (take (k + 1) vols) m ≡ maps_of (take k vols) m + map_blocks (m.size (slice_index vols k))
+maps_next m vols k low =
+    let next : k + 1 ≡ suc k = omega arith in
+    ap (λ (n : ℕ). maps_of (take n vols) m) next ∙ ap (λ (xs : List ℕ). maps_of xs m) (take-suc vols k 0 low) ∙ sum_by_push (λ (u : ℕ). map_blocks (m.size u)) (take k vols) (slice_index vols k)
+
+-- and those maps are no more than those of the most volumes
+pub maps_few : (disks blocks : ℕ) (m : Meaning) → CanBeRaw disks blocks → disks ≤ MOST_DISKS → ((u : ℕ) → u < disks → m.size u ≡ blocks) → LINK_PLACES * maps_of (raw_units disks).vols m ≤ maps_room blocks
+maps_few disks blocks m can few size =
+    let all = maps_from 1 (disks - 2) blocks m (λ i low. size (1 + i) (omega (arith, low))) in
+    let most = mul-le (disks - 2) (map_blocks blocks) 6 (map_blocks blocks) (omega (arith, few)) (omega arith) in
+    omega (arith, all, most)
 
 -- ---- a raw set as it is made
 

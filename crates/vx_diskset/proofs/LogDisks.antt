@@ -6,7 +6,7 @@ use Rattle.vx_model.specs.declared.units.Units.{Units}
 use Rattle.vx_history.specs.World.{Node}
 use Rattle.vx_disk.specs.Disks.{Disks}
 use Rattle.vx_disk.specs.Shelf.{Meaning}
-use Rattle.vx_srl.specs.Causes.{BlamesUnit}
+use Rattle.vx_disk.specs.Causes.{BlamesUnit}
 use Rattle.vx_rvg.specs.Views.{Core}
 use Rattle.vx_events.specs.Fails.{IsLogDisk}
 use Rattle.vx_diskset.specs.Shelves.{IsRackOf}

@@ -192,7 +192,7 @@ raw_holds n m bare some = record {
 }
 
 -- a raw set as it is made
-pub raw_stands : (site : ℕ) (n : Node) (c : Core) (m new : Meaning) → Lawful new → c.log.unit ≡ c.units.srl → IsBareAt n m → CanBeRaw n.disks n.blocks → c ≡ new_core (raw_units n.disks) (first_state site) (ring_of (m.size 0))
+pub raw_stands : (site : ℕ) (n : Node) (c : Core) (m new : Meaning) → Lawful new → c.log.unit ≡ c.units.srl → IsBareAt n m → CanBeRaw n.disks n.blocks → c ≡ new_core (raw_units n.disks) (first_state site) (ring_of (m.size 0)) c.maps
     → Moves (Run 0 0 (ring_of (m.size 0) + 2)) Anything m new → (IsTrue m.tells → (k : Content) (maps : List (List ℕ)) → HoldsContent (raw_units n.disks) k maps m → Stands c (nothing_logged k maps) new) → IsUpAt site_alone (raw_set site n) c new
 raw_stands site n c m new lawful unit_is bare can is moves stands = record {
   state = refl;
@@ -246,12 +246,12 @@ raw_stands site n c m new lawful unit_is bare can is moves stands = record {
 
 -- the same with the units as they were made
 pub made_stands : (site d : ℕ) (n : Node) (c : Core) (units : Units) (state : State) (m new : Meaning) → units ≡ raw_units d → state ≡ first_state site → d ≡ m.units → Lawful new → c.log.unit ≡ c.units.srl
-    → IsBareAt n m → CanBeRaw n.disks n.blocks → c ≡ new_core units state (ring_of (m.size units.srl)) → Moves (Run units.srl 0 (ring_of (m.size units.srl) + 2)) Anything m new
+    → IsBareAt n m → CanBeRaw n.disks n.blocks → c ≡ new_core units state (ring_of (m.size units.srl)) c.maps → Moves (Run units.srl 0 (ring_of (m.size units.srl) + 2)) Anything m new
     → (IsTrue m.tells → (k : Content) (maps : List (List ℕ)) → HoldsContent units k maps m → Stands c (nothing_logged k maps) new) → IsUpAt site_alone (raw_set site n) c new
 made_stands site d n c units state m new units_is state_is d_is lawful unit_is bare can core moves stands =
     let is : units ≡ raw_units n.disks = units_is ∙ ap raw_units (d_is ∙ bare.fitted.units) in
     raw_stands site n c m new lawful unit_is bare can
-    (subst (λ (s : State). c ≡ new_core (raw_units n.disks) s (ring_of (m.size 0))) state_is (subst (λ (u : Units). c ≡ new_core u state (ring_of (m.size u.srl))) is core))
+    (subst (λ (s : State). c ≡ new_core (raw_units n.disks) s (ring_of (m.size 0)) c.maps) state_is (subst (λ (u : Units). c ≡ new_core u state (ring_of (m.size u.srl)) c.maps) is core))
     (subst (λ (u : Units). Moves (Run u.srl 0 (ring_of (m.size u.srl) + 2)) Anything m new) is moves)
     (subst (λ (u : Units). IsTrue m.tells → (k : Content) (maps : List (List ℕ)) → HoldsContent u k maps m → Stands c (nothing_logged k maps) new) is stands)
 

@@ -58,7 +58,7 @@ use Rattle.vx_diskset.specs.declared.disk_set.DiskSet.TheVariants.{Over}
 use Rattle.vx_diskset.specs.declared.over_set.OverSet.{OverSet}
 use Rattle.vx_diskset.specs.declared.over_set.OverSite.{OverSite}
 use Rattle.vx_diskset.specs.declared.over_set.OverSite.TheVariants.{Origin as OriginSite, Receiver as ReceiverSite, Deported as GroupAway, Down as GroupFell, Gone as NoGroup}
-use Rattle.vx_diskset.proofs.CrashGroup.{folded_size}
+use Rattle.vx_model.proofs.Contents.{folded_size}
 use Rattle.vx_diskset.proofs.Laying.{laid_as, laid_in, laid_sized, over_there}
 use Rattle.vx_diskset.proofs.OverClean.{returned_live, returned_place}
 use Rattle.vx_diskset.proofs.OverCrash.{IsUnder, ready_under}

@@ -11,8 +11,8 @@ use Rattle.vx_model.specs.declared.state.State.{State}
 use Rattle.vx_ground.specs.Lifted.{laid_volumes}
 use Rattle.vx_grouped.specs.GroupSites.{laid_disks, site_disks}
 use Rattle.vx_diskset.specs.Aboves.{below_site}
-use Rattle.vx_history.specs.Steps.{half_begun, logged}
-use Rattle.vx_diskset.specs.DiskSets.{AppliedUp, LoggedUp, worked, ReadAt, halted_with, halted_at}
+use Rattle.vx_history.specs.Steps.{half_begun, logged, worked}
+use Rattle.vx_diskset.specs.DiskSets.{AppliedUp, LoggedUp, ReadAt, halted_with, halted_at}
 use Rattle.vx_diskset.specs.Holds.{KeptBeside}
 use Rattle.vx_diskset.specs.Keeps.{KeptUp, kept_anew, restated}
 use Rattle.vx_diskset.specs.Rooms.{AppliedAs}

@@ -37,7 +37,8 @@ use Rattle.vx_diskset.specs.declared.disk_set.DiskSet.TheVariants.{Over}
 use Rattle.vx_diskset.specs.declared.group_set.CutWrite.{CutWrite}
 use Rattle.vx_diskset.specs.declared.over_set.OverSite.TheVariants.{Down as GroupFell}
 use Rattle.vx_diskset.proofs.BesideLemmas.{doubted, writes_itself}
-use Rattle.vx_diskset.proofs.CrashGroup.{folded_size, one_value}
+use Rattle.vx_diskset.proofs.CrashGroup.{one_value}
+use Rattle.vx_model.proofs.Contents.{folded_size}
 use Rattle.vx_diskset.proofs.Laying.{laid_in, laid_sized, over_there}
 
 -- ---- images of the disks, and of the volumes

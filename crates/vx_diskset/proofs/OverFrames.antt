@@ -15,7 +15,6 @@ use Rattle.vx_grouped.specs.declared.group_site.GroupSite.{GroupSite}
 use Rattle.vx_grouped.specs.declared.group_site.GroupSite.TheVariants.{Up, Deported, Down, Marked, Gone}
 use Rattle.vx_grouped.specs.declared.laid.Laid.{Laid}
 use Rattle.vx_diskset.specs.Aboves.{AboveStays, above_site, below_site}
-use Rattle.vx_diskset.specs.DiskSets.{worked}
 use Rattle.vx_diskset.specs.Layouts.{IsLaid, IsLaidBy, LiesBy, LiesOn, units_by, units_of}
 use Rattle.vx_diskset.specs.declared.above.Above.{Above}
 use Rattle.vx_diskset.specs.declared.above.Above.TheVariants.{Nothing, Origin, Receiver}
@@ -27,7 +26,7 @@ use Rattle.vx_events.specs.RvgNotes.{inside_of}
 use Rattle.vx_diskset.proofs.Receiving.{as_held, as_receiver, durable_of, receiver_up}
 use Rattle.vx_diskset.proofs.StaysUp.{kept_whole, told_now, writes_found}
 use Rattle.vx_model.specs.declared.call.Update.{Update}
-use Rattle.vx_history.specs.Steps.{burned}
+use Rattle.vx_history.specs.Steps.{burned, worked}
 use Rattle.vx_history.specs.World.{Fuse, NoFuse, FuseSet, FuseLit, Node}
 use Rattle.vx_disk.specs.Maps.{maps_of}
 use Rattle.vx_disk.specs.Moves.{Blocks, Nowhere}

@@ -23,7 +23,8 @@ use Rattle.vx_grouped.specs.declared.group_site.GroupSite.TheVariants.{Up, Depor
 use Rattle.vx_grouped.specs.declared.idle.Idle.{Idle}
 use Rattle.vx_grouped.specs.declared.laid.Laid.{Laid}
 use Rattle.vx_diskset.specs.Aboves.{AboveStays, IsOutside, above_in, above_site, below_site, site_in}
-use Rattle.vx_diskset.specs.DiskSets.{CrashedAt, worked}
+use Rattle.vx_diskset.specs.DiskSets.{CrashedAt}
+use Rattle.vx_history.specs.Steps.{worked}
 use Rattle.vx_diskset.specs.Holds.{KeptBeside}
 use Rattle.vx_diskset.specs.OverKeeps.{KeepsOver, KeptBy, StaysAbove, StaysHere}
 use Rattle.vx_diskset.specs.Stands.{AboveStands, IsHeldAt, IsOverSite, OverStands, RoleBy}

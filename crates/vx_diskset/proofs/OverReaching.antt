@@ -10,7 +10,7 @@ use Rattle.vx_history.specs.declared.receiver.RAction.{RAction}
 use Rattle.vx_history.specs.World.{Node}
 use Rattle.vx_disk.specs.Shelf.{Meaning}
 use Rattle.vx_rvg.specs.Views.{Core, last_of}
-use Rattle.vx_secondary.specs.Receivers.{write_of_update}
+use Rattle.vx_rvg.specs.Contents.{write_of_update}
 use Rattle.vx_diskset.specs.declared.receivers.Reached.{Reached}
 use Rattle.vx_diskset.specs.Holds.{KeptBeside}
 use Rattle.vx_diskset.specs.Received.{ReachedTo, ReachedOf, ReachedOn}

@@ -46,8 +46,8 @@ use Rattle.vx_diskset.specs.Rooms.{AppliedAs, HasNumbers, IsMore, NeverLimit}
 use Rattle.vx_diskset.proofs.LeavesNumbers.{lacks_them}
 use Rattle.vx_diskset.specs.Stands.{IsHeldAt, IsReceiverAt, IsUpAt, CutAt, SiteStands, IsUngrouped}
 use Rattle.vx_diskset.proofs.BesideLemmas.{never_besides, site_map}
-use Rattle.vx_ringio.specs.Spends.{Spends}
-use Rattle.vx_ringio.proofs.Spending.{spends_none, then_spends}
+use Rattle.vx_disk.specs.Spends.{Spends}
+use Rattle.vx_disk.proofs.Spending.{spends_none, then_spends}
 use Rattle.vx_diskset.proofs.MakeRoom.{rose_later}
 use Rattle.vx_diskset.proofs.Mores.{more_none, more_then, wait_more}
 use Rattle.vx_diskset.proofs.Laying.{laid_in, lies_sized}

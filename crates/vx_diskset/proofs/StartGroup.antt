@@ -21,8 +21,9 @@ use Rattle.vx_overlay.specs.Writes.{newest_of}
 use Rattle.std.specs.Prelude.{MatchOption, Some, Err}
 use Rattle.vx_rvg.specs.Holdings.{Holding}
 use Rattle.vx_rvg.specs.Stands.{LeftGroup}
-use Rattle.vx_rvg.specs.Starts.{IsStarted, Starting, StartCause, NothingLeft, ring_in}
+use Rattle.vx_rvg.specs.Starts.{IsStarted, Room, Starting, StartCause, NothingLeft, ring_in}
 use Rattle.vx_rvg.specs.Views.{Core, UnitsPlaced, last_of, unit_of}
+use Rattle.vx_rvg.proofs.MapStands.{room_as}
 use Rattle.vx_rvg.proofs.WriteSound.{maps_fit_as}
 use Rattle.vx_model.specs.declared.limits.TheConstants.{LINK_PLACES}
 use Rattle.vx_rvg.proofs.ContentFacts.{stands_last}
@@ -37,8 +38,8 @@ use Rattle.vx_diskset.proofs.MakeGroup.{placed_raw}
 use Rattle.vx_diskset.specs.DiskSets.{CanStart, CameUp, CameUpIs, no_number}
 use Rattle.vx_events.specs.Found.{SameDisks}
 use Rattle.vx_diskset.specs.Holds.{HasWrites, state_with}
-use Rattle.vx_diskset.specs.Layouts.{LiesRaw, raw_units, units_of}
-use Rattle.vx_diskset.proofs.Laying.{maps_fit, raw_as, raw_on, sizes_of, units_raw}
+use Rattle.vx_diskset.specs.Layouts.{IsRoomOf, LiesOn, LiesRaw, raw_units, units_of}
+use Rattle.vx_diskset.proofs.Laying.{lies_as, maps_few, maps_fit, raw_as, raw_on, sizes_of, units_raw}
 use Rattle.vx_diskset.specs.Holds.{most_header}
 use Rattle.vx_diskset.specs.Fuses.{FuseOn}
 use Rattle.vx_diskset.specs.Stands.{IsUpAt, IsDownAt, SiteStands, faults_at}
@@ -342,27 +343,30 @@ module _ {beside : KeptBeside} (n : Node) (m up new last : Meaning) (is : IsDown
 -- ---- the disk set of the site
 
 -- a site that is down can be started
-pub can_start : {beside : KeptBeside} (n : Node) (m : Meaning) (ring : ℕ) → IsDownAt beside n m → ring ≡ n.ring → CanStart ring m
-can_start n m ring is ring_is = record {
+pub can_start : {beside : KeptBeside} (n : Node) (m : Meaning) (room : Room) → IsDownAt beside n m → IsRoomOf n.blocks n.ring room → CanStart room m
+can_start n m room is fits = record {
   holds = record {
     some = omega (arith, is.lies.units, is.lies.can.some);
     few = omega (arith, is.lies.units, is.lies.few);
     large = is.lies.laid.large;
-    is_ring = ring_is ∙ is.lies.laid.ring_is;
+    is_ring = fits.ring_is ∙ is.lies.laid.ring_is;
     maps = subst (λ (k : ℕ). LINK_PLACES * maps_of (raw_units k).vols m ≤ m.size (raw_units k).maps) (sym is.lies.units) (maps_fit n.disks n.blocks m is.lies.can is.lies.size);
+    takes = subst (λ (k : ℕ). LINK_PLACES * maps_of (raw_units k).vols m ≤ room.maps) (sym is.lies.units) (omega (arith, maps_few n.disks n.blocks m is.lies.can is.lies.few is.lies.size, fits.maps_are));
   };
   down = is.down;
 }
 
 -- what a start needs
-pub start_needs : (disks ring : ℕ) (units : Units) (m up : Meaning) → CanStart ring m → Alike m up → units ≡ raw_units disks → disks ≡ up.units
-    → UnitsPlaced units up × (8 ≤ up.size units.srl) × (ring ≡ ring_in units up)
-start_needs disks ring units m up can alike is disks_is =
+pub start_needs : (disks : ℕ) (room : Room) (units : Units) (m up : Meaning) → CanStart room m → Alike m up → units ≡ raw_units disks → disks ≡ up.units
+    → UnitsPlaced units up × (8 ≤ up.size units.srl) × (room.ring ≡ ring_in units up) × (LINK_PLACES * maps_of units.vols up ≤ room.maps)
+start_needs disks room units m up can alike is disks_is =
     let size : up.size units.srl ≡ m.size 0 = ap (λ (u : Units). up.size u.srl) is ∙ alike.contents.size 0 in (
       subst (λ (u : Units). UnitsPlaced u up) (sym is) (placed_raw disks up disks_is (omega (arith, disks_is, alike.contents.units, can.holds.some))
           (subst (λ (k : ℕ). LINK_PLACES * maps_of (raw_units k).vols up ≤ up.size (raw_units k).maps) (sym alike.contents.units ∙ sym disks_is) (maps_fit_as (raw_units m.units) m up alike.contents.size can.holds.maps))),
       omega (arith, size, can.holds.large),
       can.holds.is_ring ∙ sym (ap ring_of size),
+      subst (λ (u : Units). LINK_PLACES * maps_of u.vols up ≤ room.maps) (sym is)
+          (subst (λ (k : ℕ). LINK_PLACES * maps_of (raw_units k).vols up ≤ room.maps) (sym alike.contents.units ∙ sym disks_is) (room_as (raw_units m.units) room.maps m up alike.contents.size can.holds.takes)),
     )
 
 module _ {R : Type 0} {g : Ghosts R} where

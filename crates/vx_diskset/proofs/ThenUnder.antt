@@ -9,8 +9,8 @@ use Rattle.vx_disk.specs.Disks.{Disks}
 use Rattle.vx_disk.specs.Shelf.{Meaning}
 use Rattle.vx_disk.specs.declared.shelf.Shelf.{Ghosts}
 use Rattle.vx_disk.proofs.Burning.{then_calls, then_short}
-use Rattle.vx_ringio.specs.Spends.{BurntOut, Passed, Spent}
-use Rattle.vx_ringio.proofs.Spending.{spent_both}
+use Rattle.vx_disk.specs.Spends.{BurntOut, Passed, Spent}
+use Rattle.vx_disk.proofs.Spending.{spent_both}
 use Rattle.vx_events.specs.declared.said.Said.{Said}
 use Rattle.vx_events.specs.declared.said.Said.TheVariants.{Done, DoneAt, Logged, Refused}
 use Rattle.vx_diskset.specs.Asked.{HeadUnder, LeavesFuse, ShortBy, TakesBy, WorksBy, disks_told, size_in}

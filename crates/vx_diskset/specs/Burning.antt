@@ -4,7 +4,7 @@ use Rattle.vx_model.specs.declared.no.No.{No}
 use Rattle.vx_model.specs.declared.no.No.TheVariants.{Down as IsDown}
 use Rattle.vx_disk.specs.Disks.{Disks}
 use Rattle.vx_grouped.specs.SiteEnds.{is_off}
-use Rattle.vx_ringio.specs.Spends.{BurntOut, Loses, Passed}
+use Rattle.vx_disk.specs.Spends.{BurntOut, Loses, Passed}
 use Rattle.vx_events.specs.declared.said.Said.{Said}
 use Rattle.vx_events.specs.declared.said.Said.TheVariants.{DoneAt, Logged, Refused}
 

@@ -18,6 +18,7 @@ use Rattle.vx_disk.specs.Counts.{Rose}
 use Rattle.vx_disk.specs.Racks.{most_blocks}
 use Rattle.vx_disk.specs.Shelf.{Meaning}
 use Rattle.vx_disk.specs.declared.shelf.Shelf.{Ghosts}
+use Rattle.vx_rvg.specs.Starts.{Room}
 use Rattle.vx_rvg.specs.Contents.{ShowsContent}
 use Rattle.vx_srl.specs.Views.{most_number}
 use Rattle.vx_diskset.specs.declared.disk_set.DiskSet.{DiskSet}
@@ -72,17 +73,18 @@ pub record CanApply (n : Node) : Type 0 where
   pub up : n.state ≡ IsUp
   pub running : n.halted ≡ None
 
--- disks on which a raw set can be, in whose log there are so many ring blocks
-pub record CanHold (ring : ℕ) (m : Meaning) : Type 0 where
+-- disks on which a raw set can be, for whose log and change maps there is this room
+pub record CanHold (room : Room) (m : Meaning) : Type 0 where
   pub some : 3 ≤ m.units
   pub few : m.units ≤ MOST_DISKS
   pub large : LEAST_BLOCKS ≤ m.size (raw_units m.units).srl
-  pub is_ring : ring ≡ ring_of (m.size (raw_units m.units).srl)
+  pub is_ring : room.ring ≡ ring_of (m.size (raw_units m.units).srl)
   pub maps : LINK_PLACES * maps_of (raw_units m.units).vols m ≤ m.size (raw_units m.units).maps
+  pub takes : LINK_PLACES * maps_of (raw_units m.units).vols m ≤ room.maps
 
 -- the same of disks that are down
-pub record CanStart (ring : ℕ) (m : Meaning) : Type 0 where
-  pub holds : CanHold ring m
+pub record CanStart (room : Room) (m : Meaning) : Type 0 where
+  pub holds : CanHold room m
   pub down : IsTrue m.down
 
 module _ {R : Type 0} {g : Ghosts R} where

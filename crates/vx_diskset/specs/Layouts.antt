@@ -7,6 +7,7 @@ use Rattle.vx_history.specs.Groups.{GroupNode}
 use Rattle.vx_history.specs.World.{Node, Volume}
 use Rattle.vx_config.specs.declared.config.Config.{Config}
 use Rattle.vx_disk.specs.Shelf.{Meaning}
+use Rattle.vx_rvg.specs.Starts.{Room}
 use Rattle.vx_rvg.specs.Views.{unit_of}
 use Rattle.vx_events.specs.Facts.{values_from}
 use Rattle.vx_events.specs.GroupViews.{config_of}
@@ -52,6 +53,15 @@ IsLaid u ring volumes sizes m = IsLaidBy u ring volumes sizes m.size
 pub record CanBeRaw (disks blocks : ℕ) : Type 0 where
   pub some : 3 ≤ disks
   pub maps : LINK_PLACES * (disks - 2) * map_blocks blocks ≤ blocks
+
+-- the blocks of change maps for which a start of a raw set on disks of so many blocks has room: as many as the most volumes take
+abbrev pub maps_room : ℕ → ℕ
+maps_room blocks = LINK_PLACES * (MOST_DISKS - 2) * map_blocks blocks
+
+-- memory for the start of a raw set on disks of so many blocks, whose log has so many ring blocks
+pub record IsRoomOf (blocks ring : ℕ) (room : Room) : Type 0 where
+  pub ring_is : room.ring ≡ ring
+  pub maps_are : maps_room blocks ≤ room.maps
 
 -- so many disks of so many blocks, each of them a unit of the shelf, with a raw set on them
 pub record IsRaw (disks blocks ring : ℕ) (volumes : List Volume) (sizes : ℕ → ℕ) (m : Meaning) : Type 0 where

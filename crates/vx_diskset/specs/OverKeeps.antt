@@ -5,11 +5,11 @@ use Rattle.vx_grouped.specs.declared.group_site.GroupSite.{GroupSite}
 use Rattle.vx_grouped.specs.GroupSites.{laid_disks}
 use Rattle.vx_grouped.specs.declared.group_site.GroupSite.TheVariants.{Up, Deported, Down}
 use Rattle.vx_grouped.specs.declared.idle.Idle.{Idle}
-use Rattle.vx_history.specs.Steps.{burned, crashed, deported_site}
+use Rattle.vx_history.specs.Steps.{burned, crashed, deported_site, worked}
 use Rattle.vx_history.specs.World.{Node}
 use Rattle.vx_model.specs.declared.site.SiteState.TheVariants.{Up as IsUp}
 use Rattle.vx_diskset.specs.Aboves.{above_in, site_in}
-use Rattle.vx_diskset.specs.DiskSets.{CrashedAt, worked}
+use Rattle.vx_diskset.specs.DiskSets.{CrashedAt}
 use Rattle.vx_diskset.specs.Holds.{KeptBeside}
 use Rattle.vx_diskset.specs.Stands.{RoleBy, SiteStands}
 use Rattle.vx_diskset.specs.declared.above.Above.{Above}

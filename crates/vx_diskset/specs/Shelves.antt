@@ -8,7 +8,7 @@ use Rattle.vx_disk.specs.Shelf.{Meaning}
 use Rattle.vx_events.specs.Fails.{IsLogDisk}
 use Rattle.vx_events.specs.Fuses.{IsExact}
 use Rattle.vx_events.specs.declared.said.Said.{Said}
-use Rattle.vx_history.specs.Steps.{half_begun, logged}
+use Rattle.vx_history.specs.Steps.{half_begun, logged, worked}
 use Rattle.vx_history.specs.Stops.{IsFused}
 use Rattle.vx_history.specs.World.{Node}
 use Rattle.vx_model.specs.Content.{Write}
@@ -22,7 +22,7 @@ use Rattle.vx_rvg.specs.Views.{Core}
 use Rattle.vx_srl.specs.Views.{most_number}
 use Rattle.vx_diskset.specs.Blames.{IsGroupDisk}
 use Rattle.vx_diskset.specs.Burning.{Burnt}
-use Rattle.vx_diskset.specs.DiskSets.{halted_at, halted_with, no_number, worked}
+use Rattle.vx_diskset.specs.DiskSets.{halted_at, halted_with, no_number}
 use Rattle.vx_diskset.specs.Holds.{KeptBeside, most_header, sure_of}
 use Rattle.vx_diskset.specs.Keeps.{doubting, kept_anew, restated}
 use Rattle.vx_diskset.specs.Stands.{IsHeldAt, IsUpAt}

@@ -2,7 +2,7 @@
 use Rattle.std.specs.Prelude.{ℕ, ◌<◌}
 use Rattle.vx_model.specs.Content.{zero_block}
 use Rattle.vx_disk.specs.Shelf.{Goes, Keeps, Meaning, Nothing}
-use Rattle.vx_ringio.specs.Spends.{Spends}
+use Rattle.vx_disk.specs.Spends.{Spends}
 use Rattle.vx_diskset.specs.Zeros.{OnlyZeros}
 
 -- the first block of each disk holds zeros

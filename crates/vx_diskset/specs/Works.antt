@@ -135,7 +135,7 @@ OnlyLog units old new = Moves (LogBlocks units) Anything old new
 
 abbrev pub DoesMake : Units → State → Meaning → Meaning → Result Core Stop → Type 0
 DoesMake units state m m' (Ok c) =
-    OnlyLog units m m' × IsSound c m' × (c ≡ new_core units state (ring_of (m.size units.srl))) × (IsTrue m'.down → ⊥)
+    OnlyLog units m m' × IsSound c m' × (c ≡ new_core units state (ring_of (m.size units.srl)) c.maps) × (IsTrue m'.down → ⊥)
     × (IsTrue m.tells → (k : Content) (maps : List (List ℕ)) → HoldsContent units k maps m → Stands c (nothing_logged k maps) m')
 DoesMake units state m m' (Err stop) = OnlyLog units m m' × MakeCause m m' stop
 

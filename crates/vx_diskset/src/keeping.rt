@@ -5,7 +5,7 @@ ghost use Rattle.vx_model.specs.declared.state.State.{State};
 ghost use Rattle.vx_disk.specs.Burns.{FallsShort, MakesCalls};
 ghost use Rattle.vx_disk.specs.Causes.{Works};
 ghost use Rattle.vx_history.specs.World.{Node};
-ghost use Rattle.vx_ringio.specs.Spends.{Spends};
+ghost use Rattle.vx_disk.specs.Spends.{Spends};
 ghost use Rattle.vx_srlfmt.specs.Headers.{CanSpellState};
 ghost use Rattle.vx_secondary.specs.Receivers.{Wait};
 ghost use Rattle.vx_diskset.specs.Asked.{HeadUnder, IsRawSet, LeavesFuse};

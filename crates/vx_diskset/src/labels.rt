@@ -5,7 +5,7 @@ ghost use Rattle.vx_disk.specs.Causes.{DeviceCause, refusal_of};
 ghost use Rattle.vx_disk.specs.Shelf.{Goes, Keeps, Nothing};
 ghost use Rattle.vx_history.specs.World.{Node};
 ghost use Rattle.vx_model.specs.Content.{zero_block};
-ghost use Rattle.vx_ringio.specs.Spends.{Spends};
+ghost use Rattle.vx_disk.specs.Spends.{Spends};
 ghost use Rattle.vx_diskset.specs.Stands.{IsCleanAt};
 ghost use Rattle.vx_diskset.specs.Unlabels.{HasNoFront, Unlabels};
 ghost use Rattle.vx_diskset.specs.Zeros.{OnlyZeros};

@@ -1,8 +1,10 @@
 // How the replicated volume group of a group of disks that came up is started.
-ghost use Rattle.std.specs.Prelude.{◌≡◌, ◌≤◌, [], Err, IfOk};
+ghost use Rattle.std.specs.Prelude.{◌≡◌, ◌*◌, ◌<◌, ◌≤◌, ℕ, [], Err, IfOk, length, slice_index};
+ghost use Rattle.vx_disk.specs.Maps.{maps_of};
 ghost use Rattle.vx_diskset.specs.OverStarts.{BackOver, FellBack, StartsOver, WithRvg, WithUnits, above_by};
 ghost use Rattle.vx_ground.specs.Lifted.{laid_volumes};
 ghost use Rattle.vx_model.specs.Sizes.{ring_of};
+ghost use Rattle.vx_model.specs.declared.limits.TheConstants.{LINK_PLACES, MOST_DATA_VOLUMES};
 ghost use Rattle.vx_rvg.specs.Views.{UnitsPlaced};
 
 use crate::group_set::CutWrite;
@@ -14,8 +16,8 @@ use vx_config::Config;
 use vx_disk::Rack;
 use vx_ground::work_over;
 use vx_grouped::{GroupSite, Laid};
-use vx_model::limits::LEAST_BLOCKS;
-use vx_model::{No, OutOfMemory, Stop, Units, is_origin};
+use vx_model::limits::{LEAST_BLOCKS, LINK_PLACES};
+use vx_model::{No, OutOfMemory, Stop, Units, is_origin, map_blocks};
 use vx_rvg::{RvgCore, StartRoom};
 use vx_secondary::Waiting;
 
@@ -30,12 +32,31 @@ fn by_role(core: RvgCore, waiting: Waiting) -> Above
     }
 }
 
-// Memory for a start, whose log has so many blocks.
-fn start_room(alloc: Global, blocks: u64) -> Result<(StartRoom, Waiting), OutOfMemory>
-    requires { LEAST_BLOCKS ≤ blocks }
-    ensures { IfOk result (λ rooms. (rooms.0.ring ≡ ring_of blocks) × (rooms.1 ≡ [])) }
+// How many blocks the change maps of these data volumes of a group take.
+fn maps_over<R: Rack>(laid: &Laid<R>, vols: &[u32]) -> u64
+    requires few { length vols.now ≤ MOST_DATA_VOLUMES }
+    requires exist { (v : ℕ) → v < length vols.now → slice_index vols.now v < (laid_volumes laid.now).units }
+    ensures { result ≡ LINK_PLACES * maps_of vols.now (laid_volumes laid.now) }
 {
-    let room = StartRoom::new(alloc, blocks)?;
+    let mut total = 0;
+    for k in 0..vols.len() {
+        let blocks = laid.size(vols[k]);
+        let maps = map_blocks(blocks);
+        total += maps;
+    }
+    LINK_PLACES as u64 * total
+}
+
+// Memory for a start, whose log and change maps have so many blocks.
+fn start_room(
+    alloc: Global,
+    blocks: u64,
+    maps: u64,
+) -> Result<(StartRoom, Waiting), OutOfMemory>
+    requires { LEAST_BLOCKS ≤ blocks }
+    ensures { IfOk result (λ rooms. (rooms.0.ring ≡ ring_of blocks) × (rooms.0.maps ≡ maps) × (rooms.1 ≡ [])) }
+{
+    let room = StartRoom::new(alloc, blocks, maps)?;
     let waiting = Waiting::new(alloc)?;
     Ok((room, waiting))
 }
@@ -81,6 +102,7 @@ fn start_with<R: Rack>(
     requires there { UnitsPlaced units.now (laid_volumes laid) }
     requires large { LEAST_BLOCKS ≤ (laid_volumes laid).size units.now.srl }
     requires room { rooms.0.ring ≡ ring_of ((laid_volumes laid).size units.now.srl) }
+    requires maps { LINK_PLACES * maps_of units.now.vols (laid_volumes laid) ≤ rooms.0.maps }
     requires none { rooms.1 ≡ [] }
     ensures starts { StartsOver units.now laid cut result.0 result.1 }
 {
@@ -110,7 +132,9 @@ fn start_over<R: Rack>(
     ensures starts { StartsOver units.now laid cut result.0 result.1 }
 {
     let blocks = laid.size(units.srl);
-    match start_room(alloc, blocks) {
+    let vols = units.vols.as_slice();
+    let maps = maps_over(&laid, vols);
+    match start_room(alloc, blocks, maps) {
         Ok(rooms) => start_with(laid, cut, units, away, rooms),
         Err(_) => back_over(laid, cut, away, Stop::OutOfMemory),
     }

@@ -1,7 +1,8 @@
 // What is done to a replicated volume group over the volumes of a disk group.
-ghost use Rattle.std.specs.Prelude.{◌≡◌, ◌<◌, ◌≤◌, ℕ, Contains};
+ghost use Rattle.std.specs.Prelude.{◌≡◌, ◌*◌, ◌<◌, ◌≤◌, ℕ, Contains};
+ghost use Rattle.vx_disk.specs.Maps.{maps_of};
 ghost use Rattle.vx_diskset.specs.Works.{AsksReach, AsksRead, AsksShow, AsksWrite, DoesApply, DoesKeep, DoesMake, DoesReach, DoesRead, DoesRewrite, DoesShow, DoesStart, DoesWrite};
-ghost use Rattle.vx_model.specs.declared.limits.TheConstants.{LEAST_BLOCKS};
+ghost use Rattle.vx_model.specs.declared.limits.TheConstants.{LEAST_BLOCKS, LINK_PLACES};
 ghost use Rattle.vx_rvg.specs.Starts.{ring_in};
 ghost use Rattle.vx_rvg.specs.Views.{IsSound, UnitsPlaced};
 ghost use Rattle.vx_srlfmt.specs.Headers.{CanSpellState};
@@ -202,7 +203,7 @@ pub(crate) struct Starts<'a> {
 impl<'a> Work for Starts<'a> {
     type Answer = Result<RvgCore, No>;
 
-    ghost asks = { λ w m. UnitsPlaced w.units.now m × (LEAST_BLOCKS ≤ m.size w.units.now.srl) × (w.room.ring ≡ ring_in w.units.now m) };
+    ghost asks = { λ w m. UnitsPlaced w.units.now m × (LEAST_BLOCKS ≤ m.size w.units.now.srl) × (w.room.ring ≡ ring_in w.units.now m) × (LINK_PLACES * maps_of w.units.now.vols m ≤ w.room.maps) };
 
     ghost does = { λ w m n r. DoesStart w.units.now m n r };
 

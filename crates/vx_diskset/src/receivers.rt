@@ -4,7 +4,7 @@ ghost use Rattle.vx_model.specs.Content.{blocks_in};
 ghost use Rattle.vx_model.specs.declared.limits.TheConstants.{MOST_CALL_BYTES};
 ghost use Rattle.vx_model.specs.declared.site.SiteState.TheVariants.{Up as UpState};
 ghost use Rattle.vx_history.specs.World.{Node};
-ghost use Rattle.vx_ringio.specs.Spends.{Spends};
+ghost use Rattle.vx_disk.specs.Spends.{Spends};
 ghost use Rattle.vx_secondary.specs.Receivers.{Wait};
 ghost use Rattle.vx_diskset.specs.Asked.{IsRawSet, LeavesAlone, LeavesFuse};
 ghost use Rattle.vx_diskset.specs.Blames.{BlamesSite};

@@ -5,13 +5,13 @@ ghost use Rattle.vx_model.specs.Content.{zero_block};
 ghost use Rattle.vx_model.specs.Sizes.{ring_of};
 ghost use Rattle.vx_disk.specs.Causes.{DeviceCause};
 ghost use Rattle.vx_disk.specs.Shelf.{Goes, Keeps, Nothing};
-ghost use Rattle.vx_ringio.specs.Spends.{Spends};
+ghost use Rattle.vx_disk.specs.Spends.{Spends};
 ghost use Rattle.vx_ringio.specs.Tracks.{RingLies};
 ghost use Rattle.vx_diskset.specs.Holds.{KeptBeside};
 ghost use Rattle.vx_history.specs.World.{Node};
 ghost use Rattle.vx_diskset.specs.Asked.{SameFailing};
 ghost use Rattle.vx_diskset.specs.DiskSets.{Later, CanHold, CanStart, MadeIs, BareUpIs};
-ghost use Rattle.vx_diskset.specs.Layouts.{CanBeRaw, raw_units as units_of};
+ghost use Rattle.vx_diskset.specs.Layouts.{CanBeRaw, IsRoomOf, raw_units as units_of};
 ghost use Rattle.vx_diskset.specs.Stands.{IsBareAt, IsCleanAt, IsMarkedAt};
 
 use crate::labels::unlabel_all;
@@ -19,6 +19,7 @@ use crate::units::raw_units;
 use crate::zeroing::zero_disks;
 use crate::{DiskSet, GroupSet};
 use std::alloc::Global;
+use vx_dcm::room_blocks;
 use vx_disk::{Rack, refusal};
 use vx_grouped::GroupSite;
 use vx_model::limits::{LEAST_BLOCKS, LEAST_RAW_DISKS, LINK_PLACES, MOST_DISKS};
@@ -126,30 +127,44 @@ fn has_log<R: Rack>(rack: &mut R, ring: u64) -> Result<bool, No>
     is_log(rack, ring, 1)
 }
 
-// Whether these are disks on which a raw set can be, in whose log there is this room.
+// Whether so many blocks are room for the change maps of a raw set on these disks.
+fn has_room<R: Rack>(rack: &R, blocks: u64) -> bool
+    requires some { LEAST_RAW_DISKS ≤ (R.meaning rack.now).units }
+    requires few { (R.meaning rack.now).units ≤ MOST_DISKS }
+    requires maps { LINK_PLACES * maps_of (units_of (R.meaning rack.now).units).vols (R.meaning rack.now) ≤ (R.meaning rack.now).size (units_of (R.meaning rack.now).units).maps }
+    ensures is { IsTrue result → LINK_PLACES * maps_of (units_of (R.meaning rack.now).units).vols (R.meaning rack.now) ≤ blocks }
+    ensures all { LINK_PLACES * maps_of (units_of (R.meaning rack.now).units).vols (R.meaning rack.now) ≤ blocks → IsTrue result }
+{
+    room_blocks(&raw_units(rack.units()), rack) <= blocks
+}
+
+// Whether these are disks on which a raw set can be, for whose log and change maps there is this room.
 fn can_hold<R: Rack>(rack: &R, room: &StartRoom) -> bool
-    ensures is { IsTrue result → CanHold room.now.ring (R.meaning rack.now) }
-    ensures all { CanHold room.now.ring (R.meaning rack.now) → IsTrue result }
+    ensures is { IsTrue result → CanHold room.now (R.meaning rack.now) }
+    ensures all { CanHold room.now (R.meaning rack.now) → IsTrue result }
 {
     let disks = rack.units();
     if disks < LEAST_RAW_DISKS || disks > MOST_DISKS {
         return false;
     }
     let blocks = rack.size(0);
-    blocks >= LEAST_BLOCKS && room.ring() == ring_blocks(blocks) && has_maps(rack)
+    blocks >= LEAST_BLOCKS
+        && room.ring() == ring_blocks(blocks)
+        && has_maps(rack)
+        && has_room(rack, room.maps())
 }
 
 // The same of disks that are down.
 fn can_start<R: Rack>(rack: &R, room: &StartRoom) -> bool
-    ensures is { IsTrue result → CanStart room.now.ring (R.meaning rack.now) }
-    ensures all { CanStart room.now.ring (R.meaning rack.now) → IsTrue result }
+    ensures is { IsTrue result → CanStart room.now (R.meaning rack.now) }
+    ensures all { CanStart room.now (R.meaning rack.now) → IsTrue result }
 {
     rack.is_down() && can_hold(rack, room)
 }
 
 // Starts what stands on the disks of a bare site. Where it is refused, the site stays bare.
 fn start_bare<R: Rack>(rack: R, room: StartRoom) -> (DiskSet<R>, Result<(), No>)
-    ensures found { (n : Node) → IsCleanAt n (R.meaning rack) → CanBeRaw n.disks n.blocks → room.ring ≡ ring_of n.blocks → BareUpIs n (DiskSet.Bare rack) result.0 result.1 }
+    ensures found { (n : Node) → IsCleanAt n (R.meaning rack) → CanBeRaw n.disks n.blocks → IsRoomOf n.blocks (ring_of n.blocks) room → BareUpIs n (DiskSet.Bare rack) result.0 result.1 }
     ensures failing { SameFailing (DiskSet.Bare rack) result.0 }
     ensures later { Later (DiskSet.Bare rack) result.0 }
 {
@@ -204,7 +219,7 @@ impl<R: Rack> DiskSet<R> {
 
     /// Starts what stands on the disks of a site that crashed, with room taken before. Where it is refused, the disks crash again.
     pub fn recover(self, room: StartRoom) -> (DiskSet<R>, Result<(), No>)
-        ensures recovered { (beside : KeptBeside) (n : Node) → SiteStands beside n self → n.state ≡ DownState → n.group ≡ None → room.ring ≡ n.ring → CameUpIs beside n self result.0 result.1 }
+        ensures recovered { (beside : KeptBeside) (n : Node) → SiteStands beside n self → n.state ≡ DownState → n.group ≡ None → IsRoomOf n.blocks n.ring room → CameUpIs beside n self result.0 result.1 }
         ensures failing { SameFailing self result.0 }
         ensures later { Later self result.0 }
     {
@@ -254,7 +269,7 @@ impl<R: Rack> DiskSet<R> {
     /// it is refused, the disks crash again.
     pub fn recover_any(self, room: StartRoom, waiting: Waiting) -> (DiskSet<R>, Result<(), No>)
         requires none { waiting ≡ [] }
-        ensures recovered { (beside : KeptBeside) (n : Node) → SiteStands beside n self → n.state ≡ DownState → n.group ≡ None → room.ring ≡ n.ring → CameUpByIs beside n self result.0 result.1 }
+        ensures recovered { (beside : KeptBeside) (n : Node) → SiteStands beside n self → n.state ≡ DownState → n.group ≡ None → IsRoomOf n.blocks n.ring room → CameUpByIs beside n self result.0 result.1 }
         ensures failing { SameFailing self result.0 }
         ensures later { Later self result.0 }
     {
@@ -269,7 +284,7 @@ impl<R: Rack> DiskSet<R> {
     /// Where it is refused, the site stays bare.
     pub fn recover_bare_any(self, room: StartRoom, waiting: Waiting) -> (DiskSet<R>, Result<(), No>)
         requires none { waiting ≡ [] }
-        ensures found { (beside : KeptBeside) (n : Node) → SiteStands beside n self → n.state ≡ BareState → CanBeRaw n.disks n.blocks → room.ring ≡ ring_of n.blocks → BareUpByIs n self result.0 result.1 }
+        ensures found { (beside : KeptBeside) (n : Node) → SiteStands beside n self → n.state ≡ BareState → CanBeRaw n.disks n.blocks → IsRoomOf n.blocks (ring_of n.blocks) room → BareUpByIs n self result.0 result.1 }
         ensures failing { SameFailing self result.0 }
         ensures later { Later self result.0 }
     {
@@ -282,7 +297,7 @@ impl<R: Rack> DiskSet<R> {
 
     /// Starts what an earlier run left on the disks of a bare site, with room taken before. Where it is refused, the site stays bare.
     pub fn recover_bare(self, room: StartRoom) -> (DiskSet<R>, Result<(), No>)
-        ensures found { (beside : KeptBeside) (n : Node) → SiteStands beside n self → n.state ≡ BareState → CanBeRaw n.disks n.blocks → room.ring ≡ ring_of n.blocks → BareUpIs n self result.0 result.1 }
+        ensures found { (beside : KeptBeside) (n : Node) → SiteStands beside n self → n.state ≡ BareState → CanBeRaw n.disks n.blocks → IsRoomOf n.blocks (ring_of n.blocks) room → BareUpIs n self result.0 result.1 }
         ensures failing { SameFailing self result.0 }
         ensures later { Later self result.0 }
     {

@@ -8,7 +8,7 @@ ghost use Rattle.vx_history.specs.Events.{logged_blocks};
 ghost use Rattle.vx_history.specs.World.{Node};
 ghost use Rattle.vx_model.specs.declared.call.Update.{Update};
 ghost use Rattle.vx_secondary.specs.Receivers.{Wait};
-ghost use Rattle.vx_ringio.specs.Spends.{Spends};
+ghost use Rattle.vx_disk.specs.Spends.{Spends};
 ghost use Rattle.vx_disk.specs.Burns.{RackIsShort};
 ghost use Rattle.vx_model.specs.declared.no.No.TheVariants.{Down as IsOff};
 ghost use Rattle.vx_srl.specs.Views.{BodyFits, free_of};

@@ -15,7 +15,7 @@ use Rattle.vx_model.specs.declared.site.SPhase.TheVariants.{Quiet}
 use Rattle.vx_model.specs.declared.site.SiteState.TheVariants.{Bare, Down, Up}
 use Rattle.vx_history.proofs.CrashLemmas.{crash_state}
 use Rattle.vx_history.proofs.Places.{places_further, places_made}
-use Rattle.vx_history.proofs.StateLemmas.{primary_leads, up_is}
+use Rattle.vx_history.proofs.StateCases.{primary_leads, up_is}
 use Rattle.vx_history.proofs.Updates.{all_updated, and_left, at_place, by_test, eqb_apart, eqb_equal}
 use Rattle.vx_history.specs.Doubts.{After, Doubted, Runs, happened, resolved, resolved_at, taken_up}
 use Rattle.vx_history.specs.Events.{crash_at, deport_at, kept_of, new_link}

@@ -18,7 +18,7 @@ use Rattle.vx_model.specs.declared.site.Mark.TheVariants.{Consistent}
 use Rattle.vx_model.specs.declared.site.SPhase.TheVariants.{Quiet}
 use Rattle.vx_model.specs.declared.site.SiteState.{SiteState}
 use Rattle.vx_model.specs.declared.site.SiteState.TheVariants.{Bare, Up, Deported, Down}
-use Rattle.vx_history.proofs.StateLemmas.{bare_is, up_is}
+use Rattle.vx_history.proofs.StateCases.{bare_is, up_is}
 use Rattle.vx_history.proofs.Updates.{and_left, and_right, by_test, eqb_equal}
 use Rattle.vx_history.specs.Admission.{Admitted, Goes, Held_by}
 use Rattle.vx_history.specs.Events.{fall_from, acknowledged, admitted, applied, applied_by, apply_at, come_back, crash_at, delivered, receiver_facts, from_memory, gathered_if, greeting_back, group_again, group_from, handed, heard, is_plain_group, is_taken, joined, link_after, link_event, link_heard, link_step, links_changed, lost_touch, opened, packet_at, promises_of, put_in, reached_at, recover_from, recovered_at, recovery, restarted_link, taken_if, ticked_at, ticked_link, update_taken, waited, with_write, written_if}

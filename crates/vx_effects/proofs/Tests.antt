@@ -3,7 +3,7 @@ use Rattle.std.proofs.Common.{◌≡◌, ℕ, ◌<◌, Bool, true, false, refl, 
 use Rattle.std.proofs.lemmas.Bool.{not-false}
 use Rattle.std.specs.Prelude.{not, ◌&&◌, ◌||◌, leb, Option, Some, None}
 use Rattle.std.proofs.lemmas.Bool.Decides.{nat_tests}
-use Rattle.vx_history.proofs.StateLemmas.{up_is}
+use Rattle.vx_history.proofs.StateCases.{up_is}
 use Rattle.vx_history.proofs.Updates.{by_test, and_left, and_right}
 use Rattle.vx_history.specs.Refusals.{Outcome, refused, unless, unless_halted, is_primary, at_site, at_work, both_at_work, on_link_if, when_live, on_volume}
 use Rattle.vx_history.specs.Sends.{is_linked}

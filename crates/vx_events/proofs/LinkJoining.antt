@@ -43,7 +43,7 @@ use Rattle.vx_events.specs.LinkedFacts.{link_fact, link_facts, links_by, links_o
 use Rattle.vx_events.specs.StepsOver.{fact_over, facts_over, refused_over}
 use Rattle.vx_history.specs.Listed.{IsAmong, AreListed}
 use Rattle.vx_history.proofs.GroupLemmas.{primary_is}
-use Rattle.vx_history.proofs.StateLemmas.{up_is}
+use Rattle.vx_history.proofs.StateCases.{up_is}
 use Rattle.vx_events.proofs.LinkTesting.{Seat, seat_at, shown}
 use Rattle.vx_events.proofs.OverSeats.{apart_shown, fact_apart}
 use Rattle.vx_events.proofs.Passing.{off, is_site, above}

@@ -12,7 +12,7 @@ use Rattle.vx_model.specs.declared.site.SiteState.TheVariants.{Bare, Up, Deporte
 use Rattle.vx_history.specs.Events.{is_in_place, link_in_place, put_before, linked_sites}
 use Rattle.vx_history.specs.Sends.{is_made, is_linked}
 use Rattle.vx_history.specs.World.{Node, Link, World}
-use Rattle.vx_history.proofs.StateLemmas.{up_is}
+use Rattle.vx_history.proofs.StateCases.{up_is}
 use Rattle.vx_order.specs.declared.facts.SiteFacts.{SiteFacts}
 use Rattle.vx_order.specs.declared.facts.LinkFacts.{LinkFacts}
 use Rattle.vx_order.specs.declared.facts.RvgFacts.{RvgFacts}

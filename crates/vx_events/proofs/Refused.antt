@@ -23,7 +23,7 @@ use Rattle.vx_model.specs.Sites.{is_up, is_bare}
 use Rattle.vx_order.specs.Shapes.{line_role, line_unknown, taken, over_limit, wrong_size, site_limit, most_disk_blocks, raw_role, raw_size, disk_unknown}
 use Rattle.vx_model.specs.Sizes.{is_raw_shape, map_blocks}
 use Rattle.vx_model.specs.declared.limits.TheConstants.{LINK_PLACES}
-use Rattle.vx_history.proofs.StateLemmas.{bare_is, up_is}
+use Rattle.vx_history.proofs.StateCases.{bare_is, up_is}
 use Rattle.vx_order.specs.Calls.{span_role, span_unknown, span_size, span_range}
 use Rattle.vx_order.specs.Asks.{ask_of}
 use Rattle.vx_order.specs.Links.{place_named}

@@ -2,14 +2,14 @@
 use Rattle.std.proofs.Common.{◌≡◌, ◌∙◌, ◌⊎◌, inl, inr, ℕ, zero, suc, List, [], ◌∷◌, ◌++◌, Bool, Option, Some, None, ap, map, refl, sym, subst}
 use Rattle.std.specs.Prelude.{slice_get}
 use Rattle.vx_model.specs.declared.site.PlexState.{PlexState}
-use Rattle.vx_config.specs.Changes.{changed_at, stated, with_plex}
+use Rattle.vx_config.specs.Changes.{Matched, changed_at, stated, with_plex}
 use Rattle.vx_config.specs.declared.config.Config.{Config}
 use Rattle.vx_config.specs.declared.entry.VolumeEntry.{VolumeEntry}
 use Rattle.vx_layout.specs.Made.{with_volume}
 use Rattle.vx_layout.specs.declared.shape.Shape.{Shape}
 use Rattle.vx_events.proofs.Places.{never_some, some_same}
 use Rattle.vx_events.specs.Fails.{Fails}
-use Rattle.vx_events.specs.GroupConfigs.{AddsVolume, ConfigLosesBut, Matched, PutsPlex, VolumeLoses, VolumeStays, opened_again, volume_again}
+use Rattle.vx_events.specs.GroupConfigs.{AddsVolume, ConfigLosesBut, PutsPlex, VolumeLoses, VolumeStays, opened_again, volume_again}
 use Rattle.vx_events.specs.RvgFits.{KeepsRvg, KeptVolume}
 
 pub keeps_self : (c : Config) → KeepsRvg c c

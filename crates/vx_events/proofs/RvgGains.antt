@@ -21,7 +21,8 @@ use Rattle.vx_script.specs.declared.line.ScriptLine.{ScriptLine}
 use Rattle.vx_events.proofs.Places.{some_same}
 use Rattle.vx_events.proofs.Steps.{data_step}
 use Rattle.vx_events.specs.Fails.{Fails}
-use Rattle.vx_events.specs.GroupConfigs.{ConfigLoses, Matched, VolumeLoses}
+use Rattle.vx_events.specs.GroupConfigs.{ConfigLoses, VolumeLoses}
+use Rattle.vx_config.specs.Changes.{Matched}
 use Rattle.vx_events.specs.GroupLines.{noting}
 use Rattle.vx_events.specs.GroupNotes.{note_at}
 use Rattle.vx_events.specs.GroupViews.{config_of, volumes_of}

@@ -20,7 +20,8 @@ use Rattle.vx_report.specs.declared.view.Kept.{Kept}
 use Rattle.vx_script.specs.declared.line.ScriptLine.{ScriptLine}
 use Rattle.vx_script.specs.declared.line.ScriptLine.TheVariants.{GroupImport, Recover}
 use Rattle.vx_events.specs.Doubts.{IsAs, run_as, with_disks}
-use Rattle.vx_events.specs.Ends.{IsNoDevice, found_linked}
+use Rattle.vx_events.specs.Ends.{found_linked}
+use Rattle.vx_model.specs.Refusals.{IsNoDevice}
 use Rattle.vx_events.specs.Fails.{Fails}
 use Rattle.vx_events.specs.Found.{ComesUpAs}
 use Rattle.vx_events.specs.GroupEnds.{AreOf, BringsUp, KnowsNothing, NotFound, NotFoundLeaves, SaysFound}

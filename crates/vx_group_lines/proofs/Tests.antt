@@ -10,7 +10,7 @@ use Rattle.vx_model.specs.declared.no.No.{No}
 use Rattle.vx_model.specs.declared.site.SiteState.{SiteState}
 use Rattle.vx_model.specs.declared.site.SiteState.TheVariants.{Bare, Up, Deported, Down}
 use Rattle.vx_model.specs.Sites.{is_bare, is_up}
-use Rattle.vx_history.proofs.StateLemmas.{bare_is, up_is}
+use Rattle.vx_history.proofs.StateCases.{bare_is, up_is}
 use Rattle.vx_script.specs.declared.line.Layout.{Layout}
 use Rattle.vx_script.specs.declared.line.ReadPolicy.{ReadPolicy}
 use Rattle.vx_script.specs.declared.line.ScriptLine.TheVariants.{GroupInit, GroupDeport, GroupImport, Volume, PlexDetach, PlexAttach, Recover}

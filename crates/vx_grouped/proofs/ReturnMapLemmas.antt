@@ -108,6 +108,11 @@ pub record ReadyLess (old new : Meaning) : Type 0 where
   pub leaves : (u b : ℕ) (v : List ℕ) → new.leaves u b v → old.leaves u b v
   pub counts : (k : ℕ) → new.disk_faults k ≡ old.disk_faults k
 
+ready_less : {R : Type 0} (meaning : R → Meaning) (agreed : Bool) (s : Shade R) → ReadyLess (shade_meaning meaning s) (shade_meaning meaning (ready_of agreed s))
+ready_less meaning true s = record { units = refl; size = λ u. refl; leaves = λ u b v left. left; counts = λ k. refl }
+ready_less meaning false (Dark r) = record { units = refl; size = λ u. refl; leaves = λ u b v left. left; counts = λ k. refl }
+ready_less meaning false (Bright r) = record { units = refl; size = λ u. refl; leaves = λ u b v left. absurd ((dark_none meaning (Bright r)).leaves u b v left); counts = λ k. refl }
+
 module _ {R : Type 0} {g : Ghosts R} where
   -- ---- disks by themselves, under a site
 
@@ -144,14 +149,9 @@ module _ {R : Type 0} {g : Ghosts R} where
 
   -- ---- disks as an import takes them
 
-  ready_less : (agreed : Bool) (s : Shade R) → ReadyLess (shade_meaning g.meaning s) (shade_meaning g.meaning (ready_of agreed s))
-  ready_less true s = record { units = refl; size = λ u. refl; leaves = λ u b v left. left; counts = λ k. refl }
-  ready_less false (Dark r) = record { units = refl; size = λ u. refl; leaves = λ u b v left. left; counts = λ k. refl }
-  ready_less false (Bright r) = record { units = refl; size = λ u. refl; leaves = λ u b v left. absurd ((dark_none g.meaning (Bright r)).leaves u b v left); counts = λ k. refl }
-
   module _ (idle : Idle R g) (ready : Shade R) (is : ready ≡ ready_of idle.agreed idle.rack) (rested : Rested) (at : idle.rested ≡ Some rested) (new : GroupSite R g) where
     less : ReadyLess (idle_disks idle) (shade_meaning g.meaning ready)
-    less = subst (λ (s : Shade R). ReadyLess (idle_disks idle) (shade_meaning g.meaning s)) (sym is) (ready_less idle.agreed idle.rack)
+    less = subst (λ (s : Shade R). ReadyLess (idle_disks idle) (shade_meaning g.meaning s)) (sym is) (ready_less g.meaning idle.agreed idle.rack)
 
     came_ready : CameBack (Some rested) (shade_meaning g.meaning ready) new → CameBack idle.rested (idle_disks idle) new
     came_ready it =

@@ -5,6 +5,6 @@ pub mod GroupLemmas
 pub mod Places
 pub mod Updates
 pub mod MissedRows
-pub mod StateLemmas
+pub mod StateCases
 pub mod Fuses
 pub mod Behind

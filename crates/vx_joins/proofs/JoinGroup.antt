@@ -14,7 +14,7 @@ use Rattle.vx_history.specs.Stops.{IsFused}
 use Rattle.vx_history.specs.World.{Node}
 use Rattle.vx_srlfmt.specs.declared.header.Header.{Header}
 use Rattle.vx_srl.specs.Calls.{can_restart}
-use Rattle.vx_srl.specs.Causes.{BlamesUnit}
+use Rattle.vx_disk.specs.Causes.{BlamesUnit}
 use Rattle.vx_srl.specs.Views.{Log, most_number, widths}
 use Rattle.vx_srl.specs.declared.kept.Kept.{Kept as KeptRecord}
 use Rattle.vx_disk.specs.Burns.{MakesCalls}

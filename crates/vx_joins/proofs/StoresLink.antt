@@ -33,7 +33,7 @@ use Rattle.vx_courier.specs.UnderWay.{FlightStands}
 use Rattle.vx_net.specs.Flights.{Flying}
 use Rattle.vx_disk.specs.Causes.{OnDisks}
 use Rattle.vx_disk.specs.Disks.{Disks}
-use Rattle.vx_ringio.proofs.Spending.{loses_none}
+use Rattle.vx_disk.proofs.Spending.{loses_none}
 use Rattle.vx_events.specs.declared.said.Said.TheVariants.{Done}
 use Rattle.vx_diskset.specs.Asked.{LeavesFuse, disks_told, size_in}
 use Rattle.vx_diskset.specs.Burning.{Burnt, NoMore}

@@ -4,7 +4,7 @@ ghost use Rattle.vx_disk.specs.Burns.{FallsShort, MakesCalls};
 ghost use Rattle.vx_disk.specs.Causes.{Works};
 ghost use Rattle.vx_history.specs.Events.{joined};
 ghost use Rattle.vx_history.specs.World.{Node};
-ghost use Rattle.vx_ringio.specs.Spends.{Spends};
+ghost use Rattle.vx_disk.specs.Spends.{Spends};
 ghost use Rattle.vx_srlfmt.specs.Headers.{CanSpellState};
 ghost use Rattle.vx_diskset.specs.Asked.{HeadUnder, LeavesFuse};
 ghost use Rattle.vx_diskset.specs.Burning.{NoMore, OffIf};

@@ -16,7 +16,7 @@ use Rattle.vx_model.specs.declared.site.SiteState.TheVariants.{Up as IsUp}
 use Rattle.vx_model.specs.declared.state.KeptLink.{KeptLink}
 use Rattle.vx_disk.specs.Disks.{Disks}
 use Rattle.vx_disk.specs.declared.shelf.Shelf.{Ghosts}
-use Rattle.vx_ringio.specs.Spends.{Passed}
+use Rattle.vx_disk.specs.Spends.{Passed}
 use Rattle.vx_order.specs.declared.facts.RvgFacts.{RvgFacts}
 use Rattle.vx_order.specs.declared.facts.SiteFacts.{SiteFacts}
 use Rattle.vx_diskset.specs.Asked.{FailsAs, FusedAs, LeavesFuse, size_in}

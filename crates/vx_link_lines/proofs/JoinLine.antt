@@ -8,7 +8,7 @@ use Rattle.vx_model.specs.declared.link.SyncMode.{SyncMode}
 use Rattle.vx_model.specs.declared.no.No.{No}
 use Rattle.vx_model.specs.declared.no.No.TheVariants.{Device, Limit, Down as IsOff}
 use Rattle.vx_model.specs.declared.state.State.{State}
-use Rattle.vx_history.proofs.StateLemmas.{primary_leads}
+use Rattle.vx_history.proofs.StateCases.{primary_leads}
 use Rattle.vx_history.proofs.Updates.{and_left, and_right}
 use Rattle.vx_history.specs.Doubts.{Doubted}
 use Rattle.vx_history.specs.Events.{joined}

@@ -29,7 +29,7 @@ use Rattle.vx_events.specs.Facts.{seat_of, site_number}
 use Rattle.vx_events.specs.LinkedFacts.{link_fact, link_facts, linked_fact, links_by, links_of_site}
 use Rattle.vx_events.specs.StepsOver.{facts_over}
 use Rattle.vx_history.specs.Listed.{AreListed, IsAmong}
-use Rattle.vx_history.proofs.StateLemmas.{up_is}
+use Rattle.vx_history.proofs.StateCases.{up_is}
 use Rattle.vx_events.proofs.LinkTesting.{AllLinked, all_linked, seat_at}
 use Rattle.vx_events.proofs.LinkWaiting.{wait_agrees, wait_apart}
 use Rattle.vx_events.proofs.OverSeats.{fact_apart}

@@ -14,7 +14,7 @@ use Rattle.vx_history.specs.World.{Link, Node, Packet, World, updated}
 use Rattle.vx_history.specs.declared.event.Event.TheVariants.{Deliver as DeliverAt}
 use Rattle.vx_history.specs.declared.event.Said.TheVariants.{Ignored as IsIgnored}
 use Rattle.vx_history.specs.declared.sender.SEvent.{SEvent}
-use Rattle.vx_history.proofs.StateLemmas.{runs_is, up_is}
+use Rattle.vx_history.proofs.StateCases.{runs_is, up_is}
 use Rattle.vx_history.proofs.Updates.{at_place}
 use Rattle.vx_model.specs.Sites.{is_up}
 use Rattle.vx_model.specs.declared.site.SiteState.{SiteState}

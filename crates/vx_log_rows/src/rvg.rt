@@ -4,7 +4,7 @@ ghost use Rattle.std.specs.Prelude.{◌≡◌, [], ◌∷◌};
 use std::alloc::Global;
 use std::test::*;
 use vx_disk::{MemShelf, Rack, Shelf};
-use vx_model::limits::LEAST_BLOCKS;
+use vx_model::limits::{LEAST_BLOCKS, LINK_PLACES};
 use vx_model::{No, OutOfMemory, State, Stop, Units, VolumeUnits};
 use vx_rvg::{Rvg, Staging};
 
@@ -244,5 +244,99 @@ fn a_group_commit_that_is_cut_off_leaves_its_first_part(rt: HostRuntime) -> Resu
     let mut rvg = again(alloc, rvg)?;
     assert!(rt; rvg.head() == 0);
     assert!(rt; first_byte(&mut rvg, 3) == Ok(0));
+    Ok(())
+}
+
+// Logs one block of these bytes, with its region marked for place 1 of a link.
+fn write_marked(rvg: &mut Rvg<MemShelf>, start: u64, value: u8) -> Result<u64, No> {
+    if rvg.volumes() == 0 || rvg.free() < 2 {
+        return Ok(99);
+    }
+    rvg.write(0, start, &[value; 512], 2)
+}
+
+// Whether the first region of the volume is marked for a place of a link.
+fn marked(rvg: &Rvg<MemShelf>, slot: u32) -> Option<bool> {
+    if !rvg.has_region(slot, 0, 0) {
+        return None;
+    }
+    Some(rvg.marked(slot, 0, 0))
+}
+
+// Takes its mark off.
+fn unmark(rvg: &mut Rvg<MemShelf>, slot: u32) -> Result<(), No> {
+    if !rvg.has_region(slot, 0, 0) {
+        return Err(No::Role);
+    }
+    rvg.mark(slot, 0, 0, false)
+}
+
+// The region of a write is marked for the place that is named, and for no other. A start finds the mark, and finds it off once it was
+// taken off.
+#[test]
+fn a_write_marks_its_region(rt: HostRuntime) -> Result<(), Fail> {
+    let alloc = rt.alloc();
+    let mut rvg = made(alloc, 1000)?;
+    assert!(rt; marked(&rvg, 1) == Some(false));
+    assert!(rt; write_marked(&mut rvg, 3, 0x11) == Ok(1));
+    assert!(rt; marked(&rvg, 1) == Some(true));
+    assert!(rt; marked(&rvg, 0) == Some(false));
+    assert!(rt; (rvg.left(0), rvg.left(1)) == (0, 1));
+    let mut rvg = again(alloc, rvg)?;
+    assert!(rt; marked(&rvg, 1) == Some(true));
+    assert!(rt; first_byte(&mut rvg, 3) == Ok(0x11));
+    assert!(rt; unmark(&mut rvg, 1) == Ok(()));
+    let rvg = again(alloc, rvg)?;
+    assert!(rt; marked(&rvg, 1) == Some(false));
+    Ok(())
+}
+
+// A new group is 6 calls, and a mark is 2: the write that comes behind it is cut off, and its region is marked.
+#[test]
+fn a_region_is_marked_before_its_write(rt: HostRuntime) -> Result<(), Fail> {
+    let alloc = rt.alloc();
+    let mut rvg = made(alloc, 6 + 2)?;
+    assert!(rt; write_marked(&mut rvg, 3, 0x11) == Err(No::Down));
+    let mut rvg = again(alloc, rvg)?;
+    assert!(rt; (rvg.low(), rvg.head()) == (1, 0));
+    assert!(rt; marked(&rvg, 1) == Some(true));
+    assert!(rt; first_byte(&mut rvg, 3) == Ok(0));
+    Ok(())
+}
+
+// A second write of the region is four calls, as one whose region is marked in no map.
+#[test]
+fn a_marked_region_costs_no_call(rt: HostRuntime) -> Result<(), Fail> {
+    let alloc = rt.alloc();
+    let mut rvg = made(alloc, 6 + 2 + 4 + 4)?;
+    assert!(rt; write_marked(&mut rvg, 3, 0x11) == Ok(1));
+    assert!(rt; write_marked(&mut rvg, 4, 0x22) == Ok(2));
+    assert!(rt; write_marked(&mut rvg, 5, 0x33) == Err(No::Down));
+    let mut rvg = again(alloc, rvg)?;
+    assert!(rt; first_byte(&mut rvg, 4) == Ok(0x22));
+    Ok(())
+}
+
+// Marks the regions of all writes above a number for a place of a link, where the log holds them.
+fn mark_above(rvg: &mut Rvg<MemShelf>, slot: u32, above: u64) -> Result<(), No> {
+    if slot as usize >= LINK_PLACES || rvg.low() == 0 || rvg.low() - 1 > above {
+        return Err(No::Role);
+    }
+    rvg.mark_above(slot, above)
+}
+
+// A write that waits is marked for the place that is named, and for no other. Behind the last number there is nothing to mark.
+#[test]
+fn writes_that_wait_are_marked(rt: HostRuntime) -> Result<(), Fail> {
+    let alloc = rt.alloc();
+    let mut rvg = made(alloc, 1000)?;
+    assert!(rt; write(&mut rvg, 3, 0x11) == Ok(1));
+    assert!(rt; mark_above(&mut rvg, 5, 1) == Ok(()));
+    assert!(rt; marked(&rvg, 5) == Some(false));
+    assert!(rt; mark_above(&mut rvg, 5, 0) == Ok(()));
+    assert!(rt; marked(&rvg, 5) == Some(true));
+    assert!(rt; marked(&rvg, 1) == Some(false));
+    let rvg = again(alloc, rvg)?;
+    assert!(rt; marked(&rvg, 5) == Some(true));
     Ok(())
 }

@@ -6,19 +6,19 @@ use Rattle.vx_model.specs.Content.{Write}
 use Rattle.vx_model.specs.declared.call.Update.{Update}
 use Rattle.vx_model.specs.declared.no.No.{No}
 use Rattle.vx_model.specs.declared.no.No.TheVariants as no
-use Rattle.vx_disk.specs.Causes.{OnDisks}
+use Rattle.vx_disk.specs.Causes.{BlamesUnit, OnDisks}
 use Rattle.vx_disk.specs.Disks.{Disks, Untouched}
 use Rattle.vx_disk.specs.Shelf.{Goes, Meaning, Nothing}
 use Rattle.vx_disk.proofs.Runs.{same_Goes, then_nothing}
 use Rattle.vx_disk.proofs.Untouching.{untouched_both, untouched_none}
-use Rattle.vx_ringio.specs.Spends.{Spends}
-use Rattle.vx_ringio.proofs.Spending.{spends_none, then_spends}
+use Rattle.vx_disk.specs.Spends.{Spends}
+use Rattle.vx_disk.proofs.Spending.{spends_none, then_spends}
 use Rattle.vx_rvg.specs.Holdings.{Holding, update_of}
 use Rattle.vx_rvg.specs.Stands.{GivesWrite, Stands}
 use Rattle.vx_rvg.specs.Views.{Core}
 use Rattle.vx_rvg.proofs.WriteLog.{cause_from}
 use Rattle.vx_srl.specs.Calls.{FetchCause}
-use Rattle.vx_srl.specs.Causes.{BlamesLog, BlamesUnit}
+use Rattle.vx_srl.specs.Causes.{BlamesLog}
 use Rattle.vx_srl.specs.declared.errors.SrlNo.{SrlNo}
 use Rattle.vx_srl.specs.declared.errors.SrlNo.TheVariants.{NoRoom, Other, Overrun}
 use Rattle.vx_peers.specs.Senders.{BlamesStop, IsOther, ReadCause, stop_with}

@@ -12,7 +12,7 @@ ghost use Rattle.vx_history.specs.declared.sender.Action.TheVariants.{Nothing as
 ghost use Rattle.vx_history.specs.declared.sender.SEvent.TheVariants.{Pump};
 ghost use Rattle.vx_packet.specs.Messages.{IsCounted};
 ghost use Rattle.vx_peers.specs.Senders.{BlamesStop, LinkMoved, ReadCause, SendsBy, SendsFrom, SendsRange, SentRange, pump_asks, pumped_at, way_from};
-ghost use Rattle.vx_ringio.specs.Spends.{Spends};
+ghost use Rattle.vx_disk.specs.Spends.{Spends};
 ghost use Rattle.vx_rvg.specs.Holdings.{Holding};
 ghost use Rattle.vx_rvg.specs.Stands.{Stands};
 ghost use Rattle.vx_rvg.specs.Views.{last_of};

@@ -4,8 +4,6 @@ pub mod Bodies
 pub mod Classing
 pub mod Following
 pub mod Masks
-pub mod Naming
 pub mod Parts
 pub mod Seeing
-pub mod Spending
 pub mod Writing

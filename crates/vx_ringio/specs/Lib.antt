@@ -1,5 +1,4 @@
 pub mod Bodies
 pub mod Classes
 pub mod Reading
-pub mod Spends
 pub mod Tracks

@@ -6,7 +6,7 @@ ghost use Rattle.vx_disk.specs.Shelf.{Goes, Nothing};
 ghost use Rattle.vx_ringio.specs.Bodies.{IsBlocks, all_blocks};
 ghost use Rattle.vx_disk.specs.Burns.{FallsShort, MakesCalls};
 ghost use Rattle.vx_ringio.specs.Classes.{is_of_ring};
-ghost use Rattle.vx_ringio.specs.Spends.{MakesAtLeast, Spends};
+ghost use Rattle.vx_disk.specs.Spends.{MakesAtLeast, Spends};
 ghost use Rattle.vx_ringio.specs.Tracks.{RingLies, Follows, Arrives};
 ghost use Rattle.vx_ringlog.specs.Acts.{body_acts, head_acts};
 ghost use Rattle.vx_ringlog.specs.Cells.{Write as WriteAct, Flush};

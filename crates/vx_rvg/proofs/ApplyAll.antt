@@ -15,7 +15,7 @@ use Rattle.vx_rvg.specs.Brings.{Brings, BringsOne, IsPut, KeepsNewest, ReadsNewe
 use Rattle.vx_rvg.specs.Groups.{core_applied}
 use Rattle.vx_rvg.specs.Views.{Core, IsSound, Waits, applied_count, blocks_within, last_of, volume_size}
 use Rattle.vx_rvg.proofs.ApplyOne.{put_there_is}
-use Rattle.vx_rvg.proofs.WriteSound.{SameSizes, lies_same, moved_sizes, placed_same, volume_same, was_up, within_append, within_same}
+use Rattle.vx_rvg.proofs.WriteSound.{SameSizes, lies_same, loaded_same, moved_sizes, placed_same, volume_same, was_up, within_append, within_same}
 
 -- ---- how many blocks they are
 
@@ -179,6 +179,7 @@ module _ (core : Core) (m m' : Meaning) (sound : IsSound core m) (to count : ℕ
       = drop-drop (to - core.applied) (applied_count core) core.log.held ∙ ap (λ (n : ℕ). drop n core.log.held) at in
       record {
         placed = placed_same core.units m m' same sound.placed;
+        maps = loaded_same core.units core.maps m m' same sound.maps;
         log_unit = sound.log_unit;
         lies = lies_same core.log.unit core.log.ring m m' same sound.lies;
         idle = λ running up. sound.idle running (was_up m.down m'.down moves.falls up);

@@ -9,8 +9,8 @@ use Rattle.vx_disk.specs.declared.shelf.ShelfError.TheVariants.{Fault, Down}
 use Rattle.vx_disk.proofs.Causing.{Rose_before}
 use Rattle.vx_disk.proofs.Moving.{still, then_goes}
 use Rattle.vx_disk.proofs.Runs.{at_rest}
-use Rattle.vx_ringio.specs.Spends.{Spends}
-use Rattle.vx_ringio.proofs.Spending.{works_since}
+use Rattle.vx_disk.specs.Spends.{Spends}
+use Rattle.vx_disk.proofs.Spending.{works_since}
 use Rattle.vx_disk.specs.Causes.{DeviceCause, refusal_of}
 use Rattle.vx_rvg.specs.Views.{unit_of}
 use Rattle.vx_rvg.proofs.WriteLog.{cause_from}

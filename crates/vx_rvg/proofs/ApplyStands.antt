@@ -197,6 +197,7 @@ apply_rests core m m' sound moves to count low from brings up = record {
     place = stands.place;
     writes = stands.writes;
     maps = maps_moved (Waits core m) Anything core.units h.maps m m' moves (maps_aside core m sound) stands.maps;
+    marks = stands.marks;
   };
 }
 

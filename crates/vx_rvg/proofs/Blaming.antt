@@ -1,17 +1,18 @@
 -- Which disk a refused call of the group names, and which one works where it is done.
-use Rattle.std.proofs.Common.{◌≡◌, ◌∙◌, ◌<◌, ℕ, List, true, false, ap, length, refl, sym, subst}
-use Rattle.std.specs.Prelude.{IfErr, IsSome, OnOk, Option, Some, None, Result, Ok, Err}
+use Rattle.std.proofs.Common.{◌≡◌, ◌∙◌, ◌<◌, ℕ, List, true, false, ap, length, sym, subst}
+use Rattle.std.specs.Prelude.{IfErr, OnOk, Option, Some, None, Result, Ok, Err}
 use Rattle.vx_model.specs.declared.no.No.{No}
 use Rattle.vx_model.specs.declared.no.No.TheVariants.{Device}
 use Rattle.vx_model.specs.Refusals.{IsNoDevice}
-use Rattle.vx_disk.specs.Causes.{Names, WithDisks, Works, refusal_of}
+use Rattle.vx_disk.specs.Causes.{BlamesUnit, Names, Works, refusal_of}
 use Rattle.vx_disk.specs.Disks.{Disks}
 use Rattle.vx_disk.specs.Shelf.{Meaning}
 use Rattle.vx_disk.specs.declared.shelf.ShelfError.{ShelfError}
 use Rattle.vx_disk.specs.declared.shelf.ShelfError.TheVariants.{Fault, Down}
-use Rattle.vx_ringio.specs.Spends.{Spends}
-use Rattle.vx_ringio.proofs.Spending.{works_since}
-use Rattle.vx_srl.specs.Causes.{BlamesLog, BlamesUnit}
+use Rattle.vx_disk.specs.Spends.{Spends}
+use Rattle.vx_disk.proofs.Naming.{some_since}
+use Rattle.vx_disk.proofs.Spending.{works_since}
+use Rattle.vx_srl.specs.Causes.{BlamesLog}
 use Rattle.vx_srl.specs.Views.{Log}
 use Rattle.vx_srl.specs.declared.errors.SrlNo.{SrlNo}
 use Rattle.vx_srl.specs.declared.errors.SrlNo.TheVariants.{NoRoom, Other, Overrun}
@@ -46,16 +47,6 @@ works_behind (Ok x) old mid c k spends log works = subst (λ (l : Log). Works ol
 works_behind (Err why) old mid c k spends log works = tt
 
 -- ---- behind other calls
-
-some_since : (P : Disks → Disks → Type 0) (old mid : Option Disks) → WithDisks old mid P → IsSome old → IsSome mid
-some_since P None mid on some = absurd (let e : false ≡ true = some in cc)
-some_since P (Some o) None on some = absurd on
-some_since P (Some o) (Some m) on some = refl
-
--- calls before left the place of the log
-pub unit_since : (old mid : Meaning) (u unit : ℕ) (why : No) → Spends old mid → u ≡ unit → BlamesUnit mid.disks u why → BlamesUnit old.disks unit why
-unit_since old mid u unit (Device disk) spends here blames = λ some. blames (some_since _ old.disks mid.disks spends.told some) ∙ here
-unit_since old mid u unit other spends here blames = tt
 
 -- what is staged leaves it
 pub staged_place : (refusal : Option No) (c c' : Core) (vol start : ℕ) (bytes : List ℕ) (old new : Meaning) (number : ℕ) → StageIs refusal c vol start bytes old new c' (Ok number) → c'.log.unit ≡ c.log.unit

@@ -56,6 +56,7 @@ module _ (held core : Core) (is : held ≡ core) (m : Meaning) (w : ℕ) (sound 
         subst (λ (k : Core). IsSound k m) (sym oldest_is)
         (record {
           placed = sound.placed;
+          maps = sound.maps;
           log_unit = sound.log_unit;
           lies = sound.lies;
           idle = sealed;

@@ -168,10 +168,11 @@ pub kept_all : (core : Core) (h : Holding) (m : Meaning) → Stands core h m →
 kept_all core h m stands = holding_is h core.log.header.low core.log.header.place (drop (length h.writes - length core.log.held) h.writes) stands.low stands.place (none_gone (length h.writes) (length core.log.held) h.writes (stands_count core h m stands))
 
 module _ (core : Core) (h : Holding) (m : Meaning) (i : Image) (unit_is : core.log.unit ≡ core.units.srl) (stands : Stands core h m) where
-  -- an image with the log that stands, the maps, and any content
-  pub found_with : Recovers core.log.ring (classes core.log.unit core.log.ring i) stands.log.header stands.log.held
-      → (d : Content) → HasContent core.units.vols d (writes_of stands.log.held) i → HasMaps core.units h.maps i → FoundAs core i (with_content d h)
-  found_with recovers d content maps = record {
+  -- an image with the log that stands, and any content and maps
+  pub found_having : Recovers core.log.ring (classes core.log.unit core.log.ring i) stands.log.header stands.log.held
+      → (d : Content) (maps : List (List ℕ)) → HasContent core.units.vols d (writes_of stands.log.held) i → HasMaps core.units maps i
+      → FoundAs core i (record { low = h.low; writes = h.writes; place = h.place; content = d; maps = maps })
+  found_having recovers d maps content has = record {
     header = stands.log.header;
     records = stands.log.held;
     recovers = subst (λ (u : ℕ). Recovers core.log.ring (classes u core.log.ring i) stands.log.header stands.log.held) unit_is recovers;
@@ -183,8 +184,13 @@ module _ (core : Core) (h : Holding) (m : Meaning) (i : Image) (unit_is : core.l
     writes_are = stands.writes;
     place_is = ap (λ (g : Header). g.place) stands.ready.ring.describes.header ∙ stands.place;
     content = subst (λ (xs : List Write). HasContent core.units.vols d xs i) stands.writes content;
-    maps = maps;
+    maps = has;
   }
+
+  -- the same with its maps
+  pub found_with : Recovers core.log.ring (classes core.log.unit core.log.ring i) stands.log.header stands.log.held
+      → (d : Content) → HasContent core.units.vols d (writes_of stands.log.held) i → HasMaps core.units h.maps i → FoundAs core i (with_content d h)
+  found_with recovers d content has = found_having recovers d h.maps content has
 
   -- an image with the log that stands, its content and its maps
   pub found_as : Recovers core.log.ring (classes core.log.unit core.log.ring i) stands.log.header stands.log.held

@@ -30,7 +30,7 @@ use Rattle.vx_rvg.specs.Holdings.{Holding, kept_in}
 use Rattle.vx_rvg.specs.Stands.{FoundAs, HasMaps, IsWholeRecord, Ready, Retains, Saving, Stands}
 use Rattle.vx_rvg.specs.Views.{Core, IsSound, applied_count, blocks_within, last_of, unit_of, volume_size}
 use Rattle.vx_rvg.proofs.ContentFacts.{found_as, has_content_beside, has_maps_beside, maps_beside, maps_moved, no_more, volumes_beside}
-use Rattle.vx_rvg.proofs.WriteSound.{SameSizes, failed_sound, lies_same, moved_sizes, placed_same}
+use Rattle.vx_rvg.proofs.WriteSound.{SameSizes, failed_sound, lies_same, loaded_same, moved_sizes, placed_same}
 
 -- a stamp, a run and a number are left
 can_parts : (l : Log) (head : ℕ) → can_restart l head ≡ true → (l.header.stamp < most_number) × (l.header.run < most_number) × (head < most_number)
@@ -59,6 +59,7 @@ module _ (core : Core) (state : SiteState) (head : ℕ) (all : last_of core ≤ 
   pub empty_sound : (m' : Meaning) → SameSizes m m' → IsSound after m'
   empty_sound m' same = record {
     placed = placed_same core.units m m' same sound.placed;
+    maps = loaded_same core.units core.maps m m' same sound.maps;
     log_unit = sound.log_unit;
     lies = lies_same core.log.unit core.log.ring m m' same sound.lies;
     idle = λ running up. refl;
@@ -108,6 +109,7 @@ module _ (core : Core) (state : SiteState) (head : ℕ) (all : last_of core ≤ 
       writes = none_kept;
       place = refl;
       maps = maps_moved (Run core.log.unit 0 (core.log.ring + 2)) P core.units h.maps m m' moves (maps_beside core m sound.placed sound.log_unit) stands.maps;
+      marks = stands.marks;
     }
 
     module _ (i : Image) (aside : Beside (Run core.log.unit 0 (core.log.ring + 2)) m.leaves i) where

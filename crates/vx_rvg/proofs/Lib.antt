@@ -11,6 +11,11 @@ pub mod EmptyStands
 pub mod FetchGives
 pub mod LeftRest
 pub mod MakeStands
+pub mod MapStands
+pub mod MarkAbove
+pub mod MarkStands
+pub mod MarkThrough
+pub mod MarkedStands
 pub mod PatchFacts
 pub mod ReadAnswers
 pub mod ReadStands

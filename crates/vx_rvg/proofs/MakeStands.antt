@@ -18,10 +18,11 @@ use Rattle.vx_ringio.specs.Tracks.{RingLies}
 use Rattle.vx_srl.specs.Headers.{new_header}
 use Rattle.vx_srl.specs.Rings.{RingOn}
 use Rattle.vx_srl.specs.Starts.{IsNewLog}
+use Rattle.vx_dcm.specs.Places.{DcmLoaded, Maps}
 use Rattle.vx_srl.specs.Views.{Log}
 use Rattle.vx_rvg.specs.Contents.{writes_of, HasSizes, KeepsContent}
 use Rattle.vx_rvg.specs.Holdings.{nothing_logged}
-use Rattle.vx_rvg.specs.Stands.{HoldsContent, IsWholeRecord, Ready, Stands}
+use Rattle.vx_rvg.specs.Stands.{HasMarks, HoldsContent, IsWholeRecord, Ready, Stands}
 use Rattle.vx_rvg.specs.Views.{IsSound, UnitsPlaced, unit_of}
 use Rattle.vx_rvg.proofs.ContentFacts.{maps_moved}
 use Rattle.vx_rvg.proofs.WriteSound.{lies_same, moved_sizes, placed_same}
@@ -43,14 +44,15 @@ writes_none : (k : ℕ) (rs : List Record) → rs ≡ [] → writes_of (drop k r
 writes_none k rs is = ap (λ (xs : List Record). writes_of (drop k xs)) is ∙ ap writes_of (drop-nil k)
 
 -- a new group is sound
-pub new_sound : (units kept : Units) (state : SiteState) (ring count : ℕ) (P : Says) (l : Log) (pending : Pending) (old new : Meaning) → UnitsPlaced units old → kept ≡ units
-    → l ≡ record { unit = units.srl; ring = ring; header = new_header state 0; held = []; staged = [] } → RingLies units.srl ring old → pending.capacity ≡ ring → pending.entries ≡ []
-    → Moves (Run units.srl 0 count) P old new → IsSound (record { units = kept; log = l; pending = pending; applied = 0; halted = None }) new
-new_sound units kept state ring count P l pending old new placed same is lies room none moves =
+pub new_sound : (units kept : Units) (state : SiteState) (ring count : ℕ) (P : Says) (l : Log) (maps : Maps) (pending : Pending) (old new : Meaning) → UnitsPlaced units old → kept ≡ units
+    → l ≡ record { unit = units.srl; ring = ring; header = new_header state 0; held = []; staged = [] } → RingLies units.srl ring old → DcmLoaded units new maps → pending.capacity ≡ ring → pending.entries ≡ []
+    → Moves (Run units.srl 0 count) P old new → IsSound (record { units = kept; log = l; maps = maps; pending = pending; applied = 0; halted = None }) new
+new_sound units kept state ring count P l maps pending old new placed same is lies loaded room none moves =
     let sizes = moved_sizes (Run units.srl 0 count) P old new moves in
-    subst (λ (u : Units). IsSound (record { units = u; log = l; pending = pending; applied = 0; halted = None }) new) (sym same)
-    (subst (λ (k : Log). IsSound (record { units = units; log = k; pending = pending; applied = 0; halted = None }) new) (sym is) (record {
+    subst (λ (u : Units). IsSound (record { units = u; log = l; maps = maps; pending = pending; applied = 0; halted = None }) new) (sym same)
+    (subst (λ (k : Log). IsSound (record { units = units; log = k; maps = maps; pending = pending; applied = 0; halted = None }) new) (sym is) (record {
       placed = placed_same units old new sizes placed;
+      maps = loaded;
       log_unit = refl;
       lies = lies_same units.srl ring old new sizes lies;
       idle = λ running up. refl;
@@ -60,17 +62,18 @@ new_sound units kept state ring count P l pending old new placed same is lies ro
       waiting = ap (λ (es : List Entry). length es) none;
     }))
 
-pub new_stands : (units kept : Units) (state : SiteState) (ring count : ℕ) (P : Says) (c : Content) (maps : List (List ℕ)) (l : Log) (pending : Pending) (old new : Meaning) → UnitsPlaced units old → kept ≡ units
-    → IsNewLog units.srl ring 0 state l new → pending.entries ≡ [] → Moves (Run units.srl 0 count) P old new → IsTrue old.tells → HoldsContent units c maps old
-    → Stands (record { units = kept; log = l; pending = pending; applied = 0; halted = None }) (nothing_logged c maps) new
-new_stands units kept state ring count P c maps l pending old new placed same made none moves tells holds =
-    subst (λ (u : Units). Stands (record { units = u; log = l; pending = pending; applied = 0; halted = None }) (nothing_logged c maps) new) (sym same) (record {
+pub new_stands : (units kept : Units) (state : SiteState) (ring count : ℕ) (P : Says) (c : Content) (maps : List (List ℕ)) (l : Log) (d : Maps) (pending : Pending) (old new : Meaning) → UnitsPlaced units old → kept ≡ units
+    → IsNewLog units.srl ring 0 state l new → pending.entries ≡ [] → Moves (Run units.srl 0 count) P old new → IsTrue old.tells → HoldsContent units c maps old → HasMarks d maps
+    → Stands (record { units = kept; log = l; maps = d; pending = pending; applied = 0; halted = None }) (nothing_logged c maps) new
+new_stands units kept state ring count P c maps l d pending old new placed same made none moves tells holds marks =
+    subst (λ (u : Units). Stands (record { units = u; log = l; maps = d; pending = pending; applied = 0; halted = None }) (nothing_logged c maps) new) (sym same) (record {
       log = s;
       ready = ready;
       low = ap (λ (x : Log). x.header.low) made.is;
       writes = ap writes_of held;
       place = ap (λ (x : Log). x.header.place) made.is;
       maps = maps_moved (Run units.srl 0 count) P units maps old new moves (λ b mine. placed.maps_apart mine.there) holds.maps_are;
+      marks = marks;
     })
   where
     told : IsTrue new.tells
@@ -85,7 +88,7 @@ new_stands units kept state ring count P c maps l pending old new placed same ma
     held : s.held ≡ []
     held = stood.2
 
-    ready : Ready (record { units = units; log = l; pending = pending; applied = 0; halted = None }) c s new
+    ready : Ready (record { units = units; log = l; maps = d; pending = pending; applied = 0; halted = None }) c s new
     ready = record {
       ring = stood.1;
       idle = stood.3;

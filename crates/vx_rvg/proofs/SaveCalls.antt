@@ -115,10 +115,11 @@ reclaim_done l l' to m m' r x x' done is low limit saves =
 -- ---- of a group v as its own fields show it, which is the group `core`
 
 -- a group that is sound is sound when it is halted too
-halted_sound : (core : Core) (m : Meaning) (why : No) → IsSound core m → IsSound (core_halted why core) m
+pub halted_sound : (core : Core) (m : Meaning) (why : No) → IsSound core m → IsSound (core_halted why core) m
 halted_sound core m (No.Device disk) sound =
     record {
       placed = sound.placed;
+      maps = sound.maps;
       log_unit = sound.log_unit;
       lies = sound.lies;
       idle = λ none up. cc;

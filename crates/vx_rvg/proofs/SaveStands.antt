@@ -23,7 +23,7 @@ use Rattle.vx_rvg.specs.Stands.{FoundAs, HasMaps, Ready, Retains, Saving, Stands
 use Rattle.vx_rvg.specs.Views.{Core, IsSound, UnitsPlaced, applied_count, blocks_within, unit_of, volume_size}
 use Rattle.vx_rvg.proofs.ContentFacts.{found_as, has_content_beside, has_maps_beside, maps_beside, maps_moved, no_more, recovers_low, stands_count, volumes_beside}
 use Rattle.vx_rvg.proofs.ReadStands.{whole_writes, whole_drop, writes_drop}
-use Rattle.vx_rvg.proofs.WriteSound.{SameSizes, applied_few, lies_same, placed_same, volume_same, within_same}
+use Rattle.vx_rvg.proofs.WriteSound.{SameSizes, applied_few, lies_same, loaded_same, placed_same, volume_same, within_same}
 
 -- the group behind the call
 abbrev pub after_save : Core → Header → ℕ → Core
@@ -41,6 +41,7 @@ module _ (core : Core) (g : Header) (n : ℕ) (low_is : g.low ≡ core.log.heade
       let few : applied_count core ≤ length core.log.held = applied_few core m sound some in
       record {
         placed = placed_same core.units m m' same sound.placed;
+        maps = loaded_same core.units core.maps m m' same sound.maps;
         log_unit = sound.log_unit;
         lies = lies_same core.log.unit core.log.ring m m' same sound.lies;
         idle = λ running is. sound.idle running (up is);
@@ -130,6 +131,7 @@ module _ (core : Core) (g : Header) (n : ℕ) (low_is : g.low ≡ core.log.heade
       writes = rest_are;
       place = refl;
       maps = maps_moved (Run core.log.unit 0 (core.log.ring + 2)) P core.units h.maps m m' moves (maps_beside core m sound.placed sound.log_unit) stands.maps;
+      marks = stands.marks;
     }
 
     module _ (i : Image) (aside : Beside (Run core.log.unit 0 (core.log.ring + 2)) m.leaves i) where

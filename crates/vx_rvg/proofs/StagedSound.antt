@@ -15,7 +15,7 @@ use Rattle.vx_srl.specs.declared.kept.Kept.{Kept}
 use Rattle.vx_rvg.specs.Commits.{with_sealed, with_staged}
 use Rattle.vx_rvg.specs.Groups.{core_halted}
 use Rattle.vx_rvg.specs.Views.{Core, IsSoundWith, applied_count, blocks_waiting, blocks_within, volume_size}
-use Rattle.vx_rvg.proofs.WriteSound.{SameSizes, lies_same, placed_same, volume_same, within_append, within_same}
+use Rattle.vx_rvg.proofs.WriteSound.{SameSizes, lies_same, loaded_same, placed_same, volume_same, within_append, within_same}
 
 -- ---- how many blocks wait
 
@@ -41,6 +41,7 @@ module _ (core : Core) (m m' : Meaning) (same : SameSizes m m') (sound : IsSound
   pub staged_same : IsSoundWith core.log.staged core m'
   staged_same = record {
     placed = placed_same core.units m m' same sound.placed;
+    maps = loaded_same core.units core.maps m m' same sound.maps;
     log_unit = sound.log_unit;
     lies = lies_same core.log.unit core.log.ring m m' same sound.lies;
     idle = λ none up. refl;
@@ -54,7 +55,7 @@ module _ (core : Core) (m m' : Meaning) (same : SameSizes m m') (sound : IsSound
   pub halted_sound : (why : No) → DeviceCause m m' why → IsSoundWith (core_halted why core).log.staged (core_halted why core) m'
   halted_sound (no.Device disk) cause =
       let s : IsSoundWith core.log.staged core m' = staged_same in
-      record { placed = s.placed; log_unit = s.log_unit; lies = s.lies; idle = λ none up. refl; low = s.low; known = s.known; room = s.room; waiting = s.waiting }
+      record { placed = s.placed; maps = s.maps; log_unit = s.log_unit; lies = s.lies; idle = λ none up. refl; low = s.low; known = s.known; room = s.room; waiting = s.waiting }
   halted_sound no.Down cause = staged_same
   halted_sound other cause = absurd cause
 
@@ -70,6 +71,7 @@ module _ (core : Core) (m m' : Meaning) (same : SameSizes m m') (sound : IsSound
       let one : blocks_within size (own ∷ []) ≡ blocks_in bytes = omega (arith, here) in
       record {
         placed = placed_same core.units m m' same sound.placed;
+        maps = loaded_same core.units core.maps m m' same sound.maps;
         log_unit = sound.log_unit;
         lies = lies_same core.log.unit core.log.ring m m' same sound.lies;
         idle = λ none up. refl;
@@ -99,6 +101,7 @@ module _ (core : Core) (m m' : Meaning) (same : SameSizes m m') (sound : IsSound
       let rest : drop n (core.log.held ++ core.log.staged) ≡ drop n core.log.held ++ core.log.staged = drop-append-le n core.log.held core.log.staged (few_applied core core.log.staged m sound some) in
       record {
         placed = placed_same core.units m m' same sound.placed;
+        maps = loaded_same core.units core.maps m m' same sound.maps;
         log_unit = sound.log_unit;
         lies = lies_same core.log.unit core.log.ring m m' same sound.lies;
         idle = λ none up. refl;

@@ -239,6 +239,7 @@ module _ (core : Core) (m m' : Meaning) (placed : UnitsPlaced core.units m) (uni
             writes = has.stands.writes;
             place = has.stands.place;
             maps = maps_moved (Run core.log.unit 0 (core.log.ring + 2)) P core.units h.maps m m' moves (maps_beside core m placed unit_is) has.stands.maps;
+            marks = has.stands.marks;
             ready = record {
               ring = leads.each s ready.ring;
               idle = ap (λ (rs : List Record). rs ++ r ∷ []) ready.idle;
@@ -271,6 +272,7 @@ module _ (core : Core) (m m' : Meaning) (placed : UnitsPlaced core.units m) (uni
           writes = all_writes xs core h m has few ∙ ap (λ (ws : List Write). ws ++ xs) has.stands.writes;
           place = has.stands.place;
           maps = maps_moved (Run core.log.unit 0 (core.log.ring + 2)) P core.units h.maps m m' moves (maps_beside core m placed unit_is) has.stands.maps;
+          marks = has.stands.marks;
           ready = record {
             ring = leads.each s has.stands.ready.ring;
             idle = refl;

@@ -33,13 +33,14 @@ use Rattle.vx_srl.specs.Rings.{RingOn}
 use Rattle.vx_srl.specs.Damages.{SeesRecordBody, SeesFronts, SeesOwner}
 use Rattle.vx_srl.specs.Starts.{IsRaised, LeavesLog, Restarting}
 use Rattle.vx_srl.specs.Starts as srl
+use Rattle.vx_dcm.specs.Places.{DcmLoaded, Maps}
 use Rattle.vx_srl.specs.Views.{Log}
 use Rattle.vx_srl.specs.declared.kept.Kept.{Kept}
 use Rattle.vx_rvg.specs.Contents.{HasContent, HasSizes, KeepsContent, writes_of}
 use Rattle.vx_rvg.specs.Fills.{FillCause, IsFilledTo, NamesOne}
 use Rattle.vx_rvg.specs.Holdings.{Holding}
 use Rattle.vx_rvg.specs.Stands.{FoundGroup, HasMaps, IsWholeRecord, KeepsMaps, LeftGroup, Ready, Stands}
-use Rattle.vx_rvg.specs.Starts.{IsStarted, StartCause, Starting, ring_in}
+use Rattle.vx_rvg.specs.Starts.{GivesMarks, IsStarted, StartCause, Starting, ring_in}
 use Rattle.vx_rvg.specs.Views.{Core, IsSound, UnitsPlaced, applied_count, blocks_within, unit_of, volume_size}
 use Rattle.vx_rvg.proofs.ContentFacts.{has_content, has_content_beside, has_maps, has_maps_beside, held_length, maps_moved, ring_left}
 use Rattle.vx_rvg.proofs.MakeStands.{in_volumes, sizes_moved, volume_kept}
@@ -229,9 +230,10 @@ module _ (units : Units) (old mid : Meaning) (placed : UnitsPlaced units old) (m
     -- ---- the group that is started
 
     module _ (large : 8 ≤ old.size units.srl) (some : 0 < l.header.low) (new : Meaning) (goes : Goes Nothing mid new) (up : IsTrue new.down → ⊥) (pending : Pending)
-        (capacity : pending.capacity ≡ ring_in units old) (filled : IsFilledTo l (volume_size units.vols mid) mid (length l.held) pending.entries) (applied : ℕ) (below : applied + 1 ≡ l.header.low) where
+        (capacity : pending.capacity ≡ ring_in units old) (filled : IsFilledTo l (volume_size units.vols mid) mid (length l.held) pending.entries) (applied : ℕ) (below : applied + 1 ≡ l.header.low)
+        (d : Maps) (loaded : DcmLoaded units new d) (marked : GivesMarks units mid d) where
       abbrev core : Core
-      core = record { units = units; log = l; pending = pending; applied = applied; halted = None }
+      core = record { units = units; log = l; maps = d; pending = pending; applied = applied; halted = None }
 
       none_applied : applied_count core ≡ 0
       none_applied = omega (arith, below)
@@ -256,6 +258,7 @@ module _ (units : Units) (old mid : Meaning) (placed : UnitsPlaced units old) (m
       sound : IsSound core new
       sound = record {
         placed = placed_same units old new sizes placed;
+        maps = loaded;
         log_unit = started.unit_is;
         lies = lies;
         idle = λ none up. started.nothing_staged;
@@ -331,7 +334,7 @@ module _ (units : Units) (old mid : Meaning) (placed : UnitsPlaced units old) (m
           ap (λ (x : Header). x.state) is_raised.3 ∙ left.state_is,
           omega (arith, ap (λ (x : Header). x.incarnation) is_raised.3, left.session_is),
           omega (arith, ap (λ (x : Header). x.stamp) is_raised.3, left.stamp_most, is_raised.2),
-          record { log = s; ready = ready; low = ap (λ (x : Header). x.low) is_raised.3 ∙ left.low_is; writes = writes_here; place = ap (λ (x : Header). x.place) is_raised.3 ∙ left.place_is; maps = maps },
+          record { log = s; ready = ready; low = ap (λ (x : Header). x.low) is_raised.3 ∙ left.low_is; writes = writes_here; place = ap (λ (x : Header). x.place) is_raised.3 ∙ left.place_is; maps = maps; marks = marked.each h.maps (told state session stamp h left) (kept_maps state session stamp h left) },
         )
 
       is_started : IsStarted units old core new
@@ -344,11 +347,11 @@ module _ (units : Units) (old mid : Meaning) (placed : UnitsPlaced units old) (m
       }
 
       -- the same with the copy of the units
-      pub group_started : (kept : Units) → kept ≡ units → IsStarted units old (record { units = kept; log = l; pending = pending; applied = applied; halted = None }) new
-      group_started copy same = subst (λ (u : Units). IsStarted units old (record { units = u; log = l; pending = pending; applied = applied; halted = None }) new) (sym same) is_started
+      pub group_started : (kept : Units) → kept ≡ units → IsStarted units old (record { units = kept; log = l; maps = d; pending = pending; applied = applied; halted = None }) new
+      group_started copy same = subst (λ (u : Units). IsStarted units old (record { units = u; log = l; maps = d; pending = pending; applied = applied; halted = None }) new) (sym same) is_started
 
-      pub group_sound : (kept : Units) → kept ≡ units → IsSound (record { units = kept; log = l; pending = pending; applied = applied; halted = None }) new
-      group_sound copy same = subst (λ (u : Units). IsSound (record { units = u; log = l; pending = pending; applied = applied; halted = None }) new) (sym same) sound
+      pub group_sound : (kept : Units) → kept ≡ units → IsSound (record { units = kept; log = l; maps = d; pending = pending; applied = applied; halted = None }) new
+      group_sound copy same = subst (λ (u : Units). IsSound (record { units = u; log = l; maps = d; pending = pending; applied = applied; halted = None }) new) (sym same) sound
 
 -- the log could not be started
 pub log_stops : (units : Units) (old new : Meaning) (why : No) → srl.LogStartCause units.srl (ring_in units old) old new why → StartCause units old new why

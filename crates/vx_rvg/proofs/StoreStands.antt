@@ -197,6 +197,7 @@ module _ (core : Core) (vol start : ℕ) (bytes : List ℕ) (m m' : Meaning) (so
     place = stands.place;
     writes = stands.writes;
     maps = maps_moved (Run (unit_of core.units.vols vol) start (blocks_in bytes)) (Putting core (write_at vol start bytes) m) core.units h.maps m m' store_moves maps_aside stands.maps;
+    marks = stands.marks;
   }
 
   pub store_puts : KeepsAll m' u start bytes → (IsTrue m'.down → ⊥) → PutsInto core core (write_at vol start bytes) m m'

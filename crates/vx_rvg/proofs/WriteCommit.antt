@@ -14,8 +14,8 @@ use Rattle.vx_disk.proofs.Moving.{goes_on, wider}
 use Rattle.vx_overlay.specs.Pending.{Pending}
 use Rattle.vx_overlay.specs.Writes.{entries_at}
 use Rattle.vx_overlay.specs.declared.entry.Entry.{Entry}
-use Rattle.vx_ringio.specs.Spends.{MakesAtLeast}
-use Rattle.vx_ringio.proofs.Spending.{at_least, then_at_least}
+use Rattle.vx_disk.specs.Spends.{MakesAtLeast}
+use Rattle.vx_disk.proofs.Spending.{at_least, then_at_least}
 use Rattle.vx_srl.specs.Views.{Log, kept_record, most_number, next_of}
 use Rattle.vx_srl.specs.declared.kept.Kept.{Kept}
 use Rattle.vx_rvg.specs.Commits.{Committing, Halts, HasStaged, Seals, StageIs, number_refusal, with_sealed, with_staged}

@@ -1,17 +1,18 @@
 -- A group stays sound over a call on its log.
-use Rattle.std.proofs.Common.{◌≡◌, ℕ, ◌+◌, ◌*◌, ◌<◌, ◌≤◌, Bool, true, false, List, [], ◌∷◌, ◌++◌, length, drop, Option, Some, None, IsTrue, IsFalse, refl, sym, ◌∙◌, ap, subst, arith}
+use Rattle.std.proofs.Common.{◌≡◌, ℕ, ◌+◌, ◌*◌, ◌<◌, ◌≤◌, Bool, true, false, List, [], ◌∷◌, ◌++◌, length, drop, map, Option, Some, None, IsTrue, IsFalse, refl, sym, ◌∙◌, ap, subst, arith}
 use Rattle.std.specs.Prelude.{if◌then◌else◌, leb, ltb}
 use Rattle.std.proofs.lemmas.Option.{none-some}
 use Rattle.std.proofs.lemmas.List.Sums.{sum_by-cons}
 use Rattle.vx_disk.specs.Maps.{maps_of}
 use Rattle.vx_model.specs.Sizes.{map_blocks}
-use Rattle.vx_model.specs.declared.limits.TheConstants.{LINK_PLACES}
+use Rattle.vx_model.specs.declared.limits.TheConstants.{BLOCK, LINK_PLACES}
 use Rattle.vx_model.specs.declared.no.No.{No}
 use Rattle.vx_model.specs.declared.no.No.TheVariants as no
 use Rattle.vx_model.specs.declared.units.Units.{Units}
 use Rattle.vx_srlfmt.specs.declared.header.Header.{Header}
 use Rattle.vx_disk.specs.Moves.{Blocks, Moves, Says}
 use Rattle.vx_disk.specs.Shelf.{Meaning}
+use Rattle.vx_dcm.specs.Places.{DcmLoaded, Maps}
 use Rattle.vx_ringio.specs.Tracks.{RingLies}
 use Rattle.vx_disk.specs.Causes.{DeviceCause}
 use Rattle.vx_srl.specs.Views.{Log}
@@ -30,7 +31,7 @@ pub record SameSizes (m m' : Meaning) : Type 0 where
 pub moved_sizes : (mine : Blocks) (P : Says) (m m' : Meaning) → Moves mine P m m' → SameSizes m m'
 moved_sizes mine P m m' moves = record { units = moves.units; size = moves.size }
 
-maps_same : (m m' : Meaning) → ((u : ℕ) → m'.size u ≡ m.size u) → (us : List ℕ) → maps_of us m' ≡ maps_of us m
+pub maps_same : (m m' : Meaning) → ((u : ℕ) → m'.size u ≡ m.size u) → (us : List ℕ) → maps_of us m' ≡ maps_of us m
 maps_same m m' same [] = refl
 maps_same m m' same (u ∷ us) =
     let here : map_blocks (m'.size u) ≡ map_blocks (m.size u) = ap (λ (n : ℕ). map_blocks n) (same u) in
@@ -38,8 +39,21 @@ maps_same m m' same (u ∷ us) =
     let front' = sum_by-cons (λ (v : ℕ). map_blocks (m.size v)) u us in
     omega (arith, front, front', here, maps_same m m' same us)
 
+sizes_as : (m m' : Meaning) → ((u : ℕ) → m'.size u ≡ m.size u) → (us : List ℕ) → map m.size us ≡ map m'.size us
+sizes_as m m' same [] = refl
+sizes_as m m' same (u ∷ us) = ap (λ (n : ℕ). n ∷ map m.size us) (sym (same u)) ∙ ap (λ (ns : List ℕ). m'.size u ∷ ns) (sizes_as m m' same us)
+
 pub maps_fit_as : (units : Units) (m m' : Meaning) → ((u : ℕ) → m'.size u ≡ m.size u) → LINK_PLACES * maps_of units.vols m ≤ m.size units.maps → LINK_PLACES * maps_of units.vols m' ≤ m'.size units.maps
 maps_fit_as units m m' same fit = let maps = maps_same m m' same units.vols in omega (arith, maps, same units.maps, fit)
+
+-- the change maps are as many as they were
+pub loaded_same : (units : Units) (d : Maps) (m m' : Meaning) → SameSizes m m' → DcmLoaded units m d → DcmLoaded units m' d
+loaded_same units d m m' same loaded = record {
+  unit = loaded.unit;
+  first = loaded.first;
+  long = loaded.long ∙ ap (λ (n : ℕ). BLOCK * (LINK_PLACES * n)) (sym (maps_same m m' same.size units.vols));
+  sizes = loaded.sizes ∙ sizes_as m m' same.size units.vols;
+}
 
 pub placed_same : (units : Units) (m m' : Meaning) → SameSizes m m' → UnitsPlaced units m → UnitsPlaced units m'
 placed_same units m m' same placed = record {
@@ -83,6 +97,7 @@ staged_sound : (core : Core) (staged : List Kept) (halted : Option ℕ) (m m' : 
     → IsSound (record core { log = record core.log { staged = staged }; halted = halted }) m'
 staged_sound core staged halted m m' same sound idle = record {
   placed = placed_same core.units m m' same sound.placed;
+  maps = loaded_same core.units core.maps m m' same sound.maps;
   log_unit = sound.log_unit;
   lies = lies_same core.log.unit core.log.ring m m' same sound.lies;
   idle = idle;
@@ -98,7 +113,7 @@ ended_sound core l' halted m m' same sound ended idle =
     subst (λ (l : Log). IsSound (record core { log = l; halted = halted }) m') (ended_log core.log l' ended) (staged_sound core l'.staged halted m m' same sound idle)
 
 pub core_ended : (core : Core) (l' : Log) (halted : Option ℕ) → LogEnded core.log l' → Ended core halted (record core { log = l'; halted = halted })
-core_ended core l' halted ended = record { units = refl; ring = ended.ring; header = ended.header; held = ended.held; pending = refl; applied = refl; halted_is = refl }
+core_ended core l' halted ended = record { units = refl; ring = ended.ring; header = ended.header; held = ended.held; maps = refl; pending = refl; applied = refl; halted_is = refl }
 
 up_or_down : (down : Bool) → IsTrue down → IsFalse down → ⊥
 up_or_down true is not = let wrong : true ≡ false = not in cc

@@ -11,6 +11,7 @@ use Rattle.vx_model.specs.declared.state.State.{State}
 use Rattle.vx_model.specs.declared.units.Units.{Units}
 use Rattle.vx_disk.specs.Disks.{Disks}
 use Rattle.vx_disk.specs.Shelf.{Meaning}
+use Rattle.vx_dcm.specs.Places.{Maps}
 use Rattle.vx_overlay.specs.Pending.{newest}
 use Rattle.vx_overlay.specs.declared.entry.Entry.{Entry}
 use Rattle.vx_srl.specs.Calls.{sealed_log, staged_with}
@@ -70,6 +71,7 @@ pub record Ended (c : Core) (halted : Option ℕ) (c' : Core) : Type 0 where
   pub ring : c'.log.ring ≡ c.log.ring
   pub header : c'.log.header ≡ c.log.header
   pub held : c'.log.held ≡ c.log.held
+  pub maps : c'.maps ≡ c.maps
   pub pending : c'.pending ≡ c.pending
   pub applied : c'.applied ≡ c.applied
   pub halted_is : c'.halted ≡ halted
@@ -125,11 +127,12 @@ abbrev pub ApplyIs : Option No → Core → ℕ → Meaning → Meaning → Core
 ApplyIs (Some why) c count old new c' result = (result ≡ Err why) × (c' ≡ c)
 ApplyIs None c count old new c' result = Applies c count old new c' result
 
--- a group with nothing logged
-abbrev pub new_core : Units → State → ℕ → Core
-new_core units state ring = record {
+-- a group with nothing logged, and with these change maps
+abbrev pub new_core : Units → State → ℕ → Maps → Core
+new_core units state ring maps = record {
   units = units;
   log = record { unit = units.srl; ring = ring; header = new_header state 0; held = []; staged = [] };
+  maps = maps;
   pending = record { capacity = ring; entries = [] };
   applied = 0;
   halted = None;

@@ -1,3 +1,4 @@
+pub mod Above
 pub mod Brings
 pub mod Commits
 pub mod Contents
@@ -5,6 +6,7 @@ pub mod Fills
 pub mod Groups
 pub mod Holdings
 pub mod Logging
+pub mod Marks
 pub mod Saves
 pub mod Stands
 pub mod Starts

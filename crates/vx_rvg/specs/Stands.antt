@@ -1,12 +1,14 @@
 -- A group that stands on its shelf with what it holds, and what a crash leaves of it.
 use Rattle.std.specs.Prelude.{◌≡◌, ◌⊎◌, ℕ, ◌-◌, ◌*◌, ◌<◌, ◌≤◌, IsTrue, List, [], ◌∷◌, ◌++◌, length, take, drop, slice_get, None, Some, All}
 use Rattle.vx_model.specs.declared.limits.TheConstants.{BLOCK}
-use Rattle.vx_model.specs.Content.{Content, Write}
+use Rattle.vx_model.specs.Content.{Content, Write, block_of}
 use Rattle.vx_model.specs.declared.call.Update.{Update}
 use Rattle.vx_model.specs.declared.state.State.{State as SiteState}
 use Rattle.vx_model.specs.declared.units.Units.{Units}
 use Rattle.vx_srlfmt.specs.declared.header.Header.{Header}
 use Rattle.vx_disk.specs.Shelf.{Meaning, Image, Keeps}
+use Rattle.vx_bitmap.specs.Maps.{map_block_count}
+use Rattle.vx_dcm.specs.Places.{Maps}
 use Rattle.vx_overlay.specs.Pending.{newest}
 use Rattle.vx_ringlog.specs.Cells.{RingImage as Kinds}
 use Rattle.vx_ringlog.specs.Chain.{Recovers}
@@ -54,6 +56,10 @@ pub record IsCovered (core : Core) (c : Content) (rs : List Record) (m : Meaning
   pub waiting : core.pending.entries ≡ entries_of c.size (writes_of (drop (applied_count core) rs))
   pub settled : (v b : ℕ) → b < c.size v → newest core.pending.entries v b ≡ None → Keeps m (unit_of core.units.vols v) b (c.block v b)
 
+-- the change maps in memory are the first ones of these blocks, as far as these are known
+pub record HasMarks (d : Maps) (maps : List (List ℕ)) : Type 0 where
+  pub each : (k : ℕ) (bytes : List ℕ) → k < map_block_count d.map → slice_get maps k ≡ Some bytes → bytes ≡ block_of d.map.bytes k
+
 -- whatever a crash leaves, the first blocks of the map unit are these: all of them, where it is known what it holds
 pub record KeepsMaps (units : Units) (maps : List (List ℕ)) (m : Meaning) : Type 0 where
   pub size : length maps ≤ m.size units.maps
@@ -69,7 +75,7 @@ pub record HoldsContent (units : Units) (c : Content) (maps : List (List ℕ)) (
   pub blocks : (v b : ℕ) → b < c.size v → Keeps m (unit_of units.vols v) b (c.block v b)
   pub maps_are : KeepsMaps units maps m
 
--- a group that holds this, with these records staged: its log has these writes and no other
+-- a group that holds this, with these records staged: its log has these writes and no other, and its change maps are those of the map unit
 pub record StandsWith (staged : List Record) (core : Core) (h : Holding) (m : Meaning) : Type 0 where
   pub log : State
   pub ready : ReadyWith staged core h.content log m
@@ -77,6 +83,7 @@ pub record StandsWith (staged : List Record) (core : Core) (h : Holding) (m : Me
   pub writes : writes_of log.held ≡ h.writes
   pub place : core.log.header.place ≡ h.place
   pub maps : KeepsMaps core.units h.maps m
+  pub marks : HasMarks core.maps h.maps
 
 -- the same where nothing is staged
 abbrev pub Stands : Core → Holding → Meaning → Type 0

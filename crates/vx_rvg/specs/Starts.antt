@@ -1,5 +1,5 @@
 -- How a group is started from what stands on its shelf.
-use Rattle.std.specs.Prelude.{◌≡◌, ◌⊎◌, ℕ, ◌+◌, ◌≤◌, IsTrue, None, []}
+use Rattle.std.specs.Prelude.{◌≡◌, ◌⊎◌, ℕ, ◌+◌, ◌≤◌, IsTrue, List, None, []}
 use Rattle.vx_model.specs.Sizes.{ring_of}
 use Rattle.vx_model.specs.declared.errors.Stop.{Stop}
 use Rattle.vx_model.specs.declared.errors.Stop.TheVariants.{No as Refused, OutOfMemory}
@@ -9,13 +9,14 @@ use Rattle.vx_model.specs.declared.no.Counted.TheVariants.{Number}
 use Rattle.vx_model.specs.declared.state.State.{State as SiteState}
 use Rattle.vx_model.specs.declared.units.Units.{Units}
 use Rattle.vx_disk.specs.Shelf.{Meaning, Image}
+use Rattle.vx_dcm.specs.Places.{Maps}
 use Rattle.vx_overlay.specs.Pending.{Pending}
 use Rattle.vx_disk.specs.Causes.{DeviceCause}
 use Rattle.vx_srl.specs.Damages.{HasDamage}
 use Rattle.vx_srl.specs.Starts.{NoHeader}
 use Rattle.vx_srl.specs.Views.{most_number}
 use Rattle.vx_rvg.specs.Holdings.{Holding}
-use Rattle.vx_rvg.specs.Stands.{LeftGroup, FoundGroup, Stands}
+use Rattle.vx_rvg.specs.Stands.{FoundGroup, HasMarks, KeepsMaps, LeftGroup, Stands}
 use Rattle.vx_rvg.specs.Views.{Core}
 
 -- the ring of the log's unit
@@ -55,9 +56,15 @@ abbrev pub StartStop : Units → Meaning → Meaning → Stop → Type 0
 StartStop units old new (Refused why) = StartCause units old new why
 StartStop units old new OutOfMemory = Unit {0}
 
+-- the change maps are those of a map unit that keeps its blocks, where the shelf tells them
+pub record GivesMarks (units : Units) (m : Meaning) (d : Maps) : Type 0 where
+  pub each : (maps : List (List ℕ)) → IsTrue m.tells → KeepsMaps units maps m → HasMarks d maps
+
 -- memory for a start, as callers see it
 pub record Room : Type 0 where
+  -- the blocks of the ring, and those of the change maps
   pub ring : ℕ
+  pub maps : ℕ
 
 -- nothing waits, and there is room for as many blocks as the ring has
 pub record IsRoom (ring : ℕ) (pending : Pending) : Type 0 where

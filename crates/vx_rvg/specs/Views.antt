@@ -5,6 +5,7 @@ use Rattle.vx_model.specs.declared.limits.TheConstants.{LINK_PLACES}
 use Rattle.vx_model.specs.declared.units.Units.{Units}
 use Rattle.vx_disk.specs.Shelf.{Meaning}
 use Rattle.vx_overlay.specs.Pending.{Pending}
+use Rattle.vx_dcm.specs.Places.{DcmLoaded, Maps}
 use Rattle.vx_ringio.specs.Tracks.{RingLies}
 use Rattle.vx_srl.specs.Views.{Log, head_number, count_to}
 use Rattle.vx_srl.specs.declared.kept.Kept.{Kept}
@@ -13,6 +14,8 @@ pub record Core : Type 0 where
   -- the units of the shelf that it uses
   pub units : Units
   pub log : Log
+  -- the change maps of its links
+  pub maps : Maps
   -- the blocks that wait for their volumes, oldest first, and how many have room
   pub pending : Pending
   -- the number up to which the writes are in the volumes
@@ -57,10 +60,11 @@ abbrev pub blocks_waiting : (ℕ → ℕ) → List Kept → List Kept → ℕ
 blocks_waiting size ks [] = blocks_within size ks
 blocks_waiting size ks (s ∷ ss) = blocks_within size ks + blocks_within size (s ∷ ss)
 
--- The log lies on its unit, and each record of it is in the volumes or waits. Where no write failed and the shelf is up, these records
+-- The log lies on its unit and the change maps on theirs, and each record of the log is in the volumes or waits. Where no write failed and the shelf is up, these records
 -- are staged, and wait too.
 pub record IsSoundWith (staged : List Kept) (c : Core) (m : Meaning) : Type 0 where
   pub placed : UnitsPlaced c.units m
+  pub maps : DcmLoaded c.units m c.maps
   pub log_unit : c.log.unit ≡ c.units.srl
   pub lies : RingLies c.log.unit c.log.ring m
   pub idle : c.halted ≡ None → IsFalse m.down → c.log.staged ≡ staged

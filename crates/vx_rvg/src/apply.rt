@@ -3,7 +3,7 @@ ghost use Rattle.std.specs.Prelude.{◌≡◌, ◌+◌, ◌<◌, ◌≤◌, ℕ,
 ghost use Rattle.vx_model.specs.Refusals.{IsNoDevice};
 ghost use Rattle.vx_disk.specs.Causes.{Works, refusal_of};
 ghost use Rattle.vx_disk.specs.Moves.{Moves, Anything, Nowhere};
-ghost use Rattle.vx_ringio.specs.Spends.{Spends};
+ghost use Rattle.vx_disk.specs.Spends.{Spends};
 ghost use Rattle.vx_rvg.specs.Brings.{Brings, BringsOne, VolumesFlushed};
 ghost use Rattle.vx_rvg.specs.Groups.{halted_or, applied_through, ApplyIs, BlamesVolumes};
 ghost use Rattle.vx_rvg.specs.Stands.{Resting, Rests};

@@ -1,15 +1,14 @@
 // The change of the state, and the emptying of the log.
 ghost use Rattle.std.specs.Prelude.{◌≡◌, ◌+◌, ◌<◌, ◌≤◌, ℕ, Some, None, Ok, Err, IfErr, OnOk, IsSome, true};
 ghost use Rattle.vx_disk.specs.Burns.{FallsShort, MakesCalls};
-ghost use Rattle.vx_disk.specs.Causes.{Works};
+ghost use Rattle.vx_disk.specs.Causes.{BlamesUnit, Works};
 ghost use Rattle.vx_disk.specs.Moves.{Moves, Run, Union};
-ghost use Rattle.vx_ringio.specs.Spends.{Spends};
+ghost use Rattle.vx_disk.specs.Spends.{Spends};
 ghost use Rattle.vx_rvg.specs.Groups.{GroupFails};
 ghost use Rattle.vx_rvg.specs.Saves.{restart_refusal, with_restart, Empties, RestartIs, refusal_of_change, core_changed, AppliesNone, ChangeIs, change_blocks};
 ghost use Rattle.vx_rvg.specs.Stands.{Saving, Retains};
 ghost use Rattle.vx_rvg.specs.Views.{IsSound, Waits, last_of};
 ghost use Rattle.vx_srl.specs.Calls.{can_restart};
-ghost use Rattle.vx_srl.specs.Causes.{BlamesUnit};
 ghost use Rattle.vx_srl.specs.Views.{most_number};
 ghost use Rattle.vx_srlfmt.specs.Headers.{CanSpellState};
 

@@ -6,7 +6,7 @@ ghost use Rattle.vx_model.specs.Content.{Content};
 ghost use Rattle.vx_model.specs.Sizes.{ring_of};
 ghost use Rattle.vx_model.specs.declared.errors.Stop.TheVariants.{No as Refused};
 ghost use Rattle.vx_model.specs.declared.no.No.TheVariants.{Size};
-ghost use Rattle.vx_ringio.specs.Spends.{Spends};
+ghost use Rattle.vx_disk.specs.Spends.{Spends};
 ghost use Rattle.vx_rvg.specs.Groups.{new_core, MakeCause};
 ghost use Rattle.vx_rvg.specs.Holdings.{nothing_logged};
 ghost use Rattle.vx_rvg.specs.Stands.{HoldsContent, Stands};
@@ -15,6 +15,7 @@ ghost use Rattle.vx_srlfmt.specs.Headers.{CanSpellState};
 
 use crate::{Rvg, RvgCore};
 use std::alloc::Global;
+use vx_dcm::{Dcm, DcmRoom, room_blocks};
 use vx_disk::Shelf;
 use vx_model::limits::LEAST_BLOCKS;
 use vx_model::{No, State, Stop, Units, ring_blocks};
@@ -22,7 +23,7 @@ use vx_overlay::Overlay;
 use vx_srl::Srl;
 
 impl<S: Shelf> Rvg<S> {
-    /// Makes a group with an empty log over these units, of which the data volumes stay as they are.
+    /// Makes a group with an empty log over these units, of which the data volumes and the change maps stay as they are.
     ///
     /// Answers 4 exactly where the log's unit has fewer than 8 blocks, and changes nothing then; else 7 where a device call failed,
     /// 6 where the shelf is down, or want of memory. Whatever it refuses, the shelf comes back.
@@ -35,7 +36,7 @@ impl<S: Shelf> Rvg<S> {
         requires placed { UnitsPlaced units.now (S.meaning shelf) }
         requires state { CanSpellState state.now }
         ensures small { (S.meaning shelf).size units.now.srl < LEAST_BLOCKS → result ≡ Err (shelf, Refused Size) }
-        ensures core { IfOk result (λ g. g.core ≡ new_core units.now state.now (ring_of ((S.meaning shelf).size units.now.srl))) }
+        ensures core { IfOk result (λ g. g.core ≡ new_core units.now state.now (ring_of ((S.meaning shelf).size units.now.srl)) g.core.maps) }
         ensures stands { IfOk result (λ g. IsTrue (S.meaning shelf).tells → (c : Content) (maps : List (List ℕ)) → HoldsContent units.now c maps (S.meaning shelf) → Stands g.core (nothing_logged c maps) (S.meaning g.shelf)) }
         ensures up { IfOk result (λ g. IsTrue (S.meaning g.shelf).down → ⊥) }
         ensures moves { IfOk result (λ g. Moves (Run units.now.srl 0 (ring_of ((S.meaning shelf).size units.now.srl) + 2)) Anything (S.meaning shelf) (S.meaning g.shelf)) }
@@ -55,18 +56,26 @@ impl<S: Shelf> Rvg<S> {
             Ok(pending) => pending,
             Err(_) => return Err((shelf, Stop::OutOfMemory)),
         };
-        match Srl::create(alloc, &mut shelf, units.srl, state, 0) {
-            Ok(srl) => Ok(Rvg {
+        let Ok(maps) = DcmRoom::new(alloc, room_blocks(units, &shelf)) else {
+            return Err((shelf, Stop::OutOfMemory));
+        };
+        let srl = match Srl::create(alloc, &mut shelf, units.srl, state, 0) {
+            Ok(srl) => srl,
+            Err(stop) => return Err((shelf, stop)),
+        };
+        match Dcm::load_in(maps, &mut shelf, units) {
+            Ok(maps) => Ok(Rvg {
                 shelf,
                 core: RvgCore {
                     units: units.copy(),
                     srl,
+                    maps,
                     pending,
                     applied: 0,
                     halted: None,
                 },
             }),
-            Err(stop) => Err((shelf, stop)),
+            Err(no) => Err((shelf, Stop::No(no))),
         }
     }
 }

@@ -1,27 +1,29 @@
 // A replicated volume group: what it answers, and its reads and writes.
-ghost use Rattle.std.specs.Prelude.{◌≡◌, ◌+◌, ◌-◌, ◌<◌, ◌≤◌, ◌%◌, [], ◌∷◌, length, drop, Some, None, IsTrue, IfErr, IsFalse, OnOk, IsSome};
-ghost use Rattle.vx_disk.specs.Causes.{OnDisks, Works};
+ghost use Rattle.std.specs.Prelude.{◌≡◌, ◌+◌, ◌-◌, ◌<◌, ◌≤◌, ◌%◌, [], ◌∷◌, length, drop, Some, None, true, IsTrue, IfErr, IsFalse, OnOk, IsSome};
+ghost use Rattle.vx_disk.specs.Causes.{BlamesUnit, OnDisks, Works};
 ghost use Rattle.vx_disk.specs.Disks.{Untouched};
-ghost use Rattle.vx_disk.specs.Moves.{Moves, Run};
+ghost use Rattle.vx_dcm.specs.Places.{IsOfSlots, MapsBetween};
+ghost use Rattle.vx_disk.specs.Moves.{Moves, Run, Union};
 ghost use Rattle.vx_disk.specs.Shelf.{Goes, Nothing};
 ghost use Rattle.vx_model.specs.Content.{Write, blocks_in};
 ghost use Rattle.vx_ringio.specs.Bodies.{IsBlocks};
 ghost use Rattle.vx_disk.specs.Burns.{FallsShort, MakesCalls};
-ghost use Rattle.vx_ringio.specs.Spends.{MakesAtLeast, Spends};
+ghost use Rattle.vx_disk.specs.Spends.{MakesAtLeast, Spends};
 ghost use Rattle.vx_rvg.specs.Contents.{ShowsContent};
 ghost use Rattle.vx_rvg.specs.Groups.{has_numbers, write_refusal, read_refusal, WriteIs, ReadIs};
 ghost use Rattle.vx_rvg.specs.Holdings.{Holding, blocks_taken, with_writes};
+ghost use Rattle.vx_rvg.specs.Marks.{BlamesMarkedWrite, ByMarks, HasAllMaps, MarkedWriting, WriteMarked, write_first, write_last, map_run, with_marks, write_places};
 ghost use Rattle.vx_rvg.specs.Stands.{Stands, Writing};
 ghost use Rattle.vx_rvg.specs.Views.{IsSound, unit_of, last_of};
-ghost use Rattle.vx_srl.specs.Causes.{BlamesUnit};
 ghost use Rattle.vx_srl.specs.Views.{BodyFits, free_of, blocks_needed, next_of, blocks_above};
 ghost use Rattle.vx_srlfmt.specs.Headers.{CanSpellState};
 
 use crate::RvgCore;
+use crate::marked::write_marked;
 use crate::read::read_blocks;
-use crate::write::commit;
+use crate::write::write_plain;
 use vx_disk::Shelf;
-use vx_model::limits::{BLOCK, MOST_NUMBER};
+use vx_model::limits::MOST_NUMBER;
 use vx_model::{No, State};
 
 /// A replicated volume group over a shelf. Volumes go by their numbers from 0 in its list of data volumes.
@@ -33,46 +35,58 @@ pub struct Rvg<S: Shelf> {
 }
 
 impl<S: Shelf> Rvg<S> {
-    /// Logs 1 to 16 blocks, durably. Answers the number of the write. `marks` names no maps. Where the blocks do not pass the end of the
-    /// log's ring it is four writes and flushes: the blocks, a flush, the header of the record, a flush.
+    /// Logs 1 to 16 blocks, durably. Answers the number of the write. Before its record is logged its regions are marked, durably, in the
+    /// map of each place of a link that `marks` names, place k by bit k. Where none is named, and the blocks do not pass the end of the
+    /// log's ring, it is four writes and flushes: the blocks, a flush, the header of the record, a flush; so it is where all of the regions
+    /// are marked.
     ///
     /// There has to be room in the log, for the blocks and one more. Refusals, in this order: 20 where a call answered 7 before, 4
     /// where the record is larger than the ring of the log, 3 where the blocks end past the volume, 19 where no number is left; these
-    /// change nothing. 7 where a device call failed: then a start finds the log with the write or without it, and the group is halted.
-    /// 6 where the shelf is down. A rack that was up falls in those four calls only where its fuse had fewer than four left.
+    /// change nothing. 7 where a device call failed: then a start finds the log with the write or without it, with it only where all of its
+    /// regions are marked, and the group is halted. 6 where the shelf is down. A rack that was up falls in those four calls only where its
+    /// fuse had fewer than four left.
     pub fn write(&mut self, vol: u32, start: u64, bytes: &[u8], marks: u8) -> Result<u64, No>
         requires volume { vol < length self.old.core.units.vols }
         requires blocks { IsBlocks bytes.now }
-        requires no_marks { marks ≡ 0 }
         requires room { write_refusal self.old.core ((S.meaning self.old.shelf).size (unit_of self.old.core.units.vols vol)) start (blocks_in bytes.now) ≡ None
             → blocks_needed bytes.now ≤ free_of self.old.core.log }
-        ensures answers { WriteIs (write_refusal self.old.core ((S.meaning self.old.shelf).size (unit_of self.old.core.units.vols vol)) start (blocks_in bytes.now))
-            self.old.core vol start bytes.now (S.meaning self.old.shelf) (S.meaning self.new.shelf) self.new.core result }
+        ensures answers { ByMarks marks
+            (WriteIs (write_refusal self.old.core ((S.meaning self.old.shelf).size (unit_of self.old.core.units.vols vol)) start (blocks_in bytes.now))
+            self.old.core vol start bytes.now (S.meaning self.old.shelf) (S.meaning self.new.shelf) self.new.core result)
+            (WriteIs (write_refusal self.old.core ((S.meaning self.old.shelf).size (unit_of self.old.core.units.vols vol)) start (blocks_in bytes.now))
+            (record self.old.core { maps = self.new.core.maps }) vol start bytes.now (S.meaning self.old.shelf) (S.meaning self.new.shelf) self.new.core result) }
         ensures unchanged { IsSome (write_refusal self.old.core ((S.meaning self.old.shelf).size (unit_of self.old.core.units.vols vol)) start (blocks_in bytes.now))
             → self.new.shelf ≡ self.old.shelf }
-        ensures stands { OnOk result ((h : Holding) → Stands self.old.core h (S.meaning self.old.shelf)
-            → Stands self.new.core (with_writes (record { volume = vol; start = start; bytes = bytes.now } ∷ []) h) (S.meaning self.new.shelf)) }
-        ensures moves { Moves (Run self.old.core.units.srl 0 (self.old.core.log.ring + 2))
-            (Writing self.old.core (record { volume = vol; start = start; bytes = bytes.now } ∷ []) (S.meaning self.old.shelf)) (S.meaning self.old.shelf) (S.meaning self.new.shelf) }
-        ensures calls { OnOk result (BodyFits self.old.core.log bytes.now → MakesCalls 4 (S.meaning self.old.shelf) (S.meaning self.new.shelf)) }
-        ensures short { BodyFits self.old.core.log bytes.now → FallsShort 4 (S.meaning self.old.shelf) (S.meaning self.new.shelf) }
-        ensures blames { IfErr result (BlamesUnit (S.meaning self.old.shelf).disks self.old.core.log.unit) }
+        ensures stands { ByMarks marks
+            (OnOk result ((h : Holding) → Stands self.old.core h (S.meaning self.old.shelf)
+            → Stands self.new.core (with_writes (record { volume = vol; start = start; bytes = bytes.now } ∷ []) h) (S.meaning self.new.shelf)))
+            (OnOk result ((h : Holding) → Stands self.old.core h (S.meaning self.old.shelf) → HasAllMaps self.old.core.maps h.maps
+            → Stands self.new.core (with_writes (record { volume = vol; start = start; bytes = bytes.now } ∷ []) (with_marks self.new.core.maps h)) (S.meaning self.new.shelf))) }
+        ensures marked { OnOk result (WriteMarked self.new.core marks vol start (blocks_in bytes.now)) }
+        ensures part { MapsBetween (IsOfSlots marks vol (write_first start) (write_last start (blocks_in bytes.now))) true self.old.core.maps self.new.core.maps }
+        ensures moves { ByMarks marks
+            (Moves (Run self.old.core.units.srl 0 (self.old.core.log.ring + 2))
+            (Writing self.old.core (record { volume = vol; start = start; bytes = bytes.now } ∷ []) (S.meaning self.old.shelf)) (S.meaning self.old.shelf) (S.meaning self.new.shelf))
+            (Moves (Union (map_run self.old.core) (Run self.old.core.units.srl 0 (self.old.core.log.ring + 2)))
+            (MarkedWriting self.old.core (write_places self.old.core marks vol start (blocks_in bytes.now)) (record { volume = vol; start = start; bytes = bytes.now }) (S.meaning self.old.shelf))
+            (S.meaning self.old.shelf) (S.meaning self.new.shelf)) }
+        ensures calls { ByMarks marks
+            (OnOk result (BodyFits self.old.core.log bytes.now → MakesCalls 4 (S.meaning self.old.shelf) (S.meaning self.new.shelf)))
+            (WriteMarked self.old.core marks vol start (blocks_in bytes.now) → OnOk result (BodyFits self.old.core.log bytes.now → MakesCalls 4 (S.meaning self.old.shelf) (S.meaning self.new.shelf))) }
+        ensures short { ByMarks marks
+            (BodyFits self.old.core.log bytes.now → FallsShort 4 (S.meaning self.old.shelf) (S.meaning self.new.shelf))
+            (WriteMarked self.old.core marks vol start (blocks_in bytes.now) → BodyFits self.old.core.log bytes.now → FallsShort 4 (S.meaning self.old.shelf) (S.meaning self.new.shelf)) }
+        ensures blames { ByMarks marks
+            (IfErr result (BlamesUnit (S.meaning self.old.shelf).disks self.old.core.log.unit))
+            (IfErr result (BlamesMarkedWrite (S.meaning self.old.shelf).disks self.old.core)) }
         ensures least { OnOk result (MakesAtLeast 4 (S.meaning self.old.shelf) (S.meaning self.new.shelf)) }
         ensures spends { Spends (S.meaning self.old.shelf) (S.meaning self.new.shelf) }
         ensures works { OnOk result (Works (S.meaning self.old.shelf).disks self.old.core.log.unit) }
     {
-        let unit = self.core.unit(vol);
-        let size = self.shelf.size(unit);
-        if let Some(no) = self
-            .core
-            .write_refusal(size, start, (bytes.len() / BLOCK) as u64)
-        {
-            return Err(no);
+        if marks == 0 {
+            return write_plain(&mut self.shelf, &mut self.core, vol, start, bytes);
         }
-        if self.shelf.is_down() {
-            return Err(No::Down);
-        }
-        commit(&mut self.shelf, &mut self.core, vol, start, bytes)
+        write_marked(&mut self.shelf, &mut self.core, vol, start, bytes, marks)
     }
 
     /// Reads 1 to 16 blocks: the content after all logged writes. It changes nothing.

@@ -1,18 +1,18 @@
 // The calls that write a header of the log, and the reading of a logged write.
 ghost use Rattle.std.specs.Prelude.{◌≡◌, ◌+◌, ◌<◌, ◌≤◌, ℕ, Some, None, Ok, Err, OnOk, OnErr, IfErr, IsSome, IsTrue, IsFalse};
 ghost use Rattle.vx_disk.specs.Burns.{FallsShort, MakesCalls};
-ghost use Rattle.vx_disk.specs.Causes.{OnDisks, Works};
+ghost use Rattle.vx_disk.specs.Causes.{BlamesUnit, OnDisks, Works};
 ghost use Rattle.vx_disk.specs.Disks.{Untouched};
 ghost use Rattle.vx_disk.specs.Moves.{Moves, Run};
 ghost use Rattle.vx_disk.specs.Shelf.{Goes, Nothing};
 ghost use Rattle.vx_model.specs.declared.no.No.TheVariants.{Halted};
-ghost use Rattle.vx_ringio.specs.Spends.{Spends};
+ghost use Rattle.vx_disk.specs.Spends.{Spends};
 ghost use Rattle.vx_rvg.specs.Saves.{reclaim_refusal, reclaimed, change_refusal, with_new_state, SaveIs};
 ghost use Rattle.vx_rvg.specs.Holdings.{Holding};
 ghost use Rattle.vx_rvg.specs.Stands.{GivesWrite, Stands, Saving, Retains};
 ghost use Rattle.vx_rvg.specs.Views.{IsSound, last_of};
 ghost use Rattle.vx_srl.specs.Calls.{AgreesWithFront, FetchCause, NamesBody};
-ghost use Rattle.vx_srl.specs.Causes.{BlamesLog, BlamesUnit};
+ghost use Rattle.vx_srl.specs.Causes.{BlamesLog};
 ghost use Rattle.vx_srlfmt.specs.Headers.{CanSpellState};
 
 use crate::write::refused;

@@ -6,12 +6,15 @@
 //! A group commit is begun, writes are staged one after another, and sealed together.
 #![tactic(auto)]
 
+mod above;
 mod apply;
 mod asked;
 mod change;
 mod create;
 mod group;
 mod header;
+mod mark;
+mod marked;
 mod patch;
 mod read;
 mod rvg_core;

@@ -6,6 +6,7 @@ ghost use Rattle.vx_rvg.specs.Groups.{write_refusal, read_refusal, applied_throu
 ghost use Rattle.vx_rvg.specs.Views.{unit_of};
 
 use std::marker::Model;
+use vx_dcm::Dcm;
 use vx_model::limits::{MOST_CALL_BLOCKS, MOST_NUMBER};
 use vx_model::{Counted, No, Units};
 use vx_overlay::Overlay;
@@ -16,6 +17,7 @@ use vx_srl::Srl;
 pub struct RvgCore {
     pub(crate) units: Units,
     pub(crate) srl: Srl,
+    pub(crate) maps: Dcm,
     pub(crate) pending: Overlay,
     pub(crate) applied: u64,
     pub(crate) halted: Option<u32>,
@@ -26,7 +28,7 @@ impl Model for RvgCore {
 
     ghost Value = { Core };
 
-    ghost view = { λ c. record { units = c.units; log = c.srl; pending = c.pending; applied = c.applied; halted = c.halted } };
+    ghost view = { λ c. record { units = c.units; log = c.srl; maps = c.maps; pending = c.pending; applied = c.applied; halted = c.halted } };
 }
 
 impl RvgCore {

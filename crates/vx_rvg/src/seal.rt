@@ -3,12 +3,12 @@ ghost use Rattle.std.specs.Prelude.{◌≡◌, ◌+◌, ◌<◌, List, [], lengt
 ghost use Rattle.vx_disk.specs.Burns.{FallsShort, MakesCalls};
 ghost use Rattle.vx_disk.specs.Moves.{Moves, Run};
 ghost use Rattle.vx_model.specs.Content.{Write};
-ghost use Rattle.vx_ringio.specs.Spends.{Spends};
+ghost use Rattle.vx_disk.specs.Spends.{Spends};
 ghost use Rattle.vx_rvg.specs.Commits.{Committing, HasStaged, SealIs, Seals, seal_refusal, with_sealed};
 ghost use Rattle.vx_rvg.specs.Holdings.{Holding, with_writes};
 ghost use Rattle.vx_rvg.specs.Stands.{Stands};
 ghost use Rattle.vx_rvg.specs.Views.{IsSoundWith};
-ghost use Rattle.vx_srl.specs.Causes.{BlamesUnit};
+ghost use Rattle.vx_disk.specs.Causes.{BlamesUnit};
 
 use crate::write::refused;
 use crate::{RvgCore, Staging};

@@ -1,16 +1,15 @@
 // The staging of a write: its blocks are in the log's ring and wait, and it is not part of the log.
 ghost use Rattle.std.specs.Prelude.{◌≡◌, ◌+◌, ◌<◌, ◌≤◌, [], ◌∷◌, ◌++◌, List, length, None, IsSome, IfErr, OnOk};
 ghost use Rattle.vx_disk.specs.Burns.{FallsShort, MakesCalls};
-ghost use Rattle.vx_disk.specs.Causes.{Works};
+ghost use Rattle.vx_disk.specs.Causes.{BlamesUnit, Works};
 ghost use Rattle.vx_disk.specs.Moves.{Moves, Run};
 ghost use Rattle.vx_model.specs.Content.{Write, blocks_in};
 ghost use Rattle.vx_ringio.specs.Bodies.{IsBlocks};
-ghost use Rattle.vx_ringio.specs.Spends.{MakesAtLeast, Spends};
+ghost use Rattle.vx_disk.specs.Spends.{MakesAtLeast, Spends};
 ghost use Rattle.vx_rvg.specs.Commits.{Committing, HasStaged, StageIs, number_refusal, stage_refusal};
 ghost use Rattle.vx_rvg.specs.Groups.{write_refusal};
 ghost use Rattle.vx_rvg.specs.Holdings.{Holding};
 ghost use Rattle.vx_rvg.specs.Views.{IsSoundWith, unit_of, volume_size};
-ghost use Rattle.vx_srl.specs.Causes.{BlamesUnit};
 ghost use Rattle.vx_srl.specs.Views.{BodyFits, free_of, blocks_needed};
 
 use crate::patch::add_all;

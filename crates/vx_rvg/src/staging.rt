@@ -5,7 +5,7 @@ ghost use Rattle.vx_disk.specs.Disks.{Untouched};
 ghost use Rattle.vx_disk.specs.Shelf.{Goes, Nothing};
 ghost use Rattle.vx_model.specs.Content.{Write, blocks_in, fold_writes};
 ghost use Rattle.vx_ringio.specs.Bodies.{IsBlocks};
-ghost use Rattle.vx_ringio.specs.Spends.{Spends};
+ghost use Rattle.vx_disk.specs.Spends.{Spends};
 ghost use Rattle.vx_rvg.specs.Commits.{HasStaged, without_staged};
 ghost use Rattle.vx_rvg.specs.Contents.{ShowsContent};
 ghost use Rattle.vx_rvg.specs.Groups.{ReadIs, read_refusal};

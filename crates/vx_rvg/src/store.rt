@@ -4,33 +4,16 @@ ghost use Rattle.vx_disk.specs.Causes.{Cause};
 ghost use Rattle.vx_disk.specs.Moves.{Moves, Run};
 ghost use Rattle.vx_disk.specs.Shelf.{Fits, Goes, KeepsAll, Written};
 ghost use Rattle.vx_model.specs.Content.{blocks_in};
-ghost use Rattle.vx_ringio.specs.Spends.{Spends};
+ghost use Rattle.vx_disk.specs.Spends.{Spends};
 ghost use Rattle.vx_rvg.specs.Saves.{reclaim_refusal};
 ghost use Rattle.vx_rvg.specs.Stores.{AreBlocks, Puts, PutsInto, Putting, StoreIs, StoresInto, Storing, store_blocks, store_refusal};
 ghost use Rattle.vx_rvg.specs.Views.{IsSound, last_of, unit_of, volume_size};
 
 use crate::header::give_up;
 use crate::{Rvg, RvgCore};
-use vx_disk::{Shelf, ShelfError, refusal};
+use vx_disk::{Shelf, put, refusal};
 use vx_model::No;
 use vx_model::limits::BLOCK;
-
-// Writes the blocks, and makes them durable.
-fn put_durably<S: Shelf>(
-    shelf: &mut S,
-    unit: u32,
-    start: u64,
-    bytes: &[u8],
-) -> Result<(), ShelfError>
-    requires { Fits (S.meaning shelf.old) unit start (length bytes.now) }
-    ensures goes { Goes (Written unit start bytes.now) (S.meaning shelf.old) (S.meaning shelf.new) }
-    ensures kept { OnOk result (KeepsAll (S.meaning shelf.new) unit start bytes.now) }
-    ensures cause { Cause (S.meaning shelf.old) (S.meaning shelf.new) unit result }
-    ensures spends { Spends (S.meaning shelf.old) (S.meaning shelf.new) }
-{
-    shelf.write(unit, start, bytes)?;
-    shelf.flush(unit)
-}
 
 // Puts the blocks, durably, where the log holds no record. A device call that fails halts the group.
 fn put_blocks<S: Shelf>(
@@ -52,7 +35,7 @@ fn put_blocks<S: Shelf>(
         (Putting core.old (record { volume = vol; start = start; bytes = bytes.now }) (S.meaning shelf.old)) (S.meaning shelf.old) (S.meaning shelf.new) }
     ensures spends { Spends (S.meaning shelf.old) (S.meaning shelf.new) }
 {
-    match put_durably(shelf, core.unit(vol), start, bytes) {
+    match put(shelf, core.unit(vol), start, bytes) {
         Ok(()) => Ok(()),
         Err(error) => {
             let no = refusal(error);

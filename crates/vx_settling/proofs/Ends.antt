@@ -19,7 +19,7 @@ use Rattle.vx_history.specs.declared.event.Event.TheVariants.{Connect, Pump, Tic
 use Rattle.vx_history.specs.declared.event.Said.TheVariants.{Done as IsDone}
 use Rattle.vx_history.specs.declared.sender.SEvent.TheVariants.{Connect as ConnectLink, Pump as PumpLink}
 use Rattle.vx_history.proofs.Behind.{runs as runs_on}
-use Rattle.vx_history.proofs.StateLemmas.{origin_keeps}
+use Rattle.vx_history.proofs.StateCases.{origin_keeps}
 use Rattle.vx_script.specs.declared.line.ScriptLine.TheVariants.{Settle}
 use Rattle.vx_events.specs.Facts.{head_of, site_number}
 use Rattle.vx_events.specs.LinkEnds.{AreLeft, LinkEnds, LinkReplies, LinksDone}

@@ -1,7 +1,6 @@
 -- A line that recovers a site, by what it was before: up, down or bare.
 use Rattle.std.proofs.Common.{◌≡◌, ◌∙◌, ◌<◌, ℕ, Bool, false, List, ap, sym, subst, refl, arith}
 use Rattle.std.specs.Prelude.{Option, Some, None, Result, slice_get}
-use Rattle.vx_model.specs.Sizes.{ring_of}
 use Rattle.vx_model.specs.declared.errors.OutOfMemory.{OutOfMemory}
 use Rattle.vx_model.specs.declared.site.SiteState.{SiteState}
 use Rattle.vx_model.specs.declared.site.SiteState.TheVariants.{Bare as IsBare, Up as IsUp, Deported, Down as IsDown}
@@ -46,29 +45,29 @@ never_deported sites files name f free is away =
 
 module _ {R : Type 0} {g : Ghosts R} where
   -- what the start of a site's group promises of these yards
-  abbrev pub Rising : (s ring : ℕ) → Said → Yard R g → Yard R g → Type 0
-  Rising s ring said old new =
+  abbrev pub Rising : (s blocks : ℕ) → Said → Yard R g → Yard R g → Type 0
+  Rising s blocks said old new =
       (d h : Doubted) (c : Choice) (taken : Bool) (name : List ℕ) → site_number d.world name ≡ s → RisesFrom d s c taken h → LinksFit d → StandsFor (own_disks taken s d.world h) old
-      → s < h.world.sites → ((own_disks taken s d.world h).world.nodes s).state ≡ IsDown → ((own_disks taken s d.world h).world.nodes s).group ≡ None → ring ≡ ring_of ((own_disks taken s d.world h).world.nodes s).blocks
+      → s < h.world.sites → ((own_disks taken s d.world h).world.nodes s).state ≡ IsDown → ((own_disks taken s d.world h).world.nodes s).group ≡ None → blocks ≡ ((own_disks taken s d.world h).world.nodes s).blocks
       → LeadsFrom (own_disks taken s d.world h) d (Recover name) said old new
 
   -- a site that was down
-  pub recover_from_down : (d : Doubted) (old new : Yard R g) (name : List ℕ) (s ring : ℕ) (said : Said) (f : SiteFacts) → StandsFor d old → (d.world.nodes (site_number d.world name)).group ≡ None → seat_of old.facts.items name ≡ Some s
-      → slice_get old.facts.items s ≡ Some f → f.state ≡ IsDown → ring ≡ ring_of f.blocks → Rising s ring said old new → Leads d (Recover name) said old new
-  recover_from_down d old new name s ring said f stands apart seat at down ring_is rises =
+  pub recover_from_down : (d : Doubted) (old new : Yard R g) (name : List ℕ) (s blocks : ℕ) (said : Said) (f : SiteFacts) → StandsFor d old → (d.world.nodes (site_number d.world name)).group ≡ None → seat_of old.facts.items name ≡ Some s
+      → slice_get old.facts.items s ≡ Some f → f.state ≡ IsDown → blocks ≡ f.blocks → Rising s blocks said old new → Leads d (Recover name) said old new
+  recover_from_down d old new name s blocks said f stands apart seat at down blocks_is rises =
       let none = subst (λ (i : ℕ). (d.world.nodes i).group ≡ None) (place_at d old name s stands seat).number apart in
       let over = none_apart (d.world.nodes s) none in
       let here = site_at d old name s stands over seat in
       let same = some_same (sym at ∙ here.fact) in
       let state : (d.world.nodes s).state ≡ IsDown = sym (ap (λ (x : SiteFacts). x.state) same) ∙ down in
-      let lead = rises d d first_choice false name here.number (WasDown state refl refl) stands.links stands here.below state none (ring_is ∙ ap (λ (x : SiteFacts). ring_of x.blocks) same) in
+      let lead = rises d d first_choice false name here.number (WasDown state refl refl) stands.links stands here.below state none (blocks_is ∙ ap (λ (x : SiteFacts). x.blocks) same) in
       record { next = lead.next; fails = lead.fails; done = lead.done; stands = lead.stands; carries = lead.carries; rose = lead.rose }
 
   -- a site that was up crashes first
-  pub recover_from_up : (d : Doubted) (old mid new : Yard R g) (name : List ℕ) (s ring : ℕ) (said : Said) (f : SiteFacts) → StandsFor d old → (d.world.nodes (site_number d.world name)).group ≡ None → seat_of old.facts.items name ≡ Some s
-      → slice_get old.facts.items s ≡ Some f → f.state ≡ IsUp → ring ≡ ring_of f.blocks → ((d : Doubted) → StandsFor d old → s < d.world.sites → (d.world.nodes s).state ≡ IsUp → Falls d s old mid)
-      → Rising s ring said mid new → Leads d (Recover name) said old new
-  recover_from_up d old mid new name s ring said f stands apart seat at up ring_is falls rises =
+  pub recover_from_up : (d : Doubted) (old mid new : Yard R g) (name : List ℕ) (s blocks : ℕ) (said : Said) (f : SiteFacts) → StandsFor d old → (d.world.nodes (site_number d.world name)).group ≡ None → seat_of old.facts.items name ≡ Some s
+      → slice_get old.facts.items s ≡ Some f → f.state ≡ IsUp → blocks ≡ f.blocks → ((d : Doubted) → StandsFor d old → s < d.world.sites → (d.world.nodes s).state ≡ IsUp → Falls d s old mid)
+      → Rising s blocks said mid new → Leads d (Recover name) said old new
+  recover_from_up d old mid new name s blocks said f stands apart seat at up blocks_is falls rises =
       let none = subst (λ (i : ℕ). (d.world.nodes i).group ≡ None) (place_at d old name s stands seat).number apart in
       let over = none_apart (d.world.nodes s) none in
       let here = site_at d old name s stands over seat in
@@ -78,7 +77,7 @@ module _ {R : Type 0} {g : Ghosts R} where
       let h : Doubted = happened d (CrashAt s fell.count) fell.taken in
       let lead = rises d h (keeps_k fell.count) fell.taken name here.number (WasUp state refl) stands.links fell.stands
       (omega (arith, here.below, fell.sites, own_sites s d.world h fell.taken)) fell.down
-      (fell.group ∙ none) (ring_is ∙ ap (λ (x : SiteFacts). ring_of x.blocks) same ∙ ap ring_of (sym fell.blocks)) in
+      (fell.group ∙ none) (blocks_is ∙ ap (λ (x : SiteFacts). x.blocks) same ∙ sym fell.blocks) in
       record {
         next = lead.next;
         fails = lead.fails;

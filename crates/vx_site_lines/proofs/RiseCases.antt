@@ -11,10 +11,11 @@ use Rattle.vx_model.specs.declared.state.State.{State}
 use Rattle.vx_model.proofs.Lists.{get_there}
 use Rattle.vx_disk.specs.Shelf.{Lawful}
 use Rattle.vx_disk.specs.declared.shelf.Shelf.{Ghosts}
+use Rattle.vx_rvg.specs.Starts.{Room}
 use Rattle.vx_diskset.specs.Asked.{SameFailing}
 use Rattle.vx_diskset.specs.DiskSets.{BareUp, BareUpBy, BareUpByIs, CameUp, CameUpBy, CameUpByIs, CrashedAt, Later}
 use Rattle.vx_diskset.specs.Holds.{KeptBeside, site_alone, beside_of, doubt_of, header_links, state_with}
-use Rattle.vx_diskset.specs.Layouts.{CanBeRaw}
+use Rattle.vx_diskset.specs.Layouts.{CanBeRaw, IsRoomOf}
 use Rattle.vx_diskset.specs.Stands.{IsToldAt, SiteStands}
 use Rattle.vx_diskset.specs.Withdrawn.{IsBareOf}
 use Rattle.vx_diskset.specs.declared.disk_set.DiskSet.{DiskSet}
@@ -62,9 +63,9 @@ module _ {R : Type 0} {g : Ghosts R} where
 
   module _ (lawful : (r : R) → Lawful (g.meaning r)) (d h : Doubted) (old : Yard R g) (s ring : ℕ) (c : Choice) (taken : Bool) (name : List ℕ) (number : site_number d.world name ≡ s)
       (from : RisesFrom d s c taken h) (fit_d : LinksFit d) (stands : StandsFor (own_disks taken s d.world h) old) (below : s < h.world.sites)
-      (down : ((own_disks taken s d.world h).world.nodes s).state ≡ IsDown) (apart : ((own_disks taken s d.world h).world.nodes s).group ≡ None) (ring_is : ring ≡ ring_of ((own_disks taken s d.world h).world.nodes s).blocks) (room : ℕ) (room_is : room ≡ ring)
+      (down : ((own_disks taken s d.world h).world.nodes s).state ≡ IsDown) (apart : ((own_disks taken s d.world h).world.nodes s).group ≡ None) (ring_is : ring ≡ ring_of ((own_disks taken s d.world h).world.nodes s).blocks) (room : Room) (room_is : IsRoomOf ((own_disks taken s d.world h).world.nodes s).blocks ring room)
       (before up : DiskSet R g) (there : slice_get old.disk_sets.items s ≡ Some before) (later : Later before up) (same : SameFailing before up) (r : Result (Unit {0}) No)
-      (recovered : (beside : KeptBeside) (n : Node) → SiteStands beside n before → n.state ≡ IsDown → n.group ≡ None → room ≡ n.ring → CameUpByIs beside n before up r) where
+      (recovered : (beside : KeptBeside) (n : Node) → SiteStands beside n before → n.state ≡ IsDown → n.group ≡ None → IsRoomOf n.blocks n.ring room → CameUpByIs beside n before up r) where
     abbrev mid : Doubted
     mid = own_disks taken s d.world h
 
@@ -77,7 +78,10 @@ module _ {R : Type 0} {g : Ghosts R} where
     came_by : CameUpByIs (beside_of mid s) m before up r
     came_by =
         recovered (beside_of mid s) m stood down apart
-        (room_is ∙ ring_is ∙ sym (shape_at (beside_of mid s) m before stood apart (λ bare. let e : IsBare ≡ IsDown = sym bare ∙ down in cc)).1)
+        (record {
+          ring_is = room_is.ring_is ∙ ring_is ∙ sym (shape_at (beside_of mid s) m before stood apart (λ bare. let e : IsBare ≡ IsDown = sym bare ∙ down in cc)).1;
+          maps_are = room_is.maps_are;
+        })
 
     -- it was refused
     pub rises_not : (new : Yard R g) (why : No) → r ≡ Err why → Replaced old new s up → LeadsFrom mid d (Recover name) (Refused why) old new
@@ -157,10 +161,10 @@ module _ {R : Type 0} {g : Ghosts R} where
         (record { disk_sets = sym (set_same old.disk_sets.items s there.0 there.1); facts = refl; racks = refl; flight = refl; assemblies = refl; feeders = refl })
         (stands.disk_sets.sites s there.0 below there.1)
 
-    module _ (one two : SiteFacts) (at_one : slice_get old.facts.items s ≡ Some one) (at_two : slice_get old.facts.items s ≡ Some two) (can : CanBeRaw one.disks two.blocks) (room : ℕ)
-        (room_is : room ≡ ring_of two.blocks) (before up : DiskSet R g) (there : slice_get old.disk_sets.items s ≡ Some before) (later : Later before up) (same : SameFailing before up)
+    module _ (one two : SiteFacts) (at_one : slice_get old.facts.items s ≡ Some one) (at_two : slice_get old.facts.items s ≡ Some two) (can : CanBeRaw one.disks two.blocks) (room : Room)
+        (room_is : IsRoomOf two.blocks (ring_of two.blocks) room) (before up : DiskSet R g) (there : slice_get old.disk_sets.items s ≡ Some before) (later : Later before up) (same : SameFailing before up)
         (r : Result (Unit {0}) No)
-        (found : (beside : KeptBeside) (k : Node) → SiteStands beside k before → k.state ≡ IsBare → CanBeRaw k.disks k.blocks → room ≡ ring_of k.blocks → BareUpByIs k before up r) where
+        (found : (beside : KeptBeside) (k : Node) → SiteStands beside k before → k.state ≡ IsBare → CanBeRaw k.disks k.blocks → IsRoomOf k.blocks (ring_of k.blocks) room → BareUpByIs k before up r) where
       one_is : one ≡ linked_fact d.world s
       one_is = some_same (sym at_one ∙ fact_of d old s stands below) ∙ fact_apart d.world s (bare_over d old s stands below bare)
 
@@ -174,7 +178,7 @@ module _ {R : Type 0} {g : Ghosts R} where
       up_by =
           found (beside_of d s) n stood_bare bare
           (subst (λ (f : SiteFacts). CanBeRaw f.disks n.blocks) one_is (subst (λ (f : SiteFacts). CanBeRaw one.disks f.blocks) two_is can))
-          (room_is ∙ ap (λ (f : SiteFacts). ring_of f.blocks) two_is)
+          (subst (λ (f : SiteFacts). IsRoomOf f.blocks (ring_of f.blocks) room) two_is room_is)
 
       -- nothing came up of them
       pub bare_not : (new : Yard R g) (why : No) → r ≡ Err why → Replaced old new s up → Leads d (Recover name) (Refused why) old new

@@ -24,7 +24,7 @@ use Rattle.vx_script.specs.declared.line.ScriptLine.{ScriptLine}
 use Rattle.vx_script.specs.declared.line.ScriptLine.TheVariants.{Write as WriteLine, Put as PutLine}
 use Rattle.vx_disk.specs.Causes.{OnDisks}
 use Rattle.vx_disk.specs.Disks.{Disks}
-use Rattle.vx_ringio.specs.Spends.{Passed}
+use Rattle.vx_disk.specs.Spends.{Passed}
 use Rattle.vx_events.specs.Fails.{IsSiteDisk, Fails}
 use Rattle.vx_diskset.specs.Blames.{BlamesSite}
 use Rattle.vx_diskset.specs.Asked.{FailsAs, FusedAs, LeavesFuse, WritesUnder, disks_told, size_in, IsRawSet}

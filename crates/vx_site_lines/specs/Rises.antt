@@ -11,6 +11,7 @@ use Rattle.vx_model.specs.declared.state.State.{State}
 use Rattle.vx_model.specs.Sizes.{ring_of}
 use Rattle.vx_courier.specs.UnderWay.{FlightStands}
 use Rattle.vx_diskset.specs.Holds.{KeptBeside, state_with}
+use Rattle.vx_diskset.specs.Layouts.{IsRoomOf}
 use Rattle.vx_diskset.specs.Stands.{SiteStands}
 use Rattle.vx_diskset.specs.declared.disk_set.DiskSet.{DiskSet}
 use Rattle.vx_disk.specs.declared.shelf.Shelf.{Ghosts}
@@ -100,9 +101,9 @@ pub record IsRisen (s sites : ℕ) (n : Node) (state : State) (used : List ℕ) 
   pub may : can_rise s sites state ≡ true
   pub needs : AreNeeds n state.links used
 
--- memory that a recovery takes before: room for a log on a disk of so many blocks, in which nothing is yet
+-- memory that a recovery takes before: room for a raw set on disks of so many blocks, in which nothing is yet
 pub record IsEmptyRiseRoom (blocks : ℕ) (room : RiseRoom) : Type 0 where
-  pub ring : room.start.ring ≡ ring_of blocks
+  pub start : IsRoomOf blocks (ring_of blocks) room.start
   pub waiting : room.waiting ≡ []
   pub links : room.links ≡ []
   pub views : room.views ≡ []

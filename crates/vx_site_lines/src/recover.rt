@@ -10,6 +10,7 @@ ghost use Rattle.vx_order.specs.declared.facts.SiteFacts.{SiteFacts as Facts};
 ghost use Rattle.vx_script.specs.declared.line.ScriptLine.TheVariants.{Recover};
 ghost use Rattle.vx_srlfmt.specs.Headers.{CanSpellState};
 ghost use Rattle.vx_diskset.specs.Asked.{SameFailing};
+ghost use Rattle.vx_diskset.specs.Layouts.{IsRoomOf};
 ghost use Rattle.vx_events.specs.Facts.{site_number};
 ghost use Rattle.vx_events.specs.GroupLines.{is_over_group};
 ghost use Rattle.vx_events.specs.LinkViews.{linked_view};
@@ -127,9 +128,15 @@ fn stand_up<R: Rack>(
     Said::Recovered(last, show_risen(yard, alloc, site, views))
 }
 
-// Starts the group of a site that is down, with a log of so many ring blocks, and says how it stands. Disks that tell nothing go down again where
+// Starts the group of a site that is down, on disks of so many blocks, and says how it stands. Disks that tell nothing go down again where
 // their log keeps what no site of these can have.
-fn rise<R: Rack>(yard: &mut Yard<R>, alloc: Global, site: usize, ring: u64, room: RiseRoom) -> Said
+fn rise<R: Rack>(
+    yard: &mut Yard<R>,
+    alloc: Global,
+    site: usize,
+    blocks: u64,
+    room: RiseRoom,
+) -> Said
     requires facts { site < length yard.old.facts.items }
     requires many { length yard.old.facts.items ≤ MOST_SITES }
     requires disk_set { site < length yard.old.disk_sets.items }
@@ -139,13 +146,14 @@ fn rise<R: Rack>(yard: &mut Yard<R>, alloc: Global, site: usize, ring: u64, room
     requires views { room.views ≡ [] }
     ensures rises { (d h : Doubted) (c : Choice) (taken : Bool) (name : List ℕ) → site_number d.world name ≡ site → RisesFrom d site c taken h → LinksFit d
         → StandsFor (own_disks taken site d.world h) yard.old → site < h.world.sites → ((own_disks taken site d.world h).world.nodes site).state ≡ DownState → ((own_disks taken site d.world h).world.nodes site).group ≡ None
-        → ring ≡ ring_of ((own_disks taken site d.world h).world.nodes site).blocks → room.start.ring ≡ ring
+        → blocks ≡ ((own_disks taken site d.world h).world.nodes site).blocks → IsRoomOf blocks (ring_of blocks) room.start
         → LeadsFrom (own_disks taken site d.world h) d (Recover name) result yard.old yard.new }
     ensures failing { OfSite SameFailing site yard.old yard.new }
     ensures told { IsTold yard.new → IsTold yard.old }
     ensures files { in_files yard.new ≡ in_files yard.old }
 {
     let sites = yard.facts.len() as u32;
+    let ring = ring_blocks(blocks);
     let disk_set = mem::replace(&mut yard.disk_sets[site], DiskSet::Gone);
     let (disk_set, came) = disk_set.recover_any(room.start, room.waiting);
     match came {
@@ -264,8 +272,8 @@ pub fn recover_line<R: Rack>(
         SiteState::Deported => unreachable!(),
         SiteState::Up => {
             go_down(yard, alloc, site, u64::MAX);
-            Ok(rise(yard, alloc, site, ring_blocks(blocks), room))
+            Ok(rise(yard, alloc, site, blocks, room))
         }
-        SiteState::Down => Ok(rise(yard, alloc, site, ring_blocks(blocks), room)),
+        SiteState::Down => Ok(rise(yard, alloc, site, blocks, room)),
     }
 }

@@ -19,8 +19,8 @@ use vx_courier::send_message;
 use vx_disk::Rack;
 use vx_diskset::DiskSet;
 use vx_linked::are_fine;
-use vx_model::limits::{LEAST_BLOCKS, LINK_PLACES};
-use vx_model::{KeptLink, KeptMode, OutOfMemory, SPhase, State, is_origin};
+use vx_model::limits::{LEAST_BLOCKS, LINK_PLACES, MOST_DISKS};
+use vx_model::{KeptLink, KeptMode, OutOfMemory, SPhase, State, is_origin, map_blocks};
 use vx_net::Flight;
 use vx_order::{LinkFacts, LinkRoom, SiteFacts};
 use vx_packet::{Envelope, Message};
@@ -160,13 +160,14 @@ pub struct RiseRoom {
 }
 
 impl RiseRoom {
-    /// Room for a log on a disk of so many blocks.
+    /// Room for a log on a disk of so many blocks, and for the change maps of volumes on such disks.
     pub fn new(alloc: Global, blocks: u64) -> Result<RiseRoom, OutOfMemory>
         requires { LEAST_BLOCKS ≤ blocks }
         ensures { IfOk result (λ room. IsEmptyRiseRoom blocks room) }
     {
+        let maps = LINK_PLACES as u64 * u64::from(MOST_DISKS - 2) * map_blocks(blocks);
         Ok(RiseRoom {
-            start: StartRoom::new(alloc, blocks)?,
+            start: StartRoom::new(alloc, blocks, maps)?,
             waiting: Waiting::new(alloc)?,
             links: LinkRoom::new(alloc)?,
             views: LinkViewRoom::new(alloc)?,

@@ -1,4 +1,3 @@
-pub mod Blaming
 pub mod Calling
 pub mod FetchKept
 pub mod FetchRecord

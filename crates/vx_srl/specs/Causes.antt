@@ -1,9 +1,7 @@
 -- Why a call on a log or on the volumes below it is refused.
-use Rattle.std.specs.Prelude.{◌≡◌, ℕ, IsSome, IsTrue, Option, Result, Ok, Err}
-use Rattle.vx_model.specs.declared.no.No.{No}
-use Rattle.vx_model.specs.declared.no.No.TheVariants.{Device}
+use Rattle.std.specs.Prelude.{ℕ, IsTrue, Option, Result, Ok, Err}
 use Rattle.vx_disk.specs.declared.shelf.ShelfError.{ShelfError}
-use Rattle.vx_disk.specs.Causes.{DeviceCause, refusal_of}
+use Rattle.vx_disk.specs.Causes.{BlamesUnit, DeviceCause, refusal_of}
 use Rattle.vx_disk.specs.Disks.{Disks}
 use Rattle.vx_disk.specs.Shelf.{Meaning}
 use Rattle.vx_srl.specs.declared.errors.SrlNo.{SrlNo}
@@ -18,11 +16,6 @@ CallsStopped old new (Err error) = DeviceCause old new (refusal_of error)
 abbrev pub CallsEnded : {T : Type 0} → Meaning → Meaning → Result T ShelfError → Type 0
 CallsEnded old new (Ok x) = IsTrue new.down → ⊥
 CallsEnded old new (Err error) = DeviceCause old new (refusal_of error)
-
--- where the shelf is a rack, a refusal 7 names the disk that is this unit
-abbrev pub BlamesUnit : Option Disks → (unit : ℕ) → No → Type 0
-BlamesUnit disks unit (Device disk) = IsSome disks → disk ≡ unit
-BlamesUnit disks unit other = Unit {0}
 
 -- the same of a refusal of the log
 abbrev pub BlamesLog : Option Disks → (unit : ℕ) → SrlNo → Type 0

@@ -7,7 +7,7 @@ ghost use Rattle.vx_model.specs.declared.errors.Stop.TheVariants.{No as Refused}
 ghost use Rattle.vx_model.specs.declared.no.No.TheVariants.{Size, Limit};
 ghost use Rattle.vx_model.specs.declared.no.Counted.TheVariants.{Number};
 ghost use Rattle.vx_ringio.specs.Classes.{is_of_ring};
-ghost use Rattle.vx_ringio.specs.Spends.{Spends};
+ghost use Rattle.vx_disk.specs.Spends.{Spends};
 ghost use Rattle.vx_ringio.specs.Tracks.{RingLies};
 ghost use Rattle.vx_srl.specs.Causes.{CallsEnded};
 ghost use Rattle.vx_srl.specs.Headers.{new_header};

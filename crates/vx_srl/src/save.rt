@@ -3,7 +3,7 @@ ghost use Rattle.std.specs.Prelude.{◌≡◌, ◌⊎◌, ◌+◌, ◌-◌, ◌<
 ghost use Rattle.vx_disk.specs.Burns.{FallsShort, MakesCalls};
 ghost use Rattle.vx_disk.specs.Causes.{Works};
 ghost use Rattle.vx_ringio.specs.Classes.{is_of_ring};
-ghost use Rattle.vx_ringio.specs.Spends.{Spends};
+ghost use Rattle.vx_disk.specs.Spends.{Spends};
 ghost use Rattle.vx_ringio.specs.Tracks.{RingLies, Follows, Arrives};
 ghost use Rattle.vx_ringlog.specs.Acts.{head_acts};
 ghost use Rattle.vx_srl.specs.Calls.{SavesHeader, can_restart, saving, restarting, saved, restarted_log, log_no_number};

@@ -5,7 +5,7 @@ ghost use Rattle.vx_disk.specs.Causes.{Cause};
 ghost use Rattle.vx_disk.specs.Shelf.{Goes, Nothing};
 ghost use Rattle.vx_ringio.specs.Bodies.{IsBlocks, all_blocks};
 ghost use Rattle.vx_ringio.specs.Reading.{ReadsAs};
-ghost use Rattle.vx_ringio.specs.Spends.{Spends};
+ghost use Rattle.vx_disk.specs.Spends.{Spends};
 ghost use Rattle.vx_ringio.specs.Tracks.{RingLies};
 ghost use Rattle.vx_ringlog.specs.Cells.{RingImage};
 ghost use Rattle.vx_ringlog.specs.Chain.{HasBody, Scan, total};

@@ -3,7 +3,7 @@ ghost use Rattle.std.specs.Prelude.{◌≡◌, ◌⊎◌, ◌+◌, ◌<◌, ◌�
 ghost use Rattle.vx_ringio.specs.Bodies.{IsBlocks, all_blocks};
 ghost use Rattle.vx_disk.specs.Burns.{FallsShort, MakesCalls};
 ghost use Rattle.vx_disk.specs.Causes.{Works};
-ghost use Rattle.vx_ringio.specs.Spends.{MakesAtLeast, Spends};
+ghost use Rattle.vx_disk.specs.Spends.{MakesAtLeast, Spends};
 ghost use Rattle.vx_ringio.specs.Tracks.{RingLies};
 ghost use Rattle.vx_ringlog.specs.Records.{as_on_disk};
 ghost use Rattle.vx_srl.specs.Causes.{BlamesLog};

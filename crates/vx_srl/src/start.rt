@@ -6,7 +6,7 @@ ghost use Rattle.vx_disk.specs.Shelf.{Goes, Nothing};
 ghost use Rattle.vx_model.specs.Sizes.{ring_of};
 ghost use Rattle.vx_ringio.specs.Classes.{is_of_ring};
 ghost use Rattle.vx_ringio.specs.Reading.{IsTopSeen, DigestsDiffer};
-ghost use Rattle.vx_ringio.specs.Spends.{Spends};
+ghost use Rattle.vx_disk.specs.Spends.{Spends};
 ghost use Rattle.vx_ringio.specs.Tracks.{RingLies, Follows, Arrives};
 ghost use Rattle.vx_ringlog.specs.Acts.{head_acts};
 ghost use Rattle.vx_srl.specs.Causes.{CallsStopped};

@@ -23,7 +23,7 @@ use Rattle.vx_model.specs.declared.no.No.TheVariants.{Unknown, Unconfirmed}
 use Rattle.vx_model.specs.declared.no.Named.TheVariants.{Number as ByNumber}
 use Rattle.vx_history.proofs.Updates.{by_test, and_left, and_right, same_line_equal, at_place, eqb_equal}
 use Rattle.vx_history.proofs.GoodLemmas.{up_is_made}
-use Rattle.vx_history.proofs.StateLemmas.{runs_is, up_is}
+use Rattle.vx_history.proofs.StateCases.{runs_is, up_is}
 use Rattle.vx_history.specs.declared.event.Said.TheVariants.{Ignored as IsIgnored, Pending, DoneAt}
 use Rattle.vx_history.specs.Sends.{is_linked, with_link, sending, promising, packets_of, greeting, sent_by}
 use Rattle.vx_history.specs.Refusals.{Outcome, says, unless, is_running, keeps_links, some_below, is_unconfirmed, holds_back}

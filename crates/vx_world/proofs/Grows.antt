@@ -29,7 +29,7 @@ use Rattle.vx_model.specs.declared.no.Named.TheVariants.{Number as ByNumber}
 use Rattle.vx_model.specs.declared.no.Counted.TheVariants.{Sites, Disks, Links}
 use Rattle.vx_history.proofs.Updates.{all_updated, all_lines, by_test}
 use Rattle.vx_history.proofs.GoodLemmas.{up_is_made}
-use Rattle.vx_history.proofs.StateLemmas.{bare_is, up_is}
+use Rattle.vx_history.proofs.StateCases.{bare_is, up_is}
 use Rattle.vx_history.specs.declared.event.LinkPart.{LinkPart}
 use Rattle.vx_history.specs.declared.event.LinkPart.TheVariants.{Joins, Made, Marked, Opened}
 use Rattle.vx_history.specs.declared.event.Event.{Event}

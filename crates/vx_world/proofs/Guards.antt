@@ -14,7 +14,7 @@ use Rattle.vx_model.specs.declared.no.No.TheVariants.{Unknown, Role as WrongRole
 use Rattle.vx_model.specs.declared.no.Named.TheVariants.{Number as ByNumber}
 use Rattle.vx_model.specs.declared.no.SiteName.TheVariants.{Number as SiteNumber}
 use Rattle.vx_model.specs.Answer.{is_wrong_count, is_past}
-use Rattle.vx_history.proofs.StateLemmas.{up_is}
+use Rattle.vx_history.proofs.StateCases.{up_is}
 use Rattle.vx_history.proofs.Updates.{by_test, and_left, and_right}
 use Rattle.vx_history.specs.Sends.{is_linked}
 use Rattle.vx_history.specs.Sound.{is_at_rest}

@@ -9,7 +9,7 @@ use Rattle.vx_model.specs.declared.site.SiteState.TheVariants.{Up}
 use Rattle.vx_model.proofs.Lists.{found_more}
 use Rattle.vx_history.proofs.Updates.{all_updated, by_test, at_place, same_line_equal, and_left}
 use Rattle.vx_history.proofs.GoodLemmas.{up_is_made}
-use Rattle.vx_history.proofs.StateLemmas.{up_is}
+use Rattle.vx_history.proofs.StateCases.{up_is}
 use Rattle.vx_history.specs.Receiving.{Received, received_step, takes, repeats, with_next, phase_takes}
 use Rattle.vx_history.specs.LinkForms.{plain_receiver}
 use Rattle.vx_history.specs.World.{World, Node, Gathering, Packet, Message, Hello, Update, NetAck, DataAck, with_node, updated}

@@ -12,7 +12,7 @@ use Rattle.vx_model.specs.declared.limits.TheConstants.{MOST_WAITING}
 use Rattle.vx_model.specs.declared.link.Mode.{Mode}
 use Rattle.vx_model.specs.declared.site.Role.TheVariants.{Secondary}
 use Rattle.vx_history.proofs.GoodLemmas.{up_is_made, made_is_given}
-use Rattle.vx_history.proofs.StateLemmas.{origin_keeps}
+use Rattle.vx_history.proofs.StateCases.{origin_keeps}
 use Rattle.vx_history.proofs.Updates.{by_test}
 use Rattle.vx_history.specs.declared.event.Event.{Event}
 use Rattle.vx_history.specs.declared.event.Event.TheVariants.{Apply, Pump, Tick, Connect}

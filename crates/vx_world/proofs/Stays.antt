@@ -16,7 +16,7 @@ use Rattle.vx_history.specs.LinkForms.{plain_link}
 use Rattle.vx_model.specs.declared.link.Link.{Link as PlainLink}
 use Rattle.vx_history.proofs.Updates.{by_test}
 use Rattle.vx_history.proofs.GoodLemmas.{good_empty}
-use Rattle.vx_history.proofs.StateLemmas.{bare_is, up_is}
+use Rattle.vx_history.proofs.StateCases.{bare_is, up_is}
 use Rattle.vx_history.specs.declared.event.Event.{Event}
 use Rattle.vx_history.specs.declared.event.Event.TheVariants.{Site, Raw, Group, Volumes, Write as WriteAt, Read, Apply, Pump, Tick, Deliver, Connect, Cut, Pause, Resume, Wait, Link, Set, Crash, Deport, Fall, Recover, Fault}
 use Rattle.vx_history.specs.Refusals.{Outcome, unless, at_work, keeps_links}

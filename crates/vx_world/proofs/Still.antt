@@ -16,7 +16,7 @@ use Rattle.vx_model.specs.declared.site.Mark.TheVariants.{Consistent}
 use Rattle.vx_model.specs.declared.site.Role.{Role}
 use Rattle.vx_model.specs.declared.site.SiteState.{SiteState}
 use Rattle.vx_model.specs.declared.site.SiteState.TheVariants.{Bare, Up, Deported, Down}
-use Rattle.vx_history.proofs.StateLemmas.{bare_is}
+use Rattle.vx_history.proofs.StateCases.{bare_is}
 use Rattle.vx_history.proofs.Updates.{by_test}
 use Rattle.vx_history.specs.Volumes.{volumes_set}
 use Rattle.vx_history.specs.Admission.{Admitted, Held_by, Goes}

@@ -9,7 +9,7 @@ use Rattle.vx_model.specs.declared.link.Prot.TheVariants.{Fail as FailsWhenFull}
 use Rattle.vx_model.specs.declared.no.No.TheVariants.{Size, Role as WrongRole, Down as NotUp, Exists, Limit, Unknown, Unconfirmed}
 use Rattle.vx_model.specs.declared.no.Named.TheVariants.{Number as ByNumber}
 use Rattle.vx_model.specs.declared.no.Counted.TheVariants.{Sites, Disks}
-use Rattle.vx_history.proofs.StateLemmas.{bare_is, up_is}
+use Rattle.vx_history.proofs.StateCases.{bare_is, up_is}
 use Rattle.vx_history.proofs.Updates.{by_test}
 use Rattle.vx_history.specs.Receiving.{Received, received_step}
 use Rattle.vx_history.specs.LinkForms.{plain_receiver}

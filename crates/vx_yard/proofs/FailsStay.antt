@@ -20,7 +20,7 @@ use Rattle.vx_diskset.specs.Burning.{Burnt, IsLogged}
 use Rattle.vx_diskset.specs.Holds.{KeptBeside}
 use Rattle.vx_diskset.specs.Stands.{OverStands, SiteStands}
 use Rattle.vx_diskset.specs.Aboves.{below_site}
-use Rattle.vx_ringio.specs.Spends.{Passed}
+use Rattle.vx_disk.specs.Spends.{Passed}
 use Rattle.vx_diskset.specs.declared.disk_set.DiskSet.{DiskSet}
 use Rattle.vx_diskset.specs.declared.disk_set.DiskSet.TheVariants.{Bare, Spoiled, Up, Receives, Down, OfGroup, Over, Gone}
 use Rattle.vx_diskset.specs.declared.over_set.OverSite.{OverSite}

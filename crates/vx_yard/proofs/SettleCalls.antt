@@ -7,7 +7,7 @@ use Rattle.vx_history.specs.World.{DataAck, Hello, Message, NetAck, Packet, Upda
 use Rattle.vx_disk.specs.Causes.{OnDisks}
 use Rattle.vx_disk.specs.Disks.{Disks}
 use Rattle.vx_disk.specs.declared.shelf.Shelf.{Ghosts}
-use Rattle.vx_ringio.specs.Spends.{Passed}
+use Rattle.vx_disk.specs.Spends.{Passed}
 use Rattle.vx_events.proofs.Places.{some_same}
 use Rattle.vx_events.specs.declared.said.Said.{Said}
 use Rattle.vx_events.specs.declared.said.Said.TheVariants.{Done, DoneAt, Logged, Refused}

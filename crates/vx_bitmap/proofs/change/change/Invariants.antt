@@ -3,6 +3,7 @@ use Rattle.std.proofs.Common.{◌≡◌, ◌*◌, IsTrue}
 use Rattle.vx_bitmap.specs.Bits.{AllAre, is_marked}
 use Rattle.vx_bitmap.specs.Maps.{ChangedAt}
 use Rattle.vx_disk.specs.Shelf.{Goes}
+use Rattle.vx_disk.specs.Spends.{Spends}
 use Rattle.vx_bitmap.proofs.Runs.{DoneTo}
 use Rattle.vx_bitmap.proofs.change.change.Given as goal
 
@@ -12,3 +13,4 @@ invariant-loop-block g l =
     × (AllAre l.start l.end l.value (is_marked l.initial.bytes) → l.shelf ≡ l.initial.shelf)
     × Goes (ChangedAt (record { unit = l.unit; first = l.first; bytes = l.initial.bytes }) l.start l.end l.value (g.S.Shelf.meaning l.initial.shelf)) (g.S.Shelf.meaning l.initial.shelf) (g.S.Shelf.meaning l.shelf)
     × (IsTrue (g.S.Shelf.meaning l.shelf).down → IsTrue (g.S.Shelf.meaning l.initial.shelf).down)
+    × Spends (g.S.Shelf.meaning l.initial.shelf) (g.S.Shelf.meaning l.shelf)

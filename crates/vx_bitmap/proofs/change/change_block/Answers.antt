@@ -1,7 +1,10 @@
 -- The change of a run within one block, case by case.
 use Rattle.std.proofs.Common.{◌≡◌, ◌∙◌, ◌+◌, ◌-◌, ◌*◌, ◌≤◌, ℕ, List, length, sym, ap, subst, refl, arith}
+use Rattle.std.proofs.lemmas.Result.{err_from_is_err_and}
 use Rattle.vx_model.specs.Content.{block_of}
 use Rattle.vx_model.proofs.Contents.{cut}
+use Rattle.vx_disk.proofs.Naming.{names_done, names_exit}
+use Rattle.vx_disk.proofs.Spending.{spends_none}
 use Rattle.vx_bitmap.specs.Bits.{Changed, is_marked}
 use Rattle.vx_bitmap.specs.Maps.{Map}
 use Rattle.vx_bitmap.proofs.Blocks.{all_in_block, block_moves, block_stands, block_writes, bytes_changed, equal_bytes, put_other, put_same, put_size, unequal_bytes}
@@ -88,3 +91,17 @@ returns-clause-writes g c =
     block_writes map c.args.block c.args.start c.args.end c.args.value c.mark_run.new.block c.requires.from c.requires.some c.requires.to
     (subst (λ (b : List ℕ). Changed (c.args.start - 4096 * c.args.block) (c.args.end - 4096 * c.args.block) c.args.value 4096 (is_marked b) (is_marked c.mark_run.new.block)) was c.mark_run.ensures.changed)
     (g.S.Shelf.meaning c.args.shelf.now) (g.S.Shelf.meaning c.put.new.shelf) c.mark_run.array_long c.requires.inside c.put.ensures.goes
+
+pub returns-then-eq-clause-spends : goal.returns-then-eq-clause-spends
+returns-then-eq-clause-spends g c = spends_none (g.S.Shelf.meaning c.args.shelf.now)
+
+pub returns-then-eq-clause-names : goal.returns-then-eq-clause-names
+returns-then-eq-clause-names g c = names_done (Unit {0}) _ (g.S.Shelf.meaning c.args.shelf.now).disks c.args.unit
+
+pub returns-in_err-put-clause-names : goal.returns-in_err-put-clause-names
+returns-in_err-put-clause-names g c =
+    let p = err_from_is_err_and c.from_residual.result c.from_residual.ensures.1 in
+    names_exit (Unit {0}) (Unit {0}) _ _ _ _ _ c.from_residual.result p.0 _ p.1 p.2 refl (spends_none (g.S.Shelf.meaning c.args.shelf.now)).told c.in_err-put.ensures.names
+
+pub returns-clause-names : goal.returns-clause-names
+returns-clause-names g c = names_done (Unit {0}) _ (g.S.Shelf.meaning c.args.shelf.now).disks c.args.unit

@@ -2,7 +2,7 @@
 use Rattle.std.proofs.Common.{arith, ◌∙◌, sym}
 use Rattle.vx_disk.proofs.Runs.{then_nothing}
 use Rattle.vx_disk.specs.Shelf.{Nothing}
-use Rattle.vx_ringio.proofs.Spending.{then_spends}
+use Rattle.vx_disk.proofs.Spending.{then_spends}
 use Rattle.vx_diskset.proofs.LabelLemmas.{no_front_read, reads_none, reads_then}
 use Rattle.vx_diskset.proofs.labels.any_label.Goals as goal
 

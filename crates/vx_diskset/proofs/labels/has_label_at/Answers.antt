@@ -5,7 +5,7 @@ use Rattle.std.specs.Prelude.{not}
 use Rattle.vx_copyfmt.specs.Labels.{seen_in}
 use Rattle.vx_diskset.proofs.LabelLemmas.{zero_read, zero_seen}
 use Rattle.vx_diskset.proofs.labels.has_label_at.Goals.{in-Other, in_default}
-use Rattle.vx_ringio.proofs.Spending.{spends_read}
+use Rattle.vx_disk.proofs.Spending.{spends_read}
 use Rattle.vx_diskset.proofs.labels.has_label_at.Goals as goal
 
 pub returns-after-matches-clause-spends : goal.returns-after-matches-clause-spends

@@ -3,7 +3,7 @@ use Rattle.std.proofs.Common.{arith, subst}
 use Rattle.std.specs.Prelude.{IfErr}
 use Rattle.vx_disk.specs.Causes.{DeviceCause, refusal_of}
 use Rattle.vx_disk.proofs.Runs.{then_nothing}
-use Rattle.vx_ringio.proofs.Spending.{spends_flush, spends_write, then_spends}
+use Rattle.vx_disk.proofs.Spending.{spends_flush, spends_write, then_spends}
 use Rattle.vx_diskset.specs.Zeros.{OnlyZeros}
 use Rattle.vx_diskset.proofs.LabelLemmas.{front_goes}
 use Rattle.vx_diskset.proofs.Zeroes.{device_of}

@@ -8,7 +8,7 @@ use Rattle.vx_diskset.proofs.over_starts.start_with.Goals as goal
 use Rattle.vx_model.specs.declared.errors.Stop.TheVariants.{No as Refused}
 
 pub work_over-laid-requires : goal.work_over-laid-requires
-work_over-laid-requires g c = (c.requires.there, c.requires.large, c.requires.room)
+work_over-laid-requires g c = (c.requires.there, c.requires.large, c.requires.room, c.requires.maps)
 
 pub of-requires : goal.of-requires
 of-requires g c =

@@ -4,7 +4,7 @@ use Rattle.std.specs.Prelude.{IfOk, Result}
 use Rattle.vx_model.specs.declared.no.No.{No}
 use Rattle.vx_diskset.specs.declared.receivers.Reached.{Reached}
 use Rattle.std.proofs.lemmas.Result.{err_from_is_err_and}
-use Rattle.vx_ringio.proofs.Spending.{then_spends}
+use Rattle.vx_disk.proofs.Spending.{then_spends}
 use Rattle.vx_diskset.specs.Received.{reached}
 use Rattle.vx_diskset.proofs.Blamed.{blamed_since}
 use Rattle.vx_diskset.proofs.Reaching.{applied_all, applied_done, applied_failed}

@@ -1,5 +1,5 @@
 -- `has_log`: clause spends.
-use Rattle.vx_ringio.proofs.Spending.{then_spends}
+use Rattle.vx_disk.proofs.Spending.{then_spends}
 use Rattle.vx_diskset.proofs.starting.has_log.Goals as goal
 
 pub returns-clause-spends : goal.returns-clause-spends

@@ -3,6 +3,7 @@ use Rattle.std.proofs.Common.{◌∙◌, ◌*◌, ◌≤◌, ℕ, IsTrue, sym, s
 use Rattle.vx_disk.specs.Maps.{maps_of}
 use Rattle.vx_model.specs.declared.units.Units.{Units}
 use Rattle.vx_model.specs.declared.limits.TheConstants.{LINK_PLACES}
+use Rattle.vx_rvg.proofs.MapStands.{room_as}
 use Rattle.vx_rvg.proofs.WriteSound.{maps_fit_as}
 use Rattle.vx_rvg.specs.Views.{UnitsPlaced}
 use Rattle.vx_diskset.specs.Layouts.{raw_units}
@@ -28,6 +29,13 @@ start_in-requires-clause-placed g c =
     (placed_raw c.units.result (g.R.Shelf.meaning c.has_log.new.rack) (c.units.ensures ∙ sym c.has_log.ensures.goes.units) (omega (arith, c.units.ensures, can.some))
     (subst (λ (k : ℕ). LINK_PLACES * maps_of (raw_units k).vols (g.R.Shelf.meaning c.has_log.new.rack) ≤ (g.R.Shelf.meaning c.has_log.new.rack).size (raw_units k).maps) (sym c.units.ensures)
     (maps_fit_as (raw_units (g.R.Shelf.meaning c.args.rack).units) (g.R.Shelf.meaning c.args.rack) (g.R.Shelf.meaning c.has_log.new.rack) c.has_log.ensures.goes.size can.maps)))
+
+pub start_in-requires-clause-maps : goal.start_in-requires-clause-maps
+start_in-requires-clause-maps g c =
+    let can = c.can_hold.ensures.is (search rules) in
+    subst (λ (u : Units). LINK_PLACES * maps_of u.vols (g.R.Shelf.meaning c.has_log.new.rack) ≤ c.args.room.maps) (sym c.raw_units-units.ensures)
+    (subst (λ (k : ℕ). LINK_PLACES * maps_of (raw_units k).vols (g.R.Shelf.meaning c.has_log.new.rack) ≤ c.args.room.maps) (sym c.units.ensures)
+    (room_as (raw_units (g.R.Shelf.meaning c.args.rack).units) c.args.room.maps (g.R.Shelf.meaning c.args.rack) (g.R.Shelf.meaning c.has_log.new.rack) c.has_log.ensures.goes.size can.takes))
 
 pub returns-in-Ok-clause-found : goal.returns-in-Ok-clause-found
 returns-in-Ok-clause-found g c = λ n clean some ring.

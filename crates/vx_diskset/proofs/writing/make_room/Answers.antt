@@ -7,7 +7,7 @@ use Rattle.vx_history.specs.Steps.{worked}
 use Rattle.vx_srl.specs.Views.{Log, free_of}
 use Rattle.vx_diskset.proofs.Blamed.{blamed_since}
 use Rattle.vx_diskset.proofs.MakeRoom.{room_unapplied, room_later, room_again, room_after}
-use Rattle.vx_ringio.proofs.Spending.{spends_none, then_spends}
+use Rattle.vx_disk.proofs.Spending.{spends_none, then_spends}
 use Rattle.vx_diskset.proofs.Mores.{more_after, more_none}
 use Rattle.vx_diskset.proofs.LeavesNumbers.{never_as, numbers_log}
 use Rattle.vx_diskset.proofs.RvgMoves.{no_moves, then_moves}

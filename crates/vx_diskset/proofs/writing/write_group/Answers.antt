@@ -11,9 +11,9 @@ use Rattle.vx_model.specs.declared.no.No.TheVariants.{Limit, Down}
 use Rattle.vx_model.specs.declared.no.Counted.TheVariants.{Number}
 use Rattle.vx_model.specs.declared.units.Units.{Units}
 use Rattle.vx_diskset.specs.Burning.{IsLogged}
-use Rattle.vx_ringio.proofs.Spending.{then_spends}
+use Rattle.vx_disk.proofs.Spending.{then_spends}
 use Rattle.vx_diskset.proofs.CallsBurn.{burns_by, burns_still, cut_short, is_logged, least_since, never_off, up_not_off, write_off}
-use Rattle.vx_ringio.proofs.Spending.{spends_none}
+use Rattle.vx_disk.proofs.Spending.{spends_none}
 use Rattle.vx_rvg.specs.Views.{unit_of}
 use Rattle.vx_diskset.specs.Rooms.{IsMore, logged_count}
 use Rattle.vx_diskset.proofs.Mores.{more_after, more_down, more_none, more_written}

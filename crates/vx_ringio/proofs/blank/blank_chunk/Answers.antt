@@ -1,7 +1,7 @@
 -- `blank_chunk`: clauses ok and spends.
 use Rattle.std.proofs.lemmas.Result.{on_ok_weaker}
 use Rattle.vx_ringio.proofs.Blanks.{chunk_more}
-use Rattle.vx_ringio.proofs.Spending.{spends_write}
+use Rattle.vx_disk.proofs.Spending.{spends_write}
 use Rattle.vx_ringio.proofs.blank.blank_chunk.Goals as goal
 
 pub returns-clause-ok : goal.returns-clause-ok

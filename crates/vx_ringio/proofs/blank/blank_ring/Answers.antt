@@ -2,7 +2,7 @@
 use Rattle.std.proofs.Common.{arith}
 use Rattle.std.proofs.lemmas.Result.{on_ok_weaker}
 use Rattle.vx_ringio.proofs.Blanks.{all_chunks, blank_leaves}
-use Rattle.vx_ringio.proofs.Spending.{spends_flush, then_spends}
+use Rattle.vx_disk.proofs.Spending.{spends_flush, then_spends}
 use Rattle.vx_ringio.proofs.blank.blank_ring.Goals as goal
 
 pub returns-clause-leaves : goal.returns-clause-leaves

@@ -2,7 +2,7 @@
 use Rattle.std.proofs.Common.{min, ◌*◌}
 use Rattle.vx_disk.specs.Moves.{Moves, Run, Anything}
 use Rattle.vx_ringio.specs.Reading.{ReadsZero}
-use Rattle.vx_ringio.specs.Spends.{Spends}
+use Rattle.vx_disk.specs.Spends.{Spends}
 use Rattle.vx_ringio.proofs.blank.blank_ring.Given as goal
 
 abbrev pub invariant-loop-chunk : goal.invariant-loop-chunk

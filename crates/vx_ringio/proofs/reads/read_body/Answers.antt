@@ -3,9 +3,9 @@ use Rattle.std.proofs.Common.{arith, ◌≡◌, ◌∙◌, eqb-true, sym, length
 use Rattle.std.proofs.lemmas.Result.{on_ok_weaker}
 use Rattle.vx_ringio.specs.Classes.{class_of}
 use Rattle.vx_ringio.proofs.Following.{reads_stay}
-use Rattle.vx_ringio.proofs.Naming.{names_before}
+use Rattle.vx_disk.proofs.Naming.{names_before}
 use Rattle.vx_ringio.proofs.Parts.{gave_parts, in_parts, places_first, places_parts}
-use Rattle.vx_ringio.proofs.Spending.{on_always, then_spends}
+use Rattle.vx_disk.proofs.Spending.{on_always, then_spends}
 use Rattle.vx_ringio.proofs.reads.read_body.Goals as goal
 
 pub returns-then-is_empty-clause-shows : goal.returns-then-is_empty-clause-shows

@@ -1,7 +1,7 @@
 -- `read_front`: clauses shows, sees and spends.
 use Rattle.std.proofs.Common.{arith}
 use Rattle.vx_ringio.proofs.Seeing.{front_shows, one_read}
-use Rattle.vx_ringio.proofs.Spending.{spends_read}
+use Rattle.vx_disk.proofs.Spending.{spends_read}
 use Rattle.vx_ringio.proofs.reads.read_front.Goals as goal
 
 pub returns-clause-shows : goal.returns-clause-shows

@@ -2,7 +2,7 @@
 use Rattle.std.proofs.Common.{arith}
 use Rattle.std.proofs.lemmas.Result.{on_ok_weaker}
 use Rattle.vx_ringio.proofs.Seeing.{part_gave, part_shows}
-use Rattle.vx_ringio.proofs.Spending.{spends_read}
+use Rattle.vx_disk.proofs.Spending.{spends_read}
 use Rattle.vx_ringio.proofs.reads.read_part.Goals as goal
 
 pub returns-clause-shows : goal.returns-clause-shows

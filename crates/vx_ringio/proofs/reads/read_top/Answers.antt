@@ -1,7 +1,7 @@
 -- `read_top`: clauses sees and spends.
 use Rattle.std.proofs.Common.{arith}
 use Rattle.vx_ringio.proofs.Seeing.{one_read}
-use Rattle.vx_ringio.proofs.Spending.{spends_read}
+use Rattle.vx_disk.proofs.Spending.{spends_read}
 use Rattle.vx_ringio.proofs.reads.read_top.Goals as goal
 
 pub returns-clause-sees : goal.returns-clause-sees

@@ -1,5 +1,5 @@
 -- `flush_ring`: clause spends.
-use Rattle.vx_ringio.proofs.Spending.{spends_flush}
+use Rattle.vx_disk.proofs.Spending.{spends_flush}
 use Rattle.vx_ringio.proofs.writes.flush_ring.Goals as goal
 
 pub returns-clause-spends : goal.returns-clause-spends

@@ -3,8 +3,8 @@ use Rattle.std.proofs.Common.{arith, ◌∙◌, eqb-true, sym}
 use Rattle.std.proofs.lemmas.Result.{on_ok_weaker}
 use Rattle.vx_ringio.proofs.Parts.{body_parts, in_parts, first_follows, first_arrives, both_follow, both_arrive}
 use Rattle.vx_disk.proofs.Burning.{then_calls}
-use Rattle.vx_ringio.proofs.Naming.{names_before}
-use Rattle.vx_ringio.proofs.Spending.{on_always, at_least, at_least_fewer, then_spends}
+use Rattle.vx_disk.proofs.Naming.{names_before}
+use Rattle.vx_disk.proofs.Spending.{on_always, at_least, at_least_fewer, then_spends}
 use Rattle.vx_ringio.proofs.writes.write_body.Goals as goal
 
 pub write_part-requires-clause-body : goal.write_part-requires-clause-body

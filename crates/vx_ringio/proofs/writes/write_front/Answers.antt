@@ -2,7 +2,7 @@
 use Rattle.std.proofs.Common.{arith}
 use Rattle.std.proofs.lemmas.Result.{on_ok_weaker}
 use Rattle.vx_ringio.proofs.Classing.{class_front, one_follows, one_arrives}
-use Rattle.vx_ringio.proofs.Spending.{spends_write}
+use Rattle.vx_disk.proofs.Spending.{spends_write}
 use Rattle.vx_ringio.proofs.writes.write_front.Goals as goal
 
 pub returns-clause-follows : goal.returns-clause-follows

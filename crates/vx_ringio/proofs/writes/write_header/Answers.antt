@@ -3,8 +3,8 @@ use Rattle.std.proofs.Common.{arith}
 use Rattle.std.proofs.lemmas.Result.{on_ok_weaker}
 use Rattle.vx_ringio.proofs.Classing.{class_top, one_follows, flushed_follows, flushed_arrives}
 use Rattle.vx_ringio.proofs.Following.{sooner}
-use Rattle.vx_ringio.proofs.Naming.{names_before}
-use Rattle.vx_ringio.proofs.Spending.{on_always, spends_write, then_spends}
+use Rattle.vx_disk.proofs.Naming.{names_before}
+use Rattle.vx_disk.proofs.Spending.{on_always, spends_write, then_spends}
 use Rattle.vx_ringio.proofs.Aside.{aside_flushed, header_aside}
 use Rattle.vx_ringio.proofs.writes.write_header.Goals as goal
 

@@ -2,7 +2,7 @@
 use Rattle.std.proofs.lemmas.Result.{on_ok_weaker}
 use Rattle.std.proofs.Common.{arith}
 use Rattle.vx_ringio.proofs.Classing.{part_follows, part_arrives}
-use Rattle.vx_ringio.proofs.Spending.{spends_write}
+use Rattle.vx_disk.proofs.Spending.{spends_write}
 use Rattle.vx_ringio.proofs.writes.write_part.Goals as goal
 
 pub returns-clause-follows : goal.returns-clause-follows

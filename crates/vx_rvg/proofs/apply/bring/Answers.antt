@@ -5,7 +5,7 @@ use Rattle.vx_rvg.proofs.Blaming.{volumes_exit}
 use Rattle.vx_srl.specs.Views.{IsOrdered, all_of}
 use Rattle.vx_rvg.specs.Views.{Core, volume_size}
 use Rattle.vx_rvg.proofs.ApplyAll.{all_bring, due_few, more_moves, one_brought, rest_moves}
-use Rattle.vx_ringio.proofs.Spending.{then_spends, works_since}
+use Rattle.vx_disk.proofs.Spending.{then_spends, works_since}
 use Rattle.vx_rvg.proofs.WriteSound.{moved_sizes, placed_same}
 use Rattle.vx_rvg.proofs.apply.bring.Goals as goal
 

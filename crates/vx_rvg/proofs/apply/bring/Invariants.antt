@@ -1,6 +1,6 @@
 -- The loop of `bring` over `n`: what stays true.
 use Rattle.std.proofs.Common.{◌≤◌}
-use Rattle.vx_ringio.specs.Spends.{Spends}
+use Rattle.vx_disk.specs.Spends.{Spends}
 use Rattle.vx_rvg.proofs.ApplyAll.{BroughtTo}
 use Rattle.vx_rvg.proofs.apply.bring.Given as goal
 

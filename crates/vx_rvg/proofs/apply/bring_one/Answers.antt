@@ -4,7 +4,7 @@ use Rattle.std.proofs.lemmas.Result.{err_from_is_err_and}
 use Rattle.vx_rvg.proofs.Blaming.{named_volume, volumes_exit}
 use Rattle.std.proofs.lemmas.List.{length-take-le}
 use Rattle.vx_rvg.proofs.ApplyOne.{count_few, kept_at, kept_there, one_brings, one_moves, patched_in}
-use Rattle.vx_ringio.proofs.Spending.{spends_none, spends_write}
+use Rattle.vx_disk.proofs.Spending.{spends_none, spends_write}
 use Rattle.vx_rvg.proofs.apply.bring_one.Goals as goal
 
 pub returns-in_err-write-clause-moves : goal.returns-in_err-write-clause-moves

@@ -2,7 +2,7 @@
 use Rattle.std.proofs.Common.{arith}
 use Rattle.std.proofs.lemmas.Result.{err_from_is_err_and}
 use Rattle.vx_rvg.proofs.Blaming.{named_volume, volumes_exit}
-use Rattle.vx_ringio.proofs.Spending.{spends_flush, spends_none, then_spends}
+use Rattle.vx_disk.proofs.Spending.{spends_flush, spends_none, then_spends}
 use Rattle.vx_rvg.proofs.ApplyFlush.{flush_more, none_flushed, works_more}
 use Rattle.vx_rvg.proofs.apply.flush_volumes.Goals as goal
 

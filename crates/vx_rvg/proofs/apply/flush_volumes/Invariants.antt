@@ -1,7 +1,7 @@
 -- The loop of `flush_volumes` over `vol`: what stays true.
 use Rattle.std.proofs.Common.{ℕ, ◌<◌}
 use Rattle.vx_disk.specs.Causes.{Works}
-use Rattle.vx_ringio.specs.Spends.{Spends}
+use Rattle.vx_disk.specs.Spends.{Spends}
 use Rattle.vx_rvg.specs.Views.{unit_of}
 use Rattle.vx_rvg.proofs.ApplyFlush.{FlushedTo}
 use Rattle.vx_rvg.proofs.apply.flush_volumes.Given as goal

@@ -4,7 +4,7 @@ use Rattle.vx_rvg.specs.Views.{Core, last_of}
 use Rattle.vx_rvg.proofs.Blaming.{blames_idle, blames_since, works_behind}
 use Rattle.vx_rvg.proofs.ChangeCalls.{calls_since, short_same, short_since}
 use Rattle.vx_rvg.proofs.RestartMoves.{applied_by, apply_part, restart_part}
-use Rattle.vx_ringio.proofs.Spending.{then_spends}
+use Rattle.vx_disk.proofs.Spending.{then_spends}
 use Rattle.vx_rvg.proofs.change.restart.Goals as goal
 
 pub returns-in-Err-clause-moves : goal.returns-in-Err-clause-moves

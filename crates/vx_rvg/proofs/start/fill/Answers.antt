@@ -5,7 +5,7 @@ use Rattle.vx_disk.specs.Shelf.{Nothing}
 use Rattle.vx_disk.proofs.Runs.{then_nothing}
 use Rattle.vx_rvg.specs.Fills.{FillCause}
 use Rattle.vx_rvg.proofs.StartFill.{begun, filling_stops, room_for, went_on}
-use Rattle.vx_ringio.proofs.Spending.{spends_none, then_spends}
+use Rattle.vx_disk.proofs.Spending.{spends_none, then_spends}
 use Rattle.vx_rvg.proofs.ReadStands.{rest_sizes}
 use Rattle.vx_rvg.proofs.WriteSound.{placed_same}
 use Rattle.vx_rvg.proofs.start.fill.Goals as goal

@@ -1,6 +1,6 @@
 -- The loop of `fill` over `before`: what stays true.
 use Rattle.std.proofs.Common.{◌+◌, ◌-◌}
-use Rattle.vx_ringio.specs.Spends.{Spends}
+use Rattle.vx_disk.specs.Spends.{Spends}
 use Rattle.vx_rvg.proofs.StartFill.{Filling}
 use Rattle.vx_rvg.proofs.start.fill.Given as goal
 

@@ -6,7 +6,7 @@ use Rattle.vx_rvg.specs.Stands.{Saving}
 use Rattle.vx_rvg.specs.Views.{Core, last_of}
 use Rattle.vx_rvg.specs.contracts.rvg_core.RvgCore.{the_view}
 use Rattle.vx_rvg.proofs.StoreMoves.{at_its_last, empty_moves, empty_puts_ok, empty_stores, give_up_part, given_up, is_empty, is_held, put_part, put_stands}
-use Rattle.vx_ringio.proofs.Spending.{then_spends}
+use Rattle.vx_disk.proofs.Spending.{then_spends}
 use Rattle.vx_rvg.proofs.store.store_applied.Goals as goal
 
 pub returns-then-last-low-clause-stores : goal.returns-then-last-low-clause-stores

@@ -1,8 +1,9 @@
 -- The group behind a write that is staged and sealed.
 use Rattle.std.proofs.Common.{length, ◌∙◌, ap}
-use Rattle.vx_ringio.proofs.Spending.{then_spends}
+use Rattle.vx_disk.proofs.Spending.{then_spends}
 use Rattle.vx_rvg.specs.Views.{Core}
-use Rattle.vx_rvg.proofs.Blaming.{staged_place, unit_since}
+use Rattle.vx_disk.proofs.Naming.{unit_since}
+use Rattle.vx_rvg.proofs.Blaming.{staged_place}
 use Rattle.vx_rvg.specs.Commits.{number_refusal}
 use Rattle.vx_rvg.proofs.WriteCommit.{cut_fits, four_calls, four_least, four_short, seal_fails, seal_leaves, sound_staged, stage_fails, stage_leaves, stage_writing, staged_low, staged_up, write_answers, write_leaves, write_moves, write_stands}
 use Rattle.vx_rvg.proofs.write.commit.Goals as goal

@@ -1,6 +1,5 @@
 -- Each case of a line that recovers a site.
 use Rattle.std.proofs.Common.{◌∙◌, ap, subst, sym, refl, arith}
-use Rattle.vx_model.specs.Sizes.{ring_of}
 use Rattle.vx_order.specs.declared.facts.SiteFacts.{SiteFacts}
 use Rattle.std.proofs.lemmas.Result.{err_from_is_err_and}
 use Rattle.vx_script.specs.declared.line.ScriptLine.TheVariants.{Recover}
@@ -74,9 +73,9 @@ returns-in-Up-clause-leads g c = λ d stands apart.
     let s = c.site_of-site.result in
     let at = get_at facts s c.index-3.result.now c.site_of-site.ensures.fact c.index-3.ensures in
     let same = some_same (sym (get_at facts s c.index-2.result.now c.site_of-site.ensures.fact c.index-2.ensures) ∙ at) in
-    recover_from_up d c.args.yard.now c.go_down.new.yard c.rise.new.yard c.args.name.now s c.ring_blocks.result c.rise.result c.index-3.result.now stands apart c.site_of-site.ensures.seat at c.in-Up.is
-    (c.ring_blocks.ensures ∙ ap (λ (f : SiteFacts). ring_of f.blocks) same) c.go_down.ensures.falls
-    (λ e h choice taken name number from fit stood below down over ring. c.rise.ensures.rises e h choice taken name number from fit stood below down over ring (c.in_ok-room.ensures.ring ∙ sym c.ring_blocks.ensures))
+    recover_from_up d c.args.yard.now c.go_down.new.yard c.rise.new.yard c.args.name.now s c.index-2.result.now.blocks c.rise.result c.index-3.result.now stands apart c.site_of-site.ensures.seat at c.in-Up.is
+    (ap (λ (f : SiteFacts). f.blocks) same) c.go_down.ensures.falls
+    (λ e h choice taken name number from fit stood below down over blocks. c.rise.ensures.rises e h choice taken name number from fit stood below down over blocks c.in_ok-room.ensures.start)
 
 pub returns-in-Up-clause-asked : goal.returns-in-Up-clause-asked
 returns-in-Up-clause-asked g c = λ d stands apart.
@@ -90,10 +89,9 @@ returns-in-Down-clause-leads g c = λ d stands apart.
     let s = c.site_of-site.result in
     let at = get_at facts s c.index-3.result.now c.site_of-site.ensures.fact c.index-3.ensures in
     let same = some_same (sym (get_at facts s c.index-2.result.now c.site_of-site.ensures.fact c.index-2.ensures) ∙ at) in
-    recover_from_down d c.args.yard.now c.rise-in-Down.new.yard c.args.name.now s c.ring_blocks-in-Down.result c.rise-in-Down.result c.index-3.result.now stands apart c.site_of-site.ensures.seat at c.in-Down.is
-    (c.ring_blocks-in-Down.ensures ∙ ap (λ (f : SiteFacts). ring_of f.blocks) same)
-    (λ e h choice taken name number from fit stood below down over ring. c.rise-in-Down.ensures.rises e h choice taken name number from fit stood below down over ring
-    (c.in_ok-room.ensures.ring ∙ sym c.ring_blocks-in-Down.ensures))
+    recover_from_down d c.args.yard.now c.rise-in-Down.new.yard c.args.name.now s c.index-2.result.now.blocks c.rise-in-Down.result c.index-3.result.now stands apart c.site_of-site.ensures.seat at c.in-Down.is
+    (ap (λ (f : SiteFacts). f.blocks) same)
+    (λ e h choice taken name number from fit stood below down over blocks. c.rise-in-Down.ensures.rises e h choice taken name number from fit stood below down over blocks c.in_ok-room.ensures.start)
 
 pub returns-in-Down-clause-asked : goal.returns-in-Down-clause-asked
 returns-in-Down-clause-asked g c = λ d stands apart.

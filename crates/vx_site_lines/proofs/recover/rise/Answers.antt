@@ -1,6 +1,8 @@
 -- Each case of the start of a group.
-use Rattle.std.proofs.Common.{◌∙◌, ap, sym, refl, arith}
+use Rattle.std.proofs.Common.{◌∙◌, ◌≤◌, ℕ, ap, sym, subst, refl, arith}
 use Rattle.std.specs.Prelude.{Some, slice_set}
+use Rattle.vx_model.specs.Sizes.{ring_of}
+use Rattle.vx_diskset.specs.Layouts.{maps_room}
 use Rattle.vx_diskset.specs.declared.disk_set.DiskSet.TheVariants.{Gone}
 use Rattle.vx_diskset.proofs.KeepsFailing.{failing_stopped, failing_then}
 use Rattle.vx_yard.proofs.Lists.{get_at, set_twice}
@@ -9,14 +11,15 @@ use Rattle.vx_site_lines.proofs.RiseCases.{later_then, rises_again, rises_not, r
 use Rattle.vx_site_lines.proofs.recover.rise.Goals as goal
 
 pub returns-in-Some-clause-rises : goal.returns-in-Some-clause-rises
-returns-in-Some-clause-rises g c = λ d h choice taken name number from fit stands below down apart ring room.
+returns-in-Some-clause-rises g c = λ d h choice taken name number from fit stands below down apart blocks room.
     let lawful = (g.met.R.Shelf g.world.𝓛 g.world.𝓜 g.world.𝓡 ((λ s x. x), (λ x. x), (λ x. x), λ x. x)).lawful in
     let disk_sets = c.args.yard.now.disk_sets.items in
     let s = c.args.site in
     let up = c.recover_any-disk_set.result.0 in
     let at = get_at disk_sets s c.index_mut.result.now c.requires.disk_set c.index_mut.ensures.value in
     let there = at ∙ ap (λ e. Some e) (sym c.replace-disk_set.ensures.value) in
-    rises_up lawful d h c.args.yard.now s c.args.ring choice taken name number from fit stands below down apart ring c.args.room.start.ring room c.replace-disk_set.result up there
+    rises_up lawful d h c.args.yard.now s c.ring_blocks-ring.result choice taken name number from fit stands below down apart (c.ring_blocks-ring.ensures ∙ ap ring_of blocks) c.args.room.start
+    (record { ring_is = room.ring_is ∙ sym c.ring_blocks-ring.ensures; maps_are = subst (λ (n : ℕ). maps_room n ≤ c.args.room.start.maps) blocks room.maps_are }) c.replace-disk_set.result up there
     c.recover_any-disk_set.ensures.later c.recover_any-disk_set.ensures.failing c.recover_any-disk_set.result.1 c.recover_any-disk_set.ensures.recovered
     c.in-Ok.field-0 c.in-Ok.is c.len-sites.result (omega (arith, c.len-sites.ensures, c.args.yard.now.facts.ok)) _ c.stand_up.new.yard c.in-Some.risen.state c.in-Some.risen.used c.stand_up.result c.stand_up.ensures.rises c.in-Some.ensures.is c.in-Some.ensures.told
     (record {
@@ -52,14 +55,15 @@ returns-in-Some-clause-told g c =
     (ap (λ es. es.items) c.stand_up.ensures.rises.disk_sets ∙ ap (λ e. slice_set (slice_set disk_sets s e) s up) c.replace-disk_set.ensures.after)
 
 pub returns-in-None-clause-rises : goal.returns-in-None-clause-rises
-returns-in-None-clause-rises g c = λ d h choice taken name number from fit stands below down apart ring room.
+returns-in-None-clause-rises g c = λ d h choice taken name number from fit stands below down apart blocks room.
     let lawful = (g.met.R.Shelf g.world.𝓛 g.world.𝓜 g.world.𝓡 ((λ s x. x), (λ x. x), (λ x. x), λ x. x)).lawful in
     let disk_sets = c.args.yard.now.disk_sets.items in
     let s = c.args.site in
     let up = c.recover_any-disk_set.result.0 in
     let at = get_at disk_sets s c.index_mut.result.now c.requires.disk_set c.index_mut.ensures.value in
     let there = at ∙ ap (λ e. Some e) (sym c.replace-disk_set.ensures.value) in
-    rises_again lawful d h c.args.yard.now s c.args.ring choice taken name number from fit stands below down apart ring c.args.room.start.ring room c.replace-disk_set.result up there
+    rises_again lawful d h c.args.yard.now s c.ring_blocks-ring.result choice taken name number from fit stands below down apart (c.ring_blocks-ring.ensures ∙ ap ring_of blocks) c.args.room.start
+    (record { ring_is = room.ring_is ∙ sym c.ring_blocks-ring.ensures; maps_are = subst (λ (n : ℕ). maps_room n ≤ c.args.room.start.maps) blocks room.maps_are }) c.replace-disk_set.result up there
     c.recover_any-disk_set.ensures.later c.recover_any-disk_set.ensures.failing c.recover_any-disk_set.result.1 c.recover_any-disk_set.ensures.recovered
     c.in-Ok.field-0 c.in-Ok.is c.len-sites.result (omega (arith, c.len-sites.ensures, c.args.yard.now.facts.ok)) c.crash.result _ c.in-None.ensures.some c.crash.ensures.crashed c.crash.ensures.later (failing_stopped _ up c.crash.result c.crash.ensures.stopped)
     (record {
@@ -96,14 +100,15 @@ returns-in-None-clause-told g c =
     (ap (λ e. slice_set (slice_set disk_sets s e) s c.crash.result) c.replace-disk_set.ensures.after)
 
 pub returns-in-Err-clause-rises : goal.returns-in-Err-clause-rises
-returns-in-Err-clause-rises g c = λ d h choice taken name number from fit stands below down apart ring room.
+returns-in-Err-clause-rises g c = λ d h choice taken name number from fit stands below down apart blocks room.
     let lawful = (g.met.R.Shelf g.world.𝓛 g.world.𝓜 g.world.𝓡 ((λ s x. x), (λ x. x), (λ x. x), λ x. x)).lawful in
     let disk_sets = c.args.yard.now.disk_sets.items in
     let s = c.args.site in
     let up = c.recover_any-disk_set.result.0 in
     let at = get_at disk_sets s c.index_mut.result.now c.requires.disk_set c.index_mut.ensures.value in
     let there = at ∙ ap (λ e. Some e) (sym c.replace-disk_set.ensures.value) in
-    rises_not lawful d h c.args.yard.now s c.args.ring choice taken name number from fit stands below down apart ring c.args.room.start.ring room c.replace-disk_set.result up there
+    rises_not lawful d h c.args.yard.now s c.ring_blocks-ring.result choice taken name number from fit stands below down apart (c.ring_blocks-ring.ensures ∙ ap ring_of blocks) c.args.room.start
+    (record { ring_is = room.ring_is ∙ sym c.ring_blocks-ring.ensures; maps_are = subst (λ (n : ℕ). maps_room n ≤ c.args.room.start.maps) blocks room.maps_are }) c.replace-disk_set.result up there
     c.recover_any-disk_set.ensures.later c.recover_any-disk_set.ensures.failing c.recover_any-disk_set.result.1 c.recover_any-disk_set.ensures.recovered _ c.in-Err.no c.in-Err.is
     (record {
       disk_sets = ap (λ e. slice_set (slice_set disk_sets s e) s up) c.replace-disk_set.ensures.after ∙ set_twice disk_sets s Gone up;

@@ -50,8 +50,8 @@ returns-in-Some-clause-rises g c = λ d number stands below bare.
     let two = get_at facts s c.index-2.result.now c.requires.facts c.index-2.ensures in
     let three = get_at facts s c.index_mut-in-Some-2.result.now c.requires.facts c.index_mut-in-Some-2.ensures.value in
     let at = get_at disk_sets s c.index_mut.result.now c.requires.disk_set c.index_mut.ensures.value in
-    bare_up d c.args.yard.now s c.args.name.now number stands below bare c.index.result.now c.index-2.result.now one two (c.can_be_raw.ensures.is (search rules)) c.args.room.start.ring
-    (c.requires.room c.index-2.result.now two).ring c.replace-disk_set.result up (at ∙ ap (λ e. Some e) (sym c.replace-disk_set.ensures.value)) c.recover_bare_any-disk_set.ensures.later
+    bare_up d c.args.yard.now s c.args.name.now number stands below bare c.index.result.now c.index-2.result.now one two (c.can_be_raw.ensures.is (search rules)) c.args.room.start
+    (c.requires.room c.index-2.result.now two).start c.replace-disk_set.result up (at ∙ ap (λ e. Some e) (sym c.replace-disk_set.ensures.value)) c.recover_bare_any-disk_set.ensures.later
     c.recover_bare_any-disk_set.ensures.failing c.recover_bare_any-disk_set.result.1 c.recover_bare_any-disk_set.ensures.found c.in-Ok.field-0 c.in-Ok.is
     lawful _ c.stand_up.new.yard c.index_mut-in-Some-2.result.now c.in_ok-volumes.volumes c.ring_blocks.result c.len-sites.result c.in-Some.risen.state c.in-Some.risen.used c.stand_up.result c.stand_up.ensures.rises three
     c.in_ok-volumes.ensures c.ring_blocks.ensures (omega (arith, c.len-sites.ensures, c.args.yard.now.facts.ok)) c.in-Some.ensures.is (ap (λ f. slice_set facts s f) c.make_raw.ensures)
@@ -90,8 +90,8 @@ returns-in-None-clause-rises g c = λ d number stands below bare.
     let one = get_at facts s c.index.result.now c.requires.facts c.index.ensures in
     let two = get_at facts s c.index-2.result.now c.requires.facts c.index-2.ensures in
     let at = get_at disk_sets s c.index_mut.result.now c.requires.disk_set c.index_mut.ensures.value in
-    bare_again d c.args.yard.now s c.args.name.now number stands below bare c.index.result.now c.index-2.result.now one two (c.can_be_raw.ensures.is (search rules)) c.args.room.start.ring
-    (c.requires.room c.index-2.result.now two).ring c.replace-disk_set.result up (at ∙ ap (λ e. Some e) (sym c.replace-disk_set.ensures.value)) c.recover_bare_any-disk_set.ensures.later
+    bare_again d c.args.yard.now s c.args.name.now number stands below bare c.index.result.now c.index-2.result.now one two (c.can_be_raw.ensures.is (search rules)) c.args.room.start
+    (c.requires.room c.index-2.result.now two).start c.replace-disk_set.result up (at ∙ ap (λ e. Some e) (sym c.replace-disk_set.ensures.value)) c.recover_bare_any-disk_set.ensures.later
     c.recover_bare_any-disk_set.ensures.failing c.recover_bare_any-disk_set.result.1 c.recover_bare_any-disk_set.ensures.found c.in-Ok.field-0 c.in-Ok.is
     c.withdraw.result _ c.withdraw.ensures.bare c.withdraw.ensures.later c.withdraw.ensures.failing
     (record {
@@ -136,8 +136,8 @@ returns-in-Err-clause-rises g c = λ d number stands below bare.
     let one = get_at facts s c.index.result.now c.requires.facts c.index.ensures in
     let two = get_at facts s c.index-2.result.now c.requires.facts c.index-2.ensures in
     let at = get_at disk_sets s c.index_mut.result.now c.requires.disk_set c.index_mut.ensures.value in
-    bare_not d c.args.yard.now s c.args.name.now number stands below bare c.index.result.now c.index-2.result.now one two (c.can_be_raw.ensures.is (search rules)) c.args.room.start.ring
-    (c.requires.room c.index-2.result.now two).ring c.replace-disk_set.result up (at ∙ ap (λ e. Some e) (sym c.replace-disk_set.ensures.value)) c.recover_bare_any-disk_set.ensures.later
+    bare_not d c.args.yard.now s c.args.name.now number stands below bare c.index.result.now c.index-2.result.now one two (c.can_be_raw.ensures.is (search rules)) c.args.room.start
+    (c.requires.room c.index-2.result.now two).start c.replace-disk_set.result up (at ∙ ap (λ e. Some e) (sym c.replace-disk_set.ensures.value)) c.recover_bare_any-disk_set.ensures.later
     c.recover_bare_any-disk_set.ensures.failing c.recover_bare_any-disk_set.result.1 c.recover_bare_any-disk_set.ensures.found _ c.in-Err.no c.in-Err.is
     (record {
       disk_sets = ap (λ e. slice_set (slice_set disk_sets s e) s up) c.replace-disk_set.ensures.after ∙ set_twice disk_sets s Gone up;

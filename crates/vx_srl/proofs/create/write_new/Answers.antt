@@ -1,7 +1,7 @@
 -- `write_new`: clauses moves, written, spends and works.
 use Rattle.std.proofs.lemmas.Result.{on_ok_weaker}
 use Rattle.vx_srl.proofs.MakeNew.{then_any, new_headers}
-use Rattle.vx_ringio.proofs.Spending.{on_always, then_spends, works_since}
+use Rattle.vx_disk.proofs.Spending.{on_always, then_spends, works_since}
 use Rattle.vx_srl.proofs.create.write_new.Goals as goal
 
 pub returns-clause-moves : goal.returns-clause-moves

@@ -6,7 +6,7 @@ use Rattle.vx_ringio.specs.Reading.{SeesFront, ShowsFront, FrontCanSpell}
 use Rattle.vx_srlfmt.specs.declared.record.Seen.{Seen}
 use Rattle.vx_ringio.proofs.Following.{reads_stay}
 use Rattle.vx_srl.proofs.ScanLooks.{damaged_agrees, other_agrees, passed_agrees, answer_agrees, answer_shown, answer_stands, answer_fits}
-use Rattle.vx_ringio.proofs.Spending.{then_spends}
+use Rattle.vx_disk.proofs.Spending.{then_spends}
 use Rattle.vx_srl.proofs.scan.look.Goals.{then-not-may_follow-via-then-not-may_follow, then-not-may_follow-via-else-not-may_follow+then-head-left}
 use Rattle.vx_srl.proofs.scan.look.Goals as goal
 

@@ -6,7 +6,7 @@ use Rattle.vx_srl.specs.Scans.{Differ}
 use Rattle.vx_srl.proofs.ScanCauses.{lies_still}
 use Rattle.vx_srl.proofs.ScanLoops.{begun, damaged_read, ended, emptied, undamaged, found_kept, found_chained, went_on}
 use Rattle.vx_srl.proofs.StartPlaces.{place_of_ring}
-use Rattle.vx_ringio.proofs.Spending.{spends_none, then_spends}
+use Rattle.vx_disk.proofs.Spending.{spends_none, then_spends}
 use Rattle.vx_srl.proofs.scan.scan.Goals.{else-loop-test, then-loop-test+in-Ok-End}
 use Rattle.vx_srl.proofs.scan.scan.Goals as goal
 

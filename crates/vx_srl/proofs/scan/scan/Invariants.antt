@@ -1,6 +1,6 @@
 -- The loop of `scan`: what stays true.
 use Rattle.std.specs.VecDeque.{deque_capacity}
-use Rattle.vx_ringio.specs.Spends.{Spends}
+use Rattle.vx_disk.specs.Spends.{Spends}
 use Rattle.vx_srl.proofs.ScanLoops.{Scanning}
 use Rattle.vx_srl.proofs.scan.scan.Given as goal
 

@@ -1,9 +1,9 @@
 -- `write_fronts`: clauses follows, short, names and spends; what stays true in its loop over `k`.
 use Rattle.std.proofs.Common.{arith, refl}
 use Rattle.std.proofs.lemmas.Result.{err_from_is_err_and}
-use Rattle.vx_srl.proofs.Blaming.{names_done, names_exit}
+use Rattle.vx_disk.proofs.Naming.{names_done, names_exit}
 use Rattle.vx_srl.proofs.FrontLaws.{cut_follows, one_more, one_written, short_cut, short_more}
-use Rattle.vx_ringio.proofs.Spending.{then_spends}
+use Rattle.vx_disk.proofs.Spending.{then_spends}
 use Rattle.vx_srl.proofs.seal.write_fronts.Goals as goal
 
 pub returns-in_err-write_front-clause-follows : goal.returns-in_err-write_front-clause-follows

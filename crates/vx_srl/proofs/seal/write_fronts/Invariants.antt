@@ -1,7 +1,7 @@
 -- The loop of `write_fronts` over `k`: what stays true.
 use Rattle.std.proofs.Common.{◌-◌}
 use Rattle.vx_disk.specs.Burns.{FallsShort, MakesCalls}
-use Rattle.vx_ringio.specs.Spends.{Spends}
+use Rattle.vx_disk.specs.Spends.{Spends}
 use Rattle.vx_srl.proofs.FrontLaws.{Written}
 use Rattle.vx_srl.proofs.seal.write_fronts.Given as goal
 

@@ -3,7 +3,7 @@ use Rattle.std.proofs.Common.{refl}
 use Rattle.vx_disk.specs.Shelf.{Nothing}
 use Rattle.vx_disk.proofs.Runs.{then_nothing}
 use Rattle.vx_srl.proofs.StartHeaders.{found, broken}
-use Rattle.vx_ringio.proofs.Spending.{then_spends}
+use Rattle.vx_disk.proofs.Spending.{then_spends}
 use Rattle.vx_srl.proofs.start.find_header.Goals as goal
 
 pub returns-in-Stands-clause-found : goal.returns-in-Stands-clause-found

@@ -1,6 +1,6 @@
 -- `take_over`: clauses follows, arrives, spends and aside.
 use Rattle.vx_srl.proofs.StartTakeOver.{first_follows, both_follow, both_arrive}
-use Rattle.vx_ringio.proofs.Spending.{then_spends}
+use Rattle.vx_disk.proofs.Spending.{then_spends}
 use Rattle.vx_ringio.proofs.Aside.{both_aside}
 use Rattle.vx_srl.proofs.start.take_over.Goals as goal
 

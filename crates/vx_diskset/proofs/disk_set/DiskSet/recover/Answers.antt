@@ -11,9 +11,9 @@ use Rattle.vx_diskset.proofs.disk_set.DiskSet.recover.Goals as goal
 
 pub start_in-requires : goal.start_in-requires
 start_in-requires g c =
-    let needs = start_needs c.units.result c.args.room.ring c.raw_units-units.result (g.R.Shelf.meaning c.in-Down.rack) (g.R.Shelf.meaning c.revive.new.self) (c.can_start.ensures.is (search rules))
+    let needs = start_needs c.units.result c.args.room c.raw_units-units.result (g.R.Shelf.meaning c.in-Down.rack) (g.R.Shelf.meaning c.revive.new.self) (c.can_start.ensures.is (search rules))
     c.revive.ensures.alike c.raw_units-units.ensures c.units.ensures in
-    record { placed = needs.0; large = needs.1; room = needs.2 }
+    record { placed = needs.0; large = needs.1; room = needs.2; maps = needs.3 }
 
 pub returns-in-Ok-clause-recovered : goal.returns-in-Ok-clause-recovered
 returns-in-Ok-clause-recovered g c = λ beside n stands down apart ring.
@@ -43,4 +43,4 @@ returns-in-Err-clause-failing g c = subst (λ e. SameFailing e (Down c.crash.new
 pub returns-then-not-can_start-clause-recovered : goal.returns-then-not-can_start-clause-recovered
 returns-then-not-can_start-clause-recovered g c = λ beside n stands down apart ring.
     absurd (never_both c.can_start.result
-    (c.can_start.ensures.all (can_start n (g.R.Shelf.meaning c.in-Down.rack) c.args.room.ring (subst (λ e. SiteStands beside n e) c.in-Down.is stands) ring)) c.if-not-can_start.true)
+    (c.can_start.ensures.all (can_start n (g.R.Shelf.meaning c.in-Down.rack) c.args.room (subst (λ e. SiteStands beside n e) c.in-Down.is stands) ring)) c.if-not-can_start.true)

@@ -5,7 +5,7 @@ use Rattle.vx_diskset.proofs.OverWorks.{moved_core, only_log}
 use Rattle.vx_diskset.proofs.over_work.StartsWork.run.Goals as goal
 
 pub start_in-requires : goal.start_in-requires
-start_in-requires g c = record { placed = c.requires.0; large = c.requires.1; room = c.requires.2 }
+start_in-requires g c = record { placed = c.requires.0; large = c.requires.1; room = c.requires.2; maps = c.requires.3 }
 
 pub returns-in-Ok : goal.returns-in-Ok
 returns-in-Ok g c =

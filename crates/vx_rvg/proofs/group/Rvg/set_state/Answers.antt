@@ -1,8 +1,7 @@
 -- The group behind a new state.
 use Rattle.std.proofs.Common.{arith, refl, subst, ◌+◌}
-use Rattle.vx_disk.specs.Causes.{Works}
+use Rattle.vx_disk.specs.Causes.{BlamesUnit, Works}
 use Rattle.vx_disk.specs.Moves.{Moves, Run}
-use Rattle.vx_srl.specs.Causes.{BlamesUnit}
 use Rattle.vx_srl.specs.Headers.{with_header_state}
 use Rattle.vx_rvg.specs.Saves.{with_new_state}
 use Rattle.vx_rvg.specs.Stands.{Retains, Saving}

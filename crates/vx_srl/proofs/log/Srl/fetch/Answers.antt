@@ -2,7 +2,7 @@
 use Rattle.std.proofs.Common.{ℕ, ◌*◌, ◌/◌, ◌≤◌, ◌∙◌, List, ap, sym, subst, arith, length, take, length-take}
 use Rattle.vx_wire.specs.Seals.{digest_of}
 use Rattle.vx_srl.specs.Views.{Log}
-use Rattle.vx_srl.proofs.Blaming.{blames_failed}
+use Rattle.vx_disk.proofs.Naming.{blames_failed}
 use Rattle.vx_srl.proofs.ScanBodies.{body_shown}
 use Rattle.vx_srl.proofs.FetchKept.{count_within, count_few, never_differ, fetched, agrees, names}
 use Rattle.vx_disk.specs.Causes.{Works}

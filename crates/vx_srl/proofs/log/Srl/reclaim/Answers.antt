@@ -2,7 +2,7 @@
 use Rattle.std.proofs.Common.{◌≡◌, ℕ, ◌+◌, ◌-◌, ◌∙◌, ap, arith}
 use Rattle.vx_srl.specs.Calls.{saved}
 use Rattle.vx_srl.specs.Views.{Log}
-use Rattle.vx_srl.proofs.Blaming.{blames_failed}
+use Rattle.vx_disk.proofs.Naming.{blames_failed}
 use Rattle.vx_srl.proofs.LogLists.{low_some}
 use Rattle.vx_srl.proofs.Saving.{without_goes, without_leads}
 use Rattle.vx_srl.proofs.log.Srl.reclaim.Goals as goal

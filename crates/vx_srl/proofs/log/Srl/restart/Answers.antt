@@ -3,7 +3,7 @@ use Rattle.std.proofs.Common.{take, drop, ap, subst, List}
 use Rattle.vx_srl.specs.declared.kept.Kept.{Kept}
 use Rattle.vx_disk.specs.Causes.{Works}
 use Rattle.vx_srl.specs.Views.{Log}
-use Rattle.vx_srl.proofs.Blaming.{blames_failed}
+use Rattle.vx_disk.proofs.Naming.{blames_failed}
 use Rattle.vx_srl.proofs.Saving.{emptied_goes, emptied_leads}
 use Rattle.vx_srl.proofs.log.Srl.restart.Goals as goal
 

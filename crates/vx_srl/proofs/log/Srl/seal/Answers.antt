@@ -1,6 +1,6 @@
 -- `seal`: clauses nothing, goes, leads and blames.
 use Rattle.std.proofs.Common.{refl, subst, sym, arith}
-use Rattle.vx_srl.proofs.Blaming.{blames_failed}
+use Rattle.vx_disk.proofs.Naming.{blames_failed}
 use Rattle.vx_srl.specs.Calls.{sealing}
 use Rattle.vx_srl.specs.Rings.{LeadsTo}
 use Rattle.vx_srl.specs.Views.{Log}

@@ -2,7 +2,7 @@
 use Rattle.std.proofs.Common.{ap, subst}
 use Rattle.vx_disk.specs.Causes.{Works}
 use Rattle.vx_srl.specs.Views.{Log}
-use Rattle.vx_srl.proofs.Blaming.{blames_failed}
+use Rattle.vx_disk.proofs.Naming.{blames_failed}
 use Rattle.vx_srl.proofs.Saving.{state_goes, state_leads}
 use Rattle.vx_srl.proofs.log.Srl.set_state.Goals as goal
 

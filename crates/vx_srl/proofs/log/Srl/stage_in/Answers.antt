@@ -1,6 +1,6 @@
 -- `stage_in`: clauses goes, leads, works and blames; what `write_body` asks.
 use Rattle.std.proofs.Common.{ap, subst}
-use Rattle.vx_srl.proofs.Blaming.{blames_failed}
+use Rattle.vx_disk.proofs.Naming.{blames_failed}
 use Rattle.vx_srl.proofs.StageRecord.{body_blocks}
 use Rattle.vx_srl.proofs.StageKept.{goes_kept, leads_kept}
 use Rattle.vx_disk.specs.Causes.{Works}

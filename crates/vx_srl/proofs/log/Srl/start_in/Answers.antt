@@ -8,7 +8,7 @@ use Rattle.vx_srl.specs.Starts.{LogStartCause, Restarting, IsStartedLog, LogSpac
 use Rattle.vx_srl.proofs.StartCauses.{fronts_before, limit_since, no_header_cause, scan_cause, take_over_cause}
 use Rattle.vx_srl.proofs.StartLogs.{rests, header_left, scans_left, goes_over, is_started}
 use Rattle.vx_ringio.proofs.Aside.{aside_reads_since}
-use Rattle.vx_ringio.proofs.Spending.{then_spends}
+use Rattle.vx_disk.proofs.Spending.{then_spends}
 use Rattle.vx_srl.proofs.log.Srl.start_in.Goals as goal
 
 pub returns-in-Err-clause-starts : goal.returns-in-Err-clause-starts

@@ -1,15 +1,14 @@
 -- `write_staged`: clauses follows, cause, arrives, names and spends; what `write_fronts` asks.
 use Rattle.std.proofs.Common.{ap, sym, subst}
 use Rattle.vx_disk.specs.Causes.{Names}
-use Rattle.vx_ringio.proofs.Naming.{names_before}
-use Rattle.vx_srl.proofs.Blaming.{names_exit}
+use Rattle.vx_disk.proofs.Naming.{names_before, names_exit}
 use Rattle.std.proofs.lemmas.Result.{err_from_is_err_and, on_ok_weaker}
 use Rattle.vx_ringio.specs.Tracks.{Arrives, Follows, RingLies}
 use Rattle.vx_srl.specs.Fronts.{seal_written}
 use Rattle.vx_srl.specs.Views.{Log}
 use Rattle.vx_srl.proofs.FrontLaws.{ended_err, ended_last, flush_cut, fronts_cut, fronts_follow, lies_stays, places_low, seal_arrives, seal_follows}
 use Rattle.vx_srl.proofs.LogLists.{place_low}
-use Rattle.vx_ringio.proofs.Spending.{spends_none, then_spends}
+use Rattle.vx_disk.proofs.Spending.{spends_none, then_spends}
 use Rattle.vx_srl.proofs.log.Srl.write_staged.Goals as goal
 
 pub returns-in_err-flush_ring-clause-follows : goal.returns-in_err-flush_ring-clause-follows

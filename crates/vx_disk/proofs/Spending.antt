@@ -7,7 +7,7 @@ use Rattle.vx_disk.specs.Burns.{FewerLeft, MakesCalls}
 use Rattle.vx_disk.specs.Causes.{Calls, Cause, OnDisks, WithDisks, Works}
 use Rattle.vx_disk.specs.Disks.{Burns, Disks, RanOut, SameBlocks, Untouched}
 use Rattle.vx_disk.specs.Shelf.{DisksFlushed, DisksWrote, Goes, Meaning, Nothing, Values, Written}
-use Rattle.vx_ringio.specs.Spends.{Loses, MakesAtLeast, Passed, Spends, Spent}
+use Rattle.vx_disk.specs.Spends.{Loses, MakesAtLeast, Passed, Spends, Spent}
 
 -- ---- fuses
 

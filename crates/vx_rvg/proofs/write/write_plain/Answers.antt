@@ -1,0 +1,6 @@
+-- `write_plain`: clause blames.
+use Rattle.vx_rvg.proofs.Blaming.{blames_idle}
+use Rattle.vx_rvg.proofs.write.write_plain.Goals as goal
+
+pub returns-in-Some-clause-blames : goal.returns-in-Some-clause-blames
+returns-in-Some-clause-blames g c = blames_idle (g.S.Shelf.meaning c.args.shelf.now).disks c.args.core.now.log.unit c.in-Some.no c.in-Some.ensures.idle
