@@ -1,5 +1,5 @@
 -- Which disks of a site are made to fail is nothing by which the group over them stands.
-use Rattle.std.proofs.Common.{◌≡◌, ℕ, Bool, List}
+use Rattle.std.proofs.Common.{ℕ, Bool, List}
 use Rattle.vx_model.specs.declared.call.Update.{Update}
 use Rattle.vx_history.specs.World.{Node}
 use Rattle.vx_disk.specs.Shelf.{Meaning}

@@ -1,5 +1,5 @@
 -- What the setting of the fuse leaves of a site.
-use Rattle.std.proofs.Common.{◌≡◌, ◌∙◌, ◌≤◌, ℕ, List, sym, refl, Option, Some, None, MatchOption, arith}
+use Rattle.std.proofs.Common.{◌≡◌, ◌∙◌, ℕ, List, sym, refl, Option, Some, None, MatchOption, arith}
 use Rattle.vx_history.specs.World.{Fuse, FuseSet, Node}
 use Rattle.vx_diskset.specs.Holds.{KeptBeside}
 use Rattle.vx_disk.specs.Causes.{OnDisks}

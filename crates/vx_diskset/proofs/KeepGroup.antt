@@ -13,7 +13,6 @@ use Rattle.vx_srlfmt.specs.declared.header.Header.{Header}
 use Rattle.vx_disk.specs.Causes.{BlamesUnit}
 use Rattle.vx_srl.specs.Views.{most_number}
 use Rattle.vx_srl.specs.declared.kept.Kept.{Kept as KeptRecord}
-use Rattle.vx_disk.specs.Counts.{Rose}
 use Rattle.vx_disk.specs.Moves.{Moves, Run}
 use Rattle.vx_disk.specs.Racks.{IsRack}
 use Rattle.vx_disk.specs.Shelf.{Image, Lawful, Meaning}
@@ -24,7 +23,6 @@ use Rattle.vx_rvg.specs.Stands.{FoundAs, Retains, Saving, Stands}
 use Rattle.vx_rvg.specs.Views.{Core}
 use Rattle.vx_rvg.proofs.ContentFacts.{kept_all}
 use Rattle.vx_events.proofs.Places.{some_same}
-use Rattle.vx_events.specs.Fails.{IsLogDisk}
 use Rattle.vx_disk.specs.declared.shelf.Shelf.{Ghosts}
 use Rattle.vx_rvg.specs.declared.group.Rvg.{Rvg}
 use Rattle.vx_diskset.specs.declared.disk_set.DiskSet.{DiskSet}
@@ -32,7 +30,7 @@ use Rattle.vx_diskset.specs.declared.disk_set.DiskSet.TheVariants.{Up}
 use Rattle.vx_diskset.specs.DiskSets.{CrashedAt, halted_at, no_number}
 use Rattle.vx_diskset.specs.Fuses.{FuseOn}
 use Rattle.vx_grouped.specs.SiteEnds.{is_off}
-use Rattle.vx_diskset.specs.Holds.{KeptBeside, HasSite, HasWrites, KeptSite, MayBe, most_header, most_with, state_with, sure_of}
+use Rattle.vx_diskset.specs.Holds.{KeptBeside, HasSite, HasWrites, KeptSite, MayBe, most_with, state_with, sure_of}
 use Rattle.vx_diskset.specs.Keeps.{CanKeep, KeptAt, KeptUp, doubting, kept_anew, restated}
 use Rattle.vx_diskset.specs.Lasts.{StandsHolding}
 use Rattle.vx_diskset.specs.Layouts.{LiesOn}

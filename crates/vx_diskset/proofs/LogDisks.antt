@@ -1,10 +1,8 @@
 -- A refusal 7 of the log of a site names the disk on which that lies.
-use Rattle.std.proofs.Common.{◌≡◌, ◌∙◌, ℕ, ap, refl, subst, sym}
-use Rattle.std.specs.Prelude.{IsSome, Option}
+use Rattle.std.proofs.Common.{◌≡◌, ◌∙◌, ℕ, ap}
 use Rattle.vx_model.specs.declared.no.No.TheVariants.{Device}
 use Rattle.vx_model.specs.declared.units.Units.{Units}
 use Rattle.vx_history.specs.World.{Node}
-use Rattle.vx_disk.specs.Disks.{Disks}
 use Rattle.vx_disk.specs.Shelf.{Meaning}
 use Rattle.vx_disk.specs.Causes.{BlamesUnit}
 use Rattle.vx_rvg.specs.Views.{Core}

@@ -5,8 +5,7 @@ use Rattle.std.proofs.lemmas.List.{length-replicate}
 use Rattle.vx_disk.specs.Maps.{maps_of}
 use Rattle.vx_diskset.specs.Holds.{KeptBeside}
 use Rattle.vx_disk.specs.Causes.{WithDisks, OnDisks}
-use Rattle.vx_disk.specs.Disks.{Disks, Untouched, is_set}
-use Rattle.vx_disk.specs.Racks.{IsRack}
+use Rattle.vx_disk.specs.Disks.{Disks, Untouched}
 use Rattle.std.proofs.lemmas.Bool.{cases_lt}
 use Rattle.vx_history.specs.World.{Node, Fuse, NoFuse, FuseSet, FuseLit}
 use Rattle.vx_model.specs.Content.{Content, zero_block}

@@ -1,5 +1,5 @@
 -- Facts of the group below a replicated volume group hold of its disk set.
-use Rattle.std.proofs.Common.{◌≡◌, ◌∙◌, ℕ, refl, subst, sym}
+use Rattle.std.proofs.Common.{◌≡◌, ℕ, refl, subst, sym}
 use Rattle.std.specs.Prelude.{Err, Ok, OnOk, Result}
 use Rattle.vx_disk.specs.declared.shelf.Shelf.{Ghosts}
 use Rattle.vx_model.specs.declared.errors.Stop.{Stop}

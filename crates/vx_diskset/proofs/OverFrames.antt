@@ -1,10 +1,9 @@
 -- A replicated volume group over the volumes of a group of which others changed, or were made.
-use Rattle.std.proofs.Common.{◌≡◌, ◌∙◌, ◌⊎◌, inl, ⊎_elim, ℕ, zero, suc, ◌*◌, ◌<◌, ◌≤◌, Bool, true, false, List, [], ◌∷◌, length, drop, ltb, Option, Some, None, MatchOption, IsTrue, ap, subst, sym, refl, arith}
+use Rattle.std.proofs.Common.{◌≡◌, ◌∙◌, ◌⊎◌, inl, ⊎_elim, ℕ, zero, suc, ◌<◌, Bool, true, false, List, [], ◌∷◌, length, drop, ltb, Option, Some, None, MatchOption, IsTrue, ap, subst, sym, refl, arith}
 use Rattle.std.proofs.lemmas.Bool.{cases_lt, le-ltb}
 use Rattle.std.proofs.lemmas.List.Sums.{sum_by-cons}
 use Rattle.std.specs.List.{sum_by}
 use Rattle.std.specs.Prelude.{◌&&◌, IsFalse, if◌then◌else◌, slice_index}
-use Rattle.vx_model.specs.Content.{Write}
 use Rattle.vx_model.specs.Sizes.{map_blocks, ring_of}
 use Rattle.vx_model.specs.declared.site.SiteState.TheVariants.{Up as IsUp, Down as IsDown, Deported as IsDeported}
 use Rattle.vx_model.specs.declared.units.Units.{Units}
@@ -29,7 +28,7 @@ use Rattle.vx_model.specs.declared.call.Update.{Update}
 use Rattle.vx_history.specs.Steps.{burned, worked}
 use Rattle.vx_history.specs.World.{Fuse, NoFuse, FuseSet, FuseLit, Node}
 use Rattle.vx_disk.specs.Maps.{maps_of}
-use Rattle.vx_disk.specs.Moves.{Blocks, Nowhere}
+use Rattle.vx_disk.specs.Moves.{Blocks}
 use Rattle.vx_disk.specs.Shelf.{Keeps, Lawful, Meaning}
 use Rattle.vx_overlay.specs.Writes.{newest_of}
 use Rattle.vx_rvg.specs.Contents.{writes_of}

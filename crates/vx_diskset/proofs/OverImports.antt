@@ -1,5 +1,5 @@
 -- What an import leaves of the disks of a site, whose group may have a replicated volume group.
-use Rattle.std.proofs.Common.{◌≡◌, ◌∙◌, ◌≤◌, Bool, true, false, ap, arith, inl, inr, refl, subst, sym}
+use Rattle.std.proofs.Common.{◌≡◌, ◌∙◌, Bool, true, false, ap, arith, inl, inr, refl, subst, sym}
 use Rattle.std.specs.Prelude.{Err, IsFalse, None, Ok, Option, Result, Some}
 use Rattle.vx_disk.specs.Disks.{Disks}
 use Rattle.vx_disk.specs.Racks.{IsRack}
@@ -7,7 +7,6 @@ use Rattle.vx_disk.specs.Shelf.{Meaning}
 use Rattle.vx_disk.specs.declared.shelf.Shelf.{Ghosts}
 use Rattle.vx_history.specs.Groups.{GroupNode}
 use Rattle.vx_history.specs.World.{Node}
-use Rattle.vx_model.specs.Content.{Write}
 use Rattle.vx_model.specs.declared.errors.Stop.{Stop}
 use Rattle.vx_model.specs.declared.errors.Stop.TheVariants.{No as Refused, OutOfMemory}
 use Rattle.vx_model.specs.declared.no.No.TheVariants.{Role as NoRole}

@@ -1,7 +1,7 @@
 -- Calls on the group below a replicated volume group: it stands as it did, or the site crashed behind the call.
 use Rattle.std.proofs.Common.{◌≡◌, ℕ, ◌<◌, List, length, refl, ap, sym, ◌∙◌, subst}
 use Rattle.vx_diskset.proofs.RawSets.{over_on}
-use Rattle.std.specs.Prelude.{IsFalse, None, Option}
+use Rattle.std.specs.Prelude.{IsFalse, None}
 use Rattle.vx_disk.specs.Moves.{Blocks, Nowhere}
 use Rattle.vx_disk.specs.Racks.{IsRack}
 use Rattle.vx_disk.specs.Shelf.{Covers, Lawful}
@@ -10,7 +10,6 @@ use Rattle.vx_group.specs.Holding.{wide}
 use Rattle.vx_group.specs.Laws.{group_lawful}
 use Rattle.vx_history.specs.World.{Node}
 use Rattle.vx_kept.specs.Commits.{Member}
-use Rattle.vx_model.specs.declared.site.SiteState.TheVariants.{Up as IsUp}
 use Rattle.vx_model.specs.declared.units.Units.{Units}
 use Rattle.vx_rvg.specs.Views.{unit_of}
 use Rattle.vx_untold.specs.Shades.{shade_meaning}
@@ -27,11 +26,10 @@ use Rattle.vx_diskset.specs.DiskSets.{CrashedAt}
 use Rattle.vx_history.specs.Steps.{worked}
 use Rattle.vx_diskset.specs.Holds.{KeptBeside}
 use Rattle.vx_diskset.specs.OverKeeps.{KeepsOver, KeptBy, StaysAbove, StaysHere}
-use Rattle.vx_diskset.specs.Stands.{AboveStands, IsHeldAt, IsOverSite, OverStands, RoleBy}
+use Rattle.vx_diskset.specs.Stands.{AboveStands, IsHeldAt, IsOverSite, RoleBy}
 use Rattle.vx_diskset.specs.declared.above.Above.{Above}
 use Rattle.vx_diskset.specs.declared.above.Above.TheVariants.{Nothing, Origin, Receiver}
 use Rattle.vx_diskset.specs.declared.disk_set.DiskSet.TheVariants.{Over}
-use Rattle.vx_diskset.specs.declared.group_set.CutWrite.{CutWrite}
 use Rattle.vx_diskset.specs.declared.over_set.OverSet.{OverSet}
 use Rattle.vx_diskset.specs.declared.over_set.OverSite.{OverSite}
 use Rattle.vx_diskset.specs.declared.over_set.OverSite.TheVariants.{Origin as OriginSite, Receiver as ReceiverSite, Deported as GroupAway, Down as GroupFell, Gone as NoGroup}

@@ -12,18 +12,16 @@ use Rattle.vx_history.specs.Stops.{IsFused}
 use Rattle.vx_history.specs.World.{Node}
 use Rattle.vx_kept.specs.Cleans.{at_serial}
 use Rattle.vx_model.specs.declared.no.No.{No}
-use Rattle.vx_model.specs.declared.site.SiteState.{SiteState}
 use Rattle.vx_model.specs.declared.site.SiteState.TheVariants.{Up as IsUp, Down as IsDown, Deported as IsAway}
 use Rattle.vx_model.specs.declared.units.Units.{Units}
-use Rattle.vx_grouped.specs.ConfigMoves.{LosesSome}
 use Rattle.vx_grouped.specs.GroupNotes.{NotesConfig, noted_config}
 use Rattle.vx_grouped.specs.GroupSites.{CutNoted, DownNoted, UpNoted, idle_disks, site_disks, with_note}
-use Rattle.vx_grouped.specs.SiteEnds.{ConfigGoes, HasNow, is_off}
+use Rattle.vx_grouped.specs.SiteEnds.{HasNow, is_off}
 use Rattle.vx_grouped.specs.declared.group_site.GroupSite.{GroupSite}
 use Rattle.vx_grouped.specs.declared.group_site.GroupSite.TheVariants.{Up, Deported, Down, Marked, Gone}
 use Rattle.vx_grouped.proofs.NotedLemmas.{noted_is}
 use Rattle.vx_grouped.proofs.SiteLemmas.{away_as}
-use Rattle.vx_diskset.specs.Aboves.{InsideOf, IsInside, above_in, above_site, below_site, site_in}
+use Rattle.vx_diskset.specs.Aboves.{InsideOf, IsInside, above_site, below_site, site_in}
 use Rattle.vx_diskset.specs.Asked.{IsRawSet}
 use Rattle.vx_diskset.specs.Blames.{IsGroupDisk}
 use Rattle.vx_diskset.specs.GroupSets.{cut_value}

@@ -1,9 +1,9 @@
 -- How the note of a group moves in calls on the replicated volume group over it.
 use Rattle.std.proofs.Common.{◌≡◌, ◌∙◌, ◌⊎◌, inl, inr, ℕ, ◌<◌, Bool, true, false, not, IsTrue, List, [], ◌∷◌, ◌++◌, ap, refl, subst, sym, arith}
-use Rattle.std.specs.Prelude.{◌||◌, if◌then◌else◌, Some}
+use Rattle.std.specs.Prelude.{if◌then◌else◌}
 use Rattle.vx_disk.specs.Moves.{Anything, Moves}
 use Rattle.vx_disk.specs.Racks.{IsRack}
-use Rattle.vx_disk.specs.Shelf.{Each, Image, Meaning}
+use Rattle.vx_disk.specs.Shelf.{Each, Image}
 use Rattle.vx_disk.specs.declared.shelf.Shelf.{Ghosts}
 use Rattle.vx_untold.specs.Shades.{shade_meaning}
 use Rattle.vx_untold.specs.declared.shade.Shade.{Shade}
@@ -30,7 +30,6 @@ use Rattle.vx_grouped.specs.ConfigMoves.{LosesSome}
 use Rattle.vx_grouped.specs.GroupNotes.{GroupLies, ImagesAre, is_sure, noted_config}
 use Rattle.vx_grouped.specs.GroupSites.{GroupUp, IsLit, laid_below, laid_disks, with_note}
 use Rattle.vx_grouped.specs.SiteEnds.{ConfigGoes}
-use Rattle.vx_grouped.specs.declared.group_site.GroupSite.{GroupSite}
 use Rattle.vx_grouped.specs.declared.group_site.GroupSite.TheVariants.{Up}
 use Rattle.vx_grouped.specs.declared.laid.Laid.{Laid}
 use Rattle.vx_grouped.proofs.BothLemmas.{both_on}

@@ -1,10 +1,9 @@
 -- Reads of a replicated volume group on any shelf, by parts.
 use Rattle.std.proofs.lemmas.List.{length-append, length-drop}
-use Rattle.std.proofs.Common.{◌≡◌, ◌∙◌, ◌++◌, ◌/◌, ◌%◌, ◌<◌, ◌≤◌, ℕ, List, length, drop, take, length-take-le, ap, arith, subst, sym, IsTrue}
+use Rattle.std.proofs.Common.{◌≡◌, ◌++◌, ◌/◌, ◌%◌, ◌<◌, ◌≤◌, ℕ, List, length, drop, take, length-take-le, ap, arith, subst, sym, IsTrue}
 use Rattle.std.specs.Prelude.{OnOk, Result}
 use Rattle.vx_model.specs.Content.{blocks_in}
 use Rattle.vx_model.specs.declared.no.No.{No}
-use Rattle.vx_model.specs.declared.units.Units.{Units}
 use Rattle.vx_history.specs.World.{Node}
 use Rattle.vx_disk.specs.Causes.{OnDisks}
 use Rattle.vx_disk.specs.Disks.{Untouched}

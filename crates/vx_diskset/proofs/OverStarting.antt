@@ -1,9 +1,8 @@
 -- What is left of a start of a replicated volume group over a group that came up.
-use Rattle.std.proofs.Common.{◌≡◌, ◌∙◌, ◌≤◌, ℕ, Bool, true, false, List, ap, arith, refl, subst, sym}
+use Rattle.std.proofs.Common.{◌≡◌, ◌∙◌, ℕ, Bool, true, false, arith, refl, subst, sym}
 use Rattle.std.specs.Prelude.{Err, None, Ok, Option, Result, Some, [], if◌then◌else◌, slice_get}
 use Rattle.vx_disk.specs.Shelf.{Meaning}
 use Rattle.vx_disk.specs.declared.shelf.Shelf.{Ghosts}
-use Rattle.vx_ground.specs.Lifted.{laid_volumes}
 use Rattle.vx_grouped.specs.declared.group_site.GroupSite.{GroupSite}
 use Rattle.vx_grouped.specs.declared.group_site.GroupSite.TheVariants.{Deported, Down, Gone, Marked, Up}
 use Rattle.vx_grouped.specs.declared.laid.Laid.{Laid}
@@ -17,7 +16,7 @@ use Rattle.vx_rvg.specs.Views.{Core, IsSound}
 use Rattle.vx_secondary.specs.Receivers.{Wait}
 use Rattle.vx_diskset.specs.Aboves.{AboveStays, IsAboveOn, above_in, site_in}
 use Rattle.vx_diskset.specs.OverKeeps.{StaysAbove}
-use Rattle.vx_diskset.specs.OverStarts.{BackOver, FellBack, StartFails, Started, StartsOn, StartsOver, TriedOn, WithRvg, above_by}
+use Rattle.vx_diskset.specs.OverStarts.{BackOver, FellBack, StartsOn, StartsOver, TriedOn, WithRvg, above_by}
 use Rattle.vx_diskset.specs.declared.above.Above.{Above}
 use Rattle.vx_diskset.specs.declared.above.Above.TheVariants.{Nothing, Origin, Receiver}
 use Rattle.vx_diskset.specs.declared.disk_set.DiskSet.{DiskSet}

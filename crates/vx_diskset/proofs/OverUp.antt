@@ -1,5 +1,5 @@
 -- How a replicated volume group stands over a group of disks behind its start, where contents are told.
-use Rattle.std.proofs.Common.{◌≡◌, ◌∙◌, inl, ℕ, ◌+◌, ◌-◌, ◌<◌, Bool, true, false, [], length, IsTrue, ap, arith, refl, subst, sym}
+use Rattle.std.proofs.Common.{◌≡◌, ◌∙◌, inl, ℕ, ◌+◌, ◌-◌, ◌<◌, Bool, true, false, [], length, IsTrue, arith, refl, subst, sym}
 use Rattle.std.specs.Prelude.{◌≤◌, None, Some, if◌then◌else◌}
 use Rattle.vx_disk.specs.Shelf.{Image, Lawful, Meaning}
 use Rattle.vx_disk.specs.declared.shelf.Shelf.{Ghosts}

@@ -2,7 +2,6 @@
 use Rattle.std.proofs.Common.{◌≡◌, ◌∙◌, ◌+◌, ap, refl, sym, subst, ℕ, arith}
 use Rattle.vx_history.specs.Groups.{GroupNode}
 use Rattle.std.specs.Prelude.{None, Option, Some}
-use Rattle.vx_disk.specs.Shelf.{Meaning}
 use Rattle.vx_disk.specs.declared.shelf.Shelf.{Ghosts}
 use Rattle.vx_history.specs.World.{Node}
 use Rattle.vx_events.proofs.Places.{some_same}

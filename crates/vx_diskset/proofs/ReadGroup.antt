@@ -9,7 +9,6 @@ use Rattle.vx_model.specs.declared.no.No.{No}
 use Rattle.vx_model.specs.declared.no.No.TheVariants.{Range, Device, Down as IsOff}
 use Rattle.vx_model.specs.declared.units.Units.{Units}
 use Rattle.vx_diskset.specs.Holds.{KeptBeside}
-use Rattle.vx_disk.specs.Counts.{Rose}
 use Rattle.vx_disk.specs.Moves.{Moves, Anything, Nowhere}
 use Rattle.vx_disk.specs.Causes.{OnDisks}
 use Rattle.vx_disk.specs.Disks.{Untouched}

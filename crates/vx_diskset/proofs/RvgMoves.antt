@@ -1,7 +1,7 @@
 -- Calls on a replicated volume group change no blocks but its own.
-use Rattle.std.proofs.Common.{◌≡◌, inl, inr, ℕ, ◌+◌, subst}
+use Rattle.std.proofs.Common.{◌≡◌, inl, inr, ℕ, subst}
 use Rattle.vx_model.specs.declared.units.Units.{Units}
-use Rattle.vx_disk.specs.Moves.{Anything, Blocks, Moves, Run, Says}
+use Rattle.vx_disk.specs.Moves.{Anything, Moves, Run, Says}
 use Rattle.vx_disk.specs.Shelf.{Goes, Meaning, Nothing}
 use Rattle.vx_disk.proofs.Moving.{goes_on, of_goes, still, wider}
 use Rattle.vx_rvg.specs.Views.{Core, Waits}

@@ -38,8 +38,8 @@ use Rattle.vx_diskset.proofs.MakeGroup.{placed_raw}
 use Rattle.vx_diskset.specs.DiskSets.{CanStart, CameUp, CameUpIs, no_number}
 use Rattle.vx_events.specs.Found.{SameDisks}
 use Rattle.vx_diskset.specs.Holds.{HasWrites, state_with}
-use Rattle.vx_diskset.specs.Layouts.{IsRoomOf, LiesOn, LiesRaw, raw_units, units_of}
-use Rattle.vx_diskset.proofs.Laying.{lies_as, maps_few, maps_fit, raw_as, raw_on, sizes_of, units_raw}
+use Rattle.vx_diskset.specs.Layouts.{IsRoomOf, LiesRaw, raw_units}
+use Rattle.vx_diskset.proofs.Laying.{maps_few, maps_fit, raw_as, raw_on, sizes_of, units_raw}
 use Rattle.vx_diskset.specs.Holds.{most_header}
 use Rattle.vx_diskset.specs.Fuses.{FuseOn}
 use Rattle.vx_diskset.specs.Stands.{IsUpAt, IsDownAt, SiteStands, faults_at}

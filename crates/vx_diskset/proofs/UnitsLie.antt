@@ -1,6 +1,6 @@
 -- The volumes of a replicated volume group lie on the group whose configuration has it.
 use Rattle.std.proofs.Common.{◌≡◌, ◌∙◌, ◌<◌, ◌≤◌, ℕ, zero, suc, Bool, true, false, List, [], ◌∷◌, ap, arith, length, refl, subst, sym}
-use Rattle.std.specs.Prelude.{Option, Some, ◌&&◌, ◌*◌, eqb, get_or, nat_le, nat_lt, not, sum_by}
+use Rattle.std.specs.Prelude.{Option, Some, ◌&&◌, ◌*◌, get_or, nat_le, nat_lt, not, sum_by}
 use Rattle.std.specs.List.{list_all}
 use Rattle.std.proofs.lemmas.Bool.{and_parts, eq-eqb, leb-true, ltb-true}
 use Rattle.vx_config.specs.Checks.{blocks_of, group_or_none, is_group, is_sound, map_blocks_of, other_than, pairwise}

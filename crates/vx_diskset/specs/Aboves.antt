@@ -1,14 +1,13 @@
 -- What stands over the volumes of a group of disks.
-use Rattle.std.specs.Prelude.{◌≡◌, ℕ, ◌<◌, true, List, [], length, Option, Some, None}
+use Rattle.std.specs.Prelude.{◌≡◌, ℕ, ◌<◌, true, length}
 use Rattle.vx_disk.specs.Shelf.{Meaning}
 use Rattle.vx_disk.specs.declared.shelf.Shelf.{Ghosts}
 use Rattle.vx_ground.specs.Lifted.{laid_volumes}
 use Rattle.vx_grouped.specs.declared.group_site.GroupSite.{GroupSite}
 use Rattle.vx_grouped.specs.declared.group_site.GroupSite.TheVariants.{Up, Deported as GroupAway, Down as GroupFell, Marked, Gone as NoGroup}
 use Rattle.vx_history.specs.Groups.{GroupNode}
-use Rattle.vx_model.specs.declared.call.Update.{Update}
 use Rattle.vx_model.specs.declared.units.Units.{Units}
-use Rattle.vx_rvg.specs.Views.{Core, IsSound, unit_of}
+use Rattle.vx_rvg.specs.Views.{IsSound, unit_of}
 use Rattle.vx_secondary.specs.Receivers.{Wait}
 use Rattle.vx_diskset.specs.Blames.{IsGroupDisk}
 use Rattle.vx_diskset.specs.declared.above.Above.{Above}

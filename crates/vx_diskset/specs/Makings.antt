@@ -1,6 +1,5 @@
 -- How a replicated volume group is made of volumes of the group of a site.
-use Rattle.std.specs.Prelude.{◌≡◌, ◌⊎◌, ℕ, ◌<◌, ◌==◌, ◌||◌, true, false, IsFalse, List, [], ◌∷◌, Contains, None, Some, slice_get, Result, Ok, Err}
-use Rattle.std.specs.List.{list_any}
+use Rattle.std.specs.Prelude.{◌≡◌, ◌⊎◌, ℕ, ◌<◌, ◌==◌, ◌||◌, true, false, IsFalse, List, [], Contains, None, Some, Result, Ok, Err}
 use Rattle.vx_disk.specs.Counts.{Rose}
 use Rattle.vx_disk.specs.declared.shelf.Shelf.{Ghosts}
 use Rattle.vx_config.specs.Checks.{blocks_of, is_group}
@@ -19,12 +18,12 @@ use Rattle.vx_model.specs.declared.no.Counted.TheVariants.{Number as Numbers}
 use Rattle.vx_model.specs.declared.no.No.TheVariants.{Device, Down as IsOff, Limit}
 use Rattle.vx_model.specs.declared.units.Units.{Units}
 use Rattle.vx_grouped.specs.ConfigMoves.{LosesSome}
-use Rattle.vx_grouped.specs.GroupSites.{DownNoted, UpNoted, idle_disks, laid_disks, site_disks, with_note}
+use Rattle.vx_grouped.specs.GroupSites.{idle_disks, laid_disks, site_disks, with_note}
 use Rattle.vx_grouped.specs.SiteEnds.{ConfigGoes}
 use Rattle.vx_grouped.specs.declared.group_site.GroupSite.{GroupSite}
 use Rattle.vx_grouped.specs.declared.group_site.GroupSite.TheVariants.{Up, Down}
 use Rattle.vx_diskset.specs.Aboves.{site_in}
-use Rattle.vx_diskset.specs.GroupCalls.{AtSite, config_in}
+use Rattle.vx_diskset.specs.GroupCalls.{config_in}
 use Rattle.vx_diskset.specs.Noted.{SiteNoted}
 use Rattle.vx_diskset.specs.Stands.{StandsAlone}
 use Rattle.vx_diskset.specs.declared.disk_set.DiskSet.{DiskSet}

@@ -1,5 +1,5 @@
 -- What each call on a replicated volume group makes of it and of the shelf below, whatever shelf that is.
-use Rattle.std.specs.Prelude.{◌≡◌, ◌⊎◌, ℕ, ◌+◌, ◌*◌, ◌%◌, ◌<◌, ◌≤◌, List, length, drop, take, Contains, None, Result, Ok, Err, IfErr, IfOk, OnOk, IsFalse, IsTrue}
+use Rattle.std.specs.Prelude.{◌≡◌, ◌⊎◌, ℕ, ◌%◌, ◌<◌, ◌≤◌, List, length, take, Contains, None, Result, Ok, Err, IfErr, IfOk, OnOk, IsFalse, IsTrue}
 use Rattle.vx_disk.specs.Causes.{DeviceCause, refusal_of}
 use Rattle.vx_disk.specs.Moves.{Anything, Blocks, Moves}
 use Rattle.vx_disk.specs.Shelf.{Goes, Meaning}
@@ -10,7 +10,7 @@ use Rattle.vx_model.specs.Content.{Content, blocks_in}
 use Rattle.vx_model.specs.Sizes.{ring_of}
 use Rattle.vx_model.specs.declared.call.Update.{Update}
 use Rattle.vx_model.specs.declared.errors.Stop.{Stop}
-use Rattle.vx_model.specs.declared.limits.TheConstants.{LEAST_BLOCKS, MOST_CALL_BYTES}
+use Rattle.vx_model.specs.declared.limits.TheConstants.{MOST_CALL_BYTES}
 use Rattle.vx_model.specs.declared.no.No.{No}
 use Rattle.vx_model.specs.declared.no.No.TheVariants.{Device}
 use Rattle.vx_disk.specs.Counts.{Rose}
@@ -19,9 +19,9 @@ use Rattle.vx_model.specs.declared.state.State.{State}
 use Rattle.vx_model.specs.declared.units.Units.{Units}
 use Rattle.vx_rvg.specs.Groups.{MakeCause, new_core}
 use Rattle.vx_rvg.specs.Holdings.{nothing_logged}
-use Rattle.vx_rvg.specs.Stands.{HoldsContent, LeftGroup, Stands}
-use Rattle.vx_rvg.specs.Starts.{IsStarted, ring_in}
-use Rattle.vx_rvg.specs.Views.{Core, IsSound, UnitsPlaced}
+use Rattle.vx_rvg.specs.Stands.{HoldsContent, Stands}
+use Rattle.vx_rvg.specs.Starts.{IsStarted}
+use Rattle.vx_rvg.specs.Views.{Core, IsSound}
 use Rattle.vx_secondary.specs.Receivers.{Wait}
 use Rattle.vx_ground.specs.Rewrites.{OneRests}
 use Rattle.vx_diskset.specs.Burning.{OffIf}
@@ -29,7 +29,7 @@ use Rattle.vx_diskset.specs.DiskSets.{CanLog, CanRead}
 use Rattle.vx_diskset.specs.Holds.{KeptBeside}
 use Rattle.vx_diskset.specs.Keeps.{CanKeep}
 use Rattle.vx_diskset.specs.Needs.{HasRoom}
-use Rattle.vx_diskset.specs.Received.{CanReceive, LoggedTo, ReachedTo}
+use Rattle.vx_diskset.specs.Received.{CanReceive, ReachedTo}
 use Rattle.vx_diskset.specs.Rooms.{AppliedAs, HasNumbers, IsMore, TakesOne, logged_count}
 use Rattle.vx_diskset.specs.Shelves.{KeptAs, LoggedAs, MovesOn, ReadAs}
 use Rattle.vx_diskset.specs.Stands.{IsReceiverAt, IsUpAt}

@@ -48,11 +48,7 @@ fn maps_over<R: Rack>(laid: &Laid<R>, vols: &[u32]) -> u64
 }
 
 // Memory for a start, whose log and change maps have so many blocks.
-fn start_room(
-    alloc: Global,
-    blocks: u64,
-    maps: u64,
-) -> Result<(StartRoom, Waiting), OutOfMemory>
+fn start_room(alloc: Global, blocks: u64, maps: u64) -> Result<(StartRoom, Waiting), OutOfMemory>
     requires { LEAST_BLOCKS ≤ blocks }
     ensures { IfOk result (λ rooms. (rooms.0.ring ≡ ring_of blocks) × (rooms.0.maps ≡ maps) × (rooms.1 ≡ [])) }
 {

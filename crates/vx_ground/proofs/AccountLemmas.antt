@@ -31,7 +31,7 @@ use Rattle.vx_grouped.proofs.MovesLemmas.{config_moves, used_below}
 use Rattle.vx_grouped.proofs.StateChangeLemmas.{live_state, live_there, on_state, on_there}
 use Rattle.vx_grouped.specs.GroupNotes.{is_sure}
 use Rattle.vx_grouped.proofs.ImageLemmas.{sure_by, sure_free, sure_kept}
-use Rattle.vx_ground.specs.Accounts.{GroundSince, GroundState, NoneRose, StateOpen, ground_state}
+use Rattle.vx_ground.specs.Accounts.{GroundSince, GroundState, NoneRose, ground_state}
 use Rattle.vx_groupmaps.specs.Loading.{DeviceRose}
 
 rose_on : (a b c : ℕ) → b ≤ c → Rose a b → Rose a c

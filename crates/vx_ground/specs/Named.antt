@@ -1,17 +1,15 @@
 -- A configuration whose replicated volume group may be another one, and how its volumes are named.
-use Rattle.std.specs.Prelude.{◌≡◌, ℕ, ◌≤◌, true, IsTrue, length, Err, IfErr, None, OnOk, Result, Some}
+use Rattle.std.specs.Prelude.{◌≡◌, true, IsTrue, length, Err, IfErr, None, OnOk, Result, Some}
 use Rattle.vx_config.specs.declared.config.Config.{Config}
 use Rattle.vx_copies.specs.Commits.{MoreFailed}
 use Rattle.vx_disk.specs.Shelf.{Goes, Meaning, Nothing}
 use Rattle.vx_group.specs.Dets.{DetStops}
 use Rattle.vx_group.specs.Rvgs.{RvgEnds, set_rvg_refusal}
 use Rattle.vx_group.specs.declared.group_core.GroupCore.{GroupCore}
-use Rattle.vx_kept.specs.Keeping.{frame_at}
 use Rattle.vx_model.specs.declared.errors.Stop.{Stop}
 use Rattle.vx_model.specs.declared.errors.Stop.TheVariants.{No as Refused}
 use Rattle.vx_model.specs.declared.no.No.{No}
 use Rattle.vx_model.specs.declared.units.Units.{Units}
-use Rattle.vx_volume.specs.Plexes.{active}
 use Rattle.vx_ground.specs.Lifted.{volumes_over}
 
 -- the same site and volumes; a plex that takes part did, and as many disks

@@ -5,7 +5,7 @@ use Rattle.std.proofs.lemmas.Bool.{cases_lt}
 use Rattle.vx_config.specs.declared.config.Config.{Config}
 use Rattle.vx_config.specs.declared.entry.PlexEntry.{PlexEntry}
 use Rattle.vx_copyfmt.specs.Imports.{Found}
-use Rattle.vx_disk.specs.Shelf.{Each, Image, Meaning}
+use Rattle.vx_disk.specs.Shelf.{Meaning}
 use Rattle.vx_kept.specs.Choice.{live}
 use Rattle.vx_kept.specs.Cleans.{NoneClean, clean, clean_or, is_clean}
 use Rattle.vx_kept.specs.Commits.{IsCommitted}

@@ -19,7 +19,7 @@ use Rattle.vx_config.specs.Checks.{blocks_of, blocks_or_none}
 use Rattle.vx_config.specs.declared.config.Config.{Config}
 use Rattle.vx_config.specs.declared.entry.VolumeEntry.{VolumeEntry}
 use Rattle.vx_layout.specs.declared.shape.Shape.{Shape}
-use Rattle.vx_kept.specs.Groups.{OnSome, OutsideVolumes, PlacesApart, group_meaning, seen}
+use Rattle.vx_kept.specs.Groups.{OnSome, PlacesApart, group_meaning, seen}
 use Rattle.vx_group.specs.Calls.{GroupStays}
 use Rattle.vx_group.specs.Creates.{SameUnits}
 use Rattle.vx_group.specs.Finds.{GroupFinds}

@@ -2,7 +2,7 @@
 use Rattle.std.proofs.Common.{◌≡◌, ◌∙◌, inl, inr, ℕ, ◌<◌, Bool, true, IsTrue, List, length, refl, ap, sym, subst, arith}
 use Rattle.vx_config.specs.Checks.{blocks_of}
 use Rattle.vx_disk.specs.Racks.{Alike}
-use Rattle.vx_disk.specs.Shelf.{Each, Goes, Image, Lawful, Meaning, Nothing}
+use Rattle.vx_disk.specs.Shelf.{Each, Image, Lawful, Meaning, Nothing}
 use Rattle.vx_disk.proofs.Runs.{then_nothing}
 use Rattle.vx_config.specs.declared.config.Config.{Config}
 use Rattle.vx_copyfmt.specs.Imports.{Found}

@@ -1,5 +1,5 @@
 -- What a call on the group of a site makes of its volumes.
-use Rattle.std.proofs.Common.{◌≡◌, ◌<◌, inl, inr, ℕ, List, arith, refl, subst, sym}
+use Rattle.std.proofs.Common.{◌≡◌, inl, inr, ℕ, List, arith, refl, subst, sym}
 use Rattle.vx_disk.specs.Moves.{Blocks, Nowhere}
 use Rattle.vx_disk.specs.Racks.{Stopped}
 use Rattle.vx_disk.specs.Shelf.{Covers, Goes, Meaning, Nothing, Values, Written}

@@ -1,7 +1,5 @@
 -- The change maps that were read are those of the map unit.
-use Rattle.std.proofs.Common.{◌≡◌, ◌∙◌, ℕ, ◌+◌, ◌*◌, ◌/◌, ◌<◌, ◌≤◌, Bool, true, false, List, [], length, get_or, Some, IsTrue, IsFalse, refl, sym, ap, subst, arith}
-use Rattle.std.specs.Prelude.{slice_get}
-use Rattle.std.proofs.lemmas.Option.{slice_get-get_or}
+use Rattle.std.proofs.Common.{◌≡◌, ℕ, ◌+◌, ◌*◌, ◌/◌, ◌<◌, ◌≤◌, Bool, true, false, List, length, IsTrue, IsFalse, refl, sym, subst, arith}
 use Rattle.vx_model.specs.Content.{block_of}
 use Rattle.vx_model.specs.declared.limits.TheConstants.{LINK_PLACES}
 use Rattle.vx_model.specs.declared.no.No.{No}
@@ -13,7 +11,7 @@ use Rattle.vx_disk.specs.Maps.{maps_of}
 use Rattle.vx_disk.specs.Moves.{Anything, Moves, Run}
 use Rattle.vx_disk.specs.Shelf.{Goes, Lawful, Meaning, Nothing}
 use Rattle.vx_disk.proofs.Moving.{then_goes}
-use Rattle.vx_bitmap.specs.Maps.{IsRead, Lies, map_block_count}
+use Rattle.vx_bitmap.specs.Maps.{IsRead, Lies}
 use Rattle.vx_dcm.specs.Places.{DcmLoaded, Maps, MapsFit}
 use Rattle.vx_srl.specs.Starts.{IsNewLog}
 use Rattle.vx_srl.specs.Views.{Log}

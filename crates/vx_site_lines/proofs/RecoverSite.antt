@@ -11,7 +11,6 @@ use Rattle.vx_events.proofs.OverSeats.{over_reads}
 use Rattle.vx_events.proofs.Places.{never_some, some_same}
 use Rattle.vx_events.proofs.Refused.{Named, named, passes}
 use Rattle.vx_events.specs.Facts.{seat_of, site_number}
-use Rattle.vx_events.specs.GroupLines.{is_over_group}
 use Rattle.vx_events.specs.LinksFit.{LinksFit}
 use Rattle.vx_events.specs.Lists.{Choice}
 use Rattle.vx_events.specs.declared.said.Said.{Said}
@@ -24,7 +23,7 @@ use Rattle.vx_order.specs.Tests.{when}
 use Rattle.vx_order.specs.declared.facts.SiteFacts.{SiteFacts}
 use Rattle.vx_script.specs.declared.line.ScriptLine.TheVariants.{Recover}
 use Rattle.vx_site_lines.specs.Rises.{LeadsFrom, RisesFrom, WasDown, WasUp, own_disks}
-use Rattle.vx_yard.specs.Standing.{Falls, Leads, LeadsIs, StandsFor, crash_of}
+use Rattle.vx_yard.specs.Standing.{Falls, Leads, LeadsIs, StandsFor}
 use Rattle.vx_yard.specs.Yards.{count_of}
 use Rattle.vx_yard.specs.declared.yard.Yard.{Yard}
 use Rattle.vx_yard.proofs.NamedSite.{place_at, site_at}

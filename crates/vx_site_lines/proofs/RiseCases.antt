@@ -22,7 +22,7 @@ use Rattle.vx_diskset.specs.declared.disk_set.DiskSet.{DiskSet}
 use Rattle.vx_diskset.specs.declared.disk_set.DiskSet.TheVariants.{Bare, Spoiled, Up, Receives, Down, OfGroup, Over, Gone}
 use Rattle.vx_diskset.proofs.KeepsFailing.{failing_same, failing_then}
 use Rattle.vx_history.specs.Doubts.{Doubted}
-use Rattle.vx_history.specs.Steps.{raw_set, raw_volumes}
+use Rattle.vx_history.specs.Steps.{raw_volumes}
 use Rattle.vx_history.specs.World.{Node}
 use Rattle.vx_events.proofs.OverSeats.{fact_apart}
 use Rattle.vx_events.proofs.Places.{some_same}

@@ -5,7 +5,7 @@ use Rattle.vx_history.specs.Doubts.{After, Doubted, happened}
 use Rattle.vx_history.specs.Events.{linked_sites}
 use Rattle.vx_history.specs.Refusals.{Outcome}
 use Rattle.vx_history.specs.Step.{step}
-use Rattle.vx_history.specs.Steps.{burned, crashed, worked, worked_on}
+use Rattle.vx_history.specs.Steps.{burned, worked, worked_on}
 use Rattle.vx_history.specs.World.{Fuse, Gathering, Link, Node, Packet}
 use Rattle.vx_history.specs.declared.event.Event.{Event}
 use Rattle.vx_history.specs.declared.event.Event.TheVariants.{Apply as ApplyAt, Fault}

@@ -11,7 +11,7 @@ use Rattle.vx_history.specs.Steps.{crashed}
 use Rattle.vx_history.specs.World.{Link, Node, World}
 use Rattle.vx_history.specs.declared.event.Event.TheVariants.{Crash as CrashAt}
 use Rattle.vx_history.specs.declared.event.Said.TheVariants.{Done as IsDone}
-use Rattle.vx_model.specs.declared.site.SiteState.TheVariants.{Bare as IsBare, Down as IsDown, Up}
+use Rattle.vx_model.specs.declared.site.SiteState.TheVariants.{Down as IsDown, Up}
 use Rattle.vx_model.specs.declared.limits.TheConstants.{MOST_SITES}
 use Rattle.vx_model.specs.declared.state.KeptLink.{KeptLink}
 use Rattle.vx_disk.specs.declared.shelf.Shelf.{Ghosts}

@@ -1,5 +1,5 @@
 -- Which sites are over a group, as their disks stand.
-use Rattle.std.proofs.Common.{◌≡◌, ◌∙◌, ◌≤◌, ◌⊎◌, ⊎_elim, ℕ, ◌-◌, Bool, true, false, List, [], length, ap, subst, sym, refl, arith}
+use Rattle.std.proofs.Common.{◌≡◌, ◌∙◌, ◌≤◌, ◌⊎◌, ⊎_elim, ℕ, Bool, true, false, List, [], length, ap, subst, sym, refl, arith}
 use Rattle.std.specs.Prelude.{◌&&◌, eqb, not, Option, Some, None, is_some}
 use Rattle.std.proofs.lemmas.Bool.Decides.{nat_tests}
 use Rattle.vx_history.specs.Groups.{GroupNode}

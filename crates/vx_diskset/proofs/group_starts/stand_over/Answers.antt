@@ -1,5 +1,5 @@
 -- `stand_over`: what is said of a group that came up with its replicated volume group.
-use Rattle.std.proofs.Common.{◌∙◌, subst, sym}
+use Rattle.std.proofs.Common.{subst, sym}
 use Rattle.std.specs.Prelude.{Err, Ok}
 use Rattle.vx_model.specs.declared.errors.Stop.TheVariants.{No as Refused}
 use Rattle.vx_disk.specs.Moves.{Nowhere}

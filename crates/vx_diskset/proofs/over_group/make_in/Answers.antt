@@ -1,5 +1,5 @@
 -- The disks of a site on which a replicated volume group is made.
-use Rattle.std.proofs.Common.{◌≡◌, ◌∙◌, inl, inr, refl, ap, subst, sym, true}
+use Rattle.std.proofs.Common.{◌∙◌, inl, inr, refl, ap, subst, sym}
 use Rattle.std.specs.Prelude.{IfOk}
 use Rattle.vx_config.specs.Checks.{is_group}
 use Rattle.vx_group.specs.declared.group_core.GroupCore.{GroupCore}

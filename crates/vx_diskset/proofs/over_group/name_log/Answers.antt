@@ -1,5 +1,5 @@
 -- The commit that names a replicated volume group.
-use Rattle.std.proofs.Common.{◌∙◌, IsTrue, subst}
+use Rattle.std.proofs.Common.{IsTrue, subst}
 use Rattle.std.specs.Prelude.{OnOk}
 use Rattle.vx_grouped.specs.GroupSites.{laid_disks}
 use Rattle.vx_diskset.proofs.OverMaking.{sound_named}

@@ -1,6 +1,6 @@
 -- The data volumes of a replicated volume group that is made are written as they read.
-use Rattle.std.proofs.Common.{◌≡◌, ◌<◌, ℕ, List, arith, refl, subst}
-use Rattle.std.specs.Prelude.{Contains, slice_index_or}
+use Rattle.std.proofs.Common.{ℕ, List, refl, subst}
+use Rattle.std.specs.Prelude.{Contains}
 use Rattle.vx_ground.specs.Lifted.{laid_volumes}
 use Rattle.vx_diskset.specs.Works.{DoesRewrite}
 use Rattle.vx_diskset.proofs.OverMaking.{placed_then}

@@ -1,6 +1,5 @@
 -- The blocks of the change maps of a group are those of each volume.
 use Rattle.std.proofs.Common.{◌∙◌, ◌+◌, ◌*◌, ℕ, List, ap, arith, refl, sym, take}
-use Rattle.std.specs.Prelude.{slice_index}
 use Rattle.std.proofs.lemmas.List.{take_all}
 use Rattle.vx_disk.specs.Maps.{maps_of}
 use Rattle.vx_ground.specs.Lifted.{laid_volumes}

@@ -1,6 +1,5 @@
 -- A start over the volumes of a group that came up.
-use Rattle.std.proofs.Common.{ap, subst, sym, ◌∙◌}
-use Rattle.std.specs.Prelude.{Err, Ok}
+use Rattle.std.proofs.Common.{subst}
 use Rattle.vx_ground.specs.Lifted.{laid_volumes}
 use Rattle.vx_diskset.specs.Works.{DoesStart}
 use Rattle.vx_diskset.proofs.OverStarting.{above_starts, fails_over, starts_over}

@@ -1,5 +1,5 @@
 -- The same of a site.
-use Rattle.std.proofs.Common.{◌≡◌, refl, subst, sym}
+use Rattle.std.proofs.Common.{subst, sym}
 use Rattle.vx_diskset.specs.OverStarts.{WithRvg}
 use Rattle.vx_diskset.proofs.OverStarting.{with_none}
 use Rattle.vx_diskset.proofs.over_starts.with_rvg.Goals as goal

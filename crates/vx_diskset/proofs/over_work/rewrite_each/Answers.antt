@@ -1,5 +1,5 @@
 -- Volumes that are written as they read.
-use Rattle.std.proofs.Common.{◌<◌, arith}
+use Rattle.std.proofs.Common.{arith}
 use Rattle.std.specs.Prelude.{slice_index}
 use Rattle.vx_diskset.proofs.Rewriting.{is_among, rewrite_done, rewrite_fails, rewrite_more, rewrite_none}
 use Rattle.vx_diskset.proofs.over_work.rewrite_each.Goals as goal

@@ -1,6 +1,5 @@
 -- Work on the volumes of a group, with an account that goes on.
-use Rattle.std.proofs.Common.{◌∙◌, sym, subst}
-use Rattle.vx_ground.specs.Accounts.{GroundSince}
+use Rattle.std.proofs.Common.{sym, subst}
 use Rattle.vx_ground.specs.Lifted.{volumes_over}
 use Rattle.vx_loggroup.specs.declared.group.LoggedGroup.{LoggedGroup}
 use Rattle.vx_ground.proofs.lifting.work_from.Goals as goal

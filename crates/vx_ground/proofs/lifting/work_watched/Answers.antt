@@ -1,5 +1,5 @@
 -- Work over disks with an account of their calls.
-use Rattle.std.proofs.Common.{◌∙◌, sym, subst}
+use Rattle.std.proofs.Common.{◌∙◌}
 use Rattle.vx_ground.specs.Accounts.{GroundSince, ground_state}
 use Rattle.vx_ground.specs.Lifted.{volumes_over}
 use Rattle.vx_grouped.proofs.CarryLemmas.{carried, shelf_of}

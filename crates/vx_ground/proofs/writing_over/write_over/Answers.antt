@@ -1,5 +1,5 @@
 -- Each block of a unit is written as it reads.
-use Rattle.std.proofs.Common.{◌+◌, ◌<◌, ◌≤◌, arith, ◌∙◌}
+use Rattle.std.proofs.Common.{arith}
 use Rattle.vx_disk.proofs.Runs.{then_nothing}
 use Rattle.vx_ground.specs.Rewrites.{WasLeft}
 use Rattle.vx_ground.proofs.RewriteLemmas.{loop_cause, loop_left, loop_more, loop_none, on_goes}

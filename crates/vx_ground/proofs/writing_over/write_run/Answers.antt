@@ -1,5 +1,5 @@
 -- A run of blocks is written as it reads.
-use Rattle.std.proofs.Common.{◌≡◌, ◌∙◌, ◌*◌, ◌<◌, ℕ, List, length, take, replicate, length-take-le, arith, refl}
+use Rattle.std.proofs.Common.{◌≡◌, ◌∙◌, ◌*◌, ℕ, List, length, take, replicate, length-take-le, arith, refl}
 use Rattle.std.proofs.lemmas.Result.{err_from_is_err_and}
 use Rattle.vx_disk.specs.Shelf.{Wrote}
 use Rattle.vx_disk.proofs.Causing.{Cause_both}

@@ -1,5 +1,5 @@
 -- `crash`: clauses crashed, cut, asked and stopped.
-use Rattle.std.proofs.Common.{◌≡◌, ◌∙◌, IsTrue, ap, subst, sym}
+use Rattle.std.proofs.Common.{◌∙◌, IsTrue, ap, subst, sym}
 use Rattle.vx_diskset.specs.Stands.{CutAt, IsToldAt, SiteStands}
 use Rattle.vx_diskset.proofs.OverFalls.{fell_asked, fell_later, fell_role, fell_seen, fell_stopped, fell_notes}
 use Rattle.vx_diskset.proofs.RawSets.{cut_received, receiver_there, up_there}

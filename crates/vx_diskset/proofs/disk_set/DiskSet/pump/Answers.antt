@@ -3,7 +3,7 @@ use Rattle.std.proofs.Common.{subst, sym}
 use Rattle.std.specs.Prelude.{IfErr}
 use Rattle.vx_peers.specs.Senders.{pump_asks}
 use Rattle.vx_diskset.specs.Pumps.{PumpStop}
-use Rattle.vx_diskset.specs.Stands.{SiteStands, faults_at}
+use Rattle.vx_diskset.specs.Stands.{faults_at}
 use Rattle.vx_diskset.specs.declared.disk_set.DiskSet.TheVariants.{Up}
 use Rattle.vx_diskset.proofs.Blamed.{disks_are}
 use Rattle.vx_diskset.proofs.disk_set.DiskSet.pump.Goals as goal

@@ -1,6 +1,5 @@
 -- Disks that came up and can't be kept are those of the bare site again.
 use Rattle.std.proofs.Common.{◌∙◌, ap, subst}
-use Rattle.vx_diskset.specs.Stands.{SiteStands}
 use Rattle.vx_diskset.specs.Withdrawn.{Revived}
 use Rattle.vx_diskset.proofs.TakenBack.{bare_withdrawn}
 use Rattle.vx_diskset.proofs.disk_set.DiskSet.withdraw.Goals as goal

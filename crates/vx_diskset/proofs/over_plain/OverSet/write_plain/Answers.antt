@@ -1,5 +1,5 @@
 -- A write to a volume outside a replicated volume group.
-use Rattle.std.proofs.Common.{◌≡◌, ◌∙◌, ap, sym, subst}
+use Rattle.std.proofs.Common.{◌∙◌, ap, sym, subst}
 use Rattle.vx_watched.specs.Since.{CalledSince}
 use Rattle.vx_watched.specs.Traces.{TellsLess}
 use Rattle.vx_grouped.specs.GroupSites.{UpNoted, site_below, site_disks}

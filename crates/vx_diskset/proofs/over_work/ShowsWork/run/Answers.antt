@@ -1,5 +1,5 @@
 -- What a receiver shows, by parts.
-use Rattle.std.proofs.Common.{◌≡◌, ◌≤◌, ◌<◌, ◌∙◌, ◌++◌, ℕ, List, length, take, drop, replicate, length-take-le, ap, arith, refl, subst, sym}
+use Rattle.std.proofs.Common.{◌≡◌, ◌≤◌, ◌∙◌, ◌++◌, ℕ, List, length, take, drop, replicate, length-take-le, ap, arith, refl, subst, sym}
 use Rattle.std.proofs.lemmas.List.{take_at}
 use Rattle.vx_model.specs.declared.call.Update.{Update}
 use Rattle.vx_secondary.specs.Receivers.{Wait}
