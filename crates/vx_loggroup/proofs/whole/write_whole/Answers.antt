@@ -22,6 +22,7 @@ use Rattle.vx_group.proofs.SettleCalls.{as_told}
 use Rattle.vx_group.proofs.UnsureMarks.{marked_unsure, then_unsure}
 use Rattle.vx_kept.specs.Cleans.{is_unsure}
 use Rattle.vx_loggroup.proofs.CloseLemmas.{unsure_stands}
+use Rattle.std.proofs.Math.ListN.{set}
 use Rattle.vx_loggroup.proofs.whole.write_whole.Goals as goal
 
 pub index_mut-requires : goal.index_mut-requires
