@@ -29,6 +29,11 @@ pub mod OverAway
 pub mod OverSettles
 pub mod OverMaking
 pub mod Rewriting
+pub mod MakeStepping
+pub mod Narrowing
+pub mod RvgMade
+pub mod MakeEnds
+pub mod MadeOver
 pub mod OverCalled
 pub mod CallsBurn
 pub mod CrashGroup
@@ -36,6 +41,7 @@ pub mod ExactWrite
 pub mod FailGroup
 pub mod FailSets
 pub mod FuseGroup
+pub mod GroundNotes
 pub mod GroupBegun
 pub mod GroupCalling
 pub mod GroupCut
