@@ -2,7 +2,7 @@
 ghost use Rattle.vx_loggroup.specs.Keeping.{LogsKeep, LogsStay, logs_at, SureKept};
 ghost use Rattle.vx_kept.specs.Finds.{FindsFrom, NoConfiguration};
 ghost use Rattle.vx_group.specs.Finds.{GroupFinds};
-ghost use Rattle.std.specs.Prelude.{◌≡◌, ◌⊎◌, ◌<◌, ◌≤◌, ℕ, Err, false, IfErr, IsTrue, None, OnOk, Some, length, true, ◌+◌};
+ghost use Rattle.std.specs.Prelude.{◌≡◌, ◌*◌, ◌⊎◌, ◌<◌, ◌≤◌, ℕ, Err, false, IfErr, IsTrue, None, OnOk, Some, length, true, ◌+◌};
 ghost use Rattle.vx_disk.specs.Shelf.{Goes, Nothing};
 ghost use Rattle.vx_group.specs.Dets.{DetStops, det_refusal};
 ghost use Rattle.vx_config.specs.Checks.{blocks_of as blocks_of_is, plexes_of};

@@ -1,5 +1,5 @@
 // The logs of a volume that begin in its first write, or before a plex of it is first detached.
-ghost use Rattle.std.specs.Prelude.{◌≡◌, ◌+◌, ◌<◌, ◌≤◌, false, true, IfErr, OnOk};
+ghost use Rattle.std.specs.Prelude.{◌≡◌, ◌*◌, ◌+◌, ◌<◌, ◌≤◌, false, true, IfErr, OnOk};
 ghost use Rattle.vx_disk.specs.Causes.{Cause};
 ghost use Rattle.vx_group.specs.Attaches.{region_count};
 ghost use Rattle.vx_group.specs.Holding.{wide};

@@ -1,7 +1,7 @@
 // A group with logs as a shelf.
 ghost use Rattle.vx_loggroup.specs.Keeping.{LogsKeep, LogsKept, SaysLosses};
 ghost use Rattle.vx_group.specs.Finds.{GroupFinds};
-ghost use Rattle.std.specs.Prelude.{◌≡◌, ◌+◌, ◌/◌, ◌<◌, ◌≤◌, IfErr, IsTrue, OnOk, true, false, length, ◌⊎◌, ℕ, None};
+ghost use Rattle.std.specs.Prelude.{◌≡◌, ◌*◌, ◌+◌, ◌/◌, ◌<◌, ◌≤◌, IfErr, IsTrue, OnOk, true, false, length, ◌⊎◌, ℕ, None};
 ghost use Rattle.vx_config.specs.Table.{greatest};
 ghost use Rattle.vx_disk.specs.Causes.{Calls, Cause, CountsOnly, Names, OnDisks, Works};
 ghost use Rattle.vx_disk.specs.Disks.{Untouched};

@@ -3,7 +3,7 @@ ghost use Rattle.vx_loggroup.specs.Attaching.{fmr_at};
 ghost use Rattle.vx_loggroup.specs.Keeping.{LogsKeep, LogsKept, logs_at, SureKept};
 ghost use Rattle.vx_loggroup.specs.Moving.{RunHolds};
 ghost use Rattle.vx_group.specs.Finds.{GroupFinds};
-ghost use Rattle.std.specs.Prelude.{◌≡◌, ◌+◌, ◌/◌, ◌<◌, ◌≤◌, false, length, true, IfErr, IsTrue, OnOk, ◌⊎◌, ℕ, None};
+ghost use Rattle.std.specs.Prelude.{◌≡◌, ◌*◌, ◌+◌, ◌/◌, ◌<◌, ◌≤◌, false, length, true, IfErr, IsTrue, OnOk, ◌⊎◌, ℕ, None};
 ghost use Rattle.vx_config.specs.Table.{greatest};
 ghost use Rattle.vx_disk.specs.Causes.{Cause};
 ghost use Rattle.vx_disk.specs.Shelf.{Fits, Flushed, Goes, Nothing, Written, Wrote};

@@ -2,7 +2,7 @@
 use Rattle.std.proofs.Common.{arith, ◌∙◌, ◌≡◌, None, Some, refl, sym, subst}
 use Rattle.vx_group.specs.declared.inner.Inner.{Inner}
 use Rattle.vx_group.proofs.HoldLemmas.{back_parts, e_Stands, e_finds, e_narrows, e_volumes, wide_none, x_other}
-use Rattle.vx_group.proofs.LoseLemmas.{none_parts}
+use Rattle.vx_group.proofs.LoseLemmas.{le_same}
 use Rattle.vx_group.proofs.releasing.release.Goals as goal
 use Rattle.vx_group.specs.Finds.{CoreFinds}
 use Rattle.vx_group.specs.Holding.{wide}
@@ -36,7 +36,7 @@ returns-in-Some-clause-parts g c =
     back_parts c.in-Some.held.vol c.in-Some.held.plex c.args.core.now.inner.config _ c.hold_back.new.core c.open_held.ensures.none c.hold_back.ensures (record { site = parts.site; rvg = parts.rvg; count = parts.count; later = parts.later })
 
 pub returns-in-None-clause-parts : goal.returns-in-None-clause-parts
-returns-in-None-clause-parts g c = subst (λ (i : Inner). SameParts c.args.core.now.inner.config i.config) (sym c.open_held.ensures.inner) (none_parts c.args.core.now.inner.config)
+returns-in-None-clause-parts g c = subst (λ (i : Inner). SameParts c.args.core.now.inner.config i.config) (sym c.open_held.ensures.inner) (record { site = refl; rvg = refl; count = refl; later = le_same c.args.core.now.inner.config.serial })
 
 pub returns-in-Some-clause-finds : goal.returns-in-Some-clause-finds
 returns-in-Some-clause-finds g c =
