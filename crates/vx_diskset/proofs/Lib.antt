@@ -58,6 +58,7 @@ pub mod LeavesNumbers
 pub mod LogDisks
 pub mod MakeGroup
 pub mod MakeRoom
+pub mod MakeSites
 pub mod Mores
 pub mod NeedLemmas
 pub mod OverGroups

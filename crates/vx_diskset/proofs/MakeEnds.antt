@@ -38,7 +38,7 @@ use Rattle.vx_model.specs.declared.no.No.TheVariants.{Device, Down as IsOff, Lim
 use Rattle.vx_model.specs.declared.units.Units.{Units}
 use Rattle.vx_untold.specs.Shades.{shade_rack}
 use Rattle.vx_diskset.specs.GroupSets.{cut_value}
-use Rattle.vx_diskset.specs.MakeSteps.{FellUnder, GroupWent, LogAlone, MakeStops, RefusedOn}
+use Rattle.vx_diskset.specs.MakeSteps.{FellUnder, GroupWent, LogAlone, LineStops, RefusedOn}
 use Rattle.vx_diskset.specs.Makings.{MakesNone, MakesRvgIs, StaysNone, note_begun}
 use Rattle.vx_diskset.specs.Noted.{SiteNoted}
 use Rattle.vx_diskset.specs.declared.disk_set.DiskSet.TheVariants.{OfGroup}
@@ -131,7 +131,7 @@ module _ {R : Type 0} {g : Ghosts R} (rackful : (s : R) → IsRack (g.meaning s)
         (ground_up n note begun l.core.inner.config l k up went.ground went.since went.told refl (sizes_then k alone) may spells running, cut),
       )
 
-      pub stops_up : (site : ℕ) (c : Config) (why : Stop) → MakeStops (laid_disks l) (laid_disks k) why → MakesRvgIs site n note u c (Up l) (OfGroup (record { site = Up k; cut = x })) (Up k) (Err why)
+      pub stops_up : (site : ℕ) (c : Config) (why : Stop) → LineStops (laid_disks l) (laid_disks k) why → MakesRvgIs site n note u c (Up l) (OfGroup (record { site = Up k; cut = x })) (Up k) (Err why)
       stops_up site c (Refused (Device disk)) it = (stays_none, it)
       stops_up site c (Refused IsOff) it = absurd (not_both (laid_disks k).down it running)
       stops_up site c (Refused (Limit what most)) it = (it.0, it.1, stays_none)

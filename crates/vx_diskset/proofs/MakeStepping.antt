@@ -46,7 +46,7 @@ use Rattle.vx_rvg.proofs.ReadStands.{rest_stands}
 use Rattle.vx_untold.specs.Shades.{shade_rack}
 use Rattle.vx_watched.specs.Since.{CalledSince}
 use Rattle.vx_watched.specs.Traces.{TellsLess}
-use Rattle.vx_diskset.specs.MakeSteps.{GroupWent, LogAlone, LoggedOn, MadeOn, MakeStops, NamedOn, RefusedOn, StaysWith}
+use Rattle.vx_diskset.specs.MakeSteps.{GroupWent, LogAlone, LoggedOn, MadeOn, LineStops, NamedOn, RefusedOn, StaysWith}
 use Rattle.vx_diskset.specs.Works.{OnlyLog}
 use Rattle.vx_diskset.proofs.OverMaking.{since_both}
 use Rattle.vx_diskset.proofs.Rewriting.{is_among, place_among}
@@ -76,7 +76,7 @@ alone_then u m0 m1 m2 one two = record {
 -- ---- why the line stops
 
 -- a device call that failed in a later step failed in the line
-pub stops_behind : (m0 m1 m2 : Meaning) → ((d : ℕ) → m0.disk_faults d ≤ m1.disk_faults d) → (why : Stop) → MakeStops m1 m2 why → MakeStops m0 m2 why
+pub stops_behind : (m0 m1 m2 : Meaning) → ((d : ℕ) → m0.disk_faults d ≤ m1.disk_faults d) → (why : Stop) → LineStops m1 m2 why → LineStops m0 m2 why
 stops_behind m0 m1 m2 more (Refused (Device disk)) it = Rose_before (m0.disk_faults disk) (m1.disk_faults disk) (m2.disk_faults disk) (more disk) it
 stops_behind m0 m1 m2 more (Refused IsOff) it = it
 stops_behind m0 m1 m2 more (Refused (Limit what most)) it = it
@@ -84,20 +84,20 @@ stops_behind m0 m1 m2 more OutOfMemory it = it
 stops_behind m0 m1 m2 more (Refused other) it = absurd it
 
 -- a device call that failed
-stops_device : (m m' : Meaning) (why : No) → DeviceCause m m' why → MakeStops m m' (Refused why)
+stops_device : (m m' : Meaning) (why : No) → DeviceCause m m' why → LineStops m m' (Refused why)
 stops_device m m' (Device disk) it = it
 stops_device m m' IsOff it = it
 stops_device m m' other it = absurd it
 
-pub stops_rewrite : (m m' : Meaning) (e : ShelfError) → DeviceCause m m' (refusal_of e) → MakeStops m m' (Refused (refusal_of e))
+pub stops_rewrite : (m m' : Meaning) (e : ShelfError) → DeviceCause m m' (refusal_of e) → LineStops m m' (Refused (refusal_of e))
 stops_rewrite m m' (Fault disk) it = it
 stops_rewrite m m' ShelfDown it = it
 
-pub stops_log : (m m' : Meaning) (why : Stop) → MakeCause m m' why → MakeStops m m' why
+pub stops_log : (m m' : Meaning) (why : Stop) → MakeCause m m' why → LineStops m m' why
 stops_log m m' (Refused why) it = stops_device m m' why it
 stops_log m m' OutOfMemory it = tt
 
-stops_commit : (m m' : Meaning) (why : Stop) → DetStops {T = Unit {0}} m m' (Err why) → MakeStops m m' why
+stops_commit : (m m' : Meaning) (why : Stop) → DetStops {T = Unit {0}} m m' (Err why) → LineStops m m' why
 stops_commit m m' (Refused why) it = stops_device m m' why it
 stops_commit m m' OutOfMemory it = absurd it
 
@@ -113,10 +113,10 @@ refused_late true may w is some = limit_same w some
 refused_late false true w is some = absurd (let clash : None ≡ Some w = some in cc)
 refused_late false false w is some = absurd (let clash : false ≡ true = is in cc)
 
-stops_test : (m m' : Meaning) (why : Stop) (w : No) → why ≡ Refused w → Limit Numbers greatest ≡ w → MakeStops m m' why
-stops_test m m' why w is same = subst (λ (s : Stop). MakeStops m m' s) (sym (is ∙ ap (λ (x : No). Refused x) (sym same))) (refl, refl)
+stops_test : (m m' : Meaning) (why : Stop) (w : No) → why ≡ Refused w → Limit Numbers greatest ≡ w → LineStops m m' why
+stops_test m m' why w is same = subst (λ (s : Stop). LineStops m m' s) (sym (is ∙ ap (λ (x : No). Refused x) (sym same))) (refl, refl)
 
-pub stops_name : (u : Units) (c : GroupCore) (m : Meaning) (d : GroupCore) (m' : Meaning) (why : Stop) → is_group c.inner.config.volumes u ≡ true → NamesGroup u c m d m' (Err why) → (o : Option No) → set_rvg_refusal c.inner.config u ≡ o → MakeStops m m' why
+pub stops_name : (u : Units) (c : GroupCore) (m : Meaning) (d : GroupCore) (m' : Meaning) (why : Stop) → is_group c.inner.config.volumes u ≡ true → NamesGroup u c m d m' (Err why) → (o : Option No) → set_rvg_refusal c.inner.config u ≡ o → LineStops m m' why
 stops_name u c m d m' why may it None is = stops_commit m m' why (it.cause is)
 stops_name u c m d m' why may it (Some w) is =
     stops_test m m' why w (err_same why (Refused w) (it.refused w is).0) (refused_late (nat_lt (greatest - margin) c.inner.config.serial) (is_group c.inner.config.volumes u) w may is)

@@ -44,12 +44,12 @@ pub record LogAlone (rvg : Units) (old new : Meaning) : Type 0 where
   pub leaves : (v b : ℕ) (x : List ℕ) → new.leaves v b x → old.leaves v b x ⊎ (v ≡ rvg.srl)
 
 -- why the line stops, over these disks: a call on one of them failed, they are down, no serial is left, or memory is wanted
-abbrev pub MakeStops : Meaning → Meaning → Stop → Type 0
-MakeStops old new (Refused (Device disk)) = Rose (old.disk_faults disk) (new.disk_faults disk)
-MakeStops old new (Refused IsOff) = IsTrue new.down
-MakeStops old new (Refused (Limit what most)) = (what ≡ Numbers) × (most ≡ greatest)
-MakeStops old new OutOfMemory = Unit {0}
-MakeStops old new (Refused other) = ⊥
+abbrev pub LineStops : Meaning → Meaning → Stop → Type 0
+LineStops old new (Refused (Device disk)) = Rose (old.disk_faults disk) (new.disk_faults disk)
+LineStops old new (Refused IsOff) = IsTrue new.down
+LineStops old new (Refused (Limit what most)) = (what ≡ Numbers) × (most ≡ greatest)
+LineStops old new OutOfMemory = Unit {0}
+LineStops old new (Refused other) = ⊥
 
 module _ {R : Type 0} {g : Ghosts R} where
   -- what calls on a group that is up made of it and of its disks, by an account that begins with this
@@ -79,7 +79,7 @@ module _ {R : Type 0} {g : Ghosts R} where
     pub why : Stop
     pub went : GroupWent (ground_state old.core) old last
     pub alone : LogAlone units (laid_volumes old) (laid_volumes last)
-    pub stops : MakeStops (laid_disks old) (laid_disks last) why
+    pub stops : LineStops (laid_disks old) (laid_disks last) why
     pub stays : StaysWith last why below stop
 
   -- the commit that names it was done

@@ -16,7 +16,7 @@ use Rattle.vx_model.specs.States.{first_state}
 use Rattle.vx_model.specs.declared.errors.Stop.{Stop}
 use Rattle.vx_model.specs.declared.errors.Stop.TheVariants.{No as Refused, OutOfMemory}
 use Rattle.vx_model.specs.declared.no.Counted.TheVariants.{Number as Numbers}
-use Rattle.vx_model.specs.declared.no.No.TheVariants.{Device, Down as IsOff, Limit}
+use Rattle.vx_model.specs.declared.no.No.TheVariants.{Device, Down as IsOff, Limit, Role as OtherRole}
 use Rattle.vx_model.specs.declared.units.Units.{Units}
 use Rattle.vx_grouped.specs.ConfigMoves.{LosesSome}
 use Rattle.vx_grouped.specs.GroupSites.{idle_disks, laid_disks, site_disks, with_note}
@@ -94,6 +94,7 @@ module _ {R : Type 0} {g : Ghosts R} where
   below_in (Over s) none = site_in s
   below_in other none = none
 
+  -- any other site is not one of a group alone, and stays as it is
   abbrev pub MadeOver : ℕ → Node → GroupNode → Units → Config → DiskSet R g → DiskSet R g → Result (Unit {0}) Stop → Type 0
   MadeOver site n note units c (OfGroup s) new r = MakesRvgIs site n note units c s.site new (below_in new s.site) r
-  MadeOver site n note units c old new r = ⊥
+  MadeOver site n note units c old new r = (new ≡ old) × (r ≡ Err (Refused OtherRole))
