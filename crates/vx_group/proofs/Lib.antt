@@ -54,3 +54,5 @@ pub mod TrustingLemmas
 pub mod TrustStillLemmas
 pub mod SettleFinds
 pub mod SettleCalls
+pub mod SettleMore
+pub mod SettleDeport

@@ -40,7 +40,7 @@ none_at : (c : Config) (v : ℕ) → ((p : ℕ) → IsTrue (live c v p) → IsTr
 unfolding clean active live
 none_at c v on = record { each = λ p. from_never (clean c v p) (λ is. never_both (plex_at c v p) (on p (clean_takes (plex_at c v p) is)) is) }
 
-clean_volumes : (x a : Config) → x.volumes ≡ a.volumes → (v p : ℕ) → clean x v p ≡ clean a v p
+pub clean_volumes : (x a : Config) → x.volumes ≡ a.volumes → (v p : ℕ) → clean x v p ≡ clean a v p
 unfolding clean
 clean_volumes x a same v p = ap (λ vs. clean_or (plex_in (slice_get vs v) p)) same
 
@@ -121,6 +121,15 @@ module _ (c : Config) (good : ℕ → Type 0) (m m' : Meaning) (kept : KeptFact 
     each = λ i x each is. elim (finds.each i x each is) [
       | inl was ↦ alike_was x was
       | inr new ↦ absurd new
+    ];
+  }
+
+  -- others have one of which it is so
+  pub alike_by : (New : Config → Type 0) → ((x : Config) → New x → NoneClean x v ⊎ LivesAgree x v m') → FindsFrom New m m' → FindsAlike v m'
+  alike_by New so finds = record {
+    each = λ i x each is. elim (finds.each i x each is) [
+      | inl was ↦ alike_was x was
+      | inr new ↦ so x new
     ];
   }
 

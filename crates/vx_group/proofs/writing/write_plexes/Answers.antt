@@ -162,19 +162,19 @@ returns-else-core-clause-logs g c = c.detach.ensures.logs
 pub returns-then-failed-eq0-clause-settles : goal.returns-then-failed-eq0-clause-settles
 returns-then-failed-eq0-clause-settles g c =
     stays_told c.args.core.now c.args.core.now (g.S.Shelf.meaning c.args.shelf.now) (g.S.Shelf.meaning c.write_all.new.shelf) refl refl
-    (wrote_finds c.args.core.now c.args.vol c.args.block c.args.bytes.now (g.S.Shelf.meaning c.args.shelf.now) (g.S.Shelf.meaning c.write_all.new.shelf) (g.met.S.Shelf.lawful c.args.shelf.now) (g.met.S.Shelf.lawful c.write_all.new.shelf) c.requires.stands c.requires.fits c.write_all.ensures.goes) (λ on alike. inl (record { missed = on; spent = c.requires.ready on }))
+    (wrote_finds c.args.core.now c.args.vol c.args.block c.args.bytes.now (g.S.Shelf.meaning c.args.shelf.now) (g.S.Shelf.meaning c.write_all.new.shelf) (g.met.S.Shelf.lawful c.args.shelf.now) (g.met.S.Shelf.lawful c.write_all.new.shelf) c.requires.stands c.requires.fits c.write_all.ensures.goes) c.requires.up (λ on alike. inl (record { missed = on; spent = c.requires.ready on }))
 
 pub returns-then-core-clause-settles : goal.returns-then-core-clause-settles
 returns-then-core-clause-settles g c =
     stays_told c.args.core.now c.args.core.now (g.S.Shelf.meaning c.args.shelf.now) (g.S.Shelf.meaning c.write_all.new.shelf) refl refl
-    (wrote_finds c.args.core.now c.args.vol c.args.block c.args.bytes.now (g.S.Shelf.meaning c.args.shelf.now) (g.S.Shelf.meaning c.write_all.new.shelf) (g.met.S.Shelf.lawful c.args.shelf.now) (g.met.S.Shelf.lawful c.write_all.new.shelf) c.requires.stands c.requires.fits c.write_all.ensures.goes) (λ on alike. inl (record { missed = on; spent = c.requires.ready on }))
+    (wrote_finds c.args.core.now c.args.vol c.args.block c.args.bytes.now (g.S.Shelf.meaning c.args.shelf.now) (g.S.Shelf.meaning c.write_all.new.shelf) (g.met.S.Shelf.lawful c.args.shelf.now) (g.met.S.Shelf.lawful c.write_all.new.shelf) c.requires.stands c.requires.fits c.write_all.ensures.goes) c.requires.up (λ on alike. inl (record { missed = on; spent = c.requires.ready on }))
 
 pub returns-in-Err-clause-settles : goal.returns-in-Err-clause-settles
 returns-in-Err-clause-settles g c =
     stays_told c.args.core.now c.args.core.now (g.S.Shelf.meaning c.args.shelf.now) (g.S.Shelf.meaning c.write_all.new.shelf) refl refl
-    (wrote_finds c.args.core.now c.args.vol c.args.block c.args.bytes.now (g.S.Shelf.meaning c.args.shelf.now) (g.S.Shelf.meaning c.write_all.new.shelf) (g.met.S.Shelf.lawful c.args.shelf.now) (g.met.S.Shelf.lawful c.write_all.new.shelf) c.requires.stands c.requires.fits c.write_all.ensures.goes) (λ on alike. inl (record { missed = on; spent = c.requires.ready on }))
+    (wrote_finds c.args.core.now c.args.vol c.args.block c.args.bytes.now (g.S.Shelf.meaning c.args.shelf.now) (g.S.Shelf.meaning c.write_all.new.shelf) (g.met.S.Shelf.lawful c.args.shelf.now) (g.met.S.Shelf.lawful c.write_all.new.shelf) c.requires.stands c.requires.fits c.write_all.ensures.goes) c.requires.up (λ on alike. inl (record { missed = on; spent = c.requires.ready on }))
 
 pub returns-else-core-clause-settles : goal.returns-else-core-clause-settles
 returns-else-core-clause-settles g c =
-    wrote_told c.args.core.now c.detach.new.core (g.S.Shelf.meaning c.args.shelf.now) (g.S.Shelf.meaning c.write_all.new.shelf) (g.S.Shelf.meaning c.detach.new.shelf) c.if-core.false
+    wrote_told c.args.core.now c.detach.new.core (g.S.Shelf.meaning c.args.shelf.now) (g.S.Shelf.meaning c.write_all.new.shelf) (g.S.Shelf.meaning c.detach.new.shelf) c.requires.up c.if-core.false
     (wrote_finds c.args.core.now c.args.vol c.args.block c.args.bytes.now (g.S.Shelf.meaning c.args.shelf.now) (g.S.Shelf.meaning c.write_all.new.shelf) (g.met.S.Shelf.lawful c.args.shelf.now) (g.met.S.Shelf.lawful c.write_all.new.shelf) c.requires.stands c.requires.fits c.write_all.ensures.goes) c.detach.ensures.settles
