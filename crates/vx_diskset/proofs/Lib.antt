@@ -29,6 +29,11 @@ pub mod OverAway
 pub mod OverSettles
 pub mod OverMaking
 pub mod Rewriting
+pub mod MakeStepping
+pub mod Narrowing
+pub mod RvgMade
+pub mod MakeEnds
+pub mod MadeOver
 pub mod OverCalled
 pub mod CallsBurn
 pub mod CrashGroup
@@ -36,6 +41,7 @@ pub mod ExactWrite
 pub mod FailGroup
 pub mod FailSets
 pub mod FuseGroup
+pub mod GroundNotes
 pub mod GroupBegun
 pub mod GroupCalling
 pub mod GroupCut
@@ -52,6 +58,7 @@ pub mod LeavesNumbers
 pub mod LogDisks
 pub mod MakeGroup
 pub mod MakeRoom
+pub mod MakeSites
 pub mod Mores
 pub mod NeedLemmas
 pub mod OverGroups

@@ -47,11 +47,11 @@ use Rattle.vx_diskset.proofs.StartGroup.{left_still_with}
 
 -- ---- the volumes of a replicated volume group
 
-or_right : (a b : Bool) → b ≡ true → (a || b) ≡ true
+pub or_right : (a b : Bool) → b ≡ true → (a || b) ≡ true
 or_right true b is = refl
 or_right false b is = is
 
-any_of : (w : ℕ) (xs : List ℕ) (v : ℕ) → v < length xs → get_or xs v 0 ≡ w → list_any (λ x. x == w) xs ≡ true
+pub any_of : (w : ℕ) (xs : List ℕ) (v : ℕ) → v < length xs → get_or xs v 0 ≡ w → list_any (λ x. x == w) xs ≡ true
 any_of w [] v low is = absurd (omega (arith, low))
 any_of w (x ∷ xs) zero low is = ap (λ (t : Bool). t || list_any (λ y. y == w) xs) (eq-eqb x w is)
 any_of w (x ∷ xs) (suc v) low is = or_right (x == w) (list_any (λ y. y == w) xs) (any_of w xs v (omega (arith, low)) is)

@@ -42,7 +42,7 @@ use Rattle.vx_diskset.proofs.CountMoves.{counts_lose}
 spelled_back : (note : List ℕ) (c : Config) → note ≡ noted_config c → config.read (noted_config c) ≡ Ok (at_serial 0 c, []) → config_of note ≡ Some (at_serial 0 c)
 spelled_back note c is back = ap (λ (bytes : List ℕ). config_of bytes) is ∙ ap (λ (r : Reading Config). read_front r) back
 
-note_read : (note : GroupNode) (c : Config) → NotesConfig note c → config_of note.config ≡ Some (at_serial 0 c)
+pub note_read : (note : GroupNode) (c : Config) → NotesConfig note c → config_of note.config ≡ Some (at_serial 0 c)
 unfolding noted_config
 note_read note c it = spelled_back note.config c it.is (noted_is (at_serial 0 c) it.spells)
 

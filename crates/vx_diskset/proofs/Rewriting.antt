@@ -25,6 +25,9 @@ default_same (x ∷ xs) (suc k) d e low = default_same xs k d e (omega (arith, l
 pub is_among : (xs : List ℕ) (k : ℕ) → k < length xs → Contains xs (slice_index xs k)
 is_among xs k low = (k, low, default_same xs k (slice_index xs k) 0 low)
 
+pub place_among : (xs : List ℕ) (u : ℕ) (among : Contains xs u) → slice_index xs among.0 ≡ u
+place_among xs u among = default_same xs among.0 0 u among.1 ∙ among.2
+
 pub is_there : (xs : List ℕ) (n : ℕ) → ((k : ℕ) → k < length xs → slice_index xs k < n) → (u : ℕ) → Contains xs u → u < n
 is_there xs n each u among = let low = each among.0 among.1 in let same = default_same xs among.0 0 u among.1 ∙ among.2 in omega (arith, low, same)
 

@@ -60,6 +60,17 @@ module _ (vs : List VolumeEntry) (u : Units) (is : is_group vs u ≡ true) where
   below : list_all (λ n. nat_lt n (length vs)) (names_of u) ≡ true
   below = (and_parts (nat_le 1 (length u.vols) && nat_le (length u.vols) MOST_DATA_VOLUMES) (list_all (λ n. nat_lt n (length vs)) (names_of u)) apart.0).1
 
+  counted : ((nat_le 1 (length u.vols) ≡ true) × (nat_le (length u.vols) MOST_DATA_VOLUMES ≡ true))
+  counted =
+      and_parts (nat_le 1 (length u.vols)) (nat_le (length u.vols) MOST_DATA_VOLUMES)
+      (and_parts (nat_le 1 (length u.vols) && nat_le (length u.vols) MOST_DATA_VOLUMES) (list_all (λ n. nat_lt n (length vs)) (names_of u)) apart.0).0
+
+  pub units_some : 1 ≤ length u.vols
+  units_some = leb-true 1 (length u.vols) counted.0
+
+  pub units_few : length u.vols ≤ MOST_DATA_VOLUMES
+  units_few = leb-true (length u.vols) MOST_DATA_VOLUMES counted.1
+
   pub units_large : LEAST_BLOCKS ≤ blocks_of vs u.srl
   units_large = leb-true LEAST_BLOCKS (blocks_of vs u.srl) log.1
 

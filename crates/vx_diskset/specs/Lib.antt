@@ -14,6 +14,7 @@ pub mod Keeps
 pub mod Lasts
 pub mod Layouts
 pub mod Makings
+pub mod MakeSteps
 pub mod Needs
 pub mod Noted
 pub mod Pumps

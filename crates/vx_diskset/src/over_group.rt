@@ -1,5 +1,5 @@
 // Calls on the disk group below a replicated volume group.
-ghost use Rattle.std.specs.Prelude.{◌≡◌, ◌⊎◌, ◌≤◌, IfOk, None, Some, true};
+ghost use Rattle.std.specs.Prelude.{◌≡◌, ◌⊎◌, ◌≤◌, IfErr, IfOk, None, Some, true};
 ghost use Rattle.vx_config.specs.Checks.{is_group as is_group_of};
 ghost use Rattle.vx_config.specs.declared.config.Config.{Config as ConfigValue};
 ghost use Rattle.vx_disk.specs.Causes.{OnDisks};
@@ -18,7 +18,8 @@ ghost use Rattle.vx_history.specs.Steps.{crashed};
 ghost use Rattle.vx_watched.specs.Since.{CalledSince};
 ghost use Rattle.vx_watched.specs.Traces.{TellsLess};
 ghost use Rattle.vx_diskset.specs.GroupCalls.{AtSite, config_in};
-ghost use Rattle.vx_diskset.specs.Makings.{UpOrFell, MadeOver};
+ghost use Rattle.vx_diskset.specs.MakeSteps.{LoggedOn, MadeOn, NamedOn, RefusedOn, StaysWith};
+ghost use Rattle.vx_diskset.specs.Makings.{IsFirstSite, MadeOver, UpOrFell};
 ghost use Rattle.vx_diskset.specs.Works.{DoesMake, DoesRewrite};
 ghost use Rattle.vx_diskset.specs.declared.above.Above.TheVariants.{Origin as OriginAbove};
 ghost use Rattle.vx_disk.specs.Shelf.{Meaning};
@@ -28,7 +29,6 @@ ghost use Rattle.vx_model.specs.States.{first_state};
 ghost use Rattle.vx_model.specs.declared.limits.TheConstants.{LEAST_BLOCKS};
 ghost use Rattle.vx_rvg.specs.Views.{IsSound, UnitsPlaced};
 ghost use Rattle.vx_diskset.specs.Noted.{SiteNoted};
-ghost use Rattle.vx_events.specs.GroupLines.{is_over_group};
 ghost use Rattle.vx_history.specs.Groups.{GroupNode};
 ghost use Rattle.vx_history.specs.World.{Node};
 ghost use Rattle.vx_model.specs.declared.site.SiteState.TheVariants.{Up as UpState};
@@ -43,16 +43,17 @@ use vx_grouped::{GroupSite, Laid};
 use vx_model::{No, State, Stop, Units};
 use vx_rvg::RvgCore;
 
-// A group that stays up where its disks are, and crashes where its fuse ran out.
-fn stays<R: Rack>(laid: Laid<R>) -> GroupSite<R>
-    ensures since { (first : Meaning) → CalledSince first (laid_disks laid) → CalledSince first (site_disks result) }
-    ensures told { TellsLess (laid_below laid) (site_below result) }
-    ensures calm { UpOrFell result }
+// A group that stays up where its disks are, with this answer. Where its fuse ran out it crashes, and says so.
+fn stays<R: Rack>(laid: Laid<R>, why: Stop) -> (GroupSite<R>, Stop)
+    ensures since { (first : Meaning) → CalledSince first (laid_disks laid) → CalledSince first (site_disks result.0) }
+    ensures told { TellsLess (laid_below laid) (site_below result.0) }
+    ensures calm { UpOrFell result.0 }
+    ensures stays { StaysWith laid why result.0 result.1 }
 {
     if laid.is_down() {
-        return GroupSite::Down(laid.crash(u64::MAX));
+        return (GroupSite::Down(laid.crash(u64::MAX)), Stop::No(No::Down));
     }
-    GroupSite::Up(laid)
+    (GroupSite::Up(laid), why)
 }
 
 // Writes each block of the data volumes as it reads.
@@ -99,15 +100,21 @@ fn name_log<R: Rack>(
     units: &Units,
 ) -> (GroupSite<R>, Result<RvgCore, Stop>)
     requires sound { IsSound core (laid_volumes laid) }
+    requires may { is_group_of laid.core.inner.config.volumes units.now ≡ true }
     ensures sound { IfOk result.1 (λ k. AboveStays (OriginAbove k) result.0) }
     ensures since { CalledSince (laid_disks laid) (site_disks result.0) }
     ensures told { TellsLess (laid_below laid) (site_below result.0) }
     ensures calm { UpOrFell result.0 }
+    ensures named { IfOk result.1 (λ k. (k ≡ core) × NamedOn units.now laid result.0) }
+    ensures refused { IfErr result.1 (λ stop. RefusedOn units.now laid result.0 stop) }
 {
     let (laid, named) = name_over(laid, units);
     match named {
         Ok(()) => (GroupSite::Up(laid), Ok(core)),
-        Err(stop) => (stays(laid), Err(stop)),
+        Err(why) => {
+            let (below, stop) = stays(laid, why);
+            (below, Err(stop))
+        }
     }
 }
 
@@ -119,15 +126,21 @@ fn log_named<R: Rack>(
 ) -> (GroupSite<R>, Result<RvgCore, Stop>)
     requires placed { UnitsPlaced units.now (laid_volumes laid) }
     requires large { LEAST_BLOCKS ≤ (laid_volumes laid).size units.now.srl }
+    requires may { is_group_of laid.core.inner.config.volumes units.now ≡ true }
     ensures sound { IfOk result.1 (λ k. AboveStays (OriginAbove k) result.0) }
     ensures since { CalledSince (laid_disks laid) (site_disks result.0) }
     ensures told { TellsLess (laid_below laid) (site_below result.0) }
     ensures calm { UpOrFell result.0 }
+    ensures logged { IfOk result.1 (λ k. LoggedOn units.now (first_state site) laid result.0 k) }
+    ensures refused { IfErr result.1 (λ stop. RefusedOn units.now laid result.0 stop) }
 {
     let (laid, made) = log_over(alloc, laid, site, units);
     match made {
         Ok(core) => name_log(laid, core, units),
-        Err(stop) => (stays(laid), Err(stop)),
+        Err(why) => {
+            let (below, stop) = stays(laid, why);
+            (below, Err(stop))
+        }
     }
 }
 
@@ -143,11 +156,16 @@ fn make_over<R: Rack>(
     ensures since { CalledSince (laid_disks laid) (site_disks result.0) }
     ensures told { TellsLess (laid_below laid) (site_below result.0) }
     ensures calm { UpOrFell result.0 }
+    ensures made { IfOk result.1 (λ k. MadeOn units.now (first_state site) laid result.0 k) }
+    ensures refused { IfErr result.1 (λ stop. RefusedOn units.now laid result.0 stop) }
 {
     let (laid, answer) = rewrite_over(laid, units);
     match answer {
         Ok(()) => log_named(alloc, laid, site, units),
-        Err(error) => (stays(laid), Err(Stop::No(refusal(error)))),
+        Err(error) => {
+            let (below, stop) = stays(laid, Stop::No(refusal(error)));
+            (below, Err(stop))
+        }
     }
 }
 
@@ -158,6 +176,7 @@ fn make_in<R: Rack>(
     site: u32,
     units: &Units,
 ) -> (DiskSet<R>, Result<(), Stop>)
+    ensures made { (n : Node) (note : GroupNode) (c : ConfigValue) → SiteNoted n note (PlainSites group) → n.state ≡ UpState → IsFirstSite site n → config_in (PlainSites group) ≡ Some c → c.rvg ≡ None → is_group_of c.volumes units.now ≡ true → MadeOver site n note units.now c (PlainSites group) result.0 result.1 }
     ensures since { AtSite (λ e. CalledSince (site_disks group.site) (site_disks e)) result.0 }
     ensures told { AtSite (λ e. TellsLess (site_below group.site) (site_below e)) result.0 }
     ensures calm { (result.0 ≡ PlainSites group) ⊎ AtSite (λ e. UpOrFell e) result.0 }
@@ -167,11 +186,8 @@ fn make_in<R: Rack>(
         GroupSite::Up(laid) => {
             let (laid, may) = can_name(laid, units);
             if !may {
-                let below = stays(laid);
-                return (
-                    DiskSet::OfGroup(GroupSet { site: below, cut }),
-                    Err(Stop::No(No::Size)),
-                );
+                let (below, stop) = stays(laid, Stop::No(No::Size));
+                return (DiskSet::OfGroup(GroupSet { site: below, cut }), Err(stop));
             }
             let (below, answer) = make_over(alloc, laid, site, units);
             match answer {
@@ -254,7 +270,7 @@ impl<R: Rack> DiskSet<R> {
     ///
     /// Answers 19 where no serial is left, 7 where a disk failed, and 6 where the fuse ran out; or memory is wanted.
     pub fn make_rvg(self, alloc: Global, site: u32, units: &Units) -> (DiskSet<R>, Result<(), Stop>)
-        ensures made { (n : Node) (note : GroupNode) (c : ConfigValue) → SiteNoted n note self → n.state ≡ UpState → is_over_group n ≡ true → config_in self ≡ Some c → c.rvg ≡ None → is_group_of c.volumes units.now ≡ true → MadeOver site n note units.now c self result.0 result.1 }
+        ensures made { (n : Node) (note : GroupNode) (c : ConfigValue) → SiteNoted n note self → n.state ≡ UpState → IsFirstSite site n → config_in self ≡ Some c → c.rvg ≡ None → is_group_of c.volumes units.now ≡ true → MadeOver site n note units.now c self result.0 result.1 }
         ensures failing { SameFailing self result.0 }
         ensures fuse { FuseGoesOn self result.0 }
         ensures later { Later self result.0 }

@@ -9,13 +9,12 @@ ghost use Rattle.vx_rvg.specs.Views.{UnitsPlaced};
 
 use crate::group_set::CutWrite;
 use crate::over_work::Starts;
-use crate::writing::is_off;
 use crate::{Above, DiskSet, GroupSet, OverSet};
 use std::alloc::Global;
 use vx_config::Config;
 use vx_disk::Rack;
 use vx_ground::work_over;
-use vx_grouped::{GroupSite, Laid};
+use vx_grouped::{GroupSite, Laid, is_off};
 use vx_model::limits::{LEAST_BLOCKS, LINK_PLACES};
 use vx_model::{No, OutOfMemory, Stop, Units, is_origin, map_blocks};
 use vx_rvg::{RvgCore, StartRoom};

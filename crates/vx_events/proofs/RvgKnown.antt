@@ -3,7 +3,7 @@ use Rattle.std.proofs.Common.{◌≡◌, ◌∙◌, ◌⊎◌, inl, inr, ℕ, Bo
 use Rattle.std.specs.Prelude.{unwrap_or}
 use Rattle.vx_history.proofs.Updates.{at_place}
 use Rattle.vx_history.specs.Doubts.{Doubted}
-use Rattle.vx_history.specs.Groups.{GroupNode, NoteSettles}
+use Rattle.vx_history.specs.Groups.{GroupNode}
 use Rattle.vx_history.specs.Steps.{burned}
 use Rattle.vx_history.specs.Stops.{IsFused}
 use Rattle.vx_history.specs.World.{NoFuse, Node, World}
@@ -23,7 +23,7 @@ use Rattle.vx_events.specs.RvgBack.{FindsNoRvg, FindsPlain, FindsRvg, GetsRvg, G
 use Rattle.vx_events.specs.RvgMakes.{IsLeftRvg, MakesRvg, RvgCut, RvgDone, RvgFails, RvgLacks, units_at}
 use Rattle.vx_events.specs.RvgNotes.{NotesNarrowed}
 use Rattle.vx_events.specs.RvgOver.{EndsOrShows, NotesLine, OverRvg, OverRvgBy, ShowFails, ShowsAny, TakesOr, is_below, is_inside}
-use Rattle.vx_events.specs.RvgWorks.{NotesWork, FuseRanOut}
+use Rattle.vx_events.specs.RvgWorks.{FuseRanOut, NotesWork, WorksAs}
 use Rattle.vx_events.specs.declared.said.Said.{Said}
 
 -- ---- the note that a line leaves
@@ -63,8 +63,8 @@ made_note s next last new left known =
 pub narrowed_dark : (told : Type 0) (units : Units) (note new : GroupNode) → NotesNarrowed told units note new → new.dark ≡ note.dark
 narrowed_dark told units note new x = ap (λ (g : GroupNode). g.dark) x.same
 
-settles_dark : {C : Config → Config → Type 0} (note new : GroupNode) → Reconfigures C NoteSettles note new → new.dark ≡ note.dark
-settles_dark note new x = x.keeps.same.dark
+worked_dark : {C : Config → Config → Type 0} (Off : Type 0) (s : ℕ) (fails : Fails) (note new : GroupNode) → Reconfigures C (WorksAs Off s fails) note new → new.dark ≡ note.dark
+worked_dark Off s fails note new x = x.keeps.works.same.dark
 
 pub works_dark : (Off : Type 0) (s : ℕ) (fails : Fails) (note new : GroupNode) → NotesWork Off s fails note new → new.dark ≡ note.dark
 works_dark Off s fails note new x = x.keeps.works.same.dark
@@ -73,7 +73,7 @@ pub making_known : (told : Type 0) (d : Doubted) (line : ScriptLine) (s : ℕ) (
     → (note_at (d.world.nodes s)).dark ≡ false → (note_at (new.world.nodes s)).dark ≡ false
 making_known told d line s fails said new (RvgDone site srl maps volumes middle next is are x says left) known =
     made_note s next _ new left
-    (ap (λ (g : GroupNode). g.dark) x.is ∙ settles_dark middle x.settled x.moves ∙ narrowed_dark told (units_at d s srl maps volumes) (note_at (d.world.nodes s)) middle x.narrowed ∙ known)
+    (ap (λ (g : GroupNode). g.dark) x.is ∙ worked_dark ⊥ s fails middle x.settled x.moves ∙ narrowed_dark told (units_at d s srl maps volumes) (note_at (d.world.nodes s)) middle x.narrowed ∙ known)
 making_known told d line s fails said new (RvgLacks site srl maps volumes next is are x says left) known =
     made_note s next _ new left
     (works_dark ⊥ s fails x.middle next x.moves ∙ narrowed_dark told (units_at d s srl maps volumes) (note_at (d.world.nodes s)) x.middle x.narrowed ∙ known)

@@ -165,6 +165,50 @@ module _ (a : GroundState) (c d : GroupCore) (m0 m m' : Meaning) (first : (u : �
       subst (λ (y : Config). AllAtOnce y m') (sym seen) (less_newest (wide c).config m m' (was (sym committed ∙ is)) finds))
       (λ is. inl (sure_by d.inner.committed d.held (committed ∙ sure_kept c.inner.committed c.held is) (held ∙ sure_free c.inner.committed c.held is)))
 
+-- accounts in a row
+module _ (a b c : GroundState) (m0 m1 m2 : Meaning) (one : GroundSince a m0 b m1) (two : GroundSince b m1 c m2) where
+  none_first : NoneRose (length a.config.disks) m0 m2 → NoneRose (length a.config.disks) m0 m1
+  none_first none u low rose = none u low (rose_on (m0.disk_faults u) (m1.disk_faults u) (m2.disk_faults u) (two.counts u) rose)
+
+  none_last : NoneRose (length a.config.disks) m0 m2 → NoneRose (length b.config.disks) m1 m2
+  none_last none u low rose =
+      none u (let same = one.parts.count in omega (arith, low, same)) (rose_back (m0.disk_faults u) (m1.disk_faults u) (m2.disk_faults u) (one.counts u) rose)
+
+  blamed_both : (u : ℕ) (t : Bool) → failed_at b.config.disks u ≡ t → failed_at a.config.disks u ≡ false → failed_at c.config.disks u ≡ true → (Rose (m0.disk_faults u) (m2.disk_faults u) → ⊥) → ⊥
+  blamed_both u true is off on none = one.blamed u off is (λ rose. none (rose_on (m0.disk_faults u) (m1.disk_faults u) (m2.disk_faults u) (two.counts u) rose))
+  blamed_both u false is off on none = two.blamed u is on (λ rose. none (rose_back (m0.disk_faults u) (m1.disk_faults u) (m2.disk_faults u) (one.counts u) rose))
+
+  cut_first : DeviceRose m0 m1 ⊎ IsTrue m1.down → DeviceRose m0 m2 ⊎ IsTrue m2.down
+  cut_first (inl some) = inl (record { disk = some.disk; rose = rose_on (m0.disk_faults some.disk) (m1.disk_faults some.disk) (m2.disk_faults some.disk) (two.counts some.disk) some.rose })
+  cut_first (inr down) = inr (two.falls down)
+
+  cut_last : DeviceRose m1 m2 ⊎ IsTrue m2.down → DeviceRose m0 m2 ⊎ IsTrue m2.down
+  cut_last (inl some) = inl (record { disk = some.disk; rose = rose_back (m0.disk_faults some.disk) (m1.disk_faults some.disk) (m2.disk_faults some.disk) (one.counts some.disk) some.rose })
+  cut_last (inr down) = inr down
+
+  sure_both : (b.sure ≡ true) ⊎ (DeviceRose m0 m1 ⊎ IsTrue m1.down) → (c.sure ≡ true) ⊎ (DeviceRose m0 m2 ⊎ IsTrue m2.down)
+  sure_both (inr cut) = inr (cut_first cut)
+  sure_both (inl is) = by (two.sure is)
+    where
+      by : (c.sure ≡ true) ⊎ (DeviceRose m1 m2 ⊎ IsTrue m2.down) → (c.sure ≡ true) ⊎ (DeviceRose m0 m2 ⊎ IsTrue m2.down)
+      by (inl so) = inl so
+      by (inr cut) = inr (cut_last cut)
+
+  pub ground_both : GroundSince a m0 c m2
+  ground_both = record {
+    parts = then_parts a.config b.config c.config one.parts two.parts;
+    frames = λ v. two.frames v ∙ one.frames v;
+    counts = λ u. (let low = one.counts u in let high = two.counts u in omega (arith, low, high));
+    still = λ none v p. two.still (none_last none) v p ∙ one.still (none_first none) v p;
+    blocks = λ u. two.blocks u ∙ one.blocks u;
+    blamed = λ u. blamed_both u (failed_at b.config.disks u) refl;
+    stays = λ u on. two.stays u (one.stays u on);
+    openly = λ clear. two.openly (one.openly clear);
+    newest = λ clear was is. two.newest (one.openly clear) (one.newest clear was) is;
+    falls = λ is. two.falls (one.falls is);
+    sure = λ is. sure_both (one.sure is);
+  }
+
 -- ---- what the configuration has lost, of which it can be told whether a call failed
 
 rose_or : (a b : ℕ) → Rose a b ⊎ (Rose a b → ⊥)

@@ -1,9 +1,10 @@
 // The volumes of a group with logs that are its replicated volume group.
-ghost use Rattle.std.specs.Prelude.{◌≡◌, ℕ, Err, IfErr, IsTrue, None, OnOk, Some, true};
+ghost use Rattle.std.specs.Prelude.{◌≡◌, ◌≤◌, ℕ, Err, IfErr, IsTrue, None, OnOk, Some, true};
 ghost use Rattle.vx_config.specs.Checks.{is_group};
 ghost use Rattle.vx_copies.specs.Commits.{MoreFailed};
 ghost use Rattle.vx_disk.specs.Shelf.{Goes, Nothing};
 ghost use Rattle.vx_group.specs.Dets.{DetStops};
+ghost use Rattle.vx_group.specs.Finds.{GroupFinds};
 ghost use Rattle.vx_group.specs.Holding.{wide};
 ghost use Rattle.vx_group.specs.Rvgs.{RvgEnds, set_rvg_refusal};
 ghost use Rattle.vx_group.specs.Stands.{inner_meaning};
@@ -39,6 +40,8 @@ pub fn name_rvg<S: Shelf>(
     ensures ends { RvgEnds units.now group.core.inner.config result.0.core.inner.config (S.meaning result.0.shelf) result.1 }
     ensures trust { OnOk result.1 (group.core.inner.committed ≡ true → result.0.core.inner.committed ≡ true) }
     ensures agreed { IfErr result.1 (λ e. group.core.inner.committed ≡ true → result.0.core.inner.agreed ≡ true) }
+    ensures later { group.core.inner.config.serial ≤ result.0.core.inner.config.serial }
+    ensures finds { GroupFinds group.core result.0.core (S.meaning group.shelf) (S.meaning result.0.shelf) }
     ensures up { OnOk result.1 (IsTrue (S.meaning result.0.shelf).down → ⊥) }
     ensures cause { set_rvg_refusal group.core.inner.config units.now ≡ None → DetStops (S.meaning group.shelf) (S.meaning result.0.shelf) result.1 }
 {

@@ -1,9 +1,10 @@
 -- Naming the volumes of a replicated volume group: logs stand on, as only configurations were written.
 use Rattle.std.proofs.Common.{◌≡◌}
-use Rattle.std.specs.Prelude.{◌⊎◌, Err, IfErr, IsTrue, None, OnOk, Some, true}
+use Rattle.std.specs.Prelude.{◌⊎◌, ◌≤◌, Err, IfErr, IsTrue, None, OnOk, Some, true}
 use Rattle.vx_copies.specs.Commits.{MoreFailed}
 use Rattle.vx_disk.specs.Shelf.{Goes, Nothing}
 use Rattle.vx_group.specs.Dets.{DetStops}
+use Rattle.vx_group.specs.Finds.{GroupFinds}
 use Rattle.vx_group.specs.Holding.{wide}
 use Rattle.vx_group.specs.Rvgs.{RvgEnds, set_rvg_refusal}
 use Rattle.vx_group.specs.Stands.{inner_meaning}
@@ -81,3 +82,15 @@ returns-clause-up g c =
     carried (λ x s y t. OnOk c.set_rvg_in-answer.result (IsTrue (g.S.Shelf.meaning t).down → ⊥))
     c.args.group.core c.apart-shelf.result.1.core c.together.result.core c.set_rvg_in-answer.new.core c.args.group.shelf c.apart-shelf.result.0 c.together.result.shelf c.set_rvg_in-answer.new.shelf
     c.apart-shelf.ensures.core c.apart-shelf.ensures.shelf c.together.ensures.core c.together.ensures.shelf c.set_rvg_in-answer.ensures.up
+
+pub returns-clause-later : goal.returns-clause-later
+returns-clause-later g c =
+    carried (λ x s y t. x.inner.config.serial ≤ y.inner.config.serial)
+    c.args.group.core c.apart-shelf.result.1.core c.together.result.core c.set_rvg_in-answer.new.core c.args.group.shelf c.apart-shelf.result.0 c.together.result.shelf c.set_rvg_in-answer.new.shelf
+    c.apart-shelf.ensures.core c.apart-shelf.ensures.shelf c.together.ensures.core c.together.ensures.shelf c.set_rvg_in-answer.ensures.later
+
+pub returns-clause-finds : goal.returns-clause-finds
+returns-clause-finds g c =
+    carried (λ x s y t. GroupFinds x y (g.S.Shelf.meaning s) (g.S.Shelf.meaning t))
+    c.args.group.core c.apart-shelf.result.1.core c.together.result.core c.set_rvg_in-answer.new.core c.args.group.shelf c.apart-shelf.result.0 c.together.result.shelf c.set_rvg_in-answer.new.shelf
+    c.apart-shelf.ensures.core c.apart-shelf.ensures.shelf c.together.ensures.core c.together.ensures.shelf c.set_rvg_in-answer.ensures.finds

@@ -18,6 +18,8 @@ returns-clause-names g c =
       ends = c.name_rvg-group.ensures.ends;
       trust = c.name_rvg-group.ensures.trust;
       agreed = c.name_rvg-group.ensures.agreed;
+      later = c.name_rvg-group.ensures.later;
+      finds = c.name_rvg-group.ensures.finds;
       up = c.name_rvg-group.ensures.up;
       cause = c.name_rvg-group.ensures.cause;
     })
