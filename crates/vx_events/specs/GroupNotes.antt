@@ -104,13 +104,13 @@ pub record NotesWrite (s : ℕ) (fails : Fails) (x : Write) (note new : GroupNod
 -- a write failed: each of its blocks has what it had, or what was to be written
 pub record NotesDoubt (s : ℕ) (fails : Fails) (x : Write) (note new : GroupNode) : Type 0 where
   pub middle : GroupNode
-  pub moves : WithMaps (Reconfigures (ConfigLoses s fails) NoteUnsettles) (MapsOfDoubt s fails x) note middle
+  pub moves : WithMaps (Reconfigures (ConfigLoses s fails) (NoteUnsettles false)) (MapsOfDoubt s fails x) note middle
   pub is : new ≡ note_doubt x middle
 
 -- the fuse ran out in a write
 pub record NotesCut (s : ℕ) (fails : Fails) (x : Write) (note new : GroupNode) : Type 0 where
   pub middle : GroupNode
-  pub moves : WithMaps (Reconfigures (ConfigLoses s fails) NoteUnsettles) MapsLost note middle
+  pub moves : WithMaps (Reconfigures (ConfigLoses s fails) (NoteUnsettles false)) MapsLost note middle
   pub is : new ≡ note_cut x middle
 
 -- ---- recoveries

@@ -57,3 +57,4 @@ pub mod SettleCalls
 pub mod SettleMore
 pub mod SettleDeport
 pub mod UnsureMarks
+pub mod UnsureLemmas

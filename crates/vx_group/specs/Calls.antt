@@ -1,5 +1,5 @@
 -- What the calls of a group make of it, where a plex may be held back.
-use Rattle.std.specs.Prelude.{◌≡◌, ◌⊎◌, ℕ, ◌<◌, IsTrue, Option, Some, None, length, Result, Ok, Err}
+use Rattle.std.specs.Prelude.{◌≡◌, ◌⊎◌, ℕ, ◌<◌, true, IsTrue, Option, Some, None, length, Result, Ok, Err}
 use Rattle.vx_disk.specs.Causes.{DeviceCause}
 use Rattle.vx_disk.specs.Shelf.{Goes, Meaning, Nothing}
 use Rattle.vx_model.specs.declared.errors.Stop.{Stop}
@@ -79,6 +79,11 @@ GroupDeported c old meaning core shelf (Err (g, stop)) = GroupBack c (core g) ol
 abbrev pub GivesBack : {S G : Type 0} → GroupCore → Meaning → (S → Meaning) → (G → GroupCore) → (G → S) → Result S (G × Stop) → Type 0
 GivesBack c old meaning core shelf (Ok s) = Unit {0}
 GivesBack c old meaning core shelf (Err (g, stop)) = Goes Nothing (inner_meaning (wide c) old) (inner_meaning (wide (core g)) (meaning (shelf g)))
+
+-- Where the newest configuration was committed before a refusal that gives the group back, imports agree behind it.
+abbrev pub BackAgrees : {S G : Type 0} → GroupCore → (G → GroupCore) → Result S (G × Stop) → Type 0
+BackAgrees c core (Ok s) = Unit {0}
+BackAgrees c core (Err (g, stop)) = c.inner.committed ≡ true → (core g).inner.agreed ≡ true
 
 -- refused for want of serials, and nothing has changed
 abbrev pub IsFull : {S G : Type 0} → GroupCore → S → (G → GroupCore) → (G → S) → Result S (G × Stop) → Type 0

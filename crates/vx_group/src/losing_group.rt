@@ -1,9 +1,11 @@
 // A log of a volume that a group loses, in a call on that volume.
-ghost use Rattle.vx_group.specs.Finds.{CoreFinds, GroupFinds, MoreUnsure};
+ghost use Rattle.vx_group.specs.Finds.{CoreFinds, GroupFinds};
 ghost use Rattle.std.specs.Prelude.{◌≡◌, ◌*◌, ◌+◌, ◌<◌, ◌≤◌, ℕ, false, true, IfErr, IfOk, None, OnOk};
 ghost use Rattle.vx_config.specs.Table.{greatest};
 ghost use Rattle.vx_disk.specs.Causes.{Cause};
 ghost use Rattle.vx_disk.specs.Shelf.{Goes, Nothing};
+ghost use Rattle.vx_group.specs.Blames.{MarksOn};
+ghost use Rattle.vx_group.specs.GivesUp.{FaultMisses};
 ghost use Rattle.vx_group.specs.Holding.{GroupStands, wide};
 ghost use Rattle.vx_group.specs.Loses.{LosesPlexes, TrustsBut};
 ghost use Rattle.vx_group.specs.Stands.{InnerStands, inner_meaning};
@@ -42,10 +44,11 @@ fn lose_in<S: Shelf>(
     ensures few { OnOk result (core.new.config.serial ≤ core.old.config.serial + COMMIT_SERIALS) }
     ensures trust { OnOk result (core.old.committed ≡ true → core.new.committed ≡ true) }
     ensures agreed { IfErr result (λ e. core.old.committed ≡ true → core.new.agreed ≡ true) }
-    ensures unsure { MoreUnsure core.old.unsure core.new.unsure }
     ensures finds { CoreFinds core.old core.new (S.meaning shelf.old) (S.meaning shelf.new) }
     ensures settles { CoreSettles core.old core.new (S.meaning shelf.old) (S.meaning shelf.new) }
     ensures logs { TrustsBut vol log core.old.config core.new.config }
+    ensures marks { MarksOn vol core.old.unsure core.new.unsure result }
+    ensures misses { FaultMisses core.new result }
     ensures cause { Cause (inner_meaning core.old (S.meaning shelf.old)) (inner_meaning core.new (S.meaning shelf.new)) vol result }
 {
     if shelf.is_down() {
@@ -87,6 +90,8 @@ pub fn lose_group<S: Shelf>(
     ensures agreed { IfErr result (λ e. core.old.inner.committed ≡ true → core.new.inner.agreed ≡ true) }
     ensures finds { GroupFinds core.old core.new (S.meaning shelf.old) (S.meaning shelf.new) }
     ensures logs { TrustsBut vol log core.old.inner.config core.new.inner.config }
+    ensures marks { MarksOn vol core.old.inner.unsure core.new.inner.unsure result }
+    ensures misses { FaultMisses core.new.inner result }
     ensures cause { Cause (inner_meaning (wide core.old) (S.meaning shelf.old)) (inner_meaning (wide core.new) (S.meaning shelf.new)) vol result }
 {
     if shelf.is_down() {

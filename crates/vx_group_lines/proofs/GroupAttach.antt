@@ -156,7 +156,7 @@ module _ {R : Type 0} {g : Ghosts R} where
     pub att_ends : (count : ℕ) → OnSites (λ o e. AttCalled n note v plex o e (Ok count)) before after → OnSites (λ o e. AttMapped v plex o e (Ok count)) before after → (IsTrue (is_plex_on it.call.at.set.site v plex) → count ≡ 0) → (is_plex_on it.call.at.set.site v plex ≡ false → RegionsOf it.call.at.set.site v count)
         → new.facts.items ≡ old.facts.items → SameLoad old new → LeadsOver d (PlexAttach name volume plex) (DoneAt count) old new
     att_ends count on maps none all facts load =
-        done_leads d (PlexAttach name volume plex) old new name s before after stands it (λ o e. AttDone v plex o e) (λ o e. AttFails v plex o e) (AttMaps v plex) (λ o which. refuses_att o v plex ≡ Some which) (DoneAt count) count (λ k h. h)
+        done_leads d (PlexAttach name volume plex) old new name s before after stands it true (λ o e. AttDone v plex o e) (λ o e. AttFails v plex o e) (AttMaps v plex) (λ o which. refuses_att o v plex ≡ Some which) (DoneAt count) count (λ k h. h)
         (record {
           ends = λ many fails o e next was now names noted noted_now enough logs change keeps w by. (
             with_goes (Reconfigures (λ c x. PutsOr s fails (λ k. lies_on_disk c v plex k) v plex Active c x) NoteSettles) (MapsAttached s fails v plex) note next was now w noted noted_now
@@ -173,24 +173,24 @@ module _ {R : Type 0} {g : Ghosts R} where
     pub att_refused : (mid : Yard R g) (result : Result Said OutOfMemory) → Midway old mid → (why : No) → OnSites (λ o e. AttCalled n note v plex o e (Err (StopsBy why))) before after
         → OnSites (λ o e. AttMapped v plex o e (Err (StopsBy why))) before after → IsNotedRefusal s (fact_of_group (d.world.nodes s) (note_at (d.world.nodes s))) why mid new result → LeadsOverIs d (PlexAttach name volume plex) old new result
     att_refused mid result half why on maps refusal =
-        refused_leads d (PlexAttach name volume plex) old new name s before after stands it mid half result ℕ (λ o e. AttDone v plex o e) (λ o e. AttFails v plex o e) MapsLike (λ o which. refuses_att o v plex ≡ Some which)
+        refused_leads d (PlexAttach name volume plex) old new name s before after stands it mid half result ℕ true (λ o e. AttDone v plex o e) (λ o e. AttFails v plex o e) MapsLike (λ o which. refuses_att o v plex ≡ Some which)
         (record {
           ends = λ many fails o e next was now names noted noted_now enough logs change keeps w by.
-              with_goes (Reconfigures (λ c x. ConfigLosesBut (λ k. lies_on_disk c v plex k) s fails c x ⊎ PutsOr s fails (λ k. lies_on_disk c v plex k) v plex Active c x) NoteUnsettles) (MapsCalled s fails) note next was now w noted noted_now
+              with_goes (Reconfigures (λ c x. ConfigLosesBut (λ k. lies_on_disk c v plex k) s fails c x ⊎ PutsOr s fails (λ k. lies_on_disk c v plex k) v plex Active c x) (NoteUnsettles true)) (MapsCalled s fails) note next was now w noted noted_now
               (reconfigures s many fails o e note next names
-              (λ c x. ConfigLosesBut (λ k. lies_on_disk c v plex k) s fails c x ⊎ PutsOr s fails (λ k. lies_on_disk c v plex k) v plex Active c x) (λ a b. NoteUnsettles a b) was now noted noted_now
+              (λ c x. ConfigLosesBut (λ k. lies_on_disk c v plex k) s fails c x ⊎ PutsOr s fails (λ k. lies_on_disk c v plex k) v plex Active c x) (λ a b. NoteUnsettles true a b) was now noted noted_now
               (att_to s many fails o e note next names v plex was now enough change) keeps)
               (like_named s many fails o e names was now (λ u k. logs_low was many u k logs) note.maps w by);
         })
         (record {
           ends = λ many fails o e next was now names noted noted_now enough logs change keeps w by.
-              with_goes (Reconfigures (λ c x. ConfigLosesBut (λ k. lies_on_disk c v plex k) s fails c x ⊎ PutsOr s fails (λ k. lies_on_disk c v plex k) v plex Active c x) NoteUnsettles) MapsLost note next was now w noted noted_now
+              with_goes (Reconfigures (λ c x. ConfigLosesBut (λ k. lies_on_disk c v plex k) s fails c x ⊎ PutsOr s fails (λ k. lies_on_disk c v plex k) v plex Active c x) (NoteUnsettles true)) MapsLost note next was now w noted noted_now
               (reconfigures s many fails o e note next names
-              (λ c x. ConfigLosesBut (λ k. lies_on_disk c v plex k) s fails c x ⊎ PutsOr s fails (λ k. lies_on_disk c v plex k) v plex Active c x) (λ a b. NoteUnsettles a b) was now noted noted_now
+              (λ c x. ConfigLosesBut (λ k. lies_on_disk c v plex k) s fails c x ⊎ PutsOr s fails (λ k. lies_on_disk c v plex k) v plex Active c x) (λ a b. NoteUnsettles true a b) was now noted noted_now
               (att_to s many fails o e note next names v plex was now enough change) keeps)
               (record { none = by.none });
         })
-        att_table_is (λ which is. att_wants n note it.call.at.set.site name volume plex found which is_up at below is) why on maps refusal
+        att_table_is (λ which is. att_wants n note it.call.at.set.site name volume plex found which is_up (maps_were d old new name s before after stands it.call) at below is) why on maps refusal
 
     att_memory : OnSites (λ o e. AttCalled n note v plex o e (Err MemoryStop)) before after → ⊥
     att_memory on = (sets_then (λ o e. AttCalled n note v plex o e (Err MemoryStop)) before after it.call.at.set it.call.at.is_set on).holds

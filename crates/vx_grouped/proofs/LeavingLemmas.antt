@@ -1,5 +1,6 @@
 -- A deport of a site's group, by its note.
-use Rattle.std.proofs.Common.{◌≡◌, ◌⊎◌, inl, inr, ℕ, false, true, IsTrue, refl, sym, ◌∙◌, subst, arith, Bool, if◌then◌else◌}
+use Rattle.std.proofs.Common.{◌≡◌, ◌⊎◌, ◌-◌, ◌<◌, ◌≤◌, inl, inr, ℕ, false, true, [], IsTrue, refl, sym, ◌∙◌, subst, arith, Bool, if◌then◌else◌}
+use Rattle.std.proofs.lemmas.Bool.{cases_lt}
 use Rattle.std.specs.Prelude.{Ok, Err, slice_get}
 use Rattle.vx_model.specs.declared.errors.Stop.{Stop}
 use Rattle.vx_model.specs.declared.errors.Stop.TheVariants.{No as Refused, OutOfMemory}
@@ -14,12 +15,12 @@ use Rattle.vx_history.specs.Groups.{GroupNode}
 use Rattle.vx_history.specs.World.{Node}
 use Rattle.vx_config.specs.Changes.{Matched, live_again}
 use Rattle.vx_config.specs.Table.{greatest}
-use Rattle.vx_group.specs.Dets.{DetStops}
+use Rattle.vx_group.specs.Dets.{DetStops, margin}
 use Rattle.vx_watched.specs.Since.{CalledSince}
 use Rattle.vx_group.specs.declared.group_core.GroupCore.{GroupCore}
 use Rattle.vx_grouped.specs.Away.{IsDeportedAt, note_deported, IsAwayAt}
 use Rattle.vx_grouped.specs.GroupSites.{GroupUp, idle_disks, laid_disks, laid_below, idle_below}
-use Rattle.vx_grouped.specs.SiteEnds.{SiteDeported, stops_down}
+use Rattle.vx_grouped.specs.SiteEnds.{LacksDeport, SiteDeported, stops_down}
 use Rattle.vx_grouped.specs.declared.idle.Idle.{Idle}
 use Rattle.vx_grouped.specs.declared.laid.Laid.{Laid}
 use Rattle.vx_grouped.specs.declared.group_site.GroupSite.TheVariants.{Up, Deported, Down}
@@ -51,28 +52,37 @@ use Rattle.vx_grouped.proofs.SpellLemmas.{spells_like}
 use Rattle.vx_watched.specs.Traces.{TellsLess}
 use Rattle.vx_grouped.proofs.TraceLemmas.{lit_since}
 
--- why it was refused: for want of serials, or for a device
-abbrev pub Refuses : Meaning → Meaning → Stop → Type 0
-Refuses m m' stop = (stop ≡ Refused (Limit Numbers greatest)) ⊎ DetStops {T = Unit {0}} m m' (Err stop)
+-- why it was refused: as too few serials were left, or for a device
+abbrev pub Refuses : GroupCore → Meaning → Meaning → Stop → Type 0
+Refuses c m m' stop = ((stop ≡ Refused (Limit Numbers greatest)) × (greatest - margin < c.inner.config.serial)) ⊎ DetStops {T = Unit {0}} m m' (Err stop)
 
-pub deport_down : (m m' : Meaning) (stop : Stop) → stops_down stop ≡ true → Refuses m m' stop → IsTrue m'.down
-deport_down m m' (Refused IsOff) off (inl full) = let clash : Refused IsOff ≡ Refused (Limit Numbers greatest) = full in cc
-deport_down m m' (Refused IsOff) off (inr it) = it
-deport_down m m' (Refused (Device disk)) off it = cc
-deport_down m m' (Refused other) off it = cc
-deport_down m m' OutOfMemory off it = cc
+pub refuses_by_serial : (c : GroupCore) (m m' : Meaning) (stop : Stop) → (greatest - margin < c.inner.config.serial → stop ≡ Refused (Limit Numbers greatest)) → (c.inner.config.serial ≤ greatest - margin → DetStops {T = Unit {0}} m m' (Err stop)) → Refuses c m m' stop
+refuses_by_serial c m m' stop full enough = elim (cases_lt (greatest - margin) c.inner.config.serial) [
+  | inl lt ↦ inl (full lt, lt)
+  | inr le ↦ inr (enough le)
+]
 
-pub deport_rose : (m m' : Meaning) (stop : Stop) → Refuses m m' stop → (disk : ℕ) → stop ≡ Refused (Device disk) → Rose (m.disk_faults disk) (m'.disk_faults disk)
-deport_rose m m' stop (inl full) disk is = let clash : Refused (Limit Numbers greatest) ≡ Refused (Device disk) = sym full ∙ is in absurd (never clash)
+pub deport_down : (c : GroupCore) (m m' : Meaning) (stop : Stop) → stops_down stop ≡ true → Refuses c m m' stop → IsTrue m'.down
+deport_down c m m' (Refused IsOff) off (inl full) = let clash : Refused IsOff ≡ Refused (Limit Numbers greatest) = full.0 in cc
+deport_down c m m' (Refused IsOff) off (inr it) = it
+deport_down c m m' (Refused (Device disk)) off it = cc
+deport_down c m m' (Refused other) off it = cc
+deport_down c m m' OutOfMemory off it = cc
+
+pub deport_rose : (c : GroupCore) (m m' : Meaning) (stop : Stop) → Refuses c m m' stop → (disk : ℕ) → stop ≡ Refused (Device disk) → Rose (m.disk_faults disk) (m'.disk_faults disk)
+deport_rose c m m' stop (inl full) disk is = let clash : Refused (Limit Numbers greatest) ≡ Refused (Device disk) = sym full.0 ∙ is in absurd (never clash)
   where
     never : Refused (Limit Numbers greatest) ≡ Refused (Device disk) → ⊥
     never clash = cc
-deport_rose m m' stop (inr it) disk is = subst (λ (x : Stop). DetStops {T = Unit {0}} m m' (Err x)) is it
+deport_rose c m m' stop (inr it) disk is = subst (λ (x : Stop). DetStops {T = Unit {0}} m m' (Err x)) is it
 
 -- why it is refused, but for a device
-deport_lacks : (m m' : Meaning) (stop : Stop) → Refuses m m' stop → (which : No) → stop ≡ Refused which → blames_device which ≡ false → which ≡ Limit Numbers greatest
-deport_lacks m m' stop (inl full) which is other = let same : Refused which ≡ Refused (Limit Numbers greatest) = sym is ∙ full in cc
-deport_lacks m m' stop (inr it) which is other = absurd (none_else m m' which other (subst (λ (x : Stop). DetStops {T = Unit {0}} m m' (Err x)) is it))
+deport_lacks : (c : GroupCore) (m m' : Meaning) (stop : Stop) → Refuses c m m' stop → (which : No) → stop ≡ Refused which → blames_device which ≡ false → (which ≡ Limit Numbers greatest) × (greatest - margin < c.inner.config.serial)
+deport_lacks c m m' stop (inl full) which is other = (same_limit which (sym is ∙ full.0), full.1)
+  where
+    same_limit : (x : No) → Refused x ≡ Refused (Limit Numbers greatest) → x ≡ Limit Numbers greatest
+    same_limit x same = cc
+deport_lacks c m m' stop (inr it) which is other = absurd (none_else m m' which other (subst (λ (x : Stop). DetStops {T = Unit {0}} m m' (Err x)) is it))
 
 -- ---- the configuration of disks that were deported
 
@@ -153,22 +163,25 @@ module _ {R : Type 0} {g : Ghosts R} (n : Node) (note : GroupNode) (group : Laid
       (subst (λ (s : Shade R). DeportedBy (wide group.core).config group.core.inner (laid_disks group) (shade_meaning g.meaning s)) (sym same) it)
       (subst (λ (s : Shade R). IsTrue (shade_meaning g.meaning s).down → ⊥) (sym same) still)
 
-  module _ (new : Laid R g) (since : CalledSince (laid_disks group) (laid_disks new)) (less : TellsLess (laid_below group) (laid_below new)) (stop : Stop) (why : Refuses (laid_disks group) (laid_disks new) stop) (back : BackMoves group.core new.core (laid_disks group) (laid_disks new)) where
+  module _ (new : Laid R g) (since : CalledSince (laid_disks group) (laid_disks new)) (less : TellsLess (laid_below group) (laid_below new)) (stop : Stop) (why : Refuses group.core (laid_disks group) (laid_disks new) stop) (back : BackMoves group.core new.core (laid_disks group) (laid_disks new)) where
     spells : HasSpelling (at_serial 0 new.core.inner.config)
     spells = spells_like group.core.inner.config new.core.inner.config back.loses.parts back.loses.frames back.loses.disks.blocks up.spells
 
+    agrees_back : false ≡ false → note.loose ≡ false → note.begun ≡ [] → new.core.inner.agreed ≡ true
+    agrees_back once tight none = back.agrees (up.at.lies.committed tight none)
+
     pub deport_up : stops_down stop ≡ false → CallLeaves {T = Unit {0}} n note new.core (laid_disks new) (Err stop) → SiteDeported n note (Up group) (Up new) (Err stop)
     deport_up off leaves =
-        called_up (Unit {0}) n note group new up since less spells (λ c d. ⊥) (LosesSome (laid_disks group) (laid_disks new)) (λ which. which ≡ Limit Numbers greatest) stop off leaves (deport_rose (laid_disks group) (laid_disks new) stop why)
+        called_up (Unit {0}) n note group new up since less spells false (λ c d. ⊥) (LosesSome (laid_disks group) (laid_disks new)) (λ which. LacksDeport (Up group) which) stop off leaves agrees_back (deport_rose group.core (laid_disks group) (laid_disks new) stop why)
         (λ which is blames. loses_some group.core.inner.config new.core.inner.config (laid_disks group) (laid_disks new) (racks group.shelf).counts (racks new.shelf).counts back.on back.loses)
-        (deport_lacks (laid_disks group) (laid_disks new) stop why)
+        (deport_lacks group.core (laid_disks group) (laid_disks new) stop why)
 
     module _ (idle : Idle R g) (stopped : Stopped (laid_disks new) (idle_disks idle))
         (away : (k : Node) (next : GroupNode) → GroupLies k next new.core (laid_disks new) → IsAwayAt (record k { state = IsDown }) next new.core.inner.config (idle_disks idle))
         (same : idle.agreed ≡ new.core.inner.agreed) (fell : TellsLess (laid_below new) (idle_below idle)) where
       pub deport_cut : stops_down stop ≡ true → CallLeaves {T = Unit {0}} n note new.core (laid_disks new) (Err stop) → SiteDeported n note (Up group) (Down idle) (Err stop)
       deport_cut off leaves =
-          called_cut (Unit {0}) n note group new up since less spells (λ c d. ⊥) (LosesSome (laid_disks group) (idle_disks idle)) (λ which. which ≡ Limit Numbers greatest) idle stopped away same fell stop off leaves
+          called_cut (Unit {0}) n note group new up since less spells false (λ c d. ⊥) (LosesSome (laid_disks group) (idle_disks idle)) (λ which. LacksDeport (Up group) which) idle stopped away same fell stop off leaves agrees_back
           (λ which is blames. loses_some group.core.inner.config new.core.inner.config (laid_disks group) (idle_disks idle) (racks group.shelf).counts (racks idle.rack).counts back.on
           (both_lose (laid_disks group) (laid_disks new) (idle_disks idle) (racks group.shelf) (racks new.shelf) (racks idle.rack) since.counts (λ d. let same = stopped.counts.disk_faults d in omega (arith, same))
           group.core.inner.config new.core.inner.config new.core.inner.config back.loses (loses_same new.core.inner.config (laid_disks new) (idle_disks idle))))

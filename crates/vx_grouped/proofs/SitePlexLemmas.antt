@@ -82,13 +82,13 @@ module _ {R : Type 0} {g : Ghosts R} (n : Node) (note : GroupNode) (v p : ℕ) (
 
   pub det_site_done : PlexDets v p group.core (laid_disks group) new.core (laid_disks new) (Ok tt) → DetCalled n note v p (Up group) (Up new) (Ok tt)
   det_site_done works =
-      called_done (Unit {0}) n note group new up since less (spells_det (Ok tt) works) (DetDone v p (laid_disks group) (laid_disks new)) (DetFails v p (laid_disks group) (laid_disks new)) (λ which. refuses_det (Up group) v p ≡ Some which)
+      called_done (Unit {0}) n note group new up since less (spells_det (Ok tt) works) false (DetDone v p (laid_disks group) (laid_disks new)) (DetFails v p (laid_disks group) (laid_disks new)) (λ which. refuses_det (Up group) v p ≡ Some which)
       tt (works.leaves n note up.at) (det_done was now v p (laid_disks group) (laid_disks new) (racks group.shelf).counts (racks new.shelf).counts works.others works.moves works.off)
 
   pub det_site_up : (stop : Stop) → stops_down stop ≡ false → PlexDets v p group.core (laid_disks group) new.core (laid_disks new) (Err stop) → DetCalled n note v p (Up group) (Up new) (Err stop)
   det_site_up stop off works =
-      called_up (Unit {0}) n note group new up since less (spells_det (Err stop) works) (DetDone v p (laid_disks group) (laid_disks new)) (DetFails v p (laid_disks group) (laid_disks new)) (λ which. refuses_det (Up group) v p ≡ Some which)
-      stop off (works.leaves n note up.at)
+      called_up (Unit {0}) n note group new up since less (spells_det (Err stop) works) false (DetDone v p (laid_disks group) (laid_disks new)) (DetFails v p (laid_disks group) (laid_disks new)) (λ which. refuses_det (Up group) v p ≡ Some which)
+      stop off (works.leaves n note up.at) (λ once tight none. works.agreed (up.at.lies.committed tight none))
       (λ disk is. rose_by (Unit {0}) (laid_disks group) (laid_disks new) (det_refusal was v p) disk (Err stop) (ap (λ (x : Stop). Err x) is) works.cause works.refused (det_never_device was v p disk))
       (λ which is blames. fails_det (Err stop) works new.shelf works.moves)
       (lacks_by (Unit {0}) (laid_disks group) (laid_disks new) (det_refusal was v p) stop (Err stop) refl works.cause works.refused)
@@ -122,14 +122,14 @@ module _ {R : Type 0} {g : Ghosts R} (n : Node) (note : GroupNode) (v p : ℕ) (
 
   pub att_site_done : (k : ℕ) → PlexAtts v p group.core (laid_disks group) new.core (laid_disks new) (Ok k) → AttCalled n note v p (Up group) (Up new) (Ok k)
   att_site_done k works =
-      called_done ℕ n note group new up since less (spells_att (Ok k) works) (AttDone v p (laid_disks group) (laid_disks new)) (AttFails v p (laid_disks group) (laid_disks new)) (λ which. refuses_att (Up group) v p ≡ Some which)
+      called_done ℕ n note group new up since less (spells_att (Ok k) works) true (AttDone v p (laid_disks group) (laid_disks new)) (AttFails v p (laid_disks group) (laid_disks new)) (λ which. refuses_att (Up group) v p ≡ Some which)
       k (works.leaves n note up.at)
       (att_done was now v p (laid_disks group) (laid_disks new) (racks group.shelf).counts (racks new.shelf).counts works.others works.moves (att_on k works (active was v p) refl))
 
   pub att_site_up : (stop : Stop) → stops_down stop ≡ false → PlexAtts v p group.core (laid_disks group) new.core (laid_disks new) (Err stop) → AttCalled n note v p (Up group) (Up new) (Err stop)
   att_site_up stop off works =
-      called_up ℕ n note group new up since less (spells_att (Err stop) works) (AttDone v p (laid_disks group) (laid_disks new)) (AttFails v p (laid_disks group) (laid_disks new)) (λ which. refuses_att (Up group) v p ≡ Some which)
-      stop off (works.leaves n note up.at)
+      called_up ℕ n note group new up since less (spells_att (Err stop) works) true (AttDone v p (laid_disks group) (laid_disks new)) (AttFails v p (laid_disks group) (laid_disks new)) (λ which. refuses_att (Up group) v p ≡ Some which)
+      stop off (works.leaves n note up.at) (λ once tight none. let clash : true ≡ false = once in cc)
       (λ disk is. rose_by ℕ (laid_disks group) (laid_disks new) (att_refusal was v p) disk (Err stop) (ap (λ (x : Stop). Err x) is) works.cause works.refused (att_never_device was v p disk))
       (fails_att stop works new.shelf works.moves)
       (lacks_by ℕ (laid_disks group) (laid_disks new) (att_refusal was v p) stop (Err stop) refl works.cause works.refused)
@@ -141,12 +141,12 @@ module _ {R : Type 0} {g : Ghosts R} (n : Node) (note : GroupNode) (v p : ℕ) (
       (same : idle.agreed ≡ new.core.inner.agreed) (fell : TellsLess (laid_below new) (idle_below idle)) where
     pub det_site_cut : (stop : Stop) → stops_down stop ≡ true → PlexDets v p group.core (laid_disks group) new.core (laid_disks new) (Err stop) → DetCalled n note v p (Up group) (Down idle) (Err stop)
     det_site_cut stop off works =
-        called_cut (Unit {0}) n note group new up since less (spells_det (Err stop) works) (DetDone v p (laid_disks group) (idle_disks idle)) (DetFails v p (laid_disks group) (idle_disks idle)) (λ which. refuses_det (Up group) v p ≡ Some which)
-        idle stopped away same fell stop off (works.leaves n note up.at)
+        called_cut (Unit {0}) n note group new up since less (spells_det (Err stop) works) false (DetDone v p (laid_disks group) (idle_disks idle)) (DetFails v p (laid_disks group) (idle_disks idle)) (λ which. refuses_det (Up group) v p ≡ Some which)
+        idle stopped away same fell stop off (works.leaves n note up.at) (λ once tight none. works.agreed (up.at.lies.committed tight none))
         (λ which is blames. fails_det (Err stop) works idle.rack (moves_since none_again was now (laid_disks group) (laid_disks new) (idle_disks idle) stopped works.moves))
 
     pub att_site_cut : (stop : Stop) → stops_down stop ≡ true → PlexAtts v p group.core (laid_disks group) new.core (laid_disks new) (Err stop) → AttCalled n note v p (Up group) (Down idle) (Err stop)
     att_site_cut stop off works =
-        called_cut ℕ n note group new up since less (spells_att (Err stop) works) (AttDone v p (laid_disks group) (idle_disks idle)) (AttFails v p (laid_disks group) (idle_disks idle)) (λ which. refuses_att (Up group) v p ≡ Some which)
-        idle stopped away same fell stop off (works.leaves n note up.at)
+        called_cut ℕ n note group new up since less (spells_att (Err stop) works) true (AttDone v p (laid_disks group) (idle_disks idle)) (AttFails v p (laid_disks group) (idle_disks idle)) (λ which. refuses_att (Up group) v p ≡ Some which)
+        idle stopped away same fell stop off (works.leaves n note up.at) (λ once tight none. let clash : true ≡ false = once in cc)
         (fails_att stop works idle.rack (moves_since (uses was v p) was now (laid_disks group) (laid_disks new) (idle_disks idle) stopped works.moves))

@@ -377,6 +377,42 @@ module _ {R : Type 0} {g : Ghosts R} (n : Node) (note : GroupNode) (racks : (s :
             why_away middle (false_from_ne_true (shade_meaning g.meaning rack).down away.up) (λ d. refl) (λ tells. sym since.tells ∙ tells) (never_stops (early_up stop early)),
           ))
 
+      -- the fuse ran out in it: the disks are down, and nothing is told of them any more
+      pub fell_dark : (fallen : Shade R) → AreStopped (shade_meaning g.meaning fallen) → ReturnSince (shade_meaning g.meaning middle) (shade_meaning g.meaning fallen) → TellsNone (shade_meaning g.meaning fallen) → IsTrue (shade_meaning g.meaning middle).down
+          → (idle : Idle R g) → idle.rack ≡ fallen → idle.agreed ≡ true → ImportRefused true n note (shade_meaning g.meaning rack) (Down idle) stop
+      fell_dark fallen fell kept none down idle is agreed = (
+        subst (λ (s : Shade R). GroupDown (crashed (returned_with (note_dimmed true note) n) 0) (note_dimmed true note) idle.agreed (g.meaning (rack_of s)).tells (shade_meaning g.meaning s)) (sym is) (record {
+          lit = lit_dimmed note (g.meaning (rack_of fallen)).tells (shade_meaning g.meaning fallen);
+          agrees = λ tight. agreed;
+          noted = record { is = refl; none = record { role = away.noted.none.role; volumes = away.noted.none.volumes; log = refl; safe = refl; running = refl } };
+          unfused = refl;
+          stopped = fell;
+          last = away.newest;
+          spells = away.spells;
+          away = record {
+            state = refl;
+            config = away.away.config;
+            found = none_noted (note_dimmed true note) away.newest (shade_meaning g.meaning fallen) none.leaves;
+            runs = λ bright. absurd (let clash : true ≡ false = bright in cc);
+            lies = record {
+              units = kept.units ∙ since.units ∙ away.away.lies.units;
+              size = λ u low. kept.size u ∙ since.size u ∙ away.away.lies.size u low;
+              can = λ tight. none_can (shade_meaning g.meaning fallen) none;
+              sizes = λ v. away.away.lies.sizes v ∙ sym (frames_blocks away.newest away.last away.away.frames v);
+              finds = λ i each. absurd (none.leaves 0 0 (i 0 0) (each 0 0));
+              volumes = λ i x each found_x. absurd (none.leaves 0 0 (i 0 0) (each 0 0));
+              has = λ i x each found_x. absurd (none.leaves 0 0 (i 0 0) (each 0 0));
+            };
+          };
+        }),
+        fell_fused n.fuse (shade_meaning g.meaning rack) (shade_meaning g.meaning middle) away.fuse away.up since.safe down,
+      )
+
+      -- so it is where it had written nothing
+      pub imported_fell : (fallen : Shade R) → AreStopped (shade_meaning g.meaning fallen) → ReturnSince (shade_meaning g.meaning middle) (shade_meaning g.meaning fallen) → TellsNone (shade_meaning g.meaning fallen) → IsTrue (shade_meaning g.meaning middle).down
+          → (idle : Idle R g) → idle.rack ≡ fallen → idle.agreed ≡ true → ImportsFrom n note (shade_meaning g.meaning rack) (Down idle) (Err (Refused IsOff))
+      imported_fell fallen fell kept none down idle is agreed = fell_dark fallen fell kept none down idle is agreed
+
       module _ (fallen : Shade R) (falls : TellsLess (g.meaning (rack_of middle)) (g.meaning (rack_of fallen))) (fell : AreStopped (shade_meaning g.meaning fallen)) (counts : (d : ℕ) → (shade_meaning g.meaning fallen).disk_faults d ≡ (shade_meaning g.meaning middle).disk_faults d) (kept : ReturnSince (shade_meaning g.meaning middle) (shade_meaning g.meaning fallen))
           (early : stops_early stop ≡ true → Stopped (shade_meaning g.meaning middle) (shade_meaning g.meaning fallen)) (dark : stops_early stop ≡ false → TellsNone (shade_meaning g.meaning fallen)) where
         lies_fell : (t : Bool) → stops_early stop ≡ t → AwayLies n note away.last (shade_meaning g.meaning fallen)
@@ -413,7 +449,6 @@ module _ {R : Type 0} {g : Ghosts R} (n : Node) (note : GroupNode) (racks : (s :
               why_away new (false_from_ne_true (shade_meaning g.meaning rack).down away.up) (λ d. alike.counts.disk_faults d ∙ counts d) (λ tells. tells_rack (sym alike.contents.tells ∙ tells)) (never_stops off),
             ))
 
-        -- the fuse ran out in it, so that it had begun to write
         late_of : (x : Stop) → stops_down x ≡ true → stops_early x ≡ false
         late_of (Refused IsOff) off = refl
         late_of (Refused (Device disk)) off = refl
@@ -422,31 +457,5 @@ module _ {R : Type 0} {g : Ghosts R} (n : Node) (note : GroupNode) (racks : (s :
 
         pub imported_down : (idle : Idle R g) → idle.rack ≡ fallen → idle.agreed ≡ true → stops_down stop ≡ true → ImportsFrom n note (shade_meaning g.meaning rack) (Down idle) (Err stop)
         imported_down idle is agreed off =
-            let none = dark (late_of stop off) in
-            subst (λ (b : Bool). ImportRefused b n note (shade_meaning g.meaning rack) (Down idle) stop) (sym off) (
-              subst (λ (s : Shade R). GroupDown (crashed (returned_with (note_dimmed true note) n) 0) (note_dimmed true note) idle.agreed (g.meaning (rack_of s)).tells (shade_meaning g.meaning s)) (sym is) (record {
-                lit = lit_dimmed note (g.meaning (rack_of fallen)).tells (shade_meaning g.meaning fallen);
-                agrees = λ tight. agreed;
-                noted = record { is = refl; none = record { role = away.noted.none.role; volumes = away.noted.none.volumes; log = refl; safe = refl; running = refl } };
-                unfused = refl;
-                stopped = fell;
-                last = away.newest;
-                spells = away.spells;
-                away = record {
-                  state = refl;
-                  config = away.away.config;
-                  found = none_noted (note_dimmed true note) away.newest (shade_meaning g.meaning fallen) none.leaves;
-                  runs = λ bright. absurd (let clash : true ≡ false = bright in cc);
-                  lies = record {
-                    units = kept.units ∙ since.units ∙ away.away.lies.units;
-                    size = λ u low. kept.size u ∙ since.size u ∙ away.away.lies.size u low;
-                    can = λ tight. none_can (shade_meaning g.meaning fallen) none;
-                    sizes = λ v. away.away.lies.sizes v ∙ sym (frames_blocks away.newest away.last away.away.frames v);
-                    finds = λ i each. absurd (none.leaves 0 0 (i 0 0) (each 0 0));
-                    volumes = λ i x each found_x. absurd (none.leaves 0 0 (i 0 0) (each 0 0));
-                    has = λ i x each found_x. absurd (none.leaves 0 0 (i 0 0) (each 0 0));
-                  };
-                };
-              }),
-              fell_fused n.fuse (shade_meaning g.meaning rack) (shade_meaning g.meaning middle) away.fuse away.up since.safe (down_of (shade_meaning g.meaning rack) (shade_meaning g.meaning middle) stop off stops),
-            )
+            subst (λ (b : Bool). ImportRefused b n note (shade_meaning g.meaning rack) (Down idle) stop) (sym off)
+            (fell_dark fallen fell kept (dark (late_of stop off)) (down_of (shade_meaning g.meaning rack) (shade_meaning g.meaning middle) stop off stops) idle is agreed)

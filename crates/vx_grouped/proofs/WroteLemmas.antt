@@ -1,5 +1,5 @@
 -- Writes and reads of a site's group, by its note.
-use Rattle.std.proofs.Common.{refl, sym, subst, ◌≡◌, ℕ, true, false, List, IsTrue, arith, ◌∙◌}
+use Rattle.std.proofs.Common.{refl, sym, subst, ◌≡◌, ℕ, true, false, List, [], IsTrue, arith, ◌∙◌}
 use Rattle.std.specs.Prelude.{Ok, Err}
 use Rattle.vx_model.specs.Content.{Write}
 use Rattle.vx_model.specs.declared.no.No.{No}
@@ -87,43 +87,47 @@ module _ {R : Type 0} {g : Ghosts R} (n : Node) (note : GroupNode) (v b : ℕ) (
     pub wrote_done : PlainWrites v b bytes group.core (laid_disks group) new.core (laid_disks new) (Ok tt) → PlainWrote n note own (Up group) (Up new) (Ok tt)
     wrote_done it = done_by it (it.leaves n note up.at)
 
-    up_by : (no : No) → is_off no ≡ false → WriteLeaves {T = Unit {0}} n note own new.core (laid_disks new) (Err no) → DeviceCause (laid_disks group) (laid_disks new) no
+    -- imports that agreed do so behind its first refused commit
+    agrees_by : (group.core.inner.committed ≡ true → new.core.inner.agreed ≡ true) → false ≡ false → note.loose ≡ false → note.begun ≡ [] → new.core.inner.agreed ≡ true
+    agrees_by keeps once tight none = keeps (up.at.lies.committed tight none)
+
+    up_by : (no : No) → is_off no ≡ false → WriteLeaves {T = Unit {0}} n note own new.core (laid_disks new) (Err no) → (false ≡ false → note.loose ≡ false → note.begun ≡ [] → new.core.inner.agreed ≡ true) → DeviceCause (laid_disks group) (laid_disks new) no
         → LosesPlexes group.core.inner.config new.core.inner.config (laid_disks group) (laid_disks new) → BothOn group.core.inner.config new.core.inner.config (laid_disks group).units → PlainWrote n note own (Up group) (Up new) (Err no)
-    up_by (Device disk) off leaves cause loses on = (
+    up_by (Device disk) off leaves agrees cause loses on = (
       note_called leaves.0 new.core note,
-      called_unsettles leaves.0 new.core note,
+      called_unsettles false leaves.0 new.core note agrees,
       up_with n note (note_doubt own (note_called leaves.0 new.core note)) (laid_below new).tells new.core (laid_disks new) up.noted (lit (note_doubt own (note_called leaves.0 new.core note)) refl) (lasts loses) (fuse_burned n.fuse (laid_disks group) (laid_disks new) since.unarmed up.fuse) leaves.1,
       cause,
       noted (note_called leaves.0 new.core note) refl (Up new) refl (lasts loses) (lost new.shelf loses on),
     )
-    up_by IsOff off leaves cause loses on = cc
-    up_by other off leaves cause loses on = absurd leaves
+    up_by IsOff off leaves agrees cause loses on = cc
+    up_by other off leaves agrees cause loses on = absurd leaves
 
     -- one that failed, over disks that are up
     pub wrote_up : (no : No) → is_off no ≡ false → PlainWrites v b bytes group.core (laid_disks group) new.core (laid_disks new) (Err no) → PlainWrote n note own (Up group) (Up new) (Err no)
-    wrote_up why off it = up_by why off (it.leaves n note up.at) it.cause it.loses it.on
+    wrote_up why off it = up_by why off (it.leaves n note up.at) (agrees_by it.agreed) it.cause it.loses it.on
 
     module _ (idle : Idle R g) (stopped : Stopped (laid_disks new) (idle_disks idle))
         (away : (k : Node) (next : GroupNode) → GroupLies k next new.core (laid_disks new) → IsAwayAt (record k { state = IsDown }) next new.core.inner.config (idle_disks idle))
         (same : idle.agreed ≡ new.core.inner.agreed) (fell : TellsLess (laid_below new) (idle_below idle)) where
-      cut_by : (no : No) → is_off no ≡ true → WriteLeaves {T = Unit {0}} n note own new.core (laid_disks new) (Err no) → HasSpelling (at_serial 0 new.core.inner.config)
+      cut_by : (no : No) → is_off no ≡ true → WriteLeaves {T = Unit {0}} n note own new.core (laid_disks new) (Err no) → (false ≡ false → note.loose ≡ false → note.begun ≡ [] → new.core.inner.agreed ≡ true) → HasSpelling (at_serial 0 new.core.inner.config)
           → LosesPlexes group.core.inner.config new.core.inner.config (laid_disks group) (idle_disks idle) → BothOn group.core.inner.config new.core.inner.config (laid_disks group).units → PlainWrote n note own (Up group) (Down idle) (Err no)
-      cut_by (Device disk) off leaves spells loses on = cc
-      cut_by IsOff off leaves spells loses on = (
+      cut_by (Device disk) off leaves agrees spells loses on = cc
+      cut_by IsOff off leaves agrees spells loses on = (
         note_called leaves.0 new.core note,
-        called_unsettles leaves.0 new.core note,
+        called_unsettles false leaves.0 new.core note agrees,
         down_with n note (note_cut own (note_called leaves.0 new.core note)) idle.agreed (idle_below idle).tells new.core.inner.config (idle_disks idle) up.noted
             (lit_since note (note_cut own (note_called leaves.0 new.core note)) (laid_below new).tells (idle_below idle).tells (laid_disks new) (idle_disks idle) refl stopped.tells fell (lit note refl)) (λ tight. same ∙ leaves.1.lies.agreed tight) (record { down = stopped.down; unarmed = stopped.unarmed }) spells
             (away n (note_cut own (note_called leaves.0 new.core note)) leaves.1.lies),
         fell_fused n.fuse (laid_disks group) (laid_disks new) up.fuse up.at.up since.safe leaves.1.down,
         noted (note_called leaves.0 new.core note) refl (Down idle) tt spells (lost idle.rack loses on),
       )
-      cut_by other off leaves spells loses on = cc
+      cut_by other off leaves agrees spells loses on = cc
 
       -- one in which the fuse ran out
       pub wrote_cut : (no : No) → is_off no ≡ true → PlainWrites v b bytes group.core (laid_disks group) new.core (laid_disks new) (Err no) → PlainWrote n note own (Up group) (Down idle) (Err no)
       wrote_cut why off it =
-          cut_by why off (it.leaves n note up.at) (lasts it.loses)
+          cut_by why off (it.leaves n note up.at) (agrees_by it.agreed) (lasts it.loses)
           (both_lose (laid_disks group) (laid_disks new) (idle_disks idle) (racks group.shelf) (racks new.shelf) (racks idle.rack) since.counts (λ d. let same = stopped.counts.disk_faults d in omega (arith, same)) group.core.inner.config new.core.inner.config new.core.inner.config
           it.loses (loses_same new.core.inner.config (laid_disks new) (idle_disks idle))) it.on
 

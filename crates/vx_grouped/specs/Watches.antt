@@ -1,5 +1,5 @@
 -- What calls of a group do, by the parts of the group before and behind them.
-use Rattle.std.specs.Prelude.{◌≡◌, ◌⊎◌, ℕ, true, false, List, Some, None, Result, Ok, Err, IfErr, IfOk, OnOk, IsTrue}
+use Rattle.std.specs.Prelude.{◌≡◌, ◌⊎◌, ◌-◌, ◌<◌, ℕ, true, false, List, Some, None, Result, Ok, Err, IfErr, IfOk, OnOk, IsTrue}
 use Rattle.vx_disk.specs.Causes.{DeviceCause}
 use Rattle.vx_disk.specs.Shelf.{Goes, Meaning, Nothing, Written}
 use Rattle.vx_model.specs.declared.errors.Stop.{Stop}
@@ -12,7 +12,7 @@ use Rattle.vx_history.specs.World.{Node}
 use Rattle.vx_config.specs.Table.{greatest}
 use Rattle.vx_volume.specs.Plexes.{active, uses}
 use Rattle.vx_group.specs.Attaches.{IsAttached, att_refusal}
-use Rattle.vx_group.specs.Dets.{DetStops, det_refusal}
+use Rattle.vx_group.specs.Dets.{DetStops, det_refusal, margin}
 use Rattle.vx_group.specs.Holding.{wide}
 use Rattle.vx_group.specs.Loses.{LosesPlexes}
 use Rattle.vx_group.specs.Stands.{inner_meaning}
@@ -51,6 +51,7 @@ pub record PlexDets (vol plex : ℕ) (c : GroupCore) (m : Meaning) (d : GroupCor
   pub off : OnOk r (active d.inner.config vol plex ≡ false)
   pub others : (w p : ℕ) → (w ≡ vol → p ≡ plex → ⊥) → active d.inner.config w p ≡ active c.inner.config w p
   pub trust : OnOk r (c.inner.committed ≡ true → d.inner.committed ≡ true)
+  pub agreed : IfErr r (λ stop. c.inner.committed ≡ true → d.inner.agreed ≡ true)
   pub cause : det_refusal c.inner.config vol plex ≡ None → DetStops m m' r
   pub narrows : (w p : ℕ) → IsTrue (active d.inner.config w p) → IsTrue (active c.inner.config w p)
   pub goes : Goes Nothing (inner_meaning (wide c) m) (inner_meaning (wide d) m')
@@ -80,7 +81,7 @@ abbrev pub DeportShows : {S G : Type 0} → Meaning → (S → Meaning) → (G �
 DeportShows old below back (Ok s) = TellsLess old (below s)
 DeportShows old below back (Err (g, stop)) = TellsLess old (back g)
 
--- a deport is refused for want of serials, or for a device
-abbrev pub DeportRefuses : {S G : Type 0} → Meaning → (G → Meaning) → Result S (G × Stop) → Type 0
-DeportRefuses old back (Ok s) = Unit {0}
-DeportRefuses old back (Err (g, stop)) = (stop ≡ Refused (Limit Numbers greatest)) ⊎ DetStops {T = Unit {0}} old (back g) (Err stop)
+-- a deport is refused where too few serials are left, or for a device
+abbrev pub DeportRefuses : {S G : Type 0} → GroupCore → Meaning → (G → Meaning) → Result S (G × Stop) → Type 0
+DeportRefuses c old back (Ok s) = Unit {0}
+DeportRefuses c old back (Err (g, stop)) = ((stop ≡ Refused (Limit Numbers greatest)) × (greatest - margin < c.inner.config.serial)) ⊎ DetStops {T = Unit {0}} old (back g) (Err stop)

@@ -26,7 +26,7 @@ use Rattle.vx_loggroup.specs.Taking.{LogsSettle}
 use Rattle.vx_loggroup.proofs.AlikeLemmas.{all_whole}
 use Rattle.vx_group.specs.Finds.{MoreUnsure}
 use Rattle.vx_group.proofs.SettleCalls.{as_told, same_told}
-use Rattle.vx_loggroup.proofs.CloseLemmas.{with_unsure}
+use Rattle.vx_loggroup.proofs.UnsureGroups.{with_unsure}
 
 pub settle_none : (c : GroupCore) (m : Meaning) → LogsSettle c c m m
 settle_none c m = record {

@@ -1,7 +1,7 @@
 -- What images say of volumes that stopped cleanly, as facts and back, behind the calls of a group with logs.
 use Rattle.std.proofs.Common.{◌≡◌, ◌∙◌, ◌⊎◌, inl, inr, ⊎_elim, ℕ, zero, suc, ◌<◌, ◌≤◌, ◌+◌, [], ◌∷◌, Bool, true, false, IsTrue, Option, Some, None, List, length, ap, arith, refl, subst, sym}
-use Rattle.std.specs.Prelude.{Err, IfOk, Ok, Result, slice_get}
-use Rattle.std.proofs.lemmas.Bool.{both_ways, cases_lt}
+use Rattle.std.specs.Prelude.{Err, IfOk, Ok, OnOk, Result, slice_get}
+use Rattle.std.proofs.lemmas.Bool.{both_ways, cases_eq, cases_lt}
 use Rattle.std.proofs.lemmas.Option.{slice_get_within}
 use Rattle.vx_config.specs.Table.{greatest}
 use Rattle.vx_config.specs.declared.config.Config.{Config}
@@ -38,6 +38,10 @@ use Rattle.vx_kept.specs.Keeping.{AllOn}
 use Rattle.vx_kept.proofs.CleanLemmas.{none_clean}
 use Rattle.vx_group.proofs.SettleFinds.{clean_volumes, none_done}
 use Rattle.vx_group.specs.Creates.{IsNewGroup}
+use Rattle.vx_group.specs.Blames.{MarksOrFell}
+use Rattle.vx_disk.specs.Causes.{Cause}
+use Rattle.vx_disk.specs.declared.shelf.ShelfError.{ShelfError}
+use Rattle.vx_disk.specs.declared.shelf.ShelfError.TheVariants.{Down, Fault}
 
 -- ---- facts, and back
 
@@ -106,21 +110,22 @@ fact_told core m told free = ⊎_elim (λ lacks. absurd (free lacks)) (λ it. fa
 -- ---- calls
 
 -- behind a call
-pub settled_by : (c d : GroupCore) (a b : List Bool) (m m' : Meaning) → CoreSettles (wide c) (wide d) m m' → SureFlags (length d.inner.config.volumes) d.inner.unsure b → SettledFact c a m → SettledFact d b m'
+pub settled_by : (c d : GroupCore) (a b : List Bool) (m m' : Meaning) → CoreSettles (wide c) (wide d) m m' → ((IsTrue m'.down → ⊥) → SureFlags (length d.inner.config.volumes) d.inner.unsure b) → SettledFact c a m → SettledFact d b m'
 settled_by c d a b m m' settles sure fact = record { told = fact_told d m' (settles.keeps (told_of c a m fact)); sure = sure }
 
 -- flags that were set stay so, and what is unsure stays so
 pub sure_next : (n k : ℕ) (u u' a b : List Bool) → k ≤ n → MoreUnsure u u' → ((v : ℕ) → is_unsure u' v ≡ false → is_alike a v ≡ true → is_alike b v ≡ true) → SureFlags n u a → SureFlags k u' b
 sure_next n k u u' a b less more set sure = record { each = λ v lt is. set v is (sure.each v (omega (arith, lt, less)) (more v is)) }
 
-pub settled_next : (c d : GroupCore) (a b : List Bool) (m m' : Meaning) → GroupFinds c d m m' → length d.inner.config.volumes ≤ length c.inner.config.volumes → ((v : ℕ) → is_unsure d.inner.unsure v ≡ false → is_alike a v ≡ true → is_alike b v ≡ true)
-    → SettledFact c a m → SettledFact d b m'
-settled_next c d a b m m' finds few set fact =
-    settled_by c d a b m m' finds.settles (sure_next (length c.inner.config.volumes) (length d.inner.config.volumes) c.inner.unsure d.inner.unsure a b few finds.unsure set fact.sure) fact
+pub settled_next : (c d : GroupCore) (a b : List Bool) (m m' : Meaning) → GroupFinds c d m m' → length d.inner.config.volumes ≤ length c.inner.config.volumes → (IsTrue m.down → IsTrue m'.down)
+    → ((IsTrue m'.down → ⊥) → (v : ℕ) → is_unsure d.inner.unsure v ≡ false → is_alike a v ≡ true → is_alike b v ≡ true) → SettledFact c a m → SettledFact d b m'
+settled_next c d a b m m' finds few falls set fact =
+    settled_by c d a b m m' finds.settles
+    (λ up. sure_next (length c.inner.config.volumes) (length d.inner.config.volumes) c.inner.unsure d.inner.unsure a b few finds.unsure (set up) (fact.sure (λ down. up (falls down)))) fact
 
 -- where a call leaves all flags
-pub settled_same : (c d : GroupCore) (a : List Bool) (m m' : Meaning) → GroupFinds c d m m' → length d.inner.config.volumes ≤ length c.inner.config.volumes → SettledFact c a m → SettledFact d a m'
-settled_same c d a m m' finds few fact = settled_next c d a a m m' finds few (λ v is set. set) fact
+pub settled_same : (c d : GroupCore) (a : List Bool) (m m' : Meaning) → GroupFinds c d m m' → length d.inner.config.volumes ≤ length c.inner.config.volumes → (IsTrue m.down → IsTrue m'.down) → SettledFact c a m → SettledFact d a m'
+settled_same c d a m m' finds few falls fact = settled_next c d a a m m' finds few falls (λ up v is set. set) fact
 
 -- a call makes no volume
 pub volumes_few : (c d : GroupCore) (m m' : Meaning) (written : Values) → Goes written (inner_meaning (wide c) m) (inner_meaning (wide d) m') → length d.inner.config.volumes ≤ length c.inner.config.volumes
@@ -135,20 +140,20 @@ pub settled_read : (c d : GroupCore) (a : List Bool) (m m' : Meaning) (law : Law
     → SettledFact c a m → SettledFact d a m'
 settled_read c d a m m' law law' stands goes config held committed unsettled unsure fact =
     settled_same c d a m m' (marked_group c d m m' stands.stands goes config held committed unsettled (same_unsure c.inner.unsure d.inner.unsure unsure) (quiet_finds m m' law law' goes))
-    (let same = ap (λ (x : Config). length x.volumes) config in omega (arith, same)) fact
+    (let same = ap (λ (x : Config). length x.volumes) config in omega (arith, same)) goes.falls fact
 
 -- behind the making of a volume
 module _ (c d : GroupCore) (name : List ℕ) (want : Shape) (m m' : Meaning) (S : Type 0) (a b : List Bool) (res : Result ℕ Stop) (finds : GroupFinds c d m m') (refused : (no : No) → make_refusal c.inner.config name want ≡ Some no → (res ≡ Err (Refused no)) × (d ≡ c) × S) (ends : make_refusal c.inner.config name want ≡ None → MakeEnds name want c.inner d.inner m m' res)
-    (one : IfOk res (λ n. is_alike b n ≡ true)) (set : (w : ℕ) → is_alike a w ≡ true → is_alike b w ≡ true) (fact : SettledFact c a m) where
-  made_old : (v : ℕ) → v < length c.inner.config.volumes → is_unsure d.inner.unsure v ≡ false → is_alike b v ≡ true
-  made_old v lt is = set v (fact.sure.each v lt (finds.unsure v is))
+    (one : IfOk res (λ n. is_alike b n ≡ true)) (set : (w : ℕ) → is_alike a w ≡ true → is_alike b w ≡ true) (falls : IsTrue m.down → IsTrue m'.down) (fact : SettledFact c a m) where
+  made_old : (IsTrue m'.down → ⊥) → (v : ℕ) → v < length c.inner.config.volumes → is_unsure d.inner.unsure v ≡ false → is_alike b v ≡ true
+  made_old up v lt is = set v ((fact.sure (λ down. up (falls down))).each v lt (finds.unsure v is))
 
-  made_none : length d.inner.config.volumes ≡ length c.inner.config.volumes → SureFlags (length d.inner.config.volumes) d.inner.unsure b
-  made_none same = record { each = λ v lt is. made_old v (omega (arith, lt, same)) is }
+  made_none : (IsTrue m'.down → ⊥) → length d.inner.config.volumes ≡ length c.inner.config.volumes → SureFlags (length d.inner.config.volumes) d.inner.unsure b
+  made_none up same = record { each = λ v lt is. made_old up v (omega (arith, lt, same)) is }
 
-  made_by : (r : Result ℕ Stop) → MakeEnds name want c.inner d.inner m m' r → IfOk r (λ n. is_alike b n ≡ true) → SureFlags (length d.inner.config.volumes) d.inner.unsure b
-  made_by (Ok vol) made on = record {
-    each = λ v lt is. ⊎_elim (λ low. made_old v low is)
+  made_by : (IsTrue m'.down → ⊥) → (r : Result ℕ Stop) → MakeEnds name want c.inner d.inner m m' r → IfOk r (λ n. is_alike b n ≡ true) → SureFlags (length d.inner.config.volumes) d.inner.unsure b
+  made_by up (Ok vol) made on = record {
+    each = λ v lt is. ⊎_elim (λ low. made_old up v low is)
         (λ high.
         let many : length d.inner.config.volumes ≡ length c.inner.config.volumes + 1 = ap length made.volumes ∙ long_one c.inner.config.volumes (made.volume ∷ []) in
         let number = made.number in
@@ -156,18 +161,27 @@ module _ (c d : GroupCore) (name : List ℕ) (want : Shape) (m m' : Meaning) (S 
         ap (λ (k : ℕ). is_alike b k) same ∙ on)
         (cases_lt v (length c.inner.config.volumes));
   }
-  made_by (Err (Refused why)) stops on = made_none (ap length stops.0)
-  made_by (Err OutOfMemory) same on = made_none (ap length same)
+  made_by up (Err (Refused why)) stops on = made_none up (ap length stops.0)
+  made_by up (Err OutOfMemory) same on = made_none up (ap length same)
 
-  made_sure : SureFlags (length d.inner.config.volumes) d.inner.unsure b
-  made_sure = by (make_refusal c.inner.config name want) refl
+  made_sure : (IsTrue m'.down → ⊥) → SureFlags (length d.inner.config.volumes) d.inner.unsure b
+  made_sure up = by (make_refusal c.inner.config name want) refl
     where
       by : (o : Option No) → make_refusal c.inner.config name want ≡ o → SureFlags (length d.inner.config.volumes) d.inner.unsure b
-      by None none = made_by res (ends none) one
-      by (Some no) is = made_none (ap (λ (k : GroupCore). length k.inner.config.volumes) (refused no is).1)
+      by None none = made_by up res (ends none) one
+      by (Some no) is = made_none up (ap (λ (k : GroupCore). length k.inner.config.volumes) (refused no is).1)
 
   pub settled_made : SettledFact d b m'
   settled_made = settled_by c d a b m m' finds.settles made_sure fact
+
+-- a write that is refused marks its volume, or the disks are down
+pub wrote_flags : (T : Type 0) (v : ℕ) (u u' a b : List Bool) (old new : Meaning) (r : Result T ShelfError) → OnOk r (b ≡ a) → ((w : ℕ) → (w ≡ v → ⊥) → is_alike b w ≡ is_alike a w) → MarksOrFell v u u' r → Cause old new v r → (IsTrue new.down → ⊥) → (w : ℕ) → is_unsure u' w ≡ false → is_alike a w ≡ true → is_alike b w ≡ true
+wrote_flags T v u u' a b old new (Ok x) same others marks cause up w off is = ap (λ (f : List Bool). is_alike f w) same ∙ is
+wrote_flags T v u u' a b old new (Err (Fault disk)) same others marks cause up w off is = elim (cases_eq w v) [
+  | inl here ↦ absurd (both_ways (is_unsure u' w) off (ap (λ (k : ℕ). is_unsure u' k) here ∙ marks.here))
+  | inr apart ↦ others w apart ∙ is
+]
+wrote_flags T v u u' a b old new (Err Down) same others marks cause up w off is = absurd (up cause)
 
 -- ---- disks that leave no more
 
@@ -188,7 +202,7 @@ module _ (core : GroupCore) (alike : List Bool) (m m' : Meaning) (units : m'.uni
   }
 
   pub settled_less : SettledFact core alike m → SettledFact core alike m'
-  settled_less it = record { told = λ free. clean_less (it.told free); sure = it.sure }
+  settled_less it = record { told = λ free. clean_less (it.told free); sure = λ up. it.sure (λ down. up (falls down)) }
 
 pub settled_alike : (core : GroupCore) (alike : List Bool) (m m' : Meaning) → Alike m m' → m'.down ≡ m.down → SettledFact core alike m → SettledFact core alike m'
 settled_alike core alike m m' same down = settled_less core alike m m' same.contents.units same.contents.size same.contents.leaves (λ is. down ∙ is)
@@ -201,18 +215,18 @@ settled_none core alike m none sure = record {
     agree = λ v p i x each is on. absurd (both_ways (clean x v p) (((none v).each i x each is).each p) on);
     none = λ up off v. none v;
   };
-  sure = sure;
+  sure = λ up. sure;
 }
 
 -- ---- a deport
 
 -- of volumes of which no write failed each block reads as one value
-pub reads_sure : (c : GroupCore) (ls : List Logs) (a : List Bool) (s : Bool) (m : Meaning) → LoggedStands c ls a s m → SureFlags (length c.inner.config.volumes) c.inner.unsure a → (IsTrue m.down → ⊥) → ReadsSure (wide c) m
+pub reads_sure : (c : GroupCore) (ls : List Logs) (a : List Bool) (s : Bool) (m : Meaning) → LoggedStands c ls a s m → ((IsTrue m.down → ⊥) → SureFlags (length c.inner.config.volumes) c.inner.unsure a) → (IsTrue m.down → ⊥) → ReadsSure (wide c) m
 reads_sure c ls a s m stands sure up = record {
   each = λ v lt off.
       let low : v < length c.inner.config.volumes = (let same = (wide_shape c).volumes in omega (arith, lt, same)) in
       let l = item_at ls v (let many = stands.many in omega (arith, low, many)) in
-      (stands.each v l.0 l.1).alike (sure.each v low off) up;
+      (stands.each v l.0 l.1).alike ((sure up).each v low off) up;
 }
 
 -- each image has the configuration in memory, of which the plexes that take part are ACTIVE

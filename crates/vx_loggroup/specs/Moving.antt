@@ -6,7 +6,7 @@ use Rattle.vx_config.specs.Checks.{plexes_of}
 use Rattle.vx_config.specs.Table.{greatest}
 use Rattle.vx_config.specs.declared.config.Config.{Config}
 use Rattle.vx_config.specs.declared.entry.LogEntry.{LogEntry}
-use Rattle.vx_config.specs.declared.entry.VolumeLog.TheVariants.{Fmr}
+use Rattle.vx_config.specs.declared.entry.VolumeLog.TheVariants.{Drl, Fmr}
 use Rattle.vx_copies.specs.Marks.{failed_at}
 use Rattle.vx_disk.specs.Counts.{Rose}
 use Rattle.vx_disk.specs.Shelf.{Each, Image, Meaning}
@@ -153,15 +153,17 @@ pub record MapsStand (logs : List Logs) (m : Meaning) : Type 0 where
   pub each : (v : ℕ) (f : Missed) → fmr_at logs v ≡ Some f → MapOn f.map m
 
 -- What a deport answers, while logs go on: volumes whose maps are in memory rest, and no others of which the log is not held as lost; and those whose
--- plexes are alike.
+-- plexes are alike. A dirty region log may be read, unless it is in memory no more and not held as lost.
 pub record RestsMaps (c : Config) (s : Bool) (logs : List Logs) (alike : List Bool) (r : Rested) : Type 0 where
   pub going : s ≡ false
   pub maps : (v : ℕ) (f : Missed) → fmr_at logs v ≡ Some f → rests r.maps v ≡ true
   pub there : (v : ℕ) (l : Logs) → slice_get logs v ≡ Some l → rests r.maps v ≡ true → log_trusted c v Fmr ≡ true → l.fmr ≡ None → ⊥
   pub same : (v : ℕ) → is_alike alike v ≡ true → rests r.alike v ≡ true
+  pub lacks : (v : ℕ) (l : Logs) → slice_get logs v ≡ Some l → rests r.drls v ≡ false → (log_trusted c v Drl ≡ true) × (l.drl ≡ None)
 
+-- it answers nothing only where logs are stopped
 abbrev pub RestsOr : Config → Bool → List Logs → List Bool → Option Rested → Type 0
-RestsOr c s logs alike None = Unit {0}
+RestsOr c s logs alike None = s ≡ true
 RestsOr c s logs alike (Some r) = RestsMaps c s logs alike r
 
 -- of a group that is handed out

@@ -60,7 +60,7 @@ SettlesLogs c logs alike old new (Err stop) = NotSettled c old new stop
 pub record IsOpened {S : Type 0} (meaning : S → Meaning) (rested : Rested) (old : Meaning) (core : GroupCore) (logs : List Logs) (flags : List Bool) (ended : Bool) (new : Meaning) : Type 0 where
   pub moment : S
   pub marked : Marked
-  pub resumed : ResumedBy old marked (meaning moment)
+  pub resumed : ResumedBy rested.drls old marked (meaning moment)
   pub goes : Goes Nothing (inner_meaning marked.core (meaning moment)) (inner_meaning (wide core) new)
   pub committed : core.inner.committed ≡ true
   pub newest : AllAtOnce core.inner.config new

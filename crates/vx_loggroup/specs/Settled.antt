@@ -21,7 +21,7 @@ pub record CleanFact (c : Inner) (m : Meaning) : Type 0 where
 pub record SureFlags (n : ℕ) (unsure alike : List Bool) : Type 0 where
   pub each : (v : ℕ) → v < n → is_unsure unsure v ≡ false → is_alike alike v ≡ true
 
--- both of a group, unless it lacks a commit
+-- the first of a group, unless it lacks a commit, and the second while the disks are up
 pub record SettledFact (core : GroupCore) (alike : List Bool) (m : Meaning) : Type 0 where
   pub told : (LacksCommit (wide core) → ⊥) → CleanFact (wide core) m
-  pub sure : SureFlags (length core.inner.config.volumes) core.inner.unsure alike
+  pub sure : (IsTrue m.down → ⊥) → SureFlags (length core.inner.config.volumes) core.inner.unsure alike

@@ -3,6 +3,8 @@ ghost use Rattle.vx_loggroup.specs.Attaching.{fmr_at};
 ghost use Rattle.vx_loggroup.specs.Keeping.{LogsKeep, LogsKept, logs_at};
 ghost use Rattle.vx_loggroup.specs.Moving.{MovesRun};
 ghost use Rattle.vx_logged.specs.Logged.{TrustsIn};
+ghost use Rattle.vx_group.specs.Blames.{MarksOrFell};
+ghost use Rattle.vx_group.specs.GivesUp.{FaultsBy};
 ghost use Rattle.vx_group.specs.Finds.{GroupFinds};
 ghost use Rattle.std.specs.Prelude.{◌≡◌, ◌*◌, ◌+◌, ◌/◌, ◌<◌, ◌≤◌, ℕ, false, length, true, IfErr, IsTrue, OnOk, ◌⊎◌, None};
 ghost use Rattle.vx_config.specs.Table.{greatest};
@@ -19,7 +21,6 @@ ghost use Rattle.vx_loggroup.specs.Marks.{MarksVolume, NotesMaps, RunsMaps};
 ghost use Rattle.vx_logs.specs.Writes.{first_region, last_region};
 ghost use Rattle.vx_model.specs.declared.limits.TheConstants.{MOST_VOLUMES};
 ghost use Rattle.vx_volume.specs.Plexes.{active};
-ghost use Rattle.vx_kept.specs.Cleans.{is_unsure};
 
 use crate::alike::{is_alike, set_alike};
 use crate::first::begin_first;
@@ -34,6 +35,7 @@ pub fn takes_fresh(fresh: &mut [bool; MOST_VOLUMES], stopped: bool, vol: u32) ->
     requires inside { vol < MOST_VOLUMES }
     ensures was { result ≡ true → is_alike_is fresh.old vol ≡ true }
     ensures going { result ≡ true → stopped ≡ false }
+    ensures may { is_alike_is fresh.old vol ≡ true → stopped ≡ false → result ≡ true }
     ensures here { is_alike_is fresh.new vol ≡ false }
     ensures others { (w : ℕ) → (w ≡ vol → ⊥) → is_alike_is fresh.new w ≡ is_alike_is fresh.old w }
 {
@@ -80,11 +82,12 @@ pub fn write_fresh<S: Shelf>(
     ensures free { stopped.new ≡ false → OnOk result ((core.new.held ≡ None) ⊎ (fmr_at logs.new.items vol ≡ None)) }
     ensures alike { OnOk result (alike.new ≡ alike.old) }
     ensures flags { (w : ℕ) → (w ≡ vol → ⊥) → is_alike_is alike.new w ≡ is_alike_is alike.old w }
-    ensures doubts { (w : ℕ) → is_unsure core.new.inner.unsure w ≡ false → is_alike_is alike.old w ≡ true → is_alike_is alike.new w ≡ true }
     ensures marked { stopped.new ≡ false → MarkedBefore (λ s. S.meaning s) vol block bytes.now (first_region block) (last_region block (length bytes.now / BLOCK)) core.old core.new (S.meaning shelf.old) (S.meaning shelf.new) }
     ensures full { stopped.old ≡ false → stopped.new ≡ true → greatest ≤ core.old.inner.config.serial + 5 * COMMIT_SERIALS }
     ensures trust { OnOk result (core.old.inner.committed ≡ true → core.new.inner.committed ≡ true) }
     ensures agreed { IfErr result (λ e. core.old.inner.committed ≡ true → core.new.inner.agreed ≡ true) }
+    ensures unsure { MarksOrFell vol core.old.inner.unsure core.new.inner.unsure result }
+    ensures gives_up { FaultsBy vol core.old.inner.config core.new.inner (S.meaning shelf.old) (S.meaning shelf.new) result }
     ensures cause { Cause (inner_meaning (wide core.old) (S.meaning shelf.old)) (inner_meaning (wide core.new) (S.meaning shelf.new)) vol result }
 {
     if !takes_fresh(fresh, *stopped, vol) {

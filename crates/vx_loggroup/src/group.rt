@@ -7,10 +7,10 @@ ghost use Rattle.vx_config.specs.Table.{greatest};
 ghost use Rattle.vx_copyio.specs.Labelling.{HasSmall};
 ghost use Rattle.vx_disk.specs.Shelf.{Goes, Nothing};
 ghost use Rattle.vx_group.specs.Attaches.{GroupAttachEnds, att_refusal, missed_regions, region_count};
-ghost use Rattle.vx_group.specs.Calls.{GivesBack, GroupCreated, GroupDeported, GroupStays, ImportsAgain, IsFull, KeepsUnits};
+ghost use Rattle.vx_group.specs.Calls.{BackAgrees, GivesBack, GroupCreated, GroupDeported, GroupStays, ImportsAgain, IsFull, KeepsUnits};
 ghost use Rattle.vx_group.specs.Deports.{DeportStops, GroupCanImport};
 ghost use Rattle.vx_copies.specs.Commits.{MoreFailed};
-ghost use Rattle.vx_group.specs.Creates.{SameUnits};
+ghost use Rattle.vx_group.specs.Creates.{NewFails, SameUnits};
 ghost use Rattle.vx_group.specs.Loses.{SameParts};
 ghost use Rattle.vx_kept.specs.Commits.{IsCommitted};
 ghost use Rattle.vx_kept.specs.Keeping.{frame_at};
@@ -83,6 +83,7 @@ impl<S: Shelf> LoggedGroup<S> {
         ensures small { HasSmall (S.meaning shelf) → result ≡ Err (shelf, Refused Size) }
         ensures same { KeepsUnits (S.meaning shelf) (λ s. S.meaning s) (λ g. g.shelf) result }
         ensures created { GroupCreated site (S.meaning shelf) (λ s. S.meaning s) (λ g. g.core) (λ g. g.shelf) result }
+        ensures failing { NewFails (S.meaning shelf) (λ g. g.core.inner.config) (λ g. S.meaning g.shelf) result }
     {
         let mut shelf = shelf;
         match start(alloc, &mut shelf, site) {
@@ -270,9 +271,9 @@ impl<S: Shelf> LoggedGroup<S> {
         )
     }
 
-    /// Deports the group, as one without logs, and hands the shelf out, or gives the group back. All disks are flushed first; a volume with a log of
-    /// missed regions of which a disk fails in that is unsure. It answers of which volumes the disks tell what a clean stop left; then they may
-    /// be imported by their logs. It answers none where logs are stopped, or a log is in memory no more and not held as lost.
+    /// Deports the group, as one without logs, and hands the shelf out, or gives the group back. It answers of which volumes the disks tell what a clean
+    /// stop left; then they may be imported by their logs. It answers none where logs are stopped, and only there. A dirty region log that is in memory no more and
+    /// not held as lost may not be read: it is the only one.
     pub fn deport(self) -> Result<(S, Option<Rested>), (LoggedGroup<S>, Stop)>
         ensures limit { greatest - margin < self.core.inner.config.serial → IsFull self.core (self.shelf, None) (λ g. g.core) (λ g. (g.shelf, None)) result }
         ensures ends { GroupDeported self.core (S.meaning self.shelf) (λ s. S.meaning s.0) (λ g. g.core) (λ g. (g.shelf, None)) result }
@@ -282,6 +283,7 @@ impl<S: Shelf> LoggedGroup<S> {
         ensures tells { DeportTells (λ s. S.meaning s) result }
         ensures maps { DeportMaps self.core.inner.config self.stopped (λ s. S.meaning s) self.logs.items self.alike result }
         ensures kept { DeportKeeps self.core.inner.config self.stopped self.logs.items self.alike (S.meaning self.shelf) (λ g. g.core.inner.config) (λ g. g.stopped) (λ g. g.logs.items) (λ g. g.alike) (λ g. S.meaning g.shelf) result }
+        ensures agreed { BackAgrees self.core (λ g. g.core) result }
         ensures finds { BackFinds self.core (S.meaning self.shelf) (λ g. g.core) (λ g. S.meaning g.shelf) result }
         ensures cause { self.core.inner.config.serial ≤ greatest - margin → DeportStops (S.meaning self.shelf) (λ s. S.meaning s.0) (λ g. (g.shelf, None)) result }
     {

@@ -18,6 +18,7 @@ use Rattle.vx_group.proofs.TrustStillLemmas.{same_logs}
 use Rattle.vx_logged.proofs.GoneLogs.{ready_spent}
 use Rattle.vx_group.proofs.UnsureMarks.{error_unsure, then_unsure}
 use Rattle.vx_group.proofs.SettleCalls.{as_told}
+use Rattle.vx_group.proofs.UnsureLemmas.{misses_by, unsure_then}
 use Rattle.vx_logged.proofs.readying.ready_group.Goals as goal
 
 pub returns-then-is_down-clause-logs : goal.returns-then-is_down-clause-logs
@@ -131,3 +132,12 @@ returns-in-Ok-clause-quiet g c = λ none. tt
 
 pub returns-in-Err-clause-quiet : goal.returns-in-Err-clause-quiet
 returns-in-Err-clause-quiet g c = λ none. absurd (let clash : false ≡ true = c.in-Err.ensures.idle none in cc)
+
+pub returns-in-Ok-clause-marks : goal.returns-in-Ok-clause-marks
+returns-in-Ok-clause-marks g c = c.release.ensures.narrows.unsure
+
+pub returns-in-Err-clause-marks : goal.returns-in-Err-clause-marks
+returns-in-Err-clause-marks g c = unsure_then c.args.vol c.args.core.now.inner.unsure c.release.new.core.inner.unsure c.give_up.new.unsure c.in-Err.error c.release.ensures.narrows.unsure c.give_up.ensures.marks
+
+pub returns-in-Err-clause-misses : goal.returns-in-Err-clause-misses
+returns-in-Err-clause-misses g c = misses_by {T = Unit {0}} c.release.new.core.inner (g.S.Shelf.meaning c.args.shelf.now) (g.S.Shelf.meaning c.release.new.shelf) c.in-Err.error c.in-Err.ensures.missed c.in-Err.ensures.cause

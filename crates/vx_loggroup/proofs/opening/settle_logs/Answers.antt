@@ -6,7 +6,7 @@ use Rattle.vx_loggroup.proofs.AlikeLemmas.{stop_stands}
 use Rattle.vx_loggroup.proofs.OpenLemmas.{begins_later}
 use Rattle.vx_loggroup.proofs.SettleLemmas.{settle_then, stop_by, settle_marks}
 use Rattle.vx_group.proofs.CallLemmas.{not_down}
-use Rattle.vx_loggroup.proofs.CloseLemmas.{unsure_stands, with_unsure}
+use Rattle.vx_loggroup.proofs.UnsureGroups.{unsure_stands, with_unsure}
 use Rattle.vx_group.proofs.HoldLemmas.{wide_shape}
 use Rattle.vx_loggroup.proofs.opening.settle_logs.Goals as goal
 

@@ -14,6 +14,7 @@ use Rattle.vx_loggroup.proofs.FreshLemmas.{counted_Goes}
 use Rattle.vx_group.proofs.FindingLemmas.{as_finds, still_group}
 use Rattle.vx_group.proofs.UnsureMarks.{error_unsure, then_unsure}
 use Rattle.vx_group.proofs.SettleCalls.{as_told}
+use Rattle.vx_group.proofs.UnsureLemmas.{misses_to, unsure_then}
 use Rattle.vx_loggroup.proofs.trusting.trust_first.Goals as goal
 
 pub give_up-requires : goal.give_up-requires
@@ -79,3 +80,12 @@ returns-in-Ok-clause-trusts g c = c.trust_group.ensures.logs
 
 pub returns-in-Err-clause-trusts : goal.returns-in-Err-clause-trusts
 returns-in-Err-clause-trusts g c = c.trust_group.ensures.logs
+
+pub returns-in-Ok-clause-unsure : goal.returns-in-Ok-clause-unsure
+returns-in-Ok-clause-unsure g c = c.trust_group.ensures.unsure
+
+pub returns-in-Err-clause-unsure : goal.returns-in-Err-clause-unsure
+returns-in-Err-clause-unsure g c = unsure_then c.args.vol c.args.core.now.inner.unsure c.trust_group.new.core.inner.unsure c.give_up.new.unsure c.in-Err.error c.trust_group.ensures.unsure c.give_up.ensures.marks
+
+pub returns-in-Err-clause-misses : goal.returns-in-Err-clause-misses
+returns-in-Err-clause-misses g c = misses_to {T = Bool} c.trust_group.new.core.inner c.in-Err.error c.in-Err.ensures.misses

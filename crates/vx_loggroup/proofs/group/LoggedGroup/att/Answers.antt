@@ -18,7 +18,7 @@ pub att_held-requires : goal.att_held-requires
 att_held-requires g c = record { stands = from_logged c.args.self.now.core c.args.self.now.logs.items c.args.self.now.alike c.args.self.now.stopped (g.S.Shelf.meaning c.args.self.now.shelf) c.args.self.now.stands }
 
 pub invariant_of-self : goal.invariant_of-self
-invariant_of-self g c = record { stands = to_logged c.att_held.new.core c.att_held.new.logs.items c.args.self.now.alike c.args.self.now.stopped (g.S.Shelf.meaning c.att_held.new.shelf) c.att_held.ensures.stands; begins = fresh_still c.args.self.now.core c.att_held.new.core c.args.self.now.fresh (g.S.Shelf.meaning c.args.self.now.shelf) (g.S.Shelf.meaning c.att_held.new.shelf) c.att_held.ensures.attaches.goes c.args.self.now.begins; settles = settled_by c.args.self.now.core c.att_held.new.core c.args.self.now.alike c.args.self.now.alike (g.S.Shelf.meaning c.args.self.now.shelf) (g.S.Shelf.meaning c.att_held.new.shelf) c.att_held.ensures.settles (sure_next (length c.args.self.now.core.inner.config.volumes) (length c.att_held.new.core.inner.config.volumes) c.args.self.now.core.inner.unsure c.att_held.new.core.inner.unsure c.args.self.now.alike c.args.self.now.alike (volumes_few c.args.self.now.core c.att_held.new.core (g.S.Shelf.meaning c.args.self.now.shelf) (g.S.Shelf.meaning c.att_held.new.shelf) Nothing c.att_held.ensures.attaches.goes) (same_unsure c.args.self.now.core.inner.unsure c.att_held.new.core.inner.unsure c.att_held.ensures.attaches.unsure) (λ v is set. set) c.args.self.now.settles.sure) c.args.self.now.settles }
+invariant_of-self g c = record { stands = to_logged c.att_held.new.core c.att_held.new.logs.items c.args.self.now.alike c.args.self.now.stopped (g.S.Shelf.meaning c.att_held.new.shelf) c.att_held.ensures.stands; begins = fresh_still c.args.self.now.core c.att_held.new.core c.args.self.now.fresh (g.S.Shelf.meaning c.args.self.now.shelf) (g.S.Shelf.meaning c.att_held.new.shelf) c.att_held.ensures.attaches.goes c.args.self.now.begins; settles = settled_by c.args.self.now.core c.att_held.new.core c.args.self.now.alike c.args.self.now.alike (g.S.Shelf.meaning c.args.self.now.shelf) (g.S.Shelf.meaning c.att_held.new.shelf) c.att_held.ensures.settles (λ up. sure_next (length c.args.self.now.core.inner.config.volumes) (length c.att_held.new.core.inner.config.volumes) c.args.self.now.core.inner.unsure c.att_held.new.core.inner.unsure c.args.self.now.alike c.args.self.now.alike (volumes_few c.args.self.now.core c.att_held.new.core (g.S.Shelf.meaning c.args.self.now.shelf) (g.S.Shelf.meaning c.att_held.new.shelf) Nothing c.att_held.ensures.attaches.goes) (same_unsure c.args.self.now.core.inner.unsure c.att_held.new.core.inner.unsure c.att_held.ensures.attaches.unsure) (λ v is set. set) (c.args.self.now.settles.sure (λ down. up (c.att_held.ensures.attaches.goes.falls down)))) c.args.self.now.settles }
 
 pub returns-clause-mirrors : goal.returns-clause-mirrors
 returns-clause-mirrors g c = keep_att _ c.args.vol c.args.plex (map_by c.args.self.now.logs.items c.args.self.now.core.inner.config c.args.self.now.stopped (g.S.Shelf.meaning c.args.self.now.shelf).down c.args.vol c.args.plex) c.args.self.now.core c.att_held.new.core (g.S.Shelf.meaning c.args.self.now.shelf) (g.S.Shelf.meaning c.att_held.new.shelf) c.att_held.ensures.attaches c.att_held.ensures.regains

@@ -17,7 +17,7 @@ pub deport_whole-requires : goal.deport_whole-requires
 deport_whole-requires g c = record { stands = from_logged c.args.self.core c.args.self.logs.items c.args.self.alike c.args.self.stopped (g.S.Shelf.meaning c.args.self.shelf) c.args.self.stands; sure = c.args.self.settles.sure }
 
 pub invariant_of-result : goal.invariant_of-result
-invariant_of-result g c = record { stands = to_logged c.deport_whole.new.core c.args.self.logs.items c.args.self.alike c.args.self.stopped (g.S.Shelf.meaning c.deport_whole.new.shelf) c.in-Err.ensures.stands; begins = fresh_still c.args.self.core c.deport_whole.new.core c.args.self.fresh (g.S.Shelf.meaning c.args.self.shelf) (g.S.Shelf.meaning c.deport_whole.new.shelf) c.in-Err.ensures.back c.args.self.begins; settles = settled_by c.args.self.core c.deport_whole.new.core c.args.self.alike c.args.self.alike (g.S.Shelf.meaning c.args.self.shelf) (g.S.Shelf.meaning c.deport_whole.new.shelf) c.in-Err.ensures.settles (sure_next (length c.args.self.core.inner.config.volumes) (length c.deport_whole.new.core.inner.config.volumes) c.args.self.core.inner.unsure c.deport_whole.new.core.inner.unsure c.args.self.alike c.args.self.alike (volumes_few c.args.self.core c.deport_whole.new.core (g.S.Shelf.meaning c.args.self.shelf) (g.S.Shelf.meaning c.deport_whole.new.shelf) Nothing c.in-Err.ensures.back) c.in-Err.ensures.ends.quiesces.sure (λ v is set. set) c.args.self.settles.sure) c.args.self.settles }
+invariant_of-result g c = record { stands = to_logged c.deport_whole.new.core c.args.self.logs.items c.args.self.alike c.args.self.stopped (g.S.Shelf.meaning c.deport_whole.new.shelf) c.in-Err.ensures.stands; begins = fresh_still c.args.self.core c.deport_whole.new.core c.args.self.fresh (g.S.Shelf.meaning c.args.self.shelf) (g.S.Shelf.meaning c.deport_whole.new.shelf) c.in-Err.ensures.back c.args.self.begins; settles = settled_by c.args.self.core c.deport_whole.new.core c.args.self.alike c.args.self.alike (g.S.Shelf.meaning c.args.self.shelf) (g.S.Shelf.meaning c.deport_whole.new.shelf) c.in-Err.ensures.settles (λ up. sure_next (length c.args.self.core.inner.config.volumes) (length c.deport_whole.new.core.inner.config.volumes) c.args.self.core.inner.unsure c.deport_whole.new.core.inner.unsure c.args.self.alike c.args.self.alike (volumes_few c.args.self.core c.deport_whole.new.core (g.S.Shelf.meaning c.args.self.shelf) (g.S.Shelf.meaning c.deport_whole.new.shelf) Nothing c.in-Err.ensures.back) c.in-Err.ensures.ends.quiesces.sure (λ v is set. set) (c.args.self.settles.sure (λ down. up (c.in-Err.ensures.back.falls down)))) c.args.self.settles }
 
 pub returns-in-Ok-clause-can : goal.returns-in-Ok-clause-can
 returns-in-Ok-clause-can g c = group_can (wide c.args.self.core).config c.args.self.core.inner (g.S.Shelf.meaning c.args.self.shelf) (g.S.Shelf.meaning c.deport_whole.new.shelf) c.in-Ok.ensures.ends
@@ -46,3 +46,9 @@ returns-in-Err-clause-kept g c = record {
       same_end c.args.self.core.inner.config c.deport_whole.new.core.inner.config c.args.self.logs.items c.args.self.stopped (g.S.Shelf.meaning c.args.self.shelf) (g.S.Shelf.meaning c.deport_whole.new.shelf) c.in-Err.ensures.ends.quiesces.loses.disks.blamed
       (λ v r at. frames_places c.args.self.core.inner.config c.deport_whole.new.core.inner.config c.in-Err.ensures.ends.quiesces.loses.frames v Fmr r at);
 }
+
+pub returns-in-Ok-clause-agreed : goal.returns-in-Ok-clause-agreed
+returns-in-Ok-clause-agreed g c = tt
+
+pub returns-in-Err-clause-agreed : goal.returns-in-Err-clause-agreed
+returns-in-Err-clause-agreed g c = c.in-Err.ensures.agreed
