@@ -92,7 +92,7 @@ IsFull c s core shelf (Err (g, stop)) = (stop ≡ Refused (Limit Numbers greates
 
 -- what is answered where a group is made, of which no plex is held back; else the shelf is handed back
 abbrev pub GroupCreated : {S G : Type 0} → ℕ → Meaning → (S → Meaning) → (G → GroupCore) → (G → S) → Result G (S × Stop) → Type 0
-GroupCreated site old meaning core shelf (Ok g) = IsNewGroup site (core g).inner (meaning (shelf g)) × ((core g).held ≡ None)
+GroupCreated site old meaning core shelf (Ok g) = IsNewGroup site old (core g).inner (meaning (shelf g)) × ((core g).held ≡ None)
 GroupCreated site old meaning core shelf (Err (s, Refused why)) = (HasSmall old × (why ≡ Size)) ⊎ DeviceCause old (meaning s) why
 GroupCreated site old meaning core shelf (Err (s, OutOfMemory)) = Unit {0}
 

@@ -112,15 +112,15 @@ module _ {R : Type 0} {g : Ghosts R} where
     pub maps : StaysMapped old new
     pub lacks : Lacks why
 
-  abbrev pub Whys : (twice : Bool) (Fails : Config → Config → Type 0) → (No → Type 0) → Node → GroupNode → GroupSite R g → GroupSite R g → No → Type 0
-  Whys twice Fails Lacks n note old new why =
-      ((disk : ℕ) × (why ≡ Device disk) × Broke twice Fails n note old new disk) ⊎ ((why ≡ IsOff) × FellOff twice Fails n note old new) ⊎ Wanted Lacks n note old new why
+  abbrev pub Whys : (twice : Bool) (Fails Cuts : Config → Config → Type 0) → (No → Type 0) → Node → GroupNode → GroupSite R g → GroupSite R g → No → Type 0
+  Whys twice Fails Cuts Lacks n note old new why =
+      ((disk : ℕ) × (why ≡ Device disk) × Broke twice Fails n note old new disk) ⊎ ((why ≡ IsOff) × FellOff twice Cuts n note old new) ⊎ Wanted Lacks n note old new why
 
-  module _ (T : Type 0) (twice : Bool) (Done Fails : Config → Config → Type 0) (Lacks : No → Type 0) (n : Node) (note : GroupNode) (old new : GroupSite R g) where
-    wanted : (why : No) → IsQuiet why → UpNoted (worked n) note new × Lacks why → StaysMapped old new → Whys twice Fails Lacks n note old new why
+  module _ (T : Type 0) (twice : Bool) (Done Fails Cuts : Config → Config → Type 0) (Lacks : No → Type 0) (n : Node) (note : GroupNode) (old new : GroupSite R g) where
+    wanted : (why : No) → IsQuiet why → UpNoted (worked n) note new × Lacks why → StaysMapped old new → Whys twice Fails Cuts Lacks n note old new why
     wanted why quiet it maps = inr (inr (record { quiet = quiet; noted = it.0; maps = maps; lacks = it.1 }))
 
-    pub called_why : (why : No) → SiteCalled {T = T} twice Done Fails Lacks n note old new (Err (StopsBy why)) → MapsQuiet (StopsBy why) (StaysMapped old new) → Whys twice Fails Lacks n note old new why
+    pub called_why : (why : No) → SiteCalled {T = T} twice Done Fails Cuts Lacks n note old new (Err (StopsBy why)) → MapsQuiet (StopsBy why) (StaysMapped old new) → Whys twice Fails Cuts Lacks n note old new why
     called_why (Device disk) it maps = inl (disk, refl, record { next = it.0; keeps = it.1; noted = it.2; rose = it.3; goes = it.4 })
     called_why IsOff it maps = inr (inl (refl, record { next = it.0; keeps = it.1; noted = it.2; fused = it.3; goes = it.4 }))
     called_why (Unknown what) it maps = wanted (Unknown what) (record { facts = λ f. refl; loads = λ s a b h. h }) it maps

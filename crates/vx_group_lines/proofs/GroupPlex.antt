@@ -29,7 +29,7 @@ use Rattle.vx_group.specs.Dets.{any_below, det_refusal, is_other, margin}
 use Rattle.vx_group.specs.Attaches.{att_refusal}
 use Rattle.vx_order.specs.declared.facts.VolumeFacts.{VolumeFacts}
 use Rattle.vx_script.specs.declared.line.ScriptLine.TheVariants.{PlexAttach, PlexDetach}
-use Rattle.vx_grouped.specs.ConfigMoves.{DetDone, DetFails, none_again}
+use Rattle.vx_grouped.specs.ConfigMoves.{DetCuts, DetDone, DetFails, none_again}
 use Rattle.vx_grouped.specs.GroupNotes.{NotesConfig}
 use Rattle.vx_grouped.specs.GroupSites.{UpNoted}
 use Rattle.vx_grouped.specs.SiteEnds.{DetCalled, refuses_att, refuses_det}
@@ -40,7 +40,7 @@ use Rattle.vx_diskset.specs.declared.disk_set.DiskSet.{DiskSet}
 use Rattle.vx_diskset.specs.declared.disk_set.DiskSet.TheVariants.{OfGroup}
 use Rattle.vx_diskset.specs.declared.group_set.GroupSet.{GroupSet}
 use Rattle.vx_events.proofs.Places.{some_same}
-use Rattle.vx_events.specs.GroupConfigs.{ConfigLoses}
+use Rattle.vx_events.specs.GroupConfigs.{ConfigKeeps}
 use Rattle.vx_events.specs.GroupEnds.{GroupWants}
 use Rattle.vx_events.specs.GroupLines.{plain_number}
 use Rattle.vx_events.specs.GroupNotes.{note_at, Reconfigures}
@@ -52,7 +52,7 @@ use Rattle.vx_events.specs.declared.said.Said.TheVariants.{Done}
 use Rattle.vx_yard.proofs.Carrying.{SameLoad}
 use Rattle.vx_yard.specs.Standing.{LeadsOver, LeadsOverIs, StandsFor}
 use Rattle.vx_yard.specs.declared.yard.Yard.{Yard}
-use Rattle.vx_group_lines.proofs.Changing.{PutsOr, det_table, det_to, notes_config, notes_table, reconfigures, stated_table, stated_to}
+use Rattle.vx_group_lines.proofs.Changing.{PutsOr, det_table, det_to, keeps_table, keeps_to, notes_config, notes_table, reconfigures, stated_table, stated_to}
 use Rattle.vx_group_lines.proofs.GroupCalls.{maps_were, sets_then}
 use Rattle.vx_group_lines.proofs.GroupDone.{done_leads, refused_leads}
 use Rattle.vx_group_lines.proofs.GroupEnding.{Calling, Midway, SameTable}
@@ -60,7 +60,7 @@ use Rattle.vx_grouped.specs.SiteMaps.{DetMapped, DetMapsDone, DetMapsFailed, Sta
 use Rattle.vx_events.specs.GroupMaps.{MapsDetached, MapsLost, MapsUndetached}
 use Rattle.vx_group_lines.proofs.MapGoing.{with_goes}
 use Rattle.vx_group_lines.proofs.MapLines.{det_named, logs_low, undet_named}
-use Rattle.vx_group_lines.proofs.Serials.{lacks_by, serial_noted}
+use Rattle.vx_group_lines.proofs.Serials.{det_left, lacks_by, serial_noted}
 use Rattle.vx_group_lines.specs.Noting.{IsNotedRefusal, reply_noted}
 
 -- ---- tests in order
@@ -304,13 +304,16 @@ module _ {R : Type 0} {g : Ghosts R} where
     abbrev v : ℕ
     v = plain_number (note_at (d.world.nodes s)) volume
 
-    det_table_is : SameTable note (λ o e. DetFails v plex o e)
-    det_table_is = record { same = λ many o e t fails next was now names noted noted_now change. det_table t many fails o e note next names v plex was now noted noted_now change }
+    det_fails_same : SameTable note (λ o e. DetFails o e)
+    det_fails_same = record { same = λ many o e t fails next was now names noted noted_now change. keeps_table t many fails o e note next names none_again was now noted noted_now change }
+
+    det_cuts_same : SameTable note (λ o e. DetCuts v plex o e)
+    det_cuts_same = record { same = λ many o e t fails next was now names noted noted_now change. det_table t many fails o e note next names v plex was now noted noted_now change }
 
     pub det_done : OnSites (λ o e. DetCalled n note v plex o e (Ok (tt {0}))) before after → OnSites (λ o e. UpMaps (DetMapsDone v plex) o e) before after
         → ((no : No) → refuses_det it.call.at.set.site v plex ≡ Some no → (let r : Result (Unit {0}) Stop = Ok (tt {0}) in r) ≡ Err (StopsBy no)) → new.facts.items ≡ old.facts.items → SameLoad old new → LeadsOver d (PlexDetach name volume plex) Done old new
     det_done on maps refused facts load =
-        done_leads d (PlexDetach name volume plex) old new name s before after stands it false (λ o e. DetDone v plex o e) (λ o e. DetFails v plex o e) (DetMapsDone v plex) (λ o which. refuses_det o v plex ≡ Some which) Done (tt {0}) (λ k h. h)
+        done_leads d (PlexDetach name volume plex) old new name s before after stands it false (λ o e. DetDone v plex o e) (λ o e. DetFails o e) (λ o e. DetCuts v plex o e) (DetMapsDone v plex) (λ o which. refuses_det o v plex ≡ Some which) Done (tt {0}) (λ k h. h)
         (record {
           ends = λ many fails o e next was now names noted noted_now enough logs change keeps w by. (
             with_goes (Reconfigures (λ c x. PutsOr s fails none_again v plex Stale c x) NoteSettles) (MapsDetached s fails v plex) note next was now w noted noted_now
@@ -319,6 +322,7 @@ module _ {R : Type 0} {g : Ghosts R} where
                 (det_named s many fails o e names was now (λ u k. logs_low was many u k logs) note.maps w v plex by),
             refl,
             not_last n note it.call.at.set.site v plex found is_up at below refused,
+            det_left n note it.call.at.set.site v plex is_up (maps_were d old new name s before after stands it.call) (λ no is. (let clash = refused no is in absurd (cc))),
           );
         })
         (record { same = λ many o e t fails next was now names noted noted_now change. stated_table t many fails o e note next names none_again v plex Stale was now noted noted_now change })
@@ -327,22 +331,22 @@ module _ {R : Type 0} {g : Ghosts R} where
     pub det_refused : (mid : Yard R g) (result : Result Said OutOfMemory) → Midway old mid → (why : No) → OnSites (λ o e. DetCalled n note v plex o e (Err (StopsBy why))) before after
         → OnSites (λ o e. DetMapped v plex o e (Err (StopsBy why))) before after → IsNotedRefusal s (fact_of_group (d.world.nodes s) (note_at (d.world.nodes s))) why mid new result → LeadsOverIs d (PlexDetach name volume plex) old new result
     det_refused mid result half why on maps refusal =
-        refused_leads d (PlexDetach name volume plex) old new name s before after stands it mid half result (Unit {0}) false (λ o e. DetDone v plex o e) (λ o e. DetFails v plex o e) (DetMapsFailed v plex) (λ o which. refuses_det o v plex ≡ Some which)
+        refused_leads d (PlexDetach name volume plex) old new name s before after stands it mid half result (Unit {0}) false (λ o e. DetDone v plex o e) (λ o e. DetFails o e) (λ o e. DetCuts v plex o e) (DetMapsFailed v plex) (λ o which. refuses_det o v plex ≡ Some which)
         (record {
           ends = λ many fails o e next was now names noted noted_now enough logs change keeps w by.
-              with_goes (Reconfigures (λ c x. ConfigLoses s fails c x ⊎ PutsOr s fails none_again v plex Stale c x) (NoteUnsettles false)) (MapsUndetached s fails v plex) note next was now w noted noted_now
-              (reconfigures s many fails o e note next names (λ c x. ConfigLoses s fails c x ⊎ PutsOr s fails none_again v plex Stale c x) (λ a b. NoteUnsettles false a b) was now noted noted_now
-              (det_to s many fails o e note next names v plex was now enough change) keeps)
+              with_goes (Reconfigures (λ c x. ConfigKeeps s fails c x) (NoteUnsettles false)) (MapsUndetached s fails v plex) note next was now w noted noted_now
+              (reconfigures s many fails o e note next names (λ c x. ConfigKeeps s fails c x) (λ a b. NoteUnsettles false a b) was now noted noted_now
+              (keeps_to s many fails o e note next names none_again was now enough change) keeps)
               (undet_named s many fails o e names was now (λ u k. logs_low was many u k logs) note.maps w v plex by);
         })
         (record {
           ends = λ many fails o e next was now names noted noted_now enough logs change keeps w by.
-              with_goes (Reconfigures (λ c x. ConfigLoses s fails c x ⊎ PutsOr s fails none_again v plex Stale c x) (NoteUnsettles false)) MapsLost note next was now w noted noted_now
-              (reconfigures s many fails o e note next names (λ c x. ConfigLoses s fails c x ⊎ PutsOr s fails none_again v plex Stale c x) (λ a b. NoteUnsettles false a b) was now noted noted_now
+              with_goes (Reconfigures (λ c x. ConfigKeeps s fails c x ⊎ PutsOr s fails none_again v plex Stale c x) (NoteUnsettles false)) MapsLost note next was now w noted noted_now
+              (reconfigures s many fails o e note next names (λ c x. ConfigKeeps s fails c x ⊎ PutsOr s fails none_again v plex Stale c x) (λ a b. NoteUnsettles false a b) was now noted noted_now
               (det_to s many fails o e note next names v plex was now enough change) keeps)
               (record { none = by.none });
         })
-        det_table_is (λ which is. det_wants n note it.call.at.set.site name volume plex found which is_up (maps_were d old new name s before after stands it.call) at below is) why on maps refusal
+        det_fails_same det_cuts_same (λ which is. det_wants n note it.call.at.set.site name volume plex found which is_up (maps_were d old new name s before after stands it.call) at below is) why on maps refusal
 
     -- memory suffices
     det_memory : OnSites (λ o e. DetCalled n note v plex o e (Err MemoryStop)) before after → ⊥

@@ -328,7 +328,7 @@ module _ {R : Type 0} {g : Ghosts R} where
       pub volume_stopped : (stop : Stop) → OnSites (λ o e. SiteAdded n note volume want o e (Err stop)) before after → OnSites (λ o e. AddedMapped o e (Err stop)) before after
           → reply_noted s (fact_of_group (d.world.nodes s) (note_at (d.world.nodes s))) stop mid new result → LeadsOverIs d (Volume name volume blocks mirrors layout log map_of policy) old new result
       volume_stopped (StopsBy why) on maps refusal =
-          refused_leads d (Volume name volume blocks mirrors layout log map_of policy) old new name s before after stands it mid half result ℕ false (λ o e c x. ⊥) (λ o e. LosesSome o e) MapsLike (λ o which. LacksVolume o volume want which)
+          refused_leads d (Volume name volume blocks mirrors layout log map_of policy) old new name s before after stands it mid half result ℕ false (λ o e c x. ⊥) (λ o e. LosesSome o e) (λ o e. LosesSome o e) MapsLike (λ o which. LacksVolume o volume want which)
           (record {
             ends = λ many fails o e next was now names noted noted_now enough logs change keeps w by.
                 with_goes (Reconfigures (λ c x. ConfigLoses s fails c x) (NoteUnsettles false)) (MapsCalled s fails) note next was now w noted noted_now
@@ -341,6 +341,7 @@ module _ {R : Type 0} {g : Ghosts R} where
                 (reconfigures s many fails o e note next names (λ c x. ConfigLoses s fails c x) (λ a b. NoteUnsettles false a b) was now noted noted_now (moves_to s many fails o e note next names none_again was now enough change) keeps)
                 (record { none = by.none });
           })
+          (record { same = λ many o e t fails next was now names noted noted_now change. moves_table t many fails o e note next names none_again was now noted noted_now change })
           (record { same = λ many o e t fails next was now names noted noted_now change. moves_table t many fails o e note next names none_again was now noted noted_now change })
           (λ which lacks. volume_wants it.call.at.set.site is_up (maps_were d old new name s before after stands it.call) which lacks) why on maps refusal
       volume_stopped MemoryStop on maps refusal =

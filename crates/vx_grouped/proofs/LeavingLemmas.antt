@@ -1,7 +1,7 @@
 -- A deport of a site's group, by its note.
 use Rattle.std.proofs.Common.{◌≡◌, ◌⊎◌, ◌-◌, ◌<◌, ◌≤◌, inl, inr, ℕ, false, true, [], IsTrue, refl, sym, ◌∙◌, subst, arith, Bool, if◌then◌else◌}
 use Rattle.std.proofs.lemmas.Bool.{cases_lt}
-use Rattle.std.specs.Prelude.{Ok, Err, slice_get}
+use Rattle.std.specs.Prelude.{Some, Ok, Err, slice_get}
 use Rattle.vx_model.specs.declared.errors.Stop.{Stop}
 use Rattle.vx_model.specs.declared.errors.Stop.TheVariants.{No as Refused, OutOfMemory}
 use Rattle.vx_model.specs.declared.no.Counted.TheVariants.{Number as Numbers}
@@ -27,7 +27,7 @@ use Rattle.vx_grouped.specs.declared.group_site.GroupSite.TheVariants.{Up, Depor
 use Rattle.vx_grouped.proofs.SettleLemmas.{deport_settles, fuse_burned}
 use Rattle.vx_grouped.proofs.SiteLemmas.{away_with}
 use Rattle.vx_group.specs.Quiesces.{AnyFailed}
-use Rattle.vx_grouped.specs.ConfigMoves.{AnyState, CleansPlexes, DiskMoves, LosesSome, OpensSame, none_again}
+use Rattle.vx_grouped.specs.ConfigMoves.{CleansPlexes, DiskMoves, LosesSome, OpensMost, OpensSame, PlexRose, none_again}
 use Rattle.vx_grouped.specs.CoreMoves.{BackMoves}
 use Rattle.vx_grouped.specs.Ends.{CallLeaves}
 use Rattle.vx_group.specs.Resumes.{CanImport}
@@ -43,9 +43,17 @@ use Rattle.vx_kept.specs.Cleans.{at_serial}
 use Rattle.vx_grouped.proofs.CalledLemmas.{blames_device, called_cut, called_up, none_else}
 use Rattle.vx_grouped.proofs.WriteLemmas.{both_lose}
 use Rattle.vx_grouped.proofs.DeportedLemmas.{deported_at, newest_frames, newest_lives}
-use Rattle.vx_grouped.proofs.MovesLemmas.{disk_place, loses_some, volume_moves}
-use Rattle.vx_grouped.proofs.StateChangeLemmas.{live_state, live_there}
+use Rattle.vx_grouped.proofs.MovesLemmas.{disk_place, loses_some, plex_rose, volume_moves}
+use Rattle.vx_grouped.proofs.PlexMoveLemmas.{on_by}
+use Rattle.vx_grouped.proofs.StateChangeLemmas.{live_state, live_there, on_state, on_there}
+use Rattle.vx_config.specs.declared.entry.PlexEntry.{PlexEntry}
+use Rattle.vx_copies.proofs.OneTry.{wanted_count}
+use Rattle.vx_layout.specs.Places.{plex_at}
+use Rattle.vx_volume.specs.Plexes.{active}
+use Rattle.vx_volume.specs.Volumes.{PlexBlamed}
 use Rattle.vx_kept.proofs.Chosen.{live_volumes}
+use Rattle.vx_kept.proofs.Narrower.{on_live}
+use Rattle.vx_group.proofs.HoldLemmas.{narrow_on, narrow_sound}
 use Rattle.vx_group.proofs.LoseLemmas.{loses_same}
 use Rattle.vx_untold.specs.Shades.{shade_meaning, rack_of}
 use Rattle.vx_grouped.proofs.SpellLemmas.{spells_like}
@@ -97,15 +105,33 @@ opened_by Stale Active same = let clash : true ≡ false = same in cc
 opened_by Stale Clean same = let clash : true ≡ false = same in cc
 opened_by Stale Stale same = refl
 
+opened_most : (Lost : Type 0) (s t : PlexState) → (live_state s ≡ true → on_state s ≡ true) → (on_state s ≡ true → (live_state t ≡ true) ⊎ Lost) → (live_again t ≡ live_again s) ⊎ ((t ≡ Stale) × Lost) ⊎ ((live_again t ≡ Active) × (s ≡ Stale))
+opened_most Lost Active Active all goes = inl refl
+opened_most Lost Active Clean all goes = inl refl
+opened_most Lost Active Stale all goes = elim (goes refl) [ inl live ↦ absurd (let clash : false ≡ true = live in cc) | inr rose ↦ inr (inl (refl, rose)) ]
+opened_most Lost Clean t all goes = absurd (let clash : false ≡ true = all refl in cc)
+opened_most Lost Stale Active all goes = inr (inr (refl, refl))
+opened_most Lost Stale Clean all goes = inr (inr (refl, refl))
+opened_most Lost Stale Stale all goes = inl refl
+
 module _ (n : Node) (note : GroupNode) (c : GroupCore) (m m' : Meaning) (lies : GroupLies n note c m) (stands : GroupStands c m) (one : (u : ℕ) → m.disk_faults u ≡ m.faults u) (two : (u : ℕ) → m'.disk_faults u ≡ m'.faults u) (it : DeportedBy (wide c).config c.inner m m') where
   disks : (k : ℕ) → Matched (DiskMoves none_again m m' k) (slice_get c.inner.config.disks k) (slice_get it.config.disks k)
   disks = disk_place c.inner.config it.config m m' one two none_again it.failing.count it.failing.blocks it.failing.blamed (λ u off. it.failing.stays u)
+
+  -- a plex that takes part no more was on a disk that failed
+  most : (v k : ℕ) (p q : PlexEntry) → plex_at c.inner.config v k ≡ Some p → plex_at it.config v k ≡ Some q → (live_again q.state ≡ live_again p.state) ⊎ ((q.state ≡ Stale) × PlexRose m m' p) ⊎ ((live_again q.state ≡ Active) × (p.state ≡ Stale))
+  most v k p q at_p at_q =
+      opened_most (PlexRose m m' p) p.state q.state (λ is. on_by c.inner.config (narrow_on c m stands) v k p at_p is) (λ is. goes (it.quiesces.loses.plexes v k (on_there c.inner.config v k p at_p ∙ is)))
+    where
+      goes : IsTrue (active it.behind.config v k) ⊎ PlexBlamed c.inner.config v k m m' → (live_state q.state ≡ true) ⊎ PlexRose m m' p
+      goes (inl on) = inl (sym (live_there it.config v k q at_q) ∙ newest_lives n note c m m' lies stands it v k ∙ on_live it.behind.config v k on)
+      goes (inr blamed) = inr (plex_rose c.inner.config m m' one two (narrow_sound c m stands) (wanted_count m.units m.size (wide c).config stands.stands.wanted) v k p at_p blamed)
 
   cleans_by : (it.behind.config.volumes ≡ c.inner.config.volumes) ⊎ AnyFailed m m' → CleansPlexes m m' c.inner.config it.config
   cleans_by (inl same) = inl (record {
     parts = it.parts;
     disks = disks;
-    volumes = λ v. volume_moves OpensSame c.inner.config it.config v (newest_frames n note c m m' lies stands it v) (λ k p q at_p at_q.
+    volumes = λ v. volume_moves OpensSame c.inner.config it.config v (newest_frames n note c m m' lies stands it v) (λ e k p q at_e at_p at_q.
         opened_by p.state q.state (sym (live_there it.config v k q at_q) ∙ newest_lives n note c m m' lies stands it v k ∙ live_volumes it.behind.config c.inner.config same v k ∙ live_there c.inner.config v k p at_p));
   })
   cleans_by (inr any) = inr (
@@ -113,7 +139,7 @@ module _ (n : Node) (note : GroupNode) (c : GroupCore) (m m' : Meaning) (lies : 
     record {
       parts = it.parts;
       disks = disks;
-      volumes = λ v. volume_moves AnyState c.inner.config it.config v (newest_frames n note c m m' lies stands it v) (λ k p q at_p at_q. tt);
+      volumes = λ v. volume_moves (OpensMost m m') c.inner.config it.config v (newest_frames n note c m m' lies stands it v) (λ e k p q at_e at_p at_q. most v k p q at_p at_q);
     },
   )
 
@@ -172,7 +198,7 @@ module _ {R : Type 0} {g : Ghosts R} (n : Node) (note : GroupNode) (group : Laid
 
     pub deport_up : stops_down stop ≡ false → CallLeaves {T = Unit {0}} n note new.core (laid_disks new) (Err stop) → SiteDeported n note (Up group) (Up new) (Err stop)
     deport_up off leaves =
-        called_up (Unit {0}) n note group new up since less spells false (λ c d. ⊥) (LosesSome (laid_disks group) (laid_disks new)) (λ which. LacksDeport (Up group) which) stop off leaves agrees_back (deport_rose group.core (laid_disks group) (laid_disks new) stop why)
+        called_up (Unit {0}) n note group new up since less spells false (λ c d. ⊥) (LosesSome (laid_disks group) (laid_disks new)) (LosesSome (laid_disks group) (laid_disks new)) (λ which. LacksDeport (Up group) which) stop off leaves agrees_back (deport_rose group.core (laid_disks group) (laid_disks new) stop why)
         (λ which is blames. loses_some group.core.inner.config new.core.inner.config (laid_disks group) (laid_disks new) (racks group.shelf).counts (racks new.shelf).counts back.on back.loses)
         (deport_lacks group.core (laid_disks group) (laid_disks new) stop why)
 
@@ -181,7 +207,7 @@ module _ {R : Type 0} {g : Ghosts R} (n : Node) (note : GroupNode) (group : Laid
         (same : idle.agreed ≡ new.core.inner.agreed) (fell : TellsLess (laid_below new) (idle_below idle)) where
       pub deport_cut : stops_down stop ≡ true → CallLeaves {T = Unit {0}} n note new.core (laid_disks new) (Err stop) → SiteDeported n note (Up group) (Down idle) (Err stop)
       deport_cut off leaves =
-          called_cut (Unit {0}) n note group new up since less spells false (λ c d. ⊥) (LosesSome (laid_disks group) (idle_disks idle)) (λ which. LacksDeport (Up group) which) idle stopped away same fell stop off leaves agrees_back
+          called_cut (Unit {0}) n note group new up since less spells false (λ c d. ⊥) (LosesSome (laid_disks group) (idle_disks idle)) (LosesSome (laid_disks group) (idle_disks idle)) (λ which. LacksDeport (Up group) which) idle stopped away same fell stop off leaves agrees_back
           (λ which is blames. loses_some group.core.inner.config new.core.inner.config (laid_disks group) (idle_disks idle) (racks group.shelf).counts (racks idle.rack).counts back.on
           (both_lose (laid_disks group) (laid_disks new) (idle_disks idle) (racks group.shelf) (racks new.shelf) (racks idle.rack) since.counts (λ d. let same = stopped.counts.disk_faults d in omega (arith, same))
           group.core.inner.config new.core.inner.config new.core.inner.config back.loses (loses_same new.core.inner.config (laid_disks new) (idle_disks idle))))

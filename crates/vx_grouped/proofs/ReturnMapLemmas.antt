@@ -52,6 +52,7 @@ module _ (m m' : Meaning) (units : m'.units ≡ m.units) (size : (u : ℕ) → m
     disks = less_disks w c it.disks;
     alike = it.alike;
     maps = it.maps;
+    serial = λ i each. it.serial i (less_each i each);
     known = λ i r v e each is on low used good. it.known i r v e (less_each i each) is on low used good;
   }
 
@@ -100,6 +101,7 @@ module _ (m m1 m2 : Meaning) (counts : (k : ℕ) → m1.disk_faults k ≡ m.disk
       missed = it.back.missed;
       perhaps = it.back.perhaps;
       doubt = it.back.doubt;
+      later = it.back.later;
     };
   }
 

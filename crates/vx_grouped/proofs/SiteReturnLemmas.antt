@@ -41,7 +41,9 @@ use Rattle.vx_grouped.proofs.ImageLemmas.{less_from, less_noted, none_noted, not
 use Rattle.vx_grouped.proofs.SiteLemmas.{lies_as, noted_dimmed, away_dimmed, lit_dimmed, runs_dimmed}
 use Rattle.vx_grouped.specs.ConfigMoves.{AnyState, ConfigBack}
 use Rattle.vx_config.specs.Configs.{HasSpelling}
+use Rattle.vx_grouped.specs.Clean.{StoppedSome, StopsClean}
 use Rattle.vx_grouped.specs.GroupNotes.{NotesConfig, NotesFound, note_dimmed}
+use Rattle.vx_grouped.proofs.RunMapLemmas.{clean_noted}
 use Rattle.vx_kept.specs.Cleans.{at_serial}
 use Rattle.vx_grouped.proofs.MovesLemmas.{disk_blocks_at, disk_failed_at, rose_as, volume_moves}
 use Rattle.vx_kept.specs.Groups.{found, found_by}
@@ -150,7 +152,8 @@ dark_away n note last m m' units size none it = record {
 module _ {R : Type 0} {g : Ghosts R} (n : Node) (note : GroupNode) (last newest : Config) (had : NotesConfig note newest) (frames : (v : ℕ) → frame_at newest v ≡ frame_at last v) (racks : (s : Shade R) → IsRack (shade_meaning g.meaning s))
     (old : Meaning) (first : Shade R) (units : (shade_meaning g.meaning first).units ≡ old.units) (size : (u : ℕ) → (shade_meaning g.meaning first).size u ≡ old.size u) (faults : (u : ℕ) → (shade_meaning g.meaning first).disk_faults u ≡ old.disk_faults u)
     (lies : AwayLies n note last (shade_meaning g.meaning first)) (group : Laid R g) (since : CalledSince (shade_meaning g.meaning first) (laid_disks group)) (has : HasSpelling group.core.inner.config)
-    (back : GroupReturns n note last (shade_meaning g.meaning first) group.core (laid_disks group)) (before : Bool) (lit : IsLit note before (shade_meaning g.meaning first)) (less : IsTrue (laid_below group).tells → IsTrue before) where
+    (back : GroupReturns n note last (shade_meaning g.meaning first) group.core (laid_disks group)) (before : Bool) (lit : IsLit note before (shade_meaning g.meaning first)) (less : IsTrue (laid_below group).tells → IsTrue before)
+    (before_found : NotesFound note newest (shade_meaning g.meaning first)) where
   abbrev now : Config
   now = group.core.inner.config
 
@@ -162,7 +165,7 @@ module _ {R : Type 0} {g : Ghosts R} (n : Node) (note : GroupNode) (last newest 
 
   config_back : ConfigBack (IsTrue (laid_disks group).tells) old (laid_disks group) newest now
   config_back = record {
-    volumes = λ tells v lt. volume_moves AnyState newest now v (back.frames (sym since.tells ∙ tells) v (let same = long in omega (arith, lt, same)) ∙ sym (frames v)) (λ k p q at_p at_q. tt);
+    volumes = λ tells v lt. volume_moves AnyState newest now v (back.frames (sym since.tells ∙ tells) v (let same = long in omega (arith, lt, same)) ∙ sym (frames v)) (λ e k p q at_e at_p at_q. tt);
     count = back.disks.count ∙ units;
     blocks = λ k disk at. sym (disk_blocks_at now.disks k disk at) ∙ back.disks.blocks k (below k disk at) ∙ size k;
     failed = λ k disk at failed.
@@ -172,6 +175,11 @@ module _ {R : Type 0} {g : Ghosts R} (n : Node) (note : GroupNode) (last newest 
 
   abbrev noted_next : GroupNode
   noted_next = next n note last (laid_disks group) (shade_meaning g.meaning first) (sym since.tells) lies group.core (laid_disks group) back
+
+  -- a block of a volume that did not stop cleanly has one value
+  renewed_or : note.loose ≡ false → note.begun ≡ [] → (v b : ℕ) → (back.renewed v ≡ true) ⊎ StoppedSome (shade_meaning g.meaning first) v → (noted_next.others v b ≡ []) ⊎ ((v < length newest.volumes) × StopsClean newest v)
+  renewed_or tight none v b (inl on) = inl (ap (λ (t : Bool). if t then [] else note.others v b) on)
+  renewed_or tight none v b (inr some) = inr (clean_noted note newest (shade_meaning g.meaning first) before_found tight none v some)
 
   pub came_up : NotesGroup n note → HasFuse (burned n.fuse) (laid_disks group) → ReturnsUp n note old (Up group)
   came_up noted fuse = (
@@ -187,6 +195,7 @@ module _ {R : Type 0} {g : Ghosts R} (n : Node) (note : GroupNode) (last newest 
       noted_now = record { is = refl; spells = spells_zero now has };
       sizes = λ v. refl;
       change = config_back;
+      one = λ tells tight none v b low. renewed_or tight none v b (back.stops (sym since.tells ∙ tells) v (some_volume now.volumes v b low));
     },
   )
 
@@ -244,7 +253,7 @@ module _ {R : Type 0} {g : Ghosts R} (n : Node) (note : GroupNode) (racks : (s :
     pub recovered_up : (group : Laid R g) → CalledSince (shade_meaning g.meaning first) (laid_disks group) → TellsLess (g.meaning (rack_of first)) (laid_below group) → HasSpelling group.core.inner.config
         → ((last : Config) → AwayLies n note last (shade_meaning g.meaning first) → GroupReturns n note last (shade_meaning g.meaning first) group.core (laid_disks group)) → RecoversFrom n note (shade_meaning g.meaning rack) (Up group) (Ok tt)
     recovered_up group since less has back =
-        came_up n note down.last down.last had (λ v. refl) racks (shade_meaning g.meaning rack) first revived.contents.units revived.contents.size revived.counts.disk_faults lies group since has (back down.last lies) (g.meaning (rack_of rack)).tells lit_first (λ told. rises (less told))
+        came_up n note down.last down.last had (λ v. refl) racks (shade_meaning g.meaning rack) first revived.contents.units revived.contents.size revived.counts.disk_faults lies group since has (back down.last lies) (g.meaning (rack_of rack)).tells lit_first (λ told. rises (less told)) found_first
         down.noted (no_fuse n.fuse (laid_disks group) down.unfused (since.unarmed unarmed))
 
     module _ (middle : Shade R) (idle : Idle R g) (fallen : Shade R) (is : idle.rack ≡ fallen) (agreed : idle.agreed ≡ true) (goes : TellsLess (g.meaning (rack_of first)) (g.meaning (rack_of middle))) (falls : TellsLess (g.meaning (rack_of middle)) (g.meaning (rack_of fallen))) (stop : Stop) (since : CalledSince (shade_meaning g.meaning first) (shade_meaning g.meaning middle)) (stops : ImportStops (shade_meaning g.meaning first) (shade_meaning g.meaning middle) stop)
@@ -323,7 +332,7 @@ module _ {R : Type 0} {g : Ghosts R} (n : Node) (note : GroupNode) (racks : (s :
         → ((last : Config) → AwayLies n note last (shade_meaning g.meaning rack) → GroupReturns n note last (shade_meaning g.meaning rack) group.core (laid_disks group)) → ImportsFrom n note (shade_meaning g.meaning rack) (Up group) (Ok tt)
     imported_up group since less has back =
         let it = back away.last away.away.lies in (
-          came_up n note away.last away.newest had_away away.away.frames racks (shade_meaning g.meaning rack) rack refl (λ u. refl) (λ u. refl) away.away.lies group since has it (g.meaning (rack_of rack)).tells away.lit less away.noted
+          came_up n note away.last away.newest had_away away.away.frames racks (shade_meaning g.meaning rack) rack refl (λ u. refl) (λ u. refl) away.away.lies group since has it (g.meaning (rack_of rack)).tells away.lit less away.away.found away.noted
               (fuse_burned n.fuse (shade_meaning g.meaning rack) (laid_disks group) since.unarmed away.fuse),
           keeps_fuse (laid_disks group) since it.at.up,
         )

@@ -1,6 +1,6 @@
 -- Writes and reads of a site's group, by its note.
-use Rattle.std.proofs.Common.{refl, sym, subst, ◌≡◌, ℕ, true, false, List, [], IsTrue, arith, ◌∙◌}
-use Rattle.std.specs.Prelude.{Ok, Err}
+use Rattle.std.proofs.Common.{ap, refl, sym, subst, ◌≡◌, ℕ, true, false, List, [], IsTrue, arith, ◌∙◌}
+use Rattle.std.specs.Prelude.{Result, Ok, Err}
 use Rattle.vx_model.specs.Content.{Write}
 use Rattle.vx_model.specs.declared.no.No.{No}
 use Rattle.vx_model.specs.declared.no.No.TheVariants.{Device, Down as IsOff}
@@ -13,6 +13,9 @@ use Rattle.vx_disk.specs.declared.shelf.Shelf.{Ghosts}
 use Rattle.vx_history.specs.Groups.{GroupNode, note_cut, note_doubt, note_write}
 use Rattle.vx_history.specs.Steps.{burned}
 use Rattle.vx_history.specs.World.{Node}
+use Rattle.vx_copies.proofs.OneTry.{wanted_count}
+use Rattle.vx_group.proofs.HoldLemmas.{narrow_sound}
+use Rattle.vx_group.specs.Holding.{wide}
 use Rattle.vx_group.specs.Loses.{LosesPlexes}
 use Rattle.vx_group.proofs.LoseLemmas.{loses_same}
 use Rattle.vx_watched.specs.Since.{CalledSince}
@@ -32,9 +35,9 @@ use Rattle.vx_grouped.proofs.SettleLemmas.{called_settles, called_unsettles, fel
 use Rattle.vx_grouped.proofs.SiteLemmas.{down_with, up_burned, up_with}
 use Rattle.vx_grouped.specs.CoreMoves.{BothOn}
 use Rattle.vx_config.specs.Configs.{HasSpelling}
-use Rattle.vx_grouped.specs.ConfigMoves.{LosesSome}
+use Rattle.vx_grouped.specs.ConfigMoves.{EachPlexRose, LosesSome}
 use Rattle.vx_kept.specs.Cleans.{at_serial}
-use Rattle.vx_grouped.proofs.MovesLemmas.{loses_some}
+use Rattle.vx_grouped.proofs.MovesLemmas.{each_rose, loses_some}
 use Rattle.vx_untold.specs.Shades.{shade_meaning}
 use Rattle.vx_grouped.proofs.SpellLemmas.{spells_like}
 use Rattle.vx_watched.specs.Traces.{TellsLess}
@@ -142,10 +145,14 @@ module _ {R : Type 0} {g : Ghosts R} (n : Node) (note : GroupNode) (v b : ℕ) (
   pub read_done : PlainReads v b bytes group.core (laid_disks group) new.core (laid_disks new) (Ok tt) → PlainRead n note v b bytes (Up group) (Up new) (Ok tt)
   read_done it = (it.reads note up.at.lies.holds, stays_up (it.stays n note up.at) it.same)
 
-  read_by : (no : No) → IsGroupAt n note new.core (laid_disks new) → new.core.inner.config ≡ group.core.inner.config → DeviceCause (laid_disks group) (laid_disks new) no → PlainRead n note v b bytes (Up group) (Up new) (Err no)
-  read_by (Device disk) at same cause = (stays_up at same, cause)
-  read_by IsOff at same cause = absurd (at.up cause)
-  read_by other at same cause = absurd cause
+  read_by : (no : No) → IsGroupAt n note new.core (laid_disks new) → new.core.inner.config ≡ group.core.inner.config → DeviceCause (laid_disks group) (laid_disks new) no
+      → ((disk : ℕ) → no ≡ Device disk → EachPlexRose group.core.inner.config v (laid_disks group) (laid_disks new)) → PlainRead n note v b bytes (Up group) (Up new) (Err no)
+  read_by (Device disk) at same cause gives = (stays_up at same, cause, gives disk refl)
+  read_by IsOff at same cause gives = absurd (at.up cause)
+  read_by other at same cause gives = absurd cause
 
-  pub read_failed : (no : No) → PlainReads v b bytes group.core (laid_disks group) new.core (laid_disks new) (Err no) → PlainRead n note v b bytes (Up group) (Up new) (Err no)
-  read_failed why it = read_by why (it.stays n note up.at) it.same it.cause
+  pub read_failed : ((s : Shade R) → IsRack (shade_meaning g.meaning s)) → (no : No) → PlainReads v b bytes group.core (laid_disks group) new.core (laid_disks new) (Err no) → PlainRead n note v b bytes (Up group) (Up new) (Err no)
+  read_failed racks why it =
+      read_by why (it.stays n note up.at) it.same it.cause
+      (λ disk is. each_rose group.core.inner.config (laid_disks group) (laid_disks new) (racks group.shelf).counts (racks new.shelf).counts (narrow_sound group.core (laid_disks group) group.stands.group)
+      (wanted_count (laid_disks group).units (laid_disks group).size (wide group.core).config group.stands.group.stands.wanted) v (it.gives_up disk (ap (λ (x : No). let r : Result (Unit {0}) No = Err x in r) is)))

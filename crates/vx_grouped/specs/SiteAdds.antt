@@ -67,7 +67,7 @@ module _ {R : Type 0} {g : Ghosts R} where
       (next : GroupNode) × NoteSettles note next × UpNoted (with_note (note_added vol want.blocks next) n) (note_added vol want.blocks next) new
       × ConfigGoes (VolumeAdded name want vol (site_disks old) (site_disks new)) note next old new
   SiteAdded n note name want old new (Err (Refused why)) =
-      SiteCalled {T = ℕ} false (λ c d. ⊥) (LosesSome (site_disks old) (site_disks new)) (LacksVolume old name want) n note old new (Err (Refused why))
+      SiteCalled {T = ℕ} false (λ c d. ⊥) (LosesSome (site_disks old) (site_disks new)) (LosesSome (site_disks old) (site_disks new)) (LacksVolume old name want) n note old new (Err (Refused why))
   SiteAdded n note name want old new (Err OutOfMemory) = UpNoted n note new
 
   -- the volume stands behind those of before, in the place that was found for it

@@ -1,5 +1,5 @@
 -- How a recovery or an import of a group leaves the disks of its site.
-use Rattle.std.specs.Prelude.{◌≡◌, ◌⊎◌, ℕ, ◌<◌, ◌≤◌, Bool, true, false, not, [], Some, None, IsTrue, IsFalse, List, Result, Ok, Err}
+use Rattle.std.specs.Prelude.{◌≡◌, ◌⊎◌, ℕ, ◌<◌, ◌≤◌, Bool, true, false, not, [], length, Some, None, IsTrue, IsFalse, List, Result, Ok, Err}
 use Rattle.vx_model.specs.declared.errors.Stop.{Stop}
 use Rattle.vx_model.specs.declared.errors.Stop.TheVariants.{No as Refused, OutOfMemory}
 use Rattle.vx_model.specs.declared.no.Counted.TheVariants.{Number as Numbers}
@@ -20,6 +20,7 @@ use Rattle.vx_group.specs.Imports.{ImportStops}
 use Rattle.vx_untold.specs.Shades.{shade_meaning}
 use Rattle.vx_untold.specs.declared.shade.Shade.{Shade}
 use Rattle.vx_watched.specs.Since.{FuseGoes, fuse_calls, is_rack}
+use Rattle.vx_grouped.specs.Clean.{StopsClean}
 use Rattle.vx_grouped.specs.ConfigMoves.{ConfigBack}
 use Rattle.vx_grouped.specs.GroupNotes.{NotesConfig, note_dimmed}
 use Rattle.vx_grouped.specs.GroupSites.{AwayNoted, DownNoted, UpNoted, dimmed_site, site_disks, with_note}
@@ -108,7 +109,8 @@ module _ {R : Type 0} {g : Ghosts R} where
     pub stops : ImportStops (shade_meaning g.meaning first) (shade_meaning g.meaning middle) stop
     pub crashed : Stopped (shade_meaning g.meaning middle) (site_disks new)
 
-  -- the configuration that was taken up, beside the one that was noted
+  -- The configuration that was taken up, beside the one that was noted. Where imports agreed and nothing was begun each block has one value, but for those of
+  -- a volume that stopped cleanly.
   pub record ConfigReturns (note next : GroupNode) (old : Meaning) (new : GroupSite R g) : Type 0 where
     pub was : Config
     pub now : Config
@@ -117,6 +119,7 @@ module _ {R : Type 0} {g : Ghosts R} where
     pub noted_now : NotesConfig next now
     pub sizes : (v : ℕ) → next.bytes.size v ≡ blocks_of now.volumes v
     pub change : ConfigBack (IsTrue (site_disks new).tells) old (site_disks new) was now
+    pub one : IsTrue (site_disks new).tells → note.loose ≡ false → note.begun ≡ [] → (v b : ℕ) → b < next.bytes.size v → (next.others v b ≡ []) ⊎ ((v < length was.volumes) × StopsClean was v)
 
   -- the group is up, with another note
   abbrev pub ReturnsUp : Node → GroupNode → Meaning → GroupSite R g → Type 0

@@ -131,11 +131,12 @@ pub record MapsBeginIn (may : ℕ → Bool) (c d : Config) (s t : Bool) (l k : L
   pub so : (v : ℕ) → goes_by l c s v ≡ false → goes_by k d t v ≡ true → (may v ≡ true) × (fmr_at l v ≡ None)
 
 -- Why the maps of a volume are gone by no more: the count of their disk rose; or the log was held as lost, though it was in memory; the shelf is down; or no
--- serial is left to commit that a log is lost.
+-- serial is left to commit that a log is lost. The serial does not fall.
 pub record MapsEnd (c d : Config) (s t : Bool) (l k : List Logs) (old new : Meaning) : Type 0 where
   pub so : (v : ℕ) → goes_by l c s v ≡ true → goes_by k d t v ≡ false
       → ((e : LogEntry) × (log_of c v Fmr ≡ Some e) × Rose (old.faults e.disk) (new.faults e.disk)) ⊎ (log_trusted c v Fmr ≡ false) ⊎ IsTrue new.down
       ⊎ (greatest ≤ c.serial + 6 * COMMIT_SERIALS) ⊎ (greatest ≤ d.serial + COMMIT_SERIALS)
+  pub later : c.serial ≤ d.serial
 
 -- The map that an import took up is that of an image: its log is in use there by the configuration x, on a disk that this holds as good.
 pub record MapTaken (x d : Config) (v : ℕ) (f : Missed) (i : Image) : Type 0 where

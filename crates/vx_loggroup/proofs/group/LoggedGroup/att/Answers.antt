@@ -37,7 +37,7 @@ returns-clause-comes g c = att_begins (leaves_maps (is_alike c.args.self.now.ali
 
 pub returns-clause-ends_maps : goal.returns-clause-ends_maps
 returns-clause-ends_maps g c = maps_end c.args.self.now.core c.att_held.new.core c.args.self.now.logs.items c.att_held.new.logs.items c.args.self.now.stopped c.args.self.now.stopped (g.S.Shelf.meaning c.args.self.now.shelf) (g.S.Shelf.meaning c.att_held.new.shelf) c.att_held.ensures.keeps
-    c.att_held.ensures.regains.blamed (λ off on. absurd (let clash : false ≡ true = sym off ∙ on in cc)) (λ v r at. shape_places c.args.self.now.core.inner.config c.att_held.new.core.inner.config c.att_held.ensures.attaches.shape v Fmr r at)
+    c.att_held.ensures.regains.blamed (λ off on. absurd (let clash : false ≡ true = sym off ∙ on in cc)) (λ v r at. shape_places c.args.self.now.core.inner.config c.att_held.new.core.inner.config c.att_held.ensures.attaches.shape v Fmr r at) c.att_held.ensures.attaches.parts.later
 
 pub returns-clause-flags : goal.returns-clause-flags
 returns-clause-flags g c = (refl, refl)

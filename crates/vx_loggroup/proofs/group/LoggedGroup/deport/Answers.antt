@@ -44,7 +44,7 @@ returns-in-Err-clause-kept g c = record {
       (λ v some told. c.in-Err.ensures.trusts.each v Fmr told) no_volume c.args.self.logs.items c.args.self.stopped c.args.self.stopped (λ on. on) (new_none c.args.self.logs.items c.args.self.logs.items (λ w none. none));
   ends =
       same_end c.args.self.core.inner.config c.deport_whole.new.core.inner.config c.args.self.logs.items c.args.self.stopped (g.S.Shelf.meaning c.args.self.shelf) (g.S.Shelf.meaning c.deport_whole.new.shelf) c.in-Err.ensures.ends.quiesces.loses.disks.blamed
-      (λ v r at. frames_places c.args.self.core.inner.config c.deport_whole.new.core.inner.config c.in-Err.ensures.ends.quiesces.loses.frames v Fmr r at);
+      (λ v r at. frames_places c.args.self.core.inner.config c.deport_whole.new.core.inner.config c.in-Err.ensures.ends.quiesces.loses.frames v Fmr r at) c.in-Err.ensures.ends.parts.later;
 }
 
 pub returns-in-Ok-clause-agreed : goal.returns-in-Ok-clause-agreed

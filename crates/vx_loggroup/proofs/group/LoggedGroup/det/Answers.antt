@@ -37,7 +37,7 @@ returns-clause-comes g c = maps_come c.args.self.now.core.inner.config c.det_fre
 
 pub returns-clause-ends_maps : goal.returns-clause-ends_maps
 returns-clause-ends_maps g c = maps_end c.args.self.now.core c.det_fresh.new.core c.args.self.now.logs.items c.det_fresh.new.logs.items c.args.self.now.stopped c.args.self.now.stopped (g.S.Shelf.meaning c.args.self.now.shelf) (g.S.Shelf.meaning c.det_fresh.new.shelf) c.det_fresh.ensures.keeps
-    c.det_fresh.ensures.disks.blamed (λ off on. absurd (let clash : false ≡ true = sym off ∙ on in cc)) (λ v r at. frames_places c.args.self.now.core.inner.config c.det_fresh.new.core.inner.config c.det_fresh.ensures.frames v Fmr r at)
+    c.det_fresh.ensures.disks.blamed (λ off on. absurd (let clash : false ≡ true = sym off ∙ on in cc)) (λ v r at. frames_places c.args.self.now.core.inner.config c.det_fresh.new.core.inner.config c.det_fresh.ensures.frames v Fmr r at) c.det_fresh.ensures.parts.later
 
 pub returns-clause-flags : goal.returns-clause-flags
 returns-clause-flags g c = (refl, refl)

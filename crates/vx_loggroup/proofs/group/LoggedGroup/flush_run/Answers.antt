@@ -43,7 +43,7 @@ returns-clause-comes g c = maps_come c.args.self.now.core.inner.config c.flush_r
 
 pub returns-clause-ends_maps : goal.returns-clause-ends_maps
 returns-clause-ends_maps g c = maps_end c.args.self.now.core c.flush_run.new.core c.args.self.now.logs.items c.flush_run.new.logs.items c.args.self.now.stopped c.args.self.now.stopped (g.S.Shelf.meaning c.args.self.now.shelf) (g.S.Shelf.meaning c.flush_run.new.shelf) c.flush_run.ensures.keeps
-    c.flush_run.ensures.loses.loses.disks.blamed (λ off on. absurd (let clash : false ≡ true = sym off ∙ on in cc)) (λ v r at. frames_places c.args.self.now.core.inner.config c.flush_run.new.core.inner.config c.flush_run.ensures.loses.loses.frames v Fmr r at)
+    c.flush_run.ensures.loses.loses.disks.blamed (λ off on. absurd (let clash : false ≡ true = sym off ∙ on in cc)) (λ v r at. frames_places c.args.self.now.core.inner.config c.flush_run.new.core.inner.config c.flush_run.ensures.loses.loses.frames v Fmr r at) c.flush_run.ensures.loses.loses.parts.later
 
 pub returns-clause-flags : goal.returns-clause-flags
 returns-clause-flags g c = (refl, refl)

@@ -36,7 +36,7 @@ returns-clause-comes g c = maps_come c.args.self.now.core.inner.config c.make_fr
 
 pub returns-clause-ends_maps : goal.returns-clause-ends_maps
 returns-clause-ends_maps g c = maps_end c.args.self.now.core c.make_fresh.new.core c.args.self.now.logs.items c.make_fresh.new.logs.items c.args.self.now.stopped c.args.self.now.stopped (g.S.Shelf.meaning c.args.self.now.shelf) (g.S.Shelf.meaning c.make_fresh.new.shelf) c.make_fresh.ensures.keeps
-    c.make_fresh.ensures.disks.blamed (λ off on. absurd (let clash : false ≡ true = sym off ∙ on in cc)) (λ v r at. extends_places c.args.self.now.core.inner.config c.make_fresh.new.core.inner.config c.make_fresh.ensures.stays.shape v Fmr r at)
+    c.make_fresh.ensures.disks.blamed (λ off on. absurd (let clash : false ≡ true = sym off ∙ on in cc)) (λ v r at. extends_places c.args.self.now.core.inner.config c.make_fresh.new.core.inner.config c.make_fresh.ensures.stays.shape v Fmr r at) c.make_fresh.ensures.parts.later
 
 pub returns-clause-left : goal.returns-clause-left
 returns-clause-left g c = c.make_fresh.ensures.left

@@ -49,7 +49,7 @@ returns-clause-comes g c = maps_come c.args.self.now.core.inner.config c.write_f
 
 pub returns-clause-ends_maps : goal.returns-clause-ends_maps
 returns-clause-ends_maps g c = maps_end c.args.self.now.core c.write_fresh.new.core c.args.self.now.logs.items c.write_fresh.new.logs.items c.args.self.now.stopped c.write_fresh.new.stopped (g.S.Shelf.meaning c.args.self.now.shelf) (g.S.Shelf.meaning c.write_fresh.new.shelf) c.write_fresh.ensures.keeps
-    c.write_fresh.ensures.loses.loses.disks.blamed (λ off on. let full = c.write_fresh.ensures.full off on in omega (arith, full)) (λ v r at. frames_places c.args.self.now.core.inner.config c.write_fresh.new.core.inner.config c.write_fresh.ensures.loses.loses.frames v Fmr r at)
+    c.write_fresh.ensures.loses.loses.disks.blamed (λ off on. let full = c.write_fresh.ensures.full off on in omega (arith, full)) (λ v r at. frames_places c.args.self.now.core.inner.config c.write_fresh.new.core.inner.config c.write_fresh.ensures.loses.loses.frames v Fmr r at) c.write_fresh.ensures.loses.loses.parts.later
 
 pub returns-clause-stays : goal.returns-clause-stays
 returns-clause-stays g c = c.write_fresh.ensures.stays
