@@ -36,8 +36,8 @@ fn named_by(config: &Config) -> Option<Units>
     }
 }
 
-// Whether the configuration would be sound with these volumes as the replicated volume group. It is left as it was.
-fn may_name(config: &mut Config, units: &Units) -> bool
+/// Whether the configuration would be sound with these volumes as the replicated volume group. It is left as it was.
+pub fn may_name(config: &mut Config, units: &Units) -> bool
     requires sound { is_sound config.old ≡ true }
     ensures same { config.new ≡ config.old }
     ensures is { result ≡ is_group config.old.volumes units.now }
@@ -96,6 +96,7 @@ fn name_rvg<S: Shelf>(shelf: &mut S, core: &mut GroupCore, units: &Units) -> Res
     ensures trust { OnOk result (core.old.inner.committed ≡ true → core.new.inner.committed ≡ true) }
     ensures whole { OnOk result ((core.new.inner.committed ≡ true) ⊎ HasFailed core.new.inner.config.disks) }
     ensures agreed { IfErr result (λ e. core.old.inner.committed ≡ true → core.new.inner.agreed ≡ true) }
+    ensures up { OnOk result (IsTrue (S.meaning shelf.new).down → ⊥) }
     ensures cause { DetStops (S.meaning shelf.old) (S.meaning shelf.new) result }
 {
     if shelf.is_down() {
@@ -129,6 +130,7 @@ pub fn set_rvg_in<S: Shelf>(shelf: &mut S, core: &mut GroupCore, units: &Units) 
     ensures trust { OnOk result (core.old.inner.committed ≡ true → core.new.inner.committed ≡ true) }
     ensures whole { OnOk result ((core.new.inner.committed ≡ true) ⊎ HasFailed core.new.inner.config.disks) }
     ensures agreed { IfErr result (λ e. core.old.inner.committed ≡ true → core.new.inner.agreed ≡ true) }
+    ensures up { OnOk result (IsTrue (S.meaning shelf.new).down → ⊥) }
     ensures cause { set_rvg_refusal core.old.inner.config units.now ≡ None → DetStops (S.meaning shelf.old) (S.meaning shelf.new) result }
 {
     if MOST_NUMBER - COMMIT_MARGIN < core.inner.config.serial {

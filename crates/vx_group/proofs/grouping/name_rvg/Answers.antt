@@ -79,3 +79,6 @@ returns-in-Err-commit_rvg-clause-disks g c = then_failing (g.S.Shelf.meaning c.a
 
 pub returns-in-Err-commit_rvg-clause-ends : goal.returns-in-Err-commit_rvg-clause-ends
 returns-in-Err-commit_rvg-clause-ends g c = c.in-Err-commit_rvg.ensures.ends ∙ c.release.ensures.parts.rvg
+
+pub returns-in-Ok-commit_rvg-clause-up : goal.returns-in-Ok-commit_rvg-clause-up
+returns-in-Ok-commit_rvg-clause-up g c = c.in-Ok-commit_rvg.ensures.cause

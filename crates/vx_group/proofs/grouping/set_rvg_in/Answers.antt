@@ -90,3 +90,6 @@ returns-clause-disks g c = subst (λ (k : GroupCore). MoreFailed (g.S.Shelf.mean
 
 pub returns-clause-ends : goal.returns-clause-ends
 returns-clause-ends g c = subst (λ (k : GroupCore). RvgEnds c.args.units.now k.inner.config c.name_rvg.new.core.inner.config (g.S.Shelf.meaning c.name_rvg.new.shelf) c.name_rvg.result) (same_core c.args.core.now c.may_name.new.config c.may_name.ensures.same) c.name_rvg.ensures.ends
+
+pub returns-clause-up : goal.returns-clause-up
+returns-clause-up g c = c.name_rvg.ensures.up

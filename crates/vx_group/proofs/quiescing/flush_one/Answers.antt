@@ -3,6 +3,7 @@ use Rattle.std.proofs.Common.{Err, inl, inr, refl, sym, subst, arith}
 use Rattle.vx_disk.proofs.Causing.{Rose_after}
 use Rattle.vx_disk.specs.declared.shelf.ShelfError.{ShelfError}
 use Rattle.vx_volume.specs.Volumes.{PlexFlushed}
+use Rattle.vx_kept.specs.Commits.{Member}
 use Rattle.vx_group.specs.Blames.{Blames}
 use Rattle.vx_group.proofs.LoseLemmas.{loses_detach, loses_same}
 use Rattle.vx_group.proofs.CallLemmas.{blames_by, ends_blame, left_done}
@@ -12,6 +13,7 @@ use Rattle.vx_group.proofs.Standing.{fit_of, some_active, sound_of}
 use Rattle.vx_group.proofs.WriteLemmas.{flushed_Narrows, flushed_Stands, flushed_all, no_commit, flushed_finds}
 use Rattle.vx_group.proofs.FindingLemmas.{as_finds, before_ends, ends_finds, stays_finds}
 use Rattle.vx_group.proofs.TrustStillLemmas.{same_logs}
+use Rattle.vx_group.proofs.SettleCalls.{as_told, less_goes, quiet_told, wrote_told}
 use Rattle.vx_group.proofs.quiescing.flush_one.Goals as goal
 
 pub flush_all-requires-clause-checked : goal.flush_all-requires-clause-checked
@@ -96,3 +98,29 @@ returns-in-Err-detach-clause-logs g c = c.detach.ensures.logs
 
 pub returns-in-Err-clause-logs : goal.returns-in-Err-clause-logs
 returns-in-Err-clause-logs g c = same_logs c.args.core.now.config
+
+pub returns-then-failed-eq0-clause-settles : goal.returns-then-failed-eq0-clause-settles
+returns-then-failed-eq0-clause-settles g c =
+    quiet_told c.args.core.now c.args.core.now (Member c.args.core.now.good (g.S.Shelf.meaning c.args.shelf.now)) (g.S.Shelf.meaning c.args.shelf.now) (g.S.Shelf.meaning c.flush_all.new.shelf) refl refl c.requires.stands.kept (less_goes c.args.core.now.config (g.S.Shelf.meaning c.args.shelf.now) (g.S.Shelf.meaning c.flush_all.new.shelf) c.flush_all.ensures.goes)
+    (flushed_finds c.args.core.now c.args.vol (g.S.Shelf.meaning c.args.shelf.now) (g.S.Shelf.meaning c.flush_all.new.shelf) (g.met.S.Shelf.lawful c.args.shelf.now) (g.met.S.Shelf.lawful c.flush_all.new.shelf) c.requires.stands c.flush_all.ensures.goes)
+
+pub returns-then-core-ge-MOST_NUMBER-clause-settles : goal.returns-then-core-ge-MOST_NUMBER-clause-settles
+returns-then-core-ge-MOST_NUMBER-clause-settles g c =
+    wrote_told c.args.core.now c.detach.new.core (g.S.Shelf.meaning c.args.shelf.now) (g.S.Shelf.meaning c.flush_all.new.shelf) (g.S.Shelf.meaning c.detach.new.shelf) c.requires.settled
+    (flushed_finds c.args.core.now c.args.vol (g.S.Shelf.meaning c.args.shelf.now) (g.S.Shelf.meaning c.flush_all.new.shelf) (g.met.S.Shelf.lawful c.args.shelf.now) (g.met.S.Shelf.lawful c.flush_all.new.shelf) c.requires.stands c.flush_all.ensures.goes) c.detach.ensures.settles
+
+pub returns-else-core-ge-MOST_NUMBER-clause-settles : goal.returns-else-core-ge-MOST_NUMBER-clause-settles
+returns-else-core-ge-MOST_NUMBER-clause-settles g c =
+    wrote_told c.args.core.now c.detach.new.core (g.S.Shelf.meaning c.args.shelf.now) (g.S.Shelf.meaning c.flush_all.new.shelf) (g.S.Shelf.meaning c.detach.new.shelf) c.requires.settled
+    (flushed_finds c.args.core.now c.args.vol (g.S.Shelf.meaning c.args.shelf.now) (g.S.Shelf.meaning c.flush_all.new.shelf) (g.met.S.Shelf.lawful c.args.shelf.now) (g.met.S.Shelf.lawful c.flush_all.new.shelf) c.requires.stands c.flush_all.ensures.goes) c.detach.ensures.settles
+
+pub returns-in-Err-detach-clause-settles : goal.returns-in-Err-detach-clause-settles
+returns-in-Err-detach-clause-settles g c =
+    as_told c.args.core.now c.detach.new.core _ (g.S.Shelf.meaning c.args.shelf.now) (g.S.Shelf.meaning c.detach.new.shelf) refl refl
+    (wrote_told c.args.core.now c.detach.new.core (g.S.Shelf.meaning c.args.shelf.now) (g.S.Shelf.meaning c.flush_all.new.shelf) (g.S.Shelf.meaning c.detach.new.shelf) c.requires.settled
+    (flushed_finds c.args.core.now c.args.vol (g.S.Shelf.meaning c.args.shelf.now) (g.S.Shelf.meaning c.flush_all.new.shelf) (g.met.S.Shelf.lawful c.args.shelf.now) (g.met.S.Shelf.lawful c.flush_all.new.shelf) c.requires.stands c.flush_all.ensures.goes) c.detach.ensures.settles)
+
+pub returns-in-Err-clause-settles : goal.returns-in-Err-clause-settles
+returns-in-Err-clause-settles g c =
+    quiet_told c.args.core.now _ (Member c.args.core.now.good (g.S.Shelf.meaning c.args.shelf.now)) (g.S.Shelf.meaning c.args.shelf.now) (g.S.Shelf.meaning c.flush_all.new.shelf) refl refl c.requires.stands.kept (less_goes c.args.core.now.config (g.S.Shelf.meaning c.args.shelf.now) (g.S.Shelf.meaning c.flush_all.new.shelf) c.flush_all.ensures.goes)
+    (flushed_finds c.args.core.now c.args.vol (g.S.Shelf.meaning c.args.shelf.now) (g.S.Shelf.meaning c.flush_all.new.shelf) (g.met.S.Shelf.lawful c.args.shelf.now) (g.met.S.Shelf.lawful c.flush_all.new.shelf) c.requires.stands c.flush_all.ensures.goes)

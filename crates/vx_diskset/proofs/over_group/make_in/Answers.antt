@@ -1,0 +1,60 @@
+-- The disks of a site on which a replicated volume group is made.
+use Rattle.std.proofs.Common.{◌∙◌, inl, inr, refl, ap, subst, sym}
+use Rattle.std.specs.Prelude.{IfOk}
+use Rattle.vx_config.specs.Checks.{is_group}
+use Rattle.vx_group.specs.declared.group_core.GroupCore.{GroupCore}
+use Rattle.vx_watched.specs.Since.{CalledSince}
+use Rattle.vx_watched.specs.Traces.{TellsLess}
+use Rattle.vx_watched.proofs.SinceLemmas.{since_none}
+use Rattle.vx_grouped.specs.GroupSites.{laid_disks, site_below, site_disks}
+use Rattle.vx_diskset.specs.Aboves.{AboveStays}
+use Rattle.vx_diskset.specs.Makings.{UpOrFell}
+use Rattle.vx_diskset.specs.declared.above.Above.TheVariants.{Origin}
+use Rattle.vx_diskset.proofs.OverMaking.{since_in, told_in}
+use Rattle.vx_diskset.proofs.over_group.make_in.Goals as goal
+
+pub make_over-below-requires : goal.make_over-below-requires
+make_over-below-requires g c = record {
+  may = ap (λ (k : GroupCore). is_group k.inner.config.volumes c.args.units.now) c.can_name-laid.ensures.core ∙ sym c.can_name-laid.ensures.is ∙ c.if-not-may.false;
+}
+
+pub of-requires : goal.of-requires
+of-requires g c = subst (λ r. IfOk r (λ k. AboveStays (Origin k) c.make_over-below.result.0)) c.in-Ok.is c.make_over-below.ensures.sound
+
+pub returns-then-not-may-clause-since : goal.returns-then-not-may-clause-since
+returns-then-not-may-clause-since g c = since_in c.args.group.site c.in-Up.laid c.can_name-laid.result.0 (c.stays-below.result) c.in-Up.is c.can_name-laid.ensures.shelf (c.stays-below.ensures.since (laid_disks c.can_name-laid.result.0) (since_none (laid_disks c.can_name-laid.result.0)))
+
+pub returns-then-not-may-clause-told : goal.returns-then-not-may-clause-told
+returns-then-not-may-clause-told g c = told_in c.args.group.site c.in-Up.laid c.can_name-laid.result.0 (c.stays-below.result) c.in-Up.is c.can_name-laid.ensures.shelf (c.stays-below.ensures.told)
+
+pub returns-then-not-may-clause-calm : goal.returns-then-not-may-clause-calm
+returns-then-not-may-clause-calm g c = inr c.stays-below.ensures.calm
+
+pub returns-in-Ok-clause-since : goal.returns-in-Ok-clause-since
+returns-in-Ok-clause-since g c =
+    subst (λ e. CalledSince (site_disks c.args.group.site) (site_disks e)) (sym c.of.ensures.site) (since_in c.args.group.site c.in-Up.laid c.can_name-laid.result.0 (c.make_over-below.result.0) c.in-Up.is c.can_name-laid.ensures.shelf (c.make_over-below.ensures.since))
+
+pub returns-in-Ok-clause-told : goal.returns-in-Ok-clause-told
+returns-in-Ok-clause-told g c =
+    subst (λ e. TellsLess (site_below c.args.group.site) (site_below e)) (sym c.of.ensures.site) (told_in c.args.group.site c.in-Up.laid c.can_name-laid.result.0 (c.make_over-below.result.0) c.in-Up.is c.can_name-laid.ensures.shelf (c.make_over-below.ensures.told))
+
+pub returns-in-Ok-clause-calm : goal.returns-in-Ok-clause-calm
+returns-in-Ok-clause-calm g c = inr (subst (λ e. UpOrFell e) (sym c.of.ensures.site) c.make_over-below.ensures.calm)
+
+pub returns-in-Err-clause-since : goal.returns-in-Err-clause-since
+returns-in-Err-clause-since g c = since_in c.args.group.site c.in-Up.laid c.can_name-laid.result.0 (c.make_over-below.result.0) c.in-Up.is c.can_name-laid.ensures.shelf (c.make_over-below.ensures.since)
+
+pub returns-in-Err-clause-told : goal.returns-in-Err-clause-told
+returns-in-Err-clause-told g c = told_in c.args.group.site c.in-Up.laid c.can_name-laid.result.0 (c.make_over-below.result.0) c.in-Up.is c.can_name-laid.ensures.shelf (c.make_over-below.ensures.told)
+
+pub returns-in-Err-clause-calm : goal.returns-in-Err-clause-calm
+returns-in-Err-clause-calm g c = inr c.make_over-below.ensures.calm
+
+pub returns-in_default-clause-since : goal.returns-in_default-clause-since
+returns-in_default-clause-since g c = since_none (site_disks c.args.group.site)
+
+pub returns-in_default-clause-told : goal.returns-in_default-clause-told
+returns-in_default-clause-told g c = λ told. told
+
+pub returns-in_default-clause-calm : goal.returns-in_default-clause-calm
+returns-in_default-clause-calm g c = inl refl

@@ -1,0 +1,31 @@
+-- The commit that names a replicated volume group.
+use Rattle.std.proofs.Common.{IsTrue, subst}
+use Rattle.std.specs.Prelude.{OnOk}
+use Rattle.vx_grouped.specs.GroupSites.{laid_disks}
+use Rattle.vx_diskset.proofs.OverMaking.{sound_named}
+use Rattle.vx_diskset.proofs.StaysUp.{not_true}
+use Rattle.vx_diskset.proofs.over_group.name_log.Goals as goal
+
+pub returns-in-Ok-clause-sound : goal.returns-in-Ok-clause-sound
+returns-in-Ok-clause-sound g c = sound_named c.args.core c.args.laid c.name_over-laid.result.0 c.name_over-laid.ensures.names.goes c.requires.sound
+
+pub returns-in-Ok-clause-since : goal.returns-in-Ok-clause-since
+returns-in-Ok-clause-since g c = c.name_over-laid.ensures.since
+
+pub returns-in-Ok-clause-told : goal.returns-in-Ok-clause-told
+returns-in-Ok-clause-told g c = c.name_over-laid.ensures.told
+
+pub returns-in-Ok-clause-calm : goal.returns-in-Ok-clause-calm
+returns-in-Ok-clause-calm g c = not_true (laid_disks c.name_over-laid.result.0).down (subst (λ r. OnOk r (IsTrue (laid_disks c.name_over-laid.result.0).down → ⊥)) c.in-Ok.is c.name_over-laid.ensures.names.up)
+
+pub returns-in-Err-clause-sound : goal.returns-in-Err-clause-sound
+returns-in-Err-clause-sound g c = tt
+
+pub returns-in-Err-clause-since : goal.returns-in-Err-clause-since
+returns-in-Err-clause-since g c = c.stays.ensures.since (laid_disks c.args.laid) c.name_over-laid.ensures.since
+
+pub returns-in-Err-clause-told : goal.returns-in-Err-clause-told
+returns-in-Err-clause-told g c = λ told. c.name_over-laid.ensures.told (c.stays.ensures.told told)
+
+pub returns-in-Err-clause-calm : goal.returns-in-Err-clause-calm
+returns-in-Err-clause-calm g c = c.stays.ensures.calm

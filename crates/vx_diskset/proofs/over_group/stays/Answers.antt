@@ -1,0 +1,25 @@
+-- A group that stays up, or crashes.
+use Rattle.std.proofs.Common.{◌∙◌, sym}
+use Rattle.vx_disk.specs.Disks.{Crashed}
+use Rattle.vx_grouped.specs.GroupSites.{idle_disks, laid_disks}
+use Rattle.vx_watched.proofs.SinceLemmas.{since_stop}
+use Rattle.vx_diskset.proofs.over_group.stays.Goals as goal
+
+pub returns-then-is_down-clause-since : goal.returns-then-is_down-clause-since
+returns-then-is_down-clause-since g c = λ first since.
+    since_stop first (laid_disks c.args.laid) (idle_disks c.crash.result) (Crashed (laid_disks c.args.laid).size 0xffff_ffff_ffff_ffff) since (sym c.is_down.ensures ∙ c.if-is_down.true) c.crash.ensures.stopped c.crash.ensures.disks
+
+pub returns-then-is_down-clause-told : goal.returns-then-is_down-clause-told
+returns-then-is_down-clause-told g c = c.crash.ensures.told
+
+pub returns-then-is_down-clause-calm : goal.returns-then-is_down-clause-calm
+returns-then-is_down-clause-calm g c = c.crash.ensures.stopped.unarmed
+
+pub returns-clause-since : goal.returns-clause-since
+returns-clause-since g c = λ first since. since
+
+pub returns-clause-told : goal.returns-clause-told
+returns-clause-told g c = λ told. told
+
+pub returns-clause-calm : goal.returns-clause-calm
+returns-clause-calm g c = sym c.is_down.ensures ∙ c.if-is_down.false
