@@ -8,6 +8,7 @@ pub mod Moves
 pub mod Pumps
 pub mod Shown
 mod Loops
+mod EachLink
 pub mod LeastHolds
 pub mod PartFacts
 pub mod Spelling
