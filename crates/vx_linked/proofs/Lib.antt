@@ -9,6 +9,7 @@ pub mod Pumps
 pub mod Shown
 mod Loops
 mod EachLink
+mod ReplayHolds
 pub mod LeastHolds
 pub mod PartFacts
 pub mod Spelling

@@ -39,6 +39,7 @@ pub fn replay(l: &mut LinkFacts, event: &PEvent) -> PAction
 {
     let mut next = l.link;
     let action = primary(&mut next, event);
-    *l = behind(l, &next);
+    let replayed = behind(l, &next);
+    *l = replayed;
     action
 }

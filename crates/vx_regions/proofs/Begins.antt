@@ -17,11 +17,13 @@ use Rattle.vx_history.specs.declared.receiver.RState.{RState}
 use Rattle.vx_disk.specs.Moves.{Moves, Run}
 use Rattle.vx_disk.specs.Shelf.{Image, Meaning}
 use Rattle.vx_disk.proofs.Moving.{goes_on, still, wider}
-use Rattle.vx_replay.specs.Secondary.{begins, begun, copies, secondary_step}
+use Rattle.vx_replay.specs.Secondary.{AtReceiver, begins, begun, copies, secondary_step}
 use Rattle.vx_replay.specs.declared.event.QAction.{QAction}
 use Rattle.vx_replay.specs.declared.event.QAction.TheVariants.{Again, Begin, Ignored}
+use Rattle.vx_replay.specs.declared.event.QEvent.{QEvent}
 use Rattle.vx_replay.specs.declared.event.QEvent.TheVariants.{Start}
 use Rattle.vx_srl.specs.Views.{most_number}
+use Rattle.vx_rvg.specs.Contents.{write_of_update}
 use Rattle.vx_rvg.specs.Holdings.{Holding, kept_in}
 use Rattle.vx_rvg.specs.Saves.{SaveIs, change_refusal, with_new_state}
 use Rattle.vx_rvg.specs.Stands.{FoundAs, FoundGroup, Retains, Saving, Stands}
@@ -50,20 +52,26 @@ take_few us le = take_all MOST_WAITING us le
 
 -- ---- the rule
 
+-- what a start makes of a receiver, by whether it begins
+abbrev start_by : RState → (id : ℕ) → QAction → Bool → AtReceiver
+start_by s id other begins_it = if begins_it then record { state = begun s id; action = Begin } else record { state = s; action = other }
+
+abbrev else_copies : RState → Line → (id : ℕ) → QAction
+else_copies s line id = if copies s line id then Again else Ignored
+
 take_begin : (s : RState) (line : Line) (id start : ℕ) (b d : Bool) → begins s line id start ≡ b → copies s line id ≡ d → (secondary_step s (Start line id start)).action ≡ Begin → (secondary_step s (Start line id start)).state ≡ begun s id
-take_begin s line id start true d is of action = ap (λ (t : Bool). (if t then record { state = begun s id; action = Begin } else record { state = s; action = if copies s line id then Again else Ignored }).state) is
+take_begin s line id start true d is of action = ap (λ (t : Bool). (start_by s id (else_copies s line id) t).state) is
 take_begin s line id start false true is of action =
-    let wrong : Again ≡ Begin = sym (ap (λ (t : Bool). if t then Again else Ignored) of) ∙ (sym (ap (λ (t : Bool). (if t then record { state = begun s id; action = Begin } else record { state = s; action = if copies s line id then Again else Ignored }).action) is) ∙ action) in cc
+    let wrong : Again ≡ Begin = sym (ap (λ (t : Bool). if t then Again else Ignored) of) ∙ (sym (ap (λ (t : Bool). (start_by s id (else_copies s line id) t).action) is) ∙ action) in cc
 take_begin s line id start false false is of action =
-    let wrong : Ignored ≡ Begin = sym (ap (λ (t : Bool). if t then Again else Ignored) of) ∙ (sym (ap (λ (t : Bool). (if t then record { state = begun s id; action = Begin } else record { state = s; action = if copies s line id then Again else Ignored }).action) is) ∙ action) in cc
+    let wrong : Ignored ≡ Begin = sym (ap (λ (t : Bool). if t then Again else Ignored) of) ∙ (sym (ap (λ (t : Bool). (start_by s id (else_copies s line id) t).action) is) ∙ action) in cc
 
 -- what the rule makes of a receiver where a replay begins
 pub begun_is : (s : RState) (line : Line) (id start : ℕ) → (secondary_step s (Start line id start)).action ≡ Begin → (secondary_step s (Start line id start)).state ≡ begun s id
 begun_is s line id start action = take_begin s line id start (begins s line id start) (copies s line id) refl refl action
 
 receiver_as : (line one : Line) (last last1 waiting waiting1 session session1 : ℕ) (mark : Mark) (phase : SPhase) (replay end : ℕ) → line ≡ one → last ≡ last1 → waiting ≡ waiting1 → session ≡ session1
-    → record { line = line; last = last; waiting = waiting; session = session; mark = mark; phase = phase; replay = replay; end = end }
-    ≡ record { line = one; last = last1; waiting = waiting1; session = session1; mark = mark; phase = phase; replay = replay; end = end }
+    → ◌≡◌ {A = RState} (record { line = line; last = last; waiting = waiting; session = session; mark = mark; phase = phase; replay = replay; end = end }) (record { line = one; last = last1; waiting = waiting1; session = session1; mark = mark; phase = phase; replay = replay; end = end })
 receiver_as line one last last1 waiting waiting1 session session1 mark phase replay end a b d e =
     λ i. record { line = a i; last = b i; waiting = d i; session = e i; mark = mark; phase = phase; replay = replay; end = end }
 
@@ -74,6 +82,30 @@ told_receiver c e us told none kept line last waiting session =
     ap (λ (ws : List Update). receiver_of e ws) none
     ∙ ap (λ (s : SiteState). record { line = s.line; last = last_of e + 0; waiting = 0; session = e.log.header.incarnation; mark = s.mark; phase = s.phase; replay = s.replay; end = s.end }) kept
     ∙ receiver_as c.log.header.state.line told.line (last_of e + 0) told.last 0 told.waiting e.log.header.incarnation told.session told.mark told.phase told.replay told.end (sym line) (omega (arith, last)) (sym waiting) (sym session)
+
+-- a start that begins nothing changes nothing
+take_none : (s : RState) (line : Line) (id start : ℕ) (b : Bool) → begins s line id start ≡ b → ((secondary_step s (Start line id start)).action ≡ Begin → ⊥) → s ≡ (secondary_step s (Start line id start)).state
+take_none s line id start true is not =
+    absurd (not (ap (λ (t : Bool). (start_by s id (else_copies s line id) t).action) is))
+take_none s line id start false is not =
+    sym (ap (λ (t : Bool). (start_by s id (else_copies s line id) t).state) is)
+
+pub start_ignored : (s : RState) (line : Line) (id start : ℕ) → ((secondary_step s (Start line id start)).action ≡ Begin → ⊥) → s ≡ (secondary_step s (Start line id start)).state
+start_ignored s line id start not = take_none s line id start (begins s line id start) refl not
+
+-- of the receiver that the code has
+module _ (r s : RState) (is : r ≡ s) (e : QEvent) where
+  pub heard_state : (told : RState) → told ≡ (secondary_step r e).state → told ≡ (secondary_step s e).state
+  heard_state told made = made ∙ ap (λ (x : RState). (secondary_step x e).state) is
+
+  pub heard_action : (action : QAction) → action ≡ (secondary_step r e).action → action ≡ (secondary_step s e).action
+  heard_action action made = made ∙ ap (λ (x : RState). (secondary_step x e).action) is
+
+pub begin_asked : (s : RState) (line : Line) (id start : ℕ) (told : RState) → Begin ≡ (secondary_step s (Start line id start)).action → told ≡ (secondary_step s (Start line id start)).state → (told ≡ begun s told.replay) × (told.replay ≡ id)
+begin_asked s line id start told action made =
+    let is : told ≡ begun s id = made ∙ begun_is s line id start (sym action) in
+    let replay : told.replay ≡ id = ap (λ (x : RState). x.replay) is in
+    (is ∙ ap (λ (n : ℕ). begun s n) (sym replay), replay)
 
 -- ---- a new state
 
@@ -116,6 +148,10 @@ module _ (d e : Core) (state : SiteState) (m m' : Meaning) where
         ends_by (leb most_number d.log.header.stamp) why refl (subst (λ (r : Option No). SaveIs r d (with_new_state d state) m m' e (Err why)) refusal is)
 
 -- ---- the begin
+
+-- nothing was done
+pub begin_self : (c : Core) (xs : List Write) (state : SiteState) (m : Meaning) → BeginsCopy xs state c c m m
+begin_self c xs state m = record { units = refl; ring = refl; session = refl; stamp = omega arith; moves = still (Own c) (CopyBegin c xs state (c.log.header.stamp + 1) m) m }
 
 module _ (c d : Core) (us : List Update) (xs : List Write) (state : SiteState) (m mid : Meaning) (step : Step xs c d m mid) where
   logging_begin : (stamp : ℕ) (i : Image) → d.log.header.stamp + 1 ≤ stamp → Logging c xs (d.log.header.stamp + 1) m i → CopyBegin c xs state stamp m i
@@ -198,7 +234,7 @@ module _ (c d : Core) (us : List Update) (xs : List Write) (state : SiteState) (
     -- the state could not be kept
     pub begin_ends : writes_of_updates us ≡ xs → length us ≤ MOST_WAITING → (why : No) → SaveIs (change_refusal d) d (with_new_state d state) mid m' e (Err why) → EndsAfter MOST_WAITING us [] c e m m' why
     begin_ends writes few why answers =
-        let long : length xs ≡ length us = ap (λ (ws : List Write). length ws) (sym writes) ∙ length-map us _ in (
+        let long : length xs ≡ length us = ap (λ (ws : List Write). length ws) (sym writes) ∙ length-map us write_of_update in (
           length us,
           (
             few,
@@ -209,3 +245,16 @@ module _ (c d : Core) (us : List Update) (xs : List Write) (state : SiteState) (
             ),
           ),
         )
+
+-- ---- the receiver behind the begin
+
+-- the state that is kept is the one that was told
+pub begin_told : (c d : Core) (told : RState) (state : SiteState) → SameGroup c d → state ≡ told_state d.log.header.state told → state ≡ told_state c.log.header.state told
+begin_told c d told state same is = is ∙ ap (λ (s : SiteState). told_state s told) same.state
+
+pub begin_receiver : (c d e : Core) (us now : List Update) (told : RState) (state : SiteState) (m mid : Meaning) → Step (writes_of_updates us) c d m mid → LogsAll (writes_of_updates us) c d m mid → now ≡ []
+    → told ≡ begun (receiver_of c us) told.replay → state ≡ told_state d.log.header.state told → e ≡ with_new_state d state → receiver_of e now ≡ told
+begin_receiver c d e us now told state m mid step logs none is kept made =
+    told_receiver c e now told none (ap (λ (k : Core). k.log.header.state) made ∙ begin_told c d told state step.same kept) (ap (λ (r : RState). r.line) is)
+    (let one = ap (λ (r : RState). r.last) is in let two = ap (λ (k : Core). last_of k) made in let long = length-map us write_of_update in let top = logs.last in omega (arith, one, two, top, long)) (ap (λ (r : RState). r.waiting) is)
+    (ap (λ (r : RState). r.session) is ∙ sym step.same.session ∙ sym (ap (λ (k : Core). k.log.header.incarnation) made))

@@ -18,8 +18,8 @@ use Rattle.vx_secondary.specs.Logging.{Grows, Own}
 use Rattle.vx_secondary.specs.Receivers.{receiver_of}
 
 -- what the rule makes of the group with its waiting updates
-abbrev pub heard : Core → List Update → QEvent → AtReceiver
-heard c us e = secondary_step (receiver_of c us) e
+abbrev pub replay_heard : Core → List Update → QEvent → AtReceiver
+replay_heard c us e = secondary_step (receiver_of c us) e
 
 -- what the log keeps of the site, with the marks of a receiver
 abbrev pub told_state : SiteState → RState → SiteState

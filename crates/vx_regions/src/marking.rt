@@ -38,7 +38,6 @@ fn is_due<S: Shelf>(rvg: &Rvg<S>) -> bool
 ///
 /// Refusals: 20 where a call answered 7 before, 19 exactly where a header is to be written and no stamp is left; these change nothing. 7
 /// where a device call failed: then the group is halted. 6 where the shelf is down.
-#[tactic(none)]
 pub fn settle_mark<S: Shelf>(secondary: &mut Secondary<S>) -> Result<(), No>
     ensures halted { (disk : ℕ) → secondary.old.rvg.core.halted ≡ Some disk → (result ≡ Err (Halted disk)) × (secondary.new.rvg ≡ secondary.old.rvg) }
     ensures unchanged { secondary.old.rvg.core.halted ≡ None → mark_is_due secondary.old.rvg.core.log.header.state (last_of secondary.old.rvg.core) ≡ false

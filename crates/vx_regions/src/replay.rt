@@ -6,7 +6,7 @@ ghost use Rattle.vx_disk.specs.Moves.{Moves};
 ghost use Rattle.vx_replay.specs.Secondary.{begun, closed};
 ghost use Rattle.vx_replay.specs.declared.event.QAction.TheVariants.{Begin, Close};
 ghost use Rattle.vx_replay.specs.declared.event.QEvent.TheVariants.{Done as HearDone, Start as HearStart};
-ghost use Rattle.vx_regions.specs.Copies.{BeginsCopy, BegunCopy, heard, told_state};
+ghost use Rattle.vx_regions.specs.Copies.{BeginsCopy, BegunCopy, replay_heard, told_state};
 ghost use Rattle.vx_rvg.specs.Saves.{RestartIs, change_blocks, restart_refusal, with_restart};
 ghost use Rattle.vx_rvg.specs.Stands.{Retains, Saving};
 ghost use Rattle.vx_secondary.specs.Logging.{EndsAfter};
@@ -21,7 +21,6 @@ use vx_replay::{QAction, QEvent};
 use vx_secondary::{Secondary, receiver};
 
 // Logs all that waits and brings all that is logged into the volumes, and then keeps that a replay begins.
-#[tactic(none)]
 fn begin<S: Shelf>(secondary: &mut Secondary<S>, told: &RState) -> Result<QAction, No>
     requires running { secondary.old.rvg.core.halted ≡ None }
     requires few { told.now.replay ≤ MOST_NUMBER }
@@ -45,7 +44,6 @@ fn begin<S: Shelf>(secondary: &mut Secondary<S>, told: &RState) -> Result<QActio
 
 // Brings all that is logged into the volumes, and keeps that every region came: the log is emptied behind the replay's start. What waits
 // is given up.
-#[tactic(none)]
 fn close<S: Shelf>(secondary: &mut Secondary<S>, told: &RState) -> Result<QAction, No>
     requires running { secondary.old.rvg.core.halted ≡ None }
     requires replay { told.now.replay ≤ MOST_NUMBER }
@@ -81,7 +79,6 @@ fn close<S: Shelf>(secondary: &mut Secondary<S>, told: &RState) -> Result<QActio
 /// Refusals: 20 where a call answered 7 before, which changes nothing; 7 where a device call failed: then the group is halted; 6 where
 /// the shelf is down; 19 where the log has no number or stamp left. After 7, 6 and 19 the first of what waited is logged, maybe none or
 /// all, and waits no longer; the replay is begun only behind all of it.
-#[tactic(none)]
 pub fn begin_replay<S: Shelf>(
     secondary: &mut Secondary<S>,
     line: &Line,
@@ -90,17 +87,17 @@ pub fn begin_replay<S: Shelf>(
 ) -> Result<QAction, No>
     requires few { id ≤ MOST_NUMBER }
     ensures halted { (disk : ℕ) → secondary.old.rvg.core.halted ≡ Some disk → (result ≡ Err (Halted disk)) × (secondary.new.rvg ≡ secondary.old.rvg) × (secondary.new.waiting ≡ secondary.old.waiting) }
-    ensures action { IfOk result (λ a. a ≡ (heard secondary.old.rvg.core secondary.old.waiting (HearStart line.now id start)).action) }
-    ensures unchanged { secondary.old.rvg.core.halted ≡ None → ((heard secondary.old.rvg.core secondary.old.waiting (HearStart line.now id start)).action ≡ Begin → ⊥)
-        → (result ≡ Ok (heard secondary.old.rvg.core secondary.old.waiting (HearStart line.now id start)).action) × (secondary.new.rvg ≡ secondary.old.rvg) × (secondary.new.waiting ≡ secondary.old.waiting) }
-    ensures state { OnOk result (receiver_of secondary.new.rvg.core secondary.new.waiting ≡ (heard secondary.old.rvg.core secondary.old.waiting (HearStart line.now id start)).state) }
-    ensures begun { (heard secondary.old.rvg.core secondary.old.waiting (HearStart line.now id start)).action ≡ Begin
-        → OnOk result (BegunCopy (writes_of_updates secondary.old.waiting) (told_state secondary.old.rvg.core.log.header.state (heard secondary.old.rvg.core secondary.old.waiting (HearStart line.now id start)).state)
+    ensures action { IfOk result (λ a. a ≡ (replay_heard secondary.old.rvg.core secondary.old.waiting (HearStart line.now id start)).action) }
+    ensures unchanged { secondary.old.rvg.core.halted ≡ None → ((replay_heard secondary.old.rvg.core secondary.old.waiting (HearStart line.now id start)).action ≡ Begin → ⊥)
+        → (result ≡ Ok (replay_heard secondary.old.rvg.core secondary.old.waiting (HearStart line.now id start)).action) × (secondary.new.rvg ≡ secondary.old.rvg) × (secondary.new.waiting ≡ secondary.old.waiting) }
+    ensures state { OnOk result (receiver_of secondary.new.rvg.core secondary.new.waiting ≡ (replay_heard secondary.old.rvg.core secondary.old.waiting (HearStart line.now id start)).state) }
+    ensures begun { (replay_heard secondary.old.rvg.core secondary.old.waiting (HearStart line.now id start)).action ≡ Begin
+        → OnOk result (BegunCopy (writes_of_updates secondary.old.waiting) (told_state secondary.old.rvg.core.log.header.state (replay_heard secondary.old.rvg.core secondary.old.waiting (HearStart line.now id start)).state)
         secondary.old.rvg.core secondary.new.rvg.core (S.meaning secondary.old.rvg.shelf) (S.meaning secondary.new.rvg.shelf)) }
-    ensures left { (heard secondary.old.rvg.core secondary.old.waiting (HearStart line.now id start)).action ≡ Begin → OnOk result (secondary.new.waiting ≡ []) }
+    ensures left { (replay_heard secondary.old.rvg.core secondary.old.waiting (HearStart line.now id start)).action ≡ Begin → OnOk result (secondary.new.waiting ≡ []) }
     ensures ends { secondary.old.rvg.core.halted ≡ None
         → IfErr result (EndsAfter MOST_WAITING secondary.old.waiting secondary.new.waiting secondary.old.rvg.core secondary.new.rvg.core (S.meaning secondary.old.rvg.shelf) (S.meaning secondary.new.rvg.shelf)) }
-    ensures begins { BeginsCopy (writes_of_updates secondary.old.waiting) (told_state secondary.old.rvg.core.log.header.state (heard secondary.old.rvg.core secondary.old.waiting (HearStart line.now id start)).state)
+    ensures begins { BeginsCopy (writes_of_updates secondary.old.waiting) (told_state secondary.old.rvg.core.log.header.state (replay_heard secondary.old.rvg.core secondary.old.waiting (HearStart line.now id start)).state)
         secondary.old.rvg.core secondary.new.rvg.core (S.meaning secondary.old.rvg.shelf) (S.meaning secondary.new.rvg.shelf) }
 {
     if let Some(disk) = secondary.rvg.halted() {
@@ -126,7 +123,6 @@ pub fn begin_replay<S: Shelf>(
 /// Refusals: 20 where a call answered 7 before, 19 exactly where no stamp, run or number is left; these change nothing. 7 where a device
 /// call failed: then a start finds the group from before the call or the one behind it, and the group is halted. 6 where the shelf is
 /// down.
-#[tactic(none)]
 pub fn close_replay<S: Shelf>(
     secondary: &mut Secondary<S>,
     line: &Line,
@@ -138,22 +134,22 @@ pub fn close_replay<S: Shelf>(
     requires start { start ≤ MOST_NUMBER }
     requires end { end ≤ MOST_NUMBER }
     ensures halted { (disk : ℕ) → secondary.old.rvg.core.halted ≡ Some disk → (result ≡ Err (Halted disk)) × (secondary.new.rvg ≡ secondary.old.rvg) × (secondary.new.waiting ≡ secondary.old.waiting) }
-    ensures action { IfOk result (λ a. a ≡ (heard secondary.old.rvg.core secondary.old.waiting (HearDone line.now id start end)).action) }
-    ensures unchanged { secondary.old.rvg.core.halted ≡ None → ((heard secondary.old.rvg.core secondary.old.waiting (HearDone line.now id start end)).action ≡ Close → ⊥)
-        → (result ≡ Ok (heard secondary.old.rvg.core secondary.old.waiting (HearDone line.now id start end)).action) × (secondary.new.rvg ≡ secondary.old.rvg) × (secondary.new.waiting ≡ secondary.old.waiting) }
-    ensures state { OnOk result (receiver_of secondary.new.rvg.core secondary.new.waiting ≡ (heard secondary.old.rvg.core secondary.old.waiting (HearDone line.now id start end)).state) }
-    ensures emptied { (heard secondary.old.rvg.core secondary.old.waiting (HearDone line.now id start end)).action ≡ Close
-        → OnOk result (secondary.new.rvg.core ≡ with_restart secondary.old.rvg.core (told_state secondary.old.rvg.core.log.header.state (heard secondary.old.rvg.core secondary.old.waiting (HearDone line.now id start end)).state) start) }
+    ensures action { IfOk result (λ a. a ≡ (replay_heard secondary.old.rvg.core secondary.old.waiting (HearDone line.now id start end)).action) }
+    ensures unchanged { secondary.old.rvg.core.halted ≡ None → ((replay_heard secondary.old.rvg.core secondary.old.waiting (HearDone line.now id start end)).action ≡ Close → ⊥)
+        → (result ≡ Ok (replay_heard secondary.old.rvg.core secondary.old.waiting (HearDone line.now id start end)).action) × (secondary.new.rvg ≡ secondary.old.rvg) × (secondary.new.waiting ≡ secondary.old.waiting) }
+    ensures state { OnOk result (receiver_of secondary.new.rvg.core secondary.new.waiting ≡ (replay_heard secondary.old.rvg.core secondary.old.waiting (HearDone line.now id start end)).state) }
+    ensures emptied { (replay_heard secondary.old.rvg.core secondary.old.waiting (HearDone line.now id start end)).action ≡ Close
+        → OnOk result (secondary.new.rvg.core ≡ with_restart secondary.old.rvg.core (told_state secondary.old.rvg.core.log.header.state (replay_heard secondary.old.rvg.core secondary.old.waiting (HearDone line.now id start end)).state) start) }
     ensures ends { secondary.old.rvg.core.halted ≡ None
         → IfErr result (λ why. RestartIs (restart_refusal secondary.old.rvg.core start) secondary.old.rvg.core
-        (with_restart secondary.old.rvg.core (told_state secondary.old.rvg.core.log.header.state (heard secondary.old.rvg.core secondary.old.waiting (HearDone line.now id start end)).state) start)
+        (with_restart secondary.old.rvg.core (told_state secondary.old.rvg.core.log.header.state (replay_heard secondary.old.rvg.core secondary.old.waiting (HearDone line.now id start end)).state) start)
         (S.meaning secondary.old.rvg.shelf) (S.meaning secondary.new.rvg.shelf) secondary.new.rvg.core (Err why)) }
-    ensures stands { (heard secondary.old.rvg.core secondary.old.waiting (HearDone line.now id start end)).action ≡ Close
+    ensures stands { (replay_heard secondary.old.rvg.core secondary.old.waiting (HearDone line.now id start end)).action ≡ Close
         → OnOk result (Retains secondary.old.rvg.core secondary.new.rvg.core (S.meaning secondary.old.rvg.shelf) (S.meaning secondary.new.rvg.shelf)) }
     ensures moves { Moves (change_blocks (Some start) secondary.old.rvg.core (S.meaning secondary.old.rvg.shelf))
-        (Saving secondary.old.rvg.core (with_restart secondary.old.rvg.core (told_state secondary.old.rvg.core.log.header.state (heard secondary.old.rvg.core secondary.old.waiting (HearDone line.now id start end)).state) start) (S.meaning secondary.old.rvg.shelf))
+        (Saving secondary.old.rvg.core (with_restart secondary.old.rvg.core (told_state secondary.old.rvg.core.log.header.state (replay_heard secondary.old.rvg.core secondary.old.waiting (HearDone line.now id start end)).state) start) (S.meaning secondary.old.rvg.shelf))
         (S.meaning secondary.old.rvg.shelf) (S.meaning secondary.new.rvg.shelf) }
-    ensures left { (heard secondary.old.rvg.core secondary.old.waiting (HearDone line.now id start end)).action ≡ Close → OnOk result (secondary.new.waiting ≡ []) }
+    ensures left { (replay_heard secondary.old.rvg.core secondary.old.waiting (HearDone line.now id start end)).action ≡ Close → OnOk result (secondary.new.waiting ≡ []) }
     ensures waiting { IfErr result (λ why. secondary.new.waiting ≡ secondary.old.waiting) }
 {
     if let Some(disk) = secondary.rvg.halted() {
