@@ -60,17 +60,21 @@ seek A test (suc n) high on = by (test n) refl
         on
 
 -- how many plexes a volume has
-count_or : Option VolumeEntry → ℕ
+pub count_or : Option VolumeEntry → ℕ
 count_or None = 0
 count_or (Some e) = length e.plexes
 
-clean_high : (o : Option VolumeEntry) (p : ℕ) → count_or o ≤ p → clean_or (plex_in o p) ≡ false
-clean_high None p high = refl
-clean_high (Some e) p high = by (slice_get e.plexes p) refl
+-- beyond them there is none
+pub plex_high : (o : Option VolumeEntry) (p : ℕ) → count_or o ≤ p → plex_in o p ≡ None
+plex_high None p high = refl
+plex_high (Some e) p high = by (slice_get e.plexes p) refl
   where
-    by : (o : Option PlexEntry) → slice_get e.plexes p ≡ o → clean_or (slice_get e.plexes p) ≡ false
-    by None at = ap clean_or at
+    by : (o : Option PlexEntry) → slice_get e.plexes p ≡ o → slice_get e.plexes p ≡ None
+    by None at = at
     by (Some x) at = absurd (let lt = slice_get_within e.plexes p x at in omega (arith, lt, high))
+
+clean_high : (o : Option VolumeEntry) (p : ℕ) → count_or o ≤ p → clean_or (plex_in o p) ≡ false
+clean_high o p high = ap clean_or (plex_high o p high)
 
 -- a volume has a plex that is CLEAN, or none
 clean_any : (A : Type 0) (x : Config) (v : ℕ) → ((p : ℕ) → clean x v p ≡ true → A) → NoneClean x v ⊎ A
