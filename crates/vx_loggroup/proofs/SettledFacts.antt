@@ -245,6 +245,6 @@ settled_import core alike m stands free newest sure = settled_none core alike m
     sure
 
 -- a group that was made has no volume
-pub settled_new : (site : ℕ) (core : Inner) (alike : List Bool) (m : Meaning) → IsNewGroup site core m → SettledFact (record { inner = core; held = None }) alike m
-settled_new site core alike m new = settled_none (record { inner = core; held = None }) alike m (λ v. none_done core.config v m new.stands.on new.newest)
+pub settled_new : (site : ℕ) (old : Meaning) (core : Inner) (alike : List Bool) (m : Meaning) → IsNewGroup site old core m → SettledFact (record { inner = core; held = None }) alike m
+settled_new site old core alike m new = settled_none (record { inner = core; held = None }) alike m (λ v. none_done core.config v m new.stands.on new.newest)
     (record { each = λ v lt off. absurd (let none : length core.config.volumes ≡ 0 = ap length new.volumes in omega (arith, lt, none)) })
