@@ -40,6 +40,7 @@ pub mod CrashGroup
 pub mod ExactWrite
 pub mod FailGroup
 pub mod FailSets
+pub mod Fallen
 pub mod FuseGroup
 pub mod GroundNotes
 pub mod GroupBegun
@@ -66,6 +67,7 @@ pub mod OverImports
 pub mod OverSets
 pub mod PumpGroup
 pub mod RawSets
+pub mod ReachedBack
 pub mod Reaching
 pub mod OverReaching
 pub mod ReadGroup

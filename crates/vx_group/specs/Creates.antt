@@ -6,8 +6,6 @@ use Rattle.vx_disk.specs.Shelf.{Meaning}
 use Rattle.vx_model.specs.declared.errors.Stop.{Stop}
 use Rattle.vx_model.specs.declared.errors.Stop.TheVariants.{No as Refused, OutOfMemory}
 use Rattle.vx_model.specs.declared.no.No.TheVariants.{Size}
-use Rattle.vx_config.specs.declared.config.Config.{Config}
-use Rattle.vx_config.specs.declared.entry.DiskEntry.{DiskEntry}
 use Rattle.vx_copies.specs.Commits.{HaveLabels}
 use Rattle.vx_copies.specs.Marks.{failed_at}
 use Rattle.vx_copyio.specs.Labelling.{HasSmall}
@@ -46,15 +44,6 @@ pub record IsNewGroup (site : ℕ) (old : Meaning) (core : Inner) (m : Meaning) 
   pub failed : (u : ℕ) → failed_at core.config.disks u ≡ true → Rose (old.faults u) (m.faults u)
   pub few : core.config.serial ≤ 1 + length core.config.disks
   pub settled : core.unsettled ≡ false
-
--- a disk is held as failed only where a call on it failed
-pub record StartsFailed (old new : Meaning) (disks : List DiskEntry) : Type 0 where
-  pub each : (u : ℕ) → failed_at disks u ≡ true → Rose (old.faults u) (new.faults u)
-
--- of a new group; else the shelf is handed back
-abbrev pub NewFails : {S G : Type 0} → Meaning → (G → Config) → (G → Meaning) → Result G (S × Stop) → Type 0
-NewFails old config meaning (Ok g) = StartsFailed old (meaning g) (config g).disks
-NewFails old config meaning (Err e) = Unit {0}
 
 -- what is answered where a group is made
 abbrev pub Created : ℕ → Meaning → Meaning → Result Inner Stop → Type 0

@@ -1,9 +1,9 @@
 // A new group.
-ghost use Rattle.std.specs.Prelude.{◌≡◌, ◌<◌, ◌≤◌, ℕ, true, false, length, Err, IfOk};
+ghost use Rattle.std.specs.Prelude.{◌≡◌, ◌<◌, ◌≤◌, ℕ, true, false, length, Err};
 ghost use Rattle.vx_copies.specs.Bodies.{have_blocks};
 ghost use Rattle.vx_copies.specs.Marks.{failed_at};
 ghost use Rattle.vx_copyio.specs.Labelling.{AreLarge, HasSmall};
-ghost use Rattle.vx_group.specs.Creates.{Created, IsReady, SameUnits, StartsFailed};
+ghost use Rattle.vx_group.specs.Creates.{Created, IsReady, SameUnits};
 ghost use Rattle.vx_model.specs.declared.errors.Stop.TheVariants.{No as Refused};
 ghost use Rattle.vx_model.specs.declared.limits.TheConstants.{MOST_DISKS};
 ghost use Rattle.vx_model.specs.declared.no.No.TheVariants.{Size};
@@ -54,7 +54,7 @@ fn prepare<S: Shelf>(shelf: &mut S, site: u32) -> Result<(), Stop>
 /// Makes a group without volumes of the disks of a shelf.
 ///
 /// Answers 4 exactly where a disk has fewer than 1,024 blocks, and then nothing has changed; else 7 only where the count of the disk that
-/// it names rose, and 6 only where the shelf is then down. A disk is held as failed only where a call on it failed. It takes memory.
+/// it names rose, and 6 only where the shelf is then down. It takes memory.
 pub fn start<S: Shelf>(alloc: Global, shelf: &mut S, site: u32) -> Result<Inner, Stop>
     requires some { 0 < (S.meaning shelf.old).units }
     requires few { (S.meaning shelf.old).units ≤ MOST_DISKS }
@@ -62,7 +62,6 @@ pub fn start<S: Shelf>(alloc: Global, shelf: &mut S, site: u32) -> Result<Inner,
     ensures unchanged { HasSmall (S.meaning shelf.old) → shelf.new ≡ shelf.old }
     ensures same { SameUnits (S.meaning shelf.old) (S.meaning shelf.new) }
     ensures created { Created site (S.meaning shelf.old) (S.meaning shelf.new) result }
-    ensures failing { IfOk result (λ core. StartsFailed (S.meaning shelf.old) (S.meaning shelf.new) core.config.disks) }
 {
     if !are_large(shelf) {
         return Err(Stop::No(No::Size));

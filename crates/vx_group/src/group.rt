@@ -24,7 +24,7 @@ ghost use Rattle.vx_group.specs.Holding.{GroupStands, wide};
 ghost use Rattle.vx_kept.specs.Commits.{IsCommitted};
 ghost use Rattle.vx_kept.specs.Trusts.{HasFailed};
 ghost use Rattle.vx_group.specs.Laws.{group_lawful};
-ghost use Rattle.vx_group.specs.Creates.{NewFails, SameUnits};
+ghost use Rattle.vx_group.specs.Creates.{SameUnits};
 ghost use Rattle.vx_group.specs.Regains.{HoldsPlex, Regains};
 ghost use Rattle.vx_group.specs.Resumes.{AtRest, CanImport};
 ghost use Rattle.vx_group.specs.Rvgs.{RvgEnds, set_rvg_refusal};
@@ -69,7 +69,6 @@ impl<S: Shelf> Group<S> {
         ensures small { HasSmall (S.meaning shelf) → result ≡ Err (shelf, Refused Size) }
         ensures same { KeepsUnits (S.meaning shelf) (λ s. S.meaning s) (λ g. g.shelf) result }
         ensures created { GroupCreated site (S.meaning shelf) (λ s. S.meaning s) (λ g. g.core) (λ g. g.shelf) result }
-        ensures failing { NewFails (S.meaning shelf) (λ g. g.core.inner.config) (λ g. S.meaning g.shelf) result }
     {
         let mut shelf = shelf;
         match start(alloc, &mut shelf, site) {
@@ -218,9 +217,10 @@ impl<S: Shelf> Group<S> {
     /// volumes of which a write or a flush failed, and the shelf is handed out. A plex that fails in its flush is detached; where each
     /// plex of a volume fails, they stay ACTIVE.
     ///
-    /// Answers 19 exactly where fewer than 65,536 serials are left, and then nothing has changed; else 7 only where the count of the disk that it names rose,
-    /// and 6 only where the shelf is then down. A refusal gives the group back, without the plexes that were detached; to its volumes nothing was written. It
-    /// makes no device call but flushes and those of commits, behind a refused commit those that write headers back, and takes no memory.
+    /// Answers 19 exactly where fewer than 65,536 serials are left, and then nothing has changed; else 7 only where the count of the disk
+    /// that it names rose, and 6 only where the shelf is then down. A refusal gives the group back, without the plexes that were
+    /// detached; to its volumes nothing was written. It makes no device call but flushes and those of commits, behind a refused commit
+    /// those that write headers back, and takes no memory.
     pub fn deport(self) -> Result<S, (Group<S>, Stop)>
         ensures limit { greatest - margin < self.core.inner.config.serial → IsFull self.core self.shelf (λ g. g.core) (λ g. g.shelf) result }
         ensures ends { GroupDeported self.core (S.meaning self.shelf) (λ s. S.meaning s) (λ g. g.core) (λ g. g.shelf) result }

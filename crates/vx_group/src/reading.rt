@@ -13,7 +13,8 @@ use vx_disk::{Shelf, ShelfError};
 use vx_model::No;
 use vx_volume::{Volume, read};
 
-/// Reads a run of blocks of a volume, from one plex that is ACTIVE: the preferred one or the next in turn, or the first behind it that does not fail.
+/// Reads a run of blocks of a volume, from one plex that is ACTIVE: the preferred one or the next in turn, or the first behind it that does not fail. It fails
+/// only where a call on a disk of each of them failed.
 pub fn read_in<S: Shelf>(
     shelf: &mut S,
     core: &mut GroupCore,

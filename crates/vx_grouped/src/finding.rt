@@ -28,6 +28,7 @@ fn dimmed<R: Rack>(group: LoggedGroup<Untold<R>>) -> Laid<R>
     ensures core { result.core ≡ group.core }
     ensures logs { result.logs ≡ group.logs }
     ensures alike { result.alike ≡ group.alike }
+    ensures fresh { result.fresh ≡ group.fresh }
     ensures stopped { result.stopped ≡ group.stopped }
     ensures shelf { result.shelf ≡ Shade.Dark group.shelf.shelf }
 {

@@ -62,6 +62,7 @@ impl<R: Rack> Laid<R> {
         ensures core { result.core ≡ group.core }
         ensures logs { result.logs ≡ group.logs }
         ensures alike { result.alike ≡ group.alike }
+        ensures fresh { result.fresh ≡ group.fresh }
         ensures stopped { result.stopped ≡ group.stopped }
     {
         let (shelf, rest) = group.apart();
@@ -88,6 +89,7 @@ impl<R: Rack> Laid<R> {
         ensures core { result.core ≡ self.core }
         ensures logs { result.logs ≡ self.logs }
         ensures alike { result.alike ≡ self.alike }
+        ensures fresh { result.fresh ≡ self.fresh }
         ensures stopped { result.stopped ≡ self.stopped }
     {
         LoggedGroup::together(
@@ -160,6 +162,7 @@ impl<R: Rack> Laid<R> {
         ensures core { result.core ≡ self.core }
         ensures logs { result.logs ≡ self.logs }
         ensures flags { result.alike ≡ self.alike }
+        ensures fresh { result.fresh ≡ self.fresh }
         ensures ended { result.stopped ≡ self.stopped }
         ensures alike { Alike (shade_meaning (λ s. R.meaning s) self.shelf) (shade_meaning (λ s. R.meaning s) result.shelf) }
         ensures down { (shade_meaning (λ s. R.meaning s) result.shelf).down ≡ (shade_meaning (λ s. R.meaning s) self.shelf).down }
@@ -176,6 +179,7 @@ impl<R: Rack> Laid<R> {
         ensures core { result.core ≡ self.core }
         ensures logs { result.logs ≡ self.logs }
         ensures flags { result.alike ≡ self.alike }
+        ensures fresh { result.fresh ≡ self.fresh }
         ensures ended { result.stopped ≡ self.stopped }
         ensures alike { Alike (shade_meaning (λ s. R.meaning s) self.shelf) (shade_meaning (λ s. R.meaning s) result.shelf) }
         ensures down { (shade_meaning (λ s. R.meaning s) result.shelf).down ≡ (shade_meaning (λ s. R.meaning s) self.shelf).down }

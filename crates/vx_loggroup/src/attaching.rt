@@ -3,7 +3,7 @@ ghost use Rattle.vx_loggroup.specs.Keeping.{LogsKeep};
 ghost use Rattle.vx_group.specs.Holding.{wide};
 ghost use Rattle.vx_group.specs.Finds.{CoreFinds};
 ghost use Rattle.std.specs.Option.{option_copied};
-ghost use Rattle.std.specs.Prelude.{◌≡◌, ◌⊎◌, ◌<◌, false, IfOk, IsTrue, None, Ok, OnOk, Some, Err, is_some, length, true, ℕ};
+ghost use Rattle.std.specs.Prelude.{◌≡◌, ◌⊎◌, ◌<◌, false, IfOk, IsTrue, None, Ok, OnOk, Some, Err, is_some, true};
 ghost use Rattle.vx_group.specs.Attaches.{GroupAttachEnds, att_refusal, missed_regions};
 ghost use Rattle.vx_group.specs.Calls.{GroupAttaches};
 ghost use Rattle.vx_group.specs.Dets.{DetStops};

@@ -10,7 +10,7 @@ ghost use Rattle.vx_group.specs.Attaches.{GroupAttachEnds, att_refusal, missed_r
 ghost use Rattle.vx_group.specs.Calls.{BackAgrees, GivesBack, GroupCreated, GroupDeported, GroupStays, ImportsAgain, IsFull, KeepsUnits};
 ghost use Rattle.vx_group.specs.Deports.{DeportStops, GroupCanImport};
 ghost use Rattle.vx_copies.specs.Commits.{MoreFailed};
-ghost use Rattle.vx_group.specs.Creates.{NewFails, SameUnits};
+ghost use Rattle.vx_group.specs.Creates.{SameUnits};
 ghost use Rattle.vx_group.specs.Loses.{SameParts};
 ghost use Rattle.vx_kept.specs.Commits.{IsCommitted};
 ghost use Rattle.vx_kept.specs.Keeping.{frame_at};
@@ -83,7 +83,6 @@ impl<S: Shelf> LoggedGroup<S> {
         ensures small { HasSmall (S.meaning shelf) → result ≡ Err (shelf, Refused Size) }
         ensures same { KeepsUnits (S.meaning shelf) (λ s. S.meaning s) (λ g. g.shelf) result }
         ensures created { GroupCreated site (S.meaning shelf) (λ s. S.meaning s) (λ g. g.core) (λ g. g.shelf) result }
-        ensures failing { NewFails (S.meaning shelf) (λ g. g.core.inner.config) (λ g. S.meaning g.shelf) result }
     {
         let mut shelf = shelf;
         match start(alloc, &mut shelf, site) {
@@ -174,6 +173,7 @@ impl<S: Shelf> LoggedGroup<S> {
         ensures ends_maps { MapsEnd self.old.core.inner.config self.new.core.inner.config self.old.stopped self.new.stopped self.old.logs.items self.new.logs.items (S.meaning self.old.shelf) (S.meaning self.new.shelf) }
         ensures left { (v : ℕ) → fmr_at self.new.logs.items v ≡ fmr_at self.old.logs.items v }
         ensures alike { IfOk result (λ n. is_alike self.new.alike n ≡ true) }
+        ensures begins { IfOk result (λ n. is_alike self.new.fresh n ≡ true) }
         ensures flags { (w : ℕ) → is_alike self.old.alike w ≡ true → is_alike self.new.alike w ≡ true }
         ensures stopped { self.new.stopped ≡ self.old.stopped }
     {

@@ -90,6 +90,7 @@ fn may_take(
     ensures clean { result ≡ true → is_unsure stopped.now vol ≡ false }
     ensures maps { result ≡ true → rests rested.now.maps vol ≡ true }
     ensures within { result ≡ true → log_within good config.now vol FmrLog ≡ true }
+    ensures may { is_unsure stopped.now vol ≡ false → rests rested.now.maps vol ≡ true → log_within good config.now vol FmrLog ≡ true → result ≡ true }
 {
     if stopped[vol as usize] {
         return false;

@@ -11,7 +11,6 @@ use Rattle.vx_group.proofs.CreateLemmas.{all_good, cause_before, empty_on, empty
 use Rattle.vx_group.proofs.Standing.{still_large}
 use Rattle.vx_group.proofs.TrustLemmas.{committed_or}
 use Rattle.vx_group.proofs.UnitLemmas.{same_units, then_units}
-use Rattle.vx_disk.proofs.Causing.{Rose_before}
 use Rattle.vx_group.proofs.create.start.Goals as goal
 
 pub commit_first-requires-clause-wanted : goal.commit_first-requires-clause-wanted
@@ -52,10 +51,3 @@ returns-in-Err-commit_first-clause-same g c = then_units (g.S.Shelf.meaning c.ar
 
 pub returns-clause-same : goal.returns-clause-same
 returns-clause-same g c = then_units (g.S.Shelf.meaning c.args.shelf.now) (g.S.Shelf.meaning c.prepare.new.shelf) (g.S.Shelf.meaning c.commit_first.new.shelf) c.prepare.ensures.same (record { units = c.commit_first.ensures.units; size = c.commit_first.ensures.size })
-
-pub returns-clause-failing : goal.returns-clause-failing
-returns-clause-failing g c = record {
-  each = λ u is.
-      Rose_before ((g.S.Shelf.meaning c.args.shelf.now).faults u) ((g.S.Shelf.meaning c.prepare.new.shelf).faults u) ((g.S.Shelf.meaning c.commit_first.new.shelf).faults u) (c.prepare.ensures.faults u)
-      (c.in-Ok-commit_first.ensures.ends.0.grown.disks.blamed u (c.disks_of.ensures.good u) is);
-}

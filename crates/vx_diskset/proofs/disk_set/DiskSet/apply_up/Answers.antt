@@ -6,6 +6,7 @@ use Rattle.vx_diskset.proofs.RawSets.{up_there}
 use Rattle.vx_diskset.proofs.Blamed.{blamed_receiver, blamed_up}
 use Rattle.vx_diskset.proofs.CallsBurn.{called_by, called_up, is_done}
 use Rattle.std.proofs.Common.{refl, subst}
+use Rattle.vx_diskset.proofs.Fallen.{applied_origin}
 use Rattle.vx_diskset.proofs.Receiving.{applied_received, durable_of, receiver_as}
 use Rattle.std.proofs.Common.{subst, sym}
 use Rattle.vx_diskset.specs.DiskSets.{AppliedUp}
@@ -15,6 +16,10 @@ use Rattle.vx_diskset.proofs.OverCalled.{blamed_over, over_later, over_role}
 use Rattle.vx_diskset.specs.Noted.{OversCalled}
 use Rattle.vx_diskset.proofs.OverNoted.{overs_raw}
 use Rattle.vx_diskset.proofs.disk_set.DiskSet.apply_up.Goals as goal
+
+pub returns-in-Up-clause-applied : goal.returns-in-Up-clause-applied
+returns-in-Up-clause-applied g c = λ beside n stands can apart.
+    applied_origin beside n c.args.to c.args.self.now c.in-Up.rvg c.apply_group.new.rvg c.apply_group.result c.in-Up.is stands can.running (λ up. c.apply_group.ensures.applied beside n up can.running)
 
 pub returns-in-Up-clause-called : goal.returns-in-Up-clause-called
 returns-in-Up-clause-called g c = λ beside n stands raw.
