@@ -52,3 +52,8 @@ pub mod UnitLemmas
 pub mod MissingLemmas
 pub mod TrustingLemmas
 pub mod TrustStillLemmas
+pub mod SettleFinds
+pub mod SettleCalls
+pub mod SettleMore
+pub mod SettleDeport
+pub mod UnsureMarks
