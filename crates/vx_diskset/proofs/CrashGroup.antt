@@ -24,7 +24,7 @@ use Rattle.vx_disk.specs.declared.shelf.Shelf.{Ghosts}
 use Rattle.vx_diskset.specs.declared.disk_set.DiskSet.{DiskSet}
 use Rattle.vx_diskset.specs.declared.disk_set.DiskSet.TheVariants.{Up, Down}
 use Rattle.vx_rvg.specs.declared.group.Rvg.{Rvg}
-use Rattle.vx_diskset.specs.DiskSets.{AppliedAt, AppliedUp, CrashedAt, CrashedTo, WroteAt, WroteUp, fell_to, with_first}
+use Rattle.vx_diskset.specs.DiskSets.{CrashedAt, CrashedTo, WroteUp, WroteAt, AppliedUp, AppliedAt, fell_to, with_first}
 use Rattle.vx_model.specs.declared.no.No.{No}
 use Rattle.vx_model.specs.declared.no.No.TheVariants.{Device, Limit, Down as Off}
 use Rattle.vx_model.proofs.Contents.{folded_size}
@@ -34,8 +34,8 @@ use Rattle.vx_diskset.specs.Lasts.{FoundWith, LeftWith}
 use Rattle.vx_diskset.specs.Holds.{HasDoubted, HasWrites, KeptSite, itself, state_with, sure_of}
 use Rattle.vx_diskset.specs.Layouts.{LiesOn, raw_units, units_of, LiesRaw}
 use Rattle.vx_diskset.specs.Holds.{most_with}
-use Rattle.vx_diskset.specs.Stands.{CutAt, IsDownAt, IsHeldAt, IsToldAt, IsUngrouped, IsUpAt, SiteStands}
-use Rattle.vx_diskset.proofs.Laying.{laid_in, lies_as, lies_sized, raw_sized, sizes_of, units_raw}
+use Rattle.vx_diskset.specs.Stands.{IsUpAt, IsHeldAt, IsDownAt, CutAt, IsToldAt, IsUngrouped, SiteStands}
+use Rattle.vx_diskset.proofs.Laying.{laid_in, lies_as, lies_sized, sizes_of, raw_sized, units_raw}
 use Rattle.vx_diskset.proofs.BesideLemmas.{doubted, writes_itself}
 use Rattle.vx_diskset.proofs.StaysUp.{held_up}
 use Rattle.vx_events.proofs.Places.{never_some, some_same}
@@ -261,12 +261,12 @@ module _ {R : Type 0} {g : Ghosts R} where
       held_crashed n rvg.shelf shelf new same held.0 held.1 lawful rack stopped
 
   -- the crash of a site that has the first of its writes alone, as one of the site
-  pub fell_to : {beside : KeptBeside} (n : Node) (limit : ℕ) (new : DiskSet R g) → beside.doubt ≡ None → CrashedAt beside (with_first n limit) new → CrashedTo beside n limit new
-  fell_to {beside} n limit new sure fell = ⊎_elim (λ own. by fell.kept own fell.count fell.least fell.most fell.stands) (λ other. absurd (never_some (sym sure ∙ other))) fell.is
+  pub fell_within : {beside : KeptBeside} (n : Node) (limit : ℕ) (new : DiskSet R g) → beside.doubt ≡ None → CrashedAt beside (with_first n limit) new → CrashedTo beside n limit new
+  fell_within {beside} n limit new sure fell = ⊎_elim (λ own. by fell.kept own fell.count fell.least fell.most fell.stands) (λ other. absurd (never_some (sym sure ∙ other))) fell.is
     where
-      by : (k : KeptSite) → k ≡ itself beside (with_first n limit) → (count : ℕ) → k.node.safe ≤ count → count ≤ length k.node.log → SiteStands (sure_of k) (crashed k.node count) new → CrashedTo beside n limit new
+      by : (k : KeptSite) → k ≡ itself beside (with_first n limit) → (count : ℕ) → k.node.safe ≤ count → count ≤ length k.node.log → SiteStands (sure_of k) (fell_to (with_first n limit) k.node count) new → CrashedTo beside n limit new
       by k own =
-          subst (λ (x : KeptSite). (count : ℕ) → x.node.safe ≤ count → count ≤ length x.node.log → SiteStands (sure_of x) (crashed x.node count) new → CrashedTo beside n limit new) (sym own)
+          subst (λ (x : KeptSite). (count : ℕ) → x.node.safe ≤ count → count ≤ length x.node.log → SiteStands (sure_of x) (fell_to (with_first n limit) x.node count) new → CrashedTo beside n limit new) (sym own)
           (λ count least most stands.
           let few : count ≤ limit = omega (arith, most, length-take limit n.log) in
           record {
@@ -290,7 +290,7 @@ module _ {R : Type 0} {g : Ghosts R} where
 
   pub applied_off : {beside : KeptBeside} (n : Node) (to : ℕ) (old mid new : DiskSet R g) (why : No) → is_off why ≡ true → beside.doubt ≡ None → AppliedUp beside n to old mid (Err why)
       → (CutAt beside (with_first n n.safe) mid → CrashedAt beside (with_first n n.safe) new) → AppliedAt beside n to old new (Err why)
-  applied_off n to old mid new Off off sure is falls = (is.0, fell_to n n.safe new sure (falls is.1))
+  applied_off n to old mid new Off off sure is falls = (is.0, fell_within n n.safe new sure (falls is.1))
   applied_off n to old mid new other off sure is falls = absurd (cc)
 
   pub applied_on : (beside : KeptBeside) (n : Node) (to : ℕ) (old new : DiskSet R g) (why : No) → is_off why ≡ false → AppliedUp beside n to old new (Err why) → AppliedAt beside n to old new (Err why)

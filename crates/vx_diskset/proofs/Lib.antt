@@ -39,8 +39,8 @@ pub mod CallsBurn
 pub mod CrashGroup
 pub mod ExactWrite
 pub mod FailGroup
-pub mod FailSets
 pub mod Fallen
+pub mod FailSets
 pub mod FuseGroup
 pub mod GroundNotes
 pub mod GroupBegun

@@ -8,7 +8,7 @@ use Rattle.vx_history.specs.Steps.{burned, worked}
 use Rattle.vx_history.specs.World.{Node, Fuse}
 use Rattle.vx_history.proofs.Fuses.{burned_twice}
 use Rattle.vx_disk.specs.Shelf.{Image, Meaning}
-use Rattle.vx_grouped.specs.SetFuses.{FuseOn}
+use Rattle.vx_diskset.specs.Fuses.{FuseOn}
 use Rattle.vx_rvg.specs.Views.{Core}
 use Rattle.vx_diskset.specs.DiskSets.{halted_at, with_first}
 use Rattle.vx_diskset.specs.Holds.{KeptBeside, HasWrites, most_with, state_with}

@@ -30,7 +30,7 @@ use Rattle.vx_diskset.specs.declared.disk_set.DiskSet.{DiskSet}
 use Rattle.vx_diskset.specs.declared.disk_set.DiskSet.TheVariants.{Up, Receives}
 use Rattle.vx_diskset.specs.Shelves.{LoggedAs, MovesOn}
 use Rattle.vx_diskset.proofs.RvgMoves.{no_moves, then_moves}
-use Rattle.vx_diskset.specs.DiskSets.{CanLog, CrashedAt, halted_at, halted_with, with_first}
+use Rattle.vx_diskset.specs.DiskSets.{CanLog, halted_at, halted_with, CrashedAt, with_first}
 use Rattle.vx_diskset.specs.Fuses.{FuseOn}
 use Rattle.vx_grouped.specs.SiteEnds.{is_off}
 use Rattle.vx_diskset.specs.Holds.{KeptBeside, HasWrites, most_with, state_with}
@@ -51,11 +51,11 @@ use Rattle.vx_diskset.proofs.MakeRoom.{rose_later}
 use Rattle.vx_diskset.proofs.Mores.{more_none, more_then, wait_more}
 use Rattle.vx_diskset.proofs.Laying.{laid_in}
 use Rattle.vx_diskset.proofs.NeedLemmas.{needs_less}
+use Rattle.vx_diskset.proofs.CrashGroup.{fell_within}
+use Rattle.vx_diskset.proofs.ReachedBack.{back_first, back_halted, held_first, like, reached_more, reached_none, receiver_burned}
 use Rattle.vx_diskset.proofs.Receiving.{as_receiver, durable_of, never_some, receiver_volumes, up_receiver}
 use Rattle.vx_diskset.proofs.StaysUp.{drop-take_none, up_worked}
 use Rattle.vx_diskset.proofs.RawSets.{receiver_there, up_there}
-use Rattle.vx_diskset.proofs.CrashGroup.{fell_to}
-use Rattle.vx_diskset.proofs.ReachedBack.{back_first, back_halted, held_first, like, reached_more, reached_none, receiver_burned}
 
 -- ---- lists
 
@@ -391,7 +391,7 @@ module _ {R : Type 0} {g : Ghosts R} where
   -- an apply whose fuse ran out, and the crash behind it
   pub reached_off : {beside : KeptBeside} (n : Node) (count : ℕ) (old mid new : DiskSet R g) (why : No) → is_off why ≡ true → beside.doubt ≡ None → ReachedUp beside n count old mid (Err why)
       → (CutAt beside (with_first n (n.safe + count)) mid → CrashedAt beside (with_first n (n.safe + count)) new) → ReachedAt beside n count old new (Err why)
-  reached_off n count old mid new IsOff off sure is falls = (is.0, fell_to n (n.safe + count) new sure (falls is.1))
+  reached_off n count old mid new IsOff off sure is falls = (is.0, fell_within n (n.safe + count) new sure (falls is.1))
   reached_off n count old mid new other off sure is falls = absurd (cc)
 
   pub reached_on : (beside : KeptBeside) (n : Node) (count : ℕ) (old new : DiskSet R g) (why : No) → is_off why ≡ false → ReachedUp beside n count old new (Err why) → ReachedAt beside n count old new (Err why)

@@ -61,13 +61,13 @@ halted_with n x disk = record n { log = n.log ++ x ∷ []; halted = Some disk; f
 abbrev pub halted_at : Node → ℕ → Node
 halted_at n disk = record n { halted = Some disk; fuse = burned n.fuse }
 
--- a site that crashed as another one, with so many writes; what it notes of its group stays
-abbrev pub fell_to : (n k : Node) → (count : ℕ) → Node
-fell_to n k count = record (crashed k count) { group = n.group }
-
 -- a site with the first of its writes alone, so many
 abbrev pub with_first : Node → ℕ → Node
 with_first n k = record n { log = take k n.log }
+
+-- a site that crashed as another one, with so many writes; what it notes of its group stays
+abbrev pub fell_to : (n k : Node) → (count : ℕ) → Node
+fell_to n k count = record (crashed k count) { group = n.group }
 
 abbrev pub no_number : No
 no_number = Limit Number most_number

@@ -1,5 +1,5 @@
 -- A peer that takes what it is handed does as a peer must.
-use Rattle.std.proofs.Common.{◌≡◌, ◌⊎◌, ℕ, zero, suc, ◌+◌, ◌<◌, ◌≤◌, [], ◌∷◌, ◌++◌, length, refl, ap, sym, ⊎_elim, inl, inr, arith, length-append, Bool, true, false, subst, slice_get, Some}
+use Rattle.std.proofs.Common.{◌≡◌, ◌∙◌, ◌⊎◌, ℕ, zero, suc, ◌+◌, ◌<◌, ◌≤◌, [], ◌∷◌, ◌++◌, length, refl, ap, sym, ⊎_elim, inl, inr, arith, length-append, Bool, true, false, subst, slice_get, Some}
 use Rattle.std.specs.Prelude.{MatchBool}
 use Rattle.vx_model.specs.Content.{blocks_in}
 use Rattle.vx_model.specs.declared.call.Update.{Update}

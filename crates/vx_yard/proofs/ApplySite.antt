@@ -5,7 +5,7 @@ use Rattle.vx_history.specs.Doubts.{After, Doubted, happened}
 use Rattle.vx_history.specs.Events.{linked_sites}
 use Rattle.vx_history.specs.Refusals.{Outcome}
 use Rattle.vx_history.specs.Step.{step}
-use Rattle.vx_history.specs.Steps.{burned, worked, worked_on}
+use Rattle.vx_history.specs.Steps.{burned, crashed, worked, worked_on}
 use Rattle.vx_history.specs.World.{Fuse, Gathering, Link, Node, Packet}
 use Rattle.vx_history.specs.declared.event.Event.{Event}
 use Rattle.vx_history.specs.declared.event.Event.TheVariants.{Apply as ApplyAt, Fault}
@@ -24,14 +24,11 @@ use Rattle.vx_script.specs.declared.line.ScriptLine.TheVariants.{Apply}
 use Rattle.vx_diskset.proofs.KeepsFailing.{same_on}
 use Rattle.vx_diskset.specs.Asked.{FailsAs, FusedAs, LeavesFuse, SameFailing, disks_told, size_in}
 use Rattle.vx_diskset.specs.Burning.{Burnt, NoMore}
-use Rattle.vx_diskset.specs.DiskSets.{AppliedAt, AppliedWith, CanApply, CrashedTo, fell_to, halted_at}
+use Rattle.vx_diskset.specs.DiskSets.{AppliedAt, AppliedWith, CanApply, CrashedTo, halted_at}
 use Rattle.vx_diskset.specs.Holds.{KeptBeside, beside_of, itself, sure_of}
 use Rattle.vx_diskset.proofs.Roles.{role_like}
-use Rattle.vx_diskset.specs.Stands.{KeepsRole, OverStands, RoleIs, SiteStands}
+use Rattle.vx_diskset.specs.Stands.{KeepsRole, RoleIs, SiteStands}
 use Rattle.vx_diskset.specs.declared.disk_set.DiskSet.{DiskSet}
-use Rattle.vx_diskset.specs.declared.disk_set.DiskSet.TheVariants.{Over}
-use Rattle.vx_diskset.specs.declared.over_set.OverSite.{OverSite}
-use Rattle.vx_diskset.specs.declared.over_set.OverSite.TheVariants.{Deported as OverAway, Down as OverFell, Gone as NoOver, Origin as OriginSite, Receiver as ReceiverSite}
 use Rattle.vx_effects.proofs.Effects.{changes_then}
 use Rattle.vx_effects.proofs.Fitting.{fit_happened}
 use Rattle.vx_effects.proofs.Leaving.{fit_worked}

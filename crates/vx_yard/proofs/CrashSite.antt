@@ -245,8 +245,7 @@ module _ {R : Type 0} {g : Ghosts R} where
             rose = rose_still old new s before after changed.there changed.later changed.disk_sets;
           })
 
-      doubt_by : (o : Option After) → d.after s ≡ o → (k : KeptSite) → doubt_of d.world s (d.after s) ≡ Some k → (count : ℕ) → crash_count (d.world.nodes s) count ≡ count → k.node.safe ≤ count → count ≤ length k.node.log → SiteStands (sure_of k) (fell_to n k.node count) after
-          → Falls d s old new
+      doubt_by : (o : Option After) → d.after s ≡ o → (k : KeptSite) → doubt_of d.world s (d.after s) ≡ Some k → (count : ℕ) → crash_count (d.world.nodes s) count ≡ count → k.node.safe ≤ count → count ≤ length k.node.log → SiteStands (sure_of k) (fell_to n k.node count) after → Falls d s old new
       doubt_by None none k other = absurd (never_some (sym (ap (λ (o : Option After). doubt_of d.world s o) none) ∙ other))
       doubt_by (Some a) some k other =
           let kept : (let x : KeptSite = record { node = a.node; links = row_links a.row d.world.sites; headers = d.world.headers s } in x) ≡ k =

@@ -6,7 +6,6 @@ use Rattle.vx_diskset.proofs.RawSets.{up_there}
 use Rattle.vx_diskset.proofs.Blamed.{blamed_receiver, blamed_up}
 use Rattle.vx_diskset.proofs.CallsBurn.{called_by, called_up, is_done}
 use Rattle.std.proofs.Common.{refl, subst}
-use Rattle.vx_diskset.proofs.Fallen.{applied_origin}
 use Rattle.vx_diskset.proofs.Receiving.{applied_received, durable_of, receiver_as}
 use Rattle.std.proofs.Common.{subst, sym}
 use Rattle.vx_diskset.specs.DiskSets.{AppliedUp}
@@ -17,10 +16,6 @@ use Rattle.vx_diskset.specs.Noted.{OversCalled}
 use Rattle.vx_diskset.proofs.OverNoted.{overs_raw}
 use Rattle.vx_diskset.proofs.disk_set.DiskSet.apply_up.Goals as goal
 
-pub returns-in-Up-clause-applied : goal.returns-in-Up-clause-applied
-returns-in-Up-clause-applied g c = λ beside n stands can apart.
-    applied_origin beside n c.args.to c.args.self.now c.in-Up.rvg c.apply_group.new.rvg c.apply_group.result c.in-Up.is stands can.running (λ up. c.apply_group.ensures.applied beside n up can.running)
-
 pub returns-in-Up-clause-called : goal.returns-in-Up-clause-called
 returns-in-Up-clause-called g c = λ beside n stands raw.
     called_up NoMore (said_by c.apply_group.result) beside n c.args.self.now (Up c.apply_group.new.rvg) c.in-Up.rvg c.in-Up.is stands
@@ -30,7 +25,7 @@ returns-in-Up-clause-called g c = λ beside n stands raw.
 pub returns-in-Up-clause-applied : goal.returns-in-Up-clause-applied
 returns-in-Up-clause-applied g c = λ beside n stands can apart.
     let at = up_there beside n c.args.self.now c.in-Up.rvg c.in-Up.is stands in
-    applied_at beside n c.args.to c.args.self.now c.in-Up.rvg c.apply_group.new.rvg c.apply_group.result c.in-Up.is at.0 (c.apply_group.ensures.applied beside n at.1 can.running)
+    applied_at beside n c.args.to c.args.self.now c.in-Up.rvg c.apply_group.new.rvg c.apply_group.result c.in-Up.is at.0 (at.1.durable can.running) (c.apply_group.ensures.applied beside n at.1 can.running)
 
 pub returns-in-Receives-clause-applied : goal.returns-in-Receives-clause-applied
 returns-in-Receives-clause-applied g c = λ beside n stands can apart.

@@ -4,8 +4,12 @@ use Rattle.vx_diskset.specs.Stands.{CutAt, IsToldAt, SiteStands}
 use Rattle.vx_diskset.proofs.OverFalls.{fell_asked, fell_later, fell_role, fell_seen, fell_stopped, fell_notes}
 use Rattle.vx_diskset.proofs.RawSets.{cut_received, receiver_there, up_there}
 use Rattle.vx_diskset.proofs.CrashGroup.{crashed_at, cut_crashed, held_crashed}
-use Rattle.vx_diskset.proofs.Fallen.{group_fell, received_fell, up_fell}
-use Rattle.vx_diskset.specs.declared.disk_set.DiskSet.TheVariants.{Down, OfGroup}
+use Rattle.vx_group.specs.Holding.{wide}
+use Rattle.vx_group.specs.Laws.{group_lawful}
+use Rattle.vx_untold.specs.Shades.{shade_lawful, shade_meaning}
+use Rattle.vx_diskset.proofs.Fallen.{group_fell, over_fell, received_fell, up_fell}
+use Rattle.vx_diskset.specs.DiskSets.{with_first}
+use Rattle.vx_diskset.specs.declared.disk_set.DiskSet.TheVariants.{Down, OfGroup, Over}
 use Rattle.vx_diskset.proofs.Asking.{crash_did}
 use Rattle.vx_diskset.proofs.KeepsFailing.{stopped_up}
 use Rattle.vx_diskset.proofs.Receiving.{receiver_held}
@@ -26,8 +30,9 @@ pub returns-in-Up-clause-durable : goal.returns-in-Up-clause-durable
 returns-in-Up-clause-durable g c = λ beside n stands state running.
     let lawful = (g.met.R.Shelf g.world.𝓛 g.world.𝓜 g.world.𝓡 ((λ s x. x), (λ x. x), (λ x. x), λ x. x)).lawful in
     let is_rack = (g.met.R.Rack g.world.𝓛 g.world.𝓜 g.world.𝓡 ((λ s x. x), (λ x. x), (λ x. x), λ x. x)).rack in
+    let at = up_there beside n c.args.self c.in-Up.rvg c.in-Up.is stands in
     up_fell beside n c.args.self (Down c.crash.new.self) c.in-Up.rvg c.in-Up.is stands running
-    (crashed_at n c.in-Up.rvg.core c.in-Up.rvg.shelf c.into_shelf-rack.result c.crash.new.self c.into_shelf-rack.ensures (subst (λ e. SiteStands beside n e) c.in-Up.is stands)
+    (crashed_at n c.in-Up.rvg.core c.in-Up.rvg.shelf c.into_shelf-rack.result c.crash.new.self c.into_shelf-rack.ensures at.0 at.1
     (lawful c.crash.new.self) (is_rack c.crash.new.self) c.crash.ensures.stopped)
 
 pub returns-in-Up-clause-cut : goal.returns-in-Up-clause-cut
@@ -87,6 +92,12 @@ returns-in-OfGroup-clause-later g c = set_fell c.args.pick c.args.self c.in-OfGr
 
 pub returns-in-Over-clause-crashed : goal.returns-in-Over-clause-crashed
 returns-in-Over-clause-crashed g c = λ beside n stands state. c.crash-in-Over.ensures.crashed beside n (subst (λ e. SiteStands beside n e) c.in-Over.is stands) state
+
+pub returns-in-Over-clause-durable : goal.returns-in-Over-clause-durable
+returns-in-Over-clause-durable g c = λ beside n stands state running.
+    let laws = shade_lawful g.R.Shelf.meaning (g.met.R.Shelf g.world.𝓛 g.world.𝓜 g.world.𝓡 ((λ s x. x), (λ x. x), (λ x. x), λ x. x)).lawful in
+    over_fell (λ f. group_lawful (wide f.laid.core) (shade_meaning g.R.Shelf.meaning f.laid.shelf) (laws f.laid.shelf) f.laid.stands.group.stands) beside n state running c.args.self (Over c.crash-in-Over.result) c.in-Over.over c.in-Over.is stands
+    (λ cut. c.crash-in-Over.ensures.held beside (with_first n n.safe) cut)
 
 pub returns-in-Over-clause-cut : goal.returns-in-Over-clause-cut
 returns-in-Over-clause-cut g c = λ beside n cut. c.crash-in-Over.ensures.held beside n (subst (λ e. CutAt beside n e) c.in-Over.is cut)

@@ -1,5 +1,5 @@
--- `kept`: what it makes of the volumes, and what is noted of the maps of a site.
-use Rattle.std.proofs.Common.{◌∙◌, ◌≡◌, subst, sym}
+-- `kept`: what it makes of the volumes, and what is noted of the maps of a site stays so.
+use Rattle.std.proofs.Common.{◌∙◌, sym, ◌≡◌, subst}
 use Rattle.vx_disk.specs.Moves.{Nowhere}
 use Rattle.vx_grouped.specs.GroupSites.{UpNoted}
 use Rattle.vx_grouped.specs.SiteMaps.{StaysMapped}
