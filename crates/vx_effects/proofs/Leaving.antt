@@ -12,7 +12,7 @@ use Rattle.vx_history.specs.Steps.{burned, fused, stopped_by, worked_on}
 use Rattle.vx_history.specs.Stops.{IsOpen, WritesAt}
 use Rattle.vx_history.specs.World.{FuseSet, empty_world, Node, Packet, World, updated, with_node, Link as LinkOf}
 use Rattle.vx_history.specs.declared.event.Event.{Event}
-use Rattle.vx_history.specs.declared.event.Event.TheVariants.{Site, Raw, Group, Write, Read, Apply, Pump, Tick, Deliver, Connect, Cut, Pause, Resume, Wait, Link, Set, Crash, Deport, Recover, Fault}
+use Rattle.vx_history.specs.declared.event.Event.TheVariants.{Site, Raw, Group, Volumes, Write, Read, Apply, Pump, Tick, Deliver, Connect, Cut, Pause, Resume, Wait, Link, Set, Crash, Deport, Fall, Recover, Fault}
 use Rattle.vx_history.specs.declared.event.LinkPart.TheVariants.{Joins, Made, Marked, Opened}
 use Rattle.vx_model.specs.declared.link.SyncMode.{SyncMode}
 use Rattle.vx_model.specs.declared.no.No.{No}
@@ -78,6 +78,7 @@ writes_remains : (d : Doubted) (e : Event) (s : ℕ) → LinksFit d → WritesAt
 writes_remains d (Site name disks blocks) s fit writes = absurd writes
 writes_remains d (Raw p) s fit writes = absurd writes
 writes_remains d (Group p) s fit writes = absurd writes
+writes_remains d (Volumes p log xs) s fit writes = absurd writes
 writes_remains d (Write p volume start bytes fails) s fit writes = settled_remains d.world (Write p volume start bytes fails) s (outcome_moves d.world (Write p volume start bytes fails) tt)
 writes_remains d (Read p volume start count) s fit writes = absurd writes
 writes_remains d (Apply p count reached) s fit writes = absurd writes
@@ -96,6 +97,7 @@ writes_remains d (Link p q sync Opened) s fit writes = settled_remains d.world (
 writes_remains d (Set p q sync) s fit writes = settled_remains d.world (Set p q sync) s (outcome_moves d.world (Set p q sync) tt)
 writes_remains d (Crash p kept) s fit writes = absurd writes
 writes_remains d (Deport p) s fit writes = absurd writes
+writes_remains d (Fall p) s fit writes = absurd writes
 writes_remains d (Recover p fails) s fit writes = absurd writes
 writes_remains d (Fault p disk) s fit writes = settled_remains d.world (Fault p disk) s (outcome_moves d.world (Fault p disk) tt)
 
@@ -104,6 +106,7 @@ written_done : (d : Doubted) (e : Event) (s : ℕ) → WritesAt d.world e s → 
 written_done d (Site name disks blocks) s writes fit = absurd writes
 written_done d (Raw p) s writes fit = absurd writes
 written_done d (Group p) s writes fit = absurd writes
+written_done d (Volumes p log xs) s writes fit = absurd writes
 written_done d (Write p volume start bytes fails) s writes fit = fit_happened d (Write p volume start bytes fails) false fit
 written_done d (Read p volume start count) s writes fit = absurd writes
 written_done d (Apply p count reached) s writes fit = absurd writes
@@ -119,6 +122,7 @@ written_done d (Link p q sync part) s writes fit = fit_happened d (Link p q sync
 written_done d (Set p q sync) s writes fit = fit_happened d (Set p q sync) false fit
 written_done d (Crash p kept) s writes fit = absurd writes
 written_done d (Deport p) s writes fit = absurd writes
+written_done d (Fall p) s writes fit = absurd writes
 written_done d (Recover p fails) s writes fit = absurd writes
 written_done d (Fault p disk) s writes fit = fit_happened d (Fault p disk) false fit
 

@@ -1,4 +1,5 @@
 pub mod Admission
+pub mod DataLists
 pub mod Doubts
 pub mod Events
 pub mod Fits
@@ -12,6 +13,7 @@ pub mod KeptLinks
 pub mod Likes
 pub mod LinkForms
 pub mod Listed
+pub mod Looks
 pub mod MapChanges
 pub mod Missing
 pub mod Receiving
@@ -23,4 +25,5 @@ pub mod Sound
 pub mod Step
 pub mod Steps
 pub mod Stops
+pub mod Volumes
 pub mod World

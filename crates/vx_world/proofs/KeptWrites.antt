@@ -109,7 +109,7 @@ written_if_leaves (Goes changes) w p x fails up own fits =
     let v : World = Events.links_changed w p x in
     Guards.unless_holds (Keeps w) _ _ w (Events.put_in v p x fails) (keeps_same w)
     (λ _. keeps_trans w v (Events.put_in v p x fails).world (keeps_links w w (keeps_same w) v.links (made_rows w p (λ k. Events.link_after (w.nodes p) x k (w.links p k)) (λ k. refl)))
-    (put_leaves v p x up own (λ f. fits (record { sized = f.sized; logs = f.logs; held = f.held; alike = f.alike })) fails))
+    (put_leaves v p x up own (λ f. fits (record { sized = f.sized; logs = f.logs; held = f.held; alike = f.alike; alone = f.alone })) fails))
 
 -- the tests of a write say that it fits
 pub tested_fits : (n : Node) (x : Write) → IsSized n → (is_wrong_count (blocks_in x.bytes) || is_too_large n.ring (blocks_in x.bytes)) ≡ false
