@@ -1,5 +1,5 @@
 -- The begin of a replay behind the logging of all that waits.
-use Rattle.std.proofs.Common.{◌≡◌, ◌∙◌, inl, inr, ⊎_elim, ℕ, zero, suc, ◌+◌, ◌<◌, ◌≤◌, Bool, true, false, List, [], ◌∷◌, length, take, drop, Option, Some, None, refl, sym, ap, subst, arith}
+use Rattle.std.proofs.Common.{◌≡◌, ◌∙◌, inl, inr, ⊎_elim, ℕ, zero, suc, ◌+◌, ◌≤◌, Bool, true, false, List, [], ◌∷◌, length, take, drop, Option, Some, None, refl, sym, ap, subst, arith}
 use Rattle.std.specs.Prelude.{Result, Ok, Err, leb, if◌then◌else◌}
 use Rattle.std.proofs.lemmas.Bool.Decides.{nat_tests}
 use Rattle.std.proofs.lemmas.List.{length-map, take_all}
@@ -26,7 +26,7 @@ use Rattle.vx_srl.specs.Views.{most_number}
 use Rattle.vx_rvg.specs.Contents.{write_of_update}
 use Rattle.vx_rvg.specs.Holdings.{Holding, kept_in}
 use Rattle.vx_rvg.specs.Saves.{SaveIs, change_refusal, with_new_state}
-use Rattle.vx_rvg.specs.Stands.{FoundAs, FoundGroup, Retains, Saving, Stands}
+use Rattle.vx_rvg.specs.Stands.{FoundAs, Retains, Saving, Stands}
 use Rattle.vx_rvg.specs.Views.{Core, last_of}
 use Rattle.vx_rvg.proofs.ContentFacts.{kept_all}
 use Rattle.vx_secondary.specs.Logging.{EndsAfter, EndsLogging, Grows, Logging, LogsAll, Own, SameGroup, Step}
