@@ -3,5 +3,3 @@ pub mod Tallies
 pub mod RunMarks
 pub mod SlotMarks
 pub mod Fits
-pub mod Steps
-pub mod JoinMarks

@@ -8,7 +8,6 @@
 mod counting;
 mod dcm;
 mod fit;
-mod joining;
 mod room;
 mod sizes;
 

@@ -6,4 +6,3 @@ pub mod Disks
 pub mod Hearings
 pub mod Holds
 pub mod Making
-pub mod Converting

@@ -104,6 +104,9 @@ fn again(
 ) -> Result<Secondary<MemShelf>, OutOfMemory> {
     let mut shelf = secondary.into_rvg().into_shelf();
     shelf.crash(0);
+    if shelf.is_down() {
+        shelf.revive();
+    }
     if shelf.units() != 3
         || shelf.size(0) < LEAST_BLOCKS
         || shelf.size(1) != 70

@@ -1,5 +1,5 @@
 -- The begin of a replay behind the logging of all that waits.
-use Rattle.std.proofs.Common.{◌≡◌, ◌∙◌, inl, inr, ⊎_elim, ℕ, zero, suc, ◌+◌, ◌<◌, ◌≤◌, Bool, true, false, List, [], ◌∷◌, length, take, drop, Option, Some, None, refl, sym, ap, subst, arith}
+use Rattle.std.proofs.Common.{◌≡◌, ◌∙◌, inl, inr, ⊎_elim, ℕ, zero, suc, ◌+◌, ◌≤◌, Bool, true, false, List, [], ◌∷◌, length, take, drop, Option, Some, None, refl, sym, ap, subst, arith}
 use Rattle.std.specs.Prelude.{Result, Ok, Err, leb, if◌then◌else◌}
 use Rattle.std.proofs.lemmas.Bool.Decides.{nat_tests}
 use Rattle.std.proofs.lemmas.List.{length-map, take_all}
@@ -26,7 +26,7 @@ use Rattle.vx_srl.specs.Views.{most_number}
 use Rattle.vx_rvg.specs.Contents.{write_of_update}
 use Rattle.vx_rvg.specs.Holdings.{Holding, kept_in}
 use Rattle.vx_rvg.specs.Saves.{SaveIs, change_refusal, with_new_state}
-use Rattle.vx_rvg.specs.Stands.{FoundAs, FoundGroup, Retains, Saving, Stands}
+use Rattle.vx_rvg.specs.Stands.{FoundAs, Retains, Saving, Stands}
 use Rattle.vx_rvg.specs.Views.{Core, last_of}
 use Rattle.vx_rvg.proofs.ContentFacts.{kept_all}
 use Rattle.vx_secondary.specs.Logging.{EndsAfter, EndsLogging, Grows, Logging, LogsAll, Own, SameGroup, Step}
@@ -75,12 +75,16 @@ receiver_as : (line one : Line) (last last1 waiting waiting1 session session1 : 
 receiver_as line one last last1 waiting waiting1 session session1 mark phase replay end a b d e =
     λ i. record { line = a i; last = b i; waiting = d i; session = e i; mark = mark; phase = phase; replay = replay; end = end }
 
+-- a receiver behind which nothing waits, with another state in its log
+abbrev receiver_in : Core → SiteState → RState
+receiver_in e s = record { line = s.line; last = last_of e + 0; waiting = 0; session = e.log.header.incarnation; mark = s.mark; phase = s.phase; replay = s.replay; end = s.end }
+
 -- a group that keeps what was told, and behind which nothing waits, is the receiver that was told
 pub told_receiver : (c e : Core) (us : List Update) (told : RState) → us ≡ [] → e.log.header.state ≡ told_state c.log.header.state told → told.line ≡ c.log.header.state.line → told.last ≡ last_of e → told.waiting ≡ 0
     → told.session ≡ e.log.header.incarnation → receiver_of e us ≡ told
 told_receiver c e us told none kept line last waiting session =
     ap (λ (ws : List Update). receiver_of e ws) none
-    ∙ ap (λ (s : SiteState). record { line = s.line; last = last_of e + 0; waiting = 0; session = e.log.header.incarnation; mark = s.mark; phase = s.phase; replay = s.replay; end = s.end }) kept
+    ∙ ap (λ (s : SiteState). receiver_in e s) kept
     ∙ receiver_as c.log.header.state.line told.line (last_of e + 0) told.last 0 told.waiting e.log.header.incarnation told.session told.mark told.phase told.replay told.end (sym line) (omega (arith, last)) (sym waiting) (sym session)
 
 -- a start that begins nothing changes nothing

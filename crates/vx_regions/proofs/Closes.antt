@@ -1,5 +1,5 @@
 -- The end of a replay's copying, and the mark behind a replay.
-use Rattle.std.proofs.Common.{◌≡◌, ◌∙◌, ◌⊎◌, inl, inr, ⊎_elim, ℕ, ◌+◌, ◌≤◌, Bool, true, false, List, [], length, Option, Some, None, refl, sym, ap, subst, arith}
+use Rattle.std.proofs.Common.{◌≡◌, ◌∙◌, ◌⊎◌, inl, inr, ℕ, ◌+◌, Bool, true, false, List, [], Option, Some, None, refl, sym, ap, subst, arith}
 use Rattle.std.specs.Prelude.{Result, Ok, Err, eqb, leb, ◌&&◌, if◌then◌else◌}
 use Rattle.std.proofs.lemmas.Bool.{and_parts, eqb-true}
 use Rattle.vx_model.specs.declared.call.Update.{Update}
@@ -17,10 +17,9 @@ use Rattle.vx_srlfmt.specs.Headers.{CanSpellState}
 use Rattle.vx_replay.specs.declared.event.QAction.{QAction}
 use Rattle.vx_replay.specs.declared.event.QAction.TheVariants.{Again, Close, Ignored}
 use Rattle.vx_replay.specs.declared.event.QEvent.TheVariants.{Done}
-use Rattle.vx_rvg.specs.Groups.{GroupFails, core_applied}
-use Rattle.vx_rvg.specs.Holdings.{Holding}
-use Rattle.vx_rvg.specs.Saves.{RestartIs, SaveIs, change_refusal, restart_refusal, with_new_state, with_restart}
-use Rattle.vx_rvg.specs.Stands.{Rests, Retains, Stands}
+use Rattle.vx_rvg.specs.Groups.{core_applied}
+use Rattle.vx_rvg.specs.Saves.{RestartIs, SaveIs, change_refusal, with_new_state, with_restart}
+use Rattle.vx_rvg.specs.Stands.{Rests, Retains}
 use Rattle.vx_rvg.specs.Views.{Core, last_of}
 use Rattle.vx_secondary.specs.Logging.{SameGroup}
 use Rattle.vx_secondary.specs.Receivers.{Wait, receiver_of}

@@ -1,9 +1,8 @@
 -- A group that has writes staged, while a write is staged whose regions are marked first.
-use Rattle.std.proofs.Common.{◌≡◌, ◌∙◌, inl, inr, ℕ, ◌+◌, ◌<◌, ◌≤◌, true, false, List, [], ◌∷◌, ◌++◌, length, take, Option, Some, None, IsSome, OnOk, Result, Ok, Err, refl, sym, ap, subst}
+use Rattle.std.proofs.Common.{◌≡◌, ◌∙◌, inl, inr, ℕ, ◌+◌, ◌≤◌, true, false, List, [], ◌∷◌, ◌++◌, length, take, Option, Some, None, IsSome, OnOk, Result, Ok, Err, refl, sym, ap, subst}
 use Rattle.std.proofs.lemmas.Result.{on_ok_weaker}
-use Rattle.vx_model.specs.Content.{Write, blocks_in}
+use Rattle.vx_model.specs.Content.{Write}
 use Rattle.vx_model.specs.declared.no.No.{No}
-use Rattle.vx_model.specs.declared.units.Units.{Units}
 use Rattle.vx_disk.specs.Moves.{Blocks, Moves, Run, Union}
 use Rattle.vx_disk.specs.Shelf.{Image, Meaning}
 use Rattle.vx_disk.proofs.Moving.{goes_on, wider}
@@ -11,14 +10,12 @@ use Rattle.vx_bitmap.specs.Bits.{is_marked}
 use Rattle.vx_bitmap.specs.Maps.{map_block_count, regions_mapped}
 use Rattle.vx_dcm.specs.Places.{DcmLoaded, IsPlaceOfSlots, Maps, SlotsMarked, SomeChanged}
 use Rattle.vx_dcm.proofs.SlotMarks.{slots_all}
-use Rattle.vx_srl.specs.Views.{next_of}
-use Rattle.vx_rvg.specs.Commits.{Committing, HasStaged, StageIs, Stages, number_refusal, with_staged}
-use Rattle.vx_rvg.specs.Groups.{core_halted}
+use Rattle.vx_rvg.specs.Commits.{Committing, HasStaged, StageIs, Stages, number_refusal}
 use Rattle.vx_rvg.specs.Holdings.{Holding, with_writes}
 use Rattle.vx_rvg.specs.Marks.{HasAllMaps, Marks, blocks_over, map_run, with_marks}
 use Rattle.vx_rvg.specs.StagedMarks.{MarkedCommitting, StagedMarking, StagedRemarks}
 use Rattle.vx_rvg.specs.Stands.{FoundAs}
-use Rattle.vx_rvg.specs.Views.{Core, UnitsPlaced}
+use Rattle.vx_rvg.specs.Views.{Core}
 use Rattle.vx_rvg.proofs.MarkStands.{maps_halted, marks_as}
 use Rattle.vx_rvg.proofs.OverMarks.{marks_changed}
 use Rattle.vx_rvg.proofs.WriteLog.{cause_from}

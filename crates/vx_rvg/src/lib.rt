@@ -13,7 +13,6 @@ mod change;
 mod create;
 mod group;
 mod header;
-mod joined;
 mod mark;
 mod marked;
 mod patch;

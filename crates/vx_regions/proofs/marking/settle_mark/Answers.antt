@@ -1,6 +1,5 @@
 -- The mark of a receiver, case by case.
-use Rattle.std.proofs.Common.{◌≡◌, ◌∙◌, ◌+◌, ap, subst, sym}
-use Rattle.vx_model.specs.declared.history.Line.{Line}
+use Rattle.std.proofs.Common.{◌∙◌, ◌+◌, ap, subst, sym}
 use Rattle.vx_model.specs.declared.state.State.{State as SiteState}
 use Rattle.vx_disk.specs.Moves.{Moves, Run}
 use Rattle.vx_disk.proofs.Moving.{still}

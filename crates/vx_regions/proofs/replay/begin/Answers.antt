@@ -1,5 +1,5 @@
 -- The begin of a replay, case by case.
-use Rattle.std.proofs.Common.{◌∙◌, ◌≤◌, List, refl, ap, arith, subst, sym}
+use Rattle.std.proofs.Common.{◌∙◌, List, refl, ap, arith, subst, sym}
 use Rattle.vx_model.specs.declared.call.Update.{Update}
 use Rattle.vx_model.specs.declared.limits.TheConstants.{MOST_WAITING}
 use Rattle.vx_model.specs.declared.state.State.{State as SiteState}

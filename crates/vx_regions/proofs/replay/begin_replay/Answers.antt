@@ -1,5 +1,5 @@
 -- A start of a replay, by what the rule says of it.
-use Rattle.std.proofs.Common.{◌≡◌, ◌∙◌, ◌≤◌, arith, subst, sym}
+use Rattle.std.proofs.Common.{◌≡◌, arith, subst, sym}
 use Rattle.std.specs.Prelude.{IfOk, OnOk}
 use Rattle.vx_history.specs.declared.receiver.RState.{RState}
 use Rattle.vx_replay.specs.declared.event.QAction.{QAction}

@@ -1,5 +1,5 @@
 -- The end of a replay's copying, case by case.
-use Rattle.std.proofs.Common.{◌≡◌, ◌∙◌, ◌≤◌, List, ap, subst, sym}
+use Rattle.std.proofs.Common.{◌≡◌, List, subst, sym}
 use Rattle.std.specs.Prelude.{Some, Err}
 use Rattle.vx_model.specs.declared.call.Update.{Update}
 use Rattle.vx_model.specs.declared.state.State.{State as SiteState}
@@ -7,7 +7,6 @@ use Rattle.vx_disk.specs.Moves.{Moves}
 use Rattle.vx_rvg.specs.Saves.{RestartIs, change_blocks, restart_refusal, with_restart}
 use Rattle.vx_rvg.specs.Stands.{Saving}
 use Rattle.vx_secondary.specs.Receivers.{Wait}
-use Rattle.vx_regions.specs.Copies.{told_state}
 use Rattle.vx_regions.proofs.Begins.{wait_none}
 use Rattle.vx_regions.proofs.Closes.{closed_receiver, restart_done, stopped_wait}
 use Rattle.vx_regions.proofs.replay.close.Goals as goal

@@ -1,5 +1,5 @@
 -- The end of a replay's copying, by what the rule says of it.
-use Rattle.std.proofs.Common.{◌≡◌, ◌∙◌, ◌≤◌, ℕ, arith, subst, sym}
+use Rattle.std.proofs.Common.{◌≡◌, ℕ, arith, subst, sym}
 use Rattle.std.specs.Prelude.{Some, Err, IfErr, IfOk, OnOk}
 use Rattle.vx_disk.specs.Moves.{Moves}
 use Rattle.vx_disk.proofs.Moving.{still}

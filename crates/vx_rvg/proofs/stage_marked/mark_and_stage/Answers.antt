@@ -1,5 +1,5 @@
 -- The marks of a write, and its staging behind them.
-use Rattle.std.proofs.Common.{◌∙◌, ℕ, ◌+◌, ◌/◌, ◌<◌, ◌≤◌, inl, length, true, refl, ap, arith, subst, sym}
+use Rattle.std.proofs.Common.{ℕ, ◌+◌, ◌/◌, ◌<◌, ◌≤◌, inl, length, true, refl, ap, arith, subst, sym}
 use Rattle.vx_model.specs.Content.{blocks_in}
 use Rattle.vx_disk.specs.Burns.{FallsShort}
 use Rattle.vx_disk.specs.Moves.{Moves, Run, Union}
