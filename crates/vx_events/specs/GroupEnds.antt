@@ -161,11 +161,11 @@ BringsUp (GroupImport site) = Unit {0}
 BringsUp (Recover site) = Unit {0}
 BringsUp other = ⊥
 
--- Why a group is not found on its disks: the lowest disk that is held as good and could not be read, no configuration on any that could be read, or
--- want of a serial. Where contents are known, and imports agree, no block of it is damaged or of another format.
+-- Why a group is not found on its disks: a disk that is held as good and could not be read; no configuration on any that could be read, for which a call on
+-- a disk failed unless a configuration was begun; or want of a serial. Where contents are known, and imports agree, no block of it is damaged or of another format.
 abbrev pub NotFound : (s : ℕ) → GroupNode → Fails → No → Type 0
 NotFound s note fails (Missing disk) = Contains fails (s, disk)
-NotFound s note fails NoConfig = Unit {0}
+NotFound s note fails NoConfig = note.begun ≡ [] → fails ≡ [] → ⊥
 NotFound s note fails (Limit Number most) = most ≡ MOST_NUMBER
 NotFound s note fails why = ⊥
 

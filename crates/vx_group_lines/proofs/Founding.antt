@@ -129,7 +129,7 @@ module _ {R : Type 0} {g : Ghosts R} where
           ended [] (SaidNo why) here facts
           (FindsNone never first_choice false name d (raw_set s n) why refl (FromBare site.bare refl refl) other refl refl (record { world = refl; after = λ i. refl })) rose_here
 
-      by_why : (why : No) → ImportWhy ⊥ (bare_disks before) (bare_disks after) (Refused why) → SiteStands (beside_of d s) n after → new.facts.items ≡ old.facts.items → LeadsFound d (Recover name) (SaidNo why) old new
+      by_why : (why : No) → ImportWhy ⊥ ⊥ (bare_disks before) (bare_disks after) (Refused why) → SiteStands (beside_of d s) n after → new.facts.items ≡ old.facts.items → LeadsFound d (Recover name) (SaidNo why) old new
       by_why (Device disk) because here facts =
           let rose : Rose (faults_at before disk) (faults_at after disk) = subst (λ (k : ℕ). Rose k (faults_at after disk)) (bare_counts (beside_of d s) n before site.stood site.bare disk)
           (subst (λ (k : ℕ). Rose ((bare_disks before).disk_faults disk) k) (bare_counts (beside_of d s) n after here site.bare disk) because) in
@@ -143,7 +143,7 @@ module _ {R : Type 0} {g : Ghosts R} where
       by_why (Format version) because here facts = not_there (Format version) tt here facts
       by_why other because here facts = absurd because
 
-      by_stop : (stop : Stop) → (stop ≡ Refused NoConfig) ⊎ ImportWhy ⊥ (bare_disks before) (bare_disks after) stop → SiteStands (beside_of d s) n after → new.facts.items ≡ old.facts.items
+      by_stop : (stop : Stop) → (stop ≡ Refused NoConfig) ⊎ ImportWhy ⊥ ⊥ (bare_disks before) (bare_disks after) stop → SiteStands (beside_of d s) n after → new.facts.items ≡ old.facts.items
           → LeadsFoundIs d (Recover name) old new (reply_to stop)
       by_stop stop (inl none) here facts = subst (λ (x : Stop). LeadsFoundIs d (Recover name) old new (reply_to x)) (sym none) (not_there NoConfig tt here facts)
       by_stop (Refused why) (inr because) here facts = by_why why because here facts

@@ -42,7 +42,7 @@ pub bright_before : (dims : Bool) (note next : GroupNode) → next.dark ≡ (not
 bright_before dims note next dark bright = (or_off dims note.dark (sym dark ∙ bright)).1
 
 module _ {R : Type 0} {g : Ghosts R} where
-  pub config_with : (w : MissedNote) (note next : GroupNode) (old : Meaning) (new : GroupSite R g) → ConfigReturns note next old new → ConfigReturns note (with_maps w next) old new
+  abbrev pub config_with : (w : MissedNote) (note next : GroupNode) (old : Meaning) (new : GroupSite R g) → ConfigReturns note next old new → ConfigReturns note (with_maps w next) old new
   config_with w note next old new it = record {
     was = it.was;
     now = it.now;

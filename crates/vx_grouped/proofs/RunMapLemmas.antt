@@ -12,7 +12,8 @@ use Rattle.vx_grouped.specs.GroupNotes.{NotesFound, noted_try}
 use Rattle.vx_grouped.specs.Clean.{StoppedSome, StopsClean}
 use Rattle.vx_volume.specs.Plexes.{SomeActive}
 
-in_none : (l : List (List ℕ)) (x : List ℕ) → l ≡ [] → Contains l x → ⊥
+-- a list that is empty has nothing in it
+pub in_none : (l : List (List ℕ)) (x : List ℕ) → l ≡ [] → Contains l x → ⊥
 in_none l x none has = by (subst (λ (k : List (List ℕ)). Contains k x) none has)
   where
     by : Contains [] x → ⊥

@@ -30,7 +30,7 @@ use Rattle.vx_grouped.specs.GroupSites.{GroupAway, GroupDown, GroupUp, NotesGrou
 use Rattle.vx_grouped.specs.Returns.{GroupReturns, note_imported}
 use Rattle.vx_grouped.specs.SetFuses.{HasFuse}
 use Rattle.vx_grouped.specs.SiteEnds.{stops_down}
-use Rattle.vx_grouped.specs.SiteReturns.{ImportRefused, NoteReturns, returned_with, stops_early, ImportWhy, ImportsFrom, KeepsFuse, RecoversFrom, ReturnSince, ReturnsUp, TellsNone}
+use Rattle.vx_grouped.specs.SiteReturns.{ImportRefused, NoteReturns, KnownAway, returned_with, stops_early, ImportWhy, ImportsFrom, KeepsFuse, RecoversFrom, ReturnSince, ReturnsUp, TellsNone}
 use Rattle.vx_grouped.specs.declared.idle.Idle.{Idle}
 use Rattle.vx_grouped.specs.declared.laid.Laid.{Laid}
 use Rattle.vx_grouped.specs.declared.group_site.GroupSite.{GroupSite}
@@ -38,7 +38,7 @@ use Rattle.vx_grouped.specs.declared.group_site.GroupSite.TheVariants.{Up, Depor
 use Rattle.vx_grouped.proofs.AlikeLemmas.{less_away}
 use Rattle.vx_grouped.proofs.SettleLemmas.{fell_fused, fuse_burned}
 use Rattle.vx_grouped.proofs.ImageLemmas.{less_from, less_noted, none_noted, noted_as}
-use Rattle.vx_grouped.proofs.SiteLemmas.{lies_as, noted_dimmed, away_dimmed, lit_dimmed, runs_dimmed}
+use Rattle.vx_grouped.proofs.SiteLemmas.{lies_as, noted_dimmed, away_dimmed, lit_dimmed, runs_dimmed, some_as}
 use Rattle.vx_grouped.specs.ConfigMoves.{AnyState, ConfigBack}
 use Rattle.vx_config.specs.Configs.{HasSpelling}
 use Rattle.vx_grouped.specs.Clean.{StoppedSome, StopsClean}
@@ -52,6 +52,7 @@ use Rattle.vx_kept.specs.Facts.{is_found}
 use Rattle.vx_kept.specs.Trusts.{is_plain}
 use Rattle.vx_untold.specs.Shades.{shade_meaning, rack_of}
 use Rattle.vx_grouped.proofs.NotedLemmas.{spells_zero}
+use Rattle.vx_grouped.proofs.NoneLemmas.{holds_any}
 use Rattle.vx_grouped.proofs.WhyLemmas.{why_by}
 use Rattle.vx_watched.specs.Traces.{TellsLess}
 use Rattle.vx_grouped.proofs.TraceLemmas.{lit_since}
@@ -289,6 +290,7 @@ module _ {R : Type 0} {g : Ghosts R} (n : Node) (note : GroupNode) (racks : (s :
           config = down.away.config;
           found = noted_as note (note_dimmed (not t) note) down.last (shade_meaning g.meaning fallen) refl refl (fallen_found t it);
           runs = runs_dimmed (not t) note down.last down.away.runs;
+          some = some_as n (dimmed_site (not t) note n) down.last refl refl down.away.some;
           lies = away_dimmed (not t) n (dimmed_site (not t) note n) note down.last (shade_meaning g.meaning fallen) refl refl (lies_by t it);
         };
       }
@@ -296,10 +298,11 @@ module _ {R : Type 0} {g : Ghosts R} (n : Node) (note : GroupNode) (racks : (s :
       tells_first : IsTrue (shade_meaning g.meaning fallen).tells → IsTrue (shade_meaning g.meaning first).tells
       tells_first tells = sym since.tells ∙ kept.tells tells
 
-      why : ImportWhy (IsTrue (shade_meaning g.meaning fallen).tells) (shade_meaning g.meaning rack) (shade_meaning g.meaning fallen) stop
+      why : ImportWhy (IsTrue (shade_meaning g.meaning fallen).tells) (KnownAway (IsTrue (shade_meaning g.meaning fallen).tells) note) (shade_meaning g.meaning rack) (shade_meaning g.meaning fallen) stop
       why =
           why_by (shade_meaning g.meaning rack) (shade_meaning g.meaning first) (shade_meaning g.meaning middle) (shade_meaning g.meaning fallen) revived.counts.disk_faults counts (racks first).counts (racks middle).counts
-          (IsTrue (shade_meaning g.meaning fallen).tells) (λ tells. plain_of n note down.last (shade_meaning g.meaning first) (shade_meaning g.meaning middle) (shade_meaning g.meaning fallen) (laws first) lies can stop stops (tells_first tells)) tells_first up stop
+          (IsTrue (shade_meaning g.meaning fallen).tells) (λ tells. plain_of n note down.last (shade_meaning g.meaning first) (shade_meaning g.meaning middle) (shade_meaning g.meaning fallen) (laws first) lies can stop stops (tells_first tells)) tells_first
+          (KnownAway (IsTrue (shade_meaning g.meaning fallen).tells) note) (λ sure. holds_any n note down.last down.last (shade_meaning g.meaning first) (laws first) lies can found_first down.away.some (tells_first sure.0) sure.1 sure.2) revived.contents.units up stop
           (never_off (shade_meaning g.meaning first) (shade_meaning g.meaning middle) stop up unarmed since stops) stops
 
       between_by : (t : Bool) → stops_early stop ≡ t → IsTrue (shade_meaning g.meaning fallen).tells → (e : Shade R) → e ≡ fallen → Stopped (shade_meaning g.meaning middle) (shade_meaning g.meaning e)
@@ -309,7 +312,7 @@ module _ {R : Type 0} {g : Ghosts R} (n : Node) (note : GroupNode) (racks : (s :
       pub recovered_not : RecoversFrom n note (shade_meaning g.meaning rack) (Down idle) (Err stop)
       recovered_not = (
         subst (λ (s : Shade R). GroupDown (dimmed_site (not (stops_early stop)) note n) (note_dimmed (not (stops_early stop)) note) idle.agreed (g.meaning (rack_of s)).tells (shade_meaning g.meaning s)) (sym is) (stands (stops_early stop) refl),
-        subst (λ (s : Shade R). ImportWhy (IsTrue (shade_meaning g.meaning s).tells) (shade_meaning g.meaning rack) (shade_meaning g.meaning s) stop) (sym is) why,
+        subst (λ (s : Shade R). ImportWhy (IsTrue (shade_meaning g.meaning s).tells) (KnownAway (IsTrue (shade_meaning g.meaning s).tells) note) (shade_meaning g.meaning rack) (shade_meaning g.meaning s) stop) (sym is) why,
         λ tells. record {
           first = first;
           middle = middle;
@@ -349,17 +352,18 @@ module _ {R : Type 0} {g : Ghosts R} (n : Node) (note : GroupNode) (racks : (s :
         last = away.last;
         newest = away.newest;
         spells = away.spells;
-        away = record { state = away.away.state; config = away.away.config; frames = away.away.frames; found = noted_as note (note_dimmed dims note) away.newest m refl refl found; lies = away_dimmed dims n (worked (dimmed_site dims note n)) note away.last m refl refl lies };
+        away = record { state = away.away.state; config = away.away.config; frames = away.away.frames; found = noted_as note (note_dimmed dims note) away.newest m refl refl found; some = some_as n (worked (dimmed_site dims note n)) away.newest refl refl away.away.some; lies = away_dimmed dims n (worked (dimmed_site dims note n)) note away.last m refl refl lies };
       }
 
       lit_middle : IsLit (note_dimmed false note) (g.meaning (rack_of middle)).tells (shade_meaning g.meaning middle)
       lit_middle = λ bright told. since.tells ∙ away.lit bright (goes told)
 
       why_away : (s : Shade R) → IsFalse (shade_meaning g.meaning rack).down → ((d : ℕ) → (shade_meaning g.meaning s).disk_faults d ≡ (shade_meaning g.meaning middle).disk_faults d) → (IsTrue (shade_meaning g.meaning s).tells → IsTrue (shade_meaning g.meaning rack).tells)
-          → (stop ≡ Refused IsOff → ⊥) → ImportWhy (IsTrue (shade_meaning g.meaning s).tells) (shade_meaning g.meaning rack) (shade_meaning g.meaning s) stop
+          → (stop ≡ Refused IsOff → ⊥) → ImportWhy (IsTrue (shade_meaning g.meaning s).tells) (KnownAway (IsTrue (shade_meaning g.meaning s).tells) note) (shade_meaning g.meaning rack) (shade_meaning g.meaning s) stop
       why_away s up counts tells never =
           why_by (shade_meaning g.meaning rack) (shade_meaning g.meaning rack) (shade_meaning g.meaning middle) (shade_meaning g.meaning s) (λ u. refl) counts (racks rack).counts (racks middle).counts
-          (IsTrue (shade_meaning g.meaning s).tells) (λ told. plain_of n note away.last (shade_meaning g.meaning rack) (shade_meaning g.meaning middle) (shade_meaning g.meaning s) (laws rack) away.away.lies can stop stops (tells told)) tells up stop never stops
+          (IsTrue (shade_meaning g.meaning s).tells) (λ told. plain_of n note away.last (shade_meaning g.meaning rack) (shade_meaning g.meaning middle) (shade_meaning g.meaning s) (laws rack) away.away.lies can stop stops (tells told)) tells
+          (KnownAway (IsTrue (shade_meaning g.meaning s).tells) note) (λ sure. holds_any n note away.last away.newest (shade_meaning g.meaning rack) (laws rack) away.away.lies can away.away.found away.away.some (tells sure.0) sure.1 sure.2) refl up stop never stops
 
       never_stops : stops_down stop ≡ false → stop ≡ Refused IsOff → ⊥
       never_stops off is = let clash : false ≡ true = sym off ∙ ap stops_down is in cc
@@ -376,7 +380,7 @@ module _ {R : Type 0} {g : Ghosts R} (n : Node) (note : GroupNode) (racks : (s :
       pub imported_early : (idle : Idle R g) → idle.rack ≡ middle → idle.agreed ≡ true → stops_early stop ≡ true → (IsTrue (shade_meaning g.meaning middle).down → ⊥) → ImportsFrom n note (shade_meaning g.meaning rack) (Deported idle) (Err stop)
       imported_early idle is agreed early still =
           refused_as (Deported idle) (early_up stop early) (subst (λ (s : Shade R). GroupAway (worked (dimmed_site (not (stops_early stop)) note n)) (note_dimmed (not (stops_early stop)) note) idle.agreed (g.meaning (rack_of s)).tells (shade_meaning g.meaning s) × (IsFalse (shade_meaning g.meaning s).armed ⊎ KeepsFuse (shade_meaning g.meaning rack) (shade_meaning g.meaning s))
-          × ImportWhy (IsTrue (shade_meaning g.meaning s).tells) (shade_meaning g.meaning rack) (shade_meaning g.meaning s) stop) (sym is) (
+          × ImportWhy (IsTrue (shade_meaning g.meaning s).tells) (KnownAway (IsTrue (shade_meaning g.meaning s).tells) note) (shade_meaning g.meaning rack) (shade_meaning g.meaning s) stop) (sym is) (
             away_as_is (not (stops_early stop)) idle.agreed (g.meaning (rack_of middle)).tells (shade_meaning g.meaning middle)
                 (early_lies n note away.last (shade_meaning g.meaning rack) (shade_meaning g.meaning middle) (shade_meaning g.meaning middle) (laws rack) away.away.lies can stop stops early refl (λ u. refl) (λ u b v left. left))
                 (early_noted n note away.last (shade_meaning g.meaning rack) (shade_meaning g.meaning middle) (shade_meaning g.meaning middle) (laws rack) away.away.lies can stop stops early refl (λ u. refl) (λ u b v left. left) away.newest away.away.found)
@@ -403,6 +407,7 @@ module _ {R : Type 0} {g : Ghosts R} (n : Node) (note : GroupNode) (racks : (s :
             config = away.away.config;
             found = none_noted (note_dimmed true note) away.newest (shade_meaning g.meaning fallen) none.leaves;
             runs = λ bright. absurd (let clash : true ≡ false = bright in cc);
+            some = some_as n (crashed (returned_with (note_dimmed true note) n) 0) away.newest refl refl away.away.some;
             lies = record {
               units = kept.units ∙ since.units ∙ away.away.lies.units;
               size = λ u low. kept.size u ∙ since.size u ∙ away.away.lies.size u low;
@@ -448,7 +453,7 @@ module _ {R : Type 0} {g : Ghosts R} (n : Node) (note : GroupNode) (racks : (s :
             → (shade_meaning g.meaning new).armed ≡ (shade_meaning g.meaning fallen).armed → ImportsFrom n note (shade_meaning g.meaning rack) (Deported idle) (Err stop)
         imported_late idle new is agreed rises off alike up armed =
             refused_as (Deported idle) off (subst (λ (s : Shade R). GroupAway (worked (dimmed_site (not (stops_early stop)) note n)) (note_dimmed (not (stops_early stop)) note) idle.agreed (g.meaning (rack_of s)).tells (shade_meaning g.meaning s) × (IsFalse (shade_meaning g.meaning s).armed ⊎ KeepsFuse (shade_meaning g.meaning rack) (shade_meaning g.meaning s))
-            × ImportWhy (IsTrue (shade_meaning g.meaning s).tells) (shade_meaning g.meaning rack) (shade_meaning g.meaning s) stop) (sym is) (
+            × ImportWhy (IsTrue (shade_meaning g.meaning s).tells) (KnownAway (IsTrue (shade_meaning g.meaning s).tells) note) (shade_meaning g.meaning rack) (shade_meaning g.meaning s) stop) (sym is) (
               away_as_is (not (stops_early stop)) idle.agreed (g.meaning (rack_of new)).tells (shade_meaning g.meaning new)
                   (less_away n note (shade_meaning g.meaning fallen) (shade_meaning g.meaning new) alike.contents.units alike.contents.size alike.contents.leaves away.last (lies_fell (stops_early stop) refl))
                   (less_noted note away.newest (shade_meaning g.meaning fallen) (shade_meaning g.meaning new) (less_from (shade_meaning g.meaning fallen) (shade_meaning g.meaning new) alike.contents.units alike.contents.size alike.contents.leaves) (found_fell (stops_early stop) refl))

@@ -247,14 +247,13 @@ fn import_site<R: Rack>(
         }
         Err((rack, stop)) => {
             if is_early(&stop) {
-                if rack.is_down() {
+                let fell = rack.is_down();
+                if fell {
                     let idle = Idle::of(fallen(rack, false), true, Some(rested));
                     return (GroupSite::Down(idle), Err(Stop::No(No::Down)));
                 }
-                return (
-                    GroupSite::Deported(Idle::of(rack, true, Some(rested))),
-                    Err(stop),
-                );
+                let kept = Idle::of(rack, true, Some(rested));
+                return (GroupSite::Deported(kept), Err(stop));
             }
             let rack = fallen(rack, false);
             if is_down_stop(&stop) {

@@ -24,20 +24,20 @@ returns-in-Ok-clause-imported g c = λ n note away.
 pub returns-in-Ok-clause-since : goal.returns-in-Ok-clause-since
 returns-in-Ok-clause-since g c = return_calls (shade_meaning g.R.Shelf.meaning c.args.rack) (shade_meaning g.R.Shelf.meaning c.in-Ok.laid.shelf) c.in-Ok.ensures.since (false_from_ne_true (shade_meaning g.R.Shelf.meaning c.in-Ok.laid.shelf).down c.in-Ok.ensures.up)
 
-pub returns-else-is_down-then-is_early-clause-imported : goal.returns-else-is_down-then-is_early-clause-imported
-returns-else-is_down-then-is_early-clause-imported g c = λ n note away.
+pub returns-else-fell-clause-imported : goal.returns-else-fell-clause-imported
+returns-else-fell-clause-imported g c = λ n note away.
     let is_rack = (g.met.R.Rack g.world.𝓛 g.world.𝓜 g.world.𝓡 ((λ s x. x), (λ x. x), (λ x. x), λ x. x)).rack in
-    imported_early n note (shade_rack g.R.Shelf.meaning is_rack) (shade_lawful g.R.Shelf.meaning (g.met.R.Shelf g.world.𝓛 g.world.𝓜 g.world.𝓡 ((λ s x. x), (λ x. x), (λ x. x), λ x. x)).lawful) c.args.rack away c.in-Err.rack c.in-Err.stop c.in-Err.ensures.since c.in-Err.ensures.told c.in-Err.ensures.stops c.requires.can c.of-else-is_down-then-is_early.result c.of-else-is_down-then-is_early.ensures.rack c.of-else-is_down-then-is_early.ensures.agreed
-    (sym c.is_early.ensures ∙ c.if-is_early.true) (not_down c.is_down-then-is_early.result (shade_meaning g.R.Shelf.meaning c.in-Err.rack).down c.is_down-then-is_early.ensures c.if-is_down-then-is_early.false)
+    imported_early n note (shade_rack g.R.Shelf.meaning is_rack) (shade_lawful g.R.Shelf.meaning (g.met.R.Shelf g.world.𝓛 g.world.𝓜 g.world.𝓡 ((λ s x. x), (λ x. x), (λ x. x), λ x. x)).lawful) c.args.rack away c.in-Err.rack c.in-Err.stop c.in-Err.ensures.since c.in-Err.ensures.told c.in-Err.ensures.stops c.requires.can c.of-kept.result c.of-kept.ensures.rack c.of-kept.ensures.agreed
+    (sym c.is_early.ensures ∙ c.if-is_early.true) (not_down c.is_down-fell.result (shade_meaning g.R.Shelf.meaning c.in-Err.rack).down c.is_down-fell.ensures c.if-fell.false)
 
-pub returns-else-is_down-then-is_early-clause-since : goal.returns-else-is_down-then-is_early-clause-since
-returns-else-is_down-then-is_early-clause-since g c =
-    return_at (λ s. shade_meaning g.R.Shelf.meaning s) (shade_meaning g.R.Shelf.meaning c.args.rack) c.in-Err.rack c.of-else-is_down-then-is_early.result.rack c.of-else-is_down-then-is_early.ensures.rack
+pub returns-else-fell-clause-since : goal.returns-else-fell-clause-since
+returns-else-fell-clause-since g c =
+    return_at (λ s. shade_meaning g.R.Shelf.meaning s) (shade_meaning g.R.Shelf.meaning c.args.rack) c.in-Err.rack c.of-kept.result.rack c.of-kept.ensures.rack
     (return_calls (shade_meaning g.R.Shelf.meaning c.args.rack) (shade_meaning g.R.Shelf.meaning c.in-Err.rack) c.in-Err.ensures.since
-    (false_from_ne_true (shade_meaning g.R.Shelf.meaning c.in-Err.rack).down (not_down c.is_down-then-is_early.result (shade_meaning g.R.Shelf.meaning c.in-Err.rack).down c.is_down-then-is_early.ensures c.if-is_down-then-is_early.false)))
+    (false_from_ne_true (shade_meaning g.R.Shelf.meaning c.in-Err.rack).down (not_down c.is_down-fell.result (shade_meaning g.R.Shelf.meaning c.in-Err.rack).down c.is_down-fell.ensures c.if-fell.false)))
 
-pub of-requires-else-is_down-then-is_early-clause-can : goal.of-requires-else-is_down-then-is_early-clause-can
-of-requires-else-is_down-then-is_early-clause-can g c = λ κs lives agreed.
+pub of-kept-requires-clause-can : goal.of-kept-requires-clause-can
+of-kept-requires-clause-can g c = λ κs lives agreed.
     still_can (shade_meaning g.R.Shelf.meaning c.args.rack) (shade_meaning g.R.Shelf.meaning c.in-Err.rack) c.in-Err.stop (sym c.is_early.ensures ∙ c.if-is_early.true) c.requires.can c.in-Err.ensures.stops
 
 pub returns-then-is_down_stop-clause-imported : goal.returns-then-is_down_stop-clause-imported
@@ -75,8 +75,8 @@ returns-else-is_down_stop-clause-since g c =
 pub returns-then-is_down-clause-told : goal.returns-then-is_down-clause-told
 returns-then-is_down-clause-told g c = λ told. (subst (λ s. IsTrue (g.R.Shelf.meaning (rack_of s)).tells) c.of.ensures.rack told)
 
-pub returns-else-is_down-then-is_early-clause-told : goal.returns-else-is_down-then-is_early-clause-told
-returns-else-is_down-then-is_early-clause-told g c = λ told. c.in-Err.ensures.told (subst (λ s. IsTrue (g.R.Shelf.meaning (rack_of s)).tells) c.of-else-is_down-then-is_early.ensures.rack told)
+pub returns-else-fell-clause-told : goal.returns-else-fell-clause-told
+returns-else-fell-clause-told g c = λ told. c.in-Err.ensures.told (subst (λ s. IsTrue (g.R.Shelf.meaning (rack_of s)).tells) c.of-kept.ensures.rack told)
 
 pub returns-then-is_down_stop-clause-told : goal.returns-then-is_down_stop-clause-told
 returns-then-is_down_stop-clause-told g c = λ told. c.in-Err.ensures.told (c.fallen-rack.ensures.told (subst (λ s. IsTrue (g.R.Shelf.meaning (rack_of s)).tells) c.of-then-is_down_stop.ensures.rack told))
@@ -87,10 +87,10 @@ returns-else-is_down_stop-clause-told g c = λ told. c.in-Err.ensures.told (c.fa
 pub of-requires-clause-tells : goal.of-requires-clause-tells
 of-requires-clause-tells g c = λ κs lives r agreed is. rested_tells r c.args.rested (shade_meaning g.R.Shelf.meaning c.args.rack) is c.requires.tells
 
-pub of-requires-else-is_down-then-is_early-clause-tells : goal.of-requires-else-is_down-then-is_early-clause-tells
-of-requires-else-is_down-then-is_early-clause-tells g c = λ κs lives r agreed is.
+pub of-kept-requires-clause-tells : goal.of-kept-requires-clause-tells
+of-kept-requires-clause-tells g c = λ κs lives r agreed is.
     rested_tells r c.args.rested (shade_meaning g.R.Shelf.meaning c.in-Err.rack) is
-    (early_tells c.args.rested (shade_meaning g.R.Shelf.meaning c.args.rack) (shade_meaning g.R.Shelf.meaning c.in-Err.rack) c.in-Err.stop (sym c.is_early.ensures ∙ c.if-is_early.true) c.in-Err.ensures.stops (not_down c.is_down-then-is_early.result (shade_meaning g.R.Shelf.meaning c.in-Err.rack).down c.is_down-then-is_early.ensures c.if-is_down-then-is_early.false) c.requires.tells)
+    (early_tells c.args.rested (shade_meaning g.R.Shelf.meaning c.args.rack) (shade_meaning g.R.Shelf.meaning c.in-Err.rack) c.in-Err.stop (sym c.is_early.ensures ∙ c.if-is_early.true) c.in-Err.ensures.stops (not_down c.is_down-fell.result (shade_meaning g.R.Shelf.meaning c.in-Err.rack).down c.is_down-fell.ensures c.if-fell.false) c.requires.tells)
 
 pub of-requires-then-is_down_stop-clause-tells : goal.of-requires-then-is_down_stop-clause-tells
 of-requires-then-is_down_stop-clause-tells g c = λ κs lives r agreed is.
@@ -109,10 +109,10 @@ returns-then-is_down-clause-maps g c = λ early w x it. idle_of c.of.result c.ar
 pub returns-in-Ok-clause-maps : goal.returns-in-Ok-clause-maps
 returns-in-Ok-clause-maps g c = came_up (shade_meaning g.R.Shelf.meaning c.args.rack) (shade_meaning g.R.Shelf.meaning c.args.rack) refl (λ u. refl) (λ u b v left. left) (λ k. refl) c.in-Ok.laid c.args.rested c.in-Ok.ensures.maps
 
-pub returns-else-is_down-then-is_early-clause-maps : goal.returns-else-is_down-then-is_early-clause-maps
-returns-else-is_down-then-is_early-clause-maps g c = λ early w x it.
+pub returns-else-fell-clause-maps : goal.returns-else-fell-clause-maps
+returns-else-fell-clause-maps g c = λ early w x it.
     let goes = early_goes (shade_meaning g.R.Shelf.meaning c.args.rack) (shade_meaning g.R.Shelf.meaning c.in-Err.rack) c.in-Err.stop early c.in-Err.ensures.stops in
-    idle_of c.of-else-is_down-then-is_early.result c.in-Err.rack (Some c.args.rested) c.of-else-is_down-then-is_early.ensures.rack c.of-else-is_down-then-is_early.ensures.rested w x
+    idle_of c.of-kept.result c.in-Err.rack (Some c.args.rested) c.of-kept.ensures.rack c.of-kept.ensures.rested w x
     (less_idle (shade_meaning g.R.Shelf.meaning c.args.rack) (shade_meaning g.R.Shelf.meaning c.in-Err.rack) goes.units goes.size (λ u b v left. ⊎_elim (λ was. was) (λ none. absurd none) (goes.leaves u b v left)) w x (Some c.args.rested) it)
 
 pub returns-then-is_down_stop-clause-maps : goal.returns-then-is_down_stop-clause-maps
@@ -123,25 +123,25 @@ returns-else-is_down_stop-clause-maps g c = λ early w x it. absurd (never_early
 
 -- the fuse ran out, and the refusal says nothing of it
 
-pub returns-then-is_down-then-is_early-clause-imported : goal.returns-then-is_down-then-is_early-clause-imported
-returns-then-is_down-then-is_early-clause-imported g c = λ n note away.
+pub returns-then-fell-clause-imported : goal.returns-then-fell-clause-imported
+returns-then-fell-clause-imported g c = λ n note away.
     let is_rack = (g.met.R.Rack g.world.𝓛 g.world.𝓜 g.world.𝓡 ((λ s x. x), (λ x. x), (λ x. x), λ x. x)).rack in
     imported_fell n note (shade_rack g.R.Shelf.meaning is_rack) (shade_lawful g.R.Shelf.meaning (g.met.R.Shelf g.world.𝓛 g.world.𝓜 g.world.𝓡 ((λ s x. x), (λ x. x), (λ x. x), λ x. x)).lawful) c.args.rack away c.in-Err.rack c.in-Err.stop c.in-Err.ensures.since c.in-Err.ensures.told c.in-Err.ensures.stops c.requires.can
-    c.fallen.result c.fallen.ensures.fell c.fallen.ensures.since (c.fallen.ensures.dark refl) (sym c.is_down-then-is_early.ensures ∙ c.if-is_down-then-is_early.true) c.of-idle.result c.of-idle.ensures.rack c.of-idle.ensures.agreed
+    c.fallen.result c.fallen.ensures.fell c.fallen.ensures.since (c.fallen.ensures.dark refl) (sym c.is_down-fell.ensures ∙ c.if-fell.true) c.of-idle.result c.of-idle.ensures.rack c.of-idle.ensures.agreed
 
-pub returns-then-is_down-then-is_early-clause-since : goal.returns-then-is_down-then-is_early-clause-since
-returns-then-is_down-then-is_early-clause-since g c =
+pub returns-then-fell-clause-since : goal.returns-then-fell-clause-since
+returns-then-fell-clause-since g c =
     let is_rack = (g.met.R.Rack g.world.𝓛 g.world.𝓜 g.world.𝓡 ((λ s x. x), (λ x. x), (λ x. x), λ x. x)).rack in
     let racks = shade_rack g.R.Shelf.meaning is_rack in
     return_at (λ s. shade_meaning g.R.Shelf.meaning s) (shade_meaning g.R.Shelf.meaning c.args.rack) c.fallen.result c.of-idle.result.rack c.of-idle.ensures.rack
     (return_all (shade_meaning g.R.Shelf.meaning c.args.rack) (shade_meaning g.R.Shelf.meaning c.args.rack) (shade_meaning g.R.Shelf.meaning c.in-Err.rack) (shade_meaning g.R.Shelf.meaning c.fallen.result)
     (return_none (shade_meaning g.R.Shelf.meaning c.args.rack)) c.in-Err.ensures.since c.fallen.ensures.since (racks c.fallen.result) c.fallen.ensures.fell.unarmed)
 
-pub returns-then-is_down-then-is_early-clause-told : goal.returns-then-is_down-then-is_early-clause-told
-returns-then-is_down-then-is_early-clause-told g c = λ told. c.in-Err.ensures.told (c.fallen.ensures.told (subst (λ s. IsTrue (g.R.Shelf.meaning (rack_of s)).tells) c.of-idle.ensures.rack told))
+pub returns-then-fell-clause-told : goal.returns-then-fell-clause-told
+returns-then-fell-clause-told g c = λ told. c.in-Err.ensures.told (c.fallen.ensures.told (subst (λ s. IsTrue (g.R.Shelf.meaning (rack_of s)).tells) c.of-idle.ensures.rack told))
 
-pub returns-then-is_down-then-is_early-clause-maps : goal.returns-then-is_down-then-is_early-clause-maps
-returns-then-is_down-then-is_early-clause-maps g c = λ early w x it. let clash : false ≡ true = early in cc
+pub returns-then-fell-clause-maps : goal.returns-then-fell-clause-maps
+returns-then-fell-clause-maps g c = λ early w x it. let clash : false ≡ true = early in cc
 
 pub of-idle-requires-clause-tells : goal.of-idle-requires-clause-tells
 of-idle-requires-clause-tells g c = λ κs lives r agreed is. rested_tells r c.args.rested (shade_meaning g.R.Shelf.meaning c.fallen.result) is (none_tells c.args.rested (shade_meaning g.R.Shelf.meaning c.fallen.result) (c.fallen.ensures.dark refl))
