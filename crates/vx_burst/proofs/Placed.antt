@@ -169,7 +169,7 @@ module _ {P : Type 0} (stand : P → Stand) (root : P → P) (z : TableId) (star
     pub says : entry.said ≡ Replied is.reply
 
   pub made-info : (m : Made) → IsMadeBy j.xs m → MadeInfo m
-  made-info m (x, (i, here), got) = let inside = get-inside j.xs i (Writes x) here in let n = j.pairs.0 in let w = Rattle.vx_burst.proofs.Underways.get-some j.ws i (omega (arith, n, inside)) in
+  made-info m (x, (i, here), got) = let inside = get-inside j.xs i (Writes x) here in let n = j.pairs.0 in let w = get_there j.ws i (omega (arith, n, inside)) in
       by-writer w.0 w.1 (j.pairs.1 i w.0 (Writes x) w.1 here)
     where
       by-writer : (w : Worker P) → slice_get j.ws i ≡ Some w → HasWorked stand root plan w (Writes x) → MadeInfo m

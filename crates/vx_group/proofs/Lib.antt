@@ -56,3 +56,4 @@ pub mod SettleFinds
 pub mod SettleCalls
 pub mod SettleMore
 pub mod SettleDeport
+pub mod UnsureMarks

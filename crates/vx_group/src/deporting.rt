@@ -96,7 +96,7 @@ pub fn deport_in<S: Shelf>(shelf: &mut S, core: &mut GroupCore) -> Result<(), St
     ensures up { OnOk result (IsTrue (S.meaning shelf.new).down → ⊥) }
     ensures back { IfErr result (λ e. Goes Nothing (inner_meaning (wide core.old) (S.meaning shelf.old)) (inner_meaning (wide core.new) (S.meaning shelf.new))) }
     ensures finds { IfErr result (λ e. GroupImages core.old core.new (S.meaning shelf.old) (S.meaning shelf.new)) }
-    ensures settles { ReadsSure (wide core.old) (S.meaning shelf.old) → IfErr result (λ e. CoreSettles (wide core.old) (wide core.new) (S.meaning shelf.old) (S.meaning shelf.new)) }
+    ensures settles { ((IsTrue (S.meaning shelf.old).down → ⊥) → ReadsSure (wide core.old) (S.meaning shelf.old)) → IfErr result (λ e. CoreSettles (wide core.old) (wide core.new) (S.meaning shelf.old) (S.meaning shelf.new)) }
     ensures logs { IfErr result (λ e. TrustsStill core.old.inner.config core.new.inner.config) }
     ensures cause { core.old.inner.config.serial ≤ greatest - margin → DetStops (S.meaning shelf.old) (S.meaning shelf.new) result }
 {

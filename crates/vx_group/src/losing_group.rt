@@ -1,5 +1,5 @@
 // A log of a volume that a group loses, in a call on that volume.
-ghost use Rattle.vx_group.specs.Finds.{CoreFinds, GroupFinds};
+ghost use Rattle.vx_group.specs.Finds.{CoreFinds, GroupFinds, MoreUnsure};
 ghost use Rattle.std.specs.Prelude.{◌≡◌, ◌*◌, ◌+◌, ◌<◌, ◌≤◌, ℕ, false, true, IfErr, IfOk, None, OnOk};
 ghost use Rattle.vx_config.specs.Table.{greatest};
 ghost use Rattle.vx_disk.specs.Causes.{Cause};
@@ -42,6 +42,7 @@ fn lose_in<S: Shelf>(
     ensures few { OnOk result (core.new.config.serial ≤ core.old.config.serial + COMMIT_SERIALS) }
     ensures trust { OnOk result (core.old.committed ≡ true → core.new.committed ≡ true) }
     ensures agreed { IfErr result (λ e. core.old.committed ≡ true → core.new.agreed ≡ true) }
+    ensures unsure { MoreUnsure core.old.unsure core.new.unsure }
     ensures finds { CoreFinds core.old core.new (S.meaning shelf.old) (S.meaning shelf.new) }
     ensures settles { CoreSettles core.old core.new (S.meaning shelf.old) (S.meaning shelf.new) }
     ensures logs { TrustsBut vol log core.old.config core.new.config }

@@ -1,7 +1,7 @@
 // The flushes that come before the commit of a deport.
 ghost use Rattle.vx_group.specs.Loses.{TrustsStill};
 ghost use Rattle.vx_group.specs.Finds.{CoreFinds};
-ghost use Rattle.std.specs.Prelude.{◌≡◌, ◌<◌, ℕ, length, false, IsTrue};
+ghost use Rattle.std.specs.Prelude.{◌≡◌, ◌<◌, ℕ, length, false, IsTrue, IfErr};
 ghost use Rattle.vx_config.specs.Table.{greatest};
 ghost use Rattle.vx_group.specs.Blames.{Blames, MarksUnsure};
 ghost use Rattle.vx_group.specs.Deports.{IsVolumeOf};

@@ -2,6 +2,7 @@
 ghost use Rattle.std.specs.Prelude.{◌≡◌, ◌≢◌, ◌<◌, ℕ, IsTrue, Some};
 ghost use Rattle.vx_loggroup.specs.Facts.{LoggedFact};
 ghost use Rattle.vx_loggroup.specs.Fresh.{FreshStands};
+ghost use Rattle.vx_loggroup.specs.Settled.{SettledFact};
 ghost use Rattle.vx_untold.specs.Shades.{shade_meaning};
 
 use crate::Idle;
@@ -30,6 +31,7 @@ pub struct Laid<R: Rack> {
     pub stopped: bool,
     pub ghost stands: { LoggedFact core logs.items alike stopped (shade_meaning (λ s. R.meaning s) shelf) },
     pub ghost begins: { FreshStands core fresh (shade_meaning (λ s. R.meaning s) shelf) },
+    pub ghost settles: { SettledFact core alike (shade_meaning (λ s. R.meaning s) shelf) },
 }
 
 impl<R: Rack> Laid<R> {

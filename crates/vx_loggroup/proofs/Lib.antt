@@ -41,3 +41,5 @@ pub mod ComesLemmas
 pub mod FollowLemmas
 pub mod GoingLemmas
 pub mod AttMoves
+pub mod SettledFacts
+pub mod DoubtLemmas

@@ -1,5 +1,5 @@
 // A group with logs that is deported.
-ghost use Rattle.vx_group.specs.Finds.{GroupFinds};
+ghost use Rattle.vx_group.specs.Finds.{GroupImages};
 ghost use Rattle.std.specs.Prelude.{◌≡◌, ◌<◌, ◌≤◌, ◌-◌, IfErr, IfOk, IsTrue, OnOk, Err, false, length, true};
 ghost use Rattle.vx_config.specs.Table.{greatest};
 ghost use Rattle.vx_disk.specs.Shelf.{Goes, Nothing};
@@ -14,6 +14,8 @@ ghost use Rattle.vx_loggroup.specs.Opens.{RestTells};
 ghost use Rattle.vx_model.specs.declared.errors.Stop.TheVariants.{No as Refused};
 ghost use Rattle.vx_model.specs.declared.no.Counted.TheVariants.{Number as Numbers};
 ghost use Rattle.vx_model.specs.declared.no.No.TheVariants.{Limit};
+ghost use Rattle.vx_group.specs.Settles.{CoreSettles};
+ghost use Rattle.vx_loggroup.specs.Settled.{SureFlags};
 
 use crate::resting::{are_kept, flush_disks, rest_all};
 use vx_disk::Shelf;
@@ -50,6 +52,7 @@ fn deport_rested<S: Shelf>(
     alike: &[bool; MOST_VOLUMES],
 ) -> Result<Option<Rested>, Stop>
     requires stands { LoggedStands core.old logs.now.items alike.now false (S.meaning shelf.old) }
+    requires sure { SureFlags (length core.old.inner.config.volumes) core.old.inner.unsure alike.now }
     requires up { IsTrue (S.meaning shelf.old).down → ⊥ }
     requires near { core.old.inner.config.serial ≤ greatest - margin }
     requires few { length core.old.inner.config.disks ≤ MOST_DISKS }
@@ -61,7 +64,8 @@ fn deport_rested<S: Shelf>(
     ensures maps { OnOk result (MapsStand logs.now.items (S.meaning shelf.new)) }
     ensures rests { IfOk result (λ r. RestsOr core.old.inner.config false logs.now.items alike.now r) }
     ensures trusts { IfErr result (λ e. TrustsStill core.old.inner.config core.new.inner.config) }
-    ensures finds { IfErr result (λ e. GroupFinds core.old core.new (S.meaning shelf.old) (S.meaning shelf.new)) }
+    ensures finds { IfErr result (λ e. GroupImages core.old core.new (S.meaning shelf.old) (S.meaning shelf.new)) }
+    ensures settles { IfErr result (λ e. CoreSettles (wide core.old) (wide core.new) (S.meaning shelf.old) (S.meaning shelf.new)) }
     ensures cause { DetStops (S.meaning shelf.old) (S.meaning shelf.new) result }
 {
     let failed = match flush_disks(shelf, &core.inner.config) {
@@ -95,6 +99,7 @@ pub fn deport_whole<S: Shelf>(
     stopped: bool,
 ) -> Result<Option<Rested>, Stop>
     requires stands { LoggedStands core.old logs.now.items alike.now stopped (S.meaning shelf.old) }
+    requires sure { SureFlags (length core.old.inner.config.volumes) core.old.inner.unsure alike.now }
     ensures stands { IfErr result (λ e. LoggedStands core.new logs.now.items alike.now stopped (S.meaning shelf.new)) }
     ensures limit { greatest - margin < core.old.inner.config.serial → (result ≡ Err (Refused (Limit Numbers greatest))) × (core.new ≡ core.old) × (shelf.new ≡ shelf.old) }
     ensures ends { GroupCloses core.old core.new (S.meaning shelf.old) (S.meaning shelf.new) result }
@@ -104,7 +109,8 @@ pub fn deport_whole<S: Shelf>(
     ensures maps { stopped ≡ false → OnOk result (MapsStand logs.now.items (S.meaning shelf.new)) }
     ensures rests { IfOk result (λ r. RestsOr core.old.inner.config stopped logs.now.items alike.now r) }
     ensures trusts { IfErr result (λ e. TrustsStill core.old.inner.config core.new.inner.config) }
-    ensures finds { IfErr result (λ e. GroupFinds core.old core.new (S.meaning shelf.old) (S.meaning shelf.new)) }
+    ensures finds { IfErr result (λ e. GroupImages core.old core.new (S.meaning shelf.old) (S.meaning shelf.new)) }
+    ensures settles { IfErr result (λ e. CoreSettles (wide core.old) (wide core.new) (S.meaning shelf.old) (S.meaning shelf.new)) }
     ensures cause { core.old.inner.config.serial ≤ greatest - margin → DetStops (S.meaning shelf.old) (S.meaning shelf.new) result }
 {
     let down = shelf.is_down();

@@ -19,6 +19,7 @@ ghost use Rattle.vx_loggroup.specs.Marks.{MarksVolume, NotesMaps, RunsMaps};
 ghost use Rattle.vx_logs.specs.Writes.{first_region, last_region};
 ghost use Rattle.vx_model.specs.declared.limits.TheConstants.{MOST_VOLUMES};
 ghost use Rattle.vx_volume.specs.Plexes.{active};
+ghost use Rattle.vx_kept.specs.Cleans.{is_unsure};
 
 use crate::alike::{is_alike, set_alike};
 use crate::first::begin_first;
@@ -79,6 +80,7 @@ pub fn write_fresh<S: Shelf>(
     ensures free { stopped.new ≡ false → OnOk result ((core.new.held ≡ None) ⊎ (fmr_at logs.new.items vol ≡ None)) }
     ensures alike { OnOk result (alike.new ≡ alike.old) }
     ensures flags { (w : ℕ) → (w ≡ vol → ⊥) → is_alike_is alike.new w ≡ is_alike_is alike.old w }
+    ensures doubts { (w : ℕ) → is_unsure core.new.inner.unsure w ≡ false → is_alike_is alike.old w ≡ true → is_alike_is alike.new w ≡ true }
     ensures marked { stopped.new ≡ false → MarkedBefore (λ s. S.meaning s) vol block bytes.now (first_region block) (last_region block (length bytes.now / BLOCK)) core.old core.new (S.meaning shelf.old) (S.meaning shelf.new) }
     ensures full { stopped.old ≡ false → stopped.new ≡ true → greatest ≤ core.old.inner.config.serial + 5 * COMMIT_SERIALS }
     ensures trust { OnOk result (core.old.inner.committed ≡ true → core.new.inner.committed ≡ true) }

@@ -32,6 +32,7 @@ pub fn read_whole<S: Shelf>(
     ensures same { core.new.inner.config ≡ core.old.inner.config }
     ensures held { core.new.held ≡ core.old.held }
     ensures settled { core.new.inner.unsettled ≡ core.old.inner.unsettled }
+    ensures unsure { core.new.inner.unsure ≡ core.old.inner.unsure }
     ensures trusted { (core.new.inner.committed ≡ core.old.inner.committed) × (core.new.inner.agreed ≡ core.old.inner.agreed) }
     ensures below { Goes Nothing (S.meaning shelf.old) (S.meaning shelf.new) }
     ensures counts { CountsOnly vol result (inner_meaning (wide core.old) (S.meaning shelf.old)).faults (inner_meaning (wide core.new) (S.meaning shelf.new)).faults }

@@ -19,16 +19,17 @@ ghost use Rattle.vx_logs.specs.Writes.{first_region, last_region};
 ghost use Rattle.vx_model.specs.declared.limits.TheConstants.{MOST_VOLUMES};
 ghost use Rattle.vx_volume.specs.Plexes.{active};
 ghost use Rattle.vx_config.specs.Checks.{blocks_of as blocks_of_is};
+ghost use Rattle.vx_kept.specs.Cleans.{is_unsure};
 
 use crate::alike::{is_alike, is_sure, set_alike};
 use vx_disk::{Shelf, ShelfError};
-use vx_group::GroupCore;
+use vx_group::{GroupCore, mark_unsure};
 use vx_logged::{flush_spent, write_marked};
 use vx_logs::Logs;
 use vx_model::limits::{BLOCK, COMMIT_SERIALS, MOST_VOLUMES};
 
 /// Writes a run of blocks of a volume, of which the regions are durably marked first, and no others. Where it fails, the plexes of the volume may
-/// differ: no mark of it is taken off from then on. Where they did not before, the maps of those that were ACTIVE have regions of the run alone then.
+/// differ: no mark of it is taken off from then on, and it is unsure. Where they did not before, the maps of those that were ACTIVE have regions of the run alone then.
 pub fn write_whole<S: Shelf>(
     shelf: &mut S,
     core: &mut GroupCore,
@@ -60,6 +61,7 @@ pub fn write_whole<S: Shelf>(
     ensures free { stopped.new ≡ false → OnOk result ((core.new.held ≡ None) ⊎ (fmr_at logs.new.items vol ≡ None)) }
     ensures alike { OnOk result (alike.new ≡ alike.old) }
     ensures flags { (w : ℕ) → (w ≡ vol → ⊥) → is_alike_is alike.new w ≡ is_alike_is alike.old w }
+    ensures doubts { (w : ℕ) → is_unsure core.new.inner.unsure w ≡ false → is_alike_is alike.old w ≡ true → is_alike_is alike.new w ≡ true }
     ensures marked { stopped.new ≡ false → MarkedBefore (λ s. S.meaning s) vol block bytes.now (first_region block) (last_region block (length bytes.now / BLOCK)) core.old core.new (S.meaning shelf.old) (S.meaning shelf.new) }
     ensures full { stopped.old ≡ false → stopped.new ≡ true → greatest ≤ core.old.inner.config.serial + 2 * COMMIT_SERIALS }
     ensures trust { OnOk result (core.old.inner.committed ≡ true → core.new.inner.committed ≡ true) }
@@ -81,6 +83,7 @@ pub fn write_whole<S: Shelf>(
         Ok(()) => Ok(()),
         Err(error) => {
             set_alike(alike, vol, false);
+            mark_unsure(&mut core.inner.unsure, vol);
             Err(error)
         }
     }

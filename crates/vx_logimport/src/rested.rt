@@ -25,6 +25,16 @@ impl Rested {
         }
     }
 
+    /// Of disks that were found, of which nothing is told: the plexes of each are alike, and no log of missed regions is taken up.
+    pub fn found() -> Rested
+        ensures alike { (v : ℕ) → v < MOST_VOLUMES → rests result.alike v ≡ true }
+    {
+        Rested {
+            alike: [true; MOST_VOLUMES],
+            maps: [false; MOST_VOLUMES],
+        }
+    }
+
     /// Of each.
     pub fn all() -> Rested
         ensures alike { (v : ℕ) → v < MOST_VOLUMES → rests result.alike v ≡ true }

@@ -11,6 +11,7 @@ use Rattle.vx_group.proofs.LostLemmas.{error_to}
 use Rattle.vx_group.proofs.FindingLemmas.{as_finds, none_finds}
 use Rattle.vx_group.proofs.TrustStillLemmas.{same_logs, still_but}
 use Rattle.vx_group.proofs.SettleCalls.{as_told, same_told}
+use Rattle.vx_group.proofs.UnsureMarks.{error_unsure, same_unsure, then_unsure}
 use Rattle.vx_group.proofs.losing_group.lose_in.Goals as goal
 
 pub returns-then-is_down-clause-acts : goal.returns-then-is_down-clause-acts
@@ -114,3 +115,16 @@ returns-in-Ok-clause-settles g c = c.lose_log.ensures.settles
 
 pub returns-in-Err-clause-settles : goal.returns-in-Err-clause-settles
 returns-in-Err-clause-settles g c = as_told c.args.core.now c.lose_log.new.core _ (g.S.Shelf.meaning c.args.shelf.now) (g.S.Shelf.meaning c.lose_log.new.shelf) refl refl c.lose_log.ensures.settles
+
+pub returns-then-is_down-clause-unsure : goal.returns-then-is_down-clause-unsure
+returns-then-is_down-clause-unsure g c = λ v is. is
+
+pub returns-then-core-ge-MOST_NUMBER-clause-unsure : goal.returns-then-core-ge-MOST_NUMBER-clause-unsure
+returns-then-core-ge-MOST_NUMBER-clause-unsure g c = λ v is. is
+
+pub returns-in-Ok-clause-unsure : goal.returns-in-Ok-clause-unsure
+returns-in-Ok-clause-unsure g c = same_unsure c.args.core.now.unsure c.lose_log.new.core.unsure c.lose_log.ensures.narrows.unsure
+
+pub returns-in-Err-clause-unsure : goal.returns-in-Err-clause-unsure
+returns-in-Err-clause-unsure g c =
+    then_unsure c.args.core.now.unsure c.lose_log.new.core.unsure c.give_up.new.unsure (same_unsure c.args.core.now.unsure c.lose_log.new.core.unsure c.lose_log.ensures.narrows.unsure) (error_unsure c.in-Err.error c.args.vol c.lose_log.new.core.unsure c.give_up.new.unsure c.give_up.ensures.marks)

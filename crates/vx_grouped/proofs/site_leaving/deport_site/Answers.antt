@@ -83,7 +83,7 @@ pub returns-else-is_down_stop-clause-volumes : goal.returns-else-is_down_stop-cl
 returns-else-is_down_stop-clause-volumes g c = none_go (laid_seen c.args.laid) (laid_seen c.in-Err.laid) c.in-Err.ensures.moves.goes
 
 pub returns-then-is_down_stop-clause-volumes : goal.returns-then-is_down_stop-clause-volumes
-returns-then-is_down_stop-clause-volumes g c = fell_behind Nowhere c.args.laid c.in-Err.laid c.crash.result (none_go (laid_seen c.args.laid) (laid_seen c.in-Err.laid) c.in-Err.ensures.moves.goes) c.crash.ensures.stopped c.crash.ensures.agreed
+returns-then-is_down_stop-clause-volumes g c = fell_behind Nowhere c.args.laid c.in-Err.laid c.crash.result (none_go (laid_seen c.args.laid) (laid_seen c.in-Err.laid) c.in-Err.ensures.moves.goes) c.crash.ensures.stopped c.crash.ensures.agreed c.crash.ensures.lacking
 
 pub returns-in-Ok-clause-closes : goal.returns-in-Ok-clause-closes
 returns-in-Ok-clause-closes g c = subst (λ s. DeportedBy (wide c.args.laid.core).config c.args.laid.core.inner (shade_meaning g.R.Shelf.meaning c.args.laid.shelf) (shade_meaning g.R.Shelf.meaning s)) (sym c.of.ensures.rack) c.in-Ok.ensures.moves

@@ -13,7 +13,7 @@ use Rattle.vx_group.proofs.LoseLemmas.{along_same}
 use Rattle.vx_group.proofs.Standing.{sound_of}
 use Rattle.vx_group.proofs.TrustingLemmas.{trusting_active}
 use Rattle.vx_group.proofs.UnitLemmas.{acts_units, goes_units}
-use Rattle.vx_grouplogs.specs.On.{ReadsOne}
+use Rattle.vx_group.specs.Settles.{ReadsOne}
 use Rattle.vx_grouplogs.proofs.MapLemmas.{goes_logs}
 use Rattle.vx_groupmaps.specs.Missing.{none_spared}
 use Rattle.vx_kept.specs.Keeping.{AllOn}

@@ -14,7 +14,9 @@ use Rattle.vx_loggroup.proofs.RestMaps.{maps_stand}
 use Rattle.vx_loggroup.proofs.RestTells.{rest_tells}
 use Rattle.vx_loggroup.proofs.RestingLemmas.{some_failed}
 use Rattle.vx_loggroup.proofs.StillLemmas.{core_goes}
-use Rattle.vx_group.proofs.FindingLemmas.{idle_group, marked_group, quiet_finds, then_group}
+use Rattle.vx_group.proofs.FindingLemmas.{idle_group, images_of, marked_group, quiet_finds, then_images}
+use Rattle.vx_group.proofs.SettleCalls.{less_goes, then_told}
+use Rattle.vx_loggroup.proofs.SettledFacts.{reads_sure, sure_next}
 use Rattle.vx_loggroup.proofs.deporting.deport_rested.Goals as goal
 
 pub flush_disks-requires-clause-disks : goal.flush_disks-requires-clause-disks
@@ -65,12 +67,31 @@ returns-clause-tells g c =
 
 pub returns-in-Err-clause-finds : goal.returns-in-Err-clause-finds
 returns-in-Err-clause-finds g c =
-    idle_group c.args.core.now (g.S.Shelf.meaning c.args.shelf.now) (g.S.Shelf.meaning c.flush_disks.new.shelf) (quiet_finds (g.S.Shelf.meaning c.args.shelf.now) (g.S.Shelf.meaning c.flush_disks.new.shelf) (g.met.S.Shelf.lawful c.args.shelf.now) (g.met.S.Shelf.lawful c.flush_disks.new.shelf) c.flush_disks.ensures.goes)
+    images_of c.args.core.now c.args.core.now (g.S.Shelf.meaning c.args.shelf.now) (g.S.Shelf.meaning c.flush_disks.new.shelf)
+    (idle_group c.args.core.now (g.S.Shelf.meaning c.args.shelf.now) (g.S.Shelf.meaning c.flush_disks.new.shelf) c.requires.stands.group.stands (less_goes (wide c.args.core.now).config (g.S.Shelf.meaning c.args.shelf.now) (g.S.Shelf.meaning c.flush_disks.new.shelf) c.flush_disks.ensures.goes) c.flush_disks.ensures.goes.falls
+    (quiet_finds (g.S.Shelf.meaning c.args.shelf.now) (g.S.Shelf.meaning c.flush_disks.new.shelf) (g.met.S.Shelf.lawful c.args.shelf.now) (g.met.S.Shelf.lawful c.flush_disks.new.shelf) c.flush_disks.ensures.goes))
+
+pub returns-in-Err-clause-settles : goal.returns-in-Err-clause-settles
+returns-in-Err-clause-settles g c =
+    (idle_group c.args.core.now (g.S.Shelf.meaning c.args.shelf.now) (g.S.Shelf.meaning c.flush_disks.new.shelf) c.requires.stands.group.stands (less_goes (wide c.args.core.now).config (g.S.Shelf.meaning c.args.shelf.now) (g.S.Shelf.meaning c.flush_disks.new.shelf) c.flush_disks.ensures.goes) c.flush_disks.ensures.goes.falls
+    (quiet_finds (g.S.Shelf.meaning c.args.shelf.now) (g.S.Shelf.meaning c.flush_disks.new.shelf) (g.met.S.Shelf.lawful c.args.shelf.now) (g.met.S.Shelf.lawful c.flush_disks.new.shelf) c.flush_disks.ensures.goes)).settles
 
 pub returns-in-Err-deport_in-clause-finds : goal.returns-in-Err-deport_in-clause-finds
 returns-in-Err-deport_in-clause-finds g c =
-    then_group c.args.core.now (with_unsure c.rest_all-maps.new.unsure c.args.core.now) c.deport_in.new.core (g.S.Shelf.meaning c.args.shelf.now) (g.S.Shelf.meaning c.flush_disks.new.shelf) (g.S.Shelf.meaning c.deport_in.new.shelf)
-    (marked_group c.args.core.now (with_unsure c.rest_all-maps.new.unsure c.args.core.now) (g.S.Shelf.meaning c.args.shelf.now) (g.S.Shelf.meaning c.flush_disks.new.shelf) refl refl refl refl (quiet_finds (g.S.Shelf.meaning c.args.shelf.now) (g.S.Shelf.meaning c.flush_disks.new.shelf) (g.met.S.Shelf.lawful c.args.shelf.now) (g.met.S.Shelf.lawful c.flush_disks.new.shelf) c.flush_disks.ensures.goes)) c.in-Err-deport_in.ensures.finds
+    then_images c.args.core.now (with_unsure c.rest_all-maps.new.unsure c.args.core.now) c.deport_in.new.core (g.S.Shelf.meaning c.args.shelf.now) (g.S.Shelf.meaning c.flush_disks.new.shelf) (g.S.Shelf.meaning c.deport_in.new.shelf)
+    (images_of c.args.core.now (with_unsure c.rest_all-maps.new.unsure c.args.core.now) (g.S.Shelf.meaning c.args.shelf.now) (g.S.Shelf.meaning c.flush_disks.new.shelf)
+    (marked_group c.args.core.now (with_unsure c.rest_all-maps.new.unsure c.args.core.now) (g.S.Shelf.meaning c.args.shelf.now) (g.S.Shelf.meaning c.flush_disks.new.shelf) c.requires.stands.group.stands c.flush_disks.ensures.goes refl refl refl refl c.rest_all-maps.ensures.unsure.more
+    (quiet_finds (g.S.Shelf.meaning c.args.shelf.now) (g.S.Shelf.meaning c.flush_disks.new.shelf) (g.met.S.Shelf.lawful c.args.shelf.now) (g.met.S.Shelf.lawful c.flush_disks.new.shelf) c.flush_disks.ensures.goes)))
+    c.in-Err-deport_in.ensures.finds
+
+pub returns-in-Err-deport_in-clause-settles : goal.returns-in-Err-deport_in-clause-settles
+returns-in-Err-deport_in-clause-settles g c =
+    then_told (wide c.args.core.now) (wide (with_unsure c.rest_all-maps.new.unsure c.args.core.now)) (wide c.deport_in.new.core) (g.S.Shelf.meaning c.args.shelf.now) (g.S.Shelf.meaning c.flush_disks.new.shelf) (g.S.Shelf.meaning c.deport_in.new.shelf)
+    (marked_group c.args.core.now (with_unsure c.rest_all-maps.new.unsure c.args.core.now) (g.S.Shelf.meaning c.args.shelf.now) (g.S.Shelf.meaning c.flush_disks.new.shelf) c.requires.stands.group.stands c.flush_disks.ensures.goes refl refl refl refl c.rest_all-maps.ensures.unsure.more
+    (quiet_finds (g.S.Shelf.meaning c.args.shelf.now) (g.S.Shelf.meaning c.flush_disks.new.shelf) (g.met.S.Shelf.lawful c.args.shelf.now) (g.met.S.Shelf.lawful c.flush_disks.new.shelf) c.flush_disks.ensures.goes)).settles
+    (c.in-Err-deport_in.ensures.settles (reads_sure (with_unsure c.rest_all-maps.new.unsure c.args.core.now) c.args.logs.now.items c.args.alike.now false (g.S.Shelf.meaning c.flush_disks.new.shelf)
+    (unsure_stands c.args.core.now c.rest_all-maps.new.unsure c.args.logs.now.items c.args.alike.now false (g.S.Shelf.meaning c.flush_disks.new.shelf) (still_stands c.args.core.now c.args.logs.now.items c.args.alike.now false (g.S.Shelf.meaning c.args.shelf.now) (g.S.Shelf.meaning c.flush_disks.new.shelf) (g.met.S.Shelf.lawful c.args.shelf.now) (g.met.S.Shelf.lawful c.flush_disks.new.shelf) c.requires.stands c.flush_disks.ensures.goes))
+    (sure_next (length c.args.core.now.inner.config.volumes) (length c.args.core.now.inner.config.volumes) c.args.core.now.inner.unsure c.rest_all-maps.new.unsure c.args.alike.now c.args.alike.now (omega arith) c.rest_all-maps.ensures.unsure.more (λ v off is. is) c.requires.sure)))
 
 pub returns-then-not-kept-clause-maps : goal.returns-then-not-kept-clause-maps
 returns-then-not-kept-clause-maps g c = maps_stand (with_unsure c.rest_all-maps.new.unsure c.args.core.now) c.args.logs.now.items c.args.alike.now (g.S.Shelf.meaning c.flush_disks.new.shelf) (g.S.Shelf.meaning c.deport_in.new.shelf) (unsure_stands c.args.core.now c.rest_all-maps.new.unsure c.args.logs.now.items c.args.alike.now false (g.S.Shelf.meaning c.flush_disks.new.shelf) (still_stands c.args.core.now c.args.logs.now.items c.args.alike.now false (g.S.Shelf.meaning c.args.shelf.now) (g.S.Shelf.meaning c.flush_disks.new.shelf) (g.met.S.Shelf.lawful c.args.shelf.now) (g.met.S.Shelf.lawful c.flush_disks.new.shelf) c.requires.stands c.flush_disks.ensures.goes)) c.in-Ok-deport_in.ensures.ends

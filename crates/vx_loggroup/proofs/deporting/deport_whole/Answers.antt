@@ -8,6 +8,7 @@ use Rattle.vx_loggroup.proofs.DeportedLogs.{deport_stands}
 use Rattle.vx_loggroup.proofs.RestMaps.{maps_stand}
 use Rattle.vx_group.proofs.CallLemmas.{not_down}
 use Rattle.vx_group.proofs.TrustLemmas.{err_from}
+use Rattle.vx_loggroup.proofs.SettledFacts.{reads_sure}
 use Rattle.vx_loggroup.proofs.deporting.deport_whole.Goals as goal
 
 pub deport_rested-requires-clause-stands : goal.deport_rested-requires-clause-stands
@@ -71,3 +72,12 @@ returns-in-Ok-clause-trusts g c = tt
 
 pub returns-in-Err-clause-trusts : goal.returns-in-Err-clause-trusts
 returns-in-Err-clause-trusts g c = c.in-Err.ensures.logs
+
+pub deport_rested-requires-clause-sure : goal.deport_rested-requires-clause-sure
+deport_rested-requires-clause-sure g c = c.requires.sure
+
+pub returns-then-may_rest-clause-settles : goal.returns-then-may_rest-clause-settles
+returns-then-may_rest-clause-settles g c = c.deport_rested.ensures.settles
+
+pub returns-in-Err-clause-settles : goal.returns-in-Err-clause-settles
+returns-in-Err-clause-settles g c = c.in-Err.ensures.settles (reads_sure c.args.core.now c.args.logs.now.items c.args.alike.now c.args.stopped (g.S.Shelf.meaning c.args.shelf.now) c.requires.stands c.requires.sure)

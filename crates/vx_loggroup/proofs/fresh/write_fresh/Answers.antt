@@ -220,3 +220,12 @@ returns-in-Err-clause-free g c = λ off. tt
 
 pub returns-clause-free : goal.returns-clause-free
 returns-clause-free g c = c.write_whole-2.ensures.free
+
+pub returns-then-not-takes_fresh-clause-doubts : goal.returns-then-not-takes_fresh-clause-doubts
+returns-then-not-takes_fresh-clause-doubts g c = c.write_whole.ensures.doubts
+
+pub returns-in-Err-clause-doubts : goal.returns-in-Err-clause-doubts
+returns-in-Err-clause-doubts g c = λ w off is. is
+
+pub returns-clause-doubts : goal.returns-clause-doubts
+returns-clause-doubts g c = c.write_whole-2.ensures.doubts

@@ -1,6 +1,6 @@
 -- `write_whole`: clauses stands and marks; what `write_marked` asks.
-use Rattle.std.proofs.Common.{◌≡◌, ◌∙◌, ◌/◌, inl, inr, true, false, length, refl, sym, arith}
-use Rattle.std.proofs.lemmas.Bool.{false_from_ne_true}
+use Rattle.std.proofs.Common.{◌≡◌, ◌∙◌, ◌/◌, inl, inr, true, false, length, refl, sym, arith, ℕ, ap}
+use Rattle.std.proofs.lemmas.Bool.{false_from_ne_true, both_ways, cases_eq}
 use Rattle.vx_disk.specs.Shelf.{Written}
 use Rattle.vx_group.specs.Holding.{wide}
 use Rattle.vx_logs.specs.Writes.{first_region, last_region}
@@ -17,6 +17,12 @@ use Rattle.vx_loggroup.proofs.SetLemmas.{item_of}
 use Rattle.vx_loggroup.proofs.KeepingLemmas.{kept_set}
 use Rattle.vx_loggroup.proofs.KeepingCalls.{marked_keeps}
 use Rattle.vx_loggroup.proofs.WroteMoves.{gone_set, holds_set, none_set, trusts_set}
+use Rattle.vx_group.proofs.FindingLemmas.{as_finds}
+use Rattle.vx_group.proofs.SettleCalls.{as_told}
+use Rattle.vx_group.proofs.UnsureMarks.{marked_unsure, then_unsure}
+use Rattle.vx_kept.specs.Cleans.{is_unsure}
+use Rattle.vx_loggroup.proofs.CloseLemmas.{unsure_stands}
+use Rattle.std.proofs.Math.ListN.{set}
 use Rattle.vx_loggroup.proofs.whole.write_whole.Goals as goal
 
 pub index_mut-requires : goal.index_mut-requires
@@ -38,13 +44,14 @@ returns-in-Ok-clause-stands g c =
 
 pub returns-in-Err-clause-stands : goal.returns-in-Err-clause-stands
 returns-in-Err-clause-stands g c =
-    set_stands (Written c.args.vol c.args.block c.args.bytes.now) c.args.core.now c.write_marked.new.core c.args.logs.now.items c.args.alike.now c.set_alike.new.alike c.args.stopped.now c.write_marked.new.stopped c.args.vol c.write_marked.new.logs (g.S.Shelf.meaning c.args.shelf.now) (g.S.Shelf.meaning c.write_marked.new.shelf) c.requires.stands c.write_marked.ensures.stands c.write_marked.ensures.goes
+    unsure_stands c.write_marked.new.core c.mark_unsure.new.unsure (set c.args.logs.now.items c.args.vol c.write_marked.new.logs) c.set_alike.new.alike c.write_marked.new.stopped (g.S.Shelf.meaning c.write_marked.new.shelf)
+    (set_stands (Written c.args.vol c.args.block c.args.bytes.now) c.args.core.now c.write_marked.new.core c.args.logs.now.items c.args.alike.now c.set_alike.new.alike c.args.stopped.now c.write_marked.new.stopped c.args.vol c.write_marked.new.logs (g.S.Shelf.meaning c.args.shelf.now) (g.S.Shelf.meaning c.write_marked.new.shelf) c.requires.stands c.write_marked.ensures.stands c.write_marked.ensures.goes
     (λ w b x apart put. apart put.covers.there) (going_back c.args.stopped.now c.write_marked.new.stopped c.write_marked.ensures.stays) c.write_marked.ensures.others c.set_alike.ensures.others
     (record {
       on = c.write_marked.ensures.log;
       maps = λ going. c.write_marked.ensures.maps going ((c.requires.stands.each c.args.vol c.index_mut.result.now (item_of c.args.logs.now.items c.args.vol c.index_mut.result.now c.index_mut.ensures.value (index_low c.args.core.now c.args.logs.now.items c.args.alike.now c.args.stopped.now (g.S.Shelf.meaning c.args.shelf.now) c.args.vol c.requires.stands c.requires.fits.exists))).maps (going_back c.args.stopped.now c.write_marked.new.stopped c.write_marked.ensures.stays going));
       alike = λ is up. absurd (let clash : false ≡ true = sym c.set_alike.ensures.here ∙ is in cc);
-    })
+    }))
 
 pub returns-in-Ok-clause-marks : goal.returns-in-Ok-clause-marks
 returns-in-Ok-clause-marks g c = marks_set (wide c.args.core.now).config c.args.vol (first_region c.args.block) (last_region c.args.block (length c.args.bytes.now / 512)) c.args.logs.now.items c.index_mut.result.now c.write_marked.new.logs (item_of c.args.logs.now.items c.args.vol c.index_mut.result.now c.index_mut.ensures.value (index_low c.args.core.now c.args.logs.now.items c.args.alike.now c.args.stopped.now (g.S.Shelf.meaning c.args.shelf.now) c.args.vol c.requires.stands c.requires.fits.exists)) c.write_marked.ensures.adds
@@ -64,13 +71,16 @@ returns-in-Err-clause-notes g c = notes_set (begun_refused c.args.core.now c.wri
     (λ p on. begun_more c.args.core.now c.write_marked.new.core c.args.vol c.is_sure-sure.result (is_alike c.args.alike.now c.args.vol) (λ is. sym c.is_alike.ensures ∙ c.is_sure-sure.ensures.alike is) p on) (λ p on. on) c.in-Err.ensures.notes)
 
 pub returns-in-Err-clause-marked : goal.returns-in-Err-clause-marked
-returns-in-Err-clause-marked g c = c.write_marked.ensures.marked
+returns-in-Err-clause-marked g c = λ going. elim (c.write_marked.ensures.marked going) [
+  | inl still ↦ inl still
+  | inr it ↦ inr (record { moment = it.moment; core = it.core; logs = it.logs; before = it.before; marked = it.marked; behind = it.behind })
+]
 
 pub returns-in-Ok-clause-keeps : goal.returns-in-Ok-clause-keeps
 returns-in-Ok-clause-keeps g c = marked_keeps c.args.core.now c.write_marked.new.core c.args.vol c.args.logs.now.items c.index_mut.result.now c.write_marked.new.logs (g.S.Shelf.meaning c.args.shelf.now) (g.S.Shelf.meaning c.write_marked.new.shelf) (item_of c.args.logs.now.items c.args.vol c.index_mut.result.now c.index_mut.ensures.value (index_low c.args.core.now c.args.logs.now.items c.args.alike.now c.args.stopped.now (g.S.Shelf.meaning c.args.shelf.now) c.args.vol c.requires.stands c.requires.fits.exists)) c.write_marked.ensures.loses.loses c.write_marked.ensures.trusts c.write_marked.ensures.drops
 
 pub returns-in-Err-clause-keeps : goal.returns-in-Err-clause-keeps
-returns-in-Err-clause-keeps g c = marked_keeps c.args.core.now c.write_marked.new.core c.args.vol c.args.logs.now.items c.index_mut.result.now c.write_marked.new.logs (g.S.Shelf.meaning c.args.shelf.now) (g.S.Shelf.meaning c.write_marked.new.shelf) (item_of c.args.logs.now.items c.args.vol c.index_mut.result.now c.index_mut.ensures.value (index_low c.args.core.now c.args.logs.now.items c.args.alike.now c.args.stopped.now (g.S.Shelf.meaning c.args.shelf.now) c.args.vol c.requires.stands c.requires.fits.exists)) c.write_marked.ensures.loses.loses c.write_marked.ensures.trusts c.write_marked.ensures.drops
+returns-in-Err-clause-keeps g c = record { each = (marked_keeps c.args.core.now c.write_marked.new.core c.args.vol c.args.logs.now.items c.index_mut.result.now c.write_marked.new.logs (g.S.Shelf.meaning c.args.shelf.now) (g.S.Shelf.meaning c.write_marked.new.shelf) (item_of c.args.logs.now.items c.args.vol c.index_mut.result.now c.index_mut.ensures.value (index_low c.args.core.now c.args.logs.now.items c.args.alike.now c.args.stopped.now (g.S.Shelf.meaning c.args.shelf.now) c.args.vol c.requires.stands c.requires.fits.exists)) c.write_marked.ensures.loses.loses c.write_marked.ensures.trusts c.write_marked.ensures.drops).each }
 
 pub returns-in-Ok-clause-kept : goal.returns-in-Ok-clause-kept
 returns-in-Ok-clause-kept g c = λ off. kept_set c.write_marked.new.core c.args.logs.now.items c.args.vol c.write_marked.new.logs (c.in-Ok.ensures.kept off)
@@ -142,4 +152,36 @@ pub returns-in-Ok-clause-free : goal.returns-in-Ok-clause-free
 returns-in-Ok-clause-free g c = λ off. elim (c.in-Ok.ensures.free off) [
   | inl none ↦ inl none
   | inr gone ↦ inr (none_set c.args.vol c.args.logs.now.items c.write_marked.new.logs gone)
+]
+
+pub returns-in-Err-clause-finds : goal.returns-in-Err-clause-finds
+returns-in-Err-clause-finds g c = record {
+  core = as_finds (wide c.args.core.now) (wide c.write_marked.new.core) _ (g.S.Shelf.meaning c.args.shelf.now) (g.S.Shelf.meaning c.write_marked.new.shelf) refl refl refl c.write_marked.ensures.finds.core;
+  settles = as_told (wide c.args.core.now) (wide c.write_marked.new.core) _ (g.S.Shelf.meaning c.args.shelf.now) (g.S.Shelf.meaning c.write_marked.new.shelf) refl refl c.write_marked.ensures.finds.settles;
+  unsure = then_unsure c.args.core.now.inner.unsure c.write_marked.new.core.inner.unsure c.mark_unsure.new.unsure c.write_marked.ensures.finds.unsure (marked_unsure c.args.vol c.write_marked.new.core.inner.unsure c.mark_unsure.new.unsure c.mark_unsure.ensures);
+  free = c.write_marked.ensures.finds.free;
+}
+
+pub returns-in-Err-clause-goes : goal.returns-in-Err-clause-goes
+returns-in-Err-clause-goes g c = c.write_marked.ensures.goes
+
+pub returns-in-Err-clause-loses : goal.returns-in-Err-clause-loses
+returns-in-Err-clause-loses g c = c.write_marked.ensures.loses
+
+pub returns-in-Err-clause-cause : goal.returns-in-Err-clause-cause
+returns-in-Err-clause-cause g c = c.in-Err.ensures.cause
+
+pub returns-in-Err-clause-full : goal.returns-in-Err-clause-full
+returns-in-Err-clause-full g c = c.write_marked.ensures.full
+
+pub returns-in-Err-clause-agreed : goal.returns-in-Err-clause-agreed
+returns-in-Err-clause-agreed g c = c.in-Err.ensures.agreed
+
+pub returns-in-Ok-clause-doubts : goal.returns-in-Ok-clause-doubts
+returns-in-Ok-clause-doubts g c = λ w off is. is
+
+pub returns-in-Err-clause-doubts : goal.returns-in-Err-clause-doubts
+returns-in-Err-clause-doubts g c = λ w off is. elim (cases_eq w c.args.vol) [
+  | inl same ↦ absurd (both_ways (is_unsure c.mark_unsure.new.unsure w) off (ap (λ (k : ℕ). is_unsure c.mark_unsure.new.unsure k) same ∙ c.mark_unsure.ensures.here))
+  | inr apart ↦ c.set_alike.ensures.others w apart ∙ is
 ]
