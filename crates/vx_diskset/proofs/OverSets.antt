@@ -15,7 +15,7 @@ use Rattle.vx_diskset.specs.Stands.{AwayOver, FellOver, OverStands, RestsOver, R
 use Rattle.vx_diskset.specs.declared.over_set.OverSite.{OverSite}
 use Rattle.vx_diskset.specs.declared.over_set.OverSite.TheVariants.{Origin as OriginSite, Receiver as ReceiverSite, Deported as GroupAway, Down as GroupFell, Gone as NoGroup}
 use Rattle.vx_diskset.proofs.FailGroup.{receiver_failing, up_failing}
-use Rattle.vx_diskset.proofs.Reaching.{receiver_burned}
+use Rattle.vx_diskset.proofs.ReachedBack.{receiver_burned}
 use Rattle.vx_diskset.proofs.StaysUp.{up_worked}
 
 module _ (beside : KeptBeside) (n : Node) (fuse : FuseOf) (failing : ℕ → Bool) (m : Meaning) where

@@ -74,7 +74,7 @@ module _ {R : Type 0} {g : Ghosts R} where
       let state : (d.world.nodes s).state ≡ IsUp = sym (ap (λ (x : SiteFacts). x.state) same) ∙ up in
       let fell = falls d stands here.below state in
       let h : Doubted = happened d (CrashAt s fell.count) fell.taken in
-      let lead = rises d h (keeps_k fell.count) fell.taken name here.number (WasUp state refl) stands.links fell.stands
+      let lead = rises d h (keeps_k fell.count) fell.taken name here.number (WasUp state (ap (λ (k : ℕ). happened d (CrashAt s k) fell.taken) (sym fell.keeps))) stands.links fell.stands
       (omega (arith, here.below, fell.sites, own_sites s d.world h fell.taken)) fell.down
       (fell.group ∙ none) (blocks_is ∙ ap (λ (x : SiteFacts). x.blocks) same ∙ sym fell.blocks) in
       record {
