@@ -17,8 +17,8 @@ use Rattle.vx_group.specs.declared.inner.Inner.{Inner}
 use Rattle.vx_group.proofs.HoldLemmas.{narrow_size, narrow_units, narrow_wider, wide_shape}
 
 -- a read that was refused with a fault
-pub fault_reads : (c : Config) (v w : Volume) (block n : ℕ) (bytes : List ℕ) (old new : Meaning) (no : No) (disk : ℕ) → no ≡ Device disk → VolumeReads c v w block n bytes old new (Err no) → AllPlexesFailed c v.number disk old new
-fault_reads c v w block n bytes old new no disk is reads =
+pub fault_reads : (c : Config) (v w : Volume) (block n : ℕ) (bytes : List ℕ) (old new : Meaning) (why : No) (disk : ℕ) → why ≡ Device disk → VolumeReads c v w block n bytes old new (Err why) → AllPlexesFailed c v.number disk old new
+fault_reads c v w block n bytes old new why disk is reads =
     let both : AllPlexesFailed c v.number disk old new × (w ≡ v) = subst (λ (x : No). VolumeReads c v w block n bytes old new (Err x)) is reads in
     both.0
 
