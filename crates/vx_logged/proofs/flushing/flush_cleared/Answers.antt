@@ -401,7 +401,7 @@ pub returns-in-Err-keep_fallen-clause-marks : goal.returns-in-Err-keep_fallen-cl
 returns-in-Err-keep_fallen-clause-marks g c = unsure_then c.args.vol c.args.core.now.inner.unsure c.flush_group.new.core.inner.unsure c.keep_fallen.new.core.inner.unsure c.in-Err-keep_fallen.refused c.in-Ok.ensures.marks c.in-Err-keep_fallen.ensures.marks
 
 pub returns-in-Err-keep_fallen-clause-gives_up : goal.returns-in-Err-keep_fallen-clause-gives_up
-returns-in-Err-keep_fallen-clause-gives_up g c = misses_faults {T = Bool} c.args.vol c.args.core.now.inner.config c.keep_fallen.new.core.inner (g.S.Shelf.meaning c.args.shelf.now) (g.S.Shelf.meaning c.keep_fallen.new.shelf) c.in-Err-keep_fallen.refused c.in-Err-keep_fallen.ensures.misses
+returns-in-Err-keep_fallen-clause-gives_up g c = misses_faults Bool c.args.vol c.args.core.now.inner.config c.keep_fallen.new.core.inner (g.S.Shelf.meaning c.args.shelf.now) (g.S.Shelf.meaning c.keep_fallen.new.shelf) c.in-Err-keep_fallen.refused c.in-Err-keep_fallen.ensures.misses
 
 pub returns-then-not-done-clause-marks : goal.returns-then-not-done-clause-marks
 returns-then-not-done-clause-marks g c = c.in-Ok-keep_fallen.ensures.marks ∙ c.in-Ok.ensures.marks
@@ -419,4 +419,4 @@ pub returns-in-Err-clear_group-clause-marks : goal.returns-in-Err-clear_group-cl
 returns-in-Err-clear_group-clause-marks g c = unsure_then c.args.vol c.args.core.now.inner.unsure c.keep_fallen.new.core.inner.unsure c.clear_group.new.core.inner.unsure c.in-Err-clear_group.error (c.in-Ok-keep_fallen.ensures.marks ∙ c.in-Ok.ensures.marks) c.in-Err-clear_group.ensures.marks
 
 pub returns-in-Err-clear_group-clause-gives_up : goal.returns-in-Err-clear_group-clause-gives_up
-returns-in-Err-clear_group-clause-gives_up g c = misses_faults {T = Bool} c.args.vol c.args.core.now.inner.config c.clear_group.new.core.inner (g.S.Shelf.meaning c.args.shelf.now) (g.S.Shelf.meaning c.clear_group.new.shelf) c.in-Err-clear_group.error c.in-Err-clear_group.ensures.misses
+returns-in-Err-clear_group-clause-gives_up g c = misses_faults Bool c.args.vol c.args.core.now.inner.config c.clear_group.new.core.inner (g.S.Shelf.meaning c.args.shelf.now) (g.S.Shelf.meaning c.clear_group.new.shelf) c.in-Err-clear_group.error c.in-Err-clear_group.ensures.misses

@@ -158,4 +158,4 @@ pub returns-in-Err-clause-marks : goal.returns-in-Err-clause-marks
 returns-in-Err-clause-marks g c = c.in-Err.ensures.marks
 
 pub returns-in-Err-clause-misses : goal.returns-in-Err-clause-misses
-returns-in-Err-clause-misses g c = misses_to {T = Bool} c.mark_group.new.core.inner c.in-Err.error c.in-Err.ensures.misses
+returns-in-Err-clause-misses g c = misses_to c.mark_group.new.core.inner c.in-Err.error c.in-Err.ensures.misses

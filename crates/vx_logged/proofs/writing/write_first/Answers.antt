@@ -271,7 +271,7 @@ pub returns-in-Err-clause-marks : goal.returns-in-Err-clause-marks
 returns-in-Err-clause-marks g c = c.in-Err.ensures.marks
 
 pub returns-in-Err-clause-gives_up : goal.returns-in-Err-clause-gives_up
-returns-in-Err-clause-gives_up g c = misses_faults {T = Bool} c.args.vol c.args.core.now.inner.config c.mark_group.new.core.inner (g.S.Shelf.meaning c.args.shelf.now) (g.S.Shelf.meaning c.mark_group.new.shelf) c.in-Err.error c.in-Err.ensures.misses
+returns-in-Err-clause-gives_up g c = misses_faults Bool c.args.vol c.args.core.now.inner.config c.mark_group.new.core.inner (g.S.Shelf.meaning c.args.shelf.now) (g.S.Shelf.meaning c.mark_group.new.shelf) c.in-Err.error c.in-Err.ensures.misses
 
 pub returns-clause-marks : goal.returns-clause-marks
 returns-clause-marks g c = marks_then c.args.vol c.args.core.now.inner.unsure c.mark_group.new.core.inner.unsure c.write_group-2.new.core.inner.unsure c.write_group-2.result c.in-Ok.ensures.marks c.write_group-2.ensures.marks

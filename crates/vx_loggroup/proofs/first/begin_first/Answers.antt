@@ -137,7 +137,7 @@ pub returns-in-Err-clause-unsure : goal.returns-in-Err-clause-unsure
 returns-in-Err-clause-unsure g c = c.in-Err.ensures.marks
 
 pub returns-in-Err-clause-misses : goal.returns-in-Err-clause-misses
-returns-in-Err-clause-misses g c = misses_to {T = Bool} c.ready_group.new.core.inner c.in-Err.error c.in-Err.ensures.misses
+returns-in-Err-clause-misses g c = misses_to c.ready_group.new.core.inner c.in-Err.error c.in-Err.ensures.misses
 
 pub returns-then-not-ready-clause-unsure : goal.returns-then-not-ready-clause-unsure
 returns-then-not-ready-clause-unsure g c = c.in-Ok.ensures.marks

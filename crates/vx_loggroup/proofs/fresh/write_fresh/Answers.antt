@@ -232,7 +232,7 @@ pub returns-in-Err-clause-unsure : goal.returns-in-Err-clause-unsure
 returns-in-Err-clause-unsure g c = marks_fell {T = Unit {0}} c.args.vol c.args.core.now.inner.unsure c.begin_first.new.core.inner.unsure (Err c.in-Err.error) c.in-Err.ensures.unsure
 
 pub returns-in-Err-clause-gives_up : goal.returns-in-Err-clause-gives_up
-returns-in-Err-clause-gives_up g c = misses_faults {T = Unit {0}} c.args.vol c.args.core.now.inner.config c.begin_first.new.core.inner (g.S.Shelf.meaning c.args.shelf.now) (g.S.Shelf.meaning c.begin_first.new.shelf) c.in-Err.error c.in-Err.ensures.misses
+returns-in-Err-clause-gives_up g c = misses_faults (Unit {0}) c.args.vol c.args.core.now.inner.config c.begin_first.new.core.inner (g.S.Shelf.meaning c.args.shelf.now) (g.S.Shelf.meaning c.begin_first.new.shelf) c.in-Err.error c.in-Err.ensures.misses
 
 pub returns-clause-unsure : goal.returns-clause-unsure
 returns-clause-unsure g c = fell_then c.args.vol c.args.core.now.inner.unsure c.begin_first.new.core.inner.unsure c.write_whole-2.new.core.inner.unsure c.write_whole-2.result c.in-Ok.ensures.unsure c.write_whole-2.ensures.unsure

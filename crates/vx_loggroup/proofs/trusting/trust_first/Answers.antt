@@ -88,4 +88,4 @@ pub returns-in-Err-clause-unsure : goal.returns-in-Err-clause-unsure
 returns-in-Err-clause-unsure g c = unsure_then c.args.vol c.args.core.now.inner.unsure c.trust_group.new.core.inner.unsure c.give_up.new.unsure c.in-Err.error c.trust_group.ensures.unsure c.give_up.ensures.marks
 
 pub returns-in-Err-clause-misses : goal.returns-in-Err-clause-misses
-returns-in-Err-clause-misses g c = misses_to {T = Bool} c.trust_group.new.core.inner c.in-Err.error c.in-Err.ensures.misses
+returns-in-Err-clause-misses g c = misses_to c.trust_group.new.core.inner c.in-Err.error c.in-Err.ensures.misses
