@@ -313,8 +313,6 @@ refused : (links : Bool) (d : Doubted) (line : ScriptLine) (why : No) (fails : F
 refused true d line why fails said new is = record {
   events = [];
   came = FirstCame (link_events d.world line) refl;
-  ending = fails;
-  are = inl refl;
   stops = all_stop false d [] fails new is.none (same_like d new is.stays);
 }
 refused false d line why fails said new is =
