@@ -1,9 +1,5 @@
 -- `make_ready`: clauses narrows, cause, volumes, failing, few, good, trust and agreed; what `detach` asks.
-<<<<<<< HEAD
 use Rattle.std.proofs.Common.{◌∙◌, inl, inr, length, refl, arith, ◌≡◌, true, false, sym}
-=======
-use Rattle.std.proofs.Common.{arith, false, inl, inr, length, refl, sym, true, ◌∙◌, ◌≡◌}
->>>>>>> origin/MTN11
 use Rattle.vx_group.proofs.CallLemmas.{blames_later, both_Narrows}
 use Rattle.vx_group.proofs.DetachLemmas.{zero_bit}
 use Rattle.vx_group.proofs.FailingLemmas.{few_ok, then_failing}
