@@ -24,7 +24,7 @@ use Rattle.vx_yard.specs.Steps.{SaidStep}
 
 -- however its events end
 stops_good : (links : Bool) (d : Doubted) (line : ScriptLine) (fails : Fails) (new : Doubted) → GoodDoubted d → StopsBy links d line fails new → GoodDoubted new
-stops_good true d line fails new good is = line_good d new is.events is.ending good is.stops
+stops_good true d line fails new good is = line_good d new is.events fails good is.stops
 stops_good false d line fails new good is = line_good d new is.events is.ending good is.stops
 
 pub said_good : {told : Type 0} → told → (files : Bool) (d : Doubted) (r : Result (Option ScriptLine) ℕ) (fails : Fails) (text : List ℕ) (new : Doubted) → GoodDoubted d → SaidStep told files d r fails text new → GoodDoubted new

@@ -123,7 +123,10 @@ pub fn make_ready<S: Shelf>(shelf: &mut S, core: &mut Inner) -> Result<(), Shelf
     ensures settles { CoreSettles core.old core.new (S.meaning shelf.old) (S.meaning shelf.new) }
     ensures cause { Blames (S.meaning shelf.old) (S.meaning shelf.new) result }
 {
-    if !core.unsettled || core.config.serial >= MOST_NUMBER {
+    if !core.unsettled {
+        return Ok(());
+    }
+    if core.config.serial >= MOST_NUMBER {
         return Ok(());
     }
     match settle_headers(shelf, core) {

@@ -1,5 +1,5 @@
 -- Why an import of a group is refused, and what a refused import leaves.
-use Rattle.std.proofs.Common.{⊎_elim, ◌≡◌, ◌∙◌, ◌⊎◌, ℕ, Bool, true, false, ap, sym, subst, refl, inl, inr, IsTrue}
+use Rattle.std.proofs.Common.{[], ⊎_elim, ◌≡◌, ◌∙◌, ◌⊎◌, ℕ, Bool, true, false, ap, sym, subst, refl, inl, inr, IsTrue}
 use Rattle.std.specs.Prelude.{Contains, Option, Some, None, IsFalse, not}
 use Rattle.vx_model.specs.declared.errors.Stop.TheVariants.{No as StopsBy}
 use Rattle.vx_model.specs.declared.no.Counted.{Counted}

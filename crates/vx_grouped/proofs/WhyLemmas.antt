@@ -159,7 +159,7 @@ module _ (m0 m1 m2 m3 : Meaning) (first : (u : ℕ) → m1.disk_faults u ≡ m0.
   unread u it = between u (subst (λ (x : ℕ). Rose x (m2.disk_faults u)) (sym (one u)) (subst (λ (x : ℕ). Rose (m1.faults u) x) (sym (two u)) it))
 
   module _ (told : Type 0) (plain : told → (i : Image) (readable : ℕ → Bool) → Each m1.reads i → is_plain (found_by m1 readable i) ≡ true) (shows : told → IsTrue m1.tells)
-    (known : Type 0) (held : known → HoldsAny m1) (units : m1.units ≡ m0.units) where
+      (known : Type 0) (held : known → HoldsAny m1) (units : m1.units ≡ m0.units) where
     some_unread : (it : HoldsAny m1) (i : Image) (readable : ℕ → Bool) → ((u : ℕ) → u < m1.units → readable u ≡ false → Rose (m1.faults u) (m2.faults u)) → (IsTrue m1.tells → Each m1.reads i) → import_of (on_shelf m1) failed_in m1.units readable i ≡ NothingFound → SomeRose m0 m3
     some_unread it i readable blamed read is =
         let one = it.unread i readable (read it.tells) is in

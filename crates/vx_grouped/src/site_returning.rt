@@ -251,9 +251,10 @@ fn import_site<R: Rack>(
                 if fell {
                     let idle = Idle::of(fallen(rack, false), true, Some(rested));
                     return (GroupSite::Down(idle), Err(Stop::No(No::Down)));
+                } else {
+                    let kept = Idle::of(rack, true, Some(rested));
+                    return (GroupSite::Deported(kept), Err(stop));
                 }
-                let kept = Idle::of(rack, true, Some(rested));
-                return (GroupSite::Deported(kept), Err(stop));
             }
             let rack = fallen(rack, false);
             if is_down_stop(&stop) {

@@ -1,5 +1,5 @@
 -- Where settling ends: at the head, which the reply names.
-use Rattle.std.proofs.Common.{◌≡◌, ◌∙◌, ◌<◌, ◌≤◌, ℕ, List, [], Bool, true, false, ap, sym, subst, arith, length}
+use Rattle.std.proofs.Common.{◌≡◌, refl, ◌∙◌, ◌<◌, ◌≤◌, ℕ, List, [], Bool, true, false, ap, sym, subst, arith, length}
 use Rattle.std.proofs.lemmas.Bool.Decides.{nat_tests}
 use Rattle.std.specs.Prelude.{◌&&◌, leb, not, None, if◌then◌else◌}
 use Rattle.vx_model.specs.Sites.{is_origin, is_up}

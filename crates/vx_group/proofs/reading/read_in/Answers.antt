@@ -1,5 +1,5 @@
 -- `read_in`: clauses stands, goes, shown and ok; what `read` asks.
-use Rattle.std.proofs.Common.{ℕ, ◌/◌, ◌∙◌, refl, sym, subst, arith}
+use Rattle.std.proofs.Common.{ℕ, ◌/◌, ◌∙◌, length, refl, sym, subst, arith}
 use Rattle.vx_volume.specs.Volumes.{PlexRead}
 use Rattle.vx_group.specs.Holding.{wide}
 use Rattle.vx_group.specs.Stands.{volume_faults}
@@ -58,8 +58,8 @@ returns-in-Ok-clause-turn g c = record {
 }
 
 pub returns-in-Err-Device-clause-turn : goal.returns-in-Err-Device-clause-turn
-returns-in-Err-Device-clause-turn g c = (
-  fault_reads c.args.core.now.inner.config (record { number = c.args.vol; next = next_plex c.args.core.now.inner.next c.args.vol }) c.read.new.v c.args.block _ c.read.new.into (g.S.Shelf.meaning c.args.shelf.now) (g.S.Shelf.meaning c.read.new.shelf) c.in-Err-Device.field-0
+returns-in-Err-Device-clause-turn g c = rw c.in-Err-Device.field-0-is (
+  fault_reads c.args.core.now.inner.config (record { number = c.args.vol; next = next_plex c.args.core.now.inner.next c.args.vol }) c.read.new.v c.args.block (length c.args.into.now / 512) c.read.new.into (g.S.Shelf.meaning c.args.shelf.now) (g.S.Shelf.meaning c.read.new.shelf) c.in-Err-Device.field-0
       c.in-Err-Device.disk c.in-Err-Device.field-0-is c.in-Err-Device.ensures.reads,
   refl,
 )
