@@ -40,6 +40,8 @@ module _ {T U : Type 0} (f : U → T) where
     size = x.size;
     block = x.block;
     may = λ u. x.may (known_told new u);
+    opens = λ u. x.opens (known_told new u);
+    parts = λ u. x.parts (known_told new u);
     one = λ u. x.one (known_told new u);
     cut = x.cut;
     inside = x.inside;
