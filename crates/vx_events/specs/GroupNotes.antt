@@ -141,11 +141,12 @@ pub record NotesBack (told : Type 0) (s : ℕ) (n : Node) (fails : Fails) (note 
   pub cut : new.cut ≡ None
   pub inside : new.inside ≡ note.inside
 
--- the same where what is kept of a write that was cut is still to be read
+-- the same where a write was cut, and what is kept of it is still to be read
 pub record NotesUnread (told : Type 0) (s : ℕ) (n : Node) (fails : Fails) (note new : GroupNode) : Type 0 where
   pub middle : GroupNode
   pub back : NotesBack told s n fails note middle
   pub maps : IsKnown told middle → MapsRecovered note middle
+  pub cut : note.cut ≡ None → ⊥
   pub is : new ≡ record middle { cut = note.cut }
 
 -- a recovery or an import was refused: nothing changes, or it is not known any more what the disks hold
