@@ -6,7 +6,7 @@ use Rattle.vx_model.specs.declared.no.Counted.TheVariants.{Number}
 use Rattle.vx_model.specs.declared.no.No.{No}
 use Rattle.vx_model.specs.declared.no.No.TheVariants.{Limit}
 use Rattle.vx_history.specs.Doubts.{Doubted}
-use Rattle.vx_history.specs.Groups.{GroupNode, NoteSettles}
+use Rattle.vx_history.specs.Groups.{GroupNode, MissedNote, NoteSettles}
 use Rattle.vx_history.specs.World.{Node, World}
 use Rattle.vx_history.specs.declared.event.Event.{Event}
 use Rattle.vx_config.specs.declared.config.Config.{Config}
@@ -19,6 +19,7 @@ use Rattle.vx_events.proofs.RvgStays.{back_group, but_group, each_group, not_bel
 use Rattle.vx_events.specs.Doubts.{IsAs}
 use Rattle.vx_events.specs.Fails.{Fails}
 use Rattle.vx_events.specs.GroupEnds.{BringsUp, FindsGroup, FindsNoGroup, GroupCut, GroupDoes, GroupDone, GroupEnds, GroupFails, GroupLacks, GroupNotFound, ImportFails, InitFails, KeptUnread, NotFoundLeaves}
+use Rattle.vx_events.specs.GroupMaps.{WithMaps}
 use Rattle.vx_events.specs.GroupNotes.{NotesBack, NotesRefused, NotesWrite, Reconfigures, no_note, note_at}
 use Rattle.vx_events.specs.RvgBack.{GetsRvg, GroupCutOff, GroupHeld, GroupUnfound, HadRvg, KeptLost, LogCut, LogFails, LogLacks, RestsWithRvg, RvgBack, RvgFinds, RvgUp}
 use Rattle.vx_events.specs.RvgLinks.{LinksOver, NotesThere, works_at}
@@ -46,24 +47,27 @@ agrees_unfound other note next leaves a = agrees_note note next leaves a
 settled : {C : Config → Config → Type 0} (note next : GroupNode) → Reconfigures C NoteSettles note next → NoteAgrees note → NoteAgrees next
 settled note next x a = let rests = x.keeps.tight a.loose a.begun in record { loose = rests.1; begun = rests.0 }
 
+settled_maps : {C : Config → Config → Type 0} {Maps : Config → Config → MissedNote → MissedNote → Type 0} (note next : GroupNode) → WithMaps (Reconfigures C NoteSettles) Maps note next → NoteAgrees note → NoteAgrees next
+settled_maps note next x a = agrees_same x.middle next (ap (λ (g : GroupNode). g.loose) x.is) (ap (λ (g : GroupNode). g.begun) x.is) (settled note x.middle x.goes a)
+
 agrees_at : (m : Node) (next : GroupNode) → m.group ≡ Some next → NoteAgrees next → NoteAgrees (note_at m)
 agrees_at m next is a = subst (λ (g : GroupNode). NoteAgrees g) (sym (ap (λ (o : Option GroupNode). unwrap_or o no_note) is)) a
 
 module _ (told : Type 0) (s : ℕ) (n : Node) (note : GroupNode) (fails : Fails) (said : Said) (next : GroupNode) (a : NoteAgrees note) where
   written : (x : WriteBlocks) → NotesWrite s fails x note next → NoteAgrees next
   written x w =
-      agrees_same w.middle next (ap (λ (g : GroupNode). g.loose) w.is) (ap (λ (g : GroupNode). g.begun) w.is) (settled note w.middle w.moves a)
+      agrees_same w.middle next (ap (λ (g : GroupNode). g.loose) w.is) (ap (λ (g : GroupNode). g.begun) w.is) (settled_maps note w.middle w.moves a)
 
   does_agree : (line : ScriptLine) → is_below note line ≡ true → GroupDoes told s n note line fails said next → NoteAgrees next
   does_agree (GroupInit site) below does = absurd (never below)
-  does_agree (GroupDeport site) below does = settled note next does.0 a
+  does_agree (GroupDeport site) below does = settled_maps note next does.0 a
   does_agree (GroupImport site) below does = absurd (never below)
   does_agree (Volume site volume blocks mirrors layout log map policy) below does =
       let x = does.0 in
       let rests = x.settles.tight a.loose a.begun in
       agrees_same x.middle next (ap (λ (g : GroupNode). g.loose) x.zeros.same) (ap (λ (g : GroupNode). g.begun) x.zeros.same) (record { loose = rests.1; begun = rests.0 })
-  does_agree (PlexDetach site volume plex) below does = settled note next does.0 a
-  does_agree (PlexAttach site volume plex) below does = settled note next does.0 a
+  does_agree (PlexDetach site volume plex) below does = settled_maps note next does.0 a
+  does_agree (PlexAttach site volume plex) below does = settled_maps note next does.0 a
   does_agree (Write site volume start count fill) below does = written _ does.0
   does_agree (Put site volume start bytes) below does = written _ does.0
   does_agree (Read site volume start count) below does = agrees_note note next does.0 a

@@ -7,7 +7,7 @@ use Rattle.vx_model.specs.declared.no.No.{No}
 use Rattle.vx_model.specs.declared.no.No.TheVariants.{Limit}
 use Rattle.vx_model.specs.declared.site.PlexState.TheVariants.{Active, Stale}
 use Rattle.vx_history.specs.Doubts.{Doubted}
-use Rattle.vx_history.specs.Groups.{GroupNode}
+use Rattle.vx_history.specs.Groups.{GroupNode, MissedNote}
 use Rattle.vx_history.specs.Stops.{IsFused}
 use Rattle.vx_history.specs.World.{Node, World}
 use Rattle.vx_history.specs.declared.event.Event.{Event}
@@ -25,6 +25,7 @@ use Rattle.vx_events.specs.Fails.{Fails}
 use Rattle.vx_events.specs.GroupConfigs.{ConfigLoses, lies_on_disk, opened_again}
 use Rattle.vx_events.specs.GroupEnds.{BringsUp, FindsGroup, FindsNoGroup, GroupCut, GroupCuts, GroupDoes, GroupDone, GroupEnds, GroupFails, GroupLacks, GroupNotFound, GroupSpoils, ImportFails, InitFails, KeptUnread, NotFoundLeaves}
 use Rattle.vx_events.specs.GroupLines.{group_noted, noting, plain_number}
+use Rattle.vx_events.specs.GroupMaps.{WithMaps}
 use Rattle.vx_events.specs.GroupNotes.{IsKnown, NotesBack, NotesCut, NotesDoubt, NotesRefused, NotesVolume, NotesWrite, Reconfigures, no_note, note_at}
 use Rattle.vx_events.specs.GroupViews.{config_of}
 use Rattle.vx_events.specs.RvgBack.{FindsNoRvg, FindsPlain, FindsRvg, GetsRvg, GroupCutOff, GroupHeld, GroupUnfound, HadRvg, IsLeftBack, IsLeftBut, KeptLost, LogCut, LogFails, LogLacks, RestsWithRvg, RvgBack, RvgFinds, RvgUp}
@@ -61,8 +62,21 @@ reconfigured note next keeps x c at = record {
   keeps = subst (λ (k : Config). KeepsRvg k x.now) (some_same (sym x.was ∙ at)) (keeps x.old x.now x.change);
 }
 
+-- what is noted of the regions that plexes missed may go on too
+mapped : {Goes : GroupNode → GroupNode → Type 0} {Maps : Config → Config → MissedNote → MissedNote → Type 0} (note next : GroupNode) → ((m : GroupNode) → Goes note m → NoteKeepsRvg note m)
+    → WithMaps Goes Maps note next → NoteKeepsRvg note next
+mapped note next keeps x = then_same note x.middle next (keeps x.middle x.goes) (ap (λ (g : GroupNode). g.config) x.is)
+
 pub loses : {K : GroupNode → GroupNode → Type 0} (s : ℕ) (fails : Fails) (note next : GroupNode) → Reconfigures (ConfigLoses s fails) K note next → NoteKeepsRvg note next
 loses s fails note next x = reconfigured note next (λ c d. loses_keeps (λ _. false) s fails c d) x
+
+loses_mapped : {K : GroupNode → GroupNode → Type 0} {Maps : Config → Config → MissedNote → MissedNote → Type 0} (s : ℕ) (fails : Fails) (note next : GroupNode)
+    → WithMaps (Reconfigures (ConfigLoses s fails) K) Maps note next → NoteKeepsRvg note next
+loses_mapped s fails note next x = mapped note next (λ m moves. loses s fails note m moves) x
+
+mapped_by : {C : Config → Config → Type 0} {K : GroupNode → GroupNode → Type 0} {Maps : Config → Config → MissedNote → MissedNote → Type 0} (note next : GroupNode)
+    → ((c d : Config) → C c d → KeepsRvg c d) → WithMaps (Reconfigures C K) Maps note next → NoteKeepsRvg note next
+mapped_by note next keeps x = mapped note next (λ m moves. reconfigured note m keeps moves) x
 
 with_volume_more : (s : ℕ) (fails : Fails) (name : List ℕ) (want : Shape) (note next : GroupNode) → NotesVolume s fails name want note next → NoteKeepsRvg note next
 with_volume_more s fails name want note next x c at = record {
@@ -73,13 +87,13 @@ with_volume_more s fails name want note next x c at = record {
 }
 
 written : (s : ℕ) (fails : Fails) (w : WriteBlocks) (note next : GroupNode) → NotesWrite s fails w note next → NoteKeepsRvg note next
-written s fails w note next x = then_same note x.middle next (loses s fails note x.middle x.moves) (ap (λ (g : GroupNode). g.config) x.is)
+written s fails w note next x = then_same note x.middle next (loses_mapped s fails note x.middle x.moves) (ap (λ (g : GroupNode). g.config) x.is)
 
 doubtful : (s : ℕ) (fails : Fails) (w : WriteBlocks) (note next : GroupNode) → NotesDoubt s fails w note next → NoteKeepsRvg note next
-doubtful s fails w note next x = then_same note x.middle next (loses s fails note x.middle x.moves) (ap (λ (g : GroupNode). g.config) x.is)
+doubtful s fails w note next x = then_same note x.middle next (loses_mapped s fails note x.middle x.moves) (ap (λ (g : GroupNode). g.config) x.is)
 
 cut_off : (s : ℕ) (fails : Fails) (w : WriteBlocks) (note next : GroupNode) → NotesCut s fails w note next → NoteKeepsRvg note next
-cut_off s fails w note next x = then_same note x.middle next (loses s fails note x.middle x.moves) (ap (λ (g : GroupNode). g.config) x.is)
+cut_off s fails w note next x = then_same note x.middle next (loses_mapped s fails note x.middle x.moves) (ap (λ (g : GroupNode). g.config) x.is)
 
 pub refused_config : (note next : GroupNode) → NotesRefused note next → next.config ≡ note.config
 refused_config note next (inl same) = ap (λ (g : GroupNode). g.config) same
@@ -105,16 +119,16 @@ does_keeps : (told : Type 0) (s : ℕ) (n : Node) (note : GroupNode) (line : Scr
     → GroupDoes told s n note line fails said next → NoteKeepsRvg note next
 does_keeps told s n note (GroupInit site) fails said next below does = absurd (never below)
 does_keeps told s n note (GroupDeport site) fails said next below does =
-    reconfigured note next
+    mapped_by note next
     (λ c d x.
     keeps_then c (opened_again c) d (again_keeps c)
     (keeps_then (opened_again c) (opened_again d) d (loses_keeps (λ _. false) s fails (opened_again c) (opened_again d) x) (closed_keeps d))) does.0
 does_keeps told s n note (GroupImport site) fails said next below does = absurd (never below)
 does_keeps told s n note (Volume site volume blocks mirrors layout log map policy) fails said next below does = with_volume_more s fails volume _ note next does.0
 does_keeps told s n note (PlexDetach site volume plex) fails said next below does =
-    reconfigured note next (λ c d x. puts_or (λ _. false) s fails (plain_number note volume) plex Stale c d (inr x)) does.0
+    mapped_by note next (λ c d x. puts_or (λ _. false) s fails (plain_number note volume) plex Stale c d (inr x)) does.0
 does_keeps told s n note (PlexAttach site volume plex) fails said next below does =
-    reconfigured note next
+    mapped_by note next
     (λ c d x. puts_or (lies_on_disk c (plain_number note volume) plex) s fails (plain_number note volume) plex Active c d (inr x)) does.0
 does_keeps told s n note (Write site volume start count fill) fails said next below does = written s fails _ note next does.0
 does_keeps told s n note (Put site volume start bytes) fails said next below does = written s fails _ note next does.0
@@ -128,11 +142,11 @@ does_keeps told s n note (Status site) fails said next below does = same_note no
 does_keeps told s n note other fails said next below does = absurd does
 
 spoils_keeps : (s : ℕ) (note : GroupNode) (line : ScriptLine) (fails : Fails) (next : GroupNode) → GroupSpoils s note line fails next → NoteKeepsRvg note next
-spoils_keeps s note (GroupDeport site) fails next spoils = loses s fails note next spoils
+spoils_keeps s note (GroupDeport site) fails next spoils = loses_mapped s fails note next spoils
 spoils_keeps s note (GroupImport site) fails next spoils = same_config note next (refused_config note next spoils)
-spoils_keeps s note (Volume site volume blocks mirrors layout log map policy) fails next spoils = loses s fails note next spoils
-spoils_keeps s note (PlexDetach site volume plex) fails next spoils = reconfigured note next (λ c d x. loses_keeps (λ _. false) s fails c d x) spoils
-spoils_keeps s note (PlexAttach site volume plex) fails next spoils = reconfigured note next (λ c d x. loses_keeps (lies_on_disk c (plain_number note volume) plex) s fails c d x) spoils
+spoils_keeps s note (Volume site volume blocks mirrors layout log map policy) fails next spoils = loses_mapped s fails note next spoils
+spoils_keeps s note (PlexDetach site volume plex) fails next spoils = mapped_by note next (λ c d x. loses_keeps (λ _. false) s fails c d x) spoils
+spoils_keeps s note (PlexAttach site volume plex) fails next spoils = mapped_by note next (λ c d x. loses_keeps (lies_on_disk c (plain_number note volume) plex) s fails c d x) spoils
 spoils_keeps s note (Write site volume start count fill) fails next spoils = doubtful s fails _ note next spoils
 spoils_keeps s note (Put site volume start bytes) fails next spoils = doubtful s fails _ note next spoils
 spoils_keeps s note (Read site volume start count) fails next spoils = same_note note next spoils.0
@@ -141,13 +155,13 @@ spoils_keeps s note (Recover site) fails next spoils = same_config note next (re
 spoils_keeps s note other fails next spoils = absurd spoils
 
 cuts_keeps : (s : ℕ) (note : GroupNode) (line : ScriptLine) (fails : Fails) (next : GroupNode) → GroupCuts s note line fails next → NoteKeepsRvg note next
-cuts_keeps s note (GroupDeport site) fails next cuts = loses s fails note next cuts
+cuts_keeps s note (GroupDeport site) fails next cuts = loses_mapped s fails note next cuts
 cuts_keeps s note (GroupImport site) fails next cuts = same_config note next (refused_config note next cuts)
-cuts_keeps s note (Volume site volume blocks mirrors layout log map policy) fails next cuts = loses s fails note next cuts
+cuts_keeps s note (Volume site volume blocks mirrors layout log map policy) fails next cuts = loses_mapped s fails note next cuts
 cuts_keeps s note (PlexDetach site volume plex) fails next cuts =
-    reconfigured note next (λ c d x. puts_or (λ _. false) s fails (plain_number note volume) plex Stale c d x) cuts
+    mapped_by note next (λ c d x. puts_or (λ _. false) s fails (plain_number note volume) plex Stale c d x) cuts
 cuts_keeps s note (PlexAttach site volume plex) fails next cuts =
-    reconfigured note next (λ c d x. puts_or (lies_on_disk c (plain_number note volume) plex) s fails (plain_number note volume) plex Active c d x) cuts
+    mapped_by note next (λ c d x. puts_or (lies_on_disk c (plain_number note volume) plex) s fails (plain_number note volume) plex Active c d x) cuts
 cuts_keeps s note (Write site volume start count fill) fails next cuts = cut_off s fails _ note next cuts
 cuts_keeps s note (Put site volume start bytes) fails next cuts = cut_off s fails _ note next cuts
 cuts_keeps s note other fails next cuts = absurd cuts

@@ -1,9 +1,13 @@
 -- A read of a volume as one of the group.
-use Rattle.std.proofs.Common.{◌≡◌, inl, inr, ℕ, ◌+◌, ◌/◌, ◌<◌, ◌≤◌, Bool, IsTrue, List, length, sym, subst, arith}
+use Rattle.std.proofs.Common.{Err, ◌≡◌, inl, inr, ℕ, ◌+◌, ◌/◌, ◌<◌, ◌≤◌, Bool, IsTrue, List, length, sym, subst, arith}
 use Rattle.vx_disk.specs.Shelf.{Fits, Meaning, Read, Values, piece}
 use Rattle.vx_config.specs.Checks.{blocks_of}
 use Rattle.vx_volume.specs.Plexes.{Inside, active}
-use Rattle.vx_volume.specs.Volumes.{PlexRead}
+use Rattle.vx_volume.specs.Volumes.{AllPlexesFailed, PlexRead, VolumeReads}
+use Rattle.vx_volume.specs.declared.volume.Volume.{Volume}
+use Rattle.vx_config.specs.declared.config.Config.{Config}
+use Rattle.vx_model.specs.declared.no.No.{No}
+use Rattle.vx_model.specs.declared.no.No.TheVariants.{Device}
 use Rattle.vx_kept.specs.Groups.{seen}
 use Rattle.vx_kept.proofs.Steps.{inside_back, inside_same}
 use Rattle.vx_group.specs.Holding.{GroupStands, wide}
@@ -11,6 +15,12 @@ use Rattle.vx_group.specs.Stands.{inner_meaning}
 use Rattle.vx_group.specs.declared.group_core.GroupCore.{GroupCore}
 use Rattle.vx_group.specs.declared.inner.Inner.{Inner}
 use Rattle.vx_group.proofs.HoldLemmas.{narrow_size, narrow_units, narrow_wider, wide_shape}
+
+-- a read that was refused with a fault
+pub fault_reads : (c : Config) (v w : Volume) (block n : ℕ) (bytes : List ℕ) (old new : Meaning) (why : No) (disk : ℕ) → why ≡ Device disk → VolumeReads c v w block n bytes old new (Err why) → AllPlexesFailed c v.number disk old new
+fault_reads c v w block n bytes old new why disk is reads =
+    let both : AllPlexesFailed c v.number disk old new × (w ≡ v) = subst (λ (x : No). VolumeReads c v w block n bytes old new (Err x)) is reads in
+    both.0
 
 module _ (core : Inner) (v block : ℕ) (bytes : List ℕ) (m m' : Meaning) (fits : Fits (inner_meaning core m) v block (length bytes)) where
   pub group_read : (p : ℕ) → IsTrue (active core.config v p) → PlexRead core.config v p block block (length bytes / 512) bytes m → Read (inner_meaning core m) v block bytes

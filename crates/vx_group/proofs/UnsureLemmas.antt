@@ -31,7 +31,7 @@ marks_fell v u w (Err (Fault disk)) it = it
 marks_fell v u w (Err Down) it = inl it
 
 -- what is answered says no more than the refusal
-pub marks_to : {T U : Type 0} (v : ℕ) (u w : List Bool) (error : ShelfError) → MarksOn {T} v u w (Err error) → MarksOn {U} v u w (Err error)
+pub marks_to : {T U : Type 0} (v : ℕ) (u w : List Bool) (error : ShelfError) → MarksOn {T = T} v u w (Err error) → MarksOn {T = U} v u w (Err error)
 marks_to v u w error it = it
 
 -- of a whole group, whatever plex is held back
@@ -42,12 +42,12 @@ through_marks c r d opened after v result same opens close it =
 
 -- ---- faults behind which a commit is missed
 
-pub misses_by : {T U : Type 0} (d : Inner) (old m : Meaning) (error : ShelfError) → NoCommit d m → Blames {T} old m (Err error) → FaultMisses {U} d (Err error)
+pub misses_by : {T U : Type 0} (d : Inner) (old m : Meaning) (error : ShelfError) → NoCommit d m → Blames {T = T} old m (Err error) → FaultMisses {T = U} d (Err error)
 misses_by d old m (Fault disk) (inl un) cause = un
 misses_by d old m (Fault disk) (inr down) cause = absurd (cause.1 down)
 misses_by d old m Down none cause = tt
 
-pub misses_to : {T U : Type 0} (d : Inner) (error : ShelfError) → FaultMisses {T} d (Err error) → FaultMisses {U} d (Err error)
+pub misses_to : {T U : Type 0} (d : Inner) (error : ShelfError) → FaultMisses {T = T} d (Err error) → FaultMisses {T = U} d (Err error)
 misses_to d (Fault disk) it = it
 misses_to d Down it = tt
 
@@ -57,13 +57,13 @@ through_misses d after (Ok x) close it = tt
 through_misses d after (Err (Fault disk)) close it = ap (λ (i : Inner). i.unsettled) close ∙ it
 through_misses d after (Err Down) close it = tt
 
-pub misses_faults : {T U : Type 0} (v : ℕ) (c : Config) (d : Inner) (old new : Meaning) (error : ShelfError) → FaultMisses {T} d (Err error) → FaultsBy {U} v c d old new (Err error)
+pub misses_faults : {T U : Type 0} (v : ℕ) (c : Config) (d : Inner) (old new : Meaning) (error : ShelfError) → FaultMisses {T = T} d (Err error) → FaultsBy {T = U} v c d old new (Err error)
 misses_faults v c d old new (Fault disk) un = inr un
 misses_faults v c d old new Down un = tt
 
 pub missed_faults : {T : Type 0} (v : ℕ) (c : Config) (d : Inner) (old new : Meaning) (result : Result T ShelfError) → FaultMisses d result → FaultsBy v c d old new result
 missed_faults v c d old new (Ok x) it = tt
-missed_faults v c d old new (Err error) it = misses_faults {T} {T} v c d old new error it
+missed_faults v c d old new (Err error) it = misses_faults {T = T} {U = T} v c d old new error it
 
 -- ---- faults of a call on a volume
 
@@ -89,18 +89,18 @@ module _ (v : ℕ) (c k : Config) (old m : Meaning) (lies : (p u : ℕ) → uses
 
 -- ---- a call whose refusal became that the shelf is down
 
-pub down_marks : {T U : Type 0} (v : ℕ) (u w : List Bool) (error said : ShelfError) → IsOrDown error said → MarksOrFell {T} v u w (Err error) → MarksOrFell {U} v u w (Err said)
+pub down_marks : {T U : Type 0} (v : ℕ) (u w : List Bool) (error said : ShelfError) → IsOrDown error said → MarksOrFell {T = T} v u w (Err error) → MarksOrFell {T = U} v u w (Err said)
 down_marks v u w error said (inl same) it = subst (λ (e : ShelfError). MarksOrFell v u w (Err e)) (sym same) it
 down_marks v u w error said (inr down) it = subst (λ (e : ShelfError). MarksOrFell v u w (Err e)) (sym down) (by error it)
   where
-    by : (e : ShelfError) → MarksOrFell {T} v u w (Err e) → (w ≡ u) ⊎ MarkedUnsure v u w
+    by : (e : ShelfError) → MarksOrFell {T = T} v u w (Err e) → (w ≡ u) ⊎ MarkedUnsure v u w
     by (Fault disk) marked = inr marked
     by Down it = it
 
-pub down_faults : {T U : Type 0} (v : ℕ) (c : Config) (d : Inner) (old m new : Meaning) (error said : ShelfError) → ((u : ℕ) → m.faults u ≤ new.faults u) → IsOrDown error said → FaultsBy {T} v c d old m (Err error) → FaultsBy {U} v c d old new (Err said)
+pub down_faults : {T U : Type 0} (v : ℕ) (c : Config) (d : Inner) (old m new : Meaning) (error said : ShelfError) → ((u : ℕ) → m.faults u ≤ new.faults u) → IsOrDown error said → FaultsBy {T = T} v c d old m (Err error) → FaultsBy {T = U} v c d old new (Err said)
 down_faults v c d old m new error said more (inl same) it = subst (λ (e : ShelfError). FaultsBy v c d old new (Err e)) (sym same) (by error it)
   where
-    by : (e : ShelfError) → FaultsBy {T} v c d old m (Err e) → FaultsBy {U} v c d old new (Err e)
+    by : (e : ShelfError) → FaultsBy {T = T} v c d old m (Err e) → FaultsBy {T = U} v c d old new (Err e)
     by (Fault disk) (inl each) = inl (record {
       each = λ p is_on.
           let one = each.each p is_on in

@@ -173,7 +173,7 @@ module _ (c d : GroupCore) (name : List ℕ) (want : Shape) (m m' : Meaning) (S 
     where
       by : (o : Option No) → make_refusal c.inner.config name want ≡ o → SureFlags (length d.inner.config.volumes) d.inner.unsure b
       by None none = made_by up res (ends none) one
-      by (Some no) is = made_none up (ap (λ (k : GroupCore). length k.inner.config.volumes) (refused no is).1)
+      by (Some why) is = made_none up (ap (λ (k : GroupCore). length k.inner.config.volumes) (refused why is).1)
 
   pub settled_made : SettledFact d b m'
   settled_made = settled_by c d a b m m' finds.settles made_sure fact

@@ -43,8 +43,9 @@ pub fn rest_all(config: &Config, logs: &Vec<Logs>, alike: &[bool; MOST_VOLUMES])
     let mut maps = [false; MOST_VOLUMES];
     let mut drls = [false; MOST_VOLUMES];
     for vol in 0..logs.len() {
-        maps[vol] = has_map(config, &logs[vol], vol as u32);
-        drls[vol] = has_drl(config, &logs[vol], vol as u32);
+        let one = &logs[vol];
+        maps[vol] = has_map(config, one, vol as u32);
+        drls[vol] = has_drl(config, one, vol as u32);
     }
     Rested {
         alike: *alike,

@@ -3,10 +3,11 @@ use Rattle.std.proofs.Common.{ℕ, ◌/◌, ◌∙◌, refl, sym, subst, arith}
 use Rattle.vx_volume.specs.Volumes.{PlexRead}
 use Rattle.vx_group.specs.Holding.{wide}
 use Rattle.vx_group.specs.Stands.{volume_faults}
+use Rattle.vx_group.specs.Turns.{next_plex}
 use Rattle.vx_group.proofs.CallLemmas.{with_Stands}
 use Rattle.vx_group.proofs.MendLemmas.{same_Goes}
 use Rattle.vx_group.proofs.HoldLemmas.{narrow_size, narrow_some, narrow_units}
-use Rattle.vx_group.proofs.ReadLemmas.{group_read, narrow_fits, wide_read}
+use Rattle.vx_group.proofs.ReadLemmas.{fault_reads, group_read, narrow_fits, wide_read}
 use Rattle.vx_group.proofs.Standing.{fit_of}
 use Rattle.vx_group.proofs.WriteLemmas.{flushed_Stands, plain_Goes}
 use Rattle.vx_group.proofs.reading.read_in.Goals as goal
@@ -57,4 +58,8 @@ returns-in-Ok-clause-turn g c = record {
 }
 
 pub returns-in-Err-Device-clause-turn : goal.returns-in-Err-Device-clause-turn
-returns-in-Err-Device-clause-turn g c = (c.in-Err-Device.ensures.reads.0, refl)
+returns-in-Err-Device-clause-turn g c = (
+  fault_reads c.args.core.now.inner.config (record { number = c.args.vol; next = next_plex c.args.core.now.inner.next c.args.vol }) c.read.new.v c.args.block _ c.read.new.into (g.S.Shelf.meaning c.args.shelf.now) (g.S.Shelf.meaning c.read.new.shelf) c.in-Err-Device.field-0
+      c.in-Err-Device.disk c.in-Err-Device.field-0-is c.in-Err-Device.ensures.reads,
+  refl,
+)

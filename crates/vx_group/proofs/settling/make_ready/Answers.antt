@@ -1,5 +1,5 @@
 -- `make_ready`: clauses narrows, cause, volumes, failing, few, good, trust and agreed; what `detach` asks.
-use Rattle.std.proofs.Common.{arith, false, length, refl, sym, true, ◌∙◌, ◌≡◌}
+use Rattle.std.proofs.Common.{◌∙◌, inl, inr, length, refl, arith, ◌≡◌, true, false, sym}
 use Rattle.vx_group.proofs.CallLemmas.{blames_later, both_Narrows}
 use Rattle.vx_group.proofs.DetachLemmas.{zero_bit}
 use Rattle.vx_group.proofs.FailingLemmas.{few_ok, then_failing}
@@ -68,9 +68,6 @@ returns-clause-full g c = λ full. absurd (let less = c.if-core-ge-MOST_NUMBER.f
 pub returns-then-not-core-clause-settles : goal.returns-then-not-core-clause-settles
 returns-then-not-core-clause-settles g c = same_told c.args.core.now (g.S.Shelf.meaning c.args.shelf.now)
 
-pub returns-then-core-ge-MOST_NUMBER-clause-settles : goal.returns-then-core-ge-MOST_NUMBER-clause-settles
-returns-then-core-ge-MOST_NUMBER-clause-settles g c = same_told c.args.core.now (g.S.Shelf.meaning c.args.shelf.now)
-
 pub returns-in-Err-clause-settles : goal.returns-in-Err-clause-settles
 returns-in-Err-clause-settles g c =
     headers_missed c.args.core.now c.settle_headers.new.core (g.S.Shelf.meaning c.args.shelf.now) (g.S.Shelf.meaning c.settle_headers.new.shelf) c.requires.stands c.settle_headers.ensures.narrows c.settle_headers.ensures.serial c.settle_headers.ensures.less c.in-Err.ensures.missed
@@ -80,10 +77,10 @@ returns-clause-settles g c =
     settled_behind c.args.core.now c.settle_headers.new.core c.detach.new.core (g.S.Shelf.meaning c.args.shelf.now) (g.S.Shelf.meaning c.settle_headers.new.shelf) (g.S.Shelf.meaning c.detach.new.shelf) c.requires.stands c.if-core-ge-MOST_NUMBER.false c.settle_headers.ensures.narrows c.settle_headers.ensures.less c.detach.ensures.settles
 
 pub returns-then-not-core-clause-ready : goal.returns-then-not-core-clause-ready
-returns-then-not-core-clause-ready g c = λ on. absurd (let clash : false ≡ true = sym c.if-not-core.true ∙ on in cc)
-
-pub returns-then-core-ge-MOST_NUMBER-clause-ready : goal.returns-then-core-ge-MOST_NUMBER-clause-ready
-returns-then-core-ge-MOST_NUMBER-clause-ready g c = λ on. let full = c.if-core-ge-MOST_NUMBER.true in omega (arith, full)
+returns-then-not-core-clause-ready g c = λ on. elim c.then-not-core.either [
+  | inl off ↦ absurd (let clash : false ≡ true = sym off ∙ on in cc)
+  | inr both ↦ (let full = both.1 in omega (arith, full))
+]
 
 pub returns-in-Err-clause-ready : goal.returns-in-Err-clause-ready
 returns-in-Err-clause-ready g c = tt

@@ -389,7 +389,7 @@ pub returns-in-Err-clause-marks : goal.returns-in-Err-clause-marks
 returns-in-Err-clause-marks g c = c.in-Err.ensures.marks
 
 pub returns-in-Err-clause-gives_up : goal.returns-in-Err-clause-gives_up
-returns-in-Err-clause-gives_up g c = gives_faults c.args.vol c.args.core.now.inner c.flush_group.new.core.inner (g.S.Shelf.meaning c.args.shelf.now) (g.S.Shelf.meaning c.flush_group.new.shelf) {T = Unit {0}} (Err c.in-Err.error) c.in-Err.ensures.gave_up
+returns-in-Err-clause-gives_up g c = gives_faults {T = Unit {0}} c.args.vol c.args.core.now.inner c.flush_group.new.core.inner (g.S.Shelf.meaning c.args.shelf.now) (g.S.Shelf.meaning c.flush_group.new.shelf) (Err c.in-Err.error) c.in-Err.ensures.gave_up
 
 pub returns-then-not-sure-clause-marks : goal.returns-then-not-sure-clause-marks
 returns-then-not-sure-clause-marks g c = c.in-Ok.ensures.marks

@@ -229,7 +229,7 @@ pub returns-then-not-takes_fresh-clause-gives_up : goal.returns-then-not-takes_f
 returns-then-not-takes_fresh-clause-gives_up g c = c.write_whole.ensures.gives_up
 
 pub returns-in-Err-clause-unsure : goal.returns-in-Err-clause-unsure
-returns-in-Err-clause-unsure g c = marks_fell c.args.vol c.args.core.now.inner.unsure c.begin_first.new.core.inner.unsure {T = Unit {0}} (Err c.in-Err.error) c.in-Err.ensures.unsure
+returns-in-Err-clause-unsure g c = marks_fell {T = Unit {0}} c.args.vol c.args.core.now.inner.unsure c.begin_first.new.core.inner.unsure (Err c.in-Err.error) c.in-Err.ensures.unsure
 
 pub returns-in-Err-clause-gives_up : goal.returns-in-Err-clause-gives_up
 returns-in-Err-clause-gives_up g c = misses_faults {T = Unit {0}} c.args.vol c.args.core.now.inner.config c.begin_first.new.core.inner (g.S.Shelf.meaning c.args.shelf.now) (g.S.Shelf.meaning c.begin_first.new.shelf) c.in-Err.error c.in-Err.ensures.misses

@@ -12,8 +12,8 @@ loop-vol-init c = no_rests c.args.config.now c.args.logs.now.items (replicate MO
 pub loop-vol-preserved : goal.loop-vol-preserved
 loop-vol-preserved c =
     let end = c.len-vol-end.ensures in let test = c.loop-vol-test.true in let few = c.requires.few in
-    one_rest c.args.config.now c.args.logs.now.items c.loop-vol.vol c.loop-vol.maps c.loop-vol.drls c.has_map.result c.has_drl.result c.index.result.now c.loop-vol.invariant (omega (arith, c.args.logs.now.ok, end, test, few))
-    (item_of c.args.logs.now.items c.loop-vol.vol c.index.result.now c.index.ensures (omega (arith, c.args.logs.now.ok, end, test)))
+    one_rest c.args.config.now c.args.logs.now.items c.loop-vol.vol c.loop-vol.maps c.loop-vol.drls c.has_map.result c.has_drl.result c.index-one.result.now c.loop-vol.invariant (omega (arith, c.args.logs.now.ok, end, test, few))
+    (item_of c.args.logs.now.items c.loop-vol.vol c.index-one.result.now c.index-one.ensures (omega (arith, c.args.logs.now.ok, end, test)))
     (record { has = c.has_map.ensures.has; some = c.has_map.ensures.some; kept = c.has_drl.ensures.kept; lacks = c.has_drl.ensures.lacks })
 
 pub returns : goal.returns
