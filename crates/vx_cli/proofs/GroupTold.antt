@@ -40,13 +40,15 @@ module _ {T U : Type 0} (f : U → T) where
     size = x.size;
     block = x.block;
     may = λ u. x.may (known_told new u);
+    opens = λ u. x.opens (known_told new u);
+    parts = λ u. x.parts (known_told new u);
     one = λ u. x.one (known_told new u);
     cut = x.cut;
     inside = x.inside;
   }
 
   unread_told : (s : ℕ) (n : Node) (fails : Fails) (note new : GroupNode) → NotesUnread T s n fails note new → NotesUnread U s n fails note new
-  unread_told s n fails note new x = record { middle = x.middle; back = back_told s n fails note x.middle x.back; maps = λ u. x.maps (known_told x.middle u); is = x.is }
+  unread_told s n fails note new x = record { middle = x.middle; back = back_told s n fails note x.middle x.back; maps = λ u. x.maps (known_told x.middle u); cut = x.cut; is = x.is }
 
   kept_told : (x : Write) (next : GroupNode) (kept : Kept) → IsKeptOf T x next kept → IsKeptOf U x next kept
   kept_told x next kept k = record { volume = k.volume; is_volume = k.is_volume; name = k.name; block = k.block; many = k.many; each = λ u. k.each (known_told next u) }

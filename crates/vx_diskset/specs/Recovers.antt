@@ -37,9 +37,9 @@ KeptIs note m None kept = kept ≡ None
 KeptIs note m (Some x) None = FitsPlain note x.volume x.block (length x.bytes) → ⊥
 KeptIs note m (Some x) (Some k) = (k.write ≡ x) × KeepsPlain note m x.volume x.block x.bytes k.bits
 
--- the write that was cut lies in its volume
+-- a write was cut, and lies in its volume
 abbrev pub CutFits : GroupNode → Option CutWrite → Type 0
-CutFits note None = Unit {0}
+CutFits note None = ⊥
 CutFits note (Some x) = FitsPlain note x.volume x.block (length x.bytes)
 
 -- Disks behind an import, and what was read and crashed of them then: the same are made to fail. While they are up, a fuse that is set was set before, and

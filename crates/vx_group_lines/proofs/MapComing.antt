@@ -52,6 +52,8 @@ module _ {R : Type 0} {g : Ghosts R} where
     sizes = it.sizes;
     change = it.change;
     one = it.one;
+    opens = it.opens;
+    parts = it.parts;
   }
 
   -- ---- a group that came up

@@ -67,7 +67,7 @@ use Rattle.vx_group_lines.proofs.GroupLeads.{Follows, Sized, down_set, follows_o
 use Rattle.vx_group_lines.proofs.GroupShown.{view_up}
 use Rattle.vx_group_lines.proofs.GroupStatus.{config_is, table_is}
 use Rattle.vx_group_lines.proofs.Returning.{SitsOn, back_of, NoneKnown, none_known}
-use Rattle.vx_group_lines.proofs.Rising.{HasUp, fits_by, has_up, risen_is, risen_node, shows_cut, sits_down, some_config, told_of, unfused_down, unread_as, up_as}
+use Rattle.vx_group_lines.proofs.Rising.{HasUp, cut_some, fits_by, has_up, risen_is, risen_node, shows_cut, sits_down, some_config, told_of, unfused_down, unread_as, up_as}
 use Rattle.vx_grouped.specs.GroupNotes.{note_dimmed}
 use Rattle.vx_group_lines.proofs.Dimming.{dark_moves}
 use Rattle.vx_group_lines.proofs.MapGoing.{stand_as}
@@ -267,10 +267,10 @@ module _ {R : Type 0} {g : Ghosts R} where
 
         -- it went down again
         unread : (disk : ℕ) → AtPlain (DownNoted (crashed (with_note (still_cut cut next) (returned_with next (e.world.nodes s))) 0) (still_cut cut next)) after → cut_in after ≡ cut_value cut
-            → ((x : CutWrite) → (k : Option CutWrite) → cut_value k ≡ cut_value cut → k ≡ Some x → FitsPlain next x.volume x.block (length x.bytes))
+            → ((x : CutWrite) → (k : Option CutWrite) → cut_value k ≡ cut_value cut → k ≡ Some x → FitsPlain next x.volume x.block (length x.bytes)) → (cut_value cut ≡ None → ⊥)
             → AtPlain (λ x. Rose ((site_disks m).disk_faults disk) ((site_disks x).disk_faults disk)) after
             → StandsSo s (fact_of_group (e.world.nodes s) (note_at (e.world.nodes s))) c after (Err (StopsBy (Device disk))) mid new result → RisesIs e s old new result
-        unread disk at stays_cut fits rose so = subst (λ (r : Result Said OutOfMemory). RisesIs e s old new r) (sym so.2) (record {
+        unread disk at stays_cut fits some rose so = subst (λ (r : Result Said OutOfMemory). RisesIs e s old new r) (sym so.2) (record {
           next = noted_at (happened (happened e (Regroup s) false) (CrashAt s 0) false) s (still_cut cut next);
           fails = calls s old new (MOST_DISKS + suc disk);
           done = ends;
@@ -327,6 +327,7 @@ module _ {R : Type 0} {g : Ghosts R} where
                   middle = next;
                   back = back_for t.set t.is (MOST_DISKS + suc disk) (omega arith) d comes;
                   maps = maps_for t.set t.is d comes;
+                  cut = λ none. some (cut_for d comes ∙ none);
                   is = ap (λ (w : Option Write). let q : GroupNode = record next { cut = w } in q) (cut_for d comes);
                 })
                 refl (record { world = refl; after = λ i. refl }))
@@ -334,5 +335,5 @@ module _ {R : Type 0} {g : Ghosts R} where
         pub looked : (answer : Result (Option KeptWrite) Stop) → RisesWith (returned_with next (e.world.nodes s)) next cut m after answer
             → StandsSo s (fact_of_group (e.world.nodes s) (note_at (e.world.nodes s))) c after answer mid new result → RisesIs e s old new result
         looked (Ok kept) it so = kept_up kept it.0 it.1 it.2 so
-        looked (Err (StopsBy (Device disk))) it so = unread disk it.0 it.1 (λ x o same is. fits_by next cut o same it.2 x is) it.3 so
+        looked (Err (StopsBy (Device disk))) it so = unread disk it.0 it.1 (λ x o same is. fits_by next cut o same it.2 x is) (cut_some next cut it.2) it.3 so
         looked (Err other) it so = absurd it

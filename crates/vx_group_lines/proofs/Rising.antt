@@ -40,6 +40,7 @@ use Rattle.vx_events.specs.GroupViews.{config_of, plain_fact, volumes_of}
 use Rattle.vx_yard.specs.Yards.{IsTold}
 use Rattle.vx_yard.specs.declared.yard.Yard.{Yard}
 use Rattle.vx_group_lines.specs.Rises.{ComesDown, kept_of_volume, kept_shown}
+use Rattle.vx_group_lines.proofs.GroupAt.{no_value}
 use Rattle.vx_group_lines.proofs.GroupStatus.{config_is}
 use Rattle.vx_group_lines.proofs.Returning.{SitsOn}
 
@@ -96,6 +97,11 @@ cut_fits note (Some x) it = it
 pub fits_as : (note : GroupNode) (o k : Option CutWrite) → cut_value k ≡ cut_value o → ((x : CutWrite) → o ≡ Some x → FitsPlain note x.volume x.block (length x.bytes))
     → (x : CutWrite) → k ≡ Some x → FitsPlain note x.volume x.block (length x.bytes)
 fits_as note o k same fits x is = fits_each note k (subst (λ (w : Option Write). fits_write note w) (sym same) (fits_all note o fits)) x is
+
+-- a write that fits was cut
+pub cut_some : (note : GroupNode) (o : Option CutWrite) → CutFits note o → cut_value o ≡ None → ⊥
+cut_some note None fits none = fits
+cut_some note (Some x) fits none = let no_one : Some x ≡ None = no_value (Some x) none in cc
 
 pub fits_by : (note : GroupNode) (o k : Option CutWrite) → cut_value k ≡ cut_value o → CutFits note o → (x : CutWrite) → k ≡ Some x → FitsPlain note x.volume x.block (length x.bytes)
 fits_by note o k same fits x is = fits_each note k (subst (λ (w : Option Write). fits_write note w) (sym same) (cut_fits note o fits)) x is

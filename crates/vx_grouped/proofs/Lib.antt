@@ -38,6 +38,7 @@ pub mod BothLemmas
 pub mod BringLemmas
 pub mod WhyLemmas
 pub mod NoneLemmas
+pub mod TakenLemmas
 pub mod SinceReturns
 pub mod ReadyLemmas
 pub mod FindLemmas
