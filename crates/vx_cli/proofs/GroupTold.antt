@@ -41,6 +41,7 @@ module _ {T U : Type 0} (f : U → T) where
     block = x.block;
     may = λ u. x.may (known_told new u);
     cut = x.cut;
+    inside = x.inside;
   }
 
   unread_told : (s : ℕ) (n : Node) (fails : Fails) (note new : GroupNode) → NotesUnread T s n fails note new → NotesUnread U s n fails note new
@@ -86,4 +87,4 @@ module _ {T U : Type 0} (f : U → T) where
   group_told d line s fails said new (FindsNoGroup next why of brings knows other refused says left) = FindsNoGroup next why of brings (nothing_told (note_at (d.world.nodes s)) knows) other refused says left
 
   pub finds_told : (d : Doubted) (line : ScriptLine) (s : ℕ) (fails : Fails) (said : Said) (new : Doubted) → FindsKept T d line s fails said new → FindsKept U d line s fails said new
-  finds_told d line s fails said new x = record { untold = λ u. x.untold (f u); site = x.site; recovers = x.recovers; bare = x.bare; shows = x.shows; ends = group_told d line s fails said new x.ends }
+  finds_told d line s fails said new x = record { untold = λ u. x.untold (f u); site = x.site; recovers = x.recovers; bare = x.bare; shows = x.shows; up = x.up; ends = group_told d line s fails said new x.ends }

@@ -26,6 +26,7 @@ no_note = record {
   others = λ v b. [];
   cut = None;
   maps = no_maps;
+  inside = λ v. false;
 }
 
 abbrev pub note_at : Node → GroupNode
@@ -68,6 +69,7 @@ pub record FirstNote (s disks blocks : ℕ) (new : GroupNode) : Type 0 where
   pub others : (v b : ℕ) → new.others v b ≡ []
   pub cut : new.cut ≡ None
   pub maps : MapsFirst new
+  pub inside : (v : ℕ) → new.inside v ≡ false
 
 -- ---- volumes
 
@@ -132,6 +134,7 @@ pub record NotesBack (told : Type 0) (s : ℕ) (n : Node) (fails : Fails) (note 
   pub block : (v b : ℕ) → ((new.bytes.block v b ≡ note.bytes.block v b) × (new.others v b ≡ note.others v b)) ⊎ (new.others v b ≡ [])
   pub may : IsKnown told new → (v b : ℕ) → b < note.bytes.size v → BlockMay note v b (new.bytes.block v b)
   pub cut : new.cut ≡ None
+  pub inside : new.inside ≡ note.inside
 
 -- the same where what is kept of a write that was cut is still to be read
 pub record NotesUnread (told : Type 0) (s : ℕ) (n : Node) (fails : Fails) (note new : GroupNode) : Type 0 where

@@ -52,3 +52,7 @@ pub mod UnitLemmas
 pub mod MissingLemmas
 pub mod TrustingLemmas
 pub mod TrustStillLemmas
+pub mod SettleFinds
+pub mod SettleCalls
+pub mod SettleMore
+pub mod SettleDeport

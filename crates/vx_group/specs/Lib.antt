@@ -22,3 +22,4 @@ pub mod Loses
 pub mod Holding
 pub mod Finds
 pub mod Calls
+pub mod Settles

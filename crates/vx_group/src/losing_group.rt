@@ -11,6 +11,7 @@ ghost use Rattle.vx_kept.specs.LogRuns.{log_trusted};
 ghost use Rattle.vx_kept.specs.PlexActs.{PlexActs};
 ghost use Rattle.vx_layout.specs.Places.{plex_at};
 ghost use Rattle.vx_volume.specs.Plexes.{active};
+ghost use Rattle.vx_group.specs.Settles.{CoreSettles};
 
 use crate::counting::give_up;
 use crate::group_core::GroupCore;
@@ -42,6 +43,7 @@ fn lose_in<S: Shelf>(
     ensures trust { OnOk result (core.old.committed ≡ true → core.new.committed ≡ true) }
     ensures agreed { IfErr result (λ e. core.old.committed ≡ true → core.new.agreed ≡ true) }
     ensures finds { CoreFinds core.old core.new (S.meaning shelf.old) (S.meaning shelf.new) }
+    ensures settles { CoreSettles core.old core.new (S.meaning shelf.old) (S.meaning shelf.new) }
     ensures logs { TrustsBut vol log core.old.config core.new.config }
     ensures cause { Cause (inner_meaning core.old (S.meaning shelf.old)) (inner_meaning core.new (S.meaning shelf.new)) vol result }
 {

@@ -6,6 +6,7 @@ ghost use Rattle.vx_config.specs.Table.{greatest};
 ghost use Rattle.vx_group.specs.Blames.{Blames, MarksUnsure};
 ghost use Rattle.vx_group.specs.Deports.{IsVolumeOf};
 ghost use Rattle.vx_group.specs.Quiesces.{GoesOnBy, QuiesceEnds};
+ghost use Rattle.vx_group.specs.Settles.{EndsSettled, KeepsAlike};
 ghost use Rattle.vx_group.specs.Stands.{InnerStands};
 ghost use Rattle.vx_model.specs.declared.limits.TheConstants.{MOST_VOLUMES};
 
@@ -55,6 +56,8 @@ fn flush_one<S: Shelf>(shelf: &mut S, core: &mut Inner, vol: u32) -> Result<(), 
     requires more { core.old.config.serial < greatest }
     ensures ends { QuiesceEnds (λ (v : ℕ). v ≡ vol) core.old core.new (S.meaning shelf.old) (S.meaning shelf.new) result }
     ensures finds { CoreFinds core.old core.new (S.meaning shelf.old) (S.meaning shelf.new) }
+    ensures alikes { KeepsAlike (S.meaning shelf.old) (S.meaning shelf.new) }
+    ensures settles { IfErr result (λ e. EndsSettled core.new (S.meaning shelf.old) (S.meaning shelf.new)) }
     ensures logs { TrustsStill core.old.config core.new.config }
     ensures cause { Blames (S.meaning shelf.old) (S.meaning shelf.new) result }
 {
@@ -90,6 +93,8 @@ pub fn flush_volumes<S: Shelf>(shelf: &mut S, core: &mut Inner) -> Result<(), Sh
     requires more { core.old.config.serial < greatest }
     ensures ends { QuiesceEnds (IsVolumeOf core.old) core.old core.new (S.meaning shelf.old) (S.meaning shelf.new) result }
     ensures finds { CoreFinds core.old core.new (S.meaning shelf.old) (S.meaning shelf.new) }
+    ensures alikes { KeepsAlike (S.meaning shelf.old) (S.meaning shelf.new) }
+    ensures settles { IfErr result (λ e. EndsSettled core.new (S.meaning shelf.old) (S.meaning shelf.new)) }
     ensures logs { TrustsStill core.old.config core.new.config }
     ensures cause { Blames (S.meaning shelf.old) (S.meaning shelf.new) result }
 {

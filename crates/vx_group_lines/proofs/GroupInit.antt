@@ -115,6 +115,7 @@ module _ {R : Type 0} {g : Ghosts R} where
           cut = first.cut;
           dark = first.dark;
           maps = record { none = λ v. ap (λ (w : MissedNote). w.mapped v) first.maps; doubt = λ v. ap (λ (w : MissedNote). w.doubt v) first.maps };
+          inside = first.inside;
         },
         table_is note c is ∙ ap (λ (vs : List VolumeEntry). map plain_fact vs) empty.volumes,
       )

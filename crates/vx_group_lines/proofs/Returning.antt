@@ -89,6 +89,7 @@ module _ {R : Type 0} {g : Ghosts R} where
     block = λ v b. back.block v b;
     may = λ yes_ v b low. back.may (tells yes_) v b low;
     cut = back.cut;
+    inside = back.inside;
   }
     where
       within : (k : ℕ) (disk : DiskEntry) → slice_get config.now.disks k ≡ Some disk → k < n.disks

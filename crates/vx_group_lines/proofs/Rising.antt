@@ -25,7 +25,7 @@ use Rattle.vx_grouped.specs.declared.group_site.GroupSite.{GroupSite}
 use Rattle.vx_grouped.specs.declared.group_site.GroupSite.TheVariants.{Up as SiteUp, Deported as SiteAway, Down as SiteDown, Marked, Gone as SiteGone}
 use Rattle.vx_diskset.specs.GroupSets.{cut_value}
 use Rattle.vx_diskset.specs.Recovers.{CutFits, KeptIs}
-use Rattle.vx_diskset.specs.Stands.{IsToldAt}
+use Rattle.vx_diskset.specs.Stands.{IsRackTold}
 use Rattle.vx_diskset.specs.declared.disk_set.DiskSet.{DiskSet}
 use Rattle.vx_diskset.specs.declared.disk_set.DiskSet.TheVariants.{OfGroup}
 use Rattle.vx_diskset.specs.declared.group_set.CutWrite.{CutWrite}
@@ -184,4 +184,4 @@ module _ {R : Type 0} {g : Ghosts R} where
   sits_down n note SiteGone it = absurd it
 
   pub told_of : (y : Yard R g) (s : ℕ) (e : DiskSet R g) (set : GroupSet R g) → slice_get y.disk_sets.items s ≡ Some e → e ≡ OfGroup set → IsTold y → IsTrue (site_below set.site).tells
-  told_of y s e set there is told = subst (λ (x : DiskSet R g). IsToldAt x) is (told.each s e there)
+  told_of y s e set there is told = subst (λ (x : DiskSet R g). IsRackTold x) is (told.each s e there)

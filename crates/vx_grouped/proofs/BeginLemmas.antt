@@ -60,6 +60,7 @@ first_note core = record {
   others = λ v b. [];
   cut = None;
   maps = maps_none core.config.serial;
+  inside = λ v. false;
 }
 
 kept_tight : (kept : Bool) → kept ≡ true → not kept ≡ false
@@ -146,7 +147,7 @@ module _ (m m' : Meaning) (n : Node) (can : CanBegin n m) (since : CalledSince m
     }
 
     first : IsFirstNote (first_note core.inner)
-    first = record { begun = refl; size = λ v. refl; others = λ v b. refl; cut = refl; dark = refl; serial = core.inner.config.serial; maps = refl }
+    first = record { begun = refl; size = λ v. refl; others = λ v b. refl; cut = refl; dark = refl; serial = core.inner.config.serial; maps = refl; inside = λ v. refl }
 
     trusted : (P : Type 0) → (HasFailed core.inner.config.disks → P) → ((first_note core.inner).loose ≡ false) ⊎ P
     trusted P failed = elim new.trust [

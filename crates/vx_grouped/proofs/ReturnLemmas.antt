@@ -249,8 +249,8 @@ module _ (n : Node) (note : GroupNode) (last : Config) (old : Meaning) (law : La
         stopped_by x v (chosen x v) ((extends_x can x opened up.readable up.image up.read up.is up.opens tells).fresh v (chosen x v) past on)
 
     has_by : (v b : ℕ) (y : List ℕ) (o : (v < length opened.volumes) ⊎ (length opened.volumes ≤ v)) (t : Bool) (is : stopped x v ≡ t) → v < length opened.volumes → b < blocks_of opened.volumes v → (inner_meaning core new).leaves v b y
-        → (y ≡ (if t then one_value v o t is b else note.bytes.block v b)) ⊎ Contains (if t then [] else note.others v b) y
-    has_by v b y (inl lt) true is there within left = inl ((r.mended v lt is).one b y (record { volume = there; within = within }) left)
+        → (note.inside v ≡ true) ⊎ (y ≡ (if t then one_value v o t is b else note.bytes.block v b)) ⊎ Contains (if t then [] else note.others v b) y
+    has_by v b y (inl lt) true is there within left = inr (inl ((r.mended v lt is).one b y (record { volume = there; within = within }) left))
     has_by v b y (inl lt) false is there within left =
         let on = was_opened can x opened up.readable up.image up.read up.is up.opens (inner_meaning core new) (λ w. 0) r.goes v b y (record { volume = there; within = within }) left in
         let tells = told can x opened up.readable up.image up.read up.is up.opens (place opened v on.plex b).0 (place opened v on.plex b).1 y on.value in

@@ -32,14 +32,14 @@ tight_called false agr l nexts begun is = cc
 
 pub called_settles : (nexts : List (List ℕ)) (core : GroupCore) (note : GroupNode) → IsTight note core → NoteSettles note (note_called nexts core note)
 called_settles nexts core note tight = record {
-  same = record { dark = refl; bytes = refl; others = refl; cut = refl; maps = refl };
+  same = record { dark = refl; bytes = refl; others = refl; cut = refl; maps = refl; inside = refl };
   begun = begun_called (is_sure core) core.inner.agreed note.loose nexts note.begun;
   tight = λ was none. tight_called (is_sure core) core.inner.agreed note.loose nexts note.begun (tight was none);
 }
 
 pub called_unsettles : (nexts : List (List ℕ)) (core : GroupCore) (note : GroupNode) → NoteUnsettles note (note_called nexts core note)
 called_unsettles nexts core note = record {
-  same = record { dark = refl; bytes = refl; others = refl; cut = refl; maps = refl };
+  same = record { dark = refl; bytes = refl; others = refl; cut = refl; maps = refl; inside = refl };
   begun = begun_called (is_sure core) core.inner.agreed note.loose nexts note.begun;
 }
 
@@ -55,7 +55,7 @@ tight_deported false begun is = cc
 
 pub deport_settles : (x : Config) (core : Inner) (note : GroupNode) → (note.loose ≡ false → note.begun ≡ [] → core.committed ≡ true) → NoteSettles note (note_deported x core note)
 deport_settles x core note tight = record {
-  same = record { dark = refl; bytes = refl; others = refl; cut = refl; maps = refl };
+  same = record { dark = refl; bytes = refl; others = refl; cut = refl; maps = refl; inside = refl };
   begun = begun_deported core.committed note.loose note.begun;
   tight = λ was none. tight_deported core.committed note.begun (tight was none);
 }

@@ -69,7 +69,7 @@ some_volume (x ∷ xs) (suc v) b low = let rest = some_volume xs v b low in omeg
 
 may_by : (note : GroupNode) (v b : ℕ) (t : Bool) (value : List ℕ) → (t ≡ true → BlockMay note v b value) → BlockMay note v b (if t then value else note.bytes.block v b)
 may_by note v b true value may = may refl
-may_by note v b false value may = inl refl
+may_by note v b false value may = inr (inl refl)
 
 module _ (n : Node) (note : GroupNode) (last : Config) (m0 m : Meaning) (told : m.tells ≡ m0.tells) (lies : AwayLies n note last m) (core : GroupCore) (m' : Meaning) (back : GroupReturns n note last m core m') where
   abbrev pub next : GroupNode
@@ -86,6 +86,7 @@ module _ (n : Node) (note : GroupNode) (last : Config) (m0 m : Meaning) (told : 
     loose = refl;
     cut = refl;
     dark = refl;
+    inside = refl;
     block = λ v b. either_block (back.renewed v) (back.value v b) (note.bytes.block v b) (note.others v b);
     may = λ tells v b low. may_by note v b (back.renewed v) (back.value v b) (λ on. back.may (subst IsTrue (sym told) tells) v b (inside v b low) on);
     size = λ tells v low. back.sizes (subst IsTrue (sym told) tells) v (inside v 0 low).volume ∙ sym (lies.sizes v);

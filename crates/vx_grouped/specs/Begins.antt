@@ -44,6 +44,7 @@ pub record IsFirstNote (note : GroupNode) : Type 0 where
   pub dark : note.dark ≡ false
   pub serial : ℕ
   pub maps : note.maps ≡ maps_none serial
+  pub inside : (v : ℕ) → note.inside v ≡ false
 
 -- a bare site as a group with this note
 abbrev pub group_begun : GroupNode → ℕ → Node → Node

@@ -35,6 +35,7 @@ pub record NoteReturns (told : Type 0) (note next : GroupNode) : Type 0 where
   pub loose : next.loose ≡ false
   pub cut : next.cut ≡ None
   pub dark : next.dark ≡ note.dark
+  pub inside : next.inside ≡ note.inside
   pub block : (v b : ℕ) → ((next.bytes.block v b ≡ note.bytes.block v b) × (next.others v b ≡ note.others v b)) ⊎ (next.others v b ≡ [])
   pub may : told → (v b : ℕ) → b < note.bytes.size v → BlockMay note v b (next.bytes.block v b)
   pub size : told → (v : ℕ) → 0 < note.bytes.size v → next.bytes.size v ≡ note.bytes.size v

@@ -39,6 +39,7 @@ impl<R: Rack> Laid<R> {
     ghost use Rattle.vx_disk.specs.Racks.{Alike, Stopped};
     ghost use Rattle.vx_disk.specs.Shelf.{Fits};
     ghost use Rattle.vx_group.specs.Holding.{wide};
+    ghost use Rattle.vx_group.specs.Settles.{LacksCommit};
     ghost use Rattle.vx_group.specs.Stands.{inner_meaning};
     ghost use Rattle.vx_grouped.specs.GroupNotes.{GroupLies};
     ghost use Rattle.vx_grouped.specs.Away.{IsAwayAt};
@@ -48,6 +49,7 @@ impl<R: Rack> Laid<R> {
     ghost use Rattle.vx_grouped.specs.SiteMaps.{DiskMaps, RestsNot};
     ghost use Rattle.vx_history.specs.Groups.{GroupNode, MissedNote};
     ghost use Rattle.vx_history.specs.World.{Node};
+    ghost use Rattle.vx_logimport.specs.declared.rested.Rested.{Rested as RestedValue};
     ghost use Rattle.vx_model.specs.declared.site.SiteState.TheVariants.{Down as DownState};
     ghost use Rattle.vx_untold.specs.Shades.{rack_of};
     ghost use Rattle.vx_watched.specs.Traces.{TellsLess};
@@ -190,6 +192,7 @@ impl<R: Rack> Laid<R> {
         ensures disks { OnDisks (shade_meaning (λ s. R.meaning s) self.shelf).disks (shade_meaning (λ s. R.meaning s) result.rack).disks (Crashed (shade_meaning (λ s. R.meaning s) self.shelf).size pick) }
         ensures maps { (w : MissedNote) → PartsNoted w (map_parts self.core.inner.config self.logs.items self.alike self.stopped) → DiskMaps w self.core.inner.config (shade_meaning (λ s. R.meaning s) result.rack) }
         ensures rests { RestsNot result.rested }
+        ensures lacking { (r : RestedValue) → result.rested ≡ Some r → LacksCommit self.core.inner → ⊥ }
         ensures told { TellsLess (R.meaning (rack_of self.shelf)) (R.meaning (rack_of result.rack)) }
     {
         crash_laid::<Brand, R>(self, pick)

@@ -1,5 +1,6 @@
 pub mod Admission
 pub mod ChangeMaps
+pub mod DataLists
 pub mod Doubts
 pub mod Events
 pub mod Fits
@@ -14,6 +15,7 @@ pub mod KeptLinks
 pub mod Likes
 pub mod LinkForms
 pub mod Listed
+pub mod Looks
 pub mod MapChanges
 pub mod Missing
 pub mod Receiving
@@ -26,4 +28,5 @@ pub mod Sound
 pub mod Step
 pub mod Steps
 pub mod Stops
+pub mod Volumes
 pub mod World

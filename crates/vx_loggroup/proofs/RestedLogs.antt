@@ -35,7 +35,8 @@ use Rattle.vx_kept.proofs.CleanLemmas.{AllClean, all_clean}
 use Rattle.vx_layout.specs.Places.{HasBlock, place, plex_at}
 use Rattle.vx_layout.proofs.Placing.{sound_apart}
 use Rattle.vx_logged.specs.Logged.{Known, LogOn}
-use Rattle.vx_logimport.specs.Rests.{AlikeRests, LivesAgree, MapsRest, MapsTell}
+use Rattle.vx_group.specs.Settles.{LivesAgree}
+use Rattle.vx_logimport.specs.Rests.{AlikeRests, MapsRest, MapsTell}
 use Rattle.vx_logimport.proofs.RestLemmas.{in_use_trusts}
 use Rattle.vx_logs.specs.Held.{InUse}
 use Rattle.vx_logs.proofs.LogLemmas.{log_placed}

@@ -1,6 +1,6 @@
 // Worked runs of two sites, event by event: what is said, and which packets are sent.
 use std::test::Fail;
-use vx_history::{Event, LinkPart, Said};
+use vx_history::{DataVolume, DataVolumes, Event, LinkPart, Said};
 use vx_model::{Blocks, Counted, Name, Named, No, OutOfMemory, Prot, SiteName, SyncMode};
 use vx_world::{World, step};
 
@@ -358,6 +358,9 @@ fn deported_sites_come_back(rt: HostRuntime) -> Result<(), Fail> {
         (Event::Deport { site: 0 }, "done", 0, None),
         (Event::Deport { site: 0 }, "no", 0, None),
         (Event::Group { site: 0 }, "role", 0, None),
+        (Event::Fall { site: 1 }, "role", 0, None),
+        (Event::Fall { site: 0 }, "done", 0, None),
+        (Event::Fall { site: 0 }, "role", 0, None),
         (put(1, Blocks::filled(1, 0x22)), "no", 0, None),
         (recover(0), "recovered", 1, None),
         (read(0, 0), "got", 0x11, None),
@@ -374,5 +377,47 @@ fn deported_sites_come_back(rt: HostRuntime) -> Result<(), Fail> {
         (recover(2), "recovered", 0, None),
     ];
     assert!(rt; first_wrong(&mut world, &rows)? == None);
+    Ok(())
+}
+
+// A group of disks gets a replicated volume group, with one data volume of 64 blocks.
+fn volumes(site: u32) -> Event {
+    let volume = DataVolume {
+        place: 2,
+        name: Name::new(b"v"),
+        blocks: 64,
+    };
+    Event::Volumes {
+        site,
+        log: 64,
+        volumes: DataVolumes::new(&[volume]),
+    }
+}
+
+#[test]
+fn groups_get_volumes(rt: HostRuntime) -> Result<(), Fail> {
+    let mut world = World::new(rt.alloc())?;
+    let rows = [
+        site(b"a", 64),
+        site(b"b", 64),
+        (volumes(0), "no", 0, None),
+        (Event::Group { site: 0 }, "done", 0, None),
+        (Event::Group { site: 1 }, "done", 0, None),
+        (link(1, SyncMode::Off, LinkPart::Joins).0, "no", 0, None),
+        (volumes(0), "done", 0, None),
+        (volumes(0), "role", 0, None),
+        (link(1, SyncMode::Off, LinkPart::Joins).0, "no", 0, None),
+        (volumes(1), "done", 0, None),
+        (read(0, 0), "got", 0, None),
+        (link(1, SyncMode::Off, LinkPart::Joins).0, "done", 0, None),
+        (volumes(1), "role", 0, None),
+        (put(0, Blocks::filled(1, 0x11)), "done", 1, None),
+        (Event::Crash { site: 0, kept: 0 }, "done", 0, None),
+        (volumes(0), "no", 0, None),
+        (Event::Group { site: 0 }, "role", 0, None),
+        (recover(0), "recovered", 1, None),
+        (read(0, 0), "got", 0x11, None),
+    ];
+    assert_eq!(rt; first_wrong(&mut world, &rows)?, None);
     Ok(())
 }

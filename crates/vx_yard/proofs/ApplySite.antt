@@ -5,7 +5,7 @@ use Rattle.vx_history.specs.Doubts.{After, Doubted, happened}
 use Rattle.vx_history.specs.Events.{linked_sites}
 use Rattle.vx_history.specs.Refusals.{Outcome}
 use Rattle.vx_history.specs.Step.{step}
-use Rattle.vx_history.specs.Steps.{burned, crashed, worked, worked_on}
+use Rattle.vx_history.specs.Steps.{burned, worked, worked_on}
 use Rattle.vx_history.specs.World.{Fuse, Gathering, Link, Node, Packet}
 use Rattle.vx_history.specs.declared.event.Event.{Event}
 use Rattle.vx_history.specs.declared.event.Event.TheVariants.{Apply as ApplyAt, Fault}
@@ -24,12 +24,14 @@ use Rattle.vx_script.specs.declared.line.ScriptLine.TheVariants.{Apply}
 use Rattle.vx_diskset.proofs.KeepsFailing.{same_on}
 use Rattle.vx_diskset.specs.Asked.{FailsAs, FusedAs, LeavesFuse, SameFailing, disks_told, size_in}
 use Rattle.vx_diskset.specs.Burning.{Burnt, NoMore}
-use Rattle.vx_diskset.specs.DiskSets.{AppliedAt, CanApply, halted_at}
+use Rattle.vx_diskset.specs.DiskSets.{AppliedAt, CanApply, halted_at, fell_to}
 use Rattle.vx_diskset.specs.Holds.{KeptBeside, KeptSite, beside_of, itself, sure_of}
 use Rattle.vx_diskset.proofs.Roles.{role_like}
-use Rattle.vx_diskset.specs.Stands.{KeepsRole, RoleIs, SiteStands}
+use Rattle.vx_diskset.specs.Stands.{KeepsRole, OverStands, RoleIs, SiteStands}
 use Rattle.vx_diskset.specs.declared.disk_set.DiskSet.{DiskSet}
-use Rattle.vx_diskset.specs.declared.disk_set.DiskSet.TheVariants.{Bare, Spoiled, Up, Receives, Down, OfGroup, Gone}
+use Rattle.vx_diskset.specs.declared.disk_set.DiskSet.TheVariants.{Bare, Spoiled, Up, Receives, Down, OfGroup, Over, Gone}
+use Rattle.vx_diskset.specs.declared.over_set.OverSite.{OverSite}
+use Rattle.vx_diskset.specs.declared.over_set.OverSite.TheVariants.{Origin as OriginSite, Receiver as ReceiverSite, Deported as OverAway, Down as OverFell, Gone as NoOver}
 use Rattle.vx_effects.proofs.Effects.{changes_then}
 use Rattle.vx_effects.proofs.Fitting.{fit_happened}
 use Rattle.vx_effects.proofs.Leaving.{fit_worked}
@@ -110,11 +112,19 @@ apply_has sites files name to free n =
 
 module _ {R : Type 0} {g : Ghosts R} where
   -- a running site is what its node says
+  over_sure_at : (beside : KeptBeside) (n : Node) (s : OverSite R g) → OverStands beside n s → n.halted ≡ None → beside.doubt ≡ None
+  over_sure_at beside n (OriginSite f) h runs = h.sure runs
+  over_sure_at beside n (ReceiverSite f) h runs = h.sure runs
+  over_sure_at beside n (OverAway idle) h runs = h.1.sure
+  over_sure_at beside n (OverFell idle) h runs = h.2.sure
+  over_sure_at beside n NoOver h runs = absurd h
+
   pub sure_at : (beside : KeptBeside) (n : Node) (e : DiskSet R g) → SiteStands beside n e → n.state ≡ IsUp → n.halted ≡ None → beside.doubt ≡ None
   sure_at beside n (Bare rack) h up runs = absurd (let e : IsBare ≡ IsUp = sym (ap (λ (k : Node). k.state) h.bare.is) ∙ up in cc)
   sure_at beside n (Spoiled rack) h up runs = absurd (let e : IsBare ≡ IsUp = sym (ap (λ (k : Node). k.state) h.is) ∙ up in cc)
-  sure_at beside n (Up rvg) h up runs = h.sure runs
-  sure_at beside n (Receives site) h up runs = h.sure runs
+  sure_at beside n (Up rvg) h up runs = h.1.sure runs
+  sure_at beside n (Receives site) h up runs = h.1.sure runs
+  sure_at beside n (Over s) h up runs = over_sure_at beside n s.site h.1 runs
   sure_at beside n (Down rack) h up runs = absurd (let e : IsDown ≡ IsUp = sym h.state ∙ up in cc)
   sure_at beside n (OfGroup s) h up runs = h.sure (λ bare. let e : IsBare ≡ IsUp = sym bare ∙ up in cc)
   sure_at beside n Gone h up runs = absurd h
@@ -251,16 +261,16 @@ module _ {R : Type 0} {g : Ghosts R} where
         sure : (beside_of d s).doubt ≡ None
         sure = sure_at (beside_of d s) n before (stands.disk_sets.sites s before here.seat.below changed.there) here.can.up here.can.running
 
-        itself_by : (x : KeptSite) → x ≡ itself (beside_of d s) n → (count : ℕ) → x.node.safe ≤ count → count ≤ length x.node.log → SiteStands (sure_of x) (crashed x.node count) after → Leads d (Apply name to) (Refused Off) old new
+        itself_by : (x : KeptSite) → x ≡ itself (beside_of d s) n → (count : ℕ) → x.node.safe ≤ count → count ≤ length x.node.log → SiteStands (sure_of x) (fell_to n x.node count) after → Leads d (Apply name to) (Refused Off) old new
         itself_by x own =
-            subst (λ (q : KeptSite). (count : ℕ) → q.node.safe ≤ count → count ≤ length q.node.log → SiteStands (sure_of q) (crashed q.node count) after → Leads d (Apply name to) (Refused Off) old new) (sym own)
+            subst (λ (q : KeptSite). (count : ℕ) → q.node.safe ≤ count → count ≤ length q.node.log → SiteStands (sure_of q) (fell_to n q.node count) after → Leads d (Apply name to) (Refused Off) old new) (sym own)
             (λ count least most stood.
             let k : ℕ = site_number d.world name in
             let h : Doubted = crash_of d s count false in
             let e : Doubted = worked_for h s in
             let m : Node = crashed_node n n count in
             let before_noted = crash_comes d s count false n (d.world.links s) refl (λ j. refl) (λ _. refl) here.seat.below here.can.up least most before after stands.links (stands.failing s before here.seat.below changed.there)
-            (calls_keep NoMore (Refused Off) before after calls) (λ y of. refl) stood in
+            (calls_keep NoMore (Refused Off) before after calls) stood in
             let note = note_effect h s (worked (h.world.nodes s)) in
             let node : e.world.nodes s ≡ m = note.is.node ∙ ap (λ (q : Node). worked q) (crash_node d s count false n (d.world.links s) refl (λ j. refl) (λ _. refl) here.seat.below here.can.up least most) in
             let node_h : h.world.nodes s ≡ m = crash_node d s count false n (d.world.links s) refl (λ j. refl) (λ _. refl) here.seat.below here.can.up least most in

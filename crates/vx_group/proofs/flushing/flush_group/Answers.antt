@@ -18,6 +18,7 @@ use Rattle.vx_group.proofs.TrustStillLemmas.{same_logs, through_logs}
 use Rattle.vx_config.specs.Table.{greatest}
 use Rattle.vx_group.specs.declared.group_core.GroupCore.{GroupCore}
 use Rattle.vx_group.specs.declared.inner.Inner.{Inner}
+use Rattle.vx_group.proofs.SettleCalls.{as_told}
 use Rattle.vx_group.proofs.flushing.flush_group.Goals as goal
 
 pub returns-in-Err-clause-goes : goal.returns-in-Err-clause-goes
@@ -90,6 +91,7 @@ pub returns-in-Err-clause-finds : goal.returns-in-Err-clause-finds
 returns-in-Err-clause-finds g c =
     record {
       core = as_finds (wide c.args.core.now) (wide c.release.new.core) _ (g.S.Shelf.meaning c.args.shelf.now) (g.S.Shelf.meaning c.release.new.shelf) refl refl refl c.release.ensures.finds.core;
+      settles = as_told (wide c.args.core.now) (wide c.release.new.core) _ (g.S.Shelf.meaning c.args.shelf.now) (g.S.Shelf.meaning c.release.new.shelf) refl refl c.release.ensures.finds.settles;
       free = c.release.ensures.finds.free;
     }
 
@@ -97,7 +99,7 @@ pub returns-clause-finds : goal.returns-clause-finds
 returns-clause-finds g c =
     through_finds c.args.core.now c.release.new.core (record { inner = c.flush_in-result.new.core; held = c.open_held-held.new.core.held }) c.close_held.new.core c.open_held-held.new.core.inner c.flush_in-result.new.core (g.S.Shelf.meaning c.args.shelf.now) (g.S.Shelf.meaning c.release.new.shelf) (g.S.Shelf.meaning c.flush_in-result.new.shelf) c.open_held-held.ensures.inner
     (new_wide c.args.core.now c.release.new.core (record { inner = c.flush_in-result.new.core; held = c.open_held-held.new.core.held }) c.close_held.new.core c.open_held-held.new.core.inner (g.S.Shelf.meaning c.args.shelf.now) (g.S.Shelf.meaning c.release.new.shelf) (g.S.Shelf.meaning c.flush_in-result.new.shelf) c.requires.stands c.release.ensures.stands c.release.ensures.narrows c.release.ensures.volumes c.open_held-held.result c.open_held-held.ensures.held c.open_held-held.ensures.inner c.open_held-held.ensures.none c.close_held.ensures)
-    c.open_held-held.result c.open_held-held.ensures.held c.open_held-held.ensures.none c.close_held.ensures c.release.ensures.finds c.flush_in-result.ensures.finds
+    c.open_held-held.result c.open_held-held.ensures.held c.open_held-held.ensures.none c.close_held.ensures c.release.ensures.finds c.flush_in-result.ensures.finds c.flush_in-result.ensures.settles
 
 pub returns-then-is_down-clause-logs : goal.returns-then-is_down-clause-logs
 returns-then-is_down-clause-logs g c = same_logs c.args.core.now.inner.config

@@ -88,11 +88,11 @@ returns-then-core-ge-MOST_NUMBER-clause-finds g c =
 
 pub returns-in-Ok-clause-finds : goal.returns-in-Ok-clause-finds
 returns-in-Ok-clause-finds g c =
-    alone_finds c.args.core.now _ (g.S.Shelf.meaning c.args.shelf.now) (g.S.Shelf.meaning c.trust_log.new.shelf) c.requires.none c.requires.none c.trust_log.ensures.finds
+    alone_finds c.args.core.now _ (g.S.Shelf.meaning c.args.shelf.now) (g.S.Shelf.meaning c.trust_log.new.shelf) c.requires.none c.requires.none c.trust_log.ensures.finds c.trust_log.ensures.settles
 
 pub returns-in-Err-clause-finds : goal.returns-in-Err-clause-finds
 returns-in-Err-clause-finds g c =
-    alone_finds c.args.core.now _ (g.S.Shelf.meaning c.args.shelf.now) (g.S.Shelf.meaning c.trust_log.new.shelf) c.requires.none c.requires.none c.trust_log.ensures.finds
+    alone_finds c.args.core.now _ (g.S.Shelf.meaning c.args.shelf.now) (g.S.Shelf.meaning c.trust_log.new.shelf) c.requires.none c.requires.none c.trust_log.ensures.finds c.trust_log.ensures.settles
 
 pub returns-then-is_down-clause-logs : goal.returns-then-is_down-clause-logs
 returns-then-is_down-clause-logs g c = same_logs c.args.core.now.inner.config

@@ -1,4 +1,5 @@
 -- An import, as the site notes the group: it is up, or its disks are handed back.
+use Rattle.vx_grouped.proofs.BringLemmas.{opened_brings}
 use Rattle.vx_grouped.proofs.OpenedLemmas.{opened_returns}
 use Rattle.vx_grouped.proofs.ReturnLemmas.{import_left}
 use Rattle.vx_loggroup.proofs.FactLemmas.{from_logged}
@@ -24,3 +25,8 @@ returns-in-Ok-clause-maps g c =
 
 pub returns-in-Err-clause-maps : goal.returns-in-Err-clause-maps
 returns-in-Err-clause-maps g c = tt
+
+pub returns-in-Ok-clause-brings : goal.returns-in-Ok-clause-brings
+returns-in-Ok-clause-brings g c =
+    opened_brings (g.S.Shelf.meaning c.args.shelf) (g.met.S.Shelf.lawful c.args.shelf) g.S.Shelf.meaning g.met.S.Shelf.lawful c.args.rested.now c.in-Ok.group.core c.in-Ok.group.logs.items c.in-Ok.group.alike c.in-Ok.group.stopped (g.S.Shelf.meaning c.in-Ok.group.shelf)
+    c.requires.can c.in-Ok.ensures.imported

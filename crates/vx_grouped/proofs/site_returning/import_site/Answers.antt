@@ -8,6 +8,7 @@ use Rattle.vx_grouped.proofs.SiteReturnLemmas.{imported_down, imported_early, im
 use Rattle.vx_grouped.proofs.StopLemmas.{still_can, early_goes}
 use Rattle.vx_grouped.proofs.GivenUpLemmas.{rested_tells}
 use Rattle.vx_grouped.proofs.TellLemmas.{alike_tells, early_tells, fallen_tells}
+use Rattle.vx_grouped.proofs.BringLemmas.{alike_self}
 use Rattle.std.specs.Prelude.{Some}
 use Rattle.vx_grouped.proofs.ReturnMapLemmas.{came_up, down_late, idle_of, less_idle}
 use Rattle.vx_grouped.proofs.site_returning.import_site.Goals as goal
@@ -126,3 +127,6 @@ returns-else-is_down_stop-clause-maps g c = λ early w x it.
     (less_idle (shade_meaning g.R.Shelf.meaning c.fallen-rack.result) (shade_meaning g.R.Shelf.meaning c.risen.result) alike.units alike.size alike.leaves w x (Some c.args.rested)
     (less_idle (shade_meaning g.R.Shelf.meaning c.in-Err.rack) (shade_meaning g.R.Shelf.meaning c.fallen-rack.result) fell.units fell.size fell.leaves w x (Some c.args.rested)
     (less_idle (shade_meaning g.R.Shelf.meaning c.args.rack) (shade_meaning g.R.Shelf.meaning c.in-Err.rack) goes.units goes.size (λ u b v left. ⊎_elim (λ was. was) (λ none. absurd none) (goes.leaves u b v left)) w x (Some c.args.rested) it)))
+
+pub returns-in-Ok-clause-brings : goal.returns-in-Ok-clause-brings
+returns-in-Ok-clause-brings g c = record { first = c.args.rack; revived = alike_self (shade_meaning g.R.Shelf.meaning c.args.rack); brings = c.in-Ok.ensures.brings }

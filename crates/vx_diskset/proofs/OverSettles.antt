@@ -1,0 +1,67 @@
+-- Disks that crashed of which images of a volume without a plex that is CLEAN stopped uncleanly.
+use Rattle.std.proofs.Common.{◌≡◌, ◌∙◌, ◌⊎◌, inl, inr, ℕ, zero, suc, ◌<◌, true, false, IsTrue, Option, Some, None, length, arith, refl, sym}
+use Rattle.std.specs.Prelude.{not}
+use Rattle.vx_config.specs.Checks.{blocks_of, is_stale}
+use Rattle.vx_config.specs.declared.config.Config.{Config}
+use Rattle.vx_config.specs.declared.entry.PlexEntry.{PlexEntry}
+use Rattle.vx_copyfmt.specs.Imports.{Found}
+use Rattle.vx_disk.specs.Shelf.{Each, Image, Meaning}
+use Rattle.vx_events.specs.RvgNotes.{inside_of}
+use Rattle.vx_group.specs.Resumes.{stopped}
+use Rattle.vx_group.specs.Settles.{FindsAlike, LivesAgree}
+use Rattle.vx_kept.specs.Choice.{chosen, live, live_or}
+use Rattle.vx_kept.specs.Cleans.{NoneClean, clean, clean_or, is_clean}
+use Rattle.vx_kept.specs.Facts.{KeptFact}
+use Rattle.vx_kept.specs.Groups.{found as finds}
+use Rattle.vx_kept.specs.Keeping.{Kin}
+use Rattle.vx_kept.proofs.Low.{found_same}
+use Rattle.vx_layout.specs.Places.{plex_at}
+use Rattle.vx_loggroup.proofs.RestedLogs.{is_stopped}
+use Rattle.vx_model.specs.declared.site.PlexState.{PlexState}
+use Rattle.vx_model.specs.declared.site.PlexState.TheVariants.{Active, Clean, Stale}
+use Rattle.vx_model.specs.declared.units.Units.{Units}
+use Rattle.vx_volume.specs.Plexes.{Inside, active, active_or}
+use Rattle.vx_diskset.proofs.OverCame.{RvgSettles}
+use Rattle.vx_diskset.proofs.OverCrash.{IsUnder}
+
+-- a plex that takes part and is not CLEAN is ACTIVE
+active_by : (o : Option PlexEntry) → live_or o ≡ true → clean_or o ≡ false → active_or o ≡ true
+active_by None takes off = takes
+active_by (Some p) takes off = by p.state refl takes off
+  where
+    by : (s : PlexState) → p.state ≡ s → not (is_stale s) ≡ true → is_clean s ≡ false → active_or (Some p) ≡ true
+    by Active at lives unmarked = rw at refl
+    by Clean at lives unmarked = absurd (let clash : true ≡ false = unmarked in cc)
+    by Stale at lives unmarked = absurd (let clash : false ≡ true = lives in cc)
+
+on_lives : (x : Config) (v p : ℕ) → NoneClean x v → IsTrue (live x v p) → IsTrue (active x v p)
+unfolding active clean live
+on_lives x v p none takes = active_by (plex_at x v p) takes (none.each p)
+
+module _ (units : Units) (c : Config) (good : ℕ → Type 0) (m r : Meaning) (under : IsUnder r m) (kept : KeptFact c good m) (there : (v : ℕ) → inside_of units v ≡ true → v < length c.volumes) (alike : (v : ℕ) → FindsAlike v m) where
+  module _ (i : Image) (x : Config) (v : ℕ) (each : Each r.leaves i) (is : finds r i ≡ Found x) (inside : inside_of units v ≡ true) where
+    each_up : Each m.leaves i
+    each_up u b = under.leaves u b (i u b) (each u b)
+
+    is_up : finds m i ≡ Found x
+    is_up = sym (found_same m r under.units under.size (λ u. true) i) ∙ is
+
+    kin : Kin c x
+    kin = kept.kin i x each_up is_up
+
+    low : v < length x.volumes
+    low = let here = there v inside in let more = kin.shape.volumes in omega (arith, here, more)
+
+    by_blocks : NoneClean x v → (n : ℕ) → blocks_of x.volumes v ≡ n → (stopped x v ≡ true) ⊎ LivesAgree x v r
+    by_blocks none zero at = inr (record { so = λ p q b y z in_it on_p on_q at_p at_q. absurd (let lt = in_it.within in omega (arith, lt, at)) })
+    by_blocks none (suc n) at =
+        let in_it : Inside x v 0 = record { volume = low; within = omega (arith, at) } in
+        inl (is_stopped x v (chosen x v) 0 in_it (on_lives x v (chosen x v) none (kin.some v (there v inside))))
+
+    settled : NoneClean x v ⊎ LivesAgree x v m → (stopped x v ≡ true) ⊎ LivesAgree x v r
+    settled (inl none) = by_blocks none (blocks_of x.volumes v) refl
+    settled (inr agree) = inr (record { so = λ p q b y z in_it on_p on_q at_p at_q. agree.so p q b y z in_it on_p on_q (under.leaves _ _ y at_p) (under.leaves _ _ z at_q) })
+
+  -- so it is with the volumes of a replicated volume group
+  pub rvg_settles : RvgSettles units r
+  rvg_settles = record { each = λ i x v each is inside. settled i x v each is inside ((alike v).each i x (each_up i x v each is inside) (is_up i x v each is inside)) }
