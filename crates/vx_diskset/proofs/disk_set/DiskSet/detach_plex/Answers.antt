@@ -1,5 +1,5 @@
 -- `detach_plex`: what it leaves of the disks of the site.
-use Rattle.std.proofs.Common.{◌≡◌, subst, sym, ap}
+use Rattle.std.proofs.Common.{◌≡◌, ◌∙◌, subst, sym, ap}
 use Rattle.vx_grouped.specs.GroupSites.{UpNoted}
 use Rattle.vx_diskset.specs.Aboves.{site_in}
 use Rattle.vx_diskset.specs.Asked.{FuseGoesOn}
