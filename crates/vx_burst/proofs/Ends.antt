@@ -289,7 +289,7 @@ module _ {P : Type 0} (stand : P → Stand) (root : P → P) where
             let s : start_of e.pass ≡ start = (worked-pass z start callers plan k (Drains d) (Drains e) (j.set k (Drains d) old) h).1 in let b = begins-of k (Drains e) new in record {
               goes = h.0.goes;
               got = h.0.got;
-              handed = h.0.handed;
+              took = h.0.took;
               from = λ u m. ⊎_elim (λ (v : LiesAmong u (start_of e.pass).kept). inl (subst (λ (t : State). LiesAmong u t.kept) s v))
                   (λ (v : HasLogged (start_of e.pass).line (seen_of e.pass) u). inr (subst (λ (t : State × List Entry). HasLogged t.0.line t.1 u) (λ i. (s i, sym b.1 i)) (logged-more (start_of e.pass).line (seen_of e.pass) b.0 u v))) (h.0.from u m);
               rooted = h.1;

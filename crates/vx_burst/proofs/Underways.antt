@@ -16,7 +16,7 @@ use Rattle.vx_turn.proofs.Histories.{rises-trans, among-split, logged-more, made
 use Rattle.vx_settle.specs.declared.peer.Stand.{Stand}
 use Rattle.vx_settle.specs.Peers.{PeerGoes}
 use Rattle.vx_settle.specs.Bringing.{Events, IsJob, EngineMoves, IsBrought, BringsAll}
-use Rattle.vx_settle.proofs.Bringings.{among-one, goes-then}
+use Rattle.vx_settle.proofs.Bringings.{among-one, goes-then, took-then}
 use Rattle.vx_settle.proofs.ManyPeers.{get-inside}
 use Rattle.vx_burst.specs.Finishing.{Went, AckWithin, BurstUnderway}
 
@@ -86,7 +86,7 @@ module _ {P : Type 0} (stand : P → Stand) (root : P → P) where
   went-more start log more p q w = record {
     goes = w.goes;
     got = w.got;
-    handed = w.handed;
+    took = w.took;
     from = λ u m. ⊎_elim (λ (x : LiesAmong u start.kept). inl x) (λ (x : HasLogged start.line log u). inr (logged-more start.line log more u x)) (w.from u m);
     rooted = w.rooted;
   }
@@ -95,7 +95,7 @@ module _ {P : Type 0} (stand : P → Stand) (root : P → P) where
   went-brought start log more s t p q r es reaches w b = record {
     goes = goes-then (stand p) (stand q) (stand r) w.goes b.walks.goes;
     got = w.got ++ b.walks.got;
-    handed = b.walks.handed ∙ (ap (λ l. l ++ b.walks.got) w.handed ∙ append_assoc (stand p).handed w.got b.walks.got);
+    took = took-then (stand p) (stand q) (stand r) w.got b.walks.got w.goes w.took b.walks.took;
     from = λ u m. ⊎_elim (λ (x : LiesAmong u start.kept). inl x) (λ (x : HasLogged start.line log u). inr (logged-more start.line log more u x))
         (⊎_elim (λ (x : LiesAmong u w.got). w.from u x) (λ (x : LiesAmong u b.walks.got). reaches.keeps u (b.walks.from u x)) (among-split u w.got b.walks.got m));
     rooted = b.rooted ∙ w.rooted;

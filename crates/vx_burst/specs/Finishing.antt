@@ -16,7 +16,7 @@ use Rattle.vx_turn.specs.declared.meaning.State.{State}
 use Rattle.vx_turn.specs.Acting.{LiesAmong, CountRose}
 use Rattle.vx_turn.specs.History.{Legal, FitsHistory, HasLogged, asked, point_of, point_after}
 use Rattle.vx_settle.specs.declared.peer.Stand.{Stand}
-use Rattle.vx_settle.specs.Peers.{PeerGoes, LiesIn}
+use Rattle.vx_settle.specs.Peers.{PeerGoes, LiesIn, GetsNext}
 use Rattle.vx_settle.specs.Bringing.{Events, NoLimit, NoGone, HasAcked, AsksAgain, WaitsFor}
 use Rattle.vx_settle.specs.declared.bringing.Ended.{Ended}
 use Rattle.vx_settle.specs.declared.bringing.Ended.TheVariants as ended
@@ -33,11 +33,11 @@ abbrev pub NoneAbove : ℕ → ℕ → Events → Type 0
 NoneAbove link net es = (n stored : ℕ) (said : Said) → LiesAmong (Charged (Acked link n stored), said) es → n ≤ net
 
 module _ {P : Type 0} (stand : P → Stand) (root : P → P) where
-  -- the peer p became q: each update that it got was logged in the history, or kept at the start
+  -- the peer p became q: it got the next updates of its line, each of which was logged in the history, or kept at the start
   pub record Went (start : State) (log : List Entry) (p q : P) : Type 0 where
     pub goes : PeerGoes (stand p) (stand q)
     pub got : List Update
-    pub handed : (stand q).handed ≡ (stand p).handed ++ got
+    pub took : GetsNext (stand p) got (stand q)
     pub from : (u : Update) → LiesAmong u got → LiesAmong u start.kept ⊎ HasLogged start.line log u
     pub rooted : root q ≡ root p
 

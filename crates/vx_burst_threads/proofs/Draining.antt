@@ -1,6 +1,5 @@
 -- A worker goes on, one step more.
-use Rattle.std.proofs.Common.{◌≡◌, ◌⊎◌, ℕ, zero, suc, ◌<◌, ◌==◌, Bool, true, false, List, [], ◌∷◌, ◌++◌, length, cond, ap, sym, ◌∙◌, subst, ⊎_elim, inl, inr, arith, append_assoc, eq-eqb}
-use Rattle.std.proofs.lemmas.List.{append-nil}
+use Rattle.std.proofs.Common.{◌≡◌, ◌⊎◌, ℕ, zero, suc, ◌<◌, ◌==◌, Bool, true, false, List, [], ◌∷◌, ◌++◌, length, cond, ap, sym, ◌∙◌, subst, ⊎_elim, inl, inr, arith, eq-eqb}
 use Rattle.vx_turn.specs.declared.ask.Ask.{Ask}
 use Rattle.vx_turn.specs.declared.ask.Ask.TheVariants.{Ordered, Charged}
 use Rattle.vx_turn.specs.declared.ask.Said.TheVariants.{Worked}
@@ -18,8 +17,8 @@ use Rattle.vx_turn.specs.Passing.{seen_of, start_of, mine_of, IsSame, Jobs}
 use Rattle.vx_turn.proofs.Histories.{among-split, logged-more}
 use Rattle.vx_settle.specs.declared.peer.Ack.{Ack}
 use Rattle.vx_settle.specs.declared.peer.Stand.{Stand}
-use Rattle.vx_settle.specs.Peers.{PeerGoes, Hands}
-use Rattle.vx_settle.proofs.Bringings.{goes-none, goes-then, among-one}
+use Rattle.vx_settle.specs.Peers.{PeerGoes, Hands, GetsNext}
+use Rattle.vx_settle.proofs.Bringings.{goes-none, goes-then, among-one, took-same, took-then}
 use Rattle.vx_burst_threads.specs.Draining.{JobFits, Drained}
 use Rattle.vx_burst_threads.proofs.Making.{keeps-self, keeps-then, called-keeps, called-behind}
 
@@ -31,14 +30,14 @@ fits-later a b g (Charged (Wait n)) f = tt
 fits-later a b g (Ordered c) f = absurd f
 
 pub drained-none : (p : Pass) (a : Stand) → Drained p a p a
-drained-none p a = record { keeps = keeps-self p; goes = goes-none a; got = []; handed = sym (append-nil a.handed); from = λ u m. absurd (cc m.1); jobs = λ f. f; within = λ f. f }
+drained-none p a = record { keeps = keeps-self p; goes = goes-none a; got = []; took = took-same a a refl refl; from = λ u m. absurd (cc m.1); jobs = λ f. f; within = λ f. f }
 
 pub drained-then : (p q r : Pass) (a b c : Stand) → Drained p a q b → Drained q b r c → Drained p a r c
 drained-then p q r a b c x y = record {
   keeps = keeps-then p q r x.keeps y.keeps;
   goes = goes-then a b c x.goes y.goes;
   got = x.got ++ y.got;
-  handed = y.handed ∙ (ap (λ l. l ++ y.got) x.handed ∙ append_assoc a.handed x.got y.got);
+  took = took-then a b c x.got y.got x.goes x.took y.took;
   from = λ u m. ⊎_elim (λ (o : LiesAmong u x.got). ⊎_elim (λ (k : LiesAmong u (start_of q).kept). inl (subst (λ (s : State). LiesAmong u s.kept) (sym y.keeps.1) k))
       (λ (k : HasLogged (start_of q).line (seen_of q) u). inr (subst (λ (z : State × List Entry). HasLogged z.0.line z.1 u) (λ i. (sym y.keeps.1 i, sym y.keeps.4.1 i)) (logged-more (start_of q).line (seen_of q) y.keeps.4.0 u k))) (x.from u o))
       (λ (o : LiesAmong u y.got). y.from u o) (among-split u x.got y.got m);
@@ -47,8 +46,8 @@ drained-then p q r a b c x y = record {
 }
 
 -- the peer alone went on
-pub drained-peer : (p : Pass) (a b : Stand) → PeerGoes a b → b.handed ≡ a.handed → Drained p a p b
-drained-peer p a b g same = record { keeps = keeps-self p; goes = g; got = []; handed = same ∙ sym (append-nil a.handed); from = λ u m. absurd (cc m.1); jobs = λ f e m by. fits-later a b g e.ask (f e m by); within = λ f. f }
+pub drained-peer : (p : Pass) (a b : Stand) → PeerGoes a b → b.net ≡ a.net → b.handed ≡ a.handed → Drained p a p b
+drained-peer p a b g net same = record { keeps = keeps-self p; goes = g; got = []; took = took-same a b net same; from = λ u m. absurd (cc m.1); jobs = λ f e m by. fits-later a b g e.ask (f e m by); within = λ f. f }
 
 -- none of these entries is the caller's
 pub none-of : (n by : ℕ) (xs : List Entry) → places_from n by xs ≡ [] → (e : Entry) → LiesAmong e xs → e.caller ≡ by → ⊥
@@ -71,7 +70,7 @@ drained-job p q a j reply into w same fit = let c = w.1 in record {
   keeps = called-keeps p q (Charged j) (Worked reply into) w.0 c same;
   goes = goes-none a;
   got = [];
-  handed = sym (append-nil a.handed);
+  took = took-same a a refl refl;
   from = λ u m. absurd (cc m.1);
   within = λ f place m. let behind = called-behind p q (Charged j) (Worked reply into) w.0 c in let long = c.long in
       ⊎_elim (λ (o : LiesAmong place (mine_of p)). (let x = f place o in omega (arith, x, behind, long))) (λ (o : LiesAmong place (w.0 ∷ [])). (let x = among-one place w.0 o in omega (arith, x, long))) (among-split place (mine_of p) (w.0 ∷ []) (subst (LiesAmong place) c.mine m));
@@ -98,12 +97,12 @@ drained-hand p q a b n m reply into ack w same is h = drained-then p q q a a b (
     one x u (suc i, at) = absurd (cc at)
 
     handed : Drained q a q b
-    handed = ⊎_elim (λ (k : b.handed ≡ a.handed). drained-peer q a b h.goes k)
-        (λ (k : (a.net < b.net) × (b.handed ≡ a.handed ++ into ∷ [])). record {
+    handed = ⊎_elim (λ (k : (b.net ≡ a.net) × (b.handed ≡ a.handed)). drained-peer q a b h.goes k.0 k.1)
+        (λ (k : GetsNext a (into ∷ []) b). record {
           keeps = keeps-self q;
           goes = h.goes;
           got = into ∷ [];
-          handed = k.1;
+          took = k;
           from = λ u x. subst (λ v. LiesAmong v (start_of q).kept ⊎ HasLogged (start_of q).line (seen_of q) v) (one into u x) given;
           jobs = λ f e x by. fits-later a b h.goes e.ask (f e x by);
           within = λ f. f;

@@ -13,7 +13,7 @@ use Rattle.vx_turn.specs.Acting.{LiesAmong, CountRose}
 use Rattle.vx_turn.specs.History.{HasLogged}
 use Rattle.vx_turn.specs.Passing.{seen_of, start_of, mine_of}
 use Rattle.vx_settle.specs.declared.peer.Stand.{Stand}
-use Rattle.vx_settle.specs.Peers.{PeerGoes, LiesIn}
+use Rattle.vx_settle.specs.Peers.{PeerGoes, LiesIn, GetsNext}
 use Rattle.vx_burst_threads.specs.declared.drainer.Drainer.{Drainer}
 use Rattle.vx_burst_threads.specs.declared.drainer.Next.{Next}
 use Rattle.vx_burst_threads.specs.declared.drainer.Next.TheVariants as next
@@ -37,12 +37,12 @@ JobsFit log by a = (e : Entry) → LiesAmong e log → e.caller ≡ by → JobFi
 abbrev pub MineWithin : Pass → Type 0
 MineWithin p = (place : ℕ) → LiesAmong place (mine_of p) → place ≤ length (seen_of p)
 
--- the worker went on: what its peer got was logged in what it has seen, or kept at the start
+-- the worker went on: its peer got the next updates of its line, each of which was logged in what the worker has seen, or kept at the start
 pub record Drained (p : Pass) (a : Stand) (q : Pass) (b : Stand) : Type 0 where
   pub keeps : KeepsPass p q
   pub goes : PeerGoes a b
   pub got : List Update
-  pub handed : b.handed ≡ a.handed ++ got
+  pub took : GetsNext a got b
   pub from : (u : Update) → LiesAmong u got → LiesAmong u (start_of q).kept ⊎ HasLogged (start_of q).line (seen_of q) u
   pub jobs : JobsFit (seen_of p) p.number a → JobsFit (seen_of q) q.number b
   pub within : MineWithin p → MineWithin q

@@ -40,6 +40,7 @@ module _ {T U : Type 0} (f : U → T) where
     size = x.size;
     block = x.block;
     may = λ u. x.may (known_told new u);
+    one = λ u. x.one (known_told new u);
     cut = x.cut;
     inside = x.inside;
   }

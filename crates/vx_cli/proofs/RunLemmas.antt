@@ -1,5 +1,6 @@
 -- A run, and the racks that come back from it.
 use Rattle.std.proofs.Common.{◌≡◌, ℕ, Bool, List, [], ◌∷◌, Option, refl, arith, sym, subst}
+use Rattle.std.proofs.lemmas.Bool.{false_from_ne_true}
 use Rattle.vx_history.specs.Doubts.{Doubted}
 use Rattle.vx_history.specs.World.{empty_world}
 use Rattle.vx_events.specs.Doubts.{sure}
@@ -84,7 +85,15 @@ module _ {R : Type 0} (meaning : R → Meaning) where
   fresh_leave : (racks : List R) → AreFresh meaning racks → LeavesRacks meaning racks (sure empty_world)
   fresh_leave racks fresh = record {
     good = λ _. begins_good;
-    holds = record { eight = fresh.eight; each = λ s r below apart at. absurd (omega arith) };
+    holds = record {
+      eight = fresh.eight;
+      each = λ s r below apart at. absurd (omega arith);
+      others = λ s r past at. record {
+        units = fresh.units s r at;
+        up = false_from_ne_true (meaning r).down (fresh.up s r at);
+        unarmed = false_from_ne_true (meaning r).armed (fresh.unarmed s r at);
+      };
+    };
     groups = λ _. record { each = λ s r note below over is known at. absurd (omega arith) };
   }
 

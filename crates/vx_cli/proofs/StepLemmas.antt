@@ -63,7 +63,7 @@ module _ {T U : Type 0} (f : U → T) where
   ends_told d line s fails said new (AllDone c taken none replies leads) = AllDone c taken none (replies_told line s taken d (events_of d.world line c) said replies) leads
   ends_told d line s fails said new (DiskFails c taken before e rest left disk list leaves names one says leads) = DiskFails c taken before e rest left disk list leaves names one says leads
   ends_told d line s fails said new (HeaderFails c e b disk list leaves writes one says leads) = HeaderFails c e b disk list leaves writes one says leads
-  ends_told d line s fails said new (FuseRunsOut c e begun list is fused none says leads) = FuseRunsOut c e begun list is fused none says leads
+  ends_told d line s fails said new (FuseRunsOut c e begun list is keeps fused none says leads) = FuseRunsOut c e begun list is keeps fused none says leads
   ends_told d line s fails said new (NoNumber c taken before e rest list may least none says leads) = NoNumber c taken before e rest list may (λ u. least (f u)) none says leads
   ends_told d line s fails said new (ShowsReceived site volume start count is role gives none leads) =
       ShowsReceived site volume start count is role (record { bytes = gives.bytes; got = gives.got; size = gives.size; is = λ u. gives.is (f u) }) none leads
@@ -74,7 +74,7 @@ module _ {T U : Type 0} (f : U → T) where
   links_told d line fails said new (LinksDone last runs none is says leads) = LinksDone last runs none is says leads
   links_told d line fails said new (LinksHalt e site disk middle comes here is says leads) = LinksHalt e site disk middle comes here is says leads
   links_told d line fails said new (AppliesPart before rest site count reached disk last split runs none here is says leads) = AppliesPart before rest site count reached disk last split runs none here is says leads
-  links_told d line fails said new (AppliesCut before rest site count reached kept taken middle split runs none opens fused failed says leads) = AppliesCut before rest site count reached kept taken middle split runs none opens fused failed says leads
+  links_told d line fails said new (AppliesCut before rest site count reached kept taken middle split runs none few opens fused failed says leads) = AppliesCut before rest site count reached kept taken middle split runs none few opens fused failed says leads
   links_told d line fails said new (LinksCut e site kept taken middle comes fused none says leads) = LinksCut e site kept taken middle comes fused none says leads
   links_told d line fails said new (LogUnread before rest e site disk middle split reads runs none here is says leads) = LogUnread before rest e site disk middle split reads runs none here is says leads
   links_told d line fails said new (NoHeader before rest e site middle split takes runs none most is says leads) = NoHeader before rest e site middle split takes runs none (λ u. most (f u)) is says leads

@@ -63,7 +63,7 @@ picked_stable size d pick u b is = ap (λ l. cond l (cond (bit_at pick (loose_pl
 pub rest_Settled : (m : Meaning) → Lawful m → IsRack m → IsTrue m.down → Settled m Everywhere
 rest_Settled m lawful rack down = record {
   each = λ u b v w here left other. elim (cases_Bool m.tells) [
-    | inl tells ↦ rack.latest tells u b v (rack.at_rest down u b v left) ∙ sym (rack.latest tells u b w (rack.at_rest down u b w other))
+    | inl tells ↦ rack.latest tells down u b v (rack.at_rest down u b v left) ∙ sym (rack.latest tells down u b w (rack.at_rest down u b w other))
     | inr not ↦ absurd (lawful.none not u b v left)
   ];
 }

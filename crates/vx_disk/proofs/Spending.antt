@@ -151,7 +151,7 @@ spent_down m m' x y down (inr out) failing = record {
 spent_call : {T : Type 0} → (m m' : Meaning) (unit : ℕ) (step : Disks → Disks → Type 0) (r : Result T ShelfError) (x y : Disks) → Cause m m' unit r → Calls m step x y r → ((u : ℕ) → y.failing u ≡ x.failing u)
     → Spent m.size m.down m'.down x y
 spent_call m m' unit step (Ok done) x y cause calls failing = spent_passed m m' x y cause.before cause.after calls.1 failing
-spent_call m m' unit step (Err (Fault disk)) x y cause calls failing = spent_passed m m' x y cause.1.before cause.1.after calls.1 failing
+spent_call m m' unit step (Err (Fault disk)) x y cause calls failing = spent_passed m m' x y cause.1.before cause.1.after calls failing
 spent_call m m' unit step (Err Down) x y cause calls failing = spent_down m m' x y cause calls failing
 
 told_call : {T : Type 0} → (m m' : Meaning) (unit : ℕ) (step : Disks → Disks → Type 0) (r : Result T ShelfError) (old new : Option Disks) → Cause m m' unit r

@@ -5,7 +5,7 @@ use Rattle.vx_disk.specs.declared.shelf.ShelfError.TheVariants.{Fault, Down}
 use Rattle.vx_model.specs.declared.no.No.{No}
 use Rattle.vx_model.specs.declared.no.No.TheVariants.{Device, Down as IsDown}
 use Rattle.vx_disk.specs.Counts.{Rose}
-use Rattle.vx_disk.specs.Disks.{Disks, SameBlocks, Untouched, Burns, RanOut}
+use Rattle.vx_disk.specs.Disks.{Disks, Untouched, Burns, RanOut}
 use Rattle.vx_disk.specs.Shelf.{Meaning}
 
 -- both counts rose in the call
@@ -29,10 +29,10 @@ abbrev pub CountsOnly : {T : Type 0} → ℕ → Result T ShelfError → (ℕ �
 CountsOnly unit (Ok _) old new = (u : ℕ) → new u ≡ old u
 CountsOnly unit (Err _) old new = (u : ℕ) → u ≢ unit → new u ≡ old u
 
--- a write or a flush of a rack, where `step` is what it does if it answers Ok
+-- a write or a flush of a rack, where `step` is what it does if it answers Ok; one that failed may have done it in part, as far as a shelf may
 abbrev pub Calls : {T : Type 0} → Meaning → (Disks → Disks → Type 0) → Disks → Disks → Result T ShelfError → Type 0
 Calls m step old new (Ok _) = (IsTrue m.tells → step old new) × Burns old.fuse new.fuse
-Calls m step old new (Err (Fault disk)) = SameBlocks old new × Burns old.fuse new.fuse
+Calls m step old new (Err (Fault disk)) = Burns old.fuse new.fuse
 Calls m step old new (Err Down) = (IsTrue m.down × Untouched old new) ⊎ RanOut m.size old new
 
 -- of anything but a rack this says nothing

@@ -16,8 +16,9 @@ pub record IsRack (m : Meaning) : Type 0 where
   -- the disks are the units, so that the two counts are one
   pub counts : (d : ℕ) → m.disk_faults d ≡ m.faults d
   pub armed : m.armed ≡ is_set told.fuse
-  -- where contents are told, a read gives the latest value, and a crash may leave the stable one
-  pub latest : IsTrue m.tells → (u b : ℕ) (v : List ℕ) → m.reads u b v → v ≡ told.latest u b
+  -- where contents are told and it is down, a read gives the latest value: no write that failed leaves a block unsure then
+  pub latest : IsTrue m.tells → IsTrue m.down → (u b : ℕ) (v : List ℕ) → m.reads u b v → v ≡ told.latest u b
+  -- and where they are told a crash may leave the stable one
   pub stable : IsTrue m.tells → (u b : ℕ) → m.leaves u b (told.stable u b)
   -- of a block that is not loose it leaves no other
   pub settled : (u b : ℕ) (v : List ℕ) → told.loose u b ≡ false → m.leaves u b v → v ≡ told.stable u b

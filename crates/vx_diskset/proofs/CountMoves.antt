@@ -9,7 +9,7 @@ use Rattle.vx_config.specs.declared.config.Config.{Config}
 use Rattle.vx_config.specs.declared.entry.DiskEntry.{DiskEntry}
 use Rattle.vx_config.specs.declared.entry.PlexEntry.{PlexEntry}
 use Rattle.vx_config.specs.declared.entry.VolumeEntry.{VolumeEntry}
-use Rattle.vx_grouped.specs.ConfigMoves.{AnyRose, DiskMoves, LosesSome, PlexMoves, StateMoves, VolumeMoves, none_again}
+use Rattle.vx_grouped.specs.ConfigMoves.{DiskMoves, LosesSome, PlexMoves, PlexRose, StateMoves, VolumeMoves, VolumeRose, none_again}
 
 in_both : {A : Type 0} (P Q : A → A → Type 0) (x y : Option A) → ((a b : A) → P a b → Q a b) → Matched P x y → Matched Q x y
 in_both P Q None None go it = it
@@ -21,17 +21,19 @@ module _ (o e e' : Meaning) (counts : (d : ℕ) → e'.disk_faults d ≡ e.disk_
   rose_as : (d : ℕ) → Rose (o.disk_faults d) (e.disk_faults d) → Rose (o.disk_faults d) (e'.disk_faults d)
   rose_as d rose = subst (λ (k : ℕ). Rose (o.disk_faults d) k) (sym (counts d)) rose
 
-  any_as : AnyRose o e → AnyRose o e'
-  any_as it = record { disk = it.disk; below = it.below; rose = rose_as it.disk it.rose }
+  plex_rose : (p : PlexEntry) → PlexRose o e p → PlexRose o e' p
+  plex_rose p it = record { disk = it.disk; lies = it.lies; below = it.below; rose = rose_as it.disk it.rose }
 
-  state_as : (s t : PlexState) → StateMoves o e s t → StateMoves o e' s t
-  state_as s t it = elim it [
-    | inl same ↦ inl same
-    | inr moved ↦ inr (moved.0, any_as moved.1)
-  ]
+  volume_rose : (v : VolumeEntry) → VolumeRose o e v → VolumeRose o e' v
+  volume_rose v it = record { place = it.place; plex = it.plex; at = it.at; rose = plex_rose it.plex it.rose }
 
-  plex_as : (p q : PlexEntry) → PlexMoves (StateMoves o e) p q → PlexMoves (StateMoves o e') p q
-  plex_as p q it = record { subdisks = it.subdisks; state = state_as p.state q.state it.state }
+  state_as : (v : VolumeEntry) (p : PlexEntry) (t : PlexState) → StateMoves o e v p t → StateMoves o e' v p t
+  state_as v p t (inl same) = inl same
+  state_as v p t (inr (inl lost)) = inr (inl (lost.0, plex_rose p lost.1))
+  state_as v p t (inr (inr back)) = inr (inr (back.0, volume_rose v back.1))
+
+  plex_as : (v : VolumeEntry) (p q : PlexEntry) → PlexMoves (StateMoves o e v) p q → PlexMoves (StateMoves o e' v) p q
+  plex_as v p q it = record { subdisks = it.subdisks; state = state_as v p q.state it.state }
 
   volume_as : (v u : VolumeEntry) → VolumeMoves (StateMoves o e) v u → VolumeMoves (StateMoves o e') v u
   volume_as v u it = record {
@@ -42,7 +44,7 @@ module _ (o e e' : Meaning) (counts : (d : ℕ) → e'.disk_faults d ≡ e.disk_
     prefer = it.prefer;
     drl = it.drl;
     fmr = it.fmr;
-    plexes = λ k. in_both (PlexMoves (StateMoves o e)) (PlexMoves (StateMoves o e')) _ _ plex_as (it.plexes k);
+    plexes = λ k. in_both (PlexMoves (StateMoves o e v)) (PlexMoves (StateMoves o e' v)) _ _ (plex_as v) (it.plexes k);
   }
 
   disk_as : (k : ℕ) (a b : DiskEntry) → DiskMoves none_again o e k a b → DiskMoves none_again o e' k a b

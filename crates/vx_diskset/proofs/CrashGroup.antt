@@ -1,6 +1,6 @@
 -- What a crash leaves of a site that was up.
 use Rattle.std.proofs.Common.{◌≡◌, ◌⊎◌, inl, inr, ⊎_elim, ℕ, zero, suc, ◌+◌, ◌-◌, ◌<◌, ◌≤◌, Bool, true, false, List, length, take, drop, Option, Some, None, IsTrue, MatchOption, refl, sym, ◌∙◌, ap, subst, arith}
-use Rattle.std.proofs.lemmas.List.{length-take}
+use Rattle.std.proofs.lemmas.List.{length-take, take-take}
 use Rattle.std.specs.Prelude.{slice_get, Err}
 use Rattle.vx_model.specs.Content.{Content, Write, fold_writes}
 use Rattle.vx_history.specs.World.{Node}
@@ -24,7 +24,7 @@ use Rattle.vx_disk.specs.declared.shelf.Shelf.{Ghosts}
 use Rattle.vx_diskset.specs.declared.disk_set.DiskSet.{DiskSet}
 use Rattle.vx_diskset.specs.declared.disk_set.DiskSet.TheVariants.{Up, Down}
 use Rattle.vx_rvg.specs.declared.group.Rvg.{Rvg}
-use Rattle.vx_diskset.specs.DiskSets.{CrashedAt, WroteUp, WroteAt, AppliedUp, AppliedAt, fell_to}
+use Rattle.vx_diskset.specs.DiskSets.{CrashedAt, CrashedTo, WroteUp, WroteAt, AppliedUp, AppliedAt, fell_to, with_first}
 use Rattle.vx_model.specs.declared.no.No.{No}
 use Rattle.vx_model.specs.declared.no.No.TheVariants.{Device, Limit, Down as Off}
 use Rattle.vx_model.proofs.Contents.{folded_size}
@@ -34,7 +34,7 @@ use Rattle.vx_diskset.specs.Lasts.{FoundWith, LeftWith}
 use Rattle.vx_diskset.specs.Holds.{HasDoubted, HasWrites, KeptSite, itself, state_with, sure_of}
 use Rattle.vx_diskset.specs.Layouts.{LiesOn, raw_units, units_of, LiesRaw}
 use Rattle.vx_diskset.specs.Holds.{most_with}
-use Rattle.vx_diskset.specs.Stands.{IsUpAt, IsHeldAt, IsDownAt, CutAt, IsToldAt, IsUngrouped}
+use Rattle.vx_diskset.specs.Stands.{IsUpAt, IsHeldAt, IsDownAt, CutAt, IsToldAt, IsUngrouped, SiteStands}
 use Rattle.vx_diskset.proofs.Laying.{laid_in, lies_as, lies_sized, sizes_of, raw_sized, units_raw}
 use Rattle.vx_diskset.proofs.BesideLemmas.{doubted, writes_itself}
 use Rattle.vx_diskset.proofs.StaysUp.{held_up}
@@ -51,7 +51,7 @@ one_value m i u b lawful rack down tells now = record {
 }
   where
     latest : (v : List ℕ) → m.leaves u b v → v ≡ rack.told.latest u b
-    latest v left = rack.latest tells u b v (rack.at_rest down u b v left)
+    latest v left = rack.latest tells down u b v (rack.at_rest down u b v left)
 
 -- ---- one image says what is left
 
@@ -260,6 +260,23 @@ module _ {R : Type 0} {g : Ghosts R} where
       let held = cut_there beside n e rvg is cut in
       held_crashed n rvg.shelf shelf new same held.0 held.1 lawful rack stopped
 
+  -- the crash of a site that has the first of its writes alone, as one of the site
+  pub fell_within : {beside : KeptBeside} (n : Node) (limit : ℕ) (new : DiskSet R g) → beside.doubt ≡ None → CrashedAt beside (with_first n limit) new → CrashedTo beside n limit new
+  fell_within {beside} n limit new sure fell = ⊎_elim (λ own. by fell.kept own fell.count fell.least fell.most fell.stands) (λ other. absurd (never_some (sym sure ∙ other))) fell.is
+    where
+      by : (k : KeptSite) → k ≡ itself beside (with_first n limit) → (count : ℕ) → k.node.safe ≤ count → count ≤ length k.node.log → SiteStands (sure_of k) (fell_to (with_first n limit) k.node count) new → CrashedTo beside n limit new
+      by k own =
+          subst (λ (x : KeptSite). (count : ℕ) → x.node.safe ≤ count → count ≤ length x.node.log → SiteStands (sure_of x) (fell_to (with_first n limit) x.node count) new → CrashedTo beside n limit new) (sym own)
+          (λ count least most stands.
+          let few : count ≤ limit = omega (arith, most, length-take limit n.log) in
+          record {
+            count = count;
+            least = least;
+            few = few;
+            most = omega (arith, most, length-take limit n.log);
+            stands = subst (λ (ws : List Write). SiteStands (sure_of (itself beside n)) (let m : Node = record (crashed n count) { base = fold_writes n.base (drop n.safe ws); log = ws } in m) new) (take-take count limit n.log few) stands;
+          })
+
   -- a write or an apply whose fuse ran out, and the crash behind it
   pub wrote_off : {beside : KeptBeside} (n : Node) (x : Write) (old mid new : DiskSet R g) (why : No) → is_off why ≡ true → WroteUp beside n x old mid (Err why) → (CutAt beside (half_begun n x) mid → CrashedAt beside (half_begun n x) new) → (IsToldAt new → IsToldAt mid) → WroteAt beside n x old new (Err why)
   wrote_off n x old mid new Off off is falls later = (is.0, falls is.1, (λ calls told exact. is.2 calls (later told) exact), is.3)
@@ -271,9 +288,10 @@ module _ {R : Type 0} {g : Ghosts R} where
   wrote_on beside n x old new (Limit what most) off is = is
   wrote_on beside n x old new other off is = is
 
-  pub applied_off : {beside : KeptBeside} (n : Node) (to : ℕ) (old mid new : DiskSet R g) (why : No) → is_off why ≡ true → AppliedUp beside n to old mid (Err why) → (CutAt beside n mid → CrashedAt beside n new) → AppliedAt beside n to old new (Err why)
-  applied_off n to old mid new Off off is falls = (is.0, falls is.1)
-  applied_off n to old mid new other off is falls = absurd (cc)
+  pub applied_off : {beside : KeptBeside} (n : Node) (to : ℕ) (old mid new : DiskSet R g) (why : No) → is_off why ≡ true → beside.doubt ≡ None → AppliedUp beside n to old mid (Err why)
+      → (CutAt beside (with_first n n.safe) mid → CrashedAt beside (with_first n n.safe) new) → AppliedAt beside n to old new (Err why)
+  applied_off n to old mid new Off off sure is falls = (is.0, fell_within n n.safe new sure (falls is.1))
+  applied_off n to old mid new other off sure is falls = absurd (cc)
 
   pub applied_on : (beside : KeptBeside) (n : Node) (to : ℕ) (old new : DiskSet R g) (why : No) → is_off why ≡ false → AppliedUp beside n to old new (Err why) → AppliedAt beside n to old new (Err why)
   applied_on beside n to old new Off off is = absurd (cc)

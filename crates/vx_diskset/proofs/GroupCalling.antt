@@ -1,12 +1,11 @@
 -- What a call on the group of a site leaves of the disks below it.
-use Rattle.std.proofs.Common.{arith, ◌≡◌, ◌∙◌, ◌⊎◌, inl, inr, ℕ, ◌≤◌, true, false, List, ap, refl, subst, sym, IsTrue}
+use Rattle.std.proofs.Common.{arith, ◌≡◌, ◌∙◌, ◌⊎◌, inl, inr, ℕ, ◌≤◌, Bool, true, false, List, ap, refl, subst, sym, IsTrue}
 use Rattle.std.specs.Prelude.{Option, Some, None, IsFalse, Result, Ok, Err, OnOk, unwrap_or}
 use Rattle.vx_model.specs.Content.{Write}
 use Rattle.vx_model.specs.declared.errors.Stop.{Stop}
 use Rattle.vx_model.specs.declared.errors.Stop.TheVariants.{No as Refused, OutOfMemory}
 use Rattle.vx_model.specs.declared.no.No.{No}
-use Rattle.vx_model.specs.declared.no.No.TheVariants.{Device, Down as IsOff, Limit}
-use Rattle.vx_model.specs.declared.no.Counted.TheVariants.{Number as Numbers}
+use Rattle.vx_model.specs.declared.no.No.TheVariants.{Device, Down as IsOff}
 use Rattle.vx_disk.specs.Causes.{OnDisks, WithDisks}
 use Rattle.vx_disk.specs.Disks.{Crashed, Disks, is_set}
 use Rattle.vx_disk.specs.Racks.{IsRack, Stopped}
@@ -20,9 +19,8 @@ use Rattle.vx_watched.specs.Since.{CalledSince, is_rack}
 use Rattle.vx_grouped.specs.Added.{note_added}
 use Rattle.vx_grouped.specs.GroupSites.{AwayNoted, DownNoted, GroupSiteStands, UpNoted, deported_with, site_disks, with_note, site_below}
 use Rattle.vx_grouped.specs.SiteAdds.{LacksVolume, SiteAdded}
-use Rattle.vx_grouped.specs.SiteEnds.{AttCalled, DetCalled, PlainRead, PlainWrote, SiteCalled, SiteDeported, is_plex_on, refuses_att, refuses_det}
-use Rattle.vx_grouped.specs.ConfigMoves.{AttDone, AttFails, DetDone, DetFails, LosesSome}
-use Rattle.vx_config.specs.Table.{greatest}
+use Rattle.vx_grouped.specs.SiteEnds.{AttCalled, DetCalled, LacksDeport, PlainRead, PlainWrote, SiteCalled, SiteDeported, is_plex_on, refuses_att, refuses_det}
+use Rattle.vx_grouped.specs.ConfigMoves.{AttCuts, AttDone, AttFails, DetCuts, DetDone, DetFails, LosesSome}
 use Rattle.vx_config.specs.declared.config.Config.{Config}
 use Rattle.vx_untold.specs.Shades.{rack_of, shade_meaning, shade_rack}
 use Rattle.vx_untold.specs.declared.shade.Shade.{Shade}
@@ -316,20 +314,20 @@ module _ {R : Type 0} {g : Ghosts R} where
     away_settled n note (Marked rack) it = absurd it
     away_settled n note Gone it = absurd it
 
-    called_settled : (T : Type 0) (Done Fails : Config → Config → Type 0) (Lacks : No → Type 0) (n : Node) (note : GroupNode) (old new : GroupSite R g) (r : Result T Stop) → SiteCalled {T = T} Done Fails Lacks n note old new r → IsSettled new
-    called_settled T Done Fails Lacks n note old new (Ok done) it = up_settled (with_note it.0 n) it.0 new it.2
-    called_settled T Done Fails Lacks n note old new (Err (Refused (Device disk))) it = up_settled (with_note it.0 n) it.0 new it.2
-    called_settled T Done Fails Lacks n note old new (Err (Refused IsOff)) it = down_settled (crashed (with_note it.0 n) 0) it.0 new it.2
-    called_settled T Done Fails Lacks n note old new (Err (Refused other)) it = up_settled (worked n) note new it.0
-    called_settled T Done Fails Lacks n note old new (Err OutOfMemory) it = absurd it
+    called_settled : (T : Type 0) (twice : Bool) (Done Fails Cuts : Config → Config → Type 0) (Lacks : No → Type 0) (n : Node) (note : GroupNode) (old new : GroupSite R g) (r : Result T Stop) → SiteCalled {T = T} twice Done Fails Cuts Lacks n note old new r → IsSettled new
+    called_settled T twice Done Fails Cuts Lacks n note old new (Ok done) it = up_settled (with_note it.0 n) it.0 new it.2
+    called_settled T twice Done Fails Cuts Lacks n note old new (Err (Refused (Device disk))) it = up_settled (with_note it.0 n) it.0 new it.2
+    called_settled T twice Done Fails Cuts Lacks n note old new (Err (Refused IsOff)) it = down_settled (crashed (with_note it.0 n) 0) it.0 new it.2
+    called_settled T twice Done Fails Cuts Lacks n note old new (Err (Refused other)) it = up_settled (worked n) note new it.0
+    called_settled T twice Done Fails Cuts Lacks n note old new (Err OutOfMemory) it = absurd it
 
     pub det_settled : (n : Node) (note : GroupNode) (vol plex : ℕ) (old new : GroupSite R g) (r : Result (Unit {0}) Stop) → DetCalled n note vol plex old new r → IsSettled new
     det_settled n note vol plex old new r it =
-        called_settled (Unit {0}) (DetDone vol plex (site_disks old) (site_disks new)) (DetFails vol plex (site_disks old) (site_disks new)) (λ no. refuses_det old vol plex ≡ Some no) n note old new r it
+        called_settled (Unit {0}) false (DetDone vol plex (site_disks old) (site_disks new)) (DetFails (site_disks old) (site_disks new)) (DetCuts vol plex (site_disks old) (site_disks new)) (λ no. refuses_det old vol plex ≡ Some no) n note old new r it
 
     pub att_settled : (n : Node) (note : GroupNode) (vol plex : ℕ) (old new : GroupSite R g) (r : Result ℕ Stop) → AttCalled n note vol plex old new r → IsSettled new
     att_settled n note vol plex old new r it =
-        called_settled ℕ (AttDone vol plex (site_disks old) (site_disks new)) (AttFails vol plex (site_disks old) (site_disks new)) (λ no. refuses_att old vol plex ≡ Some no) n note old new r it
+        called_settled ℕ true (AttDone vol plex (site_disks old) (site_disks new)) (AttFails vol plex (site_disks old) (site_disks new)) (AttCuts vol plex (site_disks old) (site_disks new)) (λ no. refuses_att old vol plex ≡ Some no) n note old new r it
 
     pub wrote_settled : (n : Node) (note : GroupNode) (x : Write) (old new : GroupSite R g) (r : Result (Unit {0}) No) → PlainWrote n note x old new r → IsSettled new
     wrote_settled n note x old new (Ok done) it = up_settled (with_note (note_write x it.0) n) (note_write x it.0) new it.2
@@ -344,9 +342,9 @@ module _ {R : Type 0} {g : Ghosts R} where
 
     pub deported_settled : (n : Node) (note : GroupNode) (old new : GroupSite R g) (r : Result (Unit {0}) Stop) → SiteDeported n note old new r → IsSettled new
     deported_settled n note old new (Ok done) it = away_settled (deported_with it.0 n) it.0 new it.2
-    deported_settled n note old new (Err stop) it = called_settled (Unit {0}) (λ c d. ⊥) (LosesSome (site_disks old) (site_disks new)) (λ no. no ≡ Limit Numbers greatest) n note old new (Err stop) it
+    deported_settled n note old new (Err stop) it = called_settled (Unit {0}) false (λ c d. ⊥) (LosesSome (site_disks old) (site_disks new)) (LosesSome (site_disks old) (site_disks new)) (λ no. LacksDeport old no) n note old new (Err stop) it
 
     pub added_settled : (n : Node) (note : GroupNode) (name : List ℕ) (want : Shape) (old new : GroupSite R g) (r : Result ℕ Stop) → SiteAdded n note name want old new r → IsSettled new
     added_settled n note name want old new (Ok vol) it = up_settled (with_note (note_added vol want.blocks it.0) n) (note_added vol want.blocks it.0) new it.2
-    added_settled n note name want old new (Err (Refused why)) it = called_settled ℕ (λ c d. ⊥) (LosesSome (site_disks old) (site_disks new)) (LacksVolume old name want) n note old new (Err (Refused why)) it
+    added_settled n note name want old new (Err (Refused why)) it = called_settled ℕ false (λ c d. ⊥) (LosesSome (site_disks old) (site_disks new)) (LosesSome (site_disks old) (site_disks new)) (LacksVolume old name want) n note old new (Err (Refused why)) it
     added_settled n note name want old new (Err OutOfMemory) it = up_settled n note new it

@@ -80,6 +80,7 @@ module _ {R : Type 0} {g : Ghosts R} where
       config = it.away.config;
       found = record { each = it.away.found.each };
       runs = it.away.runs;
+      some = record { large = it.away.some.large; some = it.away.some.some };
       lies = record { units = it.away.lies.units; size = it.away.lies.size; can = it.away.lies.can; sizes = it.away.lies.sizes; finds = it.away.lies.finds; volumes = it.away.lies.volumes; has = it.away.lies.has };
     };
   }

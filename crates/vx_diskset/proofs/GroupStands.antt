@@ -17,7 +17,7 @@ use Rattle.vx_grouped.specs.SetFuses.{HasFuse}
 use Rattle.vx_grouped.specs.declared.group_site.GroupSite.{GroupSite}
 use Rattle.vx_grouped.specs.declared.group_site.GroupSite.TheVariants.{Up, Deported, Down, Marked, Gone}
 use Rattle.vx_grouped.proofs.SettleLemmas.{fuse_burned}
-use Rattle.vx_grouped.proofs.SiteLemmas.{away_as, lies_as}
+use Rattle.vx_grouped.proofs.SiteLemmas.{away_as, lies_as, some_as}
 use Rattle.vx_diskset.specs.GroupSets.{noted_cut}
 use Rattle.vx_diskset.specs.Holds.{KeptBeside}
 use Rattle.vx_events.specs.GroupLines.{is_over_group}
@@ -76,6 +76,7 @@ module _ (n k : Node) (like : IsLikeGroup n k) where
       config = it.away.config;
       frames = it.away.frames;
       found = it.away.found;
+      some = some_as n k it.newest like.disks like.blocks it.away.some;
       lies = away_as n k note it.last m like.disks like.blocks it.away.lies;
     };
   }
@@ -94,6 +95,7 @@ module _ (n k : Node) (like : IsLikeGroup n k) where
       config = it.away.config;
       found = it.away.found;
       runs = it.away.runs;
+      some = some_as n k it.last like.disks like.blocks it.away.some;
       lies = away_as n k note it.last m like.disks like.blocks it.away.lies;
     };
   }

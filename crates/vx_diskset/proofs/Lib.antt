@@ -39,6 +39,7 @@ pub mod CallsBurn
 pub mod CrashGroup
 pub mod ExactWrite
 pub mod FailGroup
+pub mod Fallen
 pub mod FailSets
 pub mod FuseGroup
 pub mod GroundNotes
@@ -66,6 +67,7 @@ pub mod OverImports
 pub mod OverSets
 pub mod PumpGroup
 pub mod RawSets
+pub mod ReachedBack
 pub mod Reaching
 pub mod OverReaching
 pub mod ReadGroup

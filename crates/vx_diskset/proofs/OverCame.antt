@@ -33,7 +33,7 @@ use Rattle.vx_rvg.specs.Views.{unit_of}
 use Rattle.vx_diskset.specs.Holds.{KeptBeside, most_header, state_with}
 use Rattle.vx_diskset.specs.Lasts.{FoundWith, LeftWith}
 use Rattle.vx_diskset.specs.Layouts.{IsLaid, IsLaidBy, units_of}
-use Rattle.vx_diskset.specs.Stands.{AwayOver, FellOver, RestsOver}
+use Rattle.vx_diskset.specs.Stands.{AwayOver, FellOver, RestsOver, RvgSettles}
 use Rattle.vx_diskset.proofs.CrashGroup.{keeps_option}
 use Rattle.vx_diskset.proofs.Laying.{sizes_of}
 use Rattle.vx_volume.specs.Plexes.{Inside}
@@ -154,10 +154,6 @@ module _ (r first : Meaning) (core : GroupCore) (m : Meaning) (alike : Alike r f
       }
 
 -- ---- of disks that crashed
-
--- each configuration that is found has an ACTIVE plex of each volume of the replicated volume group, which stopped uncleanly, or its plexes that take part are alike
-pub record RvgSettles (units : Units) (m : Meaning) : Type 0 where
-  pub each : (i : Image) (x : Config) (v : ℕ) → Each m.leaves i → finds m i ≡ Found x → inside_of units v ≡ true → (stopped x v ≡ true) ⊎ LivesAgree x v m
 
 -- a rack that is down has one value of each block
 pub rack_rests : (m : Meaning) → IsRack m → IsTrue m.down → IsTrue m.tells → AtRest m

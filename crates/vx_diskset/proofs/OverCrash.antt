@@ -32,7 +32,7 @@ use Rattle.vx_diskset.specs.DiskSets.{CrashedAt, fell_to}
 use Rattle.vx_diskset.specs.Holds.{HasDoubted, HasWrites, KeptBeside, KeptSite, itself, most_with, state_with, sure_of}
 use Rattle.vx_diskset.specs.Lasts.{FoundWith}
 use Rattle.vx_diskset.specs.Layouts.{IsLaidBy, LiesOn, units_of}
-use Rattle.vx_diskset.specs.Stands.{FellOver, IsHeldAt, IsOverSite, RestsOver, SameGround, idle_ready}
+use Rattle.vx_diskset.specs.Stands.{FellOver, IsHeldAt, IsOverSite, RestsOver, SameGround, idle_ready, FellSettles}
 use Rattle.vx_diskset.specs.declared.disk_set.DiskSet.TheVariants.{Over}
 use Rattle.vx_diskset.specs.declared.group_set.CutWrite.{CutWrite}
 use Rattle.vx_diskset.specs.declared.over_set.OverSite.TheVariants.{Down as GroupFell}
@@ -232,8 +232,8 @@ module _ {R : Type 0} {g : Ghosts R} where
       rests = rests (itself beside n) n l idle good own stop law rack kept held.lies held.low held.begun here n.safe (omega arith) held.logged (λ tells. absurd (let e : true ≡ false = sym tells ∙ untold in cc));
     }
 
-    pub over_fell : (cut : Option CutWrite) → CrashedAt beside n (Over (record { site = GroupFell idle; cut = cut }))
-    over_fell cut =
+    pub over_fell : FellSettles n idle → (cut : Option CutWrite) → CrashedAt beside n (Over (record { site = GroupFell idle; cut = cut }))
+    over_fell settles cut =
         let it = fell_by (idle_ready idle).tells refl in
         record {
           kept = it.kept;
@@ -248,6 +248,6 @@ module _ {R : Type 0} {g : Ghosts R} where
               (let few = over.2 in let same = it.ground.disks in omega (arith, few, same)),
               (let some = over.3 in let same = it.ground.blocks in omega (arith, some, same)),
             ),
-            (refl, refl, it.rests),
+            (refl, refl, it.rests, settles),
           );
         }

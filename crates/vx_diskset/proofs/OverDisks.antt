@@ -34,7 +34,7 @@ use Rattle.vx_diskset.specs.Fuses.{FuseOn}
 use Rattle.vx_diskset.specs.Holds.{KeptBeside, most_header, state_with}
 use Rattle.vx_diskset.specs.Layouts.{units_of}
 use Rattle.vx_diskset.specs.Noted.{FusesNoted, NotedOn, StaysNoted}
-use Rattle.vx_diskset.specs.Stands.{AwayOver, FellOver, IsOverSite, IsReceiverAt, IsUpAt, KeepsRole, OverStands, RestsOver, RoleBy, SiteStands, idle_ready}
+use Rattle.vx_diskset.specs.Stands.{AwayOver, FellOver, IsOverSite, IsReceiverAt, IsUpAt, KeepsRole, OverStands, RestsOver, RoleBy, SiteStands, idle_ready, RvgSettles}
 use Rattle.vx_diskset.specs.declared.above.Above.{Above}
 use Rattle.vx_diskset.specs.declared.above.Above.TheVariants.{Origin, Receiver}
 use Rattle.vx_diskset.specs.declared.disk_set.DiskSet.{DiskSet}
@@ -48,6 +48,7 @@ use Rattle.vx_diskset.proofs.FuseGroup.{alike_sound, up_alike}
 use Rattle.vx_diskset.proofs.MakeGroup.{up_still}
 use Rattle.vx_diskset.proofs.Receiving.{receiver_alike, receiver_still, wait_as}
 use Rattle.vx_diskset.proofs.StartGroup.{left_still_with}
+use Rattle.vx_model.specs.declared.units.Units.{Units}
 
 -- ---- disks by themselves of which no more may be left
 
@@ -91,6 +92,14 @@ module _ (beside : KeptBeside) (n : Node) (m m' : Meaning) (less : LeavesLess m 
         extends = λ i x each is. it.extends i x (before i each) (was_found i x is);
         found = λ i x above each is shows. it.found i x above (before i each) (was_found i x is) shows;
       })
+
+  pub settles_less : (units : Units) → RvgSettles units m → RvgSettles units m'
+  settles_less units it = record {
+    each = λ i x v each is inside. elim (it.each i x v (before i each) (was_found i x is) inside) [
+      | inl on ↦ inl on
+      | inr agree ↦ inr (record { so = λ p q b y z in_it on_p on_q at_p at_q. agree.so p q b y z in_it on_p on_q (less.leaves _ _ y at_p) (less.leaves _ _ z at_q) })
+    ];
+  }
 
   pub away_less : RestsOver (λ c. AwayOver c beside n m) beside n m → RestsOver (λ c. AwayOver c beside n m') beside n m'
   away_less = rests_less (λ c. AwayOver c beside n m) (λ c. AwayOver c beside n m')
@@ -266,10 +275,10 @@ module _ {R : Type 0} {g : Ghosts R} where
       away_counts = subst (λ (x : OverSite R g). DisksAlike (below_site x) (Deported new)) (sym is) (record { counts = alike.counts.disk_faults; tells = alike.contents.tells; told = less })
 
     module _ (is : old.site ≡ GroupFell idle) where
-      pub fell_fails : (beside : KeptBeside) (n : Node) → OverStands beside n old.site → OverStands beside n (GroupFell new)
-      fell_fails beside n stands =
+      pub fell_fails : new.rested ≡ idle.rested → (beside : KeptBeside) (n : Node) → OverStands beside n old.site → OverStands beside n (GroupFell new)
+      fell_fails rested beside n stands =
           let was = subst (λ (x : OverSite R g). OverStands beside n x) is stands in
-          (was.0, was.1, fell_less beside n (idle_ready idle) (idle_ready new) (idle_less idle new agreed alike) was.2)
+          (was.0, was.1, fell_less beside n (idle_ready idle) (idle_ready new) (idle_less idle new agreed alike) was.2, λ r is. settles_less beside n (idle_ready idle) (idle_ready new) (idle_less idle new agreed alike) (units_of n) (was.3 r (sym rested ∙ is)))
 
       pub fell_stays : StaysNoted old (record { site = GroupFell new; cut = old.cut })
       fell_stays = record {

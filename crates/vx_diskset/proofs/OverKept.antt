@@ -35,6 +35,8 @@ use Rattle.vx_diskset.specs.declared.over_set.OverSite.{OverSite}
 use Rattle.vx_diskset.specs.declared.over_set.OverSite.TheVariants.{Origin as OriginSite, Receiver as ReceiverSite, Deported as GroupAway, Down as GroupFell, Gone as NoGroup}
 use Rattle.vx_diskset.proofs.OverCrash.{over_fell}
 use Rattle.vx_diskset.proofs.OverFrames.{OverUp, frame_held, frame_receiver, frame_up, fuse_gone, over_from, over_to, receiver_behind}
+use Rattle.vx_diskset.proofs.Laying.{over_there}
+use Rattle.vx_diskset.proofs.OverSettles.{fell_settles}
 
 -- these blocks are none of these units
 pub record AsideOf (mine : Blocks) (units : Units) : Type 0 where
@@ -116,7 +118,9 @@ module _ {R : Type 0} {g : Ghosts R} (laws : (s : Shade R) → Lawful (shade_mea
     )
     kept_by (Up old) (Down idle) at above goes sound it here =
         subst (λ (x : OverSite R g). CrashedAt beside n (Over (record { site = x; cut = new.cut }))) (sym (fell_site new.site idle at))
-        (over_fell n goes.mid idle (Member (wide goes.mid.core).good (laid_disks goes.mid)) over (held_mid beside n a old goes.mid goes.goes sound aside over.0 running it) goes.stopped (laws idle.rack) (racks idle.rack) goes.mid.stands.group.stands.kept new.cut)
+        (let held : IsHeldAt beside n (laid_volumes goes.mid) = held_mid beside n a old goes.mid goes.goes sound aside over.0 running it in
+        over_fell n goes.mid idle (Member (wide goes.mid.core).good (laid_disks goes.mid)) over held goes.stopped (laws idle.rack) (racks idle.rack) goes.mid.stands.group.stands.kept
+        (fell_settles goes.mid n idle goes.stopped goes.lacking (over_there n (laid_volumes goes.mid) over.0 held.lies)) new.cut)
     kept_by (Up old) (Deported idle) at above goes sound it here = absurd here
     kept_by (Up old) (Marked rack) at above goes sound it here = absurd here
     kept_by (Up old) Gone at above goes sound it here = absurd here

@@ -1,5 +1,5 @@
 -- What waits at a site that receives, brought into the volumes, by parts.
-use Rattle.std.proofs.Common.{◌≡◌, ◌∙◌, ⊎_elim, ℕ, ◌-◌, ◌<◌, false, List, length, ap, sym, subst, refl, arith}
+use Rattle.std.proofs.Common.{◌≡◌, ◌∙◌, ⊎_elim, ℕ, ◌+◌, ◌-◌, ◌<◌, false, List, length, ap, sym, subst, refl, arith}
 use Rattle.std.specs.Prelude.{IfOk, None, Result, Ok, Err, min, true}
 use Rattle.std.proofs.lemmas.List.{length-drop, length-map}
 use Rattle.vx_model.specs.Content.{Write}
@@ -19,7 +19,8 @@ use Rattle.vx_rvg.specs.Groups.{has_numbers}
 use Rattle.vx_srl.specs.Views.{most_number}
 use Rattle.vx_diskset.proofs.LeavesNumbers.{lacks_them}
 use Rattle.vx_diskset.specs.Stands.{IsReceiverAt}
-use Rattle.vx_diskset.proofs.Reaching.{receiver_burned, rule_none, rule_some}
+use Rattle.vx_diskset.proofs.ReachedBack.{held_first, receiver_burned}
+use Rattle.vx_diskset.proofs.Reaching.{rule_none, rule_some}
 
 -- what is brought into the volumes, if it is to be acknowledged
 pub acked : (applied : ℕ) (r : Result Reached No) → IfOk r (λ x. applied ≡ x.number) → IfOk r (λ x. x.acks ≡ true → applied ≡ x.number)
@@ -53,5 +54,5 @@ module _ {beside : KeptBeside} (n : Node) (count few : ℕ) (c : Core) (us : Lis
   reach_some us' c' new (Ok r) some h = subst (λ (a : RAction). ReachedOf a beside n r us' c' new) (sym (rule_some n count few few_of some (omega (arith, here.least, here.most)))) h
   reach_some us' c' new (Err (Device disk)) some h = h
   reach_some us' c' new (Err (Limit what most)) some h = absurd h
-  reach_some us' c' new (Err IsOff) some h = h
+  reach_some us' c' new (Err IsOff) some h = (h.0, held_first n (n.safe + few) (n.safe + count) new (omega (arith, few_is)) h.1)
   reach_some us' c' new (Err other) some h = h

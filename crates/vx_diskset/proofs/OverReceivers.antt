@@ -1,5 +1,5 @@
 -- What calls on a replicated volume group that receives answer of its site, over a group.
-use Rattle.std.proofs.Common.{◌≡◌, ◌∙◌, ℕ, ◌≤◌, List, length, drop, ap, subst, sym, arith, refl}
+use Rattle.std.proofs.Common.{◌≡◌, ◌∙◌, ℕ, ◌+◌, ◌≤◌, List, length, drop, ap, subst, sym, arith, refl}
 use Rattle.std.specs.Prelude.{None, Option, Some, Result, Ok, Err}
 use Rattle.vx_disk.specs.Counts.{Rose}
 use Rattle.vx_disk.specs.Shelf.{Lawful}
@@ -13,7 +13,7 @@ use Rattle.vx_secondary.specs.Receivers.{writes_of_updates}
 use Rattle.vx_ground.specs.Lifted.{laid_volumes}
 use Rattle.vx_grouped.specs.GroupSites.{laid_disks, site_disks}
 use Rattle.vx_diskset.specs.Aboves.{below_site}
-use Rattle.vx_diskset.specs.DiskSets.{AppliedUp, ReadAt, halted_at}
+use Rattle.vx_diskset.specs.DiskSets.{AppliedUp, ReadAt, halted_at, with_first}
 use Rattle.vx_diskset.specs.Holds.{KeptBeside}
 use Rattle.vx_diskset.specs.Rooms.{AppliedAs}
 use Rattle.vx_diskset.specs.Stands.{IsReceiverAt, IsUpAt, OverStands, SiteStands, IsOverSite}
@@ -23,7 +23,7 @@ use Rattle.vx_diskset.specs.declared.disk_set.DiskSet.TheVariants.{Over}
 use Rattle.vx_diskset.specs.declared.over_set.OverSet.{OverSet}
 use Rattle.vx_diskset.specs.declared.over_set.OverSite.{OverSite}
 use Rattle.vx_diskset.specs.declared.over_set.OverSite.TheVariants.{Receiver as ReceiverSite}
-use Rattle.vx_diskset.proofs.Receiving.{as_held, as_receiver, durable_of, receiver_up, doubted, has_doubted, held_receiver, may_doubted, never_some, up_receiver}
+use Rattle.vx_diskset.proofs.Receiving.{as_receiver, durable_of, receiver_up, doubted, has_doubted, held_receiver, may_doubted, never_some, up_receiver}
 use Rattle.vx_diskset.specs.Shelves.{ReadAs, KeptAs}
 use Rattle.vx_diskset.specs.Received.{ShowedAt, ReachedBy, ReachedOf, ReachedOn, ReachedUp, reached}
 use Rattle.vx_diskset.specs.Works.{ShownAs}
@@ -67,7 +67,7 @@ module _ {R : Type 0} {g : Ghosts R} (beside : KeptBeside) (n : Node) (old : Ove
   pub over_applied : (to : ℕ) (r : Result ℕ No) → AppliedAs beside (durable_of n) to f'.core (laid_volumes f.laid) (laid_volumes f'.laid) r → AppliedUp beside n to (Over old) (Over new) r
   over_applied to (Ok number) l = (l.0, l.1, (over_on beside n (worked n) refl refl refl over, receives n.halted (burned n.fuse) l.2))
   over_applied to (Err (Device disk)) l = ((over_on beside n (halted_at n disk) refl refl refl over, receives (Some disk) (burned n.fuse) l.0), rose_over disk l.1)
-  over_applied to (Err IsOff) l = (l.0, (over, as_held n (laid_volumes f'.laid) (here.sure running) long l.1))
+  over_applied to (Err IsOff) l = (l.0, (over_on beside n (with_first n n.safe) refl refl refl over, l.1))
   over_applied to (Err other) l = l
 
   pub over_read : (volume start count : ℕ) (bytes : List ℕ) (r : Result (Unit {0}) No) → ReadAs beside (durable_of n) volume start count bytes f'.core (laid_volumes f.laid) (laid_volumes f'.laid) r → ReadAt beside n volume start count bytes (Over old) (Over new) r
@@ -120,5 +120,5 @@ module _ {R : Type 0} {g : Ghosts R} (beside : KeptBeside) (n : Node) (old : Ove
   over_reached count (Err (Device disk)) l =
       ((over_on beside n (halted_at n disk) refl refl refl stands.0, l.0), subst (λ (s : OverSite R g). Rose ((site_disks (below_site s)).disk_faults disk) ((laid_disks f'.laid).disk_faults disk)) (sym is) l.1)
   over_reached count (Err (Limit what most)) l = (l.0, l.1, (stands.0, l.2))
-  over_reached count (Err IsOff) l = (l.0, (stands.0, l.1))
+  over_reached count (Err IsOff) l = (l.0, (over_on beside n (with_first n (n.safe + count)) refl refl refl stands.0, l.1))
   over_reached count (Err other) l = l

@@ -24,12 +24,13 @@ use Rattle.vx_diskset.specs.Fuses.{FuseOn}
 use Rattle.vx_diskset.specs.Holds.{KeptBeside}
 use Rattle.vx_diskset.specs.Layouts.{config_units, units_of}
 use Rattle.vx_diskset.specs.OverStarts.{Started}
-use Rattle.vx_diskset.specs.Stands.{AwayOver, FellOver, IsOverSite, IsUpAt, RestsOver, SiteStands, idle_ready}
+use Rattle.vx_diskset.specs.Stands.{AwayOver, FellOver, IsOverSite, IsUpAt, RestsOver, SiteStands, idle_ready, RvgSettles, FellSettles}
 use Rattle.vx_diskset.specs.Works.{OnlyLog}
 use Rattle.vx_diskset.specs.declared.disk_set.DiskSet.TheVariants.{Over}
 use Rattle.vx_diskset.specs.declared.over_set.OverSet.{OverSet}
-use Rattle.vx_diskset.proofs.OverCame.{RvgSettles, alike_rests, away_laid, away_left, away_there, fell_laid, fell_left, fell_there, rack_rests, told_rest}
+use Rattle.vx_diskset.proofs.OverCame.{alike_rests, away_laid, away_left, away_there, fell_laid, fell_left, fell_there, rack_rests, told_rest}
 use Rattle.vx_diskset.proofs.OverUp.{came_with, over_came, set_came}
+use Rattle.vx_logimport.specs.declared.rested.Rested.{Rested}
 
 never_none : {A : Type 0} {x : A} → Some x ≡ None → ⊥
 never_none e = cc
@@ -50,7 +51,10 @@ module _ {R : Type 0} {g : Ghosts R} (racks : (s : Shade R) → IsRack (shade_me
   does = started.starts.does
 
   -- of disks that crashed
-  module _ (rests : RestsOver (λ c. FellOver c beside n (idle_ready idle)) beside n (idle_ready idle)) (settles : RvgSettles (units_of n) (idle_ready idle)) (down : IsTrue (idle_ready idle).down) where
+  module _ (rests : RestsOver (λ c. FellOver c beside n (idle_ready idle)) beside n (idle_ready idle)) (settles : FellSettles n idle) (r : Rested) (came : idle.rested ≡ Some r) (down : IsTrue (idle_ready idle).down) where
+    settled : RvgSettles (units_of n) (idle_ready idle)
+    settled = settles r came
+
     fell_told : IsTrue (idle_ready idle).tells
     fell_told = told_rest (idle_ready idle) first laid.core (laid_disks laid) brings.revived brings.brings told
 
@@ -60,8 +64,8 @@ module _ {R : Type 0} {g : Ghosts R} (racks : (s : Shade R) → IsRack (shade_me
     fell_up : IsUpAt beside (came_with fuse note n) started.core (laid_volumes started.laid)
     fell_up =
         over_came n note fuse (laid_volumes laid) (laid_volumes started.laid) started.core units rests.low rests.logged rests.sure (rests.begun fell_told)
-        (fell_laid n (idle_ready idle) first laid.core (laid_disks laid) brings.revived brings.brings first_rests rests settles told) (fell_there n (idle_ready idle) first laid.core (laid_disks laid) brings.revived brings.brings first_rests rests settles told)
-        (fell_left n (idle_ready idle) first laid.core (laid_disks laid) brings.revived brings.brings first_rests rests settles told) does.0 does.1 does.2 does.3 here on
+        (fell_laid n (idle_ready idle) first laid.core (laid_disks laid) brings.revived brings.brings first_rests rests settled told) (fell_there n (idle_ready idle) first laid.core (laid_disks laid) brings.revived brings.brings first_rests rests settled told)
+        (fell_left n (idle_ready idle) first laid.core (laid_disks laid) brings.revived brings.brings first_rests rests settled told) does.0 does.1 does.2 does.3 here on
 
     pub fell_again : SiteStands beside (came_with fuse note n) (Over s)
     fell_again = (over_again beside n note fuse rests.sure over, set_came beside (came_with fuse note n) s started.laid started.core started.site started.above fell_up refl rests.logged)

@@ -15,7 +15,7 @@ use Rattle.vx_diskset.specs.Stands.{AwayOver, FellOver, OverStands, RestsOver, R
 use Rattle.vx_diskset.specs.declared.over_set.OverSite.{OverSite}
 use Rattle.vx_diskset.specs.declared.over_set.OverSite.TheVariants.{Origin as OriginSite, Receiver as ReceiverSite, Deported as GroupAway, Down as GroupFell, Gone as NoGroup}
 use Rattle.vx_diskset.proofs.FailGroup.{receiver_failing, up_failing}
-use Rattle.vx_diskset.proofs.Reaching.{receiver_burned}
+use Rattle.vx_diskset.proofs.ReachedBack.{receiver_burned}
 use Rattle.vx_diskset.proofs.StaysUp.{up_worked}
 
 module _ (beside : KeptBeside) (n : Node) (fuse : FuseOf) (failing : ℕ → Bool) (m : Meaning) where
@@ -46,7 +46,7 @@ module _ {R : Type 0} {g : Ghosts R} where
   over_worked beside n (OriginSite f) it = up_worked n f.core (laid_volumes f.laid) it
   over_worked beside n (ReceiverSite f) it = receiver_burned n f.core f.waiting (laid_volumes f.laid) it
   over_worked beside n (GroupAway idle) it = (it.0, away_like beside n (burned n.fuse) n.failing (idle_ready idle) it.1)
-  over_worked beside n (GroupFell idle) it = (it.0, ap (λ (f : FuseOf). burned f) it.1, fell_like beside n (burned n.fuse) n.failing (idle_ready idle) it.2)
+  over_worked beside n (GroupFell idle) it = (it.0, ap (λ (f : FuseOf). burned f) it.1, fell_like beside n (burned n.fuse) n.failing (idle_ready idle) it.2, it.3)
   over_worked beside n NoGroup it = it
 
   -- other disks are made to fail
@@ -54,7 +54,7 @@ module _ {R : Type 0} {g : Ghosts R} where
   over_failing beside n failing (OriginSite f) it = up_failing beside n failing f.core (laid_volumes f.laid) it
   over_failing beside n failing (ReceiverSite f) it = receiver_failing beside n failing f.core f.waiting (laid_volumes f.laid) it
   over_failing beside n failing (GroupAway idle) it = (it.0, away_like beside n n.fuse failing (idle_ready idle) it.1)
-  over_failing beside n failing (GroupFell idle) it = (it.0, it.1, fell_like beside n n.fuse failing (idle_ready idle) it.2)
+  over_failing beside n failing (GroupFell idle) it = (it.0, it.1, fell_like beside n n.fuse failing (idle_ready idle) it.2, it.3)
   over_failing beside n failing NoGroup it = it
 
   -- one behind which no updates wait is an origin, or it is not up

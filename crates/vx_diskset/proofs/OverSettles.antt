@@ -8,7 +8,7 @@ use Rattle.vx_copyfmt.specs.Imports.{Found}
 use Rattle.vx_disk.specs.Shelf.{Each, Image, Meaning}
 use Rattle.vx_events.specs.RvgNotes.{inside_of}
 use Rattle.vx_group.specs.Resumes.{stopped}
-use Rattle.vx_group.specs.Settles.{FindsAlike, LivesAgree}
+use Rattle.vx_group.specs.Settles.{FindsAlike, LivesAgree, LacksCommit}
 use Rattle.vx_kept.specs.Choice.{chosen, live, live_or}
 use Rattle.vx_kept.specs.Cleans.{NoneClean, clean, clean_or, is_clean}
 use Rattle.vx_kept.specs.Facts.{KeptFact}
@@ -21,8 +21,19 @@ use Rattle.vx_model.specs.declared.site.PlexState.{PlexState}
 use Rattle.vx_model.specs.declared.site.PlexState.TheVariants.{Active, Clean, Stale}
 use Rattle.vx_model.specs.declared.units.Units.{Units}
 use Rattle.vx_volume.specs.Plexes.{Inside, active, active_or}
-use Rattle.vx_diskset.proofs.OverCame.{RvgSettles}
-use Rattle.vx_diskset.proofs.OverCrash.{IsUnder}
+use Rattle.vx_diskset.proofs.OverCrash.{IsUnder, ready_under}
+use Rattle.vx_diskset.specs.Stands.{RvgSettles, FellSettles, idle_ready}
+use Rattle.vx_diskset.specs.Layouts.{units_of}
+use Rattle.vx_disk.specs.Racks.{Stopped}
+use Rattle.vx_disk.specs.declared.shelf.Shelf.{Ghosts}
+use Rattle.vx_group.specs.Holding.{wide}
+use Rattle.vx_grouped.specs.GroupSites.{idle_disks, laid_disks}
+use Rattle.vx_grouped.specs.declared.idle.Idle.{Idle}
+use Rattle.vx_grouped.specs.declared.laid.Laid.{Laid}
+use Rattle.vx_history.specs.World.{Node}
+use Rattle.vx_kept.specs.Commits.{Member}
+use Rattle.vx_logimport.specs.declared.rested.Rested.{Rested}
+use Rattle.vx_loggroup.proofs.SettledFacts.{settled_of}
 
 -- a plex that takes part and is not CLEAN is ACTIVE
 active_by : (o : Option PlexEntry) → live_or o ≡ true → clean_or o ≡ false → active_or o ≡ true
@@ -65,3 +76,19 @@ module _ (units : Units) (c : Config) (good : ℕ → Type 0) (m r : Meaning) (u
   -- so it is with the volumes of a replicated volume group
   pub rvg_settles : RvgSettles units r
   rvg_settles = record { each = λ i x v each is inside. settled i x v each is inside ((alike v).each i x (each_up i x v each is inside) (is_up i x v each is inside)) }
+
+-- so a crash leaves the disks of a group, unless it lacks a commit
+module _ {R : Type 0} {g : Ghosts R} (l : Laid R g) (n : Node) (idle : Idle R g) (stop : Stopped (laid_disks l) (idle_disks idle)) (lacking : (r : Rested) → idle.rested ≡ Some r → LacksCommit l.core.inner → ⊥)
+    (there : (v : ℕ) → inside_of (units_of n) v ≡ true → v < length (wide l.core).config.volumes) where
+  under_crash : IsUnder (idle_ready idle) (laid_disks l)
+  under_crash = let it = ready_under idle.agreed idle.rack in record {
+    units = it.units ∙ stop.units;
+    size = λ u. it.size u ∙ stop.size u;
+    tells = λ told. sym stop.tells ∙ it.tells told;
+    leaves = λ u b v left. stop.leaves u b v (it.leaves u b v left);
+  }
+
+  pub fell_settles : FellSettles n idle
+  fell_settles = λ r is.
+      let it = settled_of (wide l.core) (laid_disks l) (l.settles.told (λ lacks. lacking r is (record { missed = lacks.missed; spent = lacks.spent }))) in
+      rvg_settles (units_of n) (wide l.core).config (Member (wide l.core).good (laid_disks l)) (laid_disks l) (idle_ready idle) under_crash l.stands.group.stands.kept there it.alike

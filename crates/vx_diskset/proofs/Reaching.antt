@@ -1,7 +1,7 @@
 -- What waits behind a receiver's group, as it is logged and applied.
 use Rattle.std.proofs.Common.{◌≡◌, ◌∙◌, inl, inr, ⊎_elim, ℕ, zero, suc, ◌+◌, ◌-◌, ◌<◌, ◌≤◌, Bool, true, false, List, [], ◌∷◌, ◌++◌, length, take, drop, ap, sym, subst, refl, arith, length-append}
 use Rattle.std.specs.Prelude.{IsTrue, IsFalse, Some, None, Result, Ok, Err, slice_get, min, eqb, if◌then◌else◌}
-use Rattle.std.proofs.lemmas.List.{drop-append-le, drop-drop, length-drop, length-take, take-append-drop, take-take, length-map}
+use Rattle.std.proofs.lemmas.List.{drop-append-le, drop-drop, length-drop, length-take, take-take, length-map}
 use Rattle.vx_model.specs.Content.{Content, Write, blocks_in, fold_writes, put}
 use Rattle.vx_model.specs.declared.call.Update.{Update}
 use Rattle.vx_model.specs.declared.no.No.{No}
@@ -15,7 +15,7 @@ use Rattle.vx_history.specs.declared.receiver.RAction.{RAction}
 use Rattle.vx_history.specs.Events.{logged_blocks}
 use Rattle.vx_history.specs.Receiving.{Received, received_step, with_applied}
 use Rattle.vx_history.specs.LinkForms.{plain_receiver}
-use Rattle.vx_history.specs.Steps.{burned, half_begun, logged, spent, worked, write_calls}
+use Rattle.vx_history.specs.Steps.{burned, half_begun, logged, spent, write_calls}
 use Rattle.vx_history.specs.World.{Node, Fuse, NoFuse, FuseSet, FuseLit}
 use Rattle.vx_history.proofs.Fuses.{burned_twice, fused_before}
 use Rattle.vx_disk.specs.Shelf.{Image, Meaning}
@@ -30,7 +30,7 @@ use Rattle.vx_diskset.specs.declared.disk_set.DiskSet.{DiskSet}
 use Rattle.vx_diskset.specs.declared.disk_set.DiskSet.TheVariants.{Up, Receives}
 use Rattle.vx_diskset.specs.Shelves.{LoggedAs, MovesOn}
 use Rattle.vx_diskset.proofs.RvgMoves.{no_moves, then_moves}
-use Rattle.vx_diskset.specs.DiskSets.{CanLog, halted_at, halted_with, CrashedAt}
+use Rattle.vx_diskset.specs.DiskSets.{CanLog, halted_at, halted_with, CrashedAt, with_first}
 use Rattle.vx_diskset.specs.Fuses.{FuseOn}
 use Rattle.vx_grouped.specs.SiteEnds.{is_off}
 use Rattle.vx_diskset.specs.Holds.{KeptBeside, HasWrites, most_with, state_with}
@@ -39,7 +39,6 @@ use Rattle.vx_diskset.specs.Layouts.{units_of}
 use Rattle.vx_diskset.specs.Needs.{HasRoom}
 use Rattle.vx_diskset.specs.Received.{CanReceive, LoggedTo, reached, ReachedAt, ReachedBy, ReachedTo, ReachedUp}
 use Rattle.vx_model.specs.declared.no.Counted.TheVariants.{Number}
-use Rattle.vx_model.proofs.Contents.{folded_size}
 use Rattle.vx_rvg.specs.Groups.{has_numbers}
 use Rattle.vx_srl.specs.Views.{most_number}
 use Rattle.vx_diskset.specs.Rooms.{AppliedAs, HasNumbers, IsMore, NeverLimit}
@@ -50,10 +49,12 @@ use Rattle.vx_disk.specs.Spends.{Spends}
 use Rattle.vx_disk.proofs.Spending.{spends_none, then_spends}
 use Rattle.vx_diskset.proofs.MakeRoom.{rose_later}
 use Rattle.vx_diskset.proofs.Mores.{more_none, more_then, wait_more}
-use Rattle.vx_diskset.proofs.Laying.{laid_in, lies_sized}
+use Rattle.vx_diskset.proofs.Laying.{laid_in}
 use Rattle.vx_diskset.proofs.NeedLemmas.{needs_less}
-use Rattle.vx_diskset.proofs.Receiving.{as_held, as_receiver, durable_of, never_some, receiver_volumes, up_receiver}
-use Rattle.vx_diskset.proofs.StaysUp.{durable_content, drop-take_none, fuse_burned, up_worked}
+use Rattle.vx_diskset.proofs.CrashGroup.{fell_within}
+use Rattle.vx_diskset.proofs.ReachedBack.{back_first, back_halted, held_first, like, reached_more, reached_none, receiver_burned}
+use Rattle.vx_diskset.proofs.Receiving.{as_receiver, durable_of, never_some, receiver_volumes, up_receiver}
+use Rattle.vx_diskset.proofs.StaysUp.{drop-take_none, up_worked}
 use Rattle.vx_diskset.proofs.RawSets.{receiver_there, up_there}
 
 -- ---- lists
@@ -63,125 +64,6 @@ next_of zero [] x rest is = absurd (cc)
 next_of zero (y ∷ ys) x rest is = let head : y ≡ x = cc in let tail : ys ≡ rest = cc in (ap (λ z. z ∷ []) head, tail)
 next_of (suc k) [] x rest is = absurd (cc)
 next_of (suc k) (y ∷ ys) x rest is = let r = next_of k ys x rest is in (ap (λ zs. y ∷ zs) r.0, r.1)
-
-fold_both : (c : Content) (xs ys : List Write) → fold_writes (fold_writes c xs) ys ≡ fold_writes c (xs ++ ys)
-fold_both c [] ys = refl
-fold_both c (x ∷ xs) ys = fold_both (put c x) xs ys
-
--- the writes up to j, and those from there up to k
-parts : (a j k : ℕ) (xs : List Write) → a ≤ j → j ≤ k → k ≤ length xs → drop a (take j xs) ++ drop j (take k xs) ≡ drop a (take k xs)
-parts a j k xs le low most =
-    ap (λ (ws : List Write). drop a ws ++ drop j (take k xs)) (sym (take-take j k xs low))
-    ∙ sym (drop-append-le a (take j (take k xs)) (drop j (take k xs)) (omega (arith, length-take j (take k xs), length-take k xs, le, low, most)))
-    ∙ ap (λ (ws : List Write). drop a ws) (take-append-drop j (take k xs))
-
-content_more : (c : Content) (a j k : ℕ) (xs : List Write) → a ≤ j → j ≤ k → k ≤ length xs → fold_writes (fold_writes c (drop a (take j xs))) (drop j (take k xs)) ≡ fold_writes c (drop a (take k xs))
-content_more c a j k xs le low most = fold_both c (drop a (take j xs)) (drop j (take k xs)) ∙ ap (λ (ws : List Write). fold_writes c ws) (parts a j k xs le low most)
-
--- ---- a receiver with other parts of its node
-
-like : {beside : KeptBeside} (n : Node) (b b' : Content) (s s' : ℕ) (f f' : Fuse) (c : Core) (us : List Update) (m : Meaning) → b ≡ b' → s ≡ s' → f ≡ f'
-    → IsReceiverAt beside (record n { base = b; safe = s; fuse = f }) c us m → IsReceiverAt beside (record n { base = b'; safe = s'; fuse = f' }) c us m
-like {beside} n b b' s s' f f' c us m eb es ef r =
-    subst (λ (x : Fuse). IsReceiverAt beside (record n { base = b'; safe = s'; fuse = x }) c us m) ef
-    (subst (λ (x : ℕ). IsReceiverAt beside (record n { base = b'; safe = x; fuse = f }) c us m) es
-    (subst (λ (x : Content). IsReceiverAt beside (record n { base = x; safe = s; fuse = f }) c us m) eb r))
-
-pub receiver_burned : {beside : KeptBeside} (n : Node) (c : Core) (us : List Update) (m : Meaning) → IsReceiverAt beside n c us m → IsReceiverAt beside (worked n) c us m
-receiver_burned n c us m r = record {
-  state = r.state;
-  role = r.role;
-  up = r.up;
-  fuse = fuse_burned n.fuse m r.fuse;
-  lies = r.lies;
-  low = r.low;
-  units = r.units;
-  ring = r.ring;
-  found = r.found;
-  kept = r.kept;
-  linked = r.linked;
-  session = r.session;
-  begun = r.begun;
-  stamp = r.stamp;
-  first = r.first;
-  least = r.least;
-  most = r.most;
-  head = r.head;
-  halted = r.halted;
-  waits = r.waits;
-  takes = r.takes;
-  content = r.content;
-  left = λ i now. site_map n (worked n) i (λ has. record { count = has.count; least = has.least; most = has.most; found = has.found }) (r.left i now);
-  sure = r.sure;
-  may = r.may;
-}
-
--- none is applied yet
-pub reached_none : {beside : KeptBeside} (n : Node) (c : Core) (us : List Update) (m : Meaning) → IsReceiverAt beside n c us m → IsReceiverAt beside (reached n n.safe) c us m
-reached_none n c us m r = like n n.base (fold_writes n.base (drop n.safe (take n.safe n.log))) n.safe n.safe (burned n.fuse) (burned n.fuse) c us m (durable_content n) refl refl (receiver_burned n c us m r)
-
-pub reached_worked : {beside : KeptBeside} (n : Node) (c : Core) (us : List Update) (m : Meaning) → IsReceiverAt beside (worked n) c us m → IsReceiverAt beside (reached n n.safe) c us m
-reached_worked n c us m r = like n n.base (fold_writes n.base (drop n.safe (take n.safe n.log))) n.safe n.safe (burned n.fuse) (burned n.fuse) c us m (durable_content n) refl refl r
-
--- those up to j, and from there up to k
-pub reached_more : {beside : KeptBeside} (n : Node) (j k : ℕ) (c : Core) (us : List Update) (m : Meaning) → n.safe ≤ j → j ≤ k → k ≤ length n.log → IsReceiverAt beside (reached (reached n j) k) c us m → IsReceiverAt beside (reached n k) c us m
-reached_more n j k c us m le low most r =
-    like n (fold_writes (fold_writes n.base (drop n.safe (take j n.log))) (drop j (take k n.log))) (fold_writes n.base (drop n.safe (take k n.log))) k k (burned (burned n.fuse)) (burned n.fuse) c us m
-    (content_more n.base n.safe j k n.log le low most) refl (burned_twice n.fuse) r
-
--- ---- back to the site as it was before
-
-back_writes : {beside : KeptBeside} (n : Node) (number : ℕ) (i : Image) → n.safe ≤ number → HasWrites beside (reached n number) i → HasWrites beside n i
-back_writes {beside} n number i le has = record {
-  count = has.count;
-  least = omega (arith, le, has.least);
-  most = has.most;
-  found = subst (λ (c : Content). FoundWith (units_of n) n.ring (state_with n beside.links) n.session (most_with beside n has.count) i (take has.count n.log) c)
-      (content_more n.base n.safe number has.count n.log le has.least has.most) has.found;
-}
-
--- the sizes of its volumes are those of its first content
-pub back_held : {beside : KeptBeside} (n : Node) (number : ℕ) (m : Meaning) → n.safe ≤ number → n.safe ≤ length n.log → IsHeldAt beside (reached n number) m → IsHeldAt beside n m
-back_held n number m le some held = record {
-  lies = lies_sized (reached n number) n.base.size m (λ v. sym (folded_size n.base (drop n.safe (take number n.log)) v)) held.lies;
-  low = held.low;
-  logged = some;
-  begun = held.begun;
-  left = λ i now. ⊎_elim (λ one. inl (back_writes n number i le one)) (λ other. inr other) (held.left i now);
-  may = held.may;
-}
-
-pub back_halted : {beside : KeptBeside} (n : Node) (number disk : ℕ) (c : Core) (us : List Update) (m : Meaning) → n.safe ≤ number → IsReceiverAt beside (halted_at (reached n number) disk) c us m → IsReceiverAt beside (halted_at n disk) c us m
-back_halted {beside} n number disk c us m le r = record {
-  state = r.state;
-  role = r.role;
-  up = r.up;
-  fuse = subst (λ (f : Fuse). FuseOn f m) (burned_twice n.fuse) r.fuse;
-  lies = lies_sized (reached n number) n.base.size m (λ v. sym (folded_size n.base (drop n.safe (take number n.log)) v)) r.lies;
-  low = r.low;
-  units = r.units;
-  ring = r.ring;
-  found = r.found;
-  kept = r.kept;
-  linked = r.linked;
-  session = r.session;
-  begun = r.begun;
-  stamp = λ told none. absurd (never_some none);
-  first = r.first;
-  least = omega (arith, le, r.least);
-  most = r.most;
-  head = λ none. absurd (never_some none);
-  halted = r.halted;
-  waits = r.waits;
-  takes = λ none. absurd (never_some none);
-  content = λ none. absurd (never_some none);
-  left = λ i now. ⊎_elim (λ one. inl (of_halted (back_writes n number i le (record { count = one.count; least = one.least; most = one.most; found = one.found })))) (λ other. inr other) (r.left i now);
-  sure = λ none. absurd (never_some none);
-  may = r.may;
-}
-  where
-    of_halted : {i : Image} → HasWrites beside n i → HasWrites beside (halted_at n disk) i
-    of_halted has = record { count = has.count; least = has.least; most = has.most; found = has.found }
 
 -- ---- the oldest of what waits is logged
 
@@ -316,15 +198,8 @@ module _ {beside : KeptBeside} (n : Node) (c : Core) (us rest : List Update) (u 
   }
 
   -- its fuse ran out in it
-  held_next : (new : Meaning) → IsHeldAt beside (half_begun (durable_of n) x) new → IsHeldAt beside n new
-  held_next new held = record {
-    lies = held.lies;
-    low = held.low;
-    logged = long;
-    begun = held.begun;
-    left = λ i now. ⊎_elim (λ one. inl (first_writes (half_begun (durable_of n) x) n.log (n.safe + 1) i front_next long_next one)) (λ other. inr other) (held.left i now);
-    may = held.may;
-  }
+  held_next : (new : Meaning) → IsHeldAt beside (half_begun (durable_of n) x) new → IsHeldAt beside (with_first n (n.safe + 1)) new
+  held_next new held = subst (λ (ws : List Write). IsHeldAt beside (let m : Node = record n { log = ws } in m) new) front_next held
 
   module _ (c' : Core) (new : Meaning) where
     pub next_failed : (why : No) → NeverLimit (let result : Result ℕ No = Err why in result) → LoggedAs beside (durable_of n) x m c' new (Err why) → LoggedTo beside n 1 us c' m new (Err why)
@@ -400,10 +275,13 @@ module _ (us : List Update) (k : ℕ) (c d e : Core) (m mid new : Meaning) (left
   }
 
   -- what a later call answers of the site
-  pub failed_more : {beside : KeptBeside} (n : Node) (count : ℕ) (after : List Update) (why : No) → IsReceiverAt beside n c us m → CanReceive beside n → LoggedTo beside (reached n (n.safe + k)) 1 after e mid new (Err why) → LoggedTo beside n count after e m new (Err why)
-  failed_more n count after (Device disk) r can h = (back_halted n (n.safe + k) disk e after new (omega arith) h.0, rose_later (m.disk_faults disk) (mid.disk_faults disk) (new.disk_faults disk) (at.counts disk) h.1)
-  failed_more n count after IsOff r can h = (fused_before n.fuse h.0, back_held n (n.safe + k) new (omega arith) (omega (arith, r.least, r.most)) h.1)
-  failed_more n count after other r can h = h
+  pub failed_more : {beside : KeptBeside} (n : Node) (count : ℕ) (after : List Update) (why : No) → k < count → IsReceiverAt beside n c us m → CanReceive beside n → LoggedTo beside (reached n (n.safe + k)) 1 after e mid new (Err why) → LoggedTo beside n count after e m new (Err why)
+  failed_more n count after (Device disk) low r can h = (back_halted n (n.safe + k) disk e after new (omega arith) h.0, rose_later (m.disk_faults disk) (mid.disk_faults disk) (new.disk_faults disk) (at.counts disk) h.1)
+  failed_more n count after IsOff low r can h = (
+    fused_before n.fuse h.0,
+    held_first n (n.safe + k + 1) (n.safe + count) new (omega (arith, low)) (back_first n (n.safe + k) (n.safe + k + 1) new (omega arith) (omega arith) (omega (arith, r.least, r.most)) h.1),
+  )
+  failed_more n count after other low r can h = h
 
 -- ---- and applied
 
@@ -424,13 +302,13 @@ module _ {beside : KeptBeside} (n : Node) (number : ℕ) (c d : Core) (us : List
   pub applied_all : (to got : ℕ) → to ≡ number → AppliedAs beside (durable_of (reached n number)) to d mid new (Ok got) → got ≡ number
   applied_all to got is h = omega (arith, is, h.0, h.1)
 
-  pub applied_failed : (count to : ℕ) (why : No) → AppliedAs beside (durable_of (reached n number)) to d mid new (Err why) → LoggedTo beside n count us d m new (Err why)
-  applied_failed count to (Device disk) h = (
+  pub applied_failed : (count to : ℕ) (why : No) → number ≤ n.safe + count → AppliedAs beside (durable_of (reached n number)) to d mid new (Err why) → LoggedTo beside n count us d m new (Err why)
+  applied_failed count to (Device disk) few h = (
     back_halted n number disk d us new low (as_receiver (reached n number) us (Some disk) (burned (burned n.fuse)) d new (r.sure running) r.role long_here waits_here h.0),
     rose_later (m.disk_faults disk) (mid.disk_faults disk) (new.disk_faults disk) (counts disk) h.1,
   )
-  applied_failed count to IsOff h = (fused_before n.fuse h.0, back_held n number new low some (as_held (reached n number) new (r.sure running) long_here h.1))
-  applied_failed count to other h = absurd h
+  applied_failed count to IsOff few h = (fused_before n.fuse h.0, held_first n number (n.safe + count) new few (back_first n number number new low (omega arith) some h.1))
+  applied_failed count to other few h = absurd h
 
 -- ---- what the rule of receivers says
 
@@ -465,7 +343,7 @@ module _ {R : Type 0} {g : Ghosts R} where
       subst (λ (a : RAction). ReachedBy a beside n r (Receives new)) (sym (rule_some n count few (is ∙ ap (λ (k : ℕ). min count k) (count_waits n s here running)) some (omega (arith, here.least, here.most)))) (h.0, h.1, (raw, h.2))
   by_result beside n count few s new (Err (Device disk)) raw here running is some h = ((raw, h.0), h.1)
   by_result beside n count few s new (Err (Limit what most)) raw here running is some h = absurd h
-  by_result beside n count few s new (Err IsOff) raw here running is some h = (h.0, (raw, h.1))
+  by_result beside n count few s new (Err IsOff) raw here running is some h = (h.0, (raw, held_first n (n.safe + few) (n.safe + count) (g.meaning new.rvg.shelf) (omega (arith, is)) h.1))
   by_result beside n count few s new (Err other) raw here running is some h = h
 
   pub reached_up : (beside : KeptBeside) (n : Node) (count few : ℕ) (old : DiskSet R g) (s new : Secondary R g) (result : Result Reached No) → old ≡ Receives s → few ≡ min count (length s.waiting) → 0 < few
@@ -511,9 +389,10 @@ module _ {R : Type 0} {g : Ghosts R} where
       (head_is ∙ here.head, refl, (at.0, up_worked n rvg.core (g.meaning rvg.shelf) here))
 
   -- an apply whose fuse ran out, and the crash behind it
-  pub reached_off : {beside : KeptBeside} (n : Node) (count : ℕ) (old mid new : DiskSet R g) (why : No) → is_off why ≡ true → ReachedUp beside n count old mid (Err why) → (CutAt beside n mid → CrashedAt beside n new) → ReachedAt beside n count old new (Err why)
-  reached_off n count old mid new IsOff off is falls = (is.0, falls is.1)
-  reached_off n count old mid new other off is falls = absurd (cc)
+  pub reached_off : {beside : KeptBeside} (n : Node) (count : ℕ) (old mid new : DiskSet R g) (why : No) → is_off why ≡ true → beside.doubt ≡ None → ReachedUp beside n count old mid (Err why)
+      → (CutAt beside (with_first n (n.safe + count)) mid → CrashedAt beside (with_first n (n.safe + count)) new) → ReachedAt beside n count old new (Err why)
+  reached_off n count old mid new IsOff off sure is falls = (is.0, fell_within n (n.safe + count) new sure (falls is.1))
+  reached_off n count old mid new other off sure is falls = absurd (cc)
 
   pub reached_on : (beside : KeptBeside) (n : Node) (count : ℕ) (old new : DiskSet R g) (why : No) → is_off why ≡ false → ReachedUp beside n count old new (Err why) → ReachedAt beside n count old new (Err why)
   reached_on beside n count old new IsOff off is = absurd (cc)

@@ -354,7 +354,7 @@ module _ {R : Type 0} {g : Ghosts R} where
     by_apply : (to : ℕ) (result : Result ℕ No) → AppliedAs beside (durable_of n) to new.rvg.core (g.meaning s.rvg.shelf) (g.meaning new.rvg.shelf) result → AppliedUp beside n to (Receives s) (Receives new) result
     by_apply to (Ok number) h = (h.0, h.1, (raw, receives n.halted (burned n.fuse) h.2))
     by_apply to (Err (Device disk)) h = ((raw, receives (Some disk) (burned n.fuse) h.0), h.1)
-    by_apply to (Err IsOff) h = (h.0, (raw, as_held n (g.meaning new.rvg.shelf) (here.sure running) long h.1))
+    by_apply to (Err IsOff) h = (h.0, (raw, h.1))
     by_apply to (Err other) h = h
 
     pub applied_received : (to : ℕ) (result : Result ℕ No) → AppliedAs beside (durable_of n) to new.rvg.core (g.meaning s.rvg.shelf) (g.meaning new.rvg.shelf) result → AppliedUp beside n to old (Receives new) result

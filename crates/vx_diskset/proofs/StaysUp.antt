@@ -10,6 +10,7 @@ use Rattle.vx_model.specs.declared.units.Units.{Units}
 use Rattle.vx_srlfmt.specs.declared.header.Header.{Header}
 use Rattle.vx_srl.specs.Views.{widths}
 use Rattle.vx_srl.specs.declared.kept.Kept.{Kept}
+use Rattle.vx_diskset.specs.DiskSets.{with_first}
 use Rattle.vx_diskset.specs.Holds.{KeptBeside}
 use Rattle.vx_disk.specs.Shelf.{Meaning, Image, Lawful}
 use Rattle.vx_disk.specs.Moves.{Blocks, Says, Moves}
@@ -227,6 +228,10 @@ held_moved n c m new mine P moves up left = record {
   left = left;
   may = λ k is. may_same k m new moves.units moves.size moves.tells (up.may k is);
 }
+
+-- one whose writes are all durable, by these alone
+pub whole_held : {beside : KeptBeside} (n : Node) (m : Meaning) → length n.log ≤ n.safe → IsHeldAt beside n m → IsHeldAt beside (with_first n n.safe) m
+whole_held {beside} n m whole held = subst (λ (ws : List Write). IsHeldAt beside (let k : Node = record n { log = ws } in k) m) (sym (take_all n.safe n.log whole)) held
 
 pub held_up : {beside : KeptBeside} (n : Node) (c : Core) (m : Meaning) → IsUpAt beside n c m → IsHeldAt beside n m
 held_up n c m up = record {

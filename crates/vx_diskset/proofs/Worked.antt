@@ -10,7 +10,7 @@ use Rattle.vx_diskset.specs.declared.disk_set.DiskSet.{DiskSet}
 use Rattle.vx_diskset.specs.declared.disk_set.DiskSet.TheVariants.{Bare, Spoiled, Up, Receives, Down, OfGroup, Over, Gone}
 use Rattle.vx_diskset.proofs.GroupStands.{set_burned}
 use Rattle.vx_diskset.proofs.OverSets.{over_worked}
-use Rattle.vx_diskset.proofs.Reaching.{receiver_burned}
+use Rattle.vx_diskset.proofs.ReachedBack.{receiver_burned}
 use Rattle.vx_diskset.proofs.StaysUp.{up_worked}
 
 bare_worked : (n : Node) (m : Meaning) → IsBareAt n m → n ≡ worked n

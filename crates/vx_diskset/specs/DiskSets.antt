@@ -1,5 +1,5 @@
 -- What the calls on the disks of a site promise.
-use Rattle.std.specs.Prelude.{◌≡◌, ℕ, ◌+◌, ◌*◌, ◌<◌, ◌≤◌, ◌++◌, ◌∷◌, [], ◌⊎◌, min, length, Option, Some, None, Result, Ok, Err, List, IsTrue, true}
+use Rattle.std.specs.Prelude.{◌≡◌, ℕ, ◌+◌, ◌*◌, ◌<◌, ◌≤◌, ◌++◌, ◌∷◌, [], ◌⊎◌, min, length, take, Option, Some, None, Result, Ok, Err, List, IsTrue, true}
 use Rattle.vx_disk.specs.Maps.{maps_of}
 use Rattle.vx_model.specs.declared.limits.TheConstants.{LEAST_BLOCKS, LINK_PLACES, MOST_DISKS}
 use Rattle.vx_model.specs.Content.{Write}
@@ -61,6 +61,10 @@ halted_with n x disk = record n { log = n.log ++ x ∷ []; halted = Some disk; f
 abbrev pub halted_at : Node → ℕ → Node
 halted_at n disk = record n { halted = Some disk; fuse = burned n.fuse }
 
+-- a site with the first of its writes alone, so many
+abbrev pub with_first : Node → ℕ → Node
+with_first n k = record n { log = take k n.log }
+
 -- a site that crashed as another one, with so many writes; what it notes of its group stays
 abbrev pub fell_to : (n k : Node) → (count : ℕ) → Node
 fell_to n k count = record (crashed k count) { group = n.group }
@@ -119,6 +123,14 @@ module _ {R : Type 0} {g : Ghosts R} where
     pub least : kept.node.safe ≤ count
     pub most : count ≤ length kept.node.log
     pub stands : SiteStands (sure_of kept) (fell_to n kept.node count) new
+
+  -- A running site that crashed, as its node says it, with one of the numbers of writes up to this one: none is kept that waits behind it.
+  pub record CrashedTo (beside : KeptBeside) (n : Node) (limit : ℕ) (new : DiskSet R g) : Type 0 where
+    pub count : ℕ
+    pub least : n.safe ≤ count
+    pub few : count ≤ limit
+    pub most : count ≤ length n.log
+    pub stands : SiteStands (sure_of (itself beside n)) (crashed n count) new
 
   -- the next number, or a failing disk, or want of a number; or its fuse ran out, and then this holds of the site with the write begun
   abbrev pub WroteWith : (Node → DiskSet R g → Type 0) → KeptBeside → Node → Write → DiskSet R g → DiskSet R g → Result ℕ No → Type 0
@@ -207,16 +219,17 @@ module _ {R : Type 0} {g : Ghosts R} where
   BareUpByIs n old new (Ok done) = BareUpBy n new
   BareUpByIs n old new (Err why) = BareUpIs n old new (Err why)
 
-  -- the number up to which all writes are in their volumes, or a failing disk; or its fuse ran out, and then this holds of the site
-  abbrev pub AppliedWith : (Node → DiskSet R g → Type 0) → KeptBeside → Node → ℕ → DiskSet R g → DiskSet R g → Result ℕ No → Type 0
+  -- The number up to which all writes are in their volumes, or a failing disk; or its fuse ran out, and then this holds of the site and of the writes that are
+  -- durable.
+  abbrev pub AppliedWith : (ℕ → Node → DiskSet R g → Type 0) → KeptBeside → Node → ℕ → DiskSet R g → DiskSet R g → Result ℕ No → Type 0
   AppliedWith Off beside n to old new (Ok number) = (min to n.safe ≤ number) × (number ≤ n.safe) × SiteStands beside (worked n) new
   AppliedWith Off beside n to old new (Err (Device disk)) = SiteStands beside (halted_at n disk) new × RoseAt old new disk
-  AppliedWith Off beside n to old new (Err IsDown) = IsFused n.fuse × Off n new
+  AppliedWith Off beside n to old new (Err IsDown) = IsFused n.fuse × Off n.safe n new
   AppliedWith Off beside n to old new (Err other) = ⊥
 
   -- an apply behind which the site of a fuse that ran out crashed, and one behind which it has not crashed yet
   abbrev pub AppliedAt : KeptBeside → Node → ℕ → DiskSet R g → DiskSet R g → Result ℕ No → Type 0
-  AppliedAt beside n to old new result = AppliedWith (λ k e. CrashedAt beside k e) beside n to old new result
+  AppliedAt beside n to old new result = AppliedWith (λ most k e. CrashedTo beside k most e) beside n to old new result
 
   abbrev pub AppliedUp : KeptBeside → Node → ℕ → DiskSet R g → DiskSet R g → Result ℕ No → Type 0
-  AppliedUp beside n to old new result = AppliedWith (λ k e. CutAt beside k e) beside n to old new result
+  AppliedUp beside n to old new result = AppliedWith (λ most k e. CutAt beside (with_first k most) e) beside n to old new result

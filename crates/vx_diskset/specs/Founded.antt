@@ -19,6 +19,8 @@ use Rattle.vx_rvg.specs.Views.{Core}
 use Rattle.vx_watched.specs.Since.{CalledSince}
 use Rattle.vx_watched.specs.Traces.{TellsLess}
 use Rattle.vx_diskset.specs.Shelves.{MovesOn}
+use Rattle.vx_logimport.specs.declared.rested.Rested.{Rested}
+use Rattle.vx_group.specs.Settles.{LacksCommit}
 
 -- one of the disks is made to fail, or no longer
 abbrev pub FailsOne : (disk : ℕ) → (on : Bool) → Disks → Disks → Type 0
@@ -67,5 +69,6 @@ module _ {R : Type 0} {g : Ghosts R} where
     pub away : (n : Node) (note : GroupNode) → GroupLies n note old.core (laid_disks old) → IsAwayAt (record n { state = IsDown }) note old.core.inner.config (idle_disks idle)
     pub stopped : Stopped (laid_disks old) (idle_disks idle)
     pub agreed : idle.agreed ≡ old.core.inner.agreed
+    pub lacking : (r : Rested) → idle.rested ≡ Some r → LacksCommit old.core.inner → ⊥
     pub disks : OnDisks (laid_disks old).disks (idle_disks idle).disks (Crashed (laid_disks old).size pick)
     pub told : TellsLess (laid_below old) (idle_below idle)

@@ -40,7 +40,7 @@ module _ {R : Type 0} {g : Ghosts R} where
   -- none came up, and the site is bare still
   abbrev pub NoneFound : Node → DiskSet R g → DiskSet R g → Stop → Type 0
   NoneFound n old (Over s) stop = Unit {0}
-  NoneFound n old new stop = ((beside : KeptBeside) → SiteStands beside n new) × ((stop ≡ Refused NoConfig) ⊎ ImportWhy ⊥ (bare_disks old) (bare_disks new) stop)
+  NoneFound n old new stop = ((beside : KeptBeside) → SiteStands beside n new) × ((stop ≡ Refused NoConfig) ⊎ ImportWhy ⊥ ⊥ (bare_disks old) (bare_disks new) stop)
 
   -- A group came up, of which nothing is told; or none did.
   abbrev pub FindsIs : ℕ → Node → DiskSet R g → DiskSet R g → Result (Unit {0}) Stop → Type 0

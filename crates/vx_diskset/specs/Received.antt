@@ -25,7 +25,7 @@ use Rattle.vx_events.specs.declared.said.Said.{Said}
 use Rattle.vx_events.specs.declared.said.Said.TheVariants.{DoneAt, Refused}
 use Rattle.vx_diskset.specs.declared.disk_set.DiskSet.{DiskSet}
 use Rattle.vx_diskset.specs.declared.receivers.Reached.{Reached}
-use Rattle.vx_diskset.specs.DiskSets.{CrashedAt, RoseAt, halted_at, no_number}
+use Rattle.vx_diskset.specs.DiskSets.{CrashedTo, RoseAt, halted_at, no_number, with_first}
 use Rattle.vx_diskset.specs.Holds.{KeptBeside, most_with}
 use Rattle.vx_diskset.specs.Needs.{NoneNeeds}
 use Rattle.vx_diskset.specs.Stands.{CutAt, IsHeldAt, IsReceiverAt, IsToldAt, SiteStands}
@@ -42,11 +42,12 @@ pub record CanReceive (beside : KeptBeside) (n : Node) : Type 0 where
 abbrev pub reached : Node → ℕ → Node
 reached n number = worked (applied n number n.mark)
 
--- so many of the updates that wait behind its group are logged, for each of which a number is left; or a disk failed, or its fuse ran out
+-- So many of the updates that wait behind its group are logged, for each of which a number is left; or a disk failed; or its fuse ran out, and no more than these
+-- are in the log.
 abbrev pub LoggedTo : KeptBeside → Node → ℕ → List Update → Core → Meaning → Meaning → Result (Unit {0}) No → Type 0
 LoggedTo beside n count us c m new (Ok done) = IsReceiverAt beside (reached n (n.safe + count)) c us new
 LoggedTo beside n count us c m new (Err (Device disk)) = IsReceiverAt beside (halted_at n disk) c us new × Rose (m.disk_faults disk) (new.disk_faults disk)
-LoggedTo beside n count us c m new (Err IsDown) = IsFused n.fuse × IsHeldAt beside n new
+LoggedTo beside n count us c m new (Err IsDown) = IsFused n.fuse × IsHeldAt beside (with_first n (n.safe + count)) new
 LoggedTo beside n count us c m new (Err other) = ⊥
 
 -- the same of an apply behind it
@@ -59,12 +60,12 @@ abbrev pub ReachedOf : RAction → KeptBeside → Node → Reached → List Upda
 ReachedOf (DataAck number) beside n r us c new = (r.number ≡ number) × (r.acks ≡ true) × IsReceiverAt beside (reached n number) c us new
 ReachedOf other beside n r us c new = (r.number ≡ n.safe) × (r.acks ≡ false) × IsReceiverAt beside (worked n) c us new
 
--- so many are applied; or a disk failed; or no number is left for all of it, and then nothing is; or the fuse of the site ran out
+-- so many are applied; or a disk failed; or no number is left for all of it, and then nothing is; or the fuse of the site ran out, and no more are in the log
 abbrev pub ReachedOn : KeptBeside → Node → ℕ → List Update → Core → Meaning → Meaning → Result Reached No → Type 0
 ReachedOn beside n count us c m new (Ok r) = ReachedOf (received_step (plain_receiver n) (Applied count)).action beside n r us c new
 ReachedOn beside n count us c m new (Err (Device disk)) = IsReceiverAt beside (halted_at n disk) c us new × Rose (m.disk_faults disk) (new.disk_faults disk)
 ReachedOn beside n count us c m new (Err (Limit what most)) = (Limit what most ≡ no_number) × (IsTrue new.tells → most_number ≤ most_with beside n (length n.log)) × IsReceiverAt beside n c us new
-ReachedOn beside n count us c m new (Err IsDown) = IsFused n.fuse × IsHeldAt beside n new
+ReachedOn beside n count us c m new (Err IsDown) = IsFused n.fuse × IsHeldAt beside (with_first n (n.safe + count)) new
 ReachedOn beside n count us c m new (Err other) = ⊥
 
 -- the reply of an apply of what waits
@@ -84,19 +85,19 @@ module _ {R : Type 0} {g : Ghosts R} where
   ReachedBy (DataAck number) beside n r new = (r.number ≡ number) × (r.acks ≡ true) × SiteStands beside (reached n number) new
   ReachedBy other beside n r new = (r.number ≡ n.safe) × (r.acks ≡ false) × SiteStands beside (worked n) new
 
-  -- it is applied; or a disk failed; or no number is left for all of it, and then nothing is; or the fuse of the site ran out, and then this holds
-  -- of it
-  abbrev pub ReachedWith : (Node → DiskSet R g → Type 0) → KeptBeside → Node → ℕ → DiskSet R g → DiskSet R g → Result Reached No → Type 0
+  -- It is applied; or a disk failed; or no number is left for all of it, and then nothing is; or the fuse of the site ran out, and then this holds
+  -- of it and of the writes that were to be durable.
+  abbrev pub ReachedWith : (ℕ → Node → DiskSet R g → Type 0) → KeptBeside → Node → ℕ → DiskSet R g → DiskSet R g → Result Reached No → Type 0
   ReachedWith Off beside n count old new (Ok r) = ReachedBy (received_step (plain_receiver n) (Applied count)).action beside n r new
   ReachedWith Off beside n count old new (Err (Device disk)) = SiteStands beside (halted_at n disk) new × RoseAt old new disk
   ReachedWith Off beside n count old new (Err (Limit what most)) =
       (Limit what most ≡ no_number) × (IsToldAt new → most_number ≤ most_with beside n (length n.log)) × SiteStands beside n new
-  ReachedWith Off beside n count old new (Err IsDown) = IsFused n.fuse × Off n new
+  ReachedWith Off beside n count old new (Err IsDown) = IsFused n.fuse × Off (n.safe + count) n new
   ReachedWith Off beside n count old new (Err other) = ⊥
 
   -- an apply behind which the site of a fuse that ran out crashed, and one behind which it has not crashed yet
   abbrev pub ReachedAt : KeptBeside → Node → ℕ → DiskSet R g → DiskSet R g → Result Reached No → Type 0
-  ReachedAt beside n count old new result = ReachedWith (λ k e. CrashedAt beside k e) beside n count old new result
+  ReachedAt beside n count old new result = ReachedWith (λ most k e. CrashedTo beside k most e) beside n count old new result
 
   abbrev pub ReachedUp : KeptBeside → Node → ℕ → DiskSet R g → DiskSet R g → Result Reached No → Type 0
-  ReachedUp beside n count old new result = ReachedWith (λ k e. CutAt beside k e) beside n count old new result
+  ReachedUp beside n count old new result = ReachedWith (λ most k e. CutAt beside (with_first k most) e) beside n count old new result

@@ -1,5 +1,5 @@
 -- What the disks of a site stand for: how its rack, or the group over it, agrees with its node of the world.
-use Rattle.std.specs.Prelude.{◌≡◌, ℕ, ◌+◌, ◌<◌, ◌≤◌, List, [], Some, length, take, drop, None, Bool, IsTrue, IsFalse, true, false}
+use Rattle.std.specs.Prelude.{◌≡◌, ◌⊎◌, ℕ, ◌+◌, ◌<◌, ◌≤◌, List, [], Some, length, take, drop, None, Bool, IsTrue, IsFalse, true, false}
 use Rattle.vx_model.specs.declared.limits.TheConstants.{LEAST_BLOCKS, MOST_DISKS}
 use Rattle.vx_model.specs.Content.{zero_block}
 use Rattle.vx_model.specs.Sites.{is_origin}
@@ -26,6 +26,10 @@ use Rattle.vx_diskset.specs.Holds.{most_header}
 use Rattle.vx_diskset.specs.Lasts.{FoundWith, LeftWith, StandsHolding}
 use Rattle.vx_diskset.specs.Layouts.{IsLaidBy, LiesOn, LiesRaw, raw_units, units_of}
 use Rattle.vx_model.specs.declared.site.SiteState.TheVariants.{Deported as IsAway}
+use Rattle.vx_group.specs.Resumes.{stopped}
+use Rattle.vx_group.specs.Settles.{LivesAgree}
+use Rattle.vx_logimport.specs.declared.rested.Rested.{Rested}
+use Rattle.vx_model.specs.declared.units.Units.{Units}
 use Rattle.vx_config.specs.Checks.{blocks_of}
 use Rattle.vx_config.specs.declared.config.Config.{Config}
 use Rattle.vx_copies.specs.Answers.{returned}
@@ -194,6 +198,10 @@ pub record RestsOver (Left : Config → Type 0) (beside : KeptBeside) (n : Node)
   pub begun : IsTrue m.tells → 0 < n.session
   pub left : IsTrue m.tells → Left config
 
+-- each configuration that is found has an ACTIVE plex of each volume of the replicated volume group, which stopped uncleanly, or its plexes that take part are alike
+pub record RvgSettles (units : Units) (m : Meaning) : Type 0 where
+  pub each : (i : Image) (x : Config) (v : ℕ) → Each m.leaves i → finds m i ≡ Found x → inside_of units v ≡ true → (stopped x v ≡ true) ⊎ LivesAgree x v m
+
 -- a site that is on no group of disks, whatever it may be besides
 abbrev pub IsUngrouped : KeptBeside → Node → Type 0
 IsUngrouped beside n = (n.group ≡ None) × ((k : KeptSite) → beside.doubt ≡ Some k → k.node.group ≡ None)
@@ -249,12 +257,16 @@ module _ {R : Type 0} {g : Ghosts R} where
   abbrev pub idle_ready : Idle R g → Meaning
   idle_ready idle = shade_meaning g.meaning (ready_of idle.agreed idle.rack)
 
+  -- so it is of disks that crashed, unless their group lacked a commit
+  abbrev pub FellSettles : Node → Idle R g → Type 0
+  FellSettles n idle = (r : Rested) → idle.rested ≡ Some r → RvgSettles (units_of n) (idle_ready idle)
+
   -- The disks of a site whose group has a replicated volume group. What the site notes of its group is said apart.
   abbrev pub OverStands : KeptBeside → Node → OverSite R g → Type 0
   OverStands beside n (OriginSite founded) = AboveStands beside n (Origin founded.core) (laid_volumes founded.laid)
   OverStands beside n (ReceiverSite founded) = AboveStands beside n (Receiver founded.core founded.waiting) (laid_volumes founded.laid)
   OverStands beside n (GroupAway idle) = (n.state ≡ IsAway) × RestsOver (λ c. AwayOver c beside n (idle_ready idle)) beside n (idle_ready idle)
-  OverStands beside n (GroupFell idle) = (n.state ≡ IsDown) × (n.fuse ≡ NoFuse) × RestsOver (λ c. FellOver c beside n (idle_ready idle)) beside n (idle_ready idle)
+  OverStands beside n (GroupFell idle) = (n.state ≡ IsDown) × (n.fuse ≡ NoFuse) × RestsOver (λ c. FellOver c beside n (idle_ready idle)) beside n (idle_ready idle) × FellSettles n idle
   OverStands beside n NoGroup = ⊥
 
   -- the disks of a site, with what the world has of it beside its node

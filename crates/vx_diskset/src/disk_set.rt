@@ -53,7 +53,7 @@ impl<R: Rack> DiskSet<R> {
     ghost use Rattle.vx_diskset.specs.Holds.{state_with};
     ghost use Rattle.vx_diskset.specs.Stands.{CutAt, IsToldAt, IsUnused};
     ghost use Rattle.vx_history.specs.World.{FuseSet};
-    ghost use Rattle.vx_diskset.specs.DiskSets.{FitIs, CrashedAt};
+    ghost use Rattle.vx_diskset.specs.DiskSets.{FitIs, CrashedAt, CrashedTo};
     ghost use Rattle.vx_model.specs.declared.site.SiteState.TheVariants.{Up as UpState};
 
     /// Makes the disks of a site that has none.
@@ -117,9 +117,11 @@ impl<R: Rack> DiskSet<R> {
         }
     }
 
-    /// Crashes a site that is up: of the loose blocks each takes its latest value where its bit in `pick` is 1.
+    /// Crashes a site that is up: of the loose blocks each takes its latest value where its bit in `pick` is 1. One that runs keeps the writes
+    /// that are durable, and nothing that waits in its memory.
     pub fn crash(self, pick: u64) -> DiskSet<R>
         ensures crashed { (beside : KeptBeside) (n : Node) → SiteStands beside n self → n.state ≡ UpState → CrashedAt beside n result }
+        ensures durable { (beside : KeptBeside) (n : Node) → SiteStands beside n self → n.state ≡ UpState → n.halted ≡ None → CrashedTo beside n n.safe result }
         ensures asked { (beside : KeptBeside) (n : Node) → SiteStands beside n self → n.state ≡ UpState → CrashesBy pick self result }
         ensures cut { (beside : KeptBeside) (n : Node) → CutAt beside n self → CrashedAt beside n result }
         ensures stopped { MayCrash pick self result }

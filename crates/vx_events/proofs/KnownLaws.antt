@@ -1,5 +1,5 @@
 -- Disks of a group of which it is known what they hold stay so, but for a recovery or an import of disks that may not agree, or one that is refused.
-use Rattle.std.proofs.Common.{◌≡◌, ◌∙◌, ◌⊎◌, inl, inr, ℕ, true, false, List, Option, Some, ap, refl, sym, subst}
+use Rattle.std.proofs.Common.{◌≡◌, ◌∙◌, ◌⊎◌, inl, inr, ℕ, Bool, true, false, List, Option, Some, ap, refl, sym, subst}
 use Rattle.std.specs.Prelude.{unwrap_or}
 use Rattle.vx_model.specs.Content.{Write as WriteBlocks}
 use Rattle.vx_model.specs.declared.no.No.{No}
@@ -55,13 +55,13 @@ stays_known s line next last new left known = ap (λ (o : Option GroupNode). (un
 settled : {C : Config → Config → Type 0} (note next : GroupNode) → note.dark ≡ false → Reconfigures C NoteSettles note next → next.dark ≡ false
 settled note next known x = x.keeps.same.dark ∙ known
 
-unsettled : {C : Config → Config → Type 0} (note next : GroupNode) → note.dark ≡ false → Reconfigures C NoteUnsettles note next → next.dark ≡ false
+unsettled : {C : Config → Config → Type 0} {twice : Bool} (note next : GroupNode) → note.dark ≡ false → Reconfigures C (NoteUnsettles twice) note next → next.dark ≡ false
 unsettled note next known x = x.keeps.same.dark ∙ known
 
 settled_maps : {C : Config → Config → Type 0} {M : Config → Config → MissedNote → MissedNote → Type 0} (note next : GroupNode) → note.dark ≡ false → WithMaps (Reconfigures C NoteSettles) M note next → next.dark ≡ false
 settled_maps note next known x = ap (λ (g : GroupNode). g.dark) x.is ∙ settled note x.middle known x.goes
 
-unsettled_maps : {C : Config → Config → Type 0} {M : Config → Config → MissedNote → MissedNote → Type 0} (note next : GroupNode) → note.dark ≡ false → WithMaps (Reconfigures C NoteUnsettles) M note next → next.dark ≡ false
+unsettled_maps : {C : Config → Config → Type 0} {twice : Bool} {M : Config → Config → MissedNote → MissedNote → Type 0} (note next : GroupNode) → note.dark ≡ false → WithMaps (Reconfigures C (NoteUnsettles twice)) M note next → next.dark ≡ false
 unsettled_maps note next known x = ap (λ (g : GroupNode). g.dark) x.is ∙ unsettled note x.middle known x.goes
 
 with_volume_more : (s : ℕ) (fails : Fails) (name : List ℕ) (note next : GroupNode) → {want : Shape} → note.dark ≡ false → NotesVolume s fails name want note next → next.dark ≡ false

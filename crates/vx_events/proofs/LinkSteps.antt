@@ -46,7 +46,7 @@ link_line = Link a b NeverWaits FailsWhenFull
 links : LineStep (Unit {0}) false two link_line [] Done (behind two link_line)
 unfolding line_refusal first_said_no first_name second_name need_of halt_of line_role line_unknown taken over_limit wrong_size span_of ask_of is_raw_shape
 links = record {
-  ends = LinksDone (run_as false two (link_events two.world link_line)) (runs_as false two (link_events two.world link_line)) refl tt refl (record { world = refl; after = λ s. refl });
+  ends = LinksDone (run_as false two (link_events two.world link_line)) (runs_as false two (link_events two.world link_line)) refl refl refl (record { world = refl; after = λ s. refl });
   counts = tt;
   works = λ said. (refl, refl);
   calls = λ said. (tt, tt);

@@ -9,8 +9,9 @@ use Rattle.vx_layout.specs.Made.{with_volume}
 use Rattle.vx_layout.specs.declared.shape.Shape.{Shape}
 use Rattle.vx_events.proofs.Places.{never_some, some_same}
 use Rattle.vx_events.specs.Fails.{Fails}
-use Rattle.vx_events.specs.GroupConfigs.{AddsVolume, ConfigLosesBut, PutsPlex, VolumeLoses, VolumeStays, opened_again, volume_again}
+use Rattle.vx_events.specs.GroupConfigs.{AddsVolume, ConfigGoesBy, PutsPlex, VolumeGoesBy, VolumeStays, opened_again, volume_again}
 use Rattle.vx_events.specs.RvgFits.{KeepsRvg, KeptVolume}
+use Rattle.vx_config.specs.declared.entry.PlexEntry.{PlexEntry}
 
 pub keeps_self : (c : Config) → KeepsRvg c c
 keeps_self c = record { rvg = refl; volumes = λ v e at. record { now = e; is = at; name = refl; blocks = refl } }
@@ -26,10 +27,10 @@ keeps_then c d e f g = record {
 
 -- ---- plexes alone change
 
-matched : (fails : Fails) (o p : Option VolumeEntry) (e : VolumeEntry) → Matched (VolumeLoses fails) o p → o ≡ Some e → KeptVolume e p
-matched fails None p e m is = absurd (never_some is)
-matched fails (Some x) None e m is = absurd m
-matched fails (Some x) (Some y) e m is =
+matched : (By : VolumeEntry → PlexEntry → PlexState → Type 0) (o p : Option VolumeEntry) (e : VolumeEntry) → Matched (VolumeGoesBy By) o p → o ≡ Some e → KeptVolume e p
+matched By None p e m is = absurd (never_some is)
+matched By (Some x) None e m is = absurd m
+matched By (Some x) (Some y) e m is =
     let same : x ≡ e = some_same is in
     record { now = y; is = refl; name = m.name ∙ ap (λ (v : VolumeEntry). v.name) same; blocks = m.blocks ∙ ap (λ (v : VolumeEntry). v.blocks) same }
 
@@ -37,10 +38,10 @@ pub stayed : (p : Option VolumeEntry) (e : VolumeEntry) → Matched VolumeStays 
 stayed None e m = absurd m
 stayed (Some y) e m = record { now = y; is = refl; name = m.name; blocks = m.blocks }
 
-pub loses_keeps : (again : ℕ → Bool) (s : ℕ) (fails : Fails) (c d : Config) → ConfigLosesBut again s fails c d → KeepsRvg c d
-loses_keeps again s fails c d x = record {
+pub loses_keeps : {By : VolumeEntry → PlexEntry → PlexState → Type 0} (again : ℕ → Bool) (s : ℕ) (fails : Fails) (c d : Config) → ConfigGoesBy By again s fails c d → KeepsRvg c d
+loses_keeps {By} again s fails c d x = record {
   rvg = x.rvg;
-  volumes = λ v e at. matched fails (slice_get c.volumes v) (slice_get d.volumes v) e (x.volumes v) at;
+  volumes = λ v e at. matched By (slice_get c.volumes v) (slice_get d.volumes v) e (x.volumes v) at;
 }
 
 -- ---- volumes that are changed in place, with their names and their blocks
@@ -101,8 +102,8 @@ pub puts_keeps : (v p : ℕ) (kind : PlexState) (c d : Config) → PutsPlex v p 
 puts_keeps v p kind c d x = subst (λ (k : Config). KeepsRvg c k) (sym x.is) (stated_keeps v p kind x.whole c)
 
 -- a plex is in another kind, or not, and calls failed
-pub puts_or : (again : ℕ → Bool) (s : ℕ) (fails : Fails) (v p : ℕ) (kind : PlexState) (c d : Config)
-    → ConfigLosesBut again s fails c d ⊎ ((x : Config) × PutsPlex v p kind c x × ConfigLosesBut again s fails x d) → KeepsRvg c d
+pub puts_or : {By : VolumeEntry → PlexEntry → PlexState → Type 0} (again : ℕ → Bool) (s : ℕ) (fails : Fails) (v p : ℕ) (kind : PlexState) (c d : Config)
+    → ConfigGoesBy By again s fails c d ⊎ ((x : Config) × PutsPlex v p kind c x × ConfigGoesBy By again s fails x d) → KeepsRvg c d
 puts_or again s fails v p kind c d (inl loses) = loses_keeps again s fails c d loses
 puts_or again s fails v p kind c d (inr (x, puts, loses)) = keeps_then c x d (puts_keeps v p kind c x puts) (loses_keeps again s fails x d loses)
 

@@ -21,7 +21,7 @@ use Rattle.vx_script.specs.declared.line.ScriptLine.{ScriptLine}
 use Rattle.vx_events.proofs.Places.{some_same}
 use Rattle.vx_events.proofs.Steps.{data_step}
 use Rattle.vx_events.specs.Fails.{Fails}
-use Rattle.vx_events.specs.GroupConfigs.{ConfigLoses, VolumeLoses}
+use Rattle.vx_events.specs.GroupConfigs.{ConfigLoses, StateLoses, VolumeGoesBy}
 use Rattle.vx_config.specs.Changes.{Matched}
 use Rattle.vx_events.specs.GroupLines.{noting}
 use Rattle.vx_events.specs.GroupNotes.{note_at}
@@ -31,28 +31,30 @@ use Rattle.vx_events.specs.RvgMakes.{MakesRvg, RvgCut, RvgDone, RvgFails, RvgLac
 use Rattle.vx_events.specs.RvgNotes.{NotesRvg, as_replicated}
 use Rattle.vx_events.specs.declared.said.Said.{Said}
 use Rattle.vx_events.specs.declared.said.Said.TheVariants.{Done, Refused}
+use Rattle.vx_config.specs.declared.entry.PlexEntry.{PlexEntry}
+use Rattle.vx_model.specs.declared.site.PlexState.{PlexState}
 
 -- ---- volumes of which plexes alone may have changed
 
-same_name : (fails : Fails) (o p : Option VolumeEntry) → Matched (VolumeLoses fails) o p → entry_name p ≡ entry_name o
-same_name fails None None is = refl
-same_name fails None (Some y) is = absurd is
-same_name fails (Some x) None is = absurd is
-same_name fails (Some x) (Some y) is = is.name
+same_name : (By : VolumeEntry → PlexEntry → PlexState → Type 0) (o p : Option VolumeEntry) → Matched (VolumeGoesBy By) o p → entry_name p ≡ entry_name o
+same_name By None None is = refl
+same_name By None (Some y) is = absurd is
+same_name By (Some x) None is = absurd is
+same_name By (Some x) (Some y) is = is.name
 
-same_blocks : (fails : Fails) (o p : Option VolumeEntry) → Matched (VolumeLoses fails) o p → blocks_or_none p ≡ blocks_or_none o
-same_blocks fails None None is = refl
-same_blocks fails None (Some y) is = absurd is
-same_blocks fails (Some x) None is = absurd is
-same_blocks fails (Some x) (Some y) is = is.blocks
+same_blocks : (By : VolumeEntry → PlexEntry → PlexState → Type 0) (o p : Option VolumeEntry) → Matched (VolumeGoesBy By) o p → blocks_or_none p ≡ blocks_or_none o
+same_blocks By None None is = refl
+same_blocks By None (Some y) is = absurd is
+same_blocks By (Some x) None is = absurd is
+same_blocks By (Some x) (Some y) is = is.blocks
 
 module _ (s : ℕ) (fails : Fails) (c d : Config) (loses : ConfigLoses s fails c d) where
   data_same : (place : ℕ) → data_at d.volumes place ≡ data_at c.volumes place
   data_same place =
       ap (λ (name : List ℕ). let x : DataVolume = record { place = place; name = name; blocks = blocks_of d.volumes place } in x)
-      (same_name fails (slice_get c.volumes place) (slice_get d.volumes place) (loses.volumes place))
+      (same_name (StateLoses s fails) (slice_get c.volumes place) (slice_get d.volumes place) (loses.volumes place))
       ∙ ap (λ (blocks : ℕ). let x : DataVolume = record { place = place; name = entry_name (slice_get c.volumes place); blocks = blocks } in x)
-      (same_blocks fails (slice_get c.volumes place) (slice_get d.volumes place) (loses.volumes place))
+      (same_blocks (StateLoses s fails) (slice_get c.volumes place) (slice_get d.volumes place) (loses.volumes place))
 
   list_same : (places : List ℕ) → map (data_at d.volumes) places ≡ map (data_at c.volumes) places
   list_same [] = refl
@@ -60,7 +62,7 @@ module _ (s : ℕ) (fails : Fails) (c d : Config) (loses : ConfigLoses s fails c
       ap (λ (y : DataVolume). y ∷ map (data_at d.volumes) xs) (data_same x) ∙ ap (λ (ys : List DataVolume). data_at c.volumes x ∷ ys) (list_same xs)
 
   size_same : (place : ℕ) → blocks_of d.volumes place ≡ blocks_of c.volumes place
-  size_same place = same_blocks fails (slice_get c.volumes place) (slice_get d.volumes place) (loses.volumes place)
+  size_same place = same_blocks (StateLoses s fails) (slice_get c.volumes place) (slice_get d.volumes place) (loses.volumes place)
 
 -- ---- the site behind the event
 

@@ -131,14 +131,12 @@ spoils_keeps : (s : ℕ) (note : GroupNode) (line : ScriptLine) (fails : Fails) 
 spoils_keeps s note (GroupDeport site) fails next spoils = loses s fails note next spoils
 spoils_keeps s note (GroupImport site) fails next spoils = same_config note next (refused_config note next spoils)
 spoils_keeps s note (Volume site volume blocks mirrors layout log map policy) fails next spoils = loses s fails note next spoils
-spoils_keeps s note (PlexDetach site volume plex) fails next spoils =
-    reconfigured note next (λ c d x. puts_or (λ _. false) s fails (plain_number note volume) plex Stale c d x) spoils
-spoils_keeps s note (PlexAttach site volume plex) fails next spoils =
-    reconfigured note next (λ c d x. puts_or (lies_on_disk c (plain_number note volume) plex) s fails (plain_number note volume) plex Active c d x) spoils
+spoils_keeps s note (PlexDetach site volume plex) fails next spoils = reconfigured note next (λ c d x. loses_keeps (λ _. false) s fails c d x) spoils
+spoils_keeps s note (PlexAttach site volume plex) fails next spoils = reconfigured note next (λ c d x. loses_keeps (lies_on_disk c (plain_number note volume) plex) s fails c d x) spoils
 spoils_keeps s note (Write site volume start count fill) fails next spoils = doubtful s fails _ note next spoils
 spoils_keeps s note (Put site volume start bytes) fails next spoils = doubtful s fails _ note next spoils
-spoils_keeps s note (Read site volume start count) fails next spoils = same_note note next spoils
-spoils_keeps s note (Show site volume start count) fails next spoils = same_note note next spoils
+spoils_keeps s note (Read site volume start count) fails next spoils = same_note note next spoils.0
+spoils_keeps s note (Show site volume start count) fails next spoils = same_note note next spoils.0
 spoils_keeps s note (Recover site) fails next spoils = same_config note next (refused_config note next spoils)
 spoils_keeps s note other fails next spoils = absurd spoils
 

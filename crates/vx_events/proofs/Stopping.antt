@@ -33,7 +33,7 @@ use Rattle.vx_events.specs.LinkLists.{link_events}
 use Rattle.vx_events.specs.GroupLines.{is_over_group}
 use Rattle.vx_events.specs.LinkedFacts.{linked_fact}
 use Rattle.vx_events.specs.StepsOver.{OverBy, StepOver, facts_over, is_for_group, refused_over}
-use Rattle.vx_events.specs.Lists.{Choice, events_of, recovery_of}
+use Rattle.vx_events.specs.Lists.{Choice, crash_count, events_of, recovery_of}
 use Rattle.vx_events.specs.Stopping.{CameOf, Whole, Broken, First, Crashed, StopsAs, StopsBy}
 use Rattle.vx_events.specs.declared.said.Said.{Said}
 
@@ -78,7 +78,7 @@ all_at w (Raw site) c = (tt, tt)
 all_at w (DiskLine site disk state) c = tt
 all_at w (Crash site pick) c = (tt, tt)
 all_at w (FuseLine site calls pick) c = tt
-all_at w (Recover site) c = recovery_at (w.nodes (site_number w site)).state (site_number w site) c.kept
+all_at w (Recover site) c = recovery_at (w.nodes (site_number w site)).state (site_number w site) (crash_count (w.nodes (site_number w site)) c.kept)
 all_at w (Write site volume start count fill) c = ((refl, refl), tt)
 all_at w (Put site volume start bytes) c = ((refl, refl), tt)
 all_at w (Read site volume start count) c = (tt, tt)
@@ -178,7 +178,7 @@ open_of w files (Raw site) c apart free h = absurd h
 open_of w files (DiskLine site disk state) c apart free h = absurd h
 open_of w files (Crash site pick) c apart free h = absurd h
 open_of w files (FuseLine site calls pick) c apart free h = absurd h
-open_of w files (Recover site) c apart free h = absurd (recovery_no_write (w.nodes (site_number w site)).state (site_number w site) c.kept h)
+open_of w files (Recover site) c apart free h = absurd (recovery_no_write (w.nodes (site_number w site)).state (site_number w site) (crash_count (w.nodes (site_number w site)) c.kept) h)
 open_of w files (Write site volume start count fill) c apart free h = writes_open w site volume start count apart (write_may (facts_over w) files site volume start count fill free)
 open_of w files (Put site volume start bytes) c apart free h = writes_open w site volume start 1 apart (put_may (facts_over w) files site volume start bytes free)
 open_of w files (Read site volume start count) c apart free h = absurd h
@@ -262,7 +262,7 @@ module _ (told : Type 0) (is_told : told) (d : Doubted) (line : ScriptLine)
   stopping fails new c h = record { choice = c; events = h.events; came = h.came; ending = fails; are = inl refl; stops = h.stops }
 
   -- it is done in spite of failed calls
-  bearing : (fails : Fails) (new : Doubted) (c : Choice) → AreBorne d.world fails → CameTo d (events_of d.world line c) s c.kept [] new → StopsAs d line s fails new
+  bearing : (fails : Fails) (new : Doubted) (c : Choice) → AreBorne d.world s fails → CameTo d (events_of d.world line c) s c.kept [] new → StopsAs d line s fails new
   bearing fails new c borne h = record { choice = c; events = h.events; came = h.came; ending = []; are = inr (refl, borne); stops = h.stops }
 
   at_of : (c : Choice) (before : List Event) (e : Event) (rest : List Event) → events_of d.world line c ≡ before ++ e ∷ rest → AllAt s before × IsAt s e
@@ -282,7 +282,7 @@ module _ (told : Type 0) (is_told : told) (d : Doubted) (line : ScriptLine)
   ended fails said new (HeaderFails c e f disk is leaves writes one says leads) =
       stopping fails new c
       (header_ended d (events_of d.world line c) s c.kept fails new e f disk is (opens_if c e is) leaves writes one (left_like s line false d (halved d f s disk) new leads))
-  ended fails said new (FuseRunsOut c e begun is begins fused none says leads) =
+  ended fails said new (FuseRunsOut c e begun is begins keeps fused none says leads) =
       stopping fails new c
       (fuse_ended d (events_of d.world line c) s c.kept fails new e begun is (at_of c [] e [] is).1 (opens_if c e is) begins fused none
       (left_like s line false d (run_as false d (begun ++ CrashAt s c.kept ∷ [])) new leads))

@@ -28,7 +28,7 @@ use Rattle.vx_events.specs.Failing.{is_failing, made_fail}
 use Rattle.vx_events.specs.Fails.{Fails, AreBorne, IsSiteDisk}
 use Rattle.vx_events.specs.Found.{ComesUpAs}
 use Rattle.vx_history.specs.Stops.{IsFused}
-use Rattle.vx_events.specs.Lists.{Choice, events_of}
+use Rattle.vx_events.specs.Lists.{Choice, crash_count, events_of}
 use Rattle.vx_events.specs.LinkViews.{linked_view}
 use Rattle.vx_events.specs.Sayings.{GivesBlocks, Replies, received_content}
 use Rattle.vx_events.specs.Stamps.{most_stamp_at, waiting_of}
@@ -96,6 +96,11 @@ BegunOf w (WriteAt s volume start bytes fails) begun =
 BegunOf w (ApplyAt s count reached) begun = begun ≡ []
 BegunOf w other begun = ⊥
 
+-- How many writes the site may keep as a fuse runs out in this event: as records that wait are applied, no more than the first of them, so many.
+abbrev pub MayKeep : World → Event → (kept : ℕ) → Type 0
+MayKeep w (ApplyAt s count reached) kept = kept ≤ (w.nodes s).safe + count
+MayKeep w other kept = Unit {0}
+
 -- The greatest stamp of a site's log in which no number is left for this event: a write, a recovery, or an apply of the records that wait at a site that
 -- receives.
 abbrev pub NoneLeft : Event → World → (site : ℕ) → Type 0
@@ -114,7 +119,7 @@ MayLack other = ⊥
 
 -- the world in which a site is recovered, and its node there: of a bare one a raw set
 pub data Recovering (d : Doubted) (s : ℕ) (c : Choice) (taken : Bool) (mid : Doubted) (n : Node) : Type 0 where
-  FromUp : (d.world.nodes s).state ≡ Up → mid ≡ run_as taken d (CrashAt s c.kept ∷ []) → n ≡ mid.world.nodes s → Recovering d s c taken mid n
+  FromUp : (d.world.nodes s).state ≡ Up → mid ≡ run_as taken d (CrashAt s (crash_count (d.world.nodes s) c.kept) ∷ []) → n ≡ mid.world.nodes s → Recovering d s c taken mid n
   FromDown : (d.world.nodes s).state ≡ Down → mid ≡ d → n ≡ mid.world.nodes s → Recovering d s c taken mid n
   FromBare : (d.world.nodes s).state ≡ Bare → mid ≡ d → n ≡ raw_set s (d.world.nodes s) → Recovering d s c taken mid n
 
@@ -126,7 +131,7 @@ found_linked d s k row = record d { world = sending (with_links (with_node d.wor
 -- any state, session and number of writes on them: it still changes its own site alone, which keeps its name, its disks and its volumes.
 pub data Ends (told : Type 0) (d : Doubted) (line : ScriptLine) (s : ℕ) (fails : Fails) (said : Said) (new : Doubted) : Type 0 where
   -- all events are done, and the last of them is answered
-  AllDone : (c : Choice) (taken : Bool) → AreBorne d.world fails → Replies told line s taken d (events_of d.world line c) said
+  AllDone : (c : Choice) (taken : Bool) → AreBorne d.world s fails → Replies told line s taken d (events_of d.world line c) said
       → IsLeft s line taken d (run_as taken d (events_of d.world line c)) new → Ends told d line s fails said new
   -- a disk failed in an event, behind those before it
   DiskFails : (c : Choice) (taken : Bool) (before : List Event) (e : Event) (rest left : List Event) (disk : ℕ) → events_of d.world line c ≡ before ++ e ∷ rest
@@ -136,8 +141,8 @@ pub data Ends (told : Type 0) (d : Doubted) (line : ScriptLine) (s : ℕ) (fails
   HeaderFails : (c : Choice) (e f : Event) (disk : ℕ) → events_of d.world line c ≡ e ∷ [] → LeavesOf e disk (f ∷ []) → WritesAHeader d.world f s
       → fails ≡ (s, disk) ∷ [] → said ≡ Refused (Device disk) → IsLeft s line false d (halved d f s disk) new → Ends told d line s fails said new
   -- the fuse of the disks ran out in an event: the site is down, with so many of its writes
-  FuseRunsOut : (c : Choice) (e : Event) (begun : List Event) → events_of d.world line c ≡ e ∷ [] → BegunOf d.world e begun → IsFused (d.world.nodes s).fuse
-      → fails ≡ [] → said ≡ Refused IsOff → IsLeft s line false d (run_as false d (begun ++ CrashAt s c.kept ∷ [])) new → Ends told d line s fails said new
+  FuseRunsOut : (c : Choice) (e : Event) (begun : List Event) → events_of d.world line c ≡ e ∷ [] → BegunOf d.world e begun → MayKeep d.world e c.kept
+      → IsFused (d.world.nodes s).fuse → fails ≡ [] → said ≡ Refused IsOff → IsLeft s line false d (run_as false d (begun ++ CrashAt s c.kept ∷ [])) new → Ends told d line s fails said new
   -- no number is left for an event
   NoNumber : (c : Choice) (taken : Bool) (before : List Event) (e : Event) (rest : List Event) → events_of d.world line c ≡ before ++ e ∷ rest → MayLack e
       → (told → NoneLeft e (run_as taken d before).world s) → fails ≡ [] → said ≡ Refused (Limit Number MOST_NUMBER)
@@ -145,10 +150,10 @@ pub data Ends (told : Type 0) (d : Doubted) (line : ScriptLine) (s : ℕ) (fails
   -- a site that is no primary shows its blocks with all writes that came to it, of which some may wait
   ShowsReceived : (site volume : List ℕ) (start count : ℕ) → line ≡ Show site volume start count → is_primary (d.world.nodes s).role ≡ false
       → GivesBlocks told count (HasGot (joined_blocks (blocks_from (received_content (d.world.nodes s)) (volume_number (d.world.nodes s) volume) start count))) said
-      → AreBorne d.world fails → IsLeft s line false d d new → Ends told d line s fails said new
+      → AreBorne d.world s fails → IsLeft s line false d d new → Ends told d line s fails said new
   -- what stood on disks that tell no contents came up with the links that its header keeps, or was refused
   FindsLinks : (told → ⊥) → (c : Choice) (taken : Bool) (site : List ℕ) (mid : Doubted) (n k : Node) (row : ℕ → Link) → line ≡ Recover site
-      → Recovering d s c taken mid n → ComesUpAs s mid.world.sites n k row → AreBorne d.world fails
+      → Recovering d s c taken mid n → ComesUpAs s mid.world.sites n k row → AreBorne d.world s fails
       → said ≡ Recovered k.safe (linked_view (found_linked mid s k row).world s) → IsLeft s line taken d (found_linked mid s k row) new
       → Ends told d line s fails said new
   FindsNone : (told → ⊥) → (c : Choice) (taken : Bool) (site : List ℕ) (mid : Doubted) (n : Node) (why : No) → line ≡ Recover site

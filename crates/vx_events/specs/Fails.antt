@@ -15,11 +15,11 @@ IsLogDisk n disk = n.group ≡ None → disk ≡ 0
 abbrev pub IsSiteDisk : Node → (disk : ℕ) → Type 0
 IsSiteDisk n disk = n.group ≡ None → (disk ≡ 0) ⊎ (disk + 1 < n.disks)
 
--- The failed calls in spite of which a line is done: each is one of a disk of a site over a group, where another disk may have the blocks. A raw
--- set has each volume on one disk, so none of its calls may fail.
-abbrev pub AreBorne : World → Fails → Type 0
-AreBorne w fails = AllByRecursion (λ f. IsSome (w.nodes f.0).group) fails
+-- The failed calls in spite of which a line at this site is done: each is one of a disk of that site, which is over a group, where another disk may
+-- have the blocks. A raw set has each volume on one disk, so none of its calls may fail.
+abbrev pub AreBorne : World → (site : ℕ) → Fails → Type 0
+AreBorne w site fails = AllByRecursion (λ (f : ℕ × ℕ). (f.0 ≡ site) × IsSome (w.nodes site).group) fails
 
--- of the failed calls of a line those by which its events ended: all of them, or none where the line is done in spite of them
-abbrev pub AreEnding : World → (all ending : Fails) → Type 0
-AreEnding w all ending = (ending ≡ all) ⊎ ((ending ≡ []) × AreBorne w all)
+-- of the failed calls of a line at this site those by which its events ended: all of them, or none where the line is done in spite of them
+abbrev pub AreEnding : World → (site : ℕ) → (all ending : Fails) → Type 0
+AreEnding w site all ending = (ending ≡ all) ⊎ ((ending ≡ []) × AreBorne w site all)

@@ -15,13 +15,45 @@ use Rattle.vx_layout.specs.declared.shape.Found.{Found}
 use Rattle.vx_layout.specs.declared.shape.Shape.{Shape}
 use Rattle.vx_events.specs.Fails.{Fails}
 
--- A plex is as it was. Where a call failed it may be STALE; and ACTIVE, where it was held back and is the last one of its volume that can be used.
-pub record PlexLoses (fails : Fails) (p q : PlexEntry) : Type 0 where
+-- a part of a plex lies on the disk
+abbrev pub has_part : Option PlexEntry → ℕ → Bool
+has_part None k = false
+has_part (Some plex) k = list_any (λ s. s.disk == k) plex.subdisks
+
+-- a call of a line at site s failed on a disk of a plex
+pub record PlexFails (s : ℕ) (fails : Fails) (p : PlexEntry) : Type 0 where
+  pub disk : ℕ
+  pub part : has_part (Some p) disk ≡ true
+  pub failed : Contains fails (s, disk)
+
+-- so of some plex of a volume
+pub record VolumeFails (s : ℕ) (fails : Fails) (v : VolumeEntry) : Type 0 where
+  pub place : ℕ
+  pub plex : PlexEntry
+  pub at : slice_get v.plexes place ≡ Some plex
+  pub failed : PlexFails s fails plex
+
+-- ---- what becomes of the state of a plex of a volume
+
+-- it stays
+abbrev pub StateSame : VolumeEntry → PlexEntry → PlexState → Type 0
+StateSame v p t = t ≡ p.state
+
+-- so, or it is STALE, as a call on a disk of the plex failed; or ACTIVE, where it was held back and one on a disk of its volume did
+abbrev pub StateLoses : ℕ → Fails → VolumeEntry → PlexEntry → PlexState → Type 0
+StateLoses s fails v p t = (t ≡ p.state) ⊎ ((t ≡ Stale) × PlexFails s fails p) ⊎ ((t ≡ Active) × VolumeFails s fails v)
+
+-- in a deport, with plexes that stopped cleanly as ACTIVE: it stays, or it is STALE so; or it was, and a call failed
+abbrev pub StateRests : ℕ → Fails → VolumeEntry → PlexEntry → PlexState → Type 0
+StateRests s fails v p t = (t ≡ p.state) ⊎ ((t ≡ Stale) × PlexFails s fails p) ⊎ ((t ≡ Active) × (p.state ≡ Stale) × (fails ≢ []))
+
+-- a plex lies where it lay, and its state goes so
+pub record PlexGoesBy (By : PlexEntry → PlexState → Type 0) (p q : PlexEntry) : Type 0 where
   pub subdisks : q.subdisks ≡ p.subdisks
-  pub state : (q.state ≡ p.state) ⊎ ((q.state ≡ Stale) × (fails ≢ [])) ⊎ ((q.state ≡ Active) × (fails ≢ []))
+  pub state : By p q.state
 
 -- a volume is as it was but for its plexes
-pub record VolumeLoses (fails : Fails) (v u : VolumeEntry) : Type 0 where
+pub record VolumeGoesBy (By : VolumeEntry → PlexEntry → PlexState → Type 0) (v u : VolumeEntry) : Type 0 where
   pub name : u.name ≡ v.name
   pub blocks : u.blocks ≡ v.blocks
   pub ncol : u.ncol ≡ v.ncol
@@ -29,7 +61,7 @@ pub record VolumeLoses (fails : Fails) (v u : VolumeEntry) : Type 0 where
   pub prefer : u.prefer ≡ v.prefer
   pub drl : is_some u.drl ≡ is_some v.drl
   pub fmr : is_some u.fmr ≡ is_some v.fmr
-  pub plexes : (k : ℕ) → Matched (PlexLoses fails) (slice_get v.plexes k) (slice_get u.plexes k)
+  pub plexes : (k : ℕ) → Matched (PlexGoesBy (By v)) (slice_get v.plexes k) (slice_get u.plexes k)
 
 -- disk k of site s is held as failed as it was, or where a call on it failed; it may be held as good again where this says so
 pub record DiskLosesBut (again : Bool) (s k : ℕ) (fails : Fails) (a b : DiskEntry) : Type 0 where
@@ -37,22 +69,32 @@ pub record DiskLosesBut (again : Bool) (s k : ℕ) (fails : Fails) (a b : DiskEn
   pub failed : b.failed ≡ true → (a.failed ≡ true) ⊎ Contains fails (s, k)
   pub stays : again ≡ false → a.failed ≡ true → b.failed ≡ true
 
--- The configuration d is c, but that disks on which calls of a line at site s failed may be held as failed, and plexes be detached; and some disks, as
--- told here, be held as good again. Serials do not count.
-pub record ConfigLosesBut (again : ℕ → Bool) (s : ℕ) (fails : Fails) (c d : Config) : Type 0 where
+-- The configuration d is c, but that disks on which calls of a line at site s failed may be held as failed, and the states of plexes go so; and some disks, as
+-- told here, may be held as good again. Serials do not count.
+pub record ConfigGoesBy (By : VolumeEntry → PlexEntry → PlexState → Type 0) (again : ℕ → Bool) (s : ℕ) (fails : Fails) (c d : Config) : Type 0 where
   pub site : d.site ≡ c.site
   pub rvg : d.rvg ≡ c.rvg
   pub disks : (k : ℕ) → Matched (DiskLosesBut (again k) s k fails) (slice_get c.disks k) (slice_get d.disks k)
-  pub volumes : (v : ℕ) → Matched (VolumeLoses fails) (slice_get c.volumes v) (slice_get d.volumes v)
+  pub volumes : (v : ℕ) → Matched (VolumeGoesBy By) (slice_get c.volumes v) (slice_get d.volumes v)
+
+-- plexes on such disks may be detached
+abbrev pub ConfigLosesBut : (ℕ → Bool) → ℕ → Fails → Config → Config → Type 0
+ConfigLosesBut again s fails c d = ConfigGoesBy (StateLoses s fails) again s fails c d
+
+-- no plex changes its state
+abbrev pub ConfigKeepsBut : (ℕ → Bool) → ℕ → Fails → Config → Config → Type 0
+ConfigKeepsBut again s fails c d = ConfigGoesBy StateSame again s fails c d
 
 -- the same where no disk is held as good again
 abbrev pub ConfigLoses : ℕ → Fails → Config → Config → Type 0
 ConfigLoses s fails c d = ConfigLosesBut (λ k. false) s fails c d
 
--- a part of a plex lies on the disk
-abbrev pub has_part : Option PlexEntry → ℕ → Bool
-has_part None k = false
-has_part (Some plex) k = list_any (λ s. s.disk == k) plex.subdisks
+abbrev pub ConfigKeeps : ℕ → Fails → Config → Config → Type 0
+ConfigKeeps s fails c d = ConfigKeepsBut (λ k. false) s fails c d
+
+-- a deport, of configurations whose plexes that stopped cleanly are ACTIVE
+abbrev pub ConfigRests : ℕ → Fails → Config → Config → Type 0
+ConfigRests s fails c d = ConfigGoesBy (StateRests s fails) (λ k. false) s fails c d
 
 abbrev pub lies_on_disk : Config → (v p : ℕ) → ℕ → Bool
 lies_on_disk c v p k = has_part (plex_at c v p) k

@@ -1,9 +1,9 @@
 -- How a line at a site over a group of disks without a replicated volume group ends: a line that works on the group, its volumes or its disks. No
 -- other site changes, and of this one its state and its notes alone.
-use Rattle.std.specs.Prelude.{◌≡◌, ◌⊎◌, ℕ, ◌*◌, true, false, List, [], map, replicate, Option, Some, Contains}
+use Rattle.std.specs.Prelude.{◌≡◌, ◌⊎◌, ℕ, ◌+◌, ◌*◌, ◌<◌, true, false, List, [], length, map, replicate, Option, Some, Contains}
 use Rattle.std.specs.List.{AllByRecursion}
 use Rattle.vx_model.specs.Content.{Write}
-use Rattle.vx_model.specs.declared.limits.TheConstants.{BLOCK, MOST_NUMBER, MOST_SUBDISKS}
+use Rattle.vx_model.specs.declared.limits.TheConstants.{BLOCK, COMMIT_MARGIN, MOST_NUMBER, MOST_SUBDISKS}
 use Rattle.vx_model.specs.declared.no.Counted.TheVariants.{Number, Subdisks}
 use Rattle.vx_model.specs.declared.no.No.{No}
 use Rattle.vx_model.specs.declared.no.No.TheVariants.{Device, Down as IsOff, LastPlex, Limit, Missing, NoConfig, Space}
@@ -15,15 +15,22 @@ use Rattle.vx_history.specs.Groups.{GroupNode, NoteSettles, NoteUnsettles}
 use Rattle.vx_history.specs.Stops.{EventsEnd, IsFused}
 use Rattle.vx_history.specs.World.{Node}
 use Rattle.vx_history.specs.declared.event.Event.{Event}
+use Rattle.vx_config.specs.Configs.{subdisk_count}
 use Rattle.vx_config.specs.declared.config.Config.{Config}
-use Rattle.vx_layout.specs.Space.{IsSpaceShort}
+use Rattle.vx_config.specs.declared.entry.PlexEntry.{PlexEntry}
+use Rattle.vx_config.specs.declared.entry.Subdisk.{Subdisk}
+use Rattle.vx_config.specs.declared.entry.VolumeEntry.{VolumeEntry}
+use Rattle.vx_layout.specs.Made.{IsVolumeMade, with_volume}
+use Rattle.vx_layout.specs.Places.{plex_at}
+use Rattle.vx_layout.specs.Space.{IsFound, IsSpaceShort}
+use Rattle.vx_layout.specs.declared.shape.Found.{Found}
 use Rattle.vx_layout.specs.declared.shape.Shape.{Shape}
 use Rattle.vx_report.specs.declared.view.Kept.{Kept}
 use Rattle.vx_script.specs.declared.line.ScriptLine.{ScriptLine}
 use Rattle.vx_script.specs.declared.line.ScriptLine.TheVariants.{GroupInit, GroupDeport, GroupImport, Volume, PlexDetach, PlexAttach, Disk, Crash, Fuse, Recover, Write as WriteLine, Put, Read, Show, Status}
 use Rattle.vx_events.specs.Doubts.{IsAs, run_as}
 use Rattle.vx_events.specs.Fails.{Fails}
-use Rattle.vx_events.specs.GroupConfigs.{ConfigLoses, ConfigLosesBut, PutsPlex, lies_on_disk, opened_again}
+use Rattle.vx_events.specs.GroupConfigs.{ConfigKeeps, ConfigKeepsBut, ConfigLoses, ConfigRests, PlexFails, PutsPlex, lies_on_disk, opened_again}
 use Rattle.vx_events.specs.GroupLines.{cut_events, fuse_lost, group_events, group_noted, noting, plain_number, refused_events, shape_of, unread_events}
 use Rattle.vx_events.specs.GroupMaps.{MapsAttached, MapsCalled, MapsDetached, MapsImported, MapsLost, MapsRecovered, MapsUndetached, WithMaps}
 use Rattle.vx_events.specs.GroupNotes.{FirstNote, IsKnown, NotesBack, NotesCut, NotesDoubt, NotesRefused, NotesUnread, NotesVolume, NotesWrite, Reconfigures, note_at}
@@ -40,21 +47,25 @@ AreOf s fails = AllByRecursion (λ f. f.0 ≡ s) fails
 abbrev pub write_to : GroupNode → List ℕ → ℕ → List ℕ → Write
 write_to note volume start bytes = record { volume = plain_number note volume; start = start; bytes = bytes }
 
+-- fewer serials are left than a call of the group's own may use up
+abbrev pub LacksSerials : GroupNode → Type 0
+LacksSerials note = MOST_NUMBER < note.maps.serial + COMMIT_MARGIN
+
 -- What a line that is done makes of the note of site s, and what it is answered. The disks of the site have so many blocks.
 abbrev pub GroupDoes : (told : Type 0) (s : ℕ) → Node → GroupNode → ScriptLine → Fails → Said → GroupNode → Type 0
-GroupDoes told s n note (GroupInit site) fails said next = FirstNote s n.disks n.blocks next × (said ≡ Done)
+GroupDoes told s n note (GroupInit site) fails said next = FirstNote s n.disks n.blocks fails next × (said ≡ Done)
 GroupDoes told s n note (GroupDeport site) fails said next =
-    WithMaps (Reconfigures (λ c d. ConfigLoses s fails (opened_again c) (opened_again d)) NoteSettles) (MapsCalled s fails) note next × (said ≡ Done)
+    WithMaps (Reconfigures (λ c d. ConfigRests s fails (opened_again c) (opened_again d)) NoteSettles) (MapsCalled s fails) note next × (said ≡ Done)
 GroupDoes told s n note (GroupImport site) fails said next = NotesBack told s n fails note next × (IsKnown told next → MapsImported s fails note next) × (said ≡ Done)
 GroupDoes told s n note (Volume site volume blocks mirrors layout log map policy) fails said next =
     NotesVolume s fails volume (shape_of blocks mirrors layout log map policy) note next × (said ≡ Done)
 GroupDoes told s n note (PlexDetach site volume plex) fails said next =
-    WithMaps (Reconfigures (λ c d. (x : Config) × PutsPlex (plain_number note volume) plex Stale c x × ConfigLoses s fails x d) NoteSettles) (MapsDetached s fails (plain_number note volume) plex) note next
-    × (said ≡ Done)
+    WithMaps (Reconfigures (λ c d. (x : Config) × PutsPlex (plain_number note volume) plex Stale c x × ConfigKeeps s fails x d) NoteSettles) (MapsDetached s fails (plain_number note volume) plex) note next
+    × (said ≡ Done) × (IsLastPlex note (plain_number note volume) plex → ⊥) × (LacksSerials note → ⊥)
 GroupDoes told s n note (PlexAttach site volume plex) fails said next =
-    WithMaps (Reconfigures (λ c d. (x : Config) × PutsPlex (plain_number note volume) plex Active c x × ConfigLosesBut (lies_on_disk c (plain_number note volume) plex) s fails x d) NoteSettles)
+    WithMaps (Reconfigures (λ c d. (x : Config) × PutsPlex (plain_number note volume) plex Active c x × ConfigKeepsBut (lies_on_disk c (plain_number note volume) plex) s fails x d) NoteSettles)
     (MapsAttached s fails (plain_number note volume) plex) note next
-    × AttachCopies note (plain_number note volume) plex said
+    × AttachCopies note (plain_number note volume) plex said × (LacksSerials note → ⊥)
 GroupDoes told s n note (WriteLine site volume start count fill) fails said next =
     NotesWrite s fails (write_to note volume start (replicate (BLOCK * count) fill)) note next × (said ≡ Done)
 GroupDoes told s n note (Put site volume start bytes) fails said next = NotesWrite s fails (write_to note volume start bytes) note next × (said ≡ Done)
@@ -83,50 +94,60 @@ pub record LacksSpace (note : GroupNode) (want : Shape) (need have : ℕ) : Type
   pub is : config_of note.config ≡ Some config
   pub short : IsSpaceShort config want need have
 
--- what a line wants that works on nothing: a place for a volume or for so many of its parts, another plex that takes part, or a serial
+-- A volume would have too many parts, in the space that is found for it: a plex of it more runs than can be spelled, or all volumes with it more than there
+-- may be.
+pub record LacksParts (note : GroupNode) (name : List ℕ) (want : Shape) : Type 0 where
+  pub config : Config
+  pub is : config_of note.config ≡ Some config
+  pub found : Found
+  pub space : IsFound config want found
+  pub many : ((ss : List Subdisk) × Contains found.plexes.items ss × (255 < length ss)) ⊎ ((v : VolumeEntry) × IsVolumeMade want found v × (v.name ≡ name) × (MOST_SUBDISKS < subdisk_count (with_volume config v)))
+
+-- what a line wants that works on nothing: a place for a volume or for so many of its parts, another plex that takes part, or serials
 abbrev pub GroupWants : GroupNode → ScriptLine → No → Type 0
 GroupWants note (Volume site volume blocks mirrors layout log map policy) (Space need have) = LacksSpace note (shape_of blocks mirrors layout log map policy) need have
-GroupWants note (Volume site volume blocks mirrors layout log map policy) (Limit Subdisks most) = most ≡ MOST_SUBDISKS
+GroupWants note (Volume site volume blocks mirrors layout log map policy) (Limit Subdisks most) =
+    LacksParts note volume (shape_of blocks mirrors layout log map policy) × (most ≡ MOST_SUBDISKS)
 GroupWants note (PlexDetach site volume plex) LastPlex = IsLastPlex note (plain_number note volume) plex
-GroupWants note line (Limit Number most) = Commits line × (most ≡ MOST_NUMBER)
+GroupWants note line (Limit Number most) = Commits line × (most ≡ MOST_NUMBER) × LacksSerials note
 GroupWants note line why = ⊥
 
--- what a failed call of a line that ends it leaves of the note
+-- each plex of a volume that takes part has a disk on which a call failed
+pub record VolumeOut (s : ℕ) (fails : Fails) (note : GroupNode) (volume : ℕ) : Type 0 where
+  pub config : Config
+  pub is : config_of note.config ≡ Some config
+  pub each : (p : ℕ) (plex : PlexEntry) → plex_at config volume p ≡ Some plex → plex.state ≡ Active → PlexFails s fails plex
+
+-- what a failed call of a line that ends it leaves of the note; a read ends so only where no plex of its volume could be read
 abbrev pub GroupSpoils : (s : ℕ) → GroupNode → ScriptLine → Fails → GroupNode → Type 0
-GroupSpoils s note (GroupDeport site) fails next = WithMaps (Reconfigures (ConfigLoses s fails) NoteUnsettles) (MapsCalled s fails) note next
+GroupSpoils s note (GroupDeport site) fails next = WithMaps (Reconfigures (ConfigLoses s fails) (NoteUnsettles false)) (MapsCalled s fails) note next
 GroupSpoils s note (GroupImport site) fails next = NotesRefused note next
-GroupSpoils s note (Volume site volume blocks mirrors layout log map policy) fails next = WithMaps (Reconfigures (ConfigLoses s fails) NoteUnsettles) (MapsCalled s fails) note next
+GroupSpoils s note (Volume site volume blocks mirrors layout log map policy) fails next = WithMaps (Reconfigures (ConfigLoses s fails) (NoteUnsettles false)) (MapsCalled s fails) note next
 GroupSpoils s note (PlexDetach site volume plex) fails next =
-    WithMaps (Reconfigures (λ c d. ConfigLoses s fails c d ⊎ ((x : Config) × PutsPlex (plain_number note volume) plex Stale c x × ConfigLoses s fails x d)) NoteUnsettles)
-    (MapsUndetached s fails (plain_number note volume) plex) note next
+    WithMaps (Reconfigures (ConfigKeeps s fails) (NoteUnsettles false)) (MapsUndetached s fails (plain_number note volume) plex) note next
 GroupSpoils s note (PlexAttach site volume plex) fails next =
-    WithMaps
-    (Reconfigures
-    (λ c d. ConfigLosesBut (lies_on_disk c (plain_number note volume) plex) s fails c d
-    ⊎ ((x : Config) × PutsPlex (plain_number note volume) plex Active c x × ConfigLosesBut (lies_on_disk c (plain_number note volume) plex) s fails x d))
-    NoteUnsettles)
-    (MapsCalled s fails) note next
+    WithMaps (Reconfigures (λ c d. ConfigKeepsBut (lies_on_disk c (plain_number note volume) plex) s fails c d) (NoteUnsettles true)) (MapsCalled s fails) note next
 GroupSpoils s note (WriteLine site volume start count fill) fails next = NotesDoubt s fails (write_to note volume start (replicate (BLOCK * count) fill)) note next
 GroupSpoils s note (Put site volume start bytes) fails next = NotesDoubt s fails (write_to note volume start bytes) note next
-GroupSpoils s note (Read site volume start count) fails next = next ≡ note
-GroupSpoils s note (Show site volume start count) fails next = next ≡ note
+GroupSpoils s note (Read site volume start count) fails next = (next ≡ note) × VolumeOut s fails note (plain_number note volume)
+GroupSpoils s note (Show site volume start count) fails next = (next ≡ note) × VolumeOut s fails note (plain_number note volume)
 GroupSpoils s note (Recover site) fails next = NotesRefused note next
 GroupSpoils s note other fails next = ⊥
 
 -- and a fuse that ran out in it
 abbrev pub GroupCuts : (s : ℕ) → GroupNode → ScriptLine → Fails → GroupNode → Type 0
-GroupCuts s note (GroupDeport site) fails next = WithMaps (Reconfigures (ConfigLoses s fails) NoteUnsettles) MapsLost note next
+GroupCuts s note (GroupDeport site) fails next = WithMaps (Reconfigures (ConfigLoses s fails) (NoteUnsettles false)) MapsLost note next
 GroupCuts s note (GroupImport site) fails next = NotesRefused note next
-GroupCuts s note (Volume site volume blocks mirrors layout log map policy) fails next = WithMaps (Reconfigures (ConfigLoses s fails) NoteUnsettles) MapsLost note next
+GroupCuts s note (Volume site volume blocks mirrors layout log map policy) fails next = WithMaps (Reconfigures (ConfigLoses s fails) (NoteUnsettles false)) MapsLost note next
 GroupCuts s note (PlexDetach site volume plex) fails next =
-    WithMaps (Reconfigures (λ c d. ConfigLoses s fails c d ⊎ ((x : Config) × PutsPlex (plain_number note volume) plex Stale c x × ConfigLoses s fails x d)) NoteUnsettles)
+    WithMaps (Reconfigures (λ c d. ConfigKeeps s fails c d ⊎ ((x : Config) × PutsPlex (plain_number note volume) plex Stale c x × ConfigKeeps s fails x d)) (NoteUnsettles false))
     MapsLost note next
 GroupCuts s note (PlexAttach site volume plex) fails next =
     WithMaps
     (Reconfigures
-    (λ c d. ConfigLosesBut (lies_on_disk c (plain_number note volume) plex) s fails c d
-    ⊎ ((x : Config) × PutsPlex (plain_number note volume) plex Active c x × ConfigLosesBut (lies_on_disk c (plain_number note volume) plex) s fails x d))
-    NoteUnsettles)
+    (λ c d. ConfigKeepsBut (lies_on_disk c (plain_number note volume) plex) s fails c d
+    ⊎ ((x : Config) × PutsPlex (plain_number note volume) plex Active c x × ConfigKeepsBut (lies_on_disk c (plain_number note volume) plex) s fails x d))
+    (NoteUnsettles true))
     MapsLost note next
 GroupCuts s note (WriteLine site volume start count fill) fails next = NotesCut s fails (write_to note volume start (replicate (BLOCK * count) fill)) note next
 GroupCuts s note (Put site volume start bytes) fails next = NotesCut s fails (write_to note volume start bytes) note next
@@ -140,11 +161,11 @@ BringsUp (GroupImport site) = Unit {0}
 BringsUp (Recover site) = Unit {0}
 BringsUp other = ⊥
 
--- Why a group is not found on its disks: the lowest disk that is held as good and could not be read, no configuration on any that could be read, or
--- want of a serial. Where contents are known, and imports agree, no block of it is damaged or of another format.
+-- Why a group is not found on its disks: a disk that is held as good and could not be read; no configuration on any that could be read, for which a call on
+-- a disk failed unless a configuration was begun; or want of a serial. Where contents are known, and imports agree, no block of it is damaged or of another format.
 abbrev pub NotFound : (s : ℕ) → GroupNode → Fails → No → Type 0
 NotFound s note fails (Missing disk) = Contains fails (s, disk)
-NotFound s note fails NoConfig = Unit {0}
+NotFound s note fails NoConfig = note.begun ≡ [] → fails ≡ [] → ⊥
 NotFound s note fails (Limit Number most) = most ≡ MOST_NUMBER
 NotFound s note fails why = ⊥
 

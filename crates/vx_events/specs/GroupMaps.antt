@@ -1,5 +1,6 @@
 -- What a line at a site over a group makes of the regions that plexes missed, as the site notes them.
-use Rattle.std.specs.Prelude.{◌≡◌, ◌≢◌, ◌⊎◌, ℕ, Bool, true, false, [], length, Option, Some, None, Contains, if◌then◌else◌, slice_get}
+use Rattle.std.specs.Prelude.{◌≡◌, ◌≢◌, ◌⊎◌, ◌<◌, ◌≤◌, ℕ, Bool, true, false, [], length, Option, Some, None, Contains, if◌then◌else◌, slice_get}
+use Rattle.vx_model.specs.declared.limits.TheConstants.{COMMIT_SERIALS}
 use Rattle.vx_model.specs.declared.site.PlexState.TheVariants.{Active}
 use Rattle.vx_history.specs.Groups.{GroupNode, MissedNote}
 use Rattle.vx_history.specs.MapChanges.{InNoVolume, InVolume, MapsBack, MapsFailed, MapsJoined, MapsWritten, StayKnown}
@@ -100,16 +101,18 @@ pub record MapsImported (s : ℕ) (fails : Fails) (note new : GroupNode) : Type 
   pub now_is : config_of new.config ≡ Some now
   pub back : MapsBack (FailedIn s fails) WantsMemory (StoppedClean old) (map_disk old) (takes_part old) (takes_part now) note.maps new.maps
 
--- One that crashed came up: every volume stopped uncleanly, and the next attach of each plex that takes no part copies all. Where further configurations may have
--- stood on the disks it may be that a volume stopped cleanly; then too its maps are not known.
+-- One that crashed came up: every volume stopped uncleanly, so that each block has one value, and the next attach of each plex that takes no part copies all. Where
+-- further configurations may have stood on the disks it may be that a volume stopped cleanly; then too its maps are not known.
 pub record MapsRecovered (note new : GroupNode) : Type 0 where
   pub none : (v : ℕ) → new.maps.mapped v ≡ false
   pub doubt : (v : ℕ) → new.maps.doubt v ≡ true → (note.begun ≢ []) ⊎ (note.loose ≡ true)
+  pub one : note.loose ≡ false → note.begun ≡ [] → (v b : ℕ) → b < new.bytes.size v → new.others v b ≡ []
 
--- nothing is known of the plexes of a new group
+-- nothing is known of the plexes of a new group, and its serial is small
 pub record MapsFirst (new : GroupNode) : Type 0 where
   pub none : (v : ℕ) → new.maps.mapped v ≡ false
   pub doubt : (v : ℕ) → new.maps.doubt v ≡ false
+  pub serial : new.maps.serial ≤ COMMIT_SERIALS
 
 -- ---- notes
 

@@ -12,7 +12,7 @@ use Rattle.vx_config.specs.declared.entry.VolumeEntry.{VolumeEntry}
 use Rattle.vx_layout.specs.declared.shape.Shape.{Shape}
 use Rattle.vx_events.specs.Fails.{Fails}
 use Rattle.vx_events.specs.GroupConfigs.{AddsVolume, ConfigLoses, VolumeStays}
-use Rattle.vx_events.specs.GroupMaps.{MapsAdded, MapsFirst, MapsLost, MapsOfDoubt, MapsOfWrite, MapsRecovered, WithMaps}
+use Rattle.vx_events.specs.GroupMaps.{MapsAdded, MapsFirst, MapsLost, MapsOfDoubt, MapsOfWrite, MapsRecovered, StoppedClean, WithMaps}
 use Rattle.vx_events.specs.GroupViews.{config_of}
 
 -- nothing is noted of a group yet
@@ -52,14 +52,15 @@ pub record Reconfigures (Change : Config → Config → Type 0) (Keeps : GroupNo
   pub change : Change old now
   pub keeps : Keeps note new
 
--- The first note of a group on all disks of a site, so many of so many blocks, whose volumes are still to be made. Imports agree but where a disk is held as
--- failed.
-pub record FirstNote (s disks blocks : ℕ) (new : GroupNode) : Type 0 where
+-- The first note of a group on all disks of a site, so many of so many blocks, whose volumes are still to be made. A disk is held as failed only where a call
+-- on it failed, and imports agree but where one is.
+pub record FirstNote (s disks blocks : ℕ) (fails : Fails) (new : GroupNode) : Type 0 where
   pub now : Config
   pub is : config_of new.config ≡ Some now
   pub site : now.site ≡ s
   pub many : length now.disks ≡ disks
   pub each : (k : ℕ) (d : DiskEntry) → slice_get now.disks k ≡ Some d → d.blocks ≡ blocks
+  pub failed : (k : ℕ) (d : DiskEntry) → slice_get now.disks k ≡ Some d → d.failed ≡ true → Contains fails (s, k)
   pub volumes : now.volumes ≡ []
   pub rvg : now.rvg ≡ None
   pub begun : new.begun ≡ []
@@ -104,20 +105,20 @@ pub record NotesWrite (s : ℕ) (fails : Fails) (x : Write) (note new : GroupNod
 -- a write failed: each of its blocks has what it had, or what was to be written
 pub record NotesDoubt (s : ℕ) (fails : Fails) (x : Write) (note new : GroupNode) : Type 0 where
   pub middle : GroupNode
-  pub moves : WithMaps (Reconfigures (ConfigLoses s fails) NoteUnsettles) (MapsOfDoubt s fails x) note middle
+  pub moves : WithMaps (Reconfigures (ConfigLoses s fails) (NoteUnsettles false)) (MapsOfDoubt s fails x) note middle
   pub is : new ≡ note_doubt x middle
 
 -- the fuse ran out in a write
 pub record NotesCut (s : ℕ) (fails : Fails) (x : Write) (note new : GroupNode) : Type 0 where
   pub middle : GroupNode
-  pub moves : WithMaps (Reconfigures (ConfigLoses s fails) NoteUnsettles) MapsLost note middle
+  pub moves : WithMaps (Reconfigures (ConfigLoses s fails) (NoteUnsettles false)) MapsLost note middle
   pub is : new ≡ note_cut x middle
 
 -- ---- recoveries
 
 -- A group came up from its disks: of all disks of its site, which are held as good but for those on which a call failed. Of disks that may not have
 -- agreed nothing may be known then. Where contents are known the volumes that were noted are there but for the states of their plexes, and each block has
--- what it had and might have, or one of these values.
+-- what it had and might have, or one of these values: one of these where imports agreed and nothing was begun, but in a volume that stopped cleanly.
 pub record NotesBack (told : Type 0) (s : ℕ) (n : Node) (fails : Fails) (note new : GroupNode) : Type 0 where
   pub old : Config
   pub now : Config
@@ -133,6 +134,7 @@ pub record NotesBack (told : Type 0) (s : ℕ) (n : Node) (fails : Fails) (note 
   pub size : (v : ℕ) → new.bytes.size v ≡ blocks_of now.volumes v
   pub block : (v b : ℕ) → ((new.bytes.block v b ≡ note.bytes.block v b) × (new.others v b ≡ note.others v b)) ⊎ (new.others v b ≡ [])
   pub may : IsKnown told new → (v b : ℕ) → b < note.bytes.size v → BlockMay note v b (new.bytes.block v b)
+  pub one : IsKnown told new → note.loose ≡ false → note.begun ≡ [] → (v b : ℕ) → b < new.bytes.size v → (new.others v b ≡ []) ⊎ StoppedClean old v
   pub cut : new.cut ≡ None
   pub inside : new.inside ≡ note.inside
 

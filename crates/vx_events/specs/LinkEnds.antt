@@ -17,7 +17,7 @@ use Rattle.vx_script.specs.declared.line.ScriptLine.{ScriptLine}
 use Rattle.vx_script.specs.declared.line.ScriptLine.TheVariants.{Link, Set, Deliver, Settle}
 use Rattle.vx_events.specs.Doubts.{IsAs}
 use Rattle.vx_events.specs.Facts.{head_of, site_number}
-use Rattle.vx_events.specs.Fails.{AreBorne, AreEnding, Fails, IsLogDisk, IsSiteDisk}
+use Rattle.vx_events.specs.Fails.{Fails, IsLogDisk, IsSiteDisk}
 use Rattle.vx_events.specs.LinkFinds.{FindsOther}
 use Rattle.vx_events.specs.LinkLists.{link_events}
 use Rattle.vx_events.specs.Sayings.{Replies}
@@ -67,8 +67,8 @@ TakesNumber w other site = ⊥
 
 -- How a line that no test refuses ends. Of disks that tell no contents it is not known how many numbers are left.
 pub data LinkEnds (told : Type 0) (d : Doubted) (line : ScriptLine) (fails : Fails) (said : Said) (new : Doubted) : Type 0 where
-  -- all events are done
-  LinksDone : (last : Doubted) → Runs d (link_events d.world line) last → all_fails (link_events d.world line) ≡ [] → AreBorne d.world fails
+  -- all events are done, and no call failed: the sites of links are of raw sets
+  LinksDone : (last : Doubted) → Runs d (link_events d.world line) last → all_fails (link_events d.world line) ≡ [] → fails ≡ []
       → LinkReplies line d last (link_events d.world line) said → AreLeft line d last new → LinkEnds told d line fails said new
   -- the disk of this site's log failed in an event, which may be on its disks
   LinksHalt : (e : Event) (site disk : ℕ) (middle : Doubted) → ComesTo d (link_events d.world line) e site middle → IsLogDisk (middle.world.nodes site) disk
@@ -78,10 +78,10 @@ pub data LinkEnds (told : Type 0) (d : Doubted) (line : ScriptLine) (fails : Fai
       → link_events d.world line ≡ before ++ ApplyAt site count reached ∷ rest → Runs d (before ++ Fault site disk ∷ []) last → all_fails before ≡ []
       → IsSiteDisk (last.world.nodes site) disk → fails ≡ (site, disk) ∷ [] → said ≡ Refused (Device disk) → AreLeft line d last new
       → LinkEnds told d line fails said new
-  -- the fuse of this site ran out as waiting records were applied, behind the events before that: it is down, with some of them
+  -- the fuse of this site ran out as waiting records were applied, behind the events before that: it is down, with some of those that were to be applied
   AppliesCut : (before rest : List Event) (site count reached kept : ℕ) (taken : Bool) (middle : Doubted)
       → link_events d.world line ≡ before ++ ApplyAt site count reached ∷ rest → Runs d before middle → all_fails before ≡ []
-      → IsOpen (middle.world.nodes site) → IsFused (d.world.nodes site).fuse → fails ≡ [] → said ≡ Refused IsOff
+      → kept ≤ (middle.world.nodes site).safe + count → IsOpen (middle.world.nodes site) → IsFused (d.world.nodes site).fuse → fails ≡ [] → said ≡ Refused IsOff
       → AreLeft line d (crashed_as (halved middle (Fault site 0) site 0) site kept taken) new → LinkEnds told d line fails said new
   -- the fuse of this site ran out in an event
   LinksCut : (e : Event) (site kept : ℕ) (taken : Bool) (middle : Doubted) → ComesTo d (link_events d.world line) e site middle
@@ -109,6 +109,4 @@ pub data CameOfLinks (all events : List Event) : Type 0 where
 pub record LinkStops (d : Doubted) (line : ScriptLine) (fails : Fails) (new : Doubted) : Type 0 where
   pub events : List Event
   pub came : CameOfLinks (link_events d.world line) events
-  pub ending : Fails
-  pub are : AreEnding d.world fails ending
-  pub stops : EventsEnd d events ending new
+  pub stops : EventsEnd d events fails new

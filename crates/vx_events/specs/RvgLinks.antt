@@ -1,6 +1,7 @@
 -- How a line of links or packets ends where a site of it is over a group of disks with a replicated volume group: as between raw sets, but that disks may fail
 -- which a mirror bears, and that such a site notes what the line made of its group.
-use Rattle.std.specs.Prelude.{◌≡◌, ◌==◌, ◌||◌, ℕ, Bool, true, false, ◌++◌, Option, Some, None, if◌then◌else◌}
+use Rattle.std.specs.Prelude.{◌≡◌, ◌==◌, ◌||◌, ℕ, Bool, true, false, ◌++◌, Option, Some, None, IsSome, if◌then◌else◌}
+use Rattle.std.specs.List.{AllByRecursion}
 use Rattle.vx_history.specs.Doubts.{Doubted}
 use Rattle.vx_history.specs.Events.{packet_at}
 use Rattle.vx_history.specs.Groups.{GroupNode}
@@ -9,7 +10,7 @@ use Rattle.vx_script.specs.declared.line.ScriptLine.{ScriptLine}
 use Rattle.vx_script.specs.declared.line.ScriptLine.TheVariants.{Deliver, Link, Pump, Set, Settle}
 use Rattle.vx_events.specs.Doubts.{IsAs}
 use Rattle.vx_events.specs.Facts.{site_number}
-use Rattle.vx_events.specs.Fails.{AreBorne, Fails}
+use Rattle.vx_events.specs.Fails.{Fails}
 use Rattle.vx_events.specs.Fuses.{NeedsCalls}
 use Rattle.vx_events.specs.GroupNotes.{note_at}
 use Rattle.vx_events.specs.LinkEnds.{LinkEnds}
@@ -72,12 +73,16 @@ NeedsLogs w (Link p s sync prot) said = said ≡ Done → NeedsFirst (w.nodes (s
 NeedsLogs w (Set p s sync prot) said = said ≡ Done → NeedsFirst (w.nodes (site_number w p))
 NeedsLogs w other said = Unit {0}
 
+-- the failed calls that the line bears: each is one of a disk of a site at which it works, and which is over a group
+abbrev pub AreBorneThere : World → ScriptLine → Fails → Type 0
+AreBorneThere w line fails = AllByRecursion (λ (f : ℕ × ℕ). (works_at w line f.0 ≡ true) × IsSome (w.nodes f.0).group) fails
+
 -- Some failed calls were borne; by the others the line ended, as between raw sets.
 pub record LinksOver (told : Type 0) (d : Doubted) (line : ScriptLine) (fails : Fails) (said : Said) (new : Doubted) : Type 0 where
   pub borne : Fails
   pub ending : Fails
   pub split : fails ≡ borne ++ ending
-  pub bears : AreBorne d.world borne
+  pub bears : AreBorneThere d.world line borne
   pub middle : Doubted
   pub ends : LinkEnds (AllKnown told d.world line) d line ending said middle
   pub next : ℕ → GroupNode

@@ -26,7 +26,7 @@ pub record StopsAs (d : Doubted) (line : ScriptLine) (s : ℕ) (fails : Fails) (
   pub events : List Event
   pub came : CameOf d.world (events_of d.world line choice) s choice.kept events
   pub ending : Fails
-  pub are : AreEnding d.world fails ending
+  pub are : AreEnding d.world s fails ending
   pub stops : EventsEnd d events ending new
 
 -- the same of a line of any kind: one of links, or another

@@ -191,9 +191,9 @@ pub fn steps_over_rvgs()
         → (BringsUp line → ⊥) → StepFull (IsTrue tells) files d line fails said new → StepOver (IsTrue tells) files d line fails said new }
 {}
 
-/// Only of a site over a group may a call fail in a line that is done: where there is none, no call failed in it.
+/// Only of the line's own site may a call fail in a line that is done, and only where it is over a group: at a raw set no call failed in it.
 pub fn only_groups_bear()
-    ensures { (w : World) (fails : Fails) → HasNoGroups w → AreBorne w fails → fails ≡ [] }
+    ensures { (w : World) (site : ℕ) (fails : Fails) → (w.nodes site).group ≡ None → AreBorne w site fails → fails ≡ [] }
 {}
 
 /// Where memory runs out within a line that does not go in parts nothing is done, whether disks tell their contents or not; of one that does, any first

@@ -11,7 +11,7 @@ use Rattle.vx_filedisk.specs.Counting.{CountsNoted}
 use Rattle.vx_filedisk.specs.Following.{FollowsFiles}
 use Rattle.vx_filedisk.specs.Hosts.{blank_disks, host_meaning, shown}
 use Rattle.vx_filedisk.specs.Laws.{never}
-use Rattle.vx_filedisk.proofs.Hosts.{blank_Crashed, blank_SameBlocks, blank_Untouched, memory_Goes}
+use Rattle.vx_filedisk.proofs.Hosts.{blank_Crashed, blank_Untouched, memory_Goes}
 
 -- what follows from an Ok
 pub on_ok : {T E : Type 0} {P Q : Type 0} (r : Result T E) → OnOk r P → (P → Q) → OnOk r Q
@@ -22,7 +22,7 @@ on_ok (Err e) p f = tt
 pub files_Calls : {T : Type 0} (f : DiskFiles) (c : ℕ → ℕ) (a : Meaning) (step untold : Disks → Disks → Type 0) (o n : Disks) (r : Result T ShelfError) → Calls a step o n r
     → Calls (host_meaning (Some f) c a) untold (blank_disks o) (blank_disks n) r
 files_Calls f c a step untold o n (Ok x) calls = ((λ tells. never tells), calls.1)
-files_Calls f c a step untold o n (Err (Fault disk)) calls = (blank_SameBlocks o n, calls.1)
+files_Calls f c a step untold o n (Err (Fault disk)) calls = calls
 files_Calls f c a step untold o n (Err Down) calls =
     ⊎_elim (λ was. inl (was.0, blank_Untouched o n was.1)) (λ out. inr (record { pick = out.pick; out = out.out; crash = blank_Crashed a.size (λ u. f.blocks) out.pick o n out.crash })) calls
 
@@ -31,7 +31,7 @@ module _ {T : Type 0} (unit : ℕ) where
   pub follow_Calls : (f : DiskFiles) (c : ℕ → ℕ) (a : Meaning) (step untold : Disks → Disks → Type 0) (o n : Disks) (passed r : Result T ShelfError) → FollowsFiles unit passed r
       → Calls a step o n passed → Calls (host_meaning (Some f) c a) untold (blank_disks o) (blank_disks n) r
   follow_Calls f c a step untold o n (Ok x) (Ok y) follows calls = ((λ tells. never tells), calls.1)
-  follow_Calls f c a step untold o n (Ok x) (Err (Fault disk)) follows calls = (blank_SameBlocks o n, calls.1)
+  follow_Calls f c a step untold o n (Ok x) (Err (Fault disk)) follows calls = calls.1
   follow_Calls f c a step untold o n (Ok x) (Err Down) follows calls = absurd follows
   follow_Calls f c a step untold o n (Err e) (Ok y) follows calls = absurd follows
   follow_Calls f c a step untold o n (Err e) (Err g) follows calls =

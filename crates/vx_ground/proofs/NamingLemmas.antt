@@ -1,5 +1,5 @@
 -- The account behind a commit that names a replicated volume group, or was refused.
-use Rattle.std.proofs.Common.{◌≡◌, ◌∙◌, ◌⊎◌, inl, inr, ℕ, true, false, List, Option, None, Some, IsTrue, refl, sym, subst}
+use Rattle.std.proofs.Common.{◌≡◌, ◌∙◌, ◌⊎◌, inl, inr, ℕ, true, false, List, Option, None, Some, IsTrue, refl, sym, subst, ⊎_elim}
 use Rattle.std.specs.Prelude.{Err, Ok, Result}
 use Rattle.vx_config.specs.declared.config.Config.{Config}
 use Rattle.vx_config.specs.declared.entry.DiskEntry.{DiskEntry}
@@ -20,19 +20,23 @@ use Rattle.vx_model.specs.declared.errors.Stop.TheVariants.{No as Refused, OutOf
 use Rattle.vx_model.specs.declared.no.No.{No}
 use Rattle.vx_model.specs.declared.no.No.TheVariants.{Device, Down}
 use Rattle.vx_model.specs.declared.units.Units.{Units}
-use Rattle.vx_ground.specs.Accounts.{GroundSince, GroundState, ground_state}
+use Rattle.vx_ground.specs.Accounts.{GroundSince, GroundState, ground_state, PlexQuiet}
 use Rattle.vx_ground.specs.Named.{NamesGroup, named_state}
+use Rattle.vx_group.proofs.UsesLemmas.{uses_volumes}
 
 -- what is kept of a group whose volumes are named is as before but for that
 pub ground_named : (units : Units) (a b : GroundState) (m m' : Meaning) → GroundSince a m b m' → GroundSince (named_state units a) m (named_state units b) m'
 ground_named units a b m m' it =
     let before : Config = with_rvg (Some units) a.config in
     let now : Config = with_rvg (Some units) b.config in
+    let quiet_named : (v p : ℕ) → PlexQuiet before v p m m' → PlexQuiet a.config v p m m' = (λ v p quiet. record { none = λ u its rose. quiet.none u (uses_volumes a.config before refl v p u ∙ its) rose }) in
     record {
       parts = record { site = it.parts.site; rvg = refl; count = it.parts.count; later = it.parts.later };
       frames = λ v. frames_volumes now b.config refl v ∙ it.frames v ∙ sym (frames_volumes before a.config refl v);
       counts = it.counts;
-      still = λ none v p. active_volumes now b.config refl v p ∙ it.still none v p ∙ sym (active_volumes before a.config refl v p);
+      lies = λ v p u. uses_volumes b.config now refl v p u ∙ it.lies v p u ∙ sym (uses_volumes a.config before refl v p u);
+      plexes = λ v p quiet is. active_volumes now b.config refl v p ∙ it.plexes v p (quiet_named v p quiet) (sym (active_volumes before a.config refl v p) ∙ is);
+      on = λ v p quiet is. active_volumes before a.config refl v p ∙ it.on v p (λ q. quiet_named v q (quiet q)) (sym (active_volumes now b.config refl v p) ∙ is);
       blocks = it.blocks;
       blamed = it.blamed;
       stays = it.stays;
@@ -48,12 +52,14 @@ module _ (units : Units) (c d : GroupCore) (m m' : Meaning) (first : (u : ℕ) �
 
   -- over a configuration with these volumes and disks
   named_since : (a : Config) (r : Result (Unit {0}) Stop) → SameParts a d.inner.config → a.volumes ≡ c.inner.config.volumes → a.disks ≡ c.inner.config.disks → NamesGroup units c m d m' r
-      → (is_sure c ≡ true → (is_sure d ≡ true) ⊎ (DeviceRose m m' ⊎ IsTrue m'.down)) → GroundSince (record (ground_state c) { config = a }) m (ground_state d) m'
+      → (is_sure c ≡ true → (DeviceRose m m' → ⊥) → (IsTrue m'.down → ⊥) → is_sure d ≡ true) → GroundSince (record (ground_state c) { config = a }) m (ground_state d) m'
   named_since a r parts volumes disks it sure = record {
     parts = parts;
     frames = λ v. frames_volumes d.inner.config c.inner.config it.same.volumes v ∙ sym (frames_volumes a c.inner.config volumes v);
     counts = it.goes.disk_faults;
-    still = λ none v p. active_volumes d.inner.config c.inner.config it.same.volumes v p ∙ sym (active_volumes a c.inner.config volumes v p);
+    lies = λ v p u. uses_volumes c.inner.config d.inner.config it.same.volumes v p u ∙ sym (uses_volumes c.inner.config a volumes v p u);
+    plexes = λ v p quiet is. active_volumes d.inner.config c.inner.config it.same.volumes v p ∙ sym (active_volumes a c.inner.config volumes v p) ∙ is;
+    on = λ v p quiet is. active_volumes a c.inner.config volumes v p ∙ sym (active_volumes d.inner.config c.inner.config it.same.volumes v p) ∙ is;
     blocks = λ u. subst (λ (ds : List DiskEntry). blocks_at d.inner.config.disks u ≡ blocks_at ds u) (sym disks) (it.disks.blocks u);
     blamed = λ u off on none. none (counted u (it.disks.blamed u (subst (λ (ds : List DiskEntry). failed_at ds u ≡ false) disks off) on));
     stays = λ u on. it.disks.stays u (subst (λ (ds : List DiskEntry). failed_at ds u ≡ true) disks on);
@@ -68,7 +74,7 @@ module _ (units : Units) (c d : GroupCore) (m m' : Meaning) (first : (u : ℕ) �
   named_ground r x is names =
       let it : NamesGroup units c m d m' (Ok x) = subst (λ (y : Result (Unit {0}) Stop). NamesGroup units c m d m' y) is names in
       named_since (with_rvg (Some units) c.inner.config) (Ok x) (record { site = it.same.site; rvg = it.ends.named; count = it.same.count; later = it.later }) refl refl it
-      (λ is. inl (sure_by d.inner.committed d.held (it.trust (sure_kept c.inner.committed c.held is)) (it.finds.free (sure_free c.inner.committed c.held is))))
+      (λ is none up. sure_by d.inner.committed d.held (it.trust (sure_kept c.inner.committed c.held is)) (it.finds.free (sure_free c.inner.committed c.held is)))
 
   stopped_by : (why : Stop) → DetStops {T = Unit {0}} m m' (Err why) → DeviceRose m m' ⊎ IsTrue m'.down
   stopped_by (Refused (Device disk)) it = inl (record { disk = disk; rose = it })
@@ -76,9 +82,9 @@ module _ (units : Units) (c d : GroupCore) (m m' : Meaning) (first : (u : ℕ) �
   stopped_by (Refused other) it = absurd it
   stopped_by OutOfMemory it = absurd it
 
-  unnamed_sure : (why : Stop) → NamesGroup units c m d m' (Err why) → (o : Option No) → set_rvg_refusal c.inner.config units ≡ o → is_sure c ≡ true → (is_sure d ≡ true) ⊎ (DeviceRose m m' ⊎ IsTrue m'.down)
-  unnamed_sure why it None is sure = inr (stopped_by why (it.cause is))
-  unnamed_sure why it (Some no_room) is sure = inl (subst (λ (k : GroupCore). is_sure k ≡ true) (sym (it.refused no_room is).1) sure)
+  unnamed_sure : (why : Stop) → NamesGroup units c m d m' (Err why) → (o : Option No) → set_rvg_refusal c.inner.config units ≡ o → is_sure c ≡ true → (DeviceRose m m' → ⊥) → (IsTrue m'.down → ⊥) → is_sure d ≡ true
+  unnamed_sure why it None is sure none up = absurd (⊎_elim none up (stopped_by why (it.cause is)))
+  unnamed_sure why it (Some no_room) is sure none up = subst (λ (k : GroupCore). is_sure k ≡ true) (sym (it.refused no_room is).1) sure
 
   -- it was refused
   pub unnamed_ground : (r : Result (Unit {0}) Stop) (why : Stop) → r ≡ Err why → NamesGroup units c m d m' r → GroundSince (ground_state c) m (ground_state d) m'

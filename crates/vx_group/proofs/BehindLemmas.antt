@@ -200,6 +200,7 @@ module _ (c0 mid : GroupCore) (m m1 : Meaning) (stands : GroupStands c0 m) (narr
       failing = then_failing m m1 m2 narrows.acts.faults it.quiesces.acts.faults c0.inner.config.disks mid.inner.config.disks it.config.disks failing it.failing;
       kept = it.kept;
       trusts = λ is. it.trusts (trust is);
+      some = it.some;
     }
 
     pub behind_back : GivenBack mid.inner d m1 m2 → GroupBack c0 (record { inner = d; held = mid.held }) m m2

@@ -3,6 +3,7 @@ use Rattle.std.proofs.Common.{◌⊎◌, ◌≡◌, inl, inr, ⊎_elim, ℕ, zer
 use Rattle.std.specs.Prelude.{◌==◌, not}
 use Rattle.std.proofs.lemmas.Bool.{and_from, and_parts, eq-eqb}
 pub use Rattle.vx_disk.proofs.Causing.{cause_before}
+use Rattle.vx_disk.proofs.Causing.{Rose_before}
 use Rattle.vx_disk.specs.Causes.{DeviceCause, refusal_of}
 use Rattle.vx_disk.specs.Shelf.{Goes, Lawful, Meaning}
 use Rattle.vx_disk.specs.declared.shelf.ShelfError.{ShelfError}
@@ -37,6 +38,7 @@ use Rattle.vx_kept.specs.Trusts.{HasFailed, Trusts}
 use Rattle.vx_group.specs.Creates.{IsNewGroup, IsReady, PreparedDisks}
 use Rattle.vx_group.specs.declared.inner.Inner.{Inner}
 use Rattle.vx_group.proofs.DetachLemmas.{some_good}
+use Rattle.vx_group.proofs.FailingLemmas.{few_serial}
 use Rattle.vx_group.proofs.Standing.{made}
 
 -- ---- a configuration without volumes
@@ -125,9 +127,9 @@ first_cause good c last old new some more other stops = absurd stops
 
 -- ---- the group
 
-pub new_Stands : (site : ℕ) (disks : List DiskEntry) (core : Inner) (old new : Meaning) → AreLarge new → CanSpell core.config → is_wanted new.units new.size core.config ≡ true
-    → Taken (empty_config site disks) (empty_config site disks) core.config old new → AllOn core.config → core.good ≡ good_set core.config.disks → Trusts core.committed core.agreed (good_set core.config.disks) new → (core.committed ≡ true) ⊎ HasFailed core.config.disks → core.unsettled ≡ false → IsNewGroup site core new
-new_Stands site disks core old new large can wanted taken on good trusts trust settled = record {
+pub new_Stands : (site : ℕ) (disks : List DiskEntry) (core : Inner) (first old new : Meaning) → ((u : ℕ) → first.faults u ≤ old.faults u) → ((u : ℕ) → failed_at disks u ≡ false) → AreLarge new → CanSpell core.config → is_wanted new.units new.size core.config ≡ true
+    → Taken (empty_config site disks) (empty_config site disks) core.config old new → AllOn core.config → core.good ≡ good_set core.config.disks → Trusts core.committed core.agreed (good_set core.config.disks) new → (core.committed ≡ true) ⊎ HasFailed core.config.disks → core.unsettled ≡ false → IsNewGroup site first core new
+new_Stands site disks core first old new less good_first large can wanted taken on good trusts trust settled = record {
   stands = made core new wanted can (let none = ap length taken.grown.volumes in omega (arith, none)) (λ v. let none = ap (λ vs. blocks_of vs v) taken.grown.volumes in omega (arith, none)) large on
       (subst (λ (g : ℕ). NoneGood core.config.disks (length core.config.disks) g → ⊥) (sym good) (some_good core.config.disks (good_set core.config.disks) taken.some))
       (subst (λ (g : ℕ). Kept core.config (Member g new) new) (sym good) taken.kept) (λ is. taken.tidy) (subst (λ (g : ℕ). Trusts core.committed core.agreed g new) (sym good) trusts);
@@ -136,5 +138,10 @@ new_Stands site disks core old new large can wanted taken on good trusts trust s
   rvg = taken.grown.rvg;
   newest = record { finds = taken.finds };
   trust = trust;
+  failed = λ u is. Rose_before (first.faults u) (old.faults u) (new.faults u) (less u) (taken.grown.disks.blamed u (good_first u) is);
+  few =
+      let used : core.config.serial ≤ 0 + 1 + length disks = few_serial (empty_config site disks) (empty_config site disks) core.config refl refl taken.few in
+      let count : length core.config.disks ≡ length disks = taken.grown.disks.count in
+      omega (arith, used, count);
   settled = settled;
 }

@@ -77,6 +77,7 @@ module _ (core : Inner) (d : Config) (m m' : Meaning) (stands : InnerStands core
     acts = acts;
     kept = to_fact (at_serial d.serial core.config) (HeldGood d m') m' shown.kept;
     trusts = trusts;
+    some = shown.some;
   }
 
 -- ---- refused
@@ -144,6 +145,7 @@ module _ (core mid fl d : Inner) (m m1 m2 last : Meaning) (begun : InnerStands c
       failing = then_failing m m2 last drained.acts.faults it.acts.faults core.config.disks fl.config.disks it.config.disks drained.loses.disks it.failing;
       kept = it.kept;
       trusts = λ is. it.trusts (flushed.trust (flag ∙ is));
+      some = it.some;
     }
 
     pub closes_later : {T E : Type 0} (r : Result T E) → CommitCloses fl d m2 last r → Closes core d m last r

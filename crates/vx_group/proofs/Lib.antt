@@ -56,3 +56,5 @@ pub mod SettleFinds
 pub mod SettleCalls
 pub mod SettleMore
 pub mod SettleDeport
+pub mod UnsureMarks
+pub mod UnsureLemmas

@@ -47,3 +47,8 @@ ok_from (Err error) f is = tt
 pub err_from : {T E P Q : Type 0} (r : Result T E) → (P → Q) → IfErr r (λ e. P) → IfErr r (λ e. Q)
 err_from (Ok x) f is = tt
 err_from (Err error) f is = f is
+
+-- what holds in any case
+pub err_all : {T E P : Type 0} (r : Result T E) → P → IfErr r (λ e. P)
+err_all (Ok x) it = tt
+err_all (Err error) it = it

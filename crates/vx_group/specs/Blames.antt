@@ -54,3 +54,13 @@ MarksUnsure Down v old new = new ≡ old
 abbrev pub MarksOn : {T : Type 0} → ℕ → List Bool → List Bool → Result T ShelfError → Type 0
 MarksOn v old new (Ok x) = new ≡ old
 MarksOn v old new (Err error) = MarksUnsure error v old new
+
+-- The same of a call that goes on behind a refusal: where it says that the shelf is down the volume may be marked.
+abbrev pub MarksOrFell : {T : Type 0} → ℕ → List Bool → List Bool → Result T ShelfError → Type 0
+MarksOrFell v old new (Ok x) = new ≡ old
+MarksOrFell v old new (Err (Fault disk)) = MarkedUnsure v old new
+MarksOrFell v old new (Err Down) = (new ≡ old) ⊎ MarkedUnsure v old new
+
+-- what a refusal is answered as: itself, or that the shelf is down
+abbrev pub IsOrDown : ShelfError → ShelfError → Type 0
+IsOrDown error said = (said ≡ error) ⊎ (said ≡ Down)

@@ -1,5 +1,5 @@
 -- What the calls of a group make of it, where a plex may be held back.
-use Rattle.std.specs.Prelude.{◌≡◌, ◌⊎◌, ℕ, ◌<◌, IsTrue, Option, Some, None, length, Result, Ok, Err}
+use Rattle.std.specs.Prelude.{◌≡◌, ◌⊎◌, ℕ, ◌<◌, true, IsTrue, Option, Some, None, length, Result, Ok, Err}
 use Rattle.vx_disk.specs.Causes.{DeviceCause}
 use Rattle.vx_disk.specs.Shelf.{Goes, Meaning, Nothing}
 use Rattle.vx_model.specs.declared.errors.Stop.{Stop}
@@ -80,6 +80,11 @@ abbrev pub GivesBack : {S G : Type 0} → GroupCore → Meaning → (S → Meani
 GivesBack c old meaning core shelf (Ok s) = Unit {0}
 GivesBack c old meaning core shelf (Err (g, stop)) = Goes Nothing (inner_meaning (wide c) old) (inner_meaning (wide (core g)) (meaning (shelf g)))
 
+-- Where the newest configuration was committed before a refusal that gives the group back, imports agree behind it.
+abbrev pub BackAgrees : {S G : Type 0} → GroupCore → (G → GroupCore) → Result S (G × Stop) → Type 0
+BackAgrees c core (Ok s) = Unit {0}
+BackAgrees c core (Err (g, stop)) = c.inner.committed ≡ true → (core g).inner.agreed ≡ true
+
 -- refused for want of serials, and nothing has changed
 abbrev pub IsFull : {S G : Type 0} → GroupCore → S → (G → GroupCore) → (G → S) → Result S (G × Stop) → Type 0
 IsFull c s core shelf (Ok x) = ⊥
@@ -87,7 +92,7 @@ IsFull c s core shelf (Err (g, stop)) = (stop ≡ Refused (Limit Numbers greates
 
 -- what is answered where a group is made, of which no plex is held back; else the shelf is handed back
 abbrev pub GroupCreated : {S G : Type 0} → ℕ → Meaning → (S → Meaning) → (G → GroupCore) → (G → S) → Result G (S × Stop) → Type 0
-GroupCreated site old meaning core shelf (Ok g) = IsNewGroup site (core g).inner (meaning (shelf g)) × ((core g).held ≡ None)
+GroupCreated site old meaning core shelf (Ok g) = IsNewGroup site old (core g).inner (meaning (shelf g)) × ((core g).held ≡ None)
 GroupCreated site old meaning core shelf (Err (s, Refused why)) = (HasSmall old × (why ≡ Size)) ⊎ DeviceCause old (meaning s) why
 GroupCreated site old meaning core shelf (Err (s, OutOfMemory)) = Unit {0}
 

@@ -13,7 +13,7 @@ use Rattle.vx_kept.specs.Commits.{Member}
 use Rattle.vx_kept.specs.Facts.{KeptFact}
 use Rattle.vx_kept.specs.Groups.{found, found_by}
 use Rattle.vx_kept.specs.Keeping.{Acts, Sees}
-use Rattle.vx_kept.specs.Trusts.{Trusts}
+use Rattle.vx_kept.specs.Trusts.{FailsAll, Trusts}
 use Rattle.vx_copies.specs.Answers.{good_set}
 use Rattle.vx_volume.specs.Plexes.{active}
 use Rattle.vx_group.specs.Moves.{Narrows}
@@ -24,7 +24,7 @@ use Rattle.vx_group.specs.declared.inner.Inner.{Inner}
 use Rattle.vx_group.specs.Loses.{SameParts}
 
 -- Whatever a crash leaves, an import that can read all disks finds one configuration: that of the group, with each plex that was ACTIVE
--- CLEAN, but for those of the volumes that are unsure. No block of a plex was touched. A group in which the plexes are ACTIVE may stand on
+-- CLEAN, but for those of the volumes that are unsure; some disk is held as good by it. No block of a plex was touched. A group in which the plexes are ACTIVE may stand on
 -- the disks.
 pub record CleanCommitted (c : Inner) (old new : Meaning) : Type 0 where
   pub config : Config
@@ -40,6 +40,7 @@ pub record CleanCommitted (c : Inner) (old new : Meaning) : Type 0 where
   pub acts : Acts Nothing (Sees c.config (Member c.good old) old) old new
   pub kept : KeptFact (at_serial config.serial c.config) (HeldGood config new) new
   pub trusts : c.committed ≡ true → Trusts true true (good_set config.disks) new
+  pub some : FailsAll config.disks → ⊥
 
 -- the group stands as it was, but for its serial and disks that failed
 pub record CommitMissed (c d : Inner) (old new : Meaning) : Type 0 where
@@ -73,6 +74,7 @@ pub record DeportedBy (by : Config) (c : Inner) (old new : Meaning) : Type 0 whe
   pub failing : MoreFailed old new c.config.disks config.disks
   pub kept : KeptFact (at_serial config.serial behind.config) (HeldGood config new) new
   pub trusts : c.committed ≡ true → Trusts true true (good_set config.disks) new
+  pub some : FailsAll config.disks → ⊥
 
 -- the same of a group that goes by its own configuration
 abbrev pub Deported : Inner → Meaning → Meaning → Type 0

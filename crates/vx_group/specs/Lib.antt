@@ -23,3 +23,4 @@ pub mod Holding
 pub mod Finds
 pub mod Calls
 pub mod Settles
+pub mod Turns

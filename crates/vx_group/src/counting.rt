@@ -3,6 +3,7 @@ ghost use Rattle.std.specs.Prelude.{◌≡◌, ◌≢◌, ◌<◌, ◌≤◌, �
 ghost use Rattle.vx_disk.specs.Counts.{Rose};
 ghost use Rattle.vx_group.specs.Blames.{CountsRise, MarkedUnsure, MarksUnsure};
 ghost use Rattle.vx_group.specs.Stands.{volume_faults};
+ghost use Rattle.vx_group.specs.Turns.{NextAsked};
 
 use vx_disk::ShelfError;
 use vx_model::limits::MOST_VOLUMES;
@@ -23,6 +24,14 @@ pub fn mark_unsure(unsure: &mut [bool; MOST_VOLUMES], vol: u32)
     ensures { MarkedUnsure vol unsure.old unsure.new }
 {
     unsure[vol as usize] = true;
+}
+
+/// Sets the plex that the next read of a volume asks first.
+pub fn set_next(next: &mut [u32; MOST_VOLUMES], vol: u32, plex: u32)
+    requires inside { vol < MOST_VOLUMES }
+    ensures { NextAsked vol plex next.old next.new }
+{
+    next[vol as usize] = plex;
 }
 
 /// Counts a write or a flush of a volume that failed with a fault, and marks the volume as unsure.

@@ -40,6 +40,7 @@ fn disks_of<S: Shelf>(shelf: &S) -> Disks
 fn prepare<S: Shelf>(shelf: &mut S, site: u32) -> Result<(), Stop>
     requires large { AreLarge (S.meaning shelf.old) }
     ensures counts { (d : ℕ) → (S.meaning shelf.old).disk_faults d ≤ (S.meaning shelf.new).disk_faults d }
+    ensures faults { (u : ℕ) → (S.meaning shelf.old).faults u ≤ (S.meaning shelf.new).faults u }
     ensures same { SameUnits (S.meaning shelf.old) (S.meaning shelf.new) }
     ensures ready { IsReady (S.meaning shelf.old) (S.meaning shelf.new) result }
 {

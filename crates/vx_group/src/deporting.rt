@@ -1,7 +1,7 @@
 // The flushes and the commit by which a group is deported.
 ghost use Rattle.vx_group.specs.Loses.{TrustsStill};
 ghost use Rattle.vx_group.specs.Finds.{CoreFinds, GroupImages};
-ghost use Rattle.std.specs.Prelude.{Err, IfErr, IsTrue, OnOk, false, ◌-◌, ◌<◌, ◌≡◌, ◌≤◌};
+ghost use Rattle.std.specs.Prelude.{Err, IfErr, IsTrue, OnOk, false, true, ◌-◌, ◌<◌, ◌≡◌, ◌≤◌};
 ghost use Rattle.vx_disk.specs.Shelf.{Goes, Nothing};
 ghost use Rattle.vx_config.specs.Table.{greatest};
 ghost use Rattle.vx_group.specs.Blames.{StopsByDevice};
@@ -34,6 +34,7 @@ fn commit_closed<S: Shelf>(shelf: &mut S, core: &mut Inner) -> Result<(), ShelfE
     requires more { core.old.config.serial < greatest }
     ensures ends { CommitCloses core.old core.new (S.meaning shelf.old) (S.meaning shelf.new) result }
     ensures up { OnOk result (KeepsUp (S.meaning shelf.old) (S.meaning shelf.new)) }
+    ensures agreed { IfErr result (λ e. core.old.committed ≡ true → core.new.agreed ≡ true) }
     ensures finds { IfErr result (λ e. CoreFinds core.old core.new (S.meaning shelf.old) (S.meaning shelf.new)) }
     ensures settles { IfErr result (λ e. ClosesSettled core.old core.new (S.meaning shelf.old) (S.meaning shelf.new)) }
     ensures logs { IfErr result (λ e. TrustsStill core.old.config core.new.config) }
@@ -66,6 +67,7 @@ fn close<S: Shelf>(shelf: &mut S, core: &mut Inner) -> Result<(), ShelfError>
     requires up { IsTrue (S.meaning shelf.old).down → ⊥ }
     ensures ends { Closes core.old core.new (S.meaning shelf.old) (S.meaning shelf.new) result }
     ensures up { OnOk result (IsTrue (S.meaning shelf.new).down → ⊥) }
+    ensures agreed { IfErr result (λ e. core.old.committed ≡ true → core.new.agreed ≡ true) }
     ensures finds { IfErr result (λ e. CoreFinds core.old core.new (S.meaning shelf.old) (S.meaning shelf.new)) }
     ensures settles { ReadsSure core.old (S.meaning shelf.old) → IfErr result (λ e. CoreSettles core.old core.new (S.meaning shelf.old) (S.meaning shelf.new)) }
     ensures logs { IfErr result (λ e. TrustsStill core.old.config core.new.config) }
@@ -95,8 +97,9 @@ pub fn deport_in<S: Shelf>(shelf: &mut S, core: &mut GroupCore) -> Result<(), St
     ensures ends { GroupCloses core.old core.new (S.meaning shelf.old) (S.meaning shelf.new) result }
     ensures up { OnOk result (IsTrue (S.meaning shelf.new).down → ⊥) }
     ensures back { IfErr result (λ e. Goes Nothing (inner_meaning (wide core.old) (S.meaning shelf.old)) (inner_meaning (wide core.new) (S.meaning shelf.new))) }
+    ensures agreed { IfErr result (λ e. core.old.inner.committed ≡ true → core.new.inner.agreed ≡ true) }
     ensures finds { IfErr result (λ e. GroupImages core.old core.new (S.meaning shelf.old) (S.meaning shelf.new)) }
-    ensures settles { ReadsSure (wide core.old) (S.meaning shelf.old) → IfErr result (λ e. CoreSettles (wide core.old) (wide core.new) (S.meaning shelf.old) (S.meaning shelf.new)) }
+    ensures settles { ((IsTrue (S.meaning shelf.old).down → ⊥) → ReadsSure (wide core.old) (S.meaning shelf.old)) → IfErr result (λ e. CoreSettles (wide core.old) (wide core.new) (S.meaning shelf.old) (S.meaning shelf.new)) }
     ensures logs { IfErr result (λ e. TrustsStill core.old.inner.config core.new.inner.config) }
     ensures cause { core.old.inner.config.serial ≤ greatest - margin → DetStops (S.meaning shelf.old) (S.meaning shelf.new) result }
 {

@@ -6,7 +6,7 @@ ghost use Rattle.vx_disk.specs.Shelf.{Flushed, Goes, Nothing};
 ghost use Rattle.vx_config.specs.Table.{greatest};
 ghost use Rattle.vx_group.specs.Blames.{Blames, MarksOn};
 ghost use Rattle.vx_group.specs.Copying.{SpentBy};
-ghost use Rattle.vx_group.specs.GivesUp.{GivesUp};
+ghost use Rattle.vx_group.specs.GivesUp.{GivesUp, MissesNone};
 ghost use Rattle.vx_group.specs.Holding.{GroupStands, wide};
 ghost use Rattle.vx_group.specs.Loses.{LosesPlexes, TrustsStill};
 ghost use Rattle.vx_group.specs.Moves.{AllFlushed, Narrows};
@@ -40,6 +40,7 @@ pub fn flush_plexes<S: Shelf>(shelf: &mut S, core: &mut Inner, vol: u32) -> Resu
     ensures spent { SpentBy core.old.config core.new.config (S.meaning shelf.old) (S.meaning shelf.new) }
     ensures faults { core.new.faults ≡ core.old.faults }
     ensures unsure { core.new.unsure ≡ core.old.unsure }
+    ensures ready { MissesNone core.old → OnOk result (MissesNone core.new) }
     ensures gave_up { GivesUp vol core.old core.new (S.meaning shelf.old) (S.meaning shelf.new) result }
     ensures full { greatest ≤ core.old.config.serial → OnOk result (core.new.config.volumes ≡ core.old.config.volumes) }
     ensures trust { OnOk result (core.old.committed ≡ true → core.new.committed ≡ true) }
@@ -71,6 +72,7 @@ pub fn flush_in<S: Shelf>(shelf: &mut S, core: &mut Inner, vol: u32) -> Result<(
     ensures goes { Goes Nothing (inner_meaning core.old (S.meaning shelf.old)) (inner_meaning core.new (S.meaning shelf.new)) }
     ensures ok { OnOk result (Flushed vol (inner_meaning core.old (S.meaning shelf.old)) (inner_meaning core.new (S.meaning shelf.new))) }
     ensures acts { PlexActs Nothing core.old.config core.new.config (S.meaning shelf.old) (S.meaning shelf.new) }
+    ensures ready { OnOk result (MissesNone core.new) }
     ensures gave_up { GivesUp vol core.old core.new (S.meaning shelf.old) (S.meaning shelf.new) result }
     ensures full { greatest ≤ core.old.config.serial → OnOk result (core.new.config.volumes ≡ core.old.config.volumes) }
     ensures loses { LosesPlexes core.old.config core.new.config (S.meaning shelf.old) (S.meaning shelf.new) }
@@ -114,6 +116,7 @@ pub fn flush_group<S: Shelf>(
     ensures goes { Goes Nothing (inner_meaning (wide core.old) (S.meaning shelf.old)) (inner_meaning (wide core.new) (S.meaning shelf.new)) }
     ensures ok { OnOk result (Flushed vol (inner_meaning (wide core.old) (S.meaning shelf.old)) (inner_meaning (wide core.new) (S.meaning shelf.new))) }
     ensures acts { PlexActs Nothing (wide core.old).config (wide core.new).config (S.meaning shelf.old) (S.meaning shelf.new) }
+    ensures ready { OnOk result (MissesNone core.new.inner) }
     ensures gave_up { GivesUp vol core.old.inner core.new.inner (S.meaning shelf.old) (S.meaning shelf.new) result }
     ensures loses { LosesPlexes core.old.inner.config core.new.inner.config (S.meaning shelf.old) (S.meaning shelf.new) }
     ensures clear { core.old.inner.config.serial < greatest → OnOk result (core.new.held ≡ None) }
@@ -122,6 +125,7 @@ pub fn flush_group<S: Shelf>(
     ensures agreed { IfErr result (λ e. core.old.inner.committed ≡ true → core.new.inner.agreed ≡ true) }
     ensures finds { GroupFinds core.old core.new (S.meaning shelf.old) (S.meaning shelf.new) }
     ensures logs { TrustsStill core.old.inner.config core.new.inner.config }
+    ensures marks { MarksOn vol core.old.inner.unsure core.new.inner.unsure result }
     ensures cause { Cause (inner_meaning (wide core.old) (S.meaning shelf.old)) (inner_meaning (wide core.new) (S.meaning shelf.new)) vol result }
 {
     if shelf.is_down() {

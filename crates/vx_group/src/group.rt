@@ -1,5 +1,5 @@
 // A group as a shelf.
-ghost use Rattle.std.specs.Prelude.{◌≡◌, ◌≢◌, ◌⊎◌, ◌<◌, ◌≤◌, ◌-◌, true, false, IfOk, IfSome, IsOk, IsTrue, Some, None, Ok, Err, OnOk, length, ℕ, IfErr};
+ghost use Rattle.std.specs.Prelude.{◌≡◌, ◌≢◌, ◌⊎◌, ◌<◌, ◌≤◌, ◌-◌, ◌/◌, true, false, IfOk, IfSome, IsOk, IsTrue, Some, None, Ok, Err, OnOk, length, ℕ, IfErr};
 ghost use Rattle.vx_disk.specs.Causes.{Calls, Cause, CountsOnly, Names, OnDisks, WithDisks, Works};
 ghost use Rattle.vx_disk.specs.Disks.{Crashed, SameBlocks, Untouched};
 ghost use Rattle.vx_disk.specs.Racks.{Alike, Stopped};
@@ -15,10 +15,11 @@ ghost use Rattle.vx_model.specs.declared.no.No.{No as NoValue};
 ghost use Rattle.vx_volume.specs.Plexes.{active};
 ghost use Rattle.vx_copyio.specs.Labelling.{HasSmall};
 ghost use Rattle.vx_model.specs.declared.errors.Stop.TheVariants.{No as Refused};
-ghost use Rattle.vx_model.specs.declared.limits.TheConstants.{MOST_DISKS};
+ghost use Rattle.vx_model.specs.declared.limits.TheConstants.{BLOCK, MOST_DISKS};
 ghost use Rattle.vx_model.specs.declared.no.No.TheVariants.{Size};
-ghost use Rattle.vx_group.specs.GivesUp.{GivesUp};
-ghost use Rattle.vx_group.specs.Calls.{GivesBack, GroupAttaches, GroupCreated, GroupDeported, GroupImported, GroupNarrows, GroupStays, ImportsAgain, IsFull, KeepsUnits};
+ghost use Rattle.vx_group.specs.Blames.{MarksOn};
+ghost use Rattle.vx_group.specs.GivesUp.{GivesUp, MissesNone};
+ghost use Rattle.vx_group.specs.Calls.{BackAgrees, GivesBack, GroupAttaches, GroupCreated, GroupDeported, GroupImported, GroupNarrows, GroupStays, ImportsAgain, IsFull, KeepsUnits};
 ghost use Rattle.vx_group.specs.Holding.{GroupStands, wide};
 ghost use Rattle.vx_kept.specs.Commits.{IsCommitted};
 ghost use Rattle.vx_kept.specs.Trusts.{HasFailed};
@@ -28,6 +29,7 @@ ghost use Rattle.vx_group.specs.Regains.{HoldsPlex, Regains};
 ghost use Rattle.vx_group.specs.Resumes.{AtRest, CanImport};
 ghost use Rattle.vx_group.specs.Rvgs.{RvgEnds, set_rvg_refusal};
 ghost use Rattle.vx_group.specs.Stands.{inner_meaning};
+ghost use Rattle.vx_group.specs.Turns.{ReadsInTurn};
 
 use crate::att::att_in;
 use crate::crashing::crash_in;
@@ -59,8 +61,8 @@ pub struct Group<S: Shelf> {
 impl<S: Shelf> Group<S> {
     /// Makes a group without volumes of the disks of a shelf.
     ///
-    /// Answers 4 exactly where a disk has fewer than 1,024 blocks, and then nothing has changed; else 7 only where the count of the disk
-    /// that it names rose, and 6 only where the shelf is then down. Where none is made the shelf is handed back. It takes memory.
+    /// Answers 4 exactly where a disk has fewer than 1,024 blocks, and then nothing has changed; else 7 only where the count of the disk that it names
+    /// rose, and 6 only where the shelf is then down. Where none is made the shelf is handed back. It takes memory.
     pub fn create(alloc: Global, shelf: S, site: u32) -> Result<Group<S>, (S, Stop)>
         requires some { 0 < (S.meaning shelf).units }
         requires few { (S.meaning shelf).units ≤ MOST_DISKS }
@@ -78,14 +80,13 @@ impl<S: Shelf> Group<S> {
         }
     }
 
-    /// Imports a group: it takes up the newest configuration of the disks that can be read, with plexes that were CLEAN in the state ACTIVE
-    /// and returned disks held as good, writes the headers of these disks back, copies each volume that stopped uncleanly whole from the
-    /// plex that it is gone by to each that is ACTIVE, and ends with a commit.
+    /// Imports a group: it takes up the newest configuration of the disks that can be read, with plexes that were CLEAN in the state ACTIVE and returned
+    /// disks held as good, writes the headers of these disks back, copies each volume that stopped uncleanly whole from the plex that it is gone by to
+    /// each that is ACTIVE, and ends with a commit.
     ///
-    /// Answers what an import of the configuration answers (25, 9, 22, 8), 9 where a disk has fewer than 1,024 blocks, 19 where fewer
-    /// than 65,536 serials are left, 7 only where the count of the disk that it names rose, and 6 only where the shelf is down. Where none
-    /// is imported the shelf is handed back, and each block of a volume is as a crash might have left it: behind a crash it may be
-    /// imported again. It takes memory.
+    /// Answers what an import of the configuration answers (25, 9, 22, 8), 9 where a disk has fewer than 1,024 blocks, 19 where fewer than 65,536 serials
+    /// are left, 7 only where the count of the disk that it names rose, and 6 only where the shelf is down. Where none is imported the shelf is handed
+    /// back, and each block of a volume is as a crash might have left it: behind a crash it may be imported again. It takes memory.
     pub fn import(alloc: Global, shelf: S) -> Result<Group<S>, (S, Stop)>
         requires can { CanImport (S.meaning shelf) }
         ensures same { KeepsUnits (S.meaning shelf) (λ s. S.meaning s) (λ g. g.shelf) result }
@@ -118,11 +119,10 @@ impl<S: Shelf> Group<S> {
 
     /// Makes a volume of a shape, which begins as zeros, and answers its number. The volumes that stood are left as they were.
     ///
-    /// Answers 2 exactly where a volume has its name, else 19 exactly where there are 32 volumes, more than 8 plexes are wanted, or fewer
-    /// than 65,536 serials are left, else 4 exactly where it is no shape, else 11 where a plex, a column or a log finds no place, or 19
-    /// where there would be more than 1,024 subdisks, or more than 255 of one plex, and so far nothing has changed; else 7 only where the
-    /// count of the disk that it names rose, and 6 only where the shelf is then down. A crash behind a refusal may leave the volume. It
-    /// writes zeros to its plexes and flushes them before the commit. It takes memory.
+    /// Answers 2 exactly where a volume has its name, else 19 exactly where there are 32 volumes, more than 8 plexes are wanted, or fewer than 65,536 serials
+    /// are left, else 4 exactly where it is no shape, else 11 where a plex, a column or a log finds no place, or 19 where there would be more than 1,024
+    /// subdisks, or more than 255 of one plex, and so far nothing has changed; else 7 only where the count of the disk that it names rose, and 6 only where
+    /// the shelf is then down. A crash behind a refusal may leave the volume. It writes zeros to its plexes and flushes them before the commit. It takes memory.
     pub fn make_volume(&mut self, alloc: Global, name: &Name, want: &Shape) -> Result<u32, Stop>
         requires prefer { IfSome want.now.prefer (λ p. p < want.now.mirrors) }
         ensures refused { (no : NoValue) → make_refusal self.old.core.inner.config name.now want.now ≡ Some no → (result ≡ Err (Refused no)) × (self.new.core ≡ self.old.core) × (self.new.shelf ≡ self.old.shelf) }
@@ -168,10 +168,9 @@ impl<S: Shelf> Group<S> {
 
     /// Detaches a plex. Nothing changes where it is not ACTIVE.
     ///
-    /// Answers 1 exactly where there is no such volume or plex, else 10 exactly where no other plex of the volume is ACTIVE, else 19
-    /// exactly where fewer than 65,536 serials are left, and then nothing has changed; else 7 only where the count of the disk that it
-    /// names rose, and 6 only where the shelf is then down. It makes no device call but those of a commit, behind a refused commit those
-    /// that write headers back, and takes no memory.
+    /// Answers 1 exactly where there is no such volume or plex, else 10 exactly where no other plex of the volume is ACTIVE, else 19 exactly where fewer than
+    /// 65,536 serials are left, and then nothing has changed; else 7 only where the count of the disk that it names rose, and 6 only where the shelf is then
+    /// down. It makes no device call but those of a commit, behind a refused commit those that write headers back, and takes no memory.
     pub fn det(&mut self, vol: u32, plex: u32) -> Result<(), Stop>
         ensures refused { (no : NoValue) → det_refusal self.old.core.inner.config vol plex ≡ Some no → (result ≡ Err (Refused no)) × (self.new.core ≡ self.old.core) × (self.new.shelf ≡ self.old.shelf) }
         ensures goes { Goes Nothing (inner_meaning (wide self.old.core) (S.meaning self.old.shelf)) (inner_meaning (wide self.new.core) (S.meaning self.new.shelf)) }
@@ -194,11 +193,11 @@ impl<S: Shelf> Group<S> {
     /// changes. Each volume reads as before, at every moment and in every image. Disks of the plex that are held as failed are held as good
     /// first, by a commit of their own; where one fails in that, it stays held as failed, and the answer is 7.
     ///
-    /// Answers 1 exactly where there is no such volume or plex, else 19 exactly where fewer than 65,536 serials are left, and then nothing
-    /// has changed; else 7 only where the count of the disk that it names rose, and 6 only where the shelf is then down. Then the plex is
-    /// not ACTIVE: where the commit that takes it back was refused too it is STALE in memory, an import behind a crash may find it ACTIVE
-    /// with the content of the volume, and the next call but a read begins with a commit that detaches it. It writes blocks of this plex
-    /// alone beside those of commits, makes them durable before its commit, and takes no memory.
+    /// Answers 1 exactly where there is no such volume or plex, else 19 exactly where fewer than 65,536 serials are left, and then nothing has changed; else 7
+    /// only where the count of the disk that it names rose, and 6 only where the shelf is then down. Then the plex is not ACTIVE: where the commit that takes
+    /// it back was refused too it is STALE in memory, an import behind a crash may find it ACTIVE with the content of the volume, and the next call but a
+    /// read begins with a commit that detaches it. It writes blocks of this plex alone beside those of commits, makes them durable before its commit, and
+    /// takes no memory.
     pub fn att(&mut self, vol: u32, plex: u32) -> Result<u64, Stop>
         ensures refused { (no : NoValue) → att_refusal self.old.core.inner.config vol plex ≡ Some no → (result ≡ Err (Refused no)) × (self.new.core ≡ self.old.core) × (self.new.shelf ≡ self.old.shelf) }
         ensures already { att_refusal self.old.core.inner.config vol plex ≡ None → IsTrue (active self.old.core.inner.config vol plex) → (result ≡ Ok 0) × (self.new.core ≡ self.old.core) × (self.new.shelf ≡ self.old.shelf) }
@@ -228,6 +227,7 @@ impl<S: Shelf> Group<S> {
         ensures up { IfOk result (λ s. IsTrue (S.meaning s).down → ⊥) }
         ensures back { GivesBack self.core (S.meaning self.shelf) (λ s. S.meaning s) (λ g. g.core) (λ g. g.shelf) result }
         ensures can { GroupCanImport self.core.inner (λ s. S.meaning s) result }
+        ensures agreed { BackAgrees self.core (λ g. g.core) result }
         ensures cause { self.core.inner.config.serial ≤ greatest - margin → DeportStops (S.meaning self.shelf) (λ s. S.meaning s) (λ g. g.shelf) result }
     {
         let mut shelf = self.shelf;
@@ -340,12 +340,13 @@ impl<S: Shelf> Shelf for Group<S> {
         ensures held { self.new.core.held ≡ self.old.core.held }
         ensures trusted { (self.new.core.inner.committed ≡ self.old.core.inner.committed) × (self.new.core.inner.agreed ≡ self.old.core.inner.agreed) }
         ensures below { Goes Nothing (S.meaning self.old.shelf) (S.meaning self.new.shelf) }
+        ensures turn { ReadsInTurn self.old.core.inner.config unit self.old.core.inner.next self.new.core.inner.next block (length into.old / BLOCK) into.new (S.meaning self.old.shelf) (S.meaning self.new.shelf) result }
     {
         read_in(&mut self.shelf, &mut self.core, unit, block, into)
     }
 
-    /// Writes to each plex that is ACTIVE. Where one is held back, it is detached by a commit first, while a serial is left. A fault comes only
-    /// where each of them had a failed call on one of its disks in this call, or where a commit was refused; then no plex changes its state.
+    /// Writes to each plex that is ACTIVE. One that is held back is detached first, while a serial is left. A fault comes only where each had a failed
+    /// call on one of its disks in this call, or a commit was refused; then no plex changes its state.
     fn write(&mut self, unit: u32, block: u64, bytes: &[u8]) -> Result<(), ShelfError>
         requires { Fits (inner_meaning (wide self.old.core) (S.meaning self.old.shelf)) unit block (length bytes.now) }
         ensures goes { Goes (Written unit block bytes.now) (inner_meaning (wide self.old.core) (S.meaning self.old.shelf)) (inner_meaning (wide self.new.core) (S.meaning self.new.shelf)) }
@@ -356,6 +357,8 @@ impl<S: Shelf> Shelf for Group<S> {
         ensures works { OnOk result (Works (inner_meaning (wide self.old.core) (S.meaning self.old.shelf)).disks unit) }
         ensures disks { OnDisks (inner_meaning (wide self.old.core) (S.meaning self.old.shelf)).disks (inner_meaning (wide self.new.core) (S.meaning self.new.shelf)).disks (λ o n. Calls (inner_meaning (wide self.old.core) (S.meaning self.old.shelf)) (DisksWrote unit block bytes.now) o n result) }
         ensures gave_up { GivesUp unit self.old.core.inner self.new.core.inner (S.meaning self.old.shelf) (S.meaning self.new.shelf) result }
+        ensures marks { MarksOn unit self.old.core.inner.unsure self.new.core.inner.unsure result }
+        ensures ready { OnOk result (MissesNone self.new.core.inner) }
         ensures loses { LosesPlexes self.old.core.inner.config self.new.core.inner.config (S.meaning self.old.shelf) (S.meaning self.new.shelf) }
         ensures clear { self.old.core.inner.config.serial < greatest → OnOk result (self.new.core.held ≡ None) }
         ensures trust { OnOk result (self.old.core.inner.committed ≡ true → self.new.core.inner.committed ≡ true) }
@@ -375,6 +378,8 @@ impl<S: Shelf> Shelf for Group<S> {
         ensures works { OnOk result (Works (inner_meaning (wide self.old.core) (S.meaning self.old.shelf)).disks unit) }
         ensures disks { OnDisks (inner_meaning (wide self.old.core) (S.meaning self.old.shelf)).disks (inner_meaning (wide self.new.core) (S.meaning self.new.shelf)).disks (λ o n. Calls (inner_meaning (wide self.old.core) (S.meaning self.old.shelf)) (DisksFlushed unit) o n result) }
         ensures gave_up { GivesUp unit self.old.core.inner self.new.core.inner (S.meaning self.old.shelf) (S.meaning self.new.shelf) result }
+        ensures marks { MarksOn unit self.old.core.inner.unsure self.new.core.inner.unsure result }
+        ensures ready { OnOk result (MissesNone self.new.core.inner) }
         ensures loses { LosesPlexes self.old.core.inner.config self.new.core.inner.config (S.meaning self.old.shelf) (S.meaning self.new.shelf) }
         ensures clear { self.old.core.inner.config.serial < greatest → OnOk result (self.new.core.held ≡ None) }
         ensures trust { OnOk result (self.old.core.inner.committed ≡ true → self.new.core.inner.committed ≡ true) }

@@ -4,6 +4,8 @@ ghost use Rattle.std.specs.Prelude.{◌≡◌, ◌*◌, ◌+◌, ◌<◌, ◌≤
 ghost use Rattle.vx_config.specs.Table.{greatest};
 ghost use Rattle.vx_disk.specs.Causes.{Cause};
 ghost use Rattle.vx_disk.specs.Shelf.{Goes, Nothing};
+ghost use Rattle.vx_group.specs.Blames.{MarksOn};
+ghost use Rattle.vx_group.specs.GivesUp.{FaultMisses};
 ghost use Rattle.vx_group.specs.Holding.{GroupStands, wide};
 ghost use Rattle.vx_group.specs.Loses.{LosesPlexes, TrustsBut};
 ghost use Rattle.vx_group.specs.Stands.{InnerStands, inner_meaning};
@@ -45,6 +47,8 @@ fn lose_in<S: Shelf>(
     ensures finds { CoreFinds core.old core.new (S.meaning shelf.old) (S.meaning shelf.new) }
     ensures settles { CoreSettles core.old core.new (S.meaning shelf.old) (S.meaning shelf.new) }
     ensures logs { TrustsBut vol log core.old.config core.new.config }
+    ensures marks { MarksOn vol core.old.unsure core.new.unsure result }
+    ensures misses { FaultMisses core.new result }
     ensures cause { Cause (inner_meaning core.old (S.meaning shelf.old)) (inner_meaning core.new (S.meaning shelf.new)) vol result }
 {
     if shelf.is_down() {
@@ -86,6 +90,8 @@ pub fn lose_group<S: Shelf>(
     ensures agreed { IfErr result (λ e. core.old.inner.committed ≡ true → core.new.inner.agreed ≡ true) }
     ensures finds { GroupFinds core.old core.new (S.meaning shelf.old) (S.meaning shelf.new) }
     ensures logs { TrustsBut vol log core.old.inner.config core.new.inner.config }
+    ensures marks { MarksOn vol core.old.inner.unsure core.new.inner.unsure result }
+    ensures misses { FaultMisses core.new.inner result }
     ensures cause { Cause (inner_meaning (wide core.old) (S.meaning shelf.old)) (inner_meaning (wide core.new) (S.meaning shelf.new)) vol result }
 {
     if shelf.is_down() {

@@ -1,7 +1,7 @@
 // The flushes that come before the commit of a deport.
 ghost use Rattle.vx_group.specs.Loses.{TrustsStill};
 ghost use Rattle.vx_group.specs.Finds.{CoreFinds};
-ghost use Rattle.std.specs.Prelude.{◌≡◌, ◌<◌, ℕ, length, false, IsTrue};
+ghost use Rattle.std.specs.Prelude.{IfErr, IsTrue, false, length, true, ℕ, ◌<◌, ◌≡◌};
 ghost use Rattle.vx_config.specs.Table.{greatest};
 ghost use Rattle.vx_group.specs.Blames.{Blames, MarksUnsure};
 ghost use Rattle.vx_group.specs.Deports.{IsVolumeOf};
@@ -55,6 +55,7 @@ fn flush_one<S: Shelf>(shelf: &mut S, core: &mut Inner, vol: u32) -> Result<(), 
     requires up { IsTrue (S.meaning shelf.old).down → ⊥ }
     requires more { core.old.config.serial < greatest }
     ensures ends { QuiesceEnds (λ (v : ℕ). v ≡ vol) core.old core.new (S.meaning shelf.old) (S.meaning shelf.new) result }
+    ensures agreed { IfErr result (λ e. core.old.committed ≡ true → core.new.agreed ≡ true) }
     ensures finds { CoreFinds core.old core.new (S.meaning shelf.old) (S.meaning shelf.new) }
     ensures alikes { KeepsAlike (S.meaning shelf.old) (S.meaning shelf.new) }
     ensures settles { IfErr result (λ e. EndsSettled core.new (S.meaning shelf.old) (S.meaning shelf.new)) }
@@ -92,6 +93,7 @@ pub fn flush_volumes<S: Shelf>(shelf: &mut S, core: &mut Inner) -> Result<(), Sh
     requires up { IsTrue (S.meaning shelf.old).down → ⊥ }
     requires more { core.old.config.serial < greatest }
     ensures ends { QuiesceEnds (IsVolumeOf core.old) core.old core.new (S.meaning shelf.old) (S.meaning shelf.new) result }
+    ensures agreed { IfErr result (λ e. core.old.committed ≡ true → core.new.agreed ≡ true) }
     ensures finds { CoreFinds core.old core.new (S.meaning shelf.old) (S.meaning shelf.new) }
     ensures alikes { KeepsAlike (S.meaning shelf.old) (S.meaning shelf.new) }
     ensures settles { IfErr result (λ e. EndsSettled core.new (S.meaning shelf.old) (S.meaning shelf.new)) }

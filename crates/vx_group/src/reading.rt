@@ -1,17 +1,20 @@
 // A read of a volume.
-ghost use Rattle.std.specs.Prelude.{◌≡◌, length, OnOk};
+ghost use Rattle.std.specs.Prelude.{◌≡◌, ◌/◌, length, OnOk};
 ghost use Rattle.vx_disk.specs.Causes.{Cause, CountsOnly};
 ghost use Rattle.vx_disk.specs.Shelf.{Fits, Goes, Nothing, Read};
 ghost use Rattle.vx_group.specs.Holding.{GroupStands, wide};
 ghost use Rattle.vx_group.specs.Stands.{inner_meaning};
+ghost use Rattle.vx_group.specs.Turns.{ReadsInTurn};
+ghost use Rattle.vx_model.specs.declared.limits.TheConstants.{BLOCK};
 
-use crate::counting::count_fault;
+use crate::counting::{count_fault, set_next};
 use crate::group_core::GroupCore;
 use vx_disk::{Shelf, ShelfError};
 use vx_model::No;
 use vx_volume::{Volume, read};
 
-/// Reads a run of blocks of a volume, from one plex that is ACTIVE.
+/// Reads a run of blocks of a volume, from one plex that is ACTIVE: the preferred one or the next in turn, or the first behind it that does not fail. It fails
+/// only where a call on a disk of each of them failed.
 pub fn read_in<S: Shelf>(
     shelf: &mut S,
     core: &mut GroupCore,
@@ -34,6 +37,7 @@ pub fn read_in<S: Shelf>(
     ensures same { core.new.inner.config ≡ core.old.inner.config }
     ensures settled { core.new.inner.unsettled ≡ core.old.inner.unsettled }
     ensures unsure { core.new.inner.unsure ≡ core.old.inner.unsure }
+    ensures turn { ReadsInTurn core.old.inner.config vol core.old.inner.next core.new.inner.next block (length into.old / BLOCK) into.new (S.meaning shelf.old) (S.meaning shelf.new) result }
 {
     if shelf.is_down() {
         return Err(ShelfError::Down);
@@ -44,7 +48,7 @@ pub fn read_in<S: Shelf>(
     };
     match read(&mut volume, &core.inner.config, shelf, block, into) {
         Ok(()) => {
-            core.inner.next[vol as usize] = volume.next;
+            set_next(&mut core.inner.next, vol, volume.next);
             Ok(())
         }
         Err(No::Device { disk }) => {

@@ -4,7 +4,7 @@ ghost use Rattle.vx_group.specs.Finds.{CoreFinds};
 ghost use Rattle.std.specs.Prelude.{◌≡◌, ◌⊎◌, ◌+◌, ◌<◌, ◌≤◌, length, true, false, IfErr, IfOk, IsTrue, OnOk};
 ghost use Rattle.vx_copies.specs.Commits.{MoreFailed, NamesFailed};
 ghost use Rattle.vx_group.specs.Blames.{Blames};
-ghost use Rattle.vx_group.specs.GivesUp.{NoCommit};
+ghost use Rattle.vx_group.specs.GivesUp.{MissesNone, NoCommit};
 ghost use Rattle.vx_group.specs.Loses.{SameParts};
 ghost use Rattle.vx_group.specs.Moves.{Narrows};
 ghost use Rattle.vx_group.specs.Quiesces.{AnyFailed};
@@ -116,10 +116,10 @@ pub fn make_ready<S: Shelf>(shelf: &mut S, core: &mut Inner) -> Result<(), Shelf
     ensures full { greatest ≤ core.old.config.serial → greatest ≤ core.new.config.serial }
     ensures good { core.new.unsettled ≡ true → core.new.good ≡ core.old.good }
     ensures missed { IfErr result (λ e. NoCommit core.new (S.meaning shelf.new)) }
+    ensures ready { OnOk result (MissesNone core.new) }
     ensures trust { OnOk result (core.old.committed ≡ true → core.new.committed ≡ true) }
     ensures agreed { IfErr result (λ e. core.old.committed ≡ true → core.new.agreed ≡ true) }
     ensures finds { CoreFinds core.old core.new (S.meaning shelf.old) (S.meaning shelf.new) }
-    ensures ready { OnOk result (core.new.unsettled ≡ true → greatest ≤ core.new.config.serial) }
     ensures settles { CoreSettles core.old core.new (S.meaning shelf.old) (S.meaning shelf.new) }
     ensures cause { Blames (S.meaning shelf.old) (S.meaning shelf.new) result }
 {

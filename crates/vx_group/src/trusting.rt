@@ -8,6 +8,7 @@ ghost use Rattle.vx_config.specs.Table.{greatest};
 ghost use Rattle.vx_disk.specs.Shelf.{Goes, Nothing};
 ghost use Rattle.vx_group.specs.Blames.{Blames};
 ghost use Rattle.vx_group.specs.Holding.{GroupStands, wide};
+ghost use Rattle.vx_group.specs.GivesUp.{FaultMisses, NoCommit};
 ghost use Rattle.vx_group.specs.Loses.{LosesPlexes, TrustsStill};
 ghost use Rattle.vx_group.specs.Settles.{CoreSettles};
 ghost use Rattle.vx_group.specs.Stands.{InnerStands, inner_meaning};
@@ -59,6 +60,7 @@ fn trust_log<S: Shelf>(
     ensures finds { CoreFinds core.old core.new (S.meaning shelf.old) (S.meaning shelf.new) }
     ensures settles { CoreSettles core.old core.new (S.meaning shelf.old) (S.meaning shelf.new) }
     ensures logs { TrustsStill core.old.config core.new.config }
+    ensures missed { IfErr result (λ e. NoCommit core.new (S.meaning shelf.new)) }
     ensures cause { Blames (S.meaning shelf.old) (S.meaning shelf.new) result }
 {
     match settle_headers(shelf, core) {
@@ -100,6 +102,7 @@ pub fn trust_group<S: Shelf>(
     ensures agreed { IfErr result (λ e. core.old.inner.committed ≡ true → core.new.inner.agreed ≡ true) }
     ensures finds { GroupFinds core.old core.new (S.meaning shelf.old) (S.meaning shelf.new) }
     ensures logs { TrustsStill core.old.inner.config core.new.inner.config }
+    ensures misses { FaultMisses core.new.inner result }
     ensures cause { Blames (S.meaning shelf.old) (S.meaning shelf.new) result }
 {
     if shelf.is_down() {

@@ -1,6 +1,8 @@
 -- What an import that was refused leaves of the note of a site: nothing, or that it is not known any more what its disks hold.
-use Rattle.std.proofs.Common.{◌≡◌, ◌⊎◌, inl, inr, ℕ, Bool, true, false, refl}
+use Rattle.std.proofs.Common.{◌≡◌, ◌∙◌, ◌⊎◌, inl, inr, ℕ, Bool, true, false, List, [], ◌∷◌, arith, refl, subst, sym}
+use Rattle.std.specs.Prelude.{Contains}
 use Rattle.vx_model.specs.declared.no.No.{No}
+use Rattle.vx_model.specs.declared.no.No.TheVariants.{NoConfig}
 use Rattle.vx_model.specs.Refusals.{IsNoDevice}
 use Rattle.vx_history.specs.Groups.{GroupNode}
 use Rattle.vx_grouped.specs.GroupNotes.{note_dimmed}
@@ -44,3 +46,27 @@ pub early_known : (told : Type 0) (dims : Bool) (s : ℕ) (note : GroupNode) (fa
     → KnownBy told false dims s note fails why
 early_known told true s note fails why loose none other same = inr (inr (inl (loose refl)), other)
 early_known told false s note fails why loose none other same = inl (none, same note)
+
+-- None has a configuration: then a call on a disk failed, unless it is not known what they hold, or a configuration was begun.
+pub none_found : (told told_new : Type 0) (dims : Bool) (s : ℕ) (note : GroupNode) (fails : Fails) → (dims ≡ true → note.loose ≡ true) → (told → (dimmed_by false dims note).dark ≡ false → told_new)
+    → (told_new × (note.loose ≡ false) × (note.begun ≡ []) → fails ≡ [] → ⊥) → NotFound s note fails NoConfig ⊎ KnowsNothing told note
+none_found told told_new dims s note fails loose tells never = by_loose note.loose refl
+  where
+    by_fails : note.loose ≡ false → note.begun ≡ [] → (l : Fails) → fails ≡ l → NotFound s note fails NoConfig ⊎ KnowsNothing told note
+    by_fails tight none [] is = inr (knows_none told dims note loose (λ yes_ bright. never (tells yes_ bright, tight, none) is))
+    by_fails tight none (x ∷ xs) is = inl (λ no_try no_fails. let clash : x ∷ xs ≡ [] = sym is ∙ no_fails in cc)
+
+    by_begun : note.loose ≡ false → (l : List (List ℕ)) → note.begun ≡ l → NotFound s note fails NoConfig ⊎ KnowsNothing told note
+    by_begun tight [] is = by_fails tight is fails refl
+    by_begun tight (x ∷ xs) is = inl (λ no_try no_fails. let clash : x ∷ xs ≡ [] = sym is ∙ no_try in cc)
+
+    by_loose : (b : Bool) → note.loose ≡ b → NotFound s note fails NoConfig ⊎ KnowsNothing told note
+    by_loose true is = inr (inr (inl is))
+    by_loose false is = by_begun is note.begun refl
+
+-- no call is in a list that is empty
+pub no_call : (fails : Fails) (x : ℕ × ℕ) → fails ≡ [] → Contains fails x → ⊥
+no_call fails x none has = by (subst (λ (l : Fails). Contains l x) none has)
+  where
+    by : Contains [] x → ⊥
+    by (k, low, is) = omega (arith, low)

@@ -50,10 +50,12 @@ use Rattle.vx_yard.proofs.FailsStay.{fails_then}
 use Rattle.vx_yard.proofs.FuseStays.{fused_none}
 use Rattle.vx_yard.proofs.NamedSite.{place_at, unbegun_for}
 use Rattle.vx_yard.proofs.NoteSite.{comes_same}
+use Rattle.vx_yard.proofs.OfSites.{recovers_rest}
 use Rattle.vx_yard.proofs.OneSite.{Changed, role_off, rose_at, stands_still, told_by}
 use Rattle.vx_yard.proofs.RecoverLine.{bare_events, recover_done}
 use Rattle.vx_yard.proofs.SiteEvents.{first_choice}
 use Rattle.vx_yard.specs.GroupFacts.{group_up_facts}
+use Rattle.vx_yard.specs.OfSites.{OfSite, RecoversAs}
 use Rattle.vx_yard.specs.Replies.{reply_to}
 use Rattle.vx_yard.specs.Standing.{LeadsFound, LeadsFoundIs, StandsFor, StaysFor}
 use Rattle.vx_yard.specs.Stands.{RoseAll}
@@ -127,7 +129,7 @@ module _ {R : Type 0} {g : Ghosts R} where
           ended [] (SaidNo why) here facts
           (FindsNone never first_choice false name d (raw_set s n) why refl (FromBare site.bare refl refl) other refl refl (record { world = refl; after = λ i. refl })) rose_here
 
-      by_why : (why : No) → ImportWhy ⊥ (bare_disks before) (bare_disks after) (Refused why) → SiteStands (beside_of d s) n after → new.facts.items ≡ old.facts.items → LeadsFound d (Recover name) (SaidNo why) old new
+      by_why : (why : No) → ImportWhy ⊥ ⊥ (bare_disks before) (bare_disks after) (Refused why) → SiteStands (beside_of d s) n after → new.facts.items ≡ old.facts.items → LeadsFound d (Recover name) (SaidNo why) old new
       by_why (Device disk) because here facts =
           let rose : Rose (faults_at before disk) (faults_at after disk) = subst (λ (k : ℕ). Rose k (faults_at after disk)) (bare_counts (beside_of d s) n before site.stood site.bare disk)
           (subst (λ (k : ℕ). Rose ((bare_disks before).disk_faults disk) k) (bare_counts (beside_of d s) n after here site.bare disk) because) in
@@ -141,7 +143,7 @@ module _ {R : Type 0} {g : Ghosts R} where
       by_why (Format version) because here facts = not_there (Format version) tt here facts
       by_why other because here facts = absurd because
 
-      by_stop : (stop : Stop) → (stop ≡ Refused NoConfig) ⊎ ImportWhy ⊥ (bare_disks before) (bare_disks after) stop → SiteStands (beside_of d s) n after → new.facts.items ≡ old.facts.items
+      by_stop : (stop : Stop) → (stop ≡ Refused NoConfig) ⊎ ImportWhy ⊥ ⊥ (bare_disks before) (bare_disks after) stop → SiteStands (beside_of d s) n after → new.facts.items ≡ old.facts.items
           → LeadsFoundIs d (Recover name) old new (reply_to stop)
       by_stop stop (inl none) here facts = subst (λ (x : Stop). LeadsFoundIs d (Recover name) old new (reply_to x)) (sym none) (not_there NoConfig tt here facts)
       by_stop (Refused why) (inr because) here facts = by_why why because here facts
@@ -235,6 +237,12 @@ module _ {R : Type 0} {g : Ghosts R} where
   -- ---- the site of the line
 
   -- its state, as the tests see it
+  -- a recovery of a bare site asks that no disk is made to fail
+  pub bare_asks : (d : Doubted) (name : List ℕ) (old new : Yard R g) → (d.world.nodes (site_number d.world name)).state ≡ IsBare → OfSite SameFailing (site_number d.world name) old new
+      → RecoversAs (d.world.nodes (site_number d.world name)).state (site_number d.world name) old new
+  bare_asks d name old new bare of =
+      recovers_rest (d.world.nodes (site_number d.world name)).state (site_number d.world name) old new (λ up. let clash : IsBare ≡ IsUp = sym bare ∙ up in absurd (cc)) of
+
   pub state_of : (d : Doubted) (y : Yard R g) (name : List ℕ) (s : ℕ) (f : SiteFacts) → StandsFor d y → seat_of y.facts.items name ≡ Some s → slice_get y.facts.items s ≡ Some f → (d.world.nodes s).state ≡ f.state
   state_of d y name s f stands seat at =
       let n : Node = d.world.nodes s in

@@ -20,7 +20,7 @@ use Rattle.vx_volume.specs.Plexes.{active}
 use Rattle.vx_order.specs.declared.facts.VolumeFacts.{VolumeFacts}
 use Rattle.vx_script.specs.declared.line.ScriptLine.TheVariants.{PlexAttach}
 use Rattle.vx_maplog.specs.Logs.{log_of, log_or}
-use Rattle.vx_grouped.specs.ConfigMoves.{AttDone, AttFails}
+use Rattle.vx_grouped.specs.ConfigMoves.{AttCuts, AttDone, AttFails}
 use Rattle.vx_grouped.specs.Copied.{CopiesRegions}
 use Rattle.vx_grouped.specs.GroupNotes.{NotesConfig}
 use Rattle.vx_grouped.specs.GroupSites.{UpNoted, site_config}
@@ -33,7 +33,7 @@ use Rattle.vx_diskset.specs.declared.disk_set.DiskSet.TheVariants.{OfGroup}
 use Rattle.vx_diskset.specs.declared.group_set.GroupSet.{GroupSet}
 use Rattle.vx_volume.specs.Plexes.{uses}
 use Rattle.vx_group.specs.Attaches.{region_count}
-use Rattle.vx_events.specs.GroupConfigs.{ConfigLosesBut, lies_on_disk}
+use Rattle.vx_events.specs.GroupConfigs.{ConfigKeepsBut, lies_on_disk}
 use Rattle.vx_events.specs.GroupLines.{plain_number}
 use Rattle.vx_events.specs.GroupNotes.{note_at, Reconfigures}
 use Rattle.vx_events.specs.GroupReplies.{AttachCopies, entry_maps, volume_maps, volume_regions}
@@ -44,7 +44,7 @@ use Rattle.vx_events.specs.declared.said.Said.TheVariants.{DoneAt}
 use Rattle.vx_yard.proofs.Carrying.{SameLoad}
 use Rattle.vx_yard.specs.Standing.{LeadsOver, LeadsOverIs, StandsFor}
 use Rattle.vx_yard.specs.declared.yard.Yard.{Yard}
-use Rattle.vx_group_lines.proofs.Changing.{PutsOr, att_done, att_table, att_to, notes_config, reconfigures, stated_table}
+use Rattle.vx_group_lines.proofs.Changing.{PutsOr, att_done, att_kept, att_table, att_to, keeps_table, notes_config, reconfigures, stated_table}
 use Rattle.vx_group_lines.proofs.GroupCalls.{sets_then, maps_were}
 use Rattle.vx_group_lines.proofs.GroupDone.{done_leads, refused_leads}
 use Rattle.vx_group_lines.proofs.GroupEnding.{Calling, Midway, SameTable}
@@ -53,6 +53,7 @@ use Rattle.vx_grouped.specs.SiteMaps.{AttMapped, AttMaps, MapsLike, MapsOf, Stan
 use Rattle.vx_grouped.specs.MapsNoted.{CopiesNoted}
 use Rattle.vx_events.specs.GroupMaps.{MapsAttached, MapsCalled, MapsLost}
 use Rattle.vx_group_lines.proofs.MapGoing.{on_map, with_goes}
+use Rattle.vx_group_lines.proofs.Serials.{att_left}
 use Rattle.vx_group_lines.proofs.MapLines.{att_named, copies_known, copies_unknown, like_named, logs_low}
 use Rattle.vx_group_lines.specs.Noting.{IsNotedRefusal, reply_noted}
 
@@ -130,6 +131,15 @@ module _ {R : Type 0} {g : Ghosts R} where
       (λ no at. refused no (subst (λ (x : DiskSet R g). AtSite (λ (o : GroupSite R g). refuses_att o v p ≡ Some no) x) (sym is) at))
       (λ at on. already (subst (λ (x : DiskSet R g). AtSite (λ (o : GroupSite R g). refuses_att o v p ≡ None) x) (sym is) at) (subst (λ (x : DiskSet R g). AtSite (λ (o : GroupSite R g). IsTrue (is_plex_on o v p)) x) (sym is) on)) on))
 
+  -- no test refused one that is done
+  pub att_never : (before : DiskSet R g) (set : GroupSet R g) {v w p q : ℕ} (count : ℕ) → before ≡ OfGroup set → v ≡ w → p ≡ q → ((no : No) → AtSite (λ o. refuses_att o v p ≡ Some no) before → (let r : Result ℕ Stop = Ok count in r) ≡ Err (StopsBy no))
+      → (no : No) → refuses_att set.site w q ≡ Some no → ⊥
+  att_never before set {v} {w} {p} {q} count is number plex refused no at =
+      let clash =
+      refused no (subst (λ (x : DiskSet R g). AtSite (λ (o : GroupSite R g). refuses_att o v p ≡ Some no) x) (sym is)
+      (subst (λ (k : ℕ). refuses_att set.site k p ≡ Some no) (sym number) (subst (λ (k : ℕ). refuses_att set.site w k ≡ Some no) (sym plex) at))) in
+      absurd (cc)
+
   pub att_all : (before : DiskSet R g) (set : GroupSet R g) {v w p q : ℕ} (count : ℕ) → before ≡ OfGroup set → v ≡ w → p ≡ q → (AtSite (λ o. is_plex_on o v p ≡ false) before → AtSite (λ o. RegionsOf o v count) before)
       → is_plex_on set.site w q ≡ false → RegionsOf set.site w count
   att_all before set {v} {w} {p} {q} count is number plex all =
@@ -150,13 +160,16 @@ module _ {R : Type 0} {g : Ghosts R} where
     abbrev v : ℕ
     v = plain_number (note_at (d.world.nodes s)) volume
 
-    att_table_is : SameTable note (λ o e. AttFails v plex o e)
-    att_table_is = record { same = λ many o e t fails next was now names noted noted_now change. att_table t many fails o e note next names v plex was now noted noted_now change }
+    att_fails_same : SameTable note (λ o e. AttFails v plex o e)
+    att_fails_same = record { same = λ many o e t fails next was now names noted noted_now change. keeps_table t many fails o e note next names (uses was v plex) was now noted noted_now change }
+
+    att_cuts_same : SameTable note (λ o e. AttCuts v plex o e)
+    att_cuts_same = record { same = λ many o e t fails next was now names noted noted_now change. att_table t many fails o e note next names v plex was now noted noted_now change }
 
     pub att_ends : (count : ℕ) → OnSites (λ o e. AttCalled n note v plex o e (Ok count)) before after → OnSites (λ o e. AttMapped v plex o e (Ok count)) before after → (IsTrue (is_plex_on it.call.at.set.site v plex) → count ≡ 0) → (is_plex_on it.call.at.set.site v plex ≡ false → RegionsOf it.call.at.set.site v count)
-        → new.facts.items ≡ old.facts.items → SameLoad old new → LeadsOver d (PlexAttach name volume plex) (DoneAt count) old new
-    att_ends count on maps none all facts load =
-        done_leads d (PlexAttach name volume plex) old new name s before after stands it (λ o e. AttDone v plex o e) (λ o e. AttFails v plex o e) (AttMaps v plex) (λ o which. refuses_att o v plex ≡ Some which) (DoneAt count) count (λ k h. h)
+        → ((no : No) → refuses_att it.call.at.set.site v plex ≡ Some no → ⊥) → new.facts.items ≡ old.facts.items → SameLoad old new → LeadsOver d (PlexAttach name volume plex) (DoneAt count) old new
+    att_ends count on maps none all never facts load =
+        done_leads d (PlexAttach name volume plex) old new name s before after stands it true (λ o e. AttDone v plex o e) (λ o e. AttFails v plex o e) (λ o e. AttCuts v plex o e) (AttMaps v plex) (λ o which. refuses_att o v plex ≡ Some which) (DoneAt count) count (λ k h. h)
         (record {
           ends = λ many fails o e next was now names noted noted_now enough logs change keeps w by. (
             with_goes (Reconfigures (λ c x. PutsOr s fails (λ k. lies_on_disk c v plex k) v plex Active c x) NoteSettles) (MapsAttached s fails v plex) note next was now w noted noted_now
@@ -165,6 +178,7 @@ module _ {R : Type 0} {g : Ghosts R} where
                 (att_named s many fails o e names was now (λ u k. logs_low was many u k logs) note.maps w v plex by),
             att_copies n note it.call.at.set.site v plex count is_up (maps_were d old new name s before after stands it.call)
                 (sets_then (λ o e. AttMapped v plex o e (Ok count)) before after it.call.at.set it.call.at.is_set maps).holds.1 none all,
+            att_left n note it.call.at.set.site v plex is_up (maps_were d old new name s before after stands it.call) never,
           );
         })
         (record { same = λ many o e t fails next was now names noted noted_now change. stated_table t many fails o e note next names (λ k. uses was v plex k) v plex Active was now noted noted_now change })
@@ -173,24 +187,23 @@ module _ {R : Type 0} {g : Ghosts R} where
     pub att_refused : (mid : Yard R g) (result : Result Said OutOfMemory) → Midway old mid → (why : No) → OnSites (λ o e. AttCalled n note v plex o e (Err (StopsBy why))) before after
         → OnSites (λ o e. AttMapped v plex o e (Err (StopsBy why))) before after → IsNotedRefusal s (fact_of_group (d.world.nodes s) (note_at (d.world.nodes s))) why mid new result → LeadsOverIs d (PlexAttach name volume plex) old new result
     att_refused mid result half why on maps refusal =
-        refused_leads d (PlexAttach name volume plex) old new name s before after stands it mid half result ℕ (λ o e. AttDone v plex o e) (λ o e. AttFails v plex o e) MapsLike (λ o which. refuses_att o v plex ≡ Some which)
+        refused_leads d (PlexAttach name volume plex) old new name s before after stands it mid half result ℕ true (λ o e. AttDone v plex o e) (λ o e. AttFails v plex o e) (λ o e. AttCuts v plex o e) MapsLike (λ o which. refuses_att o v plex ≡ Some which)
         (record {
           ends = λ many fails o e next was now names noted noted_now enough logs change keeps w by.
-              with_goes (Reconfigures (λ c x. ConfigLosesBut (λ k. lies_on_disk c v plex k) s fails c x ⊎ PutsOr s fails (λ k. lies_on_disk c v plex k) v plex Active c x) NoteUnsettles) (MapsCalled s fails) note next was now w noted noted_now
-              (reconfigures s many fails o e note next names
-              (λ c x. ConfigLosesBut (λ k. lies_on_disk c v plex k) s fails c x ⊎ PutsOr s fails (λ k. lies_on_disk c v plex k) v plex Active c x) (λ a b. NoteUnsettles a b) was now noted noted_now
-              (att_to s many fails o e note next names v plex was now enough change) keeps)
+              with_goes (Reconfigures (λ c x. ConfigKeepsBut (λ k. lies_on_disk c v plex k) s fails c x) (NoteUnsettles true)) (MapsCalled s fails) note next was now w noted noted_now
+              (reconfigures s many fails o e note next names (λ c x. ConfigKeepsBut (λ k. lies_on_disk c v plex k) s fails c x) (λ a b. NoteUnsettles true a b) was now noted noted_now
+              (att_kept s many fails o e note next names v plex was now enough change) keeps)
               (like_named s many fails o e names was now (λ u k. logs_low was many u k logs) note.maps w by);
         })
         (record {
           ends = λ many fails o e next was now names noted noted_now enough logs change keeps w by.
-              with_goes (Reconfigures (λ c x. ConfigLosesBut (λ k. lies_on_disk c v plex k) s fails c x ⊎ PutsOr s fails (λ k. lies_on_disk c v plex k) v plex Active c x) NoteUnsettles) MapsLost note next was now w noted noted_now
+              with_goes (Reconfigures (λ c x. ConfigKeepsBut (λ k. lies_on_disk c v plex k) s fails c x ⊎ PutsOr s fails (λ k. lies_on_disk c v plex k) v plex Active c x) (NoteUnsettles true)) MapsLost note next was now w noted noted_now
               (reconfigures s many fails o e note next names
-              (λ c x. ConfigLosesBut (λ k. lies_on_disk c v plex k) s fails c x ⊎ PutsOr s fails (λ k. lies_on_disk c v plex k) v plex Active c x) (λ a b. NoteUnsettles a b) was now noted noted_now
+              (λ c x. ConfigKeepsBut (λ k. lies_on_disk c v plex k) s fails c x ⊎ PutsOr s fails (λ k. lies_on_disk c v plex k) v plex Active c x) (λ a b. NoteUnsettles true a b) was now noted noted_now
               (att_to s many fails o e note next names v plex was now enough change) keeps)
               (record { none = by.none });
         })
-        att_table_is (λ which is. att_wants n note it.call.at.set.site name volume plex found which is_up at below is) why on maps refusal
+        att_fails_same att_cuts_same (λ which is. att_wants n note it.call.at.set.site name volume plex found which is_up (maps_were d old new name s before after stands it.call) at below is) why on maps refusal
 
     att_memory : OnSites (λ o e. AttCalled n note v plex o e (Err MemoryStop)) before after → ⊥
     att_memory on = (sets_then (λ o e. AttCalled n note v plex o e (Err MemoryStop)) before after it.call.at.set it.call.at.is_set on).holds

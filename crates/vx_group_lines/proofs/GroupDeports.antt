@@ -4,13 +4,10 @@ use Rattle.std.specs.Prelude.{None, IsTrue, slice_set, Result, Ok, Err}
 use Rattle.vx_model.specs.declared.errors.OutOfMemory.{OutOfMemory}
 use Rattle.vx_model.specs.declared.errors.Stop.{Stop}
 use Rattle.vx_model.specs.declared.errors.Stop.TheVariants.{No as StopsBy, OutOfMemory as MemoryStop}
-use Rattle.vx_model.specs.declared.no.Counted.TheVariants.{Number as Numbers}
 use Rattle.vx_model.specs.declared.no.No.{No}
-use Rattle.vx_model.specs.declared.no.No.TheVariants.{Limit}
 use Rattle.vx_model.specs.declared.site.SiteState.TheVariants.{Up as IsUp, Deported as IsDeported}
 use Rattle.vx_disk.specs.Shelf.{Meaning}
 use Rattle.vx_disk.specs.declared.shelf.Shelf.{Ghosts}
-use Rattle.vx_config.specs.Table.{greatest}
 use Rattle.vx_config.specs.declared.config.Config.{Config}
 use Rattle.vx_history.specs.Doubts.{Doubted, happened}
 use Rattle.vx_history.specs.Groups.{GroupNode, NoteSettles, NoteUnsettles}
@@ -21,10 +18,10 @@ use Rattle.vx_kept.specs.Cleans.{at_serial}
 use Rattle.vx_order.specs.declared.facts.SiteFacts.{SiteFacts}
 use Rattle.vx_order.specs.declared.facts.VolumeFacts.{VolumeFacts}
 use Rattle.vx_script.specs.declared.line.ScriptLine.TheVariants.{GroupDeport}
-use Rattle.vx_grouped.specs.ConfigMoves.{AnyState, CleansPlexes, LosesSome, OpensSame, none_again}
+use Rattle.vx_grouped.specs.ConfigMoves.{CleansPlexes, LosesSome, OpensMost, OpensSame, none_again}
 use Rattle.vx_grouped.specs.GroupNotes.{NotesConfig}
 use Rattle.vx_grouped.specs.GroupSites.{AwayNoted, HasNoRvg, deported_with, site_disks}
-use Rattle.vx_grouped.specs.SiteEnds.{ConfigGoes, SiteDeported}
+use Rattle.vx_grouped.specs.SiteEnds.{ConfigGoes, LacksDeport, SiteDeported}
 use Rattle.vx_grouped.specs.declared.group_site.GroupSite.{GroupSite}
 use Rattle.vx_grouped.specs.declared.group_site.GroupSite.TheVariants.{Up as SiteUp, Deported as SiteAway, Down as SiteDown, Marked, Gone as SiteGone}
 use Rattle.vx_diskset.specs.Asked.{FailsAs, FusedAs}
@@ -33,7 +30,7 @@ use Rattle.vx_diskset.specs.GroupSets.{cut_value}
 use Rattle.vx_diskset.specs.Holds.{beside_of}
 use Rattle.vx_diskset.specs.declared.disk_set.DiskSet.{DiskSet}
 use Rattle.vx_events.specs.Fails.{Fails}
-use Rattle.vx_events.specs.GroupConfigs.{ConfigLoses, opened_again}
+use Rattle.vx_events.specs.GroupConfigs.{ConfigLoses, ConfigRests, StateRests, opened_again}
 use Rattle.vx_events.specs.GroupEnds.{GroupDone, GroupWants}
 use Rattle.vx_events.specs.GroupLines.{noting}
 use Rattle.vx_events.specs.GroupNotes.{note_at, Reconfigures}
@@ -57,13 +54,14 @@ use Rattle.vx_group_lines.proofs.GroupDone.{refused_leads}
 use Rattle.vx_group_lines.proofs.GroupEnding.{Calling, Midway, since_at}
 use Rattle.vx_group_lines.proofs.GroupLeads.{away_set, follows_off, leads_by, sized_of}
 use Rattle.vx_group_lines.proofs.GroupMarks.{begins_at}
-use Rattle.vx_group_lines.proofs.Losing.{Names, any_loses, facts_move, opened_loses, opens_loses}
-use Rattle.vx_grouped.specs.SiteMaps.{DeportMapped, MapsLike}
+use Rattle.vx_group_lines.proofs.Losing.{Names, facts_move, most_rests, opened_goes, opens_rests}
+use Rattle.vx_grouped.specs.SiteMaps.{DeportMapped, MapsLike, StandMaps}
 use Rattle.vx_grouped.proofs.MapNoteLemmas.{away_with_maps}
 use Rattle.vx_history.specs.Missing.{with_maps}
 use Rattle.vx_events.specs.GroupMaps.{MapsCalled, MapsLost}
 use Rattle.vx_group_lines.proofs.MapGoing.{MapsAway, goes_away, on_both, with_goes}
 use Rattle.vx_group_lines.proofs.MapLines.{like_named, logs_bound, logs_low}
+use Rattle.vx_group_lines.proofs.Serials.{lacks_past, serial_noted}
 use Rattle.vx_group_lines.specs.Noting.{IsNotedRefusal, reply_noted}
 
 -- the facts of a site whose group was deported
@@ -76,19 +74,25 @@ failed_disk (inl moves) = 0
 failed_disk (inr (any, moves)) = any.0
 
 module _ (s many : ℕ) (fails : Fails) (o e : Meaning) (note next : GroupNode) (names : Names s many fails o e) where
-  cleans_to : (was now : Config) → length was.disks ≤ many → (it : CleansPlexes o e was now) → failed_disk it < many → ConfigLoses s fails (opened_again (at_serial 0 was)) (opened_again (at_serial 0 now))
-  cleans_to was now enough (inl moves) below = opened_loses OpensSame fails none_again s many o e was now (λ p q it. opens_loses fails p q it) names enough moves
+  cleans_to : (was now : Config) → length was.disks ≤ many → (it : CleansPlexes o e was now) → failed_disk it < many → ConfigRests s fails (opened_again (at_serial 0 was)) (opened_again (at_serial 0 now))
+  cleans_to was now enough (inl moves) below = opened_goes OpensSame (StateRests s fails) fails none_again s many o e was now (λ v p t it. opens_rests s fails v p t it) names enough moves
   cleans_to was now enough (inr (any, moves)) below =
-      opened_loses AnyState fails none_again s many o e was now (λ p q it. any_loses fails (contains_some fails (s, any.0) (names.each any.0 below any.1)) p q it) names enough moves
+      opened_goes (OpensMost o e) (StateRests s fails) fails none_again s many o e was now
+      (λ v p t it. most_rests s many fails o e names (contains_some fails (s, any.0) (names.each any.0 below any.1)) v p t it) names enough moves
 
   cleans_table : (was now : Config) → NotesConfig note was → NotesConfig next now → CleansPlexes o e was now → noted_table next ≡ noted_table note
   cleans_table was now noted noted_now (inl moves) = notes_table next now noted_now ∙ facts_move none_again OpensSame o e was now moves ∙ sym (notes_table note was noted)
-  cleans_table was now noted noted_now (inr (any, moves)) = notes_table next now noted_now ∙ facts_move none_again AnyState o e was now moves ∙ sym (notes_table note was noted)
-
-limit_wants : (note : GroupNode) (name : List ℕ) (why : No) → why ≡ Limit Numbers greatest → GroupWants note (GroupDeport name) why
-limit_wants note name why is = subst (λ (w : No). GroupWants note (GroupDeport name) w) (sym is) (tt, refl)
+  cleans_table was now noted noted_now (inr (any, moves)) = notes_table next now noted_now ∙ facts_move none_again (OpensMost o e) o e was now moves ∙ sym (notes_table note was noted)
 
 module _ {R : Type 0} {g : Ghosts R} where
+  limit_wants : (note : GroupNode) (e : GroupSite R g) (name : List ℕ) (why : No) → StandMaps note e → LacksDeport e why → GroupWants note (GroupDeport name) why
+  limit_wants note (SiteUp group) name why maps lacks =
+      subst (λ (w : No). GroupWants note (GroupDeport name) w) (sym lacks.0) (tt, refl, lacks_past note group.core.inner.config.serial (serial_noted note group maps) lacks.1)
+  limit_wants note (SiteAway idle) name why maps lacks = absurd lacks
+  limit_wants note (SiteDown idle) name why maps lacks = absurd lacks
+  limit_wants note (Marked rack) name why maps lacks = absurd lacks
+  limit_wants note SiteGone name why maps lacks = absurd lacks
+
   site_away : (n : Node) (note : GroupNode) (e : GroupSite R g) → AwayNoted n note e → IsTrue (site_disks e).down → ⊥
   site_away n note (SiteUp group) it = absurd it
   site_away n note (SiteAway idle) it = it.up
@@ -131,8 +135,8 @@ module _ {R : Type 0} {g : Ghosts R} where
         let clear : cut_value then.set.cut ≡ None = ap (λ (x : DiskSet R g). cut_in x) (sym then.is) ∙ it.cut ∙ ap (λ (x : DiskSet R g). cut_in x) it.call.at.is_set ∙ set_uncut d old new name s before after stands it.call it.up in
         leads_by d last (GroupDeport name) s fails Done old new it.is_line.place
         (GroupDone k (calls_are d old new name s before after stands it.call many) (
-          with_goes (Reconfigures (λ c x. ConfigLoses s fails (opened_again c) (opened_again x)) NoteSettles) (MapsCalled s fails) note next goes.was go.config go.maps goes.noted go.noted
-              (reconfigures s many fails (site_disks was_site) (site_disks then.set.site) note next names (λ c x. ConfigLoses s fails (opened_again c) (opened_again x)) (λ a b. NoteSettles a b) goes.was goes.now goes.noted goes.noted_now
+          with_goes (Reconfigures (λ c x. ConfigRests s fails (opened_again c) (opened_again x)) NoteSettles) (MapsCalled s fails) note next goes.was go.config go.maps goes.noted go.noted
+              (reconfigures s many fails (site_disks was_site) (site_disks then.set.site) note next names (λ c x. ConfigRests s fails (opened_again c) (opened_again x)) (λ a b. NoteSettles a b) goes.was goes.now goes.noted goes.noted_now
               (cleans_to s many fails (site_disks was_site) (site_disks then.set.site) note next names goes.was goes.now (omega arith) goes.change (omega arith)) then.holds.1)
               (like_named s many fails (site_disks was_site) (site_disks then.set.site) names goes.was go.config (λ u j. logs_low goes.was many u j (omega arith)) note.maps go.maps go.by),
           refl,
@@ -153,21 +157,22 @@ module _ {R : Type 0} {g : Ghosts R} where
     pub deport_refused : (mid : Yard R g) (result : Result Said OutOfMemory) → Midway old mid → (why : No) → OnSites (λ o e. SiteDeported n note o e (Err (StopsBy why))) before after
         → OnSites (λ o e. DeportMapped o e (Err (StopsBy why))) before after → IsNotedRefusal s (fact_of_group (d.world.nodes s) (note_at (d.world.nodes s))) why mid new result → LeadsOverIs d (GroupDeport name) old new result
     deport_refused mid result half why on maps refusal =
-        refused_leads d (GroupDeport name) old new name s before after stands it mid half result (Unit {0}) (λ o e c x. ⊥) (λ o e. LosesSome o e) MapsLike (λ o which. which ≡ Limit Numbers greatest)
+        refused_leads d (GroupDeport name) old new name s before after stands it mid half result (Unit {0}) false (λ o e c x. ⊥) (λ o e. LosesSome o e) (λ o e. LosesSome o e) MapsLike (λ o which. LacksDeport o which)
         (record {
           ends = λ many fails o e next was now names noted noted_now enough logs change keeps w by.
-              with_goes (Reconfigures (λ c x. ConfigLoses s fails c x) NoteUnsettles) (MapsCalled s fails) note next was now w noted noted_now
-              (reconfigures s many fails o e note next names (λ c x. ConfigLoses s fails c x) (λ a b. NoteUnsettles a b) was now noted noted_now (moves_to s many fails o e note next names none_again was now enough change) keeps)
+              with_goes (Reconfigures (λ c x. ConfigLoses s fails c x) (NoteUnsettles false)) (MapsCalled s fails) note next was now w noted noted_now
+              (reconfigures s many fails o e note next names (λ c x. ConfigLoses s fails c x) (λ a b. NoteUnsettles false a b) was now noted noted_now (moves_to s many fails o e note next names none_again was now enough change) keeps)
               (like_named s many fails o e names was now (λ u k. logs_low was many u k logs) note.maps w by);
         })
         (record {
           ends = λ many fails o e next was now names noted noted_now enough logs change keeps w by.
-              with_goes (Reconfigures (λ c x. ConfigLoses s fails c x) NoteUnsettles) MapsLost note next was now w noted noted_now
-              (reconfigures s many fails o e note next names (λ c x. ConfigLoses s fails c x) (λ a b. NoteUnsettles a b) was now noted noted_now (moves_to s many fails o e note next names none_again was now enough change) keeps)
+              with_goes (Reconfigures (λ c x. ConfigLoses s fails c x) (NoteUnsettles false)) MapsLost note next was now w noted noted_now
+              (reconfigures s many fails o e note next names (λ c x. ConfigLoses s fails c x) (λ a b. NoteUnsettles false a b) was now noted noted_now (moves_to s many fails o e note next names none_again was now enough change) keeps)
               (record { none = by.none });
         })
         (record { same = λ many o e t fails next was now names noted noted_now change. moves_table t many fails o e note next names none_again was now noted noted_now change })
-        (λ which is. limit_wants note name which is) why on maps refusal
+        (record { same = λ many o e t fails next was now names noted noted_now change. moves_table t many fails o e note next names none_again was now noted noted_now change })
+        (λ which is. limit_wants note was_site name which (maps_were d old new name s before after stands it.call) is) why on maps refusal
 
     deport_memory : OnSites (λ o e. SiteDeported n note o e (Err MemoryStop)) before after → ⊥
     deport_memory on = (sets_then (λ o e. SiteDeported n note o e (Err MemoryStop)) before after it.call.at.set it.call.at.is_set on).holds

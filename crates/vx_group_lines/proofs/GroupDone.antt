@@ -1,5 +1,5 @@
 -- What lines lead to that called the group of a site that is up: refused, or done.
-use Rattle.std.proofs.Common.{◌≡◌, ◌∙◌, ◌⊎◌, ◌+◌, ℕ, false, List, [], length, ap, sym, subst, refl, arith, inl, inr}
+use Rattle.std.proofs.Common.{◌≡◌, ◌∙◌, ◌⊎◌, ◌+◌, ℕ, Bool, false, List, [], length, ap, sym, subst, refl, arith, inl, inr}
 use Rattle.std.specs.Prelude.{Option, Some, slice_set, Result, Ok, Err}
 use Rattle.vx_model.specs.declared.errors.OutOfMemory.{OutOfMemory}
 use Rattle.vx_model.specs.declared.errors.Stop.TheVariants.{No as StopsBy}
@@ -71,11 +71,11 @@ module _ {R : Type 0} {g : Ghosts R} where
 
     -- ---- done
 
-    pub done_leads : {T : Type 0} (Done Lost : Turns) (By : Goes) (Lacks : GroupSite R g → No → Type 0) (said : Said) (value : T) → ((k : GroupNode) → LeftDone d s line k → IsLeftOver s line k (run_as false d (group_events (d.world.nodes s) s line)) (world_up d s k)) → Means s note NoteSettles Done By (λ fails next. GroupDoes (IsTold new) s n note line fails said next) → SameTable note Done
-        → OnSites (λ o e. SiteCalled {T = T} (Done (site_disks o) (site_disks e)) (Lost (site_disks o) (site_disks e)) (Lacks o) n note o e (Ok value)) before after
+    pub done_leads : {T : Type 0} (twice : Bool) (Done Lost Cut : Turns) (By : Goes) (Lacks : GroupSite R g → No → Type 0) (said : Said) (value : T) → ((k : GroupNode) → LeftDone d s line k → IsLeftOver s line k (run_as false d (group_events (d.world.nodes s) s line)) (world_up d s k)) → Means s note NoteSettles Done By (λ fails next. GroupDoes (IsTold new) s n note line fails said next) → SameTable note Done
+        → OnSites (λ o e. SiteCalled {T = T} twice (Done (site_disks o) (site_disks e)) (Lost (site_disks o) (site_disks e)) (Cut (site_disks o) (site_disks e)) (Lacks o) n note o e (Ok value)) before after
         → OnSites (λ o e. UpMaps By o e) before after → new.facts.items ≡ old.facts.items → SameLoad old new → LeadsOver d line said old new
-    done_leads {T} Done Lost By Lacks said value leaves means table on maps facts load =
-        let P : GroupSite R g → GroupSite R g → Type 0 = λ o e. SiteCalled {T = T} (Done (site_disks o) (site_disks e)) (Lost (site_disks o) (site_disks e)) (Lacks o) n note o e (Ok value) in
+    done_leads {T} twice Done Lost Cut By Lacks said value leaves means table on maps facts load =
+        let P : GroupSite R g → GroupSite R g → Type 0 = λ o e. SiteCalled {T = T} twice (Done (site_disks o) (site_disks e)) (Lost (site_disks o) (site_disks e)) (Cut (site_disks o) (site_disks e)) (Lacks o) n note o e (Ok value) in
         let then : SetThen (P was_site) after = sets_then P before after it.call.at.set it.call.at.is_set on in
         let next : GroupNode = then.holds.0 in
         let goes : ConfigGoes (Done (site_disks was_site) (site_disks then.set.site)) note next was_site then.set.site = then.holds.3 in
@@ -102,9 +102,9 @@ module _ {R : Type 0} {g : Ghosts R} where
       facts_same x is facts =
           facts ∙ ap (λ (fs : List SiteFacts). slice_set fs s x) half.facts ∙ ap (λ (y : SiteFacts). slice_set old.facts.items s y) is ∙ set_same old.facts.items s f it.call.at.fact
 
-      broke_leads : (Lost : Turns) (By : Goes) (why : No) (disk : ℕ) (next : SetThen (λ e. Broke (Lost (site_disks was_site) (site_disks e)) n note was_site e disk × UpMaps By was_site e) after) → Means s note NoteUnsettles Lost By (λ fails k. GroupSpoils s note line fails k)
+      broke_leads : (twice : Bool) (Lost : Turns) (By : Goes) (why : No) (disk : ℕ) (next : SetThen (λ e. Broke twice (Lost (site_disks was_site) (site_disks e)) n note was_site e disk × UpMaps By was_site e) after) → Means s note (NoteUnsettles twice) Lost By (λ fails k. GroupSpoils s note line fails k)
           → SameTable note Lost → why ≡ Device disk → IsNotedRefusal s f why mid new result → LeadsOverIs d line old new result
-      broke_leads Lost By why disk then spoils table is refusal =
+      broke_leads twice Lost By why disk then spoils table is refusal =
           let r : IsNotedRefusal s f (Device disk) mid new result = subst (λ (w : No). IsNotedRefusal s f w mid new result) is refusal in
           let b = then.holds.0 in
           let many : ℕ = many_of b.goes.was disk in
@@ -122,9 +122,9 @@ module _ {R : Type 0} {g : Ghosts R} where
           (spoils.ends many (calls s old new many) (site_disks was_site) (site_disks then.set.site) b.next b.goes.was b.goes.now names b.goes.noted b.goes.noted_now (omega arith) (omega arith) b.goes.change b.keeps go.maps go.by) refl (it.is_line.broke k))
           (calls_all d old new name s before after stands it.call many))
 
-      off_ends : (Lost : Turns) (By : Goes) (why : No) (next : SetThen (λ e. FellOff (Lost (site_disks was_site) (site_disks e)) n note was_site e × UpMaps By was_site e) after) → Means s note NoteUnsettles Lost (λ o e. MapsLost) (λ fails k. GroupCuts s note line fails k)
+      off_ends : (twice : Bool) (Lost : Turns) (By : Goes) (why : No) (next : SetThen (λ e. FellOff twice (Lost (site_disks was_site) (site_disks e)) n note was_site e × UpMaps By was_site e) after) → Means s note (NoteUnsettles twice) Lost (λ o e. MapsLost) (λ fails k. GroupCuts s note line fails k)
           → SameTable note Lost → why ≡ IsOff → IsNotedRefusal s f why mid new result → LeadsOverIs d line old new result
-      off_ends Lost By why then cuts table is refusal =
+      off_ends twice Lost By why then cuts table is refusal =
           let r : IsNotedRefusal s f IsOff mid new result = subst (λ (w : No). IsNotedRefusal s f w mid new result) is refusal in
           let b = then.holds.0 in
           let many : ℕ = many_of b.goes.was 0 in
@@ -150,21 +150,21 @@ module _ {R : Type 0} {g : Ghosts R} where
           (facts_same (noted_facts why f) (w.quiet.facts f) refusal.facts) (load_on old mid new half refusal.same (w.quiet.loads s mid.assemblies.items new.assemblies.items refusal.assemblies))
           (GroupLacks why (wants w.lacks) refl refl (it.is_line.lacks note)) (calls_none d old new name s before after stands it.call))
 
-      pub refused_leads : (T : Type 0) (Done Lost : Turns) (By : Goes) (Lacks : GroupSite R g → No → Type 0) → Means s note NoteUnsettles Lost By (λ fails k. GroupSpoils s note line fails k) → Means s note NoteUnsettles Lost (λ o e. MapsLost) (λ fails k. GroupCuts s note line fails k)
-          → SameTable note Lost → ((why : No) → Lacks it.call.at.set.site why → GroupWants note line why) → (why : No)
-          → OnSites (λ o e. SiteCalled {T = T} (Done (site_disks o) (site_disks e)) (Lost (site_disks o) (site_disks e)) (Lacks o) n note o e (Err (StopsBy why))) before after
+      pub refused_leads : (T : Type 0) (twice : Bool) (Done Lost Cut : Turns) (By : Goes) (Lacks : GroupSite R g → No → Type 0) → Means s note (NoteUnsettles twice) Lost By (λ fails k. GroupSpoils s note line fails k) → Means s note (NoteUnsettles twice) Cut (λ o e. MapsLost) (λ fails k. GroupCuts s note line fails k)
+          → SameTable note Lost → SameTable note Cut → ((why : No) → Lacks it.call.at.set.site why → GroupWants note line why) → (why : No)
+          → OnSites (λ o e. SiteCalled {T = T} twice (Done (site_disks o) (site_disks e)) (Lost (site_disks o) (site_disks e)) (Cut (site_disks o) (site_disks e)) (Lacks o) n note o e (Err (StopsBy why))) before after
           → OnSites (λ o e. UpMaps By o e × MapsQuiet (StopsBy why) (StaysMapped o e)) before after → IsNotedRefusal s (fact_of_group (d.world.nodes s) (note_at (d.world.nodes s))) why mid new result → LeadsOverIs d line old new result
-      refused_leads T Done Lost By Lacks spoils cuts table wants why on maps refusal =
+      refused_leads T twice Done Lost Cut By Lacks spoils cuts table cut_table wants why on maps refusal =
           let P : GroupSite R g → GroupSite R g → Type 0
-          = λ o e. SiteCalled {T = T} (Done (site_disks o) (site_disks e)) (Lost (site_disks o) (site_disks e)) (Lacks o) n note o e (Err (StopsBy why)) in
+          = λ o e. SiteCalled {T = T} twice (Done (site_disks o) (site_disks e)) (Lost (site_disks o) (site_disks e)) (Cut (site_disks o) (site_disks e)) (Lacks o) n note o e (Err (StopsBy why)) in
           let then : SetThen (P was_site) after = sets_then P before after it.call.at.set it.call.at.is_set on in
           let moved : UpMaps By was_site then.set.site × MapsQuiet (StopsBy why) (StaysMapped was_site then.set.site)
           = on_both (λ o e. UpMaps By o e × MapsQuiet (StopsBy why) (StaysMapped o e)) before after it.call.at.set then.set it.call.at.is_set then.is maps in
-          by_why then (called_why T (Done (site_disks was_site) (site_disks then.set.site)) (Lost (site_disks was_site) (site_disks then.set.site)) (Lacks was_site) n note was_site then.set.site why then.holds moved.1) moved.0
+          by_why then (called_why T twice (Done (site_disks was_site) (site_disks then.set.site)) (Lost (site_disks was_site) (site_disks then.set.site)) (Cut (site_disks was_site) (site_disks then.set.site)) (Lacks was_site) n note was_site then.set.site why then.holds moved.1) moved.0
         where
-          by_why : (then : SetThen (λ e. SiteCalled {T = T} (Done (site_disks was_site) (site_disks e)) (Lost (site_disks was_site) (site_disks e)) (Lacks was_site) n note was_site e (Err (StopsBy why))) after)
-              → ((disk : ℕ) × (why ≡ Device disk) × Broke (Lost (site_disks was_site) (site_disks then.set.site)) n note was_site then.set.site disk)
-              ⊎ ((why ≡ IsOff) × FellOff (Lost (site_disks was_site) (site_disks then.set.site)) n note was_site then.set.site) ⊎ Wanted (Lacks was_site) n note was_site then.set.site why → UpMaps By was_site then.set.site → LeadsOverIs d line old new result
-          by_why then (inl (disk, is, b)) moved = broke_leads Lost By why disk (record { set = then.set; is = then.is; holds = (b, moved) }) spoils table is refusal
-          by_why then (inr (inl (is, b))) moved = off_ends Lost By why (record { set = then.set; is = then.is; holds = (b, moved) }) cuts table is refusal
+          by_why : (then : SetThen (λ e. SiteCalled {T = T} twice (Done (site_disks was_site) (site_disks e)) (Lost (site_disks was_site) (site_disks e)) (Cut (site_disks was_site) (site_disks e)) (Lacks was_site) n note was_site e (Err (StopsBy why))) after)
+              → ((disk : ℕ) × (why ≡ Device disk) × Broke twice (Lost (site_disks was_site) (site_disks then.set.site)) n note was_site then.set.site disk)
+              ⊎ ((why ≡ IsOff) × FellOff twice (Cut (site_disks was_site) (site_disks then.set.site)) n note was_site then.set.site) ⊎ Wanted (Lacks was_site) n note was_site then.set.site why → UpMaps By was_site then.set.site → LeadsOverIs d line old new result
+          by_why then (inl (disk, is, b)) moved = broke_leads twice Lost By why disk (record { set = then.set; is = then.is; holds = (b, moved) }) spoils table is refusal
+          by_why then (inr (inl (is, b))) moved = off_ends twice Cut By why (record { set = then.set; is = then.is; holds = (b, moved) }) cuts cut_table is refusal
           by_why then (inr (inr w)) moved = lacks_leads (Lacks was_site) why (record { set = then.set; is = then.is; holds = w }) (wants why) refusal

@@ -1,5 +1,5 @@
 -- How a line ends that called the group of a site that is up, and wrote to no volume of it.
-use Rattle.std.proofs.Common.{◌≡◌, ◌∙◌, ◌⊎◌, ◌≤◌, ℕ, false, List, length, ap, sym, subst, refl, inl, inr}
+use Rattle.std.proofs.Common.{◌≡◌, ◌∙◌, ◌⊎◌, ◌≤◌, ℕ, Bool, false, List, length, ap, sym, subst, refl, inl, inr}
 use Rattle.std.specs.Prelude.{Some, None, slice_set, Err}
 use Rattle.vx_model.specs.declared.errors.Stop.TheVariants.{No as StopsBy}
 use Rattle.vx_model.specs.declared.no.No.{No}
@@ -92,16 +92,16 @@ pub record SameTable (note : GroupNode) (Change : Meaning → Meaning → Config
   pub same : (many : ℕ) (o e : Meaning) (s : ℕ) (fails : Fails) (next : GroupNode) (was now : Config) → Names s many fails o e → NotesConfig note was → NotesConfig next now → Change o e was now → noted_table next ≡ noted_table note
 
 module _ {R : Type 0} {g : Ghosts R} where
-  pub record Broke (Fails : Config → Config → Type 0) (n : Node) (note : GroupNode) (old new : GroupSite R g) (disk : ℕ) : Type 0 where
+  pub record Broke (twice : Bool) (Fails : Config → Config → Type 0) (n : Node) (note : GroupNode) (old new : GroupSite R g) (disk : ℕ) : Type 0 where
     pub next : GroupNode
-    pub keeps : NoteUnsettles note next
+    pub keeps : NoteUnsettles twice note next
     pub noted : UpNoted (with_note next n) next new
     pub rose : Rose ((site_disks old).disk_faults disk) ((site_disks new).disk_faults disk)
     pub goes : ConfigGoes Fails note next old new
 
-  pub record FellOff (Fails : Config → Config → Type 0) (n : Node) (note : GroupNode) (old new : GroupSite R g) : Type 0 where
+  pub record FellOff (twice : Bool) (Fails : Config → Config → Type 0) (n : Node) (note : GroupNode) (old new : GroupSite R g) : Type 0 where
     pub next : GroupNode
-    pub keeps : NoteUnsettles note next
+    pub keeps : NoteUnsettles twice note next
     pub noted : DownNoted (crashed (with_note next n) 0) next new
     pub fused : IsFused n.fuse
     pub goes : ConfigGoes Fails note next old new
@@ -112,15 +112,15 @@ module _ {R : Type 0} {g : Ghosts R} where
     pub maps : StaysMapped old new
     pub lacks : Lacks why
 
-  abbrev pub Whys : (Fails : Config → Config → Type 0) → (No → Type 0) → Node → GroupNode → GroupSite R g → GroupSite R g → No → Type 0
-  Whys Fails Lacks n note old new why =
-      ((disk : ℕ) × (why ≡ Device disk) × Broke Fails n note old new disk) ⊎ ((why ≡ IsOff) × FellOff Fails n note old new) ⊎ Wanted Lacks n note old new why
+  abbrev pub Whys : (twice : Bool) (Fails Cuts : Config → Config → Type 0) → (No → Type 0) → Node → GroupNode → GroupSite R g → GroupSite R g → No → Type 0
+  Whys twice Fails Cuts Lacks n note old new why =
+      ((disk : ℕ) × (why ≡ Device disk) × Broke twice Fails n note old new disk) ⊎ ((why ≡ IsOff) × FellOff twice Cuts n note old new) ⊎ Wanted Lacks n note old new why
 
-  module _ (T : Type 0) (Done Fails : Config → Config → Type 0) (Lacks : No → Type 0) (n : Node) (note : GroupNode) (old new : GroupSite R g) where
-    wanted : (why : No) → IsQuiet why → UpNoted (worked n) note new × Lacks why → StaysMapped old new → Whys Fails Lacks n note old new why
+  module _ (T : Type 0) (twice : Bool) (Done Fails Cuts : Config → Config → Type 0) (Lacks : No → Type 0) (n : Node) (note : GroupNode) (old new : GroupSite R g) where
+    wanted : (why : No) → IsQuiet why → UpNoted (worked n) note new × Lacks why → StaysMapped old new → Whys twice Fails Cuts Lacks n note old new why
     wanted why quiet it maps = inr (inr (record { quiet = quiet; noted = it.0; maps = maps; lacks = it.1 }))
 
-    pub called_why : (why : No) → SiteCalled {T = T} Done Fails Lacks n note old new (Err (StopsBy why)) → MapsQuiet (StopsBy why) (StaysMapped old new) → Whys Fails Lacks n note old new why
+    pub called_why : (why : No) → SiteCalled {T = T} twice Done Fails Cuts Lacks n note old new (Err (StopsBy why)) → MapsQuiet (StopsBy why) (StaysMapped old new) → Whys twice Fails Cuts Lacks n note old new why
     called_why (Device disk) it maps = inl (disk, refl, record { next = it.0; keeps = it.1; noted = it.2; rose = it.3; goes = it.4 })
     called_why IsOff it maps = inr (inl (refl, record { next = it.0; keeps = it.1; noted = it.2; fused = it.3; goes = it.4 }))
     called_why (Unknown what) it maps = wanted (Unknown what) (record { facts = λ f. refl; loads = λ s a b h. h }) it maps

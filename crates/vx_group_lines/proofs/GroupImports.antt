@@ -73,7 +73,7 @@ use Rattle.vx_group_lines.proofs.Returning.{back_of}
 use Rattle.vx_group_lines.specs.Noting.{IsNotedRefusal, reply_noted}
 use Rattle.vx_grouped.specs.GroupNotes.{note_dimmed}
 use Rattle.vx_events.specs.Doubts.{IsAs}
-use Rattle.vx_group_lines.proofs.Dimming.{KnownBy, dimmed_by, notes_refused, notes_short}
+use Rattle.vx_group_lines.proofs.Dimming.{KnownBy, dimmed_by, no_call, notes_refused, notes_short}
 
 module _ {R : Type 0} {g : Ghosts R} where
   module _ (d : Doubted) (old new : Yard R g) (name : List ℕ) (s : ℕ) (before after : DiskSet R g) (stands : StandsFor d old) (call : Called d old new name s before after)
@@ -277,12 +277,13 @@ module _ {R : Type 0} {g : Ghosts R} where
           subst (λ (x : Result Said OutOfMemory). LeadsOverIs d (GroupImport name) old new x) (sym r.said)
           (import_off next is down fused cut (r.facts ∙ ap (λ (fs : List SiteFacts). slice_set fs s (down_fact (fact_of_group n note))) half.facts) (lets_on old mid new s half r.same r.assemblies))
       by_case why next is (inr (inr (stays, it, not_device, not_off))) came refusal =
-          let many : ℕ = why_disk why + 1 in
+          let many : ℕ = why_disk why + 1 + n.disks in
           let of = calls_are d old new name s before after stands call many in
           let w : Why (IsTold new) dims s note (calls s old new many) why
           = why_is (IsTold new) dims s note (calls s old new many) (IsTrue (site_disks next.site).tells) loose (as_imported was_site) (site_disks next.site) why
           (λ told bright. lit_away (with_note (left (is_late why)) n) (left (is_late why)) next.site stays.0 bright (told_at next is told))
-          (λ k missing rose. names_at next is many k (omega (arith, ap (λ (x : No). why_disk x) missing)) rose) it not_device not_off in
+          (λ k missing rose. names_at next is many k (omega (arith, ap (λ (x : No). why_disk x) missing)) rose) it
+          (λ some no_fails. no_call (calls s old new many) (s, some.disk) no_fails (names_at next is many some.disk (let low = some.below in let same = (sits_away n note was_site noted).units in omega (arith, low, same)) some.rose)) not_device not_off in
           subst (λ (x : Result Said OutOfMemory). LeadsOverIs d (GroupImport name) old new x) (sym refusal.said)
           (away_leads (is_late why) why many next is stays (left_stands (is_late why) (StopsBy why) next refl stays.0 came) (facts_still (noted_facts why (fact_of_group n note)) (w.quiet.facts (fact_of_group n note)) refusal.facts)
           (load_on old mid new half refusal.same (w.quiet.loads s mid.assemblies.items new.assemblies.items refusal.assemblies))

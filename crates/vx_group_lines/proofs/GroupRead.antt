@@ -14,7 +14,10 @@ use Rattle.vx_history.specs.World.{Node, World}
 use Rattle.vx_script.specs.declared.line.ScriptLine.{ScriptLine}
 use Rattle.vx_grouped.specs.GroupSites.{UpNoted, site_disks, with_note}
 use Rattle.vx_grouped.specs.Plain.{ReadsPlain}
-use Rattle.vx_grouped.specs.SiteEnds.{PlainRead}
+use Rattle.vx_kept.specs.Cleans.{at_serial}
+use Rattle.vx_grouped.specs.SiteEnds.{PlainRead, SiteGivesUp}
+use Rattle.vx_grouped.specs.declared.group_site.GroupSite.{GroupSite}
+use Rattle.vx_grouped.specs.declared.group_site.GroupSite.TheVariants.{Up as SiteUp, Deported as SiteAway, Down as SiteDown, Marked, Gone as SiteGone}
 use Rattle.vx_diskset.specs.Asked.{FusedAs, SameFailing}
 use Rattle.vx_diskset.specs.GroupCalls.{CalledOn, OnSites, cut_in}
 use Rattle.vx_diskset.specs.Stands.{IsRackTold}
@@ -25,7 +28,7 @@ use Rattle.vx_events.proofs.RefusedCalls.{CallMay, read_may, show_may}
 use Rattle.vx_events.specs.Doubts.{IsAs}
 use Rattle.vx_events.specs.Facts.{seat_of, site_number}
 use Rattle.vx_events.specs.Fails.{Fails}
-use Rattle.vx_events.specs.GroupEnds.{AreOf, GroupDone, GroupEnds, GroupFails}
+use Rattle.vx_events.specs.GroupEnds.{AreOf, GroupDone, GroupEnds, GroupFails, VolumeOut}
 use Rattle.vx_events.specs.GroupLines.{noting, plain_number}
 use Rattle.vx_events.specs.GroupNotes.{IsKnown, note_at}
 use Rattle.vx_events.specs.GroupReplies.{GivesPlain}
@@ -40,11 +43,13 @@ use Rattle.vx_yard.specs.Standing.{LeadsOver, StandsFor}
 use Rattle.vx_yard.specs.Working.{IsFree}
 use Rattle.vx_yard.specs.Yards.{IsTold, in_files}
 use Rattle.vx_yard.specs.declared.yard.Yard.{Yard}
+use Rattle.vx_group_lines.proofs.Changing.{notes_config}
 use Rattle.vx_group_lines.proofs.GroupAt.{lit_up, up_noted}
-use Rattle.vx_group_lines.proofs.GroupCalls.{Called, SetThen, calls, calls_all, calls_are, calls_named, fused_since, seen_as, sets_then, site_up, up_follows, maps_were}
+use Rattle.vx_group_lines.proofs.GroupCalls.{Called, SetThen, calls, calls_all, calls_are, calls_named, calls_names, fused_since, seen_as, sets_then, site_up, up_follows, maps_were}
 use Rattle.vx_group_lines.proofs.GroupLeads.{Follows, leads_by}
 use Rattle.vx_group_lines.proofs.GroupMarks.{group_noted_at}
 use Rattle.vx_group_lines.proofs.GroupPlain.{PlainCall}
+use Rattle.vx_group_lines.proofs.Losing.{Names, plex_fails}
 use Rattle.vx_group_lines.specs.Plain.{GavePlain, IsReadOf}
 use Rattle.vx_grouped.specs.SiteMaps.{StaysMapped}
 use Rattle.vx_group_lines.proofs.MapGoing.{on_both}
@@ -67,12 +72,12 @@ got_ends told d e line name volume start count s fails said (ByRead is) are give
 got_ends told d e line name volume start count s fails said (ByShow is) are gives is_as =
     subst (λ (l : ScriptLine). GroupEnds told d l s fails said e) (sym is) (GroupDone (note_at (d.world.nodes s)) are (refl, gives) is_as)
 
-unread_ends : (told : Type 0) (d e : Doubted) (line : ScriptLine) (name volume : List ℕ) (start count s disk : ℕ) (fails : Fails) → IsReadOf line name volume start count → AreOf s fails → Contains fails (s, disk)
+unread_ends : (told : Type 0) (d e : Doubted) (line : ScriptLine) (name volume : List ℕ) (start count s disk : ℕ) (fails : Fails) → IsReadOf line name volume start count → AreOf s fails → Contains fails (s, disk) → VolumeOut s fails (note_at (d.world.nodes s)) (plain_number (note_at (d.world.nodes s)) volume)
     → IsAs d (worked_on (noting d.world s (note_at (d.world.nodes s))) s) e → GroupEnds told d line s fails (Refused (Device disk)) e
-unread_ends told d e line name volume start count s disk fails (ByRead is) are has is_as =
-    subst (λ (l : ScriptLine). GroupEnds told d l s fails (Refused (Device disk)) e) (sym is) (GroupFails disk (note_at (d.world.nodes s)) are has refl refl is_as)
-unread_ends told d e line name volume start count s disk fails (ByShow is) are has is_as =
-    subst (λ (l : ScriptLine). GroupEnds told d l s fails (Refused (Device disk)) e) (sym is) (GroupFails disk (note_at (d.world.nodes s)) are has refl refl is_as)
+unread_ends told d e line name volume start count s disk fails (ByRead is) are has out is_as =
+    subst (λ (l : ScriptLine). GroupEnds told d l s fails (Refused (Device disk)) e) (sym is) (GroupFails disk (note_at (d.world.nodes s)) are has (refl, out) refl is_as)
+unread_ends told d e line name volume start count s disk fails (ByShow is) are has out is_as =
+    subst (λ (l : ScriptLine). GroupEnds told d l s fails (Refused (Device disk)) e) (sym is) (GroupFails disk (note_at (d.world.nodes s)) are has (refl, out) refl is_as)
 
 -- ---- the blocks
 
@@ -101,6 +106,18 @@ module _ {R : Type 0} {g : Ghosts R} where
   read_asks d old new line name volume start count s before after stands (ByShow is) over seat there sets failing =
       subst (λ (l : ScriptLine). AsAsked d.world l old new) (sym is)
       (asks_at (ReadsBy (over_group_at d.world name)) d old new name s before after stands seat there sets (subst (λ (b : Bool). ReadsBy b before after) (sym over) failing))
+
+  -- no plex could be read, as the calls that the line names say
+  volume_out : (n : Node) (note : GroupNode) (e : GroupSite R g) (v s many : ℕ) (fails : Fails) (behind : Meaning) → UpNoted n note e → Names s many fails (site_disks e) behind → SiteGivesUp v e behind → VolumeOut s fails note v
+  volume_out n note (SiteUp group) v s many fails behind up names gone = record {
+    config = at_serial 0 group.core.inner.config;
+    is = notes_config note group.core.inner.config (record { is = up.at.lies.config; spells = up.spells });
+    each = λ p plex at is. plex_fails s many fails (site_disks (SiteUp group)) behind names plex (gone.each p plex at is);
+  }
+  volume_out n note (SiteAway idle) v s many fails behind up names gone = absurd up
+  volume_out n note (SiteDown idle) v s many fails behind up names gone = absurd up
+  volume_out n note (Marked rack) v s many fails behind up names gone = absurd up
+  volume_out n note SiteGone v s many fails behind up names gone = absurd up
 
   module _ (d : Doubted) (old new : Yard R g) (line : ScriptLine) (name volume : List ℕ) (start count s place : ℕ) (before after : DiskSet R g) (stands : StandsFor d old) (is : IsReadOf line name volume start count)
       (plain : PlainCall d old name volume start count s place before) (called : Called d old new name s before after) (since : CalledOn before after) (facts : new.facts ≡ old.facts) (load : SameLoad old new) where
@@ -153,10 +170,14 @@ module _ {R : Type 0} {g : Ghosts R} where
     pub read_stops : (no : No) → OnSites (λ o e. GavePlain n note place start o e (Err no)) before after → OnSites (λ o e. StaysMapped o e) before after → cut_in after ≡ cut_in before → LeadsOver d line (Refused no) old new
     read_stops (Device disk) gave maps cut =
         let to : SetThen (λ e. GavePlain n note place start called.at.set.site e (Err (Device disk))) after = sets_then (λ o e. GavePlain n note place start o e (Err (Device disk))) before after called.at.set called.at.is_set gave in
-        let many : ℕ = disk + 1 in
+        let many : ℕ = (site_disks called.at.set.site).units + disk + 1 in
+        let names : Names s many (calls s old new many) (site_disks called.at.set.site) (site_disks to.set.site)
+        = calls_names d old new name s before after stands called called.at.set to.set called.at.is_set to.is many (omega arith) in
         leads_by d behind line s (calls s old new many) (Refused (Device disk)) old new place_is
         (unread_ends (IsTold new) d behind line name volume start count s disk (calls s old new many) is (calls_are d old new name s before after stands called many)
-        (calls_named d old new name s before after stands called called.at.set to.set called.at.is_set to.is many disk (omega arith) to.holds.1) (record { world = refl; after = λ i. refl }))
+        (calls_named d old new name s before after stands called called.at.set to.set called.at.is_set to.is many disk (omega arith) to.holds.1)
+        (subst (λ (v : ℕ). VolumeOut s (calls s old new many) note v) (sym plain.volume_is)
+        (volume_out n note called.at.set.site place s many (calls s old new many) (site_disks to.set.site) (up_noted n called.at.set.site called.at.stands.stands plain.up) names to.holds.2)) (record { world = refl; after = λ i. refl }))
         (follows to.set to.is to.holds.0 (on_both (λ o e. StaysMapped o e) before after called.at.set to.set called.at.is_set to.is maps) cut) (calls_all d old new name s before after stands called many)
     read_stops other gave maps cut = absurd (sets_then (λ o e. GavePlain n note place start o e (Err other)) before after called.at.set called.at.is_set gave).holds
 

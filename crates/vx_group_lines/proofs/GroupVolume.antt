@@ -1,7 +1,7 @@
 -- The line that makes a volume of a disk group.
 use Rattle.std.proofs.Common.{◌≡◌, ◌∙◌, ◌⊎◌, ◌+◌, ◌-◌, ◌^◌, ◌<◌, ◌≤◌, ℕ, Bool, true, false, List, [], ◌∷◌, map, length, ap, sym, subst, refl, arith, inl, inr, ⊎_elim}
-use Rattle.std.specs.Prelude.{Option, Some, None, find, not, ◌&&◌, ◌||◌, ◌==◌, nat_le, nat_lt, bytes_eq, if◌then◌else◌, slice_set, Result, Ok, Err}
-use Rattle.std.specs.List.{list_any}
+use Rattle.std.specs.Prelude.{Option, Some, None, Contains, find, not, ◌&&◌, ◌||◌, ◌==◌, nat_le, nat_lt, bytes_eq, if◌then◌else◌, slice_set, Result, Ok, Err}
+use Rattle.std.specs.List.{list_all, list_any}
 use Rattle.std.proofs.lemmas.Bool.{and_parts, both_ways, eqb-true}
 use Rattle.std.proofs.lemmas.Bool.Decides.{nat_tests}
 use Rattle.std.proofs.lemmas.List.{length-map}
@@ -16,17 +16,18 @@ use Rattle.vx_model.specs.declared.no.No.TheVariants.{Exists, Limit, Size, Space
 use Rattle.vx_disk.specs.declared.shelf.Shelf.{Ghosts}
 use Rattle.vx_config.specs.Table.{greatest}
 use Rattle.vx_config.specs.declared.config.Config.{Config}
+use Rattle.vx_config.specs.declared.entry.Subdisk.{Subdisk}
 use Rattle.vx_config.specs.declared.entry.VolumeEntry.{VolumeEntry}
 use Rattle.vx_history.specs.Doubts.{Doubted}
 use Rattle.vx_history.specs.Groups.{GroupNode, NoteSettles, NoteUnsettles, MissedNote}
 use Rattle.vx_history.specs.Steps.{burned}
 use Rattle.vx_history.specs.World.{Fuse as FuseOf, FuseLit, FuseSet, Node, NoFuse}
 use Rattle.vx_kept.specs.Cleans.{at_serial}
-use Rattle.vx_layout.specs.Made.{with_volume}
-use Rattle.vx_layout.specs.Space.{IsSpaceShort}
+use Rattle.vx_layout.specs.Made.{IsVolumeMade, with_volume}
+use Rattle.vx_layout.specs.Space.{IsFound, IsSpaceShort}
 use Rattle.vx_layout.specs.declared.shape.Shape.{Shape}
 use Rattle.vx_group.specs.Dets.{margin}
-use Rattle.vx_group.specs.Makes.{has_name, is_shape, make_refusal}
+use Rattle.vx_group.specs.Makes.{has_name, is_few, is_shape, make_refusal}
 use Rattle.vx_order.specs.Volumes.{is_layout, is_volume_shape}
 use Rattle.vx_order.specs.declared.facts.SiteFacts.{SiteFacts}
 use Rattle.vx_order.specs.declared.facts.VolumeFacts.{VolumeFacts}
@@ -75,12 +76,14 @@ use Rattle.vx_group_lines.proofs.GroupEnding.{Calling, Midway, since_at, turned_
 use Rattle.vx_group_lines.proofs.GroupLeads.{follows_on, sized_of, up_set}
 use Rattle.vx_group_lines.proofs.GroupMarks.{begins_at}
 use Rattle.vx_group_lines.proofs.Losing.{Names, found_zero, short_zero}
-use Rattle.vx_grouped.specs.SiteMaps.{AddMaps, AddedMapped, MapsLike, StaysMapped, UpMaps}
+use Rattle.vx_grouped.specs.SiteMaps.{AddMaps, AddedMapped, MapsLike, StandMaps, StaysMapped, UpMaps}
+use Rattle.vx_grouped.proofs.ImageLemmas.{contains_next}
 use Rattle.vx_grouped.proofs.MapNoteLemmas.{up_with_maps}
 use Rattle.vx_history.specs.Missing.{with_maps}
 use Rattle.vx_events.specs.GroupMaps.{MapsCalled, MapsLost}
 use Rattle.vx_group_lines.proofs.MapGoing.{MapsOn, goes_up, on_both, stand_as, with_goes}
 use Rattle.vx_group_lines.proofs.MapLines.{added_named, like_named, logs_bound, logs_low}
+use Rattle.vx_group_lines.proofs.Serials.{lacks_by, serial_noted}
 use Rattle.vx_group_lines.specs.Noting.{reply_noted}
 
 -- ---- tests in order
@@ -144,7 +147,7 @@ none_named name (v ∷ vs) none =
 
 -- what is left of the tests of a volume that those of the line let through: want of a serial
 volume_why : (c : Config) (name : List ℕ) (want : Shape) (why : No) → list_any (has_name name) c.volumes ≡ false → length c.volumes < MOST_VOLUMES → want.mirrors ≤ MOST_PLEXES → is_shape want ≡ true
-    → make_refusal c name want ≡ Some why → why ≡ Limit Numbers MOST_NUMBER
+    → make_refusal c name want ≡ Some why → (why ≡ Limit Numbers MOST_NUMBER) × (nat_lt (greatest - margin) c.serial ≡ true)
 volume_why c name want why free few plexes shape is = ⊎_elim
     (λ first. absurd (both_ways (list_any (has_name name) c.volumes) free first.0))
     (λ one. ⊎_elim
@@ -152,7 +155,7 @@ volume_why c name want why free few plexes shape is = ⊎_elim
     (λ two. ⊎_elim
     (λ many. absurd (over_of MOST_PLEXES want.mirrors plexes many.0))
     (λ three. ⊎_elim
-    (λ last. sym last.1)
+    (λ last. (sym last.1, last.0))
     (λ four. ⊎_elim
     (λ odd. absurd (not_on (is_shape want) shape odd.0))
     (λ none. absurd (let no_one : None ≡ Some why = none.1 in cc))
@@ -162,6 +165,18 @@ volume_why c name want why free few plexes shape is = ⊎_elim
     (some_first (nat_le MOST_VOLUMES (length c.volumes)) (Limit Volumes MOST_VOLUMES) why _ one.1))
     (some_first (list_any (has_name name) c.volumes) (Exists name) why _ is)
 
+-- a plex of too many runs
+many_by : (x : List Subdisk) (xs : List (List Subdisk)) (rest : Bool) (b : Bool) → nat_le (length x) 255 ≡ b → (b && rest) ≡ false → (rest ≡ false → (ss : List Subdisk) × Contains xs ss × (255 < length ss)) → (ss : List Subdisk) × Contains (x ∷ xs) ss × (255 < length ss)
+many_by x xs rest true few is later = let it = later is in (it.0, contains_next it.0 x xs it.1, it.2)
+many_by x xs rest false many is later = (x, (0, omega arith, refl), over_by (length x) many)
+  where
+    over_by : (n : ℕ) → nat_le n 255 ≡ false → 255 < n
+    over_by n past = grind (arith, nat_tests)
+
+many_runs : (xs : List (List Subdisk)) → list_all is_few xs ≡ false → (ss : List Subdisk) × Contains xs ss × (255 < length ss)
+many_runs [] is = absurd (let no_one : true ≡ false = is in cc)
+many_runs (x ∷ xs) is = many_by x xs (list_all is_few xs) (nat_le (length x) 255) refl is (λ rest. many_runs xs rest)
+
 module _ (note : GroupNode) (c : Config) (noted : NotesConfig note c) (name volume : List ℕ) (blocks mirrors : ℕ) (layout : Layout) (log : VolumeLog) (map : VolumeMap) (policy : ReadPolicy) (want : Shape) (is_want : want ≡ shape_of blocks mirrors layout log map policy) where
   room_wants : (why : No) → IsRoomShort c volume want why → GroupWants note (Volume name volume blocks mirrors layout log map policy) why
   room_wants (Space need have) short = record {
@@ -169,7 +184,18 @@ module _ (note : GroupNode) (c : Config) (noted : NotesConfig note c) (name volu
     is = notes_config note c noted;
     short = subst (λ (w : Shape). IsSpaceShort (at_serial 0 c) w need have) is_want (short_zero c want need have short);
   }
-  room_wants (Limit Subdisks most) it = it.1
+  room_wants (Limit Subdisks most) it = (
+    record {
+      config = at_serial 0 c;
+      is = notes_config note c noted;
+      found = it.0.found;
+      space = subst (λ (w : Shape). IsFound (at_serial 0 c) w it.0.found) is_want (found_zero c want it.0.found it.0.space);
+      many = ⊎_elim
+          (λ runs. inl (many_runs it.0.found.plexes.items runs))
+          (λ parts. inr (parts.0, subst (λ (w : Shape). IsVolumeMade w it.0.found parts.0) is_want parts.1.made, parts.1.named, parts.2)) it.0.many;
+    },
+    it.1,
+  )
   room_wants other it = absurd it
 
 -- ---- fuses
@@ -280,8 +306,8 @@ module _ {R : Type 0} {g : Ghosts R} where
     module _ (mid : Yard R g) (half : Midway old mid) (result : Result Said OutOfMemory) (is_up : UpNoted (d.world.nodes s) (note_at (d.world.nodes s)) it.call.at.set.site)
         (free : find (λ (v : VolumeFacts). bytes_eq v.name volume) (noted_table (note_at (d.world.nodes s))) ≡ None) (few : length (noted_table (note_at (d.world.nodes s))) < MOST_VOLUMES) (plexes : mirrors ≤ MOST_PLEXES)
         (shape : is_volume_shape blocks mirrors layout ≡ true) where
-      volume_wants : (e : GroupSite R g) → UpNoted n note e → (why : No) → LacksVolume e volume want why → GroupWants note (Volume name volume blocks mirrors layout log map_of policy) why
-      volume_wants (SiteUp group) up why (inl is) =
+      volume_wants : (e : GroupSite R g) → UpNoted n note e → StandMaps note e → (why : No) → LacksVolume e volume want why → GroupWants note (Volume name volume blocks mirrors layout log map_of policy) why
+      volume_wants (SiteUp group) up maps why (inl is) =
           let c : Config = group.core.inner.config in
           let noted : NotesConfig note c = record { is = up.at.lies.config; spells = up.spells } in
           let table : noted_table note ≡ map plain_fact c.volumes = notes_table note c noted in
@@ -290,33 +316,34 @@ module _ {R : Type 0} {g : Ghosts R} where
           let count : length (noted_table note) ≡ length c.volumes = ap (λ (fs : List VolumeFacts). length fs) table ∙ length-map c.volumes plain_fact in
           let mirrored : want.mirrors ≡ mirrors = ap (λ (w : Shape). w.mirrors) is_want in
           let fits : is_shape want ≡ true = ap is_shape is_want ∙ shape_fits blocks mirrors layout log map_of policy shape in
-          subst (λ (w : No). GroupWants note (Volume name volume blocks mirrors layout log map_of policy) w)
-          (sym (volume_why c volume want why named (omega (arith, few, count)) (omega (arith, plexes, mirrored)) fits is)) (tt, refl)
-      volume_wants (SiteUp group) up why (inr room) =
+          let limit = volume_why c volume want why named (omega (arith, few, count)) (omega (arith, plexes, mirrored)) fits is in
+          subst (λ (w : No). GroupWants note (Volume name volume blocks mirrors layout log map_of policy) w) (sym limit.0) (tt, refl, lacks_by note c.serial (serial_noted note group maps) limit.1)
+      volume_wants (SiteUp group) up maps why (inr room) =
           room_wants note group.core.inner.config (record { is = up.at.lies.config; spells = up.spells }) name volume blocks mirrors layout log map_of policy want is_want why room.1
-      volume_wants (SiteAway idle) up why lacks = absurd up
-      volume_wants (SiteDown idle) up why lacks = absurd up
-      volume_wants (Marked rack) up why lacks = absurd up
-      volume_wants SiteGone up why lacks = absurd up
+      volume_wants (SiteAway idle) up maps why lacks = absurd up
+      volume_wants (SiteDown idle) up maps why lacks = absurd up
+      volume_wants (Marked rack) up maps why lacks = absurd up
+      volume_wants SiteGone up maps why lacks = absurd up
 
       pub volume_stopped : (stop : Stop) → OnSites (λ o e. SiteAdded n note volume want o e (Err stop)) before after → OnSites (λ o e. AddedMapped o e (Err stop)) before after
           → reply_noted s (fact_of_group (d.world.nodes s) (note_at (d.world.nodes s))) stop mid new result → LeadsOverIs d (Volume name volume blocks mirrors layout log map_of policy) old new result
       volume_stopped (StopsBy why) on maps refusal =
-          refused_leads d (Volume name volume blocks mirrors layout log map_of policy) old new name s before after stands it mid half result ℕ (λ o e c x. ⊥) (λ o e. LosesSome o e) MapsLike (λ o which. LacksVolume o volume want which)
+          refused_leads d (Volume name volume blocks mirrors layout log map_of policy) old new name s before after stands it mid half result ℕ false (λ o e c x. ⊥) (λ o e. LosesSome o e) (λ o e. LosesSome o e) MapsLike (λ o which. LacksVolume o volume want which)
           (record {
             ends = λ many fails o e next was now names noted noted_now enough logs change keeps w by.
-                with_goes (Reconfigures (λ c x. ConfigLoses s fails c x) NoteUnsettles) (MapsCalled s fails) note next was now w noted noted_now
-                (reconfigures s many fails o e note next names (λ c x. ConfigLoses s fails c x) (λ a b. NoteUnsettles a b) was now noted noted_now (moves_to s many fails o e note next names none_again was now enough change) keeps)
+                with_goes (Reconfigures (λ c x. ConfigLoses s fails c x) (NoteUnsettles false)) (MapsCalled s fails) note next was now w noted noted_now
+                (reconfigures s many fails o e note next names (λ c x. ConfigLoses s fails c x) (λ a b. NoteUnsettles false a b) was now noted noted_now (moves_to s many fails o e note next names none_again was now enough change) keeps)
                 (like_named s many fails o e names was now (λ u k. logs_low was many u k logs) note.maps w by);
           })
           (record {
             ends = λ many fails o e next was now names noted noted_now enough logs change keeps w by.
-                with_goes (Reconfigures (λ c x. ConfigLoses s fails c x) NoteUnsettles) MapsLost note next was now w noted noted_now
-                (reconfigures s many fails o e note next names (λ c x. ConfigLoses s fails c x) (λ a b. NoteUnsettles a b) was now noted noted_now (moves_to s many fails o e note next names none_again was now enough change) keeps)
+                with_goes (Reconfigures (λ c x. ConfigLoses s fails c x) (NoteUnsettles false)) MapsLost note next was now w noted noted_now
+                (reconfigures s many fails o e note next names (λ c x. ConfigLoses s fails c x) (λ a b. NoteUnsettles false a b) was now noted noted_now (moves_to s many fails o e note next names none_again was now enough change) keeps)
                 (record { none = by.none });
           })
           (record { same = λ many o e t fails next was now names noted noted_now change. moves_table t many fails o e note next names none_again was now noted noted_now change })
-          (λ which lacks. volume_wants it.call.at.set.site is_up which lacks) why on maps refusal
+          (record { same = λ many o e t fails next was now names noted noted_now change. moves_table t many fails o e note next names none_again was now noted noted_now change })
+          (λ which lacks. volume_wants it.call.at.set.site is_up (maps_were d old new name s before after stands it.call) which lacks) why on maps refusal
       volume_stopped MemoryStop on maps refusal =
           subst (λ (x : Result Said OutOfMemory). LeadsOverIs d (Volume name volume blocks mirrors layout log map_of policy) old new x) (sym refusal.1)
           (volume_stays on maps (ap (λ (y : Yard R g). y.facts.items) refusal.0 ∙ half.facts) (subst (λ (y : Yard R g). SameLoad old y) (sym refusal.0) half.load))

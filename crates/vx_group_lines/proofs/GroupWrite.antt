@@ -236,7 +236,7 @@ module _ {R : Type 0} {g : Ghosts R} where
     write_fails disk wrote maps cut facts load =
         let to : SetThen (λ e. PlainWrote n note x called.at.set.site e (Err (Device disk))) after = sets_then (λ o e. PlainWrote n note x o e (Err (Device disk))) before after called.at.set called.at.is_set wrote in
         let middle : GroupNode = to.holds.0 in
-        let unsettles : NoteUnsettles note middle = to.holds.1 in
+        let unsettles : NoteUnsettles false note middle = to.holds.1 in
         let goes : ConfigGoes (LosesSome (site_disks called.at.set.site) (site_disks to.set.site)) note middle called.at.set.site to.set.site = to.holds.4 in
         let first : GroupNode = note_doubt x middle in
         let go : MapsOn (DoubtMaps x (site_disks called.at.set.site) (site_disks to.set.site) goes.was goes.now) note middle to.set.site
@@ -249,7 +249,7 @@ module _ {R : Type 0} {g : Ghosts R} where
         disk (calls_named d old new name s before after stands called called.at.set to.set called.at.is_set to.is many disk (omega arith) to.holds.3)
         (record {
           middle = with_maps go.maps middle;
-          moves = with_goes (Reconfigures (ConfigLoses s (fails many)) NoteUnsettles) (MapsOfDoubt s (fails many) x) note middle goes.was goes.now go.maps goes.noted goes.noted_now (moves to.set to.is middle NoteUnsettles goes unsettles many (omega arith) (omega arith))
+          moves = with_goes (Reconfigures (ConfigLoses s (fails many)) (NoteUnsettles false)) (MapsOfDoubt s (fails many) x) note middle goes.was goes.now go.maps goes.noted goes.noted_now (moves to.set to.is middle (NoteUnsettles false) goes unsettles many (omega arith) (omega arith))
               (doubt_named s many (fails many) (site_disks called.at.set.site) (site_disks to.set.site) (named to.set to.is many (omega arith)) goes.was goes.now (λ u j. logs_low goes.was many u j (omega arith)) note.maps go.maps x go.by);
           is = refl;
         })
@@ -269,7 +269,7 @@ module _ {R : Type 0} {g : Ghosts R} where
     write_cut wrote maps cut facts lets =
         let to : SetThen (λ e. PlainWrote n note x called.at.set.site e (Err IsOff)) after = sets_then (λ o e. PlainWrote n note x o e (Err IsOff)) before after called.at.set called.at.is_set wrote in
         let middle : GroupNode = to.holds.0 in
-        let unsettles : NoteUnsettles note middle = to.holds.1 in
+        let unsettles : NoteUnsettles false note middle = to.holds.1 in
         let goes : ConfigGoes (LosesSome (site_disks called.at.set.site) (site_disks to.set.site)) note middle called.at.set.site to.set.site = to.holds.4 in
         let first : GroupNode = note_cut x middle in
         let k : GroupNode = note_cut x (with_maps no_maps middle) in
@@ -284,7 +284,7 @@ module _ {R : Type 0} {g : Ghosts R} where
         (cut_ends (IsTold new) d e line name volume start bytes s place (fails many) k is plain.volume_is (calls_are d old new name s before after stands called many) to.holds.3
         (record {
           middle = with_maps no_maps middle;
-          moves = with_goes (Reconfigures (ConfigLoses s (fails many)) NoteUnsettles) MapsLost note middle goes.was goes.now no_maps goes.noted goes.noted_now (moves to.set to.is middle NoteUnsettles goes unsettles many (omega arith) (omega arith)) (record { none = λ v. refl });
+          moves = with_goes (Reconfigures (ConfigLoses s (fails many)) (NoteUnsettles false)) MapsLost note middle goes.was goes.now no_maps goes.noted goes.noted_now (moves to.set to.is middle (NoteUnsettles false) goes unsettles many (omega arith) (omega arith)) (record { none = λ v. refl });
           is = refl;
         })
         (record { world = refl; after = λ i. refl }))

@@ -1,5 +1,5 @@
 -- Why an import of a group is refused, and what a refused import leaves.
-use Rattle.std.proofs.Common.{◌≡◌, ◌∙◌, ◌⊎◌, ℕ, Bool, true, false, ap, sym, subst, refl, inl, inr, IsTrue}
+use Rattle.std.proofs.Common.{⊎_elim, ◌≡◌, ◌∙◌, ◌⊎◌, ℕ, Bool, true, false, ap, sym, subst, refl, inl, inr, IsTrue}
 use Rattle.std.specs.Prelude.{Contains, Option, Some, None, IsFalse, not}
 use Rattle.vx_model.specs.declared.errors.Stop.TheVariants.{No as StopsBy}
 use Rattle.vx_model.specs.declared.no.Counted.{Counted}
@@ -25,7 +25,7 @@ use Rattle.vx_grouped.proofs.ReadyLemmas.{imported_same}
 use Rattle.vx_grouped.specs.GroupSites.{AwayNoted, DownNoted, UpNoted, site_config, site_disks, with_note, dimmed_site}
 use Rattle.vx_grouped.specs.Readies.{ready_of}
 use Rattle.vx_grouped.specs.SiteEnds.{HasNow, stops_down}
-use Rattle.vx_grouped.specs.SiteReturns.{ImportRefused, ImportWhy, KeepsFuse, as_imported, returned_with, stops_early}
+use Rattle.vx_grouped.specs.SiteReturns.{ImportRefused, ImportWhy, KeepsFuse, KnownAway, SomeRose, as_imported, returned_with, stops_early}
 use Rattle.vx_grouped.specs.declared.group_site.GroupSite.{GroupSite}
 use Rattle.vx_grouped.specs.declared.group_site.GroupSite.TheVariants.{Up as SiteUp, Deported as SiteAway, Down as SiteDown, Marked, Gone as SiteGone}
 use Rattle.vx_diskset.specs.Asked.{FusedAs, SameFailing, disks_told}
@@ -39,7 +39,7 @@ use Rattle.vx_group_lines.proofs.GroupEnding.{IsQuiet}
 use Rattle.vx_group_lines.proofs.GroupMarks.{none_as}
 use Rattle.vx_group_lines.proofs.Returning.{SitsOn}
 use Rattle.vx_grouped.specs.GroupNotes.{note_dimmed}
-use Rattle.vx_group_lines.proofs.Dimming.{KnownBy, dimmed_by, early_known, knows_none, notes_refused}
+use Rattle.vx_group_lines.proofs.Dimming.{KnownBy, dimmed_by, early_known, knows_none, none_found, notes_refused}
 
 -- ---- the disks as an import sees them
 
@@ -68,49 +68,53 @@ quiet_limit what most = record { facts = λ f. refl; loads = λ s a b h. h }
 
 module _ (told : Type 0) (dims : Bool) (s : ℕ) (note : GroupNode) (fails : Fails) (told_new : Type 0) (loose : dims ≡ true → note.loose ≡ true) (o e : Meaning) where
   -- every reason but a device and a fuse
-  pub why_is : (why : No) → (told → (dimmed_by (is_late why) dims note).dark ≡ false → told_new) → ((k : ℕ) → why ≡ Missing k → Rose (o.disk_faults k) (e.disk_faults k) → Contains fails (s, k)) → ImportWhy told_new o e (StopsBy why)
+  pub why_is : (why : No) → (told → (dimmed_by (is_late why) dims note).dark ≡ false → told_new) → ((k : ℕ) → why ≡ Missing k → Rose (o.disk_faults k) (e.disk_faults k) → Contains fails (s, k)) → ImportWhy told_new (KnownAway told_new note) o e (StopsBy why)
+      → (SomeRose o e → fails ≡ [] → ⊥)
       → ((disk : ℕ) → why ≡ Device disk → ⊥) → (why ≡ IsOff → ⊥) → Why told dims s note fails why
-  why_is (Device disk) tells names it not_device not_off = absurd (not_device disk refl)
-  why_is IsOff tells names it not_device not_off = absurd (not_off refl)
-  why_is (Missing disk) tells names it not_device not_off = record {
+  why_is (Device disk) tells names it none not_device not_off = absurd (not_device disk refl)
+  why_is IsOff tells names it none not_device not_off = absurd (not_off refl)
+  why_is (Missing disk) tells names it none not_device not_off = record {
     quiet = record { facts = λ f. refl; loads = λ s a b h. h };
     known = early_known told dims s note fails (Missing disk) loose (names disk refl it) tt (λ k. refl);
     refuses = inl (names disk refl it);
   }
-  why_is NoConfig tells names it not_device not_off = record {
-    quiet = record { facts = λ f. refl; loads = λ s a b h. h };
-    known = early_known told dims s note fails NoConfig loose tt tt (λ k. refl);
-    refuses = inl tt;
-  }
-  why_is (Limit what most) tells names it not_device not_off = record {
+  why_is NoConfig tells names it none not_device not_off = ⊎_elim
+      (λ found. record {
+        quiet = record { facts = λ f. refl; loads = λ s a b h. h };
+        known = early_known told dims s note fails NoConfig loose found tt (λ k. refl);
+        refuses = inl found;
+      })
+      (λ nothing. record { quiet = record { facts = λ f. refl; loads = λ s a b h. h }; known = inr (nothing, tt); refuses = inr (nothing, tt) })
+      (none_found told told_new dims s note fails loose tells (λ sure. none (it sure)))
+  why_is (Limit what most) tells names it none not_device not_off = record {
     quiet = quiet_limit what most;
     known = subst (λ (w : Counted). KnownBy told true dims s note fails (Limit w most)) (sym it.0) (inl (it.1, notes_refused true dims note));
     refuses = inl (limit_most s note fails what most it.0 it.1);
   }
-  why_is (Damaged unit block stored computed) tells names it not_device not_off =
+  why_is (Damaged unit block stored computed) tells names it none not_device not_off =
       let nothing : KnowsNothing told note = knows_none told dims note loose (λ yes_ bright. it (tells yes_ bright)) in
       record { quiet = record { facts = λ f. refl; loads = λ s a b h. h }; known = inr (nothing, tt); refuses = inr (nothing, tt) }
-  why_is (Format version) tells names it not_device not_off =
+  why_is (Format version) tells names it none not_device not_off =
       let nothing : KnowsNothing told note = knows_none told dims note loose (λ yes_ bright. it (tells yes_ bright)) in
       record { quiet = record { facts = λ f. refl; loads = λ s a b h. h }; known = inr (nothing, tt); refuses = inr (nothing, tt) }
-  why_is (Unknown what) tells names it not_device not_off = absurd it
-  why_is (Exists name) tells names it not_device not_off = absurd it
-  why_is Range tells names it not_device not_off = absurd it
-  why_is Size tells names it not_device not_off = absurd it
-  why_is Role tells names it not_device not_off = absurd it
-  why_is LastPlex tells names it not_device not_off = absurd it
-  why_is (Space need have) tells names it not_device not_off = absurd it
-  why_is (LogFull link) tells names it not_device not_off = absurd it
-  why_is (Stalled link) tells names it not_device not_off = absurd it
-  why_is (LinkDown link) tells names it not_device not_off = absurd it
-  why_is (Unconfirmed number) tells names it not_device not_off = absurd it
-  why_is Inconsistent tells names it not_device not_off = absurd it
-  why_is (Behind stored head) tells names it not_device not_off = absurd it
-  why_is (Replaying link) tells names it not_device not_off = absurd it
-  why_is (Halted disk) tells names it not_device not_off = absurd it
-  why_is (Gap low need) tells names it not_device not_off = absurd it
-  why_is Paused tells names it not_device not_off = absurd it
-  why_is (Unsettled stored head) tells names it not_device not_off = absurd it
+  why_is (Unknown what) tells names it none not_device not_off = absurd it
+  why_is (Exists name) tells names it none not_device not_off = absurd it
+  why_is Range tells names it none not_device not_off = absurd it
+  why_is Size tells names it none not_device not_off = absurd it
+  why_is Role tells names it none not_device not_off = absurd it
+  why_is LastPlex tells names it none not_device not_off = absurd it
+  why_is (Space need have) tells names it none not_device not_off = absurd it
+  why_is (LogFull link) tells names it none not_device not_off = absurd it
+  why_is (Stalled link) tells names it none not_device not_off = absurd it
+  why_is (LinkDown link) tells names it none not_device not_off = absurd it
+  why_is (Unconfirmed number) tells names it none not_device not_off = absurd it
+  why_is Inconsistent tells names it none not_device not_off = absurd it
+  why_is (Behind stored head) tells names it none not_device not_off = absurd it
+  why_is (Replaying link) tells names it none not_device not_off = absurd it
+  why_is (Halted disk) tells names it none not_device not_off = absurd it
+  why_is (Gap low need) tells names it none not_device not_off = absurd it
+  why_is Paused tells names it none not_device not_off = absurd it
+  why_is (Unsettled stored head) tells names it none not_device not_off = absurd it
 
 -- the disk of a reason
 abbrev pub why_disk : No → ℕ
@@ -152,6 +156,7 @@ module _ {R : Type 0} {g : Ghosts R} where
       config = it.away.config;
       frames = it.away.frames;
       found = it.away.found;
+      some = record { large = it.away.some.large; some = it.away.some.some };
       lies = record {
         units = it.away.lies.units;
         size = it.away.lies.size;
@@ -201,7 +206,7 @@ module _ {R : Type 0} {g : Ghosts R} where
   ImportCases dims n note old e why =
       ((disk : ℕ) × (why ≡ Device disk) × StaysAway true dims n note old e × Rose (old.disk_faults disk) ((site_disks e).disk_faults disk))
       ⊎ ((why ≡ IsOff) × DownNoted (crashed (returned_with (dimmed_by true dims note) n) 0) (dimmed_by true dims note) e × IsFused n.fuse)
-      ⊎ (StaysAway (is_late why) dims n note old e × ImportWhy (IsTrue (site_disks e).tells) old (site_disks e) (StopsBy why) × ((disk : ℕ) → why ≡ Device disk → ⊥) × (why ≡ IsOff → ⊥))
+      ⊎ (StaysAway (is_late why) dims n note old e × ImportWhy (IsTrue (site_disks e).tells) (KnownAway (IsTrue (site_disks e).tells) note) old (site_disks e) (StopsBy why) × ((disk : ℕ) → why ≡ Device disk → ⊥) × (why ≡ IsOff → ⊥))
 
   pub import_cases : (dims : Bool) (n : Node) (note : GroupNode) (old : Meaning) (e : GroupSite R g) (why : No) → ImportRefused (stops_down (StopsBy why)) (dimmed_site dims note n) (note_dimmed dims note) old e (StopsBy why) → ImportCases dims n note old e why
   import_cases dims n note old e (Device disk) it = inl (disk, refl, (it.0, it.1), it.2)

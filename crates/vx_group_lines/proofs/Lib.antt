@@ -33,6 +33,7 @@ pub mod Recovering
 pub mod Founding
 pub mod GroupPlex
 pub mod GroupAttach
+pub mod Serials
 pub mod MapLines
 pub mod MapReturns
 pub mod MapGoing

@@ -3,7 +3,6 @@ use Rattle.std.proofs.Common.{◌≡◌, ◌≢◌, ◌⊎◌, ◌∙◌, ◌<�
 use Rattle.std.specs.Prelude.{Option, Some, None, Contains, option_map, slice_get}
 use Rattle.std.proofs.lemmas.Option.{slice_get-map, slice_get_within}
 use Rattle.vx_model.specs.declared.site.PlexState.{PlexState}
-use Rattle.vx_model.specs.declared.site.PlexState.TheVariants.{Active, Clean, Stale}
 use Rattle.vx_disk.specs.Counts.{Rose}
 use Rattle.vx_disk.specs.Shelf.{Meaning}
 use Rattle.vx_config.specs.Changes.{Matched, changed_at, live_again, stated, with_plex, with_state}
@@ -18,12 +17,11 @@ use Rattle.vx_layout.specs.Space.{IsFound, IsSpaceShort}
 use Rattle.vx_layout.specs.declared.shape.Found.{Found}
 use Rattle.vx_layout.specs.declared.shape.Shape.{Shape}
 use Rattle.vx_volume.specs.Plexes.{uses, uses_or}
-use Rattle.vx_grouped.specs.ConfigMoves.{AnyRose, AnyState, ConfigMoves, DiskMoves, OpensSame, PlexMoves, StateMoves, VolumeMoves}
+use Rattle.vx_grouped.specs.ConfigMoves.{ConfigMoves, DiskMoves, OpensMost, OpensSame, PlexMoves, PlexRose, StateMoves, VolumeMoves, VolumeRose}
 use Rattle.vx_order.specs.declared.facts.VolumeFacts.{VolumeFacts}
 use Rattle.vx_events.specs.Fails.{Fails}
-use Rattle.vx_events.specs.GroupConfigs.{ConfigLosesBut, DiskLosesBut, PlexLoses, VolumeLoses, has_part, lies_on_disk, opened_again, plex_again, volume_again}
+use Rattle.vx_events.specs.GroupConfigs.{ConfigGoesBy, DiskLosesBut, PlexFails, PlexGoesBy, StateLoses, StateRests, VolumeFails, VolumeGoesBy, has_part, lies_on_disk, opened_again, plex_again, volume_again}
 use Rattle.vx_events.specs.GroupViews.{plain_fact}
-use Rattle.vx_group_lines.proofs.Fails.{contains_some}
 
 -- ---- lists, place by place
 
@@ -65,28 +63,32 @@ pub record Names (s n : ℕ) (fails : Fails) (old new : Meaning) : Type 0 where
   pub many : old.units ≤ n
   pub each : (k : ℕ) → k < n → Rose (old.disk_faults k) (new.disk_faults k) → Contains fails (s, k)
 
-pub names_some : (s n : ℕ) (fails : Fails) (old new : Meaning) → Names s n fails old new → AnyRose old new → fails ≢ []
-names_some s n fails old new names any = contains_some fails (s, any.disk) (names.each any.disk (omega (arith, any.below, names.many)) any.rose)
+uses_part : (o : Option PlexEntry) (k : ℕ) → uses_or k o ≡ has_part o k
+uses_part None k = refl
+uses_part (Some p) k = refl
+
+pub plex_fails : (s n : ℕ) (fails : Fails) (old new : Meaning) → Names s n fails old new → (p : PlexEntry) → PlexRose old new p → PlexFails s fails p
+plex_fails s n fails old new names p it = record { disk = it.disk; part = sym (uses_part (Some p) it.disk) ∙ it.lies; failed = names.each it.disk (omega (arith, it.below, names.many)) it.rose }
+
+volume_fails : (s n : ℕ) (fails : Fails) (old new : Meaning) → Names s n fails old new → (v : VolumeEntry) → VolumeRose old new v → VolumeFails s fails v
+volume_fails s n fails old new names v it = record { place = it.place; plex = it.plex; at = it.at; failed = plex_fails s n fails old new names it.plex it.rose }
 
 -- what becomes of a state
-abbrev pub StateLoses : Fails → PlexState → PlexState → Type 0
-StateLoses fails p q = (q ≡ p) ⊎ ((q ≡ Stale) × (fails ≢ [])) ⊎ ((q ≡ Active) × (fails ≢ []))
+pub state_loses : (s n : ℕ) (fails : Fails) (old new : Meaning) → Names s n fails old new → (v : VolumeEntry) (p : PlexEntry) (t : PlexState) → StateMoves old new v p t → StateLoses s fails v p t
+state_loses s n fails old new names v p t (inl same) = inl same
+state_loses s n fails old new names v p t (inr (inl lost)) = inr (inl (lost.0, plex_fails s n fails old new names p lost.1))
+state_loses s n fails old new names v p t (inr (inr back)) = inr (inr (back.0, volume_fails s n fails old new names v back.1))
 
-pub state_loses : (s n : ℕ) (fails : Fails) (old new : Meaning) → Names s n fails old new → (p q : PlexState) → StateMoves old new p q → StateLoses fails p q
-state_loses s n fails old new names p q (inl same) = inl same
-state_loses s n fails old new names p q (inr (inl is, any)) = inr (inl (is, names_some s n fails old new names any))
-state_loses s n fails old new names p q (inr (inr is, any)) = inr (inr (is, names_some s n fails old new names any))
+-- and behind a deport, with what stopped cleanly taking part again
+pub opens_rests : (s : ℕ) (fails : Fails) (v : VolumeEntry) (p : PlexEntry) (t : PlexState) → OpensSame v p t → StateRests s fails (volume_again v) (plex_again p) (live_again t)
+opens_rests s fails v p t same = inl same
 
-pub opens_loses : (fails : Fails) (p q : PlexState) → OpensSame p q → StateLoses fails (live_again p) (live_again q)
-opens_loses fails p q same = inl same
-
-any_live : (fails : Fails) (p q : PlexState) → fails ≢ [] → StateLoses fails p (live_again q)
-any_live fails p Active some = inr (inr (refl, some))
-any_live fails p Clean some = inr (inr (refl, some))
-any_live fails p Stale some = inr (inl (refl, some))
-
-pub any_loses : (fails : Fails) → fails ≢ [] → (p q : PlexState) → AnyState p q → StateLoses fails (live_again p) (live_again q)
-any_loses fails some p q it = any_live fails (live_again p) q some
+pub most_rests : (s n : ℕ) (fails : Fails) (old new : Meaning) → Names s n fails old new → fails ≢ [] → (v : VolumeEntry) (p : PlexEntry) (t : PlexState) → OpensMost old new v p t → StateRests s fails (volume_again v) (plex_again p) (live_again t)
+most_rests s n fails old new names some v p t (inl same) = inl same
+most_rests s n fails old new names some v p t (inr (inl lost)) =
+    let it = plex_fails s n fails old new names p lost.1 in
+    inr (inl (ap live_again lost.0, record { disk = it.disk; part = it.part; failed = it.failed }))
+most_rests s n fails old new names some v p t (inr (inr back)) = inr (inr (back.0, ap live_again back.1, some))
 
 disk_loses : (again : ℕ → Bool) (s n k : ℕ) (fails : Fails) (old new : Meaning) → Names s n fails old new → k < n → (a b : DiskEntry) → DiskMoves again old new k a b → DiskLosesBut (again k) s k fails a b
 disk_loses again s n k fails old new names below a b it = record {
@@ -97,12 +99,12 @@ disk_loses again s n k fails old new names below a b it = record {
 
 -- ---- configurations
 
-module _ (By : PlexState → PlexState → Type 0) (fails : Fails) where
-  plex_loses : ((p q : PlexState) → By p q → StateLoses fails p q) → (p q : PlexEntry) → PlexMoves By p q → PlexLoses fails p q
-  plex_loses step p q it = record { subdisks = it.subdisks; state = step p.state q.state it.state }
+module _ (By To : VolumeEntry → PlexEntry → PlexState → Type 0) (fails : Fails) where
+  plex_goes : ((v : VolumeEntry) (p : PlexEntry) (t : PlexState) → By v p t → To v p t) → (v : VolumeEntry) (p q : PlexEntry) → PlexMoves (By v) p q → PlexGoesBy (To v) p q
+  plex_goes step v p q it = record { subdisks = it.subdisks; state = step v p q.state it.state }
 
-  volume_loses : ((p q : PlexState) → By p q → StateLoses fails p q) → (v u : VolumeEntry) → VolumeMoves By v u → VolumeLoses fails v u
-  volume_loses step v u it = record {
+  volume_goes : ((v : VolumeEntry) (p : PlexEntry) (t : PlexState) → By v p t → To v p t) → (v u : VolumeEntry) → VolumeMoves By v u → VolumeGoesBy To v u
+  volume_goes step v u it = record {
     name = it.name;
     blocks = it.blocks;
     ncol = it.ncol;
@@ -110,30 +112,30 @@ module _ (By : PlexState → PlexState → Type 0) (fails : Fails) where
     prefer = it.prefer;
     drl = it.drl;
     fmr = it.fmr;
-    plexes = λ k. placed_as (PlexMoves By) (PlexLoses fails) (slice_get v.plexes k) (slice_get u.plexes k) (λ p q _ _ moves. plex_loses step p q moves) (it.plexes k);
+    plexes = λ k. placed_as (PlexMoves (By v)) (PlexGoesBy (To v)) (slice_get v.plexes k) (slice_get u.plexes k) (λ p q _ _ moves. plex_goes step v p q moves) (it.plexes k);
   }
 
   -- what a call makes of it
-  pub config_loses : (again : ℕ → Bool) (s n : ℕ) (old new : Meaning) (c d : Config) → ((p q : PlexState) → By p q → StateLoses fails p q) → Names s n fails old new → length c.disks ≤ n
-      → ConfigMoves again By old new c d → ConfigLosesBut again s fails c d
-  config_loses again s n old new c d step names many it = record {
+  pub config_goes : (again : ℕ → Bool) (s n : ℕ) (old new : Meaning) (c d : Config) → ((v : VolumeEntry) (p : PlexEntry) (t : PlexState) → By v p t → To v p t) → Names s n fails old new → length c.disks ≤ n
+      → ConfigMoves again By old new c d → ConfigGoesBy To again s fails c d
+  config_goes again s n old new c d step names many it = record {
     site = it.parts.site;
     rvg = it.parts.rvg;
     disks = λ k. placed_as (DiskMoves again old new k) (DiskLosesBut (again k) s k fails) (slice_get c.disks k) (slice_get d.disks k)
         (λ a b there _ moves. disk_loses again s n k fails old new names (omega (arith, many, slice_get_within c.disks k a there)) a b moves) (it.disks k);
-    volumes = λ v. placed_as (VolumeMoves By) (VolumeLoses fails) (slice_get c.volumes v) (slice_get d.volumes v) (λ x y _ _ moves. volume_loses step x y moves) (it.volumes v);
+    volumes = λ v. placed_as (VolumeMoves By) (VolumeGoesBy To) (slice_get c.volumes v) (slice_get d.volumes v) (λ x y _ _ moves. volume_goes step x y moves) (it.volumes v);
   }
 
   -- under another serial
-  pub serial_loses : (again : ℕ → Bool) (s : ℕ) (c d : Config) → ConfigLosesBut again s fails c d → ConfigLosesBut again s fails (at_serial 0 c) (at_serial 0 d)
-  serial_loses again s c d it = record { site = it.site; rvg = it.rvg; disks = it.disks; volumes = it.volumes }
+  pub serial_goes : (again : ℕ → Bool) (s : ℕ) (c d : Config) → ConfigGoesBy To again s fails c d → ConfigGoesBy To again s fails (at_serial 0 c) (at_serial 0 d)
+  serial_goes again s c d it = record { site = it.site; rvg = it.rvg; disks = it.disks; volumes = it.volumes }
 
   -- ---- behind a deport, with what stopped cleanly taking part again
 
-  plex_opens : ((p q : PlexState) → By p q → StateLoses fails (live_again p) (live_again q)) → (p q : PlexEntry) → PlexMoves By p q → PlexLoses fails (plex_again p) (plex_again q)
-  plex_opens step p q it = record { subdisks = it.subdisks; state = step p.state q.state it.state }
+  plex_opens : ((v : VolumeEntry) (p : PlexEntry) (t : PlexState) → By v p t → To (volume_again v) (plex_again p) (live_again t)) → (v : VolumeEntry) (p q : PlexEntry) → PlexMoves (By v) p q → PlexGoesBy (To (volume_again v)) (plex_again p) (plex_again q)
+  plex_opens step v p q it = record { subdisks = it.subdisks; state = step v p q.state it.state }
 
-  volume_opens : ((p q : PlexState) → By p q → StateLoses fails (live_again p) (live_again q)) → (v u : VolumeEntry) → VolumeMoves By v u → VolumeLoses fails (volume_again v) (volume_again u)
+  volume_opens : ((v : VolumeEntry) (p : PlexEntry) (t : PlexState) → By v p t → To (volume_again v) (plex_again p) (live_again t)) → (v u : VolumeEntry) → VolumeMoves By v u → VolumeGoesBy To (volume_again v) (volume_again u)
   volume_opens step v u it = record {
     name = it.name;
     blocks = it.blocks;
@@ -142,28 +144,28 @@ module _ (By : PlexState → PlexState → Type 0) (fails : Fails) where
     prefer = it.prefer;
     drl = it.drl;
     fmr = it.fmr;
-    plexes = λ k. at_map plex_again (PlexMoves By) (PlexLoses fails) v.plexes u.plexes k (plex_opens step) (it.plexes k);
+    plexes = λ k. at_map plex_again (PlexMoves (By v)) (PlexGoesBy (To (volume_again v))) v.plexes u.plexes k (plex_opens step v) (it.plexes k);
   }
 
-  pub opened_loses : (again : ℕ → Bool) (s n : ℕ) (old new : Meaning) (c d : Config) → ((p q : PlexState) → By p q → StateLoses fails (live_again p) (live_again q)) → Names s n fails old new → length c.disks ≤ n
-      → ConfigMoves again By old new c d → ConfigLosesBut again s fails (opened_again (at_serial 0 c)) (opened_again (at_serial 0 d))
-  opened_loses again s n old new c d step names many it = record {
+  pub opened_goes : (again : ℕ → Bool) (s n : ℕ) (old new : Meaning) (c d : Config) → ((v : VolumeEntry) (p : PlexEntry) (t : PlexState) → By v p t → To (volume_again v) (plex_again p) (live_again t)) → Names s n fails old new → length c.disks ≤ n
+      → ConfigMoves again By old new c d → ConfigGoesBy To again s fails (opened_again (at_serial 0 c)) (opened_again (at_serial 0 d))
+  opened_goes again s n old new c d step names many it = record {
     site = it.parts.site;
     rvg = it.parts.rvg;
     disks = λ k. placed_as (DiskMoves again old new k) (DiskLosesBut (again k) s k fails) (slice_get c.disks k) (slice_get d.disks k)
         (λ a b there _ moves. disk_loses again s n k fails old new names (omega (arith, many, slice_get_within c.disks k a there)) a b moves) (it.disks k);
-    volumes = λ v. at_map volume_again (VolumeMoves By) (VolumeLoses fails) c.volumes d.volumes v (volume_opens step) (it.volumes v);
+    volumes = λ v. at_map volume_again (VolumeMoves By) (VolumeGoesBy To) c.volumes d.volumes v (volume_opens step) (it.volumes v);
   }
 
 -- ---- what the tests see of volumes
 
-fact_moves : (By : PlexState → PlexState → Type 0) (v u : VolumeEntry) → VolumeMoves By v u → plain_fact u ≡ plain_fact v
+fact_moves : (By : VolumeEntry → PlexEntry → PlexState → Type 0) (v u : VolumeEntry) → VolumeMoves By v u → plain_fact u ≡ plain_fact v
 fact_moves By v u it =
     ap (λ (x : List ℕ). let f : VolumeFacts = record (plain_fact u) { name = x } in f) it.name
     ∙ ap (λ (x : ℕ). let f : VolumeFacts = record (plain_fact u) { name = v.name; blocks = x } in f) it.blocks
-    ∙ ap (λ (x : ℕ). let f : VolumeFacts = record (plain_fact v) { plexes = x } in f) (same_length (PlexMoves By) v.plexes u.plexes it.plexes)
+    ∙ ap (λ (x : ℕ). let f : VolumeFacts = record (plain_fact v) { plexes = x } in f) (same_length (PlexMoves (By v)) v.plexes u.plexes it.plexes)
 
-pub facts_move : (again : ℕ → Bool) (By : PlexState → PlexState → Type 0) (old new : Meaning) (c d : Config) → ConfigMoves again By old new c d → map plain_fact d.volumes ≡ map plain_fact c.volumes
+pub facts_move : (again : ℕ → Bool) (By : VolumeEntry → PlexEntry → PlexState → Type 0) (old new : Meaning) (c d : Config) → ConfigMoves again By old new c d → map plain_fact d.volumes ≡ map plain_fact c.volumes
 facts_move again By old new c d it = same_map plain_fact (VolumeMoves By) (fact_moves By) c.volumes d.volumes it.volumes
 
 changed_length : {A : Type 0} (f : A → A) (k : ℕ) (xs : List A) → length (changed_at f k xs) ≡ length xs
@@ -192,17 +194,13 @@ pub short_zero : (c : Config) (want : Shape) (need have : ℕ) → IsSpaceShort 
 unfolding runs
 short_zero c want need have it = record { plexes = it.plexes; are = it.are; next = it.next }
 
-uses_part : (o : Option PlexEntry) (k : ℕ) → uses_or k o ≡ has_part o k
-uses_part None k = refl
-uses_part (Some p) k = refl
-
 pub uses_is : (c : Config) (v p k : ℕ) → uses c v p k ≡ lies_on_disk c v p k
 unfolding uses
 uses_is c v p k = uses_part (plex_at c v p) k
 
 -- disks that may be held as good again, by another test
-pub again_as : (first second : ℕ → Bool) (s : ℕ) (fails : Fails) (c d : Config) → ((k : ℕ) → first k ≡ second k) → ConfigLosesBut first s fails c d → ConfigLosesBut second s fails c d
-again_as first second s fails c d same it = record {
+pub again_as : (By : VolumeEntry → PlexEntry → PlexState → Type 0) (first second : ℕ → Bool) (s : ℕ) (fails : Fails) (c d : Config) → ((k : ℕ) → first k ≡ second k) → ConfigGoesBy By first s fails c d → ConfigGoesBy By second s fails c d
+again_as By first second s fails c d same it = record {
   site = it.site;
   rvg = it.rvg;
   disks = λ k. subst (λ (b : Bool). Matched (DiskLosesBut b s k fails) (slice_get c.disks k) (slice_get d.disks k)) (same k) (it.disks k);

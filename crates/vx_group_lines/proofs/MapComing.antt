@@ -1,16 +1,18 @@
 -- How what is noted of the maps of a site's group goes on as the group comes up from its disks, or is refused.
-use Rattle.std.proofs.Common.{◌≡◌, ◌∙◌, Bool, true, false, refl, sym, IsTrue}
+use Rattle.std.proofs.Common.{◌≡◌, ◌∙◌, ◌⊎◌, ◌<◌, inl, inr, ℕ, Bool, true, false, List, [], length, ap, refl, subst, sym, IsTrue}
 use Rattle.std.specs.Prelude.{◌||◌, not, None, Some, Ok, Err}
 use Rattle.vx_model.specs.declared.errors.Stop.{Stop}
 use Rattle.vx_config.specs.Configs.{HasSpelling}
 use Rattle.vx_config.specs.declared.config.Config.{Config}
+use Rattle.vx_config.specs.declared.entry.VolumeEntry.{VolumeEntry}
 use Rattle.vx_disk.specs.Shelf.{Meaning}
 use Rattle.vx_disk.specs.declared.shelf.Shelf.{Ghosts}
 use Rattle.vx_history.specs.Groups.{GroupNode, MissedNote}
 use Rattle.vx_history.specs.Missing.{with_maps}
 use Rattle.vx_history.specs.World.{Node}
 use Rattle.vx_kept.specs.Cleans.{at_serial}
-use Rattle.vx_grouped.proofs.RunMapLemmas.{stopped_why}
+use Rattle.vx_grouped.proofs.RunMapLemmas.{never_clean, stopped_why}
+use Rattle.vx_grouped.specs.Clean.{StopsClean}
 use Rattle.vx_grouped.specs.GroupNotes.{NotesConfig, note_dimmed, noted_config}
 use Rattle.vx_grouped.specs.GroupSites.{AwayNoted, DownNoted, idle_disks, site_config, site_disks}
 use Rattle.vx_grouped.specs.SiteMaps.{BackMaps, CameMapped, MapsOf, RisenMaps, StandMaps}
@@ -19,6 +21,7 @@ use Rattle.vx_grouped.specs.declared.group_site.GroupSite.{GroupSite}
 use Rattle.vx_grouped.specs.declared.group_site.GroupSite.TheVariants.{Deported, Down, Gone, Marked, Up}
 use Rattle.vx_events.specs.GroupMaps.{MapsRecovered}
 use Rattle.vx_group_lines.proofs.Dimming.{dimmed_by}
+use Rattle.vx_group_lines.proofs.GroupStatus.{config_is}
 use Rattle.vx_group_lines.proofs.MapGoing.{one_config, to_site}
 
 or_off : (a b : Bool) → (a || b) ≡ false → (a ≡ false) × (b ≡ false)
@@ -39,7 +42,7 @@ pub bright_before : (dims : Bool) (note next : GroupNode) → next.dark ≡ (not
 bright_before dims note next dark bright = (or_off dims note.dark (sym dark ∙ bright)).1
 
 module _ {R : Type 0} {g : Ghosts R} where
-  pub config_with : (w : MissedNote) (note next : GroupNode) (old : Meaning) (new : GroupSite R g) → ConfigReturns note next old new → ConfigReturns note (with_maps w next) old new
+  abbrev pub config_with : (w : MissedNote) (note next : GroupNode) (old : Meaning) (new : GroupSite R g) → ConfigReturns note next old new → ConfigReturns note (with_maps w next) old new
   config_with w note next old new it = record {
     was = it.was;
     now = it.now;
@@ -48,6 +51,7 @@ module _ {R : Type 0} {g : Ghosts R} where
     noted_now = record { is = it.noted_now.is; spells = it.noted_now.spells };
     sizes = it.sizes;
     change = it.change;
+    one = it.one;
   }
 
   -- ---- a group that came up
@@ -99,15 +103,26 @@ module _ {R : Type 0} {g : Ghosts R} where
   comes_up n note next dims Gone new d had down dark is noted came = absurd down
 
   -- so the line says of the note, where no more may be on the disks than is noted
-  pub recovered_so : (n : Node) (note next : GroupNode) (old : GroupSite R g) (new : Meaning) → DownNoted n note old → note.dark ≡ false → IsTrue new.tells → RisenMaps (site_disks old) new next.maps → MapsRecovered note next
-  recovered_so n note next (Up group) new down bright tells it = absurd down
-  recovered_so n note next (Deported idle) new down bright tells it = absurd down
-  recovered_so n note next (Down idle) new down bright tells it = record {
+  pub recovered_so : (n : Node) (note next : GroupNode) (old : GroupSite R g) (new : Meaning) → DownNoted n note old → note.dark ≡ false → IsTrue new.tells → RisenMaps (site_disks old) new next.maps → (was : Config) → NotesConfig note was
+      → (note.loose ≡ false → note.begun ≡ [] → (v b : ℕ) → b < next.bytes.size v → (next.others v b ≡ []) ⊎ ((v < length was.volumes) × StopsClean was v)) → MapsRecovered note next
+  recovered_so n note next (Up group) new down bright tells it was noted ones = absurd down
+  recovered_so n note next (Deported idle) new down bright tells it was noted ones = absurd down
+  recovered_so n note next (Down idle) new down bright tells it was noted ones = record {
     none = it.mapped;
     doubt = λ v on. stopped_why note down.last (idle_disks idle) down.away.found down.away.runs bright v (it.doubt v on tells);
+    one = λ tight none v b low. by v b (ones tight none v b low);
   }
-  recovered_so n note next (Marked rack) new down bright tells it = absurd down
-  recovered_so n note next Gone new down bright tells it = absurd down
+    where
+      same : was.volumes ≡ down.last.volumes
+      same =
+          ap (λ (c : Config). c.volumes)
+          (one_config (at_serial 0 was) (at_serial 0 down.last) (sym (config_is note.config was noted.is noted.spells) ∙ config_is note.config down.last down.away.config down.spells))
+
+      by : (v b : ℕ) → (next.others v b ≡ []) ⊎ ((v < length was.volumes) × StopsClean was v) → next.others v b ≡ []
+      by v b (inl none) = none
+      by v b (inr clean) = absurd (never_clean was down.last same v (down.away.runs bright v (subst (λ (vs : List VolumeEntry). v < length vs) same clean.0)) clean.1)
+  recovered_so n note next (Marked rack) new down bright tells it was noted ones = absurd down
+  recovered_so n note next Gone new down bright tells it was noted ones = absurd down
 
   -- ---- one that is refused
 

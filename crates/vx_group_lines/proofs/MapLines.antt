@@ -53,7 +53,7 @@ module _ (s many : ℕ) (fails : Fails) (o e : Meaning) (names : Names s many fa
   gone_named v (inr (inr far)) = inr (inr far)
 
   pub known_named : (Lost Begins : ℕ → Type 0) → StayKnown (FailedAt o e) Lost Begins (map_disk_of c) w next → StayKnown (FailedIn s fails) Lost Begins (map_disk (at_serial 0 c)) w next
-  known_named Lost Begins it = record { stays = λ v on. by v (it.stays v on); begins = it.begins }
+  known_named Lost Begins it = record { stays = λ v on. by v (it.stays v on); begins = it.begins; later = it.later }
     where
       by : (v : ℕ) → (next.mapped v ≡ true) ⊎ MapsGone (FailedAt o e) (map_disk_of c) w next v ⊎ Lost v → (next.mapped v ≡ true) ⊎ MapsGone (FailedIn s fails) (map_disk (at_serial 0 c)) w next v ⊎ Lost v
       by v (inl on) = inl on

@@ -13,7 +13,8 @@ use Rattle.vx_kept.specs.Choice.{live}
 use Rattle.vx_kept.specs.Cleans.{at_serial}
 use Rattle.vx_layout.specs.Places.{plex_at}
 use Rattle.vx_volume.specs.Plexes.{active, active_or, is_active}
-use Rattle.vx_grouped.specs.SiteMaps.{BackMaps, FailedAt, StopsClean, map_disk_of}
+use Rattle.vx_grouped.specs.Clean.{StopsClean}
+use Rattle.vx_grouped.specs.SiteMaps.{BackMaps, FailedAt, map_disk_of}
 use Rattle.vx_grouped.proofs.WrittenMapLemmas.{missed_as, perhaps_as}
 use Rattle.vx_events.specs.Fails.{Fails}
 use Rattle.vx_events.specs.GroupMaps.{FailedIn, StoppedClean, WantsMemory, map_disk, takes_part}
@@ -22,7 +23,7 @@ use Rattle.vx_group_lines.proofs.MapLines.{gone_named, takes_is}
 
 -- ---- volumes that stopped cleanly
 
-clean_to : (c : Config) (v : ℕ) → StopsClean c v → StoppedClean (at_serial 0 c) v
+pub clean_to : (c : Config) (v : ℕ) → StopsClean c v → StoppedClean (at_serial 0 c) v
 unfolding active
 clean_to c v it = record { each = λ p plex at is. (let clash : true ≡ false = sym (on p plex at is) ∙ it.each p in cc) }
   where
@@ -52,6 +53,7 @@ module _ (s many : ℕ) (fails : Fails) (o e : Meaning) (names : Names s many fa
     missed = λ v p r on. it.back.missed v p r on ∙ missed_as w next (live c) (live d) (takes_part (at_serial 0 c)) (takes_part (at_serial 0 d)) no_plex none_missed (takes_is c) (takes_is d) v p r;
     perhaps = λ v p r on. it.back.perhaps v p r on ∙ perhaps_as w next (live c) (live d) (takes_part (at_serial 0 c)) (takes_part (at_serial 0 d)) no_plex none_missed (takes_is c) (takes_is d) v p r;
     doubt = λ v on. ((it.back.doubt v on).0, clean_to c v (it.back.doubt v on).1);
+    later = it.back.later;
   }
     where
       by : (v : ℕ) → (next.mapped v ≡ true) ⊎ MapsGone (FailedAt o e) (map_disk_of c) w next v ⊎ WantsMemory → (next.mapped v ≡ true) ⊎ MapsGone (FailedIn s fails) (map_disk (at_serial 0 c)) w next v ⊎ WantsMemory

@@ -22,7 +22,7 @@ use Rattle.vx_script.specs.declared.line.ScriptLine.TheVariants.{Recover}
 use Rattle.vx_grouped.proofs.ReadyLemmas.{imported_same}
 use Rattle.vx_grouped.specs.GroupSites.{DownNoted, FitsPlain, site_disks}
 use Rattle.vx_grouped.specs.SiteMaps.{CameMapped, StandMaps}
-use Rattle.vx_grouped.specs.SiteReturns.{ImportWhy, SiteRecovers, as_imported, is_dimmed, stops_early}
+use Rattle.vx_grouped.specs.SiteReturns.{ImportWhy, KnownAway, SomeRose, SiteRecovers, as_imported, is_dimmed, stops_early}
 use Rattle.vx_grouped.specs.declared.group_site.GroupSite.{GroupSite}
 use Rattle.vx_diskset.specs.Asked.{FailsAs, SameFailing}
 use Rattle.vx_diskset.specs.DiskSets.{Later}
@@ -57,8 +57,8 @@ use Rattle.vx_group_lines.proofs.GroupCalls.{Called, calls, calls_all, calls_are
 use Rattle.vx_group_lines.proofs.GroupLeads.{Follows, Sized, down_set, follows_on, sized_of}
 use Rattle.vx_group_lines.proofs.GroupMarks.{begins_at, group_noted_at}
 use Rattle.vx_group_lines.proofs.MapComing.{stays_down}
-use Rattle.vx_group_lines.proofs.Rising.{fits_as, refused_as, told_of, unfused_down}
-use Rattle.vx_group_lines.proofs.Dimming.{dimmed_by, knows_none, notes_refused, early_known, notes_short}
+use Rattle.vx_group_lines.proofs.Rising.{fits_as, refused_as, sits_down, told_of, unfused_down}
+use Rattle.vx_group_lines.proofs.Dimming.{dimmed_by, knows_none, no_call, none_found, notes_refused, early_known, notes_short}
 
 -- ---- counts
 
@@ -196,11 +196,19 @@ module _ {R : Type 0} {g : Ghosts R} where
         }
 
     -- a call on a disk failed in it
-    named_by : (set : GroupSet R g) → after ≡ OfGroup set → (disk : ℕ) → Rose ((as_imported call.at.set.site).disk_faults disk) ((site_disks set.site).disk_faults disk) → Contains (calls s old new (suc disk)) (s, disk)
-    named_by set is disk rose =
-        calls_named e old new [] s before after begin.stands call call.at.set set call.at.is_set is (suc disk) disk (omega arith)
+    named_in : (set : GroupSet R g) → after ≡ OfGroup set → (many disk : ℕ) → disk < many → Rose ((as_imported call.at.set.site).disk_faults disk) ((site_disks set.site).disk_faults disk) → Contains (calls s old new many) (s, disk)
+    named_in set is many disk low rose =
+        calls_named e old new [] s before after begin.stands call call.at.set set call.at.is_set is many disk low
         (rose_up ((site_disks call.at.set.site).disk_faults disk) ((as_imported call.at.set.site).disk_faults disk) ((site_disks set.site).disk_faults disk) ((site_disks set.site).disk_faults disk)
         ((imported_same {R = R} {g = g} call.at.set.site).counts disk) rose (omega arith))
+
+    named_by : (set : GroupSet R g) → after ≡ OfGroup set → (disk : ℕ) → Rose ((as_imported call.at.set.site).disk_faults disk) ((site_disks set.site).disk_faults disk) → Contains (calls s old new (suc disk)) (s, disk)
+    named_by set is disk rose = named_in set is (suc disk) disk (omega arith) rose
+
+    some_named : (set : GroupSet R g) → after ≡ OfGroup set → SomeRose (as_imported call.at.set.site) (site_disks set.site) → calls s old new n.disks ≡ [] → ⊥
+    some_named set is some none =
+        no_call (calls s old new n.disks) (s, some.disk) none
+        (named_in set is n.disks some.disk (let low = some.below in let same = (sits_down n note call.at.set.site is_down).units in omega (arith, low, same)) some.rose)
 
     -- none was found, and nothing was written
     not_found : (many : ℕ) (why : No) (d : Doubted) (name : List ℕ) → ComesDown d e s → IsNoDevice why → NotFound s (note_at (e.world.nodes s)) (calls s old new many) why → ((k : GroupNode) → NotFoundLeaves why k k)
@@ -230,7 +238,7 @@ module _ {R : Type 0} {g : Ghosts R} where
     LeftMaps stop x = StandMaps (left_note (not (stops_early stop))) x
 
     -- why
-    by_why : (why : No) (set : GroupSet R g) → after ≡ OfGroup set → Left (StopsBy why) set.site → LeftMaps (StopsBy why) set.site → cut_in after ≡ cut_value call.at.set.cut → ImportWhy (IsTrue (site_disks set.site).tells) (as_imported call.at.set.site) (site_disks set.site) (StopsBy why)
+    by_why : (why : No) (set : GroupSet R g) → after ≡ OfGroup set → Left (StopsBy why) set.site → LeftMaps (StopsBy why) set.site → cut_in after ≡ cut_value call.at.set.cut → ImportWhy (IsTrue (site_disks set.site).tells) (KnownAway (IsTrue (site_disks set.site).tells) note) (as_imported call.at.set.site) (site_disks set.site) (StopsBy why)
         → (mid : Yard R g) → mid.facts.items ≡ old.facts.items → SameLoad old mid → (result : Result Said OutOfMemory) → IsNotedRefusal s (fact_of_group n note) why mid new result → RisesIs e s old new result
     by_why (Device disk) set is holds maps cut rose mid facts load result it =
         subst (λ (r : Result Said OutOfMemory). RisesIs e s old new r) (sym it.said)
@@ -242,7 +250,11 @@ module _ {R : Type 0} {g : Ghosts R} where
         (λ d name comes. not_found (suc disk) (Lacks disk) d name comes tt (named_by set is disk rose) (λ k. refl)))
     by_why NoConfig set is holds maps cut rose mid facts load result it =
         subst (λ (r : Result Said OutOfMemory). RisesIs e s old new r) (sym it.said)
-        (answered false 0 NoConfig set is holds maps cut (quiet mid facts it.facts) (loaded mid load it.same it.assemblies) (λ d name comes. not_found 0 NoConfig d name comes tt tt (λ k. refl)))
+        (answered false n.disks NoConfig set is holds maps cut (quiet mid facts it.facts) (loaded mid load it.same it.assemblies) (λ d name comes. ⊎_elim
+        (λ found. not_found n.disks NoConfig d name comes tt found (λ k. refl))
+        (λ nothing. FindsNoGroup (left_note false) NoConfig (calls_are e old new [] s before after begin.stands call n.disks) tt (subst (λ (k : GroupNode). KnowsNothing (IsTold new) k) comes.note nothing) tt (left_notes false d comes) refl (left_last false d comes))
+        (none_found (IsTold new) (IsTrue (site_disks set.site).tells) dims s note (calls s old new n.disks) loose
+        (λ told bright. lit_down (left_node false) (left_note false) set.site holds bright (told_of new s after set there_now is told)) (λ sure. some_named set is (rose sure)))))
     by_why (Limit what most) set is holds maps cut rose mid facts load result it =
         subst (λ (r : Result Said OutOfMemory). RisesIs e s old new r) (sym it.said)
         (subst (λ (w : Counted). RisesFor e s (Refused (Limit w most)) old new) (sym rose.0)
@@ -257,7 +269,7 @@ module _ {R : Type 0} {g : Ghosts R} where
         (answered false 0 (Format version) set is holds maps cut (quiet mid facts it.facts) (loaded mid load it.same it.assemblies) (strange 0 (Format version) set is holds never tt))
     by_why other set is holds maps cut rose mid facts load result it = absurd rose
 
-    by_stop : (stop : Stop) (set : GroupSet R g) → after ≡ OfGroup set → Left stop set.site → LeftMaps stop set.site → cut_in after ≡ cut_value call.at.set.cut → ImportWhy (IsTrue (site_disks set.site).tells) (as_imported call.at.set.site) (site_disks set.site) stop
+    by_stop : (stop : Stop) (set : GroupSet R g) → after ≡ OfGroup set → Left stop set.site → LeftMaps stop set.site → cut_in after ≡ cut_value call.at.set.cut → ImportWhy (IsTrue (site_disks set.site).tells) (KnownAway (IsTrue (site_disks set.site).tells) note) (as_imported call.at.set.site) (site_disks set.site) stop
         → (mid : Yard R g) → mid.facts.items ≡ old.facts.items → SameLoad old mid → (result : Result Said OutOfMemory) → reply_noted s (fact_of_group n note) stop mid new result → RisesIs e s old new result
     by_stop (StopsBy why) set is holds maps cut because mid facts load result it = by_why why set is holds maps cut because mid facts load result it
     by_stop MemoryStop set is holds maps cut because mid facts load result it =

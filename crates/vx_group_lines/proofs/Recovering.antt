@@ -216,7 +216,7 @@ module _ {R : Type 0} {g : Ghosts R} where
           })
           cut was.2 up.config up.reads mid (record { facts = first.facts; load = first.load; flight = st.flight; feeders = st.feeders }) result
           (λ set is. on_both StaysMapped st.before st.after rm.set set rm.is is (st.maps (returned_with next n) next st_up) next came.stands)
-          (λ bright tells. recovered_so n note next at.set.site (site_disks rm.set.site) is_down (bright_before (is_dimmed at.set.site) note next rm.holds.1.dark bright) tells (came.by bright tells)) st.answer
+          (λ bright tells. recovered_so n note next at.set.site (site_disks rm.set.site) is_down (bright_before (is_dimmed at.set.site) note next rm.holds.1.dark bright) tells (came.by bright tells) rm.holds.3.was (record { is = rm.holds.3.noted.is; spells = rm.holds.3.noted.spells }) (rm.holds.3.one tells)) st.answer
           (subst (λ (x : DiskSet R g). LooksAt (returned_with next n) next cut x st.after st.answer) rm.is (st.looks (returned_with next n) next st_up))
           (st.so (fact_of_group n note) up.config (ap (λ (fs : List SiteFacts). slice_get fs s) first.facts ∙ at.fact)
           (subst (λ (x : DiskSet R g). AtSite (λ y. site_config y ≡ Some up.config) x) (sym rm.is) up.has))

@@ -1,5 +1,5 @@
 -- What an import of the disks of a site takes up, as its note has it.
-use Rattle.std.proofs.Common.{◌≡◌, ◌∙◌, ◌⊎◌, inl, inr, ◌<◌, ℕ, Bool, true, false, sym, subst, refl, arith, IsTrue}
+use Rattle.std.proofs.Common.{◌≡◌, ◌∙◌, ◌⊎◌, inl, inr, ◌<◌, ℕ, Bool, true, false, [], length, sym, subst, refl, arith, IsTrue}
 use Rattle.std.specs.Prelude.{Contains, Option, Some, slice_get}
 use Rattle.std.proofs.lemmas.Option.{slice_get_within}
 use Rattle.vx_disk.specs.Counts.{Rose}
@@ -12,6 +12,7 @@ use Rattle.vx_config.specs.declared.entry.VolumeEntry.{VolumeEntry}
 use Rattle.vx_kept.specs.Cleans.{at_serial}
 use Rattle.vx_history.specs.Groups.{GroupNode}
 use Rattle.vx_history.specs.World.{Node}
+use Rattle.vx_grouped.specs.Clean.{StopsClean}
 use Rattle.vx_grouped.specs.ConfigMoves.{AnyState, PlexMoves, VolumeMoves}
 use Rattle.vx_grouped.specs.GroupNotes.{note_dimmed}
 use Rattle.vx_grouped.specs.GroupSites.{site_disks}
@@ -20,13 +21,15 @@ use Rattle.vx_grouped.specs.declared.group_site.GroupSite.{GroupSite}
 use Rattle.vx_events.specs.Fails.{Fails}
 use Rattle.vx_events.specs.GroupConfigs.{PlexStays, VolumeStays}
 use Rattle.vx_events.specs.GroupEnds.{KnowsNothing}
+use Rattle.vx_events.specs.GroupMaps.{StoppedClean}
 use Rattle.vx_events.specs.GroupNotes.{IsKnown, NotesBack}
 use Rattle.vx_group_lines.proofs.Dimming.{dark_moves}
 use Rattle.vx_group_lines.proofs.GroupStatus.{config_is}
 use Rattle.vx_group_lines.proofs.Losing.{placed_as}
+use Rattle.vx_group_lines.proofs.MapReturns.{clean_to}
 
-plex_stays : (p q : PlexEntry) → PlexMoves AnyState p q → PlexStays p q
-plex_stays p q it = record { subdisks = it.subdisks }
+plex_stays : (v : VolumeEntry) (p q : PlexEntry) → PlexMoves (AnyState v) p q → PlexStays p q
+plex_stays v p q it = record { subdisks = it.subdisks }
 
 volume_stays : (v u : VolumeEntry) → VolumeMoves AnyState v u → VolumeStays v u
 volume_stays v u it = record {
@@ -37,7 +40,7 @@ volume_stays v u it = record {
   prefer = it.prefer;
   drl = it.drl;
   fmr = it.fmr;
-  plexes = λ k. placed_as (PlexMoves AnyState) PlexStays (slice_get v.plexes k) (slice_get u.plexes k) (λ p q _ _ moves. plex_stays p q moves) (it.plexes k);
+  plexes = λ k. placed_as (PlexMoves (AnyState v)) PlexStays (slice_get v.plexes k) (slice_get u.plexes k) (λ p q _ _ moves. plex_stays v p q moves) (it.plexes k);
 }
 
 -- Disks of which nothing is told as the group sees them: of the rack itself nothing is told, or it is not known what the disks hold, and then it was not
@@ -88,9 +91,14 @@ module _ {R : Type 0} {g : Ghosts R} where
     size = λ v. config.sizes v;
     block = λ v b. back.block v b;
     may = λ yes_ v b low. back.may (tells yes_) v b low;
+    one = λ yes_ tight none v b low. ones v b (config.one (tells yes_) tight none v b low);
     cut = back.cut;
     inside = back.inside;
   }
     where
+      ones : (v b : ℕ) → (next.others v b ≡ []) ⊎ ((v < length config.was.volumes) × StopsClean config.was v) → (next.others v b ≡ []) ⊎ StoppedClean (at_serial 0 config.was) v
+      ones v b (inl none) = inl none
+      ones v b (inr clean) = inr (clean_to config.was v clean.1)
+
       within : (k : ℕ) (disk : DiskEntry) → slice_get config.now.disks k ≡ Some disk → k < n.disks
       within k disk at = omega (arith, slice_get_within config.now.disks k disk at, config.change.count, sits.units)

@@ -104,10 +104,10 @@ module _ (n : Node) (note : GroupNode) (m m' : Meaning) (units : m'.units ≡ m.
   }
 
   pub less_down : (last : Config) → IsAwayAt n note last m → IsAwayAt n note last m'
-  less_down last it = record { state = it.state; config = it.config; found = less_noted note last m m' (less_from m m' units size leaves) it.found; runs = it.runs; lies = less_away last it.lies }
+  less_down last it = record { state = it.state; config = it.config; found = less_noted note last m m' (less_from m m' units size leaves) it.found; runs = it.runs; some = it.some; lies = less_away last it.lies }
 
   pub less_deported : (last newest : Config) → IsDeportedAt n note last newest m → IsDeportedAt n note last newest m'
-  less_deported last newest it = record { state = it.state; config = it.config; frames = it.frames; found = less_noted note newest m m' (less_from m m' units size leaves) it.found; lies = less_away last it.lies }
+  less_deported last newest it = record { state = it.state; config = it.config; frames = it.frames; found = less_noted note newest m m' (less_from m m' units size leaves) it.found; some = it.some; lies = less_away last it.lies }
 
 module _ (n : Node) (m m' : Meaning) (alike : Alike m m') (down : m'.down ≡ m.down) (armed : m'.armed ≡ m.armed) (was is : Bool) (same : is ≡ was) (told told' : Bool) (less : IsTrue told' → IsTrue told) where
   stopped_alike : AreStopped m → AreStopped m'

@@ -1,5 +1,5 @@
 -- A group that crashed, as its site notes it.
-use Rattle.std.proofs.Common.{◌≡◌, ◌<◌, inl, ℕ, true, length, refl, sym, ◌∙◌, subst, IsTrue}
+use Rattle.std.proofs.Common.{◌≡◌, ◌<◌, ◌≤◌, inl, ℕ, true, length, refl, sym, ◌∙◌, subst, IsTrue}
 use Rattle.vx_model.specs.declared.site.SiteState.TheVariants.{Down as IsDown}
 use Rattle.vx_disk.specs.Racks.{Stopped}
 use Rattle.vx_disk.specs.Shelf.{Each, Image, Meaning}
@@ -18,7 +18,7 @@ use Rattle.vx_group.specs.Resumes.{CanImport}
 use Rattle.vx_group.specs.Stands.{InnerStands}
 use Rattle.vx_group.specs.declared.group_core.GroupCore.{GroupCore}
 use Rattle.vx_group.proofs.HoldLemmas.{wide_shape}
-use Rattle.vx_grouped.specs.Away.{AwayLies, IsAwayAt}
+use Rattle.vx_grouped.specs.Away.{AwayLies, AwayFit, IsAwayAt}
 use Rattle.vx_grouped.specs.GroupNotes.{GroupLies}
 use Rattle.vx_kept.proofs.Chosen.{extends_shape}
 use Rattle.vx_grouped.proofs.ImageLemmas.{less_from, less_noted}
@@ -47,8 +47,14 @@ module _ (n : Node) (note : GroupNode) (c : GroupCore) (m m' : Meaning) (lies : 
     has = has;
   }
 
+  crash_some : AwayFit (record n { state = IsDown }) c.inner.config
+  crash_some = record {
+    large = λ more. subst (λ (x : ℕ). 1024 ≤ x) (stopped.size 0 ∙ lies.size 0 more) (stands.large.each 0 (subst (λ (x : ℕ). 0 < x) (sym (stopped.units ∙ lies.units)) more));
+    some = λ all. stands.some (record { each = λ u low is. all.each u low });
+  }
+
   pub crash_away : ((v : ℕ) → v < length c.inner.config.volumes → SomeActive c.inner.config v) → (c.inner.agreed ≡ true → CanImport m') → IsAwayAt (record n { state = IsDown }) note c.inner.config m'
-  crash_away runs can = record { state = refl; config = lies.config; found = less_noted note c.inner.config m m' (less_from m m' stopped.units stopped.size stopped.leaves) lies.images.noted; runs = λ bright. runs; lies = crash_lies can }
+  crash_away runs can = record { state = refl; config = lies.config; found = less_noted note c.inner.config m m' (less_from m m' stopped.units stopped.size stopped.leaves) lies.images.noted; runs = λ bright. runs; some = crash_some; lies = crash_lies can }
 
 -- the same of equal parts
 pub lies_at : {S : Type 0} (meaning : S → Meaning) (n : Node) (note : GroupNode) (c d : GroupCore) (s t : S) → d ≡ c → t ≡ s → GroupLies n note c (meaning s) → GroupLies n note d (meaning t)

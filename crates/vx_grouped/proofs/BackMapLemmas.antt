@@ -1,5 +1,5 @@
 -- What is known of the regions that plexes missed, as a group that was deported comes up again.
-use Rattle.std.proofs.Common.{◌≡◌, ◌<◌, ◌&&◌, ℕ, Bool, true, false, List, length, refl, inr}
+use Rattle.std.proofs.Common.{◌≡◌, ◌<◌, ◌≤◌, ◌&&◌, ℕ, Bool, true, false, List, length, refl, inr}
 use Rattle.std.proofs.lemmas.Bool.{lt-ltb, ltb-true}
 use Rattle.std.specs.Prelude.{Some, ltb, not}
 use Rattle.vx_config.specs.declared.config.Config.{Config}
@@ -13,7 +13,8 @@ use Rattle.vx_loggroup.specs.Attaching.{fmr_at}
 use Rattle.vx_loggroup.specs.LoggedVolumes.{is_alike}
 use Rattle.vx_loggroup.specs.Moving.{IsThere, MapTaken, goes_by}
 use Rattle.vx_grouped.specs.MapsNoted.{MapsNoted, MapsOnDisk}
-use Rattle.vx_grouped.specs.SiteMaps.{BackMaps, StopsClean}
+use Rattle.vx_grouped.specs.Clean.{StopsClean}
+use Rattle.vx_grouped.specs.SiteMaps.{BackMaps}
 use Rattle.vx_grouped.proofs.DiskMapLemmas.{noted_returned}
 use Rattle.vx_grouped.proofs.NotedMapLemmas.{map_in}
 use Rattle.vx_kept.specs.Choice.{live}
@@ -45,7 +46,7 @@ back_note w c d logs flags t = maps_returned (goes_by logs d t) d.serial (live c
 module _ (w : MissedNote) (c x d : Config) (logs : List Logs) (flags : List Bool) (t : Bool) (i : Image) (m m' : Meaning) (disk : MapsOnDisk w c x i)
     (plexes : (v p r : ℕ) → goes_by logs d t v ≡ true → IsThere d v p r → IsThere c v p r) (strides : (v : ℕ) → goes_by logs d t v ≡ true → stride_of d v ≡ stride_of c v)
     (taken : (v : ℕ) (f : Missed) → goes_by logs d t v ≡ true → fmr_at logs v ≡ Some f → (w.mapped v ≡ true) × MapTaken x d v f i) (all : AllOn d)
-    (clean : (v : ℕ) → goes_by logs d t v ≡ true → StopsClean c v) (doubts : (v : ℕ) → v < length d.volumes → is_alike flags v ≡ false → (w.doubt v ≡ true) × StopsClean c v) where
+    (clean : (v : ℕ) → goes_by logs d t v ≡ true → StopsClean c v) (doubts : (v : ℕ) → v < length d.volumes → is_alike flags v ≡ false → (w.doubt v ≡ true) × StopsClean c v) (later : w.serial ≤ d.serial) where
   pub back_noted : MapsNoted (back_note w c d logs flags t) d logs flags t
   back_noted =
       let it = noted_returned w c x d logs flags t i disk plexes strides taken all in
@@ -67,5 +68,6 @@ module _ (w : MissedNote) (c x d : Config) (logs : List Logs) (flags : List Bool
       perhaps = λ v p r on. refl;
       doubt = λ v is.
           doubts v (ltb-true v (length d.volumes) (first_of (ltb v (length d.volumes)) (not (is_alike flags v)) is)) (is_off (is_alike flags v) (second_of (ltb v (length d.volumes)) (not (is_alike flags v)) is));
+      later = later;
     };
   }

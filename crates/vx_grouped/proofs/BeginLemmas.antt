@@ -8,6 +8,8 @@ use Rattle.vx_model.specs.declared.errors.Stop.TheVariants.{No as Refused, OutOf
 use Rattle.vx_model.specs.declared.no.No.{No}
 use Rattle.vx_model.specs.declared.no.No.TheVariants.{Device, Down as IsOff, Size}
 use Rattle.vx_disk.specs.Causes.{DeviceCause}
+use Rattle.vx_disk.specs.Counts.{Rose}
+use Rattle.vx_disk.specs.Racks.{IsRack}
 use Rattle.vx_disk.specs.Shelf.{Meaning}
 use Rattle.vx_disk.specs.declared.shelf.Shelf.{Ghosts}
 use Rattle.vx_history.specs.Groups.{GroupNode}
@@ -18,6 +20,7 @@ use Rattle.vx_config.specs.Configs.{HasSpelling}
 use Rattle.vx_config.specs.declared.config.Config.{Config}
 use Rattle.vx_config.specs.declared.entry.VolumeEntry.{VolumeEntry}
 use Rattle.vx_copies.proofs.OneTry.{wanted_count}
+use Rattle.vx_copies.specs.Marks.{failed_at}
 use Rattle.vx_copyio.specs.Labelling.{HasSmall}
 use Rattle.vx_kept.specs.Trusts.{HasFailed}
 use Rattle.vx_group.specs.Calls.{GroupCreated}
@@ -95,7 +98,7 @@ module _ (m m' : Meaning) (n : Node) (can : CanBegin n m) (since : CalledSince m
       let small = it.small in
       omega (arith, size, large, small)
 
-  module _ (site : ℕ) (core : GroupCore) (new : IsNewGroup site core.inner m') (held : core.held ≡ None) where
+  module _ (site : ℕ) (core : GroupCore) (new : IsNewGroup site m core.inner m') (held : core.held ≡ None) where
     volumes : (wide core).config.volumes ≡ []
     volumes = ap (λ (h : Option Held). volumes_by h core.inner.config) held ∙ new.volumes
 
@@ -147,7 +150,17 @@ module _ (m m' : Meaning) (n : Node) (can : CanBegin n m) (since : CalledSince m
     }
 
     first : IsFirstNote (first_note core.inner)
-    first = record { begun = refl; size = λ v. refl; others = λ v b. refl; cut = refl; dark = refl; serial = core.inner.config.serial; maps = refl; inside = λ v. refl }
+    first = record {
+      begun = refl;
+      size = λ v. refl;
+      others = λ v b. refl;
+      cut = refl;
+      dark = refl;
+      serial = core.inner.config.serial;
+      small = let used = new.few in let is = count in let same = since.units in let units = can.units in let few = can.few in omega (arith, used, is, same, units, few);
+      maps = refl;
+      inside = λ v. refl;
+    }
 
     trusted : (P : Type 0) → (HasFailed core.inner.config.disks → P) → ((first_note core.inner).loose ≡ false) ⊎ P
     trusted P failed = elim new.trust [
@@ -168,23 +181,33 @@ module _ {R : Type 0} (g : Ghosts R) (rack : R) (n : Node) (site : ℕ) (can : C
     maps = empty_noted group.core.inner.config group.logs.items group.alike group.stopped none stands.many;
   }
 
-  begun_of : (group : Laid R g) → LoggedFact group.core group.logs.items group.alike group.stopped (laid_disks group) → (IsTrue (laid_below group).tells → IsTrue (laid_disks group).tells) → HasSpelling group.core.inner.config → IsNewGroup site group.core.inner (laid_disks group) × (group.core.held ≡ None) → CalledSince (g.meaning rack) (laid_disks group) → BeginsGroup site n (g.meaning rack) (Up group) (Ok tt)
-  begun_of group stands bright has it since = (
+  begun_of : (group : Laid R g) → LoggedFact group.core group.logs.items group.alike group.stopped (laid_disks group) → (IsTrue (laid_below group).tells → IsTrue (laid_disks group).tells) → HasSpelling group.core.inner.config → IsNewGroup site (g.meaning rack) group.core.inner (laid_disks group) × (group.core.held ≡ None) → CalledSince (g.meaning rack) (laid_disks group)
+      → ((k : ℕ) → failed_at group.core.inner.config.disks k ≡ true → Rose ((g.meaning rack).disk_faults k) ((laid_disks group).disk_faults k)) → BeginsGroup site n (g.meaning rack) (Up group) (Ok tt)
+  begun_of group stands bright has it since fails = (
     first_note group.core.inner,
     first (g.meaning rack) (laid_disks group) n can since site group.core it.0 it.1,
     begun_up (g.meaning rack) (laid_disks group) n can since site group.core it.0 it.1 (laid_below group).tells bright has,
     empty (g.meaning rack) (laid_disks group) n can since site group.core it.0 it.1,
     trusted (g.meaning rack) (laid_disks group) n can since site group.core it.0 it.1 (HasFailed group.core.inner.config.disks) (λ some. some),
     begun_maps group stands has it.0.volumes,
+    fails,
   )
 
+  -- the disks that it holds as failed
+  failed_on : ((r : R) → IsRack (g.meaning r)) → (core : GroupCore) (made : R) → IsNewGroup site (g.meaning rack) core.inner (g.meaning made) → (k : ℕ) → failed_at core.inner.config.disks k ≡ true → Rose ((g.meaning rack).disk_faults k) ((g.meaning made).disk_faults k)
+  failed_on racks core made new k is =
+      subst (λ (x : ℕ). Rose x ((g.meaning made).disk_faults k)) (sym ((racks rack).counts k)) (subst (λ (x : ℕ). Rose ((g.meaning rack).faults k) x) (sym ((racks made).counts k)) (new.failed k is))
+
   -- the group over the disks that it was made of
-  pub begun_done : (group : Laid R g) (core : GroupCore) (made : R) → LoggedFact group.core group.logs.items group.alike group.stopped (laid_disks group) → group.core ≡ core → group.shelf ≡ Bright made → HasSpelling group.core.inner.config → IsNewGroup site core.inner (g.meaning made) × (core.held ≡ None) → CalledSince (g.meaning rack) (g.meaning made)
+  pub begun_done : ((r : R) → IsRack (g.meaning r)) → (group : Laid R g) (core : GroupCore) (made : R) → LoggedFact group.core group.logs.items group.alike group.stopped (laid_disks group) → group.core ≡ core → group.shelf ≡ Bright made → HasSpelling group.core.inner.config → IsNewGroup site (g.meaning rack) core.inner (g.meaning made) × (core.held ≡ None) → CalledSince (g.meaning rack) (g.meaning made)
       → BeginsGroup site n (g.meaning rack) (Up group) (Ok tt)
-  begun_done group core made stands same bright has it since =
+  begun_done racks group core made stands same bright has it since =
       begun_of group stands (subst (λ (s : Shade R). IsTrue (g.meaning (rack_of s)).tells → IsTrue (shade_meaning g.meaning s).tells) (sym bright) (λ is. is)) has
-      (subst (λ (s : Shade R). IsNewGroup site group.core.inner (shade_meaning g.meaning s) × (group.core.held ≡ None)) (sym bright) (subst (λ (x : GroupCore). IsNewGroup site x.inner (g.meaning made) × (x.held ≡ None)) (sym same) it))
+      (subst (λ (s : Shade R). IsNewGroup site (g.meaning rack) group.core.inner (shade_meaning g.meaning s) × (group.core.held ≡ None)) (sym bright) (subst (λ (x : GroupCore). IsNewGroup site (g.meaning rack) x.inner (g.meaning made) × (x.held ≡ None)) (sym same) it))
       (subst (λ (s : Shade R). CalledSince (g.meaning rack) (shade_meaning g.meaning s)) (sym bright) since)
+      (λ k is.
+      subst (λ (s : Shade R). Rose ((g.meaning rack).disk_faults k) ((shade_meaning g.meaning s).disk_faults k)) (sym bright)
+      (failed_on racks core made it.0 k (ap (λ (x : GroupCore). failed_at x.inner.config.disks k) (sym same) ∙ is)))
 
   begun_failed : (s : R) (why : No) → (HasSmall (g.meaning rack) × (why ≡ Size)) ⊎ DeviceCause (g.meaning rack) (g.meaning s) why → CalledSince (g.meaning rack) (g.meaning s) → BeginsGroup {g = g} site n (g.meaning rack) (Marked s) (Err (Refused why))
   begun_failed s why (inl small) since = absurd (never_small (g.meaning rack) (g.meaning s) n can since small.0)

@@ -1,5 +1,5 @@
 -- Calls on a site's group that write to no volume, by its note.
-use Rattle.std.proofs.Common.{◌≡◌, Bool, ℕ, true, false, IsTrue, refl, sym, ◌∙◌, ap, subst}
+use Rattle.std.proofs.Common.{◌≡◌, Bool, ℕ, true, false, [], IsTrue, refl, sym, ◌∙◌, ap, subst}
 use Rattle.std.specs.Prelude.{Option, Some, None, Result, Ok, Err}
 use Rattle.vx_model.specs.declared.errors.Stop.{Stop}
 use Rattle.vx_model.specs.declared.errors.Stop.TheVariants.{No as Refused, OutOfMemory}
@@ -117,10 +117,10 @@ module _ {R : Type 0} {g : Ghosts R} (T : Type 0) (n : Node) (note : GroupNode) 
   lit : (next : GroupNode) → next.dark ≡ note.dark → IsLit next (laid_below new).tells (laid_disks new)
   lit next dark = lit_since note next (laid_below group).tells (laid_below new).tells (laid_disks group) (laid_disks new) dark since.tells less up.lit
 
-  module _ (Done Fails : Config → Config → Type 0) (Lacks : No → Type 0) where
+  module _ (twice : Bool) (Done Fails Cuts : Config → Config → Type 0) (Lacks : No → Type 0) where
     -- it is done
     pub called_done : (done : T) → CallLeaves n note new.core (laid_disks new) (Ok done) → Done group.core.inner.config new.core.inner.config
-        → SiteCalled Done Fails Lacks n note (Up group) (Up new) (Ok done)
+        → SiteCalled twice Done Fails Cuts Lacks n note (Up group) (Up new) (Ok done)
     called_done done leaves change = (
       note_called leaves.0 new.core note,
       called_settles leaves.0 new.core note leaves.2,
@@ -129,36 +129,36 @@ module _ {R : Type 0} {g : Ghosts R} (T : Type 0) (n : Node) (note : GroupNode) 
     )
 
     -- it was refused, over disks that are up
-    pub called_up : (stop : Stop) → stops_down stop ≡ false → CallLeaves {T = T} n note new.core (laid_disks new) (Err stop)
+    pub called_up : (stop : Stop) → stops_down stop ≡ false → CallLeaves {T = T} n note new.core (laid_disks new) (Err stop) → (twice ≡ false → note.loose ≡ false → note.begun ≡ [] → new.core.inner.agreed ≡ true)
         → ((disk : ℕ) → stop ≡ Refused (Device disk) → Rose ((laid_disks group).disk_faults disk) ((laid_disks new).disk_faults disk))
         → ((which : No) → stop ≡ Refused which → blames_device which ≡ true → Fails group.core.inner.config new.core.inner.config) → ((which : No) → stop ≡ Refused which → blames_device which ≡ false → Lacks which)
-        → SiteCalled {T = T} Done Fails Lacks n note (Up group) (Up new) (Err stop)
-    called_up (Refused (Device disk)) off leaves rose fails lacks = (
+        → SiteCalled {T = T} twice Done Fails Cuts Lacks n note (Up group) (Up new) (Err stop)
+    called_up (Refused (Device disk)) off leaves agrees rose fails lacks = (
       note_called leaves.0 new.core note,
-      called_unsettles leaves.0 new.core note,
+      called_unsettles twice leaves.0 new.core note agrees,
       up_with n note (note_called leaves.0 new.core note) (laid_below new).tells new.core (laid_disks new) up.noted (lit (note_called leaves.0 new.core note) refl) spells (fuse_burned n.fuse (laid_disks group) (laid_disks new) since.unarmed up.fuse) leaves.1,
       rose disk refl,
       goes Fails (note_called leaves.0 new.core note) refl (Up new) refl (fails (Device disk) refl refl),
     )
-    called_up (Refused IsOff) off leaves rose fails lacks = cc
-    called_up (Refused other) off leaves rose fails lacks =
+    called_up (Refused IsOff) off leaves agrees rose fails lacks = cc
+    called_up (Refused other) off leaves agrees rose fails lacks =
         (up_burned n note (laid_below new).tells new.core (laid_disks new) up.noted (lit note refl) spells (fuse_burned n.fuse (laid_disks group) (laid_disks new) since.unarmed up.fuse) leaves, lacks other refl refl)
-    called_up OutOfMemory off leaves rose fails lacks = absurd leaves
+    called_up OutOfMemory off leaves agrees rose fails lacks = absurd leaves
 
     module _ (idle : Idle R g) (stopped : Stopped (laid_disks new) (idle_disks idle))
         (away : (k : Node) (next : GroupNode) → GroupLies k next new.core (laid_disks new) → IsAwayAt (record k { state = IsDown }) next new.core.inner.config (idle_disks idle))
         (same : idle.agreed ≡ new.core.inner.agreed) (fell : TellsLess (laid_below new) (idle_below idle)) where
       -- the fuse ran out in it
-      pub called_cut : (stop : Stop) → stops_down stop ≡ true → CallLeaves {T = T} n note new.core (laid_disks new) (Err stop) → ((which : No) → stop ≡ Refused which → blames_device which ≡ true → Fails group.core.inner.config new.core.inner.config)
-          → SiteCalled {T = T} Done Fails Lacks n note (Up group) (Down idle) (Err stop)
-      called_cut (Refused (Device disk)) off leaves fails = cc
-      called_cut (Refused IsOff) off leaves fails = (
+      pub called_cut : (stop : Stop) → stops_down stop ≡ true → CallLeaves {T = T} n note new.core (laid_disks new) (Err stop) → (twice ≡ false → note.loose ≡ false → note.begun ≡ [] → new.core.inner.agreed ≡ true) → ((which : No) → stop ≡ Refused which → blames_device which ≡ true → Cuts group.core.inner.config new.core.inner.config)
+          → SiteCalled {T = T} twice Done Fails Cuts Lacks n note (Up group) (Down idle) (Err stop)
+      called_cut (Refused (Device disk)) off leaves agrees fails = cc
+      called_cut (Refused IsOff) off leaves agrees fails = (
         note_called leaves.0 new.core note,
-        called_unsettles leaves.0 new.core note,
+        called_unsettles twice leaves.0 new.core note agrees,
         down_with n note (note_called leaves.0 new.core note) idle.agreed (idle_below idle).tells new.core.inner.config (idle_disks idle) up.noted
             (lit_since note (note_called leaves.0 new.core note) (laid_below new).tells (idle_below idle).tells (laid_disks new) (idle_disks idle) refl stopped.tells fell (lit note refl)) (λ tight. same ∙ leaves.1.lies.agreed tight) (record { down = stopped.down; unarmed = stopped.unarmed }) spells (away n (note_called leaves.0 new.core note) leaves.1.lies),
         fell_fused n.fuse (laid_disks group) (laid_disks new) up.fuse up.at.up since.safe leaves.1.down,
-        goes Fails (note_called leaves.0 new.core note) refl (Down idle) tt (fails IsOff refl refl),
+        goes Cuts (note_called leaves.0 new.core note) refl (Down idle) tt (fails IsOff refl refl),
       )
-      called_cut (Refused other) off leaves fails = cc
-      called_cut OutOfMemory off leaves fails = cc
+      called_cut (Refused other) off leaves agrees fails = cc
+      called_cut OutOfMemory off leaves agrees fails = cc

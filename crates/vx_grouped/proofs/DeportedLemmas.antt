@@ -102,6 +102,7 @@ module _ (n : Node) (note : GroupNode) (c : GroupCore) (m m' : Meaning) (lies : 
     config = refl;
     frames = newest_frames;
     found = record { each = λ tight i x each is. inl (ap (λ (y : Config). at_serial 0 y) (found_one x it.config (sym is ∙ it.finds i each))) };
+    some = record { large = λ more. subst (λ (x : ℕ). 1024 ≤ x) (lies.size 0 more) (stands.stands.large.each 0 (subst (λ (x : ℕ). 0 < x) (sym lies.units) more)); some = it.some };
     lies = record {
       units = it.quiesces.acts.units ∙ lies.units;
       size = λ u low. it.quiesces.acts.size u ∙ lies.size u low;

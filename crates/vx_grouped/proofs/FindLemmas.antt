@@ -123,7 +123,7 @@ find_stops n m m' stop was now can since stops = record {
   size = λ u low. since.size u ∙ can.size u low;
   up = false_from_ne_true m'.down still;
   unarmed = since.unarmed can.unarmed;
-  why = why_by m (untold m) (untold m') m' (λ u. refl) (λ u. refl) was.counts now.counts ⊥ (λ never i readable each. absurd never) (λ never. absurd never) can.up stop
+  why = why_by m (untold m) (untold m') m' (λ u. refl) (λ u. refl) was.counts now.counts ⊥ (λ never i readable each. absurd never) (λ never. absurd never) ⊥ (λ never. absurd never) refl can.up stop
       (λ off. still (down_of (untold m) (untold m') stop (ap stops_down off) stops)) stops;
 }
   where

@@ -29,7 +29,7 @@ use Rattle.vx_grouped.proofs.ImageLemmas.{noted_as}
 use Rattle.vx_grouped.proofs.ReadyLemmas.{below_ready, lies_ready, noted_ready, ready_away, ready_down}
 use Rattle.vx_grouped.proofs.SettleLemmas.{fuse_burned}
 use Rattle.vx_grouped.proofs.SinceReturns.{dark_armed, dark_down}
-use Rattle.vx_grouped.proofs.SiteLemmas.{away_dimmed, lit_dimmed, noted_dimmed}
+use Rattle.vx_grouped.proofs.SiteLemmas.{away_dimmed, lit_dimmed, noted_dimmed, some_as}
 
 -- by equal values they tell the same
 pub rested_tells : (r s : Rested) (m : Meaning) → Some s ≡ Some r → LogsTell s m → LogsTell r m
@@ -64,6 +64,7 @@ module _ {R : Type 0} (meaning : R → Meaning) where
         config = it.away.config;
         found = noted_as note (note_dimmed true note) it.last (shade_meaning meaning (Dark (rack_of s))) refl refl (noted_ready meaning false s note it.last it.away.found);
         runs = λ bright. absurd (let clash : true ≡ false = bright in cc);
+        some = some_as n (dimmed_site true note n) it.last refl refl it.away.some;
         lies = away_dimmed true n (dimmed_site true note n) note it.last (shade_meaning meaning (Dark (rack_of s))) refl refl (lies_ready meaning false s n note it.last it.away.lies);
       };
     }
@@ -84,6 +85,7 @@ module _ {R : Type 0} (meaning : R → Meaning) where
         config = it.away.config;
         frames = it.away.frames;
         found = noted_as note (note_dimmed true note) it.newest (shade_meaning meaning (Dark (rack_of s))) refl refl (noted_ready meaning false s note it.newest it.away.found);
+        some = some_as n (worked (dimmed_site true note n)) it.newest refl refl it.away.some;
         lies = away_dimmed true n (worked (dimmed_site true note n)) note it.last (shade_meaning meaning (Dark (rack_of s))) refl refl (lies_ready meaning false s n note it.last it.away.lies);
       };
     }

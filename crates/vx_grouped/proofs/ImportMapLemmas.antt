@@ -1,5 +1,5 @@
 -- What an import makes of what is noted of the maps of a group.
-use Rattle.std.proofs.Common.{◌≡◌, ◌∙◌, ◌<◌, ◌*◌, ◌&&◌, inl, ℕ, Bool, true, false, List, length, refl, sym, ap, subst, IsTrue, arith}
+use Rattle.std.proofs.Common.{◌≡◌, ◌∙◌, ◌<◌, ◌≤◌, ◌*◌, ◌&&◌, inl, ℕ, Bool, true, false, List, length, refl, sym, ap, subst, IsTrue, arith}
 use Rattle.std.specs.Prelude.{Option, None, Some, ltb, not, slice_get}
 use Rattle.std.proofs.lemmas.Bool.{lt-ltb, ltb-true}
 use Rattle.std.proofs.lemmas.Option.{slice_get_within}
@@ -38,7 +38,8 @@ use Rattle.vx_model.specs.declared.limits.TheConstants.{MAP_REGIONS}
 use Rattle.vx_volume.specs.Plexes.{active}
 use Rattle.vx_grouped.specs.MapsNoted.{MapsNoted}
 use Rattle.vx_grouped.specs.PlainMaps.{PartsBack, map_parts}
-use Rattle.vx_grouped.specs.SiteMaps.{BackMaps, IdleMaps, RisenMaps, StopsClean}
+use Rattle.vx_grouped.specs.Clean.{StopsClean}
+use Rattle.vx_grouped.specs.SiteMaps.{BackMaps, IdleMaps, RisenMaps}
 use Rattle.vx_grouped.proofs.BackMapLemmas.{back_maps, back_note, back_noted}
 use Rattle.vx_grouped.proofs.MapStandLemmas.{logs_of}
 use Rattle.vx_grouped.proofs.NotedMapLemmas.{map_in}
@@ -47,7 +48,7 @@ use Rattle.vx_grouped.proofs.WrittenMapLemmas.{on_count}
 -- ---- volumes that stopped cleanly
 
 -- none of its plexes is ACTIVE
-clean_of : (c : Config) (v : ℕ) → stopped c v ≡ false → StopsClean c v
+pub clean_of : (c : Config) (v : ℕ) → stopped c v ≡ false → StopsClean c v
 unfolding stopped
 clean_of c v off = record { each = λ p. by p (active c v p) refl }
   where
@@ -175,6 +176,18 @@ module _ {S : Type 0} (meaning : S → Meaning) (rested : Rested) (old : Meaning
     one : x ≡ c
     one = found_is x c (sym (finds_x tells) ∙ all.finds it.resumed.taken.image each)
 
+    -- the serial does not fall
+    serial_later : c.serial ≤ core.inner.config.serial
+    serial_later =
+        let was = it.resumed.resumed in
+        let has : Each old.leaves was.taken.image = λ u b. law.shown u b (was.taken.image u b) (was.taken.read (sym was.goes.tells ∙ sym it.goes.tells ∙ tells) u b) in
+        let here : was.config ≡ c = found_is was.config c (sym (can.one was.taken.image was.taken.image was.taken.readable was.config has has was.taken.is) ∙ all.finds was.taken.image has) in
+        let first : c.serial ≡ was.config.serial = ap (λ (y : Config). y.serial) (sym here) in
+        let opened : was.opened.serial ≡ was.config.serial = was.taken.opens.alike.serial in
+        let one = was.loses.parts.later in
+        let two = it.loses.parts.later in
+        omega (arith, first, opened, one, two)
+
     low_c : (v : ℕ) → v < length core.inner.config.volumes → v < length c.volumes
     low_c v low = subst (λ (y : Config). v < length y.volumes) one (low_x v low)
 
@@ -211,15 +224,18 @@ module _ {S : Type 0} (meaning : S → Meaning) (rested : Rested) (old : Meaning
           by true is = is
           by false is = absurd (let clash : false ≡ true = sym off ∙ it.resting v (subst (λ (n : ℕ). v < n) many_k low) (idle.alike rested refl v (low_c v low) is) in cc)
 
+      not_before : w.serial ≤ core.inner.config.serial
+      not_before = let noted = idle.serial it.resumed.taken.image each in let later = serial_later in omega (arith, noted, later)
+
       came_noted : MapsNoted (back_note w c core.inner.config logs flags ended) core.inner.config logs flags ended
       came_noted =
           back_noted w c c core.inner.config logs flags ended it.resumed.taken.image old new (idle.disks.each it.resumed.taken.image c each (all.finds it.resumed.taken.image each)) plexes strides taken
-          (narrow_on core new stands.group) clean doubts
+          (narrow_on core new stands.group) clean doubts not_before
 
       came_maps : BackMaps old new c core.inner.config w (back_note w c core.inner.config logs flags ended)
       came_maps =
           back_maps w c c core.inner.config logs flags ended it.resumed.taken.image old new (idle.disks.each it.resumed.taken.image c each (all.finds it.resumed.taken.image each)) plexes strides taken
-          (narrow_on core new stands.group) clean doubts
+          (narrow_on core new stands.group) clean doubts not_before
 
   -- ---- a recovery, which knows no map
 

@@ -1,5 +1,5 @@
 -- Calls of a group that write to no volume, as its site notes them.
-use Rattle.std.proofs.Common.{◌≡◌, ℕ, Bool, true, false, List, refl, sym, ap, IsTrue, subst}
+use Rattle.std.proofs.Common.{◌≡◌, ◌⊎◌, inl, inr, ℕ, Bool, true, false, List, refl, sym, ap, IsTrue, subst}
 use Rattle.std.specs.Prelude.{Result, Ok, Err, IfErr, OnOk, Option, Some, None, if◌then◌else◌}
 use Rattle.vx_model.specs.declared.errors.Stop.{Stop}
 use Rattle.vx_model.specs.declared.errors.Stop.TheVariants.{No as Refused, OutOfMemory}
@@ -11,6 +11,7 @@ use Rattle.vx_disk.specs.Shelf.{Goes, Meaning, Nothing}
 use Rattle.vx_history.specs.Groups.{GroupNode}
 use Rattle.vx_history.specs.World.{Node}
 use Rattle.vx_config.specs.declared.config.Config.{Config}
+use Rattle.vx_volume.specs.Plexes.{active}
 use Rattle.vx_group.specs.Attaches.{GroupAttachEnds, IsAttached}
 use Rattle.vx_group.specs.Dets.{DetStops}
 use Rattle.vx_group.specs.Finds.{CoreFinds}
@@ -91,6 +92,22 @@ agreed_either (Err stop) was kept agr trust both refused is = refused is
 pub attached_by : {T : Type 0} (r : Result T Stop) (v p : ℕ) (d : Config) (m : Meaning) → GroupAttachEnds v p d m r → OnOk r (IsAttached v p d m)
 attached_by (Ok done) v p d m it = it
 attached_by (Err stop) v p d m it = tt
+
+-- and one that a disk refuses
+pub undone_by : {T : Type 0} (r : Result T Stop) (v p : ℕ) (d : Config) (m : Meaning) (disk : ℕ) → GroupAttachEnds v p d m r → r ≡ Err (Refused (Device disk)) → active d v p ≡ false
+undone_by {T} r v p d m disk ends is = subst (λ (x : Result T Stop). GroupAttachEnds v p d m x) is ends
+
+-- nor a detach, where the disks are up
+pub undone_det : {T : Type 0} (r : Result T Stop) (disk : ℕ) (fell same : Type 0) → IfErr r (λ stop. fell ⊎ same) → r ≡ Err (Refused (Device disk)) → (fell → ⊥) → same
+undone_det {T} r disk fell same it is up = by (subst (λ (x : Result T Stop). IfErr x (λ stop. fell ⊎ same)) is it)
+  where
+    by : fell ⊎ same → same
+    by (inl down) = absurd (up down)
+    by (inr kept) = kept
+
+-- disks that are down are no disk that failed
+pub fell_else : {T : Type 0} (disk : ℕ) → (let r : Result T Stop = Err (Refused Down) in r) ≡ Err (Refused (Device disk)) → ⊥
+fell_else disk is = cc
 
 -- tests of names and counts blame no disk
 pub det_not_device : (t u w x : Bool) (v p most disk : ℕ) → (if t then Some (Unknown (Number v)) else (if u then Some (Unknown (Number p)) else (if w then Some LastPlex else (if x then Some (Limit Numbers most) else None)))) ≡ Some (Device disk) → ⊥

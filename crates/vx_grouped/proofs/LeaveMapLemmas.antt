@@ -156,7 +156,7 @@ module _ (core : GroupCore) (logs : List Logs) (flags : List Bool) (s : Bool) (m
       missed = missed_then w (live core.inner.config) (live d) none_missed;
       perhaps = perhaps_then w (live core.inner.config) (live d) no_plex;
       doubt = λ v. w.doubt v || not (ltb v (length core.inner.config.volumes));
-      serial = d.serial;
+      serial = left.config.serial;
     }
 
     module _ (same : d ≡ left.config) where
@@ -240,7 +240,7 @@ module _ (core : GroupCore) (logs : List Logs) (flags : List Bool) (s : Bool) (m
 
     left_like : MapsLike m m' core.inner.config d w left_note
     left_like = record {
-      known = record { stays = λ v on. inl on; begins = λ v on. inl on };
+      known = record { stays = λ v on. inl on; begins = λ v on. inl on; later = let was = noted.serial in let later = left.parts.later in omega (arith, was, later) };
       written = record {
         missed = λ v p r on. refl;
         perhaps = λ v p r on. refl;
@@ -265,6 +265,9 @@ module _ (core : GroupCore) (logs : List Logs) (flags : List Bool) (s : Bool) (m
           subst (λ (y : Config). MapsOnDisk left_note d y i) (sym one) (on_disk (found_same left.config d (sym (left.finds i each) ∙ all.finds i each)) i each);
     }
 
+    left_serial : IsCommitted d m' → (i : Image) → Each m'.leaves i → left.config.serial ≤ d.serial
+    left_serial all i each = let same : d.serial ≡ left.config.serial = ap (λ (x : Config). x.serial) (found_same left.config d (sym (left.finds i each) ∙ all.finds i each)) in omega (arith, same)
+
     left_known : IsCommitted d m' → (i : Image) → Each m'.leaves i → (r : Rested) (v : ℕ) (e : LogEntry) → rested ≡ Some r → rests r.maps v ≡ true → v < length d.volumes → InUse d v Fmr e → failed_at d.disks e.disk ≡ false → w.mapped v ≡ true
     left_known all i each = was_known (found_same left.config d (sym (left.finds i each) ∙ all.finds i each))
 
@@ -273,7 +276,7 @@ module _ (core : GroupCore) (logs : List Logs) (flags : List Bool) (s : Bool) (m
     so = λ w d noted all. (
       left_note w noted d,
       left_like w noted d,
-      record { all = all; disks = left_disks w noted d all; alike = λ r is v low sure. left_alike w noted d r is v low sure; maps = λ r is v on. left_mapped w noted d r is v on; known = λ i r v e each is on low used good. left_known w noted d all i each r v e is on low used good },
+      record { all = all; disks = left_disks w noted d all; alike = λ r is v low sure. left_alike w noted d r is v low sure; maps = λ r is v on. left_mapped w noted d r is v on; serial = λ i each. left_serial w noted d all i each; known = λ i r v e each is on low used good. left_known w noted d all i each r v e is on low used good },
     );
   }
 

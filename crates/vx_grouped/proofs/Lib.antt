@@ -37,6 +37,7 @@ pub mod SitePlexLemmas
 pub mod BothLemmas
 pub mod BringLemmas
 pub mod WhyLemmas
+pub mod NoneLemmas
 pub mod SinceReturns
 pub mod ReadyLemmas
 pub mod FindLemmas

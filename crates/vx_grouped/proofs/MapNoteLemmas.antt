@@ -12,6 +12,7 @@ use Rattle.vx_grouped.specs.Away.{AwayLies}
 use Rattle.vx_grouped.specs.GroupNotes.{GroupLies, ImagesAre, IsGroupAt, NotesFound}
 use Rattle.vx_grouped.specs.GroupSites.{AwayNoted, CutNoted, DownNoted, GroupAway, GroupDown, GroupFallen, GroupUp, NotesGroup, UpNoted}
 use Rattle.vx_grouped.specs.Plain.{HoldsPlain}
+use Rattle.vx_grouped.proofs.SiteLemmas.{some_as}
 use Rattle.vx_grouped.specs.declared.group_site.GroupSite.{GroupSite}
 use Rattle.vx_grouped.specs.declared.group_site.GroupSite.TheVariants.{Up, Deported, Down, Marked, Gone}
 
@@ -68,7 +69,7 @@ module _ (w : MissedNote) (n : Node) (note : GroupNode) where
     stopped = it.stopped;
     last = it.last;
     spells = it.spells;
-    away = record { state = it.away.state; config = it.away.config; found = found_so it.last m it.away.found; runs = it.away.runs; lies = away_so it.last m it.away.lies };
+    away = record { state = it.away.state; config = it.away.config; found = found_so it.last m it.away.found; runs = it.away.runs; some = some_as n (site_maps w note n) it.last refl refl it.away.some; lies = away_so it.last m it.away.lies };
   }
 
   deported_so : (agreed told : Bool) (m : Meaning) → GroupAway n note agreed told m → GroupAway (site_maps w note n) (with_maps w note) agreed told m
@@ -81,7 +82,7 @@ module _ (w : MissedNote) (n : Node) (note : GroupNode) where
     last = it.last;
     newest = it.newest;
     spells = it.spells;
-    away = record { state = it.away.state; config = it.away.config; frames = it.away.frames; found = found_so it.newest m it.away.found; lies = away_so it.last m it.away.lies };
+    away = record { state = it.away.state; config = it.away.config; frames = it.away.frames; found = found_so it.newest m it.away.found; some = some_as n (site_maps w note n) it.newest refl refl it.away.some; lies = away_so it.last m it.away.lies };
   }
 
   -- ---- a site over a group

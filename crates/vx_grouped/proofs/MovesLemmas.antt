@@ -23,11 +23,12 @@ use Rattle.vx_volume.specs.Volumes.{PlexBlamed}
 use Rattle.vx_kept.specs.Keeping.{frame_at}
 use Rattle.vx_kept.proofs.Chosen.{frames_volumes}
 use Rattle.vx_kept.proofs.Frames.{SameOne, SamePlex, SameVolume, same_of}
+use Rattle.vx_group.specs.GivesUp.{EachBlamed}
 use Rattle.vx_group.specs.Loses.{LosesPlexes, SameParts}
-use Rattle.vx_grouped.specs.ConfigMoves.{AnyRose, ConfigMoves, DiskMoves, LosesSome, PlexMoves, StateMoves, VolumeMoves, none_again}
+use Rattle.vx_grouped.specs.ConfigMoves.{ConfigMoves, DiskMoves, EachPlexRose, LosesSome, PlexMoves, PlexRose, StateMoves, VolumeMoves, VolumeRose, none_again}
 use Rattle.vx_grouped.specs.CoreMoves.{BothOn, CoreMoves}
 use Rattle.vx_grouped.specs.StateChanges.{StateStays}
-use Rattle.vx_grouped.proofs.StateChangeLemmas.{states_stay}
+use Rattle.vx_grouped.proofs.StateChangeLemmas.{on_state, on_there, states_stay}
 
 -- ---- lists
 
@@ -81,14 +82,14 @@ module _ (c d : Config) (m m' : Meaning) (one : (u : ℕ) → m.disk_faults u �
 
 -- ---- volumes
 
-module _ (By : PlexState → PlexState → Type 0) where
-  plex_placed : (o p : Option PlexEntry) → SamePlex o p → ((x y : PlexEntry) → o ≡ Some x → p ≡ Some y → By x.state y.state) → Matched (PlexMoves By) o p
-  plex_placed None None same each = tt
-  plex_placed None (Some y) same each = absurd same
-  plex_placed (Some x) None same each = absurd same
-  plex_placed (Some x) (Some y) same each = record { subdisks = same; state = each x y refl refl }
+plex_placed : (By : PlexEntry → PlexState → Type 0) (o p : Option PlexEntry) → SamePlex o p → ((x y : PlexEntry) → o ≡ Some x → p ≡ Some y → By x y.state) → Matched (PlexMoves By) o p
+plex_placed By None None same each = tt
+plex_placed By None (Some y) same each = absurd same
+plex_placed By (Some x) None same each = absurd same
+plex_placed By (Some x) (Some y) same each = record { subdisks = same; state = each x y refl refl }
 
-  volume_by : (v u : VolumeEntry) → SameVolume v u → ((k : ℕ) (x y : PlexEntry) → slice_get v.plexes k ≡ Some x → slice_get u.plexes k ≡ Some y → By x.state y.state) → VolumeMoves By v u
+module _ (By : VolumeEntry → PlexEntry → PlexState → Type 0) where
+  volume_by : (v u : VolumeEntry) → SameVolume v u → ((k : ℕ) (x y : PlexEntry) → slice_get v.plexes k ≡ Some x → slice_get u.plexes k ≡ Some y → By v x y.state) → VolumeMoves By v u
   volume_by v u same each = record {
     name = same.name;
     blocks = same.blocks;
@@ -97,25 +98,25 @@ module _ (By : PlexState → PlexState → Type 0) where
     prefer = same.prefer;
     drl = same.drl;
     fmr = same.fmr;
-    plexes = λ k. plex_placed (slice_get v.plexes k) (slice_get u.plexes k) (same.plexes k) (each k);
+    plexes = λ k. plex_placed (By v) (slice_get v.plexes k) (slice_get u.plexes k) (same.plexes k) (each k);
   }
 
-  volume_placed : (o p : Option VolumeEntry) → SameOne o p → ((k : ℕ) (x y : PlexEntry) → plex_in o k ≡ Some x → plex_in p k ≡ Some y → By x.state y.state) → Matched (VolumeMoves By) o p
+  volume_placed : (o p : Option VolumeEntry) → SameOne o p → ((e : VolumeEntry) (k : ℕ) (x y : PlexEntry) → o ≡ Some e → plex_in o k ≡ Some x → plex_in p k ≡ Some y → By e x y.state) → Matched (VolumeMoves By) o p
   volume_placed None None same each = tt
   volume_placed None (Some u) same each = absurd same
   volume_placed (Some v) None same each = absurd same
-  volume_placed (Some v) (Some u) same each = volume_by v u same each
+  volume_placed (Some v) (Some u) same each = volume_by v u same (λ k x y at_x at_y. each v k x y refl at_x at_y)
 
   -- at one place, where the frames are the same
-  pub volume_moves : (c d : Config) (v : ℕ) → frame_at d v ≡ frame_at c v → ((k : ℕ) (p q : PlexEntry) → plex_at c v k ≡ Some p → plex_at d v k ≡ Some q → By p.state q.state) → Matched (VolumeMoves By) (slice_get c.volumes v) (slice_get d.volumes v)
+  pub volume_moves : (c d : Config) (v : ℕ) → frame_at d v ≡ frame_at c v → ((e : VolumeEntry) (k : ℕ) (p q : PlexEntry) → slice_get c.volumes v ≡ Some e → plex_at c v k ≡ Some p → plex_at d v k ≡ Some q → By e p q.state) → Matched (VolumeMoves By) (slice_get c.volumes v) (slice_get d.volumes v)
   volume_moves c d v frames each = volume_placed (slice_get c.volumes v) (slice_get d.volumes v) (same_of (slice_get c.volumes v) (slice_get d.volumes v) frames) each
 
 -- where the volumes are the same
 pub volumes_same : (x d : Config) (m m' : Meaning) → d.volumes ≡ x.volumes → (v : ℕ) → Matched (VolumeMoves (StateMoves m m')) (slice_get x.volumes v) (slice_get d.volumes v)
 volumes_same x d m m' same v = volume_moves (StateMoves m m') x d v (frames_volumes d x same v) each
   where
-    each : (k : ℕ) (p q : PlexEntry) → plex_at x v k ≡ Some p → plex_at d v k ≡ Some q → StateMoves m m' p.state q.state
-    each k p q at_p at_q = inl (ap (λ (e : PlexEntry). e.state) (same_Some q p (sym at_q ∙ ap (λ (vs : List VolumeEntry). plex_in (slice_get vs v) k) same ∙ at_p)))
+    each : (e : VolumeEntry) (k : ℕ) (p q : PlexEntry) → slice_get x.volumes v ≡ Some e → plex_at x v k ≡ Some p → plex_at d v k ≡ Some q → StateMoves m m' e p q.state
+    each e k p q at_e at_p at_q = inl (ap (λ (e : PlexEntry). e.state) (same_Some q p (sym at_q ∙ ap (λ (vs : List VolumeEntry). plex_in (slice_get vs v) k) same ∙ at_p)))
 
 -- and disks may have failed alone
 pub fails_alone : (c x d : Config) (m m' : Meaning) → ((u : ℕ) → m.disk_faults u ≡ m.faults u) → ((u : ℕ) → m'.disk_faults u ≡ m'.faults u) → x.disks ≡ c.disks → SameParts x d → MoreFailed m m' c.disks d.disks → d.volumes ≡ x.volumes
@@ -128,8 +129,8 @@ fails_alone c x d m m' one two same parts failing volumes = record {
 
 -- ---- configurations
 
-pub config_moves : (again : ℕ → Bool) (By : PlexState → PlexState → Type 0) (c d : Config) (m m' : Meaning) → ((u : ℕ) → m.disk_faults u ≡ m.faults u) → ((u : ℕ) → m'.disk_faults u ≡ m'.faults u) → CoreMoves again c d m m'
-    → ((v k : ℕ) (p q : PlexEntry) → plex_at c v k ≡ Some p → plex_at d v k ≡ Some q → By p.state q.state) → ConfigMoves again By m m' c d
+pub config_moves : (again : ℕ → Bool) (By : VolumeEntry → PlexEntry → PlexState → Type 0) (c d : Config) (m m' : Meaning) → ((u : ℕ) → m.disk_faults u ≡ m.faults u) → ((u : ℕ) → m'.disk_faults u ≡ m'.faults u) → CoreMoves again c d m m'
+    → ((v : ℕ) (e : VolumeEntry) (k : ℕ) (p q : PlexEntry) → slice_get c.volumes v ≡ Some e → plex_at c v k ≡ Some p → plex_at d v k ≡ Some q → By e p q.state) → ConfigMoves again By m m' c d
 config_moves again By c d m m' one two it each = record {
   parts = it.parts;
   disks = disk_at c d m m' one two again it;
@@ -174,21 +175,48 @@ module _ (c : Config) (sound : is_sound c ≡ true) where
   unfolding uses
   used_below v p d is = by_volume v p d (slice_get c.volumes v) refl is
 
+-- a disk that a plex uses, by its entry
+used_of : (c : Config) (v k disk : ℕ) (p : PlexEntry) → plex_at c v k ≡ Some p → uses c v k disk ≡ true → uses_or disk (Some p) ≡ true
+unfolding uses
+used_of c v k disk p at is = subst (λ (o : Option PlexEntry). uses_or disk o ≡ true) at is
+
+used_some : (c : Config) (v k disk : ℕ) → plex_at c v k ≡ None → uses c v k disk ≡ true → ⊥
+unfolding uses
+used_some c v k disk none is = let clash : uses_or disk None ≡ true = subst (λ (o : Option PlexEntry). uses_or disk o ≡ true) none is in cc
+
 -- ---- calls in which plexes may have failed
 
-module _ (c d : Config) (m m' : Meaning) (one : (u : ℕ) → m.disk_faults u ≡ m.faults u) (two : (u : ℕ) → m'.disk_faults u ≡ m'.faults u) (on : BothOn c d m.units) (loses : LosesPlexes c d m m') where
-  any_by : (v p : ℕ) → PlexBlamed c v p m m' → AnyRose m m'
-  any_by v p it = record {
+module _ (c : Config) (m m' : Meaning) (one : (u : ℕ) → m.disk_faults u ≡ m.faults u) (two : (u : ℕ) → m'.disk_faults u ≡ m'.faults u) (sound : is_sound c ≡ true) (count : length c.disks ≡ m.units) where
+  -- a call on a disk of the plex failed
+  pub plex_rose : (v k : ℕ) (p : PlexEntry) → plex_at c v k ≡ Some p → PlexBlamed c v k m m' → PlexRose m m' p
+  plex_rose v k p at it = record {
     disk = it.disk;
-    below = let lt = used_below c on.sound v p it.disk it.is_its in let same = on.count in omega (arith, lt, same);
+    lies = used_of c v k it.disk p at it.is_its;
+    below = let lt = used_below c sound v k it.disk it.is_its in omega (arith, lt, count);
     rose = rose_as m m' it.disk (one it.disk) (two it.disk) it.rose;
   }
 
-  state_by : (v k : ℕ) (was is : PlexState) → StateStays c v k m m' was is → StateMoves m m' was is
-  state_by v k was is (inl same) = inl same
-  state_by v k was is (inr (inl lost)) = inr (inl lost.0, any_by v k lost.1)
-  state_by v k was is (inr (inr back)) = inr (inr back.0, any_by v back.1.0 back.1.1)
+  -- or of some plex of the volume
+  volume_rose : (v : ℕ) (e : VolumeEntry) → slice_get c.volumes v ≡ Some e → (k : ℕ) → PlexBlamed c v k m m' → VolumeRose m m' e
+  volume_rose v e at k it = by (slice_get e.plexes k) refl
+    where
+      in_e : plex_at c v k ≡ slice_get e.plexes k
+      in_e = ap (λ (o : Option VolumeEntry). plex_in o k) at
 
+      by : (o : Option PlexEntry) → slice_get e.plexes k ≡ o → VolumeRose m m' e
+      by None is = absurd (used_some c v k it.disk (in_e ∙ is) it.is_its)
+      by (Some p) is = record { place = k; plex = p; at = is; rose = plex_rose v k p (in_e ∙ is) it }
+
+  -- or of each that takes part
+  pub each_rose : (v : ℕ) → EachBlamed c v m m' → EachPlexRose c v m m'
+  each_rose v it = record { each = λ p plex at is. plex_rose v p plex at (it.each p (on_there c v p plex at ∙ ap on_state is)) }
+
+  pub state_by : (v : ℕ) (e : VolumeEntry) (k : ℕ) (p : PlexEntry) (is : PlexState) → slice_get c.volumes v ≡ Some e → plex_at c v k ≡ Some p → StateStays c v k m m' p.state is → StateMoves m m' e p is
+  state_by v e k p is at_e at_p (inl same) = inl same
+  state_by v e k p is at_e at_p (inr (inl lost)) = inr (inl (lost.0, plex_rose v k p at_p lost.1))
+  state_by v e k p is at_e at_p (inr (inr back)) = inr (inr (back.0, volume_rose v e at_e back.1.0 back.1.1))
+
+module _ (c d : Config) (m m' : Meaning) (one : (u : ℕ) → m.disk_faults u ≡ m.faults u) (two : (u : ℕ) → m'.disk_faults u ≡ m'.faults u) (on : BothOn c d m.units) (loses : LosesPlexes c d m m') where
   pub loses_some : LosesSome m m' c d
   loses_some = config_moves none_again (StateMoves m m') c d m m' one two (core_moves c d m m' loses.parts loses.frames loses.disks on)
-      (λ v k p q at_p at_q. state_by v k p.state q.state (states_stay c d m m' on.was on.now loses v k p q at_p at_q))
+      (λ v e k p q at_e at_p at_q. state_by c m m' one two on.sound on.count v e k p q.state at_e at_p (states_stay c d m m' on.was on.now loses v k p q at_p at_q))

@@ -81,6 +81,7 @@ module _ (n : Node) (note : GroupNode) (last : Config) (old : Meaning) (c d : Gr
       failed = failed;
     };
     may = back.may;
+    stops = λ tells v low. back.stops tells v (let b = long in omega (arith, low, b));
   }
 
 -- the same of an import by logs

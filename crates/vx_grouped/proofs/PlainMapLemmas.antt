@@ -107,7 +107,7 @@ pub both_end : (c e d : GroupCore) (l j k : List Logs) (s t : Bool) (m n o : Mea
     → LosesPlexes c.inner.config d.inner.config m o → (s ≡ false → t ≡ true → greatest ≤ c.inner.config.serial + 45) → LogsKeep c e l j m n → LogsKeep e d j k n o → MapsEnd c.inner.config d.inner.config s t l k m o
 both_end c e d l j k s t m n o first second risen rises falls later loses full one two =
     maps_end c d l k s t m o (keeps_then c e d l j k m n o (frames_places c.inner.config e.inner.config first) risen rises falls later one two) loses.disks.blamed (λ off on. let far = full off on in omega (arith, far))
-    (λ v r at. frames_places c.inner.config d.inner.config (λ w. second w ∙ first w) v Fmr r at)
+    (λ v r at. frames_places c.inner.config d.inner.config (λ w. second w ∙ first w) v Fmr r at) loses.parts.later
 
 -- ---- what is noted behind them
 

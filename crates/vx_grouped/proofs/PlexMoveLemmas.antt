@@ -13,7 +13,7 @@ use Rattle.vx_volume.specs.Plexes.{active, uses}
 use Rattle.vx_kept.specs.Choice.{live}
 use Rattle.vx_kept.specs.Keeping.{AllOn}
 use Rattle.vx_kept.proofs.StateLemmas.{map_one, plex_apart, plex_same, stated_shape}
-use Rattle.vx_grouped.specs.ConfigMoves.{AttDone, AttFails, ConfigMoves, DetDone, DetFails, StateMoves, none_again}
+use Rattle.vx_grouped.specs.ConfigMoves.{AttCuts, AttDone, AttFails, ConfigMoves, DetCuts, DetDone, DetFails, StateKeeps, none_again}
 use Rattle.vx_grouped.specs.CoreMoves.{CoreMoves}
 use Rattle.vx_grouped.proofs.MovesLemmas.{config_moves, disk_at, volume_moves}
 use Rattle.vx_grouped.proofs.StateChangeLemmas.{live_state, live_there, on_state, on_there}
@@ -64,20 +64,20 @@ module _ (c d : Config) (v p : ℕ) (m m' : Meaning) (one : (u : ℕ) → m.disk
 
   -- it has this state behind the call
   module _ (again : ℕ → Bool) (s : PlexState) (w : Bool) (it : CoreMoves again c d m m') (has : (y : PlexEntry) → plex_at d v p ≡ Some y → y.state ≡ s) where
-    restated_state : (x q : ℕ) (a b : PlexEntry) → plex_at (stated v p s w c) x q ≡ Some a → plex_at d x q ≡ Some b → StateMoves m m' a.state b.state
+    restated_state : (x q : ℕ) (a b : PlexEntry) → plex_at (stated v p s w c) x q ≡ Some a → plex_at d x q ≡ Some b → b.state ≡ a.state
     restated_state x q a b at_a at_b = elim (this_plex v p x q) [
       | inl same ↦
           let here : plex_at (stated v p s w c) v p ≡ Some a = subst (λ (k : ℕ). plex_at (stated v p s w c) k p ≡ Some a) same.0 (subst (λ (k : ℕ). plex_at (stated v p s w c) x k ≡ Some a) same.1 at_a) in
           let there : plex_at d v p ≡ Some b = subst (λ (k : ℕ). plex_at d k p ≡ Some b) same.0 (subst (λ (k : ℕ). plex_at d x k ≡ Some b) same.1 at_b) in
-          inl (has b there ∙ sym (state_same s w (plex_at c v p) a (sym (plex_same v p s w c) ∙ here)))
-      | inr apart ↦ inl (other_state again it x q a b apart (sym (plex_apart v p s w c x q apart) ∙ at_a) at_b)
+          has b there ∙ sym (state_same s w (plex_at c v p) a (sym (plex_same v p s w c) ∙ here))
+      | inr apart ↦ other_state again it x q a b apart (sym (plex_apart v p s w c x q apart) ∙ at_a) at_b
     ]
 
-    restated_moves : ConfigMoves again (StateMoves m m') m m' (stated v p s w c) d
+    restated_moves : ConfigMoves again StateKeeps m m' (stated v p s w c) d
     restated_moves = record {
       parts = record { site = it.parts.site; rvg = it.parts.rvg; count = it.parts.count; later = it.parts.later };
       disks = disk_at c d m m' one two again it;
-      volumes = λ x. volume_moves (StateMoves m m') (stated v p s w c) d x (it.frames x ∙ sym ((stated_shape v p s w c).frames x)) (restated_state x);
+      volumes = λ x. volume_moves StateKeeps (stated v p s w c) d x (it.frames x ∙ sym ((stated_shape v p s w c).frames x)) (λ e q a b at_e at_a at_b. restated_state x q a b at_a at_b);
     }
 
   -- ---- a detach
@@ -89,22 +89,25 @@ module _ (c d : Config) (v p : ℕ) (m m' : Meaning) (one : (u : ℕ) → m.disk
   det_done it off = record { whole = false; moves = restated_moves none_again Stale false it (off_stale it off) }
 
   -- where it is as it was
-  as_was : (again : ℕ → Bool) → CoreMoves again c d m m' → active d v p ≡ active c v p → ConfigMoves again (StateMoves m m') m m' c d
-  as_was again it same = config_moves again (StateMoves m m') c d m m' one two it each
+  as_was : (again : ℕ → Bool) → CoreMoves again c d m m' → active d v p ≡ active c v p → ConfigMoves again StateKeeps m m' c d
+  as_was again it same = config_moves again StateKeeps c d m m' one two it (λ w e q x y at_e at_x at_y. each w q x y at_x at_y)
     where
-      each : (w q : ℕ) (x y : PlexEntry) → plex_at c w q ≡ Some x → plex_at d w q ≡ Some y → StateMoves m m' x.state y.state
+      each : (w q : ℕ) (x y : PlexEntry) → plex_at c w q ≡ Some x → plex_at d w q ≡ Some y → y.state ≡ x.state
       each w q x y at_x at_y = elim (this_plex v p w q) [
         | inl here ↦
             let on : active d w q ≡ active c w q = subst (λ (k : ℕ). active d k q ≡ active c k q) (sym here.0) (subst (λ (k : ℕ). active d v k ≡ active c v k) (sym here.1) same) in
-            inl (same_state x.state y.state (on_by c it.on.was w q x at_x) (on_by d it.on.now w q y at_y) (sym (on_there d w q y at_y) ∙ on ∙ on_there c w q x at_x))
-        | inr apart ↦ inl (other_state again it w q x y apart at_x at_y)
+            same_state x.state y.state (on_by c it.on.was w q x at_x) (on_by d it.on.now w q y at_y) (sym (on_there d w q y at_y) ∙ on ∙ on_there c w q x at_x)
+        | inr apart ↦ other_state again it w q x y apart at_x at_y
       ]
 
-  pub det_fails : CoreMoves none_again c d m m' → ((w q : ℕ) → IsTrue (active d w q) → IsTrue (active c w q)) → DetFails v p m m' c d
-  det_fails it narrows = by (active d v p) refl
+  pub det_fails : CoreMoves none_again c d m m' → active d v p ≡ active c v p → DetFails m m' c d
+  det_fails it same = as_was none_again it same
+
+  pub det_cuts : CoreMoves none_again c d m m' → ((w q : ℕ) → IsTrue (active d w q) → IsTrue (active c w q)) → DetCuts v p m m' c d
+  det_cuts it narrows = by (active d v p) refl
     where
-      by : (t : Bool) → active d v p ≡ t → DetFails v p m m' c d
-      by true on = inl (as_was none_again it (on ∙ sym (narrows v p on)))
+      by : (t : Bool) → active d v p ≡ t → DetCuts v p m m' c d
+      by true on = inl (det_fails it (on ∙ sym (narrows v p on)))
       by false off = inr (det_done it off)
 
   -- ---- an attach
@@ -112,9 +115,12 @@ module _ (c d : Config) (v p : ℕ) (m m' : Meaning) (one : (u : ℕ) → m.disk
   pub att_done : CoreMoves (uses c v p) c d m m' → IsTrue (active d v p) → AttDone v p m m' c d
   att_done it on = record { whole = false; moves = restated_moves (uses c v p) Active false it (λ y at. active_state y.state (sym (on_there d v p y at) ∙ on)) }
 
-  pub att_fails : CoreMoves (uses c v p) c d m m' → active c v p ≡ false → AttFails v p m m' c d
-  att_fails it off = by (active d v p) refl
+  pub att_fails : CoreMoves (uses c v p) c d m m' → active c v p ≡ false → active d v p ≡ false → AttFails v p m m' c d
+  att_fails it off still = as_was (uses c v p) it (still ∙ sym off)
+
+  pub att_cuts : CoreMoves (uses c v p) c d m m' → active c v p ≡ false → AttCuts v p m m' c d
+  att_cuts it off = by (active d v p) refl
     where
-      by : (t : Bool) → active d v p ≡ t → AttFails v p m m' c d
+      by : (t : Bool) → active d v p ≡ t → AttCuts v p m m' c d
       by true on = inr (att_done it on)
-      by false still = inl (as_was (uses c v p) it (still ∙ sym off))
+      by false still = inl (att_fails it off still)

@@ -1,5 +1,14 @@
 -- A read of a volume of a group, as its site notes it.
 use Rattle.std.proofs.Common.{◌≡◌, ℕ, List, length, sym, ◌∙◌, ap, subst, arith, IsTrue}
+use Rattle.std.specs.Prelude.{Result, Ok, Err}
+use Rattle.vx_model.specs.declared.no.No.{No}
+use Rattle.vx_model.specs.declared.no.No.TheVariants.{Device, Down as IsOff}
+use Rattle.vx_disk.specs.Causes.{refusal_of}
+use Rattle.vx_disk.specs.declared.shelf.ShelfError.{ShelfError}
+use Rattle.vx_disk.specs.declared.shelf.ShelfError.TheVariants.{Fault, Down}
+use Rattle.vx_config.specs.declared.config.Config.{Config}
+use Rattle.vx_group.specs.GivesUp.{EachBlamed}
+use Rattle.vx_group.specs.Turns.{ReadsInTurn}
 use Rattle.vx_disk.specs.Shelf.{Fits, Goes, Lawful, Meaning, Nothing, Read}
 use Rattle.vx_history.specs.Groups.{GroupNode}
 use Rattle.vx_history.specs.World.{Node}
@@ -20,6 +29,20 @@ reads_plain note m below v block old bytes same tells lawful it room read = reco
       it.has v b _ room.exists (let end = room.within in let whole = room.whole in let first = covers.first in let last = covers.last in omega (arith, end, whole, first, last, same))
       (lawful.shown v b _ (read.each (subst IsTrue (sym tells) told) b covers));
 }
+
+-- ---- where it gives up
+
+pub read_not : {disk : ℕ} {value : Unit {0}} → (let r : Result (Unit {0}) No = Ok value in r) ≡ Err (Device disk) → ⊥
+read_not is = cc
+
+off_else : (no : No) (disk : ℕ) → no ≡ IsOff → (let r : Result (Unit {0}) No = Err no in r) ≡ Err (Device disk) → ⊥
+off_else no disk is refused = cc
+
+-- a call on a disk of each plex failed that takes part
+pub read_gives : (e : ShelfError) (no : No) (v : ℕ) (c : Config) (before after : List ℕ) (block n : ℕ) (bytes : List ℕ) (m m' : Meaning) (disk : ℕ) → no ≡ refusal_of e → (let r : Result (Unit {0}) No = Err no in r) ≡ Err (Device disk)
+    → ReadsInTurn c v before after block n bytes m m' (Err e) → EachBlamed c v m m'
+read_gives (Fault k) no v c before after block n bytes m m' disk is refused it = record { each = it.0.each }
+read_gives Down no v c before after block n bytes m m' disk is refused it = absurd (off_else no disk is refused)
 
 -- what is noted stays
 pub read_stays : (n : Node) (note : GroupNode) (c d : GroupCore) (m m' : Meaning) → Lawful m → Lawful m' → Goes Nothing m m' → m'.down ≡ m.down → Goes Nothing (inner_meaning (wide c) m) (inner_meaning (wide d) m') → d.inner.config ≡ c.inner.config

@@ -24,7 +24,7 @@ use Rattle.vx_grouped.proofs.SiteReturnLemmas.{dark_away}
 use Rattle.vx_grouped.specs.GroupNotes.{NotesFound, note_dimmed}
 use Rattle.vx_grouped.proofs.ImageLemmas.{none_noted, noted_as}
 use Rattle.vx_watched.specs.Traces.{TellsLess}
-use Rattle.vx_grouped.proofs.SiteLemmas.{noted_dimmed, away_dimmed, lit_dimmed, runs_dimmed}
+use Rattle.vx_grouped.proofs.SiteLemmas.{noted_dimmed, away_dimmed, lit_dimmed, runs_dimmed, some_as}
 
 dark_fuse : (f : Fuse) (m : Meaning) → HasFuse f m → HasFuse f (untold m)
 dark_fuse NoFuse m it = it
@@ -79,6 +79,7 @@ module _ {R : Type 0} (meaning : R → Meaning) where
         config = it.away.config;
         found = noted_as note (note_dimmed (not agreed) note) it.last (shade_meaning meaning (ready_of agreed s)) refl refl (noted_ready agreed s note it.last it.away.found);
         runs = runs_dimmed (not agreed) note it.last it.away.runs;
+        some = some_as n (dimmed_site (not agreed) note n) it.last refl refl it.away.some;
         lies = away_dimmed (not agreed) n (dimmed_site (not agreed) note n) note it.last (shade_meaning meaning (ready_of agreed s)) refl refl (lies_ready agreed s n note it.last it.away.lies);
       };
     }
@@ -98,6 +99,7 @@ module _ {R : Type 0} (meaning : R → Meaning) where
         config = it.away.config;
         frames = it.away.frames;
         found = noted_as note (note_dimmed (not agreed) note) it.newest (shade_meaning meaning (ready_of agreed s)) refl refl (noted_ready agreed s note it.newest it.away.found);
+        some = some_as n (dimmed_site (not agreed) note n) it.newest refl refl it.away.some;
         lies = away_dimmed (not agreed) n (dimmed_site (not agreed) note n) note it.last (shade_meaning meaning (ready_of agreed s)) refl refl (lies_ready agreed s n note it.last it.away.lies);
       };
     }

@@ -43,7 +43,9 @@ use Rattle.vx_grouped.specs.Away.{AwayLies}
 use Rattle.vx_grouped.specs.Plain.{HoldsPlain}
 use Rattle.vx_kept.specs.Facts.{is_found}
 use Rattle.vx_group.proofs.Standing.{disks_fit}
+use Rattle.vx_grouped.proofs.ImportMapLemmas.{clean_of}
 use Rattle.vx_grouped.proofs.NoteLemmas.{blocks_same}
+use Rattle.vx_grouped.specs.Clean.{StoppedSome}
 use Rattle.vx_grouped.specs.Returns.{DisksBack, HasNoMore, ImportLeft, VolumesReturn, note_imported, note_loose}
 use Rattle.vx_model.specs.declared.errors.Stop.{Stop}
 use Rattle.vx_kept.proofs.Steps.{inside_back}
@@ -295,6 +297,18 @@ module _ (n : Node) (note : GroupNode) (last : Config) (old : Meaning) (law : La
             up.blamed u low (subst (λ (k : ℕ). up.readable k ≡ false) first (returned_failed up.readable 0 x.disks u (sym (ap (λ (ds : List DiskEntry). failed_at ds u) up.opens.alike.disks) ∙ was)))
         by u low failed false was = r.loses.disks.blamed u was failed
 
+    -- a volume that was not renewed stopped cleanly
+    stops_at : IsTrue old.tells → (v : ℕ) → v < length opened.volumes → (t : Bool) → stopped x v ≡ t → (stopped x v ≡ true) ⊎ StoppedSome old v
+    stops_at tells v low true is = inl is
+    stops_at tells v low false is = inr (record {
+      image = up.image;
+      config = x;
+      each = seen_image can x opened up.readable up.image up.read up.is up.opens tells;
+      finds = found_x can x opened up.readable up.image up.read up.is up.opens tells;
+      clean = clean_of x v is;
+      low = omega (arith, low, x_long);
+    })
+
     pub group_returns : (group : GroupCore) → group.inner ≡ core → group.held ≡ None → VolumesReturn n note last old group new
     group_returns group is none = record {
       renewed = λ v. stopped x v;
@@ -309,6 +323,10 @@ module _ (n : Node) (note : GroupNode) (last : Config) (old : Meaning) (law : La
       names = λ tells v lt. names_of group.inner.config last v v (ap (λ (i : Inner). frame_at i.config v) is ∙ r.loses.frames v ∙ up.opens.alike.shape.frames v ∙ (extends_x can x opened up.readable up.image up.read up.is up.opens tells).frames v lt);
       disks = subst (λ (i : Inner). DisksBack i.config old new) (sym is) disks_back;
       may = λ tells v b inside on. may_by tells v b (cases_lt v (length opened.volumes)) (stopped x v) refl inside on;
+      stops = λ tells v low.
+          let count = ap (λ (i : Inner). length i.config.volumes) is in
+          let units = r.goes.units in
+          stops_at tells v (omega (arith, low, count, units)) (stopped x v) refl;
     }
 
   -- ---- refused behind what was taken up

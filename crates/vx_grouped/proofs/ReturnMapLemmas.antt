@@ -1,5 +1,5 @@
 -- What is noted of the maps of disks by themselves, and of a group that came up from them.
-use Rattle.std.proofs.Common.{◌≡◌, ◌⊎◌, ◌∙◌, inl, inr, ℕ, Bool, true, false, List, refl, sym, subst}
+use Rattle.std.proofs.Common.{◌≡◌, ◌⊎◌, ◌∙◌, inl, inr, ℕ, Bool, true, false, List, ap, refl, sym, subst}
 use Rattle.std.specs.Prelude.{Err, Ok, Option, Result, Some}
 use Rattle.vx_config.specs.declared.config.Config.{Config}
 use Rattle.vx_disk.specs.Counts.{Rose}
@@ -10,6 +10,7 @@ use Rattle.vx_history.specs.MapChanges.{MapsGone}
 use Rattle.vx_kept.specs.Commits.{IsCommitted}
 use Rattle.vx_kept.specs.Groups.{found}
 use Rattle.vx_kept.proofs.Low.{found_same}
+use Rattle.vx_logimport.specs.Rests.{RestsNone, rests}
 use Rattle.vx_logimport.specs.declared.rested.Rested.{Rested}
 use Rattle.vx_model.specs.declared.errors.Stop.{Stop}
 use Rattle.vx_model.specs.declared.errors.Stop.TheVariants.{No as Refused, OutOfMemory}
@@ -51,6 +52,7 @@ module _ (m m' : Meaning) (units : m'.units ≡ m.units) (size : (u : ℕ) → m
     disks = less_disks w c it.disks;
     alike = it.alike;
     maps = it.maps;
+    serial = λ i each. it.serial i (less_each i each);
     known = λ i r v e each is on low used good. it.known i r v e (less_each i each) is on low used good;
   }
 
@@ -72,6 +74,16 @@ module _ (m m' : Meaning) (units : m'.units ≡ m.units) (size : (u : ℕ) → m
         };
   }
 
+-- no volume rests that did not
+pub crashed_down : (r s : Rested) → s.alike ≡ r.alike → ((v : ℕ) → rests s.maps v ≡ false) → (w : MissedNote) (c : Config) (m : Meaning) → DownMaps w c (Some r) m → DownMaps w c (Some s) m
+crashed_down r s alike none w c m it = record {
+  disks = it.disks;
+  rests = record { none = λ t is. subst (λ (x : Rested). RestsNone x) (one s t is) (record { alike = λ v. ap (λ (flags : List Bool). rests flags v) alike ∙ (it.rests.none r refl).alike v; maps = none }) };
+}
+  where
+    one : (x y : Rested) → Some x ≡ Some y → x ≡ y
+    one x y is = cc
+
 -- ---- counts that are the same
 
 module _ (m m1 m2 : Meaning) (counts : (k : ℕ) → m1.disk_faults k ≡ m.disk_faults k) (c d : Config) (w next : MissedNote) where
@@ -89,6 +101,7 @@ module _ (m m1 m2 : Meaning) (counts : (k : ℕ) → m1.disk_faults k ≡ m.disk
       missed = it.back.missed;
       perhaps = it.back.perhaps;
       doubt = it.back.doubt;
+      later = it.back.later;
     };
   }
 
@@ -97,6 +110,10 @@ pub down_late : (stop : Stop) → stops_down stop ≡ true → stops_early stop 
 down_late (Refused IsOff) down early = let clash : false ≡ true = early in cc
 down_late (Refused other) down early = let clash : false ≡ true = down in cc
 down_late OutOfMemory down early = let clash : false ≡ true = down in cc
+
+-- and none comes where an import had begun to write
+pub never_early : (stop : Stop) → stops_early stop ≡ false → stops_early stop ≡ true → ⊥
+never_early stop late early = let clash : false ≡ true = sym late ∙ early in cc
 
 one_config : (a b : Config) → Some a ≡ Some b → a ≡ b
 one_config a b is = cc is

@@ -9,26 +9,37 @@ use Rattle.vx_kept.specs.Cleans.{at_serial}
 use Rattle.vx_kept.proofs.Chosen.{active_volumes}
 use Rattle.vx_grouped.specs.Away.{AllRun}
 use Rattle.vx_grouped.specs.GroupNotes.{NotesFound, noted_try}
-use Rattle.vx_grouped.specs.SiteMaps.{StoppedSome}
+use Rattle.vx_grouped.specs.Clean.{StoppedSome, StopsClean}
+use Rattle.vx_volume.specs.Plexes.{SomeActive}
 
-in_none : (l : List (List ℕ)) (x : List ℕ) → l ≡ [] → Contains l x → ⊥
+-- a list that is empty has nothing in it
+pub in_none : (l : List (List ℕ)) (x : List ℕ) → l ≡ [] → Contains l x → ⊥
 in_none l x none has = by (subst (λ (k : List (List ℕ)). Contains k x) none has)
   where
     by : Contains [] x → ⊥
     by (k, low, is) = omega (arith, low)
 
-module _ (note : GroupNode) (last : Config) (m : Meaning) (found : NotesFound note last m) (runs : AllRun note last) (bright : note.dark ≡ false) (tight : note.loose ≡ false) (none : note.begun ≡ []) where
-  volumes_of : (x : Config) → (at_serial 0 x ≡ at_serial 0 last) ⊎ Contains note.begun (noted_try x) → x.volumes ≡ last.volumes
-  volumes_of x (inl same) = ap (λ (c : Config). c.volumes) same
-  volumes_of x (inr has) = absurd (in_none note.begun (noted_try x) none has)
+-- The volumes of an image's configuration are those that are noted; so one that stopped cleanly by it did by the note.
+volumes_as : (note : GroupNode) (last : Config) → note.begun ≡ [] → (x : Config) → (at_serial 0 x ≡ at_serial 0 last) ⊎ Contains note.begun (noted_try x) → x.volumes ≡ last.volumes
+volumes_as note last none x (inl same) = ap (λ (c : Config). c.volumes) same
+volumes_as note last none x (inr has) = absurd (in_none note.begun (noted_try x) none has)
 
+pub clean_noted : (note : GroupNode) (last : Config) (m : Meaning) → NotesFound note last m → note.loose ≡ false → note.begun ≡ [] → (v : ℕ) → StoppedSome m v → (v < length last.volumes) × StopsClean last v
+clean_noted note last m found tight none v some =
+    let same : some.config.volumes ≡ last.volumes = volumes_as note last none some.config (found.each tight some.image some.config some.each some.finds) in (
+      subst (λ (vs : List VolumeEntry). v < length vs) same some.low,
+      record { each = λ p. sym (active_volumes some.config last same v p) ∙ some.clean.each p },
+    )
+
+-- no volume with a plex that is ACTIVE stopped cleanly
+pub never_clean : (c last : Config) → c.volumes ≡ last.volumes → (v : ℕ) → SomeActive last v → StopsClean c v → ⊥
+never_clean c last same v on clean = let clash : false ≡ true = sym (clean.each on.plex) ∙ active_volumes c last same v on.plex ∙ on.is_on in cc
+
+module _ (note : GroupNode) (last : Config) (m : Meaning) (found : NotesFound note last m) (runs : AllRun note last) (bright : note.dark ≡ false) (tight : note.loose ≡ false) (none : note.begun ≡ []) where
   pub none_stopped : (v : ℕ) → StoppedSome m v → ⊥
   none_stopped v some =
-      let same : some.config.volumes ≡ last.volumes = volumes_of some.config (found.each tight some.image some.config some.each some.finds) in
-      let low : v < length last.volumes = subst (λ (vs : List VolumeEntry). v < length vs) same some.low in
-      let on = runs bright v low in
-      let clash : false ≡ true = sym (some.clean.each on.plex) ∙ active_volumes some.config last same v on.plex ∙ on.is_on in
-      cc
+      let was = clean_noted note last m found tight none v some in
+      never_clean last last refl v (runs bright v was.0) was.1
 
 by_begun : (l : List (List ℕ)) → (l ≡ [] → ⊥) ⊎ (l ≡ [])
 by_begun [] = inr refl

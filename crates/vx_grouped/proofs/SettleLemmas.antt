@@ -28,6 +28,12 @@ tight_called : (sure agr l : Bool) (nexts begun : List (List ℕ)) → sure ≡ 
 tight_called true agr l nexts begun is = (refl, refl)
 tight_called false agr l nexts begun is = cc
 
+agrees_called : (sure agr l : Bool) → l ≡ false → agr ≡ true → (if sure then false else (l || not agr)) ≡ false
+agrees_called true agr l was agrees = refl
+agrees_called false true false was agrees = refl
+agrees_called false true true was agrees = cc
+agrees_called false false l was agrees = cc
+
 -- ---- notes
 
 pub called_settles : (nexts : List (List ℕ)) (core : GroupCore) (note : GroupNode) → IsTight note core → NoteSettles note (note_called nexts core note)
@@ -37,10 +43,11 @@ called_settles nexts core note tight = record {
   tight = λ was none. tight_called (is_sure core) core.inner.agreed note.loose nexts note.begun (tight was none);
 }
 
-pub called_unsettles : (nexts : List (List ℕ)) (core : GroupCore) (note : GroupNode) → NoteUnsettles note (note_called nexts core note)
-called_unsettles nexts core note = record {
+pub called_unsettles : (twice : Bool) (nexts : List (List ℕ)) (core : GroupCore) (note : GroupNode) → (twice ≡ false → note.loose ≡ false → note.begun ≡ [] → core.inner.agreed ≡ true) → NoteUnsettles twice note (note_called nexts core note)
+called_unsettles twice nexts core note agrees = record {
   same = record { dark = refl; bytes = refl; others = refl; cut = refl; maps = refl; inside = refl };
   begun = begun_called (is_sure core) core.inner.agreed note.loose nexts note.begun;
+  tight = λ once was none. agrees_called (is_sure core) core.inner.agreed note.loose was (agrees once was none);
 }
 
 begun_deported : (kept l : Bool) (begun : List (List ℕ))

@@ -195,7 +195,7 @@ module _ {R : Type 0} {g : Ghosts R} (n : Node) (note : GroupNode) (name : List 
   pub made_up : (stop : Stop) → stops_down stop ≡ false → MakesVolume name want group.core (laid_disks group) new.core (laid_disks new) (Err stop) → IsUnmoved {T = ℕ} (Err stop) ((new.core ≡ group.core) × (new.shelf ≡ group.shelf))
       → SiteAdded n note name want (Up group) (Up new) (Err stop)
   made_up (Refused why) off works still =
-      called_up ℕ n note group new up since less spells (λ c d. ⊥) (LosesSome (laid_disks group) (laid_disks new)) (LacksVolume (Up group) name want) (Refused why) off (works.leaves n note up.at)
+      called_up ℕ n note group new up since less spells false (λ c d. ⊥) (LosesSome (laid_disks group) (laid_disks new)) (LosesSome (laid_disks group) (laid_disks new)) (LacksVolume (Up group) name want) (Refused why) off (works.leaves n note up.at) (λ once tight none. works.agreed (up.at.lies.committed tight none))
       (λ disk is. make_rose name want group.core new.core (laid_disks group) (laid_disks new) (Err (Refused why)) works disk (ap (λ (x : Stop). Err x) is)) (fails (Refused why) works) (lacks (Refused why) works)
   made_up OutOfMemory off works still =
       subst (λ (x : GroupCore). GroupUp n note (laid_below new).tells x (shade_meaning g.meaning new.shelf)) (sym still.0) (subst (λ (s : Shade R). GroupUp n note (g.meaning (rack_of s)).tells group.core (shade_meaning g.meaning s)) (sym still.1) up)
@@ -205,6 +205,6 @@ module _ {R : Type 0} {g : Ghosts R} (n : Node) (note : GroupNode) (name : List 
       (same : idle.agreed ≡ new.core.inner.agreed) (fell : TellsLess (laid_below new) (idle_below idle)) where
     pub made_cut : (stop : Stop) → stops_down stop ≡ true → MakesVolume name want group.core (laid_disks group) new.core (laid_disks new) (Err stop) → SiteAdded n note name want (Up group) (Down idle) (Err stop)
     made_cut (Refused why) off works =
-        called_cut ℕ n note group new up since less spells (λ c d. ⊥) (LosesSome (laid_disks group) (idle_disks idle)) (LacksVolume (Up group) name want) idle stopped away same fell (Refused why) off (works.leaves n note up.at)
+        called_cut ℕ n note group new up since less spells false (λ c d. ⊥) (LosesSome (laid_disks group) (idle_disks idle)) (LosesSome (laid_disks group) (idle_disks idle)) (LacksVolume (Up group) name want) idle stopped away same fell (Refused why) off (works.leaves n note up.at) (λ once tight none. works.agreed (up.at.lies.committed tight none))
         (λ which is blames. not_made (Refused why) works idle.rack (ended (Refused why) works (none_of (Refused why) works which is blames) which is).0 (failed_since (laid_disks group) (laid_disks new) (idle_disks idle) stopped works.disks))
     made_cut OutOfMemory off works = cc

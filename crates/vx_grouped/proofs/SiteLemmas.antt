@@ -1,5 +1,5 @@
 -- The disks of a site with a group behind a call, by its note.
-use Rattle.std.proofs.Common.{◌≡◌, ℕ, ◌<◌, IsTrue, refl, sym, ◌∙◌, subst, Bool, true, false}
+use Rattle.std.proofs.Common.{◌≡◌, ℕ, ◌<◌, ◌≤◌, IsTrue, refl, sym, ◌∙◌, subst, Bool, true, false}
 use Rattle.vx_model.specs.declared.site.SiteState.TheVariants.{Down as IsDown, Deported as IsDeported}
 use Rattle.vx_disk.specs.Shelf.{Meaning}
 use Rattle.vx_history.specs.Groups.{GroupNode}
@@ -9,7 +9,7 @@ use Rattle.vx_config.specs.Configs.{HasSpelling}
 use Rattle.vx_config.specs.declared.config.Config.{Config}
 use Rattle.vx_kept.specs.Cleans.{at_serial}
 use Rattle.vx_group.specs.declared.group_core.GroupCore.{GroupCore}
-use Rattle.vx_grouped.specs.Away.{AllRun, AwayLies, IsAwayAt, IsDeportedAt}
+use Rattle.vx_grouped.specs.Away.{AllRun, AwayLies, AwayFit, IsAwayAt, IsDeportedAt}
 use Rattle.vx_grouped.specs.GroupNotes.{GroupLies, IsGroupAt, note_dimmed}
 use Rattle.vx_grouped.specs.GroupSites.{AreStopped, GroupAway, GroupDown, GroupUp, NotesGroup, deported_with, with_note, IsLit, dimmed_site}
 use Rattle.vx_grouped.specs.SetFuses.{HasFuse}
@@ -37,6 +37,9 @@ away_as n k note last m disks blocks it = record {
   volumes = it.volumes;
   has = it.has;
 }
+
+pub some_as : (n k : Node) (c : Config) → n.disks ≡ k.disks → n.blocks ≡ k.blocks → AwayFit n c → AwayFit k c
+some_as n k c disks blocks it = record { large = λ more. subst (λ (x : ℕ). 1024 ≤ x) blocks (it.large (subst (λ (x : ℕ). 0 < x) (sym disks) more)); some = it.some }
 
 -- ---- notes
 
@@ -78,14 +81,14 @@ down_noted n note agreed told last m noted lit agrees stopped spells away = reco
   stopped = stopped;
   last = last;
   spells = spells;
-  away = record { state = refl; config = away.config; found = away.found; runs = away.runs; lies = away_as (record n { state = IsDown }) (crashed n 0) note last m refl refl away.lies };
+  away = record { state = refl; config = away.config; found = away.found; runs = away.runs; some = some_as (record n { state = IsDown }) (crashed n 0) last refl refl away.some; lies = away_as (record n { state = IsDown }) (crashed n 0) note last m refl refl away.lies };
 }
 
 -- behind a call that changed the note
 pub down_with : (n : Node) (note next : GroupNode) (agreed told : Bool) (last : Config) (m : Meaning) → NotesGroup n note → IsLit next told m → (next.loose ≡ false → agreed ≡ true) → AreStopped m → HasSpelling (at_serial 0 last) → IsAwayAt (record n { state = IsDown }) next last m → GroupDown (crashed (with_note next n) 0) next agreed told m
 down_with n note next agreed told last m noted lit agrees stopped spells away =
     down_noted (with_note next n) next agreed told last m (noted_with n note next noted) lit agrees stopped spells
-    (record { state = refl; config = away.config; found = away.found; runs = away.runs; lies = away_as (record n { state = IsDown }) (record (with_note next n) { state = IsDown }) next last m refl refl away.lies })
+    (record { state = refl; config = away.config; found = away.found; runs = away.runs; some = some_as (record n { state = IsDown }) (record (with_note next n) { state = IsDown }) last refl refl away.some; lies = away_as (record n { state = IsDown }) (record (with_note next n) { state = IsDown }) next last m refl refl away.lies })
 
 -- ---- one that was deported
 
@@ -99,7 +102,7 @@ away_with n note next agreed told last newest m noted lit agrees up fuse spells 
   last = last;
   newest = newest;
   spells = spells;
-  away = record { state = refl; config = away.config; frames = away.frames; found = away.found; lies = away_as (record n { state = IsDeported }) (deported_with next n) next last m refl refl away.lies };
+  away = record { state = refl; config = away.config; frames = away.frames; found = away.found; some = some_as (record n { state = IsDeported }) (deported_with next n) newest refl refl away.some; lies = away_as (record n { state = IsDeported }) (deported_with next n) next last m refl refl away.lies };
 }
 
 -- ---- one of whose disks it is no longer known what they hold

@@ -24,7 +24,7 @@ use Rattle.vx_untold.specs.Shades.{shade_meaning}
 use Rattle.vx_untold.specs.declared.shade.Shade.{Shade}
 use Rattle.vx_watched.specs.Since.{CalledSince}
 use Rattle.vx_grouped.specs.Away.{IsAwayAt}
-use Rattle.vx_grouped.specs.ConfigMoves.{AttDone, AttFails, DetDone, DetFails, none_again}
+use Rattle.vx_grouped.specs.ConfigMoves.{AttCuts, AttDone, AttFails, DetCuts, DetDone, DetFails, none_again}
 use Rattle.vx_grouped.specs.CoreMoves.{CoreMoves}
 use Rattle.vx_grouped.specs.GroupNotes.{GroupLies}
 use Rattle.vx_grouped.specs.GroupSites.{GroupUp, idle_disks, laid_disks, laid_below, idle_below}
@@ -35,7 +35,7 @@ use Rattle.vx_grouped.specs.declared.laid.Laid.{Laid}
 use Rattle.vx_grouped.specs.declared.group_site.GroupSite.TheVariants.{Up, Down}
 use Rattle.vx_grouped.proofs.CalledLemmas.{blames_device, called_cut, called_done, called_up, lacks_by, none_refused, rose_by}
 use Rattle.vx_grouped.proofs.KeepLemmas.{att_not_device, att_not_down, det_not_device, det_not_down}
-use Rattle.vx_grouped.proofs.PlexMoveLemmas.{att_done, att_fails, det_done, det_fails}
+use Rattle.vx_grouped.proofs.PlexMoveLemmas.{att_cuts, att_done, att_fails, det_cuts, det_done, det_fails}
 use Rattle.vx_grouped.proofs.SpellLemmas.{spells_like}
 use Rattle.vx_watched.specs.Traces.{TellsLess}
 
@@ -77,20 +77,31 @@ module _ {R : Type 0} {g : Ghosts R} (n : Node) (note : GroupNode) (v p : ℕ) (
     spells_det : HasSpelling (at_serial 0 now)
     spells_det = spells_like was now works.moves.parts works.moves.frames works.moves.blocks up.spells
 
-    fails_det : (s : Shade R) → CoreMoves none_again was now (laid_disks group) (shade_meaning g.meaning s) → DetFails v p (laid_disks group) (shade_meaning g.meaning s) was now
-    fails_det s moves = det_fails was now v p (laid_disks group) (shade_meaning g.meaning s) (racks group.shelf).counts (racks s).counts works.others moves works.narrows
+    cuts_det : (s : Shade R) → CoreMoves none_again was now (laid_disks group) (shade_meaning g.meaning s) → DetCuts v p (laid_disks group) (shade_meaning g.meaning s) was now
+    cuts_det s moves = det_cuts was now v p (laid_disks group) (shade_meaning g.meaning s) (racks group.shelf).counts (racks s).counts works.others moves works.narrows
+
+  module _ (stop : Stop) (works : PlexDets v p group.core (laid_disks group) new.core (laid_disks new) (Err stop)) where
+    -- where a disk failed it takes part as it did
+    still_same : stops_down stop ≡ false → (which : No) → stop ≡ Refused which → blames_device which ≡ true → active now v p ≡ active was v p
+    still_same up_still (Device disk) is blames = works.undone disk (ap (λ (x : Stop). let r : Result (Unit {0}) Stop = Err x in r) is)
+    still_same up_still IsOff is blames = absurd (let clash : true ≡ false = subst (λ (x : Stop). stops_down x ≡ false) is up_still in cc)
+    still_same up_still other is blames = absurd (let clash : false ≡ true = blames in cc)
+
+    fails_det : stops_down stop ≡ false → (which : No) → stop ≡ Refused which → blames_device which ≡ true → DetFails (laid_disks group) (laid_disks new) was now
+    fails_det up_still which is blames =
+        det_fails was now v p (laid_disks group) (laid_disks new) (racks group.shelf).counts (racks new.shelf).counts works.others works.moves (still_same up_still which is blames)
 
   pub det_site_done : PlexDets v p group.core (laid_disks group) new.core (laid_disks new) (Ok tt) → DetCalled n note v p (Up group) (Up new) (Ok tt)
   det_site_done works =
-      called_done (Unit {0}) n note group new up since less (spells_det (Ok tt) works) (DetDone v p (laid_disks group) (laid_disks new)) (DetFails v p (laid_disks group) (laid_disks new)) (λ which. refuses_det (Up group) v p ≡ Some which)
+      called_done (Unit {0}) n note group new up since less (spells_det (Ok tt) works) false (DetDone v p (laid_disks group) (laid_disks new)) (DetFails (laid_disks group) (laid_disks new)) (DetCuts v p (laid_disks group) (laid_disks new)) (λ which. refuses_det (Up group) v p ≡ Some which)
       tt (works.leaves n note up.at) (det_done was now v p (laid_disks group) (laid_disks new) (racks group.shelf).counts (racks new.shelf).counts works.others works.moves works.off)
 
   pub det_site_up : (stop : Stop) → stops_down stop ≡ false → PlexDets v p group.core (laid_disks group) new.core (laid_disks new) (Err stop) → DetCalled n note v p (Up group) (Up new) (Err stop)
   det_site_up stop off works =
-      called_up (Unit {0}) n note group new up since less (spells_det (Err stop) works) (DetDone v p (laid_disks group) (laid_disks new)) (DetFails v p (laid_disks group) (laid_disks new)) (λ which. refuses_det (Up group) v p ≡ Some which)
-      stop off (works.leaves n note up.at)
+      called_up (Unit {0}) n note group new up since less (spells_det (Err stop) works) false (DetDone v p (laid_disks group) (laid_disks new)) (DetFails (laid_disks group) (laid_disks new)) (DetCuts v p (laid_disks group) (laid_disks new)) (λ which. refuses_det (Up group) v p ≡ Some which)
+      stop off (works.leaves n note up.at) (λ once tight none. works.agreed (up.at.lies.committed tight none))
       (λ disk is. rose_by (Unit {0}) (laid_disks group) (laid_disks new) (det_refusal was v p) disk (Err stop) (ap (λ (x : Stop). Err x) is) works.cause works.refused (det_never_device was v p disk))
-      (λ which is blames. fails_det (Err stop) works new.shelf works.moves)
+      (fails_det stop works off)
       (lacks_by (Unit {0}) (laid_disks group) (laid_disks new) (det_refusal was v p) stop (Err stop) refl works.cause works.refused)
 
   -- ---- an attach
@@ -112,9 +123,19 @@ module _ {R : Type 0} {g : Ghosts R} (n : Node) (note : GroupNode) (v p : ℕ) (
         by true on =
             absurd (never (works.already (none_refused ℕ (att_refusal was v p) stop (Err stop) refl works.refused (att_never_off was v p) (att_never_device was v p) which is blames) on))
 
-    fails_att : (s : Shade R) → CoreMoves (uses was v p) was now (laid_disks group) (shade_meaning g.meaning s) → (which : No) → stop ≡ Refused which → blames_device which ≡ true → AttFails v p (laid_disks group) (shade_meaning g.meaning s) was now
-    fails_att s moves which is blames =
-        att_fails was now v p (laid_disks group) (shade_meaning g.meaning s) (racks group.shelf).counts (racks s).counts works.others moves (was_off which is blames)
+    -- nor is it then, where a disk failed
+    still_off : stops_down stop ≡ false → (which : No) → stop ≡ Refused which → blames_device which ≡ true → active now v p ≡ false
+    still_off up_still (Device disk) is blames = works.undone (was_off (Device disk) is blames) disk (ap (λ (x : Stop). let r : Result ℕ Stop = Err x in r) is)
+    still_off up_still IsOff is blames = absurd (let clash : true ≡ false = subst (λ (x : Stop). stops_down x ≡ false) is up_still in cc)
+    still_off up_still other is blames = absurd (let clash : false ≡ true = blames in cc)
+
+    fails_att : stops_down stop ≡ false → (which : No) → stop ≡ Refused which → blames_device which ≡ true → AttFails v p (laid_disks group) (laid_disks new) was now
+    fails_att up_still which is blames =
+        att_fails was now v p (laid_disks group) (laid_disks new) (racks group.shelf).counts (racks new.shelf).counts works.others works.moves (was_off which is blames) (still_off up_still which is blames)
+
+    cuts_att : (s : Shade R) → CoreMoves (uses was v p) was now (laid_disks group) (shade_meaning g.meaning s) → (which : No) → stop ≡ Refused which → blames_device which ≡ true → AttCuts v p (laid_disks group) (shade_meaning g.meaning s) was now
+    cuts_att s moves which is blames =
+        att_cuts was now v p (laid_disks group) (shade_meaning g.meaning s) (racks group.shelf).counts (racks s).counts works.others moves (was_off which is blames)
 
   att_on : (k : ℕ) → PlexAtts v p group.core (laid_disks group) new.core (laid_disks new) (Ok k) → (t : Bool) → active was v p ≡ t → IsTrue (active now v p)
   att_on k works false off = (works.attached off).is_on
@@ -122,16 +143,16 @@ module _ {R : Type 0} {g : Ghosts R} (n : Node) (note : GroupNode) (v p : ℕ) (
 
   pub att_site_done : (k : ℕ) → PlexAtts v p group.core (laid_disks group) new.core (laid_disks new) (Ok k) → AttCalled n note v p (Up group) (Up new) (Ok k)
   att_site_done k works =
-      called_done ℕ n note group new up since less (spells_att (Ok k) works) (AttDone v p (laid_disks group) (laid_disks new)) (AttFails v p (laid_disks group) (laid_disks new)) (λ which. refuses_att (Up group) v p ≡ Some which)
+      called_done ℕ n note group new up since less (spells_att (Ok k) works) true (AttDone v p (laid_disks group) (laid_disks new)) (AttFails v p (laid_disks group) (laid_disks new)) (AttCuts v p (laid_disks group) (laid_disks new)) (λ which. refuses_att (Up group) v p ≡ Some which)
       k (works.leaves n note up.at)
       (att_done was now v p (laid_disks group) (laid_disks new) (racks group.shelf).counts (racks new.shelf).counts works.others works.moves (att_on k works (active was v p) refl))
 
   pub att_site_up : (stop : Stop) → stops_down stop ≡ false → PlexAtts v p group.core (laid_disks group) new.core (laid_disks new) (Err stop) → AttCalled n note v p (Up group) (Up new) (Err stop)
   att_site_up stop off works =
-      called_up ℕ n note group new up since less (spells_att (Err stop) works) (AttDone v p (laid_disks group) (laid_disks new)) (AttFails v p (laid_disks group) (laid_disks new)) (λ which. refuses_att (Up group) v p ≡ Some which)
-      stop off (works.leaves n note up.at)
+      called_up ℕ n note group new up since less (spells_att (Err stop) works) true (AttDone v p (laid_disks group) (laid_disks new)) (AttFails v p (laid_disks group) (laid_disks new)) (AttCuts v p (laid_disks group) (laid_disks new)) (λ which. refuses_att (Up group) v p ≡ Some which)
+      stop off (works.leaves n note up.at) (λ once tight none. let clash : true ≡ false = once in cc)
       (λ disk is. rose_by ℕ (laid_disks group) (laid_disks new) (att_refusal was v p) disk (Err stop) (ap (λ (x : Stop). Err x) is) works.cause works.refused (att_never_device was v p disk))
-      (fails_att stop works new.shelf works.moves)
+      (fails_att stop works off)
       (lacks_by ℕ (laid_disks group) (laid_disks new) (att_refusal was v p) stop (Err stop) refl works.cause works.refused)
 
   -- ---- the fuse ran out
@@ -141,12 +162,12 @@ module _ {R : Type 0} {g : Ghosts R} (n : Node) (note : GroupNode) (v p : ℕ) (
       (same : idle.agreed ≡ new.core.inner.agreed) (fell : TellsLess (laid_below new) (idle_below idle)) where
     pub det_site_cut : (stop : Stop) → stops_down stop ≡ true → PlexDets v p group.core (laid_disks group) new.core (laid_disks new) (Err stop) → DetCalled n note v p (Up group) (Down idle) (Err stop)
     det_site_cut stop off works =
-        called_cut (Unit {0}) n note group new up since less (spells_det (Err stop) works) (DetDone v p (laid_disks group) (idle_disks idle)) (DetFails v p (laid_disks group) (idle_disks idle)) (λ which. refuses_det (Up group) v p ≡ Some which)
-        idle stopped away same fell stop off (works.leaves n note up.at)
-        (λ which is blames. fails_det (Err stop) works idle.rack (moves_since none_again was now (laid_disks group) (laid_disks new) (idle_disks idle) stopped works.moves))
+        called_cut (Unit {0}) n note group new up since less (spells_det (Err stop) works) false (DetDone v p (laid_disks group) (idle_disks idle)) (DetFails (laid_disks group) (idle_disks idle)) (DetCuts v p (laid_disks group) (idle_disks idle)) (λ which. refuses_det (Up group) v p ≡ Some which)
+        idle stopped away same fell stop off (works.leaves n note up.at) (λ once tight none. works.agreed (up.at.lies.committed tight none))
+        (λ which is blames. cuts_det (Err stop) works idle.rack (moves_since none_again was now (laid_disks group) (laid_disks new) (idle_disks idle) stopped works.moves))
 
     pub att_site_cut : (stop : Stop) → stops_down stop ≡ true → PlexAtts v p group.core (laid_disks group) new.core (laid_disks new) (Err stop) → AttCalled n note v p (Up group) (Down idle) (Err stop)
     att_site_cut stop off works =
-        called_cut ℕ n note group new up since less (spells_att (Err stop) works) (AttDone v p (laid_disks group) (idle_disks idle)) (AttFails v p (laid_disks group) (idle_disks idle)) (λ which. refuses_att (Up group) v p ≡ Some which)
-        idle stopped away same fell stop off (works.leaves n note up.at)
-        (fails_att stop works idle.rack (moves_since (uses was v p) was now (laid_disks group) (laid_disks new) (idle_disks idle) stopped works.moves))
+        called_cut ℕ n note group new up since less (spells_att (Err stop) works) true (AttDone v p (laid_disks group) (idle_disks idle)) (AttFails v p (laid_disks group) (idle_disks idle)) (AttCuts v p (laid_disks group) (idle_disks idle)) (λ which. refuses_att (Up group) v p ≡ Some which)
+        idle stopped away same fell stop off (works.leaves n note up.at) (λ once tight none. let clash : true ≡ false = once in cc)
+        (cuts_att stop works idle.rack (moves_since (uses was v p) was now (laid_disks group) (laid_disks new) (idle_disks idle) stopped works.moves))

@@ -30,7 +30,7 @@ use Rattle.vx_grouped.specs.GroupSites.{GroupAway, GroupDown, GroupUp, NotesGrou
 use Rattle.vx_grouped.specs.Returns.{GroupReturns, note_imported}
 use Rattle.vx_grouped.specs.SetFuses.{HasFuse}
 use Rattle.vx_grouped.specs.SiteEnds.{stops_down}
-use Rattle.vx_grouped.specs.SiteReturns.{ImportRefused, NoteReturns, returned_with, stops_early, ImportWhy, ImportsFrom, KeepsFuse, RecoversFrom, ReturnSince, ReturnsUp, TellsNone}
+use Rattle.vx_grouped.specs.SiteReturns.{ImportRefused, NoteReturns, KnownAway, returned_with, stops_early, ImportWhy, ImportsFrom, KeepsFuse, RecoversFrom, ReturnSince, ReturnsUp, TellsNone}
 use Rattle.vx_grouped.specs.declared.idle.Idle.{Idle}
 use Rattle.vx_grouped.specs.declared.laid.Laid.{Laid}
 use Rattle.vx_grouped.specs.declared.group_site.GroupSite.{GroupSite}
@@ -38,10 +38,12 @@ use Rattle.vx_grouped.specs.declared.group_site.GroupSite.TheVariants.{Up, Depor
 use Rattle.vx_grouped.proofs.AlikeLemmas.{less_away}
 use Rattle.vx_grouped.proofs.SettleLemmas.{fell_fused, fuse_burned}
 use Rattle.vx_grouped.proofs.ImageLemmas.{less_from, less_noted, none_noted, noted_as}
-use Rattle.vx_grouped.proofs.SiteLemmas.{lies_as, noted_dimmed, away_dimmed, lit_dimmed, runs_dimmed}
+use Rattle.vx_grouped.proofs.SiteLemmas.{lies_as, noted_dimmed, away_dimmed, lit_dimmed, runs_dimmed, some_as}
 use Rattle.vx_grouped.specs.ConfigMoves.{AnyState, ConfigBack}
 use Rattle.vx_config.specs.Configs.{HasSpelling}
+use Rattle.vx_grouped.specs.Clean.{StoppedSome, StopsClean}
 use Rattle.vx_grouped.specs.GroupNotes.{NotesConfig, NotesFound, note_dimmed}
+use Rattle.vx_grouped.proofs.RunMapLemmas.{clean_noted}
 use Rattle.vx_kept.specs.Cleans.{at_serial}
 use Rattle.vx_grouped.proofs.MovesLemmas.{disk_blocks_at, disk_failed_at, rose_as, volume_moves}
 use Rattle.vx_kept.specs.Groups.{found, found_by}
@@ -50,6 +52,7 @@ use Rattle.vx_kept.specs.Facts.{is_found}
 use Rattle.vx_kept.specs.Trusts.{is_plain}
 use Rattle.vx_untold.specs.Shades.{shade_meaning, rack_of}
 use Rattle.vx_grouped.proofs.NotedLemmas.{spells_zero}
+use Rattle.vx_grouped.proofs.NoneLemmas.{holds_any}
 use Rattle.vx_grouped.proofs.WhyLemmas.{why_by}
 use Rattle.vx_watched.specs.Traces.{TellsLess}
 use Rattle.vx_grouped.proofs.TraceLemmas.{lit_since}
@@ -150,7 +153,8 @@ dark_away n note last m m' units size none it = record {
 module _ {R : Type 0} {g : Ghosts R} (n : Node) (note : GroupNode) (last newest : Config) (had : NotesConfig note newest) (frames : (v : ℕ) → frame_at newest v ≡ frame_at last v) (racks : (s : Shade R) → IsRack (shade_meaning g.meaning s))
     (old : Meaning) (first : Shade R) (units : (shade_meaning g.meaning first).units ≡ old.units) (size : (u : ℕ) → (shade_meaning g.meaning first).size u ≡ old.size u) (faults : (u : ℕ) → (shade_meaning g.meaning first).disk_faults u ≡ old.disk_faults u)
     (lies : AwayLies n note last (shade_meaning g.meaning first)) (group : Laid R g) (since : CalledSince (shade_meaning g.meaning first) (laid_disks group)) (has : HasSpelling group.core.inner.config)
-    (back : GroupReturns n note last (shade_meaning g.meaning first) group.core (laid_disks group)) (before : Bool) (lit : IsLit note before (shade_meaning g.meaning first)) (less : IsTrue (laid_below group).tells → IsTrue before) where
+    (back : GroupReturns n note last (shade_meaning g.meaning first) group.core (laid_disks group)) (before : Bool) (lit : IsLit note before (shade_meaning g.meaning first)) (less : IsTrue (laid_below group).tells → IsTrue before)
+    (before_found : NotesFound note newest (shade_meaning g.meaning first)) where
   abbrev now : Config
   now = group.core.inner.config
 
@@ -162,7 +166,7 @@ module _ {R : Type 0} {g : Ghosts R} (n : Node) (note : GroupNode) (last newest 
 
   config_back : ConfigBack (IsTrue (laid_disks group).tells) old (laid_disks group) newest now
   config_back = record {
-    volumes = λ tells v lt. volume_moves AnyState newest now v (back.frames (sym since.tells ∙ tells) v (let same = long in omega (arith, lt, same)) ∙ sym (frames v)) (λ k p q at_p at_q. tt);
+    volumes = λ tells v lt. volume_moves AnyState newest now v (back.frames (sym since.tells ∙ tells) v (let same = long in omega (arith, lt, same)) ∙ sym (frames v)) (λ e k p q at_e at_p at_q. tt);
     count = back.disks.count ∙ units;
     blocks = λ k disk at. sym (disk_blocks_at now.disks k disk at) ∙ back.disks.blocks k (below k disk at) ∙ size k;
     failed = λ k disk at failed.
@@ -172,6 +176,11 @@ module _ {R : Type 0} {g : Ghosts R} (n : Node) (note : GroupNode) (last newest 
 
   abbrev noted_next : GroupNode
   noted_next = next n note last (laid_disks group) (shade_meaning g.meaning first) (sym since.tells) lies group.core (laid_disks group) back
+
+  -- a block of a volume that did not stop cleanly has one value
+  renewed_or : note.loose ≡ false → note.begun ≡ [] → (v b : ℕ) → (back.renewed v ≡ true) ⊎ StoppedSome (shade_meaning g.meaning first) v → (noted_next.others v b ≡ []) ⊎ ((v < length newest.volumes) × StopsClean newest v)
+  renewed_or tight none v b (inl on) = inl (ap (λ (t : Bool). if t then [] else note.others v b) on)
+  renewed_or tight none v b (inr some) = inr (clean_noted note newest (shade_meaning g.meaning first) before_found tight none v some)
 
   pub came_up : NotesGroup n note → HasFuse (burned n.fuse) (laid_disks group) → ReturnsUp n note old (Up group)
   came_up noted fuse = (
@@ -187,6 +196,7 @@ module _ {R : Type 0} {g : Ghosts R} (n : Node) (note : GroupNode) (last newest 
       noted_now = record { is = refl; spells = spells_zero now has };
       sizes = λ v. refl;
       change = config_back;
+      one = λ tells tight none v b low. renewed_or tight none v b (back.stops (sym since.tells ∙ tells) v (some_volume now.volumes v b low));
     },
   )
 
@@ -244,7 +254,7 @@ module _ {R : Type 0} {g : Ghosts R} (n : Node) (note : GroupNode) (racks : (s :
     pub recovered_up : (group : Laid R g) → CalledSince (shade_meaning g.meaning first) (laid_disks group) → TellsLess (g.meaning (rack_of first)) (laid_below group) → HasSpelling group.core.inner.config
         → ((last : Config) → AwayLies n note last (shade_meaning g.meaning first) → GroupReturns n note last (shade_meaning g.meaning first) group.core (laid_disks group)) → RecoversFrom n note (shade_meaning g.meaning rack) (Up group) (Ok tt)
     recovered_up group since less has back =
-        came_up n note down.last down.last had (λ v. refl) racks (shade_meaning g.meaning rack) first revived.contents.units revived.contents.size revived.counts.disk_faults lies group since has (back down.last lies) (g.meaning (rack_of rack)).tells lit_first (λ told. rises (less told))
+        came_up n note down.last down.last had (λ v. refl) racks (shade_meaning g.meaning rack) first revived.contents.units revived.contents.size revived.counts.disk_faults lies group since has (back down.last lies) (g.meaning (rack_of rack)).tells lit_first (λ told. rises (less told)) found_first
         down.noted (no_fuse n.fuse (laid_disks group) down.unfused (since.unarmed unarmed))
 
     module _ (middle : Shade R) (idle : Idle R g) (fallen : Shade R) (is : idle.rack ≡ fallen) (agreed : idle.agreed ≡ true) (goes : TellsLess (g.meaning (rack_of first)) (g.meaning (rack_of middle))) (falls : TellsLess (g.meaning (rack_of middle)) (g.meaning (rack_of fallen))) (stop : Stop) (since : CalledSince (shade_meaning g.meaning first) (shade_meaning g.meaning middle)) (stops : ImportStops (shade_meaning g.meaning first) (shade_meaning g.meaning middle) stop)
@@ -280,6 +290,7 @@ module _ {R : Type 0} {g : Ghosts R} (n : Node) (note : GroupNode) (racks : (s :
           config = down.away.config;
           found = noted_as note (note_dimmed (not t) note) down.last (shade_meaning g.meaning fallen) refl refl (fallen_found t it);
           runs = runs_dimmed (not t) note down.last down.away.runs;
+          some = some_as n (dimmed_site (not t) note n) down.last refl refl down.away.some;
           lies = away_dimmed (not t) n (dimmed_site (not t) note n) note down.last (shade_meaning g.meaning fallen) refl refl (lies_by t it);
         };
       }
@@ -287,10 +298,11 @@ module _ {R : Type 0} {g : Ghosts R} (n : Node) (note : GroupNode) (racks : (s :
       tells_first : IsTrue (shade_meaning g.meaning fallen).tells → IsTrue (shade_meaning g.meaning first).tells
       tells_first tells = sym since.tells ∙ kept.tells tells
 
-      why : ImportWhy (IsTrue (shade_meaning g.meaning fallen).tells) (shade_meaning g.meaning rack) (shade_meaning g.meaning fallen) stop
+      why : ImportWhy (IsTrue (shade_meaning g.meaning fallen).tells) (KnownAway (IsTrue (shade_meaning g.meaning fallen).tells) note) (shade_meaning g.meaning rack) (shade_meaning g.meaning fallen) stop
       why =
           why_by (shade_meaning g.meaning rack) (shade_meaning g.meaning first) (shade_meaning g.meaning middle) (shade_meaning g.meaning fallen) revived.counts.disk_faults counts (racks first).counts (racks middle).counts
-          (IsTrue (shade_meaning g.meaning fallen).tells) (λ tells. plain_of n note down.last (shade_meaning g.meaning first) (shade_meaning g.meaning middle) (shade_meaning g.meaning fallen) (laws first) lies can stop stops (tells_first tells)) tells_first up stop
+          (IsTrue (shade_meaning g.meaning fallen).tells) (λ tells. plain_of n note down.last (shade_meaning g.meaning first) (shade_meaning g.meaning middle) (shade_meaning g.meaning fallen) (laws first) lies can stop stops (tells_first tells)) tells_first
+          (KnownAway (IsTrue (shade_meaning g.meaning fallen).tells) note) (λ sure. holds_any n note down.last down.last (shade_meaning g.meaning first) (laws first) lies can found_first down.away.some (tells_first sure.0) sure.1 sure.2) revived.contents.units up stop
           (never_off (shade_meaning g.meaning first) (shade_meaning g.meaning middle) stop up unarmed since stops) stops
 
       between_by : (t : Bool) → stops_early stop ≡ t → IsTrue (shade_meaning g.meaning fallen).tells → (e : Shade R) → e ≡ fallen → Stopped (shade_meaning g.meaning middle) (shade_meaning g.meaning e)
@@ -300,7 +312,7 @@ module _ {R : Type 0} {g : Ghosts R} (n : Node) (note : GroupNode) (racks : (s :
       pub recovered_not : RecoversFrom n note (shade_meaning g.meaning rack) (Down idle) (Err stop)
       recovered_not = (
         subst (λ (s : Shade R). GroupDown (dimmed_site (not (stops_early stop)) note n) (note_dimmed (not (stops_early stop)) note) idle.agreed (g.meaning (rack_of s)).tells (shade_meaning g.meaning s)) (sym is) (stands (stops_early stop) refl),
-        subst (λ (s : Shade R). ImportWhy (IsTrue (shade_meaning g.meaning s).tells) (shade_meaning g.meaning rack) (shade_meaning g.meaning s) stop) (sym is) why,
+        subst (λ (s : Shade R). ImportWhy (IsTrue (shade_meaning g.meaning s).tells) (KnownAway (IsTrue (shade_meaning g.meaning s).tells) note) (shade_meaning g.meaning rack) (shade_meaning g.meaning s) stop) (sym is) why,
         λ tells. record {
           first = first;
           middle = middle;
@@ -323,7 +335,7 @@ module _ {R : Type 0} {g : Ghosts R} (n : Node) (note : GroupNode) (racks : (s :
         → ((last : Config) → AwayLies n note last (shade_meaning g.meaning rack) → GroupReturns n note last (shade_meaning g.meaning rack) group.core (laid_disks group)) → ImportsFrom n note (shade_meaning g.meaning rack) (Up group) (Ok tt)
     imported_up group since less has back =
         let it = back away.last away.away.lies in (
-          came_up n note away.last away.newest had_away away.away.frames racks (shade_meaning g.meaning rack) rack refl (λ u. refl) (λ u. refl) away.away.lies group since has it (g.meaning (rack_of rack)).tells away.lit less away.noted
+          came_up n note away.last away.newest had_away away.away.frames racks (shade_meaning g.meaning rack) rack refl (λ u. refl) (λ u. refl) away.away.lies group since has it (g.meaning (rack_of rack)).tells away.lit less away.away.found away.noted
               (fuse_burned n.fuse (shade_meaning g.meaning rack) (laid_disks group) since.unarmed away.fuse),
           keeps_fuse (laid_disks group) since it.at.up,
         )
@@ -340,17 +352,18 @@ module _ {R : Type 0} {g : Ghosts R} (n : Node) (note : GroupNode) (racks : (s :
         last = away.last;
         newest = away.newest;
         spells = away.spells;
-        away = record { state = away.away.state; config = away.away.config; frames = away.away.frames; found = noted_as note (note_dimmed dims note) away.newest m refl refl found; lies = away_dimmed dims n (worked (dimmed_site dims note n)) note away.last m refl refl lies };
+        away = record { state = away.away.state; config = away.away.config; frames = away.away.frames; found = noted_as note (note_dimmed dims note) away.newest m refl refl found; some = some_as n (worked (dimmed_site dims note n)) away.newest refl refl away.away.some; lies = away_dimmed dims n (worked (dimmed_site dims note n)) note away.last m refl refl lies };
       }
 
       lit_middle : IsLit (note_dimmed false note) (g.meaning (rack_of middle)).tells (shade_meaning g.meaning middle)
       lit_middle = λ bright told. since.tells ∙ away.lit bright (goes told)
 
       why_away : (s : Shade R) → IsFalse (shade_meaning g.meaning rack).down → ((d : ℕ) → (shade_meaning g.meaning s).disk_faults d ≡ (shade_meaning g.meaning middle).disk_faults d) → (IsTrue (shade_meaning g.meaning s).tells → IsTrue (shade_meaning g.meaning rack).tells)
-          → (stop ≡ Refused IsOff → ⊥) → ImportWhy (IsTrue (shade_meaning g.meaning s).tells) (shade_meaning g.meaning rack) (shade_meaning g.meaning s) stop
+          → (stop ≡ Refused IsOff → ⊥) → ImportWhy (IsTrue (shade_meaning g.meaning s).tells) (KnownAway (IsTrue (shade_meaning g.meaning s).tells) note) (shade_meaning g.meaning rack) (shade_meaning g.meaning s) stop
       why_away s up counts tells never =
           why_by (shade_meaning g.meaning rack) (shade_meaning g.meaning rack) (shade_meaning g.meaning middle) (shade_meaning g.meaning s) (λ u. refl) counts (racks rack).counts (racks middle).counts
-          (IsTrue (shade_meaning g.meaning s).tells) (λ told. plain_of n note away.last (shade_meaning g.meaning rack) (shade_meaning g.meaning middle) (shade_meaning g.meaning s) (laws rack) away.away.lies can stop stops (tells told)) tells up stop never stops
+          (IsTrue (shade_meaning g.meaning s).tells) (λ told. plain_of n note away.last (shade_meaning g.meaning rack) (shade_meaning g.meaning middle) (shade_meaning g.meaning s) (laws rack) away.away.lies can stop stops (tells told)) tells
+          (KnownAway (IsTrue (shade_meaning g.meaning s).tells) note) (λ sure. holds_any n note away.last away.newest (shade_meaning g.meaning rack) (laws rack) away.away.lies can away.away.found away.away.some (tells sure.0) sure.1 sure.2) refl up stop never stops
 
       never_stops : stops_down stop ≡ false → stop ≡ Refused IsOff → ⊥
       never_stops off is = let clash : false ≡ true = sym off ∙ ap stops_down is in cc
@@ -367,7 +380,7 @@ module _ {R : Type 0} {g : Ghosts R} (n : Node) (note : GroupNode) (racks : (s :
       pub imported_early : (idle : Idle R g) → idle.rack ≡ middle → idle.agreed ≡ true → stops_early stop ≡ true → (IsTrue (shade_meaning g.meaning middle).down → ⊥) → ImportsFrom n note (shade_meaning g.meaning rack) (Deported idle) (Err stop)
       imported_early idle is agreed early still =
           refused_as (Deported idle) (early_up stop early) (subst (λ (s : Shade R). GroupAway (worked (dimmed_site (not (stops_early stop)) note n)) (note_dimmed (not (stops_early stop)) note) idle.agreed (g.meaning (rack_of s)).tells (shade_meaning g.meaning s) × (IsFalse (shade_meaning g.meaning s).armed ⊎ KeepsFuse (shade_meaning g.meaning rack) (shade_meaning g.meaning s))
-          × ImportWhy (IsTrue (shade_meaning g.meaning s).tells) (shade_meaning g.meaning rack) (shade_meaning g.meaning s) stop) (sym is) (
+          × ImportWhy (IsTrue (shade_meaning g.meaning s).tells) (KnownAway (IsTrue (shade_meaning g.meaning s).tells) note) (shade_meaning g.meaning rack) (shade_meaning g.meaning s) stop) (sym is) (
             away_as_is (not (stops_early stop)) idle.agreed (g.meaning (rack_of middle)).tells (shade_meaning g.meaning middle)
                 (early_lies n note away.last (shade_meaning g.meaning rack) (shade_meaning g.meaning middle) (shade_meaning g.meaning middle) (laws rack) away.away.lies can stop stops early refl (λ u. refl) (λ u b v left. left))
                 (early_noted n note away.last (shade_meaning g.meaning rack) (shade_meaning g.meaning middle) (shade_meaning g.meaning middle) (laws rack) away.away.lies can stop stops early refl (λ u. refl) (λ u b v left. left) away.newest away.away.found)
@@ -376,6 +389,43 @@ module _ {R : Type 0} {g : Ghosts R} (n : Node) (note : GroupNode) (racks : (s :
             inr (keeps_fuse (shade_meaning g.meaning middle) since still),
             why_away middle (false_from_ne_true (shade_meaning g.meaning rack).down away.up) (λ d. refl) (λ tells. sym since.tells ∙ tells) (never_stops (early_up stop early)),
           ))
+
+      -- the fuse ran out in it: the disks are down, and nothing is told of them any more
+      pub fell_dark : (fallen : Shade R) → AreStopped (shade_meaning g.meaning fallen) → ReturnSince (shade_meaning g.meaning middle) (shade_meaning g.meaning fallen) → TellsNone (shade_meaning g.meaning fallen) → IsTrue (shade_meaning g.meaning middle).down
+          → (idle : Idle R g) → idle.rack ≡ fallen → idle.agreed ≡ true → ImportRefused true n note (shade_meaning g.meaning rack) (Down idle) stop
+      fell_dark fallen fell kept none down idle is agreed = (
+        subst (λ (s : Shade R). GroupDown (crashed (returned_with (note_dimmed true note) n) 0) (note_dimmed true note) idle.agreed (g.meaning (rack_of s)).tells (shade_meaning g.meaning s)) (sym is) (record {
+          lit = lit_dimmed note (g.meaning (rack_of fallen)).tells (shade_meaning g.meaning fallen);
+          agrees = λ tight. agreed;
+          noted = record { is = refl; none = record { role = away.noted.none.role; volumes = away.noted.none.volumes; log = refl; safe = refl; running = refl } };
+          unfused = refl;
+          stopped = fell;
+          last = away.newest;
+          spells = away.spells;
+          away = record {
+            state = refl;
+            config = away.away.config;
+            found = none_noted (note_dimmed true note) away.newest (shade_meaning g.meaning fallen) none.leaves;
+            runs = λ bright. absurd (let clash : true ≡ false = bright in cc);
+            some = some_as n (crashed (returned_with (note_dimmed true note) n) 0) away.newest refl refl away.away.some;
+            lies = record {
+              units = kept.units ∙ since.units ∙ away.away.lies.units;
+              size = λ u low. kept.size u ∙ since.size u ∙ away.away.lies.size u low;
+              can = λ tight. none_can (shade_meaning g.meaning fallen) none;
+              sizes = λ v. away.away.lies.sizes v ∙ sym (frames_blocks away.newest away.last away.away.frames v);
+              finds = λ i each. absurd (none.leaves 0 0 (i 0 0) (each 0 0));
+              volumes = λ i x each found_x. absurd (none.leaves 0 0 (i 0 0) (each 0 0));
+              has = λ i x each found_x. absurd (none.leaves 0 0 (i 0 0) (each 0 0));
+            };
+          };
+        }),
+        fell_fused n.fuse (shade_meaning g.meaning rack) (shade_meaning g.meaning middle) away.fuse away.up since.safe down,
+      )
+
+      -- so it is where it had written nothing
+      pub imported_fell : (fallen : Shade R) → AreStopped (shade_meaning g.meaning fallen) → ReturnSince (shade_meaning g.meaning middle) (shade_meaning g.meaning fallen) → TellsNone (shade_meaning g.meaning fallen) → IsTrue (shade_meaning g.meaning middle).down
+          → (idle : Idle R g) → idle.rack ≡ fallen → idle.agreed ≡ true → ImportsFrom n note (shade_meaning g.meaning rack) (Down idle) (Err (Refused IsOff))
+      imported_fell fallen fell kept none down idle is agreed = fell_dark fallen fell kept none down idle is agreed
 
       module _ (fallen : Shade R) (falls : TellsLess (g.meaning (rack_of middle)) (g.meaning (rack_of fallen))) (fell : AreStopped (shade_meaning g.meaning fallen)) (counts : (d : ℕ) → (shade_meaning g.meaning fallen).disk_faults d ≡ (shade_meaning g.meaning middle).disk_faults d) (kept : ReturnSince (shade_meaning g.meaning middle) (shade_meaning g.meaning fallen))
           (early : stops_early stop ≡ true → Stopped (shade_meaning g.meaning middle) (shade_meaning g.meaning fallen)) (dark : stops_early stop ≡ false → TellsNone (shade_meaning g.meaning fallen)) where
@@ -403,7 +453,7 @@ module _ {R : Type 0} {g : Ghosts R} (n : Node) (note : GroupNode) (racks : (s :
             → (shade_meaning g.meaning new).armed ≡ (shade_meaning g.meaning fallen).armed → ImportsFrom n note (shade_meaning g.meaning rack) (Deported idle) (Err stop)
         imported_late idle new is agreed rises off alike up armed =
             refused_as (Deported idle) off (subst (λ (s : Shade R). GroupAway (worked (dimmed_site (not (stops_early stop)) note n)) (note_dimmed (not (stops_early stop)) note) idle.agreed (g.meaning (rack_of s)).tells (shade_meaning g.meaning s) × (IsFalse (shade_meaning g.meaning s).armed ⊎ KeepsFuse (shade_meaning g.meaning rack) (shade_meaning g.meaning s))
-            × ImportWhy (IsTrue (shade_meaning g.meaning s).tells) (shade_meaning g.meaning rack) (shade_meaning g.meaning s) stop) (sym is) (
+            × ImportWhy (IsTrue (shade_meaning g.meaning s).tells) (KnownAway (IsTrue (shade_meaning g.meaning s).tells) note) (shade_meaning g.meaning rack) (shade_meaning g.meaning s) stop) (sym is) (
               away_as_is (not (stops_early stop)) idle.agreed (g.meaning (rack_of new)).tells (shade_meaning g.meaning new)
                   (less_away n note (shade_meaning g.meaning fallen) (shade_meaning g.meaning new) alike.contents.units alike.contents.size alike.contents.leaves away.last (lies_fell (stops_early stop) refl))
                   (less_noted note away.newest (shade_meaning g.meaning fallen) (shade_meaning g.meaning new) (less_from (shade_meaning g.meaning fallen) (shade_meaning g.meaning new) alike.contents.units alike.contents.size alike.contents.leaves) (found_fell (stops_early stop) refl))
@@ -413,7 +463,6 @@ module _ {R : Type 0} {g : Ghosts R} (n : Node) (note : GroupNode) (racks : (s :
               why_away new (false_from_ne_true (shade_meaning g.meaning rack).down away.up) (λ d. alike.counts.disk_faults d ∙ counts d) (λ tells. tells_rack (sym alike.contents.tells ∙ tells)) (never_stops off),
             ))
 
-        -- the fuse ran out in it, so that it had begun to write
         late_of : (x : Stop) → stops_down x ≡ true → stops_early x ≡ false
         late_of (Refused IsOff) off = refl
         late_of (Refused (Device disk)) off = refl
@@ -422,31 +471,5 @@ module _ {R : Type 0} {g : Ghosts R} (n : Node) (note : GroupNode) (racks : (s :
 
         pub imported_down : (idle : Idle R g) → idle.rack ≡ fallen → idle.agreed ≡ true → stops_down stop ≡ true → ImportsFrom n note (shade_meaning g.meaning rack) (Down idle) (Err stop)
         imported_down idle is agreed off =
-            let none = dark (late_of stop off) in
-            subst (λ (b : Bool). ImportRefused b n note (shade_meaning g.meaning rack) (Down idle) stop) (sym off) (
-              subst (λ (s : Shade R). GroupDown (crashed (returned_with (note_dimmed true note) n) 0) (note_dimmed true note) idle.agreed (g.meaning (rack_of s)).tells (shade_meaning g.meaning s)) (sym is) (record {
-                lit = lit_dimmed note (g.meaning (rack_of fallen)).tells (shade_meaning g.meaning fallen);
-                agrees = λ tight. agreed;
-                noted = record { is = refl; none = record { role = away.noted.none.role; volumes = away.noted.none.volumes; log = refl; safe = refl; running = refl } };
-                unfused = refl;
-                stopped = fell;
-                last = away.newest;
-                spells = away.spells;
-                away = record {
-                  state = refl;
-                  config = away.away.config;
-                  found = none_noted (note_dimmed true note) away.newest (shade_meaning g.meaning fallen) none.leaves;
-                  runs = λ bright. absurd (let clash : true ≡ false = bright in cc);
-                  lies = record {
-                    units = kept.units ∙ since.units ∙ away.away.lies.units;
-                    size = λ u low. kept.size u ∙ since.size u ∙ away.away.lies.size u low;
-                    can = λ tight. none_can (shade_meaning g.meaning fallen) none;
-                    sizes = λ v. away.away.lies.sizes v ∙ sym (frames_blocks away.newest away.last away.away.frames v);
-                    finds = λ i each. absurd (none.leaves 0 0 (i 0 0) (each 0 0));
-                    volumes = λ i x each found_x. absurd (none.leaves 0 0 (i 0 0) (each 0 0));
-                    has = λ i x each found_x. absurd (none.leaves 0 0 (i 0 0) (each 0 0));
-                  };
-                };
-              }),
-              fell_fused n.fuse (shade_meaning g.meaning rack) (shade_meaning g.meaning middle) away.fuse away.up since.safe (down_of (shade_meaning g.meaning rack) (shade_meaning g.meaning middle) stop off stops),
-            )
+            subst (λ (b : Bool). ImportRefused b n note (shade_meaning g.meaning rack) (Down idle) stop) (sym off)
+            (fell_dark fallen fell kept (dark (late_of stop off)) (down_of (shade_meaning g.meaning rack) (shade_meaning g.meaning middle) stop off stops) idle is agreed)

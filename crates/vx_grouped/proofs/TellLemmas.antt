@@ -1,11 +1,11 @@
 -- What disks by themselves tell an import by logs.
-use Rattle.std.proofs.Common.{◌≡◌, ⊎_elim, Bool, true, false, refl, sym}
+use Rattle.std.proofs.Common.{◌≡◌, ◌∙◌, ℕ, inl, inr, ⊎_elim, Bool, true, false, IsTrue, refl, sym}
 use Rattle.vx_disk.specs.Racks.{Alike, Stopped}
 use Rattle.vx_disk.specs.Shelf.{Goes, Meaning, Nothing}
 use Rattle.vx_group.specs.Imports.{ImportStops}
-use Rattle.vx_logimport.specs.Rests.{LogsTell}
+use Rattle.vx_logimport.specs.Rests.{LogsTell, rests}
 use Rattle.vx_logimport.specs.declared.rested.Rested.{Rested}
-use Rattle.vx_logimport.proofs.TellLemmas.{less_tells, untold_tells}
+use Rattle.vx_logimport.proofs.TellLemmas.{fallen_less, less_tells, untold_tells}
 use Rattle.vx_model.specs.declared.errors.Stop.{Stop}
 use Rattle.vx_untold.specs.Shades.{rack_of, shade_meaning}
 use Rattle.vx_untold.specs.declared.shade.Shade.{Shade}
@@ -15,16 +15,18 @@ use Rattle.vx_grouped.proofs.StopLemmas.{early_goes}
 
 module _ (r : Rested) (m m' : Meaning) where
   pub alike_tells : Alike m m' → LogsTell r m → LogsTell r m'
-  alike_tells alike = less_tells m m' alike.contents.units alike.contents.size alike.contents.leaves r
+  alike_tells alike = less_tells m m' alike.contents.units alike.contents.size alike.contents.leaves alike.contents.reads r
 
-  pub stopped_tells : Stopped m m' → LogsTell r m → LogsTell r m'
-  stopped_tells stopped = less_tells m m' stopped.units stopped.size stopped.leaves r
+  goes_tells : Goes Nothing m m' → (IsTrue m'.down → ⊥) → LogsTell r m → LogsTell r m'
+  goes_tells goes up = less_tells m m' goes.units goes.size (λ u b v left. ⊎_elim (λ was. was) (λ none. absurd none) (goes.leaves u b v left))
+      (λ u b v read. elim (goes.reads u b v read) [
+        | inl (inl was) ↦ was
+        | inl (inr none) ↦ absurd none
+        | inr down ↦ absurd (up down)
+      ]) r
 
-  pub goes_tells : Goes Nothing m m' → LogsTell r m → LogsTell r m'
-  goes_tells goes = less_tells m m' goes.units goes.size (λ u b v left. ⊎_elim (λ was. was) (λ none. absurd none) (goes.leaves u b v left)) r
-
-  -- behind an import that was refused before it wrote
-  pub early_tells : (stop : Stop) → stops_early stop ≡ true → ImportStops m m' stop → LogsTell r m → LogsTell r m'
+  -- behind an import that was refused before it wrote, where they are up
+  pub early_tells : (stop : Stop) → stops_early stop ≡ true → ImportStops m m' stop → (IsTrue m'.down → ⊥) → LogsTell r m → LogsTell r m'
   early_tells stop early stops = goes_tells (early_goes m m' stop early stops)
 
 -- disks that tell nothing
@@ -34,7 +36,11 @@ none_tells r m none = untold_tells r m (λ i each. none.leaves 0 0 (i 0 0) (each
 pub dark_tells : {R : Type 0} (r : Rested) (meaning : R → Meaning) (s : Shade R) → LogsTell r (shade_meaning meaning (Dark (rack_of s)))
 dark_tells r meaning s = untold_tells r (shade_meaning meaning (Dark (rack_of s))) (λ i each. each 0 0)
 
--- disks that fell behind a refused import
-pub fallen_tells : (r : Rested) (m m' m3 : Meaning) (stop : Stop) (early : Bool) → early ≡ stops_early stop → LogsTell r m → ImportStops m m' stop → (early ≡ true → Stopped m' m3) → (early ≡ false → TellsNone m3) → LogsTell r m3
-fallen_tells r m m' m3 stop true is tells stops stopped dark = stopped_tells r m' m3 (stopped refl) (early_tells r m m' stop (sym is) stops tells)
-fallen_tells r m m' m3 stop false is tells stops stopped dark = none_tells r m3 (dark refl)
+-- disks that fell behind a refused import: no map knows any more what its plex misses
+pub fallen_tells : (r s : Rested) → s.alike ≡ r.alike → s.drls ≡ r.drls → ((v : ℕ) → rests s.maps v ≡ false) → (m m' m3 : Meaning) (stop : Stop) (early : Bool) → early ≡ stops_early stop → LogsTell r m → ImportStops m m' stop → (early ≡ true → Stopped m' m3)
+    → (early ≡ false → TellsNone m3) → LogsTell s m3
+fallen_tells r s alike drls none m m' m3 stop true is tells stops stopped dark =
+    let goes = early_goes m m' stop (sym is) stops in
+    let fell = stopped refl in
+    fallen_less m m3 (fell.units ∙ goes.units) (λ u. fell.size u ∙ goes.size u) (λ u b y left. ⊎_elim (λ was. was) (λ put. absurd put) (goes.leaves u b y (fell.leaves u b y left))) r s alike drls none tells
+fallen_tells r s alike drls none m m' m3 stop false is tells stops stopped dark = none_tells s m3 (dark refl)

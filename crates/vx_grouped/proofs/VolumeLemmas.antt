@@ -10,6 +10,9 @@ use Rattle.vx_grouped.specs.declared.group_site.GroupSite.{GroupSite}
 use Rattle.vx_grouped.specs.declared.group_site.GroupSite.TheVariants.{Deported, Down, Gone, Marked, Up}
 use Rattle.vx_grouped.specs.declared.idle.Idle.{Idle}
 use Rattle.vx_grouped.specs.declared.laid.Laid.{Laid}
+use Rattle.vx_logimport.specs.declared.rested.Rested.{Rested}
+use Rattle.vx_group.specs.Settles.{LacksCommit}
+use Rattle.std.specs.Prelude.{Some}
 
 pub volumes_go : (put : Values) (mine : Blocks) (old new : Meaning) → ((u b : ℕ) (v : List ℕ) → put u b v → mine u b) → Goes put old new → VolumesGo mine old new
 volumes_go put mine old new within goes = record {
@@ -47,8 +50,8 @@ wider_go mine more old new within goes = record {
 }
 
 module _ {R : Type 0} {g : Ghosts R} where
-  pub fell_behind : (mine : Blocks) (old mid : Laid R g) (idle : Idle R g) → VolumesGo mine (laid_seen old) (laid_seen mid) → Stopped (laid_disks mid) (idle_disks idle) → idle.agreed ≡ mid.core.inner.agreed → FellBehind mine old idle
-  fell_behind mine old mid idle goes stopped agreed = record { mid = mid; goes = goes; stopped = stopped; agreed = agreed }
+  pub fell_behind : (mine : Blocks) (old mid : Laid R g) (idle : Idle R g) → VolumesGo mine (laid_seen old) (laid_seen mid) → Stopped (laid_disks mid) (idle_disks idle) → idle.agreed ≡ mid.core.inner.agreed → ((r : Rested) → idle.rested ≡ Some r → LacksCommit mid.core.inner → ⊥) → FellBehind mine old idle
+  fell_behind mine old mid idle goes stopped agreed lacking = record { mid = mid; goes = goes; stopped = stopped; agreed = agreed; lacking = lacking }
 
   -- of a site that was taken out for the call
   pub site_goes : (mine : Blocks) (e : GroupSite R g) (old : Laid R g) (new : GroupSite R g) → e ≡ Up old → SiteGoes mine (Up old) new → SiteGoes mine e new

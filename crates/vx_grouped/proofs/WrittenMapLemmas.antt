@@ -120,7 +120,11 @@ module _ (w next : MissedNote) (c d : Config) (l k : List Logs) (s t : Bool) (fl
   gone_by v (inr (inr (inr (inr far)))) = inr (inr (inr (let is = serial in omega (arith, far, is))))
 
   pub stay_known : (Lost Begins : ℕ → Type 0) → ((v : ℕ) → goes_by l c s v ≡ false → goes_by k d t v ≡ true → Begins v) → StayKnown (FailedAt m m') Lost Begins (map_disk_of c) w next
-  stay_known Lost Begins begins = record { stays = λ v on. stays v on (goes_by k d t v) refl; begins = λ v on. begun v on (goes_by l c s v) refl }
+  stay_known Lost Begins begins = record {
+    stays = λ v on. stays v on (goes_by k d t v) refl;
+    begins = λ v on. begun v on (goes_by l c s v) refl;
+    later = let was = noted.serial in let later = ends.later in omega (arith, was, serial, later);
+  }
     where
       stays : (v : ℕ) → w.mapped v ≡ true → (b : Bool) → goes_by k d t v ≡ b → (next.mapped v ≡ true) ⊎ MapsGone (FailedAt m m') (map_disk_of c) w next v ⊎ Lost v
       stays v on true is = inl (mapped v ∙ is)

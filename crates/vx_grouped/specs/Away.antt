@@ -1,5 +1,6 @@
 -- A group whose disks are by themselves, as its site notes it: it crashed, or was deported.
-use Rattle.std.specs.Prelude.{◌≡◌, ℕ, ◌<◌, true, false, if◌then◌else◌, IsTrue, [], length}
+use Rattle.std.specs.Prelude.{◌≡◌, ℕ, ◌<◌, ◌≤◌, true, false, if◌then◌else◌, IsTrue, [], length}
+use Rattle.vx_model.specs.declared.limits.TheConstants.{LEAST_GROUP_BLOCKS}
 use Rattle.vx_model.specs.declared.site.SiteState.TheVariants.{Deported, Down as IsDown}
 use Rattle.vx_disk.specs.Shelf.{Each, Image, Meaning}
 use Rattle.vx_history.specs.Groups.{GroupNode, BlockMay}
@@ -11,6 +12,7 @@ use Rattle.vx_kept.specs.Choice.{live}
 use Rattle.vx_kept.specs.Facts.{is_found}
 use Rattle.vx_kept.specs.Groups.{found}
 use Rattle.vx_kept.specs.Keeping.{Extends, frame_at}
+use Rattle.vx_kept.specs.Trusts.{FailsAll}
 use Rattle.vx_layout.specs.Places.{place}
 use Rattle.vx_volume.specs.Plexes.{Inside, SomeActive}
 use Rattle.vx_group.specs.Resumes.{CanImport}
@@ -34,12 +36,18 @@ pub record AwayLies (n : Node) (note : GroupNode) (last : Config) (m : Meaning) 
 abbrev pub AllRun : GroupNode → Config → Type 0
 AllRun note last = note.dark ≡ false → (v : ℕ) → v < length last.volumes → SomeActive last v
 
+-- the disks of a site are large enough for a group, and one of them is held as good
+pub record AwayFit (n : Node) (c : Config) : Type 0 where
+  pub large : 0 < n.disks → LEAST_GROUP_BLOCKS ≤ n.blocks
+  pub some : FailsAll c.disks → ⊥
+
 -- the disks of a site that crashed: it is noted with the configuration that memory had
 pub record IsAwayAt (n : Node) (note : GroupNode) (last : Config) (m : Meaning) : Type 0 where
   pub state : n.state ≡ IsDown
   pub config : note.config ≡ noted_config last
   pub found : NotesFound note last m
   pub runs : AllRun note last
+  pub some : AwayFit n last
   pub lies : AwayLies n note last m
 
 -- the note with the configuration that a deport committed; imports may disagree where the one of before was not committed
@@ -52,4 +60,5 @@ pub record IsDeportedAt (n : Node) (note : GroupNode) (last newest : Config) (m 
   pub config : note.config ≡ noted_config newest
   pub frames : (v : ℕ) → frame_at newest v ≡ frame_at last v
   pub found : NotesFound note newest m
+  pub some : AwayFit n newest
   pub lies : AwayLies n note last m

@@ -1,8 +1,8 @@
 -- A group that is begun on the disks of a bare site.
-use Rattle.std.specs.Prelude.{◌≡◌, ◌⊎◌, ℕ, ◌<◌, ◌≤◌, false, [], length, slice_get, Some, None, IsFalse, Result, Ok, Err}
+use Rattle.std.specs.Prelude.{◌≡◌, ◌⊎◌, ℕ, ◌<◌, ◌≤◌, true, false, [], length, slice_get, Some, None, IsFalse, Result, Ok, Err}
 use Rattle.vx_model.specs.declared.errors.Stop.{Stop}
 use Rattle.vx_model.specs.declared.errors.Stop.TheVariants.{No as Refused, OutOfMemory}
-use Rattle.vx_model.specs.declared.limits.TheConstants.{LEAST_GROUP_BLOCKS, MOST_DISKS}
+use Rattle.vx_model.specs.declared.limits.TheConstants.{COMMIT_SERIALS, LEAST_GROUP_BLOCKS, MOST_DISKS}
 use Rattle.vx_model.specs.declared.no.No.TheVariants.{Device, Size}
 use Rattle.vx_model.specs.declared.site.SiteState.TheVariants.{Bare}
 use Rattle.vx_disk.specs.Causes.{DeviceCause}
@@ -15,6 +15,7 @@ use Rattle.vx_history.specs.Steps.{group_set}
 use Rattle.vx_history.specs.World.{Node, NoFuse}
 use Rattle.vx_config.specs.declared.config.Config.{Config}
 use Rattle.vx_config.specs.declared.entry.DiskEntry.{DiskEntry}
+use Rattle.vx_copies.specs.Marks.{failed_at}
 use Rattle.vx_copyio.specs.Labelling.{HasSmall}
 use Rattle.vx_kept.specs.Trusts.{HasFailed}
 use Rattle.vx_watched.specs.Since.{CalledSince}
@@ -35,7 +36,7 @@ pub record CanBegin (n : Node) (m : Meaning) : Type 0 where
   pub up : IsFalse m.down
   pub unarmed : IsFalse m.armed
 
--- The note of a new group: it has no volume, and no further configuration may stand on the disks.
+-- The note of a new group: it has no volume, no further configuration may stand on the disks, and its serial is small.
 pub record IsFirstNote (note : GroupNode) : Type 0 where
   pub begun : note.begun ≡ []
   pub size : (v : ℕ) → note.bytes.size v ≡ 0
@@ -43,6 +44,7 @@ pub record IsFirstNote (note : GroupNode) : Type 0 where
   pub cut : note.cut ≡ None
   pub dark : note.dark ≡ false
   pub serial : ℕ
+  pub small : serial ≤ COMMIT_SERIALS
   pub maps : note.maps ≡ maps_none serial
   pub inside : (v : ℕ) → note.inside v ≡ false
 
@@ -74,14 +76,19 @@ module _ {R : Type 0} {g : Ghosts R} where
   HoldsFailed (Up group) = HasFailed group.core.inner.config.disks
   HoldsFailed other = ⊥
 
+  -- a disk of it is held as failed only where a call on it failed since
+  abbrev pub FailsSince : Meaning → GroupSite R g → Type 0
+  FailsSince old (Up group) = (k : ℕ) → failed_at group.core.inner.config.disks k ≡ true → Rose (old.disk_faults k) ((site_disks (Up group)).disk_faults k)
+  FailsSince old other = ⊥
+
   -- its group is this one
   abbrev pub IsEmptyGroup : ℕ → Node → GroupSite R g → Type 0
   IsEmptyGroup site n (Up group) = IsEmptyConfig site n group.core.inner.config
   IsEmptyGroup site n other = ⊥
 
-  -- the site with a group whose imports agree unless a disk is held as failed; or bare, where a disk failed, or memory was wanted
+  -- The site with a group whose imports agree unless a disk is held as failed, as a call on it failed; or bare, where a disk failed, or memory was wanted.
   abbrev pub BeginsGroup : ℕ → Node → Meaning → GroupSite R g → Result (Unit {0}) Stop → Type 0
-  BeginsGroup site n old new (Ok done) = (note : GroupNode) × IsFirstNote note × UpNoted (group_begun note site n) note new × IsEmptyGroup site n new × ((note.loose ≡ false) ⊎ HoldsFailed new) × StandMaps note new
+  BeginsGroup site n old new (Ok done) = (note : GroupNode) × IsFirstNote note × UpNoted (group_begun note site n) note new × IsEmptyGroup site n new × ((note.loose ≡ false) ⊎ HoldsFailed new) × StandMaps note new × FailsSince old new
   BeginsGroup site n old new (Err (Refused (Device disk))) = GroupSiteStands n new × Rose (old.disk_faults disk) ((site_disks new).disk_faults disk)
   BeginsGroup site n old new (Err OutOfMemory) = GroupSiteStands n new
   BeginsGroup site n old new (Err (Refused other)) = ⊥

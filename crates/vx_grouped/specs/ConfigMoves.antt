@@ -1,5 +1,5 @@
 -- What a call on a group makes of its configuration, place by place. Serials do not count.
-use Rattle.std.specs.Prelude.{◌≡◌, ◌⊎◌, ℕ, ◌<◌, Bool, true, false, Some, length, is_some, slice_get, List}
+use Rattle.std.specs.Prelude.{◌≡◌, ◌⊎◌, ℕ, ◌<◌, Bool, true, false, IsTrue, Some, length, is_some, slice_get, List}
 use Rattle.vx_model.specs.declared.site.PlexState.{PlexState}
 use Rattle.vx_model.specs.declared.site.PlexState.TheVariants.{Active, Stale}
 use Rattle.vx_disk.specs.Counts.{Rose}
@@ -10,29 +10,42 @@ use Rattle.vx_config.specs.declared.entry.DiskEntry.{DiskEntry}
 use Rattle.vx_config.specs.declared.entry.PlexEntry.{PlexEntry}
 use Rattle.vx_config.specs.declared.entry.VolumeEntry.{VolumeEntry}
 use Rattle.vx_layout.specs.Made.{with_volume}
+use Rattle.vx_layout.specs.Places.{plex_at}
 use Rattle.vx_layout.specs.Space.{IsFound}
 use Rattle.vx_layout.specs.declared.shape.Found.{Found}
 use Rattle.vx_layout.specs.declared.shape.Shape.{Shape}
-use Rattle.vx_volume.specs.Plexes.{uses}
+use Rattle.vx_volume.specs.Plexes.{uses, uses_or}
 use Rattle.vx_group.specs.Loses.{SameParts}
 use Rattle.vx_group.specs.Makes.{IsVolume}
 use Rattle.vx_group.specs.Quiesces.{AnyFailed}
 
--- a call on one of the disks failed
-pub record AnyRose (old new : Meaning) : Type 0 where
+-- a call on a disk failed on which a part of the plex lies
+pub record PlexRose (old new : Meaning) (p : PlexEntry) : Type 0 where
   pub disk : ℕ
+  pub lies : IsTrue (uses_or disk (Some p))
   pub below : disk < old.units
   pub rose : Rose (old.disk_faults disk) (new.disk_faults disk)
 
--- ---- plexes and volumes, by what may become of the state of a plex
+-- so of some plex of the volume
+pub record VolumeRose (old new : Meaning) (v : VolumeEntry) : Type 0 where
+  pub place : ℕ
+  pub plex : PlexEntry
+  pub at : slice_get v.plexes place ≡ Some plex
+  pub rose : PlexRose old new plex
+
+-- so of each plex of a volume that takes part
+pub record EachPlexRose (c : Config) (v : ℕ) (old new : Meaning) : Type 0 where
+  pub each : (p : ℕ) (plex : PlexEntry) → plex_at c v p ≡ Some plex → plex.state ≡ Active → PlexRose old new plex
+
+-- ---- plexes and volumes, by what may become of the state of a plex of a volume
 
 -- it lies where it lay
-pub record PlexMoves (By : PlexState → PlexState → Type 0) (p q : PlexEntry) : Type 0 where
+pub record PlexMoves (By : PlexEntry → PlexState → Type 0) (p q : PlexEntry) : Type 0 where
   pub subdisks : q.subdisks ≡ p.subdisks
-  pub state : By p.state q.state
+  pub state : By p q.state
 
 -- the same but for its plexes and what is lost of its logs
-pub record VolumeMoves (By : PlexState → PlexState → Type 0) (v u : VolumeEntry) : Type 0 where
+pub record VolumeMoves (By : VolumeEntry → PlexEntry → PlexState → Type 0) (v u : VolumeEntry) : Type 0 where
   pub name : u.name ≡ v.name
   pub blocks : u.blocks ≡ v.blocks
   pub ncol : u.ncol ≡ v.ncol
@@ -40,19 +53,27 @@ pub record VolumeMoves (By : PlexState → PlexState → Type 0) (v u : VolumeEn
   pub prefer : u.prefer ≡ v.prefer
   pub drl : is_some u.drl ≡ is_some v.drl
   pub fmr : is_some u.fmr ≡ is_some v.fmr
-  pub plexes : (k : ℕ) → Matched (PlexMoves By) (slice_get v.plexes k) (slice_get u.plexes k)
+  pub plexes : (k : ℕ) → Matched (PlexMoves (By v)) (slice_get v.plexes k) (slice_get u.plexes k)
 
--- it is as it was; or STALE, or ACTIVE as one that was held back, and a call on a disk failed
-abbrev pub StateMoves : Meaning → Meaning → PlexState → PlexState → Type 0
-StateMoves old new s t = (t ≡ s) ⊎ (((t ≡ Stale) ⊎ (t ≡ Active)) × AnyRose old new)
+-- it is as it was
+abbrev pub StateKeeps : VolumeEntry → PlexEntry → PlexState → Type 0
+StateKeeps v p t = t ≡ p.state
+
+-- so, or it is STALE, and a call on one of its disks failed; or it is ACTIVE, as it was held back and a call on a disk of its volume failed
+abbrev pub StateMoves : Meaning → Meaning → VolumeEntry → PlexEntry → PlexState → Type 0
+StateMoves old new v p t = (t ≡ p.state) ⊎ ((t ≡ Stale) × PlexRose old new p) ⊎ ((t ≡ Active) × VolumeRose old new v)
 
 -- it takes part as it did, where it stopped cleanly
-abbrev pub OpensSame : PlexState → PlexState → Type 0
-OpensSame s t = live_again t ≡ live_again s
+abbrev pub OpensSame : VolumeEntry → PlexEntry → PlexState → Type 0
+OpensSame v p t = live_again t ≡ live_again p.state
+
+-- so, or it is STALE, and a call on one of its disks failed; or it was, and takes part
+abbrev pub OpensMost : Meaning → Meaning → VolumeEntry → PlexEntry → PlexState → Type 0
+OpensMost old new v p t = (live_again t ≡ live_again p.state) ⊎ ((t ≡ Stale) × PlexRose old new p) ⊎ ((live_again t ≡ Active) × (p.state ≡ Stale))
 
 -- any state
-abbrev pub AnyState : PlexState → PlexState → Type 0
-AnyState s t = Unit {0}
+abbrev pub AnyState : VolumeEntry → PlexEntry → PlexState → Type 0
+AnyState v p t = Unit {0}
 
 -- ---- disks
 
@@ -65,7 +86,7 @@ pub record DiskMoves (again : ℕ → Bool) (old new : Meaning) (k : ℕ) (a b :
 -- ---- configurations
 
 -- d is c, but for disks that are held as failed, or as good again, and the states of plexes
-pub record ConfigMoves (again : ℕ → Bool) (By : PlexState → PlexState → Type 0) (old new : Meaning) (c d : Config) : Type 0 where
+pub record ConfigMoves (again : ℕ → Bool) (By : VolumeEntry → PlexEntry → PlexState → Type 0) (old new : Meaning) (c d : Config) : Type 0 where
   pub parts : SameParts c d
   pub disks : (k : ℕ) → Matched (DiskMoves again old new k) (slice_get c.disks k) (slice_get d.disks k)
   pub volumes : (v : ℕ) → Matched (VolumeMoves By) (slice_get c.volumes v) (slice_get d.volumes v)
@@ -78,26 +99,34 @@ none_again k = false
 abbrev pub LosesSome : Meaning → Meaning → Config → Config → Type 0
 LosesSome old new = ConfigMoves none_again (StateMoves old new) old new
 
--- a plex was put into this state first, as one of which the next attach has to copy all or not
+-- a plex was put into this state, as one of which the next attach has to copy all or not, and no other changed its own
 pub record Restated (again : ℕ → Bool) (v p : ℕ) (state : PlexState) (old new : Meaning) (c d : Config) : Type 0 where
   pub whole : Bool
-  pub moves : ConfigMoves again (StateMoves old new) old new (stated v p state whole c) d
+  pub moves : ConfigMoves again StateKeeps old new (stated v p state whole c) d
 
 -- a plex was detached
 abbrev pub DetDone : ℕ → ℕ → Meaning → Meaning → Config → Config → Type 0
 DetDone v p = Restated none_again v p Stale
 
--- or it was not, as a disk failed or the fuse ran out; memory may have it as detached all the same
-abbrev pub DetFails : ℕ → ℕ → Meaning → Meaning → Config → Config → Type 0
-DetFails v p old new c d = LosesSome old new c d ⊎ DetDone v p old new c d
+-- or it was not, as a disk failed
+abbrev pub DetFails : Meaning → Meaning → Config → Config → Type 0
+DetFails = ConfigMoves none_again StateKeeps
+
+-- or as the fuse ran out; memory may have it as detached all the same
+abbrev pub DetCuts : ℕ → ℕ → Meaning → Meaning → Config → Config → Type 0
+DetCuts v p old new c d = DetFails old new c d ⊎ DetDone v p old new c d
 
 -- A plex was attached. Disks on which it lies may be held as good again.
 abbrev pub AttDone : ℕ → ℕ → Meaning → Meaning → Config → Config → Type 0
 AttDone v p old new c d = Restated (uses c v p) v p Active old new c d
 
--- or it was not, as a disk failed or the fuse ran out; memory may have it as attached all the same
+-- or it was not, as a disk failed
 abbrev pub AttFails : ℕ → ℕ → Meaning → Meaning → Config → Config → Type 0
-AttFails v p old new c d = ConfigMoves (uses c v p) (StateMoves old new) old new c d ⊎ AttDone v p old new c d
+AttFails v p old new c d = ConfigMoves (uses c v p) StateKeeps old new c d
+
+-- or as the fuse ran out; memory may have it as attached all the same
+abbrev pub AttCuts : ℕ → ℕ → Meaning → Meaning → Config → Config → Type 0
+AttCuts v p old new c d = AttFails v p old new c d ⊎ AttDone v p old new c d
 
 -- a volume stands behind those of before, in the place that was found for it
 pub record VolumeAdded (name : List ℕ) (want : Shape) (vol : ℕ) (old new : Meaning) (c d : Config) : Type 0 where
@@ -108,9 +137,9 @@ pub record VolumeAdded (name : List ℕ) (want : Shape) (vol : ℕ) (old new : M
   pub is_volume : IsVolume name want found volume
   pub moves : LosesSome old new (with_volume c volume) d
 
--- plexes that took part stopped cleanly, and no other changed; or a call on a disk failed
+-- plexes that took part stopped cleanly, and no other changed; or a call on a disk failed, and those on failed disks take no part
 abbrev pub CleansPlexes : Meaning → Meaning → Config → Config → Type 0
-CleansPlexes old new c d = ConfigMoves none_again OpensSame old new c d ⊎ (AnyFailed old new × ConfigMoves none_again AnyState old new c d)
+CleansPlexes old new c d = ConfigMoves none_again OpensSame old new c d ⊎ (AnyFailed old new × ConfigMoves none_again (OpensMost old new) old new c d)
 
 -- What an import took up: where contents are told, the first volumes are those of before but for the states of their plexes. Each disk is held as good,
 -- or a call on it failed.

@@ -36,11 +36,12 @@ abbrev pub DeportCan : {S G : Type 0} → GroupCore → (S → Meaning) → Resu
 DeportCan c meaning (Ok s) = c.inner.committed ≡ true → CanImport (meaning s)
 DeportCan c meaning (Err e) = Unit {0}
 
--- the group that is given back has lost plexes alone
+-- the group that is given back has lost plexes alone, and imports agree where its newest configuration was committed
 pub record BackMoves (c d : GroupCore) (old new : Meaning) : Type 0 where
   pub goes : Goes Nothing (inner_meaning (wide c) old) (inner_meaning (wide d) new)
   pub loses : LosesPlexes c.inner.config d.inner.config old new
   pub on : BothOn c.inner.config d.inner.config old.units
+  pub agrees : c.inner.committed ≡ true → d.inner.agreed ≡ true
 
 -- a deport: its plexes stopped cleanly; or the group is given back
 abbrev pub DeportMoves : {S G : Type 0} → GroupCore → Meaning → (S → Meaning) → (G → GroupCore) → (G → Meaning) → Result S (G × Stop) → Type 0

@@ -60,7 +60,7 @@ pub record FindStops (n : Node) (old new : Meaning) (stop : Stop) : Type 0 where
   pub size : (u : ℕ) → u < n.disks → new.size u ≡ n.blocks
   pub up : IsFalse new.down
   pub unarmed : IsFalse new.armed
-  pub why : ImportWhy ⊥ old new stop
+  pub why : ImportWhy ⊥ ⊥ old new stop
 
 module _ {R : Type 0} {g : Ghosts R} where
   -- the site with the group that was found, if one was

@@ -5,6 +5,7 @@ pub mod Brings
 pub mod ConfigMoves
 pub mod Copied
 pub mod CoreMoves
+pub mod Clean
 pub mod Ends
 pub mod Finds
 pub mod GroupNotes

@@ -21,6 +21,7 @@ use Rattle.vx_group.specs.declared.inner.Inner.{Inner}
 use Rattle.vx_grouped.specs.Away.{AwayLies}
 use Rattle.vx_grouped.specs.GroupNotes.{IsGroupAt, noted_config}
 use Rattle.vx_grouped.specs.Plain.{HoldsPlain}
+use Rattle.vx_grouped.specs.Clean.{StoppedSome}
 
 -- the note behind an import: the configuration in memory, which is committed; of the volumes that were renewed each block has one value
 abbrev pub note_imported : Inner → (ℕ → Bool) → (ℕ → ℕ → List ℕ) → GroupNode → GroupNode
@@ -39,8 +40,8 @@ pub record DisksBack (c : Config) (old new : Meaning) : Type 0 where
   pub blocks : (u : ℕ) → u < old.units → blocks_at c.disks u ≡ old.size u
   pub failed : (u : ℕ) → u < old.units → failed_at c.disks u ≡ true → Rose (old.faults u) (new.faults u)
 
--- Its volumes as an import takes them up. Where contents are told its first volumes are those of the configuration of before, and each block of them
--- that was renewed has a value that it might have.
+-- Its volumes as an import takes them up. Where contents are told its first volumes are those of the configuration of before, each block of them that was
+-- renewed has a value that it might have, and each volume was renewed that did not stop cleanly.
 pub record VolumesReturn (n : Node) (note : GroupNode) (last : Config) (old : Meaning) (core : GroupCore) (m : Meaning) : Type 0 where
   pub renewed : ℕ → Bool
   pub value : ℕ → ℕ → List ℕ
@@ -53,9 +54,10 @@ pub record VolumesReturn (n : Node) (note : GroupNode) (last : Config) (old : Me
   pub names : IsTrue old.tells → (v : ℕ) → v < length last.volumes → volume_name core.inner.config v ≡ volume_name last v
   pub disks : DisksBack core.inner.config old m
   pub may : IsTrue old.tells → (v b : ℕ) → Inside last v b → renewed v ≡ true → BlockMay note v b (value v b)
+  pub stops : IsTrue old.tells → (v : ℕ) → v < length core.inner.config.volumes → (renewed v ≡ true) ⊎ StoppedSome old v
 
--- The group is up. Where contents are told its first volumes are those of the configuration of before, and each block of them that was renewed has
--- a value that it might have.
+-- The group is up. Where contents are told its first volumes are those of the configuration of before, each block of them that was renewed has a value that
+-- it might have, and each volume was renewed that did not stop cleanly.
 pub record GroupReturns (n : Node) (note : GroupNode) (last : Config) (old : Meaning) (core : GroupCore) (m : Meaning) : Type 0 where
   pub renewed : ℕ → Bool
   pub value : ℕ → ℕ → List ℕ
@@ -66,6 +68,7 @@ pub record GroupReturns (n : Node) (note : GroupNode) (last : Config) (old : Mea
   pub names : IsTrue old.tells → (v : ℕ) → v < length last.volumes → volume_name core.inner.config v ≡ volume_name last v
   pub disks : DisksBack core.inner.config old m
   pub may : IsTrue old.tells → (v b : ℕ) → Inside last v b → renewed v ≡ true → BlockMay note v b (value v b)
+  pub stops : IsTrue old.tells → (v : ℕ) → v < length core.inner.config.volumes → (renewed v ≡ true) ⊎ StoppedSome old v
 
 -- no image has a volume more than this configuration, as one might behind a refused commit
 pub record HasNoMore (last : Config) (m : Meaning) : Type 0 where

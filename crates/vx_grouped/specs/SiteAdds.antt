@@ -1,5 +1,5 @@
 -- How a volume that is made leaves the disks of a site with a group.
-use Rattle.std.specs.Prelude.{◌≡◌, ◌⊎◌, ℕ, true, List, Option, Some, None, Result, Ok, Err, OnOk}
+use Rattle.std.specs.Prelude.{◌≡◌, ◌⊎◌, ℕ, true, false, List, Option, Some, None, Result, Ok, Err, IfErr, OnOk}
 use Rattle.vx_model.specs.declared.errors.Stop.{Stop}
 use Rattle.vx_model.specs.declared.errors.Stop.TheVariants.{No as Refused, OutOfMemory}
 use Rattle.vx_model.specs.declared.limits.TheConstants.{MOST_SUBDISKS}
@@ -37,6 +37,7 @@ pub record MakesVolume (name : List ℕ) (want : Shape) (c : GroupCore) (m : Mea
   pub ends : make_refusal c.inner.config name want ≡ None → MakeEnds name want c.inner d.inner m m' r
   pub trust : OnOk r (c.inner.committed ≡ true → d.inner.committed ≡ true)
   pub goes : VolumesGo Nowhere (inner_meaning (wide c) m) (inner_meaning (wide d) m')
+  pub agreed : IfErr r (λ stop. c.inner.committed ≡ true → d.inner.agreed ≡ true)
   pub parts : SameParts c.inner.config d.inner.config
   pub disks : MoreFailed m m' c.inner.config.disks d.inner.config.disks
 
@@ -66,7 +67,7 @@ module _ {R : Type 0} {g : Ghosts R} where
       (next : GroupNode) × NoteSettles note next × UpNoted (with_note (note_added vol want.blocks next) n) (note_added vol want.blocks next) new
       × ConfigGoes (VolumeAdded name want vol (site_disks old) (site_disks new)) note next old new
   SiteAdded n note name want old new (Err (Refused why)) =
-      SiteCalled {T = ℕ} (λ c d. ⊥) (LosesSome (site_disks old) (site_disks new)) (LacksVolume old name want) n note old new (Err (Refused why))
+      SiteCalled {T = ℕ} false (λ c d. ⊥) (LosesSome (site_disks old) (site_disks new)) (LosesSome (site_disks old) (site_disks new)) (LacksVolume old name want) n note old new (Err (Refused why))
   SiteAdded n note name want old new (Err OutOfMemory) = UpNoted n note new
 
   -- the volume stands behind those of before, in the place that was found for it

@@ -1,5 +1,5 @@
 -- How calls leave the disks of a site with a group.
-use Rattle.std.specs.Prelude.{◌≡◌, ℕ, true, false, List, Bool, Option, Some, None, Result, Ok, Err}
+use Rattle.std.specs.Prelude.{◌≡◌, ◌-◌, ◌<◌, ℕ, true, false, List, Bool, Option, Some, None, Result, Ok, Err}
 use Rattle.vx_model.specs.Content.{Write}
 use Rattle.vx_model.specs.declared.errors.Stop.{Stop}
 use Rattle.vx_model.specs.declared.errors.Stop.TheVariants.{No as Refused, OutOfMemory}
@@ -10,6 +10,7 @@ use Rattle.vx_disk.specs.Causes.{OnDisks}
 use Rattle.vx_disk.specs.Counts.{Rose}
 use Rattle.vx_disk.specs.Disks.{Crashed}
 use Rattle.vx_disk.specs.Racks.{Stopped}
+use Rattle.vx_disk.specs.Shelf.{Meaning}
 use Rattle.vx_disk.specs.declared.shelf.Shelf.{Ghosts}
 use Rattle.vx_history.specs.Groups.{GroupNode, NoteSettles, NoteUnsettles, note_cut, note_doubt, note_write}
 use Rattle.vx_history.specs.Steps.{crashed, worked}
@@ -19,14 +20,14 @@ use Rattle.vx_config.specs.Table.{greatest}
 use Rattle.vx_config.specs.declared.config.Config.{Config}
 use Rattle.vx_volume.specs.Plexes.{active}
 use Rattle.vx_group.specs.Attaches.{att_refusal}
-use Rattle.vx_group.specs.Dets.{det_refusal}
+use Rattle.vx_group.specs.Dets.{det_refusal, margin}
 use Rattle.vx_untold.specs.Shades.{shade_meaning}
 use Rattle.vx_watched.specs.Traces.{TellsLess}
 use Rattle.vx_kept.specs.Commits.{IsCommitted}
 use Rattle.vx_grouped.specs.Copied.{CopiesRegions}
-use Rattle.vx_grouped.specs.ConfigMoves.{AttDone, AttFails, CleansPlexes, DetDone, DetFails, LosesSome}
+use Rattle.vx_grouped.specs.ConfigMoves.{AttCuts, AttDone, AttFails, CleansPlexes, DetCuts, DetDone, DetFails, EachPlexRose, LosesSome}
 use Rattle.vx_grouped.specs.GroupNotes.{NotesConfig}
-use Rattle.vx_grouped.specs.GroupSites.{AwayNoted, CutNoted, DownNoted, GroupSiteStands, UpNoted, deported_with, site_below, site_config, site_disks, with_note}
+use Rattle.vx_grouped.specs.GroupSites.{AwayNoted, CutNoted, DownNoted, GroupSiteStands, UpNoted, deported_with, laid_disks, site_below, site_config, site_disks, with_note}
 use Rattle.vx_grouped.specs.Plain.{ReadsPlain}
 use Rattle.vx_grouped.specs.declared.group_site.GroupSite.{GroupSite}
 use Rattle.vx_grouped.specs.declared.group_site.GroupSite.TheVariants.{Up, Deported}
@@ -83,29 +84,35 @@ module _ {R : Type 0} {g : Ghosts R} where
   PlainWrote n note x old new (Ok done) =
       (next : GroupNode) × NoteSettles note next × UpNoted (with_note (note_write x next) n) (note_write x next) new × ConfigGoes (LosesSome (site_disks old) (site_disks new)) note next old new
   PlainWrote n note x old new (Err (Device disk)) =
-      (next : GroupNode) × NoteUnsettles note next × UpNoted (with_note (note_doubt x next) n) (note_doubt x next) new × Rose ((site_disks old).disk_faults disk) ((site_disks new).disk_faults disk)
+      (next : GroupNode) × NoteUnsettles false note next × UpNoted (with_note (note_doubt x next) n) (note_doubt x next) new × Rose ((site_disks old).disk_faults disk) ((site_disks new).disk_faults disk)
       × ConfigGoes (LosesSome (site_disks old) (site_disks new)) note next old new
   PlainWrote n note x old new (Err IsOff) =
-      (next : GroupNode) × NoteUnsettles note next × DownNoted (crashed (with_note (note_cut x next) n) 0) (note_cut x next) new × IsFused n.fuse
+      (next : GroupNode) × NoteUnsettles false note next × DownNoted (crashed (with_note (note_cut x next) n) 0) (note_cut x next) new × IsFused n.fuse
       × ConfigGoes (LosesSome (site_disks old) (site_disks new)) note next old new
   PlainWrote n note x old new (Err other) = ⊥
 
-  -- a read of a volume: of each block a value that it may have, or a disk failed
+  -- a call on a disk failed of each plex of the volume that takes part
+  abbrev pub SiteGivesUp : ℕ → GroupSite R g → Meaning → Type 0
+  SiteGivesUp vol (Up group) new = EachPlexRose group.core.inner.config vol (laid_disks group) new
+  SiteGivesUp vol other new = ⊥
+
+  -- a read of a volume: of each block a value that it may have; or each plex that takes part failed
   abbrev pub PlainRead : Node → GroupNode → ℕ → ℕ → List ℕ → GroupSite R g → GroupSite R g → Result (Unit {0}) No → Type 0
   PlainRead n note vol block bytes old new (Ok done) = ReadsPlain note (site_disks old) vol block bytes × UpNoted (worked n) note new
-  PlainRead n note vol block bytes old new (Err (Device disk)) = UpNoted (worked n) note new × Rose ((site_disks old).disk_faults disk) ((site_disks new).disk_faults disk)
+  PlainRead n note vol block bytes old new (Err (Device disk)) =
+      UpNoted (worked n) note new × Rose ((site_disks old).disk_faults disk) ((site_disks new).disk_faults disk) × SiteGivesUp vol old (site_disks new)
   PlainRead n note vol block bytes old new (Err other) = ⊥
 
-  -- A call that writes to no volume: each has what it had. Done, or not, its configuration changes so. A refusal but 6 and 7 has this reason, and has
-  -- changed nothing; and memory suffices.
-  abbrev pub SiteCalled : {T : Type 0} → (Done Fails : Config → Config → Type 0) → (No → Type 0) → Node → GroupNode → GroupSite R g → GroupSite R g → Result T Stop → Type 0
-  SiteCalled Done Fails Lacks n note old new (Ok done) = (next : GroupNode) × NoteSettles note next × UpNoted (with_note next n) next new × ConfigGoes Done note next old new
-  SiteCalled Done Fails Lacks n note old new (Err (Refused (Device disk))) =
-      (next : GroupNode) × NoteUnsettles note next × UpNoted (with_note next n) next new × Rose ((site_disks old).disk_faults disk) ((site_disks new).disk_faults disk) × ConfigGoes Fails note next old new
-  SiteCalled Done Fails Lacks n note old new (Err (Refused IsOff)) =
-      (next : GroupNode) × NoteUnsettles note next × DownNoted (crashed (with_note next n) 0) next new × IsFused n.fuse × ConfigGoes Fails note next old new
-  SiteCalled Done Fails Lacks n note old new (Err (Refused other)) = UpNoted (worked n) note new × Lacks other
-  SiteCalled Done Fails Lacks n note old new (Err OutOfMemory) = ⊥
+  -- A call that writes to no volume: each has what it had. Done, failed, or cut by the fuse, its configuration changes so. A refusal but 6 and 7 has this reason, and has
+  -- changed nothing; and memory suffices. In some calls a second commit may have been refused behind the first one (`twice`).
+  abbrev pub SiteCalled : {T : Type 0} → (twice : Bool) → (Done Fails Cuts : Config → Config → Type 0) → (No → Type 0) → Node → GroupNode → GroupSite R g → GroupSite R g → Result T Stop → Type 0
+  SiteCalled twice Done Fails Cuts Lacks n note old new (Ok done) = (next : GroupNode) × NoteSettles note next × UpNoted (with_note next n) next new × ConfigGoes Done note next old new
+  SiteCalled twice Done Fails Cuts Lacks n note old new (Err (Refused (Device disk))) =
+      (next : GroupNode) × NoteUnsettles twice note next × UpNoted (with_note next n) next new × Rose ((site_disks old).disk_faults disk) ((site_disks new).disk_faults disk) × ConfigGoes Fails note next old new
+  SiteCalled twice Done Fails Cuts Lacks n note old new (Err (Refused IsOff)) =
+      (next : GroupNode) × NoteUnsettles twice note next × DownNoted (crashed (with_note next n) 0) next new × IsFused n.fuse × ConfigGoes Cuts note next old new
+  SiteCalled twice Done Fails Cuts Lacks n note old new (Err (Refused other)) = UpNoted (worked n) note new × Lacks other
+  SiteCalled twice Done Fails Cuts Lacks n note old new (Err OutOfMemory) = ⊥
 
   -- the first test of a detach, and of an attach, that refuses it
   abbrev pub refuses_det : GroupSite R g → ℕ → ℕ → Option No
@@ -129,12 +136,17 @@ module _ {R : Type 0} {g : Ghosts R} where
   -- a plex that is detached: refused by the first test that holds
   abbrev pub DetCalled : Node → GroupNode → ℕ → ℕ → GroupSite R g → GroupSite R g → Result (Unit {0}) Stop → Type 0
   DetCalled n note vol plex old new r =
-      SiteCalled {T = Unit {0}} (DetDone vol plex (site_disks old) (site_disks new)) (DetFails vol plex (site_disks old) (site_disks new)) (λ which. refuses_det old vol plex ≡ Some which) n note old new r
+      SiteCalled {T = Unit {0}} false (DetDone vol plex (site_disks old) (site_disks new)) (DetFails (site_disks old) (site_disks new)) (DetCuts vol plex (site_disks old) (site_disks new)) (λ which. refuses_det old vol plex ≡ Some which) n note old new r
 
   -- and one that is attached
   abbrev pub AttCalled : Node → GroupNode → ℕ → ℕ → GroupSite R g → GroupSite R g → Result ℕ Stop → Type 0
   AttCalled n note vol plex old new r =
-      SiteCalled {T = ℕ} (AttDone vol plex (site_disks old) (site_disks new)) (AttFails vol plex (site_disks old) (site_disks new)) (λ which. refuses_att old vol plex ≡ Some which) n note old new r
+      SiteCalled {T = ℕ} true (AttDone vol plex (site_disks old) (site_disks new)) (AttFails vol plex (site_disks old) (site_disks new)) (AttCuts vol plex (site_disks old) (site_disks new)) (λ which. refuses_att old vol plex ≡ Some which) n note old new r
+
+  -- too few serials are left for a deport
+  abbrev pub LacksDeport : GroupSite R g → No → Type 0
+  LacksDeport (Up group) which = (which ≡ Limit Numbers greatest) × (greatest - margin < group.core.inner.config.serial)
+  LacksDeport other which = ⊥
 
   -- A deport: done, the disks are by themselves, each image has the configuration that is noted, and each volume has on them what it had. It is refused for
   -- want of serials, or as any call.
@@ -143,4 +155,4 @@ module _ {R : Type 0} {g : Ghosts R} where
       (next : GroupNode) × NoteSettles note next × AwayNoted (deported_with next n) next new × ConfigGoes (CleansPlexes (site_disks old) (site_disks new)) note next old new
       × NewestCommitted next new
   SiteDeported n note old new (Err stop) =
-      SiteCalled {T = Unit {0}} (λ c d. ⊥) (LosesSome (site_disks old) (site_disks new)) (λ which. which ≡ Limit Numbers greatest) n note old new (Err stop)
+      SiteCalled {T = Unit {0}} false (λ c d. ⊥) (LosesSome (site_disks old) (site_disks new)) (LosesSome (site_disks old) (site_disks new)) (λ which. LacksDeport old which) n note old new (Err stop)

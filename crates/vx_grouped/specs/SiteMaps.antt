@@ -1,5 +1,5 @@
 -- What calls on a site's group make of the regions that plexes missed, as the site notes them.
-use Rattle.std.specs.Prelude.{◌≡◌, ◌<◌, ℕ, true, false, if◌then◌else◌, IsTrue, length, Option, Some, None, Result, Ok, Err}
+use Rattle.std.specs.Prelude.{◌≡◌, ◌<◌, ◌≤◌, ℕ, true, false, if◌then◌else◌, IsTrue, length, Option, Some, None, Result, Ok, Err}
 use Rattle.vx_model.specs.Content.{Write}
 use Rattle.vx_config.specs.Configs.{HasSpelling}
 use Rattle.vx_config.specs.declared.config.Config.{Config}
@@ -26,6 +26,7 @@ use Rattle.vx_model.specs.declared.errors.Stop.TheVariants.{No as Refused, OutOf
 use Rattle.vx_model.specs.declared.no.No.{No}
 use Rattle.vx_model.specs.declared.no.No.TheVariants.{Device, Down as IsOff}
 use Rattle.vx_volume.specs.Plexes.{active}
+use Rattle.vx_grouped.specs.Clean.{StoppedSome, StopsClean}
 use Rattle.vx_grouped.specs.GroupNotes.{noted_config}
 use Rattle.vx_grouped.specs.GroupSites.{idle_disks, site_config, site_disks}
 use Rattle.vx_grouped.specs.SiteReturns.{stops_early}
@@ -38,12 +39,13 @@ pub record DiskMaps (w : MissedNote) (c : Config) (m : Meaning) : Type 0 where
   pub each : (i : Image) (x : Config) → Each m.leaves i → found m i ≡ Found x → MapsOnDisk w c x i
 
 -- The disks of a group that was deported have what is noted, by the configuration that each image has; and a value says which volumes rest: of those the maps are
--- known, where the log is in use and its disk held as good.
+-- known, where the log is in use and its disk held as good. The serial that is noted is not above theirs.
 pub record IdleMaps (w : MissedNote) (c : Config) (rested : Option Rested) (m : Meaning) : Type 0 where
   pub all : IsCommitted c m
   pub disks : DiskMaps w c m
   pub alike : (r : Rested) → rested ≡ Some r → (v : ℕ) → v < length c.volumes → w.doubt v ≡ false → rests r.alike v ≡ true
   pub maps : (r : Rested) → rested ≡ Some r → (v : ℕ) → w.mapped v ≡ true → rests r.maps v ≡ true
+  pub serial : (i : Image) → Each m.leaves i → w.serial ≤ c.serial
   pub known : (i : Image) (r : Rested) (v : ℕ) (e : LogEntry) → Each m.leaves i → rested ≡ Some r → rests r.maps v ≡ true → v < length c.volumes → InUse c v Fmr e → failed_at c.disks e.disk ≡ false → w.mapped v ≡ true
 
 abbrev pub map_disk_or : Option LogEntry → Option ℕ
@@ -58,19 +60,6 @@ pub record RestsNot (rested : Option Rested) : Type 0 where
 pub record DownMaps (w : MissedNote) (c : Config) (rested : Option Rested) (m : Meaning) : Type 0 where
   pub disks : DiskMaps w c m
   pub rests : RestsNot rested
-
--- a volume stopped cleanly: none of its plexes is ACTIVE
-pub record StopsClean (c : Config) (v : ℕ) : Type 0 where
-  pub each : (p : ℕ) → active c v p ≡ false
-
--- of disks that a crash may leave as in this image, with a configuration by which a volume stopped cleanly
-pub record StoppedSome (m : Meaning) (v : ℕ) : Type 0 where
-  pub image : Image
-  pub config : Config
-  pub each : Each m.leaves image
-  pub finds : found m image ≡ Found config
-  pub clean : StopsClean config v
-  pub low : v < length config.volumes
 
 -- A group came up from disks of which a value says that no volume rests: no map is known, and, where contents are told, a volume of which a write failed stopped
 -- cleanly by what may have been on them.

@@ -1,5 +1,5 @@
 -- How a recovery or an import of a group leaves the disks of its site.
-use Rattle.std.specs.Prelude.{◌≡◌, ◌⊎◌, ℕ, ◌<◌, ◌≤◌, Bool, true, false, not, [], Some, None, IsTrue, IsFalse, List, Result, Ok, Err}
+use Rattle.std.specs.Prelude.{◌≡◌, ◌⊎◌, ℕ, ◌<◌, ◌≤◌, Bool, true, false, not, [], length, Some, None, IsTrue, IsFalse, List, Result, Ok, Err}
 use Rattle.vx_model.specs.declared.errors.Stop.{Stop}
 use Rattle.vx_model.specs.declared.errors.Stop.TheVariants.{No as Refused, OutOfMemory}
 use Rattle.vx_model.specs.declared.no.Counted.TheVariants.{Number as Numbers}
@@ -20,6 +20,7 @@ use Rattle.vx_group.specs.Imports.{ImportStops}
 use Rattle.vx_untold.specs.Shades.{shade_meaning}
 use Rattle.vx_untold.specs.declared.shade.Shade.{Shade}
 use Rattle.vx_watched.specs.Since.{FuseGoes, fuse_calls, is_rack}
+use Rattle.vx_grouped.specs.Clean.{StopsClean}
 use Rattle.vx_grouped.specs.ConfigMoves.{ConfigBack}
 use Rattle.vx_grouped.specs.GroupNotes.{NotesConfig, note_dimmed}
 use Rattle.vx_grouped.specs.GroupSites.{AwayNoted, DownNoted, UpNoted, dimmed_site, site_disks, with_note}
@@ -44,17 +45,28 @@ pub record NoteReturns (told : Type 0) (note next : GroupNode) : Type 0 where
 abbrev pub returned_with : GroupNode → Node → Node
 returned_with next n = with_note next (group_up n)
 
+-- a disk failed
+pub record SomeRose (old new : Meaning) : Type 0 where
+  pub disk : ℕ
+  pub below : disk < old.units
+  pub rose : Rose (old.disk_faults disk) (new.disk_faults disk)
+
+-- it is known what the disks hold: contents are told, imports agree, and nothing was begun
+abbrev pub KnownAway : Type 0 → GroupNode → Type 0
+KnownAway told note = told × (note.loose ≡ false) × (note.begun ≡ [])
+
 -- Why an import is refused: a disk fails in it; or, before it writes, a disk that is held as good cannot be read, none has a configuration that may be
--- taken up, or too few serials are left. Of disks of which contents are told none is damaged or of another format.
-abbrev pub ImportWhy : Type 0 → Meaning → Meaning → Stop → Type 0
-ImportWhy told old new (Refused (Device disk)) = Rose (old.disk_faults disk) (new.disk_faults disk)
-ImportWhy told old new (Refused (Lacks disk)) = Rose (old.disk_faults disk) (new.disk_faults disk)
-ImportWhy told old new (Refused NoConfig) = Unit {0}
-ImportWhy told old new (Refused (Limit what most)) = (what ≡ Numbers) × (most ≡ greatest)
-ImportWhy told old new (Refused (Damaged disk block stored computed)) = told → ⊥
-ImportWhy told old new (Refused (Format version)) = told → ⊥
-ImportWhy told old new (Refused other) = ⊥
-ImportWhy told old new OutOfMemory = Unit {0}
+-- taken up, or too few serials are left. Of disks of which contents are told none is damaged or of another format; and where it is known what they hold a
+-- disk failed if none has a configuration.
+abbrev pub ImportWhy : (told known : Type 0) → Meaning → Meaning → Stop → Type 0
+ImportWhy told known old new (Refused (Device disk)) = Rose (old.disk_faults disk) (new.disk_faults disk)
+ImportWhy told known old new (Refused (Lacks disk)) = Rose (old.disk_faults disk) (new.disk_faults disk)
+ImportWhy told known old new (Refused NoConfig) = known → SomeRose old new
+ImportWhy told known old new (Refused (Limit what most)) = (what ≡ Numbers) × (most ≡ greatest)
+ImportWhy told known old new (Refused (Damaged disk block stored computed)) = told → ⊥
+ImportWhy told known old new (Refused (Format version)) = told → ⊥
+ImportWhy told known old new (Refused other) = ⊥
+ImportWhy told known old new OutOfMemory = Unit {0}
 
 -- a fuse that is set still is, and has no more calls left
 pub record KeepsFuse (old new : Meaning) : Type 0 where
@@ -108,7 +120,8 @@ module _ {R : Type 0} {g : Ghosts R} where
     pub stops : ImportStops (shade_meaning g.meaning first) (shade_meaning g.meaning middle) stop
     pub crashed : Stopped (shade_meaning g.meaning middle) (site_disks new)
 
-  -- the configuration that was taken up, beside the one that was noted
+  -- The configuration that was taken up, beside the one that was noted. Where imports agreed and nothing was begun each block has one value, but for those of
+  -- a volume that stopped cleanly.
   pub record ConfigReturns (note next : GroupNode) (old : Meaning) (new : GroupSite R g) : Type 0 where
     pub was : Config
     pub now : Config
@@ -117,6 +130,7 @@ module _ {R : Type 0} {g : Ghosts R} where
     pub noted_now : NotesConfig next now
     pub sizes : (v : ℕ) → next.bytes.size v ≡ blocks_of now.volumes v
     pub change : ConfigBack (IsTrue (site_disks new).tells) old (site_disks new) was now
+    pub one : IsTrue (site_disks new).tells → note.loose ≡ false → note.begun ≡ [] → (v b : ℕ) → b < next.bytes.size v → (next.others v b ≡ []) ⊎ ((v < length was.volumes) × StopsClean was v)
 
   -- the group is up, with another note
   abbrev pub ReturnsUp : Node → GroupNode → Meaning → GroupSite R g → Type 0
@@ -126,13 +140,13 @@ module _ {R : Type 0} {g : Ghosts R} where
   -- they hold.
   abbrev pub RecoversFrom : Node → GroupNode → Meaning → GroupSite R g → Result (Unit {0}) Stop → Type 0
   RecoversFrom n note old new (Ok done) = ReturnsUp n note old new
-  RecoversFrom n note old new (Err stop) = DownNoted (dimmed_site (not (stops_early stop)) note n) (note_dimmed (not (stops_early stop)) note) new × ImportWhy (IsTrue (site_disks new).tells) old (site_disks new) stop × (IsTrue (site_disks new).tells → RefusedBetween old new stop)
+  RecoversFrom n note old new (Err stop) = DownNoted (dimmed_site (not (stops_early stop)) note n) (note_dimmed (not (stops_early stop)) note) new × ImportWhy (IsTrue (site_disks new).tells) (KnownAway (IsTrue (site_disks new).tells) note) old (site_disks new) stop × (IsTrue (site_disks new).tells → RefusedBetween old new stop)
 
   -- What a refused import leaves: the disks by themselves, without a fuse where it had begun to write; or they are down, as it ran out.
   abbrev pub ImportRefused : Bool → Node → GroupNode → Meaning → GroupSite R g → Stop → Type 0
   ImportRefused true n note old new stop = DownNoted (crashed (returned_with (note_dimmed true note) n) 0) (note_dimmed true note) new × IsFused n.fuse
   ImportRefused false n note old new stop =
-      AwayNoted (worked (dimmed_site (not (stops_early stop)) note n)) (note_dimmed (not (stops_early stop)) note) new × (IsFalse (site_disks new).armed ⊎ KeepsFuse old (site_disks new)) × ImportWhy (IsTrue (site_disks new).tells) old (site_disks new) stop
+      AwayNoted (worked (dimmed_site (not (stops_early stop)) note n)) (note_dimmed (not (stops_early stop)) note) new × (IsFalse (site_disks new).armed ⊎ KeepsFuse old (site_disks new)) × ImportWhy (IsTrue (site_disks new).tells) (KnownAway (IsTrue (site_disks new).tells) note) old (site_disks new) stop
 
   abbrev pub ImportsFrom : Node → GroupNode → Meaning → GroupSite R g → Result (Unit {0}) Stop → Type 0
   ImportsFrom n note old new (Ok done) = ReturnsUp n note old new × KeepsFuse old (site_disks new)

@@ -1,5 +1,5 @@
 -- What a call on the group of a site makes of its volumes, all of their blocks together.
-use Rattle.std.specs.Prelude.{◌≡◌, ◌⊎◌, ℕ, ◌<◌, ◌≤◌, IsFalse, IsTrue, List}
+use Rattle.std.specs.Prelude.{◌≡◌, ◌⊎◌, ℕ, ◌<◌, ◌≤◌, IsFalse, IsTrue, List, Some}
 use Rattle.vx_disk.specs.Moves.{Blocks}
 use Rattle.vx_disk.specs.Racks.{Stopped}
 use Rattle.vx_disk.specs.Shelf.{Meaning}
@@ -12,6 +12,8 @@ use Rattle.vx_grouped.specs.declared.group_site.GroupSite.{GroupSite}
 use Rattle.vx_grouped.specs.declared.group_site.GroupSite.TheVariants.{Up, Deported, Down}
 use Rattle.vx_grouped.specs.declared.idle.Idle.{Idle}
 use Rattle.vx_grouped.specs.declared.laid.Laid.{Laid}
+use Rattle.vx_logimport.specs.declared.rested.Rested.{Rested}
+use Rattle.vx_group.specs.Settles.{LacksCommit}
 
 -- Volumes may have been made; in those that were there no block changed but these.
 pub record VolumesGo (mine : Blocks) (old new : Meaning) : Type 0 where
@@ -34,6 +36,7 @@ module _ {R : Type 0} {g : Ghosts R} where
     pub goes : VolumesGo mine (laid_seen old) (laid_seen mid)
     pub stopped : Stopped (laid_disks mid) (idle_disks idle)
     pub agreed : idle.agreed ≡ mid.core.inner.agreed
+    pub lacking : (r : Rested) → idle.rested ≡ Some r → LacksCommit mid.core.inner → ⊥
 
   -- a group that was deported
   abbrev pub SiteCloses : GroupSite R g → GroupSite R g → Type 0

@@ -26,7 +26,7 @@ fn create_from<B: Begun, R: Rack>(
     requires some { 0 < (R.meaning rack).units }
     requires few { (R.meaning rack).units ≤ MOST_DISKS }
     requires since { CalledSince B.first (R.meaning rack) }
-    ensures made { IfOk result (λ g. IsNewGroup site g.core.inner (R.meaning g.shelf) × (g.core.held ≡ None)) }
+    ensures made { IfOk result (λ g. IsNewGroup site (R.meaning rack) g.core.inner (R.meaning g.shelf) × (g.core.held ≡ None)) }
     ensures refusals { IfErr result (λ e. BeginRefuses (R.meaning rack) (R.meaning e.0) e.1) }
     ensures since { CreateSince B.first (λ s. R.meaning s) (λ g. g.shelf) result }
 {
@@ -46,7 +46,7 @@ fn create_from<B: Begun, R: Rack>(
 fn create_watched<R: Rack>(alloc: Global, rack: R, site: u32) -> Result<LoggedGroup<R>, (R, Stop)>
     requires some { 0 < (R.meaning rack).units }
     requires few { (R.meaning rack).units ≤ MOST_DISKS }
-    ensures made { IfOk result (λ g. IsNewGroup site g.core.inner (R.meaning g.shelf) × (g.core.held ≡ None)) }
+    ensures made { IfOk result (λ g. IsNewGroup site (R.meaning rack) g.core.inner (R.meaning g.shelf) × (g.core.held ≡ None)) }
     ensures refusals { IfErr result (λ e. BeginRefuses (R.meaning rack) (R.meaning e.0) e.1) }
     ensures since { CreateSince (R.meaning rack) (λ s. R.meaning s) (λ g. g.shelf) result }
 {

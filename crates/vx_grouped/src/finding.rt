@@ -28,6 +28,7 @@ fn dimmed<R: Rack>(group: LoggedGroup<Untold<R>>) -> Laid<R>
     ensures core { result.core ≡ group.core }
     ensures logs { result.logs ≡ group.logs }
     ensures alike { result.alike ≡ group.alike }
+    ensures fresh { result.fresh ≡ group.fresh }
     ensures stopped { result.stopped ≡ group.stopped }
     ensures shelf { result.shelf ≡ Shade.Dark group.shelf.shelf }
 {
@@ -60,7 +61,7 @@ fn find_from<B: Begun, R: Rack>(alloc: Global, rack: R) -> Result<Laid<R>, (R, S
     let watched = Untold {
         shelf: Watched::<R, B>::over(rack),
     };
-    match import_group(alloc, watched, &Rested::none()) {
+    match import_group(alloc, watched, &Rested::found()) {
         Ok(group) => {
             let (watched, rest) = group.apart();
             let rack = watched.shelf.into_shelf();

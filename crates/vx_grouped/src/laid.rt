@@ -2,6 +2,7 @@
 ghost use Rattle.std.specs.Prelude.{◌≡◌, ◌≢◌, ◌<◌, ℕ, IsTrue, Some};
 ghost use Rattle.vx_loggroup.specs.Facts.{LoggedFact};
 ghost use Rattle.vx_loggroup.specs.Fresh.{FreshStands};
+ghost use Rattle.vx_loggroup.specs.Settled.{SettledFact};
 ghost use Rattle.vx_untold.specs.Shades.{shade_meaning};
 
 use crate::Idle;
@@ -30,6 +31,7 @@ pub struct Laid<R: Rack> {
     pub stopped: bool,
     pub ghost stands: { LoggedFact core logs.items alike stopped (shade_meaning (λ s. R.meaning s) shelf) },
     pub ghost begins: { FreshStands core fresh (shade_meaning (λ s. R.meaning s) shelf) },
+    pub ghost settles: { SettledFact core alike (shade_meaning (λ s. R.meaning s) shelf) },
 }
 
 impl<R: Rack> Laid<R> {
@@ -60,6 +62,7 @@ impl<R: Rack> Laid<R> {
         ensures core { result.core ≡ group.core }
         ensures logs { result.logs ≡ group.logs }
         ensures alike { result.alike ≡ group.alike }
+        ensures fresh { result.fresh ≡ group.fresh }
         ensures stopped { result.stopped ≡ group.stopped }
     {
         let (shelf, rest) = group.apart();
@@ -86,6 +89,7 @@ impl<R: Rack> Laid<R> {
         ensures core { result.core ≡ self.core }
         ensures logs { result.logs ≡ self.logs }
         ensures alike { result.alike ≡ self.alike }
+        ensures fresh { result.fresh ≡ self.fresh }
         ensures stopped { result.stopped ≡ self.stopped }
     {
         LoggedGroup::together(
@@ -158,6 +162,7 @@ impl<R: Rack> Laid<R> {
         ensures core { result.core ≡ self.core }
         ensures logs { result.logs ≡ self.logs }
         ensures flags { result.alike ≡ self.alike }
+        ensures fresh { result.fresh ≡ self.fresh }
         ensures ended { result.stopped ≡ self.stopped }
         ensures alike { Alike (shade_meaning (λ s. R.meaning s) self.shelf) (shade_meaning (λ s. R.meaning s) result.shelf) }
         ensures down { (shade_meaning (λ s. R.meaning s) result.shelf).down ≡ (shade_meaning (λ s. R.meaning s) self.shelf).down }
@@ -174,6 +179,7 @@ impl<R: Rack> Laid<R> {
         ensures core { result.core ≡ self.core }
         ensures logs { result.logs ≡ self.logs }
         ensures flags { result.alike ≡ self.alike }
+        ensures fresh { result.fresh ≡ self.fresh }
         ensures ended { result.stopped ≡ self.stopped }
         ensures alike { Alike (shade_meaning (λ s. R.meaning s) self.shelf) (shade_meaning (λ s. R.meaning s) result.shelf) }
         ensures down { (shade_meaning (λ s. R.meaning s) result.shelf).down ≡ (shade_meaning (λ s. R.meaning s) self.shelf).down }

@@ -1,8 +1,9 @@
 // Writes and reads of a volume of a group.
-ghost use Rattle.std.specs.Prelude.{◌≡◌, IfErr, OnOk, length, true};
+ghost use Rattle.std.specs.Prelude.{◌≡◌, Err, IfErr, OnOk, length, true, ℕ};
 ghost use Rattle.vx_disk.specs.Causes.{DeviceCause};
 ghost use Rattle.vx_disk.specs.Racks.{IsRack};
 ghost use Rattle.vx_disk.specs.Shelf.{Fits, Goes, Nothing, Written};
+ghost use Rattle.vx_group.specs.GivesUp.{EachBlamed};
 ghost use Rattle.vx_group.specs.Holding.{wide};
 ghost use Rattle.vx_group.specs.Loses.{LosesPlexes};
 ghost use Rattle.vx_group.specs.Stands.{inner_meaning};
@@ -13,6 +14,7 @@ ghost use Rattle.vx_grouped.specs.Plain.{HoldsPlain, ReadsPlain};
 ghost use Rattle.vx_grouped.specs.PlainMaps.{WritesMaps, map_parts};
 ghost use Rattle.vx_history.specs.Groups.{GroupNode};
 ghost use Rattle.vx_history.specs.World.{Node};
+ghost use Rattle.vx_model.specs.declared.no.No.TheVariants.{Device};
 
 use vx_disk::{Shelf, refusal};
 use vx_loggroup::LoggedGroup;
@@ -52,7 +54,8 @@ pub fn write_plain<S: Shelf>(
 
 /// Reads whole blocks of a volume: of each a value that it may have. What is noted of the group stays.
 ///
-/// Answers 7 only where the count of the disk that it names rose, and 6 only where the shelf is down; nothing else.
+/// Answers 7 only where the count of the disk that it names rose, and where a call on a disk of each plex failed that takes part; 6 only where the shelf is
+/// down; nothing else.
 pub fn read_plain<S: Shelf>(
     group: &mut LoggedGroup<S>,
     vol: u32,
@@ -65,6 +68,7 @@ pub fn read_plain<S: Shelf>(
     ensures goes { Goes Nothing (inner_meaning (wide group.old.core) (S.meaning group.old.shelf)) (inner_meaning (wide group.new.core) (S.meaning group.new.shelf)) }
     ensures same { group.new.core.inner.config ≡ group.old.core.inner.config }
     ensures below { Goes Nothing (S.meaning group.old.shelf) (S.meaning group.new.shelf) }
+    ensures gives_up { (disk : ℕ) → result ≡ Err (Device disk) → EachBlamed group.old.core.inner.config vol (S.meaning group.old.shelf) (S.meaning group.new.shelf) }
     ensures cause { IfErr result (DeviceCause (S.meaning group.old.shelf) (S.meaning group.new.shelf)) }
     ensures maps { map_parts group.new.core.inner.config group.new.logs.items group.new.alike group.new.stopped ≡ map_parts group.old.core.inner.config group.old.logs.items group.old.alike group.old.stopped }
 {

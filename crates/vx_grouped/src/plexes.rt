@@ -18,6 +18,7 @@ ghost use Rattle.vx_history.specs.World.{Node};
 ghost use Rattle.vx_loggroup.specs.Attaching.{map_by};
 ghost use Rattle.vx_model.specs.declared.errors.Stop.TheVariants.{No as Refused};
 ghost use Rattle.vx_model.specs.declared.no.No.{No as NoValue};
+ghost use Rattle.vx_model.specs.declared.no.No.TheVariants.{Device};
 ghost use Rattle.vx_volume.specs.Plexes.{active, uses};
 
 use vx_disk::Shelf;
@@ -35,6 +36,7 @@ pub fn det_plex<S: Shelf>(group: &mut LoggedGroup<S>, vol: u32, plex: u32) -> Re
     ensures leaves { (n : Node) (note : GroupNode) → IsGroupAt n note group.old.core (S.meaning group.old.shelf) → CallLeaves n note group.new.core (S.meaning group.new.shelf) result }
     ensures goes { Goes Nothing (inner_meaning (wide group.old.core) (S.meaning group.old.shelf)) (inner_meaning (wide group.new.core) (S.meaning group.new.shelf)) }
     ensures off { OnOk result (active group.new.core.inner.config vol plex ≡ false) }
+    ensures undone { (disk : ℕ) → result ≡ Err (Refused (Device disk)) → active group.new.core.inner.config vol plex ≡ active group.old.core.inner.config vol plex }
     ensures others { (w p : ℕ) → (w ≡ vol → p ≡ plex → ⊥) → active group.new.core.inner.config w p ≡ active group.old.core.inner.config w p }
     ensures trust { OnOk result (group.old.core.inner.committed ≡ true → group.new.core.inner.committed ≡ true) }
     ensures agreed { IfErr result (λ stop. group.old.core.inner.committed ≡ true → group.new.core.inner.agreed ≡ true) }
@@ -61,6 +63,7 @@ pub fn att_plex<S: Shelf>(group: &mut LoggedGroup<S>, vol: u32, plex: u32) -> Re
     ensures already { att_refusal group.old.core.inner.config vol plex ≡ None → IsTrue (active group.old.core.inner.config vol plex) → (result ≡ Ok 0) × (group.new.core ≡ group.old.core) × (group.new.shelf ≡ group.old.shelf) }
     ensures count { active group.old.core.inner.config vol plex ≡ false → IfOk result (λ n. n ≡ missed_regions group.old.core.inner.config vol plex (map_by group.old.logs.items group.old.core.inner.config group.old.stopped (S.meaning group.old.shelf).down vol plex)) }
     ensures copies { active group.old.core.inner.config vol plex ≡ false → IfOk result (CopiesRegions group.old.core.inner.config vol) }
+    ensures undone { active group.old.core.inner.config vol plex ≡ false → (disk : ℕ) → result ≡ Err (Refused (Device disk)) → active group.new.core.inner.config vol plex ≡ false }
     ensures attached { active group.old.core.inner.config vol plex ≡ false → OnOk result (IsAttached vol plex group.new.core.inner.config (S.meaning group.new.shelf)) }
     ensures leaves { (n : Node) (note : GroupNode) → IsGroupAt n note group.old.core (S.meaning group.old.shelf) → CallLeaves n note group.new.core (S.meaning group.new.shelf) result }
     ensures goes { Goes Nothing (inner_meaning (wide group.old.core) (S.meaning group.old.shelf)) (inner_meaning (wide group.new.core) (S.meaning group.new.shelf)) }

@@ -47,6 +47,7 @@ pub(crate) fn fail_laid<C: Begun, R: Rack>(laid: Laid<R>, disk: u32, on: bool) -
     ensures core { result.core ≡ laid.core }
     ensures logs { result.logs ≡ laid.logs }
     ensures flags { result.alike ≡ laid.alike }
+    ensures fresh { result.fresh ≡ laid.fresh }
     ensures ended { result.stopped ≡ laid.stopped }
     ensures alike { Alike (shade_meaning (λ s. R.meaning s) laid.shelf) (shade_meaning (λ s. R.meaning s) result.shelf) }
     ensures down { (shade_meaning (λ s. R.meaning s) result.shelf).down ≡ (shade_meaning (λ s. R.meaning s) laid.shelf).down }
@@ -75,6 +76,7 @@ pub(crate) fn fuse_laid<C: Begun, R: Rack>(laid: Laid<R>, calls: u64, pick: u64)
     ensures core { result.core ≡ laid.core }
     ensures logs { result.logs ≡ laid.logs }
     ensures flags { result.alike ≡ laid.alike }
+    ensures fresh { result.fresh ≡ laid.fresh }
     ensures ended { result.stopped ≡ laid.stopped }
     ensures alike { Alike (shade_meaning (λ s. R.meaning s) laid.shelf) (shade_meaning (λ s. R.meaning s) result.shelf) }
     ensures down { (shade_meaning (λ s. R.meaning s) result.shelf).down ≡ (shade_meaning (λ s. R.meaning s) laid.shelf).down }

@@ -40,7 +40,7 @@ fn deport_from<B: Begun, R: Rack>(
     ensures tells { DeportTells (λ s. R.meaning s) result }
     ensures maps { LeavesMaps (map_parts group.core.inner.config group.logs.items group.alike group.stopped) (R.meaning group.shelf) (λ s. R.meaning s) (λ g. map_parts g.core.inner.config g.logs.items g.alike g.stopped) (λ g. R.meaning g.shelf) result }
     ensures moves { DeportMoves group.core (R.meaning group.shelf) (λ s. R.meaning s.0) (λ g. g.core) (λ g. R.meaning g.shelf) result }
-    ensures refusals { DeportRefuses (R.meaning group.shelf) (λ g. R.meaning g.shelf) result }
+    ensures refusals { DeportRefuses group.core (R.meaning group.shelf) (λ g. R.meaning g.shelf) result }
     ensures since { DeportSince B.first (λ s. R.meaning s.0) (λ g. R.meaning g.shelf) result }
 {
     let (rack, rest) = group.apart();
@@ -68,7 +68,7 @@ fn deport_traced<C: Begun, R: Rack>(
     ensures tells { DeportTells (λ s. shade_meaning (λ s. R.meaning s) s) result }
     ensures maps { LeavesMaps (map_parts laid.core.inner.config laid.logs.items laid.alike laid.stopped) (shade_meaning (λ s. R.meaning s) laid.shelf) (λ s. shade_meaning (λ s. R.meaning s) s) (λ g. map_parts g.core.inner.config g.logs.items g.alike g.stopped) (λ g. shade_meaning (λ s. R.meaning s) g.shelf) result }
     ensures moves { DeportMoves laid.core (shade_meaning (λ s. R.meaning s) laid.shelf) (λ s. shade_meaning (λ s. R.meaning s) s.0) (λ g. g.core) (λ g. shade_meaning (λ s. R.meaning s) g.shelf) result }
-    ensures refusals { DeportRefuses (shade_meaning (λ s. R.meaning s) laid.shelf) (λ g. shade_meaning (λ s. R.meaning s) g.shelf) result }
+    ensures refusals { DeportRefuses laid.core (shade_meaning (λ s. R.meaning s) laid.shelf) (λ g. shade_meaning (λ s. R.meaning s) g.shelf) result }
     ensures since { DeportSince (shade_meaning (λ s. R.meaning s) laid.shelf) (λ s. shade_meaning (λ s. R.meaning s) s.0) (λ g. shade_meaning (λ s. R.meaning s) g.shelf) result }
     ensures told { DeportShows C.first (λ s. R.meaning (rack_of s.0)) (λ g. R.meaning (rack_of g.shelf)) result }
 {
@@ -87,7 +87,7 @@ fn deport_watched<R: Rack>(laid: Laid<R>) -> Result<(Shade<R>, Option<Rested>), 
     ensures tells { DeportTells (λ s. shade_meaning (λ s. R.meaning s) s) result }
     ensures maps { LeavesMaps (map_parts laid.core.inner.config laid.logs.items laid.alike laid.stopped) (shade_meaning (λ s. R.meaning s) laid.shelf) (λ s. shade_meaning (λ s. R.meaning s) s) (λ g. map_parts g.core.inner.config g.logs.items g.alike g.stopped) (λ g. shade_meaning (λ s. R.meaning s) g.shelf) result }
     ensures moves { DeportMoves laid.core (shade_meaning (λ s. R.meaning s) laid.shelf) (λ s. shade_meaning (λ s. R.meaning s) s.0) (λ g. g.core) (λ g. shade_meaning (λ s. R.meaning s) g.shelf) result }
-    ensures refusals { DeportRefuses (shade_meaning (λ s. R.meaning s) laid.shelf) (λ g. shade_meaning (λ s. R.meaning s) g.shelf) result }
+    ensures refusals { DeportRefuses laid.core (shade_meaning (λ s. R.meaning s) laid.shelf) (λ g. shade_meaning (λ s. R.meaning s) g.shelf) result }
     ensures since { DeportSince (shade_meaning (λ s. R.meaning s) laid.shelf) (λ s. shade_meaning (λ s. R.meaning s) s.0) (λ g. shade_meaning (λ s. R.meaning s) g.shelf) result }
     ensures told { DeportShows (R.meaning (rack_of laid.shelf)) (λ s. R.meaning (rack_of s.0)) (λ g. R.meaning (rack_of g.shelf)) result }
 {

@@ -211,7 +211,7 @@ fn recover_site<R: Rack>(
         Err((rack, stop)) => {
             let early = is_early(&stop);
             (
-                GroupSite::Down(Idle::of(fallen(rack, early), true, Some(rested))),
+                GroupSite::Down(Idle::of(fallen(rack, early), true, Some(rested.crashed()))),
                 Err(stop),
             )
         }
@@ -246,14 +246,16 @@ fn import_site<R: Rack>(
             (GroupSite::Up(laid), Ok(()))
         }
         Err((rack, stop)) => {
-            let early = is_early(&stop);
-            if early && !rack.is_down() {
-                return (
-                    GroupSite::Deported(Idle::of(rack, true, Some(rested))),
-                    Err(stop),
-                );
+            if is_early(&stop) {
+                let fell = rack.is_down();
+                if fell {
+                    let idle = Idle::of(fallen(rack, false), true, Some(rested));
+                    return (GroupSite::Down(idle), Err(Stop::No(No::Down)));
+                }
+                let kept = Idle::of(rack, true, Some(rested));
+                return (GroupSite::Deported(kept), Err(stop));
             }
-            let rack = fallen(rack, early);
+            let rack = fallen(rack, false);
             if is_down_stop(&stop) {
                 return (
                     GroupSite::Down(Idle::of(rack, true, Some(rested))),

@@ -38,6 +38,7 @@ pub fn trace<C: Begun, R: Rack>(laid: Laid<R>) -> LoggedGroup<Shade<Traced<R, C>
     ensures core { result.core ≡ laid.core }
     ensures logs { result.logs ≡ laid.logs }
     ensures alike { result.alike ≡ laid.alike }
+    ensures fresh { result.fresh ≡ laid.fresh }
     ensures stopped { result.stopped ≡ laid.stopped }
     ensures shelf { laid.shelf ≡ shade_over (λ t. t.rack) result.shelf }
 {
@@ -50,6 +51,7 @@ pub fn untrace<C: Begun, R: Rack>(group: LoggedGroup<Shade<Traced<R, C>>>) -> La
     ensures core { result.core ≡ group.core }
     ensures logs { result.logs ≡ group.logs }
     ensures alike { result.alike ≡ group.alike }
+    ensures fresh { result.fresh ≡ group.fresh }
     ensures stopped { result.stopped ≡ group.stopped }
     ensures shelf { result.shelf ≡ shade_over (λ t. t.rack) group.shelf }
     ensures told { TellsLess C.first (R.meaning (rack_of result.shelf)) }

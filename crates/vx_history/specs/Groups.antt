@@ -68,8 +68,9 @@ pub record NoteSettles (old new : GroupNode) : Type 0 where
   pub begun : ((new.begun ≡ []) × (new.loose ≡ false)) ⊎ ((nexts : List (List ℕ)) × (new.begun ≡ nexts ++ old.begun) × (old.loose ≡ true → new.loose ≡ true))
   pub tight : old.loose ≡ false → old.begun ≡ [] → (new.begun ≡ []) × (new.loose ≡ false)
 
--- behind a call in which a commit may have been refused: nothing is begun, or further configurations
-pub record NoteUnsettles (old new : GroupNode) : Type 0 where
+-- Behind a call in which a commit may have been refused: nothing is begun, or further configurations. Where imports agreed and nothing was begun they agree
+-- still, but behind one in which a second commit may have been refused (`twice`).
+pub record NoteUnsettles (twice : Bool) (old new : GroupNode) : Type 0 where
   pub same : NoteSame old new
   pub begun : ((new.begun ≡ []) × (new.loose ≡ false)) ⊎ ((nexts : List (List ℕ)) × (new.begun ≡ nexts ++ old.begun) × (old.loose ≡ true → new.loose ≡ true))
 
@@ -79,3 +80,4 @@ pub record NoteWorks (old new : GroupNode) : Type 0 where
   pub firsts : List (List ℕ)
   pub begun : (new.begun ≡ firsts) ⊎ ((new.begun ≡ firsts ++ old.begun) × (old.loose ≡ true → new.loose ≡ true))
   pub tight : old.loose ≡ false → old.begun ≡ [] → firsts ≡ [] → new.loose ≡ false
+  pub tight : twice ≡ false → old.loose ≡ false → old.begun ≡ [] → new.loose ≡ false

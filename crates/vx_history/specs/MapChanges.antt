@@ -16,10 +16,12 @@ InVolume vol v = v ≡ vol
 abbrev pub MapsGone : (Failed : ℕ → Type 0) → (disk : ℕ → Option ℕ) → (w new : MissedNote) → ℕ → Type 0
 MapsGone Failed disk w new v = ((k : ℕ) × (disk v ≡ Some k) × Failed k) ⊎ (disk v ≡ None) ⊎ (MOST_NUMBER ≤ w.serial + 6 * COMMIT_SERIALS) ⊎ (MOST_NUMBER ≤ new.serial + COMMIT_SERIALS)
 
--- Of which volumes the maps are known: of those of which they were, but where they are gone, or lost; and of those where a log may begin.
+-- Of which volumes the maps are known: of those of which they were, but where they are gone, or lost; and of those where a log may begin. The serial does not
+-- fall.
 pub record StayKnown (Failed Lost Begins : ℕ → Type 0) (disk : ℕ → Option ℕ) (w new : MissedNote) : Type 0 where
   pub stays : (v : ℕ) → w.mapped v ≡ true → (new.mapped v ≡ true) ⊎ MapsGone Failed disk w new v ⊎ Lost v
   pub begins : (v : ℕ) → new.mapped v ≡ true → (w.mapped v ≡ true) ⊎ Begins v
+  pub later : w.serial ≤ new.serial
 
 -- A call in which those regions were written: what each plex has missed then, where that is known. So many volumes there were.
 pub record MapsWritten (count : ℕ) (was now anew these : ℕ → ℕ → Bool) (w new : MissedNote) : Type 0 where
@@ -50,10 +52,11 @@ pub record MapsJoined (count vol plex : ℕ) (was now : ℕ → ℕ → Bool) (w
   pub doubt : (v : ℕ) → v < count → new.doubt v ≡ w.doubt v
 
 -- A group that was deported came up. The maps of a volume that stopped cleanly are known as they were, but where they are gone, or memory is wanting for them; those
--- of each other volume are not. A plex that goes off in it misses nothing, but perhaps what was left in its map.
+-- of each other volume are not. A plex that goes off in it misses nothing, but perhaps what was left in its map. The serial does not fall.
 pub record MapsBack (Failed : ℕ → Type 0) (wanting : Type 0) (clean : ℕ → Type 0) (disk : ℕ → Option ℕ) (was now : ℕ → ℕ → Bool) (w new : MissedNote) : Type 0 where
   pub stays : (v : ℕ) → w.mapped v ≡ true → clean v → (new.mapped v ≡ true) ⊎ MapsGone Failed disk w new v ⊎ wanting
   pub only : (v : ℕ) → new.mapped v ≡ true → (w.mapped v ≡ true) × clean v
   pub missed : (v p r : ℕ) → new.mapped v ≡ true → new.missed v p r ≡ missed_then w was now none_missed v p r
   pub perhaps : (v p r : ℕ) → new.mapped v ≡ true → new.perhaps v p r ≡ perhaps_then w was now no_plex v p r
   pub doubt : (v : ℕ) → new.doubt v ≡ true → (w.doubt v ≡ true) × clean v
+  pub later : w.serial ≤ new.serial

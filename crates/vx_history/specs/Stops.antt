@@ -1,9 +1,16 @@
 -- A line as its events: all of them are done, or one of them is ended by a failing disk or by a fuse.
-use Rattle.std.specs.Prelude.{◌≡◌, ℕ, Bool, Option, Some, None, List, [], ◌∷◌, ◌++◌}
+use Rattle.std.specs.Prelude.{◌≡◌, ℕ, ◌<◌, ◌&&◌, Bool, Option, Some, None, List, [], ◌∷◌, ◌++◌, if◌then◌else◌}
 use Rattle.vx_model.specs.Content.{Write as LogWrite}
 use Rattle.vx_model.specs.declared.site.SiteState.TheVariants.{Up}
-use Rattle.vx_history.specs.World.{Node, Packet, World, Update, NoFuse, Fuse, FuseSet, FuseLit}
-use Rattle.vx_history.specs.Events.{packet_at}
+use Rattle.vx_model.specs.declared.history.Line.{Line}
+use Rattle.vx_history.specs.World.{Link as LinkState, Message, Node, Packet, World, Hello, Update, NetAck, DataAck, NoFuse, Fuse, FuseSet, FuseLit}
+use Rattle.vx_history.specs.Events.{packet_at, receiver_facts}
+use Rattle.vx_history.specs.LinkForms.{plain_link}
+use Rattle.vx_history.specs.Refusals.{keeps_links}
+use Rattle.vx_history.specs.Sending.{sent_step}
+use Rattle.vx_history.specs.Sends.{is_linked}
+use Rattle.vx_history.specs.declared.sender.SEvent.{SEvent}
+use Rattle.vx_history.specs.declared.sender.SEvent.TheVariants.{Hello as HearHello, NetAck as HearNetAck, DataAck as HearDataAck}
 use Rattle.vx_history.specs.declared.event.LinkPart.{LinkPart}
 use Rattle.vx_history.specs.declared.event.LinkPart.TheVariants.{Joins, Made, Marked, Opened}
 use Rattle.vx_history.specs.declared.event.Event.{Event}
@@ -61,10 +68,22 @@ all_fails (e ∷ es) = told_fails e ++ all_fails es
 abbrev pub IsOpen : Node → Type 0
 IsOpen n = (n.state ≡ Up) × (n.halted ≡ None)
 
--- the event is a message that the site hears of a link
+-- what a site's link to this source counts as stored behind an event of that line, by the rule of links
+abbrev pub stored_heard : Node → (source : ℕ) → LinkState → Line → SEvent → ℕ
+stored_heard n source l line e = if keeps_links n.role && is_linked l then (sent_step (plain_link source l) e (receiver_facts n line)).link.stored else l.stored
+
+-- the same behind the message of a packet from there
+abbrev pub stored_by : Node → LinkState → Packet → Message → ℕ
+stored_by n l p (Hello session number stored) = stored_heard n p.source l p.line (HearHello session number stored)
+stored_by n l p (Update number x) = l.stored
+stored_by n l p (NetAck session number) = stored_heard n p.source l p.line (HearNetAck session number)
+stored_by n l p (DataAck number) = stored_heard n p.source l p.line (HearDataAck number)
+
+-- The event is a message by which the site's link to its source comes to count more as stored, so that a header is written.
 abbrev pub IsHeardAt : World → (number : ℕ) → ℕ → Type 0
 IsHeardAt w number site =
     (p : Packet) × (packet_at w.packets number ≡ Some p) × (p.target ≡ site) × ((n : ℕ) (x : LogWrite) → p.message ≡ Update n x → ⊥)
+    × ((w.links site p.source).stored < stored_by (w.nodes site) (w.links site p.source) p p.message)
 
 abbrev pub IsPartAt : LinkPart → (p s site : ℕ) → Type 0
 IsPartAt Joins p s site = s ≡ site

@@ -99,6 +99,7 @@ module _ (good : ℕ) (c a d : Config) (G : ℕ → Type 0) (old new : Meaning) 
         others = λ R g x held in_it is. subst (Kin (at_serial d.serial c)) (settle_found new.units R d x (sym (found_d i each R g held in_it) ∙ is)) kin;
       };
     };
+    some = λ all. let clash : true ≡ false = sym (all.each done.left.disk done.left.below) ∙ done.left.held in cc;
   }
 
 -- ---- refused

@@ -17,6 +17,7 @@ use Rattle.vx_kept.specs.Commits.{Left}
 use Rattle.vx_kept.specs.Groups.{found, found_by}
 use Rattle.vx_kept.specs.Keeping.{Kept}
 use Rattle.vx_kept.specs.States.{whole_of}
+use Rattle.vx_kept.specs.Trusts.{FailsAll}
 
 abbrev pub is_clean : PlexState → Bool
 is_clean Active = false
@@ -58,13 +59,14 @@ abbrev pub at_serial : ℕ → Config → Config
 at_serial s c = record { serial = s; site = c.site; disks = c.disks; volumes = c.volumes; rvg = c.rvg }
 
 -- Whatever a crash leaves, an import that can read all disks finds this configuration, and one that can read a disk that it holds as good
--- finds it, or misses another one. A group in which the plexes are ACTIVE as before may stand on the disks.
+-- finds it, or misses another one; it holds some disk as good. A group in which the plexes are ACTIVE as before may stand on the disks.
 pub record Shown (c a d : Config) (old new : Meaning) : Type 0 where
   pub finds : (i : Image) → Each new.leaves i → found new i ≡ Found d
   pub reads : (i : Image) (readable : ℕ → Bool) (g : ℕ) → Each new.leaves i → HeldGood d new g → readable g ≡ true → found_by new readable i ≡ settle failed_in new.units readable d
   pub grown : Grown old new a d
   pub later : c.serial ≤ d.serial
   pub kept : Kept (at_serial d.serial c) (HeldGood d new) new
+  pub some : FailsAll d.disks → ⊥
 
 -- how such a commit ends
 abbrev pub CleanEnds : {T : Type 0} → ℕ → Config → Config → Config → Meaning → Meaning → Result T No → Type 0

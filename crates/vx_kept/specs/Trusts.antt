@@ -1,5 +1,5 @@
 -- Which imports agree, whatever a crash leaves and whichever disks can be read.
-use Rattle.std.specs.Prelude.{◌≡◌, ◌⊎◌, ℕ, ◌<◌, Bool, true, false, Result, Ok, Err, List}
+use Rattle.std.specs.Prelude.{◌≡◌, ◌⊎◌, ℕ, ◌<◌, Bool, true, false, Result, Ok, Err, List, length}
 use Rattle.vx_disk.specs.Blocks.{bit_at}
 use Rattle.vx_disk.specs.Shelf.{Each, Image, Meaning}
 use Rattle.vx_model.specs.declared.no.No.{No}
@@ -30,6 +30,10 @@ pub record Trusts (committed agreed : Bool) (good : ℕ) (m : Meaning) : Type 0 
 -- no disk is held as failed
 pub record AllGood (disks : List DiskEntry) : Type 0 where
   pub each : (u : ℕ) → failed_at disks u ≡ false
+
+-- each disk is
+pub record FailsAll (disks : List DiskEntry) : Type 0 where
+  pub each : (u : ℕ) → u < length disks → failed_at disks u ≡ true
 
 -- some disk is
 pub record HasFailed (disks : List DiskEntry) : Type 0 where

@@ -75,7 +75,7 @@ use Rattle.vx_link_lines.proofs.HeaderCalls.{Answered, IsHeader, answered_keep, 
 use Rattle.vx_link_lines.proofs.Headed.{headed_refused}
 use Rattle.vx_link_lines.proofs.HeadedEnds.{IsBehind, headed_ends}
 use Rattle.vx_link_lines.proofs.HeadedWorlds.{noted_effect}
-use Rattle.vx_link_lines.proofs.HeardWorld.{answer_says, heard_effect, heard_header, heard_kept, heard_rose, no_update, row}
+use Rattle.vx_link_lines.proofs.HeardWorld.{answer_says, heard_effect, heard_header, heard_kept, heard_rose, no_update, rises_by, row}
 use Rattle.vx_yard.proofs.LinkLines.{Relinks, carries_kept, stands_kept}
 use Rattle.vx_yard.proofs.Lists.{get-set_other, get-set_same, length-set}
 use Rattle.vx_link_lines.proofs.NotedYard.{note_one, notes_one, stands_noted, sure_open}
@@ -317,8 +317,8 @@ module _ {R : Type 0} {g : Ghosts R} where
           runs = refl;
           none = refl;
           opens = opens;
-          writes = (p, at, refl, no_update d number p at answers);
-          takes = (p, at, refl, no_update d number p at answers);
+          writes = (p, at, refl, no_update d number p at answers, rises_by d number p at answers opens rises);
+          takes = (p, at, refl, no_update d number p at answers, rises_by d number p at answers opens rises);
           notes = λ v. noted_for d number p v at below;
           fused = λ f. f;
         } in
@@ -419,7 +419,7 @@ module _ {R : Type 0} {g : Ghosts R} where
         next = behind d (DeliverAt number);
         fails = [];
         done = record {
-          ends = LinksDone (behind d (DeliverAt number)) (false, refl) refl tt
+          ends = LinksDone (behind d (DeliverAt number)) (false, refl) refl refl
               (subst (λ (o : Outcome). RepeatsSaid (behind d (DeliverAt number)).world 0 o.said Ignored) (sym is) refl)
               (record { world = sym (unnoted d number p v at past); after = λ i. refl });
           counts = tt;

@@ -1,25 +1,30 @@
 -- A greeting or an acknowledgement, as an event that may write a header of the log of the site whose link hears it.
-use Rattle.std.proofs.Common.{◌≡◌, ◌∙◌, ◌⊎◌, inl, inr, ◌+◌, ℕ, Bool, true, false, ap, sym, subst, refl, arith}
+use Rattle.std.proofs.Common.{◌≡◌, ◌∙◌, ◌⊎◌, inl, inr, ◌+◌, ◌<◌, ℕ, Bool, true, false, ap, sym, subst, refl, arith}
+use Rattle.std.proofs.lemmas.Bool.Decides.{nat_tests}
 use Rattle.std.specs.Prelude.{Option, Some, None, IfSome, ◌&&◌, drop, ltb, if◌then◌else◌}
 use Rattle.vx_model.specs.Content.{Write}
 use Rattle.vx_model.specs.Sites.{is_up}
 use Rattle.vx_model.specs.declared.link.Link.{Link as PlainLink}
 use Rattle.vx_model.specs.declared.link.Mode.{Mode}
+use Rattle.vx_model.specs.declared.site.SiteState.{SiteState}
+use Rattle.vx_history.proofs.Updates.{at_place}
 use Rattle.vx_model.specs.declared.link.Mode.TheVariants.{Log, Dcm, Replay, Fork, Stale}
 use Rattle.vx_history.specs.Admission.{is_log, mode_hold, mode_holds}
 use Rattle.vx_history.specs.Doubts.{Doubted}
-use Rattle.vx_history.specs.Events.{delivered, receiver_facts, gathered_if, heard, is_taken, link_heard, logged_blocks, packet_at, said_of_link, used_above}
+use Rattle.vx_history.specs.Events.{delivered, receiver_facts, gathered_if, handed, heard, is_taken, link_heard, logged_blocks, packet_at, said_of_link, used_above}
 use Rattle.vx_history.specs.LinkForms.{plain_link, with_plain}
 use Rattle.vx_history.specs.Refusals.{Outcome, is_running, keeps_links, says}
 use Rattle.vx_history.specs.Sending.{Sent, sent_step}
 use Rattle.vx_history.specs.Sends.{is_linked, is_made, with_link}
-use Rattle.vx_history.specs.Stops.{IsOpen}
+use Rattle.vx_history.specs.Stops.{IsOpen, stored_by}
 use Rattle.vx_history.specs.World.{DataAck, Hello, Link, Message, NetAck, Node, Packet, Update, World, updated}
 use Rattle.vx_history.specs.declared.event.Event.{Event}
 use Rattle.vx_history.specs.declared.event.Event.TheVariants.{Deliver as DeliverAt}
 use Rattle.vx_history.specs.declared.event.Said.{Said as EventSaid}
 use Rattle.vx_history.specs.declared.event.Said.TheVariants.{Ignored as IsIgnored, Taken as IsTaken}
 use Rattle.vx_history.specs.declared.sender.Action.{Action}
+use Rattle.vx_history.specs.declared.sender.SEvent.{SEvent}
+use Rattle.vx_history.specs.declared.sender.SEvent.TheVariants.{Hello as HearHello, NetAck as HearNetAck, DataAck as HearDataAck}
 use Rattle.vx_history.specs.declared.sender.Action.TheVariants.{Ignored, Nothing, Taken, Updates}
 use Rattle.vx_courier.specs.UnderWay.{FlightStands}
 use Rattle.vx_net.specs.Flights.{Flying}
@@ -127,6 +132,40 @@ module _ (d : Doubted) (number : ℕ) (p : Packet) (at : packet_at d.world.packe
   pub heard_kept : row_links row w.sites ≡ header_links o.world s
   heard_kept = sym (row_links_same row ((behind d event).world.links s) effect.is.links (behind d event).world.sites ∙ ap (λ (k : ℕ). row_links row k) effect.site.sites)
 
+  -- what the link counts as stored behind it is what the rule says
+  link_stored : (e : SEvent) (b : Bool)
+      → (let r : Sent = sent_step (plain_link p.source (w.links s p.source)) e (receiver_facts n p.line) in
+      ((if b then says (with_link w s p.source (with_plain (w.links s p.source) r.link)) (said_of_link r.action) else says w IsIgnored).world.links s p.source).stored ≡ (if b then r.link.stored else (w.links s p.source).stored))
+  link_stored e true =
+      let l : Link = with_plain (w.links s p.source) (sent_step (plain_link p.source (w.links s p.source)) e (receiver_facts n p.line)).link in
+      ap (λ (row : ℕ → Link). (row p.source).stored) (at_place w.links s (updated (w.links s) p.source l)) ∙ ap (λ (x : Link). x.stored) (at_place (w.links s) p.source l)
+  link_stored e false = refl
+
+  message_stored : (m : Message) → is_answer m ≡ true → ((heard w p m).world.links s p.source).stored ≡ stored_by n (w.links s p.source) p m
+  message_stored (Hello session number stored) e = link_stored (HearHello session number stored) (keeps_links n.role && is_linked (w.links s p.source))
+  message_stored (Update number x) e = absurd (cc)
+  message_stored (NetAck session number) e = link_stored (HearNetAck session number) (keeps_links n.role && is_linked (w.links s p.source))
+  message_stored (DataAck number) e = link_stored (HearDataAck number) (keeps_links n.role && is_linked (w.links s p.source))
+
+  links_gathered : (took : Bool) (v : World) → (gathered_if took v p).links ≡ v.links
+  links_gathered true v = refl
+  links_gathered false v = refl
+
+  stored_is : IsOpen n → (o.world.links s p.source).stored ≡ stored_by n (w.links s p.source) p p.message
+  stored_is opens =
+      ap (λ (x : Option Packet). ((delivered w number x).world.links s p.source).stored) at
+      ∙ ap (λ (g : ℕ → ℕ → Link). (g s p.source).stored) (links_gathered (is_taken (handed w p).said) (handed w p).world)
+      ∙ ap (λ (t : SiteState). ((if is_up t && is_running n.halted then heard w p p.message else says w IsIgnored).world.links s p.source).stored) opens.0
+      ∙ ap (λ (h : Option ℕ). ((if is_running h then heard w p p.message else says w IsIgnored).world.links s p.source).stored) opens.1
+      ∙ message_stored p.message answers
+
+  pub rises_by : IsOpen n → ltb (w.links s p.source).stored (o.world.links s p.source).stored ≡ true → (w.links s p.source).stored < stored_by n (w.links s p.source) p p.message
+  rises_by opens rises =
+      subst (λ (k : ℕ). (w.links s p.source).stored < k) (stored_is opens) (less (w.links s p.source).stored (o.world.links s p.source).stored rises)
+    where
+      less : (a b : ℕ) → ltb a b ≡ true → a < b
+      less a b is = grind (arith, nat_tests)
+
   -- a header was written
   pub heard_rose : ltb (w.links s p.source).stored (o.world.links s p.source).stored ≡ true → EffectAt s d (behind d event) n row (w.headers s + 1) (d.after s) w.packets (o.world.gathering s)
   heard_rose rises = subst (λ (b : Bool). EffectAt s d (behind d event) n row (w.headers s + (if b then 1 else 0)) (d.after s) w.packets (o.world.gathering s)) rises effect
@@ -143,7 +182,7 @@ module _ (d : Doubted) (number : ℕ) (p : Packet) (at : packet_at d.world.packe
     sets = tt;
     opens = opens;
     none = none;
-    writes = (p, at, refl, no_update);
+    writes = (p, at, refl, no_update, rises_by opens rises);
   }
 
   -- none was

@@ -86,7 +86,7 @@ pub pump_done : (told : Type 0) (d : Doubted) (p s : List ℕ) → (step d.world
 pump_done told d p s is =
     let v : World = (step d.world (PumpAt (site_number d.world p) (site_number d.world s))).world in
     record {
-      ends = LinksDone (record d { world = v }) (false, refl) refl tt (subst (λ (x : EventSaid). RepeatsSaid v 0 x Done) (sym is) refl) (record { world = refl; after = λ i. refl });
+      ends = LinksDone (record d { world = v }) (false, refl) refl refl (subst (λ (x : EventSaid). RepeatsSaid v 0 x Done) (sym is) refl) (record { world = refl; after = λ i. refl });
       counts = tt;
       works = tt;
       calls = tt;

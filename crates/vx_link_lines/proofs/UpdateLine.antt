@@ -81,7 +81,7 @@ pub done_as : (told : Type 0) (d : Doubted) (number : ℕ) (p : Packet) (said : 
     → (delivered d.world number (packet_at d.world.packets number)).said ≡ event → RepeatsSaid (happened d (DeliverAt number) false).world 0 event said
     → LinkEnds told d (Deliver number) [] said (worked_for (happened d (DeliverAt number) false) p.target)
 done_as told d number p said event at below is repeats =
-    LinksDone (happened d (DeliverAt number) false) (false, refl) refl tt (subst (λ (x : EventSaid). RepeatsSaid (happened d (DeliverAt number) false).world 0 x said) (sym is) repeats)
+    LinksDone (happened d (DeliverAt number) false) (false, refl) refl refl (subst (λ (x : EventSaid). RepeatsSaid (happened d (DeliverAt number) false).world 0 x said) (sym is) repeats)
     (left_at d (happened d (DeliverAt number) false) number p at below)
 
 -- ---- what is not taken leaves the target as it is

@@ -1,13 +1,14 @@
-// What no clause says: that a region is stored on a shelf in memory, and reads as it was sent.
+// What no clause says: that a replay is taken on a shelf in memory, and what a start finds of it.
 ghost use Rattle.std.specs.Prelude.{◌≡◌, [], ◌∷◌, ◌<◌, ◌≤◌};
 
 use std::alloc::Global;
 use std::test::*;
 use vx_disk::{MemShelf, Rack, Shelf};
-use vx_model::{Mark, No, OutOfMemory, SPhase, State, Units, VolumeUnits};
-use vx_regions::{QAction, store_region};
+use vx_model::limits::LEAST_BLOCKS;
+use vx_model::{Blocks, Line, Mark, No, OutOfMemory, SPhase, State, Units, Update, VolumeUnits};
+use vx_regions::{QAction, begin_replay, close_replay, settle_mark, store_region};
 use vx_rvg::Rvg;
-use vx_secondary::Secondary;
+use vx_secondary::{RAction, Secondary};
 
 // The log on disk 0, one volume on disk 1, and the maps on disk 2.
 fn three_units() -> Units
@@ -57,6 +58,14 @@ fn shown(secondary: &mut Secondary<MemShelf>, block: u64) -> Result<u8, No> {
     }
 }
 
+// The line of the group.
+fn line() -> Line {
+    Line {
+        generation: 1,
+        origin: 0,
+    }
+}
+
 // Region 1 of a volume, which ends behind six blocks if it is volume 0.
 fn handed(
     secondary: &mut Secondary<MemShelf>,
@@ -66,7 +75,7 @@ fn handed(
     if secondary.rvg.volumes() != 1 || secondary.rvg.size(0) != 70 {
         return Err(OutOfMemory);
     }
-    Ok(store_region(secondary, id, vol, 1, &[0x55; 3072]))
+    Ok(store_region(secondary, &line(), id, vol, 1, &[0x55; 3072]))
 }
 
 // A quiet receiver ignores a region, and one that stores regions that of another replay. The blocks before the region stay, and a volume
@@ -85,5 +94,95 @@ fn a_region_is_stored(rt: HostRuntime) -> Result<(), Fail> {
     assert!(rt; shown(&mut site, 63) == Ok(0));
     assert!(rt; shown(&mut site, 64) == Ok(0x55));
     assert!(rt; shown(&mut site, 69) == Ok(0x55));
+    Ok(())
+}
+
+// The receiver behind a crash that keeps no loose block, and a start.
+fn again(
+    alloc: Global,
+    secondary: Secondary<MemShelf>,
+) -> Result<Secondary<MemShelf>, OutOfMemory> {
+    let mut shelf = secondary.into_rvg().into_shelf();
+    shelf.crash(0);
+    if shelf.is_down() {
+        shelf.revive();
+    }
+    if shelf.units() != 3
+        || shelf.size(0) < LEAST_BLOCKS
+        || shelf.size(1) != 70
+        || shelf.size(2) != 70
+    {
+        return Err(OutOfMemory);
+    }
+    let rvg = match Rvg::start(alloc, shelf, &three_units()) {
+        Ok(rvg) => rvg,
+        Err(_) => return Err(OutOfMemory),
+    };
+    match Secondary::new(alloc, rvg) {
+        Ok(secondary) => Ok(secondary),
+        Err(_) => Err(OutOfMemory),
+    }
+}
+
+// Hands the site an update of one block of these bytes.
+fn take(site: &mut Secondary<MemShelf>, number: u64, block: u64, value: u8) -> Result<RAction, No> {
+    let update = Update {
+        line: line(),
+        number,
+        vol: 0,
+        block,
+        bytes: Blocks::filled(1, value),
+    };
+    site.take(&update)
+}
+
+// What the log of the site keeps of a replay.
+fn kept(site: &Secondary<MemShelf>) -> (Mark, SPhase, u64, u64) {
+    let state = site.rvg.state();
+    (state.mark, state.phase, state.replay, state.end)
+}
+
+// What waits is logged before the replay begins. A start finds the site in it. An earlier replay, and one that begins below the site's last
+// number, are ignored.
+#[test]
+fn a_replay_begins_behind_what_waits(rt: HostRuntime) -> Result<(), Fail> {
+    let alloc = rt.alloc();
+    let mut site = made(alloc, SPhase::Quiet)?;
+    assert!(rt; take(&mut site, 1, 3, 0x11) == Ok(RAction::Take { ack: 1 }));
+    assert!(rt; begin_replay(&mut site, &line(), 1, 1) == Ok(QAction::Ignored));
+    assert!(rt; begin_replay(&mut site, &line(), 2, 0) == Ok(QAction::Ignored));
+    assert!(rt; begin_replay(&mut site, &line(), 2, 1) == Ok(QAction::Begin));
+    assert!(rt; begin_replay(&mut site, &line(), 2, 1) == Ok(QAction::Again));
+    assert!(rt; site.waiting.len() == 0);
+    let mut site = again(alloc, site)?;
+    assert!(rt; kept(&site) == (Mark::Inconsistent, SPhase::Regions, 2, 0));
+    assert!(rt; site.rvg.head() == 1);
+    assert!(rt; shown(&mut site, 3) == Ok(0x11));
+    assert!(rt; handed(&mut site, 1, 0)? == Ok(QAction::Ignored));
+    assert!(rt; handed(&mut site, 2, 0)? == Ok(QAction::Store));
+    Ok(())
+}
+
+// Behind the last region the log is empty at the replay's start. The site is consistent once it has all up to the replay's end, and a start
+// finds it so.
+#[test]
+fn a_replay_ends_at_its_end(rt: HostRuntime) -> Result<(), Fail> {
+    let alloc = rt.alloc();
+    let mut site = made(alloc, SPhase::Regions)?;
+    assert!(rt; close_replay(&mut site, &line(), 2, 4, 5) == Ok(QAction::Ignored));
+    assert!(rt; close_replay(&mut site, &line(), 1, 4, 5) == Ok(QAction::Close));
+    assert!(rt; close_replay(&mut site, &line(), 1, 4, 5) == Ok(QAction::Again));
+    assert!(rt; settle_mark(&mut site) == Ok(()));
+    assert!(rt; kept(&site) == (Mark::Inconsistent, SPhase::Log, 1, 5));
+    assert!(rt; handed(&mut site, 1, 0)? == Ok(QAction::Ignored));
+    assert!(rt; take(&mut site, 5, 3, 0x22) == Ok(RAction::Take { ack: 5 }));
+    assert!(rt; settle_mark(&mut site) == Ok(()));
+    assert!(rt; kept(&site).0 == Mark::Inconsistent);
+    assert!(rt; site.apply(1) == Ok(RAction::DataAck { number: 5 }));
+    assert!(rt; settle_mark(&mut site) == Ok(()));
+    let mut site = again(alloc, site)?;
+    assert!(rt; kept(&site) == (Mark::Consistent, SPhase::Log, 1, 5));
+    assert!(rt; (site.rvg.low(), site.rvg.head()) == (5, 5));
+    assert!(rt; shown(&mut site, 3) == Ok(0x22));
     Ok(())
 }

@@ -317,6 +317,31 @@ fn a_marked_region_costs_no_call(rt: HostRuntime) -> Result<(), Fail> {
     Ok(())
 }
 
+// Stages one block of these bytes, with its region marked for place 1 of a link.
+fn stage_marked(staging: &mut Staging<MemShelf>, start: u64, value: u8) -> Result<u64, No> {
+    if staging.core.volumes() == 0 || staging.free() < 2 {
+        return Ok(99);
+    }
+    staging.stage(0, start, &[value; 512], 2)
+}
+
+// A new group is 6 calls, the mark of a region 2, and a stage 1: the seal of two writes is cut off at its first call. A start finds none of
+// them, and their region marked for the place that is named alone.
+#[test]
+fn a_group_commit_marks_before_it_is_sealed(rt: HostRuntime) -> Result<(), Fail> {
+    let alloc = rt.alloc();
+    let mut staging = begin(made(alloc, 6 + 2 + 2)?)?;
+    assert!(rt; stage_marked(&mut staging, 3, 0x11) == Ok(1));
+    assert!(rt; stage_marked(&mut staging, 4, 0x22) == Ok(2));
+    let (number, rvg) = sealed(staging)?;
+    assert!(rt; (number, rvg.head()) == (0, 0));
+    let rvg = again(alloc, rvg)?;
+    assert!(rt; rvg.head() == 0);
+    assert!(rt; marked(&rvg, 1) == Some(true));
+    assert!(rt; marked(&rvg, 0) == Some(false));
+    Ok(())
+}
+
 // Marks the regions of all writes above a number for a place of a link, where the log holds them.
 fn mark_above(rvg: &mut Rvg<MemShelf>, slot: u32, above: u64) -> Result<(), No> {
     if slot as usize >= LINK_PLACES || rvg.low() == 0 || rvg.low() - 1 > above {

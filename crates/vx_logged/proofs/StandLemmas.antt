@@ -38,7 +38,8 @@ use Rattle.vx_grouplogs.specs.Covering.{AllAlike, OnLogs}
 use Rattle.vx_grouplogs.specs.Keeps.{KeepsGroup}
 use Rattle.vx_grouplogs.specs.Marking.{MarksFewer, MarksOnly, NoMarks}
 use Rattle.vx_model.specs.Sizes.{regions_of as regions_in}
-use Rattle.vx_grouplogs.specs.On.{ReadsOne, VolumeOn}
+use Rattle.vx_grouplogs.specs.On.{VolumeOn}
+use Rattle.vx_group.specs.Settles.{ReadsOne}
 use Rattle.vx_grouplogs.proofs.KnowActs.{know_acts, know_idle, know_logs, logs_off_plex}
 use Rattle.vx_grouplogs.proofs.LogPlaces.{logs_above}
 use Rattle.vx_grouplogs.proofs.OnLemmas.{on_acts, spares_marked, spares_none, spares_other}

@@ -1,16 +1,18 @@
 // A flush of a group behind which marks are taken off.
 ghost use Rattle.vx_grouplogs.specs.Gone.{LogsDrop};
 ghost use Rattle.vx_group.specs.Finds.{GroupFinds};
-ghost use Rattle.std.specs.Prelude.{◌≡◌, ◌⊎◌, ◌+◌, ◌<◌, ◌≤◌, false, true, IfErr, IsTrue, OnOk};
+ghost use Rattle.std.specs.Prelude.{◌≡◌, ◌⊎◌, ◌+◌, ◌<◌, ◌≤◌, true, IfErr, IsTrue, OnOk};
 ghost use Rattle.vx_config.specs.Table.{greatest};
 ghost use Rattle.vx_disk.specs.Causes.{Cause};
 ghost use Rattle.vx_disk.specs.Shelf.{Flushed, Goes, Nothing};
+ghost use Rattle.vx_group.specs.Blames.{MarksOn};
+ghost use Rattle.vx_group.specs.GivesUp.{FaultsBy};
 ghost use Rattle.vx_group.specs.Holding.{GroupStands, wide};
 ghost use Rattle.vx_group.specs.Loses.{LosesAlong};
 ghost use Rattle.vx_group.specs.Stands.{inner_meaning};
 ghost use Rattle.vx_config.specs.Checks.{blocks_of as blocks_of_is};
 ghost use Rattle.vx_grouplogs.specs.Marking.{MarksFewer};
-ghost use Rattle.vx_grouplogs.specs.On.{ReadsOne};
+ghost use Rattle.vx_group.specs.Settles.{ReadsOne};
 ghost use Rattle.vx_logged.specs.Begun.{MapsBut, MapsOff, fell_in};
 ghost use Rattle.vx_logged.specs.Behind.{AreKept, BothKept, none_missing};
 ghost use Rattle.vx_logged.specs.Logged.{Known, LogOn, Narrowed, OthersOn, TrustsIn};
@@ -58,6 +60,8 @@ pub fn flush_cleared<S: Shelf>(
     ensures trust { OnOk result (core.old.inner.committed ≡ true → core.new.inner.committed ≡ true) }
     ensures agreed { IfErr result (λ e. core.old.inner.committed ≡ true → core.new.inner.agreed ≡ true) }
     ensures finds { GroupFinds core.old core.new (S.meaning shelf.old) (S.meaning shelf.new) }
+    ensures marks { MarksOn vol core.old.inner.unsure core.new.inner.unsure result }
+    ensures gives_up { FaultsBy vol core.old.inner.config core.new.inner (S.meaning shelf.old) (S.meaning shelf.new) result }
     ensures cause { Cause (inner_meaning (wide core.old) (S.meaning shelf.old)) (inner_meaning (wide core.new) (S.meaning shelf.new)) vol result }
 {
     let was = actives(&core.inner.config, vol);

@@ -5,12 +5,14 @@ ghost use Rattle.std.specs.Prelude.{◌≡◌, ◌*◌, ◌⊎◌, ◌+◌, ◌/
 ghost use Rattle.vx_config.specs.Table.{greatest};
 ghost use Rattle.vx_disk.specs.Causes.{Cause};
 ghost use Rattle.vx_disk.specs.Shelf.{Fits, Goes, Written, Wrote};
+ghost use Rattle.vx_group.specs.Blames.{MarksOn, MarksOrFell};
+ghost use Rattle.vx_group.specs.GivesUp.{FaultsBy};
 ghost use Rattle.vx_group.specs.Holding.{GroupStands, wide};
 ghost use Rattle.vx_group.specs.Loses.{LosesAlong};
 ghost use Rattle.vx_group.specs.Stands.{inner_meaning};
 ghost use Rattle.vx_config.specs.Checks.{blocks_of as blocks_of_is};
 ghost use Rattle.vx_grouplogs.specs.Marking.{MarksOnly};
-ghost use Rattle.vx_grouplogs.specs.On.{ReadsOne};
+ghost use Rattle.vx_group.specs.Settles.{ReadsOne};
 ghost use Rattle.vx_groupmaps.specs.Knowing.{MapsNote, or_off};
 ghost use Rattle.vx_groupmaps.specs.Missing.{none_spared, or_run};
 ghost use Rattle.vx_logged.specs.Begun.{MapsBut, MapsOfRun, ReadsBut, begun_in, fell_in};
@@ -63,6 +65,8 @@ fn write_first<S: Shelf>(
     ensures trust { OnOk result (core.old.inner.committed ≡ true → core.new.inner.committed ≡ true) }
     ensures agreed { IfErr result (λ e. core.old.inner.committed ≡ true → core.new.inner.agreed ≡ true) }
     ensures finds { GroupFinds core.old core.new (S.meaning shelf.old) (S.meaning shelf.new) }
+    ensures marks { MarksOn vol core.old.inner.unsure core.new.inner.unsure result }
+    ensures gives_up { FaultsBy vol core.old.inner.config core.new.inner (S.meaning shelf.old) (S.meaning shelf.new) result }
     ensures cause { Cause (inner_meaning (wide core.old) (S.meaning shelf.old)) (inner_meaning (wide core.new) (S.meaning shelf.new)) vol result }
 {
     if *stopped {
@@ -123,6 +127,8 @@ pub fn write_marked<S: Shelf>(
     ensures trust { OnOk result (core.old.inner.committed ≡ true → core.new.inner.committed ≡ true) }
     ensures agreed { IfErr result (λ e. core.old.inner.committed ≡ true → core.new.inner.agreed ≡ true) }
     ensures finds { GroupFinds core.old core.new (S.meaning shelf.old) (S.meaning shelf.new) }
+    ensures unsure { MarksOrFell vol core.old.inner.unsure core.new.inner.unsure result }
+    ensures gives_up { FaultsBy vol core.old.inner.config core.new.inner (S.meaning shelf.old) (S.meaning shelf.new) result }
     ensures cause { Cause (inner_meaning (wide core.old) (S.meaning shelf.old)) (inner_meaning (wide core.new) (S.meaning shelf.new)) vol result }
 {
     let count = (bytes.len() / BLOCK) as u64;

@@ -26,7 +26,7 @@ use Rattle.vx_grouplogs.specs.On.{VolumeOn}
 use Rattle.vx_grouplogs.proofs.OnLemmas.{on_acts, spares_none}
 use Rattle.vx_logged.specs.Logged.{LogKept, LogOn}
 use Rattle.vx_logged.proofs.StandLemmas.{inner_wide}
-use Rattle.vx_logimport.specs.Covers.{DisksTell, LogSettled}
+use Rattle.vx_logimport.specs.Covers.{DisksCover, DisksTell, LogSettled}
 use Rattle.vx_logimport.proofs.ToldLemmas.{covers_of, rest_settled, settled_of}
 use Rattle.vx_loggroup.specs.LoggedVolumes.{LoggedStands}
 use Rattle.vx_loggroup.proofs.AlikeLemmas.{all_whole}
@@ -54,9 +54,12 @@ module _ (c : GroupCore) (m new : Meaning) (stands : GroupStands c m) (it : Depo
     lt_at : v < length at.volumes
     lt_at = let same = at_shape.volumes in omega (arith, lt, same)
 
+    pub deport_covers : DisksCover v new
+    deport_covers = record { covers = λ i x each is. covers_of at x v l new lt_at on_at (it.kept.kin i x each is) }
+
     pub deport_told : LogKept c v l ⊎ AtRest new → DisksTell v new
     deport_told why = record {
-      covers = λ i x each is. covers_of at x v l new lt_at on_at (it.kept.kin i x each is);
+      covers = deport_covers.covers;
       settled = λ i x each is. by i x each is why;
     }
       where

@@ -110,7 +110,8 @@ same_disk c d v e at places is = by (log_of d v Fmr) refl is (places _ (ap run_o
 
 module _ (c d : GroupCore) (l k : List Logs) (s t : Bool) (m m' : Meaning) (keeps : LogsKeep c d l k m m')
     (disks : (u : ℕ) → failed_at c.inner.config.disks u ≡ false → failed_at d.inner.config.disks u ≡ true → Rose (m.faults u) (m'.faults u))
-    (full : s ≡ false → t ≡ true → greatest ≤ c.inner.config.serial + 54) (places : (v : ℕ) (r : Subdisk) → log_place c.inner.config v Fmr ≡ Some r → log_place d.inner.config v Fmr ≡ Some r) where
+    (full : s ≡ false → t ≡ true → greatest ≤ c.inner.config.serial + 54) (places : (v : ℕ) (r : Subdisk) → log_place c.inner.config v Fmr ≡ Some r → log_place d.inner.config v Fmr ≡ Some r)
+    (later : c.inner.config.serial ≤ d.inner.config.serial) where
   abbrev Why : ℕ → Type 0
   Why v =
       ((e : LogEntry) × (log_of c.inner.config v Fmr ≡ Some e) × Rose (m.faults e.disk) (m'.faults e.disk)) ⊎ (log_trusted c.inner.config v Fmr ≡ false) ⊎ IsTrue m'.down
@@ -153,12 +154,12 @@ module _ (c d : GroupCore) (l k : List Logs) (s t : Bool) (m m' : Meaning) (keep
   by_trust v on off false is = inr (inl is)
 
   pub maps_end : MapsEnd c.inner.config d.inner.config s t l k m m'
-  maps_end = record { so = λ v on off. by_trust v on off (log_trusted c.inner.config v Fmr) refl }
+  maps_end = record { so = λ v on off. by_trust v on off (log_trusted c.inner.config v Fmr) refl; later = later }
 
 -- ---- behind one that leaves all logs as they are
 
 module _ (c d : Config) (l : List Logs) (s : Bool) (m m' : Meaning) (disks : (u : ℕ) → failed_at c.disks u ≡ false → failed_at d.disks u ≡ true → Rose (m.faults u) (m'.faults u))
-    (places : (v : ℕ) (r : Subdisk) → log_place c v Fmr ≡ Some r → log_place d v Fmr ≡ Some r) where
+    (places : (v : ℕ) (r : Subdisk) → log_place c v Fmr ≡ Some r → log_place d v Fmr ≡ Some r) (later : c.serial ≤ d.serial) where
   lies_off : (v : ℕ) → goes_by l c s v ≡ true → goes_by l d s v ≡ false → on_failed_disk d v Fmr ≡ true
   lies_off v on off = by s (on_failed_disk c v Fmr) (on_failed_disk d v Fmr) (is_some (fmr_at l v)) on off
     where
@@ -169,7 +170,7 @@ module _ (c d : Config) (l : List Logs) (s : Bool) (m m' : Meaning) (disks : (u 
       by false false false z on off = let clash : true ≡ false = sym on ∙ off in cc
 
   pub same_end : MapsEnd c d s s l l m m'
-  same_end = record { so = λ v on off. by_log v on (lies_off v on off) (log_trusted c v Fmr) refl }
+  same_end = record { so = λ v on off. by_log v on (lies_off v on off) (log_trusted c v Fmr) refl; later = later }
     where
       by_log : (v : ℕ) → goes_by l c s v ≡ true → on_failed_disk d v Fmr ≡ true → (x : Bool) → log_trusted c v Fmr ≡ x
           → ((e : LogEntry) × (log_of c v Fmr ≡ Some e) × Rose (m.faults e.disk) (m'.faults e.disk)) ⊎ (log_trusted c v Fmr ≡ false) ⊎ IsTrue m'.down

@@ -22,9 +22,7 @@ pub mod DetFresh
 pub mod RestingLemmas
 pub mod RestedLogs
 pub mod RestTells
-pub mod CloseLemmas
 pub mod AlikeFlags
-pub mod TouchLemmas
 pub mod HeldMaps
 pub mod MirrorLemmas
 pub mod KeepingLemmas
@@ -41,3 +39,6 @@ pub mod ComesLemmas
 pub mod FollowLemmas
 pub mod GoingLemmas
 pub mod AttMoves
+pub mod SettledFacts
+pub mod DoubtLemmas
+pub mod UnsureGroups

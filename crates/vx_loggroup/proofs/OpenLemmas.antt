@@ -30,7 +30,8 @@ use Rattle.vx_group.proofs.LoseLemmas.{along_same, then_along}
 use Rattle.vx_group.proofs.UnitLemmas.{goes_units, then_units}
 use Rattle.vx_grouplogs.specs.Covering.{AllAlike}
 use Rattle.vx_grouplogs.specs.Marking.{HoldsMany}
-use Rattle.vx_grouplogs.specs.On.{ReadsOne, VolumeOn}
+use Rattle.vx_grouplogs.specs.On.{VolumeOn}
+use Rattle.vx_group.specs.Settles.{ReadsOne}
 use Rattle.vx_grouplogs.proofs.KnowActs.{know_none}
 use Rattle.vx_groupmaps.specs.Missing.{none_spared}
 use Rattle.vx_kept.specs.Cleans.{is_unsure}
@@ -78,7 +79,7 @@ begins_later c d a ls m m' stands same goes = record {
     low : (v : ℕ) → v < length (wide c).config.volumes → v < length ls
     low v lt = let many = stands.many in let shape = (wide_shape c).volumes in omega (arith, lt, many, shape)
 
-module _ (old m1 : Meaning) (k : Marked) (law0 : Lawful old) (law : Lawful m1) (can : CanImport old) (it : ResumedBy old k m1) (r : Rested) (tells : LogsTell r old) where
+module _ (old m1 : Meaning) (k : Marked) (law0 : Lawful old) (law : Lawful m1) (can : CanImport old) (r : Rested) (it : ResumedBy r.drls old k m1) (tells : LogsTell r old) where
   abbrev first : GroupCore
   first = record { inner = k.core; held = None }
 
@@ -92,7 +93,7 @@ module _ (old m1 : Meaning) (k : Marked) (law0 : Lawful old) (law : Lawful m1) (
     pub opened_same : (v : ℕ) → v < length k.logs.items → is_alike a v ≡ true → AllAlike k.core.config v m1
     opened_same v lt same_at = elim (cases_bool (is_unsure k.stopped v)) [
       | inl is ↦ it.alike v (low_of v lt) is
-      | inr off ↦ rests_alike old m1 k law0 can it v (clean_of v (low_of v lt) off) (tells.alike v (why v same_at off))
+      | inr off ↦ rests_alike r.drls old m1 k law0 can it v (clean_of v (low_of v lt) off) (tells.alike v (why v same_at off))
     ]
 
     pub opened_stands : LoggedStands first k.logs.items a false m1
@@ -109,12 +110,12 @@ module _ (old m1 : Meaning) (k : Marked) (law0 : Lawful old) (law : Lawful m1) (
     }
 
   pub opened_maps : (v : ℕ) → v < length k.core.config.volumes → is_unsure k.stopped v ≡ false → rests r.maps v ≡ true → MapsTell k.core.config v m1
-  opened_maps v lt off is = rests_maps old m1 k law0 can it v (clean_of v lt off) (tells.maps v is)
+  opened_maps v lt off is = rests_maps r.drls old m1 k law0 can it v (clean_of v lt off) (tells.maps v is)
 
   opened_full : (v : ℕ) (l : Logs) → slice_get k.logs.items v ≡ Some l → HoldsMany l.drl
   opened_full v l is = by l.drl (it.read.each v l is)
     where
-      by : (o : Option Dirty) → LogRead k.good it.opened v o old m1 → HoldsMany o
+      by : (o : Option Dirty) → LogRead k.good r.drls it.opened v o old m1 → HoldsMany o
       by None read = tt
       by (Some d) read = read.3
 
@@ -178,45 +179,46 @@ module _ (old m1 : Meaning) (k : Marked) (law0 : Lawful old) (law : Lawful m1) (
           by OutOfMemory none = absurd none
 
 -- each image has the configuration in memory
-opened_newest : (old m1 : Meaning) (k : Marked) → Lawful m1 → ResumedBy old k m1 → (m2 new : Meaning) → Goes Nothing m1 m2 → Lawful m2 → (core : GroupCore) → GroupFinds (record { inner = k.core; held = None }) core m2 new → core.inner.committed ≡ true
+opened_newest : (may : List Bool) (old m1 : Meaning) (k : Marked) → Lawful m1 → ResumedBy may old k m1 → (m2 new : Meaning) → Goes Nothing m1 m2 → Lawful m2 → (core : GroupCore) → GroupFinds (record { inner = k.core; held = None }) core m2 new → core.inner.committed ≡ true
     → AllAtOnce core.inner.config new
-opened_newest old m1 k law it m2 new goes law2 core finds is =
+opened_newest may old m1 k law it m2 new goes law2 core finds is =
     let first : GroupCore = record { inner = k.core; held = None } in
     let made : AllAtOnce k.core.config m1 = newest_at k.core.config m1 (record { finds = it.resumed.finds }) in
     let now : AllAtOnce k.core.config m2 = less_newest k.core.config m1 m2 made (quiet_finds m1 m2 law law2 goes) in
     subst (λ (i : Inner). AllAtOnce i.config new) (wide_none core (finds.free refl)) (newest_group first core m2 new refl it.resumed.settled now finds is)
 
 -- how an import ends
-pub opens_by : {S : Type 0} (meaning : S → Meaning) (moment : S) (old : Meaning) (k : Marked) (law0 : Lawful old) (law : Lawful (meaning moment)) (can : CanImport old) (it : ResumedBy old k (meaning moment)) (r : Rested) (tells : LogsTell r old) (a : List Bool)
+pub opens_by : {S : Type 0} (meaning : S → Meaning) (moment : S) (old : Meaning) (k : Marked) (law0 : Lawful old) (law : Lawful (meaning moment)) (can : CanImport old) (r : Rested) (it : ResumedBy r.drls old k (meaning moment)) (tells : LogsTell r old) (a : List Bool)
     → ((v : ℕ) → v < 32 → is_unsure k.stopped v ≡ true → is_alike a v ≡ true) → ((v : ℕ) → v < 32 → rests r.alike v ≡ true → is_alike a v ≡ true) → (ls : List Logs) (m2 new : Meaning) → SameDrls k.logs.items ls → length ls ≡ length k.logs.items → Goes Nothing (meaning moment) m2 → Lawful m2
     → (res : Result Opened Stop) → SettlesLogs (record { inner = k.core; held = None }) ls a m2 new res → MapsWhy k.good k.core.config k.stopped r ls → MapsWere k.core.config ls (meaning moment) → OpensLogged meaning r old new res
-opens_by meaning moment old k law0 law can it r tells a mended resting ls m2 new drls long goes law2 (Ok o) fin why were = (
+opens_by meaning moment old k law0 law can r it tells a mended resting ls m2 new drls long goes law2 (Ok o) fin why were = (
   record {
     moment = moment;
     marked = k;
     resumed = it;
-    goes = settled_goes old (meaning moment) k law0 law can it r tells ls m2 new drls long goes law2 o.core fin.settles;
+    goes = settled_goes old (meaning moment) k law0 law can r it tells ls m2 new drls long goes law2 o.core fin.settles;
     committed = fin.trust it.resumed.committed;
-    newest = opened_newest old (meaning moment) k law it m2 new goes law2 o.core fin.settles.finds (fin.trust it.resumed.committed);
+    newest = opened_newest r.drls old (meaning moment) k law it m2 new goes law2 o.core fin.settles.finds (fin.trust it.resumed.committed);
     free = fin.settles.finds.free refl;
     openly = λ un. fin.settles.finds.core.openly (λ missed. absurd (both_ways k.core.unsettled it.resumed.settled missed)) un;
     up = fin.up;
-    same = settled_units old (meaning moment) k law0 law can it r tells ls m2 new drls long goes law2 o.core fin.settles;
-    counts = (settled_loses old (meaning moment) k law0 law can it r tells ls m2 new drls long goes law2 o.core fin.settles).rises;
-    loses = (settled_loses old (meaning moment) k law0 law can it r tells ls m2 new drls long goes law2 o.core fin.settles).loses;
+    same = settled_units old (meaning moment) k law0 law can r it tells ls m2 new drls long goes law2 o.core fin.settles;
+    counts = (settled_loses old (meaning moment) k law0 law can r it tells ls m2 new drls long goes law2 o.core fin.settles).rises;
+    loses = (settled_loses old (meaning moment) k law0 law can r it tells ls m2 new drls long goes law2 o.core fin.settles).loses;
     mended = λ v lt is. ap (λ (f : List Bool). is_alike f v) fin.same ∙ mended v (let few = it.resumed.stands.few in omega (arith, lt, few)) (it.flags v lt ∙ is);
     resting = λ v lt is. ap (λ (f : List Bool). is_alike f v) fin.same ∙ resting v (let few = it.resumed.stands.few in omega (arith, lt, few)) is;
     off = λ going. subst (λ (f : List Bool). MarksAreOff k.core.config f (length o.logs.items) o.logs.items) (sym fin.same) (fin.off going);
     maps = shrink_why k.good k.core.config k.stopped r ls o.logs.items fin.shrink why;
-    took = maps_taken old (meaning moment) k law0 can it r tells ls o.logs.items why were fin.shrink o.core.inner.config
-        (λ v. same_count k.core.config o.core.inner.config v ((settled_loses old (meaning moment) k law0 law can it r tells ls m2 new drls long goes law2 o.core fin.settles).loses.frames v) (settled_size old (meaning moment) k law0 law can it r tells ls m2 new drls long goes law2 o.core fin.settles v))
-        (settled_size old (meaning moment) k law0 law can it r tells ls m2 new drls long goes law2 o.core fin.settles)
+    took = maps_taken r.drls old (meaning moment) k law0 can it r tells ls o.logs.items why were fin.shrink o.core.inner.config
+        (λ v. same_count k.core.config o.core.inner.config v ((settled_loses old (meaning moment) k law0 law can r it tells ls m2 new drls long goes law2 o.core fin.settles).loses.frames v) (settled_size old (meaning moment) k law0 law can r it tells ls m2 new drls long goes law2 o.core fin.settles v))
+        (settled_size old (meaning moment) k law0 law can r it tells ls m2 new drls long goes law2 o.core fin.settles)
         (λ v l at. let low = slice_get_within ls v l at in let many = it.logs.many in omega (arith, low, long, many));
+    sure = fin.sure;
   },
   fin.stands,
   fin.begins,
 )
-opens_by meaning moment old k law0 law can it r tells a mended resting ls m2 new drls long goes law2 (Err stop) fin why were = opened_late old (meaning moment) k law0 law can it r tells ls m2 new drls long goes law2 stop fin
+opens_by meaning moment old k law0 law can r it tells a mended resting ls m2 new drls long goes law2 (Err stop) fin why were = opened_late old (meaning moment) k law0 law can r it tells ls m2 new drls long goes law2 stop fin
 
 pub settled_below : (c : GroupCore) (ls : List Logs) (a : List Bool) (m m' : Meaning) (res : Result Opened Stop) → SettlesLogs c ls a m m' res → SameUnits m m'
 settled_below c ls a m m' (Ok o) fin = fin.settles.below

@@ -1,5 +1,5 @@
 -- What the disks of a group with logs tell behind a deport before which they were flushed.
-use Rattle.std.proofs.Common.{◌≡◌, ◌∙◌, ◌⊎◌, inl, inr, ⊎_elim, ℕ, zero, suc, ◌+◌, ◌*◌, ◌/◌, ◌%◌, ◌<◌, ◌≤◌, Bool, true, false, IsTrue, Option, Some, None, List, length, refl, sym, ap, subst, arith}
+use Rattle.std.proofs.Common.{◌≡◌, ◌∙◌, ◌⊎◌, inl, inr, ℕ, zero, suc, ◌+◌, ◌*◌, ◌/◌, ◌%◌, ◌<◌, ◌≤◌, Bool, true, false, IsTrue, Option, Some, None, List, length, refl, sym, ap, subst, arith}
 use Rattle.std.specs.Prelude.{◌||◌}
 use Rattle.std.proofs.lemmas.Bool.{cases_eq}
 use Rattle.vx_bitmap.specs.Bits.{is_marked}
@@ -10,7 +10,7 @@ use Rattle.vx_config.specs.declared.config.Config.{Config}
 use Rattle.vx_config.specs.declared.entry.LogEntry.{LogEntry}
 use Rattle.vx_config.specs.declared.entry.VolumeLog.TheVariants.{Fmr}
 use Rattle.vx_copyfmt.specs.Imports.{Found}
-use Rattle.vx_disk.specs.Shelf.{Each, Goes, Image, Meaning, Nothing}
+use Rattle.vx_disk.specs.Shelf.{Each, Image, Meaning}
 use Rattle.vx_fmr.specs.Missed.{FmrLoaded, Missed, has_missed, missed_place}
 use Rattle.vx_group.specs.Deports.{DeportedBy}
 use Rattle.vx_group.specs.Holding.{GroupStands, wide}
@@ -19,12 +19,10 @@ use Rattle.vx_group.specs.declared.group_core.GroupCore.{GroupCore}
 use Rattle.vx_group.specs.Dets.{any_below}
 use Rattle.vx_group.proofs.HoldLemmas.{narrow_wider, wide_shape}
 use Rattle.vx_group.proofs.Standing.{fit_of, sound_of}
-use Rattle.vx_group.proofs.ThroughLemmas.{by_uses}
 use Rattle.vx_groupmaps.specs.Missing.{bit_in_maps}
 use Rattle.vx_groupmaps.proofs.KnowLemmas.{plex_below}
 use Rattle.vx_groupmaps.proofs.MapPlaces.{bit_low, region_low}
-use Rattle.vx_grouplogs.specs.On.{ReadsOne}
-use Rattle.vx_grouplogs.proofs.LogShape.{has_back, run_back, same_count}
+use Rattle.vx_grouplogs.proofs.LogShape.{has_back, run_back}
 use Rattle.vx_kept.specs.Choice.{live}
 use Rattle.vx_kept.specs.Cleans.{at_serial, cleaned, is_unsure}
 use Rattle.vx_kept.specs.Groups.{found}
@@ -35,7 +33,7 @@ use Rattle.vx_kept.proofs.CleanLemmas.{AllClean, all_clean}
 use Rattle.vx_layout.specs.Places.{HasBlock, place, plex_at}
 use Rattle.vx_layout.proofs.Placing.{sound_apart}
 use Rattle.vx_logged.specs.Logged.{Known, LogOn}
-use Rattle.vx_group.specs.Settles.{LivesAgree}
+use Rattle.vx_group.specs.Settles.{LivesAgree, ReadsOne}
 use Rattle.vx_logimport.specs.Rests.{AlikeRests, MapsRest, MapsTell}
 use Rattle.vx_logimport.proofs.RestLemmas.{in_use_trusts}
 use Rattle.vx_logs.specs.Held.{InUse}
@@ -45,10 +43,7 @@ use Rattle.vx_model.specs.Sizes.{map_blocks}
 use Rattle.vx_volume.proofs.PlaceLemmas.{has_of}
 use Rattle.vx_logs.specs.declared.logs.Logs.{Logs}
 use Rattle.vx_model.specs.Content.{block_of}
-use Rattle.vx_volume.specs.Plexes.{Inside, active, active_or, uses}
-use Rattle.vx_volume.proofs.ReadRuns.{reads_before}
-use Rattle.vx_volume.proofs.UsesLemmas.{has_disk, has_uses}
-use Rattle.vx_loggroup.specs.Resting.{DisksSettle, NoneTouched, VolumeRests}
+use Rattle.vx_volume.specs.Plexes.{Inside, active, active_or}
 use Rattle.vx_loggroup.proofs.DeportedLogs.{at_shape, on_at}
 
 active_same : (x y : Config) (v q : ℕ) → plex_at x v q ≡ plex_at y v q → active x v q ≡ active y v q
@@ -74,13 +69,10 @@ pub is_stopped : (x : Config) (v p b : ℕ) → Inside x v b → IsTrue (active 
 unfolding stopped
 is_stopped x v p b inside on = any_one (active x v) (plexes_of x v) p (plex_below x v p b (has_of x v p b on inside)) on
 
-wide_uses : (c : GroupCore) (v p u : ℕ) → uses (wide c).config v p u ≡ uses c.inner.config v p u
-wide_uses c v p u = by_uses c.held c.inner.config v p u
-
 the_entry : (o : Option LogEntry) (f h : LogEntry) → o ≡ Some f → o ≡ Some h → h ≡ f
 the_entry o f h one two = let both : Some h ≡ Some f = sym two ∙ one in cc
 
-module _ (c : GroupCore) (m0 m1 new : Meaning) (stands : GroupStands c m1) (it : DeportedBy (wide c).config c.inner m1 new) (goes : Goes Nothing m0 m1) (up : IsTrue m1.down → ⊥) where
+module _ (c : GroupCore) (m1 new : Meaning) (stands : GroupStands c m1) (it : DeportedBy (wide c).config c.inner m1 new) (up : IsTrue new.down → ⊥) where
   abbrev at : Config
   at = at_serial it.config.serial it.behind.config
 
@@ -190,20 +182,16 @@ module _ (c : GroupCore) (m0 m1 new : Meaning) (stands : GroupStands c m1) (it :
         bit_is : (p b : ℕ) → bit_in_maps x v p b ≡ missed_place f p (b / 64)
         bit_is p b = ap (λ (n : ℕ). p * n + b / 64) (ap (λ (n : ℕ). 4096 * map_blocks n) blocks_x ∙ sym loaded.stride)
 
-        module _ (know : Known c v l m0) (n : ℕ) (failed : List Bool) (settle : DisksSettle n failed m0 m1) (many : length c.inner.config.disks ≤ n) (few : length c.inner.config.disks ≤ 8) (off : is_unsure it.behind.unsure v ≡ false → NoneTouched c.inner.config v failed) where
-          -- what another plex leaves it read before
-          read_p : (p q b : ℕ) (y : List ℕ) → Inside x v b → IsTrue (live x v q) → HasBlock w_config v p b → new.leaves (place x v p b).0 (place x v p b).1 y → m0.reads (place w_config v p b).0 (place w_config v p b).1 y
-          read_p p q b y inside on_q has left =
-              let there : new.leaves (place w_config v p b).0 (place w_config v p b).1 y = subst (λ (s : ℕ × ℕ). new.leaves s.0 s.1 y) (lay p b) left in
-              let above = ((sound_apart w_config sound).region v p b has).public in
-              let was : m1.leaves (place w_config v p b).0 (place w_config v p b).1 y = ⊎_elim (λ old. old) (λ none. absurd none) (it.quiesces.acts.leaves (place w_config v p b).0 (place w_config v p b).1 y above there) in
-              let used = has_uses w_config sound v p has.plex b (inside_w b inside) in
-              let in_range = has_disk w_config sound v p has.plex (place w_config v p b).0 used in
-              let below = plex_below w_config v p b has in
-              let same = (wide_shape c).frames v in
-              let plexes = same_count w_config c.inner.config v (sym same) (sym ((wide_shape c).blocks v)) in
-              settle.settled (place w_config v p b).0 (place w_config v p b).1 y (omega (arith, in_range, many))
-              ((off (sure q b inside on_q)).each p (place w_config v p b).0 (omega (arith, below, plexes)) (omega (arith, in_range, few)) (sym (wide_uses c v p (place w_config v p b).0) ∙ used)) was
+        module _ (know : Known c v l m1) where
+          -- a plex reads what it read
+          read_at : (p b : ℕ) (y : List ℕ) → HasBlock w_config v p b → new.reads (place x v p b).0 (place x v p b).1 y → m1.reads (place w_config v p b).0 (place w_config v p b).1 y
+          read_at p b y has read =
+              let there : new.reads (place w_config v p b).0 (place w_config v p b).1 y = subst (λ (s : ℕ × ℕ). new.reads s.0 s.1 y) (lay p b) read in
+              elim (it.quiesces.acts.reads (place w_config v p b).0 (place w_config v p b).1 y ((sound_apart w_config sound).region v p b has).public there) [
+                | inl (inl was) ↦ was
+                | inl (inr none) ↦ absurd none
+                | inr down ↦ absurd (up down)
+              ]
 
           pub maps_tell : MapsTell x v new
           maps_tell = record {
@@ -216,8 +204,8 @@ module _ (c : GroupCore) (m0 m1 new : Meaning) (stands : GroupStands c m1) (it :
                 let bytes : w ≡ block_of f.map.bytes (missed_place f p (b / 64) / 4096) = has_bytes e in_use (missed_place f p (b / 64) / 4096) w within left' in
                 let off' : is_marked w (missed_place f p (b / 64) % 4096) ≡ false = subst (λ (t : ℕ). is_marked w (t % 4096) ≡ false) (bit_is p b) at_off in
                 let clear : has_missed f p (b / 64) ≡ false = by_block f.map.bytes (missed_place f p (b / 64)) ∙ subst (λ (t : List ℕ). is_marked t (missed_place f p (b / 64) % 4096) ≡ false) bytes off' in
-                (know.so f has_f (λ down. up (goes.falls down))).so p q b y z has_w (on_wide q on_q) (inside_w b inside) clear (read_p p q b y inside on_q has_w at_p)
-                (reads_before m0 m1 (place w_config v q b).0 (place w_config v q b).1 z goes up (read_q q b z inside on_q at_q));
+                let has_q : HasBlock w_config v q b = has_of w_config v q b (on_wide q on_q) (inside_w b inside) in
+                (know.so f has_f (λ down. up (it.quiesces.acts.falls down))).so p q b y z has_w (on_wide q on_q) (inside_w b inside) clear (read_at p b y has_w at_p) (read_at q b z has_q at_q);
             one = λ e k y z in_use some low left_y left_z.
                 let some_w : 0 < blocks_in w_config.volumes v = let same = blocks_x in omega (arith, some, same) in
                 let where_it = at_map e in_use in
@@ -228,8 +216,7 @@ module _ (c : GroupCore) (m0 m1 new : Meaning) (stands : GroupStands c m1) (it :
 
   -- ---- each volume
 
-  module _ (l : Logs) (v : ℕ) (on : LogOn c v l m1) (know : Known c v l m0) (failed : List Bool) (n : ℕ) (settle : DisksSettle n failed m0 m1) (many : length c.inner.config.disks ≤ n) (few : length c.inner.config.disks ≤ 8)
-      (unsure : List Bool) (unmarked : is_unsure it.behind.unsure v ≡ false → is_unsure unsure v ≡ false) (rests_so : VolumeRests c.inner.config unsure v l failed) (lt : v < length c.inner.config.volumes) where
+  module _ (l : Logs) (v : ℕ) (on : LogOn c v l m1) (know : Known c v l m1) (kept : log_trusted c.inner.config v Fmr ≡ true → l.fmr ≡ None → ⊥) (lt : v < length c.inner.config.volumes) where
     trusted_c : (i : Image) (x : Config) → Each new.leaves i → found new i ≡ Found x → (e : LogEntry) → InUse x v Fmr e → log_trusted c.inner.config v Fmr ≡ true
     trusted_c i x each is e in_use =
         (wide_shape c).trusted v Fmr (shape.trusted v Fmr ((it.kept.kin i x each is).shape.trusted v Fmr (let same = it.quiesces.shape.volumes in omega (arith, lt, same)) (in_use_trusts x v e in_use)))
@@ -239,10 +226,10 @@ module _ (c : GroupCore) (m0 m1 new : Meaning) (stands : GroupStands c m1) (it :
       where
         by : (i : Image) (x : Config) → Each new.leaves i → found new i ≡ Found x → stopped x v ≡ false → (o : Option Missed) → l.fmr ≡ o → MapsTell x v new
         by i x each is clean None none = record {
-          so = λ e p q b y z w in_use has on_q inside low left off at_p at_q. absurd (rests_so.has (trusted_c i x each is e in_use) none);
-          one = λ e k y z in_use some low left_y left_z. absurd (rests_so.has (trusted_c i x each is e in_use) none);
+          so = λ e p q b y z w in_use has on_q inside low left off at_p at_q. absurd (kept (trusted_c i x each is e in_use) none);
+          one = λ e k y z in_use some low left_y left_z. absurd (kept (trusted_c i x each is e in_use) none);
         }
-        by i x each is clean (Some f) has_f = maps_tell i x each is v clean lt l on f has_f know n failed settle many few (λ sure. rests_so.off f has_f (unmarked sure))
+        by i x each is clean (Some f) has_f = maps_tell i x each is v clean lt l on f has_f know
 
   pub alike_rest : (v : ℕ) → (v < length c.inner.config.volumes → ReadsOne w_config v m1) → AlikeRests v new
   alike_rest v reads = record {

@@ -46,9 +46,9 @@ use Rattle.vx_loggroup.proofs.SetLemmas.{item_at, set_here, set_other}
 -- ---- what a log that was read knows
 
 module _ (c : Config) (sound : is_sound c ≡ true) (v : ℕ) (some : 0 < blocks_in c.volumes v) (m m' : Meaning) (law : Lawful m) (fit : DisksFit c.disks m) (goes : Goes Nothing m m') (tells : MapsTell c v m) where
-  left_now : (u b : ℕ) (x : List ℕ) → (IsTrue m'.down → ⊥) → m'.reads u b x → m.leaves u b x
-  left_now u b x up read = elim (goes.reads u b x read) [
-    | inl (inl was) ↦ law.shown u b x was
+  read_now : (u b : ℕ) (x : List ℕ) → (IsTrue m'.down → ⊥) → m'.reads u b x → m.reads u b x
+  read_now u b x up read = elim (goes.reads u b x read) [
+    | inl (inl was) ↦ was
     | inl (inr now) ↦ absurd now
     | inr down ↦ absurd (up down)
   ]
@@ -90,16 +90,16 @@ module _ (c : Config) (sound : is_sound c ≡ true) (v : ℕ) (some : 0 < blocks
       so = λ p q b x y has on inside clear at_p at_q.
           let k : ℕ = missed_place f p (b / 64) / 4096 in
           let z : List ℕ = block_of f.map.bytes k in
-          let left_p = left_now (place c v p b).0 (place c v p b).1 x up at_p in
-          let left_q = left_now (place c v q b).0 (place c v q b).1 y up at_q in
-          let tell = told (place c v p b).0 (place c v p b).1 x left_p in
+          let read_p = read_now (place c v p b).0 (place c v p b).1 x up at_p in
+          let read_q = read_now (place c v q b).0 (place c v q b).1 y up at_q in
+          let tell = told (place c v p b).0 (place c v p b).1 x (law.shown (place c v p b).0 (place c v p b).1 x read_p) in
           let plex : p < f.plexes = let lt = plex_below c v p b has in let count = it.plexes in omega (arith, lt, count) in
           let within = bit_low c sound v some f it p (b / 64) plex (region_low c sound v some f it b inside) in
           let first : m.leaves f.map.unit (f.map.first + k) z = law.shown f.map.unit (f.map.first + k) z (found.2.each tell k within) in
           let left : m.leaves it.log.entry.disk (it.log.entry.start + bit_in_maps c v p b / 4096) z = subst (λ (n : ℕ). m.leaves it.log.entry.disk (it.log.entry.start + n / 4096) z) (sym (bit_is p b)) (at_log k z first) in
           let off : is_marked z (missed_place f p (b / 64) % 4096) ≡ false = sym (by_block f.map.bytes (missed_place f p (b / 64))) ∙ clear in
           tells.so it.log.entry p q b x y z used has (on_live c v q on) inside (subst (λ (n : ℕ). n / 4096 < it.log.entry.blocks) (sym (bit_is p b)) (let few = low in omega (arith, within, few)))
-          left (subst (λ (n : ℕ). is_marked z (n % 4096) ≡ false) (sym (bit_is p b)) off) left_p left_q;
+          left (subst (λ (n : ℕ). is_marked z (n % 4096) ≡ false) (sym (bit_is p b)) off) read_p read_q;
     }
 
 -- logs without maps
@@ -188,8 +188,14 @@ none_taken c a good st r ls m stands plain = record {
 
 module _ (c : GroupCore) (a : List Bool) (good : ℕ) (st : List Bool) (r : Rested) (ls0 : List Logs) (m0 : Meaning) (n : ℕ) (ls : List Logs) (m : Meaning) (was : TakenSoFar c a good st r ls0 m0 n ls m) where
   -- what is asked of the next one
-  pub next_tells : MapsTell c.inner.config n m0 → MapsTell c.inner.config n m
-  next_tells tells = maps_less m0 m was.goes.units was.goes.size (λ u b y left. elim (was.goes.leaves u b y left) [ inl old ↦ old | inr none ↦ absurd none ]) c.inner.config n tells
+  pub next_tells : MapsTell c.inner.config n m0 → (IsTrue m.down → ⊥) → MapsTell c.inner.config n m
+  next_tells tells up =
+      maps_less m0 m was.goes.units was.goes.size (λ u b y left. elim (was.goes.leaves u b y left) [ inl old ↦ old | inr none ↦ absurd none ])
+      (λ u b y read. elim (was.goes.reads u b y read) [
+        | inl (inl old) ↦ old
+        | inl (inr none) ↦ absurd none
+        | inr down ↦ absurd (up down)
+      ]) c.inner.config n tells
 
   module _ (may : Bool) (clean : may ≡ true → is_unsure st n ≡ false) (maps : may ≡ true → rests r.maps n ≡ true) (within : may ≡ true → log_within good c.inner.config n Fmr ≡ true) where
     why_here : (ls' : List Logs) → TakesMap c.inner.config may n ls ls' → (v : ℕ) (l : Logs) → v ≡ n → slice_get ls' v ≡ Some l → (l.fmr ≡ None → ⊥) → MapsMay good c.inner.config st r v

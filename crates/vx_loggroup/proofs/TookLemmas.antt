@@ -63,7 +63,7 @@ same_map f g p r notes plex region = by (has_missed f p r) refl (has_missed g p 
       | inr run ↦ absurd (let clash : false ≡ true = run.0 in cc)
     ]
 
-module _ (old m1 : Meaning) (k : Marked) (law0 : Lawful old) (can : CanImport old) (it : ResumedBy old k m1) where
+module _ (may : List Bool) (old m1 : Meaning) (k : Marked) (law0 : Lawful old) (can : CanImport old) (it : ResumedBy may old k m1) where
   abbrev d : Config
   d = k.core.config
 
@@ -84,8 +84,8 @@ module _ (old m1 : Meaning) (k : Marked) (law0 : Lawful old) (can : CanImport ol
     in_use : InUse d v Fmr e
     in_use = used_in_use d v e was.fits.log.is was.used
 
-    abbrev entry : WasEntry old m1 k law0 can it v clean e
-    entry = was_entry old m1 k law0 can it v clean e in_use
+    abbrev entry : WasEntry may old m1 k law0 can it v clean e
+    entry = was_entry may old m1 k law0 can it v clean e in_use
 
     low_entry : (n : ℕ) → n < map_block_count f.map → n < e.blocks
     low_entry n low = let few = map_low d sound v was.some e f m1 (fit_of k.core m1 it.resumed.stands) was.fits.log.is was.fits in omega (arith, low, few)
@@ -97,7 +97,7 @@ module _ (old m1 : Meaning) (k : Marked) (law0 : Lawful old) (can : CanImport ol
 
     -- a block of the log in the image
     block_is : (n : ℕ) → n < map_block_count f.map → i entry.entry.disk (entry.entry.start + n) ≡ block_of f.map.bytes n
-    block_is n low = image_block old m1 k law0 can it v clean rest e in_use was.some n (block_of f.map.bytes n) (low_entry n low) (left_entry n low) i each
+    block_is n low = image_block may old m1 k law0 can it v clean rest e in_use was.some n (block_of f.map.bytes n) (low_entry n low) (left_entry n low) i each
 
     bit_is : (p r : ℕ) → IsThere d v p r → has_missed f p r ≡ logged_in entry.entry i (p * stride_of d v + r)
     bit_is p r there =
@@ -136,7 +136,7 @@ module _ (old m1 : Meaning) (k : Marked) (law0 : Lawful old) (can : CanImport ol
     within_of v l f at has = (why.each v l at (λ none. let clash : None ≡ Some f = sym none ∙ has in cc)).within
 
     config_is : (v : ℕ) → stopped it.config v ≡ false → (i : Image) (x : Config) → Each old.leaves i → found old i ≡ Found x → it.config ≡ x
-    config_is v clean i x each is = let both : Found it.config ≡ Found x = sym (image_config old m1 k law0 can it v clean i each) ∙ is in cc
+    config_is v clean i x each is = let both : Found it.config ≡ Found x = sym (image_config may old m1 k law0 can it v clean i each) ∙ is in cc
 
     took_one : (v : ℕ) (g : Missed) (i : Image) (x : Config) → Each old.leaves i → found old i ≡ Found x → (j : Logs) → slice_get js v ≡ Some j → j.fmr ≡ Some g → (l : Logs) → slice_get ls v ≡ Some l → (o : Option Missed) → l.fmr ≡ o → MapTaken x to v g i
     took_one v g i x each is j now has l at None none = absurd (let clash : None ≡ Some g = sym (shrink.each v l j at now none) ∙ has in cc)

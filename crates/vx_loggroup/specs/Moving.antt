@@ -6,7 +6,7 @@ use Rattle.vx_config.specs.Checks.{plexes_of}
 use Rattle.vx_config.specs.Table.{greatest}
 use Rattle.vx_config.specs.declared.config.Config.{Config}
 use Rattle.vx_config.specs.declared.entry.LogEntry.{LogEntry}
-use Rattle.vx_config.specs.declared.entry.VolumeLog.TheVariants.{Fmr}
+use Rattle.vx_config.specs.declared.entry.VolumeLog.TheVariants.{Drl, Fmr}
 use Rattle.vx_copies.specs.Marks.{failed_at}
 use Rattle.vx_disk.specs.Counts.{Rose}
 use Rattle.vx_disk.specs.Shelf.{Each, Image, Meaning}
@@ -131,11 +131,12 @@ pub record MapsBeginIn (may : ℕ → Bool) (c d : Config) (s t : Bool) (l k : L
   pub so : (v : ℕ) → goes_by l c s v ≡ false → goes_by k d t v ≡ true → (may v ≡ true) × (fmr_at l v ≡ None)
 
 -- Why the maps of a volume are gone by no more: the count of their disk rose; or the log was held as lost, though it was in memory; the shelf is down; or no
--- serial is left to commit that a log is lost.
+-- serial is left to commit that a log is lost. The serial does not fall.
 pub record MapsEnd (c d : Config) (s t : Bool) (l k : List Logs) (old new : Meaning) : Type 0 where
   pub so : (v : ℕ) → goes_by l c s v ≡ true → goes_by k d t v ≡ false
       → ((e : LogEntry) × (log_of c v Fmr ≡ Some e) × Rose (old.faults e.disk) (new.faults e.disk)) ⊎ (log_trusted c v Fmr ≡ false) ⊎ IsTrue new.down
       ⊎ (greatest ≤ c.serial + 6 * COMMIT_SERIALS) ⊎ (greatest ≤ d.serial + COMMIT_SERIALS)
+  pub later : c.serial ≤ d.serial
 
 -- The map that an import took up is that of an image: its log is in use there by the configuration x, on a disk that this holds as good.
 pub record MapTaken (x d : Config) (v : ℕ) (f : Missed) (i : Image) : Type 0 where
@@ -153,15 +154,17 @@ pub record MapsStand (logs : List Logs) (m : Meaning) : Type 0 where
   pub each : (v : ℕ) (f : Missed) → fmr_at logs v ≡ Some f → MapOn f.map m
 
 -- What a deport answers, while logs go on: volumes whose maps are in memory rest, and no others of which the log is not held as lost; and those whose
--- plexes are alike.
+-- plexes are alike. A dirty region log may be read, unless it is in memory no more and not held as lost.
 pub record RestsMaps (c : Config) (s : Bool) (logs : List Logs) (alike : List Bool) (r : Rested) : Type 0 where
   pub going : s ≡ false
   pub maps : (v : ℕ) (f : Missed) → fmr_at logs v ≡ Some f → rests r.maps v ≡ true
   pub there : (v : ℕ) (l : Logs) → slice_get logs v ≡ Some l → rests r.maps v ≡ true → log_trusted c v Fmr ≡ true → l.fmr ≡ None → ⊥
   pub same : (v : ℕ) → is_alike alike v ≡ true → rests r.alike v ≡ true
+  pub lacks : (v : ℕ) (l : Logs) → slice_get logs v ≡ Some l → rests r.drls v ≡ false → (log_trusted c v Drl ≡ true) × (l.drl ≡ None)
 
+-- it answers nothing only where logs are stopped
 abbrev pub RestsOr : Config → Bool → List Logs → List Bool → Option Rested → Type 0
-RestsOr c s logs alike None = Unit {0}
+RestsOr c s logs alike None = s ≡ true
 RestsOr c s logs alike (Some r) = RestsMaps c s logs alike r
 
 -- of a group that is handed out

@@ -1,50 +1,22 @@
--- Disks that are flushed before a group is deported, and what a volume then has.
-use Rattle.std.specs.Prelude.{◌≡◌, ℕ, ◌<◌, Bool, true, false, IsTrue, Some, None, List, length, slice_index_or, Result, Ok, Err}
-use Rattle.vx_config.specs.Checks.{plexes_of}
+-- What a deport says of the logs of a volume.
+use Rattle.std.specs.Prelude.{◌≡◌, ℕ, Bool, true, false, Some, None, List, slice_get}
 use Rattle.vx_config.specs.declared.config.Config.{Config}
-use Rattle.vx_config.specs.declared.entry.VolumeLog.TheVariants.{Fmr}
-use Rattle.vx_disk.specs.Shelf.{Flushed, Goes, Meaning, Nothing}
-use Rattle.vx_disk.specs.declared.shelf.ShelfError.{ShelfError}
+use Rattle.vx_config.specs.declared.entry.VolumeLog.TheVariants.{Drl, Fmr}
 use Rattle.vx_fmr.specs.Missed.{Missed}
-use Rattle.vx_group.specs.Quiesces.{AnyFailed}
-use Rattle.vx_kept.specs.Cleans.{is_unsure}
 use Rattle.vx_kept.specs.LogRuns.{log_trusted}
+use Rattle.vx_logimport.specs.Rests.{rests}
+use Rattle.vx_logimport.specs.declared.rested.Rested.{Rested}
 use Rattle.vx_logs.specs.declared.logs.Logs.{Logs}
-use Rattle.vx_model.specs.declared.limits.TheConstants.{MOST_DISKS}
-use Rattle.vx_volume.specs.Plexes.{uses}
 
--- whether a disk is one of those
-abbrev pub in_disks : List Bool → ℕ → Bool
-in_disks flags u = slice_index_or flags u false
+-- Its maps know what its plexes miss where they are in memory, or held as lost, and only there; its dirty region log may be read where it is in memory, or held as
+-- lost, and only there.
+pub record VolumeRests (c : Config) (v : ℕ) (l : Logs) (map drl : Bool) : Type 0 where
+  pub has : map ≡ true → log_trusted c v Fmr ≡ true → l.fmr ≡ None → ⊥
+  pub some : (f : Missed) → l.fmr ≡ Some f → map ≡ true
+  pub kept : drl ≡ true → log_trusted c v Drl ≡ true → l.drl ≡ None → ⊥
+  pub lacks : drl ≡ false → (log_trusted c v Drl ≡ true) × (l.drl ≡ None)
 
--- how the flush of a disk ends: a crash leaves what it read, or it failed, or the shelf is down
-abbrev pub DiskEnds : ℕ → Meaning → Meaning → Result Bool ShelfError → Type 0
-DiskEnds u old new (Ok true) = Flushed u old new × (IsTrue new.down → ⊥)
-DiskEnds u old new (Ok false) = AnyFailed old new × (IsTrue new.down → ⊥)
-DiskEnds u old new (Err error) = IsTrue new.down
-
--- Of the disks below n a crash leaves what they read, but of those that failed. Nothing else was done.
-pub record DisksSettle (n : ℕ) (failed : List Bool) (old new : Meaning) : Type 0 where
-  pub goes : Goes Nothing old new
-  pub up : IsTrue new.down → ⊥
-  pub long : length failed ≡ MOST_DISKS
-  pub settled : (u b : ℕ) (x : List ℕ) → u < n → in_disks failed u ≡ false → new.leaves u b x → old.reads u b x
-  pub failing : (u : ℕ) → in_disks failed u ≡ true → AnyFailed old new
-
--- a plex uses none of these disks below n
-pub record UsesNone (c : Config) (v p n : ℕ) (failed : List Bool) : Type 0 where
-  pub each : (u : ℕ) → u < n → uses c v p u ≡ true → in_disks failed u ≡ false
-
--- no plex of the volume uses one of these disks
-pub record NoneTouched (c : Config) (v : ℕ) (failed : List Bool) : Type 0 where
-  pub each : (p u : ℕ) → p < plexes_of c v → u < MOST_DISKS → uses c v p u ≡ true → in_disks failed u ≡ false
-
--- some volumes are unsure that were not; none, where no disk failed
-pub record SomeUnsure (old new : List Bool) (failed : List Bool) : Type 0 where
-  pub more : (v : ℕ) → is_unsure new v ≡ false → is_unsure old v ≡ false
-  pub none : ((u : ℕ) → in_disks failed u ≡ false) → new ≡ old
-
--- the maps of a volume are in memory, or not trusted; and where they are, no plex of it uses one of these disks, or it is unsure
-pub record VolumeRests (c : Config) (unsure : List Bool) (v : ℕ) (l : Logs) (failed : List Bool) : Type 0 where
-  pub has : log_trusted c v Fmr ≡ true → l.fmr ≡ None → ⊥
-  pub off : (f : Missed) → l.fmr ≡ Some f → is_unsure unsure v ≡ false → NoneTouched c v failed
+-- so it is of each volume; and those are alike that were
+pub record AllRest (c : Config) (logs : List Logs) (alike : List Bool) (r : Rested) : Type 0 where
+  pub each : (v : ℕ) (l : Logs) → slice_get logs v ≡ Some l → VolumeRests c v l (rests r.maps v) (rests r.drls v)
+  pub same : r.alike ≡ alike

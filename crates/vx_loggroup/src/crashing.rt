@@ -1,5 +1,5 @@
 // A crash of a group with logs.
-ghost use Rattle.std.specs.Prelude.{◌≡◌, ℕ, false, true};
+ghost use Rattle.std.specs.Prelude.{◌≡◌, false, true};
 ghost use Rattle.vx_disk.specs.Causes.{OnDisks};
 ghost use Rattle.vx_disk.specs.Disks.{Crashed};
 ghost use Rattle.vx_disk.specs.Racks.{Stopped};

@@ -2,6 +2,8 @@
 ghost use Rattle.std.specs.Prelude.{◌≡◌, ◌*◌, ◌+◌, ◌<◌, ◌≤◌, false, true, IfErr, OnOk};
 ghost use Rattle.vx_disk.specs.Causes.{Cause};
 ghost use Rattle.vx_group.specs.Attaches.{region_count};
+ghost use Rattle.vx_group.specs.Blames.{MarksOn};
+ghost use Rattle.vx_group.specs.GivesUp.{FaultMisses};
 ghost use Rattle.vx_group.specs.Holding.{wide};
 ghost use Rattle.vx_group.specs.Stands.{inner_meaning};
 ghost use Rattle.vx_grouplogs.specs.Covering.{AllAlike};
@@ -37,6 +39,8 @@ pub fn begin_first<S: Shelf>(
     ensures few { OnOk result (core.new.inner.config.serial ≤ core.old.inner.config.serial + 3 * COMMIT_SERIALS) }
     ensures trust { OnOk result (core.old.inner.committed ≡ true → core.new.inner.committed ≡ true) }
     ensures agreed { IfErr result (λ e. core.old.inner.committed ≡ true → core.new.inner.agreed ≡ true) }
+    ensures unsure { MarksOn vol core.old.inner.unsure core.new.inner.unsure result }
+    ensures misses { FaultMisses core.new.inner result }
     ensures cause { Cause (inner_meaning (wide core.old) (S.meaning shelf.old)) (inner_meaning (wide core.new) (S.meaning shelf.new)) vol result }
 {
     let ready = match ready_group(shelf, core, vol) {

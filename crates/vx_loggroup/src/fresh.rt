@@ -3,6 +3,8 @@ ghost use Rattle.vx_loggroup.specs.Attaching.{fmr_at};
 ghost use Rattle.vx_loggroup.specs.Keeping.{LogsKeep, LogsKept, logs_at};
 ghost use Rattle.vx_loggroup.specs.Moving.{MovesRun};
 ghost use Rattle.vx_logged.specs.Logged.{TrustsIn};
+ghost use Rattle.vx_group.specs.Blames.{MarksOrFell};
+ghost use Rattle.vx_group.specs.GivesUp.{FaultsBy};
 ghost use Rattle.vx_group.specs.Finds.{GroupFinds};
 ghost use Rattle.std.specs.Prelude.{◌≡◌, ◌*◌, ◌+◌, ◌/◌, ◌<◌, ◌≤◌, ℕ, false, length, true, IfErr, IsTrue, OnOk, ◌⊎◌, None};
 ghost use Rattle.vx_config.specs.Table.{greatest};
@@ -33,6 +35,7 @@ pub fn takes_fresh(fresh: &mut [bool; MOST_VOLUMES], stopped: bool, vol: u32) ->
     requires inside { vol < MOST_VOLUMES }
     ensures was { result ≡ true → is_alike_is fresh.old vol ≡ true }
     ensures going { result ≡ true → stopped ≡ false }
+    ensures may { is_alike_is fresh.old vol ≡ true → stopped ≡ false → result ≡ true }
     ensures here { is_alike_is fresh.new vol ≡ false }
     ensures others { (w : ℕ) → (w ≡ vol → ⊥) → is_alike_is fresh.new w ≡ is_alike_is fresh.old w }
 {
@@ -83,6 +86,8 @@ pub fn write_fresh<S: Shelf>(
     ensures full { stopped.old ≡ false → stopped.new ≡ true → greatest ≤ core.old.inner.config.serial + 5 * COMMIT_SERIALS }
     ensures trust { OnOk result (core.old.inner.committed ≡ true → core.new.inner.committed ≡ true) }
     ensures agreed { IfErr result (λ e. core.old.inner.committed ≡ true → core.new.inner.agreed ≡ true) }
+    ensures unsure { MarksOrFell vol core.old.inner.unsure core.new.inner.unsure result }
+    ensures gives_up { FaultsBy vol core.old.inner.config core.new.inner (S.meaning shelf.old) (S.meaning shelf.new) result }
     ensures cause { Cause (inner_meaning (wide core.old) (S.meaning shelf.old)) (inner_meaning (wide core.new) (S.meaning shelf.new)) vol result }
 {
     if !takes_fresh(fresh, *stopped, vol) {

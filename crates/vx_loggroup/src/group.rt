@@ -7,7 +7,7 @@ ghost use Rattle.vx_config.specs.Table.{greatest};
 ghost use Rattle.vx_copyio.specs.Labelling.{HasSmall};
 ghost use Rattle.vx_disk.specs.Shelf.{Goes, Nothing};
 ghost use Rattle.vx_group.specs.Attaches.{GroupAttachEnds, att_refusal, missed_regions, region_count};
-ghost use Rattle.vx_group.specs.Calls.{GivesBack, GroupCreated, GroupDeported, GroupStays, ImportsAgain, IsFull, KeepsUnits};
+ghost use Rattle.vx_group.specs.Calls.{BackAgrees, GivesBack, GroupCreated, GroupDeported, GroupStays, ImportsAgain, IsFull, KeepsUnits};
 ghost use Rattle.vx_group.specs.Deports.{DeportStops, GroupCanImport};
 ghost use Rattle.vx_copies.specs.Commits.{MoreFailed};
 ghost use Rattle.vx_group.specs.Creates.{SameUnits};
@@ -36,6 +36,7 @@ ghost use Rattle.vx_model.specs.declared.limits.TheConstants.{MOST_DISKS};
 ghost use Rattle.vx_model.specs.declared.no.No.{No as NoValue};
 ghost use Rattle.vx_model.specs.declared.no.No.TheVariants.{Size};
 ghost use Rattle.vx_volume.specs.Plexes.{active};
+ghost use Rattle.vx_loggroup.specs.Settled.{SettledFact};
 
 use crate::deporting::deport_whole;
 use crate::detached::det_fresh;
@@ -67,6 +68,7 @@ pub struct LoggedGroup<S: Shelf> {
     pub(crate) stopped: bool,
     pub(crate) ghost stands: { LoggedFact core logs.items alike stopped (S.meaning shelf) },
     pub(crate) ghost begins: { FreshStands core fresh (S.meaning shelf) },
+    pub(crate) ghost settles: { SettledFact core alike (S.meaning shelf) },
 }
 
 impl<S: Shelf> LoggedGroup<S> {
@@ -74,6 +76,7 @@ impl<S: Shelf> LoggedGroup<S> {
     ///
     /// Answers 4 exactly where a disk has fewer than 1,024 blocks, and then nothing has changed; else 7 only where the count of the disk
     /// that it names rose, and 6 only where the shelf is then down. Where none is made the shelf is handed back. It takes memory.
+    #[tactic(auto, using(crate::proofs::SettledFacts::settled_new))]
     pub fn create(alloc: Global, shelf: S, site: u32) -> Result<LoggedGroup<S>, (S, Stop)>
         requires some { 0 < (S.meaning shelf).units }
         requires few { (S.meaning shelf).units ≤ MOST_DISKS }
@@ -170,6 +173,7 @@ impl<S: Shelf> LoggedGroup<S> {
         ensures ends_maps { MapsEnd self.old.core.inner.config self.new.core.inner.config self.old.stopped self.new.stopped self.old.logs.items self.new.logs.items (S.meaning self.old.shelf) (S.meaning self.new.shelf) }
         ensures left { (v : ℕ) → fmr_at self.new.logs.items v ≡ fmr_at self.old.logs.items v }
         ensures alike { IfOk result (λ n. is_alike self.new.alike n ≡ true) }
+        ensures begins { IfOk result (λ n. is_alike self.new.fresh n ≡ true) }
         ensures flags { (w : ℕ) → is_alike self.old.alike w ≡ true → is_alike self.new.alike w ≡ true }
         ensures stopped { self.new.stopped ≡ self.old.stopped }
     {
@@ -267,9 +271,9 @@ impl<S: Shelf> LoggedGroup<S> {
         )
     }
 
-    /// Deports the group, as one without logs, and hands the shelf out, or gives the group back. All disks are flushed first; a volume with a log of
-    /// missed regions of which a disk fails in that is unsure. It answers of which volumes the disks tell what a clean stop left; then they may
-    /// be imported by their logs. It answers none where logs are stopped, or a log is in memory no more and not held as lost.
+    /// Deports the group, as one without logs, and hands the shelf out, or gives the group back. It answers of which volumes the disks tell what a clean
+    /// stop left; then they may be imported by their logs. It answers none where logs are stopped, and only there. A dirty region log that is in memory no more and
+    /// not held as lost may not be read: it is the only one.
     pub fn deport(self) -> Result<(S, Option<Rested>), (LoggedGroup<S>, Stop)>
         ensures limit { greatest - margin < self.core.inner.config.serial → IsFull self.core (self.shelf, None) (λ g. g.core) (λ g. (g.shelf, None)) result }
         ensures ends { GroupDeported self.core (S.meaning self.shelf) (λ s. S.meaning s.0) (λ g. g.core) (λ g. (g.shelf, None)) result }
@@ -279,6 +283,7 @@ impl<S: Shelf> LoggedGroup<S> {
         ensures tells { DeportTells (λ s. S.meaning s) result }
         ensures maps { DeportMaps self.core.inner.config self.stopped (λ s. S.meaning s) self.logs.items self.alike result }
         ensures kept { DeportKeeps self.core.inner.config self.stopped self.logs.items self.alike (S.meaning self.shelf) (λ g. g.core.inner.config) (λ g. g.stopped) (λ g. g.logs.items) (λ g. g.alike) (λ g. S.meaning g.shelf) result }
+        ensures agreed { BackAgrees self.core (λ g. g.core) result }
         ensures finds { BackFinds self.core (S.meaning self.shelf) (λ g. g.core) (λ g. S.meaning g.shelf) result }
         ensures cause { self.core.inner.config.serial ≤ greatest - margin → DeportStops (S.meaning self.shelf) (λ s. S.meaning s.0) (λ g. (g.shelf, None)) result }
     {
@@ -318,6 +323,7 @@ impl<S: Shelf> LoggedGroup<S> {
         ensures stopped { result.1.stopped ≡ self.stopped }
         ensures stands { LoggedStands result.1.core result.1.logs.items result.1.alike result.1.stopped (S.meaning result.0) }
         ensures begins { FreshStands result.1.core result.1.fresh (S.meaning result.0) }
+        ensures settles { SettledFact result.1.core result.1.alike (S.meaning result.0) }
     {
         (
             self.shelf,
@@ -335,6 +341,7 @@ impl<S: Shelf> LoggedGroup<S> {
     pub fn together(shelf: S, rest: Opened) -> LoggedGroup<S>
         requires stands { LoggedStands rest.core rest.logs.items rest.alike rest.stopped (S.meaning shelf) }
         requires begins { FreshStands rest.core rest.fresh (S.meaning shelf) }
+        requires settles { SettledFact rest.core rest.alike (S.meaning shelf) }
         ensures shelf { result.shelf ≡ shelf }
         ensures core { result.core ≡ rest.core }
         ensures logs { result.logs ≡ rest.logs }

@@ -1,10 +1,12 @@
 // A read of a group with logs.
-ghost use Rattle.std.specs.Prelude.{◌≡◌, OnOk, length};
+ghost use Rattle.std.specs.Prelude.{◌≡◌, ◌/◌, OnOk, length};
 ghost use Rattle.vx_disk.specs.Causes.{Cause, CountsOnly};
 ghost use Rattle.vx_disk.specs.Shelf.{Fits, Goes, Nothing, Read};
+ghost use Rattle.vx_group.specs.Turns.{ReadsInTurn};
 ghost use Rattle.vx_group.specs.Holding.{wide};
 ghost use Rattle.vx_group.specs.Stands.{inner_meaning};
 ghost use Rattle.vx_loggroup.specs.LoggedVolumes.{LoggedStands};
+ghost use Rattle.vx_model.specs.declared.limits.TheConstants.{BLOCK};
 
 use vx_disk::{Shelf, ShelfError};
 use vx_group::{GroupCore, read_in};
@@ -35,6 +37,8 @@ pub fn read_whole<S: Shelf>(
     ensures trusted { (core.new.inner.committed ≡ core.old.inner.committed) × (core.new.inner.agreed ≡ core.old.inner.agreed) }
     ensures below { Goes Nothing (S.meaning shelf.old) (S.meaning shelf.new) }
     ensures counts { CountsOnly vol result (inner_meaning (wide core.old) (S.meaning shelf.old)).faults (inner_meaning (wide core.new) (S.meaning shelf.new)).faults }
+    ensures turn { ReadsInTurn core.old.inner.config vol core.old.inner.next core.new.inner.next block (length into.old / BLOCK) into.new (S.meaning shelf.old) (S.meaning shelf.new) result }
+    ensures unsure { core.new.inner.unsure ≡ core.old.inner.unsure }
     ensures cause { Cause (inner_meaning (wide core.old) (S.meaning shelf.old)) (inner_meaning (wide core.new) (S.meaning shelf.new)) vol result }
 {
     read_in(shelf, core, vol, block, into)

@@ -62,6 +62,7 @@ pub fn make_fresh<S: Shelf>(
     ensures left { (v : ℕ) → fmr_at logs.new.items v ≡ fmr_at logs.old.items v }
     ensures trusts { TrustsStill core.old.inner.config core.new.inner.config }
     ensures alike { IfOk result (λ n. is_alike alike.new n ≡ true) }
+    ensures begins { IfOk result (λ n. is_alike fresh.new n ≡ true) }
     ensures flags { (w : ℕ) → is_alike alike.old w ≡ true → is_alike alike.new w ≡ true }
     ensures finds { GroupFinds core.old core.new (S.meaning shelf.old) (S.meaning shelf.new) }
 {

@@ -11,6 +11,7 @@ ghost use Rattle.vx_logimport.specs.Rests.{LogsTell};
 ghost use Rattle.vx_logs.specs.declared.logs.Logs.{Logs as LogsValue};
 
 use crate::clearing::clear_all;
+use crate::doubting::doubt_all;
 use crate::losing::lose_all;
 use crate::taking::{alike_of, take_all};
 use std::alloc::Global;
@@ -35,7 +36,7 @@ pub struct Opened {
     pub stopped: bool,
 }
 
-// Takes the marks off the logs of the volumes whose plexes are alike, and commits as lost what is in memory no more.
+// Takes the marks off the logs of the volumes whose plexes are alike, and commits as lost what is in memory no more. Each other volume is unsure then.
 fn settle_logs<S: Shelf>(
     shelf: &mut S,
     core: GroupCore,
@@ -60,6 +61,7 @@ fn settle_logs<S: Shelf>(
     if shelf.is_down() {
         return Err(Stop::No(No::Down));
     }
+    doubt_all(&mut core.inner.unsure, &alike);
     Ok(Opened {
         core,
         logs,
@@ -71,15 +73,15 @@ fn settle_logs<S: Shelf>(
 
 /// Imports a group by the logs of its volumes. The plexes of a volume that stopped uncleanly are alike then, as are those of one of which the disks
 /// tell that a clean stop left them so; all marks are taken off the logs of these. The log of missed regions of one that stopped cleanly is taken up,
-/// where the disks tell that it knows what plexes miss, and what was found holds its disk as good. A log that is in use, and is not in memory then, is lost, by a commit: so is one of missed regions of a
-/// volume that stopped uncleanly. Each refusal is one of the import of a group.
+/// where the disks tell that it knows what plexes miss, and what was found holds its disk as good. A dirty region log that may not be read is not. A log that is in use, and is not in memory then, is
+/// lost, by a commit: so is one of missed regions of a volume that stopped uncleanly. Each refusal is one of the import of a group.
 pub fn open_logged<S: Shelf>(alloc: Global, shelf: &mut S, rested: &Rested) -> Result<Opened, Stop>
     requires can { CanImport (S.meaning shelf.old) }
     requires tells { LogsTell rested.now (S.meaning shelf.old) }
     ensures ends { OpensLogged (λ s. S.meaning s) rested.now (S.meaning shelf.old) (S.meaning shelf.new) result }
     ensures same { SameUnits (S.meaning shelf.old) (S.meaning shelf.new) }
 {
-    match import_marked(alloc, shelf) {
+    match import_marked(alloc, shelf, &rested.drls) {
         Ok(marked) => {
             let Marked {
                 core: inner,

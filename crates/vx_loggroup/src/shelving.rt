@@ -1,5 +1,8 @@
 // A group with logs as a shelf.
 ghost use Rattle.vx_loggroup.specs.Keeping.{LogsKeep, LogsKept, SaysLosses};
+ghost use Rattle.vx_group.specs.Blames.{MarksOn, MarksOrFell};
+ghost use Rattle.vx_group.specs.GivesUp.{FaultsBy};
+ghost use Rattle.vx_group.specs.Turns.{ReadsInTurn};
 ghost use Rattle.vx_group.specs.Finds.{GroupFinds};
 ghost use Rattle.std.specs.Prelude.{◌≡◌, ◌*◌, ◌+◌, ◌/◌, ◌<◌, ◌≤◌, IfErr, IsTrue, OnOk, true, false, length, ◌⊎◌, ℕ, None};
 ghost use Rattle.vx_config.specs.Table.{greatest};
@@ -45,6 +48,8 @@ impl<S: Shelf> Shelf for LoggedGroup<S> {
         ensures goes { Goes Nothing (inner_meaning (wide self.old.core) (S.meaning self.old.shelf)) (inner_meaning (wide self.new.core) (S.meaning self.new.shelf)) }
         ensures ok { OnOk result (Read (inner_meaning (wide self.old.core) (S.meaning self.old.shelf)) unit block into.new) }
         ensures down { (inner_meaning (wide self.new.core) (S.meaning self.new.shelf)).down ≡ (inner_meaning (wide self.old.core) (S.meaning self.old.shelf)).down }
+        ensures turn { ReadsInTurn self.old.core.inner.config unit self.old.core.inner.next self.new.core.inner.next block (length into.old / BLOCK) into.new (S.meaning self.old.shelf) (S.meaning self.new.shelf) result }
+        ensures unsure { self.new.core.inner.unsure ≡ self.old.core.inner.unsure }
         ensures cause { Cause (inner_meaning (wide self.old.core) (S.meaning self.old.shelf)) (inner_meaning (wide self.new.core) (S.meaning self.new.shelf)) unit result }
         ensures counts { CountsOnly unit result (inner_meaning (wide self.old.core) (S.meaning self.old.shelf)).faults (inner_meaning (wide self.new.core) (S.meaning self.new.shelf)).faults }
         ensures names { Names (inner_meaning (wide self.old.core) (S.meaning self.old.shelf)).disks unit result }
@@ -85,6 +90,8 @@ impl<S: Shelf> Shelf for LoggedGroup<S> {
         ensures ok { OnOk result (Wrote unit block bytes.now (inner_meaning (wide self.old.core) (S.meaning self.old.shelf)) (inner_meaning (wide self.new.core) (S.meaning self.new.shelf))) }
         ensures keeps { LogsKeep self.old.core self.new.core self.old.logs.items self.new.logs.items (S.meaning self.old.shelf) (S.meaning self.new.shelf) }
         ensures kept { self.new.stopped ≡ false → OnOk result (LogsKept self.new.core self.new.logs.items unit) }
+        ensures unsure { MarksOrFell unit self.old.core.inner.unsure self.new.core.inner.unsure result }
+        ensures gives_up { FaultsBy unit self.old.core.inner.config self.new.core.inner (S.meaning self.old.shelf) (S.meaning self.new.shelf) result }
         ensures cause { Cause (inner_meaning (wide self.old.core) (S.meaning self.old.shelf)) (inner_meaning (wide self.new.core) (S.meaning self.new.shelf)) unit result }
         ensures names { Names (inner_meaning (wide self.old.core) (S.meaning self.old.shelf)).disks unit result }
         ensures works { OnOk result (Works (inner_meaning (wide self.old.core) (S.meaning self.old.shelf)).disks unit) }
@@ -130,6 +137,8 @@ impl<S: Shelf> Shelf for LoggedGroup<S> {
         ensures goes { Goes Nothing (inner_meaning (wide self.old.core) (S.meaning self.old.shelf)) (inner_meaning (wide self.new.core) (S.meaning self.new.shelf)) }
         ensures ok { OnOk result (Flushed unit (inner_meaning (wide self.old.core) (S.meaning self.old.shelf)) (inner_meaning (wide self.new.core) (S.meaning self.new.shelf))) }
         ensures keeps { LogsKeep self.old.core self.new.core self.old.logs.items self.new.logs.items (S.meaning self.old.shelf) (S.meaning self.new.shelf) }
+        ensures unsure { MarksOn unit self.old.core.inner.unsure self.new.core.inner.unsure result }
+        ensures gives_up { FaultsBy unit self.old.core.inner.config self.new.core.inner (S.meaning self.old.shelf) (S.meaning self.new.shelf) result }
         ensures cause { Cause (inner_meaning (wide self.old.core) (S.meaning self.old.shelf)) (inner_meaning (wide self.new.core) (S.meaning self.new.shelf)) unit result }
         ensures names { Names (inner_meaning (wide self.old.core) (S.meaning self.old.shelf)).disks unit result }
         ensures works { OnOk result (Works (inner_meaning (wide self.old.core) (S.meaning self.old.shelf)).disks unit) }

@@ -1,5 +1,5 @@
 // The logs of missed regions that an import takes up.
-ghost use Rattle.std.specs.Prelude.{◌≡◌, ◌<◌, ℕ, false, length, None, Some, slice_get, true};
+ghost use Rattle.std.specs.Prelude.{◌≡◌, ◌<◌, ℕ, false, IsTrue, length, None, Some, slice_get, true};
 ghost use Rattle.vx_config.specs.declared.entry.VolumeLog.TheVariants.{Fmr as FmrLog};
 ghost use Rattle.vx_disk.specs.Shelf.{Goes, Nothing};
 ghost use Rattle.vx_group.specs.Holding.{GroupStands};
@@ -29,7 +29,7 @@ fn take_one<S: Shelf>(alloc: Global, shelf: &mut S, core: &GroupCore, one: &mut 
     requires none { core.now.held ≡ None }
     requires plain { one.old.fmr ≡ None }
     requires log { LogOn core.now vol one.old (S.meaning shelf.old) }
-    requires tells { MapsTell core.now.inner.config vol (S.meaning shelf.old) }
+    requires tells { (IsTrue (S.meaning shelf.old).down → ⊥) → MapsTell core.now.inner.config vol (S.meaning shelf.old) }
     ensures goes { Goes Nothing (S.meaning shelf.old) (S.meaning shelf.new) }
     ensures log { LogOn core.now vol one.new (S.meaning shelf.new) }
     ensures known { Known core.now vol one.new (S.meaning shelf.new) }
@@ -66,7 +66,7 @@ fn take_at<S: Shelf>(
     requires none { core.now.held ≡ None }
     requires there { vol < length core.now.inner.config.volumes }
     requires plain { (l : LogsValue) → slice_get logs.old.items vol ≡ Some l → l.fmr ≡ None }
-    requires tells { may ≡ true → MapsTell core.now.inner.config vol (S.meaning shelf.old) }
+    requires tells { may ≡ true → (IsTrue (S.meaning shelf.old).down → ⊥) → MapsTell core.now.inner.config vol (S.meaning shelf.old) }
     ensures stands { LoggedStands core.now logs.new.items alike.now false (S.meaning shelf.new) }
     ensures goes { Goes Nothing (S.meaning shelf.old) (S.meaning shelf.new) }
     ensures takes { TakesMap core.now.inner.config may vol logs.old.items logs.new.items }
@@ -90,6 +90,7 @@ fn may_take(
     ensures clean { result ≡ true → is_unsure stopped.now vol ≡ false }
     ensures maps { result ≡ true → rests rested.now.maps vol ≡ true }
     ensures within { result ≡ true → log_within good config.now vol FmrLog ≡ true }
+    ensures may { is_unsure stopped.now vol ≡ false → rests rested.now.maps vol ≡ true → log_within good config.now vol FmrLog ≡ true → result ≡ true }
 {
     if stopped[vol as usize] {
         return false;

@@ -1,6 +1,8 @@
 // A log that is trusted in a call on its volume, by a commit.
+ghost use Rattle.vx_group.specs.Blames.{MarksOn};
+ghost use Rattle.vx_group.specs.GivesUp.{FaultMisses};
 ghost use Rattle.vx_group.specs.Finds.{GroupFinds};
-ghost use Rattle.std.specs.Prelude.{◌≡◌, ◌+◌, ◌<◌, ◌≤◌, ℕ, false, true, IfErr, IsTrue, None, OnOk};
+ghost use Rattle.std.specs.Prelude.{◌≡◌, ◌+◌, ◌<◌, ◌≤◌, ℕ, false, true, IfErr, None, OnOk};
 ghost use Rattle.vx_config.specs.Changes.{lost as lost_is};
 ghost use Rattle.vx_disk.specs.Causes.{Cause};
 ghost use Rattle.vx_disk.specs.Shelf.{Goes, Nothing};
@@ -37,6 +39,8 @@ pub fn trust_first<S: Shelf>(
     ensures trust { OnOk result (core.old.inner.committed ≡ true → core.new.inner.committed ≡ true) }
     ensures agreed { IfErr result (λ e. core.old.inner.committed ≡ true → core.new.inner.agreed ≡ true) }
     ensures finds { GroupFinds core.old core.new (S.meaning shelf.old) (S.meaning shelf.new) }
+    ensures unsure { MarksOn vol core.old.inner.unsure core.new.inner.unsure result }
+    ensures misses { FaultMisses core.new.inner result }
     ensures cause { Cause (inner_meaning (wide core.old) (S.meaning shelf.old)) (inner_meaning (wide core.new) (S.meaning shelf.new)) vol result }
 {
     if shelf.is_down() {

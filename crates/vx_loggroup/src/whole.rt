@@ -2,6 +2,8 @@
 ghost use Rattle.vx_loggroup.specs.Attaching.{fmr_at};
 ghost use Rattle.vx_loggroup.specs.Keeping.{LogsKeep, LogsKept, logs_at, SureKept};
 ghost use Rattle.vx_loggroup.specs.Moving.{RunHolds};
+ghost use Rattle.vx_group.specs.Blames.{MarksOn, MarksOrFell};
+ghost use Rattle.vx_group.specs.GivesUp.{FaultsBy};
 ghost use Rattle.vx_group.specs.Finds.{GroupFinds};
 ghost use Rattle.std.specs.Prelude.{◌≡◌, ◌*◌, ◌+◌, ◌/◌, ◌<◌, ◌≤◌, false, length, true, IfErr, IsTrue, OnOk, ◌⊎◌, ℕ, None};
 ghost use Rattle.vx_config.specs.Table.{greatest};
@@ -64,6 +66,8 @@ pub fn write_whole<S: Shelf>(
     ensures full { stopped.old ≡ false → stopped.new ≡ true → greatest ≤ core.old.inner.config.serial + 2 * COMMIT_SERIALS }
     ensures trust { OnOk result (core.old.inner.committed ≡ true → core.new.inner.committed ≡ true) }
     ensures agreed { IfErr result (λ e. core.old.inner.committed ≡ true → core.new.inner.agreed ≡ true) }
+    ensures unsure { MarksOrFell vol core.old.inner.unsure core.new.inner.unsure result }
+    ensures gives_up { FaultsBy vol core.old.inner.config core.new.inner (S.meaning shelf.old) (S.meaning shelf.new) result }
     ensures cause { Cause (inner_meaning (wide core.old) (S.meaning shelf.old)) (inner_meaning (wide core.new) (S.meaning shelf.new)) vol result }
 {
     let down = shelf.is_down();
@@ -114,6 +118,8 @@ pub fn flush_whole<S: Shelf>(
     ensures said { is_alike_is alike.now vol ≡ true → stopped ≡ false → 0 < blocks_of_is core.old.inner.config.volumes vol → OnOk result (LogsKept core.new logs.new.items vol) }
     ensures trust { OnOk result (core.old.inner.committed ≡ true → core.new.inner.committed ≡ true) }
     ensures agreed { IfErr result (λ e. core.old.inner.committed ≡ true → core.new.inner.agreed ≡ true) }
+    ensures unsure { MarksOn vol core.old.inner.unsure core.new.inner.unsure result }
+    ensures gives_up { FaultsBy vol core.old.inner.config core.new.inner (S.meaning shelf.old) (S.meaning shelf.new) result }
     ensures cause { Cause (inner_meaning (wide core.old) (S.meaning shelf.old)) (inner_meaning (wide core.new) (S.meaning shelf.new)) vol result }
 {
     let down = shelf.is_down();

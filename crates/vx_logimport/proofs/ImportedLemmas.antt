@@ -1,5 +1,5 @@
 -- An import by logs as a whole.
-use Rattle.std.proofs.Common.{◌≡◌, inl, ℕ, ◌<◌, ◌≤◌, true, IsTrue, Option, List, length, refl, sym, ◌∙◌, subst, arith}
+use Rattle.std.proofs.Common.{◌≡◌, inl, ℕ, ◌<◌, ◌≤◌, Bool, true, IsTrue, Option, List, length, refl, sym, ◌∙◌, subst, arith}
 use Rattle.std.specs.Prelude.{Vec}
 use Rattle.std.specs.declared.alloc.Global.{Global}
 use Rattle.vx_disk.specs.Shelf.{Goes, Lawful, Meaning, Nothing}
@@ -33,8 +33,9 @@ use Rattle.vx_grouplogs.specs.Covering.{OnLogs}
 use Rattle.vx_groupmaps.specs.Loading.{LoadIsRefused}
 use Rattle.vx_grouplogs.specs.On.{VolumeOn}
 use Rattle.vx_grouplogs.proofs.GroupLemmas.{logs_keep}
-use Rattle.vx_logimport.specs.Covers.{DisksTell}
+use Rattle.vx_logimport.specs.Covers.{DisksCover, DisksTell}
 use Rattle.vx_logimport.specs.Marked.{AreDirtyLogs, LogsRead, ResumedBy, dirty_logs}
+use Rattle.vx_logimport.specs.Rests.{rests}
 use Rattle.vx_logimport.proofs.MarkLemmas.{marks_of, on_opened, taken_later}
 use Rattle.vx_logimport.proofs.ReadLemmas.{all_read, read_behind}
 use Rattle.vx_logimport.proofs.RenewLemmas.{alike_new, on_new, only_stopped}
@@ -62,7 +63,7 @@ module _ (old m1 : Meaning) (plan : Plan) (taken : IsTaken old m1 plan) (law : L
   unread law2 reads (Refused other) none = absurd none
   unread law2 reads OutOfMemory is = inl (still old m1 new goes reads, tt)
 
-  module _ (d : Inner) (logs : Vec Logs Global) (m2 : Meaning) (read : LogsRead plan.core.good opened logs.items old m2) (counts : (disk : ℕ) → m2.disk_faults disk ≤ new.disk_faults disk) (are : AreDirtyLogs (length opened.volumes) logs.items) (tells : (v : ℕ) → DisksTell v old)
+  module _ (d : Inner) (logs : Vec Logs Global) (m2 : Meaning) (may : List Bool) (read : LogsRead plan.core.good may opened logs.items old m2) (counts : (disk : ℕ) → m2.disk_faults disk ≤ new.disk_faults disk) (are : AreDirtyLogs (length opened.volumes) logs.items) (cover : (v : ℕ) → DisksCover v old) (tells : (v : ℕ) → rests may v ≡ true → DisksTell v old)
       (law2 : Lawful new) (up1 : IsTrue m1.down → ⊥) (fin : Renewed plan.core plan.stopped plan.sources d m1 new) (keeps : plan.core.committed ≡ true → d.committed ≡ true) (only : Acts (OnMarked opened plan.stopped logs.items) AnyImage m1 new) where
     in_back : (v : ℕ) → v < length opened.volumes → v < length (returned taken.up.readable taken.config).volumes
     in_back v lt = let same : length opened.volumes ≡ length (returned taken.up.readable taken.config).volumes = taken.up.opens.alike.shape.volumes in omega (arith, same, lt)
@@ -83,7 +84,7 @@ module _ (old m1 : Meaning) (plan : Plan) (taken : IsTaken old m1 plan) (law : L
       opens = taken.up.opens;
     }
 
-    pub resumed_by : ResumedBy old (record { core = d; logs = logs; stopped = plan.stopped; good = plan.core.good }) new
+    pub resumed_by : ResumedBy may old (record { core = d; logs = logs; stopped = plan.stopped; good = plan.core.good }) new
     resumed_by = record {
       resumed = import_ok old m1 plan taken new law law1 goes large can d law2 up1 fin keeps;
       config = taken.config;
@@ -94,11 +95,11 @@ module _ (old m1 : Meaning) (plan : Plan) (taken : IsTaken old m1 plan) (law : L
       goes = still (group_meaning opened (λ v. 0) old) (inner_meaning plan.core m1) (inner_meaning d new)
           (taken_Goes old m1 law law1 goes large can taken.config opened taken.up.readable taken.up.image taken.up.read taken.up.is taken.up.opens (λ is. taken.made.sound) (volume_faults plan.core.faults)) fin.made.on.goes;
       good = taken.made.good;
-      read = record { each = λ v l is. read_behind plan.core.good opened v l.drl old m2 new counts (read.each v l is) };
+      read = record { each = λ v l is. read_behind plan.core.good may opened v l.drl old m2 new counts (read.each v l is) };
       only = only_stopped taken.config opened plan.stopped logs.items old m1 new unclean goes only;
       logs = record { many = let same : length d.config.volumes ≡ length opened.volumes = fin.made.on.shape.volumes in are.many ∙ sym same; plain = are.plain };
       stand = λ v lt. on_new plan.core d plan.stopped logs.items m1 new (sound_of plan.core m1 taken.stands) (fit_of plan.core m1 taken.stands) fin.made.on only v
-          (λ o is. subst (λ (q : Option Dirty). VolumeOn opened v (dirty_logs q) m1) is (on_opened old m1 plan taken law law1 goes can tells plan.core.good logs.items m2 read v))
+          (λ o is. subst (λ (q : Option Dirty). VolumeOn opened v (dirty_logs q) m1) is (on_opened old m1 plan taken law law1 goes can may cover tells plan.core.good logs.items m2 read v))
           (λ mark. alike_new plan.core d plan.stopped logs.items m1 new (sound_of plan.core m1 taken.stands) (fit_of plan.core m1 taken.stands) fin.made.on only v (source_at plan.sources v) m1 (fin.mended v (in_opened v lt) mark));
       flags = λ v lt. unclean v (in_opened v lt);
       alike = λ v lt mark. alike_new plan.core d plan.stopped logs.items m1 new (sound_of plan.core m1 taken.stands) (fit_of plan.core m1 taken.stands) fin.made.on only v (source_at plan.sources v) m1 (fin.mended v (in_opened v lt) mark);
@@ -113,9 +114,9 @@ module _ (old m1 m2 : Meaning) (plan : Plan) (taken : IsTaken old m1 plan) (law 
   pub whole_goes : Goes Nothing old m2
   whole_goes = still old m1 m2 goes reads
 
-  module _ (logs : List Logs) (up : IsTrue m1.down → ⊥) (read : LogsRead plan.core.good plan.core.config logs m1 m2) where
-    pub reads_old : LogsRead plan.core.good plan.core.config logs old m2
-    reads_old = all_read plan.core.good plan.core.config logs old m1 m2 m2 goes up (λ d. omega arith) read
+  module _ (may : List Bool) (logs : List Logs) (up : IsTrue m1.down → ⊥) (read : LogsRead plan.core.good may plan.core.config logs m1 m2) where
+    pub reads_old : LogsRead plan.core.good may plan.core.config logs old m2
+    reads_old = all_read plan.core.good may plan.core.config logs old m1 m2 m2 goes up (λ d. omega arith) read
 
-    pub told_by : CanImport old → ((v : ℕ) → DisksTell v old) → MarksTell plan.core.config plan.stopped logs m2
-    told_by can tells = marks_of old m2 plan taken_read law law2 whole_goes can tells plan.core.good logs m2 reads_old plan.stopped
+    pub told_by : CanImport old → ((v : ℕ) → DisksCover v old) → ((v : ℕ) → rests may v ≡ true → DisksTell v old) → MarksTell plan.core.config plan.stopped logs m2
+    told_by can cover tells = marks_of old m2 plan taken_read law law2 whole_goes can may cover tells plan.core.good logs m2 reads_old plan.stopped

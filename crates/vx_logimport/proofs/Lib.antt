@@ -5,3 +5,4 @@ pub mod ImportedLemmas
 pub mod ToldLemmas
 pub mod TellLemmas
 pub mod RestLemmas
+pub mod NoneLemmas

@@ -34,8 +34,9 @@ use Rattle.vx_group.proofs.Standing.{fit_of, low_Stands, sound_of}
 use Rattle.vx_grouplogs.specs.Covering.{AlikeBut, DiskCovers}
 use Rattle.vx_grouplogs.specs.On.{VolumeOn}
 use Rattle.vx_grouplogs.proofs.CoverLemmas.{region_inside}
-use Rattle.vx_logimport.specs.Covers.{ConfigCovers, DisksTell, LogSettled}
+use Rattle.vx_logimport.specs.Covers.{ConfigCovers, DisksCover, DisksTell, LogSettled}
 use Rattle.vx_logimport.specs.Marked.{LogRead, LogsRead, dirty_logs}
+use Rattle.vx_logimport.specs.Rests.{rests}
 
 pub not_lost : (o : Option LogEntry) (e : LogEntry) → o ≡ Some e → used_or o ≡ true → e.lost ≡ false
 not_lost o e is used = by e.lost (sym (ap used_or is) ∙ used)
@@ -64,7 +65,7 @@ taken_later old m1 m2 plan taken goes before after = record {
   stands = low_Stands plan.core Nothing m1 m2 goes (λ u b x none. absurd none) before after taken.stands;
 }
 
-module _ (old m1 : Meaning) (plan : Plan) (taken : IsTaken old m1 plan) (law : Lawful old) (law1 : Lawful m1) (goes : Goes Nothing old m1) (can : CanImport old) (tells : (v : ℕ) → DisksTell v old) where
+module _ (old m1 : Meaning) (plan : Plan) (taken : IsTaken old m1 plan) (law : Lawful old) (law1 : Lawful m1) (goes : Goes Nothing old m1) (can : CanImport old) (may : List Bool) (cover : (v : ℕ) → DisksCover v old) (tells : (v : ℕ) → rests may v ≡ true → DisksTell v old) where
   abbrev opened : Config
   opened = plan.core.config
 
@@ -96,10 +97,10 @@ module _ (old m1 : Meaning) (plan : Plan) (taken : IsTaken old m1 plan) (law : L
   is_found tell = can.one taken.up.image taken.up.image taken.up.readable x (image_left tell) (image_left tell) taken.up.is
 
   covers : (v : ℕ) → IsTrue old.tells → ConfigCovers x v old
-  covers v tell = (tells v).covers i x (image_left tell) (is_found tell)
+  covers v tell = (cover v).covers i x (image_left tell) (is_found tell)
 
-  settled : (v : ℕ) → IsTrue old.tells → LogSettled x v old
-  settled v tell = (tells v).settled i x (image_left tell) (is_found tell)
+  settled : (v : ℕ) → rests may v ≡ true → IsTrue old.tells → LogSettled x v old
+  settled v so tell = (tells v so).settled i x (image_left tell) (is_found tell)
 
   at_x : (v p k : ℕ) → place opened v p k ≡ place x v p k
   at_x v p k = taken.up.opens.alike.shape.place v p k ∙ place_volumes (returned taken.up.readable x) x refl v p k
@@ -130,7 +131,7 @@ module _ (old m1 : Meaning) (plan : Plan) (taken : IsTaken old m1 plan) (law : L
   }
 
   -- ---- a log that was read
-  module _ (good : ℕ) (v : ℕ) (d : Dirty) (m2 : Meaning) (read : LogRead good opened v (Some d) old m2) where
+  module _ (good : ℕ) (v : ℕ) (d : Dirty) (m2 : Meaning) (read : LogRead good may opened v (Some d) old m2) where
     abbrev e : LogEntry
     e = read.1.log.entry
 
@@ -164,7 +165,7 @@ module _ (old m1 : Meaning) (plan : Plan) (taken : IsTaken old m1 plan) (law : L
             let tell : IsTrue old.tells = told d.map.unit (d.map.first + k) y was in
             let long = read.1.log.run.long in
             let low : k < map_blocks (blocks_of opened.volumes v) = omega (arith, lt, long) in
-            (settled v tell).one read.1.log.entry k y (block_of d.map.bytes k) e_used (subst (λ (n : ℕ). k < map_blocks n) (taken.up.opens.alike.shape.blocks v) low)
+            (settled v read.5 tell).one read.1.log.entry k y (block_of d.map.bytes k) e_used (subst (λ (n : ℕ). k < map_blocks n) (taken.up.opens.alike.shape.blocks v) low)
             (subst (λ (u : ℕ). old.leaves u (read.1.log.entry.start + k) y) read.1.log.run.there (subst (λ (n : ℕ). old.leaves d.map.unit (n + k) y) read.1.log.run.begins was)) (block_left tell k lt);
       };
     }
@@ -177,7 +178,7 @@ module _ (old m1 : Meaning) (plan : Plan) (taken : IsTaken old m1 plan) (law : L
     disk = disk_of v;
   }
 
-  on_read : (good v : ℕ) (o : Option Dirty) (m2 : Meaning) → LogRead good opened v o old m2 → VolumeOn opened v (dirty_logs o) m1
+  on_read : (good v : ℕ) (o : Option Dirty) (m2 : Meaning) → LogRead good may opened v o old m2 → VolumeOn opened v (dirty_logs o) m1
   on_read good v None m2 read = on_none v
   on_read good v (Some g) m2 read = record {
     fits = record { drl = λ d is. subst (λ (h : Dirty). DrlFits opened v h) (same_Some g d is) read.1; fmr = λ f is. absurd (let clash : None ≡ Some f = is in cc) };
@@ -188,11 +189,11 @@ module _ (old m1 : Meaning) (plan : Plan) (taken : IsTaken old m1 plan) (law : L
 
   -- ---- what the copies go by
 
-  reach_by : (good v n : ℕ) (o : Option Dirty) (m2 : Meaning) → n ≡ regions_of (blocks_of opened.volumes v) → LogRead good opened v o old m2 → DrlReaches n o
+  reach_by : (good v n : ℕ) (o : Option Dirty) (m2 : Meaning) → n ≡ regions_of (blocks_of opened.volumes v) → LogRead good may opened v o old m2 → DrlReaches n o
   reach_by good v n None m2 is read = tt
   reach_by good v n (Some d) m2 is read = let regions = read.1.regions in omega (arith, is, regions)
 
-  agree_by : (good v : ℕ) (o : Option Dirty) (m2 : Meaning) → LogRead good opened v o old m2 → AgreeElsewhere opened v (marked_or o) m1
+  agree_by : (good v : ℕ) (o : Option Dirty) (m2 : Meaning) → LogRead good may opened v o old m2 → AgreeElsewhere opened v (marked_or o) m1
   agree_by good v None m2 read = record { same = λ p q k y z inside off on_p on_q at_p at_q. absurd (let clash : true ≡ false = off in cc) }
   agree_by good v (Some d) m2 read = record {
     same = λ p q k y z inside off on_p on_q at_p at_q.
@@ -200,7 +201,7 @@ module _ (old m1 : Meaning) (plan : Plan) (taken : IsTaken old m1 plan) (law : L
         (record { inside = inside; plex = q; is_on = on_q; value = law1.shown (place opened v q k).0 (place opened v q k).1 z at_q });
   }
 
-  module _ (good : ℕ) (logs : List Logs) (m2 : Meaning) (read : LogsRead good opened logs old m2) where
+  module _ (good : ℕ) (logs : List Logs) (m2 : Meaning) (read : LogsRead good may opened logs old m2) where
     pub on_opened : (v : ℕ) → VolumeOn opened v (dirty_logs (drl_at logs v)) m1
     on_opened v = by (slice_get logs v) refl
       where

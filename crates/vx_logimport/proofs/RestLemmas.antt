@@ -30,7 +30,7 @@ use Rattle.vx_grouplogs.specs.Covering.{AllAlike, OnLogs}
 use Rattle.vx_grouplogs.proofs.KnowActs.{logs_off_plex}
 use Rattle.vx_grouplogs.proofs.LogPlaces.{logs_above}
 use Rattle.vx_grouplogs.proofs.LogShape.{has_back, run_back}
-use Rattle.vx_logimport.specs.Marked.{ResumedBy}
+use Rattle.vx_logimport.specs.Marked.{OnStopped, ResumedBy}
 use Rattle.vx_logimport.specs.Rests.{AlikeRests, MapsRest, MapsTell}
 use Rattle.vx_logimport.specs.declared.importing.Marked.{Marked}
 use Rattle.vx_logimport.proofs.MarkLemmas.{not_lost}
@@ -52,7 +52,7 @@ pub in_use_trusts : (c : Config) (v : ℕ) (e : LogEntry) → InUse c v Fmr e �
 unfolding log_trusted
 in_use_trusts c v e it = ap used_or it.is ∙ ap not it.kept
 
-module _ (old new : Meaning) (k : Marked) (law : Lawful old) (can : CanImport old) (it : ResumedBy old k new) (v : ℕ) (clean : stopped it.config v ≡ false) where
+module _ (may : List Bool) (old new : Meaning) (k : Marked) (law : Lawful old) (can : CanImport old) (it : ResumedBy may old k new) (v : ℕ) (clean : stopped it.config v ≡ false) where
   abbrev x : Config
   x = it.config
 
@@ -93,15 +93,26 @@ module _ (old new : Meaning) (k : Marked) (law : Lawful old) (can : CanImport ol
   unfolding live
   live_x p is_on = sym (it.taken.opens.alike.lives v p) ∙ on_live opened v p (it.on v p is_on)
 
-  -- a block of the volume has what it had
-  left_d : (p b : ℕ) (y : List ℕ) → HasBlock d v p b → new.leaves (place d v p b).0 (place d v p b).1 y → old.leaves (place d v p b).0 (place d v p b).1 y
-  left_d p b y has left = ⊎_elim (λ was. was)
-      (λ put.
+  -- a block of the volume was not written
+  not_put : (p b : ℕ) (y : List ℕ) → HasBlock d v p b → OnStopped x opened k.logs.items (place d v p b).0 (place d v p b).1 y → ⊥
+  not_put p b y has put =
       let has_put : HasBlock opened put.volume put.plex put.number = has_of opened put.volume put.plex put.number put.is_on put.inside in
       let there : HasBlock d put.volume put.plex put.number = has_back d opened put.volume (sym (it.shape.frames put.volume)) (sym (it.shape.blocks put.volume)) put.plex put.number has_put in
       let one = (sound_apart d sound).one v p b put.volume put.plex put.number has there (sym (it.shape.place put.volume put.plex put.number ∙ put.at)) in
-      absurd (let clash : false ≡ true = sym clean ∙ subst (λ (w : ℕ). stopped x w ≡ true) (sym one.0) put.unclean in cc))
-      (it.only.leaves (place d v p b).0 (place d v p b).1 y ((sound_apart d sound).region v p b has).public left)
+      let clash : false ≡ true = sym clean ∙ subst (λ (w : ℕ). stopped x w ≡ true) (sym one.0) put.unclean in
+      cc
+
+  -- it has what it had
+  left_d : (p b : ℕ) (y : List ℕ) → HasBlock d v p b → new.leaves (place d v p b).0 (place d v p b).1 y → old.leaves (place d v p b).0 (place d v p b).1 y
+  left_d p b y has left = ⊎_elim (λ was. was) (λ put. absurd (not_put p b y has put)) (it.only.leaves (place d v p b).0 (place d v p b).1 y ((sound_apart d sound).region v p b has).public left)
+
+  -- and reads as it did
+  read_x : (p b : ℕ) (y : List ℕ) → HasBlock d v p b → new.reads (place d v p b).0 (place d v p b).1 y → old.reads (place x v p b).0 (place x v p b).1 y
+  read_x p b y has read = subst (λ (at : ℕ × ℕ). old.reads at.0 at.1 y) (at_x v p b) (elim (it.only.reads (place d v p b).0 (place d v p b).1 y ((sound_apart d sound).region v p b has).public read) [
+    | inl (inl was) ↦ was
+    | inl (inr put) ↦ absurd (not_put p b y has put)
+    | inr down ↦ absurd (it.resumed.up down)
+  ])
 
   left_x : (p b : ℕ) (y : List ℕ) → HasBlock d v p b → new.leaves (place d v p b).0 (place d v p b).1 y → old.leaves (place x v p b).0 (place x v p b).1 y
   left_x p b y has left = subst (λ (at : ℕ × ℕ). old.leaves at.0 at.1 y) (at_x v p b) (left_d p b y has left)
@@ -172,9 +183,9 @@ module _ (old new : Meaning) (k : Marked) (law : Lawful old) (can : CanImport ol
         let was = was_entry e in_use in
         let n : ℕ = bit_in_maps d v p b / 4096 in
         let log = log_x e was n w (left_log e n w in_use low left) in
-        let at_p' = left_x p b y has at_p in
-        let at_q' = left_x q b z has_q at_q in
-        let tell = told (place x v p b).0 (place x v p b).1 y at_p' in
+        let at_p' = read_x p b y has at_p in
+        let at_q' = read_x q b z has_q at_q in
+        let tell = told (place x v p b).0 (place x v p b).1 y (law.shown (place x v p b).0 (place x v p b).1 y at_p') in
         (rests.each i x (image_left tell) (is_found tell) clean).so was.entry p q b y z w was.used (has_x p b has) (live_x q on_q) (in_x b inside)
         (subst (λ (t : ℕ). t / 4096 < was.entry.blocks) (same_bit p b) (let same = was.blocks in omega (arith, low, same)))
         (subst (λ (t : ℕ). old.leaves was.entry.disk (was.entry.start + t / 4096) w) (same_bit p b) log) (subst (λ (t : ℕ). is_marked w (t % 4096) ≡ false) (same_bit p b) off) at_p' at_q';

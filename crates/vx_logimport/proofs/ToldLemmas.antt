@@ -25,7 +25,7 @@ use Rattle.vx_group.proofs.HoldLemmas.{wide_shape}
 use Rattle.vx_group.proofs.TrustingLemmas.{used_trusted}
 use Rattle.vx_grouplogs.specs.On.{VolumeOn}
 use Rattle.vx_grouplogs.proofs.LogShape.{run_back}
-use Rattle.vx_logimport.specs.Covers.{ConfigCovers, DisksTell, LogSettled}
+use Rattle.vx_logimport.specs.Covers.{ConfigCovers, DisksCover, DisksTell, LogSettled}
 
 the_entry : (o : Option LogEntry) (f h : LogEntry) → o ≡ Some f → o ≡ Some h → h ≡ f
 the_entry o f h one two = let both : Some h ≡ Some f = sym two ∙ one in cc
@@ -78,6 +78,11 @@ module _ (c x : Config) (v : ℕ) (l : Logs) (m : Meaning) (lt : v < length c.vo
         by e k y z in_use low left_y left_z (Some d) at = only_one d at e k y in_use.is low left_y ∙ sym (only_one d at e k z in_use.is low left_z)
 
 -- fewer images tell what all told
+pub cover_less : (v : ℕ) (m m' : Meaning) → m'.units ≡ m.units → ((u : ℕ) → m'.size u ≡ m.size u) → ((u b : ℕ) (y : List ℕ) → m'.leaves u b y → m.leaves u b y) → DisksCover v m → DisksCover v m'
+cover_less v m m' units size less tells = record {
+  covers = λ i x each is. covers_less x v m m' less (tells.covers i x (λ u b. less u b (i u b) (each u b)) (sym (found_same m m' units size (λ u. true) i) ∙ is));
+}
+
 pub tells_less : (v : ℕ) (m m' : Meaning) → m'.units ≡ m.units → ((u : ℕ) → m'.size u ≡ m.size u) → ((u b : ℕ) (y : List ℕ) → m'.leaves u b y → m.leaves u b y) → DisksTell v m → DisksTell v m'
 tells_less v m m' units size less tells = record {
   covers = λ i x each is. covers_less x v m m' less (tells.covers i x (λ u b. less u b (i u b) (each u b)) (sym (found_same m m' units size (λ u. true) i) ∙ is));

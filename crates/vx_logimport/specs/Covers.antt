@@ -25,7 +25,11 @@ pub record ConfigCovers (x : Config) (v : ℕ) (m : Meaning) : Type 0 where
 pub record LogSettled (x : Config) (v : ℕ) (m : Meaning) : Type 0 where
   pub one : (e : LogEntry) (k : ℕ) (y z : List ℕ) → InUse x v Drl e → k < map_blocks (blocks_of x.volumes v) → m.leaves e.disk (e.start + k) y → m.leaves e.disk (e.start + k) z → y ≡ z
 
--- both of each configuration that is found in what a crash may leave
+-- the first of each configuration that is found in what a crash may leave
+pub record DisksCover (v : ℕ) (m : Meaning) : Type 0 where
+  pub covers : (i : Image) (x : Config) → Each m.leaves i → found m i ≡ Found x → ConfigCovers x v m
+
+-- and both
 pub record DisksTell (v : ℕ) (m : Meaning) : Type 0 where
   pub covers : (i : Image) (x : Config) → Each m.leaves i → found m i ≡ Found x → ConfigCovers x v m
   pub settled : (i : Image) (x : Config) → Each m.leaves i → found m i ≡ Found x → LogSettled x v m

@@ -30,6 +30,7 @@ use Rattle.vx_group.specs.Stands.{inner_meaning}
 use Rattle.vx_grouplogs.specs.Covering.{AllAlike}
 use Rattle.vx_groupmaps.specs.Loading.{DeviceRose, on_failed_disk}
 use Rattle.vx_grouplogs.specs.On.{VolumeOn}
+use Rattle.vx_logimport.specs.Rests.{rests}
 use Rattle.vx_logimport.specs.declared.importing.Marked.{Marked}
 
 abbrev pub within_or : ℕ → Option LogEntry → Bool
@@ -40,16 +41,16 @@ within_or good (Some e) = bit_at good e.disk
 abbrev pub log_within : ℕ → Config → ℕ → VolumeLog → Bool
 log_within good c v log = within_or good (log_of c v log)
 
--- A log that was read is the one of the volume, which is in use, with bytes that a read gives, on a disk of the set; its marks are taken off as soon as
--- that is asked. None was read only where none is in use, where its disk is held as failed or is none of the set, where a device call failed, or where
--- the volume has no block.
-abbrev pub LogRead : ℕ → Config → ℕ → Option Dirty → Meaning → Meaning → Type 0
-LogRead good c v None old new = (is_used c v Drl ≡ false) ⊎ (on_failed_disk c v Drl ≡ true) ⊎ DeviceRose old new ⊎ (blocks_of c.volumes v ≡ 0) ⊎ (log_within good c v Drl ≡ false)
-LogRead good c v (Some d) old new = (is_used c v Drl ≡ true) × DrlFits c v d × IsRead d.map old × (MOST_HELD < d.held) × (log_within good c v Drl ≡ true)
+-- A log that was read is the one of the volume, which is in use, with bytes that a read gives, on a disk of the set, and one of those that may be read; its marks
+-- are taken off as soon as that is asked. None was read only where none is in use, where its disk is held as failed or is none of the set, where a device call
+-- failed, where the volume has no block, or where it is none of those that may be.
+abbrev pub LogRead : ℕ → List Bool → Config → ℕ → Option Dirty → Meaning → Meaning → Type 0
+LogRead good told c v None old new = (is_used c v Drl ≡ false) ⊎ (on_failed_disk c v Drl ≡ true) ⊎ DeviceRose old new ⊎ (blocks_of c.volumes v ≡ 0) ⊎ (log_within good c v Drl ≡ false) ⊎ (rests told v ≡ false)
+LogRead good told c v (Some d) old new = (is_used c v Drl ≡ true) × DrlFits c v d × IsRead d.map old × (MOST_HELD < d.held) × (log_within good c v Drl ≡ true) × (rests told v ≡ true)
 
 -- the same of the log of each volume
-pub record LogsRead (good : ℕ) (c : Config) (logs : List Logs) (old new : Meaning) : Type 0 where
-  pub each : (v : ℕ) (l : Logs) → slice_get logs v ≡ Some l → LogRead good c v l.drl old new
+pub record LogsRead (good : ℕ) (told : List Bool) (c : Config) (logs : List Logs) (old new : Meaning) : Type 0 where
+  pub each : (v : ℕ) (l : Logs) → slice_get logs v ≡ Some l → LogRead good told c v l.drl old new
 
 -- the logs of a volume, of which the dirty region log is this one
 abbrev pub dirty_logs : Option Dirty → Logs
@@ -73,9 +74,9 @@ pub record OnStopped (x opened : Config) (logs : List Logs) (u b : ℕ) (value :
   pub at : place opened volume plex number ≡ (u, b)
 
 -- The group goes on as one that was imported, and of its plexes only blocks of volumes that stopped uncleanly were written, of regions that their logs
--- have, as they were read. A log was read only on a disk that the configuration which was found holds as good. Each log stands; of each block of a volume
+-- have, as they were read. A log was read only where it may be, on a disk that the configuration which was found holds as good. Each log stands; of each block of a volume
 -- that stopped uncleanly a crash leaves one value.
-pub record ResumedBy (old : Meaning) (k : Marked) (new : Meaning) : Type 0 where
+pub record ResumedBy (told : List Bool) (old : Meaning) (k : Marked) (new : Meaning) : Type 0 where
   pub resumed : Resumed old k.core new
   pub config : Config
   pub opened : Config
@@ -84,7 +85,7 @@ pub record ResumedBy (old : Meaning) (k : Marked) (new : Meaning) : Type 0 where
   pub on : (v p : ℕ) → IsTrue (active k.core.config v p) → IsTrue (active opened v p)
   pub goes : Goes Nothing (group_meaning opened (λ v. 0) old) (inner_meaning k.core new)
   pub good : k.good ≡ good_set config.disks
-  pub read : LogsRead k.good opened k.logs.items old new
+  pub read : LogsRead k.good told opened k.logs.items old new
   pub only : Acts (OnStopped config opened k.logs.items) AnyImage old new
   pub logs : AreDirtyLogs (length k.core.config.volumes) k.logs.items
   pub stand : (v : ℕ) → v < length k.core.config.volumes → VolumeOn k.core.config v (dirty_logs (drl_at k.logs.items v)) new
@@ -92,6 +93,6 @@ pub record ResumedBy (old : Meaning) (k : Marked) (new : Meaning) : Type 0 where
   pub alike : (v : ℕ) → v < length k.core.config.volumes → is_unsure k.stopped v ≡ true → AllAlike k.core.config v new
 
 -- how such an import ends
-abbrev pub MarkedEnds : Meaning → Meaning → Result Marked Stop → Type 0
-MarkedEnds old new (Ok k) = ResumedBy old k new
-MarkedEnds old new (Err stop) = ImportStops old new stop
+abbrev pub MarkedEnds : List Bool → Meaning → Meaning → Result Marked Stop → Type 0
+MarkedEnds told old new (Ok k) = ResumedBy told old k new
+MarkedEnds told old new (Err stop) = ImportStops old new stop

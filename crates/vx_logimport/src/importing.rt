@@ -1,9 +1,10 @@
 // A group that is imported by its logs.
-ghost use Rattle.std.specs.Prelude.{ℕ};
+ghost use Rattle.std.specs.Prelude.{◌≡◌, ℕ, true};
 ghost use Rattle.vx_group.specs.Creates.{SameUnits};
 ghost use Rattle.vx_group.specs.Resumes.{CanImport};
-ghost use Rattle.vx_logimport.specs.Covers.{DisksTell};
+ghost use Rattle.vx_logimport.specs.Covers.{DisksCover, DisksTell};
 ghost use Rattle.vx_logimport.specs.Marked.{MarkedEnds};
+ghost use Rattle.vx_logimport.specs.Rests.{rests};
 
 use crate::reading::read_logs;
 use std::alloc::Global;
@@ -31,12 +32,18 @@ pub struct Marked {
 /// regions that their log has are copied from the plex that they are gone by, or all of them where no log was read, and it ends with a commit.
 ///
 /// The caller says that where a log on the disks has not a region, the plexes that take part have one value there, whatever a crash leaves; so
-/// nothing else needs a copy. A log that could not be read, or lies on a disk that was held as failed, is not in memory: the caller commits it as lost before it writes. A refusal changes
-/// no block of a volume but as a crash might have left it. It takes memory.
-pub fn import_marked<S: Shelf>(alloc: Global, shelf: &mut S) -> Result<Marked, Stop>
+/// nothing else needs a copy. It says besides of which volumes a crash leaves one value of each block of the log; no other log is read. A log that could not
+/// be read, or lies on a disk that was held as failed, is not in memory: the caller commits it as lost before it writes. A refusal changes no block of a
+/// volume but as a crash might have left it. It takes memory.
+pub fn import_marked<S: Shelf>(
+    alloc: Global,
+    shelf: &mut S,
+    told: &[bool; MOST_VOLUMES],
+) -> Result<Marked, Stop>
     requires can { CanImport (S.meaning shelf.old) }
-    requires tells { (v : ℕ) → DisksTell v (S.meaning shelf.old) }
-    ensures ends { MarkedEnds (S.meaning shelf.old) (S.meaning shelf.new) result }
+    requires covers { (v : ℕ) → DisksCover v (S.meaning shelf.old) }
+    requires tells { (v : ℕ) → rests told.now v ≡ true → DisksTell v (S.meaning shelf.old) }
+    ensures ends { MarkedEnds told.now (S.meaning shelf.old) (S.meaning shelf.new) result }
     ensures same { SameUnits (S.meaning shelf.old) (S.meaning shelf.new) }
 {
     if shelf.is_down() {
@@ -54,7 +61,7 @@ pub fn import_marked<S: Shelf>(alloc: Global, shelf: &mut S) -> Result<Marked, S
             } = plan;
             let mut core = core;
             let good = core.good;
-            match read_logs(alloc, shelf, &core.config, good) {
+            match read_logs(alloc, shelf, &core.config, good, told) {
                 Ok(logs) => match renew(shelf, &mut core, &stopped, &sources, logs.as_slice()) {
                     Ok(()) => Ok(Marked {
                         core,

@@ -18,7 +18,7 @@ use Rattle.vx_turn.specs.declared.ask.Job.TheVariants.{Apply, Fetch, Acked, Wait
 use Rattle.vx_turn.specs.declared.ask.JobReply.{JobReply}
 use Rattle.vx_turn.specs.declared.ask.JobReply.TheVariants as job
 use Rattle.vx_turn.specs.declared.meaning.Counts.{Counts}
-use Rattle.vx_turn.specs.Acting.{LiesAmong, RepliesBy, LogsUpdate, Nets, SaysJob, volumes_after}
+use Rattle.vx_turn.specs.Acting.{LiesAmong, HoldsBy, RepliesBy, LogsUpdate, Nets, SaysJob, volumes_after}
 use Rattle.vx_turn.specs.Volumes.{as_content, blocks_as}
 use Rattle.vx_turn.proofs.Histories.{among-split}
 use Rattle.vx_settle.proofs.Bringings.{among-right, among-one}
@@ -64,15 +64,17 @@ abbrev pub answer : Core → Call → Answer
 answer c call = answer_of (as_content (blocks_after_all blank_volume c.slips.items ∷ [])) RING_BLOCKS call
 
 -- a refusal changes counts alone
-pub does-refused : (c d : Core) (call : Call) (cause : No) → d.slips.items ≡ c.slips.items → d.nets ≡ c.nets → c.faults ≤ d.faults → c.held ≤ d.held → RepliesBy (answer c call) (length c.slips.items) call (Refused cause) (counts c) (counts d)
-    → Does c (Ordered call) (Replied (Refused cause)) d
-does-refused c d call cause slips nets faults held ok xs ys is = record {
+pub does-refused : (c d : Core) (call : Call) (cause : No) → d.slips.items ≡ c.slips.items → d.nets ≡ c.nets → c.faults ≤ d.faults → c.held ≤ d.held → HoldsBy (Ordered call) (Replied (Refused cause)) c.held d.held
+    → RepliesBy (answer c call) (length c.slips.items) call (Refused cause) (counts c) (counts d) → Does c (Ordered call) (Replied (Refused cause)) d
+does-refused c d call cause slips nets faults held holds ok xs ys is = record {
   rises = (faults, held);
+  held = holds;
   replied = inr ok;
   tells = tt;
   volumes_is = ap (λ l. blocks_after_all blank_volume l ∷ []) slips ∙ same call;
   ring_is = refl;
   head_is = ap (λ l. length l) slips;
+  applied = (let same : length d.slips.items ≡ length c.slips.items = ap (λ l. length l) slips in omega (arith, same), omega arith);
   line_is = refl;
   keeps = λ u m. inl (subst (λ l. LiesAmong u (kept_from 0 l)) slips m);
   logged = λ u l. absurd (none call u l);
@@ -120,7 +122,7 @@ accepts : (c : Core) (v s : ℕ) (bytes : List ℕ) → v ≡ 0 → s + blocks_i
 accepts c v s bytes is le some few = λ i. write_answer (sym (right-write (blocks_in bytes) some few) i) (sym (within c v s (blocks_in bytes) is le) i)
 
 pub write-range : (c : Core) (v s : ℕ) (bytes : List ℕ) → (0 < v) ⊎ (VOLUME_BLOCKS < s + blocks_in bytes) → 0 < blocks_in bytes → blocks_in bytes ≤ 16 → Does c (Ordered (WriteBlocks v s bytes)) (Replied (Refused no.Range)) c
-write-range c v s bytes how some few = does-refused c c (WriteBlocks v s bytes) no.Range refl refl (omega arith) (omega arith)
+write-range c v s bytes how some few = does-refused c c (WriteBlocks v s bytes) no.Range refl refl (omega arith) (omega arith) (inl refl)
     (subst (λ a. RepliesBy a (length c.slips.items) (WriteBlocks v s bytes) (Refused no.Range) (counts c) (counts c)) over tt)
   where
     over : OutOfRange ≡ answer c (WriteBlocks v s bytes)
@@ -129,7 +131,7 @@ write-range c v s bytes how some few = does-refused c c (WriteBlocks v s bytes) 
 -- a write that is held
 pub write-held : (c e d : Core) (v s : ℕ) (bytes : List ℕ) (cause : No) → v ≡ 0 → s + blocks_in bytes ≤ VOLUME_BLOCKS → 0 < blocks_in bytes → blocks_in bytes ≤ 16 → e.slips.items ≡ c.slips.items → e.nets ≡ c.nets → e.faults ≡ c.faults → e.held ≡ c.held
     → HeldFor e cause d → Does c (Ordered (WriteBlocks v s bytes)) (Replied (Refused cause)) d
-write-held c e d v s bytes cause is le some few slips nets faults held h = does-refused c d (WriteBlocks v s bytes) cause (h.2 ∙ slips) (h.3 ∙ nets) (let a = h.4 in omega (arith, a, faults)) (let a = h.1.0 in omega (arith, a, held))
+write-held c e d v s bytes cause is le some few slips nets faults held h = does-refused c d (WriteBlocks v s bytes) cause (h.2 ∙ slips) (h.3 ∙ nets) (let a = h.4 in omega (arith, a, faults)) (let a = h.1.0 in omega (arith, a, held)) (inr (h.0, tt))
     (subst (λ a. RepliesBy a (length c.slips.items) (WriteBlocks v s bytes) (Refused cause) (counts c) (counts d)) (accepts c v s bytes is le some few) (inr (h.0, tt, subst (λ n. Rattle.vx_turn.specs.Acting.CountRose n d.held) held h.1.1)))
 
 -- a write that is logged
@@ -137,11 +139,13 @@ pub write-logged : (c d : Core) (v s : ℕ) (bytes : List ℕ) → v ≡ 0 → s
     → d.nets ≡ c.nets → d.faults ≡ c.faults → d.held ≡ c.held → Does c (Ordered (WriteBlocks v s bytes)) (Replied (Logged (length d.slips.items))) d
 write-logged c d v s bytes is le some few slips nets faults held xs ys trail = record {
   rises = (omega (arith, faults), omega (arith, held));
+  held = held;
   replied = inr (subst (λ a. RepliesBy a (length c.slips.items) (WriteBlocks v s bytes) (Logged (length d.slips.items)) (counts c) (counts d)) (accepts c v s bytes is le some few) long);
   tells = tt;
   volumes_is = ap (λ l. l ∷ []) (ap (blocks_after_all blank_volume) slips ∙ blocks-snoc blank_volume c.slips.items slip);
   ring_is = refl;
   head_is = refl;
+  applied = (omega (arith, long), omega arith);
   line_is = refl;
   keeps = λ u m. ⊎_elim (λ (o : LiesAmong u (kept_from 0 c.slips.items)). inl o) (λ (o : LiesAmong u (update_for (length d.slips.items) slip ∷ [])). inr (sym (among-one u (update_for (length d.slips.items) slip) o)))
       (among-split u (kept_from 0 c.slips.items) (update_for (length d.slips.items) slip ∷ []) (subst (LiesAmong u) kept m));
@@ -166,18 +170,18 @@ read_answer : Core → ℕ → ℕ → ℕ → Bool → Bool → Answer
 read_answer c v s n wrong over = if wrong then WrongSize else if over then OutOfRange else Shows (blocks_from (as_content (blocks_after_all blank_volume c.slips.items ∷ [])) v s n)
 
 pub read-size : (c : Core) (v s n : ℕ) → is_wrong_count n ≡ true → Does c (Ordered (Read v s n)) (Replied (Refused no.Size)) c
-read-size c v s n wrong = does-refused c c (Read v s n) no.Size refl refl (omega arith) (omega arith)
+read-size c v s n wrong = does-refused c c (Read v s n) no.Size refl refl (omega arith) (omega arith) (inl refl)
     (subst (λ a. RepliesBy a (length c.slips.items) (Read v s n) (Refused no.Size) (counts c) (counts c)) (λ i. if sym wrong i then WrongSize else if is_past (as_content (blocks_after_all blank_volume c.slips.items ∷ [])) v s n then OutOfRange
     else Shows (blocks_from (as_content (blocks_after_all blank_volume c.slips.items ∷ [])) v s n)) tt)
 
 pub read-range : (c : Core) (v s n : ℕ) → (0 < v) ⊎ (VOLUME_BLOCKS < s + n) → 0 < n → n ≤ 16 → Does c (Ordered (Read v s n)) (Replied (Refused no.Range)) c
-read-range c v s n how some few = does-refused c c (Read v s n) no.Range refl refl (omega arith) (omega arith)
+read-range c v s n how some few = does-refused c c (Read v s n) no.Range refl refl (omega arith) (omega arith) (inl refl)
     (subst (λ a. RepliesBy a (length c.slips.items) (Read v s n) (Refused no.Range) (counts c) (counts c)) (λ i. if sym (right-count n some few) i then WrongSize else if sym (past c v s n how some) i then OutOfRange
     else Shows (blocks_from (as_content (blocks_after_all blank_volume c.slips.items ∷ [])) v s n)) tt)
 
 -- each read fails
 pub read-fault : (c d : Core) (v s n disk : ℕ) → v ≡ 0 → s + n ≤ VOLUME_BLOCKS → 0 < n → n ≤ 16 → d.slips ≡ c.slips → d.nets ≡ c.nets → RaisesCount c.faults d.faults → d.held ≡ c.held → Does c (Ordered (Read v s n)) (Replied (Refused (no.Device disk))) d
-read-fault c d v s n disk is le some few slips nets faults held = does-refused c d (Read v s n) (no.Device disk) (ap (λ x. x.items) slips) nets faults.0 (omega (arith, held))
+read-fault c d v s n disk is le some few slips nets faults held = does-refused c d (Read v s n) (no.Device disk) (ap (λ x. x.items) slips) nets faults.0 (omega (arith, held)) (inl held)
     (subst (λ a. RepliesBy a (length c.slips.items) (Read v s n) (Refused (no.Device disk)) (counts c) (counts d)) (λ i. if sym (right-count n some few) i then WrongSize else if sym (within c v s n is le) i then OutOfRange
     else Shows (blocks_from (as_content (blocks_after_all blank_volume c.slips.items ∷ [])) v s n)) (inl (tt, faults.1)))
 
@@ -186,11 +190,13 @@ pub does-job : (c d : Core) (j : Job) (reply : JobReply) (into : Update) → d.s
     → Does c (Charged j) (Worked reply into) d
 does-job c d j reply into slips faults held nets says xs ys is = record {
   rises = (omega (arith, faults), omega (arith, held));
+  held = held;
   replied = tt;
   tells = says xs ys;
   volumes_is = ap (λ l. blocks_after_all blank_volume l ∷ []) slips;
   ring_is = refl;
   head_is = ap (λ l. length l) slips;
+  applied = (let same : length d.slips.items ≡ length c.slips.items = ap (λ l. length l) slips in omega (arith, same), omega arith);
   line_is = refl;
   keeps = λ u m. inl (subst (λ l. LiesAmong u (kept_from 0 l)) slips m);
   logged = λ u l. absurd l;
@@ -199,8 +205,8 @@ does-job c d j reply into slips faults held nets says xs ys is = record {
   trail_is = is;
 }
 
-pub does-apply : (c : Core) (n m : ℕ) (into : Update) → m ≡ length c.slips.items → Does c (Charged (Apply n)) (Worked (job.Done m) into) c
-does-apply c n m into is = does-job c c (Apply n) (job.Done m) into refl refl refl refl (λ xs ys. (omega (arith, is), inr (omega (arith, is))))
+pub does-apply : (c : Core) (n : ℕ) (into : Update) → Does c (Charged (Apply n)) (Worked job.Nothing into) c
+does-apply c n into = does-job c c (Apply n) job.Nothing into refl refl refl refl (λ xs ys. omega arith)
 
 pub does-wait : (c : Core) (n : ℕ) (into : Update) → Does c (Charged (Wait n)) (Worked (job.Done n) into) c
 does-wait c n into = does-job c c (Wait n) (job.Done n) into refl refl refl refl (λ xs ys. refl)

@@ -44,11 +44,13 @@ read-range v s count e some = subst (λ (b : Bool × Bool). RepliesBy (if b.0 th
 pub refused : (xs ys : Events) (call : Call) (cause : No) → IsRefusedCall call cause → ys ≡ xs ++ (Ordered call, Replied (Refused cause)) ∷ [] → EngineActs (shut xs) (Ordered call) (Replied (Refused cause)) (shut ys)
 refused xs ys call cause ok is = record {
   rises = (omega arith, omega arith);
+  held = inl refl;
   replied = inr ok;
   tells = tt;
   volumes_is = same call;
   ring_is = refl;
   head_is = refl;
+  applied = (omega arith, omega arith);
   line_is = refl;
   keeps = λ u m. inl m;
   logged = λ u l. absurd (none call u l);
@@ -68,11 +70,13 @@ refused xs ys call cause ok is = record {
 pub worked : (xs ys : Events) (j : Job) (reply : JobReply) (into : Update) → IsSaid j reply → NamesLink 2 j → ys ≡ xs ++ (Charged j, Worked reply into) ∷ [] → EngineActs (shut xs) (Charged j) (Worked reply into) (shut ys)
 worked xs ys j reply into ok link is = record {
   rises = (omega arith, omega arith);
+  held = refl;
   replied = tt;
   tells = ok xs ys into link;
   volumes_is = refl;
   ring_is = refl;
   head_is = refl;
+  applied = (omega arith, omega arith);
   line_is = refl;
   keeps = λ u m. inl m;
   logged = λ u l. absurd l;
@@ -90,8 +94,8 @@ worked xs ys j reply into ok link is = record {
     links (Acked link net stored) = (refl, λ i n m x y. let e : n ≡ m = one n m (sym x ∙ y) in (omega (arith, e), λ far. sym e))
     links (Wait n) = refl
 
-pub said-apply : (n : ℕ) → IsSaid (Apply n) (job.Done 0)
-said-apply n xs ys into link = (omega arith, inr (omega arith))
+pub said-apply : (n : ℕ) → IsSaid (Apply n) job.Nothing
+said-apply n xs ys into link = omega arith
 
 pub said-fetch : (n : ℕ) → 0 < n → IsSaid (Fetch n) job.Nothing
 said-fetch n some xs ys into link = some

@@ -1,5 +1,5 @@
 -- A peer that takes what it is handed does as a peer must.
-use Rattle.std.proofs.Common.{◌≡◌, ◌⊎◌, ℕ, zero, suc, ◌+◌, ◌<◌, ◌≤◌, [], ◌∷◌, ◌++◌, length, refl, ap, sym, ⊎_elim, inl, inr, arith, length-append, Bool, true, false, subst, slice_get, Some}
+use Rattle.std.proofs.Common.{◌≡◌, ◌∙◌, ◌⊎◌, ℕ, zero, suc, ◌+◌, ◌<◌, ◌≤◌, [], ◌∷◌, ◌++◌, length, refl, ap, sym, ⊎_elim, inl, inr, arith, length-append, Bool, true, false, subst, slice_get, Some}
 use Rattle.std.specs.Prelude.{MatchBool}
 use Rattle.vx_model.specs.Content.{blocks_in}
 use Rattle.vx_model.specs.declared.call.Update.{Update}
@@ -17,22 +17,22 @@ hands-taken s t u ack a net stored = ⊎_elim
       goes = record { link = a.link; line = refl; sizes = refl; faults = omega (arith, f); net = omega (arith, n); stored = omega (arith, n) };
       net = net;
       stored = stored;
-      handed = inl o.0;
+      handed = inl (n, o.0);
       next = λ calm line number lies. absurd (o.2 (line, number, lies));
     })
-    (λ (o : ((t.handed.items ≡ s.handed.items) × RaisesCount s.faults t.faults) ⊎ ((t.handed.items ≡ s.handed.items ++ u ∷ []) × (t.faults ≡ s.faults))). ⊎_elim
+    (λ (o : ((t.handed.items ≡ s.handed.items) × RaisesCount s.faults t.faults) ⊎ ((t.handed.items ≡ s.handed.items ++ u ∷ []) × (t.faults ≡ s.faults) × IsNextUpdate (length s.handed.items) u)). ⊎_elim
     (λ (k : (t.handed.items ≡ s.handed.items) × RaisesCount s.faults t.faults). let n : length t.handed.items ≡ length s.handed.items = ap (λ l. length l) k.0 in let f = k.1.0 in record {
       goes = record { link = a.link; line = refl; sizes = refl; faults = f; net = omega (arith, n); stored = omega (arith, n) };
       net = net;
       stored = stored;
-      handed = inl k.0;
+      handed = inl (n, k.0);
       next = λ calm line number lies. absurd (calm k.1.1);
     })
-    (λ (k : (t.handed.items ≡ s.handed.items ++ u ∷ []) × (t.faults ≡ s.faults)). let n : length t.handed.items ≡ length (s.handed.items ++ u ∷ []) = ap (λ l. length l) k.0 in let m = length-append s.handed.items (u ∷ []) in let f = k.1 in record {
+    (λ (k : (t.handed.items ≡ s.handed.items ++ u ∷ []) × (t.faults ≡ s.faults) × IsNextUpdate (length s.handed.items) u). let n : length t.handed.items ≡ length (s.handed.items ++ u ∷ []) = ap (λ l. length l) k.0 in let m = length-append s.handed.items (u ∷ []) in let f = k.1 in record {
       goes = record { link = a.link; line = refl; sizes = refl; faults = omega (arith, f); net = omega (arith, n, m); stored = omega (arith, n, m) };
       net = net;
       stored = stored;
-      handed = inr (omega (arith, n, m), k.0);
+      handed = inr (record { handed = k.0; next = (k.2.0, k.2.1, tt); net = n ∙ m });
       next = λ calm line number lies. omega (arith, n, m);
     }) o) a.how
 

@@ -44,6 +44,7 @@ logging c events = record {
   volumes = blocks_after_all blank_volume c.slips.items ∷ [];
   ring = RING_BLOCKS;
   head = length c.slips.items;
+  applied = length c.slips.items;
   line = record { generation = 0; origin = 0 };
   kept = kept_from 0 c.slips.items;
   nets = c.nets;

@@ -24,7 +24,7 @@ pub record TakesNextUpdate (s : Taker) (u : Update) (t : Taker) : Type 0 where
   pub most : t.most ≡ s.most
   pub first : t.first ≡ s.first
   pub how : ((t.handed.items ≡ s.handed.items) × (t.faults ≡ s.faults) × (IsNextUpdate (length s.handed.items) u → ⊥))
-      ⊎ (((t.handed.items ≡ s.handed.items) × RaisesCount s.faults t.faults) ⊎ ((t.handed.items ≡ s.handed.items ++ u ∷ []) × (t.faults ≡ s.faults)))
+      ⊎ (((t.handed.items ≡ s.handed.items) × RaisesCount s.faults t.faults) ⊎ ((t.handed.items ≡ s.handed.items ++ u ∷ []) × (t.faults ≡ s.faults) × IsNextUpdate (length s.handed.items) u))
 
 -- each is of one of two links
 abbrev pub TakersOfTwo : List Taker → Type 0

@@ -37,7 +37,7 @@ no_counts = record { faults = 0; held = 0 }
 
 -- an engine without volumes and with two links, behind these events
 abbrev pub shut : Events → State
-shut events = record { volumes = []; ring = 0; head = 0; line = record { generation = 0; origin = 0 }; kept = []; nets = 0 ∷ 0 ∷ []; counts = no_counts; halted = false; trail = events }
+shut events = record { volumes = []; ring = 0; head = 0; applied = 0; line = record { generation = 0; origin = 0 }; kept = []; nets = 0 ∷ 0 ∷ []; counts = no_counts; halted = false; trail = events }
 
 -- a call on no volumes is refused so
 abbrev pub IsRefusedCall : Call → No → Type 0

@@ -57,7 +57,7 @@ fn reply_of(job: &Job) -> JobReply
     ensures { IsSaid job.now result }
 {
     match job {
-        Job::Apply { count: _ } => JobReply::Done(0),
+        Job::Apply { count: _ } => JobReply::Nothing,
         Job::Fetch { number } => {
             if *number > 0 {
                 JobReply::Nothing

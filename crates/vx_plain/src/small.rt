@@ -222,7 +222,8 @@ impl Core {
         ensures { Does self.old (Charged job.now) (Worked result into.new) self.new }
     {
         match job {
-            Job::Apply { count: _ } => JobReply::Done(self.slips.len() as u64),
+            // What is logged is in the volume at once.
+            Job::Apply { count: _ } => JobReply::Nothing,
             Job::Fetch { number } => self.fetch(*number, into),
             Job::Acked { link, net, stored } => self.acked(*link, *net, *stored),
             Job::Wait { number } => self.wait(*number),

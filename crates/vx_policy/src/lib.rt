@@ -1,6 +1,6 @@
 //! Whether a write is let in, by the links of its site and the room that each leaves in the log.
 //!
-//! Room is in blocks of 512 bytes of the ring; a write of c blocks takes c + 1 of them. The rule itself stands in `vx_model`
+//! Room is in blocks of 512 bytes of the ring; a write of c blocks takes c + 1 of them. The rule itself stands in `vx_history`
 //! (`Admission`). No call takes memory.
 #![tactic(auto)]
 

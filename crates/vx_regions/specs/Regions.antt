@@ -2,6 +2,7 @@
 use Rattle.std.specs.Prelude.{◌≡◌, ℕ, ◌*◌, ◌-◌, Bool, ◌&&◌, ltb, min, List, length}
 use Rattle.vx_model.specs.Content.{Write, blocks_in}
 use Rattle.vx_model.specs.declared.call.Update.{Update}
+use Rattle.vx_model.specs.declared.history.Line.{Line}
 use Rattle.vx_model.specs.declared.limits.TheConstants.{REGION}
 use Rattle.vx_disk.specs.Moves.{Moves, Union}
 use Rattle.vx_disk.specs.Shelf.{Meaning}
@@ -13,9 +14,9 @@ use Rattle.vx_rvg.specs.Views.{Core, Waits, last_of, unit_of}
 use Rattle.vx_secondary.specs.Logging.{SameGroup}
 use Rattle.vx_secondary.specs.Receivers.{receiver_of}
 
--- what the rule says of a region of this replay, on the group's line
-abbrev pub region_action : Core → List Update → (id : ℕ) → QAction
-region_action c us id = (secondary_step (receiver_of c us) (Region c.log.header.state.line id)).action
+-- what the rule says of a region of this line and replay
+abbrev pub region_action : Core → List Update → Line → (id : ℕ) → QAction
+region_action c us line id = (secondary_step (receiver_of c us) (Region line id)).action
 
 -- whether the volume is there and has the region
 abbrev pub volume_has_region : Core → (size : ℕ → ℕ) → (vol region : ℕ) → Bool

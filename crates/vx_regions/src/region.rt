@@ -9,21 +9,18 @@ ghost use Rattle.vx_rvg.specs.Views.{unit_of};
 ghost use Rattle.vx_secondary.specs.Logging.{EndsLogging};
 
 use vx_disk::Shelf;
-use vx_model::No;
 use vx_model::limits::REGION;
+use vx_model::{Line, No};
 use vx_replay::{QAction, QEvent};
 use vx_rvg::Rvg;
 use vx_secondary::{Secondary, Waiting, receiver};
 
-// What the rule says of a region of this replay.
-fn action_of<S: Shelf>(rvg: &Rvg<S>, waiting: &Waiting, id: u64) -> QAction
-    ensures { result ≡ region_action rvg.now.core waiting.now id }
+// What the rule says of a region of this line and replay.
+fn action_of<S: Shelf>(rvg: &Rvg<S>, waiting: &Waiting, line: &Line, id: u64) -> QAction
+    ensures { result ≡ region_action rvg.now.core waiting.now line.now id }
 {
     let mut state = receiver(rvg, waiting);
-    let event = QEvent::Region {
-        line: state.line,
-        id,
-    };
+    let event = QEvent::Region { line: *line, id };
     vx_replay::secondary(&mut state, &event)
 }
 
@@ -90,8 +87,8 @@ fn store<S: Shelf>(
     }
 }
 
-/// Takes a region of a replay with this id, on the group's line, by the rule of a replay's receiver: a region of 64 blocks begins at 64
-/// times its number, and the last one of a volume may be shorter. Where it is to be stored, all that is logged is brought into the
+/// Takes a region of a replay of this line and id, by the rule of a replay's receiver: a region of 64 blocks begins at 64 times its
+/// number, and the last one of a volume may be shorter. Where it is to be stored, all that is logged is brought into the
 /// volumes, and its blocks are put there, durably, without the log. Any other answer changes nothing.
 ///
 /// Refusals, in this order: 20 where a call answered 7 before, and 3 where the region is to be stored and its volume is not there or
@@ -99,6 +96,7 @@ fn store<S: Shelf>(
 /// device call failed: then each of the blocks is old or new, and the group is halted. 6 where the shelf is down.
 pub fn store_region<S: Shelf>(
     secondary: &mut Secondary<S>,
+    line: &Line,
     id: u64,
     vol: u32,
     region: u64,
@@ -108,12 +106,12 @@ pub fn store_region<S: Shelf>(
     requires whole { volume_has_region secondary.old.rvg.core (S.meaning secondary.old.rvg.shelf).size vol region ≡ true
         → blocks_in bytes.now ≡ region_blocks ((S.meaning secondary.old.rvg.shelf).size (unit_of secondary.old.rvg.core.units.vols vol)) region }
     ensures halted { (disk : ℕ) → secondary.old.rvg.core.halted ≡ Some disk → (result ≡ Err (Halted disk)) × (secondary.new.rvg ≡ secondary.old.rvg) }
-    ensures action { IfOk result (λ a. a ≡ region_action secondary.old.rvg.core secondary.old.waiting id) }
-    ensures unchanged { secondary.old.rvg.core.halted ≡ None → (region_action secondary.old.rvg.core secondary.old.waiting id ≡ Store → ⊥)
-        → (result ≡ Ok (region_action secondary.old.rvg.core secondary.old.waiting id)) × (secondary.new.rvg ≡ secondary.old.rvg) }
-    ensures range { secondary.old.rvg.core.halted ≡ None → region_action secondary.old.rvg.core secondary.old.waiting id ≡ Store
+    ensures action { IfOk result (λ a. a ≡ region_action secondary.old.rvg.core secondary.old.waiting line.now id) }
+    ensures unchanged { secondary.old.rvg.core.halted ≡ None → (region_action secondary.old.rvg.core secondary.old.waiting line.now id ≡ Store → ⊥)
+        → (result ≡ Ok (region_action secondary.old.rvg.core secondary.old.waiting line.now id)) × (secondary.new.rvg ≡ secondary.old.rvg) }
+    ensures range { secondary.old.rvg.core.halted ≡ None → region_action secondary.old.rvg.core secondary.old.waiting line.now id ≡ Store
         → volume_has_region secondary.old.rvg.core (S.meaning secondary.old.rvg.shelf).size vol region ≡ false → (result ≡ Err Range) × (secondary.new.rvg ≡ secondary.old.rvg) }
-    ensures stores { region_action secondary.old.rvg.core secondary.old.waiting id ≡ Store
+    ensures stores { region_action secondary.old.rvg.core secondary.old.waiting line.now id ≡ Store
         → OnOk result (StoresInto secondary.old.rvg.core secondary.new.rvg.core (region_write vol region bytes.now) (S.meaning secondary.old.rvg.shelf) (S.meaning secondary.new.rvg.shelf)) }
     ensures ends { secondary.old.rvg.core.halted ≡ None → volume_has_region secondary.old.rvg.core (S.meaning secondary.old.rvg.shelf).size vol region ≡ true
         → IfErr result (EndsLogging 0 secondary.old.rvg.core secondary.new.rvg.core (S.meaning secondary.old.rvg.shelf) (S.meaning secondary.new.rvg.shelf)) }
@@ -123,7 +121,7 @@ pub fn store_region<S: Shelf>(
     if let Some(disk) = secondary.rvg.halted() {
         return Err(No::Halted { disk });
     }
-    match action_of(&secondary.rvg, &secondary.waiting, id) {
+    match action_of(&secondary.rvg, &secondary.waiting, line, id) {
         QAction::Store => store(secondary, vol, region, bytes),
         action => Ok(action),
     }

@@ -38,6 +38,38 @@ fn an_attach_copies_the_regions_that_were_missed(rt: HostRuntime) -> Result<(), 
     Ok(())
 }
 
+// A plex whose disk fails still as its group is deported has missed what its map has, and no more.
+#[test]
+fn a_plex_whose_disk_fails_in_a_deport_keeps_its_map(rt: HostRuntime) -> Result<(), Fail> {
+    let script =
+        b"site a 3 1024\ndg a init\nvol a v 256 mirrors=2 layout=concat log=none fmr=on rdpol=round\nwrite a v 10 1 aa\ndisk a 1 fail\nwrite a v 70 1 bb\ndg a deport\ndisk a 1 ok\ndg a import\nplex a v 1 att\nplex a v 1 att\n";
+    let wanted = "done\ndone\ndone\ndone\ndone\ndone\ndone\ndone\ndone\ndone 1\ndone 0\n";
+    assert!(rt; is_done(&rt, rt.alloc(), script, wanted)?);
+    Ok(())
+}
+
+// A log that could be neither marked nor lost keeps no group from coming back: its volume is copied whole.
+#[test]
+fn a_group_with_a_log_that_was_not_lost_comes_back(rt: HostRuntime) -> Result<(), Fail> {
+    let script =
+        b"site a 2 1024\ndg a init\nvol a v 256 mirrors=2 layout=concat log=drl fmr=off rdpol=round\nwrite a v 0 1 11\ndisk a 0 fail\ndisk a 1 fail\nwrite a v 100 1 22\ndisk a 0 ok\ndisk a 1 ok\ndg a deport\ndg a import\nread a v 0 1\nread a v 100 1\n";
+    let answer = answers(&rt, rt.alloc(), script)?;
+    assert!(rt; answer.status == Status::Done);
+    assert!(rt;
+        answer
+            .text
+            .as_slice()
+            .starts_with(b"done\ndone\ndone\ndone\ndone\ndone\nno 7 device ")
+    );
+    assert!(rt;
+        answer
+            .text
+            .as_slice()
+            .ends_with(b"\ndone\ndone\ndone\ndone\n11\n00\n")
+    );
+    Ok(())
+}
+
 // A fuse that lets no call of a write pass: nothing of it is kept.
 #[test]
 fn nothing_is_kept_of_a_write_that_was_not_begun(rt: HostRuntime) -> Result<(), Fail> {

@@ -18,6 +18,8 @@ mod groups;
 #[cfg(test)]
 mod halves;
 #[cfg(test)]
+mod limits;
+#[cfg(test)]
 mod lines;
 #[cfg(test)]
 mod links;

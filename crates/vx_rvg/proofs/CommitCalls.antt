@@ -4,17 +4,16 @@ use Rattle.std.proofs.lemmas.List.{take_all}
 use Rattle.vx_model.specs.declared.no.No.{No}
 use Rattle.vx_model.specs.declared.no.No.TheVariants as no
 use Rattle.vx_disk.specs.Causes.{DeviceCause}
-use Rattle.vx_disk.specs.Moves.{Moves, Run}
 use Rattle.vx_disk.specs.Shelf.{Meaning}
 use Rattle.vx_overlay.specs.Pending.{Pending}
 use Rattle.vx_overlay.specs.declared.entry.Entry.{Entry}
 use Rattle.vx_srl.specs.declared.kept.Kept.{Kept}
-use Rattle.vx_rvg.specs.Commits.{Committing, Halts, SealIs, Seals, StageIs, Stages, with_oldest, with_sealed, without_staged}
+use Rattle.vx_rvg.specs.Commits.{Halts, SealIs, Seals, StageIs, Stages, with_oldest, with_sealed, without_staged}
 use Rattle.vx_rvg.specs.Groups.{core_halted}
 use Rattle.vx_rvg.specs.Views.{Core, IsSound, IsSoundWith, applied_count, blocks_within, volume_size}
 use Rattle.vx_rvg.proofs.StagedCalls.{pending_is}
 use Rattle.vx_rvg.proofs.StagedSound.{waiting_is}
-use Rattle.vx_rvg.proofs.WriteSound.{SameSizes, moved_sizes, volume_same, within_same}
+use Rattle.vx_rvg.proofs.WriteSound.{SameSizes, volume_same, within_same}
 
 -- as many blocks wait of what is part of the log
 abbrev pub IsCounted : ℕ → Core → Meaning → Type 0
@@ -77,9 +76,9 @@ counted_halted w core m m' (no.Device disk) cause counted = counted
 counted_halted w core m m' no.Down cause counted = counted
 counted_halted w core m m' other cause counted = absurd cause
 
-module _ (w : ℕ) (core : Core) (m m' : Meaning) (counted : IsCounted w core m) (moves : Moves (Run core.units.srl 0 (core.log.ring + 2)) (Committing core m) m m') (c' : Core) where
+module _ (w : ℕ) (core : Core) (m m' : Meaning) (counted : IsCounted w core m) (same : SameSizes m m') (c' : Core) where
   here : IsCounted w core m'
-  here = counted_same w core m m' (moved_sizes (Run core.units.srl 0 (core.log.ring + 2)) (Committing core m) m m' moves) counted
+  here = counted_same w core m m' same counted
 
   kept_counted : c' ≡ core → IsCounted w c' m'
   kept_counted is = subst (λ (k : Core). IsCounted w k m') (sym is) here

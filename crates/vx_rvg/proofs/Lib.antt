@@ -13,9 +13,11 @@ pub mod LeftRest
 pub mod MakeStands
 pub mod MapStands
 pub mod MarkAbove
+pub mod MarkStaging
 pub mod MarkStands
 pub mod MarkThrough
 pub mod MarkedStands
+pub mod OverMarks
 pub mod PatchFacts
 pub mod ReadAnswers
 pub mod ReadStands

@@ -1,11 +1,11 @@
 -- A group that stands, while marks in its change maps change.
-use Rattle.std.proofs.Common.{◌≡◌, ◌∙◌, ◌⊎◌, inl, inr, ⊎_elim, ℕ, zero, suc, ◌+◌, ◌*◌, ◌/◌, ◌%◌, ◌<◌, ◌≤◌, Bool, true, false, List, [], ◌∷◌, length, get_or, Option, Some, None, MatchOption, IsTrue, IsFalse, refl, sym, ap, subst, arith}
+use Rattle.std.proofs.Common.{◌≡◌, ◌∙◌, ◌⊎◌, inl, inr, ⊎_elim, ℕ, zero, suc, ◌+◌, ◌*◌, ◌/◌, ◌%◌, ◌<◌, ◌≤◌, Bool, true, false, List, [], ◌∷◌, ◌++◌, length, take, get_or, Option, Some, None, MatchOption, IsTrue, IsFalse, refl, sym, ap, subst, arith, append-nil}
 use Rattle.std.specs.Prelude.{if◌then◌else◌, ltb}
 use Rattle.std.proofs.lemmas.Bool.{cases_lt, lt-ltb}
 use Rattle.std.proofs.lemmas.Bool.Decides.{nat_tests}
 use Rattle.std.proofs.lemmas.List.{get_or_past}
 use Rattle.std.proofs.lemmas.Option.{get_or_from_slice_get, slice_get-get_or, slice_get_within}
-use Rattle.vx_model.specs.Content.{block_of}
+use Rattle.vx_model.specs.Content.{Write, block_of}
 use Rattle.vx_model.specs.declared.no.No.{No}
 use Rattle.vx_model.specs.declared.no.No.TheVariants as no
 use Rattle.vx_model.specs.declared.units.Units.{Units}
@@ -19,20 +19,27 @@ use Rattle.vx_bitmap.specs.Maps.{Lies, MapOn, SamePlace, is_marked_in, map_block
 use Rattle.vx_bitmap.proofs.Blocks.{by_block}
 use Rattle.vx_dcm.specs.Places.{DcmLoaded, MapChanging, Maps, MapsBetween, SomeChanged}
 use Rattle.vx_overlay.specs.Writes.{newest_of}
+use Rattle.vx_ringlog.specs.Chain.{Recovers}
 use Rattle.vx_ringlog.specs.Logs.{Seal}
 use Rattle.vx_ringlog.proofs.Calls.{call_safe}
 use Rattle.vx_ringio.specs.Classes.{classes}
 use Rattle.vx_ringio.proofs.Following.{image_beside, tracks_beside}
+use Rattle.vx_srl.specs.Views.{Log}
+use Rattle.vx_srl.specs.declared.kept.Kept.{Kept}
+use Rattle.vx_rvg.specs.Commits.{HasStaged}
 use Rattle.vx_rvg.specs.Contents.{writes_of}
 use Rattle.vx_rvg.specs.Groups.{core_halted}
-use Rattle.vx_rvg.specs.Holdings.{Holding}
+use Rattle.vx_rvg.specs.Holdings.{Holding, with_writes}
 use Rattle.vx_rvg.specs.Marks.{HasAllMaps, Marking, MarksBetween, Remarks, blocks_over, map_run, marked_in, with_blocks_of_maps, with_marks}
-use Rattle.vx_rvg.specs.Stands.{FoundAs, HasMaps, HasMarks, KeepsMaps, Ready, Stands}
-use Rattle.vx_rvg.specs.Views.{Core, IsSound, unit_of}
-use Rattle.vx_rvg.proofs.ContentFacts.{found_having, found_held, has_content_beside, volume_there}
+use Rattle.vx_rvg.specs.StagedMarks.{FoundPart, StagedMarking, StagedRemarks}
+use Rattle.vx_rvg.specs.Stands.{FoundAs, HasMaps, HasMarks, KeepsMaps, ReadyWith}
+use Rattle.vx_rvg.specs.Views.{Core, IsSound, IsSoundWith, unit_of}
+use Rattle.vx_rvg.proofs.ContentFacts.{has_content_beside, volume_there}
 use Rattle.vx_rvg.proofs.MapStands.{loaded_lies}
 use Rattle.vx_rvg.proofs.SaveCalls.{halted_sound}
-use Rattle.vx_rvg.proofs.WriteSound.{SameSizes, kept_sound, loaded_same}
+use Rattle.vx_rvg.proofs.StagedSound.{kept_with}
+use Rattle.vx_rvg.proofs.StagedStands.{none_left, none_staged, part_having, seal_part}
+use Rattle.vx_rvg.proofs.WriteSound.{SameSizes, loaded_same}
 
 -- ---- lists of blocks
 
@@ -189,26 +196,34 @@ module _ (units : Units) (d d' : Maps) (maps : List (List ℕ)) (m m' : Meaning)
 
 -- ---- of whatever the group held
 
-module _ (core : Core) (m : Meaning) (sound : IsSound core m) where
+module _ {ks : List Kept} (core : Core) (m : Meaning) (sound : IsSoundWith ks core m) where
   -- the log and the volumes lie beside the change maps
   log_aside : (b : ℕ) → b < core.log.ring + 2 → map_run core core.log.unit b → ⊥
   log_aside b low run = sound.placed.maps_apart (sym run.there ∙ sound.log_unit)
 
-  module _ (h : Holding) (stands : Stands core h m) where
+  module _ (xs : List Write) (h : Holding) (has : HasStaged xs core h m) where
     volumes_aside : (v b : ℕ) → b < h.content.size v → map_run core (unit_of core.units.vols v) b → ⊥
-    volumes_aside v b low run = sound.placed.maps_aside v (volume_there core.units.vols h.content m v b stands.ready.sizes low) run.there
+    volumes_aside v b low run = sound.placed.maps_aside v (volume_there core.units.vols h.content m v b has.stands.ready.sizes low) run.there
 
-    pub marking_found : HasAllMaps core.maps h.maps → (mine : ℕ → Type 0) (value : Bool) (i : Image) → Beside (map_run core) m.leaves i → MapChanging core.maps.map mine value m i
-        → (maps : List (List ℕ)) × MarksBetween core.maps mine value h.maps maps × FoundAs core i (with_blocks_of_maps maps h)
+    aside_part : (i : Image) → Beside (map_run core) m.leaves i
+        → (k : ℕ) × Recovers core.log.ring (classes core.log.unit core.log.ring i) has.stands.log.header (has.stands.log.held ++ take k has.stands.log.staged)
+    aside_part i beside =
+        seal_part core.log.ring has.stands.log (classes core.log.unit core.log.ring i)
+        ((call_safe core.log.ring has.stands.log Seal has.stands.ready.ring.is_log tt).0.0 (classes core.log.unit core.log.ring i) (image_beside core.log.unit core.log.ring has.stands.log.unit (map_run core) m i has.stands.ready.ring.tracks beside log_aside))
+
+    marking_found : HasAllMaps core.maps h.maps → (mine : ℕ → Type 0) (value : Bool) (i : Image) → Beside (map_run core) m.leaves i → MapChanging core.maps.map mine value m i
+        → (maps : List (List ℕ)) × MarksBetween core.maps mine value h.maps maps × FoundPart core i xs (with_blocks_of_maps maps h)
     marking_found all mine value i beside changing = (
-      now core.units core.maps h.maps m sound.maps stands.maps stands.marks all mine value i beside changing,
-      now_between core.units core.maps h.maps m sound.maps stands.maps stands.marks all mine value i beside changing,
-      found_having core h m i sound.log_unit stands
-          (found_held core.log.ring stands.log (classes core.log.unit core.log.ring i) stands.ready.idle
-          ((call_safe core.log.ring stands.log Seal stands.ready.ring.is_log tt).0.0 (classes core.log.unit core.log.ring i) (image_beside core.log.unit core.log.ring stands.log.unit (map_run core) m i stands.ready.ring.tracks beside log_aside)))
-          h.content (now core.units core.maps h.maps m sound.maps stands.maps stands.marks all mine value i beside changing)
-          (has_content_beside (map_run core) core.units.vols h.content (writes_of stands.log.held) m i volumes_aside stands.ready.content beside)
-          (now_has core.units core.maps h.maps m sound.maps stands.maps stands.marks all mine value i beside changing),
+      now core.units core.maps h.maps m sound.maps has.stands.maps has.stands.marks all mine value i beside changing,
+      now_between core.units core.maps h.maps m sound.maps has.stands.maps has.stands.marks all mine value i beside changing,
+      record {
+        count = (aside_part i beside).0;
+        found =
+            part_having xs core h m has sound.log_unit i (aside_part i beside).0 (aside_part i beside).1
+            (has_content_beside (map_run core) core.units.vols h.content (writes_of has.stands.log.held) m i volumes_aside has.stands.ready.content beside)
+            (now core.units core.maps h.maps m sound.maps has.stands.maps has.stands.marks all mine value i beside changing)
+            (now_has core.units core.maps h.maps m sound.maps has.stands.maps has.stands.marks all mine value i beside changing);
+      },
     )
 
     module _ (d : Maps) (m' : Meaning) (P : Says) (moves : Moves (map_run core) P m m') (up : IsTrue m'.down → ⊥) where
@@ -220,48 +235,53 @@ module _ (core : Core) (m : Meaning) (sound : IsSound core m) where
       keeps_each (Some bytes) v b low is = is
       keeps_each None v b low keeps = keeps_on v b low (h.content.block v b) keeps
 
-      marked_ready : Ready (record core { maps = d }) h.content stands.log m'
+      marked_ready : ReadyWith has.records (record core { maps = d }) h.content has.stands.log m'
       marked_ready = record {
         ring = record {
-          is_log = stands.ready.ring.is_log;
-          tracks = tracks_beside core.log.unit core.log.ring stands.log.unit (map_run core) P m m' moves log_aside up stands.ready.ring.tracks;
-          describes = stands.ready.ring.describes;
+          is_log = has.stands.ready.ring.is_log;
+          tracks = tracks_beside core.log.unit core.log.ring has.stands.log.unit (map_run core) P m m' moves log_aside up has.stands.ready.ring.tracks;
+          describes = has.stands.ready.ring.describes;
         };
-        idle = stands.ready.idle;
-        whole = stands.ready.whole;
-        sizes = record { each = λ v there. stands.ready.sizes.each v there ∙ sym (moves.size (unit_of core.units.vols v)); none = stands.ready.sizes.none };
-        content = record { each = λ v b low. keeps_each (newest_of h.content.size (writes_of stands.log.held) v b) v b low (stands.ready.content.each v b low) };
-        waiting = stands.ready.waiting;
-        settled = λ v b low none. keeps_on v b low (h.content.block v b) (stands.ready.settled v b low none);
+        idle = has.stands.ready.idle;
+        whole = has.stands.ready.whole;
+        sizes = record { each = λ v there. has.stands.ready.sizes.each v there ∙ sym (moves.size (unit_of core.units.vols v)); none = has.stands.ready.sizes.none };
+        content = record { each = λ v b low. keeps_each (newest_of h.content.size (writes_of has.stands.log.held) v b) v b low (has.stands.ready.content.each v b low) };
+        waiting = has.stands.ready.waiting;
+        settled = λ v b low none. keeps_on v b low (h.content.block v b) (has.stands.ready.settled v b low none);
       }
 
-      pub marked_stands : SamePlace core.maps.map d.map → d.sizes ≡ core.maps.sizes → MapOn d.map m' → Stands (record core { maps = d }) (with_marks d h) m'
-      marked_stands place sizes on = record {
-        log = stands.log;
-        ready = marked_ready;
-        low = stands.low;
-        writes = stands.writes;
-        place = stands.place;
-        maps = over_kept core.units core.maps d h.maps m m' sound.maps place sizes P moves stands.maps on;
-        marks = over_marks core.units core.maps d h.maps m m' sound.maps place sizes P moves stands.maps on;
+      marked_staged : SamePlace core.maps.map d.map → d.sizes ≡ core.maps.sizes → MapOn d.map m' → HasStaged xs (record core { maps = d }) (with_marks d h) m'
+      marked_staged place sizes on = record {
+        records = has.records;
+        are = has.are;
+        whole = has.whole;
+        stands = record {
+          log = has.stands.log;
+          ready = marked_ready;
+          low = has.stands.low;
+          writes = has.stands.writes;
+          place = has.stands.place;
+          maps = over_kept core.units core.maps d h.maps m m' sound.maps place sizes P moves has.stands.maps on;
+          marks = over_marks core.units core.maps d h.maps m m' sound.maps place sizes P moves has.stands.maps on;
+        };
       }
 
   -- ---- the call
 
   module _ (d : Maps) (m' : Meaning) (mine : ℕ → Type 0) (value : Bool) (place : SamePlace core.maps.map d.map) (sizes : d.sizes ≡ core.maps.sizes)
       (moves : Moves (Run core.maps.map.unit core.maps.map.first (map_block_count core.maps.map)) (MapChanging core.maps.map mine value m) m m') where
-    pub mark_moves : Moves (map_run core) (Marking core mine value m) m m'
+    mark_moves : Moves (map_run core) (StagedMarking core mine value m) m m'
     mark_moves =
-        wider (Run core.maps.map.unit core.maps.map.first (map_block_count core.maps.map)) (map_run core) (MapChanging core.maps.map mine value m) (Marking core mine value m) m m' moves
+        wider (Run core.maps.map.unit core.maps.map.first (map_block_count core.maps.map)) (map_run core) (MapChanging core.maps.map mine value m) (StagedMarking core mine value m) m m' moves
         (λ u b run. record { there = run.there ∙ sound.maps.unit; first = omega arith; last = omega (arith, run.last, sound.maps.first) })
-        (λ i beside changing. record { each = λ h stands all. marking_found h stands all mine value i (as_run i beside) changing })
+        (λ i beside changing. record { each = λ xs h has all. marking_found xs h has all mine value i (as_run i beside) changing })
       where
         as_run : (i : Image) → Beside (Run core.maps.map.unit core.maps.map.first (map_block_count core.maps.map)) m.leaves i → Beside (map_run core) m.leaves i
         as_run i beside u b = ⊎_elim (λ was. inl was) (λ run. inr (record { there = run.there ∙ sound.maps.unit; first = omega arith; last = omega (arith, run.last, sound.maps.first) })) (beside u b)
 
-    pub mark_sound : IsSound (record core { maps = d }) m'
+    mark_sound : IsSoundWith ks (record core { maps = d }) m'
     mark_sound =
-        let s = kept_sound core m m' (record { units = moves.units; size = moves.size }) moves.falls sound in
+        let s = kept_with ks core m m' (record { units = moves.units; size = moves.size }) moves.falls sound in
         record {
           placed = s.placed;
           maps = loaded_changed core.units core.maps d [] m m' sound.maps place sizes (record { units = moves.units; size = moves.size });
@@ -274,19 +294,48 @@ module _ (core : Core) (m : Meaning) (sound : IsSound core m) where
           waiting = s.waiting;
         }
 
-    pub mark_halted : (why : No) → IsSound (core_halted why (record core { maps = d })) m'
+    mark_halted : (why : No) → IsSoundWith ks (core_halted why (record core { maps = d })) m'
     mark_halted why = halted_sound (record core { maps = d }) m' why mark_sound
 
-    pub mark_rests : (IsTrue m'.down → ⊥) → (MapOn core.maps.map m → MapOn d.map m') → Remarks core (record core { maps = d }) m m'
+    mark_rests : (IsTrue m'.down → ⊥) → (MapOn core.maps.map m → MapOn d.map m') → StagedRemarks core (record core { maps = d }) m m'
     mark_rests up stands_on = record {
-      each = λ h stands all. marked_stands h stands d m' (Marking core mine value m) mark_moves up place sizes (stands_on (maps_on core.units core.maps h.maps m sound.maps stands.maps stands.marks all));
+      each = λ xs h has all.
+          marked_staged xs h has d m' (StagedMarking core mine value m) mark_moves up place sizes (stands_on (maps_on core.units core.maps h.maps m sound.maps has.stands.maps has.stands.marks all));
     }
+
+-- ---- where nothing is staged
+
+pub marking_alone : (core : Core) (mine : ℕ → Type 0) (value : Bool) (m : Meaning) (i : Image) → StagedMarking core mine value m i → Marking core mine value m i
+marking_alone core mine value m i marking = record {
+  each = λ h stands all.
+      let got = marking.each [] h (none_staged core h m stands) all in
+      (got.0, got.1, alone got.2.count (with_blocks_of_maps got.0 h) got.2.found);
+}
+  where
+    alone : (k : ℕ) (h : Holding) → FoundAs core i (with_writes (take k []) h) → FoundAs core i h
+    alone zero h found = subst (λ (ws : List Write). FoundAs core i (record { low = h.low; writes = ws; place = h.place; content = h.content; maps = h.maps })) (append-nil h.writes) found
+    alone (suc k) h found = subst (λ (ws : List Write). FoundAs core i (record { low = h.low; writes = ws; place = h.place; content = h.content; maps = h.maps })) (append-nil h.writes) found
+
+pub moves_alone : (core : Core) (mine : ℕ → Type 0) (value : Bool) (m m' : Meaning) → Moves (map_run core) (StagedMarking core mine value m) m m' → Moves (map_run core) (Marking core mine value m) m m'
+moves_alone core mine value m m' moves =
+    wider (map_run core) (map_run core) (StagedMarking core mine value m) (Marking core mine value m) m m' moves (λ u b run. run) (λ i beside marking. marking_alone core mine value m i marking)
+
+pub remarks_alone : (core after : Core) (old new : Meaning) → StagedRemarks core after old new → Remarks core after old new
+remarks_alone core after old new remarks = record { each = λ h stands all. none_left after (with_marks after.maps h) new (remarks.each [] h (none_staged core h old stands) all) }
 
 -- ---- v is the group as the code has it
 
-maps_halted : (why : No) (c : Core) → (core_halted why c).maps ≡ c.maps
+pub maps_halted : (why : No) (c : Core) → (core_halted why c).maps ≡ c.maps
 maps_halted (no.Device disk) c = refl
 maps_halted other c = refl
+
+log_halted : (why : No) (c : Core) → (core_halted why c).log ≡ c.log
+log_halted (no.Device disk) c = refl
+log_halted other c = refl
+
+-- the log of a group that a call halted
+pub halted_log : (why : No) (c c' : Core) → c' ≡ core_halted why c → c'.log ≡ c.log
+halted_log why c c' is = ap (λ (k : Core). k.log) is ∙ log_halted why c
 
 module _ (v core : Core) (view : v ≡ core) (d : Maps) where
   pub told_is : record v { maps = d } ≡ record core { maps = d }
@@ -319,9 +368,9 @@ pub stays_up : (before after : Bool) → IsFalse before → (IsTrue after → Is
 stays_up true after up falls down = let wrong : true ≡ false = up in cc
 stays_up false after up falls down = let wrong : false ≡ true = falls down in cc
 
-module _ (v core : Core) (view : v ≡ core) (m : Meaning) (sound : IsSound core m) where
-  sound_here : IsSound v m
-  sound_here = subst (λ (k : Core). IsSound k m) (sym view) sound
+module _ {ks : List Kept} (v core : Core) (view : v ≡ core) (m : Meaning) (sound : IsSoundWith ks core m) where
+  sound_here : IsSoundWith ks v m
+  sound_here = subst (λ (k : Core). IsSoundWith ks k m) (sym view) sound
 
   pub told_lies : Lies v.maps.map m
   told_lies = loaded_lies v.units v.maps m sound_here.placed sound_here.maps
@@ -331,14 +380,28 @@ module _ (v core : Core) (view : v ≡ core) (m : Meaning) (sound : IsSound core
 
   module _ (d : Maps) (m' : Meaning) (mine : Core → ℕ → Type 0) (value : Bool) (place : SamePlace v.maps.map d.map) (sizes : d.sizes ≡ v.maps.sizes)
       (moves : Moves (Run v.maps.map.unit v.maps.map.first (map_block_count v.maps.map)) (MapChanging v.maps.map (mine v) value m) m m') where
-    pub told_moves : Moves (map_run core) (Marking core (mine core) value m) m m'
-    told_moves = subst (λ (k : Core). Moves (map_run k) (Marking k (mine k) value m) m m') view (mark_moves v m sound_here d m' (mine v) value place sizes moves)
+    pub told_staged_moves : Moves (map_run core) (StagedMarking core (mine core) value m) m m'
+    told_staged_moves = subst (λ (k : Core). Moves (map_run k) (StagedMarking k (mine k) value m) m m') view (mark_moves v m sound_here d m' (mine v) value place sizes moves)
 
-    pub told_sound : IsSound (record v { maps = d }) m'
+    pub told_moves : Moves (map_run core) (Marking core (mine core) value m) m m'
+    told_moves = moves_alone core (mine core) value m m' told_staged_moves
+
+    pub told_sound : IsSoundWith ks (record v { maps = d }) m'
     told_sound = mark_sound v m sound_here d m' (mine v) value place sizes moves
 
-    pub told_fails : (why : No) (c' : Core) → c' ≡ core_halted why (record v { maps = d }) → IsSound c' m'
-    told_fails why c' is = subst (λ (k : Core). IsSound k m') (sym is) (mark_halted v m sound_here d m' (mine v) value place sizes moves why)
+    pub told_fails : (why : No) (c' : Core) → c' ≡ core_halted why (record v { maps = d }) → IsSoundWith ks c' m'
+    told_fails why c' is = subst (λ (k : Core). IsSoundWith ks k m') (sym is) (mark_halted v m sound_here d m' (mine v) value place sizes moves why)
+
+    pub told_staged_rests : (IsTrue m'.down → ⊥) → (MapOn v.maps.map m → MapOn d.map m') → StagedRemarks core (record v { maps = d }) m m'
+    told_staged_rests up on = subst (λ (k : Core). StagedRemarks k (record v { maps = d }) m m') view (mark_rests v m sound_here d m' (mine v) value place sizes moves up on)
 
     pub told_rests : (IsTrue m'.down → ⊥) → (MapOn v.maps.map m → MapOn d.map m') → Remarks core (record v { maps = d }) m m'
-    told_rests up on = subst (λ (k : Core). Remarks k (record v { maps = d }) m m') view (mark_rests v m sound_here d m' (mine v) value place sizes moves up on)
+    told_rests up on = remarks_alone core (record v { maps = d }) m m' (told_staged_rests up on)
+
+-- what is staged is what was
+pub staged_as : (v core : Core) → v ≡ core → (k : Core) (m : Meaning) → k.log ≡ v.log → IsSoundWith core.log.staged k m → IsSoundWith k.log.staged k m
+staged_as v core view k m same sound = subst (λ (ks : List Kept). IsSoundWith ks k m) (ap (λ (c : Core). c.log.staged) (sym view) ∙ ap (λ (l : Log). l.staged) (sym same)) sound
+
+-- none is
+pub alone_sound : (core k : Core) (m : Meaning) → core.log.staged ≡ [] → k.log ≡ core.log → IsSoundWith k.log.staged k m → IsSound k m
+alone_sound core k m idle same sound = subst (λ (ks : List Kept). IsSoundWith ks k m) (ap (λ (l : Log). l.staged) same ∙ idle) sound

@@ -1,12 +1,11 @@
 -- A group that stands, while a write is logged whose regions are marked first.
-use Rattle.std.proofs.Common.{◌≡◌, ◌∙◌, ◌⊎◌, inl, inr, ⊎_elim, ℕ, zero, suc, ◌+◌, ◌-◌, ◌/◌, ◌%◌, ◌^◌, ◌<◌, ◌≤◌, Bool, true, false, List, [], ◌∷◌, length, map, take, get_or, Option, Some, None, IsTrue, refl, sym, ap, subst, arith, append-nil}
-use Rattle.std.specs.Prelude.{if◌then◌else◌, ltb, slice_index, IfErr, OnOk, Result, Ok, Err}
+use Rattle.std.proofs.Common.{◌≡◌, ◌∙◌, ◌⊎◌, inl, inr, ⊎_elim, ℕ, zero, suc, ◌+◌, ◌-◌, ◌/◌, ◌%◌, ◌^◌, ◌<◌, ◌≤◌, Bool, true, List, [], ◌∷◌, length, map, take, Option, Some, None, IsTrue, refl, sym, ap, subst, arith, append-nil}
+use Rattle.std.specs.Prelude.{if◌then◌else◌, slice_index, IfErr, OnOk, Result, Ok, Err}
 use Rattle.std.specs.Int.{div_ceil}
 use Rattle.std.proofs.Math.Nat.{zero-div}
-use Rattle.std.proofs.lemmas.Bool.{cases_lt, eqb-true, lt-ltb}
-use Rattle.std.proofs.lemmas.Bool.Decides.{nat_tests}
-use Rattle.std.proofs.lemmas.List.{get_or-map, get_or_past, length-map}
-use Rattle.vx_model.specs.Content.{Write, block_of}
+use Rattle.std.proofs.lemmas.Bool.{eqb-true, lt-ltb}
+use Rattle.std.proofs.lemmas.List.{get_or-map, length-map}
+use Rattle.vx_model.specs.Content.{Write}
 use Rattle.vx_model.specs.Sizes.{regions_of}
 use Rattle.vx_model.specs.declared.no.No.{No}
 use Rattle.vx_model.specs.declared.no.No.TheVariants as no
@@ -23,12 +22,14 @@ use Rattle.vx_bitmap.specs.Bits.{bit, is_marked}
 use Rattle.vx_bitmap.specs.Maps.{map_block_count, regions_mapped}
 use Rattle.vx_dcm.specs.Places.{HasRegion, Maps, MapsBetween, SlotsMarked, SomeChanged}
 use Rattle.vx_srl.specs.Views.{BodyFits, Log}
+use Rattle.vx_srl.specs.declared.kept.Kept.{Kept}
 use Rattle.vx_rvg.specs.Groups.{Ended, Writes}
 use Rattle.vx_rvg.specs.Holdings.{Holding, with_writes}
 use Rattle.vx_rvg.specs.Marks.{AllMarkedIn, BlamesMarkedWrite, ByMarks, HasAllMaps, MarkedWriting, Marking, Marks, MarksBetween, Remarks, blocks_over, write_last, map_run, marked_in, with_blocks_of_maps, with_marks}
 use Rattle.vx_rvg.specs.Stands.{FoundAs, Stands, Writing}
-use Rattle.vx_rvg.specs.Views.{Core, IsSound, unit_of, volume_size}
-use Rattle.vx_rvg.proofs.MarkStands.{marks_as, over_at, over_long, stays_up}
+use Rattle.vx_rvg.specs.Views.{Core, IsSound, IsSoundWith, unit_of, volume_size}
+use Rattle.vx_rvg.proofs.MarkStands.{stays_up}
+use Rattle.vx_rvg.proofs.OverMarks.{marks_changed, now_marked}
 use Rattle.vx_rvg.proofs.WriteLog.{cause_from}
 
 -- ---- by whether places are named
@@ -61,7 +62,7 @@ pub regions_ordered : (start count : ℕ) → 0 < count → start / 64 ≤ (star
 regions_ordered start count some = omega (arith, some)
 
 -- the last one is a region of its volume
-pub write_region : (core : Core) (m : Meaning) → IsSound core m → (vol start count : ℕ) → vol < length core.units.vols → 0 < count → start + count ≤ volume_size core.units.vols m vol → HasRegion core.maps 0 vol (write_last start count)
+pub write_region : {ks : List Kept} (core : Core) (m : Meaning) → IsSoundWith ks core m → (vol start count : ℕ) → vol < length core.units.vols → 0 < count → start + count ≤ volume_size core.units.vols m vol → HasRegion core.maps 0 vol (write_last start count)
 write_region core m sound vol start count low some within = record {
   map = record {
     place = omega arith;
@@ -82,17 +83,19 @@ least_none size a b None (Some y) up on = absurd on
 least_none size a b (Some x) None up on = absurd on
 least_none size a b (Some x) (Some y) up on = ⊎_elim (λ passed. passed.0.fuse) (λ out. absurd (up out.1)) on.burnt
 
-pub least_behind : {T E : Type 0} → (r : Result T E) (m mid last : Meaning) → Spends m mid → (IsTrue mid.down → ⊥) → OnOk r (MakesAtLeast 4 mid last) → OnOk r (MakesAtLeast 4 m last)
-least_behind (Ok x) m mid last spends up made = then_at_least 0 4 m mid last (record { fuses = least_none m.size m.down mid.down m.disks mid.disks up spends.told }) made
-least_behind (Err e) m mid last spends up made = tt
+pub least_behind : {T E : Type 0} → (n : ℕ) (r : Result T E) (m mid last : Meaning) → Spends m mid → (IsTrue mid.down → ⊥) → OnOk r (MakesAtLeast n mid last) → OnOk r (MakesAtLeast n m last)
+least_behind n (Ok x) m mid last spends up made =
+    let all : 0 + n ≡ n = omega arith in
+    subst (λ (k : ℕ). MakesAtLeast k m last) all (then_at_least 0 n m mid last (record { fuses = least_none m.size m.down mid.down m.disks mid.disks up spends.told }) made)
+least_behind n (Err e) m mid last spends up made = tt
 
-pub calls_same : {T E : Type 0} → (r : Result T E) (l k : Log) (bytes : List ℕ) (m mid last : Meaning) → mid ≡ m → k ≡ l → OnOk r (BodyFits k bytes → MakesCalls 4 mid last) → OnOk r (BodyFits l bytes → MakesCalls 4 m last)
-calls_same r l k bytes m mid last same log made =
-    subst (λ (n : Meaning). OnOk r (BodyFits l bytes → MakesCalls 4 n last)) same (subst (λ (x : Log). OnOk r (BodyFits x bytes → MakesCalls 4 mid last)) log made)
+pub calls_same : {T E : Type 0} → (n : ℕ) (r : Result T E) (l k : Log) (bytes : List ℕ) (m mid last : Meaning) → mid ≡ m → k ≡ l → OnOk r (BodyFits k bytes → MakesCalls n mid last) → OnOk r (BodyFits l bytes → MakesCalls n m last)
+calls_same n r l k bytes m mid last same log made =
+    subst (λ (x : Meaning). OnOk r (BodyFits l bytes → MakesCalls n x last)) same (subst (λ (x : Log). OnOk r (BodyFits x bytes → MakesCalls n mid last)) log made)
 
-pub short_same : (l k : Log) (bytes : List ℕ) (m mid last : Meaning) → mid ≡ m → k ≡ l → (BodyFits k bytes → FallsShort 4 mid last) → BodyFits l bytes → FallsShort 4 m last
-short_same l k bytes m mid last same log short =
-    subst (λ (n : Meaning). BodyFits l bytes → FallsShort 4 n last) same (subst (λ (x : Log). BodyFits x bytes → FallsShort 4 mid last) log short)
+pub short_same : (n : ℕ) (l k : Log) (bytes : List ℕ) (m mid last : Meaning) → mid ≡ m → k ≡ l → (BodyFits k bytes → FallsShort n mid last) → BodyFits l bytes → FallsShort n m last
+short_same n l k bytes m mid last same log short =
+    subst (λ (x : Meaning). BodyFits l bytes → FallsShort n x last) same (subst (λ (x : Log). BodyFits x bytes → FallsShort n mid last) log short)
 
 -- the log failed behind the marks
 pub blames_log : {T : Type 0} → (r : Result T No) (m mid : Meaning) (c k : Core) → Spends m mid → k.log.unit ≡ c.log.unit → IfErr r (BlamesUnit mid.disks k.log.unit) → IfErr r (BlamesMarkedWrite m.disks c)
@@ -174,39 +177,11 @@ module _ (core c1 : Core) (is : c1 ≡ record core { maps = c1.maps }) where
       stands1 : Stands c1 (with_marks c1.maps h) mid
       stands1 = remarks.each h stands known
 
-      known1 : HasAllMaps c1.maps over
-      known1 = let same = over_long c1.maps.map.bytes (map_block_count c1.maps.map) 0 h.maps in omega (arith, known, same, long)
-
       now_as : (r : ℕ) → r < regions_mapped core.maps.map → marked_in over r ≡ is_marked c1.maps.map.bytes r
-      now_as r low = marks_as c1.units c1.maps over mid sound1.maps stands1.maps stands1.marks known1 r (omega (arith, low, long))
-
-      was_as : (r : ℕ) → r < regions_mapped core.maps.map → marked_in h.maps r ≡ is_marked core.maps.map.bytes r
-      was_as r low = marks_as core.units core.maps h.maps m sound.maps stands.maps stands.marks known r low
-
-      rest : (b : ℕ) → map_block_count core.maps.map ≤ b → get_or over b [] ≡ get_or h.maps b []
-      rest b high =
-          ⊎_elim
-          (λ (low : b < length h.maps).
-          over_at c1.maps.map.bytes (map_block_count c1.maps.map) 0 h.maps b low
-          ∙ ap (λ (t : Bool). if t then block_of c1.maps.map.bytes (0 + b) else get_or h.maps b []) (not_below (0 + b) (map_block_count c1.maps.map) (omega (arith, high, long))))
-          (λ (past : length h.maps ≤ b). get_or_past over b [] (omega (arith, past, over_long c1.maps.map.bytes (map_block_count c1.maps.map) 0 h.maps)) ∙ sym (get_or_past h.maps b [] past))
-          (cases_lt b (length h.maps))
-        where
-          not_below : (b n : ℕ) → n ≤ b → ltb b n ≡ false
-          not_below b n le = grind (arith, nat_tests)
+      now_as r low = now_marked core c1 mine m mid sound.maps sound1.maps bits long h.maps stands.maps stands.marks known stands1.maps stands1.marks r low
 
       pub over_between : MarksBetween core.maps mine true h.maps over
-      over_between = record {
-        long = over_long c1.maps.map.bytes (map_block_count c1.maps.map) 0 h.maps;
-        rest = rest;
-        marks = record {
-          each = λ r low.
-              elim (bits.each r low) [
-                | inl same ↦ inl (now_as r low ∙ same ∙ sym (was_as r low))
-                | inr set ↦ inr (set.0, now_as r low ∙ set.1)
-              ];
-        };
-      }
+      over_between = marks_changed core c1 mine m mid sound.maps sound1.maps bits long h.maps stands.maps stands.marks known stands1.maps stands1.marks
 
     -- ---- all of them are marked, and the write behind them is logged
 

@@ -1,5 +1,5 @@
 -- What the calls of the log that write a header make of a group.
-use Rattle.std.proofs.Common.{◌≡◌, ◌⊎◌, inl, inr, ⊎_elim, ℕ, ◌+◌, ◌<◌, ◌≤◌, Bool, true, false, IsFalse, Result, Ok, Err, refl, sym, ◌∙◌, subst, arith}
+use Rattle.std.proofs.Common.{◌≡◌, ◌⊎◌, inl, inr, ⊎_elim, ℕ, ◌+◌, ◌<◌, ◌≤◌, Bool, true, false, List, IsFalse, Result, Ok, Err, refl, sym, ◌∙◌, subst, arith}
 use Rattle.std.specs.Prelude.{if◌then◌else◌, leb}
 use Rattle.std.proofs.lemmas.Bool.{cases_lt}
 use Rattle.std.proofs.lemmas.Bool.Decides.{nat_tests}
@@ -13,10 +13,11 @@ use Rattle.vx_srl.specs.Headers.{with_header_state, without}
 use Rattle.vx_srl.specs.Rings.{RingGoes, LeadsTo}
 use Rattle.vx_srl.specs.Views.{Log, count_to, most_number}
 use Rattle.vx_srl.specs.declared.errors.SrlNo.{SrlNo}
+use Rattle.vx_srl.specs.declared.kept.Kept.{Kept}
 use Rattle.vx_rvg.specs.Groups.{core_halted}
 use Rattle.vx_rvg.specs.Saves.{log_without, reclaimed}
 use Rattle.vx_rvg.specs.Stands.{Retains, Saving}
-use Rattle.vx_rvg.specs.Views.{Core, IsSound, applied_count}
+use Rattle.vx_rvg.specs.Views.{Core, IsSound, IsSoundWith, applied_count}
 use Rattle.vx_rvg.proofs.SaveStands.{save_sound, save_moves, save_rests}
 use Rattle.vx_rvg.proofs.WriteSound.{ended_sound, moved_sizes, was_up}
 
@@ -115,7 +116,7 @@ reclaim_done l l' to m m' r x x' done is low limit saves =
 -- ---- of a group v as its own fields show it, which is the group `core`
 
 -- a group that is sound is sound when it is halted too
-pub halted_sound : (core : Core) (m : Meaning) (why : No) → IsSound core m → IsSound (core_halted why core) m
+pub halted_sound : {ks : List Kept} (core : Core) (m : Meaning) (why : No) → IsSoundWith ks core m → IsSoundWith ks (core_halted why core) m
 halted_sound core m (No.Device disk) sound =
     record {
       placed = sound.placed;

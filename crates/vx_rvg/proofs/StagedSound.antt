@@ -1,5 +1,5 @@
 -- A group in a group commit stays sound over the calls of it.
-use Rattle.std.proofs.Common.{◌≡◌, ℕ, ◌+◌, ◌<◌, ◌≤◌, Bool, true, List, [], ◌∷◌, ◌++◌, length, drop, refl, sym, ◌∙◌, ap, arith, length-append}
+use Rattle.std.proofs.Common.{◌≡◌, ℕ, ◌+◌, ◌<◌, ◌≤◌, Bool, true, List, [], ◌∷◌, ◌++◌, length, drop, IsTrue, refl, sym, ◌∙◌, ap, arith, length-append}
 use Rattle.std.specs.Prelude.{if◌then◌else◌, leb}
 use Rattle.std.proofs.lemmas.Bool.Decides.{nat_tests}
 use Rattle.std.proofs.lemmas.List.{drop-append-le}
@@ -15,7 +15,7 @@ use Rattle.vx_srl.specs.declared.kept.Kept.{Kept}
 use Rattle.vx_rvg.specs.Commits.{with_sealed, with_staged}
 use Rattle.vx_rvg.specs.Groups.{core_halted}
 use Rattle.vx_rvg.specs.Views.{Core, IsSoundWith, applied_count, blocks_waiting, blocks_within, volume_size}
-use Rattle.vx_rvg.proofs.WriteSound.{SameSizes, lies_same, loaded_same, placed_same, volume_same, within_append, within_same}
+use Rattle.vx_rvg.proofs.WriteSound.{SameSizes, lies_same, loaded_same, placed_same, volume_same, was_up, within_append, within_same}
 
 -- ---- how many blocks wait
 
@@ -33,6 +33,20 @@ fits a b le = grind (arith, nat_tests)
 -- the records that are not applied, before those behind them
 pub few_applied : (core : Core) (staged : List Kept) (m : Meaning) → IsSoundWith staged core m → 0 < core.log.header.low → applied_count core ≤ length core.log.held
 few_applied core staged m sound some = omega (arith, sound.known, sound.low, some)
+
+-- a call that leaves a group as it is, whatever is staged where it works
+pub kept_with : (ks : List Kept) (core : Core) (m m' : Meaning) → SameSizes m m' → (IsTrue m.down → IsTrue m'.down) → IsSoundWith ks core m → IsSoundWith ks core m'
+kept_with ks core m m' same falls sound = record {
+  placed = placed_same core.units m m' same sound.placed;
+  maps = loaded_same core.units core.maps m m' same sound.maps;
+  log_unit = sound.log_unit;
+  lies = lies_same core.log.unit core.log.ring m m' same sound.lies;
+  idle = λ running up. sound.idle running (was_up m.down m'.down falls up);
+  low = sound.low;
+  known = sound.known;
+  room = sound.room;
+  waiting = sound.waiting ∙ sym (waiting_same (volume_size core.units.vols m) (volume_size core.units.vols m') (volume_same core.units.vols m m' same) (drop (applied_count core) core.log.held) ks);
+}
 
 -- ---- the calls
 

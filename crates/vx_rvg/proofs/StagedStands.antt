@@ -27,7 +27,8 @@ use Rattle.vx_srl.specs.Views.{record_next}
 use Rattle.vx_rvg.specs.Commits.{Committing, HasStaged, with_sealed, with_staged}
 use Rattle.vx_rvg.specs.Contents.{HasContent, HasSizes, KeepsContent, writes_of}
 use Rattle.vx_rvg.specs.Holdings.{Holding, with_writes}
-use Rattle.vx_rvg.specs.Stands.{FoundAs, IsCovered, IsWholeRecord, Stands, entries_waiting}
+use Rattle.vx_rvg.specs.Marks.{with_blocks_of_maps}
+use Rattle.vx_rvg.specs.Stands.{FoundAs, HasMaps, IsCovered, IsWholeRecord, Stands, StandsWith, entries_waiting}
 use Rattle.vx_rvg.specs.Views.{Core, UnitsPlaced, applied_count, unit_of, volume_size}
 use Rattle.vx_rvg.proofs.ContentFacts.{has_content_beside, has_maps_beside, held_length, maps_beside, maps_moved, recovers_low, volumes_beside}
 use Rattle.vx_rvg.proofs.ReadStands.{whole_writes}
@@ -73,6 +74,31 @@ same_sizes vols c d m is sizes = record { each = λ v low. ap (λ (f : ℕ → �
 unwritten : (o : Option (List ℕ)) (P : List ℕ → Type 0) (x y : List ℕ) → o ≡ None → y ≡ unwrap_or o x → P x → P y
 unwritten (Some bytes) P x y none is has = cc
 unwritten None P x y none is has = subst P (sym is) has
+
+module _ (xs : List Write) (core : Core) (h : Holding) (m : Meaning) (has : HasStaged xs core h m) (unit_is : core.log.unit ≡ core.units.srl) (i : Image) (k : ℕ)
+    (recovers : Recovers core.log.ring (classes core.log.unit core.log.ring i) has.stands.log.header (has.stands.log.held ++ take k has.stands.log.staged))
+    (held_has : HasContent core.units.vols h.content (writes_of has.stands.log.held) i) where
+  first : writes_of (take k has.stands.log.staged) ≡ take k xs
+  first = writes_take k has.stands.log.staged ∙ ap (λ (ws : List Write). take k ws) (ap (λ (rs : List Record). writes_of rs) has.stands.ready.idle ∙ has.are)
+
+  -- an image with the log that stands, a first part of what is staged, and any maps
+  pub part_having : (maps : List (List ℕ)) → HasMaps core.units maps i → FoundAs core i (with_writes (take k xs) (with_blocks_of_maps maps h))
+  part_having maps has_maps =
+      let header : has.stands.log.header ≡ core.log.header = has.stands.ready.ring.describes.header in
+      record {
+        header = has.stands.log.header;
+        records = has.stands.log.held ++ take k has.stands.log.staged;
+        recovers = subst (λ (u : ℕ). Recovers core.log.ring (classes u core.log.ring i) has.stands.log.header (has.stands.log.held ++ take k has.stands.log.staged)) unit_is recovers;
+        state_is = ap (λ (g : Header). g.state) header;
+        session_is = ap (λ (g : Header). g.incarnation) header;
+        stamp_most = omega (arith, ap (λ (g : Header). g.stamp) header);
+        some = omega (arith, recovers_low core.log.unit core.log.ring i has.stands.log.header (has.stands.log.held ++ take k has.stands.log.staged) recovers, ap (λ (g : Header). g.low) header, has.stands.low);
+        low_is = ap (λ (g : Header). g.low) header ∙ has.stands.low;
+        writes_are = writes_join has.stands.log.held (take k has.stands.log.staged) ∙ (ap (λ (ws : List Write). ws ++ writes_of (take k has.stands.log.staged)) has.stands.writes ∙ ap (λ (ws : List Write). h.writes ++ ws) first);
+        place_is = ap (λ (g : Header). g.place) header ∙ has.stands.place;
+        content = folds_has core.units.vols h.content h.writes (take k xs) i (subst (λ (ws : List Write). HasContent core.units.vols h.content ws i) has.stands.writes held_has);
+        maps = has_maps;
+      }
 
 module _ (xs : List Write) (core : Core) (h : Holding) (m : Meaning) (has : HasStaged xs core h m) (few : applied_count core ≤ length core.log.held) where
   abbrev s : State
@@ -138,9 +164,6 @@ module _ (xs : List Write) (core : Core) (h : Holding) (m : Meaning) (has : HasS
 
   module _ (placed : UnitsPlaced core.units m) (unit_is : core.log.unit ≡ core.units.srl) (i : Image) (aside : Beside (Run core.log.unit 0 (core.log.ring + 2)) m.leaves i) (k : ℕ)
       (recovers : Recovers core.log.ring (classes core.log.unit core.log.ring i) s.header (s.held ++ take k s.staged)) where
-    first : writes_of (take k s.staged) ≡ take k xs
-    first = writes_take k s.staged ∙ ap (λ (ws : List Write). take k ws) staged_is
-
     held_has : HasContent core.units.vols h.content (writes_of s.held) i
     held_has =
         has_content_beside (Run core.log.unit 0 (core.log.ring + 2)) core.units.vols h.content (writes_of s.held) m i
@@ -148,21 +171,8 @@ module _ (xs : List Write) (core : Core) (h : Holding) (m : Meaning) (has : HasS
 
     pub part_found : FoundAs core i (with_writes (take k xs) h)
     part_found =
-        let header : s.header ≡ core.log.header = has.stands.ready.ring.describes.header in
-        record {
-          header = s.header;
-          records = s.held ++ take k s.staged;
-          recovers = subst (λ (u : ℕ). Recovers core.log.ring (classes u core.log.ring i) s.header (s.held ++ take k s.staged)) unit_is recovers;
-          state_is = ap (λ (g : Header). g.state) header;
-          session_is = ap (λ (g : Header). g.incarnation) header;
-          stamp_most = omega (arith, ap (λ (g : Header). g.stamp) header);
-          some = omega (arith, recovers_low core.log.unit core.log.ring i s.header (s.held ++ take k s.staged) recovers, ap (λ (g : Header). g.low) header, has.stands.low);
-          low_is = ap (λ (g : Header). g.low) header ∙ has.stands.low;
-          writes_are = writes_join s.held (take k s.staged) ∙ (ap (λ (ws : List Write). ws ++ writes_of (take k s.staged)) has.stands.writes ∙ ap (λ (ws : List Write). h.writes ++ ws) first);
-          place_is = ap (λ (g : Header). g.place) header ∙ has.stands.place;
-          content = folds_has core.units.vols h.content h.writes (take k xs) i (subst (λ (ws : List Write). HasContent core.units.vols h.content ws i) has.stands.writes held_has);
-          maps = has_maps_beside (Run core.log.unit 0 (core.log.ring + 2)) core.units h.maps m i (maps_beside core m placed unit_is) has.stands.maps aside;
-        }
+        part_having xs core h m has unit_is i k recovers held_has h.maps
+        (has_maps_beside (Run core.log.unit 0 (core.log.ring + 2)) core.units h.maps m i (maps_beside core m placed unit_is) has.stands.maps aside)
 
 -- ---- a call
 
@@ -170,7 +180,7 @@ stage_part : (ring : ℕ) (s : State) (r : Record) (i : cells.RingImage) → Fou
 stage_part ring s r i (inl found) = found
 stage_part ring s r i (inr none) = absurd none
 
-seal_part : (ring : ℕ) (s : State) (i : cells.RingImage) → Found ring s Seal i → (k : ℕ) × Recovers ring i s.header (s.held ++ take k s.staged)
+pub seal_part : (ring : ℕ) (s : State) (i : cells.RingImage) → Found ring s Seal i → (k : ℕ) × Recovers ring i s.header (s.held ++ take k s.staged)
 seal_part ring s i (inl found) = found
 seal_part ring s i (inr none) = absurd none
 
@@ -288,3 +298,10 @@ module _ (core : Core) (m m' : Meaning) (placed : UnitsPlaced core.units m) (uni
 
 pub none_staged : (core : Core) (h : Holding) (m : Meaning) → Stands core h m → HasStaged [] core h m
 none_staged core h m stands = record { records = []; are = refl; whole = All-nil IsWholeRecord; stands = stands }
+
+no_writes : (rs : List Record) → writes_of rs ≡ [] → rs ≡ []
+no_writes [] is = refl
+no_writes (r ∷ rs) is = cc
+
+pub none_left : (core : Core) (h : Holding) (m : Meaning) → HasStaged [] core h m → Stands core h m
+none_left core h m has = subst (λ (rs : List Record). StandsWith rs core h m) (no_writes has.records has.are) has.stands

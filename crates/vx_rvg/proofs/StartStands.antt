@@ -343,6 +343,7 @@ module _ (units : Units) (old mid : Meaning) (placed : UnitsPlaced units old) (m
         ring_is = started.ring_is;
         applied = below;
         running = refl;
+        header_is = started.header_is;
         each = stands;
       }
 

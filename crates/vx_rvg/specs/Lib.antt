@@ -8,6 +8,7 @@ pub mod Holdings
 pub mod Logging
 pub mod Marks
 pub mod Saves
+pub mod StagedMarks
 pub mod Stands
 pub mod Starts
 pub mod Stores

@@ -13,7 +13,7 @@ use Rattle.vx_dcm.specs.Places.{Maps}
 use Rattle.vx_overlay.specs.Pending.{Pending}
 use Rattle.vx_disk.specs.Causes.{DeviceCause}
 use Rattle.vx_srl.specs.Damages.{HasDamage}
-use Rattle.vx_srl.specs.Starts.{NoHeader}
+use Rattle.vx_srl.specs.Starts.{NoHeader, StartsFrom}
 use Rattle.vx_srl.specs.Views.{most_number}
 use Rattle.vx_rvg.specs.Holdings.{Holding}
 use Rattle.vx_rvg.specs.Stands.{FoundGroup, HasMarks, KeepsMaps, LeftGroup, Stands}
@@ -29,6 +29,8 @@ pub record IsStarted (units : Units) (old : Meaning) (core : Core) (new : Meanin
   pub ring_is : core.log.ring ≡ ring_in units old
   pub applied : core.applied + 1 ≡ core.log.header.low
   pub running : core.halted ≡ None
+  -- a read gave the header that its log goes on from, whether a group was left or not
+  pub header_is : IsTrue old.tells → StartsFrom units.srl (ring_in units old) core.log.header old
   pub each : (state : SiteState) (session stamp : ℕ) (h : Holding) → LeftGroup units (ring_in units old) state session stamp h old
       → (core.log.header.state ≡ state) × (core.log.header.incarnation ≡ session + 1) × (core.log.header.stamp ≤ stamp + 3) × Stands core h new
 

@@ -20,6 +20,7 @@ mod read;
 mod rvg_core;
 mod seal;
 mod stage;
+mod stage_marked;
 mod staging;
 mod start;
 mod store;

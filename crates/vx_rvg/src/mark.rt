@@ -10,7 +10,8 @@ ghost use Rattle.vx_disk.specs.Spends.{Spends};
 ghost use Rattle.vx_model.specs.declared.limits.TheConstants.{LINK_PLACES};
 ghost use Rattle.vx_rvg.specs.Groups.{halted_or};
 ghost use Rattle.vx_rvg.specs.Marks.{MarkIs, Marking, Marks, Remarks, map_run};
-ghost use Rattle.vx_rvg.specs.Views.{IsSound};
+ghost use Rattle.vx_rvg.specs.StagedMarks.{StagedMarking, StagedRemarks};
+ghost use Rattle.vx_rvg.specs.Views.{IsSound, IsSoundWith};
 
 use crate::{Rvg, RvgCore};
 use vx_disk::Shelf;
@@ -75,7 +76,8 @@ fn mark_slot<S: Shelf>(shelf: &mut S, core: &mut RvgCore, slot: u32, on: bool) -
     }
 }
 
-/// Marks a run of regions in the map of each place of a link that is named, durably. A device call that fails halts the group.
+/// Marks a run of regions in the map of each place of a link that is named, durably, whatever is staged. A device call that
+/// fails halts the group.
 pub(crate) fn mark_named<S: Shelf>(
     shelf: &mut S,
     core: &mut RvgCore,
@@ -84,7 +86,7 @@ pub(crate) fn mark_named<S: Shelf>(
     first: u64,
     last: u64,
 ) -> Result<(), No>
-    requires sound { IsSound core.old (S.meaning shelf.old) }
+    requires sound { IsSoundWith core.old.log.staged core.old (S.meaning shelf.old) }
     requires up { IsFalse (S.meaning shelf.old).down }
     requires some { first ≤ last }
     requires exists { HasRegion core.old.maps 0 vol last }
@@ -95,9 +97,9 @@ pub(crate) fn mark_named<S: Shelf>(
     ensures place { SamePlace core.old.maps.map core.new.maps.map }
     ensures sizes { core.new.maps.sizes ≡ core.old.maps.sizes }
     ensures nothing { SlotsMarked marks vol first last core.old.maps → shelf.new ≡ shelf.old }
-    ensures sound { IsSound core.new (S.meaning shelf.new) }
-    ensures stands { OnOk result (Remarks core.old core.new (S.meaning shelf.old) (S.meaning shelf.new)) }
-    ensures moves { Moves (map_run core.old) (Marking core.old (IsPlaceOfSlots core.old.maps marks vol first last) true (S.meaning shelf.old)) (S.meaning shelf.old) (S.meaning shelf.new) }
+    ensures sound { IsSoundWith core.new.log.staged core.new (S.meaning shelf.new) }
+    ensures stands { OnOk result (StagedRemarks core.old core.new (S.meaning shelf.old) (S.meaning shelf.new)) }
+    ensures moves { Moves (map_run core.old) (StagedMarking core.old (IsPlaceOfSlots core.old.maps marks vol first last) true (S.meaning shelf.old)) (S.meaning shelf.old) (S.meaning shelf.new) }
     ensures spends { Spends (S.meaning shelf.old) (S.meaning shelf.new) }
     ensures blames { IfErr result (BlamesUnit (S.meaning shelf.old).disks core.old.units.maps) }
 {

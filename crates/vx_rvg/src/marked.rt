@@ -21,8 +21,8 @@ use vx_disk::Shelf;
 use vx_model::No;
 use vx_model::limits::{BLOCK, REGION};
 
-// The last region of a write.
-fn end_region(start: u64, bytes: &[u8]) -> u64
+/// The last region of a write.
+pub(crate) fn end_region(start: u64, bytes: &[u8]) -> u64
     requires blocks { IsBlocks bytes.now }
     requires end { start + blocks_in bytes.now < 2 ^ 64 }
     ensures { result ≡ write_last start (blocks_in bytes.now) }

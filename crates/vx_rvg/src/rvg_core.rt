@@ -2,6 +2,7 @@
 ghost use Rattle.std.specs.Prelude.{◌≡◌, ◌+◌, ◌<◌, ◌≤◌, length, None, IfSome};
 ghost use Rattle.vx_model.specs.declared.limits.TheConstants.{REGION};
 ghost use Rattle.vx_model.specs.Refusals.{IsNoDevice};
+ghost use Rattle.vx_rvg.specs.Commits.{number_refusal};
 ghost use Rattle.vx_rvg.specs.Groups.{write_refusal, read_refusal, applied_through, core_halted};
 ghost use Rattle.vx_rvg.specs.Views.{unit_of};
 
@@ -79,7 +80,21 @@ impl RvgCore {
         None
     }
 
-    /// The same of a read.
+    /// Why a write is not staged: no number is left behind what is staged.
+    pub(crate) fn number_refusal(&self) -> Option<No>
+        ensures is { result ≡ number_refusal self.now }
+        ensures idle { IfSome result IsNoDevice }
+    {
+        if self.srl.next() > MOST_NUMBER {
+            return Some(No::Limit {
+                what: Counted::Number,
+                most: MOST_NUMBER,
+            });
+        }
+        None
+    }
+
+    /// Why a read of so many blocks is refused.
     pub(crate) fn read_refusal(&self, size: u64, start: u64, count: u64) -> Option<No>
         requires { count ≤ REGION }
         ensures { result ≡ read_refusal self.now size start count }

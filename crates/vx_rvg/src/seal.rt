@@ -1,11 +1,13 @@
 // The sealing of what is staged: it becomes part of the log, durably.
-ghost use Rattle.std.specs.Prelude.{◌≡◌, ◌+◌, ◌<◌, List, [], length, IsSome, IsTrue, IfErr, OnOk};
+ghost use Rattle.std.specs.Prelude.{◌≡◌, ◌+◌, ◌<◌, ℕ, List, [], length, IsSome, IsTrue, IfErr, OnOk};
+ghost use Rattle.vx_dcm.specs.Places.{IsPlaceOfSlots, SlotsMarked};
 ghost use Rattle.vx_disk.specs.Burns.{FallsShort, MakesCalls};
 ghost use Rattle.vx_disk.specs.Moves.{Moves, Run};
 ghost use Rattle.vx_model.specs.Content.{Write};
 ghost use Rattle.vx_disk.specs.Spends.{Spends};
 ghost use Rattle.vx_rvg.specs.Commits.{Committing, HasStaged, SealIs, Seals, seal_refusal, with_sealed};
 ghost use Rattle.vx_rvg.specs.Holdings.{Holding, with_writes};
+ghost use Rattle.vx_rvg.specs.StagedMarks.{MarkedCommitting};
 ghost use Rattle.vx_rvg.specs.Stands.{Stands};
 ghost use Rattle.vx_rvg.specs.Views.{IsSoundWith};
 ghost use Rattle.vx_disk.specs.Causes.{BlamesUnit};
@@ -70,7 +72,8 @@ fn seal_up<S: Shelf>(shelf: &mut S, core: &mut RvgCore) -> Result<u64, No>
 
 impl<S: Shelf> Staging<S> {
     /// Makes what is staged part of the log, durably, in the order in which it was staged. Answers the number of the last write of the
-    /// log. It is a flush, a write for each header, and a flush; where nothing is staged it makes no call on the shelf.
+    /// log. It is a flush, a write for each header, and a flush; where nothing is staged it makes no call on the shelf. Whatever first part
+    /// of it a crash leaves in the log, the regions that were marked before are marked.
     ///
     /// Refusals, in this order: 20 where a call answered 7 before, 6 where the shelf is down; these change nothing. 7 where a device
     /// call failed, and 6 where the shelf fell: then a start finds the log with a first part of what was staged, and behind a 7 the
@@ -83,6 +86,9 @@ impl<S: Shelf> Staging<S> {
         ensures stands { OnOk result ((xs : List Write) (h : Holding) → HasStaged xs self.old.core h (S.meaning self.old.shelf)
             → Stands self.new.core (with_writes xs h) (S.meaning self.new.shelf)) }
         ensures moves { Moves (Run self.old.core.units.srl 0 (self.old.core.log.ring + 2)) (Committing self.old.core (S.meaning self.old.shelf)) (S.meaning self.old.shelf) (S.meaning self.new.shelf) }
+        ensures marked { (marks vol first last : ℕ) → SlotsMarked marks vol first last self.old.core.maps
+            → Moves (Run self.old.core.units.srl 0 (self.old.core.log.ring + 2))
+            (MarkedCommitting self.old.core (IsPlaceOfSlots self.old.core.maps marks vol first last) (S.meaning self.old.shelf)) (S.meaning self.old.shelf) (S.meaning self.new.shelf) }
         ensures calls { OnOk result (0 < length self.old.core.log.staged → MakesCalls (length self.old.core.log.staged + 2) (S.meaning self.old.shelf) (S.meaning self.new.shelf)) }
         ensures short { FallsShort (length self.old.core.log.staged + 2) (S.meaning self.old.shelf) (S.meaning self.new.shelf) }
         ensures blames { IfErr result (BlamesUnit (S.meaning self.old.shelf).disks self.old.core.log.unit) }

@@ -64,4 +64,10 @@ impl Waiting {
     {
         let _oldest = self.updates.pop_front();
     }
+    /// None waits any longer.
+    pub fn clear(&mut self)
+        ensures { self.new ≡ [] }
+    {
+        self.updates.clear();
+    }
 }

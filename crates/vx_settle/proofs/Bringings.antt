@@ -1,9 +1,12 @@
 -- What follows from the clauses of an engine and a peer.
-use Rattle.std.proofs.Common.{◌≡◌, ◌⊎◌, ℕ, zero, suc, ◌+◌, ◌<◌, ◌≤◌, true, false, List, [], ◌∷◌, ◌++◌, refl, ap, sym, ◌∙◌, subst, ⊎_elim, inl, inr, arith, append_assoc, Some, None}
+use Rattle.std.proofs.Common.{◌≡◌, ◌⊎◌, ℕ, zero, suc, ◌+◌, ◌<◌, ◌≤◌, true, false, List, [], ◌∷◌, ◌++◌, length, length-append, refl, ap, sym, ◌∙◌, subst, ⊎_elim, inl, inr, arith, append_assoc, Some, None}
 use Rattle.std.proofs.lemmas.Bool.{false_from_ne_true}
 use Rattle.std.proofs.lemmas.List.{append-nil}
 use Rattle.vx_model.specs.declared.call.Update.{Update}
+use Rattle.vx_model.specs.declared.history.Line.{Line}
 use Rattle.vx_model.specs.declared.no.No.{No}
+use Rattle.vx_model.specs.declared.no.No.TheVariants as no
+use Rattle.vx_model.specs.declared.no.Counted.TheVariants as counted
 use Rattle.vx_turn.specs.declared.ask.Ask.{Ask}
 use Rattle.vx_turn.specs.declared.ask.Ask.TheVariants.{Charged}
 use Rattle.vx_turn.specs.declared.ask.Said.{Said}
@@ -13,11 +16,11 @@ use Rattle.vx_turn.specs.declared.ask.Job.TheVariants.{Fetch, Acked}
 use Rattle.vx_turn.specs.declared.ask.JobReply.{JobReply}
 use Rattle.vx_turn.specs.declared.ask.JobReply.TheVariants as job
 use Rattle.vx_turn.specs.declared.meaning.State.{State}
-use Rattle.vx_turn.specs.Acting.{LiesAmong, EngineActs, CountRose, Caused, IsFault, IsHalt, IsBound}
+use Rattle.vx_turn.specs.Acting.{LiesAmong, EngineActs, CountRose, Caused, FetchEnds, IsFault, IsHalt, IsBound, IsDamage, IsNumberLimit}
 use Rattle.vx_turn.proofs.Histories.{rises-trans, rose-wider, among-split, nets-long}
 use Rattle.vx_settle.specs.declared.peer.Ack.{Ack}
 use Rattle.vx_settle.specs.declared.peer.Stand.{Stand}
-use Rattle.vx_settle.specs.Peers.{LiesIn, PeerGoes, Hands, Finishes}
+use Rattle.vx_settle.specs.Peers.{AreNumbered, LiesIn, PeerGoes, Hands, Finishes, GetsNext}
 use Rattle.vx_settle.specs.Bringing.{Events, IsJob, EngineMoves, Walks, NoLimit, HasAcked, NoAck, Drains, Steps, Climbs, BringsPeer}
 
 pub among-left : {A : Type 0} (x : A) (xs ys : List A) → LiesAmong x xs → LiesAmong x (xs ++ ys)
@@ -81,29 +84,57 @@ goes-none p = record { link = refl; line = refl; sizes = refl; faults = omega ar
 pub goes-then : (p q r : Stand) → PeerGoes p q → PeerGoes q r → PeerGoes p r
 goes-then p q r a b = record { link = b.link ∙ a.link; line = b.line ∙ a.line; sizes = b.sizes ∙ a.sizes; faults = omega (arith, a.faults, b.faults); net = omega (arith, a.net, b.net); stored = omega (arith, a.stored, b.stored) }
 
+-- ---- which updates a peer took
+
+pub took-same : (p q : Stand) → q.net ≡ p.net → q.handed ≡ p.handed → GetsNext p [] q
+took-same p q net handed = record { handed = handed ∙ sym (append-nil p.handed); next = tt; net = omega (arith, net) }
+
+numbered-then : (l : Line) (n k : ℕ) (xs ys : List Update) → k ≡ n + length xs → AreNumbered l n xs → AreNumbered l k ys → AreNumbered l n (xs ++ ys)
+numbered-then l n k [] ys is a b = subst (λ m. AreNumbered l m ys) (let same : k ≡ n = omega (arith, is) in same) b
+numbered-then l n k (x ∷ xs) ys is a b = (a.0, a.1, numbered-then l (n + 1) k xs ys (omega (arith, is)) a.2 b)
+
+pub took-then : (p q r : Stand) (xs ys : List Update) → PeerGoes p q → GetsNext p xs q → GetsNext q ys r → GetsNext p (xs ++ ys) r
+took-then p q r xs ys g a b = record {
+  handed = b.handed ∙ (ap (λ l. l ++ ys) a.handed ∙ append_assoc p.handed xs ys);
+  next = numbered-then p.line p.net q.net xs ys a.net a.next (subst (λ l. AreNumbered l q.net ys) g.line b.next);
+  net = let long = length-append xs ys in omega (arith, a.net, b.net, long);
+}
+
 pub walks-none : (kept : List Update) (p : Stand) → Walks kept p p
-walks-none kept p = record { goes = goes-none p; got = []; handed = sym (append-nil p.handed); from = λ u a. absurd (cc a.1) }
+walks-none kept p = record { goes = goes-none p; got = []; took = took-same p p refl refl; from = λ u a. absurd (cc a.1) }
 
 pub walks-then : (kept less : List Update) (p q r : Stand) → ((u : Update) → LiesAmong u less → LiesAmong u kept) → Walks kept p q → Walks less q r → Walks kept p r
 walks-then kept less p q r sub a b = record {
   goes = goes-then p q r a.goes b.goes;
   got = a.got ++ b.got;
-  handed = b.handed ∙ (ap (λ l. l ++ b.got) a.handed ∙ append_assoc p.handed a.got b.got);
+  took = took-then p q r a.got b.got a.goes a.took b.took;
   from = λ u m. ⊎_elim (λ (x : LiesAmong u a.got). a.from u x) (λ (x : LiesAmong u b.got). sub u (b.from u x)) (among-split u a.got b.got m);
 }
 
 pub hand-walks : (kept : List Update) (p q : Stand) (u : Update) (ack : Ack) → LiesAmong u kept → Hands p u ack q → Walks kept p q
 hand-walks kept p q u ack m h = ⊎_elim
-    (λ (same : q.handed ≡ p.handed). record { goes = h.goes; got = []; handed = same ∙ sym (append-nil p.handed); from = λ v a. absurd (cc a.1) })
-    (λ (more : (p.net < q.net) × (q.handed ≡ p.handed ++ u ∷ [])). record { goes = h.goes; got = u ∷ []; handed = more.1; from = λ v a. subst (λ x. LiesAmong x kept) (among-one v u a) m })
+    (λ (same : (q.net ≡ p.net) × (q.handed ≡ p.handed)). record { goes = h.goes; got = []; took = took-same p q same.0 same.1; from = λ v a. absurd (cc a.1) })
+    (λ (more : GetsNext p (u ∷ []) q). record { goes = h.goes; got = u ∷ []; took = more; from = λ v a. subst (λ x. LiesAmong x kept) (among-one v u a) m })
     h.handed
 
 pub finish-walks : (kept : List Update) (p q : Stand) (ack : Ack) → Finishes p ack q → Walks kept p q
-finish-walks kept p q ack f = record { goes = f.goes; got = []; handed = f.handed ∙ sym (append-nil p.handed); from = λ v a. absurd (cc a.1) }
+finish-walks kept p q ack f = record { goes = f.goes; got = []; took = took-same p q f.received f.handed; from = λ v a. absurd (cc a.1) }
+
+full-bound : (cause : No) → IsNumberLimit cause → IsBound cause
+full-bound (no.Limit counted.Number most) f = tt
+full-bound other f = absurd f
+
+damage-bound : (cause : No) → IsDamage cause → IsBound cause
+damage-bound (no.Damaged unit block stored computed) f = tt
+damage-bound other f = absurd f
 
 pub unrefused : (s t : State) (cause : No) → Caused s cause t → s.halted ≡ false → (CountRose s.counts.faults t.counts.faults → ⊥) → (IsBound cause → ⊥) → ⊥
 unrefused s t cause c runs whole limit = ⊎_elim (λ (a : IsFault cause × CountRose s.counts.faults t.counts.faults). whole a.1)
-    (λ (b : (IsHalt cause × (s.halted ≡ true)) ⊎ IsBound cause). ⊎_elim (λ (h : IsHalt cause × (s.halted ≡ true)). absurd (cc (h.1, runs))) (λ (d : IsBound cause). limit d) b) c
+    (λ (b : (IsHalt cause × (s.halted ≡ true)) ⊎ IsNumberLimit cause). ⊎_elim (λ (h : IsHalt cause × (s.halted ≡ true)). absurd (cc (h.1, runs))) (λ (d : IsNumberLimit cause). limit (full-bound cause d)) b) c
+
+-- a fetch
+pub unrefused-fetch : (s t : State) (cause : No) → FetchEnds s cause t → s.halted ≡ false → (CountRose s.counts.faults t.counts.faults → ⊥) → (IsBound cause → ⊥) → ⊥
+unrefused-fetch s t cause c runs whole limit = ⊎_elim (λ (a : Caused s cause t). unrefused s t cause a runs whole limit) (λ (d : IsDamage cause). limit (damage-bound cause d)) c
 
 -- the first part of a run without a rise has none, and neither has the last
 pub calm-first : (a b c : ℕ) → b ≤ c → (CountRose a c → ⊥) → CountRose a b → ⊥
@@ -173,7 +204,7 @@ step-end s t p net head reply into at top below not a = record {
     ends (job.Done m) not a d = not m refl
     ends job.Nothing not a d = let n = a.tells in absurd (omega (arith, n, top, below))
     ends (job.Gone low) not a d = d.there low into (0, ap (λ n. Some (Charged (Fetch (n + 1)), Worked (job.Gone low) into)) at)
-    ends (job.Refused cause) not a d = unrefused s t cause a.tells.0 d.runs d.whole (d.limit (Fetch (net + 1)) cause into (0, refl))
+    ends (job.Refused cause) not a d = unrefused-fetch s t cause a.tells.0 d.runs d.whole (d.limit (Fetch (net + 1)) cause into (0, refl))
 
 -- the climb, up to here
 pub record Mid (s : State) (p : Stand) (t : State) (q : Stand) (net : ℕ) : Type 0 where

@@ -17,7 +17,7 @@ use Rattle.vx_turn.specs.Acting.{LiesAmong, EngineActs, Rises, CountRose, IsBoun
 use Rattle.vx_settle.specs.declared.bringing.Ended.{Ended}
 use Rattle.vx_settle.specs.declared.bringing.Ended.TheVariants as ended
 use Rattle.vx_settle.specs.declared.peer.Stand.{Stand}
-use Rattle.vx_settle.specs.Peers.{LiesIn, PeerGoes}
+use Rattle.vx_settle.specs.Peers.{LiesIn, PeerGoes, GetsNext}
 
 -- what an engine was asked and said, in order
 abbrev pub Events : Type 0
@@ -49,11 +49,11 @@ pub record EngineMoves (s t : State) : Type 0 where
   pub links : length t.nets ≡ length s.nets
   pub keeps : (u : Update) → LiesAmong u t.kept → LiesAmong u s.kept
 
--- the peer went on: each update that it got was one of these
+-- the peer went on: it got the next updates of its line, each of which was one of these
 pub record Walks (kept : List Update) (p q : Stand) : Type 0 where
   pub goes : PeerGoes p q
   pub got : List Update
-  pub handed : q.handed ≡ p.handed ++ got
+  pub took : GetsNext p got q
   pub from : (u : Update) → LiesAmong u got → LiesAmong u kept
 
 -- no job was refused for a greatest number or a digest

@@ -7,7 +7,9 @@ use vx_model::{Blocks, Call, Line, No, Reply, Update};
 use vx_turn::{Engine, Job, JobReply};
 
 /// An update for a job to write over.
-pub fn unset() -> Update {
+pub fn unset() -> Update
+    ensures { result.number ≡ 0 }
+{
     Update {
         line: Line {
             generation: 0,

@@ -92,7 +92,7 @@ ends_bright told tells d line s fails said new b (DiskFails c taken before e res
     left_bright s line taken d (run_as taken d (before ++ leaves)) new left b (run_bright taken d (before ++ leaves) b)
 ends_bright told tells d line s fails said new b (HeaderFails c e f disk is leaves writes failed says left) =
     left_bright s line false d (halved d f s disk) new left b (halved_bright d f s disk b)
-ends_bright told tells d line s fails said new b (FuseRunsOut c e begun is begins fused failed says left) =
+ends_bright told tells d line s fails said new b (FuseRunsOut c e begun is begins keeps fused failed says left) =
     left_bright s line false d (run_as false d (begun ++ CrashAt s c.kept ∷ [])) new left b (run_bright false d (begun ++ CrashAt s c.kept ∷ []) b)
 ends_bright told tells d line s fails said new b (NoNumber c taken before e rest is may none failed says left) =
     left_bright s line taken d (run_as taken d before) new left b (run_bright taken d before b)
@@ -111,7 +111,7 @@ links_bright told tells d line fails said new b (LinksHalt e site disk middle co
     are_bright line d (halved middle e site disk) new left (halved_bright middle e site disk (runs_bright comes.before d middle b comes.runs))
 links_bright told tells d line fails said new b (AppliesPart before rest site count reached disk last split runs none here is says left) =
     are_bright line d last new left (runs_bright (before ++ Fault site disk ∷ []) d last b runs)
-links_bright told tells d line fails said new b (AppliesCut before rest site count reached kept taken middle split runs none opens fused failed says left) =
+links_bright told tells d line fails said new b (AppliesCut before rest site count reached kept taken middle split runs none few opens fused failed says left) =
     let h : Doubted = halved middle (Fault site 0) site 0 in
     are_bright line d (crashed_as h site kept taken) new left
     (crashed_bright h site kept taken (halved_bright middle (Fault site 0) site 0 (runs_bright before d middle b runs)))

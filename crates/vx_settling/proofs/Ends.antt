@@ -131,7 +131,7 @@ module _ (d last : Doubted) (p s : List ℕ) (origin : is_origin (d.world.nodes 
 
   pub settle_done : (told : Type 0) (new : Doubted) → (d.world.nodes a).safe ≤ (last.world.links a b).stored → AreLeft (Settle p s) d last new
       → LinkEnds told d (Settle p s) [] (Settled (d.world.nodes a).safe) new
-  settle_done told new stored left = LinksDone last runs (no_fails es (are_all d.world a b)) tt (settle_replies stored) left
+  settle_done told new stored left = LinksDone last runs (no_fails es (are_all d.world a b)) refl (settle_replies stored) left
 
   -- all that is durable at the first site is stored at the second
   pub settle_stored : GoodWorld d.world → MaySettle d.world a b → (last.world.links a b).stored ≡ (d.world.nodes a).safe

@@ -25,7 +25,7 @@ use Rattle.vx_events.specs.GroupLines.{cut_events, fuse_lost, group_events, grou
 use Rattle.vx_events.specs.GroupNotes.{IsKnown, no_note, note_at}
 use Rattle.vx_events.specs.Lines.{EndsBy, is_of_links}
 use Rattle.vx_events.specs.LinkEnds.{AppliesCut, AppliesPart, AreLeft, LinkEnds, LinksCut, LinksDone, LinksFind, LinksHalt, LogUnread, NoHeader, link_noted}
-use Rattle.vx_events.specs.Lists.{Choice, events_of}
+use Rattle.vx_events.specs.Lists.{Choice, crash_count, events_of}
 use Rattle.vx_events.specs.LinkFinds.{ApplyCut, ApplyHalts, EndsBetween, FindsOther, GivesUp, HeaderCut, HeaderHalts, IsStored, IsUnread, KeepsOther, LosesOther, MovesBetween, ReadsNone, SendsOther, SettlesOther, TakesOther}
 use Rattle.vx_events.specs.LinkLists.{link_events}
 use Rattle.vx_events.specs.RvgBack.{FindsNoRvg, FindsPlain, FindsRvg, GetsRvg, GroupCutOff, GroupHeld, GroupUnfound, HadRvg, IsLeftBack, IsLeftBut, KeptLost, LogCut, LogFails, LogLacks, RestsWithRvg, RvgBack, RvgFinds, RvgUp, fall_first, fuse_left}
@@ -174,7 +174,7 @@ module _ (i : ℕ) (o : Option GroupNode) where
     linked_notes mid s k row apart h = record { note = OtherNotes.apart_notes i o mid.world s k apart h.note; doubt = h.doubt }
 
     rested : (s : ℕ) (c : Choice) (taken : Bool) (mid : Doubted) (n : Node) → Recovering d s c taken mid n → HasNote i o mid
-    rested s c taken mid n (FromUp up is node) = subst (λ (e : Doubted). HasNote i o e) (sym is) (ran taken (CrashAt s c.kept ∷ []))
+    rested s c taken mid n (FromUp up is node) = subst (λ (e : Doubted). HasNote i o e) (sym is) (ran taken (CrashAt s (crash_count (d.world.nodes s) c.kept) ∷ []))
     rested s c taken mid n (FromDown down is node) = subst (λ (e : Doubted). HasNote i o e) (sym is) x.has
     rested s c taken mid n (FromBare bare is node) = subst (λ (e : Doubted). HasNote i o e) (sym is) x.has
 
@@ -186,7 +186,7 @@ module _ (i : ℕ) (o : Option GroupNode) where
         left_notes s line taken d (run_as taken d (before ++ leaves)) new left x.has (ran taken (before ++ leaves))
     ends_notes told line s fails said new apart (HeaderFails c e f disk is leaves writes failed says left) =
         left_notes s line false d (halved d f s disk) new left x.has (OtherNotes.halved_notes i o d f s disk x)
-    ends_notes told line s fails said new apart (FuseRunsOut c e begun is begins fused failed says left) =
+    ends_notes told line s fails said new apart (FuseRunsOut c e begun is begins keeps fused failed says left) =
         left_notes s line false d (run_as false d (begun ++ CrashAt s c.kept ∷ [])) new left x.has (ran false (begun ++ CrashAt s c.kept ∷ []))
     ends_notes told line s fails said new apart (NoNumber c taken before e rest is may none failed says left) =
         left_notes s line taken d (run_as taken d before) new left x.has (ran taken before)
@@ -249,7 +249,7 @@ module _ (i : ℕ) (o : Option GroupNode) where
         (OtherNotes.halved_notes i o middle e site disk (OtherNotes.runs_stand i o comes.before d middle x comes.runs))
     links_notes told line fails said new off (AppliesPart before rest site count reached disk last split runs none here is says left) =
         are_notes line d last new left (OtherNotes.runs_stand i o (before ++ Fault site disk ∷ []) d last x runs).has
-    links_notes told line fails said new off (AppliesCut before rest site count reached kept taken middle split runs none opens fused failed says left) =
+    links_notes told line fails said new off (AppliesCut before rest site count reached kept taken middle split runs none few opens fused failed says left) =
         let h : Doubted = halved middle (Fault site 0) site 0 in
         are_notes line d (crashed_as h site kept taken) new left
         (OtherNotes.crashed_notes i o h site kept taken (OtherNotes.halved_notes i o middle (Fault site 0) site 0 (OtherNotes.runs_stand i o before d middle x runs)))

@@ -55,8 +55,8 @@ module _ (told : Type 0) (d : Doubted) (xs ys : List Event) (fails : Fails) (sai
   stops_more (HaltsIn e site disk middle came here one is leaves) = HaltsIn e site disk middle (comes_more e site middle came) here one is leaves
   stops_more (HaltsApplying before rest site count reached disk split runs none here one is) =
       HaltsApplying before (rest ++ ys) site count reached disk (longer xs before rest ys (ApplyAt site count reached) split) runs none here one is
-  stops_more (CutsApplying before rest site count reached kept taken middle split runs none opens fused one is leaves) =
-      CutsApplying before (rest ++ ys) site count reached kept taken middle (longer xs before rest ys (ApplyAt site count reached) split) runs none opens fused one is leaves
+  stops_more (CutsApplying before rest site count reached kept taken middle split runs none few opens fused one is leaves) =
+      CutsApplying before (rest ++ ys) site count reached kept taken middle (longer xs before rest ys (ApplyAt site count reached) split) runs none few opens fused one is leaves
   stops_more (CutsIn e site kept taken middle came fused one is leaves) = CutsIn e site kept taken middle (comes_more e site middle came) fused one is leaves
   stops_more (IsUnreadIn before rest e site disk split reads runs none here one is) =
       IsUnreadIn before (rest ++ ys) e site disk (longer xs before rest ys e split) reads runs none here one is
@@ -84,9 +84,9 @@ module _ (told : Type 0) (d m : Doubted) (xs ys : List Event) (fails : Fails) (s
       HaltsApplying (xs ++ before) rest site count reached disk (later xs ys before rest (ApplyAt site count reached) split)
       (subst (λ (es : List Event). Runs d es last) (sym (append_assoc xs before (Fault site disk ∷ []))) (runs_then d m last xs (before ++ Fault site disk ∷ []) done runs))
       (fails_both xs before calm none) here one is
-  stops_behind (CutsApplying before rest site count reached kept taken middle split runs none opens fused one is leaves) =
+  stops_behind (CutsApplying before rest site count reached kept taken middle split runs none few opens fused one is leaves) =
       CutsApplying (xs ++ before) rest site count reached kept taken middle (later xs ys before rest (ApplyAt site count reached) split) (runs_then d m middle xs before done runs)
-      (fails_both xs before calm none) opens (fuses site fused) one is leaves
+      (fails_both xs before calm none) few opens (fuses site fused) one is leaves
   stops_behind (CutsIn e site kept taken middle came fused one is leaves) = CutsIn e site kept taken middle (comes_behind e site middle came) (fuses site fused) one is leaves
   stops_behind (IsUnreadIn before rest e site disk split reads runs none here one is) =
       IsUnreadIn (xs ++ before) rest e site disk (later xs ys before rest e split) reads (runs_then d m last xs before done runs) (fails_both xs before calm none) here one is
@@ -101,8 +101,8 @@ line_stops told d line fails said last new (HaltsIn e site disk middle came here
     LinksHalt e site disk middle came here one is (subst (λ (x : Doubted). AreLeft line d x new) leaves left)
 line_stops told d line fails said last new (HaltsApplying before rest site count reached disk split runs none here one is) left =
     AppliesPart before rest site count reached disk last split runs none here one is left
-line_stops told d line fails said last new (CutsApplying before rest site count reached kept taken middle split runs none opens fused one is leaves) left =
-    AppliesCut before rest site count reached kept taken middle split runs none opens fused one is (subst (λ (x : Doubted). AreLeft line d x new) leaves left)
+line_stops told d line fails said last new (CutsApplying before rest site count reached kept taken middle split runs none few opens fused one is leaves) left =
+    AppliesCut before rest site count reached kept taken middle split runs none few opens fused one is (subst (λ (x : Doubted). AreLeft line d x new) leaves left)
 line_stops told d line fails said last new (CutsIn e site kept taken middle came fused one is leaves) left =
     LinksCut e site kept taken middle came fused one is (subst (λ (x : Doubted). AreLeft line d x new) leaves left)
 line_stops told d line fails said last new (IsUnreadIn before rest e site disk split reads runs none here one is) left =

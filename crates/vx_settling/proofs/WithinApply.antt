@@ -1,5 +1,5 @@
 -- What a line that applies, within one that settles a link, comes to in a world in which fuses were noted.
-use Rattle.std.proofs.Common.{◌≡◌, ◌∙◌, ◌⊎◌, inl, inr, ◌+◌, ◌<◌, ℕ, List, [], ◌∷◌, ◌++◌, Bool, true, false, ap, sym, subst, refl}
+use Rattle.std.proofs.Common.{◌≡◌, ◌∙◌, ◌⊎◌, inl, inr, ◌+◌, ◌<◌, ◌≤◌, ℕ, List, [], ◌∷◌, ◌++◌, Bool, true, false, ap, sym, subst, refl}
 use Rattle.std.proofs.Math.Path.{fun_ext}
 use Rattle.std.specs.Prelude.{Option, Some, None, eqb, if◌then◌else◌}
 use Rattle.vx_model.specs.Sites.{is_origin}
@@ -28,7 +28,7 @@ use Rattle.vx_history.specs.declared.receiver.RAction.{RAction}
 use Rattle.vx_history.specs.declared.receiver.RAction.TheVariants as receiving
 use Rattle.vx_script.specs.declared.line.ScriptLine.TheVariants.{Apply}
 use Rattle.vx_events.specs.Doubts.{IsAs, run_as, with_disks}
-use Rattle.vx_events.specs.Ends.{AllDone, BegunOf, DiskFails, Ends, LeavesOf, MayName, NoneLeft, WritesAHeader, FindsLinks, FindsNone, FuseRunsOut, HeaderFails, IsLeft, NoNumber, ShowsReceived}
+use Rattle.vx_events.specs.Ends.{AllDone, BegunOf, DiskFails, Ends, LeavesOf, MayKeep, MayName, NoneLeft, WritesAHeader, FindsLinks, FindsNone, FuseRunsOut, HeaderFails, IsLeft, NoNumber, ShowsReceived}
 use Rattle.vx_events.specs.Facts.{site_number}
 use Rattle.vx_events.specs.Fails.{Fails, IsSiteDisk}
 use Rattle.vx_events.specs.LinksFit.{LinksFit}
@@ -246,16 +246,17 @@ module _ (told : Type 0) (a b : ℕ) (d : Doubted) (may : MayMove a b d.world) (
           let o = head_same (ApplyAt b count c.reached) e [] [] (sym (evs c) ∙ split) in
           let left_is : f ∷ [] ≡ Fault b disk ∷ [] = subst (λ (x : Event). LeavesOf x disk (f ∷ [])) (sym o.0) leaves in
           absurd (subst (λ (x : Event). WritesAHeader (burnt_world fuses d.world) x b) (head_same f (Fault b disk) [] [] left_is).0 writes)
-      by (FuseRunsOut c e begun split begins lit none says is_left) =
+      by (FuseRunsOut c e begun split begins keeps lit none says is_left) =
           let o = head_same (ApplyAt b count c.reached) e [] [] (sym (evs c) ∙ split) in
           let begun_is : begun ≡ [] = subst (λ (x : Event). BegunOf (burnt_world fuses d.world) x begun) (sym o.0) begins in
+          let few : c.kept ≤ (d.world.nodes b).safe + count = subst (λ (x : Event). MayKeep (burnt_world fuses d.world) x c.kept) (sym o.0) keeps in
           let left_so = subst (λ (es : List Event). IsLeft b (Apply name count) false (noted_as fuses d) (run_as false (noted_as fuses d) (es ++ CrashAt b c.kept ∷ [])) new) begun_is is_left in
           subst (λ (x : Said). GoesTo told a b d (ApplyAt b count 0 ∷ []) fails new x) (sym says)
           (record {
             last = crashed_as (halved d (Fault b 0) b 0) b c.kept false;
             sites = crashed_sites (halved d (Fault b 0) b 0) b c.kept false;
             stops = subst (λ (f : Fails). SettleStops told a b d (ApplyAt b count 0 ∷ []) f (Refused IsOff) (crashed_as (halved d (Fault b 0) b 0) b c.kept false)) (sym none)
-                (cuts_apply told a b d may count 0 c.kept false (up, runs) (fused_pure a b fuses d.world burns b lit));
+                (cuts_apply told a b d may count 0 c.kept false few (up, runs) (fused_pure a b fuses d.world burns b lit));
             noted = left_noted (crashed_as (halved d (Fault b 0) b 0) b c.kept false) (updated fuses b NoFuse) (happened (noted_as fuses d) (CrashAt b c.kept) false) new false (burns_cut c.kept) (cut_noted c.kept) (cut_disks c.kept) left_so;
           })
       by (NoNumber c taken before e rest split lack more none says is_left) =

@@ -1,5 +1,5 @@
 -- What a line within one that settles a link comes to, in a world in which fuses were noted.
-use Rattle.std.proofs.Common.{◌≡◌, ◌∙◌, ◌⊎◌, inl, ◌+◌, ◌≤◌, ℕ, List, [], ◌∷◌, Bool, true, false, ap, sym, subst, refl}
+use Rattle.std.proofs.Common.{◌≡◌, ◌∙◌, ◌⊎◌, inl, ◌+◌, ◌<◌, ◌≤◌, ℕ, List, [], ◌∷◌, Bool, true, false, ap, sym, subst, refl}
 use Rattle.std.proofs.lemmas.Option.{same_Some}
 use Rattle.std.proofs.Math.Path.{fun_ext}
 use Rattle.std.specs.Prelude.{Option, Some, None, ltb, if◌then◌else◌}
@@ -14,8 +14,8 @@ use Rattle.vx_history.specs.Sends.{packets_of}
 use Rattle.vx_history.specs.Settling.{is_between}
 use Rattle.vx_history.specs.Step.{step}
 use Rattle.vx_history.specs.Steps.{worked_on}
-use Rattle.vx_history.specs.Stops.{IsFused, IsOpen, WritesAt}
-use Rattle.vx_history.specs.World.{Fuse, Gathering, NetAck, NoFuse, Node, Packet, World, updated}
+use Rattle.vx_history.specs.Stops.{IsFused, IsOpen, WritesAt, stored_by}
+use Rattle.vx_history.specs.World.{DataAck, Fuse, Gathering, Hello, Link, Message, NetAck, NoFuse, Node, Packet, Update, World, updated}
 use Rattle.vx_history.specs.declared.event.Event.{Event}
 use Rattle.vx_history.specs.declared.event.Event.TheVariants.{Connect as ConnectAt, Deliver as DeliverAt, Pump as PumpAt, Tick as TickAt}
 use Rattle.vx_history.specs.declared.event.Said.{Said as EventSaid}
@@ -43,6 +43,13 @@ use Rattle.vx_settling.proofs.Working.{cuts_header, gives_up, lacks_header, stop
 use Rattle.vx_settling.proofs.WithinOne.{OneCut, OneDone, OneEnds, OneFinds, OneFull, OneHalts, OneUnread, delivered_says, first_heard, fuse_at, number_burnt, one_ends, reply_on, target_of}
 
 -- ---- in a world with noted fuses
+
+-- what a link counts as stored does not go by the fuse of its site
+stored_pure : (n : Node) (f : Fuse) (l : Link) (q : Packet) (m : Message) → stored_by (record n { fuse = f }) l q m ≡ stored_by n l q m
+stored_pure n f l q (Hello session number stored) = refl
+stored_pure n f l q (Update number x) = refl
+stored_pure n f l q (NetAck session number) = refl
+stored_pure n f l q (DataAck number) = refl
 
 module _ (told : Type 0) (a b : ℕ) (d : Doubted) (may : MayMove a b d.world) (fuses : ℕ → Fuse) (burns : MayBurn a b fuses d.world) (fit : LinksFit (noted_as fuses d)) where
   abbrev D : Doubted
@@ -81,10 +88,10 @@ module _ (told : Type 0) (a b : ℕ) (d : Doubted) (may : MayMove a b d.world) (
       by (one_ends told (noted_as fuses d) (Connect p s) (ConnectAt a b) fails said new (ap (λ (i : ℕ). ConnectAt i (site_number (burnt_world fuses d.world) s) ∷ []) (number_burnt fuses d.world p ∙ from) ∙ ap (λ (j : ℕ). ConnectAt a j ∷ []) (number_burnt fuses d.world s ∙ to)) refl refl (λ last reply. reply) ends)
     where
       by : OneEnds told (noted_as fuses d) (Connect p s) (ConnectAt a b) fails said new → GoesTo told a b d (ConnectAt a b ∷ []) fails new said
-      by (OneDone borne reply left) =
+      by (OneDone none reply left) =
           reply_on (OnTo told a b d (ConnectAt a b ∷ []) fails new) (λ why. EndTo told a b d (ConnectAt a b ∷ []) fails why new) (step (burnt_world fuses d.world) (ConnectAt a b)).world 0 (step (burnt_world fuses d.world) (ConnectAt a b)).said said
           (ap (λ (x : EventSaid). is_refused x) (said_same (ConnectAt a b) ∙ connect_done d.world a b may.can)) reply
-          (record { next = happened d (ConnectAt a b) false; borne = borne; works = works_connect told a b d may; noted = plain_done (ConnectAt a b) new refl left })
+          (record { next = happened d (ConnectAt a b) false; borne = borne_none d.world b fails none; works = works_connect told a b d may; noted = plain_done (ConnectAt a b) new refl left })
       by (OneHalts site disk opens writes place one says left) = absurd writes
       by (OneCut site kept taken opens writes fused one says left) = absurd writes
       by (OneUnread site disk reads place one says left) = absurd reads
@@ -102,10 +109,10 @@ module _ (told : Type 0) (a b : ℕ) (d : Doubted) (may : MayMove a b d.world) (
       by (one_ends told (noted_as fuses d) (Tick p s) (TickAt a b) fails said new (ap (λ (i : ℕ). TickAt i (site_number (burnt_world fuses d.world) s) ∷ []) (number_burnt fuses d.world p ∙ from) ∙ ap (λ (j : ℕ). TickAt a j ∷ []) (number_burnt fuses d.world s ∙ to)) refl refl (λ last reply. reply) ends)
     where
       by : OneEnds told (noted_as fuses d) (Tick p s) (TickAt a b) fails said new → GoesTo told a b d (TickAt a b ∷ []) fails new said
-      by (OneDone borne reply left) =
+      by (OneDone none reply left) =
           reply_on (OnTo told a b d (TickAt a b ∷ []) fails new) (λ why. EndTo told a b d (TickAt a b ∷ []) fails why new) (step (burnt_world fuses d.world) (TickAt a b)).world 0 (step (burnt_world fuses d.world) (TickAt a b)).said said
           (ap (λ (x : EventSaid). is_refused x) (said_same (TickAt a b) ∙ tick_done d.world a b may.can)) reply
-          (record { next = happened d (TickAt a b) false; borne = borne; works = works_tick told a b d may; noted = plain_done (TickAt a b) new refl left })
+          (record { next = happened d (TickAt a b) false; borne = borne_none d.world b fails none; works = works_tick told a b d may; noted = plain_done (TickAt a b) new refl left })
       by (OneHalts site disk opens writes place one says left) = absurd writes
       by (OneCut site kept taken opens writes fused one says left) = absurd writes
       by (OneUnread site disk reads place one says left) = absurd reads
@@ -126,7 +133,7 @@ module _ (told : Type 0) (a b : ℕ) (d : Doubted) (may : MayMove a b d.world) (
       sends more any untold none left =
           record {
             next = record d { world = pumped_with d.world a b more };
-            borne = borne_none d.world fails none;
+            borne = borne_none d.world b fails none;
             works = works_pump_other told a b d may more any untold;
             noted = record {
               fuses = fuses;
@@ -162,10 +169,10 @@ module _ (told : Type 0) (a b : ℕ) (d : Doubted) (may : MayMove a b d.world) (
       by_finds untold last (SettlesOther q r middle is moves finds) left = absurd (cc)
 
       by : OneEnds told (noted_as fuses d) (Pump p s) (PumpAt a b) fails said new → GoesTo told a b d (PumpAt a b ∷ []) fails new said
-      by (OneDone borne reply left) =
+      by (OneDone none reply left) =
           reply_on (OnTo told a b d (PumpAt a b ∷ []) fails new) (λ why. EndTo told a b d (PumpAt a b ∷ []) fails why new) (step (burnt_world fuses d.world) (PumpAt a b)).world 0 (step (burnt_world fuses d.world) (PumpAt a b)).said said
           (ap (λ (x : EventSaid). is_refused x) (said_same (PumpAt a b) ∙ pump_done d.world a b may.can)) reply
-          (record { next = happened d (PumpAt a b) false; borne = borne; works = works_pump told a b d may; noted = plain_done (PumpAt a b) new refl left })
+          (record { next = happened d (PumpAt a b) false; borne = borne_none d.world b fails none; works = works_pump told a b d may; noted = plain_done (PumpAt a b) new refl left })
       by (OneHalts site disk opens writes place one says left) = absurd writes
       by (OneCut site kept taken opens writes fused one says left) = absurd writes
       by (OneUnread site disk reads place one says left) =
@@ -211,6 +218,16 @@ module _ (told : Type 0) (a b : ℕ) (d : Doubted) (may : MayMove a b d.world) (
           let same : writes.0 ≡ q = same_Some writes.0 q (sym writes.1 ∙ at) in
           sym writes.2 ∙ ap (λ (x : Packet). x.target) same ∙ first_heard a b q may.can.apart sent between (λ k x is. writes.3 k x (ap (λ (y : Packet). y.message) same ∙ is))
 
+      -- and its header is written whatever fuses are noted
+      heard_pure : (site : ℕ) → WritesAt (burnt_world fuses d.world) (DeliverAt number) site → WritesAt d.world (DeliverAt number) site
+      heard_pure site h = (
+        h.0,
+        h.1,
+        h.2,
+        h.3,
+        subst (λ (k : ℕ). (d.world.links site h.0.source).stored < k) (stored_pure (d.world.nodes site) (fuses site) (d.world.links site h.0.source) h.0 h.0.message) h.4,
+      )
+
       moved_may : (q' : Packet) → q' ≡ q → (m : MayTake d.world number q') → (n : MayTake d.world number q) × (n.count ≡ m.count)
       moved_may q' same m = subst (λ (x : Packet). (n : MayTake d.world number x) × (n.count ≡ m.count)) same (m, refl)
 
@@ -242,7 +259,7 @@ module _ (told : Type 0) (a b : ℕ) (d : Doubted) (may : MayMove a b d.world) (
           subst (λ (y : Said). GoesTo told a b d (DeliverAt number ∷ []) fails new y) (sym says)
           (record {
             next = record d { world = taken_with d.world q m.count x };
-            borne = borne_none d.world fails none;
+            borne = borne_none d.world b fails none;
             works = works_take_other told a b d may number q sent x untold m;
             noted = other_noted (record d { world = taken_with d.world q m.count x }) n None more last refl refl
                 (leaves
@@ -254,23 +271,23 @@ module _ (told : Type 0) (a b : ℕ) (d : Doubted) (may : MayMove a b d.world) (
           subst (λ (y : Said). GoesTo told a b d (DeliverAt number ∷ []) fails new y) (sym says)
           (record {
             next = record d { world = kept_with d.world q };
-            borne = borne_none d.world fails none;
+            borne = borne_none d.world b fails none;
             works = works_keep_other told a b d may number q sent untold t.1.0;
             noted = other_noted (record d { world = kept_with d.world q }) (d.world.nodes q.target) (Some (record { key = key_of q; came = came_after (d.world.gathering q.target) q })) [] last refl refl
                 (leaves ∙ ap (λ (y : Packet). let z : Doubted = record (noted_as fuses d) { world = kept_with (burnt_world fuses d.world) y } in z) t.0) left;
           })
       by_finds untold last (LosesOther number' q' is takes none says leaves) left =
           subst (λ (y : Said). GoesTo told a b d (DeliverAt number ∷ []) fails new y) (sym says)
-          (record { next = d; borne = borne_none d.world fails none; works = works_lose_other told a b d may number q sent untold; noted = left_noted d fuses last burns leaves left })
+          (record { next = d; borne = borne_none d.world b fails none; works = works_lose_other told a b d may number q sent untold; noted = left_noted d fuses last burns leaves left })
       by_finds untold last (SettlesOther p r middle is moves finds) left = absurd (cc)
 
       by : OneEnds told (noted_as fuses d) (Deliver number) (DeliverAt number) fails said new → GoesTo told a b d (DeliverAt number ∷ []) fails new said
-      by (OneDone borne reply left) =
+      by (OneDone none reply left) =
           reply_on (OnTo told a b d (DeliverAt number ∷ []) fails new) (λ why. EndTo told a b d (DeliverAt number ∷ []) fails why new) (step (burnt_world fuses d.world) (DeliverAt number)).world 0 (step (burnt_world fuses d.world) (DeliverAt number)).said said
           (delivered_says (burnt_world fuses d.world) number q at) reply
           (record {
             next = happened d (DeliverAt number) false;
-            borne = borne;
+            borne = borne_none d.world b fails none;
             works = works_deliver told a b d may number q sent at between;
             noted = left_noted (happened d (DeliverAt number) false) fuses (happened (noted_as fuses d) (DeliverAt number) false) (burns_done (DeliverAt number) refl) (done_noted (DeliverAt number) refl) left;
           })
@@ -282,7 +299,7 @@ module _ (told : Type 0) (a b : ℕ) (d : Doubted) (may : MayMove a b d.world) (
             sites = refl;
             stops = subst (λ (f : Fails). SettleStops told a b d (DeliverAt number ∷ []) f (Refused (Device disk)) (halved d (DeliverAt number) site disk)) (sym one)
                 (subst (λ (i : ℕ). SettleStops told a b d (DeliverAt number ∷ []) ((i, disk) ∷ []) (Refused (Device disk)) (halved d (DeliverAt number) i disk)) (sym here)
-                (stops_header told a b d may number disk (subst (λ (i : ℕ). IsOpen (d.world.nodes i)) here opens) (subst (λ (i : ℕ). WritesAt d.world (DeliverAt number) i) here writes) (subst (λ (i : ℕ). IsLogDisk (d.world.nodes i) disk) here place)));
+                (stops_header told a b d may number disk (subst (λ (i : ℕ). IsOpen (d.world.nodes i)) here opens) (subst (λ (i : ℕ). WritesAt d.world (DeliverAt number) i) here (heard_pure site writes)) (subst (λ (i : ℕ). IsLogDisk (d.world.nodes i) disk) here place)));
             noted = left_noted (halved d (DeliverAt number) site disk) (noted_at fuses site) (halved (noted_as fuses d) (DeliverAt number) site disk) (burns_halved a b fuses d (DeliverAt number) site disk burns)
                 (halved_burnt fuses d fit a b burns (DeliverAt number) refl site disk) left;
           })
@@ -295,7 +312,7 @@ module _ (told : Type 0) (a b : ℕ) (d : Doubted) (may : MayMove a b d.world) (
             sites = crashed_sites half site kept taken;
             stops = subst (λ (f : Fails). SettleStops told a b d (DeliverAt number ∷ []) f (Refused IsOff) (crashed_as half site kept taken)) (sym one)
                 (subst (λ (i : ℕ). SettleStops told a b d (DeliverAt number ∷ []) [] (Refused IsOff) (crashed_as (halved d (DeliverAt number) i 0) i kept taken)) (sym here)
-                (cuts_header told a b d may number kept taken (subst (λ (i : ℕ). IsOpen (d.world.nodes i)) here opens) (subst (λ (i : ℕ). WritesAt d.world (DeliverAt number) i) here writes)
+                (cuts_header told a b d may number kept taken (subst (λ (i : ℕ). IsOpen (d.world.nodes i)) here opens) (subst (λ (i : ℕ). WritesAt d.world (DeliverAt number) i) here (heard_pure site writes))
                 (subst (λ (i : ℕ). IsFused (d.world.nodes i).fuse) here (fused_pure a b fuses d.world burns site lit))));
             noted = left_noted (crashed_as half site kept taken) (updated (noted_at fuses site) site NoFuse) (crashed_as (halved (noted_as fuses d) (DeliverAt number) site 0) site kept taken)
                 (burns_crashed a b (noted_at fuses site) half site kept taken (burns_halved a b fuses d (DeliverAt number) site 0 burns))
@@ -309,7 +326,7 @@ module _ (told : Type 0) (a b : ℕ) (d : Doubted) (may : MayMove a b d.world) (
             last = d;
             sites = refl;
             stops = subst (λ (f : Fails). SettleStops told a b d (DeliverAt number ∷ []) f (Refused (Limit Number MOST_NUMBER)) d) (sym one)
-                (lacks_header told a b d may number (subst (λ (i : ℕ). WritesAt d.world (DeliverAt number) i) here takes)
+                (lacks_header told a b d may number (subst (λ (i : ℕ). WritesAt d.world (DeliverAt number) i) here (heard_pure site takes))
                 (subst (λ (i : ℕ). told → MOST_NUMBER ≤ most_stamp_at d.world i + stamps_of (DeliverAt number) d.world i) here lacks));
             noted = left_noted d fuses (noted_as fuses d) burns refl left;
           })
@@ -322,7 +339,7 @@ module _ (told : Type 0) (a b : ℕ) (d : Doubted) (may : MayMove a b d.world) (
       (ap (λ (i : ℕ). ConnectAt i (site_number (burnt_world fuses d.world) s) ∷ []) (number_burnt fuses d.world p ∙ from) ∙ ap (λ (j : ℕ). ConnectAt a j ∷ []) (number_burnt fuses d.world s ∙ to)) refl refl (λ last reply. reply) ends)
     where
       by : OneEnds told (noted_as fuses d) (Connect p s) (ConnectAt a b) fails said new → said ≡ Done
-      by (OneDone borne reply left) =
+      by (OneDone none reply left) =
           subst (λ (x : EventSaid). RepeatsSaid (step (burnt_world fuses d.world) (ConnectAt a b)).world 0 x said) (said_same (ConnectAt a b) ∙ connect_done d.world a b may.can) reply
       by (OneHalts site disk opens writes place one says left) = absurd writes
       by (OneCut site kept taken opens writes fused one says left) = absurd writes

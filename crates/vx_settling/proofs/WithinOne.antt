@@ -34,7 +34,7 @@ use Rattle.vx_order.specs.declared.facts.RvgFacts.{RvgFacts}
 use Rattle.vx_order.specs.declared.facts.SiteFacts.{SiteFacts}
 use Rattle.vx_model.specs.declared.site.SiteState.{SiteState}
 use Rattle.vx_model.specs.declared.site.SiteState.TheVariants.{Bare, Deported, Down, Up}
-use Rattle.vx_events.specs.Fails.{AreBorne, Fails, IsLogDisk}
+use Rattle.vx_events.specs.Fails.{Fails, IsLogDisk}
 use Rattle.vx_events.specs.LinkEnds.{AppliesCut, AppliesPart, AreLeft, LinkEnds, LinkReplies, LinksCut, LinksDone, LinksFind, LinksHalt, LogUnread, NoHeader, ReadsLog, TakesNumber}
 use Rattle.vx_events.specs.LinkFinds.{FindsOther}
 use Rattle.vx_events.specs.LinkLists.{link_events}
@@ -51,7 +51,7 @@ use Rattle.vx_settling.proofs.Running.{happens}
 
 -- how it ended
 pub data OneEnds (told : Type 0) (d : Doubted) (line : ScriptLine) (e : Event) (fails : Fails) (said : Said) (new : Doubted) : Type 0 where
-  OneDone : AreBorne d.world fails → RepeatsSaid (step d.world e).world 0 (step d.world e).said said → AreLeft line d (happened d e false) new → OneEnds told d line e fails said new
+  OneDone : fails ≡ [] → RepeatsSaid (step d.world e).world 0 (step d.world e).said said → AreLeft line d (happened d e false) new → OneEnds told d line e fails said new
   OneHalts : (site disk : ℕ) → IsOpen (d.world.nodes site) → WritesAt d.world e site → IsLogDisk (d.world.nodes site) disk → fails ≡ (site, disk) ∷ [] → said ≡ Refused (Device disk) → AreLeft line d (halved d e site disk) new
       → OneEnds told d line e fails said new
   OneCut : (site kept : ℕ) (taken : Bool) → IsOpen (d.world.nodes site) → WritesAt d.world e site → IsFused (d.world.nodes site).fuse → fails ≡ [] → said ≡ Refused IsOff
@@ -95,16 +95,16 @@ module _ (told : Type 0) (d : Doubted) (line : ScriptLine) (x : Event) (fails : 
       let e : true ≡ false = ap is_apply one.1 ∙ other in cc
 
   pub one_ends : LinkEnds told d line fails said new → OneEnds told d line x fails said new
-  one_ends (LinksDone last runs _ borne reply left) =
+  one_ends (LinksDone last runs _ none reply left) =
       let is = runs_first last runs in
-      OneDone borne (replies last (subst (λ (es : List Event). LinkReplies line d last es said) events reply)) (subst (λ (m : Doubted). AreLeft line d m new) is left)
+      OneDone none (replies last (subst (λ (es : List Event). LinkReplies line d last es said) events reply)) (subst (λ (m : Doubted). AreLeft line d m new) is left)
   one_ends (LinksHalt e site disk middle comes here one says left) =
       let c = comes_first e site middle comes in
       OneHalts site disk (subst (λ (m : Doubted). IsOpen (m.world.nodes site)) c.1 c.2)
       (subst (λ (f : Event). WritesAt d.world f site) c.0 (subst (λ (m : Doubted). WritesAt m.world e site) c.1 c.3)) (subst (λ (m : Doubted). IsLogDisk (m.world.nodes site) disk) c.1 here) one says
       (subst (λ (f : Event). AreLeft line d (halved d f site disk) new) c.0 (subst (λ (m : Doubted). AreLeft line d (halved m e site disk) new) c.1 left))
   one_ends (AppliesPart before rest site count reached disk last split runs none here one says left) = absurd (not_apply before rest site count reached split)
-  one_ends (AppliesCut before rest site count reached kept taken middle split runs none opens fused one says left) = absurd (not_apply before rest site count reached split)
+  one_ends (AppliesCut before rest site count reached kept taken middle split runs none few opens fused one says left) = absurd (not_apply before rest site count reached split)
   one_ends (LinksCut e site kept taken middle comes fused one says left) =
       let c = comes_first e site middle comes in
       OneCut site kept taken (subst (λ (m : Doubted). IsOpen (m.world.nodes site)) c.1 c.2)

@@ -104,10 +104,10 @@ module _ (told : Type 0) (p s : ℕ) where
       other = λ untold. record { middle = d; moves = begins p s d may; ends = ApplyHalts disk opens here refl refl refl };
     }
 
-    pub cuts_apply : (count reached kept : ℕ) (taken : Bool) → IsOpen (d.world.nodes s) → IsFused (d.world.nodes s).fuse
+    pub cuts_apply : (count reached kept : ℕ) (taken : Bool) → kept ≤ (d.world.nodes s).safe + count → IsOpen (d.world.nodes s) → IsFused (d.world.nodes s).fuse
         → SettleStops told p s d (Apply s count reached ∷ []) [] (Refused IsOff) (crashed_as (halved d (Fault s 0) s 0) s kept taken)
-    cuts_apply count reached kept taken opens fused = record {
-      exact = λ tells. CutsApplying [] [] s count reached kept taken d refl refl refl opens fused refl refl refl;
+    cuts_apply count reached kept taken few opens fused = record {
+      exact = λ tells. CutsApplying [] [] s count reached kept taken d refl refl refl few opens fused refl refl refl;
       other = λ untold. record { middle = d; moves = begins p s d may; ends = ApplyCut kept taken opens fused refl refl refl };
     }
 

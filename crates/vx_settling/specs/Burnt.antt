@@ -30,7 +30,7 @@ pub record NotedAs (a b : ℕ) (d e : Doubted) : Type 0 where
 -- a line within one that settles a link did these events
 pub record OnTo (told : Type 0) (a b : ℕ) (d : Doubted) (events : List Event) (fails : Fails) (e : Doubted) : Type 0 where
   pub next : Doubted
-  pub borne : AreBorne d.world fails
+  pub borne : AreBorne d.world b fails
   pub works : SettleWorks told a b d events next
   pub noted : NotedAs a b next e
 

@@ -24,8 +24,8 @@ pub data StopsAmong (told : Type 0) (d : Doubted) (events : List Event) (fails :
       → StopsAmong told d events fails said last
   -- the fuse of this site ran out as waiting records were applied
   CutsApplying : (before rest : List Event) (site count reached kept : ℕ) (taken : Bool) (middle : Doubted) → events ≡ before ++ ApplyAt site count reached ∷ rest
-      → Runs d before middle → all_fails before ≡ [] → IsOpen (middle.world.nodes site) → IsFused (d.world.nodes site).fuse → fails ≡ [] → said ≡ Refused IsOff
-      → last ≡ crashed_as (halved middle (Fault site 0) site 0) site kept taken → StopsAmong told d events fails said last
+      → Runs d before middle → all_fails before ≡ [] → kept ≤ (middle.world.nodes site).safe + count → IsOpen (middle.world.nodes site) → IsFused (d.world.nodes site).fuse
+      → fails ≡ [] → said ≡ Refused IsOff → last ≡ crashed_as (halved middle (Fault site 0) site 0) site kept taken → StopsAmong told d events fails said last
   -- the fuse of this site ran out in an event
   CutsIn : (e : Event) (site kept : ℕ) (taken : Bool) (middle : Doubted) → ComesTo d events e site middle → IsFused (d.world.nodes site).fuse → fails ≡ []
       → said ≡ Refused IsOff → last ≡ crashed_as (halved middle e site 0) site kept taken → StopsAmong told d events fails said last

@@ -54,7 +54,7 @@ pub fn settling_works()
         → (t ≡ true → MOST_NUMBER ≤ most_stamp_at d.world p + stamps_of (Deliver number) d.world p) → SettleStops (t ≡ true) p s d (Deliver number ∷ []) [] (Refused (Limit Number MOST_NUMBER)) d }
     ensures applying { (t : Bool) (p s : ℕ) (d : Doubted) → MayMove p s d.world → (count reached disk : ℕ) → IsOpen (d.world.nodes s) → IsSiteDisk ((happened d (Fault s disk) false).world.nodes s) disk
         → SettleStops (t ≡ true) p s d (Apply s count reached ∷ []) ((s, disk) ∷ []) (Refused (Device disk)) (happened d (Fault s disk) false) }
-    ensures applying_cut { (t : Bool) (p s : ℕ) (d : Doubted) → MayMove p s d.world → (count reached kept : ℕ) (taken : Bool) → IsOpen (d.world.nodes s) → IsFused (d.world.nodes s).fuse
+    ensures applying_cut { (t : Bool) (p s : ℕ) (d : Doubted) → MayMove p s d.world → (count reached kept : ℕ) (taken : Bool) → kept ≤ (d.world.nodes s).safe + count → IsOpen (d.world.nodes s) → IsFused (d.world.nodes s).fuse
         → SettleStops (t ≡ true) p s d (Apply s count reached ∷ []) [] (Refused IsOff) (crashed_as (halved d (Fault s 0) s 0) s kept taken) }
     ensures applying_lacks { (t : Bool) (p s : ℕ) (d : Doubted) → MayMove p s d.world → (count reached : ℕ)
         → (t ≡ true → MOST_NUMBER ≤ most_stamp_at d.world s + stamps_of (Apply s count reached) d.world s)

@@ -74,7 +74,7 @@ module _ {R : Type 0} {g : Ghosts R} where
       let state : (d.world.nodes s).state ≡ IsUp = sym (ap (λ (x : SiteFacts). x.state) same) ∙ up in
       let fell = falls d stands here.below state in
       let h : Doubted = happened d (CrashAt s fell.count) fell.taken in
-      let lead = rises d h (keeps_k fell.count) fell.taken name here.number (WasUp state refl) stands.links fell.stands
+      let lead = rises d h (keeps_k fell.count) fell.taken name here.number (WasUp state (ap (λ (k : ℕ). happened d (CrashAt s k) fell.taken) (sym fell.keeps))) stands.links fell.stands
       (omega (arith, here.below, fell.sites, own_sites s d.world h fell.taken)) fell.down
       (fell.group ∙ none) (blocks_is ∙ ap (λ (x : SiteFacts). x.blocks) same ∙ sym fell.blocks) in
       record {
@@ -86,6 +86,12 @@ module _ {R : Type 0} {g : Ghosts R} where
         rose = rose_then lead.fails (count_of old) (count_of mid) (count_of new) fell.rose lead.rose;
       }
 
+  -- the state of a site that the tests found
+  pub state_found : (d : Doubted) (y : Yard R g) (name : List ℕ) (s : ℕ) (f : SiteFacts) → StandsFor d y → seat_of y.facts.items name ≡ Some s → slice_get y.facts.items s ≡ Some f → (d.world.nodes s).state ≡ f.state
+  state_found d y name s f stands seat at =
+      let here = place_at d y name s stands seat in
+      sym (over_reads d.world s (λ (x : SiteFacts). x.state) (d.world.nodes s).state refl refl) ∙ sym (ap (λ (x : SiteFacts). x.state) (some_same (sym at ∙ here.fact)))
+
   -- a bare one
   pub recover_from_bare : (d : Doubted) (old new : Yard R g) (name : List ℕ) (s : ℕ) (f : SiteFacts) (result : Result Said OutOfMemory) → StandsFor d old → seat_of old.facts.items name ≡ Some s
       → slice_get old.facts.items s ≡ Some f → f.state ≡ IsBare
@@ -93,5 +99,4 @@ module _ {R : Type 0} {g : Ghosts R} where
       → LeadsIs d (Recover name) old new result
   recover_from_bare d old new name s f result stands seat at bare rises =
       let here = place_at d old name s stands seat in
-      rises d here.number stands here.below
-      (sym (over_reads d.world s (λ (x : SiteFacts). x.state) (d.world.nodes s).state refl refl) ∙ sym (ap (λ (x : SiteFacts). x.state) (some_same (sym at ∙ here.fact))) ∙ bare)
+      rises d here.number stands here.below (state_found d old name s f stands seat at ∙ bare)

@@ -24,7 +24,7 @@ use Rattle.vx_events.specs.Ends.{AllDone, DiskFails, Ends, FindsLinks, FindsNone
 use Rattle.vx_events.specs.Facts.{site_number}
 use Rattle.vx_events.specs.Found.{ComesUpAs}
 use Rattle.vx_events.specs.LinkViews.{linked_view}
-use Rattle.vx_events.specs.Lists.{Choice, events_of, recovery_of}
+use Rattle.vx_events.specs.Lists.{Choice, crash_count, events_of, recovery_of}
 use Rattle.vx_events.specs.Sayings.{RepeatsSaid, Replies}
 use Rattle.vx_events.specs.Stamps.{most_stamp_at}
 use Rattle.vx_events.specs.declared.said.Said.{Said}
@@ -41,13 +41,14 @@ record Opening (d h : Doubted) (s : ℕ) (c : Choice) (taken : Bool) (name : Lis
 
 -- its events, by the state of the site
 list_by : (d : Doubted) (s : ℕ) (c : Choice) (name : List ℕ) (t : SiteState) → site_number d.world name ≡ s → (d.world.nodes s).state ≡ t
-    → events_of d.world (Recover name) c ≡ recovery_of t s c.kept
+    → events_of d.world (Recover name) c ≡ recovery_of t s (crash_count (d.world.nodes s) c.kept)
 list_by d s c name t number is =
-    ap (λ (k : ℕ). recovery_of (d.world.nodes k).state k c.kept) number ∙ ap (λ (x : SiteState). recovery_of x s c.kept) is
+    ap (λ (k : ℕ). recovery_of (d.world.nodes k).state k (crash_count (d.world.nodes k) c.kept)) number
+    ∙ ap (λ (x : SiteState). recovery_of x s (crash_count (d.world.nodes s) c.kept)) is
 
 opening : (d h : Doubted) (s : ℕ) (c : Choice) (taken : Bool) (name : List ℕ) → site_number d.world name ≡ s → RisesFrom d s c taken h → Opening d h s c taken name
 opening d h s c taken name number (WasUp up is) = record {
-  before = CrashAt s c.kept ∷ [];
+  before = CrashAt s (crash_count (d.world.nodes s) c.kept) ∷ [];
   list = list_by d s c name Up number up;
   runs = sym is;
   more = λ es. ap (λ (x : Doubted). run_as taken x es) (sym is);

@@ -40,7 +40,7 @@ use Rattle.vx_events.specs.Effects.{EffectAt}
 use Rattle.vx_events.specs.Ends.{found_linked}
 use Rattle.vx_events.specs.Found.{ComesUpAs, SameDisks}
 use Rattle.vx_events.specs.GroupLines.{is_over_group}
-use Rattle.vx_events.specs.Lists.{Choice}
+use Rattle.vx_events.specs.Lists.{Choice, crash_count}
 use Rattle.vx_events.specs.LinksFit.{LinksFit, is_plain_mode}
 use Rattle.vx_diskset.proofs.Roles.{role_like}
 use Rattle.vx_site_lines.specs.Rises.{RisesFrom, WasDown, WasUp, can_rise, is_none, is_quiet, own_disks}
@@ -195,7 +195,7 @@ module _ {R : Type 0} {g : Ghosts R} where
     fit_h = by_from from
       where
         by_from : RisesFrom d s c taken h → LinksFit h
-        by_from (WasUp up is) = subst (λ (x : Doubted). LinksFit x) (sym is) (fit_run taken d (CrashAt s c.kept ∷ []) (tt, tt) fit_d)
+        by_from (WasUp up is) = subst (λ (x : Doubted). LinksFit x) (sym is) (fit_run taken d (CrashAt s (crash_count (d.world.nodes s) c.kept) ∷ []) (tt, tt) fit_d)
         by_from (WasDown was_down not_taken is) = subst (λ (x : Doubted). LinksFit x) (sym is) fit_d
 
     below_mid : s < mid.world.sites

@@ -83,4 +83,4 @@ module _ (told : Type 0) (d : Doubted) (line : ScriptLine) (s : ℕ) (x : Write)
   -- the fuse of its site ran out in it
   pub cut_ends : IsFused (d.world.nodes s).fuse → Ends told d line s [] (Refused Off) (cut_for d s x c.kept)
   cut_ends fused =
-      FuseRunsOut c event (WriteAt s x.volume x.start x.bytes (Some 0) ∷ []) events (inl refl) fused refl refl (record { world = sym (notes _); after = λ i. refl })
+      FuseRunsOut c event (WriteAt s x.volume x.start x.bytes (Some 0) ∷ []) events (inl refl) tt fused refl refl (record { world = sym (notes _); after = λ i. refl })

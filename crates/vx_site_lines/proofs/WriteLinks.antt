@@ -59,7 +59,7 @@ use Rattle.vx_yard.specs.Writes.IsWriteLine.{OfPut, OfWrite}
 use Rattle.vx_yard.specs.Yards.{IsTold, count_of}
 use Rattle.vx_yard.specs.declared.yard.Yard.{Yard}
 use Rattle.vx_history.proofs.Updates.{at_place}
-use Rattle.vx_yard.proofs.ApplySite.{sure_at}
+use Rattle.vx_diskset.proofs.Fallen.{running_sure}
 use Rattle.vx_yard.proofs.Carrying.{LetsGo, LetsGoBy, SameLoad, carries_let, carries_node}
 use Rattle.vx_yard.proofs.CrashLine.{fuse_fact, rose_still}
 use Rattle.vx_yard.proofs.CrashSite.{down_up}
@@ -325,7 +325,7 @@ module _ {R : Type 0} {g : Ghosts R} where
         can = lets wrote.3
 
         sure : (beside_of d s).doubt ≡ None
-        sure = sure_at (beside_of d s) n before stood to.can.up to.can.running
+        sure = running_sure (beside_of d s) n before stood to.can.up to.can.running
 
         by_own : (k : KeptSite) → k ≡ itself (beside_of d s) (half_begun n x) → (count : ℕ) → k.node.safe ≤ count → count ≤ length k.node.log → SiteStands (sure_of k) (fell_to (half_begun n x) k.node count) after → Leads d line (Refused Off) old new
         by_own k own =

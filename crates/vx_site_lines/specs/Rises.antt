@@ -26,7 +26,7 @@ use Rattle.vx_events.specs.Fails.{Fails}
 use Rattle.vx_events.specs.GroupLines.{is_over_group}
 use Rattle.vx_events.specs.Lines.{IsDone as IsDoneLine}
 use Rattle.vx_events.specs.LinkViews.{linked_view}
-use Rattle.vx_events.specs.Lists.{Choice}
+use Rattle.vx_events.specs.Lists.{Choice, crash_count}
 use Rattle.vx_order.specs.declared.facts.SiteFacts.{SiteFacts}
 use Rattle.vx_events.specs.declared.said.Said.{Said}
 use Rattle.vx_events.specs.declared.said.Said.TheVariants.{Recovered}
@@ -88,7 +88,7 @@ own_disks taken s w h = record h { world = with_disks taken s w h.world }
 
 -- the world from which a site is recovered, but for the disks that are made to fail: one that is up crashes first
 pub data RisesFrom (d : Doubted) (s : ℕ) (c : Choice) (taken : Bool) (h : Doubted) : Type 0 where
-  WasUp : (d.world.nodes s).state ≡ Up → h ≡ run_as taken d (CrashAt s c.kept ∷ []) → RisesFrom d s c taken h
+  WasUp : (d.world.nodes s).state ≡ Up → h ≡ run_as taken d (CrashAt s (crash_count (d.world.nodes s) c.kept) ∷ []) → RisesFrom d s c taken h
   WasDown : (d.world.nodes s).state ≡ Down → taken ≡ false → h ≡ d → RisesFrom d s c taken h
 
 -- the links before place k have theirs

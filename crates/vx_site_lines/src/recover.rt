@@ -4,7 +4,7 @@ ghost use Rattle.vx_courier.specs.UnderWay.{FlightStands};
 ghost use Rattle.vx_history.specs.Doubts.{Doubted};
 ghost use Rattle.vx_history.specs.World.{Packet};
 ghost use Rattle.vx_model.specs.Sizes.{ring_of};
-ghost use Rattle.vx_model.specs.declared.limits.TheConstants.{LINK_PLACES, MOST_NUMBER, MOST_SITES};
+ghost use Rattle.vx_model.specs.declared.limits.TheConstants.{LEAST_BLOCKS, LINK_PLACES, MOST_NUMBER, MOST_SITES};
 ghost use Rattle.vx_model.specs.declared.site.SiteState.TheVariants.{Bare as BareState, Down as DownState};
 ghost use Rattle.vx_order.specs.declared.facts.SiteFacts.{SiteFacts as Facts};
 ghost use Rattle.vx_script.specs.declared.line.ScriptLine.TheVariants.{Recover};
@@ -137,6 +137,7 @@ fn rise<R: Rack>(
     blocks: u64,
     room: RiseRoom,
 ) -> Said
+    requires least { LEAST_BLOCKS ≤ blocks }
     requires facts { site < length yard.old.facts.items }
     requires many { length yard.old.facts.items ≤ MOST_SITES }
     requires disk_set { site < length yard.old.disk_sets.items }

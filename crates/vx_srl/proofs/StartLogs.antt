@@ -15,6 +15,7 @@ use Rattle.vx_ringlog.specs.Records.{Record}
 use Rattle.vx_ringlog.specs.Starting.{Raises, Repeats, SameLog, started}
 use Rattle.vx_ringlog.proofs.Starting.{start_safe}
 use Rattle.vx_ringio.specs.Classes.{classes, is_of_ring}
+use Rattle.vx_ringio.specs.Reading.{ReadsAs}
 use Rattle.vx_ringio.specs.Tracks.{Tracks, AmidCalls, Follows, Arrives}
 use Rattle.vx_ringio.proofs.Following.{left_now, always_left, following_gives, rest_follows, reads_stay, leaves_stay, leaves_read, left_tracks}
 use Rattle.vx_srlfmt.specs.Headers.{CanSpellHeader}
@@ -25,7 +26,7 @@ use Rattle.vx_srl.specs.Kepts.{IsLogKept}
 use Rattle.vx_srl.specs.Rings.{RingOn, heads_of, kept_heads}
 use Rattle.vx_srl.specs.Scans.{Scans}
 use Rattle.vx_srl.specs.Standings.{IsStanding, first_step_of, taken_over, taking_over}
-use Rattle.vx_srl.specs.Starts.{LeavesLog, IsRaised, Restarting, IsStartedLog}
+use Rattle.vx_srl.specs.Starts.{LeavesLog, IsRaised, Restarting, IsStartedLog, StartsFrom}
 use Rattle.vx_srl.specs.Views.{Log}
 use Rattle.vx_srl.specs.declared.kept.Kept.{Kept}
 use Rattle.vx_srl.specs.declared.start.Standing.{Standing}
@@ -163,11 +164,29 @@ module _ (unit ring : ℕ) (s : Standing) (old : Meaning) (lawful : Lawful old) 
           let step = step_some s.header.stamp s.block in
           (first_step_of s.header.stamp s.block + 1, omega arith, omega (arith, step.1), ap (λ (x : Header). raised x (first_step_of s.header.stamp s.block + 1)) (header_left h rs left))
 
+      raised_read : (c : Kinds) (h : Header) → ReadsAs unit ring c old → IsGreaterTop c h → IsRaised h (taken_over s)
+      raised_read c h reads greater =
+          let step = step_some s.header.stamp s.block in
+          (first_step_of s.header.stamp s.block + 1, omega arith, omega (arith, step.1), ap (λ (x : Header). raised x (first_step_of s.header.stamp s.block + 1)) (standing.counts c h reads greater).0)
+
+      from_header : IsTrue old.tells → StartsFrom unit ring (taken_over s) old
+      from_header told =
+          let step = step_some s.header.stamp s.block in
+          record {
+            block = s.block;
+            header = s.header;
+            low = standing.block;
+            sees = standing.sees told;
+            raised_is = (first_step_of s.header.stamp s.block + 1, omega arith, omega (arith, step.1), refl);
+          }
+
       log_started : IsStartedLog unit ring log old new
       log_started = record {
         unit_is = refl;
         ring_is = refl;
         nothing_staged = refl;
+        header_is = from_header;
+        counts = raised_read;
         fronts = fronts;
         ring_reads = ring_reads;
         each = λ h rs left. (raised_left h rs left, (started left.kinds s.block (1 - s.block) (raised s.header n) (taken_over s) rs, on h rs left, refl, refl, refl));

@@ -11,11 +11,11 @@ use Rattle.vx_srlfmt.specs.declared.header.Header.{Header}
 use Rattle.vx_disk.specs.Shelf.{Meaning, Image, Goes, Nothing}
 use Rattle.vx_ringlog.specs.Acts.{head_acts}
 use Rattle.vx_ringlog.specs.Cells.{Cells, RingImage as Kinds, run_all, still}
-use Rattle.vx_ringlog.specs.Chain.{Recovers}
+use Rattle.vx_ringlog.specs.Chain.{IsGreaterTop, Recovers}
 use Rattle.vx_ringlog.specs.Logs.{State}
 use Rattle.vx_ringlog.specs.Records.{Record}
 use Rattle.vx_ringio.specs.Classes.{classes}
-use Rattle.vx_ringio.specs.Reading.{LeavesAs, SeesTop}
+use Rattle.vx_ringio.specs.Reading.{LeavesAs, ReadsAs, SeesTop}
 use Rattle.vx_ringio.specs.Tracks.{Tracks}
 use Rattle.vx_ringio.specs.declared.top.TopSeen.TheVariants as top
 use Rattle.vx_disk.specs.Causes.{DeviceCause}
@@ -58,11 +58,23 @@ pub record Restarting (unit ring : ℕ) (m : Meaning) (i : Image) : Type 0 where
   pub each : (h : Header) (rs : List Record) → LeavesLog unit ring h rs m
       → (g : Header) × ((g ≡ h) ⊎ IsRaised h g) × Recovers ring (classes unit ring i) g rs
 
+-- a read gave a header of the log, behind which a start goes on
+pub record StartsFrom (unit ring : ℕ) (g : Header) (m : Meaning) : Type 0 where
+  pub block : ℕ
+  pub header : Header
+  pub low : block < 2
+  pub sees : SeesTop unit ring block m (top.Valid header)
+  pub raised_is : IsRaised header g
+
 -- the log that a start gives holds the records that were left
 pub record IsStartedLog (unit ring : ℕ) (l : Log) (old new : Meaning) : Type 0 where
   pub unit_is : l.unit ≡ unit
   pub ring_is : l.ring ≡ ring
   pub nothing_staged : l.staged ≡ []
+  -- a read gave the header that it goes on from, whether a log was left or not
+  pub header_is : IsTrue old.tells → StartsFrom unit ring l.header old
+  -- which is the one that counts
+  pub counts : (c : Kinds) (h : Header) → ReadsAs unit ring c old → IsGreaterTop c h → IsRaised h l.header
   -- reads gave the header of each, and of the blocks of the ring they give what they gave
   pub fronts : IsTrue old.tells → SeesFronts unit ring l.held old
   pub ring_reads : (b : ℕ) (v : List ℕ) → 2 ≤ b → new.reads unit b v → old.reads unit b v

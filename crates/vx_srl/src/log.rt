@@ -101,6 +101,13 @@ impl Srl {
         self.header.low + self.sealed as u64 - 1
     }
 
+    /// The number of the next record, behind what is staged.
+    pub fn next(&self) -> u64
+        ensures { result ≡ next_of self.now }
+    {
+        self.header.low + self.records.len() as u64
+    }
+
     /// How often the log was started, its making counted.
     pub fn session(&self) -> u64
         ensures is { result ≡ self.now.header.incarnation }

@@ -1,5 +1,5 @@
 -- What an engine may say to a call or a job, and what it is then.
-use Rattle.std.specs.Prelude.{◌≡◌, ◌≢◌, ◌⊎◌, ℕ, true, ◌+◌, ◌-◌, ◌^◌, ◌<◌, ◌≤◌, List, [], ◌∷◌, ◌++◌, length, slice_get, Some}
+use Rattle.std.specs.Prelude.{◌≡◌, ◌≢◌, ◌⊎◌, ℕ, true, ◌+◌, ◌-◌, ◌^◌, ◌<◌, ◌≤◌, List, [], ◌∷◌, ◌++◌, length, min, slice_get, Some}
 use Rattle.std.specs.List.{concat}
 use Rattle.vx_model.specs.Answer.{Answer, Shows, Accepts, WrongSize, OutOfRange, answer_of}
 use Rattle.vx_model.specs.declared.call.Call.{Call}
@@ -56,6 +56,16 @@ IsHoldCause (no.Stalled link) = Unit {0}
 IsHoldCause (no.LinkDown link) = Unit {0}
 IsHoldCause (no.Limit counted.Number most) = Unit {0}
 IsHoldCause cause = ⊥
+
+-- 19 for a number
+abbrev pub IsNumberLimit : No → Type 0
+IsNumberLimit (no.Limit counted.Number most) = Unit {0}
+IsNumberLimit cause = ⊥
+
+-- 22
+abbrev pub IsDamage : No → Type 0
+IsDamage (no.Damaged unit block stored computed) = Unit {0}
+IsDamage cause = ⊥
 
 -- 19 for a number, or 22
 abbrev pub IsBound : No → Type 0
@@ -117,9 +127,13 @@ LogsUpdate l (Ordered (WriteBlocks vol start bytes)) (Replied (Done n)) u = u �
 LogsUpdate l (Ordered (WriteBlocks vol start bytes)) (Replied (Logged n)) u = u ≡ record { line = l; number = n; vol = vol; block = start; bytes = bytes }
 LogsUpdate l ask said u = ⊥
 
--- why a job is refused: 6 and 7 only where the count of faults rose, 20 only where the engine was halted before, 19 for a number, 22
+-- why a job is refused: 6 and 7 only where the count of faults rose, 20 only where the engine was halted before, 19 for a number
 abbrev pub Caused : State → No → State → Type 0
-Caused s cause t = (IsFault cause × CountRose s.counts.faults t.counts.faults) ⊎ ((IsHalt cause × (s.halted ≡ true)) ⊎ IsBound cause)
+Caused s cause t = (IsFault cause × CountRose s.counts.faults t.counts.faults) ⊎ ((IsHalt cause × (s.halted ≡ true)) ⊎ IsNumberLimit cause)
+
+-- a fetch is refused with 22 too, as it reads
+abbrev pub FetchEnds : State → No → State → Type 0
+FetchEnds s cause t = Caused s cause t ⊎ IsDamage cause
 
 -- the number was logged, and neither it nor any before it is kept
 abbrev pub IsGone : State → ℕ → Type 0
@@ -135,12 +149,13 @@ WaitEnds s n cause t = Caused s cause t ⊎ ((cause ≡ no.Unconfirmed n) ⊎ (I
 
 -- what a job may be answered
 abbrev pub SaysJob : State → Job → JobReply → Update → State → Type 0
-SaysJob s (Apply count) (job.Done m) into t = (m ≤ s.head) × ((count ≤ m) ⊎ (s.head ≤ m))
+SaysJob s (Apply count) (job.Done m) into t = (s.applied < s.head) × (m ≡ min s.head (s.applied + count)) × (t.applied ≡ m)
+SaysJob s (Apply count) job.Nothing into t = s.head ≤ s.applied
 SaysJob s (Apply count) (job.Refused cause) into t = Caused s cause t
 SaysJob s (Fetch n) (job.Done m) into t = (m ≡ n) × (into.number ≡ n) × (into.line ≡ s.line) × LiesAmong into s.kept
 SaysJob s (Fetch n) job.Nothing into t = s.head < n
 SaysJob s (Fetch n) (job.Gone low) into t = IsGone s n × IsLow s low
-SaysJob s (Fetch n) (job.Refused cause) into t = Caused s cause t × (IsGone s n → ⊥)
+SaysJob s (Fetch n) (job.Refused cause) into t = FetchEnds s cause t × (IsGone s n → ⊥)
 SaysJob s (Acked link net stored) (job.Done m) into t = slice_get t.nets link ≡ Some m
 SaysJob s (Acked link net stored) (job.Refused cause) into t = Caused s cause t
 SaysJob s (Wait n) (job.Done m) into t = m ≡ n
@@ -157,14 +172,21 @@ abbrev pub Nets : Ask → List ℕ → List ℕ → Type 0
 Nets (Charged (Acked link net stored)) xs ys = (length ys ≡ length xs) × ((i n m : ℕ) → slice_get xs i ≡ Some n → slice_get ys i ≡ Some m → (n ≤ m) × (i ≢ link → m ≡ n))
 Nets ask xs ys = ys ≡ xs
 
+-- the count of held writes rises only where a write is held
+abbrev pub HoldsBy : Ask → Said → (before after : ℕ) → Type 0
+HoldsBy (Ordered call) (Replied (Refused cause)) before after = (after ≡ before) ⊎ (IsHoldCause cause × IsWrite call)
+HoldsBy ask said before after = after ≡ before
+
 -- the engine was s, was asked this, said that, and is t
 pub record EngineActs (s : State) (ask : Ask) (said : Said) (t : State) : Type 0 where
   pub rises : Rises s.counts t.counts
+  pub held : HoldsBy ask said s.counts.held t.counts.held
   pub replied : RepliesTo (s.halted ≡ true) s.volumes s.ring s.head ask said s.counts t.counts
   pub tells : TellsJob s ask said t
   pub volumes_is : t.volumes ≡ volumes_after s.volumes ask said
   pub ring_is : t.ring ≡ s.ring
   pub head_is : t.head ≡ head_after s.head said
+  pub applied : (s.applied ≤ t.applied) × (t.applied ≤ t.head)
   pub line_is : t.line ≡ s.line
   pub keeps : (u : Update) → LiesAmong u t.kept → LiesAmong u s.kept ⊎ LogsUpdate s.line ask said u
   pub logged : (u : Update) → LogsUpdate s.line ask said u → LiesAmong u t.kept

@@ -89,7 +89,7 @@ blank_view = record {
   one = [];
   two = [];
   callers = 0;
-  start = record { volumes = []; ring = 0; head = 0; line = record { generation = 0; origin = 0 }; kept = []; nets = []; counts = record { faults = 0; held = 0 }; halted = false; trail = [] };
+  start = record { volumes = []; ring = 0; head = 0; applied = 0; line = record { generation = 0; origin = 0 }; kept = []; nets = []; counts = record { faults = 0; held = 0 }; halted = false; trail = [] };
 }
 
 -- what the engine was asked last

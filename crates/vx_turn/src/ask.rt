@@ -19,7 +19,7 @@ pub enum Job {
 pub enum JobReply {
     /// The number up to which records are applied, the number that was fetched or is confirmed, or what the link's peer has received.
     Done(u64),
-    /// No update has the number yet, or the write is not confirmed yet.
+    /// Nothing is left to apply, no update has the number yet, or the write is not confirmed yet.
     Nothing,
     /// The update is no longer kept. The least number that is.
     Gone { low: u64 },

@@ -17,6 +17,8 @@ pub struct State {
     pub ring: u64,
     /// The number of the last logged write.
     pub head: u64,
+    /// The number up to which the logged writes are in the volumes below. Those behind it wait.
+    pub applied: u64,
     pub line: Line,
     /// The updates that the log holds.
     pub kept: LinkedList<Update>,

@@ -14,7 +14,7 @@ untold_IsRack m rack = record {
   is = rack.is;
   counts = rack.counts;
   armed = rack.armed;
-  latest = λ tells u b v is. absurd is;
+  latest = λ tells down u b v is. absurd is;
   stable = λ tells u b. absurd (let clash : false ≡ true = tells in cc);
   settled = λ u b v loose left. absurd left;
   at_rest = λ down u b v left. absurd left;

@@ -43,7 +43,7 @@ both_go b c x y z falls one two = record {
 
 go_call : {T : Type 0} → (m : Meaning) (step : Disks → Disks → Type 0) (r : Result T ShelfError) (down : Bool) (x y : Disks) → (r ≡ Err Down → IsTrue down) → Calls m step x y r → ((u : ℕ) → y.failing u ≡ x.failing u) → DisksGo down x y
 go_call m step (Ok done) down x y fell calls failing = record { failing = failing; fuse = λ up. fuse_burns x.fuse y.fuse calls.1 }
-go_call m step (Err (Fault disk)) down x y fell calls failing = record { failing = failing; fuse = λ up. fuse_burns x.fuse y.fuse calls.1 }
+go_call m step (Err (Fault disk)) down x y fell calls failing = record { failing = failing; fuse = λ up. fuse_burns x.fuse y.fuse calls }
 go_call m step (Err Down) down x y fell calls failing = record { failing = failing; fuse = λ up. absurd (not_both down (fell refl) up) }
 
 -- ---- a rack, or another shelf

@@ -13,7 +13,7 @@ use Rattle.vx_history.specs.Likes.{IsLike, SameLink}
 use Rattle.vx_history.specs.Refusals.{is_running}
 use Rattle.vx_history.specs.Step.{outcome_of, step}
 use Rattle.vx_history.specs.Steps.{stopped_by}
-use Rattle.vx_history.specs.Stops.{EventsEnd, AllDone, Halts, Cuts, Reads, IsOpen, WritesAt}
+use Rattle.vx_history.specs.Stops.{EventsEnd, AllDone, Halts, Cuts, Reads, IsOpen, WritesAt, stored_by}
 use Rattle.vx_history.specs.World.{World, Node, Link as LinkState}
 use Rattle.vx_history.specs.declared.event.Event.{Event}
 use Rattle.vx_history.specs.declared.event.Event.TheVariants.{Site, Raw, Group, Volumes, Write, Read, Apply, Pump, Tick, Deliver, Connect, Cut, Pause, Resume, Wait, Link, Set, Attach, Detach, Crash, Deport, Fall, Recover, Fault}
@@ -30,32 +30,41 @@ use Rattle.vx_world.proofs.Doubting.{world_good, doubt_moved, doubt_of, like_goo
 -- ## An event that a disk or a fuse ends
 
 -- the same event writes at the site, whichever of the others are as they may be
-writes_as : (w : World) (after : ℕ → Option After) (c : ℕ → Bool) (e : Event) (site : ℕ) → WritesAt w e site → WritesAt (resolved_as w after c) e site
-writes_as w after c (Site name disks blocks) site at = at
-writes_as w after c (Raw p) site at = at
-writes_as w after c (Group p) site at = at
-writes_as w after c (Volumes p log xs) site at = at
-writes_as w after c (Write p volume start bytes None) site at = at
-writes_as w after c (Write p volume start bytes (Some disk)) site at = at
-writes_as w after c (Read p volume start count) site at = at
-writes_as w after c (Apply p count reached) site at = at
-writes_as w after c (Pump p q) site at = at
-writes_as w after c (Tick p q) site at = at
-writes_as w after c (Deliver number) site at = at
-writes_as w after c (Connect p q) site at = at
-writes_as w after c (Cut p q) site at = at
-writes_as w after c (Pause p q) site at = at
-writes_as w after c (Resume p q) site at = at
-writes_as w after c (Wait p number) site at = at
-writes_as w after c (Link p q sync prot part) site at = at
-writes_as w after c (Set p q sync prot) site at = at
-writes_as w after c (Attach p q) site at = at
-writes_as w after c (Detach p q) site at = at
-writes_as w after c (Crash p kept) site at = at
-writes_as w after c (Deport p) site at = at
-writes_as w after c (Fall p) site at = at
-writes_as w after c (Recover p fails) site at = at
-writes_as w after c (Fault p disk) site at = at
+writes_as : (w : World) (after : ℕ → Option After) (c : ℕ → Bool) (e : Event) (site : ℕ) → (resolved_as w after c).nodes site ≡ w.nodes site → (resolved_as w after c).links site ≡ w.links site → WritesAt w e site
+    → WritesAt (resolved_as w after c) e site
+writes_as w after c (Site name disks blocks) site node row at = at
+writes_as w after c (Raw p) site node row at = at
+writes_as w after c (Group p) site node row at = at
+writes_as w after c (Volumes p log xs) site node row at = at
+writes_as w after c (Write p volume start bytes None) site node row at = at
+writes_as w after c (Write p volume start bytes (Some disk)) site node row at = at
+writes_as w after c (Read p volume start count) site node row at = at
+writes_as w after c (Apply p count reached) site node row at = at
+writes_as w after c (Pump p q) site node row at = at
+writes_as w after c (Tick p q) site node row at = at
+writes_as w after c (Deliver number) site node row at =
+    let p = at.0 in (
+      p,
+      at.1,
+      at.2,
+      at.3,
+      subst (λ (n : Node). (((resolved_as w after c).links site) p.source).stored < stored_by n (((resolved_as w after c).links site) p.source) p p.message) (sym node)
+          (subst (λ (r : ℕ → LinkState). (r p.source).stored < stored_by (w.nodes site) (r p.source) p p.message) (sym row) at.4),
+    )
+writes_as w after c (Connect p q) site node row at = at
+writes_as w after c (Cut p q) site node row at = at
+writes_as w after c (Pause p q) site node row at = at
+writes_as w after c (Resume p q) site node row at = at
+writes_as w after c (Wait p number) site node row at = at
+writes_as w after c (Link p q sync prot part) site node row at = at
+writes_as w after c (Set p q sync prot) site node row at = at
+writes_as w after c (Attach p q) site node row at = at
+writes_as w after c (Detach p q) site node row at = at
+writes_as w after c (Crash p kept) site node row at = at
+writes_as w after c (Deport p) site node row at = at
+writes_as w after c (Fall p) site node row at = at
+writes_as w after c (Recover p fails) site node row at = at
+writes_as w after c (Fault p disk) site node row at = at
 
 -- what crashes no site in doubt and is no recovery or fault of one
 calm_write : (w : World) (e : Event) (site : ℕ) → WritesAt w e site → (s : ℕ) → (s ≡ site → ⊥) → IsElsewhere s e
@@ -164,7 +173,7 @@ module _ (d : Doubted) (e : Event) (site disk : ℕ) (g : GoodDoubted d) (opens 
     row_here w = ap (λ (o : Option After). row_as (c site) o (w.links site)) free ∙ row_none (c site) (w.links site)
 
     other_twin : GoodTwin site (halved one e site disk).world (resolved (halved one e site disk).world site theirs)
-    other_twin = halved_good one e site disk (g.good c) (ap (λ (n : Node). n.state) (node_here d.world) ∙ opens.0) (writes_as d.world d.after c e site at)
+    other_twin = halved_good one e site disk (g.good c) (ap (λ (n : Node). n.state) (node_here d.world) ∙ opens.0) (writes_as d.world d.after c e site (node_here d.world) (row_here d.world) at)
 
     steps : IsLike (step one.world e).world (resolved_as (step d.world e).world d.after c)
     steps = step_as d.world d.after g.doubts e c (λ s a is _. calm_write d.world e site at s (apart_of s a is))

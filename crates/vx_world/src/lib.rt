@@ -1,7 +1,7 @@
 //! The world of sites, links and packets as a program, and what holds of it whatever happens.
 //!
 //! Sites, volumes and disks go by numbers from 0, writes and packets by numbers from 1. What each event makes of a world is
-//! defined in `vx_model` (`Step`), and what holds of every world that can come about in `Sound`.
+//! defined in `vx_history` (`Step`), and what holds of every world that can come about in `Sound`.
 #![tactic(auto)]
 
 mod admission;

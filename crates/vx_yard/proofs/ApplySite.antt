@@ -1,11 +1,11 @@
 -- A line that applies the log of a site that may keep links.
-use Rattle.std.proofs.Common.{◌≡◌, ◌∙◌, ◌≤◌, ◌⊎◌, ℕ, true, false, List, [], ◌∷◌, length, ap, sym, subst, refl, arith, ⊎_elim}
+use Rattle.std.proofs.Common.{◌≡◌, ◌∙◌, ◌≤◌, ◌+◌, ℕ, true, false, List, [], ◌∷◌, length, ap, sym, subst, refl, arith}
 use Rattle.std.specs.Prelude.{Bool, not, is_some, Option, Some, None, Ok, Err, slice_get, slice_set}
 use Rattle.vx_history.specs.Doubts.{After, Doubted, happened}
 use Rattle.vx_history.specs.Events.{linked_sites}
 use Rattle.vx_history.specs.Refusals.{Outcome}
 use Rattle.vx_history.specs.Step.{step}
-use Rattle.vx_history.specs.Steps.{burned, worked, worked_on}
+use Rattle.vx_history.specs.Steps.{burned, crashed, worked, worked_on}
 use Rattle.vx_history.specs.World.{Fuse, Gathering, Link, Node, Packet}
 use Rattle.vx_history.specs.declared.event.Event.{Event}
 use Rattle.vx_history.specs.declared.event.Event.TheVariants.{Apply as ApplyAt, Fault}
@@ -15,7 +15,7 @@ use Rattle.vx_model.specs.Sites.{is_origin}
 use Rattle.vx_model.specs.declared.no.No.{No}
 use Rattle.vx_model.specs.declared.no.No.TheVariants.{Device, Down as Off, Role as WrongRole}
 use Rattle.vx_model.specs.declared.site.SiteState.{SiteState}
-use Rattle.vx_model.specs.declared.site.SiteState.TheVariants.{Bare as IsBare, Up as IsUp, Down as IsDown}
+use Rattle.vx_model.specs.declared.site.SiteState.TheVariants.{Up as IsUp}
 use Rattle.vx_disk.specs.Disks.{Disks}
 use Rattle.vx_disk.specs.declared.shelf.Shelf.{Ghosts}
 use Rattle.vx_order.specs.declared.facts.LinkFacts.{LinkFacts}
@@ -24,19 +24,16 @@ use Rattle.vx_script.specs.declared.line.ScriptLine.TheVariants.{Apply}
 use Rattle.vx_diskset.proofs.KeepsFailing.{same_on}
 use Rattle.vx_diskset.specs.Asked.{FailsAs, FusedAs, LeavesFuse, SameFailing, disks_told, size_in}
 use Rattle.vx_diskset.specs.Burning.{Burnt, NoMore}
-use Rattle.vx_diskset.specs.DiskSets.{AppliedAt, CanApply, halted_at, fell_to}
-use Rattle.vx_diskset.specs.Holds.{KeptBeside, KeptSite, beside_of, itself, sure_of}
+use Rattle.vx_diskset.specs.DiskSets.{AppliedAt, AppliedWith, CanApply, CrashedTo, halted_at}
+use Rattle.vx_diskset.specs.Holds.{KeptBeside, beside_of, itself, sure_of}
 use Rattle.vx_diskset.proofs.Roles.{role_like}
-use Rattle.vx_diskset.specs.Stands.{KeepsRole, OverStands, RoleIs, SiteStands}
+use Rattle.vx_diskset.specs.Stands.{KeepsRole, RoleIs, SiteStands}
 use Rattle.vx_diskset.specs.declared.disk_set.DiskSet.{DiskSet}
-use Rattle.vx_diskset.specs.declared.disk_set.DiskSet.TheVariants.{Bare, Spoiled, Up, Receives, Down, OfGroup, Over, Gone}
-use Rattle.vx_diskset.specs.declared.over_set.OverSite.{OverSite}
-use Rattle.vx_diskset.specs.declared.over_set.OverSite.TheVariants.{Origin as OriginSite, Receiver as ReceiverSite, Deported as OverAway, Down as OverFell, Gone as NoOver}
 use Rattle.vx_effects.proofs.Effects.{changes_then}
 use Rattle.vx_effects.proofs.Fitting.{fit_happened}
 use Rattle.vx_effects.proofs.Leaving.{fit_worked}
 use Rattle.vx_effects.proofs.Rises.{fault_effect, note_effect, reached_effect}
-use Rattle.vx_events.proofs.Places.{never_some, some_same}
+use Rattle.vx_events.proofs.Places.{some_same}
 use Rattle.vx_events.proofs.Refused.{Named, apply_may, not_false, passes, when_none}
 use Rattle.vx_events.specs.GroupLines.{is_over_group}
 use Rattle.vx_order.specs.Grouping.{apply_role}
@@ -111,23 +108,14 @@ apply_has sites files name to free n =
     not_false (is_some (rvg_of (Some n.facts))) (when_none (not (is_some (rvg_of (Some n.facts)))) WrongRole (subst (λ (o : Option SiteFacts). apply_role o ≡ None) n.found p.role))
 
 module _ {R : Type 0} {g : Ghosts R} where
-  -- a running site is what its node says
-  over_sure_at : (beside : KeptBeside) (n : Node) (s : OverSite R g) → OverStands beside n s → n.halted ≡ None → beside.doubt ≡ None
-  over_sure_at beside n (OriginSite f) h runs = h.sure runs
-  over_sure_at beside n (ReceiverSite f) h runs = h.sure runs
-  over_sure_at beside n (OverAway idle) h runs = h.1.sure
-  over_sure_at beside n (OverFell idle) h runs = h.2.sure
-  over_sure_at beside n NoOver h runs = absurd h
+  -- an apply of at most so many that was refused; where its fuse ran out no more of them are kept
+  abbrev pub StopsApply : KeptBeside → Node → (to : ℕ) → DiskSet R g → DiskSet R g → No → Type 0
+  StopsApply beside n to old new why = AppliedWith (λ most k e. CrashedTo beside k (k.safe + to) e) beside n to old new (Err why)
 
-  pub sure_at : (beside : KeptBeside) (n : Node) (e : DiskSet R g) → SiteStands beside n e → n.state ≡ IsUp → n.halted ≡ None → beside.doubt ≡ None
-  sure_at beside n (Bare rack) h up runs = absurd (let e : IsBare ≡ IsUp = sym (ap (λ (k : Node). k.state) h.bare.is) ∙ up in cc)
-  sure_at beside n (Spoiled rack) h up runs = absurd (let e : IsBare ≡ IsUp = sym (ap (λ (k : Node). k.state) h.is) ∙ up in cc)
-  sure_at beside n (Up rvg) h up runs = h.1.sure runs
-  sure_at beside n (Receives site) h up runs = h.1.sure runs
-  sure_at beside n (Over s) h up runs = over_sure_at beside n s.site h.1 runs
-  sure_at beside n (Down rack) h up runs = absurd (let e : IsDown ≡ IsUp = sym h.state ∙ up in cc)
-  sure_at beside n (OfGroup s) h up runs = h.sure (λ bare. let e : IsBare ≡ IsUp = sym bare ∙ up in cc)
-  sure_at beside n Gone h up runs = absurd h
+  pub stops_apply : (beside : KeptBeside) (n : Node) (to : ℕ) (old new : DiskSet R g) (why : No) → AppliedAt beside n to old new (Err why) → StopsApply beside n to old new why
+  stops_apply beside n to old new (Device disk) is = is
+  stops_apply beside n to old new Off is = (is.0, record { count = is.1.count; least = is.1.least; few = omega (arith, is.1.few); most = is.1.most; stands = is.1.stands })
+  stops_apply beside n to old new other is = is
 
   pub calls_keep : (P : Disks → Disks → Type 0) (said : Said) (before after : DiskSet R g) → LeavesFuse P said before after → SameFailing before after
   calls_keep P said before after did = record { told = same_on (Burnt P said (size_in before)) (disks_told before) (disks_told after) did.told }
@@ -254,17 +242,12 @@ module _ {R : Type 0} {g : Ghosts R} where
         }
 
     -- its fuse ran out, and the site is down
-    falls_off : (f f' : SiteFacts) → AppliedAt (beside_of d s) n to before after (Err Off) → LeavesFuse NoMore (Refused Off) before after → slice_get old.facts.items s ≡ Some f
+    falls_off : (f f' : SiteFacts) → StopsApply (beside_of d s) n to before after Off → LeavesFuse NoMore (Refused Off) before after → slice_get old.facts.items s ≡ Some f
         → f' ≡ down_fact f → new.facts.items ≡ slice_set old.facts.items s f' → LetsGo old new s → Leads d (Apply name to) (Refused Off) old new
-    falls_off f f' is calls at noted facts lets = ⊎_elim (λ own. itself_by is.1.kept own is.1.count is.1.least is.1.most is.1.stands) (λ other. absurd (never_some (sym sure ∙ other))) is.1.is
+    falls_off f f' is calls at noted facts lets = itself_by is.1.count is.1.few is.1.least is.1.most is.1.stands
       where
-        sure : (beside_of d s).doubt ≡ None
-        sure = sure_at (beside_of d s) n before (stands.disk_sets.sites s before here.seat.below changed.there) here.can.up here.can.running
-
-        itself_by : (x : KeptSite) → x ≡ itself (beside_of d s) n → (count : ℕ) → x.node.safe ≤ count → count ≤ length x.node.log → SiteStands (sure_of x) (fell_to n x.node count) after → Leads d (Apply name to) (Refused Off) old new
-        itself_by x own =
-            subst (λ (q : KeptSite). (count : ℕ) → q.node.safe ≤ count → count ≤ length q.node.log → SiteStands (sure_of q) (fell_to n q.node count) after → Leads d (Apply name to) (Refused Off) old new) (sym own)
-            (λ count least most stood.
+        itself_by : (count : ℕ) → count ≤ n.safe + to → n.safe ≤ count → count ≤ length n.log → SiteStands (sure_of (itself (beside_of d s) n)) (crashed n count) after → Leads d (Apply name to) (Refused Off) old new
+        itself_by count few least most stood =
             let k : ℕ = site_number d.world name in
             let h : Doubted = crash_of d s count false in
             let e : Doubted = worked_for h s in
@@ -281,7 +264,7 @@ module _ {R : Type 0} {g : Ghosts R} where
               fails = [];
               done = record {
                 ends = subst (λ (i : ℕ). Ends (IsTold new) d (Apply name to) i [] (Refused Off) e) (sym here.seat.number)
-                    (FuseRunsOut (keeps_k count) (ApplyAt s to 0) [] ev refl is.0 refl refl (record { world = refl; after = λ i. refl }));
+                    (FuseRunsOut (keeps_k count) (ApplyAt s to 0) [] ev refl few is.0 refl refl (record { world = refl; after = λ i. refl }));
                 counts = tt;
                 works = tt;
                 calls = tt;
@@ -304,14 +287,14 @@ module _ {R : Type 0} {g : Ghosts R} where
                   ∙ over_same (e.world.nodes s) (h.world.nodes s) (h.world.links s) (h.world.links s) h.world.sites h.world.sites same (λ j. refl) refl)
                   facts;
               rose = rose_still old new s before after changed.there changed.later changed.disk_sets;
-            })
+            }
 
     -- it was refused
-    pub apply_refused : (why : No) (said : Said) (f f' : SiteFacts) → said ≡ Refused why → BlamesSite n why → AppliedAt (beside_of d s) n to before after (Err why) → LeavesFuse NoMore (Refused why) before after → slice_get old.facts.items s ≡ Some f
+    pub apply_refused : (why : No) (said : Said) (f f' : SiteFacts) → said ≡ Refused why → BlamesSite n why → StopsApply (beside_of d s) n to before after why → LeavesFuse NoMore (Refused why) before after → slice_get old.facts.items s ≡ Some f
         → f' ≡ noted_facts why f → new.facts.items ≡ slice_set old.facts.items s f' → LetsGoBy why old new s → Leads d (Apply name to) said old new
     apply_refused why said f f' says blames is calls at noted facts lets = subst (λ (r : Said). Leads d (Apply name to) r old new) (sym says) (by_why why blames is calls noted lets)
       where
-        by_why : (why : No) → BlamesSite n why → AppliedAt (beside_of d s) n to before after (Err why) → LeavesFuse NoMore (Refused why) before after → f' ≡ noted_facts why f → LetsGoBy why old new s → Leads d (Apply name to) (Refused why) old new
+        by_why : (why : No) → BlamesSite n why → StopsApply (beside_of d s) n to before after why → LeavesFuse NoMore (Refused why) before after → f' ≡ noted_facts why f → LetsGoBy why old new s → Leads d (Apply name to) (Refused why) old new
         by_why (Device disk) blames is calls noted lets = halts disk f f' blames is calls at noted facts (record { flight = lets.flight; assemblies = lets.assemblies; feeders = lets.feeders })
         by_why Off blames is calls noted lets = falls_off f f' is calls at noted facts (record { flight = lets.flight; assemblies = lets.assemblies; feeders = lets.feeders })
         by_why other blames is calls noted lets = absurd is

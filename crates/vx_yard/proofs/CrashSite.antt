@@ -18,7 +18,7 @@ use Rattle.vx_disk.specs.declared.shelf.Shelf.{Ghosts}
 use Rattle.vx_order.specs.declared.facts.SiteFacts.{SiteFacts}
 use Rattle.vx_script.specs.declared.line.ScriptLine.TheVariants.{Crash}
 use Rattle.vx_diskset.specs.Asked.{FailsAs, FusedAs, SameFailing}
-use Rattle.vx_diskset.specs.DiskSets.{CrashedAt}
+use Rattle.vx_diskset.specs.DiskSets.{CrashedAt, CrashedTo}
 use Rattle.vx_diskset.specs.Holds.{KeptBeside, KeptSite, beside_of, doubt_of, itself, row_links, sure_of}
 use Rattle.vx_diskset.specs.Stands.{SiteStands}
 use Rattle.vx_diskset.specs.declared.disk_set.DiskSet.{DiskSet}
@@ -52,6 +52,7 @@ use Rattle.vx_events.specs.declared.said.Said.TheVariants.{Done}
 use Rattle.vx_history.specs.declared.event.Event.{Event}
 use Rattle.vx_history.specs.declared.event.Said.{Said as EventSaid}
 use Rattle.vx_events.specs.LinksFit.{LinksFit}
+use Rattle.vx_events.specs.Lists.{crash_count, kept_while}
 use Rattle.vx_effects.specs.Facts.{down_fact}
 use Rattle.vx_yard.specs.Standing.{Falls, Leads, StandsFor, crash_of}
 use Rattle.vx_yard.specs.declared.yard.Yard.{Yard}
@@ -204,8 +205,8 @@ module _ {R : Type 0} {g : Ghosts R} where
 
   -- the same of a yard
   pub falls : (d : Doubted) (old new : Yard R g) (s : ℕ) (f f' : SiteFacts) (before after : DiskSet R g) → StandsFor d old → s < d.world.sites → (d.world.nodes s).state ≡ Up → slice_get old.facts.items s ≡ Some f
-      → Changed old new s before after → CrashedAt (beside_of d s) (d.world.nodes s) after → SameFailing before after → f' ≡ down_fact f → new.facts.items ≡ slice_set old.facts.items s f' → LetsGo old new s → Falls d s old new
-  falls d old new s f f' before after stands below up at changed fell same is facts lets = ⊎_elim (λ own. itself_by fell.kept own fell.count fell.least fell.most fell.stands) (λ other. doubt_by (d.after s) refl fell.kept other fell.count fell.least fell.most fell.stands) fell.is
+      → Changed old new s before after → CrashedAt (beside_of d s) (d.world.nodes s) after → ((d.world.nodes s).halted ≡ None → CrashedTo (beside_of d s) (d.world.nodes s) (d.world.nodes s).safe after) → SameFailing before after → f' ≡ down_fact f → new.facts.items ≡ slice_set old.facts.items s f' → LetsGo old new s → Falls d s old new
+  falls d old new s f f' before after stands below up at changed fell durable same is facts lets = by_halt (d.world.nodes s).halted refl
     where
       n : Node
       n = d.world.nodes s
@@ -222,12 +223,13 @@ module _ {R : Type 0} {g : Ghosts R} where
       no_rvg : is_over_group n ≡ true → HasNoRvg n
       no_rvg over = over_none (beside_of d s) n before (stands.disk_sets.sites s before below changed.there) over
 
-      itself_by : (k : KeptSite) → k ≡ itself (beside_of d s) n → (count : ℕ) → k.node.safe ≤ count → count ≤ length k.node.log → SiteStands (sure_of k) (fell_to n k.node count) after → Falls d s old new
+      itself_by : (k : KeptSite) → k ≡ itself (beside_of d s) n → (count : ℕ) → crash_count (d.world.nodes s) count ≡ count → k.node.safe ≤ count → count ≤ length k.node.log → SiteStands (sure_of k) (fell_to n k.node count) after → Falls d s old new
       itself_by k own =
-          subst (λ (x : KeptSite). (count : ℕ) → x.node.safe ≤ count → count ≤ length x.node.log → SiteStands (sure_of x) (fell_to n x.node count) after → Falls d s old new) (sym own)
-          (λ count least most here. record {
+          subst (λ (x : KeptSite). (count : ℕ) → crash_count (d.world.nodes s) count ≡ count → x.node.safe ≤ count → count ≤ length x.node.log → SiteStands (sure_of x) (fell_to n x.node count) after → Falls d s old new) (sym own)
+          (λ count keeps least most here. record {
             count = count;
             taken = false;
+            keeps = keeps;
             said = crash_said d s count false n (d.world.links s) refl (λ j. refl) (λ _. refl) below up least most;
             down = ap (λ (x : Node). x.state) (crash_node d s count false n (d.world.links s) refl (λ j. refl) (λ _. refl) below up least most);
             blocks = ap (λ (x : Node). x.blocks) (crash_node d s count false n (d.world.links s) refl (λ j. refl) (λ _. refl) below up least most);
@@ -244,7 +246,7 @@ module _ {R : Type 0} {g : Ghosts R} where
             rose = rose_still old new s before after changed.there changed.later changed.disk_sets;
           })
 
-      doubt_by : (o : Option After) → d.after s ≡ o → (k : KeptSite) → doubt_of d.world s (d.after s) ≡ Some k → (count : ℕ) → k.node.safe ≤ count → count ≤ length k.node.log → SiteStands (sure_of k) (fell_to n k.node count) after → Falls d s old new
+      doubt_by : (o : Option After) → d.after s ≡ o → (k : KeptSite) → doubt_of d.world s (d.after s) ≡ Some k → (count : ℕ) → crash_count (d.world.nodes s) count ≡ count → k.node.safe ≤ count → count ≤ length k.node.log → SiteStands (sure_of k) (fell_to n k.node count) after → Falls d s old new
       doubt_by None none k other = absurd (never_some (sym (ap (λ (o : Option After). doubt_of d.world s o) none) ∙ other))
       doubt_by (Some a) some k other =
           let kept : (let x : KeptSite = record { node = a.node; links = row_links a.row d.world.sites; headers = d.world.headers s } in x) ≡ k =
@@ -254,10 +256,11 @@ module _ {R : Type 0} {g : Ghosts R} where
           let node_is : (resolved_at d s true).world.nodes s ≡ a.node = ap (λ (o : Option After). (taken_up d.world s o).nodes s) some ∙ at_place d.world.nodes s a.node in
           let row_is : (j : ℕ) → (resolved_at d s true).world.links s j ≡ a.row j =
           λ j. ap (λ (o : Option After). (taken_up d.world s o).links s j) some ∙ ap (λ (r : ℕ → Link). r j) (at_place d.world.links s a.row) in
-          subst (λ (x : KeptSite). (count : ℕ) → x.node.safe ≤ count → count ≤ length x.node.log → SiteStands (sure_of x) (fell_to n x.node count) after → Falls d s old new) kept
-          (λ count least most here. record {
+          subst (λ (x : KeptSite). (count : ℕ) → crash_count (d.world.nodes s) count ≡ count → x.node.safe ≤ count → count ≤ length x.node.log → SiteStands (sure_of x) (fell_to n x.node count) after → Falls d s old new) kept
+          (λ count keeps least most here. record {
             count = count;
             taken = true;
+            keeps = keeps;
             said = crash_said d s count true a.node a.row node_is row_is (λ e. absurd (never e)) below fits.up_too least most;
             down = ap (λ (x : Node). x.state) (crash_node d s count true a.node a.row node_is row_is (λ e. absurd (never e)) below fits.up_too least most);
             blocks = ap (λ (x : Node). x.blocks) (crash_node d s count true a.node a.row node_is row_is (λ e. absurd (never e)) below fits.up_too least most) ∙ same_site.blocks;
@@ -275,6 +278,16 @@ module _ {R : Type 0} {g : Ghosts R} where
             rose = rose_still old new s before after changed.there changed.later changed.disk_sets;
           })
 
+      -- one that ran keeps what is durable
+      by_halt : (h : Option ℕ) → (d.world.nodes s).halted ≡ h → Falls d s old new
+      by_halt None runs =
+          let k = durable runs in
+          let whole : (d.world.nodes s).safe ≡ k.count = omega (arith, k.least, k.few) in
+          itself_by (itself (beside_of d s) (d.world.nodes s)) refl k.count (ap (λ (o : Option ℕ). kept_while o (d.world.nodes s).safe k.count) runs ∙ whole) k.least k.most k.stands
+      by_halt (Some disk) halted =
+          let keeps : crash_count (d.world.nodes s) fell.count ≡ fell.count = ap (λ (o : Option ℕ). kept_while o (d.world.nodes s).safe fell.count) halted in
+          ⊎_elim (λ own. itself_by fell.kept own fell.count keeps fell.least fell.most fell.stands) (λ other. doubt_by (d.after s) refl fell.kept other fell.count keeps fell.least fell.most fell.stands) fell.is
+
   -- the site of a line that crashes one is up
   pub crash_up : (d : Doubted) (old : Yard R g) (name : List ℕ) (pick s : ℕ) → StandsFor d old → IsFree old (Crash name pick) → seat_of old.facts.items name ≡ Some s → (d.world.nodes s).state ≡ Up
   crash_up d old name pick s stands free seat =
@@ -288,7 +301,8 @@ module _ {R : Type 0} {g : Ghosts R} where
       let here = place_at d old name s stands seat in
       let f = fell d stands here.below (crash_up d old name pick s stands free seat) in
       let e : Doubted = crash_of d s f.count f.taken in
-      let ev : (let es : List Event = CrashAt (site_number d.world name) f.count ∷ [] in es) ≡ CrashAt s f.count ∷ [] = ap (λ (i : ℕ). let es : List Event = CrashAt i f.count ∷ [] in es) here.number in
+      let ev : (let es : List Event = CrashAt (site_number d.world name) (crash_count (d.world.nodes (site_number d.world name)) f.count) ∷ [] in es) ≡ CrashAt s f.count ∷ [] =
+      ap (λ (i : ℕ). let es : List Event = CrashAt i (crash_count (d.world.nodes i) f.count) ∷ [] in es) here.number ∙ ap (λ (k : ℕ). let es : List Event = CrashAt s k ∷ [] in es) f.keeps in
       record {
         next = e;
         fails = [];

@@ -36,6 +36,7 @@ use Rattle.vx_history.specs.Groups.{GroupNode}
 use Rattle.vx_events.specs.GroupLines.{is_over_group}
 use Rattle.vx_diskset.specs.Stands.{IsGroupSet, IsUnused, IsBareAt, IsUpAt, IsReceiverAt, IsDownAt, IsRackTold, OverStands, SiteStands}
 use Rattle.vx_events.proofs.Places.{some_same}
+use Rattle.vx_diskset.specs.Stands.{IsUnfitted}
 use Rattle.vx_yard.specs.Standing.{SitesAgree}
 use Rattle.vx_diskset.proofs.CrashGroup.{left_with}
 use Rattle.vx_diskset.proofs.StaysUp.{all_taken, durable_content, told_now}
@@ -268,6 +269,18 @@ module _ {R : Type 0} {g : Ghosts R} where
   counts_as (Some (Over s)) d = count_at (site_in s) d
   counts_as (Some Gone) d = refl
 
+  -- the rack of a number that no site has
+  unused_holds : (x : Option (DiskSet R g)) (r : R) → ((e : DiskSet R g) → x ≡ Some e → IsUnused e) → option_and_then rack_of x ≡ Some r → IsUnfitted (g.meaning r)
+  unused_holds None r unused is = absurd (cc)
+  unused_holds (Some (Bare rack)) r unused is = subst (λ (k : R). IsUnfitted (g.meaning k)) (some_same is) (unused (Bare rack) refl)
+  unused_holds (Some (Spoiled rack)) r unused is = absurd (unused (Spoiled rack) refl)
+  unused_holds (Some (Up rvg)) r unused is = absurd (unused (Up rvg) refl)
+  unused_holds (Some (Receives s)) r unused is = absurd (unused (Receives s) refl)
+  unused_holds (Some (Down rack)) r unused is = absurd (unused (Down rack) refl)
+  unused_holds (Some (OfGroup s)) r unused is = absurd (unused (OfGroup s) refl)
+  unused_holds (Some (Over s)) r unused is = absurd (unused (Over s) refl)
+  unused_holds (Some Gone) r unused is = absurd (unused Gone refl)
+
   unused_tells : (e : DiskSet R g) → IsUnused e → ((r : R) → rack_of e ≡ Some r → IsTrue (g.meaning r).tells) → IsRackTold e
   unused_tells (Bare rack) there f = f rack refl
   unused_tells (Spoiled rack) there f = absurd there
@@ -350,6 +363,7 @@ module _ {R : Type 0} {g : Ghosts R} where
       record {
         eight = length-racks_in es there ∙ agree.eight;
         each = λ s r below none at. beside_holds lawful (beside_of d s) (d.world.nodes s) (slice_get es s) r none (λ e is. agree.sites s e below is) (sym (slice_get-racks_in es there s) ∙ at);
+        others = λ s r past at. unused_holds (slice_get es s) r (λ e is. agree.others s e past is) (sym (slice_get-racks_in es there s) ∙ at);
       }
 
   pub groups_hold : (lawful : (r : R) → Lawful (g.meaning r)) (d : Doubted) (es : List (DiskSet R g)) → SitesAgree d es → AreTold es → GroupsHold g.meaning d (racks_in es)

@@ -1,5 +1,5 @@
 -- The disk set of a site within its yard: a line that sets no disk makes none of it fail.
-use Rattle.std.proofs.Common.{◌≡◌, ◌∙◌, ◌<◌, ℕ, List, length, ap, sym, subst, ⊎_elim}
+use Rattle.std.proofs.Common.{◌≡◌, ◌∙◌, ◌⊎◌, ◌<◌, ℕ, List, length, ap, sym, subst, refl, inl, inr, ⊎_elim}
 use Rattle.std.specs.Prelude.{Some, slice_get, slice_set}
 use Rattle.std.proofs.lemmas.Bool.{cases_eq}
 use Rattle.std.proofs.lemmas.Option.{slice_get_within}
@@ -8,8 +8,10 @@ use Rattle.vx_disk.specs.Disks.{Disks}
 use Rattle.vx_disk.specs.declared.shelf.Shelf.{Ghosts}
 use Rattle.vx_events.proofs.Places.{some_same}
 use Rattle.vx_events.specs.declared.said.Said.{Said}
-use Rattle.vx_diskset.specs.Asked.{SameFailing, LeavesFuse, WritesUnder, disks_told, size_in}
-use Rattle.vx_yard.specs.OfSites.{AllSameFailing, OfSite}
+use Rattle.vx_model.specs.declared.site.SiteState.{SiteState}
+use Rattle.vx_model.specs.declared.site.SiteState.TheVariants.{Up as UpState}
+use Rattle.vx_diskset.specs.Asked.{CrashesBy, SameFailing, LeavesFuse, WritesUnder, disks_told, size_in}
+use Rattle.vx_yard.specs.OfSites.{AllSameFailing, FallsFirst, OfSite, RecoversAs}
 use Rattle.vx_diskset.specs.Burning.{Burnt, IsLogged}
 use Rattle.vx_diskset.specs.declared.disk_set.DiskSet.{DiskSet}
 use Rattle.vx_yard.specs.declared.yard.Yard.{Yard}
@@ -62,6 +64,59 @@ module _ {R : Type 0} {g : Ghosts R} where
         did = failing_then one.before one.after two.after one.did
             (subst (λ (e : DiskSet R g). SameFailing e two.after) (some_same (sym two.there ∙ mid)) two.did);
       }
+
+  -- ---- recoveries
+
+  -- by its number, whatever was done
+  pub site_numbered : (Did : DiskSet R g → DiskSet R g → Type 0) (s k : ℕ) (old new : Yard R g) → k ≡ s → OfSite Did k old new → OfSite Did s old new
+  site_numbered Did s k old new is of = subst (λ (n : ℕ). OfSite Did n old new) is of
+
+  -- nothing was done
+  pub recovers_none : (state : SiteState) (s : ℕ) (y : Yard R g) → OfSite SameFailing s y y → RecoversAs state s y y
+  recovers_none state s y of = record { failing = of; first = λ _. inl refl }
+
+  -- of a site that is not up
+  pub recovers_rest : (state : SiteState) (s : ℕ) (old new : Yard R g) → (state ≡ UpState → ⊥) → OfSite SameFailing s old new → RecoversAs state s old new
+  recovers_rest state s old new rest of = record { failing = of; first = λ up. absurd (rest up) }
+
+  -- one that is up crashed first
+  pub recovers_up : (state : SiteState) (s : ℕ) (a b c : Yard R g) → s < length a.disk_sets.items → OfSite (CrashesBy 0xffff_ffff_ffff_ffff) s a b → OfSite SameFailing s a b → OfSite SameFailing s b c → RecoversAs state s a c
+  recovers_up state s a b c below crashed one two = record {
+    failing = site_then s a b c below one two;
+    first = λ _. inr (record { middle = b; crashed = crashed; goes = two });
+  }
+
+  falls_from : (s : ℕ) (a b c : Yard R g) → b.disk_sets.items ≡ a.disk_sets.items → FallsFirst s b c → FallsFirst s a c
+  falls_from s a b c same falls = record {
+    middle = falls.middle;
+    crashed = record {
+      before = falls.crashed.before;
+      after = falls.crashed.after;
+      there = sym (ap (λ es. slice_get es s) same) ∙ falls.crashed.there;
+      disk_sets = falls.crashed.disk_sets ∙ ap (λ es. slice_set es s falls.crashed.after) same;
+      did = falls.crashed.did;
+    };
+    goes = falls.goes;
+  }
+
+  falls_on : (s : ℕ) (a b c : Yard R g) → FallsFirst s a b → OfSite SameFailing s b c → FallsFirst s a c
+  falls_on s a b c falls two = record {
+    middle = falls.middle;
+    crashed = falls.crashed;
+    goes = site_then s falls.middle b c (slice_get_within falls.middle.disk_sets.items s falls.goes.before falls.goes.there) falls.goes two;
+  }
+
+  -- two in a row
+  pub recovers_then : (state : SiteState) (s : ℕ) (a b c : Yard R g) → RecoversAs state s a b → RecoversAs state s b c → RecoversAs state s a c
+  recovers_then state s a b c one two = record {
+    failing = site_then s a b c (slice_get_within a.disk_sets.items s one.failing.before one.failing.there) one.failing two.failing;
+    first = λ up. ⊎_elim
+        (λ (same : b.disk_sets.items ≡ a.disk_sets.items).
+        ⊎_elim
+        (λ (still : c.disk_sets.items ≡ b.disk_sets.items). inl (still ∙ same))
+        (λ (falls : FallsFirst s b c). inr (falls_from s a b c same falls)) (two.first up))
+        (λ (falls : FallsFirst s a b). inr (falls_on s a b c falls two.failing)) (one.first up);
+  }
 
   -- ---- of each site
 

@@ -14,7 +14,7 @@ use Rattle.vx_script.specs.declared.line.ScriptLine.TheVariants.{Recover}
 use Rattle.vx_events.specs.Ends.{Ends}
 use Rattle.vx_events.specs.Facts.{site_fact, site_number, group_by}
 use Rattle.vx_events.specs.Lines.{IsDone as IsDoneLine}
-use Rattle.vx_events.specs.Lists.{events_of, recovery_of}
+use Rattle.vx_events.specs.Lists.{crash_count, events_of, recovery_of}
 use Rattle.vx_events.specs.declared.said.Said.{Said}
 use Rattle.vx_yard.proofs.SiteEvents.{first_choice}
 use Rattle.vx_grouped.specs.GroupSites.{site_below, site_disks}
@@ -46,7 +46,8 @@ true_or false = inr (λ e. cc)
 -- the one event of a bare site
 pub bare_events : (d : Doubted) (s : ℕ) (name : List ℕ) → site_number d.world name ≡ s → (d.world.nodes s).state ≡ IsBare → events_of d.world (Recover name) first_choice ≡ RecoverAt s None ∷ []
 bare_events d s name number bare =
-    ap (λ (k : ℕ). recovery_of (d.world.nodes k).state k first_choice.kept) number ∙ ap (λ (t : SiteState). recovery_of t s first_choice.kept) bare
+    ap (λ (k : ℕ). recovery_of (d.world.nodes k).state k (crash_count (d.world.nodes k) first_choice.kept)) number
+    ∙ ap (λ (t : SiteState). recovery_of t s (crash_count (d.world.nodes s) first_choice.kept)) bare
 
 -- a line that recovers a site is done as its events end
 pub recover_done : (T : Type 0) (d next : Doubted) (s : ℕ) (name : List ℕ) (fails : Fails) (said : Said) → site_number d.world name ≡ s → Ends T d (Recover name) s fails said next

@@ -1,5 +1,5 @@
 -- What the racks hold of the sites of a world, in which sites may be in doubt.
-use Rattle.std.specs.Prelude.{◌≡◌, ◌⊎◌, ℕ, ◌<◌, Contains, List, length, None, Option, Some, slice_get, IsTrue, true, false}
+use Rattle.std.specs.Prelude.{◌≡◌, ◌⊎◌, ℕ, ◌<◌, ◌≤◌, Contains, List, length, None, Option, Some, slice_get, IsTrue, true, false}
 use Rattle.vx_model.specs.declared.limits.TheConstants.{MOST_SITES}
 use Rattle.vx_history.specs.Doubts.{Doubted}
 use Rattle.vx_history.specs.Groups.{BlockMay, GroupNode}
@@ -17,6 +17,7 @@ use Rattle.vx_events.specs.GroupViews.{config_of}
 use Rattle.vx_grouped.specs.GroupNotes.{noted_try}
 use Rattle.vx_grouped.specs.MapsNoted.{MapsOnDisk}
 use Rattle.vx_diskset.specs.Holds.{HoldsSite, beside_of}
+use Rattle.vx_diskset.specs.Stands.{IsUnfitted}
 
 -- The disks hold the volumes of a group as its site notes them: whatever a crash leaves on them now, an import that can read all of them finds a
 -- configuration, in which each volume that is noted stands as it did, but for the states of its plexes and lost logs, and each plex that takes part has of
@@ -30,10 +31,12 @@ pub record HoldsGroup (note : GroupNode) (m : Meaning) : Type 0 where
   pub maps : (i : Image) (c x : Config) → config_of note.config ≡ Some c → m.now i → found m i ≡ Found x → MapsOnDisk note.maps c x i
 
 module _ {R : Type 0} (meaning : R → Meaning) where
-  -- the rack of each site over no group holds it, with what the world has of it beside its node
+  -- The rack of each site over no group holds it, with what the world has of it beside its node. Racks of numbers that no site has are not fitted, up, and
+  -- have no fuse.
   pub record RacksHold (d : Doubted) (racks : List R) : Type 0 where
     pub eight : length racks ≡ MOST_SITES
     pub each : (s : ℕ) (r : R) → s < d.world.sites → (d.world.nodes s).group ≡ None → slice_get racks s ≡ Some r → HoldsSite (beside_of d s) (d.world.nodes s) (meaning r)
+    pub others : (s : ℕ) (r : R) → d.world.sites ≤ s → slice_get racks s ≡ Some r → IsUnfitted (meaning r)
 
   -- and that of each site over a group holds the group, where it is known what its disks hold
   pub record GroupsHold (d : Doubted) (racks : List R) : Type 0 where

@@ -1,6 +1,8 @@
 -- What a line asks of the rack of its site, and of no other.
-use Rattle.std.specs.Prelude.{◌≡◌, ℕ, ◌*◌, ◌<◌, ◌≤◌, Bool, true, false, List, replicate, Option, None, Some, slice_get, slice_set}
+use Rattle.std.specs.Prelude.{◌≡◌, ◌⊎◌, ℕ, ◌*◌, ◌<◌, ◌≤◌, Bool, true, false, List, replicate, Option, None, Some, slice_get, slice_set}
 use Rattle.vx_model.specs.declared.limits.TheConstants.{BLOCK}
+use Rattle.vx_model.specs.declared.site.SiteState.{SiteState}
+use Rattle.vx_model.specs.declared.site.SiteState.TheVariants.{Up as UpState}
 use Rattle.vx_history.specs.Events.{delivered, packet_at}
 use Rattle.vx_history.specs.World.{Message, Packet, Update, World}
 use Rattle.vx_disk.specs.declared.shelf.Shelf.{Ghosts}
@@ -40,6 +42,17 @@ module _ {R : Type 0} {g : Ghosts R} where
     pub disk_sets : new.disk_sets.items ≡ slice_set old.disk_sets.items site after
     pub did : Did before after
 
+  -- the disks of this site crashed first, with every bit of the pick set, and then no disk was made to fail
+  pub record FallsFirst (site : ℕ) (old new : Yard R g) : Type 0 where
+    pub middle : Yard R g
+    pub crashed : OfSite (CrashesBy 0xffff_ffff_ffff_ffff) site old middle
+    pub goes : OfSite SameFailing site middle new
+
+  -- What a recovery asks of the rack of a site in this state: of one that is up nothing, or that its disks crash first.
+  pub record RecoversAs (state : SiteState) (site : ℕ) (old new : Yard R g) : Type 0 where
+    pub failing : OfSite SameFailing site old new
+    pub first : state ≡ UpState → (new.disk_sets.items ≡ old.disk_sets.items) ⊎ FallsFirst site old new
+
   -- each disk of each site is made to fail or not as it was before
   pub record AllSameFailing (old new : Yard R g) : Type 0 where
     pub each : (s : ℕ) (after : DiskSet R g) → slice_get new.disk_sets.items s ≡ Some after → (before : DiskSet R g) × (slice_get old.disk_sets.items s ≡ Some before) × SameFailing before after
@@ -51,7 +64,7 @@ module _ {R : Type 0} {g : Ghosts R} where
   AsAsked w (Disk site disk state) old new = OfSite (SetsDisk disk (is_failing state)) (site_number w site) old new
   AsAsked w (Fuse site calls pick) old new = OfSite (SetsFuse calls pick) (site_number w site) old new
   AsAsked w (Crash site pick) old new = OfSite (CrashesBy pick) (site_number w site) old new
-  AsAsked w (Recover site) old new = OfSite SameFailing (site_number w site) old new
+  AsAsked w (Recover site) old new = RecoversAs (w.nodes (site_number w site)).state (site_number w site) old new
   AsAsked w (Write site volume block count fill) old new = OfSite SameFailing (site_number w site) old new
   AsAsked w (Put site volume block bytes) old new = OfSite SameFailing (site_number w site) old new
   AsAsked w (GroupInit site) old new = OfSite SameFailing (site_number w site) old new

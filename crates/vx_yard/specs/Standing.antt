@@ -33,6 +33,7 @@ use Rattle.vx_yard.specs.Working.{IsFree}
 use Rattle.vx_yard.specs.declared.errors.LineStop.{LineStop}
 use Rattle.vx_yard.specs.declared.errors.LineStop.TheVariants.{WriteFault, OutOfMemory as NoMemory}
 use Rattle.vx_events.specs.LinksFit.{LinksFit}
+use Rattle.vx_events.specs.Lists.{crash_count}
 use Rattle.vx_events.specs.declared.said.Said.{Said}
 use Rattle.vx_yard.specs.Stands.{RoseAll}
 use Rattle.vx_yard.specs.Yards.{IsTold, count_of, in_files}
@@ -149,10 +150,11 @@ module _ {R : Type 0} {g : Ghosts R} where
   LeadsOverOrStops d line old new (Ok said) = LeadsOver d line said old new
   LeadsOverOrStops d line old new (Err e) = StopsFor d line old new
 
-  -- the site crashed, as it was or as it might be
+  -- the site crashed, as it was or as it might be; one that ran keeps nothing that waited
   pub record Falls (d : Doubted) (s : ℕ) (old new : Yard R g) : Type 0 where
     pub count : ℕ
     pub taken : Bool
+    pub keeps : crash_count (d.world.nodes s) count ≡ count
     pub said : (step (doubt_chosen taken d (CrashAt s count)).world (CrashAt s count)).said ≡ IsDone
     pub down : ((crash_of d s count taken).world.nodes s).state ≡ IsDown
     pub blocks : ((crash_of d s count taken).world.nodes s).blocks ≡ (d.world.nodes s).blocks

@@ -25,7 +25,7 @@ returns-in_err-apply_group-clause-reaches g c = λ beside n r can.
     let p = err_from_is_err_and c.from_residual-in_err-apply_group.result c.from_residual-in_err-apply_group.ensures.1 in
     rw (p.1, p.2)
     (applied_failed n number c.log_waiting.new.rvg.core c.apply_group.new.rvg.core c.log_waiting.new.waiting (g.S.Shelf.meaning c.args.rvg.now.shelf) (g.S.Shelf.meaning c.log_waiting.new.rvg.shelf) (g.S.Shelf.meaning c.apply_group.new.rvg.shelf) (omega arith) (omega (arith, r.least, r.most)) here can.running
-    c.log_waiting.ensures.later.counts c.args.count c.head-number.result c.in_err-apply_group.field-0.0
+    c.log_waiting.ensures.later.counts c.args.count c.head-number.result c.in_err-apply_group.field-0.0 (omega arith)
     (c.in_err-apply_group.ensures.applied beside (durable_of (reached n number)) (receiver_up (reached n number) c.log_waiting.new.rvg.core c.log_waiting.new.waiting (g.S.Shelf.meaning c.log_waiting.new.rvg.shelf) here can.running (lawful c.log_waiting.new.rvg.shelf) c.log_waiting.new.rvg.sound.log_unit) can.running))
 
 pub returns-clause-reaches : goal.returns-clause-reaches

@@ -33,7 +33,7 @@ returns-in_err-log_next-clause-logs g c = λ beside n r can.
     let p = err_from_is_err_and c.from_residual.result c.from_residual.ensures.1 in
     rw (p.1, p.2)
     (failed_more c.args.waiting.now c.loop.counter c.args.rvg.now.core c.loop.rvg.core c.log_next.new.rvg.core (g.S.Shelf.meaning c.args.rvg.now.shelf) (g.S.Shelf.meaning c.loop.rvg.shelf) (g.S.Shelf.meaning c.log_next.new.rvg.shelf) c.loop.waiting c.loop.invariant
-    n c.args.count c.log_next.new.waiting c.in_err-log_next.field-0.0 r can (c.in_err-log_next.ensures.logs beside (reached n (n.safe + c.loop.counter)) (c.loop.invariant.each beside n r can) (next_can n (n.safe + c.loop.counter) can)))
+    n c.args.count c.log_next.new.waiting c.in_err-log_next.field-0.0 (omega (arith, c.loop-test.true)) r can (c.in_err-log_next.ensures.logs beside (reached n (n.safe + c.loop.counter)) (c.loop.invariant.each beside n r can) (next_can n (n.safe + c.loop.counter) can)))
 
 pub returns-in_err-log_next-clause-waits : goal.returns-in_err-log_next-clause-waits
 returns-in_err-log_next-clause-waits g c =

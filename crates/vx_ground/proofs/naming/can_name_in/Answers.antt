@@ -6,6 +6,7 @@ use Rattle.vx_group.proofs.HoldLemmas.{narrow_sound}
 use Rattle.vx_group.proofs.RvgLemmas.{same_core}
 use Rattle.vx_loggroup.specs.Fresh.{FreshStands}
 use Rattle.vx_loggroup.specs.LoggedVolumes.{LoggedStands}
+use Rattle.vx_loggroup.specs.Settled.{SettledFact}
 use Rattle.vx_ground.proofs.naming.can_name_in.Goals as goal
 
 pub may_name-may-requires : goal.may_name-may-requires
@@ -17,6 +18,7 @@ together-requires g c =
     record {
       stands = subst (λ (k : GroupCore). LoggedStands k c.apart-shelf.result.1.logs.items c.apart-shelf.result.1.alike c.apart-shelf.result.1.stopped (g.S.Shelf.meaning c.apart-shelf.result.0)) same c.apart-shelf.ensures.stands;
       begins = subst (λ (k : GroupCore). FreshStands k c.apart-shelf.result.1.fresh (g.S.Shelf.meaning c.apart-shelf.result.0)) same c.apart-shelf.ensures.begins;
+      settles = subst (λ (k : GroupCore). SettledFact k c.apart-shelf.result.1.alike (g.S.Shelf.meaning c.apart-shelf.result.0)) same c.apart-shelf.ensures.settles;
     }
 
 pub returns-clause-core : goal.returns-clause-core

@@ -15,6 +15,7 @@ use Rattle.vx_loggroup.proofs.StayLemmas.{each_idle}
 use Rattle.vx_model.specs.declared.errors.Stop.TheVariants.{No as Refused}
 use Rattle.vx_model.specs.declared.no.No.{No as NoValue}
 use Rattle.vx_ground.specs.Named.{SameVolumes}
+use Rattle.vx_loggroup.proofs.SettledFacts.{settled_same, volumes_few}
 use Rattle.vx_ground.proofs.naming.name_rvg.Goals as goal
 
 pub set_rvg_in-answer-requires : goal.set_rvg_in-answer-requires
@@ -26,6 +27,8 @@ together-requires g c = record {
       c.apart-shelf.ensures.stands c.set_rvg_in-answer.ensures.stands c.set_rvg_in-answer.ensures.goes
       (each_idle _ c.apart-shelf.result.1.core c.set_rvg_in-answer.new.core (g.S.Shelf.meaning c.apart-shelf.result.0) (g.S.Shelf.meaning c.set_rvg_in-answer.new.shelf) c.apart-shelf.ensures.stands.group c.set_rvg_in-answer.ensures.narrows.shape c.set_rvg_in-answer.ensures.goes c.set_rvg_in-answer.ensures.narrows.acts);
   begins = fresh_still c.apart-shelf.result.1.core c.set_rvg_in-answer.new.core c.apart-shelf.result.1.fresh (g.S.Shelf.meaning c.apart-shelf.result.0) (g.S.Shelf.meaning c.set_rvg_in-answer.new.shelf) c.set_rvg_in-answer.ensures.goes c.apart-shelf.ensures.begins;
+  settles = settled_same c.apart-shelf.result.1.core c.set_rvg_in-answer.new.core c.apart-shelf.result.1.alike (g.S.Shelf.meaning c.apart-shelf.result.0) (g.S.Shelf.meaning c.set_rvg_in-answer.new.shelf) c.set_rvg_in-answer.ensures.finds
+      (volumes_few c.apart-shelf.result.1.core c.set_rvg_in-answer.new.core (g.S.Shelf.meaning c.apart-shelf.result.0) (g.S.Shelf.meaning c.set_rvg_in-answer.new.shelf) Nothing c.set_rvg_in-answer.ensures.goes) c.apart-shelf.ensures.settles;
 }
 
 pub returns-clause-refused : goal.returns-clause-refused

@@ -12,6 +12,7 @@ returns g c =
     let m2 = g.S.Shelf.meaning c.label.new.shelf in
     record {
       counts = λ d. let one = c.clear.ensures.goes.disk_faults d in let two = c.label.ensures.goes.disk_faults d in omega (arith, one, two);
+      faults = λ u. let one = c.clear.ensures.goes.faults u in let two = c.label.ensures.goes.faults u in omega (arith, one, two);
       same = then_units m0 m1 m2 (goes_units _ m0 m1 c.clear.ensures.goes) (goes_units _ m1 m2 c.label.ensures.goes);
       ready = labels_ready c.args.site m0 m1 m2 c.clear.ensures.goes.disk_faults c.label.result
           (λ labelled. prepared c.args.site m0 m1 m2 c.ranges.site.fits (g.met.S.Shelf.lawful c.clear.new.shelf) c.clear.ensures.goes c.in-Ok.ensures.cleared c.label.ensures.goes labelled)

@@ -34,7 +34,7 @@ pub returns-clause-created : goal.returns-clause-created
 returns-clause-created g c =
     let same = c.in-Ok-prepare.ensures.ready.same in
     let large = still_large (g.S.Shelf.meaning c.args.shelf.now) (g.S.Shelf.meaning c.prepare.new.shelf) same.units same.size (c.if-not-are_large.ensures.large refl) in
-    new_Stands c.args.site c.disks_of.result _ (g.S.Shelf.meaning c.prepare.new.shelf) (g.S.Shelf.meaning c.commit_first.new.shelf)
+    new_Stands c.args.site c.disks_of.result _ (g.S.Shelf.meaning c.args.shelf.now) (g.S.Shelf.meaning c.prepare.new.shelf) (g.S.Shelf.meaning c.commit_first.new.shelf) c.prepare.ensures.faults c.disks_of.ensures.good
     (still_large (g.S.Shelf.meaning c.prepare.new.shelf) (g.S.Shelf.meaning c.commit_first.new.shelf) c.commit_first.ensures.units c.commit_first.ensures.size large) c.commit_first.ensures.can c.commit_first.ensures.wanted
     (subst (λ (x : Config). Taken x x c.commit_first.new.config (g.S.Shelf.meaning c.prepare.new.shelf) (g.S.Shelf.meaning c.commit_first.new.shelf)) (ap (λ (vs : List VolumeEntry). empty_with c.args.site c.disks_of.result vs) c.new.ensures) c.in-Ok-commit_first.ensures.ends.0) c.in-Ok-commit_first.ensures.ends.1 c.good_of-good-2.ensures
     (c.in-Ok-commit_first.ensures.trusts c.is_committed-committed.result (λ is. ⊎_elim (λ was. absurd (let clash : false ≡ true = was in cc)) (λ all. all) (c.is_committed-committed.ensures.some is)))

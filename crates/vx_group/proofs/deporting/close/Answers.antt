@@ -1,5 +1,5 @@
 -- `close`: clauses ends, cause and up; what `flush_volumes` and `commit_closed` ask.
-use Rattle.std.proofs.Common.{Err, arith}
+use Rattle.std.proofs.Common.{◌∙◌, Err, arith}
 use Rattle.vx_group.proofs.DeportLemmas.{back_flushed, blames_stop, closes_later, settled_back, stops_later}
 use Rattle.vx_group.proofs.FindingLemmas.{then_finds}
 use Rattle.vx_group.proofs.SettleCalls.{headers_missed, settled_behind}
@@ -79,3 +79,12 @@ returns-clause-settles g c = λ reads.
     err_from c.commit_closed.result (λ closes.
     closed_told c.args.core.now c.settle_headers.new.core c.flush_volumes.new.core c.commit_closed.new.core (g.S.Shelf.meaning c.args.shelf.now) (g.S.Shelf.meaning c.settle_headers.new.shelf) (g.S.Shelf.meaning c.flush_volumes.new.shelf) (g.S.Shelf.meaning c.commit_closed.new.shelf) c.requires.stands c.requires.more c.settle_headers.ensures.narrows c.settle_headers.ensures.less c.flush_volumes.ensures.alikes
     (leaves_sure c.settle_headers.new.core c.flush_volumes.new.core (g.S.Shelf.meaning c.settle_headers.new.shelf) (g.S.Shelf.meaning c.flush_volumes.new.shelf) c.in-Ok-flush_volumes.ensures.ends (reads_behind c.args.core.now c.settle_headers.new.core (g.S.Shelf.meaning c.args.shelf.now) (g.S.Shelf.meaning c.settle_headers.new.shelf) c.requires.stands c.settle_headers.ensures.narrows c.in-Ok.ensures.cause reads)) closes) c.commit_closed.ensures.settles
+
+pub returns-in-Err-clause-agreed : goal.returns-in-Err-clause-agreed
+returns-in-Err-clause-agreed g c = λ is. c.settle_headers.ensures.agreed ∙ c.requires.stands.trusts.both is
+
+pub returns-in-Err-flush_volumes-clause-agreed : goal.returns-in-Err-flush_volumes-clause-agreed
+returns-in-Err-flush_volumes-clause-agreed g c = λ is. c.in-Err-flush_volumes.ensures.agreed (c.settle_headers.ensures.trust ∙ is)
+
+pub returns-clause-agreed : goal.returns-clause-agreed
+returns-clause-agreed g c = err_from c.commit_closed.result (λ keeps is. keeps (c.in-Ok-flush_volumes.ensures.ends.trust (c.settle_headers.ensures.trust ∙ is))) c.commit_closed.ensures.agreed

@@ -63,3 +63,9 @@ returns-then-is_down-clause-settles g c = closed_settled c.args.core.now _ (g.S.
 
 pub returns-else-is_down-clause-settles : goal.returns-else-is_down-clause-settles
 returns-else-is_down-clause-settles g c = closed_settled c.args.core.now _ (g.S.Shelf.meaning c.args.shelf.now) (g.S.Shelf.meaning c.commit_clean.new.shelf) c.requires.stands c.commit_clean.ensures.acts c.commit_clean.ensures.finds refl
+
+pub returns-then-is_down-clause-agreed : goal.returns-then-is_down-clause-agreed
+returns-then-is_down-clause-agreed g c = λ is. is
+
+pub returns-else-is_down-clause-agreed : goal.returns-else-is_down-clause-agreed
+returns-else-is_down-clause-agreed g c = λ is. is

@@ -14,6 +14,7 @@ use Rattle.vx_group.proofs.SettleCalls.{same_told}
 use Rattle.vx_group.proofs.SettleDeport.{reads_behind}
 use Rattle.vx_group.specs.Settles.{ReadsSure}
 use Rattle.vx_group.specs.declared.inner.Inner.{Inner}
+use Rattle.vx_group.proofs.CallLemmas.{not_down}
 use Rattle.vx_group.proofs.deporting.deport_in.Goals as goal
 
 pub returns-in-Err-clause-ends : goal.returns-in-Err-clause-ends
@@ -89,4 +90,16 @@ pub returns-in-Err-close-clause-settles : goal.returns-in-Err-close-clause-settl
 returns-in-Err-close-clause-settles g c = λ reads.
     let none = c.in-Ok.ensures.done (let le = c.if-core.false in omega (arith, le)) in
     ahead_told c.args.core.now c.release.new.core (record { inner = c.close.new.core; held = c.release.new.core.held }) c.close.new.core (g.S.Shelf.meaning c.args.shelf.now) (g.S.Shelf.meaning c.release.new.shelf) (g.S.Shelf.meaning c.close.new.shelf) none (wide_none (record { inner = c.close.new.core; held = c.release.new.core.held }) none) c.release.ensures.finds
-    (c.in-Err-close.ensures.settles (subst (λ (i : Inner). ReadsSure i (g.S.Shelf.meaning c.release.new.shelf)) (wide_none c.release.new.core none) (reads_behind (wide c.args.core.now) (wide c.release.new.core) (g.S.Shelf.meaning c.args.shelf.now) (g.S.Shelf.meaning c.release.new.shelf) c.requires.stands.stands c.release.ensures.narrows c.in-Ok.ensures.cause reads)))
+    (c.in-Err-close.ensures.settles (subst (λ (i : Inner). ReadsSure i (g.S.Shelf.meaning c.release.new.shelf)) (wide_none c.release.new.core none) (reads_behind (wide c.args.core.now) (wide c.release.new.core) (g.S.Shelf.meaning c.args.shelf.now) (g.S.Shelf.meaning c.release.new.shelf) c.requires.stands.stands c.release.ensures.narrows c.in-Ok.ensures.cause (reads (not_down c.is_down.result (g.S.Shelf.meaning c.args.shelf.now).down c.is_down.ensures c.if-is_down.false)))))
+
+pub returns-then-core-clause-agreed : goal.returns-then-core-clause-agreed
+returns-then-core-clause-agreed g c = c.requires.stands.stands.trusts.both
+
+pub returns-then-is_down-clause-agreed : goal.returns-then-is_down-clause-agreed
+returns-then-is_down-clause-agreed g c = c.requires.stands.stands.trusts.both
+
+pub returns-in-Err-clause-agreed : goal.returns-in-Err-clause-agreed
+returns-in-Err-clause-agreed g c = c.in-Err.ensures.agreed
+
+pub returns-in-Err-close-clause-agreed : goal.returns-in-Err-close-clause-agreed
+returns-in-Err-close-clause-agreed g c = λ is. c.in-Err-close.ensures.agreed (c.in-Ok.ensures.trust is)

@@ -1,5 +1,5 @@
 -- `flush_plexes`: clauses stands, goes, ok, all, cause, narrows, spent and 2 more; what `flush_all` and `detach` ask.
-use Rattle.std.proofs.Common.{inr, Err, refl, sym, subst, arith}
+use Rattle.std.proofs.Common.{Err, arith, false, inr, refl, subst, sym, true, ◌∙◌, ◌≡◌}
 use Rattle.vx_kept.specs.Commits.{Member}
 use Rattle.vx_group.proofs.LoseLemmas.{loses_detach}
 use Rattle.vx_group.proofs.CopyLemmas.{spent_by, spent_none}
@@ -181,3 +181,15 @@ pub returns-else-core-clause-settles : goal.returns-else-core-clause-settles
 returns-else-core-clause-settles g c =
     wrote_told c.args.core.now c.detach.new.core (g.S.Shelf.meaning c.args.shelf.now) (g.S.Shelf.meaning c.flush_all.new.shelf) (g.S.Shelf.meaning c.detach.new.shelf) c.requires.up c.if-core.false
     (flushed_finds c.args.core.now c.args.vol (g.S.Shelf.meaning c.args.shelf.now) (g.S.Shelf.meaning c.flush_all.new.shelf) (g.met.S.Shelf.lawful c.args.shelf.now) (g.met.S.Shelf.lawful c.flush_all.new.shelf) c.requires.stands c.flush_all.ensures.goes) c.detach.ensures.settles
+
+pub returns-then-failed-eq0-clause-ready : goal.returns-then-failed-eq0-clause-ready
+returns-then-failed-eq0-clause-ready g c = λ was. was
+
+pub returns-then-core-clause-ready : goal.returns-then-core-clause-ready
+returns-then-core-clause-ready g c = λ was. tt
+
+pub returns-in-Err-clause-ready : goal.returns-in-Err-clause-ready
+returns-in-Err-clause-ready g c = λ was. tt
+
+pub returns-else-core-clause-ready : goal.returns-else-core-clause-ready
+returns-else-core-clause-ready g c = λ was. ok_from c.detach.result (λ off on. absurd (let clash : true ≡ false = sym on ∙ off in cc)) c.detach.ensures.settled

@@ -9,6 +9,7 @@ use Rattle.vx_group.proofs.FailingLemmas.{then_failing}
 use Rattle.vx_group.proofs.FindingLemmas.{behind_finds}
 use Rattle.vx_group.proofs.RvgLemmas.{may_before, rvg_Stands, rvg_core, then_Narrows, undone_Narrows, undone_Stands, undone_core, undone_ends}
 use Rattle.vx_group.proofs.Standing.{some_active}
+use Rattle.vx_group.proofs.SettleCalls.{as_told, headers_missed, settled_behind}
 use Rattle.vx_group.proofs.grouping.commit_rvg.Goals as goal
 
 pub returns-in-Err-clause-site : goal.returns-in-Err-clause-site
@@ -100,3 +101,16 @@ pub returns-in-Err-detach-clause-cause : goal.returns-in-Err-detach-clause-cause
 returns-in-Err-detach-clause-cause g c =
     blames_later {T = Unit {0}} (Err c.in-Err-detach.error) (g.S.Shelf.meaning c.args.shelf.now) (g.S.Shelf.meaning c.settle_headers.new.shelf) (g.S.Shelf.meaning c.detach.new.shelf) c.settle_headers.ensures.narrows.acts.disk_faults
     (c.in-Err-detach.ensures.sure (let same = c.settle_headers.ensures.serial in let less = c.requires.more in omega (arith, same, less)))
+
+pub returns-in-Err-clause-settles : goal.returns-in-Err-clause-settles
+returns-in-Err-clause-settles g c =
+    headers_missed c.args.core.now c.settle_headers.new.core (g.S.Shelf.meaning c.args.shelf.now) (g.S.Shelf.meaning c.settle_headers.new.shelf) c.requires.stands c.settle_headers.ensures.narrows c.settle_headers.ensures.serial c.settle_headers.ensures.less c.in-Err.ensures.missed
+
+pub returns-in-Ok-detach-clause-settles : goal.returns-in-Ok-detach-clause-settles
+returns-in-Ok-detach-clause-settles g c =
+    settled_behind c.args.core.now c.settle_headers.new.core c.detach.new.core (g.S.Shelf.meaning c.args.shelf.now) (g.S.Shelf.meaning c.settle_headers.new.shelf) (g.S.Shelf.meaning c.detach.new.shelf) c.requires.stands c.requires.more c.settle_headers.ensures.narrows c.settle_headers.ensures.less c.detach.ensures.settles
+
+pub returns-in-Err-detach-clause-settles : goal.returns-in-Err-detach-clause-settles
+returns-in-Err-detach-clause-settles g c =
+    as_told c.args.core.now c.detach.new.core (undone_core c.detach.new.core c.named_by-before.result) (g.S.Shelf.meaning c.args.shelf.now) (g.S.Shelf.meaning c.detach.new.shelf) refl refl
+    (settled_behind c.args.core.now c.settle_headers.new.core c.detach.new.core (g.S.Shelf.meaning c.args.shelf.now) (g.S.Shelf.meaning c.settle_headers.new.shelf) (g.S.Shelf.meaning c.detach.new.shelf) c.requires.stands c.requires.more c.settle_headers.ensures.narrows c.settle_headers.ensures.less c.detach.ensures.settles)

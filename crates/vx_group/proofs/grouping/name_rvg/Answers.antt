@@ -10,6 +10,7 @@ use Rattle.vx_group.proofs.FindingLemmas.{still_group}
 use Rattle.vx_group.proofs.FoundThrough.{second_finds}
 use Rattle.vx_group.proofs.HoldLemmas.{from_none, none_Stands, wide_none}
 use Rattle.vx_group.proofs.ThroughLemmas.{released_goes, released_narrows, second_narrows, through_goes}
+use Rattle.vx_group.proofs.UnsureMarks.{same_unsure}
 use Rattle.vx_group.proofs.grouping.name_rvg.Goals as goal
 
 pub returns-in-Err-clause-goes : goal.returns-in-Err-clause-goes
@@ -97,7 +98,7 @@ returns-in-Err-clause-later g c = c.release.ensures.parts.later
 pub returns-in-Ok-commit_rvg-clause-finds : goal.returns-in-Ok-commit_rvg-clause-finds
 returns-in-Ok-commit_rvg-clause-finds g c =
     second_finds c.args.core.now c.release.new.core c.commit_rvg.new.core (g.S.Shelf.meaning c.args.shelf.now) (g.S.Shelf.meaning c.release.new.shelf) (g.S.Shelf.meaning c.commit_rvg.new.shelf) (c.in-Ok.ensures.done (let room = c.requires.more in omega (arith, room)))
-    c.release.ensures.finds c.commit_rvg.ensures.finds
+    c.release.ensures.finds c.commit_rvg.ensures.finds c.commit_rvg.ensures.settles (same_unsure c.release.new.core.inner.unsure c.commit_rvg.new.core.unsure c.commit_rvg.ensures.narrows.unsure)
 
 pub returns-in-Ok-commit_rvg-clause-later : goal.returns-in-Ok-commit_rvg-clause-later
 returns-in-Ok-commit_rvg-clause-later g c = let one = c.release.ensures.parts.later in let two = c.commit_rvg.ensures.later in omega (arith, one, two)
@@ -105,7 +106,7 @@ returns-in-Ok-commit_rvg-clause-later g c = let one = c.release.ensures.parts.la
 pub returns-in-Err-commit_rvg-clause-finds : goal.returns-in-Err-commit_rvg-clause-finds
 returns-in-Err-commit_rvg-clause-finds g c =
     second_finds c.args.core.now c.release.new.core c.commit_rvg.new.core (g.S.Shelf.meaning c.args.shelf.now) (g.S.Shelf.meaning c.release.new.shelf) (g.S.Shelf.meaning c.commit_rvg.new.shelf) (c.in-Ok.ensures.done (let room = c.requires.more in omega (arith, room)))
-    c.release.ensures.finds c.commit_rvg.ensures.finds
+    c.release.ensures.finds c.commit_rvg.ensures.finds c.commit_rvg.ensures.settles (same_unsure c.release.new.core.inner.unsure c.commit_rvg.new.core.unsure c.commit_rvg.ensures.narrows.unsure)
 
 pub returns-in-Err-commit_rvg-clause-later : goal.returns-in-Err-commit_rvg-clause-later
 returns-in-Err-commit_rvg-clause-later g c = let one = c.release.ensures.parts.later in let two = c.commit_rvg.ensures.later in omega (arith, one, two)

@@ -20,6 +20,8 @@ use Rattle.vx_group.proofs.FoundThrough.{through_finds}
 use Rattle.vx_group.proofs.TrustStillLemmas.{same_logs, still_but, through_but}
 use Rattle.vx_group.proofs.TrustLemmas.{ok_from}
 use Rattle.vx_group.proofs.SettleCalls.{as_told}
+use Rattle.vx_group.proofs.UnsureMarks.{error_unsure, then_unsure, done_unsure}
+use Rattle.vx_group.proofs.UnsureLemmas.{misses_by, through_marks, through_misses, unsure_then}
 use Rattle.vx_group.proofs.losing_group.lose_group.Goals as goal
 
 pub returns-in-Err-clause-goes : goal.returns-in-Err-clause-goes
@@ -101,6 +103,7 @@ returns-in-Err-clause-finds g c =
     record {
       core = as_finds (wide c.args.core.now) (wide c.release.new.core) _ (g.S.Shelf.meaning c.args.shelf.now) (g.S.Shelf.meaning c.release.new.shelf) refl refl refl c.release.ensures.finds.core;
       settles = as_told (wide c.args.core.now) (wide c.release.new.core) _ (g.S.Shelf.meaning c.args.shelf.now) (g.S.Shelf.meaning c.release.new.shelf) refl refl c.release.ensures.finds.settles;
+      unsure = then_unsure c.args.core.now.inner.unsure c.release.new.core.inner.unsure c.give_up.new.unsure c.release.ensures.finds.unsure (error_unsure c.in-Err.error c.args.vol c.release.new.core.inner.unsure c.give_up.new.unsure c.give_up.ensures.marks);
       free = c.release.ensures.finds.free;
     }
 
@@ -109,6 +112,7 @@ returns-clause-finds g c =
     through_finds c.args.core.now c.release.new.core (record { inner = c.lose_in-result.new.core; held = c.open_held-held.new.core.held }) c.close_held.new.core c.open_held-held.new.core.inner c.lose_in-result.new.core (g.S.Shelf.meaning c.args.shelf.now) (g.S.Shelf.meaning c.release.new.shelf) (g.S.Shelf.meaning c.lose_in-result.new.shelf) c.open_held-held.ensures.inner
     (new_wide c.args.core.now c.release.new.core (record { inner = c.lose_in-result.new.core; held = c.open_held-held.new.core.held }) c.close_held.new.core c.open_held-held.new.core.inner (g.S.Shelf.meaning c.args.shelf.now) (g.S.Shelf.meaning c.release.new.shelf) (g.S.Shelf.meaning c.lose_in-result.new.shelf) c.requires.stands c.release.ensures.stands c.release.ensures.narrows c.release.ensures.volumes c.open_held-held.result c.open_held-held.ensures.held c.open_held-held.ensures.inner c.open_held-held.ensures.none c.close_held.ensures)
     c.open_held-held.result c.open_held-held.ensures.held c.open_held-held.ensures.none c.close_held.ensures c.release.ensures.finds c.lose_in-result.ensures.finds c.lose_in-result.ensures.settles
+    (done_unsure c.args.vol c.open_held-held.new.core.inner.unsure c.lose_in-result.new.core.unsure c.lose_in-result.result c.lose_in-result.ensures.marks)
 
 pub returns-then-is_down-clause-logs : goal.returns-then-is_down-clause-logs
 returns-then-is_down-clause-logs g c = still_but c.args.vol c.args.log c.args.core.now.inner.config c.args.core.now.inner.config (same_logs c.args.core.now.inner.config)
@@ -126,3 +130,21 @@ returns-clause-few g c = ok_from c.lose_in-result.result (λ two.
     let last : (wide c.close_held.new.core).config.serial ≡ c.lose_in-result.new.core.config.serial = ap (λ (i : Inner). i.config.serial) (new_wide c.args.core.now c.release.new.core (record { inner = c.lose_in-result.new.core; held = c.open_held-held.new.core.held }) c.close_held.new.core c.open_held-held.new.core.inner (g.S.Shelf.meaning c.args.shelf.now) (g.S.Shelf.meaning c.release.new.shelf) (g.S.Shelf.meaning c.lose_in-result.new.shelf) c.requires.stands c.release.ensures.stands c.release.ensures.narrows c.release.ensures.volumes c.open_held-held.result c.open_held-held.ensures.held c.open_held-held.ensures.inner c.open_held-held.ensures.none c.close_held.ensures) in
     let mid : c.open_held-held.new.core.inner.config.serial ≡ (wide c.release.new.core).config.serial = ap (λ (i : Inner). i.config.serial) c.open_held-held.ensures.inner in
     omega (arith, one, two, last, mid)) c.lose_in-result.ensures.few
+
+pub returns-in-Err-clause-marks : goal.returns-in-Err-clause-marks
+returns-in-Err-clause-marks g c = unsure_then c.args.vol c.args.core.now.inner.unsure c.release.new.core.inner.unsure c.give_up.new.unsure c.in-Err.error c.release.ensures.narrows.unsure c.give_up.ensures.marks
+
+pub returns-clause-marks : goal.returns-clause-marks
+returns-clause-marks g c =
+    through_marks c.args.core.now c.release.new.core c.close_held.new.core c.open_held-held.new.core.inner c.lose_in-result.new.core c.args.vol c.lose_in-result.result c.release.ensures.narrows.unsure c.open_held-held.ensures.inner
+    (new_wide c.args.core.now c.release.new.core (record { inner = c.lose_in-result.new.core; held = c.open_held-held.new.core.held }) c.close_held.new.core c.open_held-held.new.core.inner (g.S.Shelf.meaning c.args.shelf.now) (g.S.Shelf.meaning c.release.new.shelf) (g.S.Shelf.meaning c.lose_in-result.new.shelf) c.requires.stands c.release.ensures.stands c.release.ensures.narrows c.release.ensures.volumes c.open_held-held.result c.open_held-held.ensures.held c.open_held-held.ensures.inner c.open_held-held.ensures.none c.close_held.ensures)
+    c.lose_in-result.ensures.marks
+
+pub returns-in-Err-clause-misses : goal.returns-in-Err-clause-misses
+returns-in-Err-clause-misses g c = misses_by c.release.new.core.inner (g.S.Shelf.meaning c.args.shelf.now) (g.S.Shelf.meaning c.release.new.shelf) c.in-Err.error c.in-Err.ensures.missed c.in-Err.ensures.cause
+
+pub returns-clause-misses : goal.returns-clause-misses
+returns-clause-misses g c =
+    through_misses c.close_held.new.core c.lose_in-result.new.core c.lose_in-result.result
+    (new_wide c.args.core.now c.release.new.core (record { inner = c.lose_in-result.new.core; held = c.open_held-held.new.core.held }) c.close_held.new.core c.open_held-held.new.core.inner (g.S.Shelf.meaning c.args.shelf.now) (g.S.Shelf.meaning c.release.new.shelf) (g.S.Shelf.meaning c.lose_in-result.new.shelf) c.requires.stands c.release.ensures.stands c.release.ensures.narrows c.release.ensures.volumes c.open_held-held.result c.open_held-held.ensures.held c.open_held-held.ensures.inner c.open_held-held.ensures.none c.close_held.ensures)
+    c.lose_in-result.ensures.misses

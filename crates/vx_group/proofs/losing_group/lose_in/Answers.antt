@@ -1,5 +1,5 @@
 -- A log that is lost in a call on its volume.
-use Rattle.std.proofs.Common.{ℕ, Bool, List, ap, refl, subst, arith}
+use Rattle.std.proofs.Common.{◌∙◌, ℕ, Bool, List, ap, refl, subst, arith}
 use Rattle.vx_disk.specs.Shelf.{Nothing}
 use Rattle.vx_group.specs.Blames.{CountsRise}
 use Rattle.vx_group.specs.Stands.{volume_faults}
@@ -11,6 +11,7 @@ use Rattle.vx_group.proofs.LostLemmas.{error_to}
 use Rattle.vx_group.proofs.FindingLemmas.{as_finds, none_finds}
 use Rattle.vx_group.proofs.TrustStillLemmas.{same_logs, still_but}
 use Rattle.vx_group.proofs.SettleCalls.{as_told, same_told}
+use Rattle.vx_group.proofs.UnsureLemmas.{misses_by, unsure_then}
 use Rattle.vx_group.proofs.losing_group.lose_in.Goals as goal
 
 pub returns-then-is_down-clause-acts : goal.returns-then-is_down-clause-acts
@@ -114,3 +115,12 @@ returns-in-Ok-clause-settles g c = c.lose_log.ensures.settles
 
 pub returns-in-Err-clause-settles : goal.returns-in-Err-clause-settles
 returns-in-Err-clause-settles g c = as_told c.args.core.now c.lose_log.new.core _ (g.S.Shelf.meaning c.args.shelf.now) (g.S.Shelf.meaning c.lose_log.new.shelf) refl refl c.lose_log.ensures.settles
+
+pub returns-in-Ok-clause-marks : goal.returns-in-Ok-clause-marks
+returns-in-Ok-clause-marks g c = c.lose_log.ensures.narrows.unsure
+
+pub returns-in-Err-clause-marks : goal.returns-in-Err-clause-marks
+returns-in-Err-clause-marks g c = unsure_then c.args.vol c.args.core.now.unsure c.lose_log.new.core.unsure c.give_up.new.unsure c.in-Err.error c.lose_log.ensures.narrows.unsure c.give_up.ensures.marks
+
+pub returns-in-Err-clause-misses : goal.returns-in-Err-clause-misses
+returns-in-Err-clause-misses g c = misses_by c.lose_log.new.core (g.S.Shelf.meaning c.args.shelf.now) (g.S.Shelf.meaning c.lose_log.new.shelf) c.in-Err.error c.in-Err.ensures.missed c.in-Err.ensures.cause

@@ -11,6 +11,7 @@ use Rattle.vx_group.proofs.QuiesceLemmas.{missed_back, one_back, one_on, same_pa
 use Rattle.vx_group.proofs.Standing.{fit_of, some_active, sound_of}
 use Rattle.vx_group.proofs.WriteLemmas.{flushed_Narrows, flushed_Stands, flushed_all, no_commit, flushed_finds}
 use Rattle.vx_group.proofs.FindingLemmas.{as_finds, before_ends, ends_finds, stays_finds}
+use Rattle.vx_group.proofs.TrustLemmas.{err_all}
 use Rattle.vx_group.proofs.TrustStillLemmas.{same_logs}
 use Rattle.vx_group.proofs.SettleCalls.{idle_alike}
 use Rattle.vx_group.proofs.SettleMore.{alike_ends, as_ends, ends_alike, leaves_settled}
@@ -154,3 +155,12 @@ returns-in-Err-clause-settles g c =
     (subst (λ (e : ShelfError). Blames {T = Unit {0}} (g.S.Shelf.meaning c.args.shelf.now) (g.S.Shelf.meaning c.flush_all.new.shelf) (Err e)) (sym c.fault_of.ensures) (ends_blame c.args.core.now.config c.args.vol (λ p. PlexFlushed c.args.core.now.config c.args.vol p (g.S.Shelf.meaning c.args.shelf.now) (g.S.Shelf.meaning c.flush_all.new.shelf)) (g.S.Shelf.meaning c.args.shelf.now) (g.S.Shelf.meaning c.flush_all.new.shelf) c.in-Err.no 0 c.in-Err.ensures.ends))
     (idle_alike c.args.core.now (g.S.Shelf.meaning c.args.shelf.now) (g.S.Shelf.meaning c.flush_all.new.shelf) c.requires.stands c.flush_all.ensures.goes
     (flushed_finds c.args.core.now c.args.vol (g.S.Shelf.meaning c.args.shelf.now) (g.S.Shelf.meaning c.flush_all.new.shelf) (g.met.S.Shelf.lawful c.args.shelf.now) (g.met.S.Shelf.lawful c.flush_all.new.shelf) c.requires.stands c.flush_all.ensures.goes))
+
+pub returns-then-core-ge-MOST_NUMBER-clause-agreed : goal.returns-then-core-ge-MOST_NUMBER-clause-agreed
+returns-then-core-ge-MOST_NUMBER-clause-agreed g c = λ is. c.detach.ensures.stands.trusts.both (c.in-Ok-detach.ensures.trust is)
+
+pub returns-in-Err-detach-clause-agreed : goal.returns-in-Err-detach-clause-agreed
+returns-in-Err-detach-clause-agreed g c = c.in-Err-detach.ensures.agreed
+
+pub returns-in-Err-clause-agreed : goal.returns-in-Err-clause-agreed
+returns-in-Err-clause-agreed g c = err_all c.leave_unsure.result c.requires.stands.trusts.both

@@ -56,3 +56,6 @@ returns-in-Err-clause-alikes g c = then_alike (g.S.Shelf.meaning c.args.shelf.no
 
 pub returns-in-Err-clause-settles : goal.returns-in-Err-clause-settles
 returns-in-Err-clause-settles g c = alike_ends c.flush_one.new.core (g.S.Shelf.meaning c.args.shelf.now) (g.S.Shelf.meaning c.loop-vol.shelf) (g.S.Shelf.meaning c.flush_one.new.shelf) c.loop-vol.invariant.3 c.in-Err.ensures.settles
+
+pub returns-in-Err-clause-agreed : goal.returns-in-Err-clause-agreed
+returns-in-Err-clause-agreed g c = λ is. c.in-Err.ensures.agreed (c.loop-vol.invariant.0.trust is)

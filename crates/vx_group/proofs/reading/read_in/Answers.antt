@@ -1,5 +1,5 @@
 -- `read_in`: clauses stands, goes, shown and ok; what `read` asks.
-use Rattle.std.proofs.Common.{ℕ, ◌/◌, sym, subst, arith}
+use Rattle.std.proofs.Common.{ℕ, ◌/◌, ◌∙◌, refl, sym, subst, arith}
 use Rattle.vx_volume.specs.Volumes.{PlexRead}
 use Rattle.vx_group.specs.Holding.{wide}
 use Rattle.vx_group.specs.Stands.{volume_faults}
@@ -48,3 +48,13 @@ returns-in-Ok-clause-ok g c =
 
 pub returns-then-is_down-clause-below : goal.returns-then-is_down-clause-below
 returns-then-is_down-clause-below g c = same_Goes (g.S.Shelf.meaning c.args.shelf.now)
+
+pub returns-in-Ok-clause-turn : goal.returns-in-Ok-clause-turn
+returns-in-Ok-clause-turn g c = record {
+  plex = c.in-Ok.ensures.reads.0;
+  from = c.in-Ok.ensures.reads.1;
+  next = record { here = c.set_next.ensures.here ∙ c.in-Ok.ensures.reads.2; others = c.set_next.ensures.others };
+}
+
+pub returns-in-Err-Device-clause-turn : goal.returns-in-Err-Device-clause-turn
+returns-in-Err-Device-clause-turn g c = (c.in-Err-Device.ensures.reads.0, refl)

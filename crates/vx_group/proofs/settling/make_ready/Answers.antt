@@ -1,5 +1,5 @@
 -- `make_ready`: clauses narrows, cause, volumes, failing, few, good, trust and agreed; what `detach` asks.
-use Rattle.std.proofs.Common.{◌≡◌, ◌∙◌, true, false, length, refl, sym, arith}
+use Rattle.std.proofs.Common.{arith, false, length, refl, sym, true, ◌∙◌, ◌≡◌}
 use Rattle.vx_group.proofs.CallLemmas.{blames_later, both_Narrows}
 use Rattle.vx_group.proofs.DetachLemmas.{zero_bit}
 use Rattle.vx_group.proofs.FailingLemmas.{few_ok, then_failing}

@@ -1,5 +1,5 @@
 -- `trust_group`: its clauses, over a group of which no plex is held back; what `trust_log` asks.
-use Rattle.std.proofs.Common.{false, refl, sym, subst}
+use Rattle.std.proofs.Common.{false, refl, sym, subst, ◌∙◌}
 use Rattle.vx_config.specs.Changes.{lost}
 use Rattle.vx_disk.specs.Shelf.{Goes, Nothing}
 use Rattle.vx_kept.specs.PlexActs.{PlexActs}
@@ -14,6 +14,8 @@ use Rattle.vx_group.proofs.TrustingLemmas.{still_PlexActs}
 use Rattle.vx_group.proofs.FindingLemmas.{still_group}
 use Rattle.vx_group.proofs.FoundThrough.{alone_finds}
 use Rattle.vx_group.proofs.TrustStillLemmas.{same_logs}
+use Rattle.vx_group.proofs.UnsureMarks.{same_unsure}
+use Rattle.vx_group.proofs.UnsureLemmas.{misses_by}
 use Rattle.vx_group.proofs.trusting.trust_group.Goals as goal
 
 pub trust_log-requires-clause-stands : goal.trust_log-requires-clause-stands
@@ -88,11 +90,11 @@ returns-then-core-ge-MOST_NUMBER-clause-finds g c =
 
 pub returns-in-Ok-clause-finds : goal.returns-in-Ok-clause-finds
 returns-in-Ok-clause-finds g c =
-    alone_finds c.args.core.now _ (g.S.Shelf.meaning c.args.shelf.now) (g.S.Shelf.meaning c.trust_log.new.shelf) c.requires.none c.requires.none c.trust_log.ensures.finds c.trust_log.ensures.settles
+    alone_finds c.args.core.now _ (g.S.Shelf.meaning c.args.shelf.now) (g.S.Shelf.meaning c.trust_log.new.shelf) c.requires.none c.requires.none c.trust_log.ensures.finds c.trust_log.ensures.settles (same_unsure c.args.core.now.inner.unsure c.trust_log.new.core.unsure c.trust_log.ensures.unsure)
 
 pub returns-in-Err-clause-finds : goal.returns-in-Err-clause-finds
 returns-in-Err-clause-finds g c =
-    alone_finds c.args.core.now _ (g.S.Shelf.meaning c.args.shelf.now) (g.S.Shelf.meaning c.trust_log.new.shelf) c.requires.none c.requires.none c.trust_log.ensures.finds c.trust_log.ensures.settles
+    alone_finds c.args.core.now _ (g.S.Shelf.meaning c.args.shelf.now) (g.S.Shelf.meaning c.trust_log.new.shelf) c.requires.none c.requires.none c.trust_log.ensures.finds c.trust_log.ensures.settles (same_unsure c.args.core.now.inner.unsure c.trust_log.new.core.unsure c.trust_log.ensures.unsure)
 
 pub returns-then-is_down-clause-logs : goal.returns-then-is_down-clause-logs
 returns-then-is_down-clause-logs g c = same_logs c.args.core.now.inner.config
@@ -105,3 +107,6 @@ returns-in-Ok-clause-logs g c = c.trust_log.ensures.logs
 
 pub returns-in-Err-clause-logs : goal.returns-in-Err-clause-logs
 returns-in-Err-clause-logs g c = c.trust_log.ensures.logs
+
+pub returns-in-Err-clause-misses : goal.returns-in-Err-clause-misses
+returns-in-Err-clause-misses g c = misses_by c.trust_log.new.core (g.S.Shelf.meaning c.args.shelf.now) (g.S.Shelf.meaning c.trust_log.new.shelf) c.in-Err.error c.in-Err.ensures.missed c.in-Err.ensures.cause

@@ -1,6 +1,6 @@
 -- `trust_log`: clauses goes and acts; what `detach` asks.
 use Rattle.vx_group.proofs.DetachLemmas.{zero_bit}
-use Rattle.std.proofs.Common.{◌∙◌, ℕ, length, refl, arith, List, ap, subst, sym}
+use Rattle.std.proofs.Common.{◌∙◌, ℕ, length, refl, arith, List, ap, subst, sym, inl}
 use Rattle.vx_config.specs.declared.config.Config.{Config}
 use Rattle.vx_layout.specs.Places.{plex_at}
 use Rattle.vx_group.specs.Stands.{volume_faults}
@@ -99,3 +99,9 @@ returns-in-Err-clause-settles g c =
 pub returns-clause-settles : goal.returns-clause-settles
 returns-clause-settles g c =
     settled_behind c.args.core.now c.settle_headers.new.core c.detach.new.core (g.S.Shelf.meaning c.args.shelf.now) (g.S.Shelf.meaning c.settle_headers.new.shelf) (g.S.Shelf.meaning c.detach.new.shelf) c.requires.stands c.requires.more c.settle_headers.ensures.narrows c.settle_headers.ensures.less c.detach.ensures.settles
+
+pub returns-in-Err-clause-missed : goal.returns-in-Err-clause-missed
+returns-in-Err-clause-missed g c = inl c.in-Err.ensures.missed
+
+pub returns-clause-missed : goal.returns-clause-missed
+returns-clause-missed g c = c.detach.ensures.missed

@@ -148,3 +148,15 @@ pub returns-in-Err-write_plexes-clause-settles : goal.returns-in-Err-write_plexe
 returns-in-Err-write_plexes-clause-settles g c =
     as_told c.args.core.now c.write_plexes.new.core _ (g.S.Shelf.meaning c.args.shelf.now) (g.S.Shelf.meaning c.write_plexes.new.shelf) refl refl
     (then_told c.args.core.now c.make_ready.new.core c.write_plexes.new.core (g.S.Shelf.meaning c.args.shelf.now) (g.S.Shelf.meaning c.make_ready.new.shelf) (g.S.Shelf.meaning c.write_plexes.new.shelf) c.make_ready.ensures.settles c.write_plexes.ensures.settles)
+
+pub returns-then-is_down-clause-ready : goal.returns-then-is_down-clause-ready
+returns-then-is_down-clause-ready g c = tt
+
+pub returns-in-Err-clause-ready : goal.returns-in-Err-clause-ready
+returns-in-Err-clause-ready g c = tt
+
+pub returns-in-Ok-write_plexes-clause-ready : goal.returns-in-Ok-write_plexes-clause-ready
+returns-in-Ok-write_plexes-clause-ready g c = c.in-Ok-write_plexes.ensures.ready c.in-Ok.ensures.ready
+
+pub returns-in-Err-write_plexes-clause-ready : goal.returns-in-Err-write_plexes-clause-ready
+returns-in-Err-write_plexes-clause-ready g c = tt

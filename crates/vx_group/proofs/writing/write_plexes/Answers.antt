@@ -1,5 +1,5 @@
 -- `write_plexes`: clauses stands, goes, ok, all, cause, gave_up, loses and 2 more; what `write_all` and `detach` ask.
-use Rattle.std.proofs.Common.{refl, inl, inr, ◌/◌, length, Err, sym, subst, arith}
+use Rattle.std.proofs.Common.{Err, arith, false, inl, inr, length, refl, subst, sym, true, ◌/◌, ◌∙◌, ◌≡◌}
 use Rattle.vx_group.proofs.LoseLemmas.{loses_detach, loses_same}
 use Rattle.vx_group.proofs.CallLemmas.{blames_by, ends_blame, left_done, ok_by}
 use Rattle.vx_disk.specs.declared.shelf.ShelfError.{ShelfError}
@@ -16,6 +16,7 @@ use Rattle.vx_group.proofs.ActsLemmas.{then_PlexActs}
 use Rattle.vx_group.proofs.FindingLemmas.{stays_finds, before_ends, ends_finds}
 use Rattle.vx_group.proofs.TrustStillLemmas.{same_logs}
 use Rattle.vx_group.proofs.SettleCalls.{stays_told, wrote_told}
+use Rattle.vx_group.proofs.TrustLemmas.{ok_from}
 use Rattle.vx_group.proofs.writing.write_plexes.Goals as goal
 
 pub write_all-requires-clause-some : goal.write_all-requires-clause-some
@@ -178,3 +179,15 @@ pub returns-else-core-clause-settles : goal.returns-else-core-clause-settles
 returns-else-core-clause-settles g c =
     wrote_told c.args.core.now c.detach.new.core (g.S.Shelf.meaning c.args.shelf.now) (g.S.Shelf.meaning c.write_all.new.shelf) (g.S.Shelf.meaning c.detach.new.shelf) c.requires.up c.if-core.false
     (wrote_finds c.args.core.now c.args.vol c.args.block c.args.bytes.now (g.S.Shelf.meaning c.args.shelf.now) (g.S.Shelf.meaning c.write_all.new.shelf) (g.met.S.Shelf.lawful c.args.shelf.now) (g.met.S.Shelf.lawful c.write_all.new.shelf) c.requires.stands c.requires.fits c.write_all.ensures.goes) c.detach.ensures.settles
+
+pub returns-then-failed-eq0-clause-ready : goal.returns-then-failed-eq0-clause-ready
+returns-then-failed-eq0-clause-ready g c = λ was. was
+
+pub returns-then-core-clause-ready : goal.returns-then-core-clause-ready
+returns-then-core-clause-ready g c = λ was. tt
+
+pub returns-in-Err-clause-ready : goal.returns-in-Err-clause-ready
+returns-in-Err-clause-ready g c = λ was. tt
+
+pub returns-else-core-clause-ready : goal.returns-else-core-clause-ready
+returns-else-core-clause-ready g c = λ was. ok_from c.detach.result (λ off on. absurd (let clash : true ≡ false = sym on ∙ off in cc)) c.detach.ensures.settled

@@ -21,7 +21,7 @@ use Rattle.vx_yard.specs.GroupFacts.{group_up_facts}
 use Rattle.vx_yard.specs.Stands.{AreTold}
 use Rattle.vx_yard.specs.Yards.{in_files}
 use Rattle.vx_group_lines.proofs.BareSites.{bare_site}
-use Rattle.vx_group_lines.proofs.Founding.{found_done, found_none, unbegun_found}
+use Rattle.vx_group_lines.proofs.Founding.{bare_asks, found_done, found_none, unbegun_found}
 use Rattle.vx_group_lines.proofs.GroupShown.{config_at, small_set}
 use Rattle.vx_group_lines.proofs.found.recover_found.Goals as goal
 
@@ -36,9 +36,12 @@ returns-in_err-room-clause-leads g c = λ d stands untold.
     let p = err_from_is_err_and c.from_residual.result c.from_residual.ensures.1 in
     unbegun_found d c.args.name.now c.args.yard.now c.from_residual.result p.0 p.1 stands
 
-pub returns-in_err-room-clause-asked : goal.returns-in_err-room-clause-asked
-returns-in_err-room-clause-asked g c = λ d stands.
+pub returns-in_err-room-clause-failing : goal.returns-in_err-room-clause-failing
+returns-in_err-room-clause-failing g c = λ d stands.
     unbegun_site SameFailing d c.args.yard.now c.args.name.now failing_same stands (recover_may c.args.yard.now.facts.items (in_files c.args.yard.now) c.args.name.now c.requires.free)
+
+pub returns-in_err-room-clause-asked : goal.returns-in_err-room-clause-asked
+returns-in_err-room-clause-asked g c = λ d stands nothing. bare_asks d c.args.name.now c.args.yard.now c.args.yard.now nothing.bare (returns-in_err-room-clause-failing g c d stands)
 
 pub returns-in-Ok-clause-leads : goal.returns-in-Ok-clause-leads
 returns-in-Ok-clause-leads g c = λ d stands nothing.
@@ -89,8 +92,8 @@ returns-in-Err-clause-leads g c = λ d stands nothing.
     (subst (λ r. FindsIs s (d.world.nodes s) before after r) c.in-Err.is (c.recover_bare_group-disk_set.ensures.found (beside_of d s) (d.world.nodes s) site.stood site.bare untold))
     refl
 
-pub returns-in-Ok-clause-asked : goal.returns-in-Ok-clause-asked
-returns-in-Ok-clause-asked g c = λ d stands.
+pub returns-in-Ok-clause-failing : goal.returns-in-Ok-clause-failing
+returns-in-Ok-clause-failing g c = λ d stands.
     let y = c.args.yard.now in
     let s = c.site_of-site.result in
     let sets = y.disk_sets.items in
@@ -100,8 +103,11 @@ returns-in-Ok-clause-asked g c = λ d stands.
     let twice = ap (λ e. slice_set (slice_set sets s e) s after) c.replace-disk_set.ensures.after ∙ set_twice sets s Gone after in
     asks_at SameFailing d y c.note_up.new.yard c.args.name.now s before after stands c.site_of-site.ensures.seat there (ap (λ es. es.items) c.note_up.ensures.same.disk_sets ∙ twice) c.recover_bare_group-disk_set.ensures.failing
 
-pub returns-in-Err-clause-asked : goal.returns-in-Err-clause-asked
-returns-in-Err-clause-asked g c = λ d stands.
+pub returns-in-Ok-clause-asked : goal.returns-in-Ok-clause-asked
+returns-in-Ok-clause-asked g c = λ d stands nothing. bare_asks d c.args.name.now c.args.yard.now c.note_up.new.yard nothing.bare (returns-in-Ok-clause-failing g c d stands)
+
+pub returns-in-Err-clause-failing : goal.returns-in-Err-clause-failing
+returns-in-Err-clause-failing g c = λ d stands.
     let y = c.args.yard.now in
     let s = c.site_of-site.result in
     let sets = y.disk_sets.items in
@@ -110,6 +116,9 @@ returns-in-Err-clause-asked g c = λ d stands.
     let there = get_at sets s c.index_mut.result.now c.site_of-site.ensures.disk_set c.index_mut.ensures.value ∙ ap (λ e. Some e) (sym c.replace-disk_set.ensures.value) in
     let twice = ap (λ e. slice_set (slice_set sets s e) s after) c.replace-disk_set.ensures.after ∙ set_twice sets s Gone after in
     asks_at SameFailing d y _ c.args.name.now s before after stands c.site_of-site.ensures.seat there twice c.recover_bare_group-disk_set.ensures.failing
+
+pub returns-in-Err-clause-asked : goal.returns-in-Err-clause-asked
+returns-in-Err-clause-asked g c = λ d stands nothing. bare_asks d c.args.name.now c.args.yard.now _ nothing.bare (returns-in-Err-clause-failing g c d stands)
 
 pub returns-in-Ok-clause-told : goal.returns-in-Ok-clause-told
 returns-in-Ok-clause-told g c = λ told.

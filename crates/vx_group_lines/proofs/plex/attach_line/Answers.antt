@@ -14,7 +14,7 @@ use Rattle.vx_yard.specs.OfSites.{HasCalled}
 use Rattle.vx_yard.specs.Yards.{in_files}
 use Rattle.vx_yard.specs.Stands.{AreTold}
 use Rattle.vx_group_lines.proofs.GroupNamed.{if_ok, plain_is, plain_there, plex_fits, plex_named, reply_same, up_named}
-use Rattle.vx_group_lines.proofs.GroupAttach.{att_all, att_at, att_ends, att_stopped, att_zero, att_maps_at}
+use Rattle.vx_group_lines.proofs.GroupAttach.{att_all, att_at, att_ends, att_never, att_stopped, att_zero, att_maps_at}
 use Rattle.vx_group_lines.proofs.Tests.{attach_may}
 use Rattle.vx_group_lines.proofs.plex.attach_line.Goals as goal
 
@@ -61,6 +61,7 @@ returns-in-Ok-clause-leads g c = λ d stands over.
     (att_maps_at number fits (Ok c.in-Ok.copied) c.index_mut.result.now c.attach_plex.new.self (c.in-Ok.ensures.maps n note up.noted))
     (att_zero c.index_mut.result.now up.at.set c.in-Ok.copied up.at.is_set number fits (λ no at. c.in-Ok.ensures.refused n note no up.noted at) (λ at on. c.in-Ok.ensures.already n note up.noted at on))
     (att_all c.index_mut.result.now up.at.set c.in-Ok.copied up.at.is_set number fits (λ off. c.in-Ok.ensures.count off))
+    (att_never c.index_mut.result.now up.at.set c.in-Ok.copied up.at.is_set number fits (λ no at. c.in-Ok.ensures.refused n note no up.noted at))
     refl (record { flight = refl; assemblies = refl; feeders = refl })
 
 pub returns-in-Err-clause-leads : goal.returns-in-Err-clause-leads

@@ -14,7 +14,7 @@ use Rattle.vx_yard.specs.OfSites.{HasCalled}
 use Rattle.vx_yard.specs.Yards.{in_files}
 use Rattle.vx_yard.specs.Stands.{AreTold}
 use Rattle.vx_group_lines.proofs.GroupNamed.{if_ok, plain_is, plain_there, plex_fits, plex_named, reply_same, up_named}
-use Rattle.vx_group_lines.proofs.GroupPlex.{det_at, det_done, det_stopped, det_maps_at}
+use Rattle.vx_group_lines.proofs.GroupPlex.{det_at, det_done, det_refuses, det_stopped, det_maps_at}
 use Rattle.vx_group_lines.proofs.Tests.{detach_may}
 use Rattle.vx_group_lines.proofs.plex.detach_line.Goals as goal
 
@@ -60,6 +60,8 @@ returns-in-Ok-clause-leads g c = λ d stands over.
     (det_maps_at (plain_is d y c.args.name.now c.args.volume.now s c.volume_of-place.result c.index_mut.result.now up.at c.volume_of-place.ensures.place)
     (c.min.ensures ∙ plex_fits n note up.at.set.site c.args.volume.now c.args.plex up.is_up plex) (Ok (tt {0})) c.index_mut.result.now c.detach_plex.new.self
     (c.in-Ok.ensures.maps n note up.noted))
+    (det_refuses c.index_mut.result.now up.at.set up.at.is_set (plain_is d y c.args.name.now c.args.volume.now s c.volume_of-place.result c.index_mut.result.now up.at c.volume_of-place.ensures.place)
+    (c.min.ensures ∙ plex_fits n note up.at.set.site c.args.volume.now c.args.plex up.is_up plex) (λ no refuses. c.in-Ok.ensures.refused n note no up.noted refuses))
     refl (record { flight = refl; assemblies = refl; feeders = refl })
 
 pub returns-in-Err-clause-leads : goal.returns-in-Err-clause-leads

@@ -1,5 +1,5 @@
 -- A line that recovers a site whose disks are a group.
-use Rattle.std.proofs.Common.{◌∙◌, ap, sym}
+use Rattle.std.proofs.Common.{◌∙◌, ap, subst, sym}
 use Rattle.std.proofs.lemmas.Result.{err_from_is_err_and}
 use Rattle.vx_model.proofs.Lists.{get_there}
 use Rattle.vx_diskset.proofs.KeepsFailing.{failing_same}
@@ -10,8 +10,9 @@ use Rattle.vx_events.specs.Facts.{site_number}
 use Rattle.vx_order.specs.declared.facts.SiteFacts.{SiteFacts}
 use Rattle.vx_yard.proofs.Lists.{get_at}
 use Rattle.vx_yard.proofs.NamedSite.{named_same, place_at, unbegun_site}
-use Rattle.vx_yard.proofs.OfSites.{site_by, site_then}
+use Rattle.vx_yard.proofs.OfSites.{recovers_none, recovers_rest, recovers_up}
 use Rattle.vx_yard.proofs.Seats.{named_some}
+use Rattle.vx_yard.specs.OfSites.{RecoversAs}
 use Rattle.vx_yard.specs.Yards.{in_files}
 use Rattle.vx_group_lines.proofs.GroupAt.{group_at}
 use Rattle.vx_group_lines.proofs.Recovering.{from_down, from_up, off_down, unbegun_rise}
@@ -28,7 +29,8 @@ returns-in_err-room-clause-leads g c = λ d stands over.
 
 pub returns-in_err-room-clause-asked : goal.returns-in_err-room-clause-asked
 returns-in_err-room-clause-asked g c = λ d stands over.
-    unbegun_site SameFailing d c.args.yard.now c.args.name.now failing_same stands (recover_may c.args.yard.now.facts.items (in_files c.args.yard.now) c.args.name.now c.requires.free)
+    recovers_none (d.world.nodes (site_number d.world c.args.name.now)).state (site_number d.world c.args.name.now) c.args.yard.now
+    (unbegun_site SameFailing d c.args.yard.now c.args.name.now failing_same stands (recover_may c.args.yard.now.facts.items (in_files c.args.yard.now) c.args.name.now c.requires.free))
 
 pub returns-in-Up-clause-leads : goal.returns-in-Up-clause-leads
 returns-in-Up-clause-leads g c = λ d stands over.
@@ -57,11 +59,26 @@ returns-in_default-clause-leads g c = λ d stands over.
 
 pub returns-in-Up-clause-asked : goal.returns-in-Up-clause-asked
 returns-in-Up-clause-asked g c = λ d stands over.
-    site_by (site_number d.world c.args.name.now) c.site_of-site.result c.args.yard.now c.rise.new.yard
-    (sym (place_at d c.args.yard.now c.args.name.now c.site_of-site.result stands c.site_of-site.ensures.seat).number)
-    (site_then c.site_of-site.result c.args.yard.now c.go_down.new.yard c.rise.new.yard c.site_of-site.ensures.disk_set c.go_down.ensures.failing c.rise.ensures.failing)
+    let y = c.args.yard.now in
+    let s = c.site_of-site.result in
+    let seat = c.site_of-site.ensures.seat in
+    let place = place_at d y c.args.name.now s stands seat in
+    let there = get_there y.disk_sets.items s c.site_of-site.ensures.disk_set in
+    let at = group_at d y c.args.name.now s there.0 stands seat over there.1 in
+    let here = get_at y.facts.items s c.index.result.now c.site_of-site.ensures.fact c.index.ensures in
+    let up = ap (λ (f : SiteFacts). f.state) (some_same (sym at.fact ∙ here)) ∙ c.in-Up.is in
+    subst (λ k. RecoversAs (d.world.nodes k).state k y c.rise.new.yard) (sym place.number)
+    (recovers_up (d.world.nodes s).state s y c.go_down.new.yard c.rise.new.yard c.site_of-site.ensures.disk_set (c.go_down.ensures.asked d stands place.below up) c.go_down.ensures.failing c.rise.ensures.failing)
 
 pub returns-in_default-clause-asked : goal.returns-in_default-clause-asked
 returns-in_default-clause-asked g c = λ d stands over.
-    site_by (site_number d.world c.args.name.now) c.site_of-site.result c.args.yard.now c.rise-in_default.new.yard
-    (sym (place_at d c.args.yard.now c.args.name.now c.site_of-site.result stands c.site_of-site.ensures.seat).number) c.rise-in_default.ensures.failing
+    let y = c.args.yard.now in
+    let s = c.site_of-site.result in
+    let seat = c.site_of-site.ensures.seat in
+    let place = place_at d y c.args.name.now s stands seat in
+    let there = get_there y.disk_sets.items s c.site_of-site.ensures.disk_set in
+    let at = group_at d y c.args.name.now s there.0 stands seat over there.1 in
+    let here = get_at y.facts.items s c.index.result.now c.site_of-site.ensures.fact c.index.ensures in
+    let same = ap (λ (f : SiteFacts). f.state) (some_same (sym at.fact ∙ here)) in
+    subst (λ k. RecoversAs (d.world.nodes k).state k y c.rise-in_default.new.yard) (sym place.number)
+    (recovers_rest (d.world.nodes s).state s y c.rise-in_default.new.yard (λ up. c.in_default.not-Up (sym same ∙ up)) c.rise-in_default.ensures.failing)

@@ -9,8 +9,8 @@ use Rattle.vx_grouped.proofs.beginning.create_from.Goals as goal
 
 pub returns-in-Ok-clause-made : goal.returns-in-Ok-clause-made
 returns-in-Ok-clause-made g c =
-    carried (λ x s y t. IsNewGroup c.args.site y.inner (g.R.Shelf.meaning t) × (y.held ≡ None))
-    c.in-Ok.group.core c.in-Ok.group.core c.together.result.core c.in-Ok.group.core c.in-Ok.group.shelf.shelf c.in-Ok.group.shelf.shelf c.together.result.shelf c.in-Ok.group.shelf.shelf refl refl
+    carried (λ x s y t. IsNewGroup c.args.site (g.R.Shelf.meaning s) y.inner (g.R.Shelf.meaning t) × (y.held ≡ None))
+    c.in-Ok.group.core c.in-Ok.group.core c.together.result.core c.in-Ok.group.core c.args.rack c.over-watched.result.shelf c.together.result.shelf c.in-Ok.group.shelf.shelf refl c.over-watched.ensures
     (c.together.ensures.core ∙ c.apart-watched.ensures.core) (c.together.ensures.shelf ∙ c.into_shelf-rack.ensures.shelf ∙ shelf_of _ _ c.apart-watched.ensures.shelf) c.in-Ok.ensures.created
 
 pub returns-in-Err-clause-refusals : goal.returns-in-Err-clause-refusals

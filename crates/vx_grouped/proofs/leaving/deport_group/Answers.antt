@@ -40,6 +40,7 @@ returns-then-is_down-clause-moves g c = record {
   goes = c.in-Err.ensures.back;
   loses = c.in-Err.ensures.ends.quiesces.loses;
   on = both_on c.args.group.core c.in-Err.group.core (g.S.Shelf.meaning c.args.group.shelf) (g.S.Shelf.meaning c.in-Err.group.shelf) c.args.group.stands.group c.in-Err.group.stands.group;
+  agrees = c.in-Err.ensures.agreed;
 }
 
 pub returns-else-is_down-clause-moves : goal.returns-else-is_down-clause-moves
@@ -47,6 +48,7 @@ returns-else-is_down-clause-moves g c = record {
   goes = c.in-Err.ensures.back;
   loses = c.in-Err.ensures.ends.quiesces.loses;
   on = both_on c.args.group.core c.in-Err.group.core (g.S.Shelf.meaning c.args.group.shelf) (g.S.Shelf.meaning c.in-Err.group.shelf) c.args.group.stands.group c.in-Err.group.stands.group;
+  agrees = c.in-Err.ensures.agreed;
 }
 
 pub returns-in-Ok-clause-maps : goal.returns-in-Ok-clause-maps

@@ -1,9 +1,10 @@
 -- A read of a volume: what was read, and that what is noted stays.
-use Rattle.std.proofs.Common.{refl}
+use Rattle.std.proofs.Common.{◌/◌, length, refl}
+use Rattle.vx_model.specs.declared.limits.TheConstants.{BLOCK}
 use Rattle.vx_group.specs.Holding.{wide}
 use Rattle.vx_group.specs.Laws.{group_lawful}
 use Rattle.vx_group.specs.Stands.{inner_meaning}
-use Rattle.vx_grouped.proofs.ReadLemmas.{read_stays, reads_plain}
+use Rattle.vx_grouped.proofs.ReadLemmas.{read_gives, read_not, read_stays, reads_plain}
 use Rattle.vx_grouped.proofs.PlainMapLemmas.{parts_same}
 use Rattle.vx_grouped.proofs.plain.read_plain.Goals as goal
 
@@ -32,3 +33,11 @@ pub returns-in-Err-clause-maps : goal.returns-in-Err-clause-maps
 returns-in-Err-clause-maps g c =
     parts_same c.args.group.now.core.inner.config c.read.new.self.core.inner.config c.args.group.now.logs.items c.read.new.self.logs.items c.args.group.now.alike c.read.new.self.alike c.args.group.now.stopped c.read.new.self.stopped
     c.read.ensures.same c.read.ensures.logs c.read.ensures.alike c.read.ensures.stopped
+
+pub returns-in-Ok-clause-gives_up : goal.returns-in-Ok-clause-gives_up
+returns-in-Ok-clause-gives_up g c = λ disk is. absurd (read_not is)
+
+pub returns-in-Err-clause-gives_up : goal.returns-in-Err-clause-gives_up
+returns-in-Err-clause-gives_up g c = λ disk is.
+    read_gives c.in-Err.failed c.refusal.result c.args.vol c.args.group.now.core.inner.config c.args.group.now.core.inner.next c.read.new.self.core.inner.next c.args.block (length c.args.into.now / BLOCK) c.read.new.into
+    (g.S.Shelf.meaning c.args.group.now.shelf) (g.S.Shelf.meaning c.read.new.self.shelf) disk c.refusal.ensures is c.in-Err.ensures.turn

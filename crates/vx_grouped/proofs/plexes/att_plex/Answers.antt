@@ -8,7 +8,7 @@ use Rattle.vx_group.specs.Attaches.{att_refusal, missed_regions}
 use Rattle.vx_group.specs.Dets.{margin}
 use Rattle.vx_group.proofs.CallLemmas.{not_down}
 use Rattle.vx_grouped.proofs.CopiedLemmas.{copies_by}
-use Rattle.vx_grouped.proofs.KeepLemmas.{att_not_down, attached_by, call_cut, call_leaves, never_fell, same_at}
+use Rattle.vx_grouped.proofs.KeepLemmas.{att_not_down, attached_by, call_cut, call_leaves, fell_else, never_fell, same_at, undone_by}
 use Rattle.vx_grouped.proofs.BothLemmas.{regains_by, stays_by}
 use Rattle.vx_loggroup.specs.Attaching.{map_by}
 use Rattle.vx_grouped.proofs.PlexMapLemmas.{att_parts, ok_each}
@@ -34,6 +34,12 @@ returns-then-is_down-clause-cause g c = λ is. sym c.is_down.ensures ∙ c.if-is
 
 pub returns-clause-attached : goal.returns-clause-attached
 returns-clause-attached g c = λ off. attached_by c.att-answer.result c.args.vol c.args.plex c.att-answer.new.self.core.inner.config (g.S.Shelf.meaning c.att-answer.new.self.shelf) (c.att-answer.ensures.ends off)
+
+pub returns-then-is_down-clause-undone : goal.returns-then-is_down-clause-undone
+returns-then-is_down-clause-undone g c = λ off disk is. absurd (fell_else disk is)
+
+pub returns-clause-undone : goal.returns-clause-undone
+returns-clause-undone g c = λ off disk is. undone_by c.att-answer.result c.args.vol c.args.plex c.att-answer.new.self.core.inner.config (g.S.Shelf.meaning c.att-answer.new.self.shelf) disk (c.att-answer.ensures.ends off) is
 
 pub returns-clause-leaves : goal.returns-clause-leaves
 returns-clause-leaves g c = λ n note at.

@@ -1,12 +1,12 @@
 -- A plex that is detached: what it leaves, and refusals of disks that are down behind it.
-use Rattle.std.proofs.Common.{◌∙◌, ◌≡◌, ◌-◌, ◌&&◌, None, ap, length, sym}
+use Rattle.std.proofs.Common.{◌∙◌, ◌≡◌, ◌-◌, ◌&&◌, IsTrue, None, ap, length, sym}
 use Rattle.std.specs.Prelude.{nat_le, nat_lt, not}
 use Rattle.vx_config.specs.Checks.{plexes_of}
 use Rattle.vx_config.specs.Table.{greatest}
 use Rattle.vx_group.specs.Dets.{any_below, det_refusal, is_other, margin}
 use Rattle.vx_group.proofs.CallLemmas.{not_down}
 use Rattle.vx_grouped.proofs.BothLemmas.{moves_by}
-use Rattle.vx_grouped.proofs.KeepLemmas.{agreed_either, call_cut, call_leaves, det_not_down, free_either, never_fell, same_at}
+use Rattle.vx_grouped.proofs.KeepLemmas.{agreed_either, call_cut, call_leaves, det_not_down, fell_else, free_either, never_fell, same_at, undone_det}
 use Rattle.vx_volume.specs.Plexes.{active}
 use Rattle.vx_group.proofs.HoldLemmas.{wide_shape}
 use Rattle.vx_logged.proofs.HoldsLemmas.{inner_blocks}
@@ -62,3 +62,11 @@ returns-clause-maps g c = λ was now.
     let same = c.det-answer.ensures.refused why is in
     stay_same c.args.group.now.core.inner.config c.det-answer.new.self.core.inner.config c.args.group.now.logs.items c.det-answer.new.self.logs.items c.args.group.now.alike c.det-answer.new.self.alike c.args.group.now.stopped c.det-answer.new.self.stopped same.3
     c.det-answer.ensures.flags.0 c.det-answer.ensures.flags.1 (ap (λ (x : GroupCore). x.inner.config) same.1)) c.det-answer.ensures.cause c.det-answer.ensures.stays
+
+pub returns-then-is_down-clause-undone : goal.returns-then-is_down-clause-undone
+returns-then-is_down-clause-undone g c = λ disk is. absurd (fell_else disk is)
+
+pub returns-clause-undone : goal.returns-clause-undone
+returns-clause-undone g c = λ disk is.
+    undone_det c.det-answer.result disk (IsTrue (g.S.Shelf.meaning c.det-answer.new.self.shelf).down) (active c.det-answer.new.self.core.inner.config c.args.vol c.args.plex ≡ active c.args.group.now.core.inner.config c.args.vol c.args.plex) c.det-answer.ensures.stays is
+    (not_down c.is_down.result (g.S.Shelf.meaning c.det-answer.new.self.shelf).down c.is_down.ensures c.if-is_down.false)

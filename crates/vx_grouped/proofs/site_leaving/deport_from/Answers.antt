@@ -1,12 +1,9 @@
 -- A deport over disks with an account.
-use Rattle.std.proofs.Common.{◌≡◌, ◌∙◌, ◌-◌, None, Option, true, inl, inr, refl, subst, sym, ap}
-use Rattle.std.proofs.lemmas.Bool.{cases_lt}
+use Rattle.std.proofs.Common.{◌≡◌, ◌∙◌, None, Option, true, refl, subst, sym, ap}
 use Rattle.std.specs.Prelude.{Err}
 use Rattle.vx_model.specs.declared.site.SiteState.TheVariants.{Deported as IsDeported}
-use Rattle.vx_config.specs.Table.{greatest}
 use Rattle.vx_config.specs.declared.config.Config.{Config}
 use Rattle.vx_group.specs.Deports.{DeportedBy}
-use Rattle.vx_group.specs.Dets.{DetStops, margin}
 use Rattle.vx_group.specs.Holding.{wide}
 use Rattle.vx_group.specs.Resumes.{CanImport}
 use Rattle.vx_loggroup.specs.Opens.{RestTells}
@@ -18,6 +15,7 @@ use Rattle.vx_grouped.specs.Ends.{CallLeaves}
 use Rattle.vx_grouped.specs.GroupNotes.{IsGroupAt}
 use Rattle.vx_grouped.proofs.CarryLemmas.{carried, shelf_of}
 use Rattle.vx_grouped.proofs.DeportedLemmas.{device_stops}
+use Rattle.vx_grouped.proofs.LeavingLemmas.{Refuses, refuses_by_serial}
 use Rattle.vx_disk.specs.Racks.{IsRack}
 use Rattle.vx_grouped.specs.PlainMaps.{PartsLeft, RefusedMaps, map_parts}
 use Rattle.vx_grouped.specs.SiteMaps.{MapsLike}
@@ -38,15 +36,13 @@ returns-in-Err-clause-leaves g c = λ n note at.
     (c.together.ensures.core ∙ c.apart-watched.ensures.core) (c.together.ensures.shelf ∙ c.into_shelf-rack.ensures.shelf ∙ shelf_of _ _ c.apart-watched.ensures.shelf) (λ it. c.in-Err.ensures.leaves n note it) at
 
 pub returns-in-Err-clause-refusals : goal.returns-in-Err-clause-refusals
-returns-in-Err-clause-refusals g c = elim (cases_lt (greatest - margin) c.together-group.result.core.inner.config.serial) [
-  | inl lt ↦ inl (c.in-Err.ensures.limit lt).0
-  | inr le ↦ inr
-      (carried (λ x s y t. DetStops {T = Unit {0}} (g.R.Shelf.meaning s) (g.R.Shelf.meaning t) (Err c.in-Err.stop))
-      c.args.group.core c.together-group.result.core c.together.result.core c.in-Err.group.core c.args.group.shelf c.together-group.result.shelf.shelf c.together.result.shelf c.in-Err.group.shelf.shelf
-      (c.together-group.ensures.core ∙ c.apart-rack.ensures.core) (shelf_of _ _ c.together-group.ensures.shelf ∙ c.over-watched.ensures ∙ c.apart-rack.ensures.shelf)
-      (c.together.ensures.core ∙ c.apart-watched.ensures.core) (c.together.ensures.shelf ∙ c.into_shelf-rack.ensures.shelf ∙ shelf_of _ _ c.apart-watched.ensures.shelf)
-      (device_stops {S = Watched _ _ _ _ × Option Rested} (g.R.Shelf.meaning c.together-group.result.shelf.shelf) (λ w. g.R.Shelf.meaning w.0.shelf) (λ y. (y.shelf, None)) c.in-Err.group c.in-Err.stop (c.in-Err.ensures.cause le)))
-]
+returns-in-Err-clause-refusals g c =
+    carried (λ x s y t. Refuses x (g.R.Shelf.meaning s) (g.R.Shelf.meaning t) c.in-Err.stop)
+    c.args.group.core c.together-group.result.core c.together.result.core c.in-Err.group.core c.args.group.shelf c.together-group.result.shelf.shelf c.together.result.shelf c.in-Err.group.shelf.shelf
+    (c.together-group.ensures.core ∙ c.apart-rack.ensures.core) (shelf_of _ _ c.together-group.ensures.shelf ∙ c.over-watched.ensures ∙ c.apart-rack.ensures.shelf)
+    (c.together.ensures.core ∙ c.apart-watched.ensures.core) (c.together.ensures.shelf ∙ c.into_shelf-rack.ensures.shelf ∙ shelf_of _ _ c.apart-watched.ensures.shelf)
+    (refuses_by_serial c.together-group.result.core (g.R.Shelf.meaning c.together-group.result.shelf.shelf) (g.R.Shelf.meaning c.in-Err.group.shelf.shelf) c.in-Err.stop (λ lt. (c.in-Err.ensures.limit lt).0)
+    (λ le. device_stops {S = Watched _ _ _ _ × Option Rested} (g.R.Shelf.meaning c.together-group.result.shelf.shelf) (λ w. g.R.Shelf.meaning w.0.shelf) (λ y. (y.shelf, None)) c.in-Err.group c.in-Err.stop (c.in-Err.ensures.cause le)))
 
 pub returns-in-Ok-clause-can : goal.returns-in-Ok-clause-can
 returns-in-Ok-clause-can g c =

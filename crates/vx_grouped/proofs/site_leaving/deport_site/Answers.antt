@@ -37,7 +37,7 @@ returns-then-is_down_stop-clause-deported g c = λ n note up.
 pub returns-then-is_down_stop-clause-since : goal.returns-then-is_down_stop-clause-since
 returns-then-is_down_stop-clause-since g c =
     since_stop (shade_meaning g.R.Shelf.meaning c.args.laid.shelf) (shade_meaning g.R.Shelf.meaning c.in-Err.laid.shelf) (shade_meaning g.R.Shelf.meaning c.crash.result.rack) (Crashed (shade_meaning g.R.Shelf.meaning c.in-Err.laid.shelf).size 0xffff_ffff_ffff_ffff) c.in-Err.ensures.since
-    (deport_down (shade_meaning g.R.Shelf.meaning c.args.laid.shelf) (shade_meaning g.R.Shelf.meaning c.in-Err.laid.shelf) c.in-Err.stop (sym c.is_down_stop.ensures ∙ c.if-is_down_stop.true) c.in-Err.ensures.refusals) c.crash.ensures.stopped c.crash.ensures.disks
+    (deport_down c.args.laid.core (shade_meaning g.R.Shelf.meaning c.args.laid.shelf) (shade_meaning g.R.Shelf.meaning c.in-Err.laid.shelf) c.in-Err.stop (sym c.is_down_stop.ensures ∙ c.if-is_down_stop.true) c.in-Err.ensures.refusals) c.crash.ensures.stopped c.crash.ensures.disks
 
 pub returns-else-is_down_stop-clause-deported : goal.returns-else-is_down_stop-clause-deported
 returns-else-is_down_stop-clause-deported g c = λ n note up.
@@ -83,7 +83,7 @@ pub returns-else-is_down_stop-clause-volumes : goal.returns-else-is_down_stop-cl
 returns-else-is_down_stop-clause-volumes g c = none_go (laid_seen c.args.laid) (laid_seen c.in-Err.laid) c.in-Err.ensures.moves.goes
 
 pub returns-then-is_down_stop-clause-volumes : goal.returns-then-is_down_stop-clause-volumes
-returns-then-is_down_stop-clause-volumes g c = fell_behind Nowhere c.args.laid c.in-Err.laid c.crash.result (none_go (laid_seen c.args.laid) (laid_seen c.in-Err.laid) c.in-Err.ensures.moves.goes) c.crash.ensures.stopped c.crash.ensures.agreed
+returns-then-is_down_stop-clause-volumes g c = fell_behind Nowhere c.args.laid c.in-Err.laid c.crash.result (none_go (laid_seen c.args.laid) (laid_seen c.in-Err.laid) c.in-Err.ensures.moves.goes) c.crash.ensures.stopped c.crash.ensures.agreed c.crash.ensures.lacking
 
 pub returns-in-Ok-clause-closes : goal.returns-in-Ok-clause-closes
 returns-in-Ok-clause-closes g c = subst (λ s. DeportedBy (wide c.args.laid.core).config c.args.laid.core.inner (shade_meaning g.R.Shelf.meaning c.args.laid.shelf) (shade_meaning g.R.Shelf.meaning s)) (sym c.of.ensures.rack) c.in-Ok.ensures.moves

@@ -48,7 +48,7 @@ returns-in-Err-clause-moves g c =
 
 pub returns-in-Err-clause-refusals : goal.returns-in-Err-clause-refusals
 returns-in-Err-clause-refusals g c =
-    carried_in (λ x s y t. Refuses s t c.in-Err.stop)
+    carried_in (λ x s y t. Refuses x s t c.in-Err.stop)
     c.args.laid.core c.trace.result.core c.untrace.result.core c.in-Err.group.core c.args.laid.shelf c.trace.result.shelf c.untrace.result.shelf c.in-Err.group.shelf c.trace.ensures.core c.trace.ensures.shelf c.untrace.ensures.core c.untrace.ensures.shelf c.in-Err.ensures.refusals
 
 pub returns-in-Err-clause-since : goal.returns-in-Err-clause-since

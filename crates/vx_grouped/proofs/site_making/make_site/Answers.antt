@@ -75,7 +75,7 @@ pub returns-in-Ok-clause-volumes : goal.returns-in-Ok-clause-volumes
 returns-in-Ok-clause-volumes g c = c.make_watched-laid.ensures.works.goes
 
 pub returns-then-is_down_stop-clause-volumes : goal.returns-then-is_down_stop-clause-volumes
-returns-then-is_down_stop-clause-volumes g c = fell_behind Nowhere c.args.laid c.make_watched-laid.result.0 c.crash.result c.make_watched-laid.ensures.works.goes c.crash.ensures.stopped c.crash.ensures.agreed
+returns-then-is_down_stop-clause-volumes g c = fell_behind Nowhere c.args.laid c.make_watched-laid.result.0 c.crash.result c.make_watched-laid.ensures.works.goes c.crash.ensures.stopped c.crash.ensures.agreed c.crash.ensures.lacking
 
 pub returns-else-is_down_stop-clause-volumes : goal.returns-else-is_down_stop-clause-volumes
 returns-else-is_down_stop-clause-volumes g c = c.make_watched-laid.ensures.works.goes

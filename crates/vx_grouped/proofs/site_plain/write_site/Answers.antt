@@ -65,7 +65,7 @@ pub returns-else-is_off-clause-volumes : goal.returns-else-is_off-clause-volumes
 returns-else-is_off-clause-volumes g c = write_goes c.args.vol c.args.block c.args.bytes.now (laid_seen c.args.laid) (laid_seen c.write_watched-laid.result.0) c.write_watched-laid.ensures.works.goes
 
 pub returns-then-is_off-clause-volumes : goal.returns-then-is_off-clause-volumes
-returns-then-is_off-clause-volumes g c = fell_behind (Covers c.args.vol c.args.block c.args.bytes.now) c.args.laid c.write_watched-laid.result.0 c.crash.result (write_goes c.args.vol c.args.block c.args.bytes.now (laid_seen c.args.laid) (laid_seen c.write_watched-laid.result.0) c.write_watched-laid.ensures.works.goes) c.crash.ensures.stopped c.crash.ensures.agreed
+returns-then-is_off-clause-volumes g c = fell_behind (Covers c.args.vol c.args.block c.args.bytes.now) c.args.laid c.write_watched-laid.result.0 c.crash.result (write_goes c.args.vol c.args.block c.args.bytes.now (laid_seen c.args.laid) (laid_seen c.write_watched-laid.result.0) c.write_watched-laid.ensures.works.goes) c.crash.ensures.stopped c.crash.ensures.agreed c.crash.ensures.lacking
 
 pub returns-then-not-fits-clause-volumes : goal.returns-then-not-fits-clause-volumes
 returns-then-not-fits-clause-volumes g c = wider_go Nowhere (Covers c.args.vol c.args.block c.args.bytes.now) (laid_seen c.args.laid) (laid_seen c.args.laid) (λ u b none. absurd none) (same_go (laid_seen c.args.laid))

@@ -77,4 +77,4 @@ pub returns-else-is_down_stop-clause-volumes : goal.returns-else-is_down_stop-cl
 returns-else-is_down_stop-clause-volumes g c = none_go (laid_seen c.args.laid) (laid_seen c.att_watched-laid.result.0) c.att_watched-laid.ensures.works.goes
 
 pub returns-then-is_down_stop-clause-volumes : goal.returns-then-is_down_stop-clause-volumes
-returns-then-is_down_stop-clause-volumes g c = fell_behind Nowhere c.args.laid c.att_watched-laid.result.0 c.crash.result (none_go (laid_seen c.args.laid) (laid_seen c.att_watched-laid.result.0) c.att_watched-laid.ensures.works.goes) c.crash.ensures.stopped c.crash.ensures.agreed
+returns-then-is_down_stop-clause-volumes g c = fell_behind Nowhere c.args.laid c.att_watched-laid.result.0 c.crash.result (none_go (laid_seen c.args.laid) (laid_seen c.att_watched-laid.result.0) c.att_watched-laid.ensures.works.goes) c.crash.ensures.stopped c.crash.ensures.agreed c.crash.ensures.lacking

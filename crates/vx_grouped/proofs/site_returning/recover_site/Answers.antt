@@ -7,7 +7,7 @@ use Rattle.vx_grouped.proofs.SiteReturnLemmas.{recovered_not, recovered_up}
 use Rattle.vx_grouped.proofs.GivenUpLemmas.{rested_tells}
 use Rattle.vx_grouped.proofs.TellLemmas.{alike_tells, fallen_tells}
 use Rattle.std.specs.Prelude.{Some}
-use Rattle.vx_grouped.proofs.ReturnMapLemmas.{came_up, down_of, less_down}
+use Rattle.vx_grouped.proofs.ReturnMapLemmas.{came_up, crashed_down, down_of, less_down}
 use Rattle.vx_grouped.proofs.StopLemmas.{early_goes}
 use Rattle.vx_grouped.proofs.site_returning.recover_site.Goals as goal
 
@@ -62,8 +62,8 @@ import_watched-requires-clause-tells g c = λ κs lives. alike_tells c.args.rest
 
 pub of-requires-in-Err-clause-tells : goal.of-requires-in-Err-clause-tells
 of-requires-in-Err-clause-tells g c = λ κs lives r agreed is.
-    rested_tells r c.args.rested (shade_meaning g.R.Shelf.meaning c.fallen.result) is
-    (fallen_tells c.args.rested (shade_meaning g.R.Shelf.meaning c.risen.result) (shade_meaning g.R.Shelf.meaning c.in-Err.rack) (shade_meaning g.R.Shelf.meaning c.fallen.result) c.in-Err.stop c.is_early-early.result c.is_early-early.ensures
+    rested_tells r c.crashed.result (shade_meaning g.R.Shelf.meaning c.fallen.result) is
+    (fallen_tells c.args.rested c.crashed.result c.crashed.ensures.alike c.crashed.ensures.drls c.crashed.ensures.maps (shade_meaning g.R.Shelf.meaning c.risen.result) (shade_meaning g.R.Shelf.meaning c.in-Err.rack) (shade_meaning g.R.Shelf.meaning c.fallen.result) c.in-Err.stop c.is_early-early.result c.is_early-early.ensures
     (alike_tells c.args.rested (shade_meaning g.R.Shelf.meaning c.args.rack) (shade_meaning g.R.Shelf.meaning c.risen.result) c.risen.ensures.alike c.requires.tells) c.in-Err.ensures.stops c.fallen.ensures.stopped c.fallen.ensures.dark)
 
 pub returns-then-not-is_down-clause-maps : goal.returns-then-not-is_down-clause-maps
@@ -78,10 +78,11 @@ returns-in-Err-clause-maps g c = λ early w x it.
     let alike = c.risen.ensures.alike.contents in
     let goes = early_goes (shade_meaning g.R.Shelf.meaning c.risen.result) (shade_meaning g.R.Shelf.meaning c.in-Err.rack) c.in-Err.stop early c.in-Err.ensures.stops in
     let fell = c.fallen.ensures.stopped (c.is_early-early.ensures ∙ early) in
-    down_of c.of-in-Err.result c.fallen.result (Some c.args.rested) c.of-in-Err.ensures.rack c.of-in-Err.ensures.rested w x
+    down_of c.of-in-Err.result c.fallen.result (Some c.crashed.result) c.of-in-Err.ensures.rack c.of-in-Err.ensures.rested w x
+    (crashed_down c.args.rested c.crashed.result c.crashed.ensures.alike c.crashed.ensures.maps w x (shade_meaning g.R.Shelf.meaning c.fallen.result)
     (less_down (shade_meaning g.R.Shelf.meaning c.in-Err.rack) (shade_meaning g.R.Shelf.meaning c.fallen.result) fell.units fell.size fell.leaves w x (Some c.args.rested)
     (less_down (shade_meaning g.R.Shelf.meaning c.risen.result) (shade_meaning g.R.Shelf.meaning c.in-Err.rack) goes.units goes.size (λ u b v left. ⊎_elim (λ was. was) (λ none. absurd none) (goes.leaves u b v left)) w x (Some c.args.rested)
-    (less_down (shade_meaning g.R.Shelf.meaning c.args.rack) (shade_meaning g.R.Shelf.meaning c.risen.result) alike.units alike.size alike.leaves w x (Some c.args.rested) it)))
+    (less_down (shade_meaning g.R.Shelf.meaning c.args.rack) (shade_meaning g.R.Shelf.meaning c.risen.result) alike.units alike.size alike.leaves w x (Some c.args.rested) it))))
 
 pub returns-in-Ok-clause-brings : goal.returns-in-Ok-clause-brings
 returns-in-Ok-clause-brings g c = record { first = c.risen.result; revived = c.risen.ensures.alike; brings = c.in-Ok.ensures.brings }

@@ -13,7 +13,7 @@ use Rattle.vx_diskset.specs.Asked.{LeavesFuse, SameFailing}
 use Rattle.vx_diskset.specs.Burning.{NoMore}
 use Rattle.vx_diskset.specs.Holds.{beside_of}
 use Rattle.vx_events.specs.declared.said.Said.{Said}
-use Rattle.vx_yard.proofs.ApplySite.{applied, apply_refused, calls_keep, can_apply_at}
+use Rattle.vx_yard.proofs.ApplySite.{applied, apply_refused, calls_keep, can_apply_at, stops_apply}
 use Rattle.vx_yard.proofs.NamedSite.{asks_at}
 use Rattle.vx_link_lines.proofs.RawParts.{raw_seat}
 use Rattle.vx_link_lines.proofs.apply.apply_line.Goals as goal
@@ -54,7 +54,8 @@ returns-in-Err-clause-leads g c = λ d stands off carries.
     let there = stands.disk_sets.sites s c.index_mut.result.now here.seat.below at in
     let raw = raw_seat d y c.args.name.now s c.index_mut.result.now stands seat at off in
     apply_refused d y _ c.args.name.now c.args.to s c.index_mut.result.now c.apply.new.self stands here (record { there = at; later = c.in-Err.ensures.later; disk_sets = refl; racks = refl }) c.in-Err.ensures.role c.in-Err.no c.refused.result
-    c.index_mut-in-Err.result.now c.refused.new.facts c.refused.ensures.said (c.in-Err.ensures.blames (beside_of d s) (d.world.nodes s) there) (c.in-Err.ensures.applied (beside_of d s) (d.world.nodes s) there here.can here.seat.apart) (c.in-Err.ensures.called (beside_of d s) (d.world.nodes s) there raw)
+    c.index_mut-in-Err.result.now c.refused.new.facts c.refused.ensures.said (c.in-Err.ensures.blames (beside_of d s) (d.world.nodes s) there) (stops_apply (beside_of d s) (d.world.nodes s) c.args.to c.index_mut.result.now c.apply.new.self c.in-Err.no (c.in-Err.ensures.applied (beside_of d s) (d.world.nodes s) there here.can here.seat.apart))
+    (c.in-Err.ensures.called (beside_of d s) (d.world.nodes s) there raw)
     (get_at y.facts.items s c.index_mut-in-Err.result.now (c.site_of-site.ensures.fact) c.index_mut-in-Err.ensures.value) c.refused.ensures.noted refl
     (record { flight = refl; assemblies = c.let_go_if_down.ensures; feeders = refl })
 

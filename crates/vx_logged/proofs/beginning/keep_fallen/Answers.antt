@@ -21,6 +21,7 @@ use Rattle.vx_logged.proofs.FallenLemmas.{cause_from, fell_same, no_blocks, off_
 use Rattle.vx_logged.proofs.GoneLogs.{trusts_in, trusts_then}
 use Rattle.vx_logged.proofs.StandLemmas.{config_is, if_err_any, if_ok_any, narrowed_then, others_each, others_then, maps_idle}
 use Rattle.vx_logged.proofs.KeptLemmas.{map_later, some_blocks}
+use Rattle.vx_group.proofs.UnsureLemmas.{marks_then}
 use Rattle.vx_logged.proofs.beginning.keep_fallen.Goals as goal
 
 pub begin_fallen-requires-clause-none : goal.begin_fallen-requires-clause-none
@@ -192,3 +193,21 @@ returns-clause-kept g c = λ was. c.keep_map.ensures.kept
 
 pub returns-clause-said : goal.returns-clause-said
 returns-clause-said g c = λ some. c.keep_map.ensures.kept
+
+pub returns-in-Err-clause-marks : goal.returns-in-Err-clause-marks
+returns-in-Err-clause-marks g c = c.in-Err.ensures.marks
+
+pub returns-in-Err-clause-misses : goal.returns-in-Err-clause-misses
+returns-in-Err-clause-misses g c = c.in-Err.ensures.misses
+
+pub returns-then-not-ready-clause-marks : goal.returns-then-not-ready-clause-marks
+returns-then-not-ready-clause-marks g c = c.in-Ok.ensures.marks
+
+pub returns-clause-marks : goal.returns-clause-marks
+returns-clause-marks g c = marks_then c.args.vol c.args.core.now.inner.unsure c.ready_group.new.core.inner.unsure c.keep_map.new.core.inner.unsure c.keep_map.result c.in-Ok.ensures.marks c.keep_map.ensures.marks
+
+pub returns-clause-misses : goal.returns-clause-misses
+returns-clause-misses g c = c.keep_map.ensures.misses
+
+pub returns-then-blocks-eq0-clause-marks : goal.returns-then-blocks-eq0-clause-marks
+returns-then-blocks-eq0-clause-marks g c = c.in-Ok.ensures.marks

@@ -21,7 +21,8 @@ use Rattle.vx_logged.proofs.BeginLemmas.{but_any, but_more, but_note, but_then, 
 use Rattle.vx_logged.proofs.EmptyLemmas.{plexes_maps}
 use Rattle.vx_logged.proofs.FallenLemmas.{adds_before, cause_from, clear_off, clear_run, fell_same, off_more, off_run, there_still}
 use Rattle.vx_logged.proofs.GoneLogs.{trusts_in, trusts_then}
-use Rattle.vx_logged.proofs.StandLemmas.{config_is, if_ok_any, narrowed_then, others_each, others_then, same_only, maps_idle}
+use Rattle.vx_logged.proofs.StandLemmas.{config_is, if_ok_any, maps_idle, narrowed_then, others_each, others_then, same_only}
+use Rattle.vx_group.proofs.UnsureLemmas.{marks_then}
 use Rattle.vx_logged.proofs.beginning.mark_fallen.Goals as goal
 
 pub begin_fallen-requires-clause-none : goal.begin_fallen-requires-clause-none
@@ -196,3 +197,18 @@ returns-then-not-ready-clause-free g c = λ is. absurd (let clash : false ≡ tr
 
 pub returns-clause-free : goal.returns-clause-free
 returns-clause-free g c = c.mark_group.ensures.free
+
+pub returns-in-Err-clause-marks : goal.returns-in-Err-clause-marks
+returns-in-Err-clause-marks g c = c.in-Err.ensures.marks
+
+pub returns-in-Err-clause-misses : goal.returns-in-Err-clause-misses
+returns-in-Err-clause-misses g c = c.in-Err.ensures.misses
+
+pub returns-then-not-ready-clause-marks : goal.returns-then-not-ready-clause-marks
+returns-then-not-ready-clause-marks g c = c.in-Ok.ensures.marks
+
+pub returns-clause-marks : goal.returns-clause-marks
+returns-clause-marks g c = marks_then c.args.vol c.args.core.now.inner.unsure c.ready_group.new.core.inner.unsure c.mark_group.new.core.inner.unsure c.mark_group.result c.in-Ok.ensures.marks c.mark_group.ensures.marks
+
+pub returns-clause-misses : goal.returns-clause-misses
+returns-clause-misses g c = c.mark_group.ensures.misses

@@ -19,6 +19,7 @@ use Rattle.vx_group.proofs.FindingLemmas.{then_group}
 use Rattle.vx_logged.proofs.GoneLogs.{inner_places, trusts_in, trusts_then}
 use Rattle.vx_grouplogs.proofs.GoneLemmas.{drop_before, drop_behind, drop_same}
 use Rattle.vx_logged.proofs.KeptLemmas.{log_later, some_blocks}
+use Rattle.vx_group.proofs.UnsureLemmas.{marks_then}
 use Rattle.vx_logged.proofs.clearing.clear_group.Goals as goal
 
 pub clear_run-requires-clause-checked : goal.clear_run-requires-clause-checked
@@ -355,3 +356,27 @@ returns-clause-kept g c = λ was. c.keep_log.ensures.kept
 
 pub returns-clause-said : goal.returns-clause-said
 returns-clause-said g c = λ some. c.keep_log.ensures.kept
+
+pub returns-in-Err-clause-marks : goal.returns-in-Err-clause-marks
+returns-in-Err-clause-marks g c = c.in-Err.ensures.marks
+
+pub returns-in-Err-clause-misses : goal.returns-in-Err-clause-misses
+returns-in-Err-clause-misses g c = c.in-Err.ensures.misses
+
+pub returns-then-not-ready-clause-marks : goal.returns-then-not-ready-clause-marks
+returns-then-not-ready-clause-marks g c = c.in-Ok.ensures.marks
+
+pub returns-then-blocks-eq0-clause-marks : goal.returns-then-blocks-eq0-clause-marks
+returns-then-blocks-eq0-clause-marks g c = c.in-Ok.ensures.marks
+
+pub returns-in-Err-clear_run-clause-marks : goal.returns-in-Err-clear_run-clause-marks
+returns-in-Err-clear_run-clause-marks g c = c.in-Ok.ensures.marks
+
+pub returns-in-Err-clear_run-clause-misses : goal.returns-in-Err-clear_run-clause-misses
+returns-in-Err-clear_run-clause-misses g c = tt
+
+pub returns-clause-marks : goal.returns-clause-marks
+returns-clause-marks g c = marks_then c.args.vol c.args.core.now.inner.unsure c.ready_group.new.core.inner.unsure c.keep_log.new.core.inner.unsure c.keep_log.result c.in-Ok.ensures.marks c.keep_log.ensures.marks
+
+pub returns-clause-misses : goal.returns-clause-misses
+returns-clause-misses g c = c.keep_log.ensures.misses

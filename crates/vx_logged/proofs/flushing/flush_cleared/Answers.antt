@@ -26,6 +26,7 @@ use Rattle.vx_logged.proofs.KeptLemmas.{both_kept, both_later, kept_by, log_late
 use Rattle.std.proofs.lemmas.Bool.{cases_lt}
 use Rattle.vx_config.specs.Table.{greatest}
 use Rattle.vx_kept.proofs.Chosen.{active_volumes}
+use Rattle.vx_group.proofs.UnsureLemmas.{gives_faults, misses_faults, unsure_then}
 use Rattle.vx_logged.proofs.flushing.flush_cleared.Goals as goal
 
 pub returns-in-Err-clause-log : goal.returns-in-Err-clause-log
@@ -383,3 +384,39 @@ returns-in-Err-clear_group-clause-kept g c = λ was. tt
 
 pub returns-in-Err-clear_group-clause-said : goal.returns-in-Err-clear_group-clause-said
 returns-in-Err-clear_group-clause-said g c = λ is some. tt
+
+pub returns-in-Err-clause-marks : goal.returns-in-Err-clause-marks
+returns-in-Err-clause-marks g c = c.in-Err.ensures.marks
+
+pub returns-in-Err-clause-gives_up : goal.returns-in-Err-clause-gives_up
+returns-in-Err-clause-gives_up g c = gives_faults c.args.vol c.args.core.now.inner c.flush_group.new.core.inner (g.S.Shelf.meaning c.args.shelf.now) (g.S.Shelf.meaning c.flush_group.new.shelf) {T = Unit {0}} (Err c.in-Err.error) c.in-Err.ensures.gave_up
+
+pub returns-then-not-sure-clause-marks : goal.returns-then-not-sure-clause-marks
+returns-then-not-sure-clause-marks g c = c.in-Ok.ensures.marks
+
+pub returns-then-not-sure-clause-gives_up : goal.returns-then-not-sure-clause-gives_up
+returns-then-not-sure-clause-gives_up g c = tt
+
+pub returns-in-Err-keep_fallen-clause-marks : goal.returns-in-Err-keep_fallen-clause-marks
+returns-in-Err-keep_fallen-clause-marks g c = unsure_then c.args.vol c.args.core.now.inner.unsure c.flush_group.new.core.inner.unsure c.keep_fallen.new.core.inner.unsure c.in-Err-keep_fallen.refused c.in-Ok.ensures.marks c.in-Err-keep_fallen.ensures.marks
+
+pub returns-in-Err-keep_fallen-clause-gives_up : goal.returns-in-Err-keep_fallen-clause-gives_up
+returns-in-Err-keep_fallen-clause-gives_up g c = misses_faults {T = Bool} c.args.vol c.args.core.now.inner.config c.keep_fallen.new.core.inner (g.S.Shelf.meaning c.args.shelf.now) (g.S.Shelf.meaning c.keep_fallen.new.shelf) c.in-Err-keep_fallen.refused c.in-Err-keep_fallen.ensures.misses
+
+pub returns-then-not-done-clause-marks : goal.returns-then-not-done-clause-marks
+returns-then-not-done-clause-marks g c = c.in-Ok-keep_fallen.ensures.marks ∙ c.in-Ok.ensures.marks
+
+pub returns-then-not-done-clause-gives_up : goal.returns-then-not-done-clause-gives_up
+returns-then-not-done-clause-gives_up g c = tt
+
+pub returns-in-Ok-clear_group-clause-marks : goal.returns-in-Ok-clear_group-clause-marks
+returns-in-Ok-clear_group-clause-marks g c = c.in-Ok-clear_group.ensures.marks ∙ (c.in-Ok-keep_fallen.ensures.marks ∙ c.in-Ok.ensures.marks)
+
+pub returns-in-Ok-clear_group-clause-gives_up : goal.returns-in-Ok-clear_group-clause-gives_up
+returns-in-Ok-clear_group-clause-gives_up g c = tt
+
+pub returns-in-Err-clear_group-clause-marks : goal.returns-in-Err-clear_group-clause-marks
+returns-in-Err-clear_group-clause-marks g c = unsure_then c.args.vol c.args.core.now.inner.unsure c.keep_fallen.new.core.inner.unsure c.clear_group.new.core.inner.unsure c.in-Err-clear_group.error (c.in-Ok-keep_fallen.ensures.marks ∙ c.in-Ok.ensures.marks) c.in-Err-clear_group.ensures.marks
+
+pub returns-in-Err-clear_group-clause-gives_up : goal.returns-in-Err-clear_group-clause-gives_up
+returns-in-Err-clear_group-clause-gives_up g c = misses_faults {T = Bool} c.args.vol c.args.core.now.inner.config c.clear_group.new.core.inner (g.S.Shelf.meaning c.args.shelf.now) (g.S.Shelf.meaning c.clear_group.new.shelf) c.in-Err-clear_group.error c.in-Err-clear_group.ensures.misses

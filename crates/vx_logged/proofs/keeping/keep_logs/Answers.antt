@@ -1,5 +1,5 @@
 -- Both logs of a volume, each committed as lost where it is wanted.
-use Rattle.std.proofs.Common.{◌≡◌, Bool, true, false}
+use Rattle.std.proofs.Common.{◌≡◌, Bool, true, false, ◌∙◌}
 use Rattle.std.specs.Prelude.{Err}
 use Rattle.vx_disk.specs.Shelf.{Nothing}
 use Rattle.vx_disk.proofs.Causing.{Cause_both}
@@ -13,6 +13,7 @@ use Rattle.vx_group.proofs.LoseLemmas.{then_along}
 use Rattle.vx_group.proofs.UnitLemmas.{then_units}
 use Rattle.vx_group.proofs.FindingLemmas.{then_group}
 use Rattle.vx_logged.proofs.GoneLogs.{trusts_then}
+use Rattle.vx_group.proofs.UnsureLemmas.{unsure_then}
 use Rattle.vx_logged.proofs.keeping.keep_logs.Goals as goal
 
 pub returns-in-Ok-keep_map-clause-goes : goal.returns-in-Ok-keep_map-clause-goes
@@ -96,3 +97,21 @@ returns-then-not-done-clause-spent g c =
 pub returns-in-Ok-keep_map-clause-spent : goal.returns-in-Ok-keep_map-clause-spent
 returns-in-Ok-keep_map-clause-spent g c =
     λ is. absurd (let clash : true ≡ false = is in cc)
+
+pub returns-in-Err-clause-marks : goal.returns-in-Err-clause-marks
+returns-in-Err-clause-marks g c = c.in-Err.ensures.marks
+
+pub returns-in-Err-clause-misses : goal.returns-in-Err-clause-misses
+returns-in-Err-clause-misses g c = c.in-Err.ensures.misses
+
+pub returns-then-not-done-clause-marks : goal.returns-then-not-done-clause-marks
+returns-then-not-done-clause-marks g c = c.in-Ok.ensures.marks
+
+pub returns-in-Ok-keep_map-clause-marks : goal.returns-in-Ok-keep_map-clause-marks
+returns-in-Ok-keep_map-clause-marks g c = c.in-Ok-keep_map.ensures.marks ∙ c.in-Ok.ensures.marks
+
+pub returns-in-Err-keep_map-clause-marks : goal.returns-in-Err-keep_map-clause-marks
+returns-in-Err-keep_map-clause-marks g c = unsure_then c.args.vol c.args.core.now.inner.unsure c.keep_log.new.core.inner.unsure c.keep_map.new.core.inner.unsure c.in-Err-keep_map.error c.in-Ok.ensures.marks c.in-Err-keep_map.ensures.marks
+
+pub returns-in-Err-keep_map-clause-misses : goal.returns-in-Err-keep_map-clause-misses
+returns-in-Err-keep_map-clause-misses g c = c.in-Err-keep_map.ensures.misses

@@ -171,3 +171,9 @@ returns-then-core-clause-few g c = omega arith
 
 pub returns-clause-few : goal.returns-clause-few
 returns-clause-few g c = c.lose_group.ensures.few
+
+pub returns-clause-marks : goal.returns-clause-marks
+returns-clause-marks g c = c.lose_group.ensures.marks
+
+pub returns-clause-misses : goal.returns-clause-misses
+returns-clause-misses g c = c.lose_group.ensures.misses

@@ -25,6 +25,7 @@ use Rattle.vx_group.proofs.LoseLemmas.{along_same, then_along}
 use Rattle.vx_group.proofs.FindingLemmas.{then_group}
 use Rattle.vx_logged.proofs.GoneLogs.{inner_places, trusts_in, trusts_then}
 use Rattle.vx_grouplogs.proofs.GoneLemmas.{drop_before, drop_behind, drop_same}
+use Rattle.vx_group.proofs.UnsureLemmas.{marks_then}
 use Rattle.vx_logged.proofs.marking.mark_group.Goals as goal
 
 pub guard_run-requires-clause-checked : goal.guard_run-requires-clause-checked
@@ -334,3 +335,24 @@ returns-in-Err-guard_run-clause-free g c = tt
 
 pub returns-clause-free : goal.returns-clause-free
 returns-clause-free g c = if_ok_any c.keep_logs.result (λ (done : Bool) is. c.keep_logs.ensures.finds.free (c.in-Ok.ensures.none c.if-not-ready.false))
+
+pub returns-in-Err-clause-marks : goal.returns-in-Err-clause-marks
+returns-in-Err-clause-marks g c = c.in-Err.ensures.marks
+
+pub returns-in-Err-clause-misses : goal.returns-in-Err-clause-misses
+returns-in-Err-clause-misses g c = c.in-Err.ensures.misses
+
+pub returns-then-not-ready-clause-marks : goal.returns-then-not-ready-clause-marks
+returns-then-not-ready-clause-marks g c = c.in-Ok.ensures.marks
+
+pub returns-in-Err-guard_run-clause-marks : goal.returns-in-Err-guard_run-clause-marks
+returns-in-Err-guard_run-clause-marks g c = c.in-Ok.ensures.marks
+
+pub returns-in-Err-guard_run-clause-misses : goal.returns-in-Err-guard_run-clause-misses
+returns-in-Err-guard_run-clause-misses g c = tt
+
+pub returns-clause-marks : goal.returns-clause-marks
+returns-clause-marks g c = marks_then c.args.vol c.args.core.now.inner.unsure c.ready_group.new.core.inner.unsure c.keep_logs.new.core.inner.unsure c.keep_logs.result c.in-Ok.ensures.marks c.keep_logs.ensures.marks
+
+pub returns-clause-misses : goal.returns-clause-misses
+returns-clause-misses g c = c.keep_logs.ensures.misses

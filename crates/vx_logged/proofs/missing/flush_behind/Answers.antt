@@ -21,6 +21,7 @@ use Rattle.vx_logged.proofs.FallenLemmas.{fell_all, fell_some, off_less, run_les
 use Rattle.vx_logged.proofs.GoneLogs.{trusts_less, trusts_then}
 use Rattle.vx_logged.proofs.HoldsLemmas.{fell_still, fewer_only, inner_count, less_hold, narrow_inner, off_any, only_fewer}
 use Rattle.vx_logged.proofs.StandLemmas.{flushed_then, others_then, narrowed_then}
+use Rattle.vx_group.proofs.UnsureLemmas.{marks_then, missed_faults}
 use Rattle.vx_logged.proofs.missing.flush_behind.Goals as goal
 
 pub flush_cleared-requires-clause-log : goal.flush_cleared-requires-clause-log
@@ -162,3 +163,15 @@ returns-clause-kept g c = λ was. c.miss_fallen.ensures.kept (c.in-Ok.ensures.ke
 
 pub returns-clause-said : goal.returns-clause-said
 returns-clause-said g c = λ is some. c.miss_fallen.ensures.kept (c.in-Ok.ensures.said is some)
+
+pub returns-in-Err-clause-marks : goal.returns-in-Err-clause-marks
+returns-in-Err-clause-marks g c = c.in-Err.ensures.marks
+
+pub returns-in-Err-clause-gives_up : goal.returns-in-Err-clause-gives_up
+returns-in-Err-clause-gives_up g c = c.in-Err.ensures.gives_up
+
+pub returns-clause-marks : goal.returns-clause-marks
+returns-clause-marks g c = marks_then c.args.vol c.args.core.now.inner.unsure c.flush_cleared.new.core.inner.unsure c.miss_fallen.new.core.inner.unsure c.miss_fallen.result c.in-Ok.ensures.marks c.miss_fallen.ensures.marks
+
+pub returns-clause-gives_up : goal.returns-clause-gives_up
+returns-clause-gives_up g c = missed_faults c.args.vol c.args.core.now.inner.config c.miss_fallen.new.core.inner (g.S.Shelf.meaning c.args.shelf.now) (g.S.Shelf.meaning c.miss_fallen.new.shelf) c.miss_fallen.result c.miss_fallen.ensures.misses

@@ -18,6 +18,7 @@ use Rattle.vx_logged.proofs.GoneLogs.{trusts_in}
 use Rattle.vx_logged.proofs.HoldsLemmas.{either_way, inner_count, none_hold, off_any, these_hold}
 use Rattle.vx_logged.proofs.StandLemmas.{cause_to, each_same, others_each, same_only, narrowed_same}
 use Rattle.vx_logged.proofs.KeptLemmas.{kept_said}
+use Rattle.vx_group.proofs.UnsureLemmas.{misses_to}
 use Rattle.vx_logged.proofs.missing.miss_fallen.Goals as goal
 
 pub mark_group-requires-clause-some : goal.mark_group-requires-clause-some
@@ -149,3 +150,12 @@ returns-in-Ok-clause-kept g c = λ was. kept_said c.mark_group.new.core c.args.v
 
 pub returns-in-Err-clause-kept : goal.returns-in-Err-clause-kept
 returns-in-Err-clause-kept g c = λ was. tt
+
+pub returns-in-Ok-clause-marks : goal.returns-in-Ok-clause-marks
+returns-in-Ok-clause-marks g c = c.in-Ok.ensures.marks
+
+pub returns-in-Err-clause-marks : goal.returns-in-Err-clause-marks
+returns-in-Err-clause-marks g c = c.in-Err.ensures.marks
+
+pub returns-in-Err-clause-misses : goal.returns-in-Err-clause-misses
+returns-in-Err-clause-misses g c = misses_to {T = Bool} c.mark_group.new.core.inner c.in-Err.error c.in-Err.ensures.misses

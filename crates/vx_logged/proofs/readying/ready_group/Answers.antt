@@ -16,6 +16,9 @@ use Rattle.vx_kept.proofs.Chosen.{active_volumes}
 use Rattle.vx_group.proofs.FindingLemmas.{still_group, as_finds}
 use Rattle.vx_group.proofs.TrustStillLemmas.{same_logs}
 use Rattle.vx_logged.proofs.GoneLogs.{ready_spent}
+use Rattle.vx_group.proofs.UnsureMarks.{error_unsure, then_unsure}
+use Rattle.vx_group.proofs.SettleCalls.{as_told}
+use Rattle.vx_group.proofs.UnsureLemmas.{misses_by, unsure_then}
 use Rattle.vx_logged.proofs.readying.ready_group.Goals as goal
 
 pub returns-then-is_down-clause-logs : goal.returns-then-is_down-clause-logs
@@ -95,6 +98,8 @@ pub returns-in-Err-clause-finds : goal.returns-in-Err-clause-finds
 returns-in-Err-clause-finds g c =
     record {
       core = as_finds (wide c.args.core.now) (wide c.release.new.core) _ (g.S.Shelf.meaning c.args.shelf.now) (g.S.Shelf.meaning c.release.new.shelf) refl refl refl c.release.ensures.finds.core;
+      settles = as_told (wide c.args.core.now) (wide c.release.new.core) _ (g.S.Shelf.meaning c.args.shelf.now) (g.S.Shelf.meaning c.release.new.shelf) refl refl c.release.ensures.finds.settles;
+      unsure = then_unsure c.args.core.now.inner.unsure c.release.new.core.inner.unsure c.give_up.new.unsure c.release.ensures.finds.unsure (error_unsure c.in-Err.error c.args.vol c.release.new.core.inner.unsure c.give_up.new.unsure c.give_up.ensures.marks);
       free = c.release.ensures.finds.free;
     }
 
@@ -127,3 +132,12 @@ returns-in-Ok-clause-quiet g c = λ none. tt
 
 pub returns-in-Err-clause-quiet : goal.returns-in-Err-clause-quiet
 returns-in-Err-clause-quiet g c = λ none. absurd (let clash : false ≡ true = c.in-Err.ensures.idle none in cc)
+
+pub returns-in-Ok-clause-marks : goal.returns-in-Ok-clause-marks
+returns-in-Ok-clause-marks g c = c.release.ensures.narrows.unsure
+
+pub returns-in-Err-clause-marks : goal.returns-in-Err-clause-marks
+returns-in-Err-clause-marks g c = unsure_then c.args.vol c.args.core.now.inner.unsure c.release.new.core.inner.unsure c.give_up.new.unsure c.in-Err.error c.release.ensures.narrows.unsure c.give_up.ensures.marks
+
+pub returns-in-Err-clause-misses : goal.returns-in-Err-clause-misses
+returns-in-Err-clause-misses g c = misses_by {T = Unit {0}} c.release.new.core.inner (g.S.Shelf.meaning c.args.shelf.now) (g.S.Shelf.meaning c.release.new.shelf) c.in-Err.error c.in-Err.ensures.missed c.in-Err.ensures.cause

@@ -133,3 +133,15 @@ returns-clause-kept g c = λ was. by_spent (λ (k : Logs). AreKept c.flush_clear
 
 pub returns-clause-said : goal.returns-clause-said
 returns-clause-said g c = λ is some. by_spent (λ (k : Logs). AreKept c.flush_cleared.new.core c.args.vol k) c.flush_cleared.new.logs c.drop_spent.new.logs c.drop_spent.ensures.drl c.drop_spent.ensures.kept (c.in-Ok.ensures.said is some) (λ spent. record { so = inr spent })
+
+pub returns-in-Err-clause-marks : goal.returns-in-Err-clause-marks
+returns-in-Err-clause-marks g c = c.in-Err.ensures.marks
+
+pub returns-in-Err-clause-gives_up : goal.returns-in-Err-clause-gives_up
+returns-in-Err-clause-gives_up g c = c.in-Err.ensures.gives_up
+
+pub returns-clause-marks : goal.returns-clause-marks
+returns-clause-marks g c = c.in-Ok.ensures.marks
+
+pub returns-clause-gives_up : goal.returns-clause-gives_up
+returns-clause-gives_up g c = tt

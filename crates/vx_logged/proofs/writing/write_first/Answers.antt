@@ -1,5 +1,5 @@
 -- A write that is marked first.
-use Rattle.std.proofs.Common.{◌≡◌, ◌∙◌, inl, inr, ◌/◌, true, false, length, refl, sym, arith}
+use Rattle.std.proofs.Common.{◌≡◌, ◌∙◌, inl, inr, ◌/◌, true, false, length, refl, sym, arith, Bool}
 use Rattle.std.proofs.lemmas.Bool.{not-false, not-true}
 use Rattle.std.specs.Prelude.{not}
 use Rattle.vx_disk.specs.Shelf.{Written}
@@ -23,6 +23,7 @@ use Rattle.vx_group.proofs.LoseLemmas.{then_along}
 use Rattle.vx_group.proofs.FindingLemmas.{then_group}
 use Rattle.vx_logged.proofs.GoneLogs.{trusts_in, trusts_then}
 use Rattle.vx_grouplogs.proofs.GoneLemmas.{drop_before, drop_same}
+use Rattle.vx_group.proofs.UnsureLemmas.{faults_before, gives_faults, marks_then, misses_faults}
 use Rattle.vx_logged.proofs.writing.write_first.Goals as goal
 
 pub mark_group-requires-clause-there : goal.mark_group-requires-clause-there
@@ -259,3 +260,21 @@ pub returns-clause-rests : goal.returns-clause-rests
 returns-clause-rests g c = λ off w p is.
     let none = c.in-Ok.ensures.free (not-false c.in-Ok.done off) in
     sym (c.mark_group.ensures.still w p) ∙ narrow_inner c.mark_group.new.core c.write_group-2.new.core none (c.write_group-2.ensures.finds.free none) (narrowed_acts _ c.mark_group.new.core c.write_group-2.new.core (g.S.Shelf.meaning c.mark_group.new.shelf) (g.S.Shelf.meaning c.write_group-2.new.shelf) c.write_group-2.ensures.acts) w p is
+
+pub returns-then-stopped-clause-marks : goal.returns-then-stopped-clause-marks
+returns-then-stopped-clause-marks g c = c.write_group.ensures.marks
+
+pub returns-then-stopped-clause-gives_up : goal.returns-then-stopped-clause-gives_up
+returns-then-stopped-clause-gives_up g c = gives_faults c.args.vol c.args.core.now.inner c.write_group.new.core.inner (g.S.Shelf.meaning c.args.shelf.now) (g.S.Shelf.meaning c.write_group.new.shelf) c.write_group.result c.write_group.ensures.gave_up
+
+pub returns-in-Err-clause-marks : goal.returns-in-Err-clause-marks
+returns-in-Err-clause-marks g c = c.in-Err.ensures.marks
+
+pub returns-in-Err-clause-gives_up : goal.returns-in-Err-clause-gives_up
+returns-in-Err-clause-gives_up g c = misses_faults {T = Bool} c.args.vol c.args.core.now.inner.config c.mark_group.new.core.inner (g.S.Shelf.meaning c.args.shelf.now) (g.S.Shelf.meaning c.mark_group.new.shelf) c.in-Err.error c.in-Err.ensures.misses
+
+pub returns-clause-marks : goal.returns-clause-marks
+returns-clause-marks g c = marks_then c.args.vol c.args.core.now.inner.unsure c.mark_group.new.core.inner.unsure c.write_group-2.new.core.inner.unsure c.write_group-2.result c.in-Ok.ensures.marks c.write_group-2.ensures.marks
+
+pub returns-clause-gives_up : goal.returns-clause-gives_up
+returns-clause-gives_up g c = faults_before c.args.vol c.args.core.now.inner.config c.mark_group.new.core.inner.config (g.S.Shelf.meaning c.args.shelf.now) (g.S.Shelf.meaning c.mark_group.new.shelf) (c.mark_group.ensures.loses.loses.lies c.args.vol) (c.mark_group.ensures.still c.args.vol) c.mark_group.ensures.loses.rises c.write_group-2.new.core.inner (g.S.Shelf.meaning c.write_group-2.new.shelf) c.write_group-2.result (gives_faults c.args.vol c.mark_group.new.core.inner c.write_group-2.new.core.inner (g.S.Shelf.meaning c.mark_group.new.shelf) (g.S.Shelf.meaning c.write_group-2.new.shelf) c.write_group-2.result c.write_group-2.ensures.gave_up)

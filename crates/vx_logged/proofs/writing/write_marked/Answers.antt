@@ -26,6 +26,7 @@ use Rattle.vx_group.proofs.LoseLemmas.{along_same, then_along}
 use Rattle.vx_group.proofs.FindingLemmas.{then_group}
 use Rattle.vx_logged.proofs.GoneLogs.{drops_refused, drops_so, drops_spent, no_map, trusts_less, trusts_then}
 use Rattle.vx_grouplogs.proofs.GoneLemmas.{drop_then}
+use Rattle.vx_group.proofs.UnsureLemmas.{down_faults, down_marks, marks_fell, misses_faults, or_down, unsure_then}
 use Rattle.vx_logged.proofs.writing.write_marked.Goals as goal
 
 pub mark_fallen-requires-clause-some : goal.mark_fallen-requires-clause-some
@@ -349,3 +350,33 @@ returns-then-not-done-clause-free g c = λ off. inr refl
 
 pub returns-else-not-done-clause-free : goal.returns-else-not-done-clause-free
 returns-else-not-done-clause-free g c = λ off. inl (c.in-Ok-mark_fallen.ensures.free c.if-not-done.false)
+
+pub returns-in-Err-clause-unsure : goal.returns-in-Err-clause-unsure
+returns-in-Err-clause-unsure g c = down_marks {T = Unit {0}} c.args.vol c.args.core.now.inner.unsure c.write_first.new.core.inner.unsure c.in-Err.error c.miss_refused.result (or_down (g.S.Shelf.meaning c.miss_refused.new.shelf) c.in-Err.error c.miss_refused.result c.miss_refused.ensures.same c.miss_refused.ensures.fell) (marks_fell c.args.vol c.args.core.now.inner.unsure c.write_first.new.core.inner.unsure {T = Unit {0}} (Err c.in-Err.error) c.in-Err.ensures.marks)
+
+pub returns-in-Err-clause-gives_up : goal.returns-in-Err-clause-gives_up
+returns-in-Err-clause-gives_up g c = down_faults {T = Unit {0}} c.args.vol c.args.core.now.inner.config c.write_first.new.core.inner (g.S.Shelf.meaning c.args.shelf.now) (g.S.Shelf.meaning c.write_first.new.shelf) (g.S.Shelf.meaning c.miss_refused.new.shelf) c.in-Err.error c.miss_refused.result c.miss_refused.ensures.below.faults (or_down (g.S.Shelf.meaning c.miss_refused.new.shelf) c.in-Err.error c.miss_refused.result c.miss_refused.ensures.same c.miss_refused.ensures.fell) c.in-Err.ensures.gives_up
+
+pub returns-then-stopped-clause-unsure : goal.returns-then-stopped-clause-unsure
+returns-then-stopped-clause-unsure g c = c.in-Ok.ensures.marks
+
+pub returns-then-stopped-clause-gives_up : goal.returns-then-stopped-clause-gives_up
+returns-then-stopped-clause-gives_up g c = tt
+
+pub returns-then-not-done-clause-unsure : goal.returns-then-not-done-clause-unsure
+returns-then-not-done-clause-unsure g c = c.in-Ok-mark_fallen.ensures.marks ∙ c.in-Ok.ensures.marks
+
+pub returns-then-not-done-clause-gives_up : goal.returns-then-not-done-clause-gives_up
+returns-then-not-done-clause-gives_up g c = tt
+
+pub returns-else-not-done-clause-unsure : goal.returns-else-not-done-clause-unsure
+returns-else-not-done-clause-unsure g c = c.in-Ok-mark_fallen.ensures.marks ∙ c.in-Ok.ensures.marks
+
+pub returns-else-not-done-clause-gives_up : goal.returns-else-not-done-clause-gives_up
+returns-else-not-done-clause-gives_up g c = tt
+
+pub returns-in-Err-mark_fallen-clause-unsure : goal.returns-in-Err-mark_fallen-clause-unsure
+returns-in-Err-mark_fallen-clause-unsure g c = down_marks {T = Unit {0}} c.args.vol c.args.core.now.inner.unsure c.mark_fallen.new.core.inner.unsure c.in-Err-mark_fallen.error c.miss_refused-in-Err-mark_fallen.result (or_down (g.S.Shelf.meaning c.miss_refused-in-Err-mark_fallen.new.shelf) c.in-Err-mark_fallen.error c.miss_refused-in-Err-mark_fallen.result c.miss_refused-in-Err-mark_fallen.ensures.same c.miss_refused-in-Err-mark_fallen.ensures.fell) (marks_fell c.args.vol c.args.core.now.inner.unsure c.mark_fallen.new.core.inner.unsure {T = Unit {0}} (Err c.in-Err-mark_fallen.error) (unsure_then c.args.vol c.args.core.now.inner.unsure c.write_first.new.core.inner.unsure c.mark_fallen.new.core.inner.unsure c.in-Err-mark_fallen.error c.in-Ok.ensures.marks c.in-Err-mark_fallen.ensures.marks))
+
+pub returns-in-Err-mark_fallen-clause-gives_up : goal.returns-in-Err-mark_fallen-clause-gives_up
+returns-in-Err-mark_fallen-clause-gives_up g c = down_faults {T = Unit {0}} c.args.vol c.args.core.now.inner.config c.mark_fallen.new.core.inner (g.S.Shelf.meaning c.args.shelf.now) (g.S.Shelf.meaning c.mark_fallen.new.shelf) (g.S.Shelf.meaning c.miss_refused-in-Err-mark_fallen.new.shelf) c.in-Err-mark_fallen.error c.miss_refused-in-Err-mark_fallen.result c.miss_refused-in-Err-mark_fallen.ensures.below.faults (or_down (g.S.Shelf.meaning c.miss_refused-in-Err-mark_fallen.new.shelf) c.in-Err-mark_fallen.error c.miss_refused-in-Err-mark_fallen.result c.miss_refused-in-Err-mark_fallen.ensures.same c.miss_refused-in-Err-mark_fallen.ensures.fell) (misses_faults {T = Bool} c.args.vol c.args.core.now.inner.config c.mark_fallen.new.core.inner (g.S.Shelf.meaning c.args.shelf.now) (g.S.Shelf.meaning c.mark_fallen.new.shelf) c.in-Err-mark_fallen.error c.in-Err-mark_fallen.ensures.misses)

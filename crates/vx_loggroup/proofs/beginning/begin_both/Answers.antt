@@ -12,6 +12,7 @@ use Rattle.vx_loggroup.proofs.NewLemmas.{news_start}
 use Rattle.vx_loggroup.proofs.OpenLemmas.{alike_reads}
 use Rattle.vx_loggroup.proofs.KeepingCalls.{first_has}
 use Rattle.vx_loggroup.proofs.SureLemmas.{since_then}
+use Rattle.vx_group.proofs.UnsureLemmas.{marks_then}
 use Rattle.vx_loggroup.proofs.beginning.begin_both.Goals as goal
 
 pub begin_fmr-requires-clause-up : goal.begin_fmr-requires-clause-up
@@ -55,3 +56,15 @@ returns-in-Err-clause-since g c = c.begin_drl.ensures.since
 
 pub returns-clause-since : goal.returns-clause-since
 returns-clause-since g c = since_then c.args.vol c.begin_drl.new.one c.begin_fmr.new.one c.args.core.now c.begin_drl.new.core c.begin_fmr.new.core (λ log has. first_has (region_count (wide c.begin_drl.new.core).config c.args.vol) log c.begin_drl.new.one c.begin_fmr.new.one c.begin_fmr.ensures.first has) c.begin_drl.ensures.since c.begin_fmr.ensures.since
+
+pub returns-in-Err-clause-unsure : goal.returns-in-Err-clause-unsure
+returns-in-Err-clause-unsure g c = c.in-Err.ensures.unsure
+
+pub returns-in-Err-clause-misses : goal.returns-in-Err-clause-misses
+returns-in-Err-clause-misses g c = c.in-Err.ensures.misses
+
+pub returns-clause-unsure : goal.returns-clause-unsure
+returns-clause-unsure g c = marks_then c.args.vol c.args.core.now.inner.unsure c.begin_drl.new.core.inner.unsure c.begin_fmr.new.core.inner.unsure c.begin_fmr.result c.in-Ok.ensures.unsure c.begin_fmr.ensures.unsure
+
+pub returns-clause-misses : goal.returns-clause-misses
+returns-clause-misses g c = c.begin_fmr.ensures.misses

@@ -39,3 +39,9 @@ returns-then-not-is_waiting-clause-since g c = since_same c.args.vol c.args.one.
 
 pub returns-clause-since : goal.returns-clause-since
 returns-clause-since g c = c.begin_map.ensures.since
+
+pub returns-clause-unsure : goal.returns-clause-unsure
+returns-clause-unsure g c = c.begin_map.ensures.unsure
+
+pub returns-clause-misses : goal.returns-clause-misses
+returns-clause-misses g c = c.begin_map.ensures.misses

@@ -126,3 +126,9 @@ returns-then-is_none-clause-since g c = since_same c.args.vol c.begin_run.new.lo
 
 pub returns-clause-since : goal.returns-clause-since
 returns-clause-since g c = since_told c.args.vol Drl c.args.core.now c.trust_first.new.core c.begin_run.new.logs (g.S.Shelf.meaning c.begin_run.new.shelf) (g.S.Shelf.meaning c.trust_first.new.shelf) c.trust_first.ensures.acts (c.is_none.ensures ∙ ap not c.if-is_none.false)
+
+pub returns-clause-unsure : goal.returns-clause-unsure
+returns-clause-unsure g c = c.trust_first.ensures.unsure
+
+pub returns-clause-misses : goal.returns-clause-misses
+returns-clause-misses g c = c.trust_first.ensures.misses

@@ -13,7 +13,7 @@ use Rattle.vx_group.proofs.LoseLemmas.{along_same}
 use Rattle.vx_group.proofs.Standing.{sound_of}
 use Rattle.vx_group.proofs.TrustingLemmas.{trusting_active}
 use Rattle.vx_group.proofs.UnitLemmas.{acts_units, goes_units}
-use Rattle.vx_grouplogs.specs.On.{ReadsOne}
+use Rattle.vx_group.specs.Settles.{ReadsOne}
 use Rattle.vx_grouplogs.proofs.MapLemmas.{goes_logs}
 use Rattle.vx_groupmaps.specs.Missing.{none_spared}
 use Rattle.vx_kept.specs.Keeping.{AllOn}
@@ -122,3 +122,9 @@ returns-then-is_none-clause-since g c = since_same c.args.vol c.begin_maps.new.l
 
 pub returns-clause-since : goal.returns-clause-since
 returns-clause-since g c = since_told c.args.vol Fmr c.args.core.now c.trust_first.new.core c.begin_maps.new.logs (g.S.Shelf.meaning c.begin_maps.new.shelf) (g.S.Shelf.meaning c.trust_first.new.shelf) c.trust_first.ensures.acts (c.is_none.ensures ∙ ap not c.if-is_none.false)
+
+pub returns-clause-unsure : goal.returns-clause-unsure
+returns-clause-unsure g c = c.trust_first.ensures.unsure
+
+pub returns-clause-misses : goal.returns-clause-misses
+returns-clause-misses g c = c.trust_first.ensures.misses

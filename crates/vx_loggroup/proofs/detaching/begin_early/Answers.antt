@@ -13,7 +13,7 @@ use Rattle.vx_group.proofs.LoseLemmas.{along_same, then_along}
 use Rattle.vx_group.proofs.RegainLemmas.{all_holds}
 use Rattle.vx_group.proofs.TrustLemmas.{err_from, ok_from}
 use Rattle.vx_group.proofs.UnitLemmas.{goes_units, then_units}
-use Rattle.vx_grouplogs.specs.On.{ReadsOne}
+use Rattle.vx_group.specs.Settles.{ReadsOne}
 use Rattle.vx_groupmaps.specs.Missing.{OnMaps}
 use Rattle.vx_logged.proofs.StandLemmas.{config_is, narrowed_then, maps_idle}
 use Rattle.vx_model.specs.declared.no.No.{No}

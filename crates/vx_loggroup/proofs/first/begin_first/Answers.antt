@@ -1,5 +1,5 @@
 -- `begin_first`: its clauses; what its calls ask.
-use Rattle.std.proofs.Common.{false, ap, refl, arith}
+use Rattle.std.proofs.Common.{false, ap, refl, arith, Bool}
 use Rattle.vx_config.specs.Checks.{blocks_of}
 use Rattle.vx_disk.specs.Shelf.{Nothing}
 use Rattle.vx_disk.proofs.Causing.{Cause_both}
@@ -17,6 +17,7 @@ use Rattle.vx_loggroup.proofs.NewLemmas.{list_same, list_set, news_same, news_st
 use Rattle.vx_loggroup.proofs.SetLemmas.{item_of}
 use Rattle.vx_loggroup.specs.Keeping.{logs_at}
 use Rattle.vx_loggroup.proofs.SureLemmas.{since_less, since_set, since_then}
+use Rattle.vx_group.proofs.UnsureLemmas.{marks_then, misses_to}
 use Rattle.vx_loggroup.proofs.first.begin_first.Goals as goal
 
 pub index_mut-requires : goal.index_mut-requires
@@ -131,3 +132,21 @@ returns-then-blocks_of-eq0-clause-since g c = since_less c.args.vol (logs_at c.a
 pub returns-clause-since : goal.returns-clause-since
 returns-clause-since g c = since_set c.args.vol c.args.logs.now.items c.begin_both.new.one c.args.core.now c.begin_both.new.core (index_low c.args.core.now c.args.logs.now.items c.args.alike.now false (g.S.Shelf.meaning c.args.shelf.now) c.args.vol c.requires.stands c.requires.there)
     (since_then c.args.vol c.begin_both.new.one c.begin_both.new.one c.args.core.now c.ready_group.new.core c.begin_both.new.core (λ log has. has) (since_less c.args.vol c.begin_both.new.one c.args.core.now c.ready_group.new.core c.ready_group.ensures.narrow) c.begin_both.ensures.since)
+
+pub returns-in-Err-clause-unsure : goal.returns-in-Err-clause-unsure
+returns-in-Err-clause-unsure g c = c.in-Err.ensures.marks
+
+pub returns-in-Err-clause-misses : goal.returns-in-Err-clause-misses
+returns-in-Err-clause-misses g c = misses_to {T = Bool} c.ready_group.new.core.inner c.in-Err.error c.in-Err.ensures.misses
+
+pub returns-then-not-ready-clause-unsure : goal.returns-then-not-ready-clause-unsure
+returns-then-not-ready-clause-unsure g c = c.in-Ok.ensures.marks
+
+pub returns-then-blocks_of-eq0-clause-unsure : goal.returns-then-blocks_of-eq0-clause-unsure
+returns-then-blocks_of-eq0-clause-unsure g c = c.in-Ok.ensures.marks
+
+pub returns-clause-unsure : goal.returns-clause-unsure
+returns-clause-unsure g c = marks_then c.args.vol c.args.core.now.inner.unsure c.ready_group.new.core.inner.unsure c.begin_both.new.core.inner.unsure c.begin_both.result c.in-Ok.ensures.marks c.begin_both.ensures.unsure
+
+pub returns-clause-misses : goal.returns-clause-misses
+returns-clause-misses g c = c.begin_both.ensures.misses

@@ -1,5 +1,5 @@
 -- `write_fresh`: its clauses; what the calls ask.
-use Rattle.std.proofs.Common.{◌/◌, ◌∙◌, ap, inl, true, false, length, refl, subst, sym, arith, ◌≡◌}
+use Rattle.std.proofs.Common.{◌/◌, ◌∙◌, ap, inl, true, false, length, refl, subst, sym, arith, ◌≡◌, Err}
 use Rattle.vx_disk.specs.Shelf.{Written}
 use Rattle.vx_disk.proofs.Causing.{Cause_both}
 use Rattle.vx_disk.proofs.Runs.{none_written, nothing_then}
@@ -24,6 +24,7 @@ use Rattle.vx_loggroup.proofs.WroteMoves.{first_doubts, run_moves}
 use Rattle.vx_group.proofs.FindingLemmas.{then_group}
 use Rattle.vx_loggroup.proofs.KeepingLemmas.{frames_places, stay_keeps, then_keeps}
 use Rattle.vx_loggroup.proofs.KeepingCalls.{begins_stay}
+use Rattle.vx_group.proofs.UnsureLemmas.{faults_before, fell_then, marks_fell, misses_faults}
 use Rattle.vx_loggroup.proofs.fresh.write_fresh.Goals as goal
 
 pub takes_fresh-requires : goal.takes_fresh-requires
@@ -220,3 +221,21 @@ returns-in-Err-clause-free g c = λ off. tt
 
 pub returns-clause-free : goal.returns-clause-free
 returns-clause-free g c = c.write_whole-2.ensures.free
+
+pub returns-then-not-takes_fresh-clause-unsure : goal.returns-then-not-takes_fresh-clause-unsure
+returns-then-not-takes_fresh-clause-unsure g c = c.write_whole.ensures.unsure
+
+pub returns-then-not-takes_fresh-clause-gives_up : goal.returns-then-not-takes_fresh-clause-gives_up
+returns-then-not-takes_fresh-clause-gives_up g c = c.write_whole.ensures.gives_up
+
+pub returns-in-Err-clause-unsure : goal.returns-in-Err-clause-unsure
+returns-in-Err-clause-unsure g c = marks_fell c.args.vol c.args.core.now.inner.unsure c.begin_first.new.core.inner.unsure {T = Unit {0}} (Err c.in-Err.error) c.in-Err.ensures.unsure
+
+pub returns-in-Err-clause-gives_up : goal.returns-in-Err-clause-gives_up
+returns-in-Err-clause-gives_up g c = misses_faults {T = Unit {0}} c.args.vol c.args.core.now.inner.config c.begin_first.new.core.inner (g.S.Shelf.meaning c.args.shelf.now) (g.S.Shelf.meaning c.begin_first.new.shelf) c.in-Err.error c.in-Err.ensures.misses
+
+pub returns-clause-unsure : goal.returns-clause-unsure
+returns-clause-unsure g c = fell_then c.args.vol c.args.core.now.inner.unsure c.begin_first.new.core.inner.unsure c.write_whole-2.new.core.inner.unsure c.write_whole-2.result c.in-Ok.ensures.unsure c.write_whole-2.ensures.unsure
+
+pub returns-clause-gives_up : goal.returns-clause-gives_up
+returns-clause-gives_up g c = faults_before c.args.vol c.args.core.now.inner.config c.begin_first.new.core.inner.config (g.S.Shelf.meaning c.args.shelf.now) (g.S.Shelf.meaning c.begin_first.new.shelf) (c.begin_first.ensures.begins.loses.loses.lies c.args.vol) (c.begin_first.ensures.begins.still c.args.vol) c.begin_first.ensures.begins.loses.rises c.write_whole-2.new.core.inner (g.S.Shelf.meaning c.write_whole-2.new.shelf) c.write_whole-2.result c.write_whole-2.ensures.gives_up

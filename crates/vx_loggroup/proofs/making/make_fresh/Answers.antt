@@ -206,3 +206,6 @@ returns-in-Ok-make_in-clause-kept g c = subst (λ (ls : List Logs). SureKept c.a
 pub returns-in-Err-make_in-clause-kept : goal.returns-in-Err-make_in-clause-kept
 returns-in-Err-make_in-clause-kept g c = subst (λ (ls : List Logs). SureKept c.args.core.now c.make_in.new.core c.args.logs.now.items ls) (sym (c.pop.ensures.rest ∙ ap (take (vec_len c.push.new.self - 1)) c.in-Ok.ensures.items ∙ take_front c.args.logs.now.items ((record { drl = None; fmr = None }) ∷ []) (vec_len c.push.new.self - 1) (let long = ap length c.in-Ok.ensures.items ∙ long_one c.args.logs.now.items (record { drl = None; fmr = None }) in omega (arith, c.push.new.self.ok, long))))
     (made_sure c.args.core.now c.make_in.new.core c.args.logs.now.items c.args.logs.now.items (g.S.Shelf.meaning c.args.shelf.now) c.requires.stands.group c.make_in.ensures.stays.shape c.requires.stands.many (λ v k low is. is))
+
+pub returns-in-Ok-make_in-clause-begins : goal.returns-in-Ok-make_in-clause-begins
+returns-in-Ok-make_in-clause-begins g c = c.set_alike-in-Ok-make_in.ensures.here

@@ -1,6 +1,6 @@
 -- The loop of `rest_all` over `vol`: what stays true.
-use Rattle.vx_loggroup.proofs.TouchLemmas.{RestsSoFar}
+use Rattle.vx_loggroup.proofs.RestingLemmas.{RestsSoFar}
 use Rattle.vx_loggroup.proofs.resting.rest_all.Given as goal
 
 abbrev pub invariant-loop-vol : goal.invariant-loop-vol
-invariant-loop-vol l = RestsSoFar l.config l.logs.items l.failed l.fn.unsure l.vol l.unsure l.maps
+invariant-loop-vol l = RestsSoFar l.config l.logs.items l.vol l.maps l.drls

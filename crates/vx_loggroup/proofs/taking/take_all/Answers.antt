@@ -39,11 +39,11 @@ pub take_at-requires-clause-plain : goal.take_at-requires-clause-plain
 take_at-requires-clause-plain g c = λ (l : Logs) is. c.requires.plain c.loop-vol.vol l (sym (c.loop-vol.invariant.rest c.loop-vol.vol (omega arith)) ∙ is)
 
 pub take_at-requires-clause-tells : goal.take_at-requires-clause-tells
-take_at-requires-clause-tells g c = λ may.
+take_at-requires-clause-tells g c = λ may up.
     let end = c.len-vol-end.ensures in let test = c.loop-vol-test.true in
     let many = c.requires.stands.many in
     next_tells c.args.core.now c.args.alike.now c.args.good c.args.stopped.now c.args.rested.now c.args.logs.now.items (g.S.Shelf.meaning c.args.shelf.now) c.loop-vol.vol c.loop-vol.logs.items (g.S.Shelf.meaning c.loop-vol.shelf) c.loop-vol.invariant
-    (c.requires.tells c.loop-vol.vol (omega (arith, c.args.logs.now.ok, end, test, many)) (c.may_take-may.ensures.clean may) (c.may_take-may.ensures.maps may))
+    (c.requires.tells c.loop-vol.vol (omega (arith, c.args.logs.now.ok, end, test, many)) (c.may_take-may.ensures.clean may) (c.may_take-may.ensures.maps may)) up
 
 pub loop-vol-preserved : goal.loop-vol-preserved
 loop-vol-preserved g c =

@@ -1,5 +1,6 @@
 -- `take_one`: its clauses; what `load_maps` asks.
 use Rattle.std.proofs.Common.{◌≡◌, ◌∙◌, None, Some, sym, subst, arith}
+use Rattle.vx_group.proofs.CallLemmas.{not_down}
 use Rattle.vx_group.proofs.MendLemmas.{same_Goes}
 use Rattle.vx_grouplogs.proofs.KnowActs.{know_none}
 use Rattle.vx_groupmaps.specs.Missing.{none_spared}
@@ -39,7 +40,7 @@ returns-in-Ok-clause-log g c =
     to_wide c.args.core.now c.args.vol (g.S.Shelf.meaning c.args.shelf.now) (g.S.Shelf.meaning c.load_maps.new.shelf) c.requires.none c.requires.stands c.args.vol (record { drl = c.args.one.now.drl; fmr = c.in-Ok.loaded.fmr })
     (taken_log c.args.core.now.inner.config (inner_sound c.args.core.now c.args.vol (g.S.Shelf.meaning c.args.shelf.now) (g.S.Shelf.meaning c.args.shelf.now) c.requires.none c.requires.stands) c.args.vol
     (let is = c.blocks_of.ensures in let off = c.if-blocks_of-eq0.false in omega (arith, is, off)) (g.S.Shelf.meaning c.args.shelf.now) (g.S.Shelf.meaning c.load_maps.new.shelf) (g.met.S.Shelf.lawful c.args.shelf.now)
-    (inner_fit c.args.core.now c.args.vol (g.S.Shelf.meaning c.args.shelf.now) (g.S.Shelf.meaning c.args.shelf.now) c.requires.none c.requires.stands) c.load_maps.ensures.goes c.requires.tells c.args.one.now
+    (inner_fit c.args.core.now c.args.vol (g.S.Shelf.meaning c.args.shelf.now) (g.S.Shelf.meaning c.args.shelf.now) c.requires.none c.requires.stands) c.load_maps.ensures.goes (c.requires.tells (not_down c.is_down.result (g.S.Shelf.meaning c.args.shelf.now).down c.is_down.ensures c.if-is_down.false)) c.args.one.now
     (to_inner c.args.core.now c.args.vol (g.S.Shelf.meaning c.args.shelf.now) (g.S.Shelf.meaning c.args.shelf.now) c.requires.none c.requires.stands c.args.vol c.args.one.now c.requires.log) c.in-Ok.loaded.fmr c.in-Ok.loaded.gone c.in-Ok.ensures.takes)
 
 pub returns-in-Ok-clause-known : goal.returns-in-Ok-clause-known
@@ -47,7 +48,7 @@ returns-in-Ok-clause-known g c =
     know_wide c.args.core.now c.args.vol (g.S.Shelf.meaning c.args.shelf.now) (g.S.Shelf.meaning c.load_maps.new.shelf) c.requires.none c.requires.stands c.args.vol none_spared (record { drl = c.args.one.now.drl; fmr = c.in-Ok.loaded.fmr })
     (taken_known c.args.core.now.inner.config (inner_sound c.args.core.now c.args.vol (g.S.Shelf.meaning c.args.shelf.now) (g.S.Shelf.meaning c.args.shelf.now) c.requires.none c.requires.stands) c.args.vol
     (let is = c.blocks_of.ensures in let off = c.if-blocks_of-eq0.false in omega (arith, is, off)) (g.S.Shelf.meaning c.args.shelf.now) (g.S.Shelf.meaning c.load_maps.new.shelf) (g.met.S.Shelf.lawful c.args.shelf.now)
-    (inner_fit c.args.core.now c.args.vol (g.S.Shelf.meaning c.args.shelf.now) (g.S.Shelf.meaning c.args.shelf.now) c.requires.none c.requires.stands) c.load_maps.ensures.goes c.requires.tells c.args.one.now
+    (inner_fit c.args.core.now c.args.vol (g.S.Shelf.meaning c.args.shelf.now) (g.S.Shelf.meaning c.args.shelf.now) c.requires.none c.requires.stands) c.load_maps.ensures.goes (c.requires.tells (not_down c.is_down.result (g.S.Shelf.meaning c.args.shelf.now).down c.is_down.ensures c.if-is_down.false)) c.args.one.now
     (to_inner c.args.core.now c.args.vol (g.S.Shelf.meaning c.args.shelf.now) (g.S.Shelf.meaning c.args.shelf.now) c.requires.none c.requires.stands c.args.vol c.args.one.now c.requires.log) c.in-Ok.loaded.fmr c.in-Ok.loaded.gone c.in-Ok.ensures.takes)
 
 pub returns-in-Err-clause-log : goal.returns-in-Err-clause-log
@@ -56,7 +57,7 @@ returns-in-Err-clause-log g c =
     (to_wide c.args.core.now c.args.vol (g.S.Shelf.meaning c.args.shelf.now) (g.S.Shelf.meaning c.load_maps.new.shelf) c.requires.none c.requires.stands c.args.vol (record { drl = c.args.one.now.drl; fmr = None })
     (none_on c.args.core.now.inner.config (inner_sound c.args.core.now c.args.vol (g.S.Shelf.meaning c.args.shelf.now) (g.S.Shelf.meaning c.args.shelf.now) c.requires.none c.requires.stands) c.args.vol
     (let is = c.blocks_of.ensures in let off = c.if-blocks_of-eq0.false in omega (arith, is, off)) (g.S.Shelf.meaning c.args.shelf.now) (g.S.Shelf.meaning c.load_maps.new.shelf) (g.met.S.Shelf.lawful c.args.shelf.now)
-    (inner_fit c.args.core.now c.args.vol (g.S.Shelf.meaning c.args.shelf.now) (g.S.Shelf.meaning c.args.shelf.now) c.requires.none c.requires.stands) c.load_maps.ensures.goes c.requires.tells c.args.one.now
+    (inner_fit c.args.core.now c.args.vol (g.S.Shelf.meaning c.args.shelf.now) (g.S.Shelf.meaning c.args.shelf.now) c.requires.none c.requires.stands) c.load_maps.ensures.goes (c.requires.tells (not_down c.is_down.result (g.S.Shelf.meaning c.args.shelf.now).down c.is_down.ensures c.if-is_down.false)) c.args.one.now
     (to_inner c.args.core.now c.args.vol (g.S.Shelf.meaning c.args.shelf.now) (g.S.Shelf.meaning c.args.shelf.now) c.requires.none c.requires.stands c.args.vol c.args.one.now c.requires.log)))
 
 pub returns-in-Err-clause-known : goal.returns-in-Err-clause-known

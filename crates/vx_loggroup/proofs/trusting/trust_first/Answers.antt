@@ -12,6 +12,9 @@ use Rattle.vx_group.proofs.MendLemmas.{same_Goes}
 use Rattle.vx_group.proofs.TrustingLemmas.{still_PlexActs}
 use Rattle.vx_loggroup.proofs.FreshLemmas.{counted_Goes}
 use Rattle.vx_group.proofs.FindingLemmas.{as_finds, still_group}
+use Rattle.vx_group.proofs.UnsureMarks.{error_unsure, then_unsure}
+use Rattle.vx_group.proofs.SettleCalls.{as_told}
+use Rattle.vx_group.proofs.UnsureLemmas.{misses_to, unsure_then}
 use Rattle.vx_loggroup.proofs.trusting.trust_first.Goals as goal
 
 pub give_up-requires : goal.give_up-requires
@@ -64,6 +67,8 @@ pub returns-in-Err-clause-finds : goal.returns-in-Err-clause-finds
 returns-in-Err-clause-finds g c =
     record {
       core = as_finds (wide c.args.core.now) (wide c.trust_group.new.core) _ (g.S.Shelf.meaning c.args.shelf.now) (g.S.Shelf.meaning c.trust_group.new.shelf) refl refl refl c.trust_group.ensures.finds.core;
+      settles = as_told (wide c.args.core.now) (wide c.trust_group.new.core) _ (g.S.Shelf.meaning c.args.shelf.now) (g.S.Shelf.meaning c.trust_group.new.shelf) refl refl c.trust_group.ensures.finds.settles;
+      unsure = then_unsure c.args.core.now.inner.unsure c.trust_group.new.core.inner.unsure c.give_up.new.unsure c.trust_group.ensures.finds.unsure (error_unsure c.in-Err.error c.args.vol c.trust_group.new.core.inner.unsure c.give_up.new.unsure c.give_up.ensures.marks);
       free = c.trust_group.ensures.finds.free;
     }
 
@@ -75,3 +80,12 @@ returns-in-Ok-clause-trusts g c = c.trust_group.ensures.logs
 
 pub returns-in-Err-clause-trusts : goal.returns-in-Err-clause-trusts
 returns-in-Err-clause-trusts g c = c.trust_group.ensures.logs
+
+pub returns-in-Ok-clause-unsure : goal.returns-in-Ok-clause-unsure
+returns-in-Ok-clause-unsure g c = c.trust_group.ensures.unsure
+
+pub returns-in-Err-clause-unsure : goal.returns-in-Err-clause-unsure
+returns-in-Err-clause-unsure g c = unsure_then c.args.vol c.args.core.now.inner.unsure c.trust_group.new.core.inner.unsure c.give_up.new.unsure c.in-Err.error c.trust_group.ensures.unsure c.give_up.ensures.marks
+
+pub returns-in-Err-clause-misses : goal.returns-in-Err-clause-misses
+returns-in-Err-clause-misses g c = misses_to {T = Bool} c.trust_group.new.core.inner c.in-Err.error c.in-Err.ensures.misses

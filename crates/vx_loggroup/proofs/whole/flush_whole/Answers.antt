@@ -63,3 +63,9 @@ returns-clause-said g c = λ alike going some.
     done_up c.flush_spent.result (inner_meaning (wide c.args.core.now) (g.S.Shelf.meaning c.args.shelf.now)) (inner_meaning (wide c.flush_spent.new.core) (g.S.Shelf.meaning c.flush_spent.new.shelf)) c.args.vol c.flush_spent.ensures.cause
     (λ up. c.flush_spent.ensures.said (c.is_sure-sure.ensures.all (c.is_alike.ensures ∙ alike) going (c.is_down-down.ensures ∙ false_from_ne_true (g.S.Shelf.meaning c.args.shelf.now).down up)) (let same = (wide_shape c.args.core.now).blocks c.args.vol in omega (arith, some, same)))
     (λ kept. kept_set c.flush_spent.new.core c.args.logs.now.items c.args.vol c.flush_spent.new.logs kept)
+
+pub returns-clause-unsure : goal.returns-clause-unsure
+returns-clause-unsure g c = c.flush_spent.ensures.marks
+
+pub returns-clause-gives_up : goal.returns-clause-gives_up
+returns-clause-gives_up g c = c.flush_spent.ensures.gives_up

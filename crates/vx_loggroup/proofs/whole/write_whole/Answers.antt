@@ -1,5 +1,5 @@
 -- `write_whole`: clauses stands and marks; what `write_marked` asks.
-use Rattle.std.proofs.Common.{◌≡◌, ◌∙◌, ◌/◌, inl, inr, true, false, length, refl, sym, arith}
+use Rattle.std.proofs.Common.{◌≡◌, ◌∙◌, ◌/◌, inl, inr, true, false, length, refl, sym, arith, ℕ, ap}
 use Rattle.std.proofs.lemmas.Bool.{false_from_ne_true}
 use Rattle.vx_disk.specs.Shelf.{Written}
 use Rattle.vx_group.specs.Holding.{wide}
@@ -143,3 +143,15 @@ returns-in-Ok-clause-free g c = λ off. elim (c.in-Ok.ensures.free off) [
   | inl none ↦ inl none
   | inr gone ↦ inr (none_set c.args.vol c.args.logs.now.items c.write_marked.new.logs gone)
 ]
+
+pub returns-in-Ok-clause-unsure : goal.returns-in-Ok-clause-unsure
+returns-in-Ok-clause-unsure g c = c.in-Ok.ensures.unsure
+
+pub returns-in-Ok-clause-gives_up : goal.returns-in-Ok-clause-gives_up
+returns-in-Ok-clause-gives_up g c = tt
+
+pub returns-in-Err-clause-unsure : goal.returns-in-Err-clause-unsure
+returns-in-Err-clause-unsure g c = c.in-Err.ensures.unsure
+
+pub returns-in-Err-clause-gives_up : goal.returns-in-Err-clause-gives_up
+returns-in-Err-clause-gives_up g c = c.in-Err.ensures.gives_up

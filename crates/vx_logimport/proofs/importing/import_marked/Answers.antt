@@ -22,6 +22,9 @@ returns-then-not-are_large-clause-ends g c = inl (same_Goes (g.S.Shelf.meaning c
 pub returns-in-Err-clause-ends : goal.returns-in-Err-clause-ends
 returns-in-Err-clause-ends g c = import_early (g.S.Shelf.meaning c.args.shelf.now) (g.S.Shelf.meaning c.take_up.new.shelf) c.in-Err.stop c.take_up.ensures.goes c.in-Err.ensures.takes
 
+pub read_logs-requires-clause-few : goal.read_logs-requires-clause-few
+read_logs-requires-clause-few g c = c.in-Ok.ensures.takes.stands.few
+
 pub read_logs-requires-clause-checked : goal.read_logs-requires-clause-checked
 read_logs-requires-clause-checked g c = sound_of c.in-Ok.plan.core (g.S.Shelf.meaning c.take_up.new.shelf) c.in-Ok.ensures.takes.stands
 
@@ -40,15 +43,15 @@ renew-requires-clause-more g c = serial_left (g.S.Shelf.meaning c.args.shelf.now
 pub renew-requires-clause-tell : goal.renew-requires-clause-tell
 renew-requires-clause-tell g c =
     subst (λ (ls : List Logs). MarksTell c.in-Ok.plan.core.config c.in-Ok.plan.stopped ls (g.S.Shelf.meaning c.read_logs.new.shelf)) (sym c.as_slice.ensures.value)
-    (told_by (g.S.Shelf.meaning c.args.shelf.now) (g.S.Shelf.meaning c.take_up.new.shelf) (g.S.Shelf.meaning c.read_logs.new.shelf) c.in-Ok.plan c.in-Ok.ensures.takes (g.met.S.Shelf.lawful c.args.shelf.now) (g.met.S.Shelf.lawful c.take_up.new.shelf) (g.met.S.Shelf.lawful c.read_logs.new.shelf) c.take_up.ensures.goes c.read_logs.ensures.goes c.in-Ok-read_logs.logs.items (λ down. not_down c.is_down.result (g.S.Shelf.meaning c.args.shelf.now).down c.is_down.ensures c.if-is_down.false (sym c.take_up.ensures.down ∙ down)) c.in-Ok-read_logs.ensures.read c.requires.can c.requires.tells)
+    (told_by (g.S.Shelf.meaning c.args.shelf.now) (g.S.Shelf.meaning c.take_up.new.shelf) (g.S.Shelf.meaning c.read_logs.new.shelf) c.in-Ok.plan c.in-Ok.ensures.takes (g.met.S.Shelf.lawful c.args.shelf.now) (g.met.S.Shelf.lawful c.take_up.new.shelf) (g.met.S.Shelf.lawful c.read_logs.new.shelf) c.take_up.ensures.goes c.read_logs.ensures.goes c.args.told.now c.in-Ok-read_logs.logs.items (λ down. not_down c.is_down.result (g.S.Shelf.meaning c.args.shelf.now).down c.is_down.ensures c.if-is_down.false (sym c.take_up.ensures.down ∙ down)) c.in-Ok-read_logs.ensures.read c.requires.can c.requires.covers c.requires.tells)
 
 pub returns-in-Err-read_logs-clause-ends : goal.returns-in-Err-read_logs-clause-ends
 returns-in-Err-read_logs-clause-ends g c = unread (g.S.Shelf.meaning c.args.shelf.now) (g.S.Shelf.meaning c.take_up.new.shelf) c.in-Ok.plan c.in-Ok.ensures.takes (g.met.S.Shelf.lawful c.args.shelf.now) (g.met.S.Shelf.lawful c.take_up.new.shelf) c.take_up.ensures.goes (c.are_large.ensures.large c.if-not-are_large.false) c.requires.can (g.S.Shelf.meaning c.read_logs.new.shelf) (g.met.S.Shelf.lawful c.read_logs.new.shelf) c.read_logs.ensures.goes c.in-Err-read_logs.stop c.in-Err-read_logs.ensures.cause
 
 pub returns-in-Ok-renew-clause-ends : goal.returns-in-Ok-renew-clause-ends
 returns-in-Ok-renew-clause-ends g c =
-    resumed_by (g.S.Shelf.meaning c.args.shelf.now) (g.S.Shelf.meaning c.read_logs.new.shelf) c.in-Ok.plan (taken_read (g.S.Shelf.meaning c.args.shelf.now) (g.S.Shelf.meaning c.take_up.new.shelf) (g.S.Shelf.meaning c.read_logs.new.shelf) c.in-Ok.plan c.in-Ok.ensures.takes (g.met.S.Shelf.lawful c.args.shelf.now) (g.met.S.Shelf.lawful c.take_up.new.shelf) (g.met.S.Shelf.lawful c.read_logs.new.shelf) c.take_up.ensures.goes c.read_logs.ensures.goes) (g.met.S.Shelf.lawful c.args.shelf.now) (g.met.S.Shelf.lawful c.read_logs.new.shelf) (whole_goes (g.S.Shelf.meaning c.args.shelf.now) (g.S.Shelf.meaning c.take_up.new.shelf) (g.S.Shelf.meaning c.read_logs.new.shelf) c.in-Ok.plan c.in-Ok.ensures.takes (g.met.S.Shelf.lawful c.args.shelf.now) (g.met.S.Shelf.lawful c.take_up.new.shelf) (g.met.S.Shelf.lawful c.read_logs.new.shelf) c.take_up.ensures.goes c.read_logs.ensures.goes) (c.are_large.ensures.large c.if-not-are_large.false) c.requires.can (g.S.Shelf.meaning c.renew.new.shelf) c.renew.new.core c.in-Ok-read_logs.logs (g.S.Shelf.meaning c.read_logs.new.shelf)
-    (reads_old (g.S.Shelf.meaning c.args.shelf.now) (g.S.Shelf.meaning c.take_up.new.shelf) (g.S.Shelf.meaning c.read_logs.new.shelf) c.in-Ok.plan c.in-Ok.ensures.takes (g.met.S.Shelf.lawful c.args.shelf.now) (g.met.S.Shelf.lawful c.take_up.new.shelf) (g.met.S.Shelf.lawful c.read_logs.new.shelf) c.take_up.ensures.goes c.read_logs.ensures.goes c.in-Ok-read_logs.logs.items (λ down. not_down c.is_down.result (g.S.Shelf.meaning c.args.shelf.now).down c.is_down.ensures c.if-is_down.false (sym c.take_up.ensures.down ∙ down)) c.in-Ok-read_logs.ensures.read) (λ d. c.in-Ok-renew.ensures.renews.made.on.disk_faults d) c.in-Ok-read_logs.ensures.logs c.requires.tells (g.met.S.Shelf.lawful c.renew.new.shelf) c.in-Ok-read_logs.ensures.up c.in-Ok-renew.ensures.renews c.in-Ok-renew.ensures.trust
+    resumed_by (g.S.Shelf.meaning c.args.shelf.now) (g.S.Shelf.meaning c.read_logs.new.shelf) c.in-Ok.plan (taken_read (g.S.Shelf.meaning c.args.shelf.now) (g.S.Shelf.meaning c.take_up.new.shelf) (g.S.Shelf.meaning c.read_logs.new.shelf) c.in-Ok.plan c.in-Ok.ensures.takes (g.met.S.Shelf.lawful c.args.shelf.now) (g.met.S.Shelf.lawful c.take_up.new.shelf) (g.met.S.Shelf.lawful c.read_logs.new.shelf) c.take_up.ensures.goes c.read_logs.ensures.goes) (g.met.S.Shelf.lawful c.args.shelf.now) (g.met.S.Shelf.lawful c.read_logs.new.shelf) (whole_goes (g.S.Shelf.meaning c.args.shelf.now) (g.S.Shelf.meaning c.take_up.new.shelf) (g.S.Shelf.meaning c.read_logs.new.shelf) c.in-Ok.plan c.in-Ok.ensures.takes (g.met.S.Shelf.lawful c.args.shelf.now) (g.met.S.Shelf.lawful c.take_up.new.shelf) (g.met.S.Shelf.lawful c.read_logs.new.shelf) c.take_up.ensures.goes c.read_logs.ensures.goes) (c.are_large.ensures.large c.if-not-are_large.false) c.requires.can (g.S.Shelf.meaning c.renew.new.shelf) c.renew.new.core c.in-Ok-read_logs.logs (g.S.Shelf.meaning c.read_logs.new.shelf) c.args.told.now
+    (reads_old (g.S.Shelf.meaning c.args.shelf.now) (g.S.Shelf.meaning c.take_up.new.shelf) (g.S.Shelf.meaning c.read_logs.new.shelf) c.in-Ok.plan c.in-Ok.ensures.takes (g.met.S.Shelf.lawful c.args.shelf.now) (g.met.S.Shelf.lawful c.take_up.new.shelf) (g.met.S.Shelf.lawful c.read_logs.new.shelf) c.take_up.ensures.goes c.read_logs.ensures.goes c.args.told.now c.in-Ok-read_logs.logs.items (λ down. not_down c.is_down.result (g.S.Shelf.meaning c.args.shelf.now).down c.is_down.ensures c.if-is_down.false (sym c.take_up.ensures.down ∙ down)) c.in-Ok-read_logs.ensures.read) (λ d. c.in-Ok-renew.ensures.renews.made.on.disk_faults d) c.in-Ok-read_logs.ensures.logs c.requires.covers c.requires.tells (g.met.S.Shelf.lawful c.renew.new.shelf) c.in-Ok-read_logs.ensures.up c.in-Ok-renew.ensures.renews c.in-Ok-renew.ensures.trust
     (subst (λ (ls : List Logs). Acts (OnMarked c.in-Ok.plan.core.config c.in-Ok.plan.stopped ls) AnyImage (g.S.Shelf.meaning c.read_logs.new.shelf) (g.S.Shelf.meaning c.renew.new.shelf)) c.as_slice.ensures.value c.renew.ensures.only)
 
 pub returns-in-Err-renew-clause-ends : goal.returns-in-Err-renew-clause-ends

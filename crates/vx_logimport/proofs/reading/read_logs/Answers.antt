@@ -9,15 +9,18 @@ use Rattle.vx_logimport.proofs.ReadLemmas.{ReadSoFar, none_so_far, one_so_far}
 use Rattle.vx_logimport.proofs.reading.read_logs.Goals as goal
 
 pub loop-vol-init : goal.loop-vol-init
-loop-vol-init g c = subst (λ (ls : List Logs). ReadSoFar c.args.good c.args.config.now 0 ls (g.S.Shelf.meaning c.args.shelf.now) (g.S.Shelf.meaning c.args.shelf.now)) (sym c.new-logs.ensures.items) (none_so_far c.args.good c.args.config.now (g.S.Shelf.meaning c.args.shelf.now))
+loop-vol-init g c = subst (λ (ls : List Logs). ReadSoFar c.args.good c.args.told.now c.args.config.now 0 ls (g.S.Shelf.meaning c.args.shelf.now) (g.S.Shelf.meaning c.args.shelf.now)) (sym c.new-logs.ensures.items) (none_so_far c.args.good c.args.told.now c.args.config.now (g.S.Shelf.meaning c.args.shelf.now))
+
+pub read_log-requires-clause-inside : goal.read_log-requires-clause-inside
+read_log-requires-clause-inside g c = let low = c.loop-vol-test.true in let count = ap length c.as_slice.ensures.volumes in let few = c.requires.few in omega (arith, low, count, few)
 
 pub read_log-requires-clause-disks : goal.read_log-requires-clause-disks
 read_log-requires-clause-disks g c = disks_after c.args.config.now (g.S.Shelf.meaning c.args.shelf.now) (g.S.Shelf.meaning c.loop-vol.shelf) c.loop-vol.invariant.goes.units c.loop-vol.invariant.goes.size c.requires.disks
 
 pub loop-vol-preserved : goal.loop-vol-preserved
 loop-vol-preserved g c =
-    subst (λ (ls : List Logs). ReadSoFar c.args.good c.args.config.now (c.loop-vol.vol + 1) ls (g.S.Shelf.meaning c.args.shelf.now) (g.S.Shelf.meaning c.read_log.new.shelf)) (sym c.in-Ok-push.ensures.items)
-    (one_so_far c.args.good c.args.config.now c.loop-vol.vol c.loop-vol.logs.items c.in-Ok.drl (g.S.Shelf.meaning c.args.shelf.now) (g.S.Shelf.meaning c.loop-vol.shelf) (g.S.Shelf.meaning c.read_log.new.shelf) c.loop-vol.invariant c.in-Ok.ensures.up c.in-Ok.ensures.read c.read_log.ensures.goes)
+    subst (λ (ls : List Logs). ReadSoFar c.args.good c.args.told.now c.args.config.now (c.loop-vol.vol + 1) ls (g.S.Shelf.meaning c.args.shelf.now) (g.S.Shelf.meaning c.read_log.new.shelf)) (sym c.in-Ok-push.ensures.items)
+    (one_so_far c.args.good c.args.told.now c.args.config.now c.loop-vol.vol c.loop-vol.logs.items c.in-Ok.drl (g.S.Shelf.meaning c.args.shelf.now) (g.S.Shelf.meaning c.loop-vol.shelf) (g.S.Shelf.meaning c.read_log.new.shelf) c.loop-vol.invariant c.in-Ok.ensures.up c.in-Ok.ensures.read c.read_log.ensures.goes)
 
 pub returns-in-Err-push-clause-goes : goal.returns-in-Err-push-clause-goes
 returns-in-Err-push-clause-goes g c = still (g.S.Shelf.meaning c.args.shelf.now) (g.S.Shelf.meaning c.loop-vol.shelf) (g.S.Shelf.meaning c.read_log.new.shelf) c.loop-vol.invariant.goes c.read_log.ensures.goes

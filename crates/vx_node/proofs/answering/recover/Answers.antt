@@ -1,8 +1,7 @@
 -- A recovery of a site over no group, by whether its disks have a label of one.
-use Rattle.std.proofs.lemmas.Option.{slice_get_within}
 use Rattle.vx_events.specs.Facts.{site_number}
 use Rattle.vx_script.specs.declared.line.ScriptLine.TheVariants.{Recover}
-use Rattle.vx_yard.proofs.OfSites.{site_then}
+use Rattle.vx_yard.proofs.OfSites.{recovers_then}
 use Rattle.vx_node.proofs.Works.{works_found, works_then, works_whole}
 use Rattle.vx_node.proofs.answering.recover.Goals as goal
 
@@ -25,12 +24,12 @@ pub returns-then-holds_group-clause-asked : goal.returns-then-holds_group-clause
 returns-then-holds_group-clause-asked g c = λ d stands apart.
     let s = site_number d.world c.args.site.now in
     let one = c.holds_group.ensures.asked d stands in
-    site_then s c.args.yard.now c.holds_group.new.yard c.recover_found.new.yard (slice_get_within c.args.yard.now.disk_sets.items s one.before one.there) one
-    (c.recover_found.ensures.asked d (c.holds_group.ensures.stays d stands).stands)
+    recovers_then (d.world.nodes s).state s c.args.yard.now c.holds_group.new.yard c.recover_found.new.yard one
+    (c.recover_found.ensures.asked d (c.holds_group.ensures.stays d stands).stands (c.holds_group.ensures.holds d stands c.if-holds_group.true))
 
 pub returns-else-holds_group-clause-asked : goal.returns-else-holds_group-clause-asked
 returns-else-holds_group-clause-asked g c = λ d stands apart.
     let s = site_number d.world c.args.site.now in
     let one = c.holds_group.ensures.asked d stands in
-    site_then s c.args.yard.now c.holds_group.new.yard c.recover_line.new.yard (slice_get_within c.args.yard.now.disk_sets.items s one.before one.there) one
+    recovers_then (d.world.nodes s).state s c.args.yard.now c.holds_group.new.yard c.recover_line.new.yard one
     (c.recover_line.ensures.asked d (c.holds_group.ensures.stays d stands).stands apart)

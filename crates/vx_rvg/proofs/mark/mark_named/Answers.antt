@@ -1,9 +1,9 @@
 -- The group behind a change of marks.
-use Rattle.std.proofs.Common.{true}
+use Rattle.std.proofs.Common.{refl, true}
 use Rattle.vx_dcm.specs.Places.{IsOfSlots, IsPlaceOfSlots}
 use Rattle.vx_rvg.specs.Views.{Core}
 use Rattle.vx_rvg.specs.contracts.rvg_core.RvgCore.{the_view}
-use Rattle.vx_rvg.proofs.MarkStands.{stays_up, told_bits, told_blames, told_fails, told_halted, told_is, told_lies, told_moves, told_part, told_place, told_rests, told_sizes, told_sound}
+use Rattle.vx_rvg.proofs.MarkStands.{halted_log, staged_as, stays_up, told_bits, told_blames, told_fails, told_halted, told_is, told_lies, told_part, told_place, told_sizes, told_sound, told_staged_moves, told_staged_rests}
 use Rattle.vx_rvg.proofs.mark.mark_named.Goals as goal
 
 pub mark_slots-requires-clause-lies : goal.mark_slots-requires-clause-lies
@@ -21,27 +21,30 @@ returns-in-Err-clause-part g c =
 
 pub returns-in-Ok-clause-sound : goal.returns-in-Ok-clause-sound
 returns-in-Ok-clause-sound g c =
-    told_sound (the_view c.core.inside) c.args.core.now c.core.view_is (g.S.Shelf.meaning c.args.shelf.now) c.requires.sound c.mark_slots.new.self (g.S.Shelf.meaning c.mark_slots.new.shelf)
-    (λ (k : Core). IsPlaceOfSlots k.maps c.args.marks c.args.vol c.args.first c.args.last) true c.mark_slots.ensures.place c.mark_slots.ensures.sizes c.mark_slots.ensures.moves
+    staged_as (the_view c.core.inside) c.args.core.now c.core.view_is (record (the_view c.core.inside) { maps = c.mark_slots.new.self }) (g.S.Shelf.meaning c.mark_slots.new.shelf) refl
+    (told_sound (the_view c.core.inside) c.args.core.now c.core.view_is (g.S.Shelf.meaning c.args.shelf.now) c.requires.sound c.mark_slots.new.self (g.S.Shelf.meaning c.mark_slots.new.shelf)
+    (λ (k : Core). IsPlaceOfSlots k.maps c.args.marks c.args.vol c.args.first c.args.last) true c.mark_slots.ensures.place c.mark_slots.ensures.sizes c.mark_slots.ensures.moves)
 
 pub returns-in-Err-clause-sound : goal.returns-in-Err-clause-sound
 returns-in-Err-clause-sound g c =
-    told_fails (the_view c.core.inside) c.args.core.now c.core.view_is (g.S.Shelf.meaning c.args.shelf.now) c.requires.sound c.mark_slots.new.self (g.S.Shelf.meaning c.mark_slots.new.shelf)
-    (λ (k : Core). IsPlaceOfSlots k.maps c.args.marks c.args.vol c.args.first c.args.last) true c.mark_slots.ensures.place c.mark_slots.ensures.sizes c.mark_slots.ensures.moves c.in-Err.no c.halt.new.self c.halt.ensures
+    staged_as (the_view c.core.inside) c.args.core.now c.core.view_is c.halt.new.self (g.S.Shelf.meaning c.mark_slots.new.shelf)
+    (halted_log c.in-Err.no (record (the_view c.core.inside) { maps = c.mark_slots.new.self }) c.halt.new.self c.halt.ensures)
+    (told_fails (the_view c.core.inside) c.args.core.now c.core.view_is (g.S.Shelf.meaning c.args.shelf.now) c.requires.sound c.mark_slots.new.self (g.S.Shelf.meaning c.mark_slots.new.shelf)
+    (λ (k : Core). IsPlaceOfSlots k.maps c.args.marks c.args.vol c.args.first c.args.last) true c.mark_slots.ensures.place c.mark_slots.ensures.sizes c.mark_slots.ensures.moves c.in-Err.no c.halt.new.self c.halt.ensures)
 
 pub returns-in-Ok-clause-stands : goal.returns-in-Ok-clause-stands
 returns-in-Ok-clause-stands g c =
-    told_rests (the_view c.core.inside) c.args.core.now c.core.view_is (g.S.Shelf.meaning c.args.shelf.now) c.requires.sound c.mark_slots.new.self (g.S.Shelf.meaning c.mark_slots.new.shelf)
+    told_staged_rests (the_view c.core.inside) c.args.core.now c.core.view_is (g.S.Shelf.meaning c.args.shelf.now) c.requires.sound c.mark_slots.new.self (g.S.Shelf.meaning c.mark_slots.new.shelf)
     (λ (k : Core). IsPlaceOfSlots k.maps c.args.marks c.args.vol c.args.first c.args.last) true c.mark_slots.ensures.place c.mark_slots.ensures.sizes c.mark_slots.ensures.moves (stays_up _ _ c.requires.up c.in-Ok.ensures.up) c.in-Ok.ensures.stands
 
 pub returns-in-Ok-clause-moves : goal.returns-in-Ok-clause-moves
 returns-in-Ok-clause-moves g c =
-    told_moves (the_view c.core.inside) c.args.core.now c.core.view_is (g.S.Shelf.meaning c.args.shelf.now) c.requires.sound c.mark_slots.new.self (g.S.Shelf.meaning c.mark_slots.new.shelf)
+    told_staged_moves (the_view c.core.inside) c.args.core.now c.core.view_is (g.S.Shelf.meaning c.args.shelf.now) c.requires.sound c.mark_slots.new.self (g.S.Shelf.meaning c.mark_slots.new.shelf)
     (λ (k : Core). IsPlaceOfSlots k.maps c.args.marks c.args.vol c.args.first c.args.last) true c.mark_slots.ensures.place c.mark_slots.ensures.sizes c.mark_slots.ensures.moves
 
 pub returns-in-Err-clause-moves : goal.returns-in-Err-clause-moves
 returns-in-Err-clause-moves g c =
-    told_moves (the_view c.core.inside) c.args.core.now c.core.view_is (g.S.Shelf.meaning c.args.shelf.now) c.requires.sound c.mark_slots.new.self (g.S.Shelf.meaning c.mark_slots.new.shelf)
+    told_staged_moves (the_view c.core.inside) c.args.core.now c.core.view_is (g.S.Shelf.meaning c.args.shelf.now) c.requires.sound c.mark_slots.new.self (g.S.Shelf.meaning c.mark_slots.new.shelf)
     (λ (k : Core). IsPlaceOfSlots k.maps c.args.marks c.args.vol c.args.first c.args.last) true c.mark_slots.ensures.place c.mark_slots.ensures.sizes c.mark_slots.ensures.moves
 
 pub returns-in-Err-clause-blames : goal.returns-in-Err-clause-blames

@@ -15,10 +15,14 @@ use Rattle.vx_rvg.specs.Stands.{Stands}
 use Rattle.vx_rvg.specs.Views.{Core, last_of, volume_size}
 use Rattle.vx_rvg.proofs.Blaming.{works_behind}
 use Rattle.vx_rvg.proofs.MapStands.{is_up}
-use Rattle.vx_rvg.proofs.MarkStands.{stays_up}
+use Rattle.vx_rvg.proofs.MarkStands.{alone_sound, halted_log, moves_alone, remarks_alone, stays_up}
 use Rattle.vx_rvg.proofs.MarkedStands.{blames_log, calls_same, least_behind, log_is, maps_kept, marked_moves, marked_writes, marks_fail, marks_first, regions_ordered, short_same, write_region}
+use Rattle.vx_rvg.proofs.WriteCommit.{sound_staged}
 use Rattle.vx_rvg.proofs.WriteSound.{volume_same}
 use Rattle.vx_rvg.proofs.marked.mark_and_commit.Goals as goal
+
+pub mark_named-requires-clause-sound : goal.mark_named-requires-clause-sound
+mark_named-requires-clause-sound g c = sound_staged c.args.core.now (g.S.Shelf.meaning c.args.shelf.now) (c.requires.sound.idle c.requires.running c.requires.up) c.requires.sound
 
 pub mark_named-requires-clause-some : goal.mark_named-requires-clause-some
 mark_named-requires-clause-some g c = subst (λ (n : ℕ). c.args.start / 64 ≤ n) (sym c.end_region-last.ensures) (regions_ordered c.args.start (blocks_in c.args.bytes.now) (omega (arith, c.requires.blocks.some, c.requires.blocks.whole)))
@@ -29,6 +33,10 @@ mark_named-requires-clause-exists g c =
     (write_region c.args.core.now (g.S.Shelf.meaning c.args.shelf.now) c.requires.sound c.args.vol c.args.start (blocks_in c.args.bytes.now) c.requires.volume (omega (arith, c.requires.blocks.some, c.requires.blocks.whole)) c.requires.within)
 
 -- ---- what the log asks behind the marks
+
+pub commit-requires-clause-sound : goal.commit-requires-clause-sound
+commit-requires-clause-sound g c =
+    alone_sound c.args.core.now c.mark_named.new.core (g.S.Shelf.meaning c.mark_named.new.shelf) (c.requires.sound.idle c.requires.running c.requires.up) (log_is c.args.core.now c.mark_named.new.core c.in_default.ensures.marks.0) c.mark_named.ensures.sound
 
 pub commit-requires-clause-some : goal.commit-requires-clause-some
 commit-requires-clause-some g c = subst (λ (k : Core). 0 < k.log.header.low) (sym c.in_default.ensures.marks.0) c.requires.some
@@ -58,6 +66,11 @@ commit-requires-clause-number g c = subst (λ (k : Core). last_of k < most_numbe
 pub returns-in-Err-clause-writes : goal.returns-in-Err-clause-writes
 returns-in-Err-clause-writes g c = marks_fail c.args.core.now c.mark_named.new.core c.args.vol c.args.start c.args.bytes.now (g.S.Shelf.meaning c.args.shelf.now) (g.S.Shelf.meaning c.mark_named.new.shelf) c.in-Err.no c.in-Err.ensures.marks
 
+pub returns-in-Err-clause-sound : goal.returns-in-Err-clause-sound
+returns-in-Err-clause-sound g c =
+    alone_sound c.args.core.now c.mark_named.new.core (g.S.Shelf.meaning c.mark_named.new.shelf) (c.requires.sound.idle c.requires.running c.requires.up)
+    (halted_log c.in-Err.no (record c.args.core.now { maps = c.mark_named.new.core.maps }) c.mark_named.new.core c.in-Err.ensures.marks.0) c.mark_named.ensures.sound
+
 pub returns-in-Err-clause-part : goal.returns-in-Err-clause-part
 returns-in-Err-clause-part g c =
     subst (λ (n : ℕ). MapsBetween (λ k w q. IsOfSlots c.args.marks c.args.vol (c.args.start / 64) n k w q) true c.args.core.now.maps c.mark_named.new.core.maps) c.end_region-last.ensures c.mark_named.ensures.part
@@ -65,7 +78,7 @@ returns-in-Err-clause-part g c =
 pub returns-in-Err-clause-moves : goal.returns-in-Err-clause-moves
 returns-in-Err-clause-moves g c =
     subst (λ (n : ℕ). Moves (Union (map_run c.args.core.now) (Run c.args.core.now.units.srl 0 (c.args.core.now.log.ring + 2))) (MarkedWriting c.args.core.now (λ (r : ℕ). IsPlaceOfSlots c.args.core.now.maps c.args.marks c.args.vol (c.args.start / 64) n r) (record { volume = c.args.vol; start = c.args.start; bytes = c.args.bytes.now }) (g.S.Shelf.meaning c.args.shelf.now)) (g.S.Shelf.meaning c.args.shelf.now) (g.S.Shelf.meaning c.mark_named.new.shelf)) c.end_region-last.ensures
-    (marks_first c.args.core.now (λ (r : ℕ). IsPlaceOfSlots c.args.core.now.maps c.args.marks c.args.vol (c.args.start / 64) c.end_region-last.result r) (record { volume = c.args.vol; start = c.args.start; bytes = c.args.bytes.now }) (g.S.Shelf.meaning c.args.shelf.now) (g.S.Shelf.meaning c.mark_named.new.shelf) c.mark_named.ensures.moves)
+    (marks_first c.args.core.now (λ (r : ℕ). IsPlaceOfSlots c.args.core.now.maps c.args.marks c.args.vol (c.args.start / 64) c.end_region-last.result r) (record { volume = c.args.vol; start = c.args.start; bytes = c.args.bytes.now }) (g.S.Shelf.meaning c.args.shelf.now) (g.S.Shelf.meaning c.mark_named.new.shelf) (moves_alone c.args.core.now (λ (r : ℕ). IsPlaceOfSlots c.args.core.now.maps c.args.marks c.args.vol (c.args.start / 64) c.end_region-last.result r) true (g.S.Shelf.meaning c.args.shelf.now) (g.S.Shelf.meaning c.mark_named.new.shelf) c.mark_named.ensures.moves))
 
 pub returns-in-Err-clause-calls : goal.returns-in-Err-clause-calls
 returns-in-Err-clause-calls g c = λ all. tt
@@ -89,7 +102,7 @@ pub returns-clause-stands : goal.returns-clause-stands
 returns-clause-stands g c =
     let kept = maps_kept c.commit.result c.mark_named.new.core c.commit.new.core c.args.vol c.args.start c.args.bytes.now (g.S.Shelf.meaning c.mark_named.new.shelf) (g.S.Shelf.meaning c.commit.new.shelf) c.commit.ensures.writes in
     on_ok_weaker c.commit.result
-    (λ stand h stands all. subst (λ (d : Maps). Stands c.commit.new.core (with_writes ((record { volume = c.args.vol; start = c.args.start; bytes = c.args.bytes.now }) ∷ []) (with_marks d h)) (g.S.Shelf.meaning c.commit.new.shelf)) (sym kept) (stand (with_marks c.mark_named.new.core.maps h) (c.in_default.ensures.stands.each h stands all)))
+    (λ stand h stands all. subst (λ (d : Maps). Stands c.commit.new.core (with_writes ((record { volume = c.args.vol; start = c.args.start; bytes = c.args.bytes.now }) ∷ []) (with_marks d h)) (g.S.Shelf.meaning c.commit.new.shelf)) (sym kept) (stand (with_marks c.mark_named.new.core.maps h) ((remarks_alone c.args.core.now c.mark_named.new.core (g.S.Shelf.meaning c.args.shelf.now) (g.S.Shelf.meaning c.mark_named.new.shelf) c.in_default.ensures.stands).each h stands all)))
     c.commit.ensures.stands
 
 pub returns-clause-marked : goal.returns-clause-marked
@@ -108,19 +121,22 @@ returns-clause-part g c =
 pub returns-clause-moves : goal.returns-clause-moves
 returns-clause-moves g c =
     subst (λ (n : ℕ). Moves (Union (map_run c.args.core.now) (Run c.args.core.now.units.srl 0 (c.args.core.now.log.ring + 2))) (MarkedWriting c.args.core.now (λ (r : ℕ). IsPlaceOfSlots c.args.core.now.maps c.args.marks c.args.vol (c.args.start / 64) n r) (record { volume = c.args.vol; start = c.args.start; bytes = c.args.bytes.now }) (g.S.Shelf.meaning c.args.shelf.now)) (g.S.Shelf.meaning c.args.shelf.now) (g.S.Shelf.meaning c.commit.new.shelf)) c.end_region-last.ensures
-    (marked_moves c.args.core.now c.mark_named.new.core c.in_default.ensures.marks.0 (λ (r : ℕ). IsPlaceOfSlots c.args.core.now.maps c.args.marks c.args.vol (c.args.start / 64) c.end_region-last.result r) (g.S.Shelf.meaning c.args.shelf.now) (g.S.Shelf.meaning c.mark_named.new.shelf) c.requires.sound c.mark_named.ensures.sound c.in_default.ensures.stands c.mark_named.ensures.bits c.mark_named.ensures.place.long
+    (marked_moves c.args.core.now c.mark_named.new.core c.in_default.ensures.marks.0 (λ (r : ℕ). IsPlaceOfSlots c.args.core.now.maps c.args.marks c.args.vol (c.args.start / 64) c.end_region-last.result r) (g.S.Shelf.meaning c.args.shelf.now) (g.S.Shelf.meaning c.mark_named.new.shelf) c.requires.sound
+    (alone_sound c.args.core.now c.mark_named.new.core (g.S.Shelf.meaning c.mark_named.new.shelf) (c.requires.sound.idle c.requires.running c.requires.up) (log_is c.args.core.now c.mark_named.new.core c.in_default.ensures.marks.0) c.mark_named.ensures.sound)
+    (remarks_alone c.args.core.now c.mark_named.new.core (g.S.Shelf.meaning c.args.shelf.now) (g.S.Shelf.meaning c.mark_named.new.shelf) c.in_default.ensures.stands) c.mark_named.ensures.bits c.mark_named.ensures.place.long
     (record { volume = c.args.vol; start = c.args.start; bytes = c.args.bytes.now }) (λ r low own. slots_all c.args.core.now.maps c.mark_named.new.core.maps c.args.marks c.args.vol (c.args.start / 64) c.end_region-last.result c.mark_named.ensures.sizes c.in_default.ensures.marked r own)
-    (g.S.Shelf.meaning c.commit.new.shelf) c.mark_named.ensures.moves c.commit.ensures.moves)
+    (g.S.Shelf.meaning c.commit.new.shelf)
+    (moves_alone c.args.core.now (λ (r : ℕ). IsPlaceOfSlots c.args.core.now.maps c.args.marks c.args.vol (c.args.start / 64) c.end_region-last.result r) true (g.S.Shelf.meaning c.args.shelf.now) (g.S.Shelf.meaning c.mark_named.new.shelf) c.mark_named.ensures.moves) c.commit.ensures.moves)
 
 pub returns-clause-calls : goal.returns-clause-calls
 returns-clause-calls g c = λ all.
-    calls_same c.commit.result c.args.core.now.log c.mark_named.new.core.log c.args.bytes.now (g.S.Shelf.meaning c.args.shelf.now) (g.S.Shelf.meaning c.mark_named.new.shelf) (g.S.Shelf.meaning c.commit.new.shelf)
+    calls_same 4 c.commit.result c.args.core.now.log c.mark_named.new.core.log c.args.bytes.now (g.S.Shelf.meaning c.args.shelf.now) (g.S.Shelf.meaning c.mark_named.new.shelf) (g.S.Shelf.meaning c.commit.new.shelf)
     (ap (λ s. g.S.Shelf.meaning s) (c.mark_named.ensures.nothing (subst (λ (n : ℕ). SlotsMarked c.args.marks c.args.vol (c.args.start / 64) n c.args.core.now.maps) (sym c.end_region-last.ensures) all)))
     (log_is c.args.core.now c.mark_named.new.core c.in_default.ensures.marks.0) c.commit.ensures.calls
 
 pub returns-clause-short : goal.returns-clause-short
 returns-clause-short g c = λ all.
-    short_same c.args.core.now.log c.mark_named.new.core.log c.args.bytes.now (g.S.Shelf.meaning c.args.shelf.now) (g.S.Shelf.meaning c.mark_named.new.shelf) (g.S.Shelf.meaning c.commit.new.shelf)
+    short_same 4 c.args.core.now.log c.mark_named.new.core.log c.args.bytes.now (g.S.Shelf.meaning c.args.shelf.now) (g.S.Shelf.meaning c.mark_named.new.shelf) (g.S.Shelf.meaning c.commit.new.shelf)
     (ap (λ s. g.S.Shelf.meaning s) (c.mark_named.ensures.nothing (subst (λ (n : ℕ). SlotsMarked c.args.marks c.args.vol (c.args.start / 64) n c.args.core.now.maps) (sym c.end_region-last.ensures) all)))
     (log_is c.args.core.now c.mark_named.new.core c.in_default.ensures.marks.0) c.commit.ensures.short
 
@@ -129,7 +145,7 @@ returns-clause-blames g c =
     blames_log c.commit.result (g.S.Shelf.meaning c.args.shelf.now) (g.S.Shelf.meaning c.mark_named.new.shelf) c.args.core.now c.mark_named.new.core c.mark_named.ensures.spends (ap (λ (l : Log). l.unit) (log_is c.args.core.now c.mark_named.new.core c.in_default.ensures.marks.0)) c.commit.ensures.blames
 
 pub returns-clause-least : goal.returns-clause-least
-returns-clause-least g c = least_behind c.commit.result (g.S.Shelf.meaning c.args.shelf.now) (g.S.Shelf.meaning c.mark_named.new.shelf) (g.S.Shelf.meaning c.commit.new.shelf) c.mark_named.ensures.spends c.in_default.ensures.marks.1 c.commit.ensures.least
+returns-clause-least g c = least_behind 4 c.commit.result (g.S.Shelf.meaning c.args.shelf.now) (g.S.Shelf.meaning c.mark_named.new.shelf) (g.S.Shelf.meaning c.commit.new.shelf) c.mark_named.ensures.spends c.in_default.ensures.marks.1 c.commit.ensures.least
 
 pub returns-clause-spends : goal.returns-clause-spends
 returns-clause-spends g c = then_spends _ _ _ c.mark_named.ensures.spends c.commit.ensures.spends

@@ -1,5 +1,6 @@
 -- Each case of a line that recovers a site.
-use Rattle.std.proofs.Common.{◌∙◌, ap, subst, sym, refl, arith}
+use Rattle.std.proofs.Common.{◌≡◌, ◌∙◌, ap, subst, sym, refl, arith}
+use Rattle.vx_model.specs.declared.site.SiteState.TheVariants.{Bare as IsBare, Down as IsDown, Up as IsUp}
 use Rattle.vx_order.specs.declared.facts.SiteFacts.{SiteFacts}
 use Rattle.std.proofs.lemmas.Result.{err_from_is_err_and}
 use Rattle.vx_script.specs.declared.line.ScriptLine.TheVariants.{Recover}
@@ -12,8 +13,9 @@ use Rattle.vx_site_lines.specs.Rises.{IsEmptyRiseRoom}
 use Rattle.vx_yard.specs.Yards.{in_files}
 use Rattle.vx_yard.proofs.Lists.{get_at}
 use Rattle.vx_yard.proofs.NamedSite.{named_same, place_at, unbegun_by, unbegun_for, unbegun_site}
-use Rattle.vx_yard.proofs.OfSites.{site_by, site_then}
-use Rattle.vx_site_lines.proofs.RecoverSite.{never_deported, recover_from_bare, recover_from_down, recover_from_up}
+use Rattle.vx_yard.proofs.OfSites.{recovers_none, recovers_rest, recovers_up}
+use Rattle.vx_yard.specs.OfSites.{RecoversAs}
+use Rattle.vx_site_lines.proofs.RecoverSite.{never_deported, recover_from_bare, recover_from_down, recover_from_up, state_found}
 use Rattle.vx_yard.proofs.Seats.{named_some}
 use Rattle.vx_site_lines.proofs.recover.recover_line.Goals as goal
 
@@ -44,7 +46,8 @@ returns-then-count-ge-MOST_NUMBER-clause-leads g c = λ d stands apart. unbegun_
 
 pub returns-then-count-ge-MOST_NUMBER-clause-asked : goal.returns-then-count-ge-MOST_NUMBER-clause-asked
 returns-then-count-ge-MOST_NUMBER-clause-asked g c = λ d stands apart.
-    unbegun_site SameFailing d c.args.yard.now c.args.name.now failing_same stands (recover_may c.args.yard.now.facts.items (in_files c.args.yard.now) c.args.name.now c.requires.free)
+    recovers_none (d.world.nodes (site_number d.world c.args.name.now)).state (site_number d.world c.args.name.now) c.args.yard.now
+    (unbegun_site SameFailing d c.args.yard.now c.args.name.now failing_same stands (recover_may c.args.yard.now.facts.items (in_files c.args.yard.now) c.args.name.now c.requires.free))
 
 pub returns-in_err-room-clause-leads : goal.returns-in_err-room-clause-leads
 returns-in_err-room-clause-leads g c = λ d stands apart.
@@ -53,7 +56,8 @@ returns-in_err-room-clause-leads g c = λ d stands apart.
 
 pub returns-in_err-room-clause-asked : goal.returns-in_err-room-clause-asked
 returns-in_err-room-clause-asked g c = λ d stands apart.
-    unbegun_site SameFailing d c.args.yard.now c.args.name.now failing_same stands (recover_may c.args.yard.now.facts.items (in_files c.args.yard.now) c.args.name.now c.requires.free)
+    recovers_none (d.world.nodes (site_number d.world c.args.name.now)).state (site_number d.world c.args.name.now) c.args.yard.now
+    (unbegun_site SameFailing d c.args.yard.now c.args.name.now failing_same stands (recover_may c.args.yard.now.facts.items (in_files c.args.yard.now) c.args.name.now c.requires.free))
 
 pub returns-in-Bare-clause-leads : goal.returns-in-Bare-clause-leads
 returns-in-Bare-clause-leads g c = λ d stands apart.
@@ -64,8 +68,13 @@ returns-in-Bare-clause-leads g c = λ d stands apart.
 
 pub returns-in-Bare-clause-asked : goal.returns-in-Bare-clause-asked
 returns-in-Bare-clause-asked g c = λ d stands apart.
-    site_by (site_number d.world c.args.name.now) c.site_of-site.result c.args.yard.now c.rise_bare.new.yard
-    (sym (place_at d c.args.yard.now c.args.name.now c.site_of-site.result stands c.site_of-site.ensures.seat).number) c.rise_bare.ensures.failing
+    let y = c.args.yard.now in
+    let s = c.site_of-site.result in
+    let seat = c.site_of-site.ensures.seat in
+    let at = get_at y.facts.items s c.index-3.result.now c.site_of-site.ensures.fact c.index-3.ensures in
+    let state = state_found d y c.args.name.now s c.index-3.result.now stands seat at ∙ c.in-Bare.is in
+    subst (λ k. RecoversAs (d.world.nodes k).state k y c.rise_bare.new.yard) (sym (place_at d y c.args.name.now s stands seat).number)
+    (recovers_rest (d.world.nodes s).state s y c.rise_bare.new.yard (λ up. let clash : IsBare ≡ IsUp = sym state ∙ up in cc) c.rise_bare.ensures.failing)
 
 pub returns-in-Up-clause-leads : goal.returns-in-Up-clause-leads
 returns-in-Up-clause-leads g c = λ d stands apart.
@@ -79,9 +88,14 @@ returns-in-Up-clause-leads g c = λ d stands apart.
 
 pub returns-in-Up-clause-asked : goal.returns-in-Up-clause-asked
 returns-in-Up-clause-asked g c = λ d stands apart.
-    site_by (site_number d.world c.args.name.now) c.site_of-site.result c.args.yard.now c.rise.new.yard
-    (sym (place_at d c.args.yard.now c.args.name.now c.site_of-site.result stands c.site_of-site.ensures.seat).number)
-    (site_then c.site_of-site.result c.args.yard.now c.go_down.new.yard c.rise.new.yard c.site_of-site.ensures.disk_set c.go_down.ensures.failing c.rise.ensures.failing)
+    let y = c.args.yard.now in
+    let s = c.site_of-site.result in
+    let seat = c.site_of-site.ensures.seat in
+    let place = place_at d y c.args.name.now s stands seat in
+    let at = get_at y.facts.items s c.index-3.result.now c.site_of-site.ensures.fact c.index-3.ensures in
+    let state = state_found d y c.args.name.now s c.index-3.result.now stands seat at ∙ c.in-Up.is in
+    subst (λ k. RecoversAs (d.world.nodes k).state k y c.rise.new.yard) (sym place.number)
+    (recovers_up (d.world.nodes s).state s y c.go_down.new.yard c.rise.new.yard c.site_of-site.ensures.disk_set (c.go_down.ensures.asked d stands place.below state) c.go_down.ensures.failing c.rise.ensures.failing)
 
 pub returns-in-Down-clause-leads : goal.returns-in-Down-clause-leads
 returns-in-Down-clause-leads g c = λ d stands apart.
@@ -95,5 +109,10 @@ returns-in-Down-clause-leads g c = λ d stands apart.
 
 pub returns-in-Down-clause-asked : goal.returns-in-Down-clause-asked
 returns-in-Down-clause-asked g c = λ d stands apart.
-    site_by (site_number d.world c.args.name.now) c.site_of-site.result c.args.yard.now c.rise-in-Down.new.yard
-    (sym (place_at d c.args.yard.now c.args.name.now c.site_of-site.result stands c.site_of-site.ensures.seat).number) c.rise-in-Down.ensures.failing
+    let y = c.args.yard.now in
+    let s = c.site_of-site.result in
+    let seat = c.site_of-site.ensures.seat in
+    let at = get_at y.facts.items s c.index-3.result.now c.site_of-site.ensures.fact c.index-3.ensures in
+    let state = state_found d y c.args.name.now s c.index-3.result.now stands seat at ∙ c.in-Down.is in
+    subst (λ k. RecoversAs (d.world.nodes k).state k y c.rise-in-Down.new.yard) (sym (place_at d y c.args.name.now s stands seat).number)
+    (recovers_rest (d.world.nodes s).state s y c.rise-in-Down.new.yard (λ up. let clash : IsDown ≡ IsUp = sym state ∙ up in cc) c.rise-in-Down.ensures.failing)

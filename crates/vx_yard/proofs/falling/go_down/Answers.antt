@@ -46,6 +46,7 @@ returns-clause-falls g c = λ d stands below up.
       racks = refl;
     })
     (c.crash.ensures.crashed (beside_of d s) (d.world.nodes s) (stands.disk_sets.sites s c.replace-disk_set.result below there) up)
+    (c.crash.ensures.durable (beside_of d s) (d.world.nodes s) (stands.disk_sets.sites s c.replace-disk_set.result below there) up)
     (failing_stopped c.args.pick c.replace-disk_set.result c.crash.result c.crash.ensures.stopped) c.go_down.ensures refl
     (record { flight = refl; assemblies = c.let_go.ensures; feeders = refl })
 

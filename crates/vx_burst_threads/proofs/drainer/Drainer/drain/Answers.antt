@@ -9,7 +9,7 @@ use Rattle.vx_burst_threads.proofs.drainer.Drainer.drain.Goals as goal
 
 pub loop-init : goal.loop-init
 loop-init g c = (
-  drained-peer c.args.self.now.pass (g.P.Peer.stand c.args.self.now.peer) (g.P.Peer.stand c.finish-net.new.self) c.finish-net.ensures.finishes.goes c.finish-net.ensures.finishes.handed,
+  drained-peer c.args.self.now.pass (g.P.Peer.stand c.args.self.now.peer) (g.P.Peer.stand c.finish-net.new.self) c.finish-net.ensures.finishes.goes c.finish-net.ensures.finishes.received c.finish-net.ensures.finishes.handed,
   c.finish-net.ensures.root,
   c.finish-net.ensures.finishes.net,
 )

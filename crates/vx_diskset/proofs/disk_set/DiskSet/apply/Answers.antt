@@ -2,6 +2,8 @@
 use Rattle.std.proofs.Common.{sym, ◌∙◌, ℕ}
 use Rattle.vx_diskset.proofs.CrashGroup.{applied_off, applied_on}
 use Rattle.vx_diskset.specs.Burning.{NoMore}
+use Rattle.vx_diskset.specs.DiskSets.{with_first}
+use Rattle.vx_diskset.proofs.Fallen.{running_sure}
 use Rattle.vx_diskset.proofs.CallsBurn.{called_cut}
 use Rattle.vx_diskset.proofs.Roles.{role_then}
 use Rattle.vx_diskset.proofs.OverNoted.{notes_cut, notes_done, notes_refused}
@@ -9,7 +11,8 @@ use Rattle.vx_diskset.proofs.disk_set.DiskSet.apply.Goals as goal
 
 pub returns-then-is_off-clause-applied : goal.returns-then-is_off-clause-applied
 returns-then-is_off-clause-applied g c = λ beside n stands can apart.
-    applied_off n c.args.to c.args.self.now c.apply_up.new.self c.fall.new.self c.in-Err.no (sym c.is_off.ensures ∙ c.if-is_off.true) (c.in-Err.ensures.applied beside n stands can apart) (c.fall.ensures.falls beside n)
+    applied_off n c.args.to c.args.self.now c.apply_up.new.self c.fall.new.self c.in-Err.no (sym c.is_off.ensures ∙ c.if-is_off.true) (running_sure beside n c.args.self.now stands can.up can.running)
+    (c.in-Err.ensures.applied beside n stands can apart) (c.fall.ensures.falls beside (with_first n n.safe))
 
 pub returns-else-is_off-clause-applied : goal.returns-else-is_off-clause-applied
 returns-else-is_off-clause-applied g c = λ beside n stands can apart.

@@ -25,7 +25,7 @@ returns-in-Up-clause-called g c = λ beside n stands raw.
 pub returns-in-Up-clause-applied : goal.returns-in-Up-clause-applied
 returns-in-Up-clause-applied g c = λ beside n stands can apart.
     let at = up_there beside n c.args.self.now c.in-Up.rvg c.in-Up.is stands in
-    applied_at beside n c.args.to c.args.self.now c.in-Up.rvg c.apply_group.new.rvg c.apply_group.result c.in-Up.is at.0 (c.apply_group.ensures.applied beside n at.1 can.running)
+    applied_at beside n c.args.to c.args.self.now c.in-Up.rvg c.apply_group.new.rvg c.apply_group.result c.in-Up.is at.0 (at.1.durable can.running) (c.apply_group.ensures.applied beside n at.1 can.running)
 
 pub returns-in-Receives-clause-applied : goal.returns-in-Receives-clause-applied
 returns-in-Receives-clause-applied g c = λ beside n stands can apart.

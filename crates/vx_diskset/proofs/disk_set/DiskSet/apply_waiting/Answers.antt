@@ -1,6 +1,8 @@
 -- An apply of what waits, and the crash behind it where the fuse ran out.
-use Rattle.std.proofs.Common.{sym, ◌∙◌}
+use Rattle.std.proofs.Common.{sym, ◌∙◌, ◌+◌}
 use Rattle.vx_diskset.specs.Burning.{NoMore}
+use Rattle.vx_diskset.specs.DiskSets.{with_first}
+use Rattle.vx_diskset.proofs.Fallen.{running_sure}
 use Rattle.vx_diskset.proofs.CallsBurn.{called_cut}
 use Rattle.vx_diskset.proofs.Reaching.{reached_off, reached_on}
 use Rattle.vx_diskset.proofs.Roles.{role_then}
@@ -10,7 +12,8 @@ use Rattle.vx_diskset.proofs.disk_set.DiskSet.apply_waiting.Goals as goal
 
 pub returns-then-is_off-clause-applied : goal.returns-then-is_off-clause-applied
 returns-then-is_off-clause-applied g c = λ beside n stands can.
-    reached_off n c.args.count c.args.self.now c.apply_received.new.self c.fall.new.self c.in-Err.no (sym c.is_off.ensures ∙ c.if-is_off.true) (c.in-Err.ensures.applied beside n stands can) (c.fall.ensures.falls beside n)
+    reached_off n c.args.count c.args.self.now c.apply_received.new.self c.fall.new.self c.in-Err.no (sym c.is_off.ensures ∙ c.if-is_off.true) (running_sure beside n c.args.self.now stands can.up can.running)
+    (c.in-Err.ensures.applied beside n stands can) (c.fall.ensures.falls beside (with_first n (n.safe + c.args.count)))
 
 pub returns-else-is_off-clause-applied : goal.returns-else-is_off-clause-applied
 returns-else-is_off-clause-applied g c = λ beside n stands can.

@@ -1,9 +1,15 @@
--- `crash`: clauses crashed, cut, asked and stopped.
+-- `crash`: clauses crashed, durable, cut, asked and stopped.
 use Rattle.std.proofs.Common.{◌∙◌, IsTrue, ap, subst, sym}
 use Rattle.vx_diskset.specs.Stands.{CutAt, IsToldAt, SiteStands}
 use Rattle.vx_diskset.proofs.OverFalls.{fell_asked, fell_later, fell_role, fell_seen, fell_stopped, fell_notes}
 use Rattle.vx_diskset.proofs.RawSets.{cut_received, receiver_there, up_there}
 use Rattle.vx_diskset.proofs.CrashGroup.{crashed_at, cut_crashed, held_crashed}
+use Rattle.vx_group.specs.Holding.{wide}
+use Rattle.vx_group.specs.Laws.{group_lawful}
+use Rattle.vx_untold.specs.Shades.{shade_lawful, shade_meaning}
+use Rattle.vx_diskset.proofs.Fallen.{group_fell, over_fell, received_fell, up_fell}
+use Rattle.vx_diskset.specs.DiskSets.{with_first}
+use Rattle.vx_diskset.specs.declared.disk_set.DiskSet.TheVariants.{Down, OfGroup, Over}
 use Rattle.vx_diskset.proofs.Asking.{crash_did}
 use Rattle.vx_diskset.proofs.KeepsFailing.{stopped_up}
 use Rattle.vx_diskset.proofs.Receiving.{receiver_held}
@@ -19,6 +25,15 @@ returns-in-Up-clause-crashed g c = λ beside n stands state.
     let at = up_there beside n c.args.self c.in-Up.rvg c.in-Up.is stands in
     crashed_at n c.in-Up.rvg.core c.in-Up.rvg.shelf c.into_shelf-rack.result c.crash.new.self c.into_shelf-rack.ensures at.0 at.1
     (lawful c.crash.new.self) (is_rack c.crash.new.self) c.crash.ensures.stopped
+
+pub returns-in-Up-clause-durable : goal.returns-in-Up-clause-durable
+returns-in-Up-clause-durable g c = λ beside n stands state running.
+    let lawful = (g.met.R.Shelf g.world.𝓛 g.world.𝓜 g.world.𝓡 ((λ s x. x), (λ x. x), (λ x. x), λ x. x)).lawful in
+    let is_rack = (g.met.R.Rack g.world.𝓛 g.world.𝓜 g.world.𝓡 ((λ s x. x), (λ x. x), (λ x. x), λ x. x)).rack in
+    let at = up_there beside n c.args.self c.in-Up.rvg c.in-Up.is stands in
+    up_fell beside n c.args.self (Down c.crash.new.self) c.in-Up.rvg c.in-Up.is stands running
+    (crashed_at n c.in-Up.rvg.core c.in-Up.rvg.shelf c.into_shelf-rack.result c.crash.new.self c.into_shelf-rack.ensures at.0 at.1
+    (lawful c.crash.new.self) (is_rack c.crash.new.self) c.crash.ensures.stopped)
 
 pub returns-in-Up-clause-cut : goal.returns-in-Up-clause-cut
 returns-in-Up-clause-cut g c = λ beside n cut.
@@ -41,6 +56,13 @@ returns-in-Receives-clause-crashed g c = λ beside n stands state.
     at.0 (receiver_held n c.in-Receives.site.rvg.core c.in-Receives.site.waiting (g.R.Shelf.meaning c.in-Receives.site.rvg.shelf) at.1)
     (lawful c.crash-in-Receives.new.self) (is_rack c.crash-in-Receives.new.self) c.crash-in-Receives.ensures.stopped
 
+pub returns-in-Receives-clause-durable : goal.returns-in-Receives-clause-durable
+returns-in-Receives-clause-durable g c = λ beside n stands state running.
+    let lawful = (g.met.R.Shelf g.world.𝓛 g.world.𝓜 g.world.𝓡 ((λ s x. x), (λ x. x), (λ x. x), λ x. x)).lawful in
+    let is_rack = (g.met.R.Rack g.world.𝓛 g.world.𝓜 g.world.𝓡 ((λ s x. x), (λ x. x), (λ x. x), λ x. x)).rack in
+    received_fell beside n c.args.self c.in-Receives.site c.into_shelf-rack-in-Receives.result c.crash-in-Receives.new.self c.in-Receives.is (c.into_shelf-rack-in-Receives.ensures ∙ ap (λ r. r.shelf) c.into_rvg.ensures) stands running
+    (lawful c.in-Receives.site.rvg.shelf) (lawful c.crash-in-Receives.new.self) (is_rack c.crash-in-Receives.new.self) c.crash-in-Receives.ensures.stopped
+
 pub returns-in-Receives-clause-cut : goal.returns-in-Receives-clause-cut
 returns-in-Receives-clause-cut g c = λ beside n cut.
     let lawful = (g.met.R.Shelf g.world.𝓛 g.world.𝓜 g.world.𝓡 ((λ s x. x), (λ x. x), (λ x. x), λ x. x)).lawful in
@@ -52,6 +74,11 @@ returns-in-Receives-clause-cut g c = λ beside n cut.
 pub returns-in-OfGroup-clause-crashed : goal.returns-in-OfGroup-clause-crashed
 returns-in-OfGroup-clause-crashed g c = λ beside n stands state.
     set_crashed beside n c.args.self c.in-OfGroup.group c.crash-in-OfGroup.result c.in-OfGroup.is (λ note. c.crash-in-OfGroup.ensures.crashed n note) c.crash-in-OfGroup.ensures.maps stands state
+
+pub returns-in-OfGroup-clause-durable : goal.returns-in-OfGroup-clause-durable
+returns-in-OfGroup-clause-durable g c = λ beside n stands state running.
+    group_fell beside n c.args.self (OfGroup (record c.in-OfGroup.group { site = c.crash-in-OfGroup.result })) c.in-OfGroup.group c.in-OfGroup.is stands state
+    (set_crashed beside n c.args.self c.in-OfGroup.group c.crash-in-OfGroup.result c.in-OfGroup.is (λ note. c.crash-in-OfGroup.ensures.crashed n note) c.crash-in-OfGroup.ensures.maps stands state)
 
 pub returns-in-OfGroup-clause-asked : goal.returns-in-OfGroup-clause-asked
 returns-in-OfGroup-clause-asked g c = λ beside n stands state.
@@ -65,6 +92,12 @@ returns-in-OfGroup-clause-later g c = set_fell c.args.pick c.args.self c.in-OfGr
 
 pub returns-in-Over-clause-crashed : goal.returns-in-Over-clause-crashed
 returns-in-Over-clause-crashed g c = λ beside n stands state. c.crash-in-Over.ensures.crashed beside n (subst (λ e. SiteStands beside n e) c.in-Over.is stands) state
+
+pub returns-in-Over-clause-durable : goal.returns-in-Over-clause-durable
+returns-in-Over-clause-durable g c = λ beside n stands state running.
+    let laws = shade_lawful g.R.Shelf.meaning (g.met.R.Shelf g.world.𝓛 g.world.𝓜 g.world.𝓡 ((λ s x. x), (λ x. x), (λ x. x), λ x. x)).lawful in
+    over_fell (λ f. group_lawful (wide f.laid.core) (shade_meaning g.R.Shelf.meaning f.laid.shelf) (laws f.laid.shelf) f.laid.stands.group.stands) beside n state running c.args.self (Over c.crash-in-Over.result) c.in-Over.over c.in-Over.is stands
+    (λ cut. c.crash-in-Over.ensures.held beside (with_first n n.safe) cut)
 
 pub returns-in-Over-clause-cut : goal.returns-in-Over-clause-cut
 returns-in-Over-clause-cut g c = λ beside n cut. c.crash-in-Over.ensures.held beside n (subst (λ e. CutAt beside n e) c.in-Over.is cut)

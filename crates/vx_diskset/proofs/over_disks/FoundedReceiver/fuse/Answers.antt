@@ -10,10 +10,12 @@ together-requires-clause-sound g c = laid_sound c.apart-laid.result.1 c.apart-la
 pub together-requires-clause-waits : goal.together-requires-clause-waits
 together-requires-clause-waits g c = laid_waits c.apart-laid.result.1 c.apart-laid.result.0 c.fuse-laid.result c.fuse-laid.ensures.volumes c.fuse-laid.ensures.down c.apart-laid.result.2 c.apart-laid.ensures.waits
 
-pub returns-clause-fuses : goal.returns-clause-fuses
-returns-clause-fuses g c = (
-  c.together.ensures.core ∙ c.apart-laid.ensures.core,
-  c.together.ensures.waiting ∙ c.apart-laid.ensures.waiting,
-  carried_laid (λ l k. LaidFuses c.args.calls c.args.pick l k) c.args.self.laid c.apart-laid.result.0 c.together.result.laid c.fuse-laid.result c.apart-laid.ensures.laid c.together.ensures.laid
-      (record { core = c.fuse-laid.ensures.core; alike = c.fuse-laid.ensures.alike; down = c.fuse-laid.ensures.down; disks = c.fuse-laid.ensures.disks; volumes = c.fuse-laid.ensures.volumes; told = c.fuse-laid.ensures.told }),
-)
+pub returns : goal.returns
+returns g c = record {
+  fuses = (
+    c.together.ensures.core ∙ c.apart-laid.ensures.core,
+    c.together.ensures.waiting ∙ c.apart-laid.ensures.waiting,
+    carried_laid (λ l k. LaidFuses c.args.calls c.args.pick l k) c.args.self.laid c.apart-laid.result.0 c.together.result.laid c.fuse-laid.result c.apart-laid.ensures.laid c.together.ensures.laid
+        (record { core = c.fuse-laid.ensures.core; alike = c.fuse-laid.ensures.alike; down = c.fuse-laid.ensures.down; disks = c.fuse-laid.ensures.disks; volumes = c.fuse-laid.ensures.volumes; told = c.fuse-laid.ensures.told }),
+  );
+}

@@ -31,7 +31,7 @@ pub returns-in-Deported-clause-stands : goal.returns-in-Deported-clause-stands
 returns-in-Deported-clause-stands g c = away_fails c.args.self c.in-Deported.idle c.fail-idle.result c.args.disk c.args.on c.fail-idle.ensures.agreed c.fail-idle.ensures.alike c.fail-idle.ensures.down c.fail-idle.ensures.armed c.fail-idle.ensures.disks c.fail-idle.ensures.told c.in-Deported.is
 
 pub returns-in-Down-clause-stands : goal.returns-in-Down-clause-stands
-returns-in-Down-clause-stands g c = fell_fails c.args.self c.in-Down.idle c.fail-idle-in-Down.result c.args.disk c.args.on c.fail-idle-in-Down.ensures.agreed c.fail-idle-in-Down.ensures.alike c.fail-idle-in-Down.ensures.down c.fail-idle-in-Down.ensures.armed c.fail-idle-in-Down.ensures.disks c.fail-idle-in-Down.ensures.told c.in-Down.is
+returns-in-Down-clause-stands g c = fell_fails c.args.self c.in-Down.idle c.fail-idle-in-Down.result c.args.disk c.args.on c.fail-idle-in-Down.ensures.agreed c.fail-idle-in-Down.ensures.alike c.fail-idle-in-Down.ensures.down c.fail-idle-in-Down.ensures.armed c.fail-idle-in-Down.ensures.disks c.fail-idle-in-Down.ensures.told c.in-Down.is c.fail-idle-in-Down.ensures.rested
 
 pub returns-in-Gone-clause-stands : goal.returns-in-Gone-clause-stands
 returns-in-Gone-clause-stands g c = λ beside n stands. subst (λ s. OverStands beside n s) c.in-Gone.is stands

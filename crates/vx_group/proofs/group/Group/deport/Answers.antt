@@ -1,4 +1,4 @@
--- `deport`: clauses limit and can.
+-- `deport`: clauses limit, can and agreed.
 use Rattle.vx_group.specs.Holding.{wide}
 use Rattle.vx_group.proofs.CrashLemmas.{group_can}
 use Rattle.vx_group.proofs.DeportLemmas.{full_err, full_ok}
@@ -12,3 +12,9 @@ returns-in-Err-clause-limit g c = λ lt. let l = c.in-Err.ensures.limit lt in (f
 
 pub returns-in-Ok-clause-can : goal.returns-in-Ok-clause-can
 returns-in-Ok-clause-can g c = group_can (wide c.args.self.core).config c.args.self.core.inner (g.S.Shelf.meaning c.args.self.shelf) (g.S.Shelf.meaning c.deport_in.new.shelf) c.in-Ok.ensures.ends
+
+pub returns-in-Ok-clause-agreed : goal.returns-in-Ok-clause-agreed
+returns-in-Ok-clause-agreed g c = tt
+
+pub returns-in-Err-clause-agreed : goal.returns-in-Err-clause-agreed
+returns-in-Err-clause-agreed g c = c.in-Err.ensures.agreed

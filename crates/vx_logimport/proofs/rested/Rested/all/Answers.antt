@@ -9,3 +9,6 @@ returns-clause-alike c = λ v lt. get_or-replicate {A = Bool} MOST_VOLUMES v tru
 
 pub returns-clause-maps : goal.returns-clause-maps
 returns-clause-maps c = λ v lt. get_or-replicate {A = Bool} MOST_VOLUMES v true false lt
+
+pub returns-clause-drls : goal.returns-clause-drls
+returns-clause-drls c = λ v lt. get_or-replicate {A = Bool} MOST_VOLUMES v true false lt

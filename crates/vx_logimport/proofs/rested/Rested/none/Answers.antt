@@ -1,14 +1,12 @@
 -- `none`: of no volume.
-use Rattle.std.proofs.Common.{◌≡◌, ◌⊎◌, inl, inr, ℕ, ◌<◌, ◌≤◌, Bool, false, arith, replicate}
-use Rattle.std.proofs.lemmas.Bool.{cases_lt}
-use Rattle.std.proofs.lemmas.List.{get_or-replicate, get_or_past, length-replicate}
-use Rattle.vx_logimport.specs.Rests.{rests}
+use Rattle.std.proofs.Common.{Bool, true, false}
+use Rattle.std.proofs.lemmas.List.{get_or-replicate}
 use Rattle.vx_model.specs.declared.limits.TheConstants.{MOST_VOLUMES}
+use Rattle.vx_logimport.proofs.NoneLemmas.{none_rests}
 use Rattle.vx_logimport.proofs.rested.Rested.none.Goals as goal
 
-pub returns : goal.returns
-returns c = record { alike = λ v. by v (cases_lt v MOST_VOLUMES); maps = λ v. by v (cases_lt v MOST_VOLUMES) }
-  where
-    by : (v : ℕ) → (v < MOST_VOLUMES) ⊎ (MOST_VOLUMES ≤ v) → rests (replicate MOST_VOLUMES false) v ≡ false
-    by v (inl low) = get_or-replicate {A = Bool} MOST_VOLUMES v false false low
-    by v (inr high) = get_or_past (replicate MOST_VOLUMES false) v false (let long = length-replicate {A = Bool} MOST_VOLUMES false in omega (arith, long, high))
+pub returns-clause-none : goal.returns-clause-none
+returns-clause-none c = record { alike = none_rests; maps = none_rests }
+
+pub returns-clause-drls : goal.returns-clause-drls
+returns-clause-drls c = λ v lt. get_or-replicate {A = Bool} MOST_VOLUMES v true false lt

@@ -1,0 +1,17 @@
+-- `stage_marked`, where it is refused.
+use Rattle.std.proofs.Common.{inl, refl, true}
+use Rattle.vx_rvg.proofs.Blaming.{blames_idle}
+use Rattle.vx_rvg.proofs.MarkedStands.{between_none, still_short}
+use Rattle.vx_rvg.proofs.stage_marked.stage_marked.Goals as goal
+
+pub returns-in-Some-clause-part : goal.returns-in-Some-clause-part
+returns-in-Some-clause-part g c = between_none _ true c.args.core.now.maps c.args.core.now.maps refl
+
+pub returns-in-Some-clause-calls : goal.returns-in-Some-clause-calls
+returns-in-Some-clause-calls g c = λ all. tt
+
+pub returns-in-Some-clause-short : goal.returns-in-Some-clause-short
+returns-in-Some-clause-short g c = λ all fits. still_short 1 (g.S.Shelf.meaning c.args.shelf.now)
+
+pub returns-in-Some-clause-blames : goal.returns-in-Some-clause-blames
+returns-in-Some-clause-blames g c = inl (blames_idle (g.S.Shelf.meaning c.args.shelf.now).disks c.args.core.now.units.maps c.in-Some.no c.in-Some.ensures.idle)
