@@ -28,4 +28,4 @@ returns-in-ToDcm c =
     (λ is.
     is
     ∙ ap (λ (xs : List Write). with_link_map maps c.args.site c.args.to (joined_maps (map_kept l.mode (maps c.args.site c.args.to)) (marks_of_all xs))) late
-    ∙ ap (λ (h : Change). with_link_map maps c.args.site c.args.to (map_changed h l.mode (maps c.args.site c.args.to) log (hold l))) (c.in-ToDcm.ensures tt c.args.to))
+    ∙ ap (λ (h : Change). with_link_map maps c.args.site c.args.to (map_changed h l.mode (maps c.args.site c.args.to) log (hold l))) (c.in-ToDcm.ensures c.args.to))

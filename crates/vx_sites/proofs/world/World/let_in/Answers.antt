@@ -10,8 +10,8 @@ use Rattle.vx_sites.proofs.Mapping.{row_let_in}
 use Rattle.vx_sites.proofs.Worlds.{node_at}
 use Rattle.vx_sites.proofs.world.World.let_in.Goals as goal
 
-pub returns-then-site-len : goal.returns-then-site-len
-returns-then-site-len c =
+pub returns-in_ok-convert_maps : goal.returns-in_ok-convert_maps
+returns-in_ok-convert_maps c =
     let w = world_of c.args.self.now in
     let entries = c.args.self.now.maps.entries.items in
     let n : Node = node_of c.index-node.result.now in
