@@ -20,7 +20,7 @@ use Rattle.vx_grouped.specs.SiteEnds.{HasNow, is_off}
 use Rattle.vx_grouped.specs.declared.group_site.GroupSite.{GroupSite}
 use Rattle.vx_grouped.specs.declared.group_site.GroupSite.TheVariants.{Up, Deported, Down, Marked, Gone}
 use Rattle.vx_grouped.proofs.NotedLemmas.{noted_is}
-use Rattle.vx_grouped.proofs.SiteLemmas.{away_as}
+use Rattle.vx_grouped.proofs.SiteLemmas.{away_as, some_as}
 use Rattle.vx_diskset.specs.Aboves.{InsideOf, IsInside, above_site, below_site, site_in}
 use Rattle.vx_diskset.specs.Asked.{IsRawSet}
 use Rattle.vx_diskset.specs.Blames.{IsGroupDisk}
@@ -119,6 +119,7 @@ module _ {R : Type 0} {g : Ghosts R} where
       config = it.away.config;
       found = it.away.found;
       runs = it.away.runs;
+      some = some_as (crashed (below_rvg k) 0) (below_rvg (crashed k 0)) it.last refl refl it.away.some;
       lies = away_as (crashed (below_rvg k) 0) (below_rvg (crashed k 0)) note it.last (idle_disks idle) refl refl it.away.lies;
     };
   }

@@ -167,11 +167,12 @@ fn raise_in<R: Rack>(
     ensures told { AtSite (λ e. TellsLess (site_below group.site) (site_below e)) result.0 }
 {
     let cut = group.cut;
+    let kept = group.cut;
     let (site, answer) = group.site.import(alloc);
     match answer {
         Ok(()) => {
             let (disk_set, started) = with_rvg(alloc, site, cut, false);
-            (disk_set, hands_out(started, cut))
+            (disk_set, hands_out(started, kept))
         }
         Err(stop) => (DiskSet::OfGroup(GroupSet { site, cut }), Err(stop)),
     }
@@ -196,11 +197,12 @@ fn raise_over<R: Rack>(
     ensures brought { RaisesBy (site_in over) over.cut result.0 result.1 }
 {
     let (site, above, cut) = over.parts();
+    let kept = cut;
     let (site, answer) = site.import(alloc);
     match answer {
         Ok(()) => {
             let (disk_set, started) = with_rvg(alloc, site, cut, false);
-            (disk_set, hands_out(started, cut))
+            (disk_set, hands_out(started, kept))
         }
         Err(stop) => (DiskSet::Over(OverSet::of(site, above, cut)), Err(stop)),
     }

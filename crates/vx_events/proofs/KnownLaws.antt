@@ -115,8 +115,8 @@ spoils_known s note (PlexDetach site volume plex) fails next known free spoils =
 spoils_known s note (PlexAttach site volume plex) fails next known free spoils = unsettled_maps note next known spoils
 spoils_known s note (Write site volume start count fill) fails next known free spoils = doubtful s fails note next known spoils
 spoils_known s note (Put site volume start bytes) fails next known free spoils = doubtful s fails note next known spoils
-spoils_known s note (Read site volume start count) fails next known free spoils = same_note note next spoils known
-spoils_known s note (Show site volume start count) fails next known free spoils = same_note note next spoils known
+spoils_known s note (Read site volume start count) fails next known free spoils = same_note note next spoils.0 known
+spoils_known s note (Show site volume start count) fails next known free spoils = same_note note next spoils.0 known
 spoils_known s note (Recover site) fails next known free spoils = absurd (free tt)
 spoils_known s note other fails next known free spoils = absurd spoils
 

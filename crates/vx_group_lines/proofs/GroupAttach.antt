@@ -134,10 +134,10 @@ module _ {R : Type 0} {g : Ghosts R} where
   -- no test refused one that is done
   pub att_never : (before : DiskSet R g) (set : GroupSet R g) {v w p q : ℕ} (count : ℕ) → before ≡ OfGroup set → v ≡ w → p ≡ q → ((no : No) → AtSite (λ o. refuses_att o v p ≡ Some no) before → (let r : Result ℕ Stop = Ok count in r) ≡ Err (StopsBy no))
       → (no : No) → refuses_att set.site w q ≡ Some no → ⊥
-  att_never before set {v} {w} {p} {q} count is number plex refused no at =
+  att_never before set {v} {w} {p} {q} count is number plex refused why at =
       let clash =
-      refused no (subst (λ (x : DiskSet R g). AtSite (λ (o : GroupSite R g). refuses_att o v p ≡ Some no) x) (sym is)
-      (subst (λ (k : ℕ). refuses_att set.site k p ≡ Some no) (sym number) (subst (λ (k : ℕ). refuses_att set.site w k ≡ Some no) (sym plex) at))) in
+      refused why (subst (λ (x : DiskSet R g). AtSite (λ (o : GroupSite R g). refuses_att o v p ≡ Some why) x) (sym is)
+      (subst (λ (k : ℕ). refuses_att set.site k p ≡ Some why) (sym number) (subst (λ (k : ℕ). refuses_att set.site w k ≡ Some why) (sym plex) at))) in
       absurd (cc)
 
   pub att_all : (before : DiskSet R g) (set : GroupSet R g) {v w p q : ℕ} (count : ℕ) → before ≡ OfGroup set → v ≡ w → p ≡ q → (AtSite (λ o. is_plex_on o v p ≡ false) before → AtSite (λ o. RegionsOf o v count) before)

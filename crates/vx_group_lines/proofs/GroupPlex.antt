@@ -275,9 +275,9 @@ module _ {R : Type 0} {g : Ghosts R} where
   -- by the numbers that the call got
   pub det_refuses : (before : DiskSet R g) (set : GroupSet R g) {v w p q : ℕ} → before ≡ OfGroup set → v ≡ w → p ≡ q → ((no : No) → AtSite (λ o. refuses_det o v p ≡ Some no) before → (let r : Result (Unit {0}) Stop = Ok (tt {0}) in r) ≡ Err (StopsBy no))
       → (no : No) → refuses_det set.site w q ≡ Some no → (let r : Result (Unit {0}) Stop = Ok (tt {0}) in r) ≡ Err (StopsBy no)
-  det_refuses before set {v} {w} {p} {q} is number plex refused no at =
-      refused no (subst (λ (x : DiskSet R g). AtSite (λ (o : GroupSite R g). refuses_det o v p ≡ Some no) x) (sym is)
-      (subst (λ (k : ℕ). refuses_det set.site k p ≡ Some no) (sym number) (subst (λ (k : ℕ). refuses_det set.site w k ≡ Some no) (sym plex) at)))
+  det_refuses before set {v} {w} {p} {q} is number plex refused why at =
+      refused why (subst (λ (x : DiskSet R g). AtSite (λ (o : GroupSite R g). refuses_det o v p ≡ Some why) x) (sym is)
+      (subst (λ (k : ℕ). refuses_det set.site k p ≡ Some why) (sym number) (subst (λ (k : ℕ). refuses_det set.site w k ≡ Some why) (sym plex) at)))
 
   pub det_at : (n : Node) (note : GroupNode) {v w p q : ℕ} → v ≡ w → p ≡ q → (r : Result (Unit {0}) Stop) (before after : DiskSet R g) → OnSites (λ o e. DetCalled n note v p o e r) before after
       → OnSites (λ o e. DetCalled n note w q o e r) before after

@@ -36,13 +36,13 @@ pub read_not : {disk : ℕ} {value : Unit {0}} → (let r : Result (Unit {0}) No
 read_not is = cc
 
 off_else : (no : No) (disk : ℕ) → no ≡ IsOff → (let r : Result (Unit {0}) No = Err no in r) ≡ Err (Device disk) → ⊥
-off_else no disk is refused = cc
+off_else what disk is refused = cc
 
 -- a call on a disk of each plex failed that takes part
 pub read_gives : (e : ShelfError) (no : No) (v : ℕ) (c : Config) (before after : List ℕ) (block n : ℕ) (bytes : List ℕ) (m m' : Meaning) (disk : ℕ) → no ≡ refusal_of e → (let r : Result (Unit {0}) No = Err no in r) ≡ Err (Device disk)
     → ReadsInTurn c v before after block n bytes m m' (Err e) → EachBlamed c v m m'
-read_gives (Fault k) no v c before after block n bytes m m' disk is refused it = record { each = it.0.each }
-read_gives Down no v c before after block n bytes m m' disk is refused it = absurd (off_else no disk is refused)
+read_gives (Fault k) what v c before after block n bytes m m' disk is refused it = record { each = it.0.each }
+read_gives Down what v c before after block n bytes m m' disk is refused it = absurd (off_else what disk is refused)
 
 -- what is noted stays
 pub read_stays : (n : Node) (note : GroupNode) (c d : GroupCore) (m m' : Meaning) → Lawful m → Lawful m' → Goes Nothing m m' → m'.down ≡ m.down → Goes Nothing (inner_meaning (wide c) m) (inner_meaning (wide d) m') → d.inner.config ≡ c.inner.config

@@ -1,6 +1,6 @@
 -- Naming the volumes of a replicated volume group: logs stand on, as only configurations were written.
 use Rattle.std.proofs.Common.{◌≡◌}
-use Rattle.std.specs.Prelude.{◌⊎◌, ◌≤◌, Err, IfErr, IsTrue, None, OnOk, Some, true}
+use Rattle.std.specs.Prelude.{◌≤◌, Err, IfErr, IsTrue, None, OnOk, Some, true}
 use Rattle.vx_copies.specs.Commits.{MoreFailed}
 use Rattle.vx_disk.specs.Shelf.{Goes, Nothing}
 use Rattle.vx_group.specs.Dets.{DetStops}
